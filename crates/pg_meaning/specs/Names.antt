@@ -4,16 +4,19 @@ use Rattle.std.specs.BTreeSet.{insert_key}
 use Rattle.std.specs.List.{list_any}
 use Rattle.pg_meaning.specs.Order.{text_order}
 
-abbrev pub is_among : List (List ℕ) → List ℕ → Bool
+abbrev pub Names : Type 0
+Names = List (List ℕ)
+
+abbrev pub is_among : Names → List ℕ → Bool
 is_among names name = list_any (bytes_eq name) names
 
 -- the names, with one more at the end where it is new
-abbrev pub add_name : List (List ℕ) → List ℕ → List (List ℕ)
+abbrev pub add_name : Names → List ℕ → Names
 add_name names name = cond (is_among names name) names (names ++ name ∷ [])
 
 -- the texts, which stand in byte order and each once, with more of them
-abbrev pub put_texts : (more texts : List (List ℕ)) → List (List ℕ)
+abbrev pub put_texts : (more texts : Names) → Names
 put_texts more texts = fold (insert_key text_order) texts more
 
-abbrev pub in_byte_order : List (List ℕ) → List (List ℕ)
+abbrev pub in_byte_order : Names → Names
 in_byte_order names = put_texts names []

@@ -1,9 +1,10 @@
 -- Small instances of the relations of texts: of each some that hold and some that do not.
-use Rattle.std.specs.Prelude.{ℕ, List, [], ◌∷◌, replicate, codes, None, pos, true, false}
+use Rattle.std.specs.Prelude.{ℕ, List, [], ◌∷◌, replicate, codes, None, true, false}
 use Rattle.pg_meaning.specs.declared.lexemes.Keyword.TheVariants as k
 use Rattle.pg_meaning.specs.declared.lexemes.Symbol.TheVariants as s
-use Rattle.pg_meaning.specs.declared.operators.Operator.{Operator}
 use Rattle.pg_meaning.specs.declared.operators.Operator.TheVariants as op
+use Rattle.pg_meaning.specs.ExamplesOfTexts.{named, two}
+use Rattle.pg_meaning.specs.ExampleTrees.{number}
 use Rattle.pg_meaning.specs.Value as value
 use Rattle.pg_meaning.specs.Tokens.{Lexeme, Token, Lexes, word, keyword, integer, symbol}
 use Rattle.pg_meaning.specs.Tree.{Name, Expression, Query}
@@ -13,15 +14,6 @@ use Rattle.pg_meaning.specs.Depth.{TooDeep}
 
 abbrev pub token : Lexeme → (start finish : ℕ) → Token
 token l start finish = record { lexeme = l; start = start; finish = finish }
-
-abbrev pub named : List ℕ → ℕ → Name
-named w at = record { text = w; quoted = false; place = at }
-
-abbrev pub number : ℕ → Expression
-number n = tree.literal (value.integer (pos n))
-
-abbrev pub two : Expression → Operator → Expression → Expression
-two x o y = tree.chain x (tree.operand o y tree.no_operands)
 
 -- ---- lexemes
 
@@ -61,30 +53,30 @@ c = tree.variable (named (codes "c") 18)
 
 abbrev pub InstancesOfReads : Type 0
 InstancesOfReads =
-    Reads choice_text choice_tokens (returning 7 (codes "a OR b AND c") (two a op.Or (two b op.And c)))
+    Reads choice_text choice_tokens (returning 7 (codes "a OR b AND c") (two op.Or a (two op.And b c)))
     -- OR inside the AND
-    × (Reads choice_text choice_tokens (returning 7 (codes "a OR b AND c") (two (two a op.Or b) op.And c)) → ⊥)
+    × (Reads choice_text choice_tokens (returning 7 (codes "a OR b AND c") (two op.And (two op.Or a b) c)) → ⊥)
     -- another operator
-    × (Reads choice_text choice_tokens (returning 7 (codes "a OR b AND c") (two a op.Xor (two b op.And c))) → ⊥)
+    × (Reads choice_text choice_tokens (returning 7 (codes "a OR b AND c") (two op.Xor a (two op.And b c))) → ⊥)
     -- parentheses that are not written
-    × (Reads choice_text choice_tokens (returning 7 (codes "a OR b AND c") (two a op.Or (tree.parentheses (two b op.And c)))) → ⊥)
+    × (Reads choice_text choice_tokens (returning 7 (codes "a OR b AND c") (two op.Or a (tree.parentheses (two op.And b c)))) → ⊥)
     -- another source of the same length, and a shorter one
-    × (Reads choice_text choice_tokens (returning 7 (codes "a or b and c") (two a op.Or (two b op.And c))) → ⊥)
-    × (Reads choice_text choice_tokens (returning 7 (codes "a OR b") (two a op.Or (two b op.And c))) → ⊥)
+    × (Reads choice_text choice_tokens (returning 7 (codes "a or b and c") (two op.Or a (two op.And b c))) → ⊥)
+    × (Reads choice_text choice_tokens (returning 7 (codes "a OR b") (two op.Or a (two op.And b c))) → ⊥)
     -- another place of the item, and of a variable
-    × (Reads choice_text choice_tokens (returning 6 (codes " a OR b AND c") (two a op.Or (two b op.And c))) → ⊥)
-    × (Reads choice_text choice_tokens (returning 7 (codes "a OR b AND c") (two (tree.variable (named (codes "a") 8)) op.Or (two b op.And c))) → ⊥)
+    × (Reads choice_text choice_tokens (returning 6 (codes " a OR b AND c") (two op.Or a (two op.And b c))) → ⊥)
+    × (Reads choice_text choice_tokens (returning 7 (codes "a OR b AND c") (two op.Or (tree.variable (named (codes "a") 8)) (two op.And b c))) → ⊥)
 
 abbrev pub InstancesOfWellFormed : Type 0
 InstancesOfWellFormed =
-    IsWellFormed (two (tree.signs (true ∷ []) (number 1)) op.Plus (number 2))
+    IsWellFormed (two op.Plus (tree.signs (true ∷ []) (number 1)) (number 2))
     -- a sign before a sum without parentheses
-    × (IsWellFormed (tree.signs (true ∷ []) (two (number 1) op.Plus (number 2))) → ⊥)
-    × IsWellFormed (tree.signs (true ∷ []) (tree.parentheses (two (number 1) op.Plus (number 2))))
+    × (IsWellFormed (tree.signs (true ∷ []) (two op.Plus (number 1) (number 2))) → ⊥)
+    × IsWellFormed (tree.signs (true ∷ []) (tree.parentheses (two op.Plus (number 1) (number 2))))
     -- a sum as the right side of a product
-    × (IsWellFormed (two (number 1) op.Times (two (number 2) op.Plus (number 3))) → ⊥)
+    × (IsWellFormed (two op.Times (number 1) (two op.Plus (number 2) (number 3))) → ⊥)
     -- a chain within a chain of its level
-    × (IsWellFormed (two (two (number 1) op.Minus (number 2)) op.Plus (number 3)) → ⊥)
+    × (IsWellFormed (two op.Plus (two op.Minus (number 1) (number 2)) (number 3)) → ⊥)
     -- operators of two levels in one chain
     × (IsWellFormed (tree.chain (number 1) (tree.operand op.Plus (number 2) (tree.operand op.Times (number 3) tree.no_operands))) → ⊥)
     -- one operand alone, no NOT, no sign, no test, no suffix

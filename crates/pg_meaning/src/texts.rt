@@ -3,7 +3,7 @@
 ghost use Rattle.pg_meaning.specs.ExamplesOfReads.{ExamplesOfReads};
 ghost use Rattle.pg_meaning.specs.ExamplesOfRefusals.{ExamplesOfRefusals};
 ghost use Rattle.pg_meaning.specs.ExamplesOfTexts.{ExamplesOfTexts};
-ghost use Rattle.pg_meaning.specs.InstancesOfTexts.{InstancesOfDepth, InstancesOfLexes, InstancesOfReads, InstancesOfWellFormed};
+ghost use Rattle.pg_meaning.specs.InstancesOfTexts.{InstancesOfDepth, InstancesOfLexes, InstancesOfReads, InstancesOfWellFormed, InstancesOfWellFormedQueries};
 
 /// What texts read as: lexemes, trees, columns, static faults with their places, and nesting.
 pub fn worked_examples_of_texts()
@@ -25,5 +25,6 @@ pub fn worked_readings()
     ensures lexes { InstancesOfLexes }
     ensures reads { InstancesOfReads }
     ensures well_formed { InstancesOfWellFormed }
+    ensures well_formed_queries { InstancesOfWellFormedQueries }
     ensures depth { InstancesOfDepth }
 {}

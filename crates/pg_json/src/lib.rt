@@ -2,9 +2,11 @@
 #![tactic(auto)]
 
 mod bytes;
+mod read;
 mod reply;
 mod request;
 
 pub use bytes::{ReplyBytes, done, refusal};
+pub use read::read_request;
 pub use reply::ReplyBody;
 pub use request::RequestBody;

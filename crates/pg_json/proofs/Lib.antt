@@ -1,2 +1,5 @@
+pub mod Digits
+pub mod Elements
+pub mod Lengths
 pub mod Meanings
 pub mod Taking

@@ -5,6 +5,8 @@ mod bytes;
 mod read;
 mod reply;
 mod request;
+mod room;
+mod value;
 
 pub use bytes::{ReplyBytes, done, refusal};
 pub use read::read_request;

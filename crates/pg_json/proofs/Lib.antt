@@ -3,3 +3,4 @@ pub mod Elements
 pub mod Lengths
 pub mod Meanings
 pub mod Taking
+pub mod Texts

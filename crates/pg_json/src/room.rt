@@ -10,7 +10,7 @@ use std::collections::BTreeMap;
 /// What is left of the room behind the text of the value, which is at least as long as counted here.
 #[cycle(room)]
 #[tactic(auto, using(crate::proofs::Elements::data_node, crate::proofs::Elements::data_rel))]
-pub(crate) fn room_after(room: usize, value: &Out) -> Option<usize>
+fn room_after(room: usize, value: &Out) -> Option<usize>
     ensures { Leaves room (least (data_of value.now)) result }
 {
     match value {
@@ -53,7 +53,7 @@ fn room_after_node(
 }
 
 #[cycle(room)]
-pub(crate) fn room_after_items(mut room: usize, items: &[Out]) -> Option<usize>
+fn room_after_items(mut room: usize, items: &[Out]) -> Option<usize>
     ensures { Leaves room (items_least (outs items.now)) result }
 {
     for item in items {
@@ -79,6 +79,13 @@ pub(crate) fn room_after_texts(mut room: usize, texts: &[String]) -> Option<usiz
         room = room_after_text(room.checked_sub(1)?, text)?;
     }
     Some(room)
+}
+
+/// With the row's brackets and the comma behind it.
+pub(crate) fn room_after_row(room: usize, row: &[Out]) -> Option<usize>
+    ensures { Leaves room (items_least (outs row.now) + 2) result }
+{
+    room_after_items(room.checked_sub(2)?, row)
 }
 
 fn room_after_text(room: usize, text: &str) -> Option<usize>

@@ -1,0 +1,4 @@
+pub mod FillLemmas
+pub mod FrameLemmas
+pub mod ServeLemmas
+pub mod ReadingLemmas

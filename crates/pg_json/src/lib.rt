@@ -1,0 +1,12 @@
+//! Requests and replies as JSON. No other crate reads or writes it.
+#![tactic(auto)]
+
+mod bytes;
+mod read;
+mod reply;
+mod request;
+
+pub use bytes::{ReplyBytes, done, refusal};
+pub use read::read_request;
+pub use reply::ReplyBody;
+pub use request::RequestBody;

@@ -1,6 +1,8 @@
-//! Nodes and relationships as tables hold them: names as numbers, records, and the trait of tables.
 #![tactic(auto)]
 
+mod labels;
 mod names;
+mod sorted;
 
+pub use labels::Labels;
 pub use names::{NameId, Names};

@@ -4,12 +4,13 @@ ghost use Rattle.std.specs.List.{position};
 ghost use Rattle.std.specs.Str.{bytes_eq};
 ghost use Rattle.pg_graph.specs.Names.{AreDistinct, AreNumbered, KeepsNames, with_name};
 
+use crate::sorted::Numbered;
 use indexmap::IndexSet;
 use std::alloc::{AllocError, Global};
 use std::marker::Model;
 
 /// A name's number in its table.
-#[derive(Clone, Copy, Debug, PartialEq, Eq, PartialOrd, Ord, Hash)]
+#[derive(Clone, Copy, Debug, Default, PartialEq, Eq, PartialOrd, Ord, Hash)]
 pub struct NameId(u64);
 
 impl Model for NameId {
@@ -23,6 +24,14 @@ impl Model for NameId {
     ghost view = { λ n. n.0 };
 
     ghost inverse = { λ n. record { 0 = n } };
+}
+
+impl Numbered for NameId {
+    ghost number = { λ n. n };
+
+    fn number(&self) -> u64 {
+        self.0
+    }
 }
 
 /// Texts by their numbers, from 0 on. It only grows.

@@ -1,0 +1,6 @@
+pub mod Requests
+pub mod Bodies
+pub mod Replies
+pub mod Refusals
+pub mod Bytes
+pub mod Room

@@ -1,10 +1,10 @@
 -- Each change keeps what a graph is, under its condition; the changed element reads as changed, and each other as before.
-use Rattle.std.proofs.Common.{◌≡◌, ℕ, ◌+◌, ◌<◌, ◌≤◌, ◌≢◌, Bool, true, false, cond, not, ◌||◌, List, [], ◌∷◌, Option, Some, None, is_some, Ordering, Less, Equal, Greater, T, IsTrue, option_map, filter, is_eq, refl, sym, ap, subst, ◌∙◌, arith, true≢false, le_trans, lt_irrefl}
+use Rattle.std.proofs.Common.{◌≡◌, ℕ, ◌+◌, ◌<◌, ◌≢◌, Bool, true, false, cond, not, List, [], ◌∷◌, Some, None, is_some, Less, Equal, Greater, T, IsTrue, option_map, is_eq, refl, sym, ap, subst, ◌∙◌, arith}
 use Rattle.std.proofs.lemmas.Cmp.{nat_cmp_total}
 use Rattle.std.specs.Cmp.{tied_itself}
 use Rattle.std.specs.FinMap.{nat_cmp-IsAntisymmetric}
 use Rattle.std.specs.FinMap.Entries as by_id
-use Rattle.std.specs.List.{AllByRecursion, list_any}
+use Rattle.std.specs.List.{AllByRecursion}
 use Rattle.std.specs.List.Sorted.{IsStrictlySortedBy}
 use Rattle.std.specs.Ordering.{nat_cmp, eq_by_cmp}
 use Rattle.pg_meaning.specs.Entries.{are_rising}

@@ -1,5 +1,5 @@
 -- Texts that are put among texts in byte order stay so.
-use Rattle.std.proofs.Common.{◌≡◌, ℕ, List, [], ◌∷◌, Ordering, Less, Equal, Greater, refl, sym, ap, ◌∙◌, fold}
+use Rattle.std.proofs.Common.{◌≡◌, ℕ, List, [], ◌∷◌, Less, Equal, Greater, refl, ap, ◌∙◌}
 use Rattle.std.proofs.lemmas.Cmp.{lists_total, nat_cmp_total}
 use Rattle.std.specs.BTreeSet.{insert_key}
 use Rattle.std.specs.Cmp.{IsTotalOrder}

@@ -156,17 +156,31 @@ fn string(alloc: Global, text: &str) -> Result<String, Fault> {
     Ok(String::from_str(alloc, text)?)
 }
 
-fn entry(alloc: Global, key: &str, value: Out) -> Result<BTreeMap<String, Out>, Fault> {
-    let mut map = BTreeMap::new(alloc);
-    drop(map.insert(string(alloc, key)?, value)?);
-    Ok(map)
+fn strings(alloc: Global, texts: &[&str]) -> Result<Vec<String>, Fault> {
+    let mut all = Vec::new(alloc);
+    for text in texts {
+        all.push(string(alloc, text)?)?;
+    }
+    Ok(all)
+}
+
+fn put(map: &mut BTreeMap<String, Out>, key: String, value: Out) -> Result<(), Fault> {
+    drop(map.insert(key, value)?);
+    Ok(())
 }
 
 fn node(alloc: Global, id: u64) -> Result<Out, Fault> {
+    let labels = strings(alloc, &["P"])?;
+    let mut properties = BTreeMap::new(alloc);
+    put(
+        &mut properties,
+        string(alloc, "name")?,
+        Out::Text(string(alloc, "x")?),
+    )?;
     Ok(Out::Node {
         id: NodeId(id),
-        labels: vec![in alloc; string(alloc, "P")?]?,
-        properties: entry(alloc, "name", Out::Text(string(alloc, "x")?))?,
+        labels,
+        properties,
     })
 }
 
@@ -180,70 +194,141 @@ fn relationship(alloc: Global) -> Result<Out, Fault> {
     })
 }
 
-fn elements(alloc: Global) -> Result<ReplyBody, Fault> {
-    let path = Out::Path(vec![in alloc; node(alloc, 0)?, relationship(alloc)?, node(alloc, 1)?]?);
+fn path(alloc: Global) -> Result<Out, Fault> {
+    let mut elements = Vec::new(alloc);
+    elements.push(node(alloc, 0)?)?;
+    elements.push(relationship(alloc)?)?;
+    elements.push(node(alloc, 1)?)?;
+    Ok(Out::Path(elements))
+}
+
+fn map(alloc: Global) -> Result<Out, Fault> {
+    let mut map = BTreeMap::new(alloc);
+    put(&mut map, string(alloc, "b\"")?, Out::List(Vec::new(alloc)))?;
+    put(
+        &mut map,
+        string(alloc, "a\u{1}")?,
+        Out::Map(BTreeMap::new(alloc)),
+    )?;
+    Ok(Out::Map(map))
+}
+
+fn integers(alloc: Global) -> Result<Out, Fault> {
+    let mut items = Vec::new(alloc);
+    for i in [i64::MIN, -1, 0, 9, 10, i64::MAX] {
+        items.push(Out::Int(i))?;
+    }
+    Ok(Out::List(items))
+}
+
+/// The reply of one row of one value.
+fn one(alloc: Global, value: Out) -> Result<ReplyBody, Fault> {
+    let mut row = Vec::new(alloc);
+    row.push(value)?;
+    let mut rows = Vec::new(alloc);
+    rows.push(row)?;
     Ok(ReplyBody::Query {
-        columns: vec![in alloc; string(alloc, "n")?, string(alloc, "p")?]?,
-        rows: vec![in alloc;
-            vec![in alloc; node(alloc, 7)?, path]?,
-            vec![in alloc; relationship(alloc)?]?,
-        ]?,
-        steps: 3,
+        columns: Vec::new(alloc),
+        rows,
+        steps: 0,
     })
 }
 
-fn values(alloc: Global) -> Result<ReplyBody, Fault> {
-    let mut map = entry(alloc, "b\"", Out::List(Vec::new(alloc)))?;
-    drop(map.insert(string(alloc, "a\u{1}")?, Out::Map(BTreeMap::new(alloc)))?);
-    let list = Out::List(vec![in alloc; Out::Int(i64::MIN), Out::Int(0), Out::Int(i64::MAX)]?);
+fn is_written(alloc: Global, value: Out, expected: &str) -> Result<bool, Fault> {
+    let bytes = write_reply(alloc, &one(alloc, value)?)?;
+    let text = bytes.as_slice();
+    let (front, back) = (r#"{"code":0,"columns":[],"rows":[["#, r#"]],"steps":0}"#);
+    Ok(
+        text.len() == expected.len() + 45
+            && text.starts_with(front.as_bytes())
+            && text[32..].starts_with(expected.as_bytes())
+            && text.ends_with(back.as_bytes()),
+    )
+}
+
+#[test]
+fn writes_values(rt: HostRuntime) -> Result<(), Fail> {
+    let alloc = rt.alloc();
     let text = string(alloc, "\"\\/\u{8}\u{c}\n\r\t\u{0}\u{1f}\u{7f}é😀")?;
+    assert!(rt; is_written(alloc, Out::Text(text), TEXT)?);
+    assert!(rt; is_written(alloc, Out::Bool(true), "true")?);
+    assert!(rt; is_written(alloc, integers(alloc)?, INTEGERS)?);
+    assert!(rt; is_written(alloc, map(alloc)?, r#"{"a\u0001":{},"b\"":[]}"#)?);
+    assert!(rt; is_written(alloc, node(alloc, 7)?, NODE)?);
+    assert!(rt; is_written(alloc, relationship(alloc)?, RELATIONSHIP)?);
+    assert!(rt; is_written(alloc, path(alloc)?, PATH)?);
+    Ok(())
+}
+
+const TEXT: &str = "\"\\\"\\\\/\\b\\f\\n\\r\\t\\u0000\\u001f\u{7f}é😀\"";
+
+const INTEGERS: &str = "[-9223372036854775808,-1,0,9,10,9223372036854775807]";
+
+const NODE: &str = r#"{"$node":7,"labels":["P"],"properties":{"name":"x"}}"#;
+
+const RELATIONSHIP: &str = r#"{"$rel":0,"end":1,"properties":{},"start":0,"type":"K"}"#;
+
+const PATH: &str =
+    r#"{"$path":[{"$node":0,"labels":["P"],"properties":{"name":"x"}},{"$rel":0,"end":1,"properties":{},"start":0,"type":"K"},{"$node":1,"labels":["P"],"properties":{"name":"x"}}]}"#;
+
+fn three(alloc: Global) -> Result<ReplyBody, Fault> {
+    let mut row = Vec::new(alloc);
+    row.push(Out::Null)?;
+    row.push(Out::Null)?;
+    row.push(Out::Bool(false))?;
+    let mut rows = Vec::new(alloc);
+    rows.push(row)?;
     Ok(ReplyBody::Query {
-        columns: vec![in alloc; string(alloc, "\n")?]?,
-        rows: vec![in alloc;
-            vec![in alloc; Out::Bool(true), list, Out::Text(text), Out::Map(map)]?,
-        ]?,
-        steps: u64::MAX,
+        columns: strings(alloc, &["a", "b", "c"])?,
+        rows,
+        steps: 1,
     })
 }
 
 #[test]
-fn writes(rt: HostRuntime) -> Result<(), Fail> {
+fn writes_replies(rt: HostRuntime) -> Result<(), Fail> {
     let alloc = rt.alloc();
-    let three = ReplyBody::Query {
-        columns: vec![in alloc;
-            string(alloc, "a")?,
-            string(alloc, "b")?,
-            string(alloc, "c")?,
-        ]?,
-        rows: vec![in alloc; vec![in alloc; Out::Null, Out::Null, Out::Bool(false)]?]?,
-        steps: 1,
-    };
-    let nothing = ReplyBody::Query {
-        columns: Vec::new(alloc),
-        rows: Vec::new(alloc),
-        steps: 0,
-    };
-    for (reply, expected) in [
-        (
-            &three,
-            r#"{"code":0,"columns":["a","b","c"],"rows":[[null,null,false]],"steps":1}"#,
-        ),
-        (&nothing, r#"{"code":0,"columns":[],"rows":[],"steps":0}"#),
-        (&elements(alloc)?, ELEMENTS),
-        (&values(alloc)?, VALUES),
-    ] {
-        let bytes = write_reply(alloc, reply)?;
-        assert!(rt; bytes.as_slice() == expected.as_bytes(), "{expected}");
-        assert_eq!(rt; bytes.len(), expected.len());
-    }
+    let bytes = write_reply(alloc, &three(alloc)?)?;
+    assert!(rt; bytes.as_slice() == THREE.as_bytes());
+    let bytes = write_reply(alloc, &empty(alloc)?)?;
+    assert!(rt; bytes.as_slice() == EMPTY.as_bytes());
     Ok(())
 }
 
-const ELEMENTS: &str =
-    r#"{"code":0,"columns":["n","p"],"rows":[[{"$node":7,"labels":["P"],"properties":{"name":"x"}},{"$path":[{"$node":0,"labels":["P"],"properties":{"name":"x"}},{"$rel":0,"end":1,"properties":{},"start":0,"type":"K"},{"$node":1,"labels":["P"],"properties":{"name":"x"}}]}],[{"$rel":0,"end":1,"properties":{},"start":0,"type":"K"}]],"steps":3}"#;
+fn empty(alloc: Global) -> Result<ReplyBody, Fault> {
+    let mut rows = Vec::new(alloc);
+    rows.push(Vec::new(alloc))?;
+    rows.push(Vec::new(alloc))?;
+    Ok(ReplyBody::Query {
+        columns: strings(alloc, &["", "\n"])?,
+        rows,
+        steps: u64::MAX,
+    })
+}
 
-const VALUES: &str =
-    "{\"code\":0,\"columns\":[\"\\n\"],\"rows\":[[true,[-9223372036854775808,0,9223372036854775807],\"\\\"\\\\/\\b\\f\\n\\r\\t\\u0000\\u001f\u{7f}é😀\",{\"a\\u0001\":{},\"b\\\"\":[]}]],\"steps\":18446744073709551615}";
+const THREE: &str = r#"{"code":0,"columns":["a","b","c"],"rows":[[null,null,false]],"steps":1}"#;
+
+const EMPTY: &str = r#"{"code":0,"columns":["","\n"],"rows":[[],[]],"steps":18446744073709551615}"#;
+
+/// Run with each allocation refused in turn, this finds no other answer in place of the error.
+#[test]
+fn answers_want_of_memory_alone(rt: HostRuntime) {
+    let alloc = rt.alloc();
+    match read_request(
+        alloc,
+        br#"{"op":"query","token":"a\n","text":"RETURN 1\n"}"#,
+    ) {
+        Ok(RequestBody::Query { token, text }) => {
+            assert!(rt; token.as_str() == "a\n" && text.as_str() == "RETURN 1\n");
+        }
+        Err(fault) => assert_eq!(rt; fault, Fault::OutOfMemory),
+    }
+    let Ok(reply) = three(alloc) else { return };
+    match write_reply(alloc, &reply) {
+        Ok(bytes) => assert!(rt; bytes.as_slice() == THREE.as_bytes()),
+        Err(fault) => assert_eq!(rt; fault, Fault::OutOfMemory),
+    }
+}
 
 /// A reply of one row with one text of this character.
 fn long(alloc: Global, count: usize, character: &str) -> Result<ReplyBody, Fault> {
@@ -258,11 +343,7 @@ fn long(alloc: Global, count: usize, character: &str) -> Result<ReplyBody, Fault
     for _ in 0..count % 4096 {
         text.push_str(character)?;
     }
-    Ok(ReplyBody::Query {
-        columns: Vec::new(alloc),
-        rows: vec![in alloc; vec![in alloc; Out::Text(text)]?]?,
-        steps: 0,
-    })
+    one(alloc, Out::Text(text))
 }
 
 /// What stands about the text takes 47 bytes, and the text of a control character six.

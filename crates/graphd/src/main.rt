@@ -2,6 +2,8 @@
 #![tactic(auto)]
 
 mod fault;
+#[cfg(test)]
+mod tests;
 
 use fault::ProgramFault;
 use pg_server::{Config, Counted, End, Server};

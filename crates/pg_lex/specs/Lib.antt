@@ -1,2 +1,3 @@
+pub mod Keywords
 pub mod Scans
 pub mod View

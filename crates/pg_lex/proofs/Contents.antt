@@ -1,0 +1,2 @@
+-- The contents of strings.
+use Rattle.std.proofs.Common.{◌≡◌}

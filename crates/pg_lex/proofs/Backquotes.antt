@@ -1,8 +1,10 @@
 -- Names in backquotes.
-use Rattle.std.proofs.Common.{◌≡◌, ℕ, Bool, true, false, cond, eqb, List, [], ◌∷◌, ◌++◌, Option, Some, None, refl, sym, ap, ◌∙◌, append_assoc, encode_utf8}
+use Rattle.std.proofs.Common.{◌≡◌, ℕ, Bool, true, false, cond, eqb, List, [], ◌∷◌, ◌++◌, Option, Some, None, refl, sym, ap, ◌∙◌, append_assoc, encode_utf8, length, length-append, arith}
 use Rattle.std.proofs.lemmas.Bool.{eqb-true}
+use Rattle.std.proofs.lemmas.Str.{length-encode, len_utf8_bounds}
 use Rattle.pg_meaning.specs.Tokens.{Front, quoted_from, put, named, Lexeme, is_empty, utf8, utf8_of}
-use Rattle.pg_lex.specs.Scans.{past_front, strip_backquote, behind_text}
+use Rattle.pg_lex.specs.Scans.{past_front, strip_backquote, behind_text, nonempty}
+use Rattle.pg_lex.proofs.Pairs.{both, same_pair}
 use Rattle.pg_lex.proofs.Texts.{utf8_of_same}
 
 -- a character more
@@ -33,3 +35,55 @@ pub quoted_more : (t n r b m : List ℕ) (c : ℕ) (o : Option (List ℕ × List
 quoted_more t n r b m c o h e f g =
     let step : quoted_from false r ≡ put c (quoted_from false m) = ap (quoted_from false) e ∙ quoted_step c b ∙ ap (λ (x : Option (List ℕ)). one_more c x b) f in
     rw g (sym (behind_put t c (quoted_from false m)) ∙ ap (behind_text t) (sym step) ∙ h)
+
+-- ---- at least one character
+
+empty_short : (l : List ℕ) → length l ≡ 0 → is_empty l ≡ true
+empty_short [] h = refl
+empty_short (x ∷ l) h = absurd (omega arith)
+
+filled : (l : List ℕ) → (length l ≡ 0 → ⊥) → is_empty l ≡ false
+filled [] h = absurd (h (omega arith))
+filled (x ∷ l) h = refl
+
+empty_same : (cs : List ℕ) → is_empty (utf8 cs) ≡ is_empty cs
+empty_same [] = refl
+empty_same (c ∷ cs) =
+    let one = ap (length {A = ℕ}) (utf8_of_same c) in
+    filled (utf8_of c ++ utf8 cs) (λ h. absurd (omega (arith, length-append (utf8_of c) (utf8 cs), length-encode c, len_utf8_bounds c, one, h)))
+
+abbrev if_some : Bool → List ℕ × List ℕ → Front (List ℕ)
+if_some t p = elim t [ true ↦ None | false ↦ Some p ]
+
+name_by : (x : Bool) (t more : List ℕ) (p : List ℕ × List ℕ) → both (utf8 p.0) p.1 ≡ both t more → is_empty t ≡ x → behind_text [] (nonempty (Some p)) ≡ behind_text [] (if_some x p)
+name_by x t more p e h =
+    let g = same_pair (utf8 p.0) t p.1 more e in
+    ap (λ (t : Bool). behind_text [] (if_some t p)) (sym (empty_same p.0) ∙ ap is_empty g.0 ∙ h)
+
+pub name_empty : (t more : List ℕ) (o : Front (List ℕ)) → behind_text [] o ≡ Some (t, more) → length t ≡ 0 → behind_text [] (nonempty o) ≡ None
+name_empty t more None e h = absurd cc
+name_empty t more (Some p) e h = name_by true t more p e (empty_short t h)
+
+pub name_some : (t more : List ℕ) (o : Front (List ℕ)) → behind_text [] o ≡ Some (t, more) → (length t ≡ 0 → ⊥) → behind_text [] (nonempty o) ≡ Some (t, more)
+name_some t more None e h = absurd cc
+name_some t more (Some p) e h = name_by false t more p e (filled t h) ∙ e
+
+pub name_none : (o : Front (List ℕ)) → behind_text [] o ≡ None → behind_text [] (nonempty o) ≡ None
+name_none None e = refl
+name_none (Some p) e = absurd cc
+
+pub named_some : (f : List ℕ → Lexeme) (o : Front (List ℕ)) (t more : List ℕ) → behind_text [] (nonempty o) ≡ Some (t, more) → named f o ≡ Some (f t, more)
+named_some f None t more e = absurd cc
+named_some f (Some p) t more e = at (is_empty p.0) e
+  where
+    at : (x : Bool) → behind_text [] (elim x as (λ _. Front (List ℕ)) [ true ↦ None | false ↦ Some p ]) ≡ Some (t, more) → elim x as (λ _. Front Lexeme) [ true ↦ None | false ↦ Some (f (utf8 p.0), p.1) ] ≡ Some (f t, more)
+    at true e = absurd cc
+    at false e = let h = same_pair (utf8 p.0) t p.1 more e in rw (h.0, h.1) refl
+
+pub named_none : (f : List ℕ → Lexeme) (o : Front (List ℕ)) → behind_text [] (nonempty o) ≡ None → named f o ≡ None
+named_none f None e = refl
+named_none f (Some p) e = at (is_empty p.0) e
+  where
+    at : (x : Bool) → behind_text [] (elim x as (λ _. Front (List ℕ)) [ true ↦ None | false ↦ Some p ]) ≡ None → elim x as (λ _. Front Lexeme) [ true ↦ None | false ↦ Some (f (utf8 p.0), p.1) ] ≡ None
+    at true e = refl
+    at false e = absurd cc

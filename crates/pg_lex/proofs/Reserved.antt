@@ -3,10 +3,10 @@ use Rattle.std.proofs.Common.{◌≡◌, ℕ, ◌+◌, ◌/◌, ◌%◌, ◌<◌
 use Rattle.std.specs.Char.{to_ascii_lowercase}
 use Rattle.std.specs.Char.{encode_utf8 as encode}
 use Rattle.std.proofs.lemmas.Bool.{ltb-true, ltb-false, ne_eqb, le-ltb, and_parts}
+use Rattle.std.proofs.lemmas.Slice.Eq.{bytes_eq-Decides}
 use Rattle.pg_meaning.specs.declared.lexemes.Keyword.{Keyword}
 use Rattle.pg_meaning.specs.Tokens.{utf8, utf8_of, keywords, keyword_among, keyword_of, worded, word_at, after, continues_word}
-use Rattle.pg_lex.specs.Keywords as part
-use Rattle.pg_lex.specs.Keywords.{reserved}
+use Rattle.pg_lex.proofs.Pairs.{both, same_pair}
 use Rattle.pg_lex.specs.Scans.{word_front, worded_front}
 
 -- ---- the same word in characters and in bytes
@@ -69,28 +69,31 @@ pub keyword_same : (cs : List ℕ) → keyword_of (utf8 cs) ≡ keyword_of cs
 unfolding keyword_of keywords
 keyword_same cs = among_same keywords cs refl
 
-abbrev both : {A : Type 0} → A → List ℕ → Option (A × List ℕ)
-both a more = Some (a, more)
-
-pub same_pair : {A : Type 0} (a c : A) (b d : List ℕ) → both a b ≡ both c d → (a ≡ c) × (b ≡ d)
-same_pair a c b d e = let p : a ≡ c = cc in let q : b ≡ d = cc in (p, q)
-
 pub worded_word : (cs w more : List ℕ) → word_front cs ≡ Some (w, more) → worded_front cs ≡ Some (worded w (keyword_of w), more)
 worded_word [] w more e = absurd cc
 worded_word (c ∷ cs) w more e =
     let h = same_pair (utf8 (word_at c cs)) w (after continues_word cs) more e in
     ap (λ (o : Option Keyword). both (worded (utf8 (word_at c cs)) o) (after continues_word cs)) (sym (keyword_same (word_at c cs))) ∙ rw (h.0, h.1) refl
 
--- ---- the keywords in parts
+-- ---- keywords that a word is not
 
-abbrev one_of : Option Keyword → Option Keyword → Option Keyword
-one_of None o = o
-one_of (Some k) o = Some k
+abbrev AreOthers : List (List ℕ × Keyword) → List ℕ → Type 0
+AreOthers [] w = Unit {0}
+AreOthers (p ∷ ps) w = (w ≡ map to_ascii_lowercase p.0 → ⊥) × AreOthers ps w
 
-among-append : (ps qs : List (List ℕ × Keyword)) (w : List ℕ) → keyword_among (ps ++ qs) w ≡ one_of (keyword_among ps w) (keyword_among qs w)
-among-append [] qs w = refl
-among-append (p ∷ ps) qs w = at (bytes_eq p.0 w) (among-append ps qs w)
+abbrev are_lower : List (List ℕ × Keyword) → Bool
+are_lower [] = true
+are_lower (p ∷ ps) = bytes_eq (map to_ascii_lowercase p.0) p.0 && are_lower ps
+
+passed_one : (p : List ℕ × Keyword) (w : List ℕ) (o : Option Keyword) → bytes_eq (map to_ascii_lowercase p.0) p.0 ≡ true → (w ≡ map to_ascii_lowercase p.0 → ⊥) → pick (bytes_eq p.0 w) p.1 o ≡ o
+passed_one p w o low other = at (bytes_eq p.0 w) refl
   where
-    at : (x : Bool) → keyword_among (ps ++ qs) w ≡ one_of (keyword_among ps w) (keyword_among qs w) → pick x p.1 (keyword_among (ps ++ qs) w) ≡ one_of (pick x p.1 (keyword_among ps w)) (keyword_among qs w)
-    at true more = refl
-    at false more = more
+    at : (x : Bool) → bytes_eq p.0 w ≡ x → pick x p.1 o ≡ o
+    at true e = absurd (other (sym ((bytes_eq-Decides p.0 w).0 e) ∙ sym ((bytes_eq-Decides (map to_ascii_lowercase p.0) p.0).0 low)))
+    at false e = refl
+
+pub passed_by : (ps rest : List (List ℕ × Keyword)) (w : List ℕ) → AreOthers ps w → are_lower ps ≡ true → keyword_among (ps ++ rest) w ≡ keyword_among rest w
+passed_by [] rest w h low = refl
+passed_by (p ∷ ps) rest w h low =
+    let a = and_parts (bytes_eq (map to_ascii_lowercase p.0) p.0) (are_lower ps) low in
+    passed_one p w (keyword_among (ps ++ rest) w) a.0 h.0 ∙ passed_by ps rest w h.1 a.1

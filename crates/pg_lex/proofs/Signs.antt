@@ -4,6 +4,7 @@ use Rattle.std.proofs.lemmas.Bool.{eqb-true, eqb-false, eq-eqb, ne_eqb}
 use Rattle.pg_meaning.specs.declared.lexemes.Symbol.{Symbol}
 use Rattle.pg_meaning.specs.declared.lexemes.Symbol.TheVariants as s
 use Rattle.pg_meaning.specs.Tokens.{Front, Lexeme, symbol, symbols, symbol_text, symbol_among, behind}
+use Rattle.pg_lex.proofs.Pairs.{both, same_pair}
 use Rattle.pg_lex.specs.Scans.{with_rest, sign_of, pair_of, pair_front}
 
 eqb_sym : (a b : ℕ) → eqb a b ≡ eqb b a
@@ -95,12 +96,6 @@ sign_alone c = alone pairs (map (λ p. p.1) signs) c (refl, (refl, (refl, (refl,
 
 -- ---- the longest
 
-abbrev both : Symbol → List ℕ → Front Symbol
-both x more = Some (x, more)
-
-same_both : (x y : Symbol) (cs more : List ℕ) → both x cs ≡ both y more → (x ≡ y) × (cs ≡ more)
-same_both x y cs more e = let p : x ≡ y = cc in let q : cs ≡ more = cc in (p, q)
-
 pub pair_found : (cs more : List ℕ) (x : Symbol) → pair_front cs ≡ both x more → symbol_among symbols cs ≡ Some (symbol x, more)
 pair_found [] more x e = absurd cc
 pair_found (c ∷ []) more x e = absurd cc
@@ -108,7 +103,7 @@ pair_found (c ∷ d ∷ cs) more x e = pairs_same c d cs ∙ at (pair_of c d) e
   where
     at : (o : Option Symbol) → with_rest cs o ≡ both x more → found_or cs (found (d ∷ cs) (sign_of c)) o ≡ Some (symbol x, more)
     at None h = absurd cc
-    at (Some y) h = let p = same_both y x cs more h in rw (p.0, p.1) refl
+    at (Some y) h = let p = same_pair y x cs more h in rw (p.0, p.1) refl
 
 no_pair : (cs b : List ℕ) (c : ℕ) → cs ≡ c ∷ b → pair_front cs ≡ None → symbol_among symbols cs ≡ found b (sign_of c)
 no_pair cs [] c e h = ap (λ (l : List ℕ). symbol_among symbols l) e ∙ sign_alone c

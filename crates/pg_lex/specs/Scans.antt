@@ -23,6 +23,11 @@ abbrev pub behind_text : List ℕ → Front (List ℕ) → Option (List ℕ × L
 behind_text t None = None
 behind_text t (Some p) = Some (t ++ utf8 p.0, p.1)
 
+-- a decoded text of at least one character
+abbrev pub nonempty : Front (List ℕ) → Front (List ℕ)
+nonempty None = None
+nonempty (Some p) = elim (is_empty p.0) [ true ↦ None | false ↦ Some p ]
+
 -- the same of an answer that is a text alone
 abbrev pub Leaves : Option (List ℕ) → Option (Bor (List ℕ)) → Type 0
 Leaves o None = o ≡ None
@@ -130,7 +135,7 @@ parameter_front (Some p) = Some (parameter false p.0, p.1)
 
 abbrev pub digits_front : List ℕ → Front (List ℕ)
 digits_front [] = None
-digits_front (c ∷ cs) = Some (utf8 (c ∷ run is_digit cs), after is_digit cs)
+digits_front (c ∷ cs) = Some (c ∷ run is_digit cs, after is_digit cs)
 
 abbrev pub integer_front : List ℕ → Front Lexeme
 integer_front [] = None

@@ -6,8 +6,10 @@ ghost use Rattle.pg_lex.specs.Keywords as part;
 
 use pg_meaning::Keyword;
 
-fn and_to_create(word: &str) -> Option<Keyword>
-    ensures { result ≡ part.reserved part.and_to_create word.now }
+/// The keyword that a word is, whatever its ASCII case.
+#[tactic(auto, unfolding(pg_meaning::specs::Tokens::keyword_of, pg_meaning::specs::Tokens::keywords))]
+pub(crate) fn keyword_of(word: &str) -> Option<Keyword>
+    ensures { result ≡ spec.keyword_of word.now }
 {
     if word.eq_ignore_ascii_case("and") {
         Some(Keyword::And)
@@ -19,25 +21,33 @@ fn and_to_create(word: &str) -> Option<Keyword>
         Some(Keyword::Ascending)
     } else if word.eq_ignore_ascii_case("by") {
         Some(Keyword::By)
-    } else if word.eq_ignore_ascii_case("case") {
+    } else {
+        from_case(word)
+    }
+}
+
+fn from_case(word: &str) -> Option<Keyword>
+    ensures { result ≡ part.reserved part.from_case word.now }
+{
+    if word.eq_ignore_ascii_case("case") {
         Some(Keyword::Case)
     } else if word.eq_ignore_ascii_case("contains") {
         Some(Keyword::Contains)
     } else if word.eq_ignore_ascii_case("create") {
         Some(Keyword::Create)
-    } else {
-        None
-    }
-}
-
-fn delete_to_ends(word: &str) -> Option<Keyword>
-    ensures { result ≡ part.reserved part.delete_to_ends word.now }
-{
-    if word.eq_ignore_ascii_case("delete") {
+    } else if word.eq_ignore_ascii_case("delete") {
         Some(Keyword::Delete)
     } else if word.eq_ignore_ascii_case("desc") {
         Some(Keyword::Desc)
-    } else if word.eq_ignore_ascii_case("descending") {
+    } else {
+        from_descending(word)
+    }
+}
+
+fn from_descending(word: &str) -> Option<Keyword>
+    ensures { result ≡ part.reserved part.from_descending word.now }
+{
+    if word.eq_ignore_ascii_case("descending") {
         Some(Keyword::Descending)
     } else if word.eq_ignore_ascii_case("detach") {
         Some(Keyword::Detach)
@@ -47,17 +57,17 @@ fn delete_to_ends(word: &str) -> Option<Keyword>
         Some(Keyword::Else)
     } else if word.eq_ignore_ascii_case("end") {
         Some(Keyword::End)
-    } else if word.eq_ignore_ascii_case("ends") {
-        Some(Keyword::Ends)
     } else {
-        None
+        from_ends(word)
     }
 }
 
-fn false_to_null(word: &str) -> Option<Keyword>
-    ensures { result ≡ part.reserved part.false_to_null word.now }
+fn from_ends(word: &str) -> Option<Keyword>
+    ensures { result ≡ part.reserved part.from_ends word.now }
 {
-    if word.eq_ignore_ascii_case("false") {
+    if word.eq_ignore_ascii_case("ends") {
+        Some(Keyword::Ends)
+    } else if word.eq_ignore_ascii_case("false") {
         Some(Keyword::False)
     } else if word.eq_ignore_ascii_case("in") {
         Some(Keyword::In)
@@ -65,7 +75,15 @@ fn false_to_null(word: &str) -> Option<Keyword>
         Some(Keyword::Is)
     } else if word.eq_ignore_ascii_case("limit") {
         Some(Keyword::Limit)
-    } else if word.eq_ignore_ascii_case("match") {
+    } else {
+        from_match(word)
+    }
+}
+
+fn from_match(word: &str) -> Option<Keyword>
+    ensures { result ≡ part.reserved part.from_match word.now }
+{
+    if word.eq_ignore_ascii_case("match") {
         Some(Keyword::Match)
     } else if word.eq_ignore_ascii_case("merge") {
         Some(Keyword::Merge)
@@ -73,17 +91,17 @@ fn false_to_null(word: &str) -> Option<Keyword>
         Some(Keyword::Not)
     } else if word.eq_ignore_ascii_case("null") {
         Some(Keyword::Null)
+    } else if word.eq_ignore_ascii_case("on") {
+        Some(Keyword::On)
     } else {
-        None
+        from_optional(word)
     }
 }
 
-fn on_to_skip(word: &str) -> Option<Keyword>
-    ensures { result ≡ part.reserved part.on_to_skip word.now }
+fn from_optional(word: &str) -> Option<Keyword>
+    ensures { result ≡ part.reserved part.from_optional word.now }
 {
-    if word.eq_ignore_ascii_case("on") {
-        Some(Keyword::On)
-    } else if word.eq_ignore_ascii_case("optional") {
+    if word.eq_ignore_ascii_case("optional") {
         Some(Keyword::Optional)
     } else if word.eq_ignore_ascii_case("or") {
         Some(Keyword::Or)
@@ -93,25 +111,33 @@ fn on_to_skip(word: &str) -> Option<Keyword>
         Some(Keyword::Remove)
     } else if word.eq_ignore_ascii_case("return") {
         Some(Keyword::Return)
-    } else if word.eq_ignore_ascii_case("set") {
-        Some(Keyword::Set)
-    } else if word.eq_ignore_ascii_case("skip") {
-        Some(Keyword::Skip)
     } else {
-        None
+        from_set(word)
     }
 }
 
-fn starts_to_xor(word: &str) -> Option<Keyword>
-    ensures { result ≡ part.reserved part.starts_to_xor word.now }
+fn from_set(word: &str) -> Option<Keyword>
+    ensures { result ≡ part.reserved part.from_set word.now }
 {
-    if word.eq_ignore_ascii_case("starts") {
+    if word.eq_ignore_ascii_case("set") {
+        Some(Keyword::Set)
+    } else if word.eq_ignore_ascii_case("skip") {
+        Some(Keyword::Skip)
+    } else if word.eq_ignore_ascii_case("starts") {
         Some(Keyword::Starts)
     } else if word.eq_ignore_ascii_case("then") {
         Some(Keyword::Then)
     } else if word.eq_ignore_ascii_case("true") {
         Some(Keyword::True)
-    } else if word.eq_ignore_ascii_case("unwind") {
+    } else {
+        from_unwind(word)
+    }
+}
+
+fn from_unwind(word: &str) -> Option<Keyword>
+    ensures { result ≡ part.reserved part.from_unwind word.now }
+{
+    if word.eq_ignore_ascii_case("unwind") {
         Some(Keyword::Unwind)
     } else if word.eq_ignore_ascii_case("when") {
         Some(Keyword::When)
@@ -124,15 +150,4 @@ fn starts_to_xor(word: &str) -> Option<Keyword>
     } else {
         None
     }
-}
-
-/// The keyword that a word is, whatever its ASCII case.
-pub(crate) fn keyword_of(word: &str) -> Option<Keyword>
-    ensures { result ≡ spec.keyword_of word.now }
-{
-    and_to_create(word)
-        .or_else(|| delete_to_ends(word))
-        .or_else(|| false_to_null(word))
-        .or_else(|| on_to_skip(word))
-        .or_else(|| starts_to_xor(word))
 }

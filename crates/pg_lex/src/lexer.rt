@@ -1,9 +1,9 @@
 //! From a text to its tokens.
 
-ghost use Rattle.std.specs.Prelude.{◌≡◌, IfOk};
+ghost use Rattle.std.specs.Prelude.{◌≡◌, IfOk, option_map};
 ghost use Rattle.pg_meaning.specs.Tokens as spec;
 ghost use Rattle.pg_lex.specs.Scans as scan;
-ghost use Rattle.pg_lex.specs.View.{next_view, lexeme_view};
+ghost use Rattle.pg_lex.specs.View.{next_view, lexeme_view, tokens_view};
 
 use crate::class::class;
 use crate::gaps::slash;
@@ -12,7 +12,7 @@ use crate::numbers::{digits_parameter, integer};
 use crate::strings::string;
 use crate::symbols::symbol;
 use crate::text::split_first;
-use crate::token::{Class, Lexeme, Next};
+use crate::token::{Class, Lexeme, Next, Token};
 use crate::words::{word_lexeme, word_parameter};
 use std::alloc::{AllocError, Global};
 
@@ -65,4 +65,27 @@ fn next(alloc: Global, text: &str) -> Result<Next<'_>, AllocError>
         Some((lexeme, rest)) => Next::Found(lexeme, rest),
         None => Next::Bad,
     })
+}
+
+/// All tokens of a text; None where some place has no lexeme.
+fn lexed(alloc: Global, text: &str) -> Result<Option<Vec<Token<'_>>>, AllocError>
+    ensures { IfOk result (λ o. option_map (λ ts. tokens_view ts.items) o ≡ spec.tokens_of text.now) }
+{
+    let mut found = Vec::new(alloc);
+    let mut rest = text;
+    while !rest.is_empty() {
+        match next(alloc, rest)? {
+            Next::Gap(more) => rest = more,
+            Next::Found(lexeme, more) => {
+                found.push(Token {
+                    lexeme,
+                    start: text.len() - rest.len(),
+                    finish: text.len() - more.len(),
+                })?;
+                rest = more;
+            }
+            Next::Bad => return Ok(None),
+        }
+    }
+    Ok(Some(found))
 }

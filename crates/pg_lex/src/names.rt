@@ -39,22 +39,37 @@ fn quoted(alloc: Global, text: &str) -> Result<Option<(String, &str)>, AllocErro
     Ok(None)
 }
 
+/// The same where it is at least one character.
+fn name(alloc: Global, text: &str) -> Result<Option<(String, &str)>, AllocError>
+    ensures { IfOk result (λ o. scan.Fronts scan.content (scan.behind_text [] (scan.nonempty (spec.quoted_from false (spec.characters text.now)))) o) }
+{
+    let Some((name, rest)) = quoted(alloc, text)? else {
+        return Ok(None);
+    };
+    if name.is_empty() {
+        return Ok(None);
+    }
+    Ok(Some((name, rest)))
+}
+
 /// The quoted name behind its first backquote.
+#[tactic(auto, using(crate::proofs::Backquotes::named_some, crate::proofs::Backquotes::named_none))]
 pub(crate) fn quoted_name(alloc: Global, text: &str) -> Result<Option<(Lexeme<'_>, &str)>, AllocError>
     ensures { IfOk result (λ o. scan.Fronts lexeme_view (spec.named spec.quoted_name (spec.quoted_from false (spec.characters text.now))) o) }
 {
-    match quoted(alloc, text)? {
-        Some((name, rest)) if !name.is_empty() => Ok(Some((Lexeme::QuotedName(name), rest))),
-        _ => Ok(None),
+    match name(alloc, text)? {
+        Some((name, rest)) => Ok(Some((Lexeme::QuotedName(name), rest))),
+        None => Ok(None),
     }
 }
 
 /// The parameter behind its dollar and a first backquote.
+#[tactic(auto, using(crate::proofs::Backquotes::named_some, crate::proofs::Backquotes::named_none))]
 pub(crate) fn quoted_parameter(alloc: Global, text: &str) -> Result<Option<(Lexeme<'_>, &str)>, AllocError>
     ensures { IfOk result (λ o. scan.Fronts lexeme_view (spec.named (spec.parameter true) (spec.quoted_from false (spec.characters text.now))) o) }
 {
-    match quoted(alloc, text)? {
-        Some((name, rest)) if !name.is_empty() => Ok(Some((Lexeme::QuotedParameter(name), rest))),
-        _ => Ok(None),
+    match name(alloc, text)? {
+        Some((name, rest)) => Ok(Some((Lexeme::QuotedParameter(name), rest))),
+        None => Ok(None),
     }
 }

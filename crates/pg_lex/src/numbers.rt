@@ -25,8 +25,9 @@ fn after_digits(text: &str) -> &str
     rest
 }
 
-/// The digits that begin with the text's first character.
+/// The digits at the front.
 fn digits(text: &str) -> Option<(&str, &str)>
+    requires { spec.Starts spec.is_digit (spec.characters text.now) ≡ true }
     ensures { scan.Fronts scan.bytes (scan.digits_front (spec.characters text.now)) result }
 {
     let (_first, behind) = split_first(text)?;
@@ -82,6 +83,7 @@ pub(crate) fn integer(text: &str) -> Option<(Lexeme<'_>, &str)>
 
 /// A parameter behind its dollar, of which the name is digits.
 pub(crate) fn digits_parameter(text: &str) -> Option<(Lexeme<'_>, &str)>
+    requires { spec.Starts spec.is_digit (spec.characters text.now) ≡ true }
     ensures { scan.Fronts lexeme_view (scan.parameter_front (scan.digits_front (spec.characters text.now))) result }
 {
     let (name, rest) = digits(text)?;

@@ -44,7 +44,6 @@ fn worded(word: &str) -> Lexeme<'_>
 }
 
 /// The word or keyword that begins with the text's first character.
-#[tactic(auto, using(crate::proofs::Reserved::worded_word))]
 pub(crate) fn word_lexeme(text: &str) -> Option<(Lexeme<'_>, &str)>
     ensures { scan.Fronts lexeme_view (scan.worded_front (spec.characters text.now)) result }
 {

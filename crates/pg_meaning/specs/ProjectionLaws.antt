@@ -5,7 +5,8 @@ use Rattle.std.specs.List.{AllByRecursion, AllZip, list_any}
 use Rattle.std.specs.Map.{lookup}
 use Rattle.std.specs.Ordering.{eq_by_cmp}
 use Rattle.pg_meaning.specs.Aggregates.{Aggregate, aggregate_of}
-use Rattle.pg_meaning.specs.Agreement.{given, AreRowsOf, AnswerAgrees, ClauseAgrees}
+use Rattle.pg_meaning.specs.Agreement.{given, AreRowsOf, AnswerAgrees, ClauseAgrees, QueryAgrees}
+use Rattle.pg_meaning.specs.AgreementLaws.{clauses_make_queries}
 use Rattle.pg_meaning.specs.Answer.{◌>>=◌, ◌>>◌, unless, each_answer}
 use Rattle.pg_meaning.specs.AnswerLaws.{by_answer, went_well, went_wrong, same_ok, answers_zip, answers_fault}
 use Rattle.pg_meaning.specs.Conditions.{condition}
@@ -421,3 +422,15 @@ with_agrees distinct star items skip limit where_ single s state faults planned 
       → AnswerAgrees s (with_rows (record { distinct = distinct; star = star; items = items; order = []; skip = skip; limit = limit }) where_) state r
   of_with (Ok next) h = ((h.0, h.1), subst IsGraph (sym h.0) g, h.2)
   of_with (Err f) h = h
+
+-- ---- queries of one RETURN
+
+abbrev pub ReturnQueriesAgree : Type 0
+ReturnQueriesAgree =
+    (distinct : Bool) (star : Option ℕ) (items : List Item) (skip limit : Option Expression) (semicolon : Bool) → AreSingle items
+    → QueryAgrees (record { clauses = return_rows (record { distinct = distinct; star = star; items = items; order = []; skip = skip; limit = limit }) ∷ []; semicolon = semicolon })
+
+pub return_queries_agree : ReturnQueriesAgree
+return_queries_agree distinct star items skip limit semicolon single =
+    clauses_make_queries (record { clauses = return_rows (record { distinct = distinct; star = star; items = items; order = []; skip = skip; limit = limit }) ∷ []; semicolon = semicolon })
+      (return_agrees distinct star items skip limit single, tt)

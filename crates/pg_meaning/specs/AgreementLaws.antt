@@ -45,10 +45,10 @@ first_then_rest parameters quota q scope c cs anchors plan state (Err f) (inr e)
 first_then_rest parameters quota q scope c cs anchors plan state (Ok next) h rest =
     joined (clauses_run parameters quota (scope_after scope c) plan cs next) (rest next h.1 h.2)
   where
-  joined : (r : Result State Fault) → RestAgrees parameters quota q (scope_after scope c) cs next r → RestAgrees parameters quota q scope (c ∷ cs) state r
-  joined (Ok last) g = ((next.graph, next.rows, h.0, g.0), g.1)
-  joined (Err f) (inl e) = inl e
-  joined (Err f) (inr e) = inr (inr (next.graph, next.rows, h.0, e))
+    joined : (r : Result State Fault) → RestAgrees parameters quota q (scope_after scope c) cs next r → RestAgrees parameters quota q scope (c ∷ cs) state r
+    joined (Ok last) g = ((next.graph, next.rows, h.0, g.0), g.1)
+    joined (Err f) (inl e) = inl e
+    joined (Err f) (inr e) = inr (inr (next.graph, next.rows, h.0, e))
 
 rest_agrees : (parameters : Entries) (quota : Quota) (q : Query) (scope : Names) (cs : List Clause) (plan : Plan) (state : State)
     → AllByRecursion ClauseAgrees cs → clauses_faults scope cs ≡ [] → IsPlanFrom scope cs plan → IsGraph state.graph → AreRowsOf scope state.rows
@@ -57,9 +57,9 @@ rest_agrees parameters quota q scope [] plan state agrees faults planned g rows 
 rest_agrees parameters quota q scope (c ∷ cs) [] state agrees faults planned g rows = absurd planned
 rest_agrees parameters quota q scope (c ∷ cs) (anchors ∷ plan) state agrees faults planned g rows =
     first_then_rest parameters quota q scope c cs anchors plan state
-      (clause_step (setting parameters quota scope anchors) c state)
-      (agrees.0 (setting parameters quota scope anchors) state (no_first (clause_faults scope c) _ faults) planned.0 g rows)
-      (λ next h rows_after. rest_agrees parameters quota q (scope_after scope c) cs plan next agrees.1 (no_second (clause_faults scope c) _ faults) planned.1 h rows_after)
+    (clause_step (setting parameters quota scope anchors) c state)
+    (agrees.0 (setting parameters quota scope anchors) state (no_first (clause_faults scope c) _ faults) planned.0 g rows)
+    (λ next h rows_after. rest_agrees parameters quota q (scope_after scope c) cs plan next agrees.1 (no_second (clause_faults scope c) _ faults) planned.1 h rows_after)
 
 -- ---- output
 
@@ -71,16 +71,16 @@ after_test : (P : Fault → Type 0) {Y : Type 0} (a : Result (Unit {0}) Fault) (
 after_test P (Ok x) b f e p q = q e
 after_test P (Err g) b f e p q = p (fault_is g f e)
   where
-  fault_is : {A B : Type 0} (g f : Fault) → ◌≡◌ {A = Result A Fault} (Err g) (Err f) → ◌≡◌ {A = Result B Fault} (Err g) (Err f)
-  fault_is g f h = cc
+    fault_is : {A B : Type 0} (g f : Fault) → ◌≡◌ {A = Result A Fault} (Err g) (Err f) → ◌≡◌ {A = Result B Fault} (Err g) (Err f)
+    fault_is g f h = cc
 
 ids_deleted : (graph : Graph) (ids : List ℕ) (f : Fault) → test_ids graph ids ≡ Err f → f ≡ DeletedEntity
 ids_deleted graph [] f e = cc
 ids_deleted graph (n ∷ []) f e = is_deleted_fault (has_node graph n) f e
 ids_deleted graph (n ∷ r ∷ ids) f e =
     after_test (λ f. f ≡ DeletedEntity) (test_present (has_node graph n) >> test_present (has_relationship graph r)) (test_ids graph ids) f e
-      (λ a. after_test (λ f. f ≡ DeletedEntity) (test_present (has_node graph n)) (test_present (has_relationship graph r)) f a (is_deleted_fault _ f) (is_deleted_fault _ f))
-      (ids_deleted graph ids f)
+    (λ a. after_test (λ f. f ≡ DeletedEntity) (test_present (has_node graph n)) (test_present (has_relationship graph r)) f a (is_deleted_fault _ f) (is_deleted_fault _ f))
+    (ids_deleted graph ids f)
 
 mutual
   output_deleted : (graph : Graph) (v : Value) (f : Fault) → test_output graph v ≡ Err f → f ≡ DeletedEntity
@@ -110,13 +110,14 @@ tested : (graph : Graph) (vs : List Value) → Tested graph vs (each_step (λ do
 tested graph [] = tt
 tested graph (v ∷ vs) = by_first (test_output graph v) refl (tested graph vs)
   where
-  by_rest : test_output graph v ≡ Ok tt → (r : Result (Unit {0}) Fault) → Tested graph vs r → Tested graph (v ∷ vs) r
-  by_rest e (Ok x) h = (e, h)
-  by_rest e (Err f) h = (h.0, h.1, inr h.2, h.3)
-  by_first : (r : Result (Unit {0}) Fault) → test_output graph v ≡ r → Tested graph vs (each_step (λ done v. test_output graph v) tt vs)
-      → Tested graph (v ∷ vs) (r >>= λ done. each_step (λ done v. test_output graph v) done vs)
-  by_first (Ok x) e rest = by_rest e (each_step (λ done v. test_output graph v) tt vs) rest
-  by_first (Err f) e rest = let is = output_deleted graph v f e in (is, v, inl refl, subst (λ g. test_output graph v ≡ Err g) is e)
+    by_rest : test_output graph v ≡ Ok tt → (r : Result (Unit {0}) Fault) → Tested graph vs r → Tested graph (v ∷ vs) r
+    by_rest e (Ok x) h = (e, h)
+    by_rest e (Err f) h = (h.0, h.1, inr h.2, h.3)
+
+    by_first : (r : Result (Unit {0}) Fault) → test_output graph v ≡ r → Tested graph vs (each_step (λ done v. test_output graph v) tt vs)
+        → Tested graph (v ∷ vs) (r >>= λ done. each_step (λ done v. test_output graph v) done vs)
+    by_first (Ok x) e rest = by_rest e (each_step (λ done v. test_output graph v) tt vs) rest
+    by_first (Err f) e rest = let is = output_deleted graph v f e in (is, v, inl refl, subst (λ g. test_output graph v ≡ Err g) is e)
 
 -- a deleted element in the output of the last clause is a fault of the chain
 at_the_end : (parameters : Entries) (max_elements : ℕ) (q : Query) (scope : Names) (cs : List Clause) (graph : Graph) (rows : List Row) (after : Graph) (results : List Row) (f : Fault)
@@ -143,14 +144,14 @@ outcome_agrees q parameters quota graph (Err f) (inr e) = inr e
 outcome_agrees q parameters quota graph (Ok last) h =
     by_test (each_step (λ done v. test_output last.graph v) tt (output_of q last.rows)) (tested last.graph (output_of q last.rows))
   where
-  by_test : (t : Result (Unit {0}) Fault) → Tested last.graph (output_of q last.rows) t
-      → OutcomeAgrees q parameters quota.max_elements graph (t >> Ok (record { columns = columns q; rows = output_rows (returns q.clauses) last.rows; graph = last.graph; steps = last.steps }))
-  by_test (Ok x) live = (record { results = last.rows; steps = h.0; named = refl; shown = refl; live = live }, h.1)
-  by_test (Err f) dead = inr (at_the_end parameters quota.max_elements q [] q.clauses graph ([] ∷ []) last.graph last.rows f h.0 dead)
+    by_test : (t : Result (Unit {0}) Fault) → Tested last.graph (output_of q last.rows) t
+        → OutcomeAgrees q parameters quota.max_elements graph (t >> Ok (record { columns = columns q; rows = output_rows (returns q.clauses) last.rows; graph = last.graph; steps = last.steps }))
+    by_test (Ok x) live = (record { results = last.rows; steps = h.0; named = refl; shown = refl; live = live }, h.1)
+    by_test (Err f) dead = inr (at_the_end parameters quota.max_elements q [] q.clauses graph ([] ∷ []) last.graph last.rows f h.0 dead)
 
 pub clauses_make_queries : ClausesMakeQueries
 unfolding static_faults
 clauses_make_queries q agrees plan parameters graph max_steps max_elements faults planned g =
     let quota : Quota = record { max_steps = max_steps; max_elements = max_elements } in
     outcome_agrees q parameters quota graph (clauses_run parameters quota [] plan q.clauses (record { graph = graph; rows = [] ∷ []; steps = 0 }))
-      (rest_agrees parameters quota q [] q.clauses plan (record { graph = graph; rows = [] ∷ []; steps = 0 }) agrees faults planned g ((λ name. refl), tt))
+    (rest_agrees parameters quota q [] q.clauses plan (record { graph = graph; rows = [] ∷ []; steps = 0 }) agrees faults planned g ((λ name. refl), tt))

@@ -5,16 +5,17 @@ use Rattle.std.specs.List.{AllByRecursion, AllZip, list_any}
 use Rattle.std.specs.Map.{lookup}
 use Rattle.std.specs.Ordering.{eq_by_cmp}
 use Rattle.pg_meaning.specs.Aggregates.{Aggregate, aggregate_of}
-use Rattle.pg_meaning.specs.Agreement.{given, AreRowsOf, ClauseAgrees}
+use Rattle.pg_meaning.specs.Agreement.{given, AreRowsOf, AnswerAgrees, ClauseAgrees, QueryAgrees}
+use Rattle.pg_meaning.specs.AgreementLaws.{clauses_make_queries}
 use Rattle.pg_meaning.specs.Answer.{◌>>=◌, ◌>>◌, unless, each_answer}
 use Rattle.pg_meaning.specs.AnswerLaws.{by_answer, went_well, went_wrong, same_ok, answers_zip, answers_fault}
 use Rattle.pg_meaning.specs.Conditions.{condition}
 use Rattle.pg_meaning.specs.Expressions.{evaluate}
 use Rattle.pg_meaning.specs.Graph.{Graph, IsGraph}
 use Rattle.pg_meaning.specs.Lists.{IsIn, AllPairsByRecursion}
-use Rattle.pg_meaning.specs.Meaning.{Items, Groups, OneOfEach, Distinct, Passing, Projects, ItemFaults, ArgumentFaults, AtSomeRow, ProjectFaults}
+use Rattle.pg_meaning.specs.Meaning.{Items, Groups, OneOfEach, Distinct, Passing, Projects, ItemFaults, ArgumentFaults, AtSomeRow, PassingFaults, ProjectFaults}
 use Rattle.pg_meaning.specs.Meters.{Setting, State, spend}
-use Rattle.pg_meaning.specs.Names.{Names, is_among}
+use Rattle.pg_meaning.specs.Names.{Names, is_among, in_byte_order}
 use Rattle.pg_meaning.specs.Order.{value_order, is_equivalent}
 use Rattle.pg_meaning.specs.OrderLaws.{order_total}
 use Rattle.pg_meaning.specs.Projections.{Projected, visible, column_value, projected, grouped, item_rows, count_given, skipped, limited, same_values, firsts, distinct_rows, ordered_rows, passing_rows, project_clause}
@@ -233,3 +234,203 @@ all_firsts P seen (p ∷ ps) h =
 all_distinct : (P : Projected → Type 0) (distinct : Bool) (ps : List Projected) → AllByRecursion P ps → AllByRecursion P (distinct_rows distinct ps)
 all_distinct P true ps h = all_firsts P [] ps h
 all_distinct P false ps h = h
+
+-- ---- WHERE, SKIP and LIMIT
+
+passing_agrees : (s : Setting) (graph : Graph) (where_ : Option Expression) (ps kept : List Projected) → passing_rows s graph where_ ps ≡ Ok kept → Passing (given s) graph where_ ps kept
+passing_agrees s graph where_ [] kept e = sym (same_ok [] kept e)
+passing_agrees s graph where_ (p ∷ ps) kept e =
+    let first = went_well (condition where_ (visible p) s.parameters graph) (λ b. passing_rows s graph where_ ps >>= λ others. Ok (elim b [ true ↦ p ∷ others | false ↦ others ])) kept e in
+    let rest = went_well (passing_rows s graph where_ ps) (λ others. Ok (elim first.0 [ true ↦ p ∷ others | false ↦ others ])) kept first.2 in
+    (first.0, rest.0, first.1, passing_agrees s graph where_ ps rest.0 rest.1, sym (same_ok _ kept rest.2) ∙ as_cond first.0 p rest.0)
+  where
+  as_cond : (b : Bool) (p : Projected) (others : List Projected) → elim b as (λ b. List Projected) [ true ↦ p ∷ others | false ↦ others ] ≡ cond b (p ∷ others) others
+  as_cond true p others = refl
+  as_cond false p others = refl
+
+passing_fault : (s : Setting) (graph : Graph) (where_ : Option Expression) (ps : List Projected) (f : Fault) → passing_rows s graph where_ ps ≡ Err f → (p : Projected) × IsIn p ps × (condition where_ (visible p) s.parameters graph ≡ Err f)
+passing_fault s graph where_ [] f e = cc
+passing_fault s graph where_ (p ∷ ps) f e =
+    by_first (went_wrong (condition where_ (visible p) s.parameters graph) (λ b. passing_rows s graph where_ ps >>= λ others. Ok (elim b [ true ↦ p ∷ others | false ↦ others ])) f e) (passing_fault s graph where_ ps f)
+  where
+  Found : List Projected → Type 0
+  Found qs = (q : Projected) × IsIn q qs × (condition where_ (visible q) s.parameters graph ≡ Err f)
+  rest_after : Bool → List Projected → Result (List Projected) Fault
+  rest_after b others = Ok (elim b [ true ↦ p ∷ others | false ↦ others ])
+  by_rest : (b : Bool) → (passing_rows s graph where_ ps ≡ Err f) ⊎ ((others : List Projected) × (passing_rows s graph where_ ps ≡ Ok others) × (rest_after b others ≡ Err f)) → (passing_rows s graph where_ ps ≡ Err f → Found ps) → Found (p ∷ ps)
+  by_rest b (inl h) rest = let q = rest h in (q.0, inr q.1, q.2)
+  by_rest b (inr h) rest = let impossible = h.2 in cc
+  by_first : (condition where_ (visible p) s.parameters graph ≡ Err f) ⊎ ((b : Bool) × (condition where_ (visible p) s.parameters graph ≡ Ok b) × ((passing_rows s graph where_ ps >>= rest_after b) ≡ Err f))
+      → (passing_rows s graph where_ ps ≡ Err f → Found ps) → Found (p ∷ ps)
+  by_first (inl h) rest = (p, inl refl, h)
+  by_first (inr h) rest = by_rest h.0 (went_wrong (passing_rows s graph where_ ps) (rest_after h.0) f h.2) rest
+
+module _ (P : Projected → Type 0) where
+  all_taken : (n : ℕ) (ps : List Projected) → AllByRecursion P ps → AllByRecursion P (take n ps)
+  all_taken zero ps h = tt
+  all_taken (suc n) [] h = tt
+  all_taken (suc n) (p ∷ ps) h = (h.0, all_taken n ps h.1)
+
+  all_dropped : (n : ℕ) (ps : List Projected) → AllByRecursion P ps → AllByRecursion P (drop n ps)
+  all_dropped zero ps h = h
+  all_dropped (suc n) [] h = tt
+  all_dropped (suc n) (p ∷ ps) h = all_dropped n ps h.1
+
+  all_cut : (skip limit : Option ℕ) (ps : List Projected) → AllByRecursion P ps → AllByRecursion P (limited limit (skipped skip ps))
+  all_cut None None ps h = h
+  all_cut None (Some n) ps h = all_taken n ps h
+  all_cut (Some m) None ps h = all_dropped m ps h
+  all_cut (Some m) (Some n) ps h = all_taken n (drop m ps) (all_dropped m ps h)
+
+  all_passing : (s : Setting) (graph : Graph) (where_ : Option Expression) (ps kept : List Projected) → Passing (given s) graph where_ ps kept → AllByRecursion P ps → AllByRecursion P kept
+  all_passing s graph where_ [] kept e h = subst (AllByRecursion P) (sym e) tt
+  all_passing s graph where_ (p ∷ ps) kept e h = subst (AllByRecursion P) (sym e.4) (by_first e.0 (all_passing s graph where_ ps e.1 e.3 h.1))
+    where
+    by_first : (b : Bool) → AllByRecursion P e.1 → AllByRecursion P (cond b (p ∷ e.1) e.1)
+    by_first true r = (h.0, r)
+    by_first false r = r
+
+rows_bind : (columns : List Column) (ps : List Projected) → AllByRecursion (Binds columns) ps → AreRowsOf (column_names columns) (map (λ (p : Projected). p.columns) ps)
+unfolding Binds
+rows_bind columns [] h = tt
+rows_bind columns (p ∷ ps) h = (h.0, rows_bind columns ps h.1)
+
+-- ---- the clause
+
+abbrev ProjectionAgrees : Setting → List Column → Projection → Option Expression → State → Result State Fault → Type 0
+ProjectionAgrees s columns p where_ state (Ok next) = (next.graph ≡ state.graph) × Projects (given s) state.graph columns p where_ state.rows next.rows × AreRowsOf (column_names columns) next.rows
+ProjectionAgrees s columns p where_ state (Err f) = (f ≡ StepQuota) ⊎ ProjectFaults (given s) state.graph columns p where_ state.rows f
+
+module _ (s : Setting) (columns : List Column) (distinct : Bool) (star : Option ℕ) (items : List Item) (skip_by limit_by : Option Expression) (where_ : Option Expression) (state : State) where
+  abbrev unsorted : Projection
+  unsorted = record { distinct = distinct; star = star; items = items; order = []; skip = skip_by; limit = limit_by }
+
+  abbrev kept_state : ℕ → List Projected → Result State Fault
+  kept_state steps kept = Ok (record { graph = state.graph; rows = map (λ (r : Projected). r.columns) kept; steps = steps })
+
+  abbrev cut_state : ℕ → Option ℕ → Option ℕ → List Projected → Result State Fault
+  cut_state steps skip limit made = passing_rows s state.graph where_ (limited limit (skipped skip (distinct_rows distinct made))) >>= kept_state steps
+
+  abbrev limited_state : ℕ → Option ℕ → Option ℕ → Result State Fault
+  limited_state steps skip limit = item_rows s state.graph distinct columns state.rows >>= cut_state steps skip limit
+
+  abbrev skipped_state : ℕ → Option ℕ → Result State Fault
+  skipped_state steps skip = count_given s state.graph limit_by >>= limited_state steps skip
+
+  abbrev charged_state : ℕ → Result State Fault
+  charged_state steps = count_given s state.graph skip_by >>= skipped_state steps
+
+  abbrev Agrees : Result State Fault → Type 0
+  Agrees = ProjectionAgrees s columns unsorted where_ state
+
+  unsorted_agrees : list_any is_aggregate columns ≡ false → ProjectionAgrees s columns unsorted where_ state (project_clause s columns unsorted where_ state)
+  unsorted_agrees plain =
+      by_answer Agrees (spend s state.steps (length state.rows)) charged_state
+        (λ steps e0. by_answer Agrees (count_given s state.graph skip_by) (skipped_state steps)
+          (λ skip e1. by_answer Agrees (count_given s state.graph limit_by) (limited_state steps skip)
+            (λ limit e2. by_answer Agrees (item_rows s state.graph distinct columns state.rows) (cut_state steps skip limit)
+              (λ made e3. by_answer Agrees (passing_rows s state.graph where_ (limited limit (skipped skip (distinct_rows distinct made)))) (kept_state steps)
+                (λ kept e4. went steps skip limit made kept e1 e2 e3 e4)
+                (λ f e4. inr (inr (inr (inr (inr (inr (where_fault skip limit made f e1 e2 e3 (passing_fault s state.graph where_ (limited limit (skipped skip (distinct_rows distinct made))) f e4)))))))))
+              (λ f e3. inr (inr (inr (inl (items_fault s state.graph distinct columns state.rows f (list_any is_aggregate columns) plain plain e3))))))
+            (λ f e2. inr (inr (inl e2))))
+          (λ f e1. inr (inl e1)))
+        (λ f e0. inl (spend_fault s state.steps (length state.rows) f e0))
+    where
+    made_from : (made : List Projected) → item_rows s state.graph distinct columns state.rows ≡ Ok made → Items (given s) state.graph distinct columns state.rows made
+    made_from made e3 = items_are s state.graph distinct columns state.rows made (list_any is_aggregate columns) plain e3
+    went : (steps : ℕ) (skip limit : Option ℕ) (made kept : List Projected) → count_given s state.graph skip_by ≡ Ok skip → count_given s state.graph limit_by ≡ Ok limit → item_rows s state.graph distinct columns state.rows ≡ Ok made
+        → passing_rows s state.graph where_ (limited limit (skipped skip (distinct_rows distinct made))) ≡ Ok kept → Agrees (kept_state steps kept)
+    went steps skip limit made kept e1 e2 e3 e4 =
+        let passes = passing_agrees s state.graph where_ (limited limit (skipped skip (distinct_rows distinct made))) kept e4 in
+        let bound = all_passing (Binds columns) s state.graph where_ _ kept passes (all_cut (Binds columns) skip limit _ (all_distinct (Binds columns) distinct made (items_bind s state.graph distinct columns state.rows made (list_any is_aggregate columns) plain e3))) in
+        (
+          refl,
+          record {
+            skip = skip;
+            skip_given = e1;
+            limit = limit;
+            limit_given = e2;
+            made = made;
+            items = made_from made e3;
+            kept = distinct_rows distinct made;
+            distinct = distinct_agrees distinct made;
+            sorted = distinct_rows distinct made;
+            order = refl;
+            passing = kept;
+            condition = passes;
+            shown = refl;
+          },
+          rows_bind columns kept bound,
+        )
+    where_fault : (skip limit : Option ℕ) (made : List Projected) (f : Fault) → count_given s state.graph skip_by ≡ Ok skip → count_given s state.graph limit_by ≡ Ok limit → item_rows s state.graph distinct columns state.rows ≡ Ok made
+        → (r : Projected) × IsIn r (limited limit (skipped skip (distinct_rows distinct made))) × (condition where_ (visible r) s.parameters state.graph ≡ Err f)
+        → PassingFaults (given s) state.graph columns unsorted where_ state.rows f
+    where_fault skip limit made f e1 e2 e3 h = (skip, limit, made, distinct_rows distinct made, distinct_rows distinct made, h.0, e1, e2, made_from made e3, distinct_agrees distinct made, refl, h.1, h.2)
+
+-- ---- the laws
+
+-- no item is an aggregate
+abbrev pub AreSingle : List Item → Type 0
+AreSingle items = AllByRecursion (λ i. aggregate_of i.value ≡ None) items
+
+abbrev pub ReturnAgrees : Type 0
+ReturnAgrees =
+    (distinct : Bool) (star : Option ℕ) (items : List Item) (skip limit : Option Expression) → AreSingle items
+    → ClauseAgrees (return_rows (record { distinct = distinct; star = star; items = items; order = []; skip = skip; limit = limit }))
+
+abbrev pub WithAgrees : Type 0
+WithAgrees =
+    (distinct : Bool) (star : Option ℕ) (items : List Item) (skip limit : Option Expression) (where_ : Option Expression) → AreSingle items
+    → ClauseAgrees (with_rows (record { distinct = distinct; star = star; items = items; order = []; skip = skip; limit = limit }) where_)
+
+-- the columns of '*' are variables
+stars_single : (names : Names) → list_any is_aggregate (map variable_column names) ≡ false
+stars_single [] = refl
+stars_single (n ∷ ns) = stars_single ns
+
+items_single : (column : Item → Column) → ((i : Item) → (column i).value ≡ i.value) → (items : List Item) → AreSingle items → list_any is_aggregate (map column items) ≡ false
+items_single column value [] h = refl
+items_single column value (i ∷ is) h = ap (λ e. is_some (aggregate_of e) || list_any is_aggregate (map column is)) (value i) ∙ ap (λ o. is_some o || list_any is_aggregate (map column is)) h.0 ∙ items_single column value is h.1
+
+any_joined : (xs ys : List Column) → list_any is_aggregate xs ≡ false → list_any is_aggregate ys ≡ false → list_any is_aggregate (xs ++ ys) ≡ false
+any_joined [] ys g h = h
+any_joined (x ∷ xs) ys g h = let b = or_false (is_aggregate x) (list_any is_aggregate xs) g in ap (λ c. c || list_any is_aggregate (xs ++ ys)) b.0 ∙ any_joined xs ys b.1 h
+
+columns_single : (column : Item → Column) → ((i : Item) → (column i).value ≡ i.value) → (scope : Names) (star : Option ℕ) (items : List Item) → AreSingle items → list_any is_aggregate (star_columns scope star ++ map column items) ≡ false
+columns_single column value scope None items h = items_single column value items h
+columns_single column value scope (Some place) items h = any_joined (map variable_column (in_byte_order scope)) (map column items) (stars_single (in_byte_order scope)) (items_single column value items h)
+
+pub return_agrees : ReturnAgrees
+return_agrees distinct star items skip limit single s state faults planned g rows =
+    let columns = star_columns s.scope star ++ map return_column items in
+    of_return (project_clause s columns (record { distinct = distinct; star = star; items = items; order = []; skip = skip; limit = limit }) None state)
+      (unsorted_agrees s columns distinct star items skip limit None state (columns_single return_column (λ i. refl) s.scope star items single))
+  where
+  of_return : (r : Result State Fault) → ProjectionAgrees s (star_columns s.scope star ++ map return_column items) (record { distinct = distinct; star = star; items = items; order = []; skip = skip; limit = limit }) None state r
+      → AnswerAgrees s (return_rows (record { distinct = distinct; star = star; items = items; order = []; skip = skip; limit = limit })) state r
+  of_return (Ok next) h = ((h.0, h.1), subst IsGraph (sym h.0) g, h.2)
+  of_return (Err f) h = h
+
+pub with_agrees : WithAgrees
+with_agrees distinct star items skip limit where_ single s state faults planned g rows =
+    let columns = star_columns s.scope star ++ map with_column items in
+    of_with (project_clause s columns (record { distinct = distinct; star = star; items = items; order = []; skip = skip; limit = limit }) where_ state)
+      (unsorted_agrees s columns distinct star items skip limit where_ state (columns_single with_column (λ i. refl) s.scope star items single))
+  where
+  of_with : (r : Result State Fault) → ProjectionAgrees s (star_columns s.scope star ++ map with_column items) (record { distinct = distinct; star = star; items = items; order = []; skip = skip; limit = limit }) where_ state r
+      → AnswerAgrees s (with_rows (record { distinct = distinct; star = star; items = items; order = []; skip = skip; limit = limit }) where_) state r
+  of_with (Ok next) h = ((h.0, h.1), subst IsGraph (sym h.0) g, h.2)
+  of_with (Err f) h = h
+
+-- ---- queries of one RETURN
+
+abbrev pub ReturnQueriesAgree : Type 0
+ReturnQueriesAgree =
+    (distinct : Bool) (star : Option ℕ) (items : List Item) (skip limit : Option Expression) (semicolon : Bool) → AreSingle items
+    → QueryAgrees (record { clauses = return_rows (record { distinct = distinct; star = star; items = items; order = []; skip = skip; limit = limit }) ∷ []; semicolon = semicolon })
+
+pub return_queries_agree : ReturnQueriesAgree
+return_queries_agree distinct star items skip limit semicolon single =
+    clauses_make_queries (record { clauses = return_rows (record { distinct = distinct; star = star; items = items; order = []; skip = skip; limit = limit }) ∷ []; semicolon = semicolon })
+      (return_agrees distinct star items skip limit single, tt)

@@ -1,0 +1,5 @@
+pub mod Requests
+pub mod Bodies
+pub mod Replies
+pub mod Refusals
+pub mod Bytes

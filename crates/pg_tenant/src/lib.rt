@@ -3,6 +3,8 @@
 
 ghost use Rattle.pg_tenant.specs.Items.{ItemsAlone};
 
+mod spelling;
+
 /// What a query of one RETURN with plain items answers.
 pub fn law_items_alone()
     ensures { ItemsAlone }

@@ -3,3 +3,4 @@ pub mod Bodies
 pub mod Replies
 pub mod Refusals
 pub mod Bytes
+pub mod Room

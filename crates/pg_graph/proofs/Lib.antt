@@ -1,0 +1,2 @@
+pub mod Interned
+pub mod SortedLists

@@ -1,0 +1,12 @@
+pub mod Bytes
+pub mod ConfigLines
+pub mod Configuration
+pub mod Counts
+pub mod Draft
+pub mod Ends
+pub mod Exchange
+pub mod Frames
+pub mod Json
+pub mod Serves
+pub mod Settings
+pub mod Wire

@@ -1,2 +1,3 @@
+pub mod EvaluationLemmas
 pub mod ItemLemmas
 pub mod SpellingLemmas

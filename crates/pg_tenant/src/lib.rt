@@ -3,6 +3,7 @@
 
 ghost use Rattle.pg_tenant.specs.Items.{ItemsAlone};
 
+mod evaluation;
 mod spelling;
 
 /// What a query of one RETURN with plain items answers.

@@ -8,22 +8,22 @@ use Rattle.std.specs.List.Sorted.{IsNonDecreasingBy, IsPartitionPoint, IsSearchI
 use Rattle.std.specs.Ordering.{nat_cmp, match_ordering, ordering_index}
 use Rattle.pg_graph.specs.Sorted.{Rises, put, without, IsPlace}
 
-below : (a b : ℕ) → a < b → nat_cmp a b ≡ Less
+pub below : (a b : ℕ) → a < b → nat_cmp a b ≡ Less
 below a b h = grind (arith, nat_tests)
 
 above : (a b : ℕ) → b < a → nat_cmp a b ≡ Greater
 above a b h = grind (arith, nat_tests)
 
-level : (a b : ℕ) → a ≡ b → nat_cmp a b ≡ Equal
+pub level : (a b : ℕ) → a ≡ b → nat_cmp a b ≡ Equal
 level a b h = grind (arith, nat_tests)
 
-less : (a b : ℕ) → nat_cmp a b ≡ Less → a < b
+pub less : (a b : ℕ) → nat_cmp a b ≡ Less → a < b
 less a b h = grind (arith, nat_tests)
 
-greater : (a b : ℕ) → nat_cmp a b ≡ Greater → b < a
+pub greater : (a b : ℕ) → nat_cmp a b ≡ Greater → b < a
 greater a b h = grind (arith, nat_tests)
 
-equal : (a b : ℕ) → nat_cmp a b ≡ Equal → a ≡ b
+pub equal : (a b : ℕ) → nat_cmp a b ≡ Equal → a ≡ b
 equal a b h = grind (arith, nat_tests)
 
 itself : (a b : ℕ) → a ≡ b → (a == b) ≡ true
@@ -99,11 +99,11 @@ module _ {A : Type 0} (number : A → ℕ) where
   above_all m n [] h all = tt
   above_all m n (x ∷ xs) h all = (omega arith, above_all m n xs h all.1)
 
-  all_put : (m : ℕ) (a : A) (xs : List A) → m < number a → AllByRecursion (λ y. m < number y) xs → AllByRecursion (λ y. m < number y) (put number a xs)
-  all_put m a [] h all = (h, tt)
-  all_put m a (x ∷ xs) h all = by_order (nat_cmp (number a) (number x)) (all_put m a xs h all.1)
+  pub all_put : (P : A → Type 0) (a : A) (xs : List A) → P a → AllByRecursion P xs → AllByRecursion P (put number a xs)
+  all_put P a [] h all = (h, tt)
+  all_put P a (x ∷ xs) h all = by_order (nat_cmp (number a) (number x)) (all_put P a xs h all.1)
     where
-      by_order : (o : Ordering) → AllByRecursion (λ y. m < number y) (put number a xs) → AllByRecursion (λ y. m < number y) (match_ordering o (a ∷ x ∷ xs) (a ∷ xs) (x ∷ put number a xs))
+      by_order : (o : Ordering) → AllByRecursion P (put number a xs) → AllByRecursion P (match_ordering o (a ∷ x ∷ xs) (a ∷ xs) (x ∷ put number a xs))
       by_order Less rest = (h, all)
       by_order Equal rest = (h, all.1)
       by_order Greater rest = (all.0, rest)
@@ -115,9 +115,9 @@ module _ {A : Type 0} (number : A → ℕ) where
       by_order : (o : Ordering) → nat_cmp (number a) (number x) ≡ o → Rises number (put number a xs) → Rises number (match_ordering o (a ∷ x ∷ xs) (a ∷ xs) (x ∷ put number a xs))
       by_order Less is rest = ((less _ _ is, above_all _ _ xs (less _ _ is) rises.0), rises)
       by_order Equal is rest = (subst (λ n. AllByRecursion (λ y. n < number y) xs) (sym (equal _ _ is)) rises.0, rises.1)
-      by_order Greater is rest = (all_put (number x) a xs (greater _ _ is) rises.0, rest)
+      by_order Greater is rest = (all_put (λ y. number x < number y) a xs (greater _ _ is) rises.0, rest)
 
-  all_without : (P : A → Type 0) (k : ℕ) (xs : List A) → AllByRecursion P xs → AllByRecursion P (without number k xs)
+  pub all_without : (P : A → Type 0) (k : ℕ) (xs : List A) → AllByRecursion P xs → AllByRecursion P (without number k xs)
   all_without P k [] all = tt
   all_without P k (x ∷ xs) all = by_test (number x == k) (all_without P k xs all.1)
     where

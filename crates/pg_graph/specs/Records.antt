@@ -34,5 +34,5 @@ with_property properties key v = map.insert properties key v
 abbrev pub seen_entries : List (ℕ × code.Value) → List (ℕ × Value)
 seen_entries es = map (λ e. (e.0, view e.1)) es
 
-abbrev pub AreProperties : List (ℕ × Value) → Type 0
-AreProperties es = Rises (λ e. e.0) es × AllByRecursion (λ e. is_null e.1 ≡ false) es
+abbrev pub AreEntries : List (ℕ × code.Value) → Type 0
+AreEntries es = Rises (λ e. e.0) es × AllByRecursion (λ e. is_null (view e.1) ≡ false) es

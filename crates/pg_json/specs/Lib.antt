@@ -4,3 +4,4 @@ pub mod Replies
 pub mod Refusals
 pub mod Bytes
 pub mod Room
+pub mod Laws

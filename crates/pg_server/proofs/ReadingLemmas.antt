@@ -6,7 +6,7 @@ use Rattle.std.specs.List.{AllByRecursion}
 use Rattle.std.proofs.lemmas.Nat.{from_be_bytes-to_be_bytes_4}
 use Rattle.std.proofs.lemmas.List.Elements.{recursion_from_All}
 use Rattle.pg_server.specs.Frames.{frame, IsShort}
-use Rattle.pg_server.specs.Serves.{frames, OneReading}
+use Rattle.pg_server.specs.Served.{frames, OneReading}
 
 -- no frame is the beginning of another
 frame_front : (a b x y : List ℕ) → IsShort a → IsShort b → frame a ++ x ≡ frame b ++ y → (a ≡ b) × (x ≡ y)

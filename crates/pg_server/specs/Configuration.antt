@@ -1,10 +1,10 @@
 -- The configuration that the bytes of a file mean, or the first fault in them.
-use Rattle.std.specs.Prelude.{ℕ, ◌^◌, ℤ, pos, negsuc, List, [], ◌∷◌, Bool, nat_le, ◌&&◌, length, if◌then◌else◌, Option, Some, None, option_map, option_and_then, Result, Ok, Err, codes}
+use Rattle.std.specs.Prelude.{ℕ, ℤ, pos, negsuc, List, [], ◌∷◌, Bool, nat_le, ◌&&◌, length, if◌then◌else◌, Option, Some, None, option_map, option_and_then, Result, Ok, Err}
 use Rattle.std.specs.Str.{is_utf8}
 use Rattle.serde_json.specs.Data.{Data}
 use Rattle.serde_json.specs.Read.{read}
 use Rattle.pg_server.specs.declared.config_fault.ConfigFault.{ConfigFault}
-use Rattle.pg_server.specs.declared.config_fault.ConfigFault.TheVariants.{NotJson, WrongShape, OutOfRange, TokenTwice, Memory}
+use Rattle.pg_server.specs.declared.config_fault.ConfigFault.TheVariants.{NotJson, WrongShape, OutOfRange, TokenTwice}
 use Rattle.pg_server.specs.Settings.{Settings, TenantSettings, all_tokens, comes_again}
 use Rattle.pg_server.specs.Draft.{Draft, TenantDraft, draft_of}
 

@@ -1,8 +1,8 @@
 -- A configuration whose shape is right and whose numbers may be any.
-use Rattle.std.specs.List.{list_any}
-use Rattle.std.specs.Prelude.{ℕ, ℤ, List, [], ◌∷◌, Bool, true, false, not, ◌&&◌, length, bytes_eq, if◌then◌else◌, Option, Some, None, option_map, option_and_then, codes}
-use Rattle.serde_json.specs.Data.{Data, Items, no_items, item, Members, no_members, member}
+use Rattle.std.specs.Prelude.{ℕ, ℤ, List, [], ◌∷◌, Bool, false, bytes_eq, if◌then◌else◌, Option, Some, None, option_map, option_and_then, codes}
+use Rattle.serde_json.specs.Data.{Data, Items, no_items, item, Members}
 use Rattle.serde_json.specs.Find.{get, as_number, as_i64, as_str, as_array, as_object}
+use Rattle.pg_json.specs.Requests.{has_only}
 use Rattle.pg_server.specs.declared.settings.Rights.{Rights}
 use Rattle.pg_server.specs.declared.settings.Rights.TheVariants.{Read, Write}
 use Rattle.pg_server.specs.Settings.{TokenSettings}
@@ -15,11 +15,6 @@ pub record TenantDraft : Type 0 where
 pub record Draft : Type 0 where
   pub cache : ℤ
   pub tenants : List TenantDraft
-
--- each key is one of these
-abbrev pub has_only : List (List ℕ) → Members → Bool
-has_only names no_members = true
-has_only names (member k d ms) = list_any (bytes_eq k) names && has_only names ms
 
 -- an object with no other keys than these
 abbrev pub is_object_of : List (List ℕ) → Option Members → Bool

@@ -1,4 +1,3 @@
-pub mod Bytes
 pub mod ConfigLines
 pub mod Configuration
 pub mod Counts
@@ -6,7 +5,11 @@ pub mod Draft
 pub mod Ends
 pub mod Exchange
 pub mod Frames
-pub mod Json
+pub mod Runs
+pub mod Served
 pub mod Serves
 pub mod Settings
+pub mod Solo
+pub mod State
+pub mod Step
 pub mod Wire

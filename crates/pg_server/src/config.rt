@@ -1,5 +1,5 @@
 //! The configuration of a server.
-ghost use Rattle.std.specs.Prelude.{◌≡◌, ◌≢◌, ℕ, ◌++◌, [], IfOk, IfErr, OnOk, Ok, Err, Some, None, map};
+ghost use Rattle.std.specs.Prelude.{◌≡◌, ◌≢◌, ℕ, ◌++◌, [], false, IfOk, IfErr, OnOk, Ok, Err, Some, None, map};
 ghost use Rattle.pg_server.specs.Settings.{all_tokens, token_texts as texts_of, comes_again as seen_again};
 ghost use Rattle.pg_server.specs.Configuration.{configuration, in_range as seen_in_range, tenant_in_range as seen_tenant, tenants_in_range as seen_tenants, settings_of_data, settings_of_draft};
 ghost use Rattle.serde_json.specs.View.{view};
@@ -50,6 +50,15 @@ impl Config {
             Err(e) if e.is_memory() => Err(ConfigFault::Memory),
             Err(_) => Err(ConfigFault::NotJson),
         }
+    }
+
+    /// How many plans the cache holds, and what each tenant begins with.
+    pub(crate) fn into_parts(self) -> (u64, Vec<TenantSettings>)
+        ensures cache { result.0 ≡ self.cache }
+        ensures tenants { result.1.items ≡ self.tenants }
+        ensures distinct { seen_again [] (all_tokens result.1.items) ≡ false }
+    {
+        (self.cache, self.tenants)
     }
 }
 

@@ -1,9 +1,9 @@
 //! A configuration whose shape is right and whose numbers may be any.
 ghost use Rattle.std.specs.Prelude.{◌≡◌, ◌≢◌, IfOk, IfErr, Some, None, map, bytes_eq, option_and_then};
-ghost use Rattle.std.specs.List.{list_any};
+ghost use Rattle.pg_json.specs.Requests.{has_only as seen_only, is_one_of as seen_one_of};
 ghost use Rattle.serde_json.specs.Find.{as_object};
 ghost use Rattle.serde_json.specs.View.{view, items_view, members_view};
-ghost use Rattle.pg_server.specs.Draft.{text_at as seen_text, number_at as seen_number, list_at as seen_list, if_any, each, rights_of as seen_rights, token_of as seen_token, tenant_of as seen_tenant, draft_of as seen_draft, has_only as seen_only, is_object_of};
+ghost use Rattle.pg_server.specs.Draft.{text_at as seen_text, number_at as seen_number, list_at as seen_list, if_any, each, rights_of as seen_rights, token_of as seen_token, tenant_of as seen_tenant, draft_of as seen_draft, is_object_of};
 ghost use Rattle.pg_server.specs.declared.config_fault.ConfigFault.TheVariants.{WrongShape, Memory};
 
 use crate::config_fault::ConfigFault;
@@ -177,7 +177,7 @@ fn has_only(members: &Map<String, Json>, keys: &[&str]) -> bool
 }
 
 fn is_one_of(key: &str, keys: &[&str]) -> bool
-    ensures { result ≡ list_any (bytes_eq key.now) (map (λ k. k.now) keys.now) }
+    ensures { result ≡ seen_one_of (map (λ k. k.now) keys.now) key.now }
 {
     for one in keys {
         if key == *one {

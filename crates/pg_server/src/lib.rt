@@ -6,13 +6,15 @@ mod config_fault;
 mod counted;
 mod draft;
 mod end;
-mod json;
+mod server;
 mod service;
 mod settings;
+mod tenant;
 mod wire;
 
 pub use config::Config;
 pub use config_fault::ConfigFault;
 pub use counted::{Counted, DeviceFault};
 pub use end::End;
+pub use server::{Server, law_calls, law_one_reading, law_two_worlds};
 pub use settings::Rights;

@@ -1,14 +1,14 @@
 //! Serving frames: each body is handed to a service, whose reply is written as a frame.
-ghost use Rattle.std.specs.Prelude.{◌≡◌, ℕ, List, ◌<◌, ◌^◌, length};
+ghost use Rattle.std.specs.Prelude.{◌≡◌, ℕ, List, length};
 ghost use Rattle.pg_server.specs.Counts.{inner_of, faults_of};
 ghost use Rattle.pg_server.specs.Frames.{frame, body_limit};
-ghost use Rattle.pg_server.specs.Serves.{Serves, too_long_reply, read_faults, write_faults};
+ghost use Rattle.pg_server.specs.Served.{Served, too_long_reply, read_faults, write_faults};
 ghost use Rattle.pg_server.specs.Wire.{Sends};
 
 use crate::counted::{Counted, DeviceFault};
 use crate::end::End;
-use crate::json::{ReplyBytes, refusal};
 use crate::wire::{Incoming, read_frame, write_frame};
+use pg_json::{ReplyBytes, refusal};
 use pg_meaning::Fault;
 use std::io::{Read, Write};
 
@@ -18,11 +18,10 @@ pub(crate) trait Service {
     ghost answers: { Self → List ℕ → List ℕ → Self → Type 0 };
 
     fn answer(&mut self, body: &[u8]) -> ReplyBytes
-        ensures answers { answers self.old body.now result self.new }
-        ensures short { length result < 2 ^ 32 };
+        ensures { answers self.old body.now result self.new };
 }
 
-/// Serves at most so many frames, with a buffer for one body.
+/// Served at most so many frames, with a buffer for one body.
 pub(crate) fn serve<S: Service, R: Read, W: Write>(
     service: &mut S,
     reader: &mut Counted<R>,
@@ -31,7 +30,7 @@ pub(crate) fn serve<S: Service, R: Read, W: Write>(
     max_frames: u64,
 ) -> End
     requires { length buffer.old ≡ body_limit }
-    ensures serves { Serves S.answers (R.remaining (inner_of reader.old)) (R.remaining (inner_of reader.new))
+    ensures serves { Served S.answers (R.remaining (inner_of reader.old)) (R.remaining (inner_of reader.new))
         (W.contents (inner_of writer.old)) (W.contents (inner_of writer.new))
         service.old service.new max_frames result }
     ensures read_faults { faults_of reader.new ≡ read_faults result (faults_of reader.old) }

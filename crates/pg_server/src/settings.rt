@@ -1,5 +1,6 @@
 //! What a configuration sets for each tenant.
 ghost use Rattle.std.specs.Prelude.{◌≡◌, string_bytes};
+ghost use Rattle.pg_server.specs.Settings.{is_among, token_texts};
 
 use std::marker::Model;
 
@@ -54,4 +55,17 @@ impl Model for TenantSettings {
     ghost Value = { Seen };
 
     ghost view = { λ t. record { max_steps = t.max_steps; max_elements = t.max_elements; tokens = t.tokens.items } };
+}
+
+impl TenantSettings {
+    pub(crate) fn has_token(&self, text: &str) -> bool
+        ensures { result ≡ is_among text.now (token_texts self.now) }
+    {
+        for token in &self.tokens {
+            if token.text() == text {
+                return true;
+            }
+        }
+        false
+    }
 }

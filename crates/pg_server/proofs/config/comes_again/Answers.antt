@@ -1,4 +1,4 @@
-use Rattle.std.proofs.Common.{◌≡◌, ◌+◌, ◌∷◌, not, drop, get_or, arith, sym, ap, ◌∙◌}
+use Rattle.std.proofs.Common.{◌+◌, ◌∷◌, not, drop, get_or, arith, ap, ◌∙◌}
 use Rattle.std.proofs.lemmas.List.{drop_more}
 use Rattle.pg_server.proofs.TokenLemmas.{among_more, again_more, was_new}
 use Rattle.pg_server.proofs.config.comes_again.Goals as goal

@@ -1,6 +1,6 @@
 use Rattle.std.proofs.Common.{◌≡◌, map}
 use Rattle.serde_json.specs.View.{members_view}
-use Rattle.pg_server.specs.Draft.{has_only}
+use Rattle.pg_json.specs.Requests.{has_only}
 use Rattle.pg_server.proofs.draft.has_only.Given as goal
 
 abbrev pub invariant-loop-key : goal.invariant-loop-key

@@ -29,14 +29,14 @@ returns-in-Err-clause-serves g c = too_long_failed _ _ _ _ _ _ _ _ _ _ c.loop-se
 
 pub returns-in-Err-write_frame-clause-serves : goal.returns-in-Err-write_frame-clause-serves
 returns-in-Err-write_frame-clause-serves g c =
-    write_failed _ _ _ _ _ _ _ _ _ _ c.loop-served.invariant.so_far c.loop-served-test.true _ _ _ _ _ _ _ c.in-Body.length _ _ _ c.in-Body.ensures refl c.answer-reply.ensures.answers _ c.as_slice.ensures _ c.in-Err-write_frame.ensures
+    write_failed _ _ _ _ _ _ _ _ _ _ c.loop-served.invariant.so_far c.loop-served-test.true _ _ _ _ _ _ _ c.in-Body.length _ _ _ c.in-Body.ensures refl c.answer-reply.ensures _ c.as_slice.ensures.value _ c.in-Err-write_frame.ensures
 
 pub returns-in-Err-write_frame-clause-write_faults : goal.returns-in-Err-write_frame-clause-write_faults
 returns-in-Err-write_frame-clause-write_faults g c = c.in-Err-write_frame.ensures.err.1 ∙ ap next_count c.loop-served.invariant.write_faults
 
 pub loop-served-preserved : goal.loop-served-preserved
 loop-served-preserved g c = record {
-  so_far = one_more _ _ _ _ _ _ _ _ _ _ c.loop-served.invariant.so_far c.loop-served-test.true _ _ _ _ _ _ _ c.in-Body.length _ _ _ c.in-Body.ensures refl c.answer-reply.ensures.answers _ c.as_slice.ensures _ c.in-Ok-write_frame.ensures;
+  so_far = one_more _ _ _ _ _ _ _ _ _ _ c.loop-served.invariant.so_far c.loop-served-test.true _ _ _ _ _ _ _ c.in-Body.length _ _ _ c.in-Body.ensures refl c.answer-reply.ensures _ c.as_slice.ensures.value _ c.in-Ok-write_frame.ensures;
   read_faults = c.in-Body.ensures.incoming.2 ∙ c.loop-served.invariant.read_faults;
   write_faults = c.in-Ok-write_frame.ensures.ok.1 ∙ c.loop-served.invariant.write_faults;
 }

@@ -1,7 +1,7 @@
 -- The items of a list literal, one after the other.
 use Rattle.std.proofs.Common.{◌≡◌, ℕ, ◌+◌, ◌≤◌, length, drop, List, [], ◌∷◌, ◌++◌, Result, Ok, Err, refl, sym, ap, ◌∙◌}
 use Rattle.std.proofs.lemmas.List.{drop_all}
-use Rattle.pg_meaning.specs.Answer.{bind}
+use Rattle.pg_meaning.specs.Answer.{◌>>=◌}
 use Rattle.pg_meaning.specs.Value.{Values, no_items, item}
 use Rattle.pg_meaning.specs.declared.fault.Fault.{Fault}
 use Rattle.pg_syntax.specs.View.{expression_view}
@@ -25,9 +25,9 @@ values_before-push (u ∷ vs) v ws = ap (item (view u)) (values_before-push vs v
 
 -- the items' values, from those that are there and what is left
 abbrev pub together : List Value → Result Values Fault → Result Values Fault
-together found rest = bind rest (λ ws. Ok (values_before found ws))
+together found rest = rest >>= λ ws. Ok (values_before found ws)
 
-moved : (found : List Value) (v : Value) (r : Result Values Fault) → together found (bind r (λ ws. Ok (item (view v) ws))) ≡ together (found ++ v ∷ []) r
+moved : (found : List Value) (v : Value) (r : Result Values Fault) → together found (r >>= λ ws. Ok (item (view v) ws)) ≡ together (found ++ v ∷ []) r
 moved found v (Ok ws) = ap Ok (sym (values_before-push found v ws))
 moved found v (Err e) = refl
 
@@ -35,14 +35,14 @@ pub one_more : (found : List Value) (x : Expression) (rest more : List Expressio
     → together found (all_given (expressions_view rest)) ≡ together (found ++ v ∷ []) (all_given (expressions_view more))
 one_more found x rest more v is h =
     ap (λ xs. together found (all_given (expressions_view xs))) is
-    ∙ ap (λ r. together found (bind r (λ u. bind (all_given (expressions_view more)) (λ us. Ok (item u us))))) h
+    ∙ ap (λ r. together found (r >>= λ u. all_given (expressions_view more) >>= λ us. Ok (item u us))) h
     ∙ moved found v (all_given (expressions_view more))
 
 pub one_faulty : (found : List Value) (x : Expression) (rest more : List Expression) (e : Fault) → rest ≡ x ∷ more → given (expression_view x) ≡ Err e
     → together found (all_given (expressions_view rest)) ≡ Err e
 one_faulty found x rest more e is h =
     ap (λ xs. together found (all_given (expressions_view xs))) is
-    ∙ ap (λ r. together found (bind r (λ u. bind (all_given (expressions_view more)) (λ us. Ok (item u us))))) h
+    ∙ ap (λ r. together found (r >>= λ u. all_given (expressions_view more) >>= λ us. Ok (item u us))) h
 
 pub all_evaluated : (found : List Value) (i : ℕ) (xs : List Expression) → length xs ≤ i → together found (all_given (expressions_view (drop i xs))) ≡ Ok (values_view found)
 all_evaluated found i xs h = ap (λ ys. together found (all_given (expressions_view ys))) (drop_all i xs h) ∙ ap Ok (values_before-nothing found)

@@ -2,18 +2,18 @@
 use Rattle.std.proofs.Common.{◌≡◌, ℕ, Bool, true, false, List, [], ◌∷◌, ◌++◌, map, Result, Ok, Err, Option, None, refl, sym, ap, ◌∙◌, append-nil}
 use Rattle.std.specs.Prelude.{flat_map}
 use Rattle.std.specs.List.{list_any}
-use Rattle.pg_meaning.specs.Answers.{◌>>=◌, ◌>>◌, each_answer, each_step}
+use Rattle.pg_meaning.specs.Answer.{◌>>=◌, ◌>>◌, each_answer, each_step}
 use Rattle.pg_meaning.specs.Graph.{Graph}
 use Rattle.pg_meaning.specs.Meters.{Setting, State, spend}
 use Rattle.pg_meaning.specs.Plans.{Plan}
-use Rattle.pg_meaning.specs.Projections.{Projected, is_aggregate, column_value, projected, item_rows, grouped, ordered_rows, distinct_rows, passing_rows, skipped, limited, values_in}
+use Rattle.pg_meaning.specs.Projections.{Projected, column_value, projected, item_rows, grouped, ordered_rows, distinct_rows, passing_rows, skipped, limited}
 use Rattle.pg_meaning.specs.Queries.{Outcome, ordered, test_output, output_rows}
-use Rattle.pg_meaning.specs.Rows.{Row}
-use Rattle.pg_meaning.specs.Scopes.{Column, column_names}
+use Rattle.pg_meaning.specs.Rows.{Row, values_in}
+use Rattle.pg_meaning.specs.Scopes.{Column, is_aggregate, column_names}
 use Rattle.pg_meaning.specs.Tree.{Item}
 use Rattle.pg_meaning.specs.Value.{Value, Entries}
 use Rattle.pg_meaning.specs.declared.fault.Fault.{Fault}
-use Rattle.pg_tenant.specs.Items.{setting_of, items_query, item_columns, items_answer, ItemsAlone}
+use Rattle.pg_tenant.specs.Items.{setting_of, item_columns, ItemsAlone}
 
 chosen : {X : Type 0} (b : Bool) (x y : X) → b ≡ false → elim b [ true ↦ x | false ↦ y ] ≡ y
 chosen true x y h = cc
@@ -27,13 +27,13 @@ module _ (s : Setting) (graph : Graph) (columns : List Column) where
       (λ used. ◌>>=◌ r
       (λ items. ◌>>=◌ (ordered_rows s graph columns [] (distinct_rows false items))
       (λ sorted. ◌>>=◌ (passing_rows s graph None (limited None (skipped None sorted)))
-      (λ kept. Ok (record { graph = graph; rows = map (λ p. p.columns) kept; used = used })))))
+      (λ kept. Ok (record { graph = graph; rows = map (λ p. p.columns) kept; steps = used })))))
 
   -- the whole query's answer from there
   abbrev ends : State → Result Outcome Fault
   ends last =
       ◌>>◌ (each_step (λ done v. test_output last.graph v) tt (flat_map (λ r. r) (output_rows true last.rows)))
-      (Ok (record { columns = column_names columns; rows = output_rows true last.rows; graph = last.graph; steps = last.used }))
+      (Ok (record { columns = column_names columns; rows = output_rows true last.rows; graph = last.graph; steps = last.steps }))
 
   abbrev whole : Result ℕ Fault → Result (List Projected) Fault → Result Outcome Fault
   whole u r = ◌>>=◌ (◌>>=◌ (projects u r) (λ next. Ok next)) ends

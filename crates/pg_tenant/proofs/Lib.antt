@@ -1,3 +1,4 @@
+pub mod CheckLemmas
 pub mod EvaluationLemmas
 pub mod ItemLemmas
 pub mod SpellingLemmas

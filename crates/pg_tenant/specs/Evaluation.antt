@@ -2,7 +2,7 @@
 use Rattle.std.specs.Prelude.{List, [], map, Result}
 use Rattle.pg_meaning.specs.Answer.{Answer}
 use Rattle.pg_meaning.specs.Expressions.{evaluate, evaluate_each}
-use Rattle.pg_meaning.specs.Graphs.{empty_graph}
+use Rattle.pg_meaning.specs.Graph.{empty_graph}
 use Rattle.pg_meaning.specs.Parse.{expressions_of}
 use Rattle.pg_meaning.specs.Tree.{Expression, Expressions}
 use Rattle.pg_meaning.specs.Value.{Values, no_entries}

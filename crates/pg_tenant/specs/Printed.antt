@@ -4,8 +4,7 @@ use Rattle.serde_json.specs.Data.{Data, Items, no_items, item, Members, no_membe
 use Rattle.serde_json.specs.Data as json
 use Rattle.serde_json.specs.Find.{of_integer}
 use Rattle.pg_json.specs.Replies.{items_of, node_data, rel_data, path_data}
-use Rattle.pg_meaning.specs.Graph.{Graph, Node, Relationship}
-use Rattle.pg_meaning.specs.Graphs.{node_at, relationship_at}
+use Rattle.pg_meaning.specs.Graph.{Graph, Node, Relationship, node_at, relationship_at}
 use Rattle.pg_meaning.specs.Value.{Value, null, boolean, integer, text, list, mapping, node, relationship, path, Values, no_items as no_values, item as value, Entries, no_entries, entry}
 
 abbrev pub text_items : List (List ℕ) → Items

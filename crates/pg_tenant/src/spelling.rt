@@ -1,7 +1,7 @@
 //! Values as a reply spells them out.
 ghost use Rattle.std.specs.Prelude.{◌≡◌, ◌≢◌, IfOk, IfErr, Ok, Err};
 ghost use Rattle.pg_json.specs.Replies.{data_of, outs, named_outs, path_data};
-ghost use Rattle.pg_meaning.specs.Graphs.{empty_graph};
+ghost use Rattle.pg_meaning.specs.Graph.{empty_graph};
 ghost use Rattle.pg_meaning.specs.Queries.{test_output, test_items, test_entries, test_ids};
 ghost use Rattle.pg_meaning.specs.declared.fault.Fault.TheVariants.{OutOfMemory};
 ghost use Rattle.pg_tenant.specs.Printed.{printed, printed_items, printed_members, path_items};

@@ -1,12 +1,20 @@
 //! One request of one tenant.
 #![tactic(auto)]
 
+ghost use Rattle.pg_tenant.specs.Checks.{PlainChecks};
 ghost use Rattle.pg_tenant.specs.Items.{ItemsAlone};
 
 mod evaluation;
 mod spelling;
 
 /// What a query of one RETURN with plain items answers.
+#[tactic(auto, using(crate::proofs::ItemLemmas::items_alone))]
 pub fn law_items_alone()
     ensures { ItemsAlone }
+{}
+
+/// Which static faults a query of plain items has.
+#[tactic(auto, using(crate::proofs::CheckLemmas::checked_plain))]
+pub fn law_plain_checks()
+    ensures { PlainChecks }
 {}

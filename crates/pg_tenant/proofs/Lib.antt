@@ -1,4 +1,6 @@
+pub mod AnswerLemmas
 pub mod CheckLemmas
+pub mod EntryLemmas
 pub mod EvaluationLemmas
 pub mod ItemLemmas
 pub mod SpellingLemmas

@@ -35,7 +35,7 @@ module _ (graph : Graph) where
 
   abbrev pub shown_relationship : ℕ → Option Relationship → Data
   shown_relationship r None = json.null
-  shown_relationship r (Some e) = rel_data r e.target (stored_members e.properties) e.source e.kind
+  shown_relationship r (Some e) = rel_data r e.target (stored_members e.properties) e.source e.type
 
   abbrev mutual
     pub path_items : List ℕ → Items

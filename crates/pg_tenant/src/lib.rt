@@ -1,11 +1,15 @@
 //! One request of one tenant.
 #![tactic(auto)]
 
+ghost use Rattle.pg_tenant.specs.Answers.{PlainAnswers};
 ghost use Rattle.pg_tenant.specs.Checks.{PlainChecks};
 ghost use Rattle.pg_tenant.specs.Items.{ItemsAlone};
 
+mod answer;
 mod evaluation;
 mod spelling;
+
+pub use answer::{Answer, Quota};
 
 /// What a query of one RETURN with plain items answers.
 #[tactic(auto, using(crate::proofs::ItemLemmas::items_alone))]
@@ -17,4 +21,10 @@ pub fn law_items_alone()
 #[tactic(auto, using(crate::proofs::CheckLemmas::checked_plain))]
 pub fn law_plain_checks()
     ensures { PlainChecks }
+{}
+
+/// What a query of plain items answers.
+#[tactic(auto, using(crate::proofs::AnswerLemmas::plain_answers))]
+pub fn law_plain_answers()
+    ensures { PlainAnswers }
 {}

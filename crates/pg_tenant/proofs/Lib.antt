@@ -3,4 +3,5 @@ pub mod CheckLemmas
 pub mod EntryLemmas
 pub mod EvaluationLemmas
 pub mod ItemLemmas
+pub mod RunLemmas
 pub mod SpellingLemmas

@@ -43,7 +43,7 @@ fn spell_path(alloc: Global, path: Path) -> Result<Out, Fault>
 }
 
 #[cycle(spell)]
-fn spell_items(alloc: Global, items: Vec<Value>) -> Result<Vec<Out>, Fault>
+pub(crate) fn spell_items(alloc: Global, items: Vec<Value>) -> Result<Vec<Out>, Fault>
     ensures live { IfOk result (λ found. test_items empty_graph (values_view items.items) ≡ Ok tt) }
     ensures data { IfOk result (λ found. outs found.items ≡ printed_items empty_graph (values_view items.items)) }
     ensures err { IfErr result (λ e. e ≢ OutOfMemory → test_items empty_graph (values_view items.items) ≡ Err e) }

@@ -14,7 +14,8 @@ use Rattle.pg_meaning.specs.declared.fault.Fault.TheVariants.{DuplicateColumn}
 use Rattle.pg_meaning.specs.declared.operators.Operator.TheVariants as op
 use Rattle.pg_meaning.specs.declared.operators.TextTest.TheVariants as test
 use Rattle.pg_syntax.specs.Plain.{IsPlainExpression, ArePlainExpressions, plain_query}
-use Rattle.pg_tenant.specs.Checks.{comes_again, names_of, checked_plainly}
+use Rattle.pg_tenant.specs.Checks.{names_of, checked_plainly}
+use Rattle.pg_value.specs.Texts.{comes_again}
 
 mutual
   no_faults : (visible : Names) (role : Role) (x : Expression) → IsPlainExpression x → expression_faults visible role x ≡ []

@@ -8,12 +8,8 @@ use Rattle.pg_meaning.specs.Texts.{checked_by}
 use Rattle.pg_meaning.specs.Tree.{Item, Query}
 use Rattle.pg_meaning.specs.declared.fault.Fault.{Fault}
 use Rattle.pg_meaning.specs.declared.fault.Fault.TheVariants.{DuplicateColumn}
+use Rattle.pg_value.specs.Texts.{comes_again}
 use Rattle.pg_syntax.specs.Plain.{IsPlainExpression, plain_query}
-
--- some text has come before: among these, or earlier in the list
-abbrev pub comes_again : Names → Names → Bool
-comes_again before [] = false
-comes_again before (text ∷ texts) = is_among before text || comes_again (text ∷ before) texts
 
 abbrev pub names_of : List Item → Names
 names_of items = map (λ x. (return_column x).name) items

@@ -1,12 +1,11 @@
 //! What a query answers.
-ghost use Rattle.std.specs.Prelude.{◌≡◌, ◌≢◌, ◌∷◌, [], map, IfOk, IfErr, Ok, Err, string_bytes};
+ghost use Rattle.std.specs.Prelude.{◌≡◌, ◌≢◌, ◌∷◌, [], map, IfOk, IfErr, Ok, Err};
 ghost use Rattle.pg_meaning.specs.declared.fault.Fault.TheVariants.{OutOfMemory};
-ghost use Rattle.pg_meaning.specs.Scopes.{return_column};
 ghost use Rattle.pg_syntax.specs.View.{item_view};
 ghost use Rattle.pg_tenant.specs.Answers.{item_values, plain_answer, shown, answer_view};
-ghost use Rattle.pg_tenant.specs.Checks.{names_of};
 ghost use Rattle.pg_value_core.specs.View.{view};
 
+use crate::columns::column_names;
 use crate::evaluation::evaluate;
 use crate::spelling::spell_items;
 use pg_syntax::Item;
@@ -69,25 +68,4 @@ fn evaluate_items(alloc: Global, items: &Vec<Item>) -> Result<Vec<Value>, Fault>
         values.push(evaluate(alloc, &item.value)?)?;
     }
     Ok(values)
-}
-
-/// The names of the columns: the aliases, or the items' texts as written.
-fn column_names(alloc: Global, items: &Vec<Item>) -> Result<Vec<String>, AllocError>
-    ensures { IfOk result (λ names. map string_bytes names.items ≡ names_of (map item_view items.now.items)) }
-{
-    let mut names = Vec::with_capacity(alloc, items.len())?;
-    for item in items {
-        names.push(String::from_str(alloc, column_name(item))?)?;
-    }
-    Ok(names)
-}
-
-/// The name of an item's column.
-pub(crate) fn column_name(item: &Item) -> &str
-    ensures { result.now ≡ (return_column (item_view item.now)).name }
-{
-    match &item.alias {
-        Some(name) => name.text.as_str(),
-        None => item.source.as_str(),
-    }
 }

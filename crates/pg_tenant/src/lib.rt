@@ -6,6 +6,7 @@ ghost use Rattle.pg_tenant.specs.Checks.{PlainChecks};
 ghost use Rattle.pg_tenant.specs.Items.{ItemsAlone};
 
 mod answer;
+mod columns;
 mod evaluation;
 mod spelling;
 

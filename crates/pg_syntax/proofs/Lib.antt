@@ -1,0 +1,5 @@
+pub mod Fits
+pub mod Generic
+pub mod Operations
+pub mod Separated
+pub mod Terminals

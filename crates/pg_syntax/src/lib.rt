@@ -1,0 +1,4 @@
+//! From tokens to trees.
+#![tactic(auto)]
+
+fn nothing() {}

@@ -18,7 +18,7 @@ use Rattle.pg_syntax.specs.Plain.{IsAtom, IsPlainExpression, ArePlainExpressions
 use Rattle.pg_syntax.specs.PlainParse.{atom_by, atom, equal_to, within, operation_from, operation, expression}
 use Rattle.pg_syntax.proofs.Fits.{fit_append, fit_split}
 use Rattle.pg_syntax.proofs.Generic.{Sound, Complete, some, same_some, bind_some, pick, chosen}
-use Rattle.pg_syntax.proofs.Separated.{Listed, AfterItems, separated_sound, separated_complete, listed_made, listed_of}
+use Rattle.pg_syntax.proofs.Separated.{Listed, AfterItems, separated_sound, separated_complete, EachToken, listed_made, listed_of}
 use Rattle.pg_syntax.proofs.Terminals.{symbol_is, symbol_seen, keyword_is, keyword_seen, symbol_takes, symbol_again, keyword_takes, keyword_again, eat_takes, eat_yes, eat_no}
 
 -- an expression and its tokens
@@ -79,7 +79,7 @@ unfolding parse.same_symbol
 bracket_ends t more h = rw h.spelled (refl, (refl, refl))
 
 -- the first token of an expression closes no list
-abbrev OpensNone : List Token → Type 0
+abbrev pub OpensNone : List Token → Type 0
 OpensNone front = (t : Token) × (r : List Token) × (front ≡ t ∷ r) × ((more : List Token) → sees_symbol s.CloseBracket (t ∷ more) ≡ false)
 
 one_opens : (front : List Token) (m : Mark) (ms : List Mark) → Fit front (m ∷ ms) → ((t : Token) (more : List Token) → Accepts m t → sees_symbol s.CloseBracket (t ∷ more) ≡ false) → OpensNone front
@@ -89,7 +89,7 @@ one_opens (t ∷ r) m ms fits none = (t, r, refl, λ more. none t more fits.0)
 front_opens : (front a b : List Token) → front ≡ a ++ b → OpensNone a → OpensNone front
 front_opens front a b e h = (h.0, h.1 ++ b, e ∙ ap (λ (r : List Token). r ++ b) h.2, h.3)
 
-opens_none : (x : Expression) (front : List Token) → IsPlainExpression x → Fit front (marks x) → OpensNone front
+pub opens_none : (x : Expression) (front : List Token) → IsPlainExpression x → Fit front (marks x) → OpensNone front
 unfolding parse.same_symbol
 opens_none (tree.literal value.null) front plain fits = one_opens front _ _ fits (λ t more h. rw h.spelled.1 refl)
 opens_none (tree.literal (value.boolean true)) front plain fits = one_opens front _ _ fits (λ t more h. rw h.spelled.1 refl)
@@ -103,6 +103,13 @@ opens_none (tree.tests x (tree.text_test test.In y tree.no_tests)) front plain f
     let parts = fit_split front (marks x) _ fits in front_opens front parts.0 parts.1 parts.2 (opens_none x parts.0 plain.1 parts.3)
 opens_none _ front plain fits = absurd plain
 
+abbrev AnyToken : Token → Type 0
+AnyToken t = Unit {0}
+
+any_tokens : (ts : List Token) → EachToken AnyToken ts
+any_tokens [] = tt
+any_tokens (t ∷ ts) = (tt, any_tokens ts)
+
 module _ (limit : ℕ) (whole : Parser Expression) (exact : Exact limit whole) where
   abbrev behind : Parser (List Expression)
   behind = separated whole >>= λ xs. symbol s.CloseBracket >> pure xs
@@ -113,8 +120,8 @@ module _ (limit : ℕ) (whole : Parser Expression) (exact : Exact limit whole) w
   spelled_out : (x : Expression) (front : List Token) → Spelled x front → IsPlainExpression x × Fit front (marks x)
   spelled_out x front h = (h.plain, h.fits)
 
-  spelled_in : (x : Expression) (front : List Token) → IsPlainExpression x → Fit front (marks x) → Spelled x front
-  spelled_in x front plain fits = record { plain = plain; fits = fits }
+  spelled_in : (x : Expression) (front : List Token) → EachToken AnyToken front → IsPlainExpression x → Fit front (marks x) → Spelled x front
+  spelled_in x front tokens plain fits = record { plain = plain; fits = fits }
 
   behind_sound : Sound behind Closed
   behind_sound ts a more e =
@@ -123,7 +130,7 @@ module _ (limit : ℕ) (whole : Parser Expression) (exact : Exact limit whole) w
       let last = same_some b.0 a c.1 more c.3 in
       let one = separated_sound Spelled whole exact.sound ts b.0 b.1 b.2 in
       let two = symbol_takes s.CloseBracket b.1 c.1 c.0 c.2 in
-      let made = listed_made Spelled IsPlainExpression marks spelled_out spelled_in b.0 one.0 one.2 in
+      let made = listed_made Spelled IsPlainExpression marks spelled_out b.0 one.0 one.2 in
       let closed : Closed b.0 (one.0 ++ two.0 ∷ []) = record { all = made.1; fits = fit_append one.0 (two.0 ∷ []) (commas (map marks b.0)) (sign s.CloseBracket ∷ []) made.2 (two.2, tt) } in
       (one.0 ++ two.0 ∷ [], one.1 ∙ ap (λ (r : List Token). one.0 ++ r) (two.1 ∙ ap (λ (r : List Token). two.0 ∷ r) last.1) ∙ sym (append_assoc one.0 (two.0 ∷ []) more),
        subst (λ (l : List Expression). Closed l (one.0 ++ two.0 ∷ [])) last.0 closed)
@@ -154,7 +161,7 @@ module _ (limit : ℕ) (whole : Parser Expression) (exact : Exact limit whole) w
       by f [] e p q = absurd q
       by f (t ∷ u ∷ g) e p q = absurd q.1
       by f (t ∷ []) e p q =
-        let l : Listed Spelled (x ∷ xs) f = listed_of Spelled IsPlainExpression marks spelled_out spelled_in (x ∷ xs) f tt c.all p in
+        let l : Listed Spelled (x ∷ xs) f = listed_of AnyToken Spelled IsPlainExpression marks spelled_in (x ∷ xs) f (any_tokens f) tt c.all p in
         let there : front ++ more ≡ f ++ (t ∷ more) = ap (λ (r : List Token). r ++ more) e ∙ append_assoc f (t ∷ []) more in
         let one : separated whole (f ++ (t ∷ more)) ≡ Some (x ∷ xs, t ∷ more) =
           separated_complete limit Spelled Ends whole comma_ends exact.complete (x ∷ xs) f (t ∷ more) l (bracket_ends t more q.0) (omega (arith, ap length there)) in

@@ -67,9 +67,20 @@ separated_complete limit S E item goes complete a front more l ends fits =
     let others = many_complete row (length (l.g ++ more)) (l.x ∷ []) l.xs l.g more l.others ends (omega arith) (omega arith) in
     rw (whole, one, others) (ap (λ (t : List _). some t more) (sym l.items))
 
--- ---- items whose marks are a function of each
+-- ---- items whose marks are a function of each, of tokens that each have a property
 
-module _ {A : Type 0} (S : A → List Token → Type 0) (ok : A → Type 0) (ms : A → List Mark) (out : (x : A) (front : List Token) → S x front → ok x × Fit front (ms x)) (into : (x : A) (front : List Token) → ok x → Fit front (ms x) → S x front) where
+abbrev pub EachToken : (Token → Type 0) → List Token → Type 0
+EachToken P = AllByRecursion P
+
+pub each_front : (P : Token → Type 0) (a b : List Token) → EachToken P (a ++ b) → EachToken P a
+each_front P [] b h = tt
+each_front P (t ∷ a) b h = (h.0, each_front P a b h.1)
+
+pub each_back : (P : Token → Type 0) (a b : List Token) → EachToken P (a ++ b) → EachToken P b
+each_back P [] b h = h
+each_back P (t ∷ a) b h = each_back P a b h.1
+
+module _ {A : Type 0} (S : A → List Token → Type 0) (ok : A → Type 0) (ms : A → List Mark) (out : (x : A) (front : List Token) → S x front → ok x × Fit front (ms x)) where
   further_made : (xs : List A) (g : List Token) → Each (Further S) xs g → AllByRecursion ok xs × Fit g (further (map ms xs))
   further_made [] g each = (tt, rw each tt)
   further_made (x ∷ xs) g each =
@@ -78,23 +89,27 @@ module _ {A : Type 0} (S : A → List Token → Type 0) (ok : A → Type 0) (ms 
       let g-is : g ≡ f.comma ∷ (f.others ++ each.1) = each.2 ∙ ap (λ (r : List Token). r ++ each.1) f.whole in
       ((one.0, more.0), rw g-is fits)
 
-  further_of : (xs : List A) (g : List Token) → AllByRecursion ok xs → Fit g (further (map ms xs)) → Each (Further S) xs g
-  further_of [] [] all fits = refl
-  further_of [] (t ∷ g) all fits = absurd fits
-  further_of (x ∷ xs) [] all fits = absurd fits
-  further_of (x ∷ xs) (t ∷ g) all fits =
-      let parts = fit_split g (ms x) (further (map ms xs)) fits.1 in
-      (t ∷ parts.0, parts.1, ap (λ (r : List Token). t ∷ r) parts.2,
-       record { comma = t; others = parts.0; whole = refl; accepts = fits.0; item = into x parts.0 all.0 parts.3 },
-       further_of xs parts.1 all.1 parts.4)
-
   pub listed_made : (xs : List A) (front : List Token) → Listed S xs front → IsNonEmpty xs × AllByRecursion ok xs × Fit front (commas (map ms xs))
   listed_made xs front l =
       let more = further_made l.xs l.g l.others in let one = out l.x l.f l.first in
       rw (l.items, l.whole) (tt, (one.0, more.0), fit_append l.f l.g (ms l.x) (further (map ms l.xs)) one.1 more.1)
 
-  pub listed_of : (xs : List A) (front : List Token) → IsNonEmpty xs → AllByRecursion ok xs → Fit front (commas (map ms xs)) → Listed S xs front
-  listed_of [] front some all fits = absurd some
-  listed_of (x ∷ xs) front some all fits =
+module _ {A : Type 0} (P : Token → Type 0) (S : A → List Token → Type 0) (ok : A → Type 0) (ms : A → List Mark) (into : (x : A) (front : List Token) → EachToken P front → ok x → Fit front (ms x) → S x front) where
+  further_of : (xs : List A) (g : List Token) → EachToken P g → AllByRecursion ok xs → Fit g (further (map ms xs)) → Each (Further S) xs g
+  further_of [] [] tokens all fits = refl
+  further_of [] (t ∷ g) tokens all fits = absurd fits
+  further_of (x ∷ xs) [] tokens all fits = absurd fits
+  further_of (x ∷ xs) (t ∷ g) tokens all fits =
+      let parts = fit_split g (ms x) (further (map ms xs)) fits.1 in
+      let halves : EachToken P (parts.0 ++ parts.1) = subst (EachToken P) parts.2 tokens.1 in
+      (t ∷ parts.0, parts.1, ap (λ (r : List Token). t ∷ r) parts.2,
+       record { comma = t; others = parts.0; whole = refl; accepts = fits.0; item = into x parts.0 (each_front P parts.0 parts.1 halves) all.0 parts.3 },
+       further_of xs parts.1 (each_back P parts.0 parts.1 halves) all.1 parts.4)
+
+  pub listed_of : (xs : List A) (front : List Token) → EachToken P front → IsNonEmpty xs → AllByRecursion ok xs → Fit front (commas (map ms xs)) → Listed S xs front
+  listed_of [] front tokens some all fits = absurd some
+  listed_of (x ∷ xs) front tokens some all fits =
       let parts = fit_split front (ms x) (further (map ms xs)) fits in
-      record { x = x; xs = xs; f = parts.0; g = parts.1; items = refl; whole = parts.2; first = into x parts.0 all.0 parts.3; others = further_of xs parts.1 all.1 parts.4 }
+      let halves : EachToken P (parts.0 ++ parts.1) = subst (EachToken P) parts.2 tokens in
+      record { x = x; xs = xs; f = parts.0; g = parts.1; items = refl; whole = parts.2; first = into x parts.0 (each_front P parts.0 parts.1 halves) all.0 parts.3;
+               others = further_of xs parts.1 (each_back P parts.0 parts.1 halves) all.1 parts.4 }

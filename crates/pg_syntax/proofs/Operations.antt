@@ -7,19 +7,20 @@ use Rattle.pg_meaning.specs.declared.lexemes.Symbol.TheVariants as s
 use Rattle.pg_meaning.specs.declared.operators.Operator.TheVariants as op
 use Rattle.pg_meaning.specs.declared.operators.TextTest.TheVariants as test
 use Rattle.pg_meaning.specs.Value as value
+use Rattle.pg_meaning.specs.Value.{Value}
 use Rattle.pg_meaning.specs.Tokens.{Lexeme, Token}
 use Rattle.pg_meaning.specs.Tokens as lexeme
 use Rattle.pg_meaning.specs.Tree.{Expression, Expressions}
 use Rattle.pg_meaning.specs.Tree as tree
-use Rattle.pg_meaning.specs.Grammar.{Mark, mark, integer, string, key, sign, further, commas, marks, list_marks, Accepts, Fit, IsLiteral, IsNonEmpty}
+use Rattle.pg_meaning.specs.Grammar.{Mark, mark, integer, string, key, sign, further, commas, literal_marks, marks, list_marks, Accepts, Fit, IsLiteral, IsNonEmpty}
 use Rattle.pg_meaning.specs.Parse as parse
-use Rattle.pg_meaning.specs.Parse.{Parser, Outcome, and_then, ◌>>=◌, ◌>>◌, pure, rest, sees_symbol, sees_keyword, symbol, separated, expressions_of, listed}
+use Rattle.pg_meaning.specs.Parse.{Parser, Outcome, and_then, ◌>>=◌, ◌>>◌, pure, rest, is_symbol, sees_symbol, sees_keyword, symbol, separated, expressions_of, listed}
 use Rattle.pg_syntax.specs.Plain.{IsAtom, IsPlainExpression, ArePlainExpressions}
-use Rattle.pg_syntax.specs.PlainParse.{atom_by, atom, equal_to, within, operation_from, operation, expression}
+use Rattle.pg_syntax.specs.PlainParse.{literal_by, literal_or, list_if, atom, equal_to, within, operation_from, operation, expression}
 use Rattle.pg_syntax.proofs.Fits.{fit_append, fit_split}
 use Rattle.pg_syntax.proofs.Generic.{Sound, Complete, some, same_some, bind_some, pick, chosen}
 use Rattle.pg_syntax.proofs.Separated.{Listed, AfterItems, separated_sound, separated_complete, EachToken, listed_made, listed_of}
-use Rattle.pg_syntax.proofs.Terminals.{symbol_is, symbol_seen, keyword_is, keyword_seen, symbol_takes, symbol_again, keyword_takes, keyword_again, eat_takes, eat_yes, eat_no}
+use Rattle.pg_syntax.proofs.Terminals.{is_symbol_is, symbol_is, symbol_seen, keyword_is, keyword_seen, symbol_takes, symbol_again, keyword_takes, keyword_again, eat_takes, eat_yes, eat_no}
 
 -- an expression and its tokens
 pub record Spelled (x : Expression) (front : List Token) : Type 0 where
@@ -110,6 +111,14 @@ any_tokens : (ts : List Token) → EachToken AnyToken ts
 any_tokens [] = tt
 any_tokens (t ∷ ts) = (tt, any_tokens ts)
 
+literal_spelled : (t : Token) (l : Lexeme) (v : Value) → t.lexeme ≡ l → literal_by l ≡ Some v → IsLiteral v × Fit (t ∷ []) (literal_marks v)
+literal_spelled t (lexeme.integer n) v is e = let same : value.integer (pos n) ≡ v = cc in subst (λ (v : Value). IsLiteral v × Fit (t ∷ []) (literal_marks v)) same (tt, (record { spelled = is; starts = tt; finishes = tt }, tt))
+literal_spelled t (lexeme.string w) v is e = let same : value.text w ≡ v = cc in subst (λ (v : Value). IsLiteral v × Fit (t ∷ []) (literal_marks v)) same (tt, (record { spelled = is; starts = tt; finishes = tt }, tt))
+literal_spelled t (lexeme.keyword k.True w) v is e = let same : value.boolean true ≡ v = cc in subst (λ (v : Value). IsLiteral v × Fit (t ∷ []) (literal_marks v)) same (tt, (record { spelled = (w, is); starts = tt; finishes = tt }, tt))
+literal_spelled t (lexeme.keyword k.False w) v is e = let same : value.boolean false ≡ v = cc in subst (λ (v : Value). IsLiteral v × Fit (t ∷ []) (literal_marks v)) same (tt, (record { spelled = (w, is); starts = tt; finishes = tt }, tt))
+literal_spelled t (lexeme.keyword k.Null w) v is e = let same : value.null ≡ v = cc in subst (λ (v : Value). IsLiteral v × Fit (t ∷ []) (literal_marks v)) same (tt, (record { spelled = (w, is); starts = tt; finishes = tt }, tt))
+literal_spelled t _ v is e = absurd cc
+
 module _ (limit : ℕ) (whole : Parser Expression) (exact : Exact limit whole) where
   abbrev behind : Parser (List Expression)
   behind = separated whole >>= λ xs. symbol s.CloseBracket >> pure xs
@@ -172,21 +181,9 @@ module _ (limit : ℕ) (whole : Parser Expression) (exact : Exact limit whole) w
 
   -- ---- atoms
 
-  leaf : (t : Token) (x : Expression) (m : Mark) → IsAtom x → IsPlainExpression x → marks x ≡ m ∷ [] → Accepts m t
-      → (ts : List Token) (a : Expression) (more : List Token) → some x ts ≡ some a more → (front : List Token) × (t ∷ ts ≡ front ++ more) × AtomSpelled a front
-  leaf t x m atomic plain is accepts ts a more e =
-      let g = same_some x a ts more e in
-      let spelled : AtomSpelled x (t ∷ []) = record { is_atom = atomic; plain = plain; fits = rw is (accepts, tt) } in
-      (t ∷ [], ap (λ (r : List Token). t ∷ r) g.1, subst (λ (y : Expression). AtomSpelled y (t ∷ [])) g.0 spelled)
-
-  atom_by_sound : (t : Token) (l : Lexeme) → t.lexeme ≡ l → (ts : List Token) (a : Expression) (more : List Token) → atom_by whole l ts ≡ Some (a, more)
+  list_sound : (t : Token) → t.lexeme ≡ lexeme.symbol s.OpenBracket → (ts : List Token) (a : Expression) (more : List Token) → list_if whole true ts ≡ Some (a, more)
       → (front : List Token) × (t ∷ ts ≡ front ++ more) × AtomSpelled a front
-  atom_by_sound t (lexeme.integer n) is ts a more e = leaf t (tree.literal (value.integer (pos n))) (mark (integer n)) tt tt refl (record { spelled = is; starts = tt; finishes = tt }) ts a more e
-  atom_by_sound t (lexeme.string w) is ts a more e = leaf t (tree.literal (value.text w)) (mark (string w)) tt tt refl (record { spelled = is; starts = tt; finishes = tt }) ts a more e
-  atom_by_sound t (lexeme.keyword k.True w) is ts a more e = leaf t (tree.literal (value.boolean true)) (key k.True) tt tt refl (record { spelled = (w, is); starts = tt; finishes = tt }) ts a more e
-  atom_by_sound t (lexeme.keyword k.False w) is ts a more e = leaf t (tree.literal (value.boolean false)) (key k.False) tt tt refl (record { spelled = (w, is); starts = tt; finishes = tt }) ts a more e
-  atom_by_sound t (lexeme.keyword k.Null w) is ts a more e = leaf t (tree.literal value.null) (key k.Null) tt tt refl (record { spelled = (w, is); starts = tt; finishes = tt }) ts a more e
-  atom_by_sound t (lexeme.symbol s.OpenBracket) is ts a more e =
+  list_sound t is ts a more e =
       let b = bind_some (listed s.CloseBracket whole ts) (λ xs. pure (tree.list_literal (expressions_of xs))) (a, more) e in
       let g = same_some (tree.list_literal (expressions_of b.0)) a b.1 more b.3 in
       let one = listed_sound ts b.0 b.1 b.2 in
@@ -197,12 +194,24 @@ module _ (limit : ℕ) (whole : Parser Expression) (exact : Exact limit whole) w
         fits = (opening, rw (list_marks-of b.0) one.2.fits);
       } in
       (t ∷ one.0, ap (λ (r : List Token). t ∷ r) (one.1 ∙ ap (λ (r : List Token). one.0 ++ r) g.1), subst (λ (y : Expression). AtomSpelled y (t ∷ one.0)) g.0 made)
-  atom_by_sound t _ is ts a more e = absurd cc
+
+  literal_sound : (t : Token) (v : Value) → IsLiteral v → Fit (t ∷ []) (literal_marks v) → (ts : List Token) (a : Expression) (more : List Token) → some (tree.literal v) ts ≡ some a more
+      → (front : List Token) × (t ∷ ts ≡ front ++ more) × AtomSpelled a front
+  literal_sound t v plain fits ts a more e =
+      let g = same_some (tree.literal v) a ts more e in
+      let spelled : AtomSpelled (tree.literal v) (t ∷ []) = record { is_atom = tt; plain = plain; fits = fits } in
+      (t ∷ [], ap (λ (r : List Token). t ∷ r) g.1, subst (λ (y : Expression). AtomSpelled y (t ∷ [])) g.0 spelled)
 
   pub atom_sound : Sound (atom whole) AtomSpelled
   unfolding atom
   atom_sound [] a more e = absurd cc
-  atom_sound (t ∷ ts) a more e = atom_by_sound t t.lexeme refl ts a more e
+  atom_sound (t ∷ ts) a more e = by (literal_by t.lexeme) refl (is_symbol s.OpenBracket t.lexeme) refl e
+    where
+      by : (v : Option Value) → literal_by t.lexeme ≡ v → (b : Bool) → is_symbol s.OpenBracket t.lexeme ≡ b → literal_or v (list_if whole b) ts ≡ Some (a, more)
+          → (front : List Token) × (t ∷ ts ≡ front ++ more) × AtomSpelled a front
+      by (Some v) is b opens e = let s = literal_spelled t t.lexeme v refl is in literal_sound t v s.0 s.1 ts a more e
+      by None is true opens e = list_sound t (is_symbol_is s.OpenBracket t.lexeme opens) ts a more e
+      by None is false opens e = absurd cc
 
   -- one token of the mark
   one_token : (m : Mark) (front more : List Token) (x : Expression) → Fit front (m ∷ []) → ((t : Token) → Accepts m t → atom whole (t ∷ more) ≡ Some (x, more)) → atom whole (front ++ more) ≡ Some (x, more)
@@ -211,7 +220,7 @@ module _ (limit : ℕ) (whole : Parser Expression) (exact : Exact limit whole) w
   one_token m (t ∷ u ∷ front) more x fits by = absurd fits.1
 
   pub atom_complete : (a : Expression) (front more : List Token) → IsAtom a → IsPlainExpression a → Fit front (marks a) → length (front ++ more) < suc limit → atom whole (front ++ more) ≡ Some (a, more)
-  unfolding atom
+  unfolding atom parse.same_symbol
   atom_complete (tree.literal value.null) front more is plain fits less = one_token (key k.Null) front more _ fits (λ t h. rw h.spelled.1 refl)
   atom_complete (tree.literal (value.boolean true)) front more is plain fits less = one_token (key k.True) front more _ fits (λ t h. rw h.spelled.1 refl)
   atom_complete (tree.literal (value.boolean false)) front more is plain fits less = one_token (key k.False) front more _ fits (λ t h. rw h.spelled.1 refl)

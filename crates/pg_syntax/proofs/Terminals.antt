@@ -30,7 +30,7 @@ same_keyword_is : (a : Keyword) → same_keyword a a ≡ true
 unfolding same_keyword
 same_keyword_is a = true_same keyword_type a a refl
 
-is_symbol_is : (x : Symbol) (l : Lexeme) → is_symbol x l ≡ true → l ≡ lexeme.symbol x
+pub is_symbol_is : (x : Symbol) (l : Lexeme) → is_symbol x l ≡ true → l ≡ lexeme.symbol x
 is_symbol_is x (lexeme.symbol y) e = ap lexeme.symbol (symbol_same y x e)
 is_symbol_is x _ e = absurd cc
 

@@ -1,5 +1,5 @@
 -- The tree of a list of tokens that has a plain one, as functions, one for each line of its grammar.
-use Rattle.std.specs.Prelude.{ℕ, zero, suc, ◌&&◌, nat_le, if◌then◌else◌, List, [], ◌∷◌, length, Option, Some, None, slice_range, pos, true, false}
+use Rattle.std.specs.Prelude.{ℕ, zero, suc, ◌&&◌, nat_le, if◌then◌else◌, List, [], ◌∷◌, length, Bool, Option, Some, None, Result, Err, slice_range, pos, true, false}
 use Rattle.std.specs.Str.{is_utf8}
 use Rattle.pg_meaning.specs.declared.lexemes.Keyword.TheVariants as k
 use Rattle.pg_meaning.specs.declared.lexemes.Symbol.TheVariants as s
@@ -10,23 +10,35 @@ use Rattle.pg_meaning.specs.Tokens.{Lexeme, Token}
 use Rattle.pg_meaning.specs.Tokens as lexeme
 use Rattle.pg_meaning.specs.Tree.{Name, Expression, Item, Query}
 use Rattle.pg_meaning.specs.Tree as tree
-use Rattle.pg_meaning.specs.Parse.{Parser, ◌>>=◌, ◌>>◌, ◌<$>◌, pure, refuse, branch, sees_symbol, sees_keyword, symbol, keyword, eat_symbol, with_rest, what_is_left, start_of, finish_between, maybe, separated, expressions_of, listed, alias, done, read}
+use Rattle.pg_meaning.specs.Depth.{is_too_deep}
+use Rattle.pg_meaning.specs.Texts.{read_query}
+use Rattle.pg_meaning.specs.declared.fault.Fault.{Fault}
+use Rattle.pg_meaning.specs.declared.fault.Fault.TheVariants.{TooDeep}
+use Rattle.pg_meaning.specs.Parse.{Parser, ◌>>=◌, ◌>>◌, ◌<$>◌, pure, refuse, branch, is_symbol, sees_symbol, sees_keyword, symbol, keyword, eat_symbol, with_rest, what_is_left, start_of, finish_between, maybe, separated, expressions_of, listed, alias, done, read}
 use Rattle.pg_syntax.specs.Plain.{plain_query}
 
--- Atom, behind the token
-abbrev pub atom_by : Parser Expression → Lexeme → Parser Expression
-atom_by whole (lexeme.integer n) = pure (tree.literal (value.integer (pos n)))
-atom_by whole (lexeme.string t) = pure (tree.literal (value.text t))
-atom_by whole (lexeme.keyword k.True w) = pure (tree.literal (value.boolean true))
-atom_by whole (lexeme.keyword k.False w) = pure (tree.literal (value.boolean false))
-atom_by whole (lexeme.keyword k.Null w) = pure (tree.literal value.null)
-atom_by whole (lexeme.symbol s.OpenBracket) = (λ xs. tree.list_literal (expressions_of xs)) <$> listed s.CloseBracket whole
-atom_by whole l = refuse
+-- Integer / String / TRUE / FALSE / NULL
+abbrev pub literal_by : Lexeme → Option value.Value
+literal_by (lexeme.integer n) = Some (value.integer (pos n))
+literal_by (lexeme.string t) = Some (value.text t)
+literal_by (lexeme.keyword k.True w) = Some (value.boolean true)
+literal_by (lexeme.keyword k.False w) = Some (value.boolean false)
+literal_by (lexeme.keyword k.Null w) = Some value.null
+literal_by l = None
 
--- Integer / String / TRUE / FALSE / NULL / '[' [Operation {',' Operation}] ']'
+-- '[' [Operation {',' Operation}] ']', behind the opening sign
+abbrev pub list_if : Parser Expression → Bool → Parser Expression
+list_if whole true = (λ xs. tree.list_literal (expressions_of xs)) <$> listed s.CloseBracket whole
+list_if whole false = refuse
+
+abbrev pub literal_or : Option value.Value → Parser Expression → Parser Expression
+literal_or (Some v) p = pure (tree.literal v)
+literal_or None p = p
+
+-- a literal or a list
 unfoldable pub atom : Parser Expression → Parser Expression
 atom whole [] = None
-atom whole (t ∷ ts) = atom_by whole t.lexeme ts
+atom whole (t ∷ ts) = literal_or (literal_by t.lexeme) (list_if whole (is_symbol s.OpenBracket t.lexeme)) ts
 
 abbrev pub equal_to : Expression → Expression → Expression
 equal_to x y = tree.chain x (tree.operand op.Equal y tree.no_operands)
@@ -78,3 +90,7 @@ query text whole = do
 -- the plain tree of the text's tokens
 unfoldable pub plain_query_of : (text : List ℕ) → List Token → Option Query
 plain_query_of text ts = read (query text (expression (length ts)) ts)
+
+-- or why it has none
+abbrev pub plain_parse : (text : List ℕ) → List Token → Result Query Fault
+plain_parse text ts = if is_too_deep ts then Err TooDeep else read_query (plain_query_of text ts)

@@ -1,0 +1,56 @@
+//! The syntax tree of a query.
+
+use pg_meaning::{Operator, TextTest};
+
+/// A name, decoded, and where its token begins.
+#[derive(Debug, PartialEq, Eq, Drop)]
+pub struct Name {
+    pub text: String,
+    pub quoted: bool,
+    pub place: usize,
+}
+
+/// A value as a text can write it.
+#[derive(Debug, PartialEq, Eq, Drop)]
+pub enum Literal {
+    Null,
+    Boolean(bool),
+    Integer(i64),
+    Text(String),
+}
+
+#[derive(Debug, PartialEq, Eq, Drop)]
+pub enum Expression {
+    Literal(Literal),
+    ListLiteral(Vec<Expression>),
+    /// An operand, and behind each operator a further one. The operators are of one level.
+    Chain(Box<Expression>, Vec<(Operator, Expression)>),
+    /// An operand, and the tests behind it.
+    Tests(Box<Expression>, Vec<(TextTest, Expression)>),
+}
+
+/// An item of RETURN: where it begins, its expression as written and as read, and its alias.
+#[derive(Debug, PartialEq, Eq, Drop)]
+pub struct Item {
+    pub start: usize,
+    pub source: String,
+    pub value: Expression,
+    pub alias: Option<Name>,
+}
+
+/// What stands behind RETURN.
+#[derive(Debug, PartialEq, Eq, Drop)]
+pub struct Projection {
+    pub items: Vec<Item>,
+}
+
+#[derive(Debug, PartialEq, Eq, Drop)]
+pub enum Clause {
+    Return(Projection),
+}
+
+#[derive(Debug, PartialEq, Eq, Drop)]
+pub struct Query {
+    pub clauses: Vec<Clause>,
+    pub semicolon: bool,
+}

@@ -1,11 +1,11 @@
 -- The data that the program's trees stand for.
 use Rattle.std.specs.Prelude.{ℕ, List, [], ◌∷◌, map, Option, option_map, string_bytes, String}
 use Rattle.std.specs.declared.alloc.Global.{Global}
-use Rattle.pg_meaning.specs.declared.operators.TextTest.{TextTest}
-use Rattle.pg_meaning.specs.Parse.{expressions_of, operands_of}
+use Rattle.pg_meaning.specs.Parse.{expressions_of}
 use Rattle.pg_meaning.specs.Value as value
 use Rattle.pg_meaning.specs.Tree as tree
 use Rattle.pg_syntax.specs.Plain.{plain_projection}
+use Rattle.pg_syntax.specs.PlainParse.{equal_to, within}
 use Rattle.pg_syntax.specs.declared.tree.Name.{Name}
 use Rattle.pg_syntax.specs.declared.tree.Literal.{Literal}
 use Rattle.pg_syntax.specs.declared.tree.Literal.TheVariants as literal
@@ -26,16 +26,12 @@ literal_view (literal.Boolean b) = value.boolean b
 literal_view (literal.Integer i) = value.integer i
 literal_view (literal.Text s) = value.text (string_bytes s)
 
-abbrev pub tests_of : List (TextTest × tree.Expression) → tree.Tests
-tests_of [] = tree.no_tests
-tests_of (p ∷ ps) = tree.text_test p.0 p.1 (tests_of ps)
-
 -- one level, with each expression inside already seen as its data
 abbrev pub view_step : Expression-F tree.Expression → tree.Expression
 view_step (Expression-F.Literal l) = tree.literal (literal_view l)
 view_step (Expression-F.ListLiteral xs) = tree.list_literal (expressions_of xs.items)
-view_step (Expression-F.Chain x os) = tree.chain x.value (operands_of os.items)
-view_step (Expression-F.Tests x ts) = tree.tests x.value (tests_of ts.items)
+view_step (Expression-F.Equal x y) = equal_to x.value y.value
+view_step (Expression-F.In x y) = within x.value y.value
 
 abbrev pub expression_view : Expression → tree.Expression
 expression_view = fold-Expression tree.Expression view_step

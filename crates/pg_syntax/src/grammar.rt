@@ -12,7 +12,7 @@ use crate::cursor::{Tokens, is_symbol};
 use crate::error::ParseError;
 use crate::tree::{Expression, Literal};
 use pg_lex::Lexeme;
-use pg_meaning::{Keyword, Operator, Symbol, TextTest};
+use pg_meaning::{Keyword, Symbol};
 use std::alloc::{AllocError, Global};
 
 /// What the lexeme is, if it is a literal.
@@ -32,17 +32,19 @@ fn literal_of(alloc: Global, lexeme: &Lexeme<'_>) -> Result<Option<Literal>, All
 fn equal_to(alloc: Global, left: Expression, right: Expression) -> Result<Expression, AllocError>
     ensures { IfOk result (λ x. expression_view x ≡ spec.equal_to (expression_view left) (expression_view right)) }
 {
-    let mut operands = Vec::new(alloc);
-    operands.push((Operator::Equal, right))?;
-    Ok(Expression::Chain(Box::new(alloc, left)?, operands))
+    Ok(Expression::Equal(
+        Box::new(alloc, left)?,
+        Box::new(alloc, right)?,
+    ))
 }
 
 fn within(alloc: Global, left: Expression, right: Expression) -> Result<Expression, AllocError>
     ensures { IfOk result (λ x. expression_view x ≡ spec.within (expression_view left) (expression_view right)) }
 {
-    let mut tests = Vec::new(alloc);
-    tests.push((TextTest::In, right))?;
-    Ok(Expression::Tests(Box::new(alloc, left)?, tests))
+    Ok(Expression::In(
+        Box::new(alloc, left)?,
+        Box::new(alloc, right)?,
+    ))
 }
 
 #[derive(Clone, Copy)]

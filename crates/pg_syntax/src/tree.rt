@@ -1,7 +1,5 @@
 //! The syntax tree of a query.
 
-use pg_meaning::{Operator, TextTest};
-
 /// A name, decoded, and where its token begins.
 #[derive(Debug, PartialEq, Eq, Drop)]
 pub struct Name {
@@ -23,10 +21,10 @@ pub enum Literal {
 pub enum Expression {
     Literal(Literal),
     ListLiteral(Vec<Expression>),
-    /// An operand, and behind each operator a further one. The operators are of one level.
-    Chain(Box<Expression>, Vec<(Operator, Expression)>),
-    /// An operand, and the tests behind it.
-    Tests(Box<Expression>, Vec<(TextTest, Expression)>),
+    /// The two sides of `=`.
+    Equal(Box<Expression>, Box<Expression>),
+    /// An item and a list.
+    In(Box<Expression>, Box<Expression>),
 }
 
 /// An item of RETURN: where it begins, its expression as written and as read, and its alias.

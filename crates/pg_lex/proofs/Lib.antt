@@ -2,13 +2,16 @@ pub mod Backquotes
 pub mod Classes
 pub mod Comments
 pub mod Contents
+pub mod Longest
 pub mod Pairs
 pub mod Pieces
+pub mod Places
 pub mod Quotes
 pub mod Reserved
 pub mod Runs
 pub mod Signs
 pub mod Spelled
 pub mod Texts
+pub mod Turns
 pub mod Values
 pub mod Whites

@@ -231,3 +231,47 @@ longest_by c cs front l more e whole k (d ∷ f) m same h =
     let small : length more ≤ length m = no_shorter (class c) c f m l more refl (sym (ap (λ (r : List ℕ). lexeme_by (class c) c r) there) ∙ e) k here in
     let long = ap (length {A = ℕ}) tail in
     omega (arith, length-append front more, length-append f m)
+
+-- ---- a slash that opens no comment
+
+alone_len : (x : Symbol) (f : List ℕ) → 47 ∷ f ≡ symbol_text x → length f ≤ 0
+alone_len s.TwoDots f h = absurd cc
+alone_len s.NotEqual f h = absurd cc
+alone_len s.LessOrEqual f h = absurd cc
+alone_len s.GreaterOrEqual f h = absurd cc
+alone_len s.PlusEqual f h = absurd cc
+alone_len s.OpenParenthesis f h = let e = ap (length {A = ℕ}) h in omega arith
+alone_len s.CloseParenthesis f h = let e = ap (length {A = ℕ}) h in omega arith
+alone_len s.OpenBracket f h = let e = ap (length {A = ℕ}) h in omega arith
+alone_len s.CloseBracket f h = let e = ap (length {A = ℕ}) h in omega arith
+alone_len s.OpenBrace f h = let e = ap (length {A = ℕ}) h in omega arith
+alone_len s.CloseBrace f h = let e = ap (length {A = ℕ}) h in omega arith
+alone_len s.Comma f h = let e = ap (length {A = ℕ}) h in omega arith
+alone_len s.Dot f h = let e = ap (length {A = ℕ}) h in omega arith
+alone_len s.Colon f h = let e = ap (length {A = ℕ}) h in omega arith
+alone_len s.Semicolon f h = let e = ap (length {A = ℕ}) h in omega arith
+alone_len s.Plus f h = let e = ap (length {A = ℕ}) h in omega arith
+alone_len s.Minus f h = let e = ap (length {A = ℕ}) h in omega arith
+alone_len s.Star f h = let e = ap (length {A = ℕ}) h in omega arith
+alone_len s.Slash f h = let e = ap (length {A = ℕ}) h in omega arith
+alone_len s.Percent f h = let e = ap (length {A = ℕ}) h in omega arith
+alone_len s.Equal f h = let e = ap (length {A = ℕ}) h in omega arith
+alone_len s.Less f h = let e = ap (length {A = ℕ}) h in omega arith
+alone_len s.Greater f h = let e = ap (length {A = ℕ}) h in omega arith
+alone_len s.Bar f h = let e = ap (length {A = ℕ}) h in omega arith
+
+slash_kind : (l : Lexeme) (f : List ℕ) → Spells l (47 ∷ f) → length f ≤ 0
+slash_kind (word w) f h = let e : other ≡ letter = kind (word w) 47 f h in absurd cc
+slash_kind (keyword k w) f h = let e : other ≡ letter = kind (keyword k w) 47 f h in absurd cc
+slash_kind (quoted_name w) f h = let e : other ≡ backquote = kind (quoted_name w) 47 f h in absurd cc
+slash_kind (integer n) f h = let e : other ≡ digit = kind (integer n) 47 f h in absurd cc
+slash_kind (string t) f h = let e : other ≡ quotation = kind (string t) 47 f h in absurd cc
+slash_kind (parameter q w) f h = let e : other ≡ dollar = kind (parameter q w) 47 f h in absurd cc
+slash_kind (symbol x) f h = alone_len x f h
+
+pub slash_alone : (more : List ℕ) → Longest (47 ∷ []) more
+slash_alone more l [] m e h = omega arith
+slash_alone more l (d ∷ f) m e h =
+    let head : d ≡ 47 = cc in
+    let here : Spells l (47 ∷ f) = subst (λ (x : ℕ). Spells l (x ∷ f)) head h in
+    omega (arith, slash_kind l f here)

@@ -108,6 +108,9 @@ string_sound n q [] means more le e = absurd cc
 string_sound zero q (c ∷ cs) means more le e = absurd (omega arith)
 string_sound (suc n) q (c ∷ cs) means more le e = at (eqb c q) refl (λ rest ms small g. string_sound n q rest ms more small g)
   where
+    begun : Bool → Front (List ℕ)
+    begun t = elim t [ true ↦ Some ([], cs) | false ↦ elim (eqb c 92) as (λ _. Front (List ℕ)) [ true ↦ string_from q backslash cs | false ↦ put c (string_from q outside cs) ] ]
+
     after : (o : Front ℕ) → meant_front c cs ≡ o → (c ≡ q → ⊥) → next_part q o ≡ all means more → ((rest ms : List ℕ) → length rest ≤ n → string_from q outside rest ≡ all ms more → Content q rest ms more) → Content q (c ∷ cs) means more
     after None h other g others = absurd cc
     after (Some x) h other g others =
@@ -131,9 +134,6 @@ string_sound (suc n) q (c ∷ cs) means more le e = at (eqb c q) refl (λ rest m
     at : (x : Bool) → eqb c q ≡ x → ((rest ms : List ℕ) → length rest ≤ n → string_from q outside rest ≡ all ms more → Content q rest ms more) → Content q (c ∷ cs) means more
     at true h others = ends h (sym (ap (λ (t : Bool). begun t) h) ∙ e)
     at false h others = after (meant_front c cs) refl (eqb-false c q h) (sym (string_step q c cs h) ∙ e) others
-
-    begun : Bool → Front (List ℕ)
-    begun t = elim t [ true ↦ Some ([], cs) | false ↦ elim (eqb c 92) as (λ _. Front (List ℕ)) [ true ↦ string_from q backslash cs | false ↦ put c (string_from q outside cs) ] ]
 
 -- ---- pieces are read
 

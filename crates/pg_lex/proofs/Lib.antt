@@ -1,7 +1,11 @@
+pub mod Ascii
 pub mod Backquotes
 pub mod Classes
+pub mod Comes
 pub mod Comments
 pub mod Contents
+pub mod Contract
+pub mod Lexing
 pub mod Longest
 pub mod Pairs
 pub mod Pieces

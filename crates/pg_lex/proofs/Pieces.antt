@@ -1,5 +1,5 @@
 -- A string in pieces, each of which stands for a character.
-use Rattle.std.proofs.Common.{◌≡◌, ◌≢◌, ℕ, suc, zero, ◌+◌, ◌*◌, ◌<◌, ◌≤◌, Bool, true, false, cond, eqb, List, [], ◌∷◌, ◌++◌, length, Option, Some, None, refl, sym, ap, ◌∙◌, append_assoc, length-append, arith}
+use Rattle.std.proofs.Common.{◌≡◌, ◌≢◌, ℕ, suc, zero, ◌+◌, ◌*◌, ◌<◌, ◌≤◌, Bool, true, false, cond, eqb, List, [], ◌∷◌, ◌++◌, length, Option, Some, None, refl, sym, ap, ◌∙◌, subst, append_assoc, length-append, arith}
 use Rattle.std.proofs.lemmas.Bool.{eqb-true, eqb-false, eq-eqb, ne_eqb}
 use Rattle.pg_meaning.specs.Tokens.{Front, string_from, outside, backslash, hexadecimal, put, hexadecimal_value, escape_of, is_surrogate, Piece, plain, escaped, coded, piece_text, pieces_text, StandsFor, AllStandFor}
 use Rattle.pg_lex.specs.Scans.{meant_front, escaped as escaped_front, coded_front, hexadecimal_front, with_rest, character_of, ◌>>=◌}
@@ -121,7 +121,7 @@ string_sound (suc n) q (c ∷ cs) means more le e = at (eqb c q) refl (λ rest m
       let stands : AllStandFor q (part.part ∷ rest.pieces) (x.0 ∷ p.0) = (part.stands, rest.stands) in
       record {
         pieces = part.part ∷ rest.pieces;
-        stands = rw p.2 at stands;
+        stands = subst (λ (r : List ℕ). AllStandFor q (part.part ∷ rest.pieces) r) p.2 stands;
         whole = part.whole ∙ ap (λ (r : List ℕ). piece_text part.part ++ r) rest.whole ∙ sym (append_assoc (piece_text part.part) (pieces_text rest.pieces) (q ∷ more));
       }
 
@@ -129,7 +129,7 @@ string_sound (suc n) q (c ∷ cs) means more le e = at (eqb c q) refl (λ rest m
     ends h g =
       let p = same_pair [] means cs more g in
       let none : AllStandFor q [] [] = tt in
-      record { pieces = []; stands = rw p.0 at none; whole = ap (λ (x : ℕ). x ∷ cs) (eqb-true c q h) ∙ ap (λ (r : List ℕ). q ∷ r) p.1 }
+      record { pieces = []; stands = subst (λ (r : List ℕ). AllStandFor q [] r) p.0 none; whole = ap (λ (x : ℕ). x ∷ cs) (eqb-true c q h) ∙ ap (λ (r : List ℕ). q ∷ r) p.1 }
 
     at : (x : Bool) → eqb c q ≡ x → ((rest ms : List ℕ) → length rest ≤ n → string_from q outside rest ≡ all ms more → Content q rest ms more) → Content q (c ∷ cs) means more
     at true h others = ends h (sym (ap (λ (t : Bool). begun t) h) ∙ e)

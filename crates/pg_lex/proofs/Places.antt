@@ -109,7 +109,7 @@ other_lexeme c cs l more h e = at (lexeme_at (c ∷ cs)) refl e
     at None i g = absurd cc
     at (Some p) i g =
       let q = founds p.0 l p.1 more g in
-      let j : lexeme_at (c ∷ cs) ≡ Some (l, more) = i ∙ cc in
+      let j : lexeme_at (c ∷ cs) ≡ Some (l, more) = i ∙ (ap (λ (k : Lexeme). some k p.1) q.0 ∙ ap (some l) q.1) in
       let w : Spelled c cs l more = spelled_by (class c) c cs l more refl (eqb-false c 47 h) j in
       record { front = c ∷ w.front; stood = record { whole = ap (λ (r : List ℕ). c ∷ r) w.whole; some = omega arith; stands = (w.spells, longest_by c cs w.front l more j w.whole, w.may) } }
 

@@ -1,5 +1,5 @@
 -- One turn of the loop over what stands in a text.
-use Rattle.std.proofs.Common.{◌≡◌, ℕ, zero, suc, ◌+◌, ◌-◌, ◌<◌, ◌≤◌, List, [], ◌∷◌, ◌++◌, length, map, Option, Some, None, refl, sym, ap, ◌∙◌, append_assoc, length-append, arith}
+use Rattle.std.proofs.Common.{◌≡◌, ℕ, zero, suc, ◌+◌, ◌-◌, ◌<◌, ◌≤◌, List, [], ◌∷◌, ◌++◌, length, map, Option, Some, None, refl, sym, ap, ◌∙◌, append_assoc, append-nil, length-append, arith}
 use Rattle.std.specs.Str.{IsUtf8}
 use Rattle.pg_meaning.specs.Tokens.{Lexeme, Token, Next, gap, found, bad, next, turn, put_token, passed, lex_from, lex, width, characters, segment_text, tokens_of}
 use Rattle.pg_lex.specs.declared.token.Token.{Token as CodeToken}
@@ -116,3 +116,16 @@ tokens_more (x ∷ ts) t = ap (λ (l : List Token). token_view x ∷ l) (tokens_
 pub tokens_are : (text : List ℕ) → lex (characters text) ≡ tokens_of text
 unfolding tokens_of
 tokens_are text = refl
+
+pub characters_some : (rest : List ℕ) → IsUtf8 rest → (length rest ≡ 0 → ⊥) → characters rest ≡ [] → ⊥
+characters_some rest u some e = some (sym (width_characters rest u) ∙ ap width e)
+
+characters_none : (rest : List ℕ) → length rest ≡ 0 → characters rest ≡ []
+characters_none [] e = refl
+characters_none (b ∷ rest) e = absurd (omega arith)
+
+pub end_step : (text rest : List ℕ) (front : List Token) (o : Option (List Token)) → length rest ≡ 0 → At text rest front ≡ o → Some front ≡ o
+end_step text rest front o none h = ap (λ (l : List Token). some l) (sym (append-nil front)) ∙ ap (λ (r : List ℕ). joined front (lex_at (length text - length rest) r)) (sym (characters_none rest none)) ∙ h
+  where
+    some : List Token → Option (List Token)
+    some l = Some l

@@ -2,8 +2,9 @@
 use Rattle.std.proofs.Common.{◌≡◌, ℕ, zero, suc, ◌+◌, ◌-◌, ◌<◌, ◌≤◌, List, [], ◌∷◌, ◌++◌, length, Option, Some, None, refl, sym, ap, ◌∙◌, subst, length-append, encode_utf8_all, arith}
 use Rattle.std.specs.Str.{IsUtf8, all_scalars, chars}
 use Rattle.std.proofs.lemmas.Str.{encodes-chars, chars-encodes, scalars-chars}
-use Rattle.pg_meaning.specs.Tokens.{Lexeme, Token, Next, gap, found, bad, next, turn, put_token, passed, lex_from, lex, width, characters, Segment, lexeme, segment_text, segments_text, Stands, AllStand, token_of, segment_tokens, Lexes, tokens_of, LexesExactly, OneLexing}
+use Rattle.pg_meaning.specs.Tokens.{Lexeme, Token, Next, gap, found, bad, next, turn, put_token, passed, lex_from, lex, width, characters, Segment, blank, line_comment, block_comment, lexeme, segment_text, segments_text, Stands, AllStand, token_of, segment_tokens, Lexes, tokens_of, LexesExactly, OneLexing}
 use Rattle.pg_lex.proofs.Texts.{characters_same}
+use Rattle.pg_lex.proofs.Classes.{not_empty}
 use Rattle.pg_lex.proofs.Turns.{width-append}
 use Rattle.pg_lex.proofs.Places.{Stood, Gapped, Found, gap_sound, found_sound}
 use Rattle.pg_lex.proofs.Comes.{Comes, comes_next, turn_of}
@@ -60,12 +61,25 @@ lex_sound (suc n) at (c ∷ cs) ts e = by (next c cs) refl e (λ start more us g
 
 -- ---- what stands there is lexed
 
+gap_is : (at : ℕ) (cs : List ℕ) (others : ℕ → List ℕ → Option (List Token)) (x : Segment) (more : List ℕ) (ts : List Token) → cs ≡ segment_text x ++ more → others (at + width (segment_text x)) more ≡ some ts
+    → others (passed at cs more) more ≡ some ts
+gap_is at cs others x more ts whole h = ap (λ (n : ℕ). others n more) (passed_is at cs (segment_text x) more whole) ∙ h
+
+text_some : (x : Segment) (more : List ℕ) → Stands x more → 1 ≤ length (segment_text x)
+text_some (blank c) more h = omega arith
+text_some (line_comment b) more h = omega arith
+text_some (block_comment b) more h = omega arith
+text_some (lexeme l []) more h = absurd (not_empty l h.0)
+text_some (lexeme l (c ∷ f)) more h = omega arith
+
 turn_is : (at : ℕ) (cs : List ℕ) (others : ℕ → List ℕ → Option (List Token)) (x : Segment) (more : List ℕ) (ts : List Token) → cs ≡ segment_text x ++ more → others (at + width (segment_text x)) more ≡ some ts
     → turn at cs others (turn_of x more) ≡ some (token_of at x ++ ts)
 turn_is at cs others (lexeme l front) more ts whole h =
     let place = passed_is at cs front more whole in
     ap (λ (n : ℕ). put_token (record { lexeme = l; start = at; finish = n }) (others n more)) place ∙ ap (put_token (record { lexeme = l; start = at; finish = at + width front })) h
-turn_is at cs others x more ts whole h = ?
+turn_is at cs others (blank c) more ts whole h = gap_is at cs others (blank c) more ts whole h
+turn_is at cs others (line_comment b) more ts whole h = gap_is at cs others (line_comment b) more ts whole h
+turn_is at cs others (block_comment b) more ts whole h = gap_is at cs others (block_comment b) more ts whole h
 
 lex_complete : (n at : ℕ) (xs : List Segment) → AllStand xs → length (segments_text xs) ≤ n → lex_from n at (segments_text xs) ≡ some (segment_tokens at xs)
 lex_complete n at [] h le = refl
@@ -75,7 +89,7 @@ lex_complete n at (x ∷ xs) h le = by n le (comes_next x xs h) (λ m start smal
     by zero le c others = let long = ap (length {A = ℕ}) c.whole in absurd (omega arith)
     by (suc n) le c others =
       let long = ap (length {A = ℕ}) c.whole in
-      let some_text : 1 ≤ length (segment_text x) = text_some x h.0 in
+      let some_text : 1 ≤ length (segment_text x) = text_some x (segments_text xs) h.0 in
       let rest = others n (at + width (segment_text x)) (omega (arith, length-append (segment_text x) (segments_text xs))) in
       ap (lex_from (suc n) at) c.whole ∙ ap (turn at (c.first ∷ c.behind) (lex_from n)) c.comes ∙ turn_is at (c.first ∷ c.behind) (lex_from n) x (segments_text xs) (segment_tokens (at + width (segment_text x)) xs) (sym c.whole) rest
 

@@ -1,14 +1,14 @@
 -- What stands at a place comes next.
 use Rattle.std.proofs.Common.{◌≡◌, ◌≢◌, ℕ, ◌+◌, ◌<◌, ◌≤◌, Bool, true, false, cond, not, ◌&&◌, ◌||◌, ◌⊎◌, inl, inr, eqb, leb, List, [], ◌∷◌, ◌++◌, length, Option, Some, None, refl, sym, ap, ◌∙◌, subst, append_assoc, length-append, arith}
 use Rattle.std.specs.Char.{is_whitespace}
-use Rattle.std.proofs.lemmas.Bool.{eqb-true, eqb-false, ne_eqb, eq-eqb, le-leb, false≢true}
+use Rattle.std.proofs.lemmas.Bool.{eqb-true, eqb-false, ne_eqb, eq-eqb, le-leb, false≢true, not-true}
 use Rattle.pg_meaning.specs.declared.lexemes.Keyword.{Keyword}
 use Rattle.pg_meaning.specs.declared.lexemes.Symbol.{Symbol}
 use Rattle.pg_meaning.specs.declared.lexemes.Symbol.TheVariants as s
 use Rattle.pg_meaning.specs.Tokens.{class, Class, letter, digit, backquote, quotation, dollar, other, Lexeme, word, keyword, quoted_name, integer, string, parameter, symbol, Front, Spells, Longest, MayFollow, Starts, All, IsWord, AreDigits, run, after, word_at, worded, keyword_of, continues_word, begins_word, is_digit, integer_at, is_empty, value_of, greatest_integer, utf8, doubled, named, made, quoted_from, string_from, outside, pieces_text, parameter_at, parameter_by, lexeme_by, lexeme_at, symbol_among, symbols, symbol_text, is_line_end, comment_from, closed, Next, gap, found, bad, next, next_slash, next_lexeme, Segment, blank, line_comment, block_comment, lexeme, segment_text, segments_text, Stands, AllStand}
 use Rattle.pg_lex.specs.Scans.{is_in_line, pair_front, with_rest}
 use Rattle.pg_lex.proofs.Pairs.{both}
-use Rattle.pg_lex.proofs.Whites.{white_no_word}
+use Rattle.pg_lex.proofs.Whites.{white_no_word, at_each}
 use Rattle.pg_lex.proofs.Runs.{run_is, after_is, all_more, longest_ends, starts_parts, utf8_digits}
 use Rattle.pg_lex.proofs.Classes.{kind, kind_of, class_letter, class_digit, digit_bounds, not_empty}
 use Rattle.pg_lex.proofs.Quotes.{quoted_complete, doubled_two, is_quote}
@@ -100,11 +100,11 @@ well c f more = (not (eqb c 48) || is_empty f) && not (Starts begins_word more) 
 all_well : (x y z : Bool) → x ≡ true → y ≡ false → z ≡ true → (x && not y && z) ≡ true
 all_well x y z p q r = rw (p, q, r) refl
 
+abbrev is_no_white : ℕ → Bool
+is_no_white c = not (is_whitespace c)
+
 digit_no_white : (c : ℕ) → is_digit c ≡ true → is_whitespace c ≡ false
-digit_no_white c h = word_like c (digit_bounds c h)
-  where
-    word_like : (c : ℕ) → (48 ≤ c) × (c ≤ 57) → is_whitespace c ≡ false
-    word_like c b = ?
+digit_no_white c h = let b = digit_bounds c h in not-true (is_whitespace c) (at_each is_no_white 48 10 c refl b.0 (omega (arith, b.1)))
 
 digit_no_slash : (c : ℕ) → is_digit c ≡ true → c ≡ 47 → ⊥
 digit_no_slash c h e = absurd (omega (arith, (digit_bounds c h).0))
@@ -134,16 +134,16 @@ lexeme_quote (string t) g rest h = let e : backquote ≡ quotation = kind (strin
 lexeme_quote (parameter q w) g rest h = let e : backquote ≡ dollar = kind (parameter q w) 96 g h in absurd cc
 lexeme_quote (symbol x) g rest h = let e : backquote ≡ other = kind (symbol x) 96 g h in absurd cc
 
+same_head : (c d : ℕ) (f g : List ℕ) → c ∷ f ≡ d ∷ g → c ≡ d
+same_head c d f g e = cc
+
 segment_quote : (x : Segment) (cs rest : List ℕ) → Stands x rest → segment_text x ++ rest ≡ 96 ∷ cs → NameNext (96 ∷ cs)
-segment_quote (blank b) cs rest h e =
-    let p : b ≡ 96 = cc in
-    let q : is_whitespace b ≡ false = ap is_whitespace p in
-    absurd (false≢true (sym q ∙ h))
-segment_quote (line_comment b) cs rest h e = absurd cc
-segment_quote (block_comment b) cs rest h e = absurd cc
+segment_quote (blank b) cs rest h e = absurd (false≢true (sym (ap is_whitespace (same_head b 96 rest cs e)) ∙ h))
+segment_quote (line_comment b) cs rest h e = absurd (eqb-false 47 96 refl (same_head 47 96 _ cs e))
+segment_quote (block_comment b) cs rest h e = absurd (eqb-false 47 96 refl (same_head 47 96 _ cs e))
 segment_quote (lexeme l []) cs rest h e = absurd (not_empty l h.0)
 segment_quote (lexeme l (d ∷ g)) cs rest h e =
-    let p : d ≡ 96 = cc in
+    let p : d ≡ 96 = same_head d 96 (g ++ rest) cs e in
     let here : Spells l (96 ∷ g) = subst (λ (x : ℕ). Spells l (x ∷ g)) p h.0 in
     let same : (96 ∷ g) ++ rest ≡ 96 ∷ cs = ap (λ (x : ℕ). x ∷ (g ++ rest)) (sym p) ∙ e in
     subst NameNext same (lexeme_quote l g rest here)
@@ -157,8 +157,9 @@ next_quote (x ∷ xs) c cs h e t =
 joined_names : (a b rest : List ℕ) → (a ++ 96 ∷ []) ++ ((96 ∷ (b ++ 96 ∷ [])) ++ rest) ≡ ((a ++ 96 ∷ 96 ∷ b) ++ 96 ∷ []) ++ rest
 joined_names a b rest = simp append_assoc
 
-two_names : (name : List ℕ) (n : NameNext []) → ⊥
-two_names name n = ?
+some_name : (a b : List ℕ) → a ++ 96 ∷ b ≢ []
+some_name [] b e = absurd cc
+some_name (x ∷ a) b e = absurd cc
 
 -- no backquote stands behind the longest name
 name_ends : (name : List ℕ) (xs : List Segment) → Longest (96 ∷ (doubled name ++ 96 ∷ [])) (segments_text xs) → AllStand xs → Starts is_quote (segments_text xs) ≡ false
@@ -233,7 +234,7 @@ digits_parameter (c ∷ f) more h longest =
 
 -- ---- symbols
 
-some : Symbol → Option Symbol
+abbrev some : Symbol → Option Symbol
 some x = Some x
 
 slash_comes : (more : List ℕ) → Starts (λ c. eqb c 47 || eqb c 42) more ≡ false → next 47 more ≡ found (symbol s.Slash) more

@@ -27,7 +27,7 @@ along c cs k l m n e h =
     let p = same_pair k l m n e in
     subst (λ (l : Lexeme). Spelled c cs l n) p.0 (subst (λ (r : List ℕ). Spelled c cs k r) p.1 h)
 
-worded_spells : (w : List ℕ) → IsWord w → Spells (worded (utf8 w) (keyword_of w)) w
+pub worded_spells : (w : List ℕ) → IsWord w → Spells (worded (utf8 w) (keyword_of w)) w
 worded_spells w h = at (keyword_of w) refl
   where
     at : (o : Option Keyword) → keyword_of w ≡ o → Spells (worded (utf8 w) o) w

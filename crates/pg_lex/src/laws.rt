@@ -3,14 +3,12 @@
 ghost use Rattle.pg_meaning.specs.Tokens.{LexesExactly, OneLexing};
 
 /// A text lexes to some tokens exactly where the function of the definitions finds them.
-#[tactic(auto, using(crate::proofs::Lexing::lexes_exactly))]
 pub fn law_lexes_exactly()
     ensures { LexesExactly }
 {
 }
 
 /// A text lexes in one way at most.
-#[tactic(auto, using(crate::proofs::Lexing::one_lexing))]
 pub fn law_one_lexing()
     ensures { OneLexing }
 {

@@ -14,6 +14,8 @@ mod strings;
 mod symbols;
 mod text;
 mod token;
+#[cfg(test)]
+mod tests;
 mod words;
 
 pub use laws::{law_lexes_exactly, law_one_lexing};

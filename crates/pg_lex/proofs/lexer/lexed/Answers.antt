@@ -38,7 +38,7 @@ loop-rest-preserved c =
     let v : IsUtf8 c.in-Found.more.now = search rules in
     let step = found_step c.args.text.now c.loop-rest.rest.now c.in-Found.more.now (lexeme_view c.in-Found.lexeme) (tokens_view c.loop-rest.found.items) _ c.loop-rest.invariant.0 v c.loop-rest.invariant.1 e c.loop-rest.invariant.2 in
     let le : length c.loop-rest.rest.now ≤ length c.args.text.now = c.loop-rest.invariant.1 in
-    (v, omega (arith, step.0, le), rw (c.in_ok-push.ensures.items, tokens_more) step.2)
+    (v, omega (arith, step.0, le), rw (c.in_ok-push-in-Found.ensures.items, tokens_more) step.2)
 
 pub returns-in-Bad : goal.returns-in-Bad
 returns-in-Bad c =

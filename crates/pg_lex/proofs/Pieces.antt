@@ -1,5 +1,5 @@
 -- A string in pieces, each of which stands for a character.
-use Rattle.std.proofs.Common.{◌≡◌, ◌≢◌, ℕ, suc, zero, ◌+◌, ◌*◌, ◌<◌, ◌≤◌, Bool, true, false, cond, eqb, List, [], ◌∷◌, ◌++◌, length, Option, Some, None, refl, sym, ap, ◌∙◌, append_assoc, length-append, arith}
+use Rattle.std.proofs.Common.{◌≡◌, ◌≢◌, ℕ, suc, zero, ◌+◌, ◌*◌, ◌<◌, ◌≤◌, Bool, true, false, cond, eqb, List, [], ◌∷◌, ◌++◌, length, Option, Some, None, refl, sym, ap, ◌∙◌, subst, append_assoc, length-append, arith}
 use Rattle.std.proofs.lemmas.Bool.{eqb-true, eqb-false, eq-eqb, ne_eqb}
 use Rattle.pg_meaning.specs.Tokens.{Front, string_from, outside, backslash, hexadecimal, put, hexadecimal_value, escape_of, is_surrogate, Piece, plain, escaped, coded, piece_text, pieces_text, StandsFor, AllStandFor}
 use Rattle.pg_lex.specs.Scans.{meant_front, escaped as escaped_front, coded_front, hexadecimal_front, with_rest, character_of, ◌>>=◌}
@@ -108,6 +108,9 @@ string_sound n q [] means more le e = absurd cc
 string_sound zero q (c ∷ cs) means more le e = absurd (omega arith)
 string_sound (suc n) q (c ∷ cs) means more le e = at (eqb c q) refl (λ rest ms small g. string_sound n q rest ms more small g)
   where
+    begun : Bool → Front (List ℕ)
+    begun t = elim t [ true ↦ Some ([], cs) | false ↦ elim (eqb c 92) as (λ _. Front (List ℕ)) [ true ↦ string_from q backslash cs | false ↦ put c (string_from q outside cs) ] ]
+
     after : (o : Front ℕ) → meant_front c cs ≡ o → (c ≡ q → ⊥) → next_part q o ≡ all means more → ((rest ms : List ℕ) → length rest ≤ n → string_from q outside rest ≡ all ms more → Content q rest ms more) → Content q (c ∷ cs) means more
     after None h other g others = absurd cc
     after (Some x) h other g others =
@@ -118,7 +121,7 @@ string_sound (suc n) q (c ∷ cs) means more le e = at (eqb c q) refl (λ rest m
       let stands : AllStandFor q (part.part ∷ rest.pieces) (x.0 ∷ p.0) = (part.stands, rest.stands) in
       record {
         pieces = part.part ∷ rest.pieces;
-        stands = rw p.2 at stands;
+        stands = subst (λ (r : List ℕ). AllStandFor q (part.part ∷ rest.pieces) r) p.2 stands;
         whole = part.whole ∙ ap (λ (r : List ℕ). piece_text part.part ++ r) rest.whole ∙ sym (append_assoc (piece_text part.part) (pieces_text rest.pieces) (q ∷ more));
       }
 
@@ -126,14 +129,11 @@ string_sound (suc n) q (c ∷ cs) means more le e = at (eqb c q) refl (λ rest m
     ends h g =
       let p = same_pair [] means cs more g in
       let none : AllStandFor q [] [] = tt in
-      record { pieces = []; stands = rw p.0 at none; whole = ap (λ (x : ℕ). x ∷ cs) (eqb-true c q h) ∙ ap (λ (r : List ℕ). q ∷ r) p.1 }
+      record { pieces = []; stands = subst (λ (r : List ℕ). AllStandFor q [] r) p.0 none; whole = ap (λ (x : ℕ). x ∷ cs) (eqb-true c q h) ∙ ap (λ (r : List ℕ). q ∷ r) p.1 }
 
     at : (x : Bool) → eqb c q ≡ x → ((rest ms : List ℕ) → length rest ≤ n → string_from q outside rest ≡ all ms more → Content q rest ms more) → Content q (c ∷ cs) means more
     at true h others = ends h (sym (ap (λ (t : Bool). begun t) h) ∙ e)
     at false h others = after (meant_front c cs) refl (eqb-false c q h) (sym (string_step q c cs h) ∙ e) others
-
-    begun : Bool → Front (List ℕ)
-    begun t = elim t [ true ↦ Some ([], cs) | false ↦ elim (eqb c 92) as (λ _. Front (List ℕ)) [ true ↦ string_from q backslash cs | false ↦ put c (string_from q outside cs) ] ]
 
 -- ---- pieces are read
 

@@ -27,7 +27,7 @@ along c cs k l m n e h =
     let p = same_pair k l m n e in
     subst (λ (l : Lexeme). Spelled c cs l n) p.0 (subst (λ (r : List ℕ). Spelled c cs k r) p.1 h)
 
-worded_spells : (w : List ℕ) → IsWord w → Spells (worded (utf8 w) (keyword_of w)) w
+pub worded_spells : (w : List ℕ) → IsWord w → Spells (worded (utf8 w) (keyword_of w)) w
 worded_spells w h = at (keyword_of w) refl
   where
     at : (o : Option Keyword) → keyword_of w ≡ o → Spells (worded (utf8 w) o) w
@@ -154,38 +154,38 @@ may_symbol : (x : Symbol) (more : List ℕ) → (x ≡ s.Slash → ⊥) → MayF
 may_symbol s.Slash more h = absurd (h refl)
 may_symbol _ more h = tt
 
+no_text : (x : Symbol) → symbol_text x ≡ [] → ⊥
+no_text s.TwoDots h = absurd cc
+no_text s.NotEqual h = absurd cc
+no_text s.LessOrEqual h = absurd cc
+no_text s.GreaterOrEqual h = absurd cc
+no_text s.PlusEqual h = absurd cc
+no_text s.OpenParenthesis h = absurd cc
+no_text s.CloseParenthesis h = absurd cc
+no_text s.OpenBracket h = absurd cc
+no_text s.CloseBracket h = absurd cc
+no_text s.OpenBrace h = absurd cc
+no_text s.CloseBrace h = absurd cc
+no_text s.Comma h = absurd cc
+no_text s.Dot h = absurd cc
+no_text s.Colon h = absurd cc
+no_text s.Semicolon h = absurd cc
+no_text s.Plus h = absurd cc
+no_text s.Minus h = absurd cc
+no_text s.Star h = absurd cc
+no_text s.Slash h = absurd cc
+no_text s.Percent h = absurd cc
+no_text s.Equal h = absurd cc
+no_text s.Less h = absurd cc
+no_text s.Greater h = absurd cc
+no_text s.Bar h = absurd cc
+
 symbol_cons : (x : Symbol) (c : ℕ) (cs more : List ℕ) → c ∷ cs ≡ symbol_text x ++ more → (front : List ℕ) × (symbol_text x ≡ c ∷ front) × (cs ≡ front ++ more)
 symbol_cons x c cs more e = at (symbol_text x) refl e
   where
     at : (t : List ℕ) → symbol_text x ≡ t → c ∷ cs ≡ t ++ more → (front : List ℕ) × (t ≡ c ∷ front) × (cs ≡ front ++ more)
     at [] h g = absurd (no_text x h)
     at (d ∷ t) h g = let p : c ≡ d = cc in let q : cs ≡ t ++ more = cc in (t, ap (λ (x : ℕ). x ∷ t) (sym p), q)
-
-    no_text : (x : Symbol) → symbol_text x ≡ [] → ⊥
-    no_text s.TwoDots h = absurd cc
-    no_text s.NotEqual h = absurd cc
-    no_text s.LessOrEqual h = absurd cc
-    no_text s.GreaterOrEqual h = absurd cc
-    no_text s.PlusEqual h = absurd cc
-    no_text s.OpenParenthesis h = absurd cc
-    no_text s.CloseParenthesis h = absurd cc
-    no_text s.OpenBracket h = absurd cc
-    no_text s.CloseBracket h = absurd cc
-    no_text s.OpenBrace h = absurd cc
-    no_text s.CloseBrace h = absurd cc
-    no_text s.Comma h = absurd cc
-    no_text s.Dot h = absurd cc
-    no_text s.Colon h = absurd cc
-    no_text s.Semicolon h = absurd cc
-    no_text s.Plus h = absurd cc
-    no_text s.Minus h = absurd cc
-    no_text s.Star h = absurd cc
-    no_text s.Slash h = absurd cc
-    no_text s.Percent h = absurd cc
-    no_text s.Equal h = absurd cc
-    no_text s.Less h = absurd cc
-    no_text s.Greater h = absurd cc
-    no_text s.Bar h = absurd cc
 
 symbol_spelled : (c : ℕ) (cs : List ℕ) (l : Lexeme) (more : List ℕ) → (c ≡ 47 → ⊥) → symbol_among symbols (c ∷ cs) ≡ found l more → Spelled c cs l more
 symbol_spelled c cs l more no_slash e =

@@ -117,9 +117,9 @@ unfolding predicate
 in_agrees whole ts vs us t x y e h f none =
     let seen : begins_test (t ∷ vs) ≡ true = in_begins t vs h in
     let go : many begins_test (one_test (sum whole)) [] (t ∷ vs) ≡ Some (in_test y ∷ [], us) =
-      many_turn begins_test (one_test (sum whole)) (length vs) [] (t ∷ vs) seen
-      ∙ then_is (one_test (sum whole) (t ∷ vs)) (λ f. many_from begins_test (one_test (sum whole)) (length vs) ([] ++ f ∷ [])) (in_test y) us (one_in (sum whole) t vs us y h f)
-      ∙ many_stop begins_test (one_test (sum whole)) (length vs) (in_test y ∷ []) us none in
+    many_turn begins_test (one_test (sum whole)) (length vs) [] (t ∷ vs) seen
+    ∙ then_is (one_test (sum whole) (t ∷ vs)) (λ f. many_from begins_test (one_test (sum whole)) (length vs) ([] ++ f ∷ [])) (in_test y) us (one_in (sum whole) t vs us y h f)
+    ∙ many_stop begins_test (one_test (sum whole)) (length vs) (in_test y ∷ []) us none in
     then_is (sum whole ts) (λ x. many begins_test (one_test (sum whole)) [] >>= λ fs. pure (tested x fs)) x (t ∷ vs) e
     ∙ then_is (many begins_test (one_test (sum whole)) [] (t ∷ vs)) (λ fs. pure (tested x fs)) (in_test y ∷ []) us go
 
@@ -138,9 +138,9 @@ equal_agrees whole ts vs us t x y e h f none =
     let seen = equal_begins t vs h in
     let linked : link 5 operand (t ∷ vs) ≡ Some ((op.Equal, y), us) = equal_link operand t vs h ∙ then_is (operand vs) (λ y. pure (op.Equal, y)) y us f in
     let go : many (begins_operator 5) (link 5 operand) [] (t ∷ vs) ≡ Some ((op.Equal, y) ∷ [], us) =
-      many_turn (begins_operator 5) (link 5 operand) (length vs) [] (t ∷ vs) seen
-      ∙ then_is (link 5 operand (t ∷ vs)) (λ p. many_from (begins_operator 5) (link 5 operand) (length vs) ([] ++ p ∷ [])) (op.Equal, y) us linked
-      ∙ many_stop (begins_operator 5) (link 5 operand) (length vs) ((op.Equal, y) ∷ []) us none in
+    many_turn (begins_operator 5) (link 5 operand) (length vs) [] (t ∷ vs) seen
+    ∙ then_is (link 5 operand (t ∷ vs)) (λ p. many_from (begins_operator 5) (link 5 operand) (length vs) ([] ++ p ∷ [])) (op.Equal, y) us linked
+    ∙ many_stop (begins_operator 5) (link 5 operand) (length vs) ((op.Equal, y) ∷ []) us none in
     then_is (operand ts) (λ x. many (begins_operator 5) (link 5 operand) [] >>= λ ps. pure (chained x ps)) x (t ∷ vs) e
     ∙ then_is (many (begins_operator 5) (link 5 operand) [] (t ∷ vs)) (λ ps. pure (chained x ps)) ((op.Equal, y) ∷ []) us go
 
@@ -149,8 +149,8 @@ lifted : (whole : Parser Expression) (ts us : List Token) (x : Expression) → c
 unfolding disjunction exclusion conjunction negation
 lifted whole ts us x e opening ends =
     let not_it : negation whole ts ≡ Some (x, us) =
-      then_is (many (sees_keyword k.Not) (keyword k.Not) [] ts) (λ ns. comparison whole >>= λ x. pure (negated ns x)) [] ts (many_stop (sees_keyword k.Not) (keyword k.Not) (length ts) [] ts opening.no_not)
-      ∙ then_is (comparison whole ts) (λ x. pure (negated [] x)) x us e in
+    then_is (many (sees_keyword k.Not) (keyword k.Not) [] ts) (λ ns. comparison whole >>= λ x. pure (negated ns x)) [] ts (many_stop (sees_keyword k.Not) (keyword k.Not) (length ts) [] ts opening.no_not)
+    ∙ then_is (comparison whole ts) (λ x. pure (negated [] x)) x us e in
     chain_agrees 1 (exclusion whole) ts us x (chain_agrees 2 (conjunction whole) ts us x (chain_agrees 3 (negation whole) ts us x not_it (ends.no_operator 3)) (ends.no_operator 2)) (ends.no_operator 1)
 
 compared : (whole : Parser Expression) (ts us : List Token) (x : Expression) → predicate whole ts ≡ Some (x, us) → Stops us → comparison whole ts ≡ Some (x, us)
@@ -168,11 +168,11 @@ module _ {A : Type 0} (p q : Parser A) (F : List Token → Type 0) (H : (ts us :
       elim (chosen (sees_symbol s.Comma ts) (and_then (comma_and p ts) (λ x. many_from (sees_symbol s.Comma) (comma_and p) n (found ++ x ∷ []))) (some found ts) (Some (all, us)) e) [
         | inr h ↦ let g = same_some found all ts us h.1 in (many_stop (sees_symbol s.Comma) (comma_and q) (suc n) found ts h.0 ∙ h.1, subst F (sym g.1) f)
         | inl h ↦
-          let b = bind_some (comma_and p ts) (λ x. many_from (sees_symbol s.Comma) (comma_and p) n (found ++ x ∷ [])) (all, us) h.1 in
-          let c = bind_some (symbol s.Comma ts) (λ _. p) (b.0, b.1) b.2 in
-          let more = row_agrees n (found ++ b.0 ∷ []) b.1 us all b.3 f in
-          let one : comma_and q ts ≡ Some (b.0, b.1) = then_is (symbol s.Comma ts) (λ _. q) c.0 c.1 c.2 ∙ H c.1 b.1 b.0 c.3 more.1 in
-          (many_turn (sees_symbol s.Comma) (comma_and q) n found ts h.0 ∙ then_is (comma_and q ts) (λ x. many_from (sees_symbol s.Comma) (comma_and q) n (found ++ x ∷ [])) b.0 b.1 one ∙ more.0, C ts h.0)
+            let b = bind_some (comma_and p ts) (λ x. many_from (sees_symbol s.Comma) (comma_and p) n (found ++ x ∷ [])) (all, us) h.1 in
+            let c = bind_some (symbol s.Comma ts) (λ _. p) (b.0, b.1) b.2 in
+            let more = row_agrees n (found ++ b.0 ∷ []) b.1 us all b.3 f in
+            let one : comma_and q ts ≡ Some (b.0, b.1) = then_is (symbol s.Comma ts) (λ _. q) c.0 c.1 c.2 ∙ H c.1 b.1 b.0 c.3 more.1 in
+            (many_turn (sees_symbol s.Comma) (comma_and q) n found ts h.0 ∙ then_is (comma_and q ts) (λ x. many_from (sees_symbol s.Comma) (comma_and q) n (found ++ x ∷ [])) b.0 b.1 one ∙ more.0, C ts h.0)
       ]
 
   pub separated_agrees : (ts us : List Token) (xs : List A) → separated p ts ≡ Some (xs, us) → F us → separated q ts ≡ Some (xs, us)
@@ -263,11 +263,11 @@ module _ (whole plainly : Parser Expression) (H : (ts us : List Token) (x : Expr
     where
       by : (v : Option Value) → literal_by t.lexeme ≡ v → (b : Bool) → is_symbol s.OpenBracket t.lexeme ≡ b → literal_or v (list_if plainly b) ts ≡ Some (x, us) → (parse.atom whole (t ∷ ts) ≡ Some (x, us)) × Opening (t ∷ ts)
       by (Some v) is b opens e =
-        let l = literal_agrees whole t.start t.lexeme v ts is in
-        (atom_from t ts us x (l.0 ∙ e, l.1), opened t ts (literal_opens t.lexeme v is))
+          let l = literal_agrees whole t.start t.lexeme v ts is in
+          (atom_from t ts us x (l.0 ∙ e, l.1), opened t ts (literal_opens t.lexeme v is))
       by None is true opens e =
-        let l = is_symbol_is s.OpenBracket t.lexeme opens in
-        (atom_from t ts us x (bracket_agrees t.start t.lexeme l ts us x e), opened t ts (bracket_opens t.lexeme l))
+          let l = is_symbol_is s.OpenBracket t.lexeme opens in
+          (atom_from t ts us x (bracket_agrees t.start t.lexeme l ts us x e), opened t ts (bracket_opens t.lexeme l))
       by None is false opens e = absurd cc
 
   -- behind an atom, before `=` or IN
@@ -313,10 +313,10 @@ module _ (whole plainly : Parser Expression) (H : (ts us : List Token) (x : Expr
         | inr h ↦ elim (chosen (sees_keyword k.In vs) _ _ (Some (a, us)) h.1) [
           | inl i ↦ in_case ts vs us x a read i.1 ends
           | inr i ↦
-            let last = same_some x a vs us i.1 in
-            let stop : Stops vs = subst Stops (sym last.1) ends in
-            let one = atom_agrees ts vs x read in
-            compared whole ts vs x (alone_agrees whole ts vs x (sum_agrees whole ts vs x one.0 one.1 (stops_sum vs stop)) stop.no_test) stop ∙ i.1
+              let last = same_some x a vs us i.1 in
+              let stop : Stops vs = subst Stops (sym last.1) ends in
+              let one = atom_agrees ts vs x read in
+              compared whole ts vs x (alone_agrees whole ts vs x (sum_agrees whole ts vs x one.0 one.1 (stops_sum vs stop)) stop.no_test) stop ∙ i.1
         ]
       ]
 

@@ -53,11 +53,13 @@ item_agrees text n ts us x e ends =
     let stop : Stops c.1 = alias_stops c.1 d.1 d.0 d.2 (subst Stops (sym done_at.1) ends) in
     let one = expression_agrees n ts b.1 b.0 b.2 (subst Stops (sym w.1) stop) in
     let source : slice_range text (start_of ts) (finish_between ts b.1) ≡ c.0 = cut_whole text c.0 (start_of ts) (finish_between ts b.1) w.0 in
-    let aliased : may_alias b.1 ≡ Some (d.0, d.1) = ap may_alias w.1 ∙ d.2 in
-    (then_is (expr n ts) (behind text ts) b.0 b.1 one.0
-      ∙ then_is (may_alias b.1) (λ a. pure (made text ts b.0 b.1 a)) d.0 d.1 aliased
-      ∙ ap (λ (bytes : List ℕ). some (item_with (start_of ts) bytes b.0 d.0) d.1) source
-      ∙ d.3, one.1)
+    let aliased : may_alias b.1 ≡ Some (d.0, d.1) = ap may_alias w.1 ∙ d.2 in (
+      then_is (expr n ts) (behind text ts) b.0 b.1 one.0
+          ∙ then_is (may_alias b.1) (λ a. pure (made text ts b.0 b.1 a)) d.0 d.1 aliased
+          ∙ ap (λ (bytes : List ℕ). some (item_with (start_of ts) bytes b.0 d.0) d.1) source
+          ∙ d.3,
+      one.1,
+    )
 
 comma_follows : (ts : List Token) → sees_symbol s.Comma ts ≡ true → Stops ts
 comma_follows ts e = let i = symbol_is s.Comma ts e in subst Stops (sym i.1) (comma_stops i.0 (rest ts) i.2)
@@ -86,11 +88,11 @@ module _ (whole : Parser Expression) (item : Parser Item) where
   tail_is : (at : ℕ) (us : List Token) (xs : List Item) → Finishes us → tail false at false xs us ≡ Some (plain_projection xs, us)
   tail_is at us xs f =
       ap (λ (b : Bool). and_then (pick b ((keyword k.Order >> (keyword k.By >> separated (parse.sort_item whole))) us) (some [] us)) (λ os. maybe (sees_keyword k.Skip) (keyword k.Skip >> whole) >>= λ m. maybe (sees_keyword k.Limit) (keyword k.Limit >> whole) >>= λ n.
-        pure (record { distinct = false; star = None; items = xs; order = os; skip = m; limit = n }))) f.no_order
+      pure (record { distinct = false; star = None; items = xs; order = os; skip = m; limit = n }))) f.no_order
       ∙ ap (λ (b : Bool). and_then (pick b ((Some <$> (keyword k.Skip >> whole)) us) (some None us)) (λ m. maybe (sees_keyword k.Limit) (keyword k.Limit >> whole) >>= λ n.
-        pure (record { distinct = false; star = None; items = xs; order = []; skip = m; limit = n }))) f.no_skip
+      pure (record { distinct = false; star = None; items = xs; order = []; skip = m; limit = n }))) f.no_skip
       ∙ ap (λ (b : Bool). and_then (pick b ((Some <$> (keyword k.Limit >> whole)) us) (some None us)) (λ n.
-        pure (record { distinct = false; star = None; items = xs; order = []; skip = None; limit = n }))) f.no_limit
+      pure (record { distinct = false; star = None; items = xs; order = []; skip = None; limit = n }))) f.no_limit
 
   abbrev starred : Bool → Parser (List Item)
   starred has_star = elim has_star [ true ↦ many (sees_symbol s.Comma) (parse.comma_and item) [] | false ↦ separated item ]
@@ -156,19 +158,19 @@ query_agrees text n m ts us q e =
     let f = ends_are b.0 b.1 us q b.3 in
     let opening = first_opens a.1 b.1 b.0 b.2 f.stops in
     let items : separated (return_item text (expr n)) a.1 ≡ Some (b.0, b.1) =
-      separated_agrees (plain.item text (expression n)) (return_item text (expr n)) Stops (λ ts us x e ends. (item_agrees text n ts us x e ends).0) comma_follows a.1 b.1 b.0 b.2 f.stops in
+    separated_agrees (plain.item text (expression n)) (return_item text (expr n)) Stops (λ ts us x e ends. (item_agrees text n ts us x e ends).0) comma_follows a.1 b.1 b.0 b.2 f.stops in
     let p : projection (expr n) (return_item text (expr n)) a.1 ≡ Some (plain_projection b.0, b.1) = projection_is (expr n) (return_item text (expr n)) a.1 b.1 b.0 items opening.no_distinct opening.no_star f in
     let clause : return_clause text (expr n) (t.0 ∷ a.1) ≡ Some (tree.return_rows (plain_projection b.0), b.1) =
-      then_is (keyword k.Return (t.0 ∷ a.1)) (λ _. projection (expr n) (return_item text (expr n)) >>= λ p. pure (tree.return_rows p)) tt a.1 (keyword_again k.Return t.0 a.1 t.2)
-      ∙ then_is (projection (expr n) (return_item text (expr n)) a.1) (λ p. pure (tree.return_rows p)) (plain_projection b.0) b.1 p in
+    then_is (keyword k.Return (t.0 ∷ a.1)) (λ _. projection (expr n) (return_item text (expr n)) >>= λ p. pure (tree.return_rows p)) tt a.1 (keyword_again k.Return t.0 a.1 t.2)
+    ∙ then_is (projection (expr n) (return_item text (expr n)) a.1) (λ p. pure (tree.return_rows p)) (plain_projection b.0) b.1 p in
     let all : parts text (expr n) (suc m) ts ≡ Some (tree.return_rows (plain_projection b.0) ∷ [], b.1) = ap (parts text (expr n) (suc m)) t.1 ∙ parts_are text (expr n) m t.0 a.1 b.1 _ t.2 clause in
     then_is (parts text (expr n) (suc m) ts) closed (tree.return_rows (plain_projection b.0) ∷ []) b.1 all ∙ b.3
   where
     -- the first item begins as an atom does
     first_opens : (ts us : List Token) (xs : List Item) → separated (plain.item text (expression n)) ts ≡ Some (xs, us) → Stops us → Opening ts
     first_opens ts us xs e ends =
-      let one = first_agrees (plain.item text (expression n)) (return_item text (expr n)) Stops (λ ts us x e ends. (item_agrees text n ts us x e ends).0) comma_follows ts us xs e ends in
-      (item_agrees text n ts one.1 one.0 one.2 one.3).1
+        let one = first_agrees (plain.item text (expression n)) (return_item text (expr n)) Stops (λ ts us x e ends. (item_agrees text n ts us x e ends).0) comma_follows ts us xs e ends in
+        (item_agrees text n ts one.1 one.0 one.2 one.3).1
 
 nothing_read : (text : List ℕ) (p : Parser Expression) → plain.query text p [] ≡ None
 unfolding plain.query keyword

@@ -54,8 +54,8 @@ module _ (text : List ℕ) (ts : List Token) where
       elim a [
         | inl h ↦ absurd cc
         | inr h ↦
-          let none = bad_of (is_too_deep ts) (plain_query_of text ts) (h ∙ ap (λ (e : Fault). Err e) is) in
-          let some = plain_complete text ts q lexes reads plain in absurd cc
+            let none = bad_of (is_too_deep ts) (plain_query_of text ts) (h ∙ ap (λ (e : Fault). Err e) is) in
+            let some = plain_complete text ts q lexes reads plain in absurd cc
       ]
 
   pub is_deep : (r : Result Query Fault) → Answers query_view (plain_parse text ts) r → (is_too_deep ts ≡ true → r ≡ Err TooDeep) → IsErrOf r TooDeep ↔ (is_too_deep ts ≡ true)
@@ -64,11 +64,11 @@ module _ (text : List ℕ) (ts : List Token) where
       by : (r : Result Query Fault) → Answers query_view (plain_parse text ts) r → IsErrOf r TooDeep → is_too_deep ts ≡ true
       by (Ok q) a h = let no : Ok q ≡ Err TooDeep = h in absurd cc
       by (Err e) a h =
-        let is : e ≡ TooDeep = cc in
-        elim a [
-          | inl g ↦ absurd cc
-          | inr g ↦ deep_of (is_too_deep ts) (plain_query_of text ts) (g ∙ ap (λ (e : Fault). Err e) is)
-        ]
+          let is : e ≡ TooDeep = cc in
+          elim a [
+            | inl g ↦ absurd cc
+            | inr g ↦ deep_of (is_too_deep ts) (plain_query_of text ts) (g ∙ ap (λ (e : Fault). Err e) is)
+          ]
 
   pub is_fault : (r : Result Query Fault) → Answers query_view (plain_parse text ts) r → IfErr r (λ e. (e ≡ TooDeep) ⊎ ((e ≡ BadSyntax) ⊎ (e ≡ OutOfMemory)))
   is_fault (Ok q) a = tt

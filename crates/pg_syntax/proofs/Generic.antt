@@ -62,12 +62,15 @@ many_sound begins piece S sound (suc n) found ts all more e =
     elim (chosen (begins ts) (and_then (piece ts) (λ x. many_from begins piece n (found ++ x ∷ []))) (Some (found, ts)) (Some (all, more)) e) [
       | inr h ↦ let g = same_some found all ts more h.1 in ([], [], sym (g.0) ∙ sym (append-nil found), g.1, refl)
       | inl h ↦
-        let b = bind_some (piece ts) (λ x. many_from begins piece n (found ++ x ∷ [])) (all, more) h.1 in
-        let one = sound ts b.0 b.1 b.2 in
-        let others = many_sound begins piece S sound n (found ++ b.0 ∷ []) b.1 all more b.3 in
-        (b.0 ∷ others.0, one.0 ++ others.1, others.2 ∙ append_assoc found (b.0 ∷ []) others.0,
-         one.1 ∙ ap (λ (t : List Token). one.0 ++ t) others.3 ∙ sym (append_assoc one.0 others.1 more),
-         (one.0, others.1, refl, one.2, others.4))
+          let b = bind_some (piece ts) (λ x. many_from begins piece n (found ++ x ∷ [])) (all, more) h.1 in
+          let one = sound ts b.0 b.1 b.2 in
+          let others = many_sound begins piece S sound n (found ++ b.0 ∷ []) b.1 all more b.3 in (
+            b.0 ∷ others.0,
+            one.0 ++ others.1,
+            others.2 ∙ append_assoc found (b.0 ∷ []) others.0,
+            one.1 ∙ ap (λ (t : List Token). one.0 ++ t) others.3 ∙ sym (append_assoc one.0 others.1 more),
+            (one.0, others.1, refl, one.2, others.4),
+          )
     ]
 
 -- What pieces need to be read in a row: each begins so, takes a token, and may be followed by the next or by what ends the row.

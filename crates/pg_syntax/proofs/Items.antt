@@ -87,18 +87,20 @@ alias_sound : Sound may_alias (λ a front. Fit front (optional_marks alias_marks
 alias_sound ts a more e =
     elim (chosen (sees_keyword k.As ts) ((Some <$> alias) ts) (some None ts) (Some (a, more)) e) [
       | inl h ↦
-        let b = bind_some (alias ts) (λ n. pure (Some n)) (a, more) h.1 in
-        let c = bind_some (parse.keyword k.As ts) (λ _. parse.var) (b.0, b.1) b.2 in
-        let named : Option Name = Some b.0 in
-        let last = same_some named a b.1 more b.3 in
-        let i = keyword_takes k.As ts c.1 c.0 c.2 in
-        let n = var_takes c.1 b.1 b.0 c.3 in
-        (i.0 ∷ n.0 ∷ [], i.1 ∙ ap (λ (r : List Token). i.0 ∷ r) (n.1 ∙ ap (λ (r : List Token). n.0 ∷ r) last.1),
-         subst (λ (y : Option Name). Fit (i.0 ∷ n.0 ∷ []) (optional_marks alias_marks y)) last.0 (i.2, (n.2, tt)))
+          let b = bind_some (alias ts) (λ n. pure (Some n)) (a, more) h.1 in
+          let c = bind_some (parse.keyword k.As ts) (λ _. parse.var) (b.0, b.1) b.2 in
+          let named : Option Name = Some b.0 in
+          let last = same_some named a b.1 more b.3 in
+          let i = keyword_takes k.As ts c.1 c.0 c.2 in
+          let n = var_takes c.1 b.1 b.0 c.3 in (
+            i.0 ∷ n.0 ∷ [],
+            i.1 ∙ ap (λ (r : List Token). i.0 ∷ r) (n.1 ∙ ap (λ (r : List Token). n.0 ∷ r) last.1),
+            subst (λ (y : Option Name). Fit (i.0 ∷ n.0 ∷ []) (optional_marks alias_marks y)) last.0 (i.2, (n.2, tt)),
+          )
       | inr h ↦
-        let nothing : Option Name = None in
-        let last = same_some nothing a ts more h.1 in
-        ([], last.1, subst (λ (y : Option Name). Fit [] (optional_marks alias_marks y)) last.0 tt)
+          let nothing : Option Name = None in
+          let last = same_some nothing a ts more h.1 in
+          ([], last.1, subst (λ (y : Option Name). Fit [] (optional_marks alias_marks y)) last.0 tt)
     ]
 
 alias_complete : (a : Option Name) (front more : List Token) → Fit front (optional_marks alias_marks a) → sees_keyword k.As more ≡ false → may_alias (front ++ more) ≡ Some (a, more)
@@ -148,9 +150,11 @@ item_sound text n ts a more e =
     let one = (expression_exact n).sound ts b.0 b.1 b.2 in
     let two = alias_sound c.1 d.0 d.1 d.2 in
     let cut_at : cut text (start_of (one.0 ++ b.1)) (finish_between (one.0 ++ b.1) b.1) ≡ Some c.0 = subst (λ (l : List Token). cut text (start_of l) (finish_between l b.1) ≡ Some c.0) one.1 w.0 in
-    let made = made_fits text c.0 b.0 d.0 one.0 two.0 b.1 one.2.plain one.2.fits two.2 cut_at in
-    (one.0 ++ two.0, one.1 ∙ ap (λ (r : List Token). one.0 ++ r) (w.1 ∙ two.1 ∙ ap (λ (r : List Token). two.0 ++ r) last.1) ∙ sym (append_assoc one.0 two.0 more),
-     subst (λ (y : Item). ItemSpelled text y (one.0 ++ two.0)) (ap (λ (old : List Token). item_with (start_of old) c.0 b.0 d.0) (sym one.1) ∙ last.0) made)
+    let made = made_fits text c.0 b.0 d.0 one.0 two.0 b.1 one.2.plain one.2.fits two.2 cut_at in (
+      one.0 ++ two.0,
+      one.1 ∙ ap (λ (r : List Token). one.0 ++ r) (w.1 ∙ two.1 ∙ ap (λ (r : List Token). two.0 ++ r) last.1) ∙ sym (append_assoc one.0 two.0 more),
+      subst (λ (y : Item). ItemSpelled text y (one.0 ++ two.0)) (ap (λ (old : List Token). item_with (start_of old) c.0 b.0 d.0) (sym one.1) ∙ last.0) made,
+    )
 
 alias_ends : (a : Option Name) (g more : List Token) → Fit g (optional_marks alias_marks a) → ItemEnds more → Ends (g ++ more)
 unfolding parse.same_keyword
@@ -168,15 +172,15 @@ item_complete text n utf8 a front more h ends less =
     by : (f g : List Token) → front ≡ f ++ g → Fit f (begun a.start (ended (a.start + length a.source) (marks a.value))) → Fit g (optional_marks alias_marks a.alias) → item text (expression n) (front ++ more) ≡ Some (a, more)
     by [] g e p q = absurd (no_marks a.value a.start (a.start + length a.source) h.spelled.plain p)
     by (t ∷ f) g e p q =
-      let b = begun_is a.start t f (ended (a.start + length a.source) (marks a.value)) p in
-      let l = ended_is (a.start + length a.source) t f (marks a.value) b.0 in
-      let there : front ++ more ≡ (t ∷ f) ++ (g ++ more) = ap (λ (r : List Token). r ++ more) e ∙ append_assoc (t ∷ f) g more in
-      let one : expression n ((t ∷ f) ++ (g ++ more)) ≡ Some (a.value, g ++ more) =
+        let b = begun_is a.start t f (ended (a.start + length a.source) (marks a.value)) p in
+        let l = ended_is (a.start + length a.source) t f (marks a.value) b.0 in
+        let there : front ++ more ≡ (t ∷ f) ++ (g ++ more) = ap (λ (r : List Token). r ++ more) e ∙ append_assoc (t ∷ f) g more in
+        let one : expression n ((t ∷ f) ++ (g ++ more)) ≡ Some (a.value, g ++ more) =
         (expression_exact n).complete a.value (t ∷ f) (g ++ more) (record { plain = h.spelled.plain; fits = l.0 }) (alias_ends a.alias g more q ends) (omega (arith, ap length there)) in
-      let two : may_alias (g ++ more) ≡ Some (a.alias, more) = alias_complete a.alias g more q ends.1 in
-      let finish : finish_between (t ∷ f ++ (g ++ more)) (g ++ more) ≡ a.start + length a.source = between_is t f (g ++ more) ∙ l.1 in
-      let tokens : EachToken (Placed text) (t ∷ f) = each_front (Placed text) (t ∷ f) g (subst (EachToken (Placed text)) e h.tokens) in
-      let u = last_placed text t f tokens in
-      let cut_at : cut text t.start (finish_between (t ∷ f ++ (g ++ more)) (g ++ more)) ≡ Some a.source =
+        let two : may_alias (g ++ more) ≡ Some (a.alias, more) = alias_complete a.alias g more q ends.1 in
+        let finish : finish_between (t ∷ f ++ (g ++ more)) (g ++ more) ≡ a.start + length a.source = between_is t f (g ++ more) ∙ l.1 in
+        let tokens : EachToken (Placed text) (t ∷ f) = each_front (Placed text) (t ∷ f) g (subst (EachToken (Placed text)) e h.tokens) in
+        let u = last_placed text t f tokens in
+        let cut_at : cut text t.start (finish_between (t ∷ f ++ (g ++ more)) (g ++ more)) ≡ Some a.source =
         rw (finish, b.1, cut_complete text a.start (a.start + length a.source) utf8 (rw (← b.1) tokens.0.start) (rw (← l.1, ← u.1) u.2.finish) (omega arith)) (ap Some (sym h.spelled.source)) in
-      rw (there, one, cut_at, two, b.1) refl
+        rw (there, one, cut_at, two, b.1) refl

@@ -140,9 +140,11 @@ module _ (limit : ℕ) (whole : Parser Expression) (exact : Exact limit whole) w
       let one = separated_sound Spelled whole exact.sound ts b.0 b.1 b.2 in
       let two = symbol_takes s.CloseBracket b.1 c.1 c.0 c.2 in
       let made = listed_made Spelled IsPlainExpression marks spelled_out b.0 one.0 one.2 in
-      let closed : Closed b.0 (one.0 ++ two.0 ∷ []) = record { all = made.1; fits = fit_append one.0 (two.0 ∷ []) (commas (map marks b.0)) (sign s.CloseBracket ∷ []) made.2 (two.2, tt) } in
-      (one.0 ++ two.0 ∷ [], one.1 ∙ ap (λ (r : List Token). one.0 ++ r) (two.1 ∙ ap (λ (r : List Token). two.0 ∷ r) last.1) ∙ sym (append_assoc one.0 (two.0 ∷ []) more),
-       subst (λ (l : List Expression). Closed l (one.0 ++ two.0 ∷ [])) last.0 closed)
+      let closed : Closed b.0 (one.0 ++ two.0 ∷ []) = record { all = made.1; fits = fit_append one.0 (two.0 ∷ []) (commas (map marks b.0)) (sign s.CloseBracket ∷ []) made.2 (two.2, tt) } in (
+        one.0 ++ two.0 ∷ [],
+        one.1 ∙ ap (λ (r : List Token). one.0 ++ r) (two.1 ∙ ap (λ (r : List Token). two.0 ∷ r) last.1) ∙ sym (append_assoc one.0 (two.0 ∷ []) more),
+        subst (λ (l : List Expression). Closed l (one.0 ++ two.0 ∷ [])) last.0 closed,
+      )
 
   pub listed_sound : Sound (listed s.CloseBracket whole) Closed
   unfolding listed
@@ -150,10 +152,10 @@ module _ (limit : ℕ) (whole : Parser Expression) (exact : Exact limit whole) w
       let b = bind_some (parse.eat_symbol s.CloseBracket ts) by_empty (a, more) e in
       elim (eat_takes s.CloseBracket ts b.1 b.0 b.2) [
         | inl h ↦
-          let nil : List Expression = [] in
-          let last = same_some nil a b.1 more (subst (λ (y : Bool). by_empty y b.1 ≡ Some (a, more)) h.0 b.3) in
-          let closed : Closed nil (h.1 ∷ []) = record { all = tt; fits = (h.3, tt) } in
-          (h.1 ∷ [], h.2 ∙ ap (λ (r : List Token). h.1 ∷ r) last.1, subst (λ (l : List Expression). Closed l (h.1 ∷ [])) last.0 closed)
+            let nil : List Expression = [] in
+            let last = same_some nil a b.1 more (subst (λ (y : Bool). by_empty y b.1 ≡ Some (a, more)) h.0 b.3) in
+            let closed : Closed nil (h.1 ∷ []) = record { all = tt; fits = (h.3, tt) } in
+            (h.1 ∷ [], h.2 ∙ ap (λ (r : List Token). h.1 ∷ r) last.1, subst (λ (l : List Expression). Closed l (h.1 ∷ [])) last.0 closed)
         | inr h ↦ behind_sound ts a more (subst (λ (l : List Token). behind l ≡ Some (a, more)) (sym h.1) (subst (λ (y : Bool). by_empty y b.1 ≡ Some (a, more)) h.0 b.3))
       ]
 
@@ -170,14 +172,14 @@ module _ (limit : ℕ) (whole : Parser Expression) (exact : Exact limit whole) w
       by f [] e p q = absurd q
       by f (t ∷ u ∷ g) e p q = absurd q.1
       by f (t ∷ []) e p q =
-        let l : Listed Spelled (x ∷ xs) f = listed_of AnyToken Spelled IsPlainExpression marks spelled_in (x ∷ xs) f (any_tokens f) tt c.all p in
-        let there : front ++ more ≡ f ++ (t ∷ more) = ap (λ (r : List Token). r ++ more) e ∙ append_assoc f (t ∷ []) more in
-        let one : separated whole (f ++ (t ∷ more)) ≡ Some (x ∷ xs, t ∷ more) =
+          let l : Listed Spelled (x ∷ xs) f = listed_of AnyToken Spelled IsPlainExpression marks spelled_in (x ∷ xs) f (any_tokens f) tt c.all p in
+          let there : front ++ more ≡ f ++ (t ∷ more) = ap (λ (r : List Token). r ++ more) e ∙ append_assoc f (t ∷ []) more in
+          let one : separated whole (f ++ (t ∷ more)) ≡ Some (x ∷ xs, t ∷ more) =
           separated_complete limit Spelled Ends whole comma_ends exact.complete (x ∷ xs) f (t ∷ more) l (bracket_ends t more q.0) (omega (arith, ap length there)) in
-        let parts = fit_split f (marks x) (further (map marks xs)) p in
-        let opens = front_opens f parts.0 parts.1 parts.2 (opens_none x parts.0 c.all.0 parts.3) in
-        let open_at : sees_symbol s.CloseBracket (f ++ (t ∷ more)) ≡ false = rw opens.2 (opens.3 (opens.1 ++ (t ∷ more))) in
-        rw (there, eat_no s.CloseBracket (f ++ (t ∷ more)) open_at, one, symbol_again s.CloseBracket t more q.0) refl
+          let parts = fit_split f (marks x) (further (map marks xs)) p in
+          let opens = front_opens f parts.0 parts.1 parts.2 (opens_none x parts.0 c.all.0 parts.3) in
+          let open_at : sees_symbol s.CloseBracket (f ++ (t ∷ more)) ≡ false = rw opens.2 (opens.3 (opens.1 ++ (t ∷ more))) in
+          rw (there, eat_no s.CloseBracket (f ++ (t ∷ more)) open_at, one, symbol_again s.CloseBracket t more q.0) refl
 
   -- ---- atoms
 
@@ -229,7 +231,7 @@ module _ (limit : ℕ) (whole : Parser Expression) (exact : Exact limit whole) w
   atom_complete (tree.list_literal xs) [] more is plain fits less = absurd fits
   atom_complete (tree.list_literal xs) (t ∷ front) more is plain fits less =
       let marked : commas (list_marks xs) ++ sign s.CloseBracket ∷ [] ≡ commas (map marks (items_of xs)) ++ sign s.CloseBracket ∷ [] =
-        ap (λ (ms : List (List Mark)). commas ms ++ sign s.CloseBracket ∷ []) (ap list_marks (sym (items_again xs)) ∙ list_marks-of (items_of xs)) in
+      ap (λ (ms : List (List Mark)). commas ms ++ sign s.CloseBracket ∷ []) (ap list_marks (sym (items_again xs)) ∙ list_marks-of (items_of xs)) in
       let closed : Closed (items_of xs) front = record { all = each_plain xs plain; fits = rw (← marked) fits.1 } in
       let one : listed s.CloseBracket whole (front ++ more) ≡ Some (items_of xs, more) = listed_complete (items_of xs) front more closed (omega arith) in
       rw (fits.0.spelled, one) (ap (λ (ys : Expressions). some (tree.list_literal ys) more) (items_again xs))
@@ -248,9 +250,11 @@ module _ (limit : ℕ) (whole : Parser Expression) (exact : Exact limit whole) w
       let two = atom_sound b.1 c.0 c.1 c.2 in
       let fits : Fit (f ++ (sign_at.0 ∷ two.0)) (marks (equal_to x c.0)) = fit_append f (sign_at.0 ∷ two.0) (marks x) _ one.fits (sign_at.2, rw (append-nil (marks c.0)) two.2.fits) in
       let made : Spelled (equal_to x c.0) (f ++ (sign_at.0 ∷ two.0)) = record { plain = (one.is_atom, one.plain, two.2.is_atom, two.2.plain); fits = fits } in
-      let all : ts ≡ (sign_at.0 ∷ two.0) ++ more = sign_at.1 ∙ ap (λ (r : List Token). sign_at.0 ∷ r) (two.1 ∙ ap (λ (r : List Token). two.0 ++ r) last.1) in
-      (f ++ (sign_at.0 ∷ two.0), ap (λ (r : List Token). f ++ r) all ∙ sym (append_assoc f (sign_at.0 ∷ two.0) more),
-       subst (λ (y : Expression). Spelled y (f ++ (sign_at.0 ∷ two.0))) last.0 made)
+      let all : ts ≡ (sign_at.0 ∷ two.0) ++ more = sign_at.1 ∙ ap (λ (r : List Token). sign_at.0 ∷ r) (two.1 ∙ ap (λ (r : List Token). two.0 ++ r) last.1) in (
+        f ++ (sign_at.0 ∷ two.0),
+        ap (λ (r : List Token). f ++ r) all ∙ sym (append_assoc f (sign_at.0 ∷ two.0) more),
+        subst (λ (y : Expression). Spelled y (f ++ (sign_at.0 ∷ two.0))) last.0 made,
+      )
 
   within_sound : (ts : List Token) (x a : Expression) (f more : List Token) → AtomSpelled x f → sees_keyword k.In ts ≡ true
       → (parse.keyword k.In >> (atom whole >>= λ y. pure (within x y))) ts ≡ Some (a, more) → (front : List Token) × (f ++ ts ≡ front ++ more) × Spelled a front
@@ -262,9 +266,11 @@ module _ (limit : ℕ) (whole : Parser Expression) (exact : Exact limit whole) w
       let two = atom_sound b.1 c.0 c.1 c.2 in
       let fits : Fit (f ++ (key_at.0 ∷ two.0)) (marks (within x c.0)) = fit_append f (key_at.0 ∷ two.0) (marks x) _ one.fits (key_at.2, rw (append-nil (marks c.0)) two.2.fits) in
       let made : Spelled (within x c.0) (f ++ (key_at.0 ∷ two.0)) = record { plain = (one.is_atom, one.plain, two.2.is_atom, two.2.plain); fits = fits } in
-      let all : ts ≡ (key_at.0 ∷ two.0) ++ more = key_at.1 ∙ ap (λ (r : List Token). key_at.0 ∷ r) (two.1 ∙ ap (λ (r : List Token). two.0 ++ r) last.1) in
-      (f ++ (key_at.0 ∷ two.0), ap (λ (r : List Token). f ++ r) all ∙ sym (append_assoc f (key_at.0 ∷ two.0) more),
-       subst (λ (y : Expression). Spelled y (f ++ (key_at.0 ∷ two.0))) last.0 made)
+      let all : ts ≡ (key_at.0 ∷ two.0) ++ more = key_at.1 ∙ ap (λ (r : List Token). key_at.0 ∷ r) (two.1 ∙ ap (λ (r : List Token). two.0 ++ r) last.1) in (
+        f ++ (key_at.0 ∷ two.0),
+        ap (λ (r : List Token). f ++ r) all ∙ sym (append_assoc f (key_at.0 ∷ two.0) more),
+        subst (λ (y : Expression). Spelled y (f ++ (key_at.0 ∷ two.0))) last.0 made,
+      )
 
   from_sound : (ts : List Token) (x a : Expression) (f more : List Token) → AtomSpelled x f → operation_from whole x ts ≡ Some (a, more) → (front : List Token) × (f ++ ts ≡ front ++ more) × Spelled a front
   unfolding operation_from
@@ -274,9 +280,9 @@ module _ (limit : ℕ) (whole : Parser Expression) (exact : Exact limit whole) w
         | inr h ↦ elim (chosen (sees_keyword k.In ts) _ _ (Some (a, more)) h.1) [
           | inl i ↦ within_sound ts x a f more one i.0 i.1
           | inr i ↦
-            let last = same_some x a ts more i.1 in
-            let made : Spelled x f = record { plain = one.plain; fits = one.fits } in
-            (f, ap (λ (r : List Token). f ++ r) last.1, subst (λ (y : Expression). Spelled y f) last.0 made)
+              let last = same_some x a ts more i.1 in
+              let made : Spelled x f = record { plain = one.plain; fits = one.fits } in
+              (f, ap (λ (r : List Token). f ++ r) last.1, subst (λ (y : Expression). Spelled y f) last.0 made)
         ]
       ]
 
@@ -321,12 +327,12 @@ module _ (limit : ℕ) (whole : Parser Expression) (exact : Exact limit whole) w
       by : (f g : List Token) → front ≡ f ++ g → Fit f (marks x) → Fit g (m ∷ (marks y ++ [])) → operation whole (front ++ more) ≡ Some (a, more)
       by f [] e p q = absurd q
       by f (t ∷ g) e p q =
-        let there : front ++ more ≡ f ++ (t ∷ (g ++ more)) = ap (λ (r : List Token). r ++ more) e ∙ append_assoc f (t ∷ g) more in
-        let len : length (front ++ more) ≡ length f + length (t ∷ (g ++ more)) = ap length there ∙ length-append f (t ∷ (g ++ more)) in
-        let last : Fit g (marks y) = rw append-nil at q.1 in
-        let one : atom whole (f ++ (t ∷ (g ++ more))) ≡ Some (x, t ∷ (g ++ more)) = atom_complete x f (t ∷ (g ++ more)) xa xp p (omega (arith, ap length there)) in
-        let two : atom whole (g ++ more) ≡ Some (y, more) = atom_complete y g more ya yp last (omega arith) in
-        rw (there, one) (goes t g q.0 two)
+          let there : front ++ more ≡ f ++ (t ∷ (g ++ more)) = ap (λ (r : List Token). r ++ more) e ∙ append_assoc f (t ∷ g) more in
+          let len : length (front ++ more) ≡ length f + length (t ∷ (g ++ more)) = ap length there ∙ length-append f (t ∷ (g ++ more)) in
+          let last : Fit g (marks y) = rw append-nil at q.1 in
+          let one : atom whole (f ++ (t ∷ (g ++ more))) ≡ Some (x, t ∷ (g ++ more)) = atom_complete x f (t ∷ (g ++ more)) xa xp p (omega (arith, ap length there)) in
+          let two : atom whole (g ++ more) ≡ Some (y, more) = atom_complete y g more ya yp last (omega arith) in
+          rw (there, one) (goes t g q.0 two)
 
   pub operation_complete : Complete (suc limit) (operation whole) Spelled Ends
   operation_complete (tree.literal v) front more h ends less = atom_alone (tree.literal v) front more tt h.plain h.fits ends less

@@ -114,12 +114,14 @@ abbrev behind : List ℕ → Parser Expression → Parser Query
 behind text whole = separated (item text whole) >>= λ xs. eat_symbol s.Semicolon >>= finished xs
 
 plain_made : (text : List ℕ) (ts : List Token) (xs : List Item) (b : Bool) → IsNonEmpty xs → AllByRecursion (IsPlainItem text) xs → Fit ts (query_marks (plain_query xs b)) → Reads text ts (plain_query xs b) × IsPlain (plain_query xs b)
-plain_made text ts xs b some_item all fits =
-    (record {
-      fit = fits;
-      sources = (each_is (IsPlainItem text) (HasSource text) xs (λ x h. h.1) all, tt);
-      well_formed = (((some_item, each_is (IsPlainItem text) (λ x. IsWellFormed x.value) xs (λ x h. well_formed x.value h.0) all, tt, tt, tt), tt), refl);
-    }, record { items = xs; only = refl; each = each_is (IsPlainItem text) (λ x. IsPlainExpression x.value) xs (λ x h. h.0) all })
+plain_made text ts xs b some_item all fits = (
+  record {
+    fit = fits;
+    sources = (each_is (IsPlainItem text) (HasSource text) xs (λ x h. h.1) all, tt);
+    well_formed = (((some_item, each_is (IsPlainItem text) (λ x. IsWellFormed x.value) xs (λ x h. well_formed x.value h.0) all, tt, tt, tt), tt), refl);
+  },
+  record { items = xs; only = refl; each = each_is (IsPlainItem text) (λ x. IsPlainExpression x.value) xs (λ x h. h.0) all },
+)
 
 query_sound : (text : List ℕ) (n : ℕ) (ts : List Token) (q : Query) (more : List Token) → query text (expression n) ts ≡ Some (q, more) → Reads text ts q × IsPlain q
 unfolding query
@@ -149,7 +151,7 @@ query_complete text (t ∷ ts) xs b l some_item all fits =
     let front : EachToken (Placed text) parts.0 = each_front (Placed text) parts.0 parts.1 (subst (EachToken (Placed text)) parts.2 tokens.1) in
     let listed : Listed (PlacedItem text) xs parts.0 = items_of text xs parts.0 front some_item all parts.3 in
     let one : separated (item text (expression n)) (parts.0 ++ parts.1) ≡ Some (xs, parts.1) =
-      separated_complete n (PlacedItem text) ItemEnds (item text (expression n)) comma_goes (item_complete text n (text_is_utf8 text (t ∷ ts) l)) xs parts.0 parts.1 listed (item_ends b parts.1 parts.4) (omega (arith, ap length parts.2)) in
+    separated_complete n (PlacedItem text) ItemEnds (item text (expression n)) comma_goes (item_complete text n (text_is_utf8 text (t ∷ ts) l)) xs parts.0 parts.1 listed (item_ends b parts.1 parts.4) (omega (arith, ap length parts.2)) in
     let there : separated (item text (expression n)) ts ≡ Some (xs, parts.1) = ap (separated (item text (expression n))) parts.2 ∙ one in
     rw (keyword_again k.Return t ts fits.0, there, ends_complete xs b parts.1 parts.4) refl
 

@@ -41,9 +41,11 @@ pub separated_sound : {A : Type 0} (S : A → List Token → Type 0) (item : Par
 separated_sound S item sound ts a more e =
     let b = bind_some (item ts) (λ x. many (sees_symbol s.Comma) (comma_item item) (x ∷ [])) (a, more) e in
     let one = sound ts b.0 b.1 b.2 in
-    let others = many_sound (sees_symbol s.Comma) (comma_item item) (Further S) (further_sound S item sound) (length b.1) (b.0 ∷ []) b.1 a more b.3 in
-    (one.0 ++ others.1, one.1 ∙ ap (λ (r : List Token). one.0 ++ r) others.3 ∙ sym (append_assoc one.0 others.1 more),
-     record { x = b.0; xs = others.0; f = one.0; g = others.1; items = others.2; whole = refl; first = one.2; others = others.4 })
+    let others = many_sound (sees_symbol s.Comma) (comma_item item) (Further S) (further_sound S item sound) (length b.1) (b.0 ∷ []) b.1 a more b.3 in (
+      one.0 ++ others.1,
+      one.1 ∙ ap (λ (r : List Token). one.0 ++ r) others.3 ∙ sym (append_assoc one.0 others.1 more),
+      record { x = b.0; xs = others.0; f = one.0; g = others.1; items = others.2; whole = refl; first = one.2; others = others.4 },
+    )
 
 -- what may follow the last item
 abbrev pub AfterItems : (List Token → Type 0) → List Token → Type 0
@@ -54,8 +56,8 @@ pub separated_complete : {A : Type 0} (limit : ℕ) (S : A → List Token → Ty
 separated_complete limit S E item goes complete a front more l ends fits =
     let row : Row limit (sees_symbol s.Comma) (comma_item item) (Further S) E (AfterItems E) = record {
       read = λ a front more f ends fits.
-        let len : length (front ++ more) ≡ suc (length (f.others ++ more)) = ap (λ (r : List Token). length (r ++ more)) f.whole in
-        rw (f.whole, symbol_again s.Comma f.comma (f.others ++ more) f.accepts) (complete a f.others more f.item ends (omega arith));
+          let len : length (front ++ more) ≡ suc (length (f.others ++ more)) = ap (λ (r : List Token). length (r ++ more)) f.whole in
+          rw (f.whole, symbol_again s.Comma f.comma (f.others ++ more) f.accepts) (complete a f.others more f.item ends (omega arith));
       first = λ a front more f. rw f.whole (symbol_seen s.Comma f.comma (f.others ++ more) f.accepts);
       some = λ a front f. rw f.whole (omega arith);
       ends = λ more ends. ends;
@@ -101,15 +103,26 @@ module _ {A : Type 0} (P : Token → Type 0) (S : A → List Token → Type 0) (
   further_of (x ∷ xs) [] tokens all fits = absurd fits
   further_of (x ∷ xs) (t ∷ g) tokens all fits =
       let parts = fit_split g (ms x) (further (map ms xs)) fits.1 in
-      let halves : EachToken P (parts.0 ++ parts.1) = subst (EachToken P) parts.2 tokens.1 in
-      (t ∷ parts.0, parts.1, ap (λ (r : List Token). t ∷ r) parts.2,
-       record { comma = t; others = parts.0; whole = refl; accepts = fits.0; item = into x parts.0 (each_front P parts.0 parts.1 halves) all.0 parts.3 },
-       further_of xs parts.1 (each_back P parts.0 parts.1 halves) all.1 parts.4)
+      let halves : EachToken P (parts.0 ++ parts.1) = subst (EachToken P) parts.2 tokens.1 in (
+        t ∷ parts.0,
+        parts.1,
+        ap (λ (r : List Token). t ∷ r) parts.2,
+        record { comma = t; others = parts.0; whole = refl; accepts = fits.0; item = into x parts.0 (each_front P parts.0 parts.1 halves) all.0 parts.3 },
+        further_of xs parts.1 (each_back P parts.0 parts.1 halves) all.1 parts.4,
+      )
 
   pub listed_of : (xs : List A) (front : List Token) → EachToken P front → IsNonEmpty xs → AllByRecursion ok xs → Fit front (commas (map ms xs)) → Listed S xs front
   listed_of [] front tokens some all fits = absurd some
   listed_of (x ∷ xs) front tokens some all fits =
       let parts = fit_split front (ms x) (further (map ms xs)) fits in
       let halves : EachToken P (parts.0 ++ parts.1) = subst (EachToken P) parts.2 tokens in
-      record { x = x; xs = xs; f = parts.0; g = parts.1; items = refl; whole = parts.2; first = into x parts.0 (each_front P parts.0 parts.1 halves) all.0 parts.3;
-               others = further_of xs parts.1 (each_back P parts.0 parts.1 halves) all.1 parts.4 }
+      record {
+        x = x;
+        xs = xs;
+        f = parts.0;
+        g = parts.1;
+        items = refl;
+        whole = parts.2;
+        first = into x parts.0 (each_front P parts.0 parts.1 halves) all.0 parts.3;
+        others = further_of xs parts.1 (each_back P parts.0 parts.1 halves) all.1 parts.4;
+      }

@@ -69,13 +69,13 @@ cut_sound text bytes a b e = at (test text a b) refl e
     at : (t : Bool) → test text a b ≡ t → cond t (Some (slice_range text a b)) None ≡ Some bytes → (a + length bytes ≡ b) × (bytes ≡ slice_range text a (a + length bytes))
     at false h e = absurd cc
     at true h e =
-      let is : slice_range text a b ≡ bytes = cc in
-      let p = and_parts (nat_le a b && nat_le b (length text)) (is_utf8 (slice_range text a b)) h in
-      let q = and_parts (nat_le a b) (nat_le b (length text)) p.0 in
-      let le : a ≤ b = grind (arith, nat_tests, q.0) in
-      let within : b ≤ length text = grind (arith, nat_tests, q.1) in
-      let len : a + length bytes ≡ b = omega (arith, slice_length text a b le within, ap length is) in
-      (len, rw len (sym is))
+        let is : slice_range text a b ≡ bytes = cc in
+        let p = and_parts (nat_le a b && nat_le b (length text)) (is_utf8 (slice_range text a b)) h in
+        let q = and_parts (nat_le a b) (nat_le b (length text)) p.0 in
+        let le : a ≤ b = grind (arith, nat_tests, q.0) in
+        let within : b ≤ length text = grind (arith, nat_tests, q.1) in
+        let len : a + length bytes ≡ b = omega (arith, slice_length text a b le within, ap length is) in
+        (len, rw len (sym is))
 
 pub cut_complete : (text : List ℕ) (a b : ℕ) → IsUtf8 text → IsCharBoundary text a → IsCharBoundary text b → a ≤ b → cut text a b ≡ Some (slice_range text a b)
 unfolding cut

@@ -60,8 +60,10 @@ fn turn_of(before: Option<&Token<'_>>, token: &Token<'_>, after: Option<&Token<'
     ensures { turn_view result ≡ spec.turn_of (beside before.entry) (lexeme_view token.now.lexeme) (beside after.entry) }
 {
     match token.lexeme {
-        Lexeme::Symbol(Symbol::OpenParenthesis | Symbol::OpenBracket | Symbol::OpenBrace) => Turn::Opens,
-        Lexeme::Symbol(Symbol::CloseParenthesis | Symbol::CloseBracket | Symbol::CloseBrace) => Turn::Closes,
+        Lexeme::Symbol(Symbol::OpenParenthesis | Symbol::OpenBracket | Symbol::OpenBrace) =>
+            Turn::Opens,
+        Lexeme::Symbol(Symbol::CloseParenthesis | Symbol::CloseBracket | Symbol::CloseBrace) =>
+            Turn::Closes,
         Lexeme::Keyword(Keyword::Case, _) => case_turn(before, after),
         Lexeme::Keyword(Keyword::End, _) => end_turn(before),
         _ => Turn::Stays,
@@ -71,7 +73,10 @@ fn turn_of(before: Option<&Token<'_>>, token: &Token<'_>, after: Option<&Token<'
 fn is_sign(lexeme: &Lexeme<'_>) -> bool
     ensures { result ≡ spec.is_sign (lexeme_view lexeme.now) }
 {
-    matches!(lexeme, Lexeme::Symbol(Symbol::Plus | Symbol::Minus) | Lexeme::Keyword(Keyword::Not, _))
+    matches!(
+        lexeme,
+        Lexeme::Symbol(Symbol::Plus | Symbol::Minus) | Lexeme::Keyword(Keyword::Not, _)
+    )
 }
 
 /// Whether at some place more openers than closers stand before it, by more than the greatest depth.

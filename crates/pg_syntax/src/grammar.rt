@@ -32,19 +32,13 @@ fn literal_of(alloc: Global, lexeme: &Lexeme<'_>) -> Result<Option<Literal>, All
 fn equal_to(alloc: Global, left: Expression, right: Expression) -> Result<Expression, AllocError>
     ensures { IfOk result (λ x. expression_view x ≡ spec.equal_to (expression_view left) (expression_view right)) }
 {
-    Ok(Expression::Equal(
-        Box::new(alloc, left)?,
-        Box::new(alloc, right)?,
-    ))
+    Ok(Expression::Equal(Box::new(alloc, left)?, Box::new(alloc, right)?))
 }
 
 fn within(alloc: Global, left: Expression, right: Expression) -> Result<Expression, AllocError>
     ensures { IfOk result (λ x. expression_view x ≡ spec.within (expression_view left) (expression_view right)) }
 {
-    Ok(Expression::In(
-        Box::new(alloc, left)?,
-        Box::new(alloc, right)?,
-    ))
+    Ok(Expression::In(Box::new(alloc, left)?, Box::new(alloc, right)?))
 }
 
 #[derive(Clone, Copy)]
@@ -78,7 +72,11 @@ impl<F: Fn(Global, &mut Tokens<'_, '_>, usize) -> Result<Expression, ParseError>
     }
 
     /// The items of a list and its closing sign.
-    fn listed(&self, tokens: &mut Tokens<'_, '_>, close: Symbol) -> Result<Vec<Expression>, ParseError>
+    fn listed(
+        &self,
+        tokens: &mut Tokens<'_, '_>,
+        close: Symbol,
+    ) -> Result<Vec<Expression>, ParseError>
         requires { Nests self.now.depth (F.pre self.now.expression) (F.post self.now.expression) }
         ensures { Gives (λ v. map expression_view v.items) (parse.listed close (spec.expression self.now.depth) (tokens_view tokens.old.rest.now)) result tokens.new.rest.now }
     {
@@ -108,7 +106,11 @@ impl<F: Fn(Global, &mut Tokens<'_, '_>, usize) -> Result<Expression, ParseError>
     }
 
     /// What stands behind the first atom.
-    fn operation_from(&self, tokens: &mut Tokens<'_, '_>, first: Expression) -> Result<Expression, ParseError>
+    fn operation_from(
+        &self,
+        tokens: &mut Tokens<'_, '_>,
+        first: Expression,
+    ) -> Result<Expression, ParseError>
         requires { Nests self.now.depth (F.pre self.now.expression) (F.post self.now.expression) }
         ensures { Gives expression_view (spec.operation_from (spec.expression self.now.depth) (expression_view first) (tokens_view tokens.old.rest.now)) result tokens.new.rest.now }
     {
@@ -135,7 +137,11 @@ impl<F: Fn(Global, &mut Tokens<'_, '_>, usize) -> Result<Expression, ParseError>
 
 /// An expression with brackets nested less deep than the number.
 #[tactic(auto, unfolding(crate::specs::PlainParse::expression))]
-pub(crate) fn expression(alloc: Global, tokens: &mut Tokens<'_, '_>, depth: usize) -> Result<Expression, ParseError>
+pub(crate) fn expression(
+    alloc: Global,
+    tokens: &mut Tokens<'_, '_>,
+    depth: usize,
+) -> Result<Expression, ParseError>
     ensures { Gives expression_view (spec.expression depth (tokens_view tokens.old.rest.now)) result tokens.new.rest.now }
 {
     if depth == 0 {

@@ -8,5 +8,5 @@ mod grammar;
 mod query;
 mod tree;
 
-pub use query::{law_one_reading, parse};
+pub use query::{law_of_plain_texts, law_one_reading, parse};
 pub use tree::{Clause, Expression, Item, Literal, Name, Projection, Query};

@@ -1,6 +1,6 @@
 //! Queries.
 
-ghost use Rattle.std.specs.Prelude.{◌≡◌, ◌↔◌, ◌⊎◌, ℕ, List, true, Err, IfOk, IfErr, IsErrOf, map, option_map, string_bytes};
+ghost use Rattle.std.specs.Prelude.{◌≡◌, ◌↔◌, ◌⊎◌, ℕ, List, true, Err, Some, IfOk, IfErr, IsErrOf, map, option_map, string_bytes};
 ghost use Rattle.pg_lex.specs.View.{tokens_view};
 ghost use Rattle.pg_meaning.specs.Depth.{is_too_deep};
 ghost use Rattle.pg_meaning.specs.Grammar.{Reads};
@@ -66,7 +66,12 @@ fn alias(alloc: Global, tokens: &mut Tokens<'_, '_>) -> Result<Option<Name>, Par
 }
 
 #[tactic(auto, unfolding(crate::specs::PlainParse::item))]
-fn item(alloc: Global, text: &str, tokens: &mut Tokens<'_, '_>, depth: usize) -> Result<Item, ParseError>
+fn item(
+    alloc: Global,
+    text: &str,
+    tokens: &mut Tokens<'_, '_>,
+    depth: usize,
+) -> Result<Item, ParseError>
     ensures { Gives item_view (spec.item text.now (spec.expression depth) (tokens_view tokens.old.rest.now)) result tokens.new.rest.now }
 {
     let old = tokens.rest;
@@ -83,7 +88,12 @@ fn item(alloc: Global, text: &str, tokens: &mut Tokens<'_, '_>, depth: usize) ->
 }
 
 /// One or more.
-fn items(alloc: Global, text: &str, tokens: &mut Tokens<'_, '_>, depth: usize) -> Result<Vec<Item>, ParseError>
+fn items(
+    alloc: Global,
+    text: &str,
+    tokens: &mut Tokens<'_, '_>,
+    depth: usize,
+) -> Result<Vec<Item>, ParseError>
     ensures { Gives (λ v. map item_view v.items) (parse.separated (spec.item text.now (spec.expression depth)) (tokens_view tokens.old.rest.now)) result tokens.new.rest.now }
 {
     let mut found = Vec::new(alloc);
@@ -103,7 +113,12 @@ fn with_items(alloc: Global, items: Vec<Item>, semicolon: bool) -> Result<Query,
 }
 
 #[tactic(auto, unfolding(crate::specs::PlainParse::query))]
-fn query(alloc: Global, text: &str, tokens: &mut Tokens<'_, '_>, depth: usize) -> Result<Query, ParseError>
+fn query(
+    alloc: Global,
+    text: &str,
+    tokens: &mut Tokens<'_, '_>,
+    depth: usize,
+) -> Result<Query, ParseError>
     ensures { Gives query_view (spec.query text.now (spec.expression depth) (tokens_view tokens.old.rest.now)) result tokens.new.rest.now }
 {
     tokens.expect_keyword(Keyword::Return)?;
@@ -147,6 +162,8 @@ pub fn parse(alloc: Global, text: &str, tokens: &[Token<'_>]) -> Result<Query, F
     // Where the tokens of the text have a plain tree, they are no bad syntax.
     ensures none { IsErrOf result Fault.BadSyntax → (q : tree.Query) → Lexes text.now (tokens_view tokens.now) → Reads text.now (tokens_view tokens.now) q → IsPlain q → ⊥ }
     ensures faults { IfErr result (λ e. (e ≡ Fault.TooDeep) ⊎ ((e ≡ Fault.BadSyntax) ⊎ (e ≡ Fault.OutOfMemory))) }
+    // The same, as the answer of a function.
+    ensures function { Answers query_view (spec.plain_parse text.now (tokens_view tokens.now)) result }
 {
     answer(alloc, text, tokens)
 }
@@ -154,5 +171,12 @@ pub fn parse(alloc: Global, text: &str, tokens: &[Token<'_>]) -> Result<Query, F
 /// The tokens of a text are those of one plain tree at most.
 pub fn law_one_reading()
     ensures { (text : List ℕ) (tokens : List token.Token) (p q : tree.Query) → Lexes text tokens → Reads text tokens p → Reads text tokens q → IsPlain p → IsPlain q → p ≡ q }
-{
-}
+{}
+
+/// What the function of plain texts gives: exactly the plain tree that reads, and on that the whole language's function
+/// agrees.
+pub fn law_of_plain_texts()
+    ensures sound { (text : List ℕ) (tokens : List token.Token) (q : tree.Query) → spec.plain_query_of text tokens ≡ Some q → Reads text tokens q × IsPlain q }
+    ensures complete { (text : List ℕ) (tokens : List token.Token) (q : tree.Query) → Lexes text tokens → Reads text tokens q → IsPlain q → spec.plain_query_of text tokens ≡ Some q }
+    ensures agrees { (text : List ℕ) (tokens : List token.Token) (q : tree.Query) → spec.plain_query_of text tokens ≡ Some q → parse.query_of text tokens ≡ Some q }
+{}

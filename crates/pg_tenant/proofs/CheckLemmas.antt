@@ -61,7 +61,6 @@ all_duplicates : (items : List Item) (ends : Bool) → AllByRecursion (λ x. IsP
 unfolding static_faults
 all_duplicates items ends h = no_more (item_faults return_column [] [] items) ∙ item_duplicates [] items h
 
-
 found_duplicates : (t : Bool) (place : ℕ) (fs : List Found) → AllByRecursion (λ f. f.1 ≡ DuplicateColumn) fs → AllByRecursion (λ (f : Found). f.1 ≡ DuplicateColumn) (found_if t place DuplicateColumn ++ fs)
 found_duplicates true place fs h = (refl, h)
 found_duplicates false place fs h = h

@@ -80,9 +80,9 @@ one_entry_spelt all rest more found new e out sorted so_far is inserted live sam
       keys = ap keys_of last ∙ keys_of-push found e.0 out ∙ ap (λ ks. ks ++ e.0 ∷ []) so_far.keys ∙ sym (keys_of-push so_far.done e.0 e.1);
       tests = so_far.tests ∙ ap (λ es. test_entries empty_graph (entries_view es)) is ∙ ap (λ r. r >> test_entries empty_graph (entries_view more)) live;
       shown = so_far.shown ∙ ap (λ es. named_before found (printed_members empty_graph (entries_view es))) is
-      ∙ ap (λ d. named_before found (member (string_bytes e.0) d (printed_members empty_graph (entries_view more)))) (sym same)
-      ∙ sym (named_before-push found (e.0, out) (printed_members empty_graph (entries_view more)))
-      ∙ ap (λ os. named_before os (printed_members empty_graph (entries_view more))) (sym last);
+          ∙ ap (λ d. named_before found (member (string_bytes e.0) d (printed_members empty_graph (entries_view more)))) (sym same)
+          ∙ sym (named_before-push found (e.0, out) (printed_members empty_graph (entries_view more)))
+          ∙ ap (λ os. named_before os (printed_members empty_graph (entries_view more))) (sym last);
     }
 
 pub all_entries_spelt : (all : List Pair) (found : List Named) → EntriesSpelt all [] found

@@ -3,5 +3,6 @@ pub mod CheckLemmas
 pub mod EntryLemmas
 pub mod EvaluationLemmas
 pub mod ItemLemmas
+pub mod ReadingLemmas
 pub mod RunLemmas
 pub mod SpellingLemmas

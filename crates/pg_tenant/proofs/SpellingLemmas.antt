@@ -39,7 +39,7 @@ one_spelt all rest more found v out so_far is live same =
     record {
       tests = so_far.tests ∙ ap (λ vs. test_items empty_graph (values_view vs)) is ∙ ap (λ r. ◌>>◌ r (test_items empty_graph (values_view more))) live;
       shown = so_far.shown ∙ ap (λ vs. outs_before found (printed_items empty_graph (values_view vs))) is
-      ∙ ap (λ d. outs_before found (item d (printed_items empty_graph (values_view more)))) (sym same) ∙ sym (outs_before-push found out (printed_items empty_graph (values_view more)));
+          ∙ ap (λ d. outs_before found (item d (printed_items empty_graph (values_view more)))) (sym same) ∙ sym (outs_before-push found out (printed_items empty_graph (values_view more)));
     }
 
 pub all_spelt : (all rest : List Value) (found : List Out) → SpeltSoFar all rest found → length rest ≡ 0

@@ -28,11 +28,7 @@ pub struct Answer {
 }
 
 /// The answer to a query of these items.
-pub(crate) fn answer_items(
-    alloc: Global,
-    quota: Quota,
-    items: &Vec<Item>,
-) -> Result<Answer, Fault>
+pub(crate) fn answer_items(alloc: Global, quota: Quota, items: &Vec<Item>) -> Result<Answer, Fault>
     ensures ok { IfOk result (λ a. shown (plain_answer quota.max_steps (map item_view items.now.items)) ≡ Ok (answer_view a)) }
     ensures err { IfErr result (λ e. e ≢ OutOfMemory → plain_answer quota.max_steps (map item_view items.now.items) ≡ Err e) }
 {

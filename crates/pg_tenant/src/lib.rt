@@ -8,9 +8,11 @@ ghost use Rattle.pg_tenant.specs.Items.{ItemsAlone};
 mod answer;
 mod columns;
 mod evaluation;
+mod reading;
 mod spelling;
 
 pub use answer::{Answer, Quota};
+pub use reading::answer_text;
 
 /// What a query of one RETURN with plain items answers.
 #[tactic(auto, using(crate::proofs::ItemLemmas::items_alone))]

@@ -14,5 +14,5 @@ pub use equality::eq3;
 pub use logic::{and, not, or, truth, truth_of, value_of, xor};
 pub use measures::{depth, weight};
 pub use membership::is_in;
-pub use texts::comes_again;
 pub use pg_value_core::{Fault, NodeId, Out, Path, RelId, Tri, Value, equivalent, order};
+pub use texts::comes_again;

@@ -12,7 +12,7 @@ unfolding finish_between
 returns-in-Some c =
     let within : c.saturating_sub.result < length c.args.old.now = grind (arith, nat_tests, c.in-Some.ensures.lookup.0) in
     let here : c.saturating_sub.result ≡ (length (tokens_view c.args.old.now) - length (tokens_view c.args.new.now)) - 1 =
-      omega (arith, c.saturating_sub.ensures, c.saturating_sub-taken.ensures, length-map c.args.old.now token_view, length-map c.args.new.now token_view) in
+    omega (arith, c.saturating_sub.ensures, c.saturating_sub-taken.ensures, length-map c.args.old.now token_view, length-map c.args.new.now token_view) in
     sym (found_at c.args.old.now c.saturating_sub.result c.in-Some.token.now within c.in-Some.ensures.lookup.1) ∙ ap (λ (i : ℕ). finish_of (slice_get (tokens_view c.args.old.now) i)) here
 
 pub returns-in-None : goal.returns-in-None
@@ -20,5 +20,5 @@ unfolding finish_between
 returns-in-None c =
     let past : length c.args.old.now ≤ c.saturating_sub.result = grind (arith, nat_tests, c.in-None.ensures.lookup.0) in
     let here : c.saturating_sub.result ≡ (length (tokens_view c.args.old.now) - length (tokens_view c.args.new.now)) - 1 =
-      omega (arith, c.saturating_sub.ensures, c.saturating_sub-taken.ensures, length-map c.args.old.now token_view, length-map c.args.new.now token_view) in
+    omega (arith, c.saturating_sub.ensures, c.saturating_sub-taken.ensures, length-map c.args.old.now token_view, length-map c.args.new.now token_view) in
     sym (none_at c.args.old.now c.saturating_sub.result past) ∙ ap (λ (i : ℕ). finish_of (slice_get (tokens_view c.args.old.now) i)) here

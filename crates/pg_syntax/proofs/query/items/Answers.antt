@@ -22,7 +22,7 @@ loop-alloc-smaller c =
 pub loop-alloc-preserved : goal.loop-alloc-preserved
 loop-alloc-preserved c =
     rw (c.in_ok-push-2.ensures.items, map_more item_view c.loop-alloc.found.items c.in_ok-item-2.field-0)
-      (going_more _ _ _ _ _ _ _ c.loop-alloc.invariant (sym c.loop-alloc-test.ensures.seen) c.loop-alloc-test.ensures.left c.in_ok-item-2.ensures (shrinks (item_sound c.args.text.now c.args.depth) _ _ _ c.in_ok-item-2.ensures))
+    (going_more _ _ _ _ _ _ _ c.loop-alloc.invariant (sym c.loop-alloc-test.ensures.seen) c.loop-alloc-test.ensures.left c.in_ok-item-2.ensures (shrinks (item_sound c.args.text.now c.args.depth) _ _ _ c.in_ok-item-2.ensures))
 
 pub returns : goal.returns
 returns c = going_ends _ _ _ _ _ c.loop-alloc.invariant (sym c.loop-alloc-test.ensures.seen) c.loop-alloc-test.ensures.left

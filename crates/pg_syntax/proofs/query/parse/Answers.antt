@@ -8,4 +8,5 @@ returns c = record {
   only = is_only _ _ _ c.answer.ensures.answers;
   none = is_none _ _ _ c.answer.ensures.answers;
   faults = is_fault _ _ _ c.answer.ensures.answers;
+  function = c.answer.ensures.answers;
 }

@@ -9,5 +9,5 @@ pub returns : goal.returns
 returns c =
     let h = c.in-Ok.ensures.cases in
     let whole : take (c.args.finish - c.args.start) (drop c.args.start c.as_bytes.result.now) ≡ take (c.args.finish - c.args.start) (drop c.args.start c.args.text.now) =
-      ap (λ (bs : List ℕ). take (c.args.finish - c.args.start) (drop c.args.start bs)) c.as_bytes.ensures.value in
+    ap (λ (bs : List ℕ). take (c.args.finish - c.args.start) (drop c.args.start bs)) c.as_bytes.ensures.value in
     rw (c.in_ok-from_str.ensures.ok, h.0) (cut_is _ _ _ _ (omega arith) (omega arith) whole h.1)

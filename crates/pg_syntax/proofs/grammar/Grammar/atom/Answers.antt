@@ -20,7 +20,7 @@ pub returns-in_err-items : goal.returns-in_err-items
 returns-in_err-items g c =
     let r = err_from_is_err_and c.from_residual-in_err-items.result c.from_residual-in_err-items.ensures.1 in
     rw (r.1, r.2) (passed c.in_err-items.field-0.0 (listed s.CloseBracket (expression c.args.self.now.depth) (tokens_view c.take.new.self.rest.now)) _
-      (λ none. atom_fails _ _ _ _ (ap tokens_view c.in-Some.ensures) (sym c.in_ok-literal.ensures ∙ ap (option_map literal_view) c.in_default-2.is) (sym c.if-is_symbol.ensures) none) c.in_err-items.ensures)
+    (λ none. atom_fails _ _ _ _ (ap tokens_view c.in-Some.ensures) (sym c.in_ok-literal.ensures ∙ ap (option_map literal_view) c.in_default-2.is) (sym c.if-is_symbol.ensures) none) c.in_err-items.ensures)
 
 pub returns-then-is_symbol : goal.returns-then-is_symbol
 returns-then-is_symbol g c =

@@ -18,7 +18,7 @@ pub returns-in_err-second-2 : goal.returns-in_err-second-2
 returns-in_err-second-2 g c =
     let r = err_from_is_err_and c.from_residual-in_err-second-2.result c.from_residual-in_err-second-2.ensures.1 in
     rw (r.1, r.2) (passed c.in_err-second-2.field-0.0 (atom (expression c.args.self.now.depth) (tokens_view c.eat_keyword.new.self.rest.now)) _
-      (λ none. in_fails _ _ _ _ _ (sym c.if-eat.ensures.seen) c.if-eat.ensures.left (sym c.if-eat_keyword.ensures.seen) c.if-eat_keyword.ensures.left none) c.in_err-second-2.ensures)
+    (λ none. in_fails _ _ _ _ _ (sym c.if-eat.ensures.seen) c.if-eat.ensures.left (sym c.if-eat_keyword.ensures.seen) c.if-eat_keyword.ensures.left none) c.in_err-second-2.ensures)
 
 pub returns-then-eat_keyword : goal.returns-then-eat_keyword
 returns-then-eat_keyword g c = rw c.in_ok-within.ensures (in_done _ _ _ _ _ _ _ (sym c.if-eat.ensures.seen) c.if-eat.ensures.left (sym c.if-eat_keyword.ensures.seen) c.if-eat_keyword.ensures.left c.in_ok-second-2.ensures)

@@ -21,7 +21,7 @@ loop-found-smaller g c =
 pub loop-found-preserved : goal.loop-found-preserved
 loop-found-preserved g c =
     rw (c.in_ok-push-2.ensures.items, map_more expression_view c.loop-found.found.items c.in_ok-whole-2.field-0)
-      (going_more _ _ _ _ _ _ _ c.loop-found.invariant (sym c.loop-found-test.ensures.seen) c.loop-found-test.ensures.left c.in_ok-whole-2.ensures (expression_shrinks _ _ _ _ c.in_ok-whole-2.ensures))
+    (going_more _ _ _ _ _ _ _ c.loop-found.invariant (sym c.loop-found-test.ensures.seen) c.loop-found-test.ensures.left c.in_ok-whole-2.ensures (expression_shrinks _ _ _ _ c.in_ok-whole-2.ensures))
 
 pub returns : goal.returns
 returns g c = going_ends _ _ _ _ _ c.loop-found.invariant (sym c.loop-found-test.ensures.seen) c.loop-found-test.ensures.left

@@ -50,9 +50,7 @@ impl ProgramFault {
         ensures { result.now ≡ program_line self.now }
     {
         match self {
-            ProgramFault::Usage => {
-                "usage: graphd run CONFIG | graphd serve CONFIG PORT COUNT"
-            }
+            ProgramFault::Usage => { "usage: graphd run CONFIG | graphd serve CONFIG PORT COUNT" }
             ProgramFault::Unreadable => "cannot read the configuration",
             ProgramFault::Config(fault) => fault.line(),
             ProgramFault::Ended(end) => end.line(),

@@ -3,3 +3,5 @@ pub mod Bodies
 pub mod Replies
 pub mod Refusals
 pub mod Bytes
+pub mod Room
+pub mod Laws

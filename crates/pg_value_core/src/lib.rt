@@ -1,11 +1,15 @@
-//! The values of a property graph: their types, their total order, and their hash.
+//! The values of a property graph: their types, their total order, their hash and their copies.
 #![tactic(auto)]
 
+mod copy;
+mod hashes;
 mod ids;
+mod ordering;
 mod out;
 mod value;
 
 pub use ids::{NodeId, Path, RelId};
+pub use ordering::{equivalent, order};
 pub use out::Out;
 pub use pg_meaning::{Fault, Tri};
 pub use value::Value;

@@ -1,0 +1,3 @@
+pub mod Interned
+pub mod SortedLists
+pub mod Entries

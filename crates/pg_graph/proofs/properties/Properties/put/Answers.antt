@@ -1,0 +1,12 @@
+use Rattle.std.proofs.Common.{ap, ◌∙◌}
+use Rattle.std.proofs.lemmas.Result.{on_ok_weaker}
+use Rattle.std.specs.FinMap as map
+use Rattle.pg_graph.proofs.Entries.{map_of, map_put}
+use Rattle.pg_value_core.specs.View.{view}
+use Rattle.pg_graph.proofs.properties.Properties.put.Goals as goal
+
+pub returns-clause-ok : goal.returns-clause-ok
+returns-clause-ok c = on_ok_weaker c.put_entry.result (λ e.
+    ap (map_of view) e ∙ map_put view c.args.key c.args.value c.self.inside.entries.items c.self.invariant.0
+    ∙ ap (λ m. map.insert m c.args.key (view c.args.value)) c.self.view_is)
+    c.put_entry.ensures.ok

@@ -1,0 +1,4 @@
+pub mod Names
+pub mod Records
+pub mod ValueCode
+pub mod Sorted

@@ -1,0 +1,161 @@
+//! The properties of a node or a relationship.
+ghost use Rattle.std.specs.Prelude.{◌≡◌, false, OnOk, OnErr, IfOk};
+ghost use Rattle.std.specs.FinMap as map;
+ghost use Rattle.std.specs.Option.{option_map};
+ghost use Rattle.std.specs.Ordering.{nat_cmp};
+ghost use Rattle.pg_graph.specs.Records.{is_null, with_property, seen_entries, AreEntries};
+ghost use Rattle.pg_graph.specs.Sorted.{put, without};
+ghost use Rattle.pg_value_core.specs.View.{view};
+
+use crate::names::NameId;
+use crate::sorted;
+use crate::sorted::Numbered;
+use pg_value_core::Value;
+use std::alloc::{AllocError, Global};
+use std::marker::Model;
+use std::mem;
+
+/// Values under the numbers of their keys, which rise. Null is never among them.
+#[derive(Drop)]
+pub struct Properties {
+    entries: Vec<(NameId, Value)>,
+}
+
+impl Model for Properties {
+    ghost use Rattle.std.specs.Coded.{coded_ℕ};
+    ghost use Rattle.std.specs.FinMap as map;
+    ghost use Rattle.std.specs.Ordering.{nat_cmp};
+    ghost use Rattle.pg_meaning.specs.Value as meaning;
+    ghost use Rattle.pg_graph.specs.Records.{seen_entries, AreEntries};
+    ghost use Rattle.pg_graph.specs.ValueCode.{value_code};
+
+    ghost Value = { map.FinMap nat_cmp meaning.Value };
+
+    ghost coded = { map.code coded_ℕ value_code };
+
+    ghost view = { λ p. map.from_sorted (seen_entries p.entries.items) };
+
+    ghost invariant = { λ p. AreEntries p.entries.items };
+}
+
+impl Numbered for (NameId, Value) {
+    ghost number = { λ e. e.0 };
+
+    fn number(&self) -> u64 {
+        self.0.number()
+    }
+}
+
+// Puts a value under a key, in the place of one that is there.
+fn put_entry(
+    entries: &mut Vec<(NameId, Value)>,
+    key: NameId,
+    value: Value,
+) -> Result<(), AllocError>
+    requires entries { AreEntries entries.old.items }
+    requires not_null { is_null (view value) ≡ false }
+    ensures ok { OnOk result (entries.new.items ≡ put (λ e. e.0) (key, value) entries.old.items) }
+    ensures err { OnErr result (entries.new.items ≡ entries.old.items) }
+    ensures entries { AreEntries entries.new.items }
+{
+    match sorted::place(entries.as_slice(), key.number()) {
+        Ok(i) => drop(mem::replace(&mut entries[i], (key, value))),
+        Err(i) => entries.insert(i, (key, value))?,
+    }
+    Ok(())
+}
+
+// Takes a key out, if it is there.
+fn remove_entry(entries: &mut Vec<(NameId, Value)>, key: NameId)
+    requires { AreEntries entries.old.items }
+    ensures removed { entries.new.items ≡ without (λ e. e.0) key entries.old.items }
+    ensures entries { AreEntries entries.new.items }
+{
+    if let Ok(i) = sorted::place(entries.as_slice(), key.number()) {
+        drop(entries.remove(i));
+    }
+}
+
+// The same entries, in memory of their own.
+fn copy_entries(
+    entries: &[(NameId, Value)],
+    alloc: Global,
+) -> Result<Vec<(NameId, Value)>, AllocError>
+    ensures { IfOk result (λ v. seen_entries v.items ≡ seen_entries entries.now) }
+{
+    let mut copies = Vec::with_capacity(alloc, entries.len())?;
+    for (key, value) in entries {
+        copies.push((*key, value.copy(alloc)?))?;
+    }
+    Ok(copies)
+}
+
+impl Properties {
+    pub fn new(alloc: Global) -> Self
+        ensures { result ≡ map.empty }
+    {
+        Properties {
+            entries: Vec::new(alloc),
+        }
+    }
+
+    /// No properties yet, with room for so many.
+    pub fn with_capacity(alloc: Global, count: usize) -> Result<Self, AllocError>
+        ensures { IfOk result (λ p. p ≡ map.empty) }
+    {
+        let entries = Vec::with_capacity(alloc, count)?;
+        Ok(Properties { entries })
+    }
+
+    pub fn get(&self, key: NameId) -> Option<&Value>
+        ensures { option_map (λ v. view v.now) result ≡ map.get self.now key }
+    {
+        match sorted::place(self.entries.as_slice(), key.number()) {
+            Ok(i) => Some(&self.entries[i].1),
+            Err(_) => None,
+        }
+    }
+
+    /// Gives a key its value. Null takes the key out.
+    pub fn set(&mut self, key: NameId, value: Value) -> Result<(), AllocError>
+        ensures ok { OnOk result (self.new ≡ with_property self.old key (view value)) }
+        ensures err { OnErr result (self.new ≡ self.old) }
+    {
+        if matches!(value, Value::Null) {
+            self.remove(key);
+            return Ok(());
+        }
+        self.put(key, value)
+    }
+
+    // Gives a key a value that is not null.
+    fn put(&mut self, key: NameId, value: Value) -> Result<(), AllocError>
+        requires { is_null (view value) ≡ false }
+        ensures ok { OnOk result (self.new ≡ map.insert self.old key (view value)) }
+        ensures err { OnErr result (self.new ≡ self.old) }
+    {
+        put_entry(&mut self.entries, key, value)
+    }
+
+    /// Takes a key out, if it is there.
+    pub fn remove(&mut self, key: NameId)
+        ensures { self.new ≡ map.remove self.old key }
+    {
+        remove_entry(&mut self.entries, key);
+    }
+
+    /// The keys and their values, by rising key.
+    pub fn entries(&self) -> &[(NameId, Value)]
+        ensures { seen_entries result.now ≡ map.entries self.now }
+    {
+        self.entries.as_slice()
+    }
+
+    /// The same properties, in memory of their own.
+    pub fn copy(&self, alloc: Global) -> Result<Properties, AllocError>
+        ensures { IfOk result (λ p. p ≡ self.now) }
+    {
+        let entries = copy_entries(self.entries.as_slice(), alloc)?;
+        Ok(Properties { entries })
+    }
+}

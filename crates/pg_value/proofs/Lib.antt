@@ -1,0 +1,3 @@
+pub mod Memberships
+pub mod Steps
+pub mod Tables

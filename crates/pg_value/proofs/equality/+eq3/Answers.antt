@@ -1,0 +1,21 @@
+use Rattle.std.proofs.Common.{rules, ◌+◌, ◌<◌, length, drop, sym, ap, ◌∙◌}
+use Rattle.pg_meaning.specs.Equality.{items_eq3}
+use Rattle.pg_meaning.specs.Logic.{and3}
+use Rattle.pg_value_core.specs.View.{values_view}
+use Rattle.pg_value.proofs.Steps.{items_step}
+use Rattle.pg_value.proofs.Tables.{and_false}
+use Rattle.pg_value.proofs.equality.+eq3.Goals as goal
+
+pub eq3_items-loop-x-preserved : goal.eq3_items-loop-x-preserved
+eq3_items-loop-x-preserved t c =
+    let l = c.loop-x in
+    let inside : l.x-index < length c.args.xs.now.items = search rules in
+    items_step l.all c.and-all.result c.args.xs.now.items l.others.now c.in-Some.rest.now l.x-index c.x-item.result c.in-Some.y.now inside (search rules) c.in-Some.ensures.cases.0 (rw c.eq3.ensures at c.and-all.ensures) ∙ l.invariant
+
+pub eq3_items-returns-in-False : goal.eq3_items-returns-in-False
+eq3_items-returns-in-False t c =
+    let l = c.loop-x in
+    let inside : l.x-index < length c.args.xs.now.items = search rules in
+    let left = items_eq3 (values_view (drop (l.x-index + 1) c.args.xs.now.items)) (values_view c.in-Some.rest.now) in
+    sym (and_false left) ∙ ap (λ all. and3 all left) (sym c.in-False.is)
+    ∙ items_step l.all c.and-all.result c.args.xs.now.items l.others.now c.in-Some.rest.now l.x-index c.x-item.result c.in-Some.y.now inside (search rules) c.in-Some.ensures.cases.0 (rw c.eq3.ensures at c.and-all.ensures) ∙ l.invariant

@@ -12,10 +12,10 @@ mod numbers;
 mod plain;
 mod strings;
 mod symbols;
-mod text;
-mod token;
 #[cfg(test)]
 mod tests;
+mod text;
+mod token;
 mod words;
 
 pub use laws::{law_lexes_exactly, law_one_lexing};

@@ -20,5 +20,5 @@ mod words;
 
 pub use laws::{law_lexes_exactly, law_one_lexing};
 pub use lexer::tokens;
-pub use plain::{is_plain, plain_tokens};
+pub use plain::{is_plain, law_plain_strings, plain_tokens};
 pub use token::{Lexeme, Natural, Token};

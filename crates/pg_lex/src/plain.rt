@@ -46,3 +46,9 @@ pub fn plain_tokens(alloc: Global, text: &str) -> Result<Vec<Token<'_>>, Fault>
     let tokens = tokens(alloc, text)?;
     if are_plain(&tokens) { Ok(tokens) } else { Err(Fault::BadLexeme) }
 }
+
+/// A string is plain exactly where no backslash stands in it.
+pub fn law_plain_strings()
+    ensures { plain.PlainStrings }
+{
+}

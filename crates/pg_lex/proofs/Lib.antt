@@ -5,6 +5,7 @@ pub mod Comes
 pub mod Comments
 pub mod Contents
 pub mod Contract
+pub mod Escapes
 pub mod Lexing
 pub mod Longest
 pub mod Pairs

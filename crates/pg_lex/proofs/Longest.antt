@@ -90,10 +90,6 @@ string_len_by c f m k more q e (symbol x) h = let e : quotation ≡ other = sym 
 
 -- ---- parameters
 
--- the reader of a parameter, by the class of what stands behind the dollar
-abbrev parameter_rest : Class → Lexeme → List ℕ → List ℕ → Type 0
-parameter_rest k l cs more = (c : ℕ) (ds : List ℕ) → cs ≡ c ∷ ds → class c ≡ k → parameter_at cs ≡ found l more → Unit {0}
-
 at_class : (c : ℕ) (ds : List ℕ) (k : Class) (l : Lexeme) (more : List ℕ) → class c ≡ k → parameter_at (c ∷ ds) ≡ found l more → parameter_by k c ds ≡ found l more
 at_class c ds k l more h e = sym (ap (λ (x : Class). parameter_by x c ds) h) ∙ e
 

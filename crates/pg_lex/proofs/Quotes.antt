@@ -16,9 +16,6 @@ put_parts c (Some p) name more e =
 abbrev doubled_by : Bool → ℕ → List ℕ → List ℕ
 doubled_by t c cs = cond t (96 ∷ 96 ∷ doubled cs) (c ∷ doubled cs)
 
-doubled_quote : (cs : List ℕ) → doubled (96 ∷ cs) ≡ 96 ∷ 96 ∷ doubled cs
-doubled_quote cs = refl
-
 doubled_other : (c : ℕ) (cs : List ℕ) → eqb c 96 ≡ false → doubled (c ∷ cs) ≡ c ∷ doubled cs
 doubled_other c cs h = ap (λ (t : Bool). doubled_by t c cs) h
 

@@ -12,13 +12,13 @@ mod numbers;
 mod plain;
 mod strings;
 mod symbols;
-mod text;
-mod token;
 #[cfg(test)]
 mod tests;
+mod text;
+mod token;
 mod words;
 
 pub use laws::{law_lexes_exactly, law_one_lexing};
 pub use lexer::tokens;
-pub use plain::{is_plain, plain_tokens};
+pub use plain::{is_plain, law_plain_strings, plain_tokens};
 pub use token::{Lexeme, Natural, Token};

@@ -16,7 +16,10 @@ pub fn is_plain(token: &Token<'_>) -> bool
 {
     match &token.lexeme {
         Lexeme::Word(word) => word.is_ascii(),
-        Lexeme::Text(content) => token.finish.saturating_sub(token.start).saturating_sub(content.len()) == 2,
+        Lexeme::Text(content) => {
+            let span = token.finish.saturating_sub(token.start);
+            span.saturating_sub(content.len()) == 2
+        }
         Lexeme::Keyword(_, _) | Lexeme::Integer(_) | Lexeme::Symbol(_) => true,
         Lexeme::QuotedName(_) | Lexeme::Parameter(_) | Lexeme::QuotedParameter(_) => false,
     }
@@ -42,4 +45,10 @@ pub fn plain_tokens(alloc: Global, text: &str) -> Result<Vec<Token<'_>>, Fault>
 {
     let tokens = tokens(alloc, text)?;
     if are_plain(&tokens) { Ok(tokens) } else { Err(Fault::BadLexeme) }
+}
+
+/// A string is plain exactly where no backslash stands in it.
+pub fn law_plain_strings()
+    ensures { plain.PlainStrings }
+{
 }

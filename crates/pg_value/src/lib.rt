@@ -14,3 +14,6 @@ pub use logic::{and, not, or, truth, truth_of, value_of, xor};
 pub use measures::{depth, weight};
 pub use membership::is_in;
 pub use pg_value_core::{Fault, NodeId, Out, Path, RelId, Tri, Value, equivalent, order};
+
+#[cfg(test)]
+mod tests;

@@ -74,7 +74,10 @@ pub(crate) fn read_frame<R: Read>(reader: &mut Counted<R>, buffer: &mut [u8]) ->
 }
 
 /// Writes all of the bytes, in as many writes as it takes.
-pub(crate) fn write_whole<W: Write>(writer: &mut Counted<W>, bytes: &[u8]) -> Result<(), DeviceFault>
+pub(crate) fn write_whole<W: Write>(
+    writer: &mut Counted<W>,
+    bytes: &[u8],
+) -> Result<(), DeviceFault>
     ensures { Sends (W.contents (inner_of writer.old)) (W.contents (inner_of writer.new))
         (faults_of writer.old) (faults_of writer.new) bytes.now result }
 {

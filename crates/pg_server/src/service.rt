@@ -60,10 +60,7 @@ pub(crate) fn serve<S: Service, R: Read, W: Write>(
 }
 
 /// The reply to a frame that is too long, whose body stays unread.
-fn refuse_length<W: Write>(
-    writer: &mut Counted<W>,
-    buffer: &mut [u8],
-) -> Result<(), DeviceFault>
+fn refuse_length<W: Write>(writer: &mut Counted<W>, buffer: &mut [u8]) -> Result<(), DeviceFault>
     ensures { Sends (W.contents (inner_of writer.old)) (W.contents (inner_of writer.new))
         (faults_of writer.old) (faults_of writer.new) (frame too_long_reply) result }
 {

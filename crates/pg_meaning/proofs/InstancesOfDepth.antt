@@ -3,7 +3,7 @@ use Rattle.std.proofs.Common.{◌≡◌, true, false, List, ◌∷◌, refl}
 use Rattle.std.specs.Prelude.{replicate}
 use Rattle.pg_meaning.specs.Depth.{TooDeep, is_too_deep}
 use Rattle.pg_meaning.specs.DepthLaws.{depth_exact}
-use Rattle.pg_meaning.specs.InstancesOfTexts.{opener, closer, minus, InstancesOfDepth}
+use Rattle.pg_meaning.specs.ExamplesOfReadings.{opener, closer, minus, InstancesOfDepth}
 use Rattle.pg_meaning.specs.Tokens.{Token}
 
 is_not : (tokens : List Token) → is_too_deep tokens ≡ false → TooDeep tokens → ⊥

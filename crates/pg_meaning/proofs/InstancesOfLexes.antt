@@ -10,7 +10,7 @@ use Rattle.pg_meaning.specs.declared.lexemes.Keyword.TheVariants as k
 use Rattle.pg_meaning.specs.declared.lexemes.Symbol.{Symbol}
 use Rattle.pg_meaning.specs.declared.lexemes.Symbol.TheVariants as s
 use Rattle.pg_meaning.specs.Tokens.{Lexeme, Token, Lexes, word, keyword, quoted_name, integer, string, parameter, symbol, symbol_text, doubled, begins_word, continues_word, is_digit, All, run, Piece, plain, escaped, coded, pieces_text, Spells, Longest, Segment, blank, line_comment, block_comment, lexeme, segments_text, segment_tokens, AllStand, keyword_of, keywords}
-use Rattle.pg_meaning.specs.InstancesOfTexts.{token, InstancesOfLexes}
+use Rattle.pg_meaning.specs.ExamplesOfReadings.{token, InstancesOfLexes}
 
 -- the characters of a text that lexes
 characters_of : (text : List ℕ) (tokens : List Token) (r : Lexes text tokens) → segments_text r.segments ≡ chars text

@@ -126,5 +126,15 @@ Example_10 =
     told (ask [] 1000 query_1 no_entries ∷ ask (((codes "P"), (codes "name")) ∷ []) 1000 query_14 no_entries ∷ ask (((codes "P"), (codes "name")) ∷ []) 1000 query_15 no_entries ∷ [])
     ≡ (answered ((codes "id(a)") ∷ (codes "id(r)") ∷ (codes "id(b)") ∷ []) (((integer (pos 0)) ∷ (integer (pos 0)) ∷ (integer (pos 1)) ∷ []) ∷ []) 4 ∷ answered ((codes "id(n)") ∷ []) (((integer (pos 1)) ∷ []) ∷ []) 13 ∷ answered ((codes "id(n)") ∷ []) (((integer (pos 1)) ∷ []) ∷ []) 4 ∷ [])
 
+-- MATCH (n:P) WHERE 1 / 0 = 1 AND n.name = 'q' RETURN id(n)
+abbrev pub query_16 : Query
+query_16 = query_of (match_paths false ((path_of None (node_place (Some (named "n")) ((codes "P") ∷ []) no_properties) []) ∷ []) (Some (chain (chain (chain (number 1) (operand Divide (number 0) no_operands)) (operand Equal (number 1) no_operands)) (operand And (chain (dot (var "n") "name") (operand Equal (string "q") no_operands)) no_operands))) ∷ return_rows (project false None ((column (codes "id(n)") (call (named "id") false false (expression (var "n") no_expressions)) None) ∷ []) [] None None) ∷ [])
+
+-- a conjunct behind another kind does not lead
+abbrev pub Example_11 : Type 0
+Example_11 =
+    told (ask [] 1000 query_1 no_entries ∷ ask (((codes "P"), (codes "name")) ∷ []) 1000 query_16 no_entries ∷ [])
+    ≡ (answered ((codes "id(a)") ∷ (codes "id(r)") ∷ (codes "id(b)") ∷ []) (((integer (pos 0)) ∷ (integer (pos 0)) ∷ (integer (pos 1)) ∷ []) ∷ []) 4 ∷ refused DivisionByZero ∷ [])
+
 abbrev pub ExamplesOfIndexes : Type 0
-ExamplesOfIndexes = Example_1 × Example_2 × Example_3 × Example_4 × Example_5 × Example_6 × Example_7 × Example_8 × Example_9 × Example_10
+ExamplesOfIndexes = Example_1 × Example_2 × Example_3 × Example_4 × Example_5 × Example_6 × Example_7 × Example_8 × Example_9 × Example_10 × Example_11

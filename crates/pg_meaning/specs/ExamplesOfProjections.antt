@@ -199,5 +199,19 @@ Example_14 =
     told (ask [] 1000 query_25 no_entries ∷ ask [] 1000 query_26 no_entries ∷ ask [] 1000 query_27 no_entries ∷ [])
     ≡ (answered ((codes "c") ∷ []) (((integer (pos 1)) ∷ []) ∷ []) 4 ∷ refused DeletedEntity ∷ refused DeletedEntity ∷ [])
 
+-- UNWIND null AS x RETURN x
+abbrev pub query_28 : Query
+query_28 = query_of (unwind (literal null) (named "x") ∷ return_rows (project false None ((column (codes "x") (var "x") None) ∷ []) [] None None) ∷ [])
+
+-- UNWIND 1 AS x RETURN x
+abbrev pub query_29 : Query
+query_29 = query_of (unwind (number 1) (named "x") ∷ return_rows (project false None ((column (codes "x") (var "x") None) ∷ []) [] None None) ∷ [])
+
+-- null gives no row, and what is no list is a fault
+abbrev pub Example_15 : Type 0
+Example_15 =
+    told (ask [] 1000 query_28 no_entries ∷ ask [] 1000 query_29 no_entries ∷ [])
+    ≡ (answered ((codes "x") ∷ []) [] 0 ∷ refused TypeFault ∷ [])
+
 abbrev pub ExamplesOfProjections : Type 0
-ExamplesOfProjections = Example_1 × Example_2 × Example_3 × Example_4 × Example_5 × Example_6 × Example_7 × Example_8 × Example_9 × Example_10 × Example_11 × Example_12 × Example_13 × Example_14
+ExamplesOfProjections = Example_1 × Example_2 × Example_3 × Example_4 × Example_5 × Example_6 × Example_7 × Example_8 × Example_9 × Example_10 × Example_11 × Example_12 × Example_13 × Example_14 × Example_15

@@ -43,7 +43,7 @@ module _ {X : Type 0} where
       ap is_some (by_id.find-put nat_cmp nat_cmp_total q k v es)
       ∙ elim (eq_by_cmp nat_cmp q k) as (λ b. is_some (cond b (Some v) (by_id.find nat_cmp q es)) ≡ true) [ true ↦ refl | false ↦ h ]
 
-  found_among : (P : ℕ × X → Type 0) (q : ℕ) (v : X) (es : List (ℕ × X)) → AllByRecursion P es → by_id.find nat_cmp q es ≡ Some v → P (q, v)
+  pub found_among : (P : ℕ × X → Type 0) (q : ℕ) (v : X) (es : List (ℕ × X)) → AllByRecursion P es → by_id.find nat_cmp q es ≡ Some v → P (q, v)
   found_among P q v [] h e = cc
   found_among P q v (x ∷ es) h e =
       elim (nat_cmp q x.0) as (λ r. nat_cmp q x.0 ≡ r → cond (is_eq r) (Some x.1) (by_id.find nat_cmp q es) ≡ Some v → P (q, v)) [

@@ -3,7 +3,7 @@
 ghost use Rattle.pg_meaning.specs.ExamplesOfReads.{ExamplesOfReads};
 ghost use Rattle.pg_meaning.specs.ExamplesOfRefusals.{ExamplesOfRefusals};
 ghost use Rattle.pg_meaning.specs.ExamplesOfTexts.{ExamplesOfTexts};
-ghost use Rattle.pg_meaning.specs.InstancesOfTexts.{InstancesOfDepth, InstancesOfLexes, InstancesOfReads, InstancesOfWellFormed, InstancesOfWellFormedQueries};
+ghost use Rattle.pg_meaning.specs.ExamplesOfReadings.{InstancesOfDepth, InstancesOfLexes, InstancesOfReads, InstancesOfWellFormed, InstancesOfWellFormedQueries};
 
 /// What texts read as: lexemes, trees, columns, static faults with their places, and nesting.
 pub fn worked_examples_of_texts()
@@ -21,7 +21,7 @@ pub fn worked_examples_of_reads()
 {}
 
 /// Small instances of the relations of texts, some that hold and some that do not.
-pub fn worked_readings()
+pub fn instances_of_texts()
     ensures lexes { InstancesOfLexes }
     ensures reads { InstancesOfReads }
     ensures well_formed { InstancesOfWellFormed }

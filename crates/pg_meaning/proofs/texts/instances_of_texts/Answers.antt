@@ -1,6 +1,6 @@
 use Rattle.pg_meaning.proofs.InstancesOfDepth as depth
 use Rattle.pg_meaning.proofs.InstancesOfLexes as lexes
-use Rattle.pg_meaning.proofs.texts.worked_readings.Goals as goal
+use Rattle.pg_meaning.proofs.texts.instances_of_texts.Goals as goal
 
 pub returns-clause-lexes : goal.returns-clause-lexes
 returns-clause-lexes c = lexes.rows

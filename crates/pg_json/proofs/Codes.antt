@@ -1,0 +1,96 @@
+-- The code in a reply's text tells the fault.
+use Rattle.std.proofs.Common.{◌≡◌, ◌≢◌, ℕ, ◌+◌, ◌-◌, ◌*◌, List, [], ◌∷◌, cond, ◌==◌, ◌||◌, nat_lt, get_or, arith, refl, sym, ap, ◌∙◌}
+use Rattle.std.specs.Fmt.{digits}
+use Rattle.serde_json.proofs.OnLiterals.{serde_json_on_literals}
+use Rattle.pg_meaning.specs.Codes.{code_of}
+use Rattle.pg_meaning.specs.declared.fault.Fault.{Fault}
+use Rattle.pg_meaning.specs.declared.fault.Fault.TheVariants.{FrameTooLong, BadRequest, UnknownToken, ReadOnly, TextTooLong, BadLexeme, BadSyntax, TooDeep, UndefinedVariable, VariableAlreadyBound, BadAggregate, BadPattern, UnknownFunction, DuplicateColumn, MissingParameter, TypeFault, Overflow, DivisionByZero, ValueTooLarge, NotStorable, MergeNull, NodeStillConnected, DeletedEntity, NegativeCount, StepQuota, ElementQuota, IdsExhausted, IndexExists, NoSuchIndex, TooManyIndexes, ReplyTooLong, TenantBusy, NoTransaction, TransactionOpen, NoSuchPage, HeldRowsQuota, NotYet, OutOfMemory}
+use Rattle.pg_json.specs.Laws.{RefusalsDiffer, RepliesAreNoRefusals, DoneIsNoRefusal}
+use Rattle.pg_json.specs.Refusals.{refusal_text, done_text}
+use Rattle.pg_json.specs.Replies.{reply_text}
+use Rattle.pg_json.specs.declared.reply.ReplyBody.{ReplyBody}
+use Rattle.pg_json.specs.declared.reply.ReplyBody.TheVariants.{Query}
+
+-- the number in `{"code":25,..`, of one digit or two
+abbrev code_in : List ℕ → ℕ
+code_in s = let one = get_or s 8 0 - 48 in cond (nat_lt (get_or s 9 0) 48 || nat_lt 57 (get_or s 9 0)) one (10 * one + (get_or s 9 0 - 48))
+
+abbrev with_code : ℕ → List Fault → Fault
+with_code n [] = OutOfMemory
+with_code n (f ∷ fs) = cond (code_of f == n) f (with_code n fs)
+
+abbrev faults : List Fault
+faults = FrameTooLong ∷ BadRequest ∷ UnknownToken ∷ ReadOnly ∷ TextTooLong ∷ BadLexeme ∷ BadSyntax ∷ TooDeep ∷ UndefinedVariable ∷ VariableAlreadyBound ∷ BadAggregate ∷ BadPattern ∷ UnknownFunction ∷ DuplicateColumn ∷ MissingParameter ∷ TypeFault ∷ Overflow ∷ DivisionByZero ∷ ValueTooLarge ∷ NotStorable ∷ MergeNull ∷ NodeStillConnected ∷ DeletedEntity ∷ NegativeCount ∷ StepQuota ∷ ElementQuota ∷ IdsExhausted ∷ IndexExists ∷ NoSuchIndex ∷ TooManyIndexes ∷ ReplyTooLong ∷ TenantBusy ∷ NoTransaction ∷ TransactionOpen ∷ NoSuchPage ∷ HeldRowsQuota ∷ NotYet ∷ OutOfMemory ∷ []
+
+abbrev fault_in : List ℕ → Fault
+fault_in s = with_code (code_in s) faults
+
+fault_in-refusal : (f : Fault) → fault_in (refusal_text f) ≡ f
+unfolding serde_json_on_literals digits
+fault_in-refusal FrameTooLong = refl
+fault_in-refusal BadRequest = refl
+fault_in-refusal UnknownToken = refl
+fault_in-refusal ReadOnly = refl
+fault_in-refusal TextTooLong = refl
+fault_in-refusal BadLexeme = refl
+fault_in-refusal BadSyntax = refl
+fault_in-refusal TooDeep = refl
+fault_in-refusal UndefinedVariable = refl
+fault_in-refusal VariableAlreadyBound = refl
+fault_in-refusal BadAggregate = refl
+fault_in-refusal BadPattern = refl
+fault_in-refusal UnknownFunction = refl
+fault_in-refusal DuplicateColumn = refl
+fault_in-refusal MissingParameter = refl
+fault_in-refusal TypeFault = refl
+fault_in-refusal Overflow = refl
+fault_in-refusal DivisionByZero = refl
+fault_in-refusal ValueTooLarge = refl
+fault_in-refusal NotStorable = refl
+fault_in-refusal MergeNull = refl
+fault_in-refusal NodeStillConnected = refl
+fault_in-refusal DeletedEntity = refl
+fault_in-refusal NegativeCount = refl
+fault_in-refusal StepQuota = refl
+fault_in-refusal ElementQuota = refl
+fault_in-refusal IdsExhausted = refl
+fault_in-refusal IndexExists = refl
+fault_in-refusal NoSuchIndex = refl
+fault_in-refusal TooManyIndexes = refl
+fault_in-refusal ReplyTooLong = refl
+fault_in-refusal TenantBusy = refl
+fault_in-refusal NoTransaction = refl
+fault_in-refusal TransactionOpen = refl
+fault_in-refusal NoSuchPage = refl
+fault_in-refusal HeldRowsQuota = refl
+fault_in-refusal NotYet = refl
+fault_in-refusal OutOfMemory = refl
+
+pub refusals_differ : RefusalsDiffer
+refusals_differ f g e = sym (fault_in-refusal f) ∙ ap fault_in e ∙ fault_in-refusal g
+
+code_in-reply : (r : ReplyBody) → code_in (reply_text r) ≡ 0
+unfolding serde_json_on_literals digits reply_text
+code_in-reply (Query columns rows steps) = refl
+
+code_in-done : code_in done_text ≡ 0
+unfolding serde_json_on_literals digits
+code_in-done = refl
+
+code_in-last : code_in (refusal_text OutOfMemory) ≡ 99
+unfolding serde_json_on_literals digits
+code_in-last = refl
+
+apart : (n : ℕ) → n ≡ 0 → n ≡ 99 → ⊥
+apart n e f = omega arith
+
+no_refusal : (s : List ℕ) (f : Fault) → code_in s ≡ 0 → s ≢ refusal_text f
+no_refusal s f none e =
+    let last : f ≡ OutOfMemory = sym (fault_in-refusal f) ∙ ap fault_in (sym e) ∙ ap (λ n. with_code n faults) none in
+    apart (code_in s) none (ap code_in (e ∙ ap refusal_text last) ∙ code_in-last)
+
+pub replies_are_no_refusals : RepliesAreNoRefusals
+replies_are_no_refusals r f = no_refusal (reply_text r) f (code_in-reply r)
+
+pub done_is_no_refusal : DoneIsNoRefusal
+done_is_no_refusal f = no_refusal done_text f code_in-done

@@ -1,0 +1,8 @@
+use Rattle.std.proofs.Common.{rules}
+use Rattle.std.specs.Fmt.{digits}
+use Rattle.serde_json.proofs.OnLiterals.{serde_json_on_literals}
+use Rattle.pg_json.proofs.bytes.done.Goals as goal
+
+pub returns : goal.returns
+unfolding serde_json_on_literals digits
+returns c = search rules

@@ -1,0 +1,12 @@
+use Rattle.std.proofs.Common.{option_map, sym, ap, ◌∙◌}
+use Rattle.serde_json.specs.View.{view, members_view}
+use Rattle.serde_json.specs.Find.{get_member}
+use Rattle.serde_json.proofs.Views.{view-lookup}
+use Rattle.pg_json.proofs.Taking.{get_member-remove_entry}
+use Rattle.pg_json.proofs.read.take.Goals as goal
+
+pub returns-clause-value : goal.returns-clause-value
+returns-clause-value c = ap (option_map view) c.remove.ensures.value ∙ view-lookup c.args.name.now c.args.members.now.entries
+
+pub returns-clause-others : goal.returns-clause-others
+returns-clause-others c k other = ap (λ es. get_member k (members_view es)) c.remove.ensures.entries ∙ get_member-remove_entry k c.args.name.now c.args.members.now.entries other

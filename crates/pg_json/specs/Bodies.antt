@@ -1,0 +1,8 @@
+-- What contracts see of a request.
+use Rattle.std.specs.Prelude.{string_bytes}
+use Rattle.pg_json.specs.Requests.{Request, query}
+use Rattle.pg_json.specs.declared.request.RequestBody.{RequestBody}
+use Rattle.pg_json.specs.declared.request.RequestBody.TheVariants.{Query}
+
+abbrev pub request_view : RequestBody → Request
+request_view (Query token text) = query (string_bytes token) (string_bytes text)

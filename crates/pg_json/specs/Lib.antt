@@ -1,0 +1,7 @@
+pub mod Requests
+pub mod Bodies
+pub mod Replies
+pub mod Refusals
+pub mod Bytes
+pub mod Room
+pub mod Laws

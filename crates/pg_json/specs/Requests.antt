@@ -1,0 +1,48 @@
+-- The request that a body is: one object with exactly the keys of its operation.
+use Rattle.std.specs.Prelude.{ℕ, List, [], ◌∷◌, Bool, true, false, ◌&&◌, ◌||◌, Option, Some, None, option_map, option_and_then, if◌then◌else◌, codes}
+use Rattle.std.specs.Str.{bytes_eq, is_utf8}
+use Rattle.serde_json.specs.Data.{Data, Members, no_members, member}
+use Rattle.serde_json.specs.Find.{get_member, as_str, as_object}
+use Rattle.serde_json.specs.Read.{read}
+
+-- what is asked for; a text is its bytes
+pub data Request : Type 0 where
+  query : List ℕ → List ℕ → Request
+
+-- the text at a key
+abbrev pub text_at : List ℕ → Members → Option (List ℕ)
+text_at k ms = option_and_then as_str (get_member k ms)
+
+abbrev pub is_one_of : List (List ℕ) → List ℕ → Bool
+is_one_of [] k = false
+is_one_of (x ∷ xs) k = bytes_eq k x || is_one_of xs k
+
+-- each key is one of these
+abbrev pub has_only : List (List ℕ) → Members → Bool
+has_only names no_members = true
+has_only names (member k d ms) = is_one_of names k && has_only names ms
+
+abbrev pub query_keys : List (List ℕ)
+query_keys = codes "op" ∷ codes "token" ∷ codes "text" ∷ []
+
+abbrev pub query_of : Members → Option Request
+query_of ms = option_and_then (λ token. option_map (λ text. query token text) (text_at (codes "text") ms)) (text_at (codes "token") ms)
+
+abbrev pub with_only : List (List ℕ) → Members → Option Request → Option Request
+with_only names ms r = if has_only names ms then r else None
+
+-- a line an operation: its name, the keys that it may have, what it asks for
+abbrev pub by_op : List ℕ → Members → Option Request
+by_op op ms =
+    if bytes_eq op (codes "query") then with_only query_keys ms (query_of ms)
+    else None
+
+abbrev pub object_request : Members → Option Request
+object_request ms = option_and_then (λ op. by_op op ms) (text_at (codes "op") ms)
+
+abbrev pub request_of : Data → Option Request
+request_of d = option_and_then object_request (as_object d)
+
+-- the request that the bytes are, read as serde_json reads them
+abbrev pub meaning : List ℕ → Option Request
+meaning body = if is_utf8 body then option_and_then request_of (read body) else None

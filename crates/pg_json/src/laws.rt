@@ -1,0 +1,16 @@
+//! What tells replies apart. A function without a body says that it holds.
+
+ghost use Rattle.pg_json.specs.Laws.{RefusalsDiffer, RepliesAreNoRefusals, DoneIsNoRefusal};
+
+/// No two faults have one text.
+#[tactic(auto, using(crate::proofs::Codes::refusals_differ))]
+pub fn law_of_refusals()
+    ensures { RefusalsDiffer }
+{}
+
+/// What answers a request that isn't refused is never the text of a refusal.
+#[tactic(auto, using(crate::proofs::Codes::replies_are_no_refusals, crate::proofs::Codes::done_is_no_refusal))]
+pub fn law_of_replies()
+    ensures replies { RepliesAreNoRefusals }
+    ensures done { DoneIsNoRefusal }
+{}

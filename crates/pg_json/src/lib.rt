@@ -1,0 +1,20 @@
+//! Requests and replies as JSON. No other crate reads or writes it.
+#![tactic(auto)]
+
+mod bytes;
+mod laws;
+mod read;
+mod reply;
+mod request;
+mod room;
+#[cfg(test)]
+mod tests;
+mod value;
+mod write;
+
+pub use bytes::{ReplyBytes, done, refusal};
+pub use laws::{law_of_refusals, law_of_replies};
+pub use read::read_request;
+pub use reply::ReplyBody;
+pub use request::RequestBody;
+pub use write::write_reply;

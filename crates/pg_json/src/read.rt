@@ -1,0 +1,112 @@
+//! From a body to a request.
+ghost use Rattle.std.specs.Prelude.{◌≡◌, ◌≢◌, IfOk, IfErr, None, Some, List, ℕ, option_map, option_and_then, string_bytes, map};
+ghost use Rattle.serde_json.specs.View.{view, members_view};
+ghost use Rattle.serde_json.specs.Find.{as_str, get_member};
+ghost use Rattle.pg_json.specs.Requests.{meaning, request_of, object_request, query_of, text_at as spec_text_at, has_only as spec_has_only, is_one_of as spec_is_one_of};
+ghost use Rattle.pg_json.specs.Bodies.{request_view};
+ghost use Rattle.pg_meaning.specs.declared.fault.Fault.TheVariants.{BadRequest, OutOfMemory};
+
+use crate::request::RequestBody;
+use pg_meaning::Fault;
+use serde_json::{Map, Value};
+use std::alloc::Global;
+
+/// The request that a frame's body is.
+pub fn read_request(alloc: Global, body: &[u8]) -> Result<RequestBody, Fault>
+    ensures ok { IfOk result (λ r. meaning body.now ≡ Some (request_view r)) }
+    ensures kind { IfErr result (λ e. e ≢ OutOfMemory → e ≡ BadRequest) }
+    ensures refused { IfErr result (λ e. e ≢ OutOfMemory → meaning body.now ≡ None) }
+{
+    let Ok(text) = simdutf8::basic::from_utf8(body) else {
+        return Err(Fault::BadRequest);
+    };
+    match Value::from_str(alloc, text) {
+        Ok(value) => request_from(value).ok_or(Fault::BadRequest),
+        Err(e) if e.is_memory() => Err(Fault::OutOfMemory),
+        Err(_) => Err(Fault::BadRequest),
+    }
+}
+
+fn request_from(value: Value) -> Option<RequestBody>
+    ensures { option_map request_view result ≡ request_of (view value) }
+{
+    match value {
+        Value::Object(members) => object_from(members),
+        _ => None,
+    }
+}
+
+fn object_from(members: Map<String, Value>) -> Option<RequestBody>
+    ensures { option_map request_view result ≡ object_request (members_view members.entries) }
+{
+    let op = text_at(&members, "op")?;
+    if op == "query" && has_only(&members, &["op", "token", "text"]) {
+        return query_from(members);
+    }
+    None
+}
+
+fn query_from(mut members: Map<String, Value>) -> Option<RequestBody>
+    ensures { option_map request_view result ≡ query_of (members_view members.entries) }
+{
+    let token = take_text(&mut members, "token")?;
+    let text = take_text(&mut members, "text")?;
+    Some(RequestBody::Query { token, text })
+}
+
+fn text_at<'a>(members: &'a Map<String, Value>, name: &str) -> Option<&'a str>
+    ensures { option_map (λ t. t.now) result ≡ spec_text_at name.now (members_view members.now.entries) }
+{
+    find(members, name)?.as_str()
+}
+
+fn find<'a>(members: &'a Map<String, Value>, name: &str) -> Option<&'a Value>
+    ensures { option_map (λ v. view v.now) result ≡ get_member name.now (members_view members.now.entries) }
+{
+    members.get(name)
+}
+
+fn take_text(members: &mut Map<String, Value>, name: &str) -> Option<String>
+    ensures text { option_map string_bytes result ≡ spec_text_at name.now (members_view members.old.entries) }
+    ensures others { (k : List ℕ) → k ≢ name.now → get_member k (members_view members.new.entries) ≡ get_member k (members_view members.old.entries) }
+{
+    text_from(take(members, name)?)
+}
+
+fn take(members: &mut Map<String, Value>, name: &str) -> Option<Value>
+    ensures value { option_map view result ≡ get_member name.now (members_view members.old.entries) }
+    ensures others { (k : List ℕ) → k ≢ name.now → get_member k (members_view members.new.entries) ≡ get_member k (members_view members.old.entries) }
+{
+    members.remove(name)
+}
+
+fn text_from(value: Value) -> Option<String>
+    ensures { option_map string_bytes result ≡ as_str (view value) }
+{
+    match value {
+        Value::String(text) => Some(text),
+        _ => None,
+    }
+}
+
+fn has_only(members: &Map<String, Value>, names: &[&str]) -> bool
+    ensures { result ≡ spec_has_only (map (λ n. n.now) names.now) (members_view members.now.entries) }
+{
+    for (key, _) in members.iter() {
+        if !is_one_of(names, key.as_str()) {
+            return false;
+        }
+    }
+    true
+}
+
+fn is_one_of(names: &[&str], key: &str) -> bool
+    ensures { result ≡ spec_is_one_of (map (λ n. n.now) names.now) key.now }
+{
+    for name in names {
+        if key == *name {
+            return true;
+        }
+    }
+    false
+}

@@ -1,0 +1,167 @@
+//! A value's tokens.
+ghost use Rattle.std.specs.Prelude.{◌≡◌, ◌++◌, ◌∷◌, [], OnOk, codes, decimal};
+ghost use Rattle.json.specs.Tree.{json_tokens, items_tokens, members_tokens};
+ghost use Rattle.json.specs.Token.{key as key_token, number as number_token, string as string_token, begin_object};
+ghost use Rattle.serde_json.specs.Data.{array};
+ghost use Rattle.serde_json.specs.Written.{outline, items_outline, members_outline};
+ghost use Rattle.pg_json.specs.Replies.{data_of, outs, named_outs, text_items, node_data, rel_data, path_data};
+
+use json::Writer;
+use pg_value_core::{NodeId, Out, RelId};
+use std::alloc::AllocError;
+use std::collections::BTreeMap;
+
+#[cycle(write)]
+#[tactic(auto, using(crate::proofs::Elements::data_node, crate::proofs::Elements::data_rel))]
+fn write(value: &Out, to: &mut Writer) -> Result<(), AllocError>
+    ensures ok { OnOk result (to.new.tokens ≡ to.old.tokens ++ json_tokens (outline (data_of value.now))) }
+    ensures before { to.new.before ≡ to.old.before }
+{
+    match value {
+        Out::Null => to.null(),
+        Out::Bool(b) => to.boolean(*b),
+        Out::Int(i) => to.i64(*i),
+        Out::Text(text) => to.string(text),
+        Out::List(items) => {
+            to.begin_array()?;
+            write_items(items, to)
+        }
+        Out::Map(members) => {
+            to.begin_object()?;
+            write_members(members, to)
+        }
+        Out::Node {
+            id,
+            labels,
+            properties,
+        } => write_node(*id, labels, properties, to),
+        Out::Rel {
+            id,
+            kind,
+            start,
+            end,
+            properties,
+        } => write_rel(*id, kind, *start, *end, properties, to),
+        Out::Path(elements) => write_path(elements, to),
+    }
+}
+
+#[cycle(write)]
+fn write_node(
+    id: NodeId,
+    labels: &[String],
+    properties: &BTreeMap<String, Out>,
+    to: &mut Writer,
+) -> Result<(), AllocError>
+    ensures ok { OnOk result (to.new.tokens ≡ to.old.tokens ++ json_tokens (outline (node_data id.0 (text_items labels.now) (named_outs properties.now.entries)))) }
+    ensures before { to.new.before ≡ to.old.before }
+{
+    to.begin_object()?;
+    write_natural("$node", id.0, to)?;
+    write_labels(labels, to)?;
+    write_properties(properties, to)?;
+    to.end_object()
+}
+
+#[cycle(write)]
+fn write_rel(
+    id: RelId,
+    kind: &str,
+    start: NodeId,
+    end: NodeId,
+    properties: &BTreeMap<String, Out>,
+    to: &mut Writer,
+) -> Result<(), AllocError>
+    ensures ok { OnOk result (to.new.tokens ≡ to.old.tokens ++ json_tokens (outline (rel_data id.0 end.0 (named_outs properties.now.entries) start.0 kind.now))) }
+    ensures before { to.new.before ≡ to.old.before }
+{
+    to.begin_object()?;
+    write_natural("$rel", id.0, to)?;
+    write_natural("end", end.0, to)?;
+    write_properties(properties, to)?;
+    write_natural("start", start.0, to)?;
+    write_type(kind, to)?;
+    to.end_object()
+}
+
+#[cycle(write)]
+fn write_properties(properties: &BTreeMap<String, Out>, to: &mut Writer) -> Result<(), AllocError>
+    ensures ok { OnOk result (to.new.tokens ≡ to.old.tokens ++ key_token (codes "properties") ∷ begin_object ∷ members_tokens (members_outline (named_outs properties.now.entries))) }
+    ensures before { to.new.before ≡ to.old.before }
+{
+    to.key("properties")?;
+    to.begin_object()?;
+    write_members(properties, to)
+}
+
+#[cycle(write)]
+fn write_path(elements: &[Out], to: &mut Writer) -> Result<(), AllocError>
+    ensures ok { OnOk result (to.new.tokens ≡ to.old.tokens ++ json_tokens (outline (path_data (outs elements.now)))) }
+    ensures before { to.new.before ≡ to.old.before }
+{
+    to.begin_object()?;
+    to.key("$path")?;
+    to.begin_array()?;
+    write_items(elements, to)?;
+    to.end_object()
+}
+
+/// The items and the closing bracket.
+#[cycle(write)]
+pub(crate) fn write_items(items: &[Out], to: &mut Writer) -> Result<(), AllocError>
+    ensures ok { OnOk result (to.new.tokens ≡ to.old.tokens ++ items_tokens (items_outline (outs items.now))) }
+    ensures before { to.new.before ≡ to.old.before }
+{
+    for item in items {
+        write(item, to)?;
+    }
+    to.end_array()
+}
+
+/// The members and the closing bracket.
+#[cycle(write)]
+fn write_members(members: &BTreeMap<String, Out>, to: &mut Writer) -> Result<(), AllocError>
+    ensures ok { OnOk result (to.new.tokens ≡ to.old.tokens ++ members_tokens (members_outline (named_outs members.now.entries))) }
+    ensures before { to.new.before ≡ to.old.before }
+{
+    for (key, member) in members.iter() {
+        to.key(key)?;
+        write(member, to)?;
+    }
+    to.end_object()
+}
+
+fn write_labels(labels: &[String], to: &mut Writer) -> Result<(), AllocError>
+    ensures ok { OnOk result (to.new.tokens ≡ to.old.tokens ++ key_token (codes "labels") ∷ json_tokens (outline (array (text_items labels.now)))) }
+    ensures before { to.new.before ≡ to.old.before }
+{
+    to.key("labels")?;
+    write_texts(labels, to)
+}
+
+pub(crate) fn write_texts(texts: &[String], to: &mut Writer) -> Result<(), AllocError>
+    ensures ok { OnOk result (to.new.tokens ≡ to.old.tokens ++ json_tokens (outline (array (text_items texts.now)))) }
+    ensures before { to.new.before ≡ to.old.before }
+{
+    to.begin_array()?;
+    for text in texts {
+        to.string(text)?;
+    }
+    to.end_array()
+}
+
+fn write_type(kind: &str, to: &mut Writer) -> Result<(), AllocError>
+    ensures ok { OnOk result (to.new.tokens ≡ to.old.tokens ++ key_token (codes "type") ∷ string_token kind.now ∷ []) }
+    ensures before { to.new.before ≡ to.old.before }
+{
+    to.key("type")?;
+    to.string(kind)
+}
+
+pub(crate) fn write_natural(name: &str, n: u64, to: &mut Writer) -> Result<(), AllocError>
+    ensures ok { OnOk result (to.new.tokens ≡ to.old.tokens ++ key_token name.now ∷ number_token (decimal n) ∷ []) }
+    ensures before { to.new.before ≡ to.old.before }
+{
+    to.key(name)?;
+    to.u64(n)
+}

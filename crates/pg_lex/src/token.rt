@@ -1,0 +1,43 @@
+use pg_meaning::{Keyword, Symbol};
+
+ghost use Rattle.std.specs.Prelude.{◌≤◌};
+
+/// A whole number as a text can spell it.
+#[derive(Clone, Copy, Debug, PartialEq, Eq)]
+pub struct Natural {
+    pub value: u64,
+    ghost within: { value ≤ 9223372036854775807 },
+}
+
+/// A lexeme with its decoded content. Where nothing is decoded, that is a part of the text.
+#[derive(Debug, PartialEq, Eq, Drop)]
+pub enum Lexeme<'a> {
+    /// No keyword.
+    Word(&'a str),
+    /// As it is spelled, since a keyword may be a name.
+    Keyword(Keyword, &'a str),
+    QuotedName(String),
+    Integer(Natural),
+    Text(String),
+    Parameter(&'a str),
+    QuotedParameter(String),
+    Symbol(Symbol),
+}
+
+/// A lexeme and the bytes of the text that spell it, from `start` up to `finish`.
+#[derive(Debug, PartialEq, Eq, Drop)]
+pub struct Token<'a> {
+    pub lexeme: Lexeme<'a>,
+    pub start: usize,
+    pub finish: usize,
+}
+
+/// What stands at a place, and the text behind it.
+#[derive(Drop)]
+pub(crate) enum Next<'a> {
+    /// Whitespace or a comment.
+    Gap(&'a str),
+    Found(Lexeme<'a>, &'a str),
+    /// No lexeme.
+    Bad,
+}

@@ -1,0 +1,49 @@
+-- How the one answer and the meaning agree: what is said of a clause, and of a whole query.
+use Rattle.std.specs.Prelude.{◌≡◌, ℕ, Bool, ◌⊎◌, List, [], Result, Ok, Err, is_some}
+use Rattle.std.specs.List.{AllByRecursion}
+use Rattle.pg_meaning.specs.Graph.{Graph, IsGraph}
+use Rattle.pg_meaning.specs.Meaning.{given_of, Step, StepFaults, Means, MayFault}
+use Rattle.pg_meaning.specs.Meters.{Setting, State}
+use Rattle.pg_meaning.specs.Names.{Names, is_among}
+use Rattle.pg_meaning.specs.Plans.{Plan, ArePlanned, IsPlanOf}
+use Rattle.pg_meaning.specs.Queries.{Outcome, clause_step, ordered}
+use Rattle.pg_meaning.specs.Rows.{Row, value_in}
+use Rattle.pg_meaning.specs.Scopes.{scope_after}
+use Rattle.pg_meaning.specs.StaticFaults.{clause_faults, static_faults}
+use Rattle.pg_meaning.specs.Tree.{Clause, Query}
+use Rattle.pg_meaning.specs.Value.{Entries}
+use Rattle.pg_meaning.specs.declared.fault.Fault.{Fault}
+use Rattle.pg_meaning.specs.declared.fault.Fault.TheVariants.{StepQuota}
+
+-- what the relations are given of a clause's setting
+abbrev pub given : Setting → Setting
+given s = given_of s.parameters s.quota.max_elements s.scope
+
+-- each row binds the names in scope and no other
+abbrev pub AreRowsOf : Names → List Row → Type 0
+AreRowsOf scope rows = AllByRecursion (λ row. (name : List ℕ) → is_some (value_in name row) ≡ is_among scope name) rows
+
+-- the rows and the graph are ones that the clause may give, and a fault but the quota of steps is one in which it may end
+abbrev pub AnswerAgrees : Setting → Clause → State → Result State Fault → Type 0
+AnswerAgrees s c state (Ok next) = Step (given s) c state.graph state.rows next.graph next.rows × IsGraph next.graph × AreRowsOf (scope_after s.scope c) next.rows
+AnswerAgrees s c state (Err f) = (f ≡ StepQuota) ⊎ StepFaults (given s) c state.graph state.rows f
+
+-- so it is at every state, for every plan of the clause; each kind of clause joins by a law of this form
+abbrev pub ClauseAgrees : Clause → Type 0
+ClauseAgrees c =
+    (s : Setting) (state : State) → clause_faults s.scope c ≡ [] → ArePlanned s.scope c s.anchors → IsGraph state.graph → AreRowsOf s.scope state.rows
+    → AnswerAgrees s c state (clause_step s c state)
+
+abbrev pub OutcomeAgrees : Query → (parameters : Entries) → (max_elements : ℕ) → Graph → Result Outcome Fault → Type 0
+OutcomeAgrees q parameters max_elements graph (Ok o) = Means q parameters max_elements graph o.columns o.rows o.graph × IsGraph o.graph
+OutcomeAgrees q parameters max_elements graph (Err f) = (f ≡ StepQuota) ⊎ MayFault q parameters max_elements graph f
+
+-- for every plan of the query
+abbrev pub QueryAgrees : Query → Type 0
+QueryAgrees q =
+    (plan : Plan) (parameters : Entries) (graph : Graph) (max_steps max_elements : ℕ) → static_faults q ≡ [] → IsPlanOf plan q → IsGraph graph
+    → OutcomeAgrees q parameters max_elements graph (ordered plan q parameters graph max_steps max_elements)
+
+-- a query agrees whose clauses do
+abbrev pub ClausesMakeQueries : Type 0
+ClausesMakeQueries = (q : Query) → AllByRecursion ClauseAgrees q.clauses → QueryAgrees q

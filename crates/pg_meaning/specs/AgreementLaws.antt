@@ -1,0 +1,157 @@
+-- A query agrees with its meaning where its clauses do: the chain of answers is a chain of steps.
+use Rattle.std.proofs.Common.{◌≡◌, ℕ, Bool, true, false, ◌⊎◌, inl, inr, List, [], ◌∷◌, ◌++◌, map, flat_map, Result, Ok, Err, is_some, length, ◌+◌, nat_le, bytes_eq, refl, sym, ap, subst, ◌∙◌}
+use Rattle.std.specs.List.{AllByRecursion}
+use Rattle.pg_meaning.specs.Agreement.{given, AreRowsOf, AnswerAgrees, ClauseAgrees, OutcomeAgrees, QueryAgrees, ClausesMakeQueries}
+use Rattle.pg_meaning.specs.Answer.{◌>>=◌, ◌>>◌, unless, each_step}
+use Rattle.pg_meaning.specs.Graph.{Graph, IsGraph, has_node, has_relationship}
+use Rattle.pg_meaning.specs.Lists.{IsIn}
+use Rattle.pg_meaning.specs.Meaning.{given_of, Step, StepFaults, Steps, StepsFault, Means, MayFault, output_of}
+use Rattle.pg_meaning.specs.Meters.{Setting, State, Quota, spend}
+use Rattle.pg_meaning.specs.Names.{Names, is_among}
+use Rattle.pg_meaning.specs.Plans.{Plan, Anchor, ArePlanned, IsPlanFrom, IsPlanOf}
+use Rattle.pg_meaning.specs.Queries.{Outcome, clause_step, clauses_run, ordered, output_rows, returns, test_output, test_present, test_ids, test_items, test_entries}
+use Rattle.pg_meaning.specs.Rows.{Row}
+use Rattle.pg_meaning.specs.Scopes.{scope_after, columns}
+use Rattle.pg_meaning.specs.StaticFaults.{Found, clause_faults, clauses_faults, static_faults}
+use Rattle.pg_meaning.specs.Tree.{Clause, Query}
+use Rattle.pg_meaning.specs.Value.{Value, null, boolean, integer, text, list, mapping, node, relationship, path, Values, no_items, item, Entries, no_entries, entry}
+use Rattle.pg_meaning.specs.declared.fault.Fault.{Fault}
+use Rattle.pg_meaning.specs.declared.fault.Fault.TheVariants.{StepQuota, DeletedEntity}
+
+no_first : {X : Type 0} (xs ys : List X) → xs ++ ys ≡ [] → xs ≡ []
+no_first [] ys e = refl
+no_first (x ∷ xs) ys e = cc
+
+no_second : {X : Type 0} (xs ys : List X) → xs ++ ys ≡ [] → ys ≡ []
+no_second [] ys e = e
+no_second (x ∷ xs) ys e = cc
+
+-- ---- clauses
+
+abbrev setting : Entries → Quota → Names → List Anchor → Setting
+setting parameters quota scope anchors = record { parameters = parameters; quota = quota; scope = scope; anchors = anchors }
+
+-- what the rest of the clauses gives
+abbrev RestAgrees : Entries → Quota → Query → Names → List Clause → State → Result State Fault → Type 0
+RestAgrees parameters quota q scope cs state (Ok last) = Steps parameters quota.max_elements scope cs state.graph state.rows last.graph last.rows × IsGraph last.graph
+RestAgrees parameters quota q scope cs state (Err f) = (f ≡ StepQuota) ⊎ StepsFault parameters quota.max_elements q scope cs state.graph state.rows f
+
+first_then_rest : (parameters : Entries) (quota : Quota) (q : Query) (scope : Names) (c : Clause) (cs : List Clause) (anchors : List Anchor) (plan : Plan) (state : State)
+    → (r : Result State Fault) → AnswerAgrees (setting parameters quota scope anchors) c state r
+    → ((next : State) → IsGraph next.graph → AreRowsOf (scope_after scope c) next.rows → RestAgrees parameters quota q (scope_after scope c) cs next (clauses_run parameters quota (scope_after scope c) plan cs next))
+    → RestAgrees parameters quota q scope (c ∷ cs) state (r >>= λ next. clauses_run parameters quota (scope_after scope c) plan cs next)
+first_then_rest parameters quota q scope c cs anchors plan state (Err f) (inl e) rest = inl e
+first_then_rest parameters quota q scope c cs anchors plan state (Err f) (inr e) rest = inr (inl e)
+first_then_rest parameters quota q scope c cs anchors plan state (Ok next) h rest =
+    joined (clauses_run parameters quota (scope_after scope c) plan cs next) (rest next h.1 h.2)
+  where
+    joined : (r : Result State Fault) → RestAgrees parameters quota q (scope_after scope c) cs next r → RestAgrees parameters quota q scope (c ∷ cs) state r
+    joined (Ok last) g = ((next.graph, next.rows, h.0, g.0), g.1)
+    joined (Err f) (inl e) = inl e
+    joined (Err f) (inr e) = inr (inr (next.graph, next.rows, h.0, e))
+
+rest_agrees : (parameters : Entries) (quota : Quota) (q : Query) (scope : Names) (cs : List Clause) (plan : Plan) (state : State)
+    → AllByRecursion ClauseAgrees cs → clauses_faults scope cs ≡ [] → IsPlanFrom scope cs plan → IsGraph state.graph → AreRowsOf scope state.rows
+    → RestAgrees parameters quota q scope cs state (clauses_run parameters quota scope plan cs state)
+rest_agrees parameters quota q scope [] plan state agrees faults planned g rows = ((refl, refl), g)
+rest_agrees parameters quota q scope (c ∷ cs) [] state agrees faults planned g rows = absurd planned
+rest_agrees parameters quota q scope (c ∷ cs) (anchors ∷ plan) state agrees faults planned g rows =
+    first_then_rest parameters quota q scope c cs anchors plan state
+    (clause_step (setting parameters quota scope anchors) c state)
+    (agrees.0 (setting parameters quota scope anchors) state (no_first (clause_faults scope c) _ faults) planned.0 g rows)
+    (λ next h rows_after. rest_agrees parameters quota q (scope_after scope c) cs plan next agrees.1 (no_second (clause_faults scope c) _ faults) planned.1 h rows_after)
+
+-- ---- output
+
+is_deleted_fault : (b : Bool) (f : Fault) → unless b DeletedEntity ≡ Err f → f ≡ DeletedEntity
+is_deleted_fault true f e = cc
+is_deleted_fault false f e = cc
+
+after_test : (P : Fault → Type 0) {Y : Type 0} (a : Result (Unit {0}) Fault) (b : Result Y Fault) (f : Fault) → (a >> b) ≡ Err f → (a ≡ Err f → P f) → (b ≡ Err f → P f) → P f
+after_test P (Ok x) b f e p q = q e
+after_test P (Err g) b f e p q = p (fault_is g f e)
+  where
+    fault_is : {A B : Type 0} (g f : Fault) → ◌≡◌ {A = Result A Fault} (Err g) (Err f) → ◌≡◌ {A = Result B Fault} (Err g) (Err f)
+    fault_is g f h = cc
+
+ids_deleted : (graph : Graph) (ids : List ℕ) (f : Fault) → test_ids graph ids ≡ Err f → f ≡ DeletedEntity
+ids_deleted graph [] f e = cc
+ids_deleted graph (n ∷ []) f e = is_deleted_fault (has_node graph n) f e
+ids_deleted graph (n ∷ r ∷ ids) f e =
+    after_test (λ f. f ≡ DeletedEntity) (test_present (has_node graph n) >> test_present (has_relationship graph r)) (test_ids graph ids) f e
+    (λ a. after_test (λ f. f ≡ DeletedEntity) (test_present (has_node graph n)) (test_present (has_relationship graph r)) f a (is_deleted_fault _ f) (is_deleted_fault _ f))
+    (ids_deleted graph ids f)
+
+mutual
+  output_deleted : (graph : Graph) (v : Value) (f : Fault) → test_output graph v ≡ Err f → f ≡ DeletedEntity
+  output_deleted graph null f e = cc
+  output_deleted graph (boolean b) f e = cc
+  output_deleted graph (integer i) f e = cc
+  output_deleted graph (text s) f e = cc
+  output_deleted graph (list vs) f e = items_deleted graph vs f e
+  output_deleted graph (mapping es) f e = entries_deleted graph es f e
+  output_deleted graph (node n) f e = is_deleted_fault (has_node graph n) f e
+  output_deleted graph (relationship r) f e = is_deleted_fault (has_relationship graph r) f e
+  output_deleted graph (path ids) f e = ids_deleted graph ids f e
+
+  items_deleted : (graph : Graph) (vs : Values) (f : Fault) → test_items graph vs ≡ Err f → f ≡ DeletedEntity
+  items_deleted graph no_items f e = cc
+  items_deleted graph (item v vs) f e = after_test (λ f. f ≡ DeletedEntity) (test_output graph v) (test_items graph vs) f e (output_deleted graph v f) (items_deleted graph vs f)
+
+  entries_deleted : (graph : Graph) (es : Entries) (f : Fault) → test_entries graph es ≡ Err f → f ≡ DeletedEntity
+  entries_deleted graph no_entries f e = cc
+  entries_deleted graph (entry k v es) f e = after_test (λ f. f ≡ DeletedEntity) (test_output graph v) (test_entries graph es) f e (output_deleted graph v f) (entries_deleted graph es f)
+
+abbrev Tested : Graph → List Value → Result (Unit {0}) Fault → Type 0
+Tested graph vs (Ok x) = AllByRecursion (λ v. test_output graph v ≡ Ok tt) vs
+Tested graph vs (Err f) = (f ≡ DeletedEntity) × (v : Value) × IsIn v vs × (test_output graph v ≡ Err DeletedEntity)
+
+tested : (graph : Graph) (vs : List Value) → Tested graph vs (each_step (λ done v. test_output graph v) tt vs)
+tested graph [] = tt
+tested graph (v ∷ vs) = by_first (test_output graph v) refl (tested graph vs)
+  where
+    by_rest : test_output graph v ≡ Ok tt → (r : Result (Unit {0}) Fault) → Tested graph vs r → Tested graph (v ∷ vs) r
+    by_rest e (Ok x) h = (e, h)
+    by_rest e (Err f) h = (h.0, h.1, inr h.2, h.3)
+
+    by_first : (r : Result (Unit {0}) Fault) → test_output graph v ≡ r → Tested graph vs (each_step (λ done v. test_output graph v) tt vs)
+        → Tested graph (v ∷ vs) (r >>= λ done. each_step (λ done v. test_output graph v) done vs)
+    by_first (Ok x) e rest = by_rest e (each_step (λ done v. test_output graph v) tt vs) rest
+    by_first (Err f) e rest = let is = output_deleted graph v f e in (is, v, inl refl, subst (λ g. test_output graph v ≡ Err g) is e)
+
+-- a deleted element in the output of the last clause is a fault of the chain
+at_the_end : (parameters : Entries) (max_elements : ℕ) (q : Query) (scope : Names) (cs : List Clause) (graph : Graph) (rows : List Row) (after : Graph) (results : List Row) (f : Fault)
+    → Steps parameters max_elements scope cs graph rows after results
+    → (f ≡ DeletedEntity) × (v : Value) × IsIn v (output_of q results) × (test_output after v ≡ Err DeletedEntity)
+    → StepsFault parameters max_elements q scope cs graph rows f
+at_the_end parameters max_elements q scope [] graph rows after results f s h =
+    (h.0, h.1, subst (λ rs. IsIn h.1 (output_of q rs)) s.1 h.2, subst (λ g. test_output g h.1 ≡ Err DeletedEntity) s.0 h.3)
+at_the_end parameters max_elements q scope (c ∷ cs) graph rows after results f s h =
+    inr (s.0, s.1, s.2, at_the_end parameters max_elements q (scope_after scope c) cs s.0 s.1 after results f s.3 h)
+
+-- ---- queries
+
+abbrev finished : Query → State → Result Outcome Fault
+finished q last =
+    each_step (λ done v. test_output last.graph v) tt (flat_map (λ r. r) (output_rows (returns q.clauses) last.rows))
+    >> Ok (record { columns = columns q; rows = output_rows (returns q.clauses) last.rows; graph = last.graph; steps = last.steps })
+
+outcome_agrees : (q : Query) (parameters : Entries) (quota : Quota) (graph : Graph) (r : Result State Fault)
+    → RestAgrees parameters quota q [] q.clauses (record { graph = graph; rows = [] ∷ []; steps = 0 }) r
+    → OutcomeAgrees q parameters quota.max_elements graph (r >>= finished q)
+outcome_agrees q parameters quota graph (Err f) (inl e) = inl e
+outcome_agrees q parameters quota graph (Err f) (inr e) = inr e
+outcome_agrees q parameters quota graph (Ok last) h =
+    by_test (each_step (λ done v. test_output last.graph v) tt (output_of q last.rows)) (tested last.graph (output_of q last.rows))
+  where
+    by_test : (t : Result (Unit {0}) Fault) → Tested last.graph (output_of q last.rows) t
+        → OutcomeAgrees q parameters quota.max_elements graph (t >> Ok (record { columns = columns q; rows = output_rows (returns q.clauses) last.rows; graph = last.graph; steps = last.steps }))
+    by_test (Ok x) live = (record { results = last.rows; steps = h.0; named = refl; shown = refl; live = live }, h.1)
+    by_test (Err f) dead = inr (at_the_end parameters quota.max_elements q [] q.clauses graph ([] ∷ []) last.graph last.rows f h.0 dead)
+
+pub clauses_make_queries : ClausesMakeQueries
+unfolding static_faults
+clauses_make_queries q agrees plan parameters graph max_steps max_elements faults planned g =
+    let quota : Quota = record { max_steps = max_steps; max_elements = max_elements } in
+    outcome_agrees q parameters quota graph (clauses_run parameters quota [] plan q.clauses (record { graph = graph; rows = [] ∷ []; steps = 0 }))
+    (rest_agrees parameters quota q [] q.clauses plan (record { graph = graph; rows = [] ∷ []; steps = 0 }) agrees faults planned g ((λ name. refl), tt))

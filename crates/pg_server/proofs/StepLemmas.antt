@@ -1,0 +1,119 @@
+-- One request is a run of one exchange.
+use Rattle.std.proofs.Common.{◌≡◌, ◌≢◌, ℕ, ◌<◌, List, [], ◌∷◌, Bool, true, false, cond, length, arith, get_or, Option, Some, None, refl, sym, ap, ◌∙◌, subst, inl, inr}
+use Rattle.std.specs.Prelude.{◌&&◌, not, nat_eq, position}
+use Rattle.std.proofs.Math.Seq.{map-set_same}
+use Rattle.std.proofs.lemmas.Bool.Decides.{Decides-eqb, not_from_Decides}
+use Rattle.std.proofs.lemmas.List.{get_or-set_same, get_or-set_other, get_or_past}
+use Rattle.std.proofs.lemmas.Bool.{cases_lt, true≢false}
+use Rattle.std.proofs.lemmas.Grind.{common_steps}
+use Rattle.std.proofs.lemmas.List.Quantifiers.{position-Some}
+use Rattle.std.proofs.lemmas.List.Sums.{fails_before_first}
+use Rattle.std.proofs.lemmas.Slice.Eq.{bytes_eq-Decides}
+use Rattle.pg_json.specs.Refusals.{refusal_text}
+use Rattle.pg_json.specs.Requests.{Request, meaning}
+use Rattle.pg_meaning.specs.declared.fault.Fault.TheVariants.{UnknownToken, OutOfMemory}
+use Rattle.pg_server.specs.Exchange.{Exchange}
+use Rattle.pg_server.specs.Runs.{Runs, SoloRun, IsStrangers, IsStrangersReply, own, asked, token_of, shows_one_of, is_short, is_want_of_memory, fault_of_request}
+use Rattle.pg_server.specs.Settings.{is_among, comes_again, all_tokens, token_texts}
+use Rattle.pg_server.specs.Solo.{solo}
+use Rattle.pg_server.specs.State.{State, ServerState, state_at, tokens_of, settings_of, no_state, no_settings}
+use Rattle.pg_server.specs.Step.{Answers, StepAt, with_tenant, place_of}
+use Rattle.pg_server.proofs.DistinctLemmas.{others_lack}
+use Rattle.pg_server.proofs.ReplyLemmas.{settings_stay, solo_is_answered}
+use Rattle.pg_server.proofs.RunLemmas.{settings_at}
+
+none_passes : {X : Type 0} (p : X → Bool) (xs : List X) (k : ℕ) (d : X) → position p xs ≡ None → p d ≡ false → p (get_or xs k d) ≡ false
+none_passes p xs k d none past =
+    elim (cases_lt k (length xs)) as (λ _. p (get_or xs k d) ≡ false) [
+      | inl lt ↦ fails_before_first p xs k d (grind (arith, common_steps, none))
+      | inr ge ↦ ap p (get_or_past xs k d ge) ∙ past
+    ]
+
+and_false : (a b : Bool) → b ≡ false → a && b ≡ false
+and_false true b h = h
+and_false false b h = refl
+
+and_true : (a b : Bool) → b ≡ true → a && b ≡ a
+and_true true b h = h
+and_true false b h = refl
+
+asked_is : (body : List ℕ) (request : Request) → is_short body ≡ true → meaning body ≡ Some request → asked body ≡ Some request
+asked_is body request short means = ap (λ b. cond b (meaning body) None) short ∙ means
+
+-- an exchange that is no tenant's own leaves the server as it is
+module _ (server : ServerState) (body reply : List ℕ) (strangers : IsStrangers server body → IsStrangersReply body reply) where
+  pub left_alone : ((t : ℕ) → shows_one_of (tokens_of (state_at server t)) (asked body) && not (is_want_of_memory reply) ≡ false) → Runs server (record { body = body; reply = reply } ∷ []) server
+  left_alone none =
+      record {
+        cache = refl;
+        settings = refl;
+        strangers = (strangers, tt);
+        solo = λ t. subst (λ b. SoloRun (state_at server t) (cond b (record { body = body; reply = reply } ∷ []) []) (state_at server t)) (sym (none t)) refl;
+      }
+
+-- want of memory
+pub out_of_memory : (server : ServerState) (body reply : List ℕ) → is_short body ≡ true → reply ≡ refusal_text OutOfMemory → Runs server (record { body = body; reply = reply } ∷ []) server
+out_of_memory server body reply short told =
+    left_alone server body reply (λ _. (λ long. let no : is_short body ≡ true = short in cc, λ _. inr told))
+    (λ t. and_false _ (not (is_want_of_memory reply)) (ap not (ap is_want_of_memory told ∙ (bytes_eq-Decides (refusal_text OutOfMemory) (refusal_text OutOfMemory)).1 refl)))
+
+module _ (old : ServerState) (body : List ℕ) (request : Request) (short : is_short body ≡ true) (means : meaning body ≡ Some request) where
+  asks : asked body ≡ Some request
+  asks = asked_is body request short means
+
+  pub unknown : (reply : List ℕ) → place_of (token_of request) old.tenants ≡ None → reply ≡ refusal_text UnknownToken → Runs old (record { body = body; reply = reply } ∷ []) old
+  unknown reply none told =
+      left_alone old body reply (λ _. (λ long. cc, λ _. inl (told ∙ ap (λ r. refusal_text (fault_of_request r)) (sym means))))
+      (λ t. ap (λ r. shows_one_of (tokens_of (state_at old t)) r && not (is_want_of_memory reply)) asks
+      ∙ ap (λ b. b && not (is_want_of_memory reply)) (none_passes (λ (s : State). is_among (token_of request) (tokens_of s)) old.tenants t no_state none refl))
+
+  module _ (t : ℕ) (found : place_of (token_of request) old.tenants ≡ Some t) where
+    place : (t < length old.tenants) × (is_among (token_of request) (tokens_of (state_at old t)) ≡ true) × ((k : ℕ) → k < t → is_among (token_of request) (tokens_of (state_at old k)) ≡ false)
+    place = position-Some (λ (s : State). is_among (token_of request) (tokens_of s)) old.tenants t no_state found
+
+    module _ (distinct : comes_again [] (all_tokens (settings_of old)) ≡ false) (reply : List ℕ) (told : reply ≡ (solo (state_at old t) request).reply) where
+      abbrev after : State
+      after = (solo (state_at old t) request).state
+
+      abbrev one : Exchange
+      one = record { body = body; reply = reply }
+
+      is_answered : is_want_of_memory reply ≡ false
+      is_answered = ap is_want_of_memory told ∙ solo_is_answered (state_at old t) request
+
+      is_own : (u : ℕ) → shows_one_of (tokens_of (state_at old u)) (asked body) && not (is_want_of_memory reply) ≡ is_among (token_of request) (tokens_of (state_at old u))
+      is_own u = and_true _ (not (is_want_of_memory reply)) (ap not is_answered) ∙ ap (shows_one_of (tokens_of (state_at old u))) asks
+
+      others : (u : ℕ) → t ≢ u → is_among (token_of request) (tokens_of (state_at old u)) ≡ false
+      others u ne =
+          ap (is_among (token_of request)) (ap token_texts (settings_at old.tenants u))
+          ∙ others_lack (settings_of old) t u no_settings (token_of request) refl distinct ne (ap (is_among (token_of request)) (ap token_texts (sym (settings_at old.tenants t))) ∙ place.1)
+
+      solo_at : (u : ℕ) (b : Bool) → nat_eq u t ≡ b → SoloRun (state_at old u) (own (tokens_of (state_at old u)) (one ∷ [])) (state_at (with_tenant old t after) u)
+      solo_at u true is =
+          let same : u ≡ t = (Decides-eqb u t).0 is in
+          subst (λ k. SoloRun (state_at old k) (own (tokens_of (state_at old k)) (one ∷ [])) (state_at (with_tenant old t after) k)) (sym same)
+          (subst (λ b. SoloRun (state_at old t) (cond b (one ∷ []) []) (state_at (with_tenant old t after) t)) (sym (is_own t ∙ place.1)) (request, asks, told, get_or-set_same old.tenants t after no_state place.0))
+      solo_at u false is =
+          let differ : u ≢ t = not_from_Decides (nat_eq u t) (Decides-eqb u t) is in
+          subst (λ b. SoloRun (state_at old u) (cond b (one ∷ []) []) (state_at (with_tenant old t after) u)) (sym (is_own u ∙ others u (λ e. differ (sym e))))
+          (get_or-set_other old.tenants t u after no_state differ)
+
+      pub by_tenant : Runs old (one ∷ []) (with_tenant old t after)
+      by_tenant =
+          record {
+            cache = refl;
+            settings = map-set_same (λ (s : State). s.settings) old.tenants t after no_state (settings_stay (state_at old t) request);
+            strangers = (λ none. let here : is_among (token_of request) (tokens_of (state_at old t)) ≡ false = sym (ap (shows_one_of (tokens_of (state_at old t))) asks) ∙ none t in absurd (true≢false (sym place.1 ∙ here)), tt);
+            solo = λ u. solo_at u (nat_eq u t) refl;
+          }
+
+-- one request, as the tenant found by its token answers it
+pub answered : (old new : ServerState) (body reply : List ℕ) (request : Request) → comes_again [] (all_tokens (settings_of old)) ≡ false
+    → is_short body ≡ true → meaning body ≡ Some request → Answers old request reply new → Runs old (record { body = body; reply = reply } ∷ []) new
+answered old new body reply request distinct short means step = by_place (place_of (token_of request) old.tenants) refl step
+  where
+    by_place : (o : Option ℕ) → place_of (token_of request) old.tenants ≡ o → StepAt o old request reply new → Runs old (record { body = body; reply = reply } ∷ []) new
+    by_place None none step = subst (Runs old (record { body = body; reply = reply } ∷ [])) (sym step.1) (unknown old body request short means reply none step.0)
+    by_place (Some t) found (inl h) = subst (Runs old (record { body = body; reply = reply } ∷ [])) (sym h.1) (out_of_memory old body reply short h.0)
+    by_place (Some t) found (inr h) = subst (Runs old (record { body = body; reply = reply } ∷ [])) (sym h.1) (by_tenant old body request short means t found distinct reply h.0)

@@ -1,0 +1,28 @@
+-- Tokens among those before them.
+use Rattle.std.proofs.Common.{◌≡◌, ℕ, List, ◌∷◌, map, Bool, true, false, not, cond, BTreeSet, Bor, nat_cmp, bytes_eq, refl, ap, ◌∙◌}
+use Rattle.std.specs.Prelude.{◌||◌}
+use Rattle.std.specs.BTreeSet.{contains, Updates}
+use Rattle.std.specs.Cmp.Lexicographic.{slice_cmp}
+use Rattle.std.proofs.lemmas.Map.Text.{is_eq-slice_cmp}
+use Rattle.pg_server.specs.Settings.{is_among, comes_again}
+
+or_is_cond : (a b : Bool) → cond a true b ≡ a || b
+or_is_cond true b = refl
+or_is_cond false b = refl
+
+-- a set with one text more
+pub among_more : (old new : BTreeSet (Bor (List ℕ))) (x : Bor (List ℕ)) (done : List (List ℕ)) → ((q : Bor (List ℕ)) → contains (λ x y. slice_cmp nat_cmp x.now y.now) old q ≡ is_among q.now done)
+    → Updates (λ x y. slice_cmp nat_cmp x.now y.now) old new x true
+    → (q : Bor (List ℕ)) → contains (λ x y. slice_cmp nat_cmp x.now y.now) new q ≡ is_among q.now (x.now ∷ done)
+among_more old new x done same updates q =
+    updates.0 q ∙ ap (λ b. cond b true (contains (λ x y. slice_cmp nat_cmp x.now y.now) old q)) (is_eq-slice_cmp x.now q.now)
+    ∙ ap (cond (bytes_eq x.now q.now) true) (same q) ∙ or_is_cond (bytes_eq x.now q.now) (is_among q.now done)
+
+-- a text that is new leaves the question to the others
+pub again_more : (done : List (List ℕ)) (x : Bor (List ℕ)) (texts rest : List (Bor (List ℕ))) → texts ≡ x ∷ rest → is_among x.now done ≡ false
+    → comes_again done (map (λ t. t.now) texts) ≡ comes_again (x.now ∷ done) (map (λ t. t.now) rest)
+again_more done x texts rest e new = ap (λ ts. comes_again done (map (λ t. t.now) ts)) e ∙ ap (λ b. b || comes_again (x.now ∷ done) (map (λ t. t.now) rest)) new
+
+pub was_new : (added within : Bool) → added ≡ not within → added ≡ true → within ≡ false
+was_new added true e h = cc
+was_new added false e h = refl

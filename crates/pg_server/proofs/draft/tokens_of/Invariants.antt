@@ -1,0 +1,8 @@
+use Rattle.std.proofs.Common.{◌≡◌, ◌++◌, drop, option_map}
+use Rattle.serde_json.specs.View.{items_view}
+use Rattle.pg_server.specs.Draft.{each, token_of}
+use Rattle.pg_server.proofs.draft.tokens_of.Given as goal
+
+abbrev pub invariant-loop-item : goal.invariant-loop-item
+invariant-loop-item l =
+    each token_of (items_view l.items.items) ≡ option_map (λ found. l.tokens.items ++ found) (each token_of (items_view (drop l.item-index l.items.items)))

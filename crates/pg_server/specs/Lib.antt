@@ -1,0 +1,15 @@
+pub mod ConfigLines
+pub mod Configuration
+pub mod Counts
+pub mod Draft
+pub mod Ends
+pub mod Exchange
+pub mod Frames
+pub mod Runs
+pub mod Served
+pub mod Serves
+pub mod Settings
+pub mod Solo
+pub mod State
+pub mod Step
+pub mod Wire

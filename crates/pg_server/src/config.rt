@@ -1,0 +1,172 @@
+//! The configuration of a server.
+ghost use Rattle.std.specs.Prelude.{◌≡◌, ◌≢◌, ℕ, ◌++◌, [], false, IfOk, IfErr, OnOk, Ok, Err, Some, None, map};
+ghost use Rattle.pg_server.specs.Settings.{all_tokens, token_texts as texts_of, comes_again as seen_again};
+ghost use Rattle.pg_server.specs.Configuration.{configuration, in_range as seen_in_range, tenant_in_range as seen_tenant, tenants_in_range as seen_tenants, settings_of_data, settings_of_draft};
+ghost use Rattle.serde_json.specs.View.{view};
+ghost use Rattle.pg_server.specs.declared.config_fault.ConfigFault.TheVariants.{OutOfRange, Memory};
+
+use crate::config_fault::ConfigFault;
+use crate::draft::{Draft, TenantDraft, draft_of};
+use crate::settings::TenantSettings;
+use serde_json::Value as Json;
+use std::alloc::{AllocError, Global};
+use std::collections::BTreeSet;
+use std::marker::Model;
+
+const MAX_CACHE: u64 = 65_536;
+const MAX_TENANTS: usize = 4_096;
+const MAX_QUOTA: u64 = 1_000_000_000;
+
+/// What a server begins with: a size for its plan cache, and its tenants. No two tokens are equal.
+#[derive(Drop)]
+pub struct Config {
+    cache: u64,
+    tenants: Vec<TenantSettings>,
+}
+
+impl Model for Config {
+    ghost use Rattle.std.specs.Prelude.{◌≡◌, false};
+    ghost use Rattle.pg_server.specs.Settings.{Settings};
+    ghost use Rattle.pg_server.specs.Configuration.{has_token_twice};
+
+    ghost Value = { Settings };
+
+    ghost view = { λ c. record { cache = c.cache; tenants = c.tenants.items } };
+
+    ghost invariant = { λ c. has_token_twice (record { cache = c.cache; tenants = c.tenants.items }) ≡ false };
+}
+
+impl Config {
+    /// The configuration that the bytes of a file are, or the first fault in them.
+    pub fn read(alloc: Global, bytes: &[u8]) -> Result<Config, ConfigFault>
+        ensures ok { IfOk result (λ c. configuration bytes.now ≡ Ok c) }
+        ensures fault { IfErr result (λ e. e ≢ Memory → configuration bytes.now ≡ Err e) }
+    {
+        let Ok(text) = simdutf8::basic::from_utf8(bytes) else {
+            return Err(ConfigFault::NotJson);
+        };
+        match Json::from_str(alloc, text) {
+            Ok(value) => config_of(alloc, &value),
+            Err(e) if e.is_memory() => Err(ConfigFault::Memory),
+            Err(_) => Err(ConfigFault::NotJson),
+        }
+    }
+
+    /// How many plans the cache holds, and what each tenant begins with.
+    pub(crate) fn into_parts(self) -> (u64, Vec<TenantSettings>)
+        ensures cache { result.0 ≡ self.cache }
+        ensures tenants { result.1.items ≡ self.tenants }
+        ensures distinct { seen_again [] (all_tokens result.1.items) ≡ false }
+    {
+        (self.cache, self.tenants)
+    }
+}
+
+fn config_of(alloc: Global, value: &Json) -> Result<Config, ConfigFault>
+    ensures ok { IfOk result (λ c. settings_of_data (view value.now) ≡ Ok c) }
+    ensures fault { IfErr result (λ e. e ≢ Memory → settings_of_data (view value.now) ≡ Err e) }
+{
+    let draft = draft_of(alloc, value)?;
+    checked(alloc, draft)
+}
+
+/// Tests the numbers, and then the tokens.
+fn checked(alloc: Global, draft: Draft) -> Result<Config, ConfigFault>
+    ensures ok { IfOk result (λ c. settings_of_draft draft ≡ Ok c) }
+    ensures fault { IfErr result (λ e. e ≢ Memory → settings_of_draft draft ≡ Err e) }
+{
+    let cache = in_range(draft.cache, 1, MAX_CACHE)?;
+    if draft.tenants.is_empty() || draft.tenants.len() > MAX_TENANTS {
+        return Err(ConfigFault::OutOfRange);
+    }
+    let tenants = tenants_in_range(alloc, draft.tenants)?;
+    if has_token_twice(alloc, &tenants)? {
+        return Err(ConfigFault::TokenTwice);
+    }
+    Ok(Config { cache, tenants })
+}
+
+fn tenants_in_range(
+    alloc: Global,
+    drafts: Vec<TenantDraft>,
+) -> Result<Vec<TenantSettings>, ConfigFault>
+    ensures ok { IfOk result (λ v. seen_tenants drafts.items ≡ Some v.items) }
+    ensures kind { IfErr result (λ e. e ≢ Memory → e ≡ OutOfRange) }
+    ensures refused { IfErr result (λ e. e ≢ Memory → seen_tenants drafts.items ≡ None) }
+{
+    let mut tenants = Vec::new(alloc);
+    for draft in drafts {
+        tenants.push(tenant_in_range(draft)?)?;
+    }
+    Ok(tenants)
+}
+
+fn tenant_in_range(draft: TenantDraft) -> Result<TenantSettings, ConfigFault>
+    ensures ok { IfOk result (λ t. seen_tenant draft ≡ Some t) }
+    ensures err { IfErr result (λ e. (e ≡ OutOfRange) × (seen_tenant draft ≡ None)) }
+{
+    let max_steps = in_range(draft.max_steps, 0, MAX_QUOTA)?;
+    let max_elements = in_range(draft.max_elements, 0, MAX_QUOTA)?;
+    Ok(TenantSettings {
+        max_steps,
+        max_elements,
+        tokens: draft.tokens,
+    })
+}
+
+fn in_range(number: i64, least: u64, most: u64) -> Result<u64, ConfigFault>
+    ensures ok { IfOk result (λ n. seen_in_range least most number ≡ Some n) }
+    ensures err { IfErr result (λ e. (e ≡ OutOfRange) × (seen_in_range least most number ≡ None)) }
+{
+    if number < 0 {
+        return Err(ConfigFault::OutOfRange);
+    }
+    let n = number as u64;
+    if n < least || n > most {
+        return Err(ConfigFault::OutOfRange);
+    }
+    Ok(n)
+}
+
+fn has_token_twice(alloc: Global, tenants: &[TenantSettings]) -> Result<bool, AllocError>
+    ensures { IfOk result (λ b. b ≡ seen_again [] (all_tokens tenants.now)) }
+{
+    let texts = token_texts(alloc, tenants)?;
+    comes_again(alloc, &texts)
+}
+
+/// The texts of all tokens, tenant after tenant.
+fn token_texts<'a>(
+    alloc: Global,
+    tenants: &'a [TenantSettings],
+) -> Result<Vec<&'a str>, AllocError>
+    ensures { IfOk result (λ v. map (λ t. t.now) v.items ≡ all_tokens tenants.now) }
+{
+    let mut texts = Vec::new(alloc);
+    for tenant in tenants {
+        push_texts(&mut texts, tenant)?;
+    }
+    Ok(texts)
+}
+
+fn push_texts<'a>(texts: &mut Vec<&'a str>, tenant: &'a TenantSettings) -> Result<(), AllocError>
+    ensures { OnOk result (map (λ t. t.now) texts.new.items ≡ map (λ t. t.now) texts.old.items ++ texts_of tenant.now) }
+{
+    for token in &tenant.tokens {
+        texts.push(token.text())?;
+    }
+    Ok(())
+}
+
+/// Some text equals an earlier one.
+fn comes_again(alloc: Global, texts: &[&str]) -> Result<bool, AllocError>
+    ensures { IfOk result (λ b. b ≡ seen_again [] (map (λ t. t.now) texts.now)) }
+{
+    let mut before = BTreeSet::new(alloc);
+    for text in texts {
+        if !before.insert(*text)? {
+            return Ok(true);
+        }
+    }
+    Ok(false)
+}

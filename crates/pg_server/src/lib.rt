@@ -1,0 +1,20 @@
+//! Frames in, frames out: the server, its configuration, and what one of its runs promises.
+#![tactic(auto)]
+
+mod config;
+mod config_fault;
+mod counted;
+mod draft;
+mod end;
+mod server;
+mod service;
+mod settings;
+mod tenant;
+mod wire;
+
+pub use config::Config;
+pub use config_fault::ConfigFault;
+pub use counted::{Counted, DeviceFault};
+pub use end::End;
+pub use server::{Server, law_calls, law_one_reading, law_two_worlds};
+pub use settings::Rights;

@@ -1,0 +1,71 @@
+//! What a configuration sets for each tenant.
+ghost use Rattle.std.specs.Prelude.{◌≡◌, string_bytes};
+ghost use Rattle.pg_server.specs.Settings.{is_among, token_texts};
+
+use std::marker::Model;
+
+/// What the requests with a token may do.
+#[derive(Clone, Copy, Debug, PartialEq, Eq)]
+pub enum Rights {
+    Read,
+    Write,
+}
+
+/// A text that a request shows, and what such requests may do.
+#[derive(Drop)]
+pub(crate) struct TokenSettings {
+    text: String,
+    rights: Rights,
+}
+
+impl Model for TokenSettings {
+    ghost use Rattle.std.specs.Prelude.{string_bytes};
+    ghost use Rattle.pg_server.specs.Settings.{TokenSettings as Seen};
+
+    ghost Value = { Seen };
+
+    ghost view = { λ t. record { text = string_bytes t.text; rights = t.rights } };
+}
+
+impl TokenSettings {
+    pub(crate) fn new(text: String, rights: Rights) -> TokenSettings
+        ensures { result ≡ record { text = string_bytes text; rights = rights } }
+    {
+        TokenSettings { text, rights }
+    }
+
+    pub(crate) fn text(&self) -> &str
+        ensures { result.now ≡ self.now.text }
+    {
+        self.text.as_str()
+    }
+}
+
+/// What a tenant may use, and the tokens of its requests.
+#[derive(Drop)]
+pub(crate) struct TenantSettings {
+    pub(crate) max_steps: u64,
+    pub(crate) max_elements: u64,
+    pub(crate) tokens: Vec<TokenSettings>,
+}
+
+impl Model for TenantSettings {
+    ghost use Rattle.pg_server.specs.Settings.{TenantSettings as Seen};
+
+    ghost Value = { Seen };
+
+    ghost view = { λ t. record { max_steps = t.max_steps; max_elements = t.max_elements; tokens = t.tokens.items } };
+}
+
+impl TenantSettings {
+    pub(crate) fn has_token(&self, text: &str) -> bool
+        ensures { result ≡ is_among text.now (token_texts self.now) }
+    {
+        for token in &self.tokens {
+            if token.text() == text {
+                return true;
+            }
+        }
+        false
+    }
+}

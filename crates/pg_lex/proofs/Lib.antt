@@ -1,1 +1,14 @@
+pub mod Backquotes
+pub mod Classes
+pub mod Comments
+pub mod Contents
+pub mod Pairs
+pub mod Pieces
+pub mod Quotes
+pub mod Reserved
+pub mod Runs
+pub mod Signs
+pub mod Spelled
 pub mod Texts
+pub mod Values
+pub mod Whites

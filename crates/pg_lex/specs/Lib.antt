@@ -1,2 +1,4 @@
+pub mod Keywords
 pub mod Scans
+pub mod Turns
 pub mod View

@@ -1,4 +1,4 @@
-//! What a character may begin.
+//! What a character may begin or continue.
 
 ghost use Rattle.std.specs.Prelude.{◌≡◌};
 ghost use Rattle.pg_meaning.specs.Tokens as spec;

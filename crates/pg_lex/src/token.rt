@@ -41,3 +41,14 @@ pub(crate) enum Next<'a> {
     /// No lexeme.
     Bad,
 }
+
+/// What the first character of a lexeme tells of it.
+#[derive(Clone, Copy, Debug, PartialEq, Eq)]
+pub(crate) enum Class {
+    Letter,
+    Digit,
+    Backquote,
+    Quotation,
+    Dollar,
+    Other,
+}

@@ -1,7 +1,7 @@
 //! Whether a value is in a list.
 
 ghost use Rattle.std.specs.Prelude.{◌≡◌};
-ghost use Rattle.pg_meaning.specs.Answer.{bind};
+ghost use Rattle.pg_meaning.specs.Answer.{◌>>=◌ as and_then};
 ghost use Rattle.pg_meaning.specs.Equality.{is_in3};
 ghost use Rattle.pg_meaning.specs.Expressions.{is_in};
 ghost use Rattle.pg_meaning.specs.Logic.{value_of};
@@ -16,7 +16,7 @@ use pg_value_core::{Fault, Tri, Value};
 #[tactic(auto, using(crate::proofs::Memberships::membership_is_in))]
 pub fn is_in(value: &Value, list: &Value) -> Result<Tri, Fault>
     ensures answer { result ≡ membership (view value.now) (view list.now) }
-    ensures operator { bind result (λ t. Ok (value_of t)) ≡ is_in (view value.now) (view list.now) }
+    ensures operator { and_then result (λ t. Ok (value_of t)) ≡ is_in (view value.now) (view list.now) }
 {
     match list {
         Value::Null => Ok(Tri::Null),

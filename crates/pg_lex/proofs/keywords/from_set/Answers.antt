@@ -1,0 +1,14 @@
+use Rattle.std.proofs.Common.{◌∙◌, sym, ℕ, List, [], ◌∷◌, codes, map, refl}
+use Rattle.std.specs.Char.{to_ascii_lowercase}
+use Rattle.std.proofs.lemmas.Bool.{false≢true}
+use Rattle.pg_meaning.specs.declared.lexemes.Keyword.{Keyword}
+use Rattle.pg_meaning.specs.declared.lexemes.Keyword.TheVariants as k
+use Rattle.pg_lex.specs.Keywords.{from_unwind}
+use Rattle.pg_lex.proofs.Reserved.{passed_by}
+use Rattle.pg_lex.proofs.keywords.from_set.Goals as goal
+
+abbrev passed : List (List ℕ × Keyword)
+passed = (codes "set", k.Set) ∷ (codes "skip", k.Skip) ∷ (codes "starts", k.Starts) ∷ (codes "then", k.Then) ∷ (codes "true", k.True) ∷ []
+
+pub returns-else-eq_ignore_ascii_case-5 : goal.returns-else-eq_ignore_ascii_case-5
+returns-else-eq_ignore_ascii_case-5 c = c.from_unwind.ensures ∙ sym (passed_by passed from_unwind (map to_ascii_lowercase c.args.word.now) (λ e. false≢true (c.if-eq_ignore_ascii_case.ensures.test.1 e), (λ e. false≢true (c.if-eq_ignore_ascii_case-2.ensures.test.1 e), (λ e. false≢true (c.if-eq_ignore_ascii_case-3.ensures.test.1 e), (λ e. false≢true (c.if-eq_ignore_ascii_case-4.ensures.test.1 e), (λ e. false≢true (c.if-eq_ignore_ascii_case-5.ensures.test.1 e), tt))))) refl)

@@ -1,0 +1,91 @@
+//! From a text to its tokens.
+
+ghost use Rattle.std.specs.Prelude.{◌≡◌, IfOk, option_map};
+ghost use Rattle.pg_meaning.specs.Tokens as spec;
+ghost use Rattle.pg_lex.specs.Scans as scan;
+ghost use Rattle.pg_lex.specs.View.{next_view, lexeme_view, tokens_view};
+
+use crate::class::class;
+use crate::gaps::slash;
+use crate::names::{quoted_name, quoted_parameter};
+use crate::numbers::{digits_parameter, integer};
+use crate::strings::string;
+use crate::symbols::symbol;
+use crate::text::split_first;
+use crate::token::{Class, Lexeme, Next, Token};
+use crate::words::{word_lexeme, word_parameter};
+use std::alloc::{AllocError, Global};
+
+/// The parameter behind a dollar.
+fn parameter(alloc: Global, text: &str) -> Result<Option<(Lexeme<'_>, &str)>, AllocError>
+    ensures { IfOk result (λ o. scan.Fronts lexeme_view (spec.parameter_at (spec.characters text.now)) o) }
+{
+    let Some((first, behind)) = split_first(text) else {
+        return Ok(None);
+    };
+    match class(first) {
+        Class::Letter => Ok(word_parameter(text)),
+        Class::Digit => Ok(digits_parameter(text)),
+        Class::Backquote => quoted_parameter(alloc, behind),
+        _ => Ok(None),
+    }
+}
+
+/// The lexeme at the front of a text.
+fn lexeme(alloc: Global, text: &str) -> Result<Option<(Lexeme<'_>, &str)>, AllocError>
+    ensures { IfOk result (λ o. scan.Fronts lexeme_view (spec.lexeme_at (spec.characters text.now)) o) }
+{
+    let Some((first, behind)) = split_first(text) else {
+        return Ok(None);
+    };
+    match class(first) {
+        Class::Letter => Ok(word_lexeme(text)),
+        Class::Digit => Ok(integer(text)),
+        Class::Backquote => quoted_name(alloc, behind),
+        Class::Quotation => string(alloc, first, behind),
+        Class::Dollar => parameter(alloc, behind),
+        Class::Other => Ok(symbol(text)),
+    }
+}
+
+/// What stands at the front of a text.
+fn next(alloc: Global, text: &str) -> Result<Next<'_>, AllocError>
+    ensures { IfOk result (λ x. next_view x ≡ scan.next_at (spec.characters text.now)) }
+{
+    let Some((first, behind)) = split_first(text) else {
+        return Ok(Next::Bad);
+    };
+    if first.is_whitespace() {
+        return Ok(Next::Gap(behind));
+    }
+    if first == '/' {
+        return Ok(slash(behind));
+    }
+    Ok(match lexeme(alloc, text)? {
+        Some((lexeme, rest)) => Next::Found(lexeme, rest),
+        None => Next::Bad,
+    })
+}
+
+/// All tokens of a text; None where some place has no lexeme.
+fn lexed(alloc: Global, text: &str) -> Result<Option<Vec<Token<'_>>>, AllocError>
+    ensures { IfOk result (λ o. option_map (λ ts. tokens_view ts.items) o ≡ spec.tokens_of text.now) }
+{
+    let mut found = Vec::new(alloc);
+    let mut rest = text;
+    while !rest.is_empty() {
+        match next(alloc, rest)? {
+            Next::Gap(more) => rest = more,
+            Next::Found(lexeme, more) => {
+                found.push(Token {
+                    lexeme,
+                    start: text.len() - rest.len(),
+                    finish: text.len() - more.len(),
+                })?;
+                rest = more;
+            }
+            Next::Bad => return Ok(None),
+        }
+    }
+    Ok(Some(found))
+}

@@ -11,7 +11,7 @@ use Rattle.pg_graph.specs.Sorted.{Rises, put, without, IsPlace}
 pub below : (a b : ℕ) → a < b → nat_cmp a b ≡ Less
 below a b h = grind (arith, nat_tests)
 
-above : (a b : ℕ) → b < a → nat_cmp a b ≡ Greater
+pub above : (a b : ℕ) → b < a → nat_cmp a b ≡ Greater
 above a b h = grind (arith, nat_tests)
 
 pub level : (a b : ℕ) → a ≡ b → nat_cmp a b ≡ Equal

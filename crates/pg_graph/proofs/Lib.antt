@@ -7,3 +7,4 @@ pub mod Ids
 pub mod Refined
 pub mod Held
 pub mod Named
+pub mod Incident

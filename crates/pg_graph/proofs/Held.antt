@@ -14,9 +14,8 @@ use Rattle.pg_graph.proofs.Entries.{all_seen}
 use Rattle.pg_graph.proofs.Ids.{ids_in}
 use Rattle.pg_graph.proofs.Maps.{get_inserted, get_inserted_other, get_removed, get_removed_other}
 use Rattle.pg_graph.proofs.Refined.{all_entries, element_read, text_stays}
-use Rattle.pg_graph.specs.Content.{Content, with_rel, ids_where}
-use Rattle.pg_graph.specs.Names.{AreDistinct, KeepsNames}
-use Rattle.pg_graph.specs.Records.{Properties}
+use Rattle.pg_graph.specs.Content.{with_rel, ids_where}
+use Rattle.pg_graph.specs.Names.{KeepsNames}
 use Rattle.pg_graph.specs.Refinement.{text_of, named_entries, node_of, relationship_of, elements, AreNamed, IsNodeOf, IsRelOf, Holds, HeldIsGraph, EmptyHolds, HoldsWithMoreNames, HoldsWithNode, HoldsWithRelationship, HoldsWithChangedNode, HoldsWithChangedRelationship, HoldsWithoutNode, HoldsWithoutRelationship}
 use Rattle.pg_graph.specs.declared.records.NodeRecord.{NodeRecord}
 use Rattle.pg_graph.specs.declared.records.RelRecord.{RelRecord}
@@ -63,6 +62,7 @@ none_pass {X} p (e ∷ es) q a none h = by_test (p e.1) refl none (λ i f. none_
     found : (b : Bool) → p e.1 ≡ false → cond b (Some e.1) (find nat_cmp q es) ≡ Some a → (find nat_cmp q es ≡ Some a → p a ≡ false) → p a ≡ false
     found true fails h later = let same : e.1 ≡ a = cc in ap p (sym same) ∙ fails
     found false fails h later = later h
+
     by_test : (b : Bool) → p e.1 ≡ b → map_list {B = ℕ} (λ (e : ℕ × X). e.0) (cond b (e ∷ filter (λ e. p e.1) es) (filter (λ e. p e.1) es)) ≡ []
         → (ids_in p es ≡ [] → find nat_cmp q es ≡ Some a → p a ≡ false) → p a ≡ false
     by_test true is none later = cc
@@ -207,7 +207,7 @@ some_mapped f (Some a) h = refl
 pub held_is_graph : HeldIsGraph
 held_is_graph names c i j h =
     let there : (n : ℕ) → IsSome (map.get c.nodes n) → is_some (find nat_cmp n (elements (node_of names) c.nodes)) ≡ true =
-        λ n some. ap is_some (element_read (node_of names) c.nodes n) ∙ some_mapped (node_of names) (map.get c.nodes n) some in
+    λ n some. ap is_some (element_read (node_of names) c.nodes n) ∙ some_mapped (node_of names) (map.get c.nodes n) some in
     record {
       node_ids_rise = elements_rise (node_of names) c.nodes;
       relationship_ids_rise = elements_rise (relationship_of names) c.rels;

@@ -1,5 +1,5 @@
 -- Lists of ids under nodes, and the ids of the entries that pass a test.
-use Rattle.std.proofs.Common.{◌≡◌, ◌==◌, ◌<◌, ℕ, suc, Bool, true, false, not, ◌&&◌, cond, T, List, [], ◌∷◌, map as map_list, length, Option, Some, None, Ordering, Less, Equal, Greater, arith, refl, sym, ap, subst, ◌∙◌}
+use Rattle.std.proofs.Common.{◌≡◌, ◌==◌, ◌<◌, ℕ, Bool, true, false, not, ◌&&◌, cond, T, List, [], ◌∷◌, map as map_list, length, Some, None, Ordering, Less, Equal, Greater, arith, refl, sym, ap, subst, ◌∙◌}
 use Rattle.std.proofs.lemmas.Bool.Decides.{nat_tests}
 use Rattle.std.specs.Cmp.{nat_cmp_total, eq_by_cmp_equiv, unsigned_tied}
 use Rattle.std.specs.FinMap as map
@@ -9,7 +9,7 @@ use Rattle.std.specs.List.{AllByRecursion, filter}
 use Rattle.std.specs.Option.{option_map_or}
 use Rattle.std.specs.Ordering.{nat_cmp, match_ordering, eq_by_cmp, is_eq, is_lt}
 use Rattle.pg_graph.proofs.Entries.{entries_removed}
-use Rattle.pg_graph.proofs.SortedLists.{less, greater, equal, below, put_rises}
+use Rattle.pg_graph.proofs.SortedLists.{less, equal, below, put_rises}
 use Rattle.pg_graph.specs.Content.{ids_where}
 use Rattle.pg_graph.specs.Links.{with_id, without_id}
 use Rattle.pg_graph.specs.Sorted.{Rises, put, without}
@@ -156,14 +156,17 @@ module _ {X : Type 0} (p : X → Bool) where
       front : (b : Bool) → k < e.0 → map_list {B = ℕ} (λ (e : ℕ × X). e.0) (cond b ((k, v) ∷ filter (λ e. p e.1) (e ∷ es)) (filter (λ e. p e.1) (e ∷ es))) ≡ cond b (with_id k (ids_in (e ∷ es))) (ids_in (e ∷ es))
       front true l = sym (put_front k (ids_in (e ∷ es)) (all_ids (λ n. k < n) (e ∷ es) (l, above_later k e.0 es l (above_all e.0 es (left _ _ s)))))
       front false l = refl
+
       behind : (b c : Bool) (rest now : List ℕ) → nat_cmp k e.0 ≡ Greater → now ≡ cond b (with_id k rest) rest → cond c (e.0 ∷ now) now ≡ cond b (with_id k (cond c (e.0 ∷ rest) rest)) (cond c (e.0 ∷ rest) rest)
       behind true true rest now is later = ap (λ ys. e.0 ∷ ys) later ∙ sym (ap (λ o. match_ordering o (k ∷ e.0 ∷ rest) (k ∷ rest) (e.0 ∷ with_id k rest)) is)
       behind true false rest now is later = later
       behind false true rest now is later = ap (λ ys. e.0 ∷ ys) later
       behind false false rest now is later = later
+
       moved : (c : Bool) (r : List (ℕ × X)) → map_list {B = ℕ} (λ (e : ℕ × X). e.0) (cond c (e ∷ filter (λ e. p e.1) r) (filter (λ e. p e.1) r)) ≡ cond c (e.0 ∷ ids_in r) (ids_in r)
       moved true r = refl
       moved false r = refl
+
       chosen : (o : Ordering) → nat_cmp k e.0 ≡ o → cond (is_eq o) (Some e.1) (find nat_cmp k es) ≡ None
           → (find nat_cmp k es ≡ None → ids_in (put_entry nat_cmp k v es) ≡ cond (p v) (with_id k (ids_in es)) (ids_in es))
           → ids_in (by_order o ((k, v) ∷ e ∷ es) ((e.0, v) ∷ es) (e ∷ put_entry nat_cmp k v es)) ≡ cond (p v) (with_id k (ids_in (e ∷ es))) (ids_in (e ∷ es))
@@ -191,11 +194,13 @@ module _ {X : Type 0} (p : X → Bool) where
       here : (b : Bool) → AllByRecursion (λ x. k < x.0) es → (e.0 == k) ≡ true → ids_in es ≡ without_id k (map_list {B = ℕ} (λ (e : ℕ × X). e.0) (cond b (e ∷ filter (λ e. p e.1) es) (filter (λ e. p e.1) es)))
       here true all is = sym (ap (λ b. cond b (ids_in es) (e.0 ∷ without_id k (ids_in es))) is)
       here false all is = sym (without_lacking k (ids_in es) (all_ids (λ n. (n == k) ≡ false) es (lacks_above k es all)))
+
       there : (b : Bool) (r : List (ℕ × X)) → (e.0 == k) ≡ false → ids_in r ≡ without_id k (ids_in es)
           → map_list {B = ℕ} (λ (e : ℕ × X). e.0) (cond b (e ∷ filter (λ e. p e.1) r) (filter (λ e. p e.1) r))
           ≡ without_id k (map_list {B = ℕ} (λ (e : ℕ × X). e.0) (cond b (e ∷ filter (λ e. p e.1) es) (filter (λ e. p e.1) es)))
       there true r is rest = ap (λ ys. e.0 ∷ ys) rest ∙ sym (ap (λ b. cond b (ids_in es) (e.0 ∷ without_id k (ids_in es))) is)
       there false r is rest = rest
+
       by_test : (t : Bool) → eq_by_cmp nat_cmp k e.0 ≡ t → ids_in (filter (λ e. not (eq_by_cmp nat_cmp k e.0)) es) ≡ without_id k (ids_in es)
           → ids_in (cond (not t) (e ∷ filter (λ e. not (eq_by_cmp nat_cmp k e.0)) es) (filter (λ e. not (eq_by_cmp nat_cmp k e.0)) es)) ≡ without_id k (ids_in (e ∷ es))
       by_test true is rest =
@@ -212,10 +217,12 @@ module _ {X : Type 0} (p : X → Bool) where
           → without_id k (map_list {B = ℕ} (λ (e : ℕ × X). e.0) (cond b (e ∷ filter (λ e. p e.1) es) (filter (λ e. p e.1) es))) ≡ map_list {B = ℕ} (λ (e : ℕ × X). e.0) (cond b (e ∷ filter (λ e. p e.1) es) (filter (λ e. p e.1) es))
       there true is rest = ap (λ b. cond b (ids_in es) (e.0 ∷ without_id k (ids_in es))) is ∙ ap (λ ys. e.0 ∷ ys) rest
       there false is rest = rest
+
       here : (b : Bool) → b ≡ false → without_id k (ids_in es) ≡ ids_in es
           → without_id k (map_list {B = ℕ} (λ (e : ℕ × X). e.0) (cond b (e ∷ filter (λ e. p e.1) es) (filter (λ e. p e.1) es))) ≡ map_list {B = ℕ} (λ (e : ℕ × X). e.0) (cond b (e ∷ filter (λ e. p e.1) es) (filter (λ e. p e.1) es))
       here true fails rest = cc
       here false fails rest = rest
+
       by_test : (t : Bool) → eq_by_cmp nat_cmp k e.0 ≡ t → cond t (Some e.1) (find nat_cmp k es) ≡ Some v → (find nat_cmp k es ≡ Some v → without_id k (ids_in es) ≡ ids_in es) → without_id k (ids_in (e ∷ es)) ≡ ids_in (e ∷ es)
       by_test true is h later =
           let all : AllByRecursion (λ x. k < x.0) es = subst (λ n. AllByRecursion (λ x. n < x.0) es) (same_of_test k e.0 is) (above_all e.0 es (left _ _ s)) in

@@ -1,20 +1,19 @@
 -- The graph that tables stand for: what reads tell of it, and what changes make of it.
-use Rattle.std.proofs.Common.{◌≡◌, ◌==◌, ◌<◌, ◌≤◌, ◌+◌, ℕ, zero, suc, Bool, true, false, not, ◌&&◌, ◌||◌, cond, T, List, [], ◌∷◌, map as map_list, filter, length, slice_get, Option, Some, None, IsSome, Ordering, Less, Equal, Greater, arith, refl, sym, ap, ◌∙◌}
+use Rattle.std.proofs.Common.{◌≡◌, ◌==◌, ◌<◌, ◌+◌, ℕ, zero, suc, Bool, true, false, not, ◌&&◌, ◌||◌, cond, T, List, [], ◌∷◌, map as map_list, filter, length, slice_get, Option, Some, None, IsSome, Ordering, Less, Equal, Greater, arith, refl, sym, ap, ◌∙◌}
 use Rattle.std.proofs.lemmas.Bool.Decides.{nat_tests}
 use Rattle.std.specs.Cmp.{nat_cmp_total, unsigned_tied}
 use Rattle.std.specs.FinMap as map
 use Rattle.std.specs.FinMap.{FinMap, find, is_sorted}
 use Rattle.std.specs.FinMap.Entries.{put as put_entry, by_order, below_all, where_key}
-use Rattle.std.specs.List.{AllByRecursion, list_any}
+use Rattle.std.specs.List.{AllByRecursion}
 use Rattle.std.specs.Option.{option_map, option_map_or}
 use Rattle.std.specs.Ordering.{nat_cmp, eq_by_cmp, is_lt}
 use Rattle.pg_graph.proofs.Entries.{entries_removed}
 use Rattle.pg_graph.proofs.Ids.{ids_in}
 use Rattle.pg_graph.proofs.SortedLists.{less}
-use Rattle.pg_graph.specs.Content.{Content, with_rel}
+use Rattle.pg_graph.specs.Content.{with_rel}
 use Rattle.pg_graph.specs.Names.{KeepsNames}
-use Rattle.pg_graph.specs.Records.{Properties}
-use Rattle.pg_graph.specs.Refinement.{text_of, named_entries, property_entries, node_of, relationship_of, elements, graph_of, AreNamed, IsNodeOf, IsRelOf, Holds, NodeIsRead, RelationshipIsRead, OutgoingAreRead, IncomingAreRead, NamesMayGrow, NodeIsAdded, RelationshipIsAdded, NodeIsChanged, RelationshipIsChanged, NodeIsDropped, RelationshipIsDropped}
+use Rattle.pg_graph.specs.Refinement.{text_of, named_entries, property_entries, node_of, relationship_of, elements, graph_of, AreNamed, IsNodeOf, IsRelOf, NodeIsRead, RelationshipIsRead, OutgoingAreRead, IncomingAreRead, NamesMayGrow, NodeIsAdded, RelationshipIsAdded, NodeIsChanged, RelationshipIsChanged, NodeIsDropped, RelationshipIsDropped}
 use Rattle.pg_graph.specs.declared.records.NodeRecord.{NodeRecord}
 use Rattle.pg_graph.specs.declared.records.RelRecord.{RelRecord}
 use Rattle.pg_meaning.specs.Entries.{put}
@@ -61,9 +60,10 @@ module _ {A : Type 0} where
 
   all_found : (P : ℕ → A → Type 0) (es : List (ℕ × A)) → T (is_sorted nat_cmp es) → ((q : ℕ) (a : A) → find nat_cmp q es ≡ Some a → P q a) → AllByRecursion (λ e. P e.0 e.1) es
   all_found P [] s h = tt
-  all_found P (e ∷ es) s h =
-      (h e.0 e.1 (ap (λ b. cond b (Some e.1) (find nat_cmp e.0 es)) (itself e.0)),
-      all_found P es (right _ _ s) (λ q a f. h q a (by_test q a (eq_by_cmp nat_cmp q e.0) refl f (find_below e.0 es (left _ _ s)))))
+  all_found P (e ∷ es) s h = (
+    h e.0 e.1 (ap (λ b. cond b (Some e.1) (find nat_cmp e.0 es)) (itself e.0)),
+    all_found P es (right _ _ s) (λ q a f. h q a (by_test q a (eq_by_cmp nat_cmp q e.0) refl f (find_below e.0 es (left _ _ s)))),
+  )
     where
       by_test : (q : ℕ) (a : A) (b : Bool) → eq_by_cmp nat_cmp q e.0 ≡ b → find nat_cmp q es ≡ Some a → find nat_cmp e.0 es ≡ None → cond b (Some e.1) (find nat_cmp q es) ≡ Some a
       by_test q a true is f none = cc (ap (λ n. find nat_cmp n es) (tested q e.0 is))

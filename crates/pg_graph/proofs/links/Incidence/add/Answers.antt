@@ -1,5 +1,5 @@
 use Rattle.std.proofs.Common.{◌==◌, cond, sym, ap, subst, ◌∙◌}
-use Rattle.pg_graph.specs.Links.{with_id, without_id, links_at}
+use Rattle.pg_graph.specs.Links.{with_id, without_id}
 use Rattle.pg_graph.specs.Sorted.{Rises}
 use Rattle.pg_graph.proofs.Ids.{Lacks, ids_lack, list_with, ends_at, rises_with, undone}
 use Rattle.pg_graph.proofs.links.Incidence.add.Goals as goal

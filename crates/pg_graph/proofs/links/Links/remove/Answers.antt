@@ -11,7 +11,7 @@ pub remove-requires : goal.remove-requires
 remove-requires c = (
   lit< tt,
   rises_of_numbers (λ r. r.0) c.replace-ids.result.items
-  (subst (Rises (λ n. n)) (ap (λ o. option_map_or (λ v. numbers v.items) o []) c.replace-ids.ensures.before) (c.requires c.args.node)),
+      (subst (Rises (λ n. n)) (ap (λ o. option_map_or (λ v. numbers v.items) o []) c.replace-ids.ensures.before) (c.requires c.args.node)),
 )
 
 pub keep-requires : goal.keep-requires

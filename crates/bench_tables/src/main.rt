@@ -10,7 +10,7 @@ use pg_tables::PlainTables;
 use std::alloc::AllocError;
 use std::env;
 use std::time::Instant;
-use work::{fill, read, Schema};
+use work::{Schema, fill, read};
 
 fn refused(_error: AllocError) -> anyhow::Error {
     anyhow!("out of memory")

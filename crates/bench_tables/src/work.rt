@@ -27,7 +27,10 @@ fn person(alloc: Global, schema: &Schema, i: u64) -> Result<NodeRecord, AllocErr
     labels.insert(schema.label)?;
     let mut properties = Properties::with_capacity(alloc, 2)?;
     properties.set(schema.number, Value::Int((i % 1_000) as i64))?;
-    properties.set(schema.title, Value::Text(String::from_str(alloc, "somebody")?))?;
+    properties.set(
+        schema.title,
+        Value::Text(String::from_str(alloc, "somebody")?),
+    )?;
     Ok(NodeRecord { labels, properties })
 }
 

@@ -45,9 +45,11 @@ line_comes body more h = record { first = 47; behind = 47 ∷ (body ++ more); wh
 
 block_comes : (body more : List ℕ) → Stands (block_comment body) more → Comes (block_comment body) more
 block_comes body more h = record {
-      first = 47; behind = 42 ∷ ((body ++ 42 ∷ 47 ∷ []) ++ more); whole = refl;
-      comes = ap (λ (r : List ℕ). closed (comment_from false r)) (append_assoc body (42 ∷ 47 ∷ []) more) ∙ ap closed (comment_complete false body more h);
-    }
+  first = 47;
+  behind = 42 ∷ ((body ++ 42 ∷ 47 ∷ []) ++ more);
+  whole = refl;
+  comes = ap (λ (r : List ℕ). closed (comment_from false r)) (append_assoc body (42 ∷ 47 ∷ []) more) ∙ ap closed (comment_complete false body more h);
+}
 
 -- ---- lexemes
 
@@ -73,16 +75,16 @@ word_ends c f more h all longest = longest_ends continues_word more (λ d ds e t
   where
     longer : (d : ℕ) (ds : List ℕ) → more ≡ d ∷ ds → continues_word d ≡ true → ⊥
     longer d ds e t =
-      let w : List ℕ = c ∷ (f ++ d ∷ []) in
-      let same : (c ∷ f) ++ more ≡ w ++ ds = ap (λ (r : List ℕ). (c ∷ f) ++ r) e ∙ ap (λ (r : List ℕ). c ∷ r) (sym (append_assoc f (d ∷ []) ds)) in
-      absurd (omega (arith, longest (worded (utf8 w) (keyword_of w)) w ds same (worded_spells w (h, all_more continues_word f d all t)), length-append f (d ∷ [])))
+        let w : List ℕ = c ∷ (f ++ d ∷ []) in
+        let same : (c ∷ f) ++ more ≡ w ++ ds = ap (λ (r : List ℕ). (c ∷ f) ++ r) e ∙ ap (λ (r : List ℕ). c ∷ r) (sym (append_assoc f (d ∷ []) ds)) in
+        absurd (omega (arith, longest (worded (utf8 w) (keyword_of w)) w ds same (worded_spells w (h, all_more continues_word f d all t)), length-append f (d ∷ [])))
 
 word_found : (c : ℕ) (f more : List ℕ) (k : Option Keyword) → IsWord (c ∷ f) → keyword_of (c ∷ f) ≡ k → Longest (c ∷ f) more → next c (f ++ more) ≡ found (worded (utf8 (c ∷ f)) k) more
 word_found c f more k h e longest =
     let ends = word_ends c f more h.0 h.1 longest in
     lexeme_comes c (f ++ more) (worded (utf8 (c ∷ f)) k) more (word_no_white c h.0) (word_no_slash c h.0)
-      (ap (λ (x : Class). lexeme_by x c (f ++ more)) (class_letter c h.0) ∙ ap (λ (r : List ℕ). answer (worded (utf8 (c ∷ r)) (keyword_of (c ∷ r))) (after continues_word (f ++ more))) (run_is continues_word f more h.1 ends)
-      ∙ ap (λ (r : List ℕ). answer (worded (utf8 (c ∷ f)) (keyword_of (c ∷ f))) r) (after_is continues_word f more h.1 ends) ∙ ap (λ (o : Option Keyword). answer (worded (utf8 (c ∷ f)) o) more) e)
+    (ap (λ (x : Class). lexeme_by x c (f ++ more)) (class_letter c h.0) ∙ ap (λ (r : List ℕ). answer (worded (utf8 (c ∷ r)) (keyword_of (c ∷ r))) (after continues_word (f ++ more))) (run_is continues_word f more h.1 ends)
+    ∙ ap (λ (r : List ℕ). answer (worded (utf8 (c ∷ f)) (keyword_of (c ∷ f))) r) (after_is continues_word f more h.1 ends) ∙ ap (λ (o : Option Keyword). answer (worded (utf8 (c ∷ f)) o) more) e)
 
 zero_alone : (c : ℕ) (f : List ℕ) → (c ≡ 48 → f ≡ []) → (not (eqb c 48) || is_empty f) ≡ true
 zero_alone c f h = at (eqb c 48) refl
@@ -114,8 +116,8 @@ integer_found c f more h may =
     let ends = starts_parts is_digit begins_word more may in
     let test : well c f more ≡ true = all_well (not (eqb c 48) || is_empty f) (Starts begins_word more) (leb (value_of (c ∷ f)) greatest_integer) (zero_alone c f h.0.1) ends.1 (le-leb (value_of (c ∷ f)) greatest_integer h.2) in
     lexeme_comes c (f ++ more) (integer (value_of (c ∷ f))) more (digit_no_white c h.0.0.0) (digit_no_slash c h.0.0.0)
-      (ap (λ (x : Class). lexeme_by x c (f ++ more)) (class_digit c h.0.0.0) ∙ ap (λ (r : List ℕ). integer_at c r (after is_digit (f ++ more))) (run_is is_digit f more h.0.0.1 ends.0) ∙ ap (integer_at c f) (after_is is_digit f more h.0.0.1 ends.0)
-      ∙ ap (λ (t : Bool). number t (value_of (c ∷ f)) more) test)
+    (ap (λ (x : Class). lexeme_by x c (f ++ more)) (class_digit c h.0.0.0) ∙ ap (λ (r : List ℕ). integer_at c r (after is_digit (f ++ more))) (run_is is_digit f more h.0.0.1 ends.0) ∙ ap (integer_at c f) (after_is is_digit f more h.0.0.1 ends.0)
+    ∙ ap (λ (t : Bool). number t (value_of (c ∷ f)) more) test)
 
 -- ---- in backquotes
 
@@ -167,29 +169,29 @@ name_ends name xs longest h = longest_ends is_quote (segments_text xs) (λ c cs 
   where
     longer : (c : ℕ) (cs : List ℕ) → segments_text xs ≡ c ∷ cs → is_quote c ≡ true → ⊥
     longer c cs e t =
-      let n : NameNext (segments_text xs) = next_quote xs c cs h e t in
-      let both' : List ℕ = name ++ 96 ∷ n.name in
-      let f : List ℕ = 96 ∷ (doubled both' ++ 96 ∷ []) in
-      let two = doubled_two name n.name in
-      let same : (96 ∷ (doubled name ++ 96 ∷ [])) ++ segments_text xs ≡ f ++ n.rest = ap (λ (r : List ℕ). 96 ∷ ((doubled name ++ 96 ∷ []) ++ r)) n.whole ∙ ap (λ (r : List ℕ). 96 ∷ r) (joined_names (doubled name) (doubled n.name) n.rest) ∙ ap (λ (r : List ℕ). 96 ∷ ((r ++ 96 ∷ []) ++ n.rest)) two in
-      let some : both' ≢ [] = some_name name n.name in
-      let long : length f ≤ length (96 ∷ (doubled name ++ 96 ∷ [])) = longest (quoted_name (utf8 both')) f n.rest same (both', (some, refl), refl) in
-      let size = ap (length {A = ℕ}) two in
-      absurd (omega (arith, length-append (doubled name) (96 ∷ 96 ∷ doubled n.name), length-append (doubled both') (96 ∷ []), length-append (doubled name) (96 ∷ [])))
+        let n : NameNext (segments_text xs) = next_quote xs c cs h e t in
+        let both' : List ℕ = name ++ 96 ∷ n.name in
+        let f : List ℕ = 96 ∷ (doubled both' ++ 96 ∷ []) in
+        let two = doubled_two name n.name in
+        let same : (96 ∷ (doubled name ++ 96 ∷ [])) ++ segments_text xs ≡ f ++ n.rest = ap (λ (r : List ℕ). 96 ∷ ((doubled name ++ 96 ∷ []) ++ r)) n.whole ∙ ap (λ (r : List ℕ). 96 ∷ r) (joined_names (doubled name) (doubled n.name) n.rest) ∙ ap (λ (r : List ℕ). 96 ∷ ((r ++ 96 ∷ []) ++ n.rest)) two in
+        let some : both' ≢ [] = some_name name n.name in
+        let long : length f ≤ length (96 ∷ (doubled name ++ 96 ∷ [])) = longest (quoted_name (utf8 both')) f n.rest same (both', (some, refl), refl) in
+        let size = ap (length {A = ℕ}) two in
+        absurd (omega (arith, length-append (doubled name) (96 ∷ 96 ∷ doubled n.name), length-append (doubled both') (96 ∷ []), length-append (doubled name) (96 ∷ [])))
 
 pub parameter_ends : (name : List ℕ) (xs : List Segment) → Longest (36 ∷ 96 ∷ (doubled name ++ 96 ∷ [])) (segments_text xs) → AllStand xs → Starts is_quote (segments_text xs) ≡ false
 parameter_ends name xs longest h = longest_ends is_quote (segments_text xs) (λ c cs e t. longer c cs e t)
   where
     longer : (c : ℕ) (cs : List ℕ) → segments_text xs ≡ c ∷ cs → is_quote c ≡ true → ⊥
     longer c cs e t =
-      let n : NameNext (segments_text xs) = next_quote xs c cs h e t in
-      let both' : List ℕ = name ++ 96 ∷ n.name in
-      let f : List ℕ = 96 ∷ (doubled both' ++ 96 ∷ []) in
-      let two = doubled_two name n.name in
-      let same : (36 ∷ 96 ∷ (doubled name ++ 96 ∷ [])) ++ segments_text xs ≡ (36 ∷ f) ++ n.rest = ap (λ (r : List ℕ). 36 ∷ 96 ∷ ((doubled name ++ 96 ∷ []) ++ r)) n.whole ∙ ap (λ (r : List ℕ). 36 ∷ 96 ∷ r) (joined_names (doubled name) (doubled n.name) n.rest) ∙ ap (λ (r : List ℕ). 36 ∷ 96 ∷ ((r ++ 96 ∷ []) ++ n.rest)) two in
-      let long : length (36 ∷ f) ≤ length (36 ∷ 96 ∷ (doubled name ++ 96 ∷ [])) = longest (parameter true (utf8 both')) (36 ∷ f) n.rest same (f, both', refl, (some_name name n.name, refl), refl) in
-      let size = ap (length {A = ℕ}) two in
-      absurd (omega (arith, length-append (doubled name) (96 ∷ 96 ∷ doubled n.name), length-append (doubled both') (96 ∷ []), length-append (doubled name) (96 ∷ [])))
+        let n : NameNext (segments_text xs) = next_quote xs c cs h e t in
+        let both' : List ℕ = name ++ 96 ∷ n.name in
+        let f : List ℕ = 96 ∷ (doubled both' ++ 96 ∷ []) in
+        let two = doubled_two name n.name in
+        let same : (36 ∷ 96 ∷ (doubled name ++ 96 ∷ [])) ++ segments_text xs ≡ (36 ∷ f) ++ n.rest = ap (λ (r : List ℕ). 36 ∷ 96 ∷ ((doubled name ++ 96 ∷ []) ++ r)) n.whole ∙ ap (λ (r : List ℕ). 36 ∷ 96 ∷ r) (joined_names (doubled name) (doubled n.name) n.rest) ∙ ap (λ (r : List ℕ). 36 ∷ 96 ∷ ((r ++ 96 ∷ []) ++ n.rest)) two in
+        let long : length (36 ∷ f) ≤ length (36 ∷ 96 ∷ (doubled name ++ 96 ∷ [])) = longest (parameter true (utf8 both')) (36 ∷ f) n.rest same (f, both', refl, (some_name name n.name, refl), refl) in
+        let size = ap (length {A = ℕ}) two in
+        absurd (omega (arith, length-append (doubled name) (96 ∷ 96 ∷ doubled n.name), length-append (doubled both') (96 ∷ []), length-append (doubled name) (96 ∷ [])))
 
 named_found : (f : List ℕ → Lexeme) (name more : List ℕ) → name ≢ [] → Starts is_quote more ≡ false → named f (quoted_from false ((doubled name ++ 96 ∷ []) ++ more)) ≡ answer (f (utf8 name)) more
 named_found f name more some ends =
@@ -206,18 +208,18 @@ digits_end c f more h longest = longest_ends is_digit more (λ d ds e t. longer 
   where
     longer : (d : ℕ) (ds : List ℕ) → more ≡ d ∷ ds → is_digit d ≡ true → ⊥
     longer d ds e t =
-      let w : List ℕ = c ∷ (f ++ d ∷ []) in
-      let same : (36 ∷ c ∷ f) ++ more ≡ (36 ∷ w) ++ ds = ap (λ (r : List ℕ). (36 ∷ c ∷ f) ++ r) e ∙ ap (λ (r : List ℕ). 36 ∷ c ∷ r) (sym (append_assoc f (d ∷ []) ds)) in
-      absurd (omega (arith, longest (parameter false (utf8 w)) (36 ∷ w) ds same (w, refl, inr (h.0, all_more is_digit f d h.1 t), refl), length-append f (d ∷ [])))
+        let w : List ℕ = c ∷ (f ++ d ∷ []) in
+        let same : (36 ∷ c ∷ f) ++ more ≡ (36 ∷ w) ++ ds = ap (λ (r : List ℕ). (36 ∷ c ∷ f) ++ r) e ∙ ap (λ (r : List ℕ). 36 ∷ c ∷ r) (sym (append_assoc f (d ∷ []) ds)) in
+        absurd (omega (arith, longest (parameter false (utf8 w)) (36 ∷ w) ds same (w, refl, inr (h.0, all_more is_digit f d h.1 t), refl), length-append f (d ∷ [])))
 
 name_word_ends : (c : ℕ) (f more : List ℕ) → IsWord (c ∷ f) → Longest (36 ∷ c ∷ f) more → Starts continues_word more ≡ false
 name_word_ends c f more h longest = longest_ends continues_word more (λ d ds e t. longer d ds e t)
   where
     longer : (d : ℕ) (ds : List ℕ) → more ≡ d ∷ ds → continues_word d ≡ true → ⊥
     longer d ds e t =
-      let w : List ℕ = c ∷ (f ++ d ∷ []) in
-      let same : (36 ∷ c ∷ f) ++ more ≡ (36 ∷ w) ++ ds = ap (λ (r : List ℕ). (36 ∷ c ∷ f) ++ r) e ∙ ap (λ (r : List ℕ). 36 ∷ c ∷ r) (sym (append_assoc f (d ∷ []) ds)) in
-      absurd (omega (arith, longest (parameter false (utf8 w)) (36 ∷ w) ds same (w, refl, inl (h.0, all_more continues_word f d h.1 t), refl), length-append f (d ∷ [])))
+        let w : List ℕ = c ∷ (f ++ d ∷ []) in
+        let same : (36 ∷ c ∷ f) ++ more ≡ (36 ∷ w) ++ ds = ap (λ (r : List ℕ). (36 ∷ c ∷ f) ++ r) e ∙ ap (λ (r : List ℕ). 36 ∷ c ∷ r) (sym (append_assoc f (d ∷ []) ds)) in
+        absurd (omega (arith, longest (parameter false (utf8 w)) (36 ∷ w) ds same (w, refl, inl (h.0, all_more continues_word f d h.1 t), refl), length-append f (d ∷ [])))
 
 word_parameter : (name more : List ℕ) → IsWord name → Longest (36 ∷ name) more → parameter_at (name ++ more) ≡ answer (parameter false (utf8 name)) more
 word_parameter [] more h longest = absurd h
@@ -252,8 +254,8 @@ no_second x a b d ds e longest = at (eqb d b) refl
   where
     at : (t : Bool) → eqb d b ≡ t → eqb d b ≡ false
     at true h =
-      let same : (a ∷ []) ++ (d ∷ ds) ≡ (a ∷ b ∷ []) ++ ds = ap (λ (x : ℕ). a ∷ x ∷ ds) (eqb-true d b h) in
-      absurd (omega (arith, longest (symbol x) (a ∷ b ∷ []) ds same (sym e)))
+        let same : (a ∷ []) ++ (d ∷ ds) ≡ (a ∷ b ∷ []) ++ ds = ap (λ (x : ℕ). a ∷ x ∷ ds) (eqb-true d b h) in
+        absurd (omega (arith, longest (symbol x) (a ∷ b ∷ []) ds same (sym e)))
     at false h = h
 
 no_dot : (more : List ℕ) → Longest (46 ∷ []) more → pair_front (46 ∷ more) ≡ None
@@ -331,9 +333,11 @@ lexeme_next (string t) front xs h all =
     let f = string_first q [] [] [] h.0.3 in
     let read = string_complete q h.0.1 h.0.2 more (no_backslash q h.0.3) h.0.4 in
     let made' : Comes (lexeme (string (utf8 h.0.2)) (q ∷ (pieces_text h.0.1 ++ q ∷ []))) more = record {
-      first = q; behind = (pieces_text h.0.1 ++ q ∷ []) ++ more; whole = refl;
+      first = q;
+      behind = (pieces_text h.0.1 ++ q ∷ []) ++ more;
+      whole = refl;
       comes = lexeme_comes q ((pieces_text h.0.1 ++ q ∷ []) ++ more) (string (utf8 h.0.2)) more f.0 f.1
-        (ap (λ (k : Class). lexeme_by k q ((pieces_text h.0.1 ++ q ∷ []) ++ more)) f.2 ∙ ap (λ (r : List ℕ). made string (string_from q outside r)) (append_assoc (pieces_text h.0.1) (q ∷ []) more) ∙ ap (made string) read);
+          (ap (λ (k : Class). lexeme_by k q ((pieces_text h.0.1 ++ q ∷ []) ++ more)) f.2 ∙ ap (λ (r : List ℕ). made string (string_from q outside r)) (append_assoc (pieces_text h.0.1) (q ∷ []) more) ∙ ap (made string) read);
     } in
     subst (λ (t : List ℕ). Comes (lexeme (string t) front) more) (sym h.0.6) (subst (λ (f : List ℕ). Comes (lexeme (string (utf8 h.0.2)) f) more) (sym h.0.5) made')
 lexeme_next (parameter false w) front xs h all =

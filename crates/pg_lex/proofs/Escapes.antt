@@ -65,7 +65,7 @@ pieces_judged q (p ∷ ps) (m ∷ ms) h =
     let parts : Judged (has_backslash (piece_text p) || has_backslash (pieces_text ps)) (width (piece_text p) + width (pieces_text ps)) (len_utf8 m + width ms) = both_judged (has_backslash (piece_text p)) (has_backslash (pieces_text ps)) (width (piece_text p)) (width (pieces_text ps)) (len_utf8 m) (width ms) (piece_judged q m p h.0) (pieces_judged q ps ms h.1) in
     let wide = width-append (piece_text p) (pieces_text ps) in
     subst (λ (t : Bool). Judged t (width (piece_text p ++ pieces_text ps)) (len_utf8 m + width ms)) (sym (has_backslash-append (piece_text p) (pieces_text ps)))
-      (subst (λ (n : ℕ). Judged (has_backslash (piece_text p) || has_backslash (pieces_text ps)) n (len_utf8 m + width ms)) (sym wide) parts)
+    (subst (λ (n : ℕ). Judged (has_backslash (piece_text p) || has_backslash (pieces_text ps)) n (len_utf8 m + width ms)) (sym wide) parts)
 
 tested : (x : Bool) (n m : ℕ) → Judged x n m → eqb ((n + 2) - m) 2 ≡ not x
 tested true n m h = ne_eqb ((n + 2) - m) 2 (λ e. absurd (omega arith))

@@ -44,16 +44,16 @@ lex_sound (suc n) at (c ∷ cs) ts e = by (next c cs) refl e (λ start more us g
   where
     by : (y : Next) → next c cs ≡ y → turn at (c ∷ cs) (lex_from n) y ≡ some ts → ((start : ℕ) (more : List ℕ) (us : List Token) → lex_from n start more ≡ some us → Segmented start more us) → Segmented at (c ∷ cs) ts
     by (gap more) i g others =
-      let h : Gapped (c ∷ cs) more = gap_sound c cs more i in
-      let s : Segmented at (c ∷ cs) (token_of at h.part ++ ts) = one_more at (c ∷ cs) more h.part ts h.stood (others (passed at (c ∷ cs) more) more ts g) in
-      subst (λ (us : List Token). Segmented at (c ∷ cs) us) (ap (λ (r : List Token). r ++ ts) (h.no_token at)) s
+        let h : Gapped (c ∷ cs) more = gap_sound c cs more i in
+        let s : Segmented at (c ∷ cs) (token_of at h.part ++ ts) = one_more at (c ∷ cs) more h.part ts h.stood (others (passed at (c ∷ cs) more) more ts g) in
+        subst (λ (us : List Token). Segmented at (c ∷ cs) us) (ap (λ (r : List Token). r ++ ts) (h.no_token at)) s
     by (found l more) i g others =
-      let h : Found (c ∷ cs) l more = found_sound c cs l more i in
-      let p = put_parts (record { lexeme = l; start = at; finish = passed at (c ∷ cs) more }) (lex_from n (passed at (c ∷ cs) more) more) ts g in
-      let s : Segmented at (c ∷ cs) (token_of at (lexeme l h.front) ++ p.0) = one_more at (c ∷ cs) more (lexeme l h.front) p.0 h.stood (others (passed at (c ∷ cs) more) more p.0 p.1) in
-      let place = passed_is at (c ∷ cs) h.front more h.stood.whole in
-      let same : token_of at (lexeme l h.front) ++ p.0 ≡ ts = ap (λ (n : ℕ). token l at n ∷ p.0) (sym place) ∙ p.2 in
-      subst (λ (us : List Token). Segmented at (c ∷ cs) us) same s
+        let h : Found (c ∷ cs) l more = found_sound c cs l more i in
+        let p = put_parts (record { lexeme = l; start = at; finish = passed at (c ∷ cs) more }) (lex_from n (passed at (c ∷ cs) more) more) ts g in
+        let s : Segmented at (c ∷ cs) (token_of at (lexeme l h.front) ++ p.0) = one_more at (c ∷ cs) more (lexeme l h.front) p.0 h.stood (others (passed at (c ∷ cs) more) more p.0 p.1) in
+        let place = passed_is at (c ∷ cs) h.front more h.stood.whole in
+        let same : token_of at (lexeme l h.front) ++ p.0 ≡ ts = ap (λ (n : ℕ). token l at n ∷ p.0) (sym place) ∙ p.2 in
+        subst (λ (us : List Token). Segmented at (c ∷ cs) us) same s
       where
         token : Lexeme → ℕ → ℕ → Token
         token l start finish = record { lexeme = l; start = start; finish = finish }
@@ -88,10 +88,10 @@ lex_complete n at (x ∷ xs) h le = by n le (comes_next x xs h) (λ m start smal
     by : (n : ℕ) → length (segments_text (x ∷ xs)) ≤ n → Comes x (segments_text xs) → ((m start : ℕ) → length (segments_text xs) ≤ m → lex_from m start (segments_text xs) ≡ some (segment_tokens start xs)) → lex_from n at (segments_text (x ∷ xs)) ≡ some (segment_tokens at (x ∷ xs))
     by zero le c others = let long = ap (length {A = ℕ}) c.whole in absurd (omega arith)
     by (suc n) le c others =
-      let long = ap (length {A = ℕ}) c.whole in
-      let some_text : 1 ≤ length (segment_text x) = text_some x (segments_text xs) h.0 in
-      let rest = others n (at + width (segment_text x)) (omega (arith, length-append (segment_text x) (segments_text xs))) in
-      ap (lex_from (suc n) at) c.whole ∙ ap (turn at (c.first ∷ c.behind) (lex_from n)) c.comes ∙ turn_is at (c.first ∷ c.behind) (lex_from n) x (segments_text xs) (segment_tokens (at + width (segment_text x)) xs) (sym c.whole) rest
+        let long = ap (length {A = ℕ}) c.whole in
+        let some_text : 1 ≤ length (segment_text x) = text_some x (segments_text xs) h.0 in
+        let rest = others n (at + width (segment_text x)) (omega (arith, length-append (segment_text x) (segments_text xs))) in
+        ap (lex_from (suc n) at) c.whole ∙ ap (turn at (c.first ∷ c.behind) (lex_from n)) c.comes ∙ turn_is at (c.first ∷ c.behind) (lex_from n) x (segments_text xs) (segment_tokens (at + width (segment_text x)) xs) (sym c.whole) rest
 
 -- ---- the laws
 

@@ -37,14 +37,14 @@ line_ends (c ∷ more) h = inr (not-false (is_line_end c) h)
 
 line_gap : (cs more : List ℕ) → after is_in_line cs ≡ more → Gapped (47 ∷ 47 ∷ cs) more
 line_gap cs more e = record {
-      part = line_comment (run is_in_line cs);
-      stood = record {
-        whole = ap (λ (r : List ℕ). 47 ∷ 47 ∷ r) (run_after is_in_line cs ∙ ap (λ (r : List ℕ). run is_in_line cs ++ r) e);
-        some = omega arith;
-        stands = (run_all is_in_line cs, line_ends more (ap (Starts is_in_line) (sym e) ∙ after_starts is_in_line cs));
-      };
-      no_token = λ at. refl;
-    }
+  part = line_comment (run is_in_line cs);
+  stood = record {
+    whole = ap (λ (r : List ℕ). 47 ∷ 47 ∷ r) (run_after is_in_line cs ∙ ap (λ (r : List ℕ). run is_in_line cs ++ r) e);
+    some = omega arith;
+    stands = (run_all is_in_line cs, line_ends more (ap (Starts is_in_line) (sym e) ∙ after_starts is_in_line cs));
+  };
+  no_token = λ at. refl;
+}
 
 block_gap : (cs more : List ℕ) → comment_from false cs ≡ Some more → Gapped (47 ∷ 42 ∷ cs) more
 block_gap cs more e =
@@ -96,8 +96,8 @@ slash_lexeme (c ∷ cs) l more e = at (eqb c 47) refl (eqb c 42) refl e
     at true h y i g = absurd cc
     at false h true i g = absurd (comment (comment_from false cs) g)
     at false h false i g =
-      let p = founds (symbol s.Slash) l (c ∷ cs) more g in
-      subst (λ (l : Lexeme). Found (47 ∷ c ∷ cs) l more) p.0 (subst (λ (r : List ℕ). Found (47 ∷ c ∷ cs) (symbol s.Slash) r) p.1 (slash_found (c ∷ cs) (neither h i)))
+        let p = founds (symbol s.Slash) l (c ∷ cs) more g in
+        subst (λ (l : Lexeme). Found (47 ∷ c ∷ cs) l more) p.0 (subst (λ (r : List ℕ). Found (47 ∷ c ∷ cs) (symbol s.Slash) r) p.1 (slash_found (c ∷ cs) (neither h i)))
 
 other_lexeme : (c : ℕ) (cs : List ℕ) (l : Lexeme) (more : List ℕ) → eqb c 47 ≡ false → next_lexeme (lexeme_at (c ∷ cs)) ≡ found l more → Found (c ∷ cs) l more
 other_lexeme c cs l more h e = at (lexeme_at (c ∷ cs)) refl e
@@ -108,10 +108,10 @@ other_lexeme c cs l more h e = at (lexeme_at (c ∷ cs)) refl e
     at : (o : Front Lexeme) → lexeme_at (c ∷ cs) ≡ o → next_lexeme o ≡ found l more → Found (c ∷ cs) l more
     at None i g = absurd cc
     at (Some p) i g =
-      let q = founds p.0 l p.1 more g in
-      let j : lexeme_at (c ∷ cs) ≡ Some (l, more) = i ∙ (ap (λ (k : Lexeme). some k p.1) q.0 ∙ ap (some l) q.1) in
-      let w : Spelled c cs l more = spelled_by (class c) c cs l more refl (eqb-false c 47 h) j in
-      record { front = c ∷ w.front; stood = record { whole = ap (λ (r : List ℕ). c ∷ r) w.whole; some = omega arith; stands = (w.spells, longest_by c cs w.front l more j w.whole, w.may) } }
+        let q = founds p.0 l p.1 more g in
+        let j : lexeme_at (c ∷ cs) ≡ Some (l, more) = i ∙ (ap (λ (k : Lexeme). some k p.1) q.0 ∙ ap (some l) q.1) in
+        let w : Spelled c cs l more = spelled_by (class c) c cs l more refl (eqb-false c 47 h) j in
+        record { front = c ∷ w.front; stood = record { whole = ap (λ (r : List ℕ). c ∷ r) w.whole; some = omega arith; stands = (w.spells, longest_by c cs w.front l more j w.whole, w.may) } }
 
 -- ---- both
 

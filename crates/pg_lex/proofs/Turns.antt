@@ -78,11 +78,11 @@ gap_step text rest more front o u v le e h = by (characters rest) refl e
     by : (cs : List ℕ) → characters rest ≡ cs → gap (characters more) ≡ next_at cs → (length more ≤ length rest) × (length (characters more) < length (characters rest)) × (At text more front ≡ o)
     by [] i g = absurd cc
     by (c ∷ cs) i g =
-      let s : Gapped (c ∷ cs) (characters more) = gap_sound c cs (characters more) (sym g) in
-      let p = place text rest more c cs (segment_text s.part) u v i s.stood.whole le in
-      let step = gap_turn (length text - length rest) c cs (characters more) (sym g) in
-      let small = ap (length {A = ℕ}) i in
-      (p.1, omega (arith, gap_shorter c cs (characters more) (sym g)), ap (λ (n : ℕ). joined front (lex_at n (characters more))) (sym p.0) ∙ ap (joined front) (sym step) ∙ ap (λ (r : List ℕ). joined front (lex_at (length text - length rest) r)) (sym i) ∙ h)
+        let s : Gapped (c ∷ cs) (characters more) = gap_sound c cs (characters more) (sym g) in
+        let p = place text rest more c cs (segment_text s.part) u v i s.stood.whole le in
+        let step = gap_turn (length text - length rest) c cs (characters more) (sym g) in
+        let small = ap (length {A = ℕ}) i in
+        (p.1, omega (arith, gap_shorter c cs (characters more) (sym g)), ap (λ (n : ℕ). joined front (lex_at n (characters more))) (sym p.0) ∙ ap (joined front) (sym step) ∙ ap (λ (r : List ℕ). joined front (lex_at (length text - length rest) r)) (sym i) ∙ h)
 
 pub found_step : (text rest more : List ℕ) (l : Lexeme) (front : List Token) (o : Option (List Token)) → IsUtf8 rest → IsUtf8 more → length rest ≤ length text → found l (characters more) ≡ next_at (characters rest) → At text rest front ≡ o
     → (length more ≤ length rest) × (length (characters more) < length (characters rest)) × (At text more (front ++ record { lexeme = l; start = length text - length rest; finish = length text - length more } ∷ []) ≡ o)
@@ -91,13 +91,15 @@ found_step text rest more l front o u v le e h = by (characters rest) refl e
     by : (cs : List ℕ) → characters rest ≡ cs → found l (characters more) ≡ next_at cs → (length more ≤ length rest) × (length (characters more) < length (characters rest)) × (At text more (front ++ record { lexeme = l; start = length text - length rest; finish = length text - length more } ∷ []) ≡ o)
     by [] i g = absurd cc
     by (c ∷ cs) i g =
-      let s : Found (c ∷ cs) l (characters more) = found_sound c cs l (characters more) (sym g) in
-      let p = place text rest more c cs s.front u v i s.stood.whole le in
-      let step = found_turn (length text - length rest) c cs l (characters more) (sym g) in
-      let small = ap (length {A = ℕ}) i in
-      (p.1, omega (arith, found_shorter c cs l (characters more) (sym g)),
-        sym (joined_put front (record { lexeme = l; start = length text - length rest; finish = length text - length more }) (lex_at (length text - length more) (characters more)))
-        ∙ ap (λ (n : ℕ). joined front (put_token (record { lexeme = l; start = length text - length rest; finish = n }) (lex_at n (characters more)))) (sym p.0) ∙ ap (joined front) (sym step) ∙ ap (λ (r : List ℕ). joined front (lex_at (length text - length rest) r)) (sym i) ∙ h)
+        let s : Found (c ∷ cs) l (characters more) = found_sound c cs l (characters more) (sym g) in
+        let p = place text rest more c cs s.front u v i s.stood.whole le in
+        let step = found_turn (length text - length rest) c cs l (characters more) (sym g) in
+        let small = ap (length {A = ℕ}) i in (
+          p.1,
+          omega (arith, found_shorter c cs l (characters more) (sym g)),
+          sym (joined_put front (record { lexeme = l; start = length text - length rest; finish = length text - length more }) (lex_at (length text - length more) (characters more)))
+              ∙ ap (λ (n : ℕ). joined front (put_token (record { lexeme = l; start = length text - length rest; finish = n }) (lex_at n (characters more)))) (sym p.0) ∙ ap (joined front) (sym step) ∙ ap (λ (r : List ℕ). joined front (lex_at (length text - length rest) r)) (sym i) ∙ h,
+        )
 
 pub bad_step : (text rest : List ℕ) (front : List Token) (o : Option (List Token)) → (characters rest ≡ [] → ⊥) → bad ≡ next_at (characters rest) → At text rest front ≡ o → None ≡ o
 bad_step text rest front o some e h = by (characters rest) refl e
@@ -105,9 +107,9 @@ bad_step text rest front o some e h = by (characters rest) refl e
     by : (cs : List ℕ) → characters rest ≡ cs → bad ≡ next_at cs → None ≡ o
     by [] i g = absurd (some i)
     by (c ∷ cs) i g =
-      let n : length (c ∷ cs) ≡ suc (length cs) = omega arith in
-      let step : lex_at (length text - length rest) (c ∷ cs) ≡ None = ap (λ (n : ℕ). lex_from n (length text - length rest) (c ∷ cs)) n ∙ ap (turn (length text - length rest) (c ∷ cs) (lex_from (length cs))) (sym g) in
-      sym (ap (joined front) step) ∙ ap (λ (r : List ℕ). joined front (lex_at (length text - length rest) r)) (sym i) ∙ h
+        let n : length (c ∷ cs) ≡ suc (length cs) = omega arith in
+        let step : lex_at (length text - length rest) (c ∷ cs) ≡ None = ap (λ (n : ℕ). lex_from n (length text - length rest) (c ∷ cs)) n ∙ ap (turn (length text - length rest) (c ∷ cs) (lex_from (length cs))) (sym g) in
+        sym (ap (joined front) step) ∙ ap (λ (r : List ℕ). joined front (lex_at (length text - length rest) r)) (sym i) ∙ h
 
 pub tokens_more : (ts : List CodeToken) (t : CodeToken) → tokens_view (ts ++ t ∷ []) ≡ tokens_view ts ++ token_view t ∷ []
 tokens_more [] t = refl

@@ -44,11 +44,14 @@ pub fn plain_tokens(alloc: Global, text: &str) -> Result<Vec<Token<'_>>, Fault>
     ensures refused { IfErr result (λ e. (e ≡ Fault.OutOfMemory) ⊎ ((e ≡ Fault.BadLexeme) × (plain.plain_tokens_of text.now ≡ None))) }
 {
     let tokens = tokens(alloc, text)?;
-    if are_plain(&tokens) { Ok(tokens) } else { Err(Fault::BadLexeme) }
+    if are_plain(&tokens) {
+        Ok(tokens)
+    } else {
+        Err(Fault::BadLexeme)
+    }
 }
 
 /// A string is plain exactly where no backslash stands in it.
 pub fn law_plain_strings()
     ensures { plain.PlainStrings }
-{
-}
+{}

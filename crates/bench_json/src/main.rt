@@ -21,7 +21,12 @@ fn main(rt: HostRuntime) -> anyhow::Result<()> {
     let (Some(kind), Some(size), Some(times)) = (args.next(), args.next(), args.next()) else {
         return small(&rt);
     };
-    measure(&rt, kind.as_str(), size.as_str().parse()?, times.as_str().parse()?)
+    measure(
+        &rt,
+        kind.as_str(),
+        size.as_str().parse()?,
+        times.as_str().parse()?,
+    )
 }
 
 /// A little of each kind.

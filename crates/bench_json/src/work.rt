@@ -20,12 +20,23 @@ pub fn reply(alloc: Global, kind: &str, size: u32) -> Result<ReplyBody, Fault> {
 }
 
 fn columns(alloc: Global) -> Result<Vec<String>, Fault> {
-    Ok(vec![in alloc; String::from_str(alloc, "n.number")?, String::from_str(alloc, "n.name")?]?)
+    Ok(vec![in alloc;
+        String::from_str(alloc, "n.number")?,
+        String::from_str(alloc, "n.name")?,
+    ]?)
 }
 
 fn row(alloc: Global, kind: &str, i: u32) -> Result<Vec<Out>, Fault> {
-    let first = if kind == "texts" { text(alloc)? } else { Out::Int(1_000_000 + i64::from(i)) };
-    let second = if kind == "integers" { Out::Int(-7919 * i64::from(i)) } else { text(alloc)? };
+    let first = if kind == "texts" {
+        text(alloc)?
+    } else {
+        Out::Int(1_000_000 + i64::from(i))
+    };
+    let second = if kind == "integers" {
+        Out::Int(-7919 * i64::from(i))
+    } else {
+        text(alloc)?
+    };
     Ok(vec![in alloc; first, second]?)
 }
 

@@ -35,7 +35,7 @@ impl From<AllocError> for ProgramFault {
 }
 
 impl From<io::Error> for ProgramFault {
-    /// The words of the command line: without memory, or not UTF-8.
+    /// From the words of the command line, which may not be UTF-8, and from buffers.
     fn from(e: io::Error) -> Self {
         match e.kind() {
             io::ErrorKind::OutOfMemory => ProgramFault::OutOfMemory,
@@ -50,9 +50,7 @@ impl ProgramFault {
         ensures { result.now ≡ program_line self.now }
     {
         match self {
-            ProgramFault::Usage => {
-                "usage: graphd run CONFIG | graphd serve CONFIG PORT COUNT"
-            }
+            ProgramFault::Usage => { "usage: graphd run CONFIG | graphd serve CONFIG PORT COUNT" }
             ProgramFault::Unreadable => "cannot read the configuration",
             ProgramFault::Config(fault) => fault.line(),
             ProgramFault::Ended(end) => end.line(),

@@ -7,6 +7,7 @@ mod tests;
 
 use fault::ProgramFault;
 use pg_server::{Config, Counted, End, Server};
+use std::io::BufReader;
 use std::process::ExitCode;
 use std::{env, fs, io};
 
@@ -53,7 +54,7 @@ fn read_file(rt: &HostRuntime, path: &str) -> Result<Vec<u8>, ProgramFault> {
 /// Serves standard input to standard output, until its end.
 fn serve_standard(rt: &HostRuntime, config: Config) -> Result<(), ProgramFault> {
     let mut server = Server::new(rt.alloc(), config)?;
-    let mut reader = Counted::new(rt.reader());
+    let mut reader = Counted::new(BufReader::new(rt.alloc(), rt.reader())?);
     let mut writer = Counted::new(io::writer(rt));
     match server.run(&mut reader, &mut writer, u64::MAX) {
         End::Done => Ok(()),

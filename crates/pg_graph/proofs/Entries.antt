@@ -149,6 +149,7 @@ module _ {V W : Type 0} (f : V → W) where
     where
       apart : (x k : ℕ) → x < k → eq_by_cmp nat_cmp k x ≡ false
       apart x k h = grind (arith, nat_tests)
+
       at_all : (es : List (ℕ × V)) (i : ℕ) → AllByRecursion (λ x. e.0 < x.0) es → i < length es → e.0 < (slice_index_or es i d).0
       at_all [] i all h = absurd (omega arith)
       at_all (x ∷ es) zero all h = all.0

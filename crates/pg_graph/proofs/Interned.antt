@@ -1,5 +1,5 @@
 -- Names by their texts: where a text is found, and what stays when one is added.
-use Rattle.std.proofs.Common.{◌≡◌, ℕ, zero, suc, ◌+◌, ◌||◌, ◌&&◌, Bool, true, false, not, cond, nat_lt, List, [], ◌∷◌, ◌++◌, map, length, slice_get, Option, Some, None, arith, refl, sym, ap, subst, ◌∙◌}
+use Rattle.std.proofs.Common.{◌≡◌, ℕ, zero, suc, ◌+◌, ◌||◌, Bool, true, false, not, cond, nat_lt, List, [], ◌∷◌, ◌++◌, map, length, slice_get, Option, Some, None, arith, refl, sym, ap, subst, ◌∙◌}
 use Rattle.std.proofs.lemmas.Bool.Decides.{nat_tests}
 use Rattle.std.proofs.lemmas.List.{length-map}
 use Rattle.std.proofs.lemmas.Slice.Eq.{bytes_eq-Decides}
@@ -103,6 +103,7 @@ place_of_text (x ∷ xs) (suc n) text d h =
       | true ↦ λ e. cc (equal_bytes a b (sym (same_bytes b a e)))
       | false ↦ λ e. refl
     ] refl
+
     apart : (ys : List (List ℕ)) (m : ℕ) → AllByRecursion (λ y. bytes_eq x y ≡ false) ys → slice_get ys m ≡ Some text → bytes_eq text x ≡ false
     apart [] m a h = cc
     apart (y ∷ ys) zero a h = flipped x text (ap (bytes_eq x) (let same : text ≡ y = cc in same) ∙ a.0)

@@ -1,3 +1,10 @@
 pub mod Interned
 pub mod SortedLists
 pub mod Entries
+pub mod Maps
+pub mod Others
+pub mod Ids
+pub mod Refined
+pub mod Held
+pub mod Named
+pub mod Incident

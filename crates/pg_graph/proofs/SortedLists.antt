@@ -1,9 +1,9 @@
 -- What a binary search of a rising list finds, and what an edit at that place makes of the list.
-use Rattle.std.proofs.Common.{◌≡◌, ◌==◌, ◌<◌, ◌≤◌, ℕ, zero, suc, Bool, true, false, cond, nat_lt, List, [], ◌∷◌, ◌++◌, ◌||◌, length, take, drop, slice_set, slice_index_or, Result, Ok, Err, is_ok, Ordering, Less, Equal, Greater, arith, refl, sym, ap, subst, ◌∙◌}
+use Rattle.std.proofs.Common.{◌≡◌, ◌==◌, ◌<◌, ◌≤◌, ℕ, zero, suc, Bool, true, false, cond, List, [], ◌∷◌, ◌++◌, ◌||◌, length, take, slice_set, slice_index_or, Result, Ok, Err, is_ok, Ordering, Less, Equal, Greater, arith, refl, sym, ap, subst, ◌∙◌}
 use Rattle.std.proofs.lemmas.Bool.Decides.{nat_tests}
 use Rattle.std.proofs.lemmas.Grind.{common_steps}
 use Rattle.std.proofs.lemmas.List.{append-nil, drop_all}
-use Rattle.std.specs.List.{AllByRecursion, AllWithin, HoldsAt, insert, remove, refill, list_any}
+use Rattle.std.specs.List.{AllByRecursion, HoldsAt, insert, remove, refill, list_any}
 use Rattle.std.specs.List.Sorted.{IsNonDecreasingBy, IsPartitionPoint, IsSearchInRange, IsBinarySearchResult}
 use Rattle.std.specs.Ordering.{nat_cmp, match_ordering, ordering_index}
 use Rattle.pg_graph.specs.Sorted.{Rises, put, without, IsPlace}
@@ -11,7 +11,7 @@ use Rattle.pg_graph.specs.Sorted.{Rises, put, without, IsPlace}
 pub below : (a b : ℕ) → a < b → nat_cmp a b ≡ Less
 below a b h = grind (arith, nat_tests)
 
-above : (a b : ℕ) → b < a → nat_cmp a b ≡ Greater
+pub above : (a b : ℕ) → b < a → nat_cmp a b ≡ Greater
 above a b h = grind (arith, nat_tests)
 
 pub level : (a b : ℕ) → a ≡ b → nat_cmp a b ≡ Equal

@@ -1,4 +1,7 @@
 pub mod Names
+pub mod Sorted
 pub mod Records
 pub mod ValueCode
-pub mod Sorted
+pub mod Content
+pub mod Links
+pub mod Refinement

@@ -1,13 +1,21 @@
 //! Nodes and relationships as tables hold them: names as numbers, records, and the trait of tables.
 #![tactic(auto)]
 
+mod by_id;
 mod labels;
+mod laws;
+mod links;
 mod names;
 mod properties;
 mod records;
 mod sorted;
+mod tables;
 
+pub use by_id::ById;
 pub use labels::Labels;
+pub use laws::{law_of_changes, law_of_graphs, law_of_reads};
+pub use links::{Incidence, Links};
 pub use names::{NameId, Names};
 pub use properties::Properties;
 pub use records::{Direction, NodeRecord, RelRecord};
+pub use tables::Tables;

@@ -34,6 +34,20 @@ pub struct RelRecord {
     pub properties: Properties,
 }
 
+impl RelRecord {
+    /// The relationship with other properties.
+    pub fn with_properties(&self, properties: Properties) -> RelRecord
+        ensures { result ≡ record self.now { properties = properties } }
+    {
+        RelRecord {
+            kind: self.kind,
+            source: self.source,
+            target: self.target,
+            properties,
+        }
+    }
+}
+
 /// Which way a relationship goes, seen from one of its ends.
 #[derive(Clone, Copy, Debug, PartialEq, Eq)]
 pub enum Direction {

@@ -26,7 +26,7 @@ abbrev fault_in : List ℕ → Fault
 fault_in s = with_code (code_in s) faults
 
 fault_in-refusal : (f : Fault) → fault_in (refusal_text f) ≡ f
-unfolding serde_json_on_literals digits
+unfolding serde_json_on_literals digits refusal_text
 fault_in-refusal FrameTooLong = refl
 fault_in-refusal BadRequest = refl
 fault_in-refusal UnknownToken = refl
@@ -74,11 +74,11 @@ unfolding serde_json_on_literals digits reply_text
 code_in-reply (Query columns rows steps) = refl
 
 code_in-done : code_in done_text ≡ 0
-unfolding serde_json_on_literals digits
+unfolding serde_json_on_literals digits done_text
 code_in-done = refl
 
 code_in-last : code_in (refusal_text OutOfMemory) ≡ 99
-unfolding serde_json_on_literals digits
+unfolding serde_json_on_literals digits refusal_text
 code_in-last = refl
 
 apart : (n : ℕ) → n ≡ 0 → n ≡ 99 → ⊥

@@ -1,5 +1,5 @@
 -- The data of an element.
-use Rattle.std.proofs.Common.{◌≡◌, List, String, Vec, BTreeMap, Global, string_bytes, rules}
+use Rattle.std.proofs.Common.{◌≡◌, String, Vec, BTreeMap, Global, string_bytes, rules}
 use Rattle.pg_value_core.specs.declared.ids.NodeId.{NodeId}
 use Rattle.pg_value_core.specs.declared.ids.RelId.{RelId}
 use Rattle.pg_value_core.specs.declared.out.Out.{Out, Node, Rel, the_lemmas}

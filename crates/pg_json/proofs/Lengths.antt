@@ -1,5 +1,5 @@
 -- The texts are at least as long as counted.
-use Rattle.std.proofs.Common.{◌≡◌, ℕ, suc, ◌+◌, ◌/◌, ◌%◌, ◌<◌, ◌≤◌, nat_lt, List, [], ◌∷◌, ◌++◌, Bool, true, false, cond, length, length-append, flat_map, arith}
+use Rattle.std.proofs.Common.{ℕ, ◌+◌, ◌/◌, ◌%◌, ◌≤◌, nat_lt, List, [], ◌∷◌, Bool, true, false, cond, length, length-append, arith}
 use Rattle.std.specs.Char.{digit_char}
 use Rattle.json.specs.Print.{escape_letter, escape_byte, escape}
 use Rattle.serde_json.specs.Data.{Data, null, boolean, number, string, array, object, Items, no_items, item, Members, no_members, member}

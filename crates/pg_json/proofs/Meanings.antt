@@ -9,6 +9,7 @@ use Rattle.pg_json.specs.Requests.{Request, request_of, meaning}
 use Rattle.pg_json.specs.declared.request.RequestBody.{RequestBody}
 
 pub meaning-utf8 : (body : List ℕ) → IsUtf8 body → meaning body ≡ option_and_then request_of (read body)
+unfolding meaning
 meaning-utf8 body h = rw (is_utf8-from_IsUtf8 body h)
 
 none_unless : {A : Type 0} (b : Bool) (o : Option A) → (b ≡ true → ⊥) → cond b o None ≡ None
@@ -16,6 +17,7 @@ none_unless true o h = absurd (h refl)
 none_unless false o h = refl
 
 pub meaning-not_utf8 : (body : List ℕ) → ¬ (IsUtf8 body) → meaning body ≡ None
+unfolding meaning
 meaning-not_utf8 body h = none_unless (is_utf8 body) _ (λ e. h (IsUtf8-from_is_utf8 body e))
 
 -- what is found is the request that is meant

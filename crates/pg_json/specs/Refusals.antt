@@ -51,9 +51,9 @@ name_of OutOfMemory = codes "OutOfMemory"
 abbrev pub refusal_data : Fault → Data
 refusal_data f = object (member (codes "code") (number (unsigned (code_of f))) (member (codes "error") (string (name_of f)) no_members))
 
-abbrev pub refusal_text : Fault → List ℕ
+unfoldable pub refusal_text : Fault → List ℕ
 refusal_text f = compact_text (refusal_data f)
 
 -- {"code":0}
-abbrev pub done_text : List ℕ
+unfoldable pub done_text : List ℕ
 done_text = compact_text (object (member (codes "code") (number (unsigned 0)) no_members))

@@ -1,5 +1,5 @@
 -- The request that a body is: one object with exactly the keys of its operation.
-use Rattle.std.specs.Prelude.{ℕ, List, [], ◌∷◌, Bool, true, false, ◌&&◌, ◌||◌, Option, Some, None, option_map, option_and_then, if◌then◌else◌, codes}
+use Rattle.std.specs.Prelude.{ℕ, List, [], ◌∷◌, Bool, true, false, ◌&&◌, ◌||◌, Option, None, option_map, option_and_then, if◌then◌else◌, codes}
 use Rattle.std.specs.Str.{bytes_eq, is_utf8}
 use Rattle.serde_json.specs.Data.{Data, Members, no_members, member}
 use Rattle.serde_json.specs.Find.{get_member, as_str, as_object}
@@ -44,5 +44,5 @@ abbrev pub request_of : Data → Option Request
 request_of d = option_and_then object_request (as_object d)
 
 -- the request that the bytes are, read as serde_json reads them
-abbrev pub meaning : List ℕ → Option Request
+unfoldable pub meaning : List ℕ → Option Request
 meaning body = if is_utf8 body then option_and_then request_of (read body) else None

@@ -20,6 +20,7 @@ pub struct ReplyBytes {
 
 impl Model for ReplyBytes {
     ghost use Rattle.std.specs.Prelude.{List, ℕ, ◌≤◌, length};
+    ghost use Rattle.pg_json.specs.Replies.{max_reply};
     ghost use Rattle.std.specs.Coded.{coded_list, coded_ℕ};
     ghost use Rattle.pg_json.specs.Bytes.{bytes_of};
 
@@ -29,7 +30,7 @@ impl Model for ReplyBytes {
 
     ghost view = { λ b. bytes_of b.body };
 
-    ghost invariant = { λ b. length (bytes_of b.body) ≤ 16777216 };
+    ghost invariant = { λ b. length (bytes_of b.body) ≤ max_reply };
 }
 
 impl ReplyBytes {

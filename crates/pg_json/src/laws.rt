@@ -9,7 +9,7 @@ pub fn law_of_refusals()
 {}
 
 /// What answers a request that isn't refused is never the text of a refusal.
-#[tactic(auto, using(crate::proofs::Codes::replies_are_no_refusals, crate::proofs::Codes::done_is_no_refusal))]
+#[tactic(auto, using(crate::proofs::Codes::done_is_no_refusal))]
 pub fn law_of_replies()
     ensures replies { RepliesAreNoRefusals }
     ensures done { DoneIsNoRefusal }

@@ -1,5 +1,5 @@
 //! From a body to a request.
-ghost use Rattle.std.specs.Prelude.{◌≡◌, ◌≢◌, IfOk, IfErr, None, Some, List, ℕ, option_map, option_and_then, string_bytes, map};
+ghost use Rattle.std.specs.Prelude.{◌≡◌, ◌≢◌, IfOk, IfErr, None, Some, List, ℕ, option_map, string_bytes, map};
 ghost use Rattle.serde_json.specs.View.{view, members_view};
 ghost use Rattle.serde_json.specs.Find.{as_str, get_member};
 ghost use Rattle.pg_json.specs.Requests.{meaning, request_of, object_request, query_of, text_at as spec_text_at, has_only as spec_has_only, is_one_of as spec_is_one_of};
@@ -12,6 +12,7 @@ use serde_json::{Map, Value};
 use std::alloc::Global;
 
 /// The request that a frame's body is.
+#[tactic(auto, unfolding(crate::specs::Requests::meaning))]
 pub fn read_request(alloc: Global, body: &[u8]) -> Result<RequestBody, Fault>
     ensures ok { IfOk result (λ r. meaning body.now ≡ Some (request_view r)) }
     ensures kind { IfErr result (λ e. e ≢ OutOfMemory → e ≡ BadRequest) }

@@ -323,9 +323,11 @@ fn answers_want_of_memory_alone(rt: HostRuntime) {
         }
         Err(fault) => assert_eq!(rt; fault, Fault::OutOfMemory),
     }
-    let Ok(reply) = three(alloc) else { return };
+    let Ok(reply) = long(alloc, 5_000, "x") else {
+        return;
+    };
     match write_reply(alloc, &reply) {
-        Ok(bytes) => assert!(rt; bytes.as_slice() == THREE.as_bytes()),
+        Ok(bytes) => assert_eq!(rt; bytes.len(), 5_047),
         Err(fault) => assert_eq!(rt; fault, Fault::OutOfMemory),
     }
 }

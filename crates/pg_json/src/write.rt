@@ -1,9 +1,9 @@
 //! From a reply to its text, straight into one buffer.
 ghost use Rattle.std.specs.Prelude.{◌≡◌, ◌≢◌, ◌+◌, ◌<◌, ◌≤◌, ◌++◌, ◌∷◌, IfOk, IfErr, OnOk, length, codes};
-ghost use Rattle.json.specs.Tree.{json_tokens, items_tokens};
+ghost use Rattle.json.specs.Tree.{json_tokens};
 ghost use Rattle.json.specs.Token.{key as key_token};
 ghost use Rattle.serde_json.specs.Data.{array};
-ghost use Rattle.serde_json.specs.Written.{outline, items_outline};
+ghost use Rattle.serde_json.specs.Written.{outline};
 ghost use Rattle.pg_json.specs.Replies.{reply_data, reply_text, query_data, rows_of, text_items, max_reply};
 ghost use Rattle.pg_json.specs.Room.{items_least, least};
 ghost use Rattle.pg_meaning.specs.declared.fault.Fault.TheVariants.{OutOfMemory, ReplyTooLong};

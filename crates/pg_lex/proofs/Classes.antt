@@ -1,6 +1,7 @@
 -- The class of a first character.
 use Rattle.std.proofs.Common.{◌≡◌, ℕ, ◌<◌, ◌≤◌, Bool, true, false, cond, ◌⊎◌, inl, inr, ◌||◌, ◌&&◌, eqb, leb, List, [], ◌∷◌, ◌++◌, refl, ap, sym, subst, ◌∙◌, arith}
-use Rattle.std.proofs.lemmas.Bool.{eqb-true, leb-true, lt-leb, lt-ltb, ne_eqb, and_parts, or_cases}
+use Rattle.std.proofs.lemmas.Bool.{eqb-true, leb-true, and_parts, or_cases, not-true}
+use Rattle.pg_lex.proofs.Whites.{at_each, begins_none}
 use Rattle.pg_meaning.specs.declared.lexemes.Symbol.{Symbol}
 use Rattle.pg_meaning.specs.declared.lexemes.Symbol.TheVariants as s
 use Rattle.pg_meaning.specs.Tokens.{class, Class, letter, digit, backquote, quotation, dollar, other, lexeme_at, lexeme_by, Front, Lexeme, word, keyword, quoted_name, integer, string, parameter, symbol, symbol_text, symbol_among, symbols, begins_word, is_digit, Spells}
@@ -81,14 +82,11 @@ dollar_is c h = eqb-true c 36 (by_dollar (begins_word c) (is_digit c) (eqb c 96)
 pub class_letter : (c : ℕ) → begins_word c ≡ true → class c ≡ letter
 class_letter c h = ap (λ (t : Bool). class_by t (is_digit c) (eqb c 96) (eqb c 39 || eqb c 34) (eqb c 36)) h
 
-no_letter : (c : ℕ) → c < 65 → begins_word c ≡ false
-no_letter c lt = rw (lt-ltb c 128 (omega arith), lt-leb 65 c lt, lt-leb 97 c (omega arith), ne_eqb c 95 (λ e. absurd (omega arith))) refl
-
 pub digit_bounds : (c : ℕ) → is_digit c ≡ true → (48 ≤ c) × (c ≤ 57)
 digit_bounds c h = let a = and_parts (leb 48 c) (leb c 57) h in (leb-true 48 c a.0, leb-true c 57 a.1)
 
 pub digit_no_letter : (c : ℕ) → is_digit c ≡ true → begins_word c ≡ false
-digit_no_letter c h = no_letter c (omega (arith, (digit_bounds c h).1))
+digit_no_letter c h = let b = digit_bounds c h in not-true (begins_word c) (at_each begins_none 48 10 c refl b.0 (omega (arith, b.1)))
 
 pub class_digit : (c : ℕ) → is_digit c ≡ true → class c ≡ digit
 class_digit c h = ap (λ (t : Bool). class_by t (is_digit c) (eqb c 96) (eqb c 39 || eqb c 34) (eqb c 36)) (digit_no_letter c h) ∙ ap (λ (t : Bool). class_by false t (eqb c 96) (eqb c 39 || eqb c 34) (eqb c 36)) h

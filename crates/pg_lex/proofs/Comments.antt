@@ -64,12 +64,12 @@ comment_sound true (c ∷ cs) more e = at (eqb c 47) refl (eqb c 42) refl e (λ 
   where
     at : (x : Bool) → eqb c 47 ≡ x → (y : Bool) → eqb c 42 ≡ y → elim x as (λ _. Option (List ℕ)) [ true ↦ Some cs | false ↦ comment_from y cs ] ≡ Some more → ((b : Bool) → comment_from b cs ≡ Some more → Ends (starred b cs) more) → Ends (42 ∷ c ∷ cs) more
     at true h y i g rest =
-      let p : cs ≡ more = cc in
-      let q : 42 ∷ c ∷ cs ≡ 42 ∷ 47 ∷ more = ap (λ (x : ℕ). 42 ∷ x ∷ cs) (eqb-true c 47 h) ∙ ap (λ (r : List ℕ). 42 ∷ 47 ∷ r) p in
-      record { body = []; whole = q; first = no_end_one }
+        let p : cs ≡ more = cc in
+        let q : 42 ∷ c ∷ cs ≡ 42 ∷ 47 ∷ more = ap (λ (x : ℕ). 42 ∷ x ∷ cs) (eqb-true c 47 h) ∙ ap (λ (r : List ℕ). 42 ∷ 47 ∷ r) p in
+        record { body = []; whole = q; first = no_end_one }
     at false h true i g rest =
-      let e : 42 ∷ cs ≡ c ∷ cs = ap (λ (x : ℕ). x ∷ cs) (sym (eqb-true c 42 i)) in
-      more_star c cs more (eqb-false c 47 h) (rw e at (rest true g))
+        let e : 42 ∷ cs ≡ c ∷ cs = ap (λ (x : ℕ). x ∷ cs) (sym (eqb-true c 42 i)) in
+        more_star c cs more (eqb-false c 47 h) (rw e at (rest true g))
     at false h false i g rest = more_star c cs more (eqb-false c 47 h) (more_other c cs more (eqb-false c 42 i) (rest false g))
 
 -- ---- a comment is read to its end

@@ -1,6 +1,6 @@
 -- What the lexer finds is the longest.
 use Rattle.std.proofs.Common.{◌≡◌, ◌≢◌, ℕ, ◌+◌, ◌<◌, ◌≤◌, Bool, true, false, ◌⊎◌, inl, inr, eqb, leb, not, ◌&&◌, ◌||◌, List, [], ◌∷◌, ◌++◌, length, Option, Some, None, refl, sym, ap, ◌∙◌, subst, append_assoc, length-append, arith}
-use Rattle.std.proofs.lemmas.Bool.{ne_eqb}
+use Rattle.std.proofs.lemmas.Bool.{eqb-false}
 use Rattle.pg_meaning.specs.declared.lexemes.Symbol.{Symbol}
 use Rattle.pg_meaning.specs.declared.lexemes.Symbol.TheVariants as s
 use Rattle.pg_meaning.specs.Tokens.{class, Class, letter, digit, backquote, quotation, dollar, other, Lexeme, word, keyword, quoted_name, integer, string, parameter, symbol, Front, Spells, Longest, Starts, All, IsWord, AreDigits, run, after, word_at, worded, keyword_of, continues_word, begins_word, is_digit, integer_at, is_empty, value_of, greatest_integer, utf8, doubled, named, made, quoted_from, string_from, outside, pieces_text, parameter_at, parameter_by, lexeme_by, symbol_among, symbols, symbol_text}
@@ -89,10 +89,6 @@ string_len_by c f m k more q e (parameter x w) h = let e : quotation ≡ dollar 
 string_len_by c f m k more q e (symbol x) h = let e : quotation ≡ other = sym q ∙ kind (symbol x) c f h in absurd cc
 
 -- ---- parameters
-
--- the reader of a parameter, by the class of what stands behind the dollar
-abbrev parameter_rest : Class → Lexeme → List ℕ → List ℕ → Type 0
-parameter_rest k l cs more = (c : ℕ) (ds : List ℕ) → cs ≡ c ∷ ds → class c ≡ k → parameter_at cs ≡ found l more → Unit {0}
 
 at_class : (c : ℕ) (ds : List ℕ) (k : Class) (l : Lexeme) (more : List ℕ) → class c ≡ k → parameter_at (c ∷ ds) ≡ found l more → parameter_by k c ds ≡ found l more
 at_class c ds k l more h e = sym (ap (λ (x : Class). parameter_by x c ds) h) ∙ e
@@ -231,3 +227,50 @@ longest_by c cs front l more e whole k (d ∷ f) m same h =
     let small : length more ≤ length m = no_shorter (class c) c f m l more refl (sym (ap (λ (r : List ℕ). lexeme_by (class c) c r) there) ∙ e) k here in
     let long = ap (length {A = ℕ}) tail in
     omega (arith, length-append front more, length-append f m)
+
+-- ---- a slash that opens no comment
+
+differ : (n : ℕ) (f g : List ℕ) → eqb 47 n ≡ false → 47 ∷ f ≡ n ∷ g → ⊥
+differ n f g h e = let p : 47 ≡ n = cc in eqb-false 47 n h p
+
+alone_len : (x : Symbol) (f : List ℕ) → 47 ∷ f ≡ symbol_text x → length f ≤ 0
+alone_len s.TwoDots f h = absurd (differ 46 f _ refl h)
+alone_len s.NotEqual f h = absurd (differ 60 f _ refl h)
+alone_len s.LessOrEqual f h = absurd (differ 60 f _ refl h)
+alone_len s.GreaterOrEqual f h = absurd (differ 62 f _ refl h)
+alone_len s.PlusEqual f h = absurd (differ 43 f _ refl h)
+alone_len s.OpenParenthesis f h = absurd (differ 40 f _ refl h)
+alone_len s.CloseParenthesis f h = absurd (differ 41 f _ refl h)
+alone_len s.OpenBracket f h = absurd (differ 91 f _ refl h)
+alone_len s.CloseBracket f h = absurd (differ 93 f _ refl h)
+alone_len s.OpenBrace f h = absurd (differ 123 f _ refl h)
+alone_len s.CloseBrace f h = absurd (differ 125 f _ refl h)
+alone_len s.Comma f h = absurd (differ 44 f _ refl h)
+alone_len s.Dot f h = absurd (differ 46 f _ refl h)
+alone_len s.Colon f h = absurd (differ 58 f _ refl h)
+alone_len s.Semicolon f h = absurd (differ 59 f _ refl h)
+alone_len s.Plus f h = absurd (differ 43 f _ refl h)
+alone_len s.Minus f h = absurd (differ 45 f _ refl h)
+alone_len s.Star f h = absurd (differ 42 f _ refl h)
+alone_len s.Slash f h = let e = ap (length {A = ℕ}) h in omega arith
+alone_len s.Percent f h = absurd (differ 37 f _ refl h)
+alone_len s.Equal f h = absurd (differ 61 f _ refl h)
+alone_len s.Less f h = absurd (differ 60 f _ refl h)
+alone_len s.Greater f h = absurd (differ 62 f _ refl h)
+alone_len s.Bar f h = absurd (differ 124 f _ refl h)
+
+slash_kind : (l : Lexeme) (f : List ℕ) → Spells l (47 ∷ f) → length f ≤ 0
+slash_kind (word w) f h = let e : other ≡ letter = kind (word w) 47 f h in absurd cc
+slash_kind (keyword k w) f h = let e : other ≡ letter = kind (keyword k w) 47 f h in absurd cc
+slash_kind (quoted_name w) f h = let e : other ≡ backquote = kind (quoted_name w) 47 f h in absurd cc
+slash_kind (integer n) f h = let e : other ≡ digit = kind (integer n) 47 f h in absurd cc
+slash_kind (string t) f h = let e : other ≡ quotation = kind (string t) 47 f h in absurd cc
+slash_kind (parameter q w) f h = let e : other ≡ dollar = kind (parameter q w) 47 f h in absurd cc
+slash_kind (symbol x) f h = alone_len x f h
+
+pub slash_alone : (more : List ℕ) → Longest (47 ∷ []) more
+slash_alone more l [] m e h = omega arith
+slash_alone more l (d ∷ f) m e h =
+    let head : d ≡ 47 = cc in
+    let here : Spells l (47 ∷ f) = subst (λ (x : ℕ). Spells l (x ∷ f)) head h in
+    omega (arith, slash_kind l f here)

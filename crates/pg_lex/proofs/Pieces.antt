@@ -1,5 +1,5 @@
 -- A string in pieces, each of which stands for a character.
-use Rattle.std.proofs.Common.{◌≡◌, ◌≢◌, ℕ, suc, zero, ◌+◌, ◌*◌, ◌<◌, ◌≤◌, Bool, true, false, cond, eqb, List, [], ◌∷◌, ◌++◌, length, Option, Some, None, refl, sym, ap, ◌∙◌, append_assoc, length-append, arith}
+use Rattle.std.proofs.Common.{◌≡◌, ◌≢◌, ℕ, suc, zero, ◌+◌, ◌*◌, ◌<◌, ◌≤◌, Bool, true, false, cond, eqb, List, [], ◌∷◌, ◌++◌, length, Option, Some, None, refl, sym, ap, ◌∙◌, subst, append_assoc, length-append, arith}
 use Rattle.std.proofs.lemmas.Bool.{eqb-true, eqb-false, eq-eqb, ne_eqb}
 use Rattle.pg_meaning.specs.Tokens.{Front, string_from, outside, backslash, hexadecimal, put, hexadecimal_value, escape_of, is_surrogate, Piece, plain, escaped, coded, piece_text, pieces_text, StandsFor, AllStandFor}
 use Rattle.pg_lex.specs.Scans.{meant_front, escaped as escaped_front, coded_front, hexadecimal_front, with_rest, character_of, ◌>>=◌}
@@ -78,8 +78,8 @@ escaped_sound q (c ∷ cs) m more e = at (eqb c 117) refl e
 
     at : (x : Bool) → eqb c 117 ≡ x → cond x (coded_front cs) (with_rest cs (escape_of c)) ≡ one m more → Meant q 92 (c ∷ cs) m more
     at true h g =
-      let p = coded_sound cs m more g in
-      record { part = coded p.a p.b p.c p.d; stands = p.stands q; whole = ap (λ (x : ℕ). 92 ∷ x ∷ cs) (eqb-true c 117 h) ∙ ap (λ (r : List ℕ). 92 ∷ 117 ∷ r) p.whole }
+        let p = coded_sound cs m more g in
+        record { part = coded p.a p.b p.c p.d; stands = p.stands q; whole = ap (λ (x : ℕ). 92 ∷ x ∷ cs) (eqb-true c 117 h) ∙ ap (λ (r : List ℕ). 92 ∷ 117 ∷ r) p.whole }
     at false h g = simple (escape_of c) refl g
 
 meant_sound : (q c : ℕ) (cs : List ℕ) (m : ℕ) (more : List ℕ) → (c ≡ q → ⊥) → meant_front c cs ≡ one m more → Meant q c cs m more
@@ -87,8 +87,8 @@ meant_sound q c cs m more other e = at (eqb c 92) refl e
   where
     at : (x : Bool) → eqb c 92 ≡ x → cond x (escaped_front cs) (one c cs) ≡ one m more → Meant q c cs m more
     at true h g =
-      let p = escaped_sound q cs m more g in
-      record { part = p.part; stands = p.stands; whole = ap (λ (x : ℕ). x ∷ cs) (eqb-true c 92 h) ∙ p.whole }
+        let p = escaped_sound q cs m more g in
+        record { part = p.part; stands = p.stands; whole = ap (λ (x : ℕ). x ∷ cs) (eqb-true c 92 h) ∙ p.whole }
     at false h g = let p = same_pair c m cs more g in record { part = plain c; stands = (sym p.0, other, eqb-false c 92 h); whole = ap (λ (r : List ℕ). c ∷ r) p.1 }
 
 some_text : (p : Piece) → 1 ≤ length (piece_text p)
@@ -108,32 +108,32 @@ string_sound n q [] means more le e = absurd cc
 string_sound zero q (c ∷ cs) means more le e = absurd (omega arith)
 string_sound (suc n) q (c ∷ cs) means more le e = at (eqb c q) refl (λ rest ms small g. string_sound n q rest ms more small g)
   where
+    begun : Bool → Front (List ℕ)
+    begun t = elim t [ true ↦ Some ([], cs) | false ↦ elim (eqb c 92) as (λ _. Front (List ℕ)) [ true ↦ string_from q backslash cs | false ↦ put c (string_from q outside cs) ] ]
+
     after : (o : Front ℕ) → meant_front c cs ≡ o → (c ≡ q → ⊥) → next_part q o ≡ all means more → ((rest ms : List ℕ) → length rest ≤ n → string_from q outside rest ≡ all ms more → Content q rest ms more) → Content q (c ∷ cs) means more
     after None h other g others = absurd cc
     after (Some x) h other g others =
-      let p = put_parts x.0 (string_from q outside x.1) means more g in
-      let part : Meant q c cs x.0 x.1 = meant_sound q c cs x.0 x.1 other h in
-      let long = ap (length {A = ℕ}) part.whole in
-      let rest : Content q x.1 p.0 more = others x.1 p.0 (omega (arith, length-append (piece_text part.part) x.1, some_text part.part)) p.1 in
-      let stands : AllStandFor q (part.part ∷ rest.pieces) (x.0 ∷ p.0) = (part.stands, rest.stands) in
-      record {
-        pieces = part.part ∷ rest.pieces;
-        stands = rw p.2 at stands;
-        whole = part.whole ∙ ap (λ (r : List ℕ). piece_text part.part ++ r) rest.whole ∙ sym (append_assoc (piece_text part.part) (pieces_text rest.pieces) (q ∷ more));
-      }
+        let p = put_parts x.0 (string_from q outside x.1) means more g in
+        let part : Meant q c cs x.0 x.1 = meant_sound q c cs x.0 x.1 other h in
+        let long = ap (length {A = ℕ}) part.whole in
+        let rest : Content q x.1 p.0 more = others x.1 p.0 (omega (arith, length-append (piece_text part.part) x.1, some_text part.part)) p.1 in
+        let stands : AllStandFor q (part.part ∷ rest.pieces) (x.0 ∷ p.0) = (part.stands, rest.stands) in
+        record {
+          pieces = part.part ∷ rest.pieces;
+          stands = subst (λ (r : List ℕ). AllStandFor q (part.part ∷ rest.pieces) r) p.2 stands;
+          whole = part.whole ∙ ap (λ (r : List ℕ). piece_text part.part ++ r) rest.whole ∙ sym (append_assoc (piece_text part.part) (pieces_text rest.pieces) (q ∷ more));
+        }
 
     ends : eqb c q ≡ true → all [] cs ≡ all means more → Content q (c ∷ cs) means more
     ends h g =
-      let p = same_pair [] means cs more g in
-      let none : AllStandFor q [] [] = tt in
-      record { pieces = []; stands = rw p.0 at none; whole = ap (λ (x : ℕ). x ∷ cs) (eqb-true c q h) ∙ ap (λ (r : List ℕ). q ∷ r) p.1 }
+        let p = same_pair [] means cs more g in
+        let none : AllStandFor q [] [] = tt in
+        record { pieces = []; stands = subst (λ (r : List ℕ). AllStandFor q [] r) p.0 none; whole = ap (λ (x : ℕ). x ∷ cs) (eqb-true c q h) ∙ ap (λ (r : List ℕ). q ∷ r) p.1 }
 
     at : (x : Bool) → eqb c q ≡ x → ((rest ms : List ℕ) → length rest ≤ n → string_from q outside rest ≡ all ms more → Content q rest ms more) → Content q (c ∷ cs) means more
     at true h others = ends h (sym (ap (λ (t : Bool). begun t) h) ∙ e)
     at false h others = after (meant_front c cs) refl (eqb-false c q h) (sym (string_step q c cs h) ∙ e) others
-
-    begun : Bool → Front (List ℕ)
-    begun t = elim t [ true ↦ Some ([], cs) | false ↦ elim (eqb c 92) as (λ _. Front (List ℕ)) [ true ↦ string_from q backslash cs | false ↦ put c (string_from q outside cs) ] ]
 
 -- ---- pieces are read
 

@@ -16,9 +16,6 @@ put_parts c (Some p) name more e =
 abbrev doubled_by : Bool → ℕ → List ℕ → List ℕ
 doubled_by t c cs = cond t (96 ∷ 96 ∷ doubled cs) (c ∷ doubled cs)
 
-doubled_quote : (cs : List ℕ) → doubled (96 ∷ cs) ≡ 96 ∷ 96 ∷ doubled cs
-doubled_quote cs = refl
-
 doubled_other : (c : ℕ) (cs : List ℕ) → eqb c 96 ≡ false → doubled (c ∷ cs) ≡ c ∷ doubled cs
 doubled_other c cs h = ap (λ (t : Bool). doubled_by t c cs) h
 
@@ -36,16 +33,16 @@ quoted_sound false (c ∷ cs) name more e = at (eqb c 96) refl e (λ n g. quoted
         → c ∷ cs ≡ doubled name ++ 96 ∷ more
     at true h g first second = ap (λ (x : ℕ). x ∷ cs) (eqb-true c 96 h) ∙ first name g
     at false h g first second =
-      let p = put_parts c (quoted_from false cs) name more g in
-      ap (λ (r : List ℕ). c ∷ r) (second p.0 p.1) ∙ ap (λ (r : List ℕ). r ++ 96 ∷ more) (sym (doubled_other c p.0 h) ∙ ap doubled p.2)
+        let p = put_parts c (quoted_from false cs) name more g in
+        ap (λ (r : List ℕ). c ∷ r) (second p.0 p.1) ∙ ap (λ (r : List ℕ). r ++ 96 ∷ more) (sym (doubled_other c p.0 h) ∙ ap doubled p.2)
 quoted_sound true [] name more e = let h = same_pair [] name [] more e in ap (λ (r : List ℕ). 96 ∷ r) h.1 ∙ ap (λ (n : List ℕ). doubled n ++ 96 ∷ more) h.0
 quoted_sound true (c ∷ cs) name more e = at (eqb c 96) refl e (λ n g. quoted_sound false cs n more g)
   where
     at : (x : Bool) → eqb c 96 ≡ x → elim x as (λ _. Front (List ℕ)) [ true ↦ put 96 (quoted_from false cs) | false ↦ Some ([], c ∷ cs) ] ≡ both name more
         → ((n : List ℕ) → quoted_from false cs ≡ both n more → cs ≡ doubled n ++ 96 ∷ more) → 96 ∷ c ∷ cs ≡ doubled name ++ 96 ∷ more
     at true h g rest =
-      let p = put_parts 96 (quoted_from false cs) name more g in
-      ap (λ (x : ℕ). 96 ∷ x ∷ cs) (eqb-true c 96 h) ∙ ap (λ (r : List ℕ). 96 ∷ 96 ∷ r) (rest p.0 p.1) ∙ ap (λ (n : List ℕ). doubled n ++ 96 ∷ more) p.2
+        let p = put_parts 96 (quoted_from false cs) name more g in
+        ap (λ (x : ℕ). 96 ∷ x ∷ cs) (eqb-true c 96 h) ∙ ap (λ (r : List ℕ). 96 ∷ 96 ∷ r) (rest p.0 p.1) ∙ ap (λ (n : List ℕ). doubled n ++ 96 ∷ more) p.2
     at false h g rest = let p = same_pair [] name (c ∷ cs) more g in ap (λ (r : List ℕ). 96 ∷ r) p.1 ∙ ap (λ (n : List ℕ). doubled n ++ 96 ∷ more) p.0
 
 -- ---- a name in backquotes is read

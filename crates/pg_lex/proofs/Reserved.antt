@@ -61,7 +61,7 @@ pick t k o = elim t [ true ↦ Some k | false ↦ o ]
 
 among_same : (ps : List (List ℕ × Keyword)) (cs : List ℕ) → ascii_keys ps ≡ true → keyword_among ps (map to_ascii_lowercase (utf8 cs)) ≡ keyword_among ps (map to_ascii_lowercase cs)
 among_same [] cs h = refl
-among_same (p ∷ ps) cs h = 
+among_same (p ∷ ps) cs h =
     let a = and_parts (are_ascii p.0) (ascii_keys ps) h in
     ap (λ (t : Bool). pick t p.1 (keyword_among ps (map to_ascii_lowercase (utf8 cs)))) (same_test p.0 cs a.0) ∙ ap (λ (o : Option Keyword). pick (bytes_eq p.0 (map to_ascii_lowercase cs)) p.1 o) (among_same ps cs a.1)
 

@@ -27,7 +27,7 @@ along c cs k l m n e h =
     let p = same_pair k l m n e in
     subst (λ (l : Lexeme). Spelled c cs l n) p.0 (subst (λ (r : List ℕ). Spelled c cs k r) p.1 h)
 
-worded_spells : (w : List ℕ) → IsWord w → Spells (worded (utf8 w) (keyword_of w)) w
+pub worded_spells : (w : List ℕ) → IsWord w → Spells (worded (utf8 w) (keyword_of w)) w
 worded_spells w h = at (keyword_of w) refl
   where
     at : (o : Option Keyword) → keyword_of w ≡ o → Spells (worded (utf8 w) o) w
@@ -40,9 +40,11 @@ worded_may w (Some k) more = tt
 
 word_spelled : (c : ℕ) (cs : List ℕ) → begins_word c ≡ true → Spelled c cs (worded (utf8 (word_at c cs)) (keyword_of (word_at c cs))) (after continues_word cs)
 word_spelled c cs h = record {
-      front = run continues_word cs; whole = run_after continues_word cs; spells = worded_spells (word_at c cs) (h, run_all continues_word cs);
-      may = worded_may (utf8 (word_at c cs)) (keyword_of (word_at c cs)) (after continues_word cs);
-    }
+  front = run continues_word cs;
+  whole = run_after continues_word cs;
+  spells = worded_spells (word_at c cs) (h, run_all continues_word cs);
+  may = worded_may (utf8 (word_at c cs)) (keyword_of (word_at c cs)) (after continues_word cs);
+}
 
 -- ---- integers
 
@@ -56,9 +58,11 @@ integer_spelled c cs l more h e = at (not (eqb c 48) || is_empty (run is_digit c
     at : (x : Bool) → (not (eqb c 48) || is_empty (run is_digit cs)) ≡ x → (y : Bool) → Starts begins_word (after is_digit cs) ≡ y → (z : Bool) → leb (value_of (c ∷ run is_digit cs)) greatest_integer ≡ z
         → elim (x && not y && z) as (λ _. Front Lexeme) [ true ↦ found (integer (value_of (c ∷ run is_digit cs))) (after is_digit cs) | false ↦ None ] ≡ found l more → Spelled c cs l more
     at true p false q true r g = along c cs (integer (value_of (c ∷ run is_digit cs))) l (after is_digit cs) more g (record {
-        front = run is_digit cs; whole = run_after is_digit cs; spells = (((h, run_all is_digit cs), one_zero c (run is_digit cs) p), refl, leb-true (value_of (c ∷ run is_digit cs)) greatest_integer r);
-        may = starts_or is_digit begins_word (after is_digit cs) (after_starts is_digit cs) q;
-      })
+      front = run is_digit cs;
+      whole = run_after is_digit cs;
+      spells = (((h, run_all is_digit cs), one_zero c (run is_digit cs) p), refl, leb-true (value_of (c ∷ run is_digit cs)) greatest_integer r);
+      may = starts_or is_digit begins_word (after is_digit cs) (after_starts is_digit cs) q;
+    })
     at false p y q z r g = absurd cc
     at true p true q z r g = absurd cc
     at true p false q false r g = absurd cc
@@ -76,9 +80,9 @@ named_quoted f cs l more e = at (quoted_from false cs) refl e
     filled : (p : List ℕ × List ℕ) (x : Bool) → quoted_from false cs ≡ both p.0 p.1 → is_empty p.0 ≡ x → elim x as (λ _. Front Lexeme) [ true ↦ None | false ↦ found (f (utf8 p.0)) p.1 ] ≡ found l more → (name : List ℕ) × Quoted cs name more × (f (utf8 name) ≡ l)
     filled p true h i g = absurd cc
     filled p false h i g =
-      let q = same_pair (f (utf8 p.0)) l p.1 more g in
-      let there : cs ≡ doubled p.0 ++ 96 ∷ more = quoted_sound false cs p.0 p.1 h ∙ ap (λ (r : List ℕ). doubled p.0 ++ 96 ∷ r) q.1 in
-      (p.0, record { some = λ n. absurd (let t : is_empty p.0 ≡ true = ap is_empty n in cc); whole = there ∙ sym (append_assoc (doubled p.0) (96 ∷ []) more) }, q.0)
+        let q = same_pair (f (utf8 p.0)) l p.1 more g in
+        let there : cs ≡ doubled p.0 ++ 96 ∷ more = quoted_sound false cs p.0 p.1 h ∙ ap (λ (r : List ℕ). doubled p.0 ++ 96 ∷ r) q.1 in
+        (p.0, record { some = λ n. absurd (let t : is_empty p.0 ≡ true = ap is_empty n in cc); whole = there ∙ sym (append_assoc (doubled p.0) (96 ∷ []) more) }, q.0)
 
     at : (o : Front (List ℕ)) → quoted_from false cs ≡ o → named f o ≡ found l more → (name : List ℕ) × Quoted cs name more × (f (utf8 name) ≡ l)
     at None h g = absurd cc
@@ -98,10 +102,13 @@ string_spelled q cs l more h e = at (string_from q outside cs) refl e
     at : (o : Front (List ℕ)) → string_from q outside cs ≡ o → made string o ≡ found l more → Spelled q cs l more
     at None i g = absurd cc
     at (Some p) i g =
-      let c : Content q cs p.0 p.1 = string_sound (length cs) q cs p.0 p.1 (omega arith) i in
-      along q cs (string (utf8 p.0)) l p.1 more g (record {
-        front = pieces_text c.pieces ++ q ∷ []; whole = c.whole ∙ sym (append_assoc (pieces_text c.pieces) (q ∷ []) p.1); spells = (q, c.pieces, p.0, h, c.stands, refl, refl); may = tt;
-      })
+        let c : Content q cs p.0 p.1 = string_sound (length cs) q cs p.0 p.1 (omega arith) i in
+        along q cs (string (utf8 p.0)) l p.1 more g (record {
+          front = pieces_text c.pieces ++ q ∷ [];
+          whole = c.whole ∙ sym (append_assoc (pieces_text c.pieces) (q ∷ []) p.1);
+          spells = (q, c.pieces, p.0, h, c.stands, refl, refl);
+          may = tt;
+        })
 
 -- ---- parameters
 
@@ -109,17 +116,26 @@ parameter_spelled : (k : Class) (c : ℕ) (cs : List ℕ) (l : Lexeme) (more : L
 parameter_spelled letter c cs l more h e =
     let name : List ℕ = word_at c cs in
     along 36 (c ∷ cs) (parameter false (utf8 name)) l (after continues_word cs) more e (record {
-      front = name; whole = ap (λ (r : List ℕ). c ∷ r) (run_after continues_word cs); spells = (name, refl, inl (letter_begins c h, run_all continues_word cs), refl); may = tt;
+      front = name;
+      whole = ap (λ (r : List ℕ). c ∷ r) (run_after continues_word cs);
+      spells = (name, refl, inl (letter_begins c h, run_all continues_word cs), refl);
+      may = tt;
     })
 parameter_spelled digit c cs l more h e =
     let name : List ℕ = c ∷ run is_digit cs in
     along 36 (c ∷ cs) (parameter false name) l (after is_digit cs) more e (record {
-      front = name; whole = ap (λ (r : List ℕ). c ∷ r) (run_after is_digit cs); spells = (name, refl, inr (digit_is c h, run_all is_digit cs), sym (utf8_digits name (digit_is c h, run_all is_digit cs))); may = tt;
+      front = name;
+      whole = ap (λ (r : List ℕ). c ∷ r) (run_after is_digit cs);
+      spells = (name, refl, inr (digit_is c h, run_all is_digit cs), sym (utf8_digits name (digit_is c h, run_all is_digit cs)));
+      may = tt;
     })
 parameter_spelled backquote c cs l more h e =
     let p = named_quoted (parameter true) cs l more e in
     let made : Spelled 36 (c ∷ cs) (parameter true (utf8 p.0)) more = record {
-      front = 96 ∷ (doubled p.0 ++ 96 ∷ []); whole = ap (λ (x : ℕ). x ∷ cs) (backquote_is c h) ∙ ap (λ (r : List ℕ). 96 ∷ r) p.1.whole; spells = (96 ∷ (doubled p.0 ++ 96 ∷ []), p.0, refl, (p.1.some, refl), refl); may = tt;
+      front = 96 ∷ (doubled p.0 ++ 96 ∷ []);
+      whole = ap (λ (x : ℕ). x ∷ cs) (backquote_is c h) ∙ ap (λ (r : List ℕ). 96 ∷ r) p.1.whole;
+      spells = (96 ∷ (doubled p.0 ++ 96 ∷ []), p.0, refl, (p.1.some, refl), refl);
+      may = tt;
     } in
     subst (λ (l : Lexeme). Spelled 36 (c ∷ cs) l more) p.2 made
 parameter_spelled quotation c cs l more h e = absurd cc
@@ -154,38 +170,38 @@ may_symbol : (x : Symbol) (more : List ℕ) → (x ≡ s.Slash → ⊥) → MayF
 may_symbol s.Slash more h = absurd (h refl)
 may_symbol _ more h = tt
 
+no_text : (x : Symbol) → symbol_text x ≡ [] → ⊥
+no_text s.TwoDots h = absurd cc
+no_text s.NotEqual h = absurd cc
+no_text s.LessOrEqual h = absurd cc
+no_text s.GreaterOrEqual h = absurd cc
+no_text s.PlusEqual h = absurd cc
+no_text s.OpenParenthesis h = absurd cc
+no_text s.CloseParenthesis h = absurd cc
+no_text s.OpenBracket h = absurd cc
+no_text s.CloseBracket h = absurd cc
+no_text s.OpenBrace h = absurd cc
+no_text s.CloseBrace h = absurd cc
+no_text s.Comma h = absurd cc
+no_text s.Dot h = absurd cc
+no_text s.Colon h = absurd cc
+no_text s.Semicolon h = absurd cc
+no_text s.Plus h = absurd cc
+no_text s.Minus h = absurd cc
+no_text s.Star h = absurd cc
+no_text s.Slash h = absurd cc
+no_text s.Percent h = absurd cc
+no_text s.Equal h = absurd cc
+no_text s.Less h = absurd cc
+no_text s.Greater h = absurd cc
+no_text s.Bar h = absurd cc
+
 symbol_cons : (x : Symbol) (c : ℕ) (cs more : List ℕ) → c ∷ cs ≡ symbol_text x ++ more → (front : List ℕ) × (symbol_text x ≡ c ∷ front) × (cs ≡ front ++ more)
 symbol_cons x c cs more e = at (symbol_text x) refl e
   where
     at : (t : List ℕ) → symbol_text x ≡ t → c ∷ cs ≡ t ++ more → (front : List ℕ) × (t ≡ c ∷ front) × (cs ≡ front ++ more)
     at [] h g = absurd (no_text x h)
     at (d ∷ t) h g = let p : c ≡ d = cc in let q : cs ≡ t ++ more = cc in (t, ap (λ (x : ℕ). x ∷ t) (sym p), q)
-
-    no_text : (x : Symbol) → symbol_text x ≡ [] → ⊥
-    no_text s.TwoDots h = absurd cc
-    no_text s.NotEqual h = absurd cc
-    no_text s.LessOrEqual h = absurd cc
-    no_text s.GreaterOrEqual h = absurd cc
-    no_text s.PlusEqual h = absurd cc
-    no_text s.OpenParenthesis h = absurd cc
-    no_text s.CloseParenthesis h = absurd cc
-    no_text s.OpenBracket h = absurd cc
-    no_text s.CloseBracket h = absurd cc
-    no_text s.OpenBrace h = absurd cc
-    no_text s.CloseBrace h = absurd cc
-    no_text s.Comma h = absurd cc
-    no_text s.Dot h = absurd cc
-    no_text s.Colon h = absurd cc
-    no_text s.Semicolon h = absurd cc
-    no_text s.Plus h = absurd cc
-    no_text s.Minus h = absurd cc
-    no_text s.Star h = absurd cc
-    no_text s.Slash h = absurd cc
-    no_text s.Percent h = absurd cc
-    no_text s.Equal h = absurd cc
-    no_text s.Less h = absurd cc
-    no_text s.Greater h = absurd cc
-    no_text s.Bar h = absurd cc
 
 symbol_spelled : (c : ℕ) (cs : List ℕ) (l : Lexeme) (more : List ℕ) → (c ≡ 47 → ⊥) → symbol_among symbols (c ∷ cs) ≡ found l more → Spelled c cs l more
 symbol_spelled c cs l more no_slash e =

@@ -5,17 +5,17 @@ use Rattle.std.proofs.lemmas.Bool.{and_parts, or_cases, cases_eq, ltb-true, eqb-
 use Rattle.unicode_ident.proofs.Computing.{unicode_ident}
 use Rattle.pg_meaning.specs.Tokens.{begins_word}
 
-abbrev all_from : (ℕ → Bool) → ℕ → ℕ → Bool
+abbrev pub all_from : (ℕ → Bool) → ℕ → ℕ → Bool
 all_from p low zero = true
 all_from p low (suc n) = p low && all_from p (suc low) n
 
-at_each : (p : ℕ → Bool) (low n c : ℕ) → all_from p low n ≡ true → low ≤ c → c < low + n → p c ≡ true
+pub at_each : (p : ℕ → Bool) (low n c : ℕ) → all_from p low n ≡ true → low ≤ c → c < low + n → p c ≡ true
 at_each p low zero c h le lt = absurd (omega arith)
 at_each p low (suc n) c h le lt =
     let a = and_parts (p low) (all_from p (suc low) n) h in
     elim (cases_eq low c) [ inl e ↦ subst (λ (x : ℕ). p x ≡ true) e a.0 | inr other ↦ at_each p (suc low) n c a.1 (omega (arith, other)) (omega arith) ]
 
-abbrev begins_none : ℕ → Bool
+abbrev pub begins_none : ℕ → Bool
 begins_none c = not (begins_word c)
 
 at_code : (c n : ℕ) → begins_none n ≡ true → eqb c n ≡ true → begins_none c ≡ true

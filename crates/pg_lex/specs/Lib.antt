@@ -1,4 +1,5 @@
 pub mod Keywords
+pub mod Plain
 pub mod Scans
 pub mod Turns
 pub mod View

@@ -1,6 +1,6 @@
 //! From a text to its tokens.
 
-ghost use Rattle.std.specs.Prelude.{◌≡◌, IfOk, option_map};
+ghost use Rattle.std.specs.Prelude.{◌≡◌, ◌⊎◌, List, Some, None, IfOk, IfErr, IsErrOf, option_map};
 ghost use Rattle.pg_meaning.specs.Tokens as spec;
 ghost use Rattle.pg_lex.specs.Scans as scan;
 ghost use Rattle.pg_lex.specs.View.{next_view, lexeme_view, tokens_view};
@@ -14,6 +14,7 @@ use crate::symbols::symbol;
 use crate::text::split_first;
 use crate::token::{Class, Lexeme, Next, Token};
 use crate::words::{word_lexeme, word_parameter};
+use pg_meaning::Fault;
 use std::alloc::{AllocError, Global};
 
 /// The parameter behind a dollar.
@@ -88,4 +89,20 @@ fn lexed(alloc: Global, text: &str) -> Result<Option<Vec<Token<'_>>>, AllocError
         }
     }
     Ok(Some(found))
+}
+
+/// The tokens of a text, in their order.
+pub fn tokens(alloc: Global, text: &str) -> Result<Vec<Token<'_>>, Fault>
+    // They are those that the function of the definitions finds.
+    ensures found { IfOk result (λ ts. spec.tokens_of text.now ≡ Some (tokens_view ts.items)) }
+    // A refusal for want of memory says nothing of the text. Any other says that some place has no lexeme.
+    ensures refused { IfErr result (λ e. (e ≡ Fault.OutOfMemory) ⊎ ((e ≡ Fault.BadLexeme) × (spec.tokens_of text.now ≡ None))) }
+    // The text is whitespace, comments and these lexemes, each the longest at its place.
+    ensures lexes { IfOk result (λ ts. spec.Lexes text.now (tokens_view ts.items)) }
+    // It lexes in no other way.
+    ensures only { (ts : List spec.Token) → spec.Lexes text.now ts → IfOk result (λ r. tokens_view r.items ≡ ts) }
+    // A text that lexes is no bad one.
+    ensures none { IsErrOf result Fault.BadLexeme → (ts : List spec.Token) → ¬ (spec.Lexes text.now ts) }
+{
+    lexed(alloc, text)?.ok_or(Fault::BadLexeme)
 }

@@ -5,13 +5,20 @@ mod characters;
 mod class;
 mod gaps;
 mod keywords;
+mod laws;
 mod lexer;
 mod names;
 mod numbers;
+mod plain;
 mod strings;
 mod symbols;
+#[cfg(test)]
+mod tests;
 mod text;
 mod token;
 mod words;
 
+pub use laws::{law_lexes_exactly, law_one_lexing};
+pub use lexer::tokens;
+pub use plain::{is_plain, law_plain_strings, plain_tokens};
 pub use token::{Lexeme, Natural, Token};

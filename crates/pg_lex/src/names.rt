@@ -54,7 +54,10 @@ fn name(alloc: Global, text: &str) -> Result<Option<(String, &str)>, AllocError>
 
 /// The quoted name behind its first backquote.
 #[tactic(auto, using(crate::proofs::Backquotes::named_some, crate::proofs::Backquotes::named_none))]
-pub(crate) fn quoted_name(alloc: Global, text: &str) -> Result<Option<(Lexeme<'_>, &str)>, AllocError>
+pub(crate) fn quoted_name(
+    alloc: Global,
+    text: &str,
+) -> Result<Option<(Lexeme<'_>, &str)>, AllocError>
     ensures { IfOk result (λ o. scan.Fronts lexeme_view (spec.named spec.quoted_name (spec.quoted_from false (spec.characters text.now))) o) }
 {
     match name(alloc, text)? {
@@ -65,7 +68,10 @@ pub(crate) fn quoted_name(alloc: Global, text: &str) -> Result<Option<(Lexeme<'_
 
 /// The parameter behind its dollar and a first backquote.
 #[tactic(auto, using(crate::proofs::Backquotes::named_some, crate::proofs::Backquotes::named_none))]
-pub(crate) fn quoted_parameter(alloc: Global, text: &str) -> Result<Option<(Lexeme<'_>, &str)>, AllocError>
+pub(crate) fn quoted_parameter(
+    alloc: Global,
+    text: &str,
+) -> Result<Option<(Lexeme<'_>, &str)>, AllocError>
     ensures { IfOk result (λ o. scan.Fronts lexeme_view (spec.named (spec.parameter true) (spec.quoted_from false (spec.characters text.now))) o) }
 {
     match name(alloc, text)? {

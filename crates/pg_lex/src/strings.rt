@@ -89,7 +89,11 @@ fn content(alloc: Global, quote: char, text: &str) -> Result<Option<(String, &st
 }
 
 /// The string behind its first quote.
-pub(crate) fn string(alloc: Global, quote: char, text: &str) -> Result<Option<(Lexeme<'_>, &str)>, AllocError>
+pub(crate) fn string(
+    alloc: Global,
+    quote: char,
+    text: &str,
+) -> Result<Option<(Lexeme<'_>, &str)>, AllocError>
     ensures { IfOk result (λ o. scan.Fronts lexeme_view (spec.made spec.string (spec.string_from quote spec.outside (spec.characters text.now))) o) }
 {
     match content(alloc, quote, text)? {

@@ -1,6 +1,6 @@
-use pg_meaning::{Keyword, Symbol};
-
 ghost use Rattle.std.specs.Prelude.{◌≤◌};
+
+use pg_meaning::{Keyword, Symbol};
 
 /// A whole number as a text can spell it.
 #[derive(Clone, Copy, Debug, PartialEq, Eq)]

@@ -34,11 +34,12 @@ pub answers_fault : {X Y : Type 0} (f : X → Result Y Fault) (xs : List X) (g :
 answers_fault f [] g e = cc
 answers_fault {X} {Y} f (x ∷ xs) g e = by_first (went_wrong (f x) (λ y. each_answer f xs >>= λ zs. Ok (y ∷ zs)) g e) (answers_fault f xs g)
   where
-  by_rest : (y : Y) → (each_answer f xs ≡ Err g) ⊎ ((zs : List Y) × (each_answer f xs ≡ Ok zs) × (◌≡◌ {A = Result (List Y) Fault} (Ok (y ∷ zs)) (Err g)))
-      → (each_answer f xs ≡ Err g → (z : X) × IsIn z xs × (f z ≡ Err g)) → (z : X) × IsIn z (x ∷ xs) × (f z ≡ Err g)
-  by_rest y (inl h) rest = let z = rest h in (z.0, inr z.1, z.2)
-  by_rest y (inr h) rest = let impossible = h.2 in cc
-  by_first : (f x ≡ Err g) ⊎ ((y : Y) × (f x ≡ Ok y) × ((each_answer f xs >>= λ zs. Ok (y ∷ zs)) ≡ Err g))
-      → (each_answer f xs ≡ Err g → (z : X) × IsIn z xs × (f z ≡ Err g)) → (z : X) × IsIn z (x ∷ xs) × (f z ≡ Err g)
-  by_first (inl h) rest = (x, inl refl, h)
-  by_first (inr h) rest = by_rest h.0 (went_wrong (each_answer f xs) (λ zs. Ok (h.0 ∷ zs)) g h.2) rest
+    by_rest : (y : Y) → (each_answer f xs ≡ Err g) ⊎ ((zs : List Y) × (each_answer f xs ≡ Ok zs) × (◌≡◌ {A = Result (List Y) Fault} (Ok (y ∷ zs)) (Err g)))
+        → (each_answer f xs ≡ Err g → (z : X) × IsIn z xs × (f z ≡ Err g)) → (z : X) × IsIn z (x ∷ xs) × (f z ≡ Err g)
+    by_rest y (inl h) rest = let z = rest h in (z.0, inr z.1, z.2)
+    by_rest y (inr h) rest = let impossible = h.2 in cc
+
+    by_first : (f x ≡ Err g) ⊎ ((y : Y) × (f x ≡ Ok y) × ((each_answer f xs >>= λ zs. Ok (y ∷ zs)) ≡ Err g))
+        → (each_answer f xs ≡ Err g → (z : X) × IsIn z xs × (f z ≡ Err g)) → (z : X) × IsIn z (x ∷ xs) × (f z ≡ Err g)
+    by_first (inl h) rest = (x, inl refl, h)
+    by_first (inr h) rest = by_rest h.0 (went_wrong (each_answer f xs) (λ zs. Ok (h.0 ∷ zs)) g h.2) rest

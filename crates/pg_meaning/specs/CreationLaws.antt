@@ -49,11 +49,11 @@ among_behind q name (m ∷ names) =
 pub binds_new : (scope : Names) (row : Row) (name : List ℕ) (v : Value) → BindsOnly scope row → BindsOnly (add_name scope name) (bind_new name v row)
 binds_new scope row name v h = by_name (is_among scope name) (is_some (value_in name row)) (h name)
   where
-  by_name : (a b : Bool) → b ≡ a → BindsOnly (cond a scope (scope ++ name ∷ [])) (cond b row (row ++ (name, v) ∷ []))
-  by_name true true e = h
-  by_name true false e = cc
-  by_name false true e = cc
-  by_name false false e = λ q. bound_behind q name v row ∙ ap (λ c. c || bytes_eq q name) (h q) ∙ sym (among_behind q name scope)
+    by_name : (a b : Bool) → b ≡ a → BindsOnly (cond a scope (scope ++ name ∷ [])) (cond b row (row ++ (name, v) ∷ []))
+    by_name true true e = h
+    by_name true false e = cc
+    by_name false true e = cc
+    by_name false false e = λ q. bound_behind q name v row ∙ ap (λ c. c || bytes_eq q name) (h q) ∙ sym (among_behind q name scope)
 
 pub binds_if_named : (scope : Names) (row : Row) (name : Option (List ℕ)) (v : Value) → BindsOnly scope row → BindsOnly (add_if_named name scope) (bind_if_named name v row)
 binds_if_named scope row None v h = h
@@ -83,15 +83,15 @@ module _ (s : Setting) (paths : List PathPattern) (each : (state : State) (row :
   one_turn rows state row (Err f) fault rest = inl fault
   one_turn rows state row (Ok next) made rest = joined (each_step (create_row s paths) next rows) (rest next made.3)
     where
-    joined : (r : Result State Fault) → TurnsAgree s paths next rows r → TurnsAgree s paths state (row ∷ rows) r
-    joined (Ok last) h = (
-      made.0 ++ h.0,
-      h.1 ∙ ap (λ rs. rs ++ h.0) made.1 ∙ append_assoc state.rows made.0 h.0,
-      (next.graph, made.0, h.0, made.2, h.2, refl),
-      h.3,
-      all_joined _ made.0 h.0 made.4 h.4,
-    )
-    joined (Err f) h = inr (next.graph, made.0, made.2, h)
+      joined : (r : Result State Fault) → TurnsAgree s paths next rows r → TurnsAgree s paths state (row ∷ rows) r
+      joined (Ok last) h = (
+        made.0 ++ h.0,
+        h.1 ∙ ap (λ rs. rs ++ h.0) made.1 ∙ append_assoc state.rows made.0 h.0,
+        (next.graph, made.0, h.0, made.2, h.2, refl),
+        h.3,
+        all_joined _ made.0 h.0 made.4 h.4,
+      )
+      joined (Err f) h = inr (next.graph, made.0, made.2, h)
 
   turns_agree : (rows : List Row) (state : State) → IsGraph state.graph → AreRowsOf s.scope rows → TurnsAgree s paths state rows (each_step (create_row s paths) state rows)
   turns_agree [] state g h = ([], sym (append-nil state.rows), (refl, refl), g, tt)
@@ -101,12 +101,12 @@ module _ (s : Setting) (paths : List PathPattern) (each : (state : State) (row :
   pub rows_make_create : (state : State) → IsGraph state.graph → AreRowsOf s.scope state.rows → AnswerAgrees s (create paths) state (create_clause s paths state)
   rows_make_create state g h =
       by_answer (AnswerAgrees s (create paths) state) (spend s state.steps (length state.rows * count_new s.scope paths)) (λ steps. each_step (create_row s paths) (record { graph = state.graph; rows = []; steps = steps }) state.rows)
-        (λ steps e. of_turns steps (each_step (create_row s paths) (record { graph = state.graph; rows = []; steps = steps }) state.rows) (turns_agree state.rows (record { graph = state.graph; rows = []; steps = steps }) g h))
-        (λ f e. inl (spend_fault s state.steps (length state.rows * count_new s.scope paths) f e))
+      (λ steps e. of_turns steps (each_step (create_row s paths) (record { graph = state.graph; rows = []; steps = steps }) state.rows) (turns_agree state.rows (record { graph = state.graph; rows = []; steps = steps }) g h))
+      (λ f e. inl (spend_fault s state.steps (length state.rows * count_new s.scope paths) f e))
     where
-    of_turns : (steps : ℕ) (r : Result State Fault) → TurnsAgree s paths (record { graph = state.graph; rows = []; steps = steps }) state.rows r → AnswerAgrees s (create paths) state r
-    of_turns steps (Ok next) t = (subst (RowByRow (CreateRow (given s) paths) state.graph state.rows next.graph) (sym t.1) t.2, t.3, subst (AreRowsOf (add_path_names paths s.scope)) (sym t.1) t.4)
-    of_turns steps (Err f) t = inr t
+      of_turns : (steps : ℕ) (r : Result State Fault) → TurnsAgree s paths (record { graph = state.graph; rows = []; steps = steps }) state.rows r → AnswerAgrees s (create paths) state r
+      of_turns steps (Ok next) t = (subst (RowByRow (CreateRow (given s) paths) state.graph state.rows next.graph) (sym t.1) t.2, t.3, subst (AreRowsOf (add_path_names paths s.scope)) (sym t.1) t.4)
+      of_turns steps (Err f) t = inr t
 
 -- ---- tests
 
@@ -125,9 +125,9 @@ given_rises s graph row ps props e =
     let pairs = went_well (given_pairs s graph row ps) (λ pairs. test_storable pairs >> Ok (set_keys pairs no_entries)) props e in
     subst (λ es. are_rising es ≡ true) (by_test (test_storable pairs.0) pairs.0 pairs.2) (set_keys_keeps_rising pairs.0 no_entries refl)
   where
-  by_test : (t : Result (Unit {0}) Fault) (pairs : List (List ℕ × Value)) → (t >> Ok (set_keys pairs no_entries)) ≡ Ok props → set_keys pairs no_entries ≡ props
-  by_test (Ok x) pairs h = same_ok (set_keys pairs no_entries) props h
-  by_test (Err f) pairs h = cc
+    by_test : (t : Result (Unit {0}) Fault) (pairs : List (List ℕ × Value)) → (t >> Ok (set_keys pairs no_entries)) ≡ Ok props → set_keys pairs no_entries ≡ props
+    by_test (Ok x) pairs h = same_ok (set_keys pairs no_entries) props h
+    by_test (Err f) pairs h = cc
 
 put_is_longer : (k : ℕ) (v : Node) (es : List (ℕ × Node)) → length (by_id.put nat_cmp k v es) ≤ length es + 1
 put_is_longer k v [] = le_refl 1
@@ -142,14 +142,14 @@ put_is_longer k v (e ∷ es) =
 room_left : (after before others most : ℕ) → after ≤ before + 1 → before + others < most → after + others ≤ max most (before + others)
 room_left after before others most h l = le_trans (fits after before others most h l) (le-max_left most (before + others))
   where
-  fits : (after before others most : ℕ) → after ≤ before + 1 → before + others < most → after + others ≤ most
-  fits after before others most h l = omega arith
+    fits : (after before others most : ℕ) → after ≤ before + 1 → before + others < most → after + others ≤ most
+    fits after before others most h l = omega arith
 
 counter_left : (n most : ℕ) → n < most → n + 1 ≤ max most n
 counter_left n most l = le_trans (fits n most l) (le-max_left most n)
   where
-  fits : (n most : ℕ) → n < most → n + 1 ≤ most
-  fits n most l = omega arith
+    fits : (n most : ℕ) → n < most → n + 1 ≤ most
+    fits n most l = omega arith
 
 past : (n most new : ℕ) → most ≤ n → new ≡ 1 → most < n + new
 past n most new l e = omega arith
@@ -221,12 +221,11 @@ module _ (s : Setting) (v : Option Name) (n : NodePattern) (state : State) (row 
   made_graph props = add_node (texts_of n.labels) props state.graph
 
   rows_bind_path : (graph : Graph) (id : ℕ) → BindsOnly s.scope row → AreRowsOf (add_path_names (path_of_one ∷ []) s.scope) (bind_match graph (path_of_one ∷ []) (record { nodes = id ∷ []; bonds = [] } ∷ []) row ∷ [])
-  rows_bind_path graph id h =
-      (
-        binds_if_named (add_if_named (text_of v) s.scope) (bind_if_named (text_of v) (path_value graph (record { nodes = id ∷ []; bonds = [] })) row) (node_name n) (node id)
-          (binds_if_named s.scope row (text_of v) (path_value graph (record { nodes = id ∷ []; bonds = [] })) h),
-        tt,
-      )
+  rows_bind_path graph id h = (
+    binds_if_named (add_if_named (text_of v) s.scope) (bind_if_named (text_of v) (path_value graph (record { nodes = id ∷ []; bonds = [] })) row) (node_name n) (node id)
+        (binds_if_named s.scope row (text_of v) (path_value graph (record { nodes = id ∷ []; bonds = [] })) h),
+    tt,
+  )
 
   count_grows : (props : Entries) → length (made_graph props).nodes ≤ length state.graph.nodes + 1
   count_grows props = put_is_longer next _ state.graph.nodes
@@ -238,8 +237,7 @@ module _ (s : Setting) (v : Option Name) (n : NodePattern) (state : State) (row 
       let rising = given_rises s state.graph row n.properties props given_by in
       let after = add_node_keeps_graph (texts_of n.labels) props state.graph rising g in
       let adds = add_node_adds (texts_of n.labels) props state.graph in
-      let places = free_is_new (node_name n) next h e in
-      (
+      let places = free_is_new (node_name n) next h e in (
         bind_match (made_graph props) (path_of_one ∷ []) (record { nodes = next ∷ []; bonds = [] } ∷ []) row ∷ [],
         refl,
         record {
@@ -269,8 +267,7 @@ module _ (s : Setting) (v : Option Name) (n : NodePattern) (state : State) (row 
   old_node : (id : ℕ) → IsGraph state.graph → BindsOnly s.scope row → bound_here ≡ Some (node id) → test_bound false state.graph bound_here ≡ Ok tt
       → Agrees (after_node (Ok (record { graph = state.graph; bound = row; ids = [] ++ id ∷ [] })))
   old_node id g h e live =
-      let places = bound_is_old (node_name n) id (node id) h e in
-      (
+      let places = bound_is_old (node_name n) id (node id) h e in (
         bind_match state.graph (path_of_one ∷ []) (record { nodes = id ∷ []; bonds = [] } ∷ []) row ∷ [],
         refl,
         record {
@@ -306,24 +303,26 @@ module _ (s : Setting) (v : Option Name) (n : NodePattern) (state : State) (row 
   by_bound : IsGraph state.graph → BindsOnly s.scope row → (o : Option Value) → bound_here ≡ o → Agrees (row_by o)
   by_bound g h None e =
       by_answer (λ r. Agrees (after_node r)) (given_properties s state.graph row n.properties) made_by
-        (λ props given_by. by_unless (λ r. Agrees (after_node r)) (nat_lt (element_count state.graph) s.quota.max_elements) ElementQuota (tested_id props)
-          (λ room. by_unless (λ r. Agrees (after_node r)) (nat_lt next greatest_id) IdsExhausted (made props) (λ ids. new_node props g h e given_by room ids)
-            (λ full. inr (inr (inr (inl (refl, past next greatest_id (new_nodes (given s) (path_of_one ∷ [])) (not_below _ _ full) (one_new h e)))))))
-          (λ full. inr (inr (inl (refl, past_room (element_count state.graph) s.quota.max_elements (new_nodes (given s) (path_of_one ∷ [])) (not_below _ _ full) (one_new h e))))))
-        (λ f fault. inr (inl (n.properties, inl refl, fault)))
+      (λ props given_by. by_unless (λ r. Agrees (after_node r)) (nat_lt (element_count state.graph) s.quota.max_elements) ElementQuota (tested_id props)
+      (λ room. by_unless (λ r. Agrees (after_node r)) (nat_lt next greatest_id) IdsExhausted (made props) (λ ids. new_node props g h e given_by room ids)
+      (λ full. inr (inr (inr (inl (refl, past next greatest_id (new_nodes (given s) (path_of_one ∷ [])) (not_below _ _ full) (one_new h e)))))))
+      (λ full. inr (inr (inl (refl, past_room (element_count state.graph) s.quota.max_elements (new_nodes (given s) (path_of_one ∷ [])) (not_below _ _ full) (one_new h e))))))
+      (λ f fault. inr (inl (n.properties, inl refl, fault)))
     where
-    made : Entries → Result Making Fault
-    made props = Ok (record { graph = made_graph props; bound = bind_if_named (node_name n) (node next) row; ids = [] ++ next ∷ [] })
-    tested_id : Entries → Result Making Fault
-    tested_id props = unless (nat_lt next greatest_id) IdsExhausted >> made props
-    made_by : Entries → Result Making Fault
-    made_by props = unless (nat_lt (element_count state.graph) s.quota.max_elements) ElementQuota >> tested_id props
+      made : Entries → Result Making Fault
+      made props = Ok (record { graph = made_graph props; bound = bind_if_named (node_name n) (node next) row; ids = [] ++ next ∷ [] })
+
+      tested_id : Entries → Result Making Fault
+      tested_id props = unless (nat_lt next greatest_id) IdsExhausted >> made props
+
+      made_by : Entries → Result Making Fault
+      made_by props = unless (nat_lt (element_count state.graph) s.quota.max_elements) ElementQuota >> tested_id props
   by_bound g h (Some (node id)) e =
       by_live (has_node state.graph id) refl
     where
-    by_live : (b : Bool) → has_node state.graph id ≡ b → Agrees ((unless b DeletedEntity >> Ok tt) >> after_node (node_by (Some (node id))))
-    by_live true is = old_node id g h e (ap (test_bound false state.graph) e ∙ ap (λ b. unless b DeletedEntity) is)
-    by_live false is = bound_fault DeletedEntity (ap (test_bound false state.graph) e ∙ ap (λ b. unless b DeletedEntity) is)
+      by_live : (b : Bool) → has_node state.graph id ≡ b → Agrees ((unless b DeletedEntity >> Ok tt) >> after_node (node_by (Some (node id))))
+      by_live true is = old_node id g h e (ap (test_bound false state.graph) e ∙ ap (λ b. unless b DeletedEntity) is)
+      by_live false is = bound_fault DeletedEntity (ap (test_bound false state.graph) e ∙ ap (λ b. unless b DeletedEntity) is)
   by_bound g h (Some null) e = bound_fault TypeFault (ap (test_bound false state.graph) e)
   by_bound g h (Some (boolean b)) e = bound_fault TypeFault (ap (test_bound false state.graph) e)
   by_bound g h (Some (integer i)) e = bound_fault TypeFault (ap (test_bound false state.graph) e)
@@ -354,4 +353,4 @@ CreateQueriesAgree =
 pub create_queries_agree : CreateQueriesAgree
 create_queries_agree variable n distinct star items skip limit semicolon single =
     clauses_make_queries (record { clauses = create (record { variable = variable; first = n; hops = [] } ∷ []) ∷ return_rows (record { distinct = distinct; star = star; items = items; order = []; skip = skip; limit = limit }) ∷ []; semicolon = semicolon })
-      (create_node_agrees variable n, (return_agrees distinct star items skip limit single, tt))
+    (create_node_agrees variable n, (return_agrees distinct star items skip limit single, tt))

@@ -62,8 +62,8 @@ instances_of_graphs = (
   (λ g. itself 1 g.nodes_below.1.0),
 )
   where
-  itself : (n : ℕ) → n < n → ⊥
-  itself n h = omega arith
+    itself : (n : ℕ) → n < n → ⊥
+    itself n h = omega arith
 
 -- ---- IsPlanOf
 
@@ -102,8 +102,8 @@ instances_of_plans = (
   (λ h. not_true (subst (λ o. is_among (keys_fixed o) (codes "k") ≡ true) (sym h.0.0.1) h.0.0.2.1)),
 )
   where
-  no_node : (n : NodePattern) → ◌≡◌ {A = Option NodePattern} None (Some n) → ⊥
-  no_node n e = cc
+    no_node : (n : NodePattern) → ◌≡◌ {A = Option NodePattern} None (Some n) → ⊥
+    no_node n e = cc
 
 -- ---- Fits, Matches and IsListing
 
@@ -196,7 +196,8 @@ instances_of_patterns = (
   (λ l. l.all.every at_zero (alone_fits, ((λ n e b. tt), tt))),
 )
   where
-  differ : codes "a" ≡ codes "b" → ◌≡◌ {A = ℕ} 0 1
-  differ e = absurd (not_true (sym (ap (λ t. bytes_eq t (codes "a")) e)))
-  not_kept : ◌≡◌ {A = Result Bool Fault} (Ok false) (Ok true) → ⊥
-  not_kept e = not_true (same_ok false true e)
+    differ : codes "a" ≡ codes "b" → ◌≡◌ {A = ℕ} 0 1
+    differ e = absurd (not_true (sym (ap (λ t. bytes_eq t (codes "a")) e)))
+
+    not_kept : ◌≡◌ {A = Result Bool Fault} (Ok false) (Ok true) → ⊥
+    not_kept e = not_true (same_ok false true e)

@@ -7,15 +7,15 @@ use Rattle.pg_meaning.specs.Value.{list, relationship, no_entries, values_of}
 -- CREATE (a:A)-[:K]->(b)-[:K]->(c)
 abbrev pub chain_of_two : Query
 chain_of_two = query_of (create (path_of None (node_place (Some (named "a")) (codes "A" ∷ []) no_properties) (
-  (hop false (detail None ((true, named "K") ∷ []) None no_properties) true, node_place (Some (named "b")) [] no_properties)
-  ∷ (hop false (detail None ((true, named "K") ∷ []) None no_properties) true, node_place (Some (named "c")) [] no_properties) ∷ []
-) ∷ []) ∷ [])
+    (hop false (detail None ((true, named "K") ∷ []) None no_properties) true, node_place (Some (named "b")) [] no_properties)
+    ∷ (hop false (detail None ((true, named "K") ∷ []) None no_properties) true, node_place (Some (named "c")) [] no_properties) ∷ []
+    ) ∷ []) ∷ [])
 
 -- MATCH (x:A)-[rs RANGE]->(y) RETURN rs
 abbrev pub walked_from : Option Range → Query
 walked_from range = query_of (match_paths false (path_of None (node_place (Some (named "x")) (codes "A" ∷ []) no_properties) (
-  (hop false (detail (Some (named "rs")) [] range no_properties) true, node_place (Some (named "y")) [] no_properties) ∷ []
-) ∷ []) None ∷ return_rows (project false None (column (codes "rs") (var "rs") None ∷ []) [] None None) ∷ [])
+    (hop false (detail (Some (named "rs")) [] range no_properties) true, node_place (Some (named "y")) [] no_properties) ∷ []
+    ) ∷ []) None ∷ return_rows (project false None (column (codes "rs") (var "rs") None ∷ []) [] None None) ∷ [])
 
 -- *..2 begins at one, and a list walked rightwards stands in that order; *2 is two; *1 is one
 abbrev pub ExamplesOfRanges : Type 0

@@ -70,8 +70,8 @@ instances_of_match = (
   (λ s. missing s.1.0 s.1.2 (no_rows_joined s.1.0 s.1.1 s.1.4)),
 )
   where
-  missing : (first : List Row) → MatchRow (within []) pair_graph false (alone ∷ []) None [] first → first ≡ [] → ⊥
-  missing first m e = some_found m.found (m.matches.every at_zero (record { fits = alone_fits; passes = refl })) (sym e ∙ m.bound)
+    missing : (first : List Row) → MatchRow (within []) pair_graph false (alone ∷ []) None [] first → first ≡ [] → ⊥
+    missing first m e = some_found m.found (m.matches.every at_zero (record { fits = alone_fits; passes = refl })) (sym e ∙ m.bound)
 
 -- ---- UNWIND [1] AS a
 
@@ -89,8 +89,8 @@ instances_of_unwind = (
   (λ s. dropped s.1.0 s.1.2 (no_rows_joined s.1.0 s.1.1 s.1.4)),
 )
   where
-  dropped : (first : List Row) → UnwindRow (within []) empty_graph one_item (named "a") [] first → first ≡ [] → ⊥
-  dropped first u e = no_rows _ _ (sym e ∙ subst (λ vs. first ≡ map (λ v. row_a v) vs) (sym (same_ok (one ∷ []) u.0 u.1)) u.2)
+    dropped : (first : List Row) → UnwindRow (within []) empty_graph one_item (named "a") [] first → first ≡ [] → ⊥
+    dropped first u e = no_rows _ _ (sym e ∙ subst (λ vs. first ≡ map (λ v. row_a v) vs) (sym (same_ok (one ∷ []) u.0 u.1)) u.2)
 
 -- ---- WITH and RETURN 1 AS a
 
@@ -176,15 +176,15 @@ create_row = record {
   extended = refl;
 }
   where
-  none_below : (n : ℕ) → n < 0 → ⊥
-  none_below n h = omega arith
+    none_below : (n : ℕ) → n < 0 → ⊥
+    none_below n h = omega arith
 
 nothing_fits : (a : Assignment) → Fits (unnamed ∷ []) no_entries empty_graph [] a → ⊥
 nothing_fits [] f = absurd f.each
 nothing_fits (t ∷ ts) f = absent f.each.0.3.node f.each.0.3.present
   where
-  absent : (e : Node) → ◌≡◌ {A = Option Node} None (Some e) → ⊥
-  absent e h = cc
+    absent : (e : Node) → ◌≡◌ {A = Option Node} None (Some e) → ⊥
+    absent e h = cc
 
 no_row_made : (after : Graph) (first : List Row) → CreateRow (within []) (unnamed ∷ []) empty_graph [] after first → first ≡ [] → ⊥
 no_row_made after first c e = no_rows _ _ (sym e ∙ c.extended)
@@ -193,19 +193,20 @@ no_row_made after first c e = no_rows _ _ (sym e ∙ c.extended)
 no_node_made : (first : List Row) → CreateRow (within []) (unnamed ∷ []) empty_graph [] empty_graph first → ⊥
 no_node_made first c = by_shape c.assignment c.shape c.next_node
   where
-  by_place : (p : List ℕ) → length p ≡ 1 → ◌≡◌ {A = ℕ} 0 (0 + length (new_places [] (all_placed (unnamed ∷ []) (record { nodes = p; bonds = [] } ∷ [])))) → ⊥
-  by_place [] l e = apart l
-    where
-    apart : ◌≡◌ {A = ℕ} 0 1 → ⊥
-    apart h = omega arith
-  by_place (n ∷ ns) l e = apart e
-    where
-    apart : ◌≡◌ {A = ℕ} 0 1 → ⊥
-    apart h = omega arith
-  by_shape : (a : Assignment) → AllZip IsTrailOf (unnamed ∷ []) a → ◌≡◌ {A = ℕ} 0 (0 + length (new_places [] (all_placed (unnamed ∷ []) a))) → ⊥
-  by_shape [] z e = absurd z
-  by_shape (t ∷ []) z e = by_place t.nodes z.0.0 e
-  by_shape (t ∷ u ∷ ts) z e = absurd z.1
+    by_place : (p : List ℕ) → length p ≡ 1 → ◌≡◌ {A = ℕ} 0 (0 + length (new_places [] (all_placed (unnamed ∷ []) (record { nodes = p; bonds = [] } ∷ [])))) → ⊥
+    by_place [] l e = apart l
+      where
+        apart : ◌≡◌ {A = ℕ} 0 1 → ⊥
+        apart h = omega arith
+    by_place (n ∷ ns) l e = apart e
+      where
+        apart : ◌≡◌ {A = ℕ} 0 1 → ⊥
+        apart h = omega arith
+
+    by_shape : (a : Assignment) → AllZip IsTrailOf (unnamed ∷ []) a → ◌≡◌ {A = ℕ} 0 (0 + length (new_places [] (all_placed (unnamed ∷ []) a))) → ⊥
+    by_shape [] z e = absurd z
+    by_shape (t ∷ []) z e = by_place t.nodes z.0.0 e
+    by_shape (t ∷ u ∷ ts) z e = absurd z.1
 
 pub instances_of_create : InstancesOfCreate
 instances_of_create = (
@@ -223,12 +224,13 @@ instances_of_create = (
   (λ s. merged_none s.0 s.1 (s.3).one (no_rows_joined s.1 s.2 s.5)),
 )
   where
-  none_found : (found : List Assignment) → found ≢ [] → [] ≡ map (λ a. bind_match empty_graph (unnamed ∷ []) a []) found → ⊥
-  none_found [] some e = some refl
-  none_found (a ∷ as_) some e = no_rows _ _ e
-  merged_none : (after : Graph) (first : List Row) → MergeMatched (within []) unnamed [] empty_graph [] after first ⊎ MergeMade (within []) unnamed [] empty_graph [] after first → first ≡ [] → ⊥
-  merged_none after first (inl m) e = none_found m.found m.some (sym e ∙ m.rows)
-  merged_none after first (inr m) e = no_row_made m.made first m.creation e
+    none_found : (found : List Assignment) → found ≢ [] → [] ≡ map (λ a. bind_match empty_graph (unnamed ∷ []) a []) found → ⊥
+    none_found [] some e = some refl
+    none_found (a ∷ as_) some e = no_rows _ _ e
+
+    merged_none : (after : Graph) (first : List Row) → MergeMatched (within []) unnamed [] empty_graph [] after first ⊎ MergeMade (within []) unnamed [] empty_graph [] after first → first ≡ [] → ⊥
+    merged_none after first (inl m) e = none_found m.found m.some (sym e ∙ m.rows)
+    merged_none after first (inr m) e = no_row_made m.made first m.creation e
 
 -- ---- SET a.k = 2, REMOVE a.k and DELETE a
 
@@ -270,8 +272,8 @@ instances_of_changes = (
   (λ d. still_connected (subst (λ x. test_unconnected (remove_elements [] (doomed_relationships false pair_graph x) pair_graph) (doomed_nodes pair_graph x) ≡ Ok tt) (sym (same_ok (0 ∷ [], []) d.doomed d.named)) d.connected)),
 )
   where
-  still_connected : ◌≡◌ {A = Result (Unit {0}) Fault} (Err NodeStillConnected) (Ok tt) → ⊥
-  still_connected e = cc
+    still_connected : ◌≡◌ {A = Result (Unit {0}) Fault} (Err NodeStillConnected) (Ok tt) → ⊥
+    still_connected e = cc
 
 -- ---- queries
 
@@ -300,26 +302,26 @@ InstancesOfQueries =
 creates_without_fault : (f : Fault) → CreateFaults (within []) (unnamed ∷ []) empty_graph [] f → ⊥
 creates_without_fault f (inl (n, inl e, h)) = fine (subst (λ m. test_bound false empty_graph (bound_value (node_name m) []) ≡ Err f) e h)
   where
-  fine : ◌≡◌ {A = Result (Unit {0}) Fault} (Ok tt) (Err f) → ⊥
-  fine e = cc
+    fine : ◌≡◌ {A = Result (Unit {0}) Fault} (Ok tt) (Err f) → ⊥
+    fine e = cc
 creates_without_fault f (inl (n, inr i, h)) = absurd i
 creates_without_fault f (inr (inl (ps, inl e, h))) = fine (subst (λ p. given_properties (within []) empty_graph [] p ≡ Err f) e h)
   where
-  fine : ◌≡◌ {A = Result Entries Fault} (Ok no_entries) (Err f) → ⊥
-  fine e = cc
+    fine : ◌≡◌ {A = Result Entries Fault} (Ok no_entries) (Err f) → ⊥
+    fine e = cc
 creates_without_fault f (inr (inl (ps, inr i, h))) = absurd i
 creates_without_fault f (inr (inr (inl h))) = too_many h.1
   where
-  too_many : 10 < 1 → ⊥
-  too_many h = omega arith
+    too_many : 10 < 1 → ⊥
+    too_many h = omega arith
 creates_without_fault f (inr (inr (inr (inl h)))) = past h.1
   where
-  past : 2 ^ 63 - 1 < 1 → ⊥
-  past h = omega arith
+    past : 2 ^ 63 - 1 < 1 → ⊥
+    past h = omega arith
 creates_without_fault f (inr (inr (inr (inr h)))) = past h.1
   where
-  past : 2 ^ 63 - 1 < 0 → ⊥
-  past h = omega arith
+    past : 2 ^ 63 - 1 < 0 → ⊥
+    past h = omega arith
 
 pub instances_of_queries : InstancesOfQueries
 instances_of_queries = (
@@ -331,11 +333,13 @@ instances_of_queries = (
   (λ e. not_true (ap steps_are_two (sym e))),
 )
   where
-  is_named : List (List ℕ) → Bool
-  is_named names = elim names [ [] ↦ false | n ∷ ns ↦ bytes_eq n (codes "a") ]
-  steps_are_two : Result Outcome Fault → Bool
-  steps_are_two r = elim r [ Ok o ↦ o.steps == 2 | Err f ↦ false ]
-  no_fault : (f : Fault) → MayFault create_one no_entries 10 empty_graph f → ⊥
-  no_fault f (inl (inl h)) = creates_without_fault f h
-  no_fault f (inl (inr h)) = absurd h.3
-  no_fault f (inr h) = absurd h.3.2
+    is_named : List (List ℕ) → Bool
+    is_named names = elim names [ [] ↦ false | n ∷ ns ↦ bytes_eq n (codes "a") ]
+
+    steps_are_two : Result Outcome Fault → Bool
+    steps_are_two r = elim r [ Ok o ↦ o.steps == 2 | Err f ↦ false ]
+
+    no_fault : (f : Fault) → MayFault create_one no_entries 10 empty_graph f → ⊥
+    no_fault f (inl (inl h)) = creates_without_fault f h
+    no_fault f (inl (inr h)) = absurd h.3
+    no_fault f (inr h) = absurd h.3.2

@@ -31,9 +31,9 @@ use Rattle.pg_meaning.specs.declared.fault.Fault.TheVariants.{StepQuota}
 pub spend_fault : (s : Setting) (steps more : ℕ) (f : Fault) → spend s steps more ≡ Err f → f ≡ StepQuota
 spend_fault s steps more f e = by_test _ e
   where
-  by_test : (b : Bool) → (unless b StepQuota >> Ok (steps + more)) ≡ Err f → f ≡ StepQuota
-  by_test true e = cc
-  by_test false e = cc
+    by_test : (b : Bool) → (unless b StepQuota >> Ok (steps + more)) ≡ Err f → f ≡ StepQuota
+    by_test true e = cc
+    by_test false e = cc
 
 -- ---- items
 
@@ -51,11 +51,11 @@ columns_bind s graph row (c ∷ cs) vs e name =
     let named : c.name ≡ first.0.0 = ap (λ b. b.0) (same_ok (c.name, value.0) first.0 value.2) in
     let inner = columns_bind s graph row cs rest.0 rest.1 name in
     subst (λ ws. is_some (value_in name ws) ≡ (bytes_eq name c.name || is_among (map (λ (c : Column). c.name) cs) name)) (same_ok (first.0 ∷ rest.0) vs rest.2)
-      (ap (λ t. is_some (cond (bytes_eq name t) (Some first.0.1) (lookup (bytes_eq name) rest.0))) (sym named) ∙ either_way (bytes_eq name c.name) first.0.1 (lookup (bytes_eq name) rest.0) _ inner)
+    (ap (λ t. is_some (cond (bytes_eq name t) (Some first.0.1) (lookup (bytes_eq name) rest.0))) (sym named) ∙ either_way (bytes_eq name c.name) first.0.1 (lookup (bytes_eq name) rest.0) _ inner)
   where
-  either_way : (b : Bool) (v : Value) (o : Option Value) (r : Bool) → is_some o ≡ r → is_some (cond b (Some v) o) ≡ (b || r)
-  either_way true v o r h = refl
-  either_way false v o r h = h
+    either_way : (b : Bool) (v : Value) (o : Option Value) (r : Bool) → is_some o ≡ r → is_some (cond b (Some v) o) ≡ (b || r)
+    either_way true v o r h = refl
+    either_way false v o r h = h
 
 projected_binds : (s : Setting) (graph : Graph) (distinct : Bool) (columns : List Column) (row : Row) (p : Projected) → projected s graph distinct columns row ≡ Ok p → Binds columns p
 unfolding Binds
@@ -94,14 +94,14 @@ none_in : {X : Type 0} (test : X → Bool) (xs : List X) (x : X) → list_any te
 none_in test [] x h i = absurd i
 none_in test (y ∷ ys) x h (inl e) = ap test e ∙ first_false (test y) _ h
   where
-  first_false : (a b : Bool) → (a || b) ≡ false → a ≡ false
-  first_false true b h = cc
-  first_false false b h = refl
+    first_false : (a b : Bool) → (a || b) ≡ false → a ≡ false
+    first_false true b h = cc
+    first_false false b h = refl
 none_in test (y ∷ ys) x h (inr i) = none_in test ys x (second_false (test y) _ h) i
   where
-  second_false : (a b : Bool) → (a || b) ≡ false → b ≡ false
-  second_false true b h = cc
-  second_false false b h = h
+    second_false : (a b : Bool) → (a || b) ≡ false → b ≡ false
+    second_false true b h = cc
+    second_false false b h = h
 
 item_fault : (s : Setting) (graph : Graph) (row : Row) (f : Fault) (c : Column) (o : Option Aggregate) → is_some o ≡ false → evaluate row s.parameters graph c.value ≡ Err f
     → FaultBy s graph row f c o
@@ -111,16 +111,17 @@ item_fault s graph row f c (Some a) none e = cc
 row_fault : (s : Setting) (graph : Graph) (distinct : Bool) (columns : List Column) (row : Row) (f : Fault) → list_any is_aggregate columns ≡ false → projected s graph distinct columns row ≡ Err f → ItemFaults (given s) graph columns row f
 row_fault s graph distinct columns row f none e = by_columns (went_wrong (each_answer (column_value s graph row) columns) (λ vs. let p : Projected = record { columns = vs; earlier = cond distinct [] row } in Ok p) f e)
   where
-  of_column : (c : Column) → IsIn c columns → column_value s graph row c ≡ Err f → ItemFaults (given s) graph columns row f
-  of_column c i h = (c, i, item_fault s graph row f c (aggregate_of c.value) (none_in is_aggregate columns c none i) (value_fault (went_wrong (evaluate row s.parameters graph c.value) (λ v. Ok (c.name, v)) f h)))
-    where
-    value_fault : (evaluate row s.parameters graph c.value ≡ Err f) ⊎ ((v : Value) × (evaluate row s.parameters graph c.value ≡ Ok v) × (◌≡◌ {A = Result (List ℕ × Value) Fault} (Ok (c.name, v)) (Err f))) → evaluate row s.parameters graph c.value ≡ Err f
-    value_fault (inl h) = h
-    value_fault (inr h) = let impossible = h.2 in cc
-  by_columns : (each_answer (column_value s graph row) columns ≡ Err f) ⊎ ((vs : Row) × (each_answer (column_value s graph row) columns ≡ Ok vs) × (◌≡◌ {A = Result Projected Fault} (Ok (record { columns = vs; earlier = cond distinct [] row })) (Err f)))
-      → ItemFaults (given s) graph columns row f
-  by_columns (inl h) = let found = answers_fault (column_value s graph row) columns f h in of_column found.0 found.1 found.2
-  by_columns (inr h) = let impossible = h.2 in cc
+    of_column : (c : Column) → IsIn c columns → column_value s graph row c ≡ Err f → ItemFaults (given s) graph columns row f
+    of_column c i h = (c, i, item_fault s graph row f c (aggregate_of c.value) (none_in is_aggregate columns c none i) (value_fault (went_wrong (evaluate row s.parameters graph c.value) (λ v. Ok (c.name, v)) f h)))
+      where
+        value_fault : (evaluate row s.parameters graph c.value ≡ Err f) ⊎ ((v : Value) × (evaluate row s.parameters graph c.value ≡ Ok v) × (◌≡◌ {A = Result (List ℕ × Value) Fault} (Ok (c.name, v)) (Err f))) → evaluate row s.parameters graph c.value ≡ Err f
+        value_fault (inl h) = h
+        value_fault (inr h) = let impossible = h.2 in cc
+
+    by_columns : (each_answer (column_value s graph row) columns ≡ Err f) ⊎ ((vs : Row) × (each_answer (column_value s graph row) columns ≡ Ok vs) × (◌≡◌ {A = Result Projected Fault} (Ok (record { columns = vs; earlier = cond distinct [] row })) (Err f)))
+        → ItemFaults (given s) graph columns row f
+    by_columns (inl h) = let found = answers_fault (column_value s graph row) columns f h in of_column found.0 found.1 found.2
+    by_columns (inr h) = let impossible = h.2 in cc
 
 items_fault : (s : Setting) (graph : Graph) (distinct : Bool) (columns : List Column) (rows : List Row) (f : Fault) (b : Bool) → list_any is_aggregate columns ≡ false → b ≡ false
     → items_by s graph distinct columns rows b ≡ Err f
@@ -165,9 +166,9 @@ unfolding Kept
 kept_later p seen kept r (inr h) = inr (h.0, inr h.1, h.2)
 kept_later p seen kept r (inl h) = by_first (same_values (values_in r.columns) (values_in p.columns)) refl
   where
-  by_first : (b : Bool) → same_values (values_in r.columns) (values_in p.columns) ≡ b → (Among r seen ≡ true) ⊎ ((q : Projected) × IsIn q (p ∷ kept) × (same_values (values_in r.columns) (values_in q.columns) ≡ true))
-  by_first true e = inr (p, inl refl, e)
-  by_first false e = inl (sym (ap (λ b. b || Among r seen) e) ∙ h)
+    by_first : (b : Bool) → same_values (values_in r.columns) (values_in p.columns) ≡ b → (Among r seen ≡ true) ⊎ ((q : Projected) × IsIn q (p ∷ kept) × (same_values (values_in r.columns) (values_in q.columns) ≡ true))
+    by_first true e = inr (p, inl refl, e)
+    by_first false e = inl (sym (ap (λ b. b || Among r seen) e) ∙ h)
 
 all_later : (P Q : Projected → Type 0) → ((p : Projected) → P p → Q p) → (ps : List Projected) → AllByRecursion P ps → AllByRecursion Q ps
 all_later P Q f [] h = tt
@@ -205,9 +206,9 @@ all_in_themselves : {X : Type 0} (xs : List X) → AllByRecursion (λ x. IsIn x 
 all_in_themselves [] = tt
 all_in_themselves {X} (x ∷ xs) = (inl refl, later xs xs (all_in_themselves xs))
   where
-  later : (ys zs : List X) → AllByRecursion (λ y. IsIn y zs) ys → AllByRecursion (λ y. (y ≡ x) ⊎ IsIn y zs) ys
-  later [] zs h = tt
-  later (y ∷ ys) zs h = (inr h.0, later ys zs h.1)
+    later : (ys zs : List X) → AllByRecursion (λ y. IsIn y zs) ys → AllByRecursion (λ y. (y ≡ x) ⊎ IsIn y zs) ys
+    later [] zs h = tt
+    later (y ∷ ys) zs h = (inr h.0, later ys zs h.1)
 
 distinct_agrees : (distinct : Bool) (ps : List Projected) → Distinct distinct ps (distinct_rows distinct ps)
 unfolding Kept
@@ -217,10 +218,10 @@ distinct_agrees true ps = record {
   once = firsts_once [] ps;
 }
   where
-  kept_only : (p : Projected) → (false ≡ true) ⊎ ((q : Projected) × IsIn q (firsts [] ps) × (same_values (values_in p.columns) (values_in q.columns) ≡ true))
-      → (q : Projected) × IsIn q (firsts [] ps) × (same_values (values_in p.columns) (values_in q.columns) ≡ true)
-  kept_only p (inl e) = cc
-  kept_only p (inr h) = h
+    kept_only : (p : Projected) → (false ≡ true) ⊎ ((q : Projected) × IsIn q (firsts [] ps) × (same_values (values_in p.columns) (values_in q.columns) ≡ true))
+        → (q : Projected) × IsIn q (firsts [] ps) × (same_values (values_in p.columns) (values_in q.columns) ≡ true)
+    kept_only p (inl e) = cc
+    kept_only p (inr h) = h
 distinct_agrees false ps = refl
 
 all_firsts : (P : Projected → Type 0) (seen : List (List Value)) (ps : List Projected) → AllByRecursion P ps → AllByRecursion P (firsts seen ps)
@@ -244,26 +245,29 @@ passing_agrees s graph where_ (p ∷ ps) kept e =
     let rest = went_well (passing_rows s graph where_ ps) (λ others. Ok (elim first.0 [ true ↦ p ∷ others | false ↦ others ])) kept first.2 in
     (first.0, rest.0, first.1, passing_agrees s graph where_ ps rest.0 rest.1, sym (same_ok _ kept rest.2) ∙ as_cond first.0 p rest.0)
   where
-  as_cond : (b : Bool) (p : Projected) (others : List Projected) → elim b as (λ b. List Projected) [ true ↦ p ∷ others | false ↦ others ] ≡ cond b (p ∷ others) others
-  as_cond true p others = refl
-  as_cond false p others = refl
+    as_cond : (b : Bool) (p : Projected) (others : List Projected) → elim b as (λ b. List Projected) [ true ↦ p ∷ others | false ↦ others ] ≡ cond b (p ∷ others) others
+    as_cond true p others = refl
+    as_cond false p others = refl
 
 passing_fault : (s : Setting) (graph : Graph) (where_ : Option Expression) (ps : List Projected) (f : Fault) → passing_rows s graph where_ ps ≡ Err f → (p : Projected) × IsIn p ps × (condition where_ (visible p) s.parameters graph ≡ Err f)
 passing_fault s graph where_ [] f e = cc
 passing_fault s graph where_ (p ∷ ps) f e =
     by_first (went_wrong (condition where_ (visible p) s.parameters graph) (λ b. passing_rows s graph where_ ps >>= λ others. Ok (elim b [ true ↦ p ∷ others | false ↦ others ])) f e) (passing_fault s graph where_ ps f)
   where
-  Found : List Projected → Type 0
-  Found qs = (q : Projected) × IsIn q qs × (condition where_ (visible q) s.parameters graph ≡ Err f)
-  rest_after : Bool → List Projected → Result (List Projected) Fault
-  rest_after b others = Ok (elim b [ true ↦ p ∷ others | false ↦ others ])
-  by_rest : (b : Bool) → (passing_rows s graph where_ ps ≡ Err f) ⊎ ((others : List Projected) × (passing_rows s graph where_ ps ≡ Ok others) × (rest_after b others ≡ Err f)) → (passing_rows s graph where_ ps ≡ Err f → Found ps) → Found (p ∷ ps)
-  by_rest b (inl h) rest = let q = rest h in (q.0, inr q.1, q.2)
-  by_rest b (inr h) rest = let impossible = h.2 in cc
-  by_first : (condition where_ (visible p) s.parameters graph ≡ Err f) ⊎ ((b : Bool) × (condition where_ (visible p) s.parameters graph ≡ Ok b) × ((passing_rows s graph where_ ps >>= rest_after b) ≡ Err f))
-      → (passing_rows s graph where_ ps ≡ Err f → Found ps) → Found (p ∷ ps)
-  by_first (inl h) rest = (p, inl refl, h)
-  by_first (inr h) rest = by_rest h.0 (went_wrong (passing_rows s graph where_ ps) (rest_after h.0) f h.2) rest
+    Found : List Projected → Type 0
+    Found qs = (q : Projected) × IsIn q qs × (condition where_ (visible q) s.parameters graph ≡ Err f)
+
+    rest_after : Bool → List Projected → Result (List Projected) Fault
+    rest_after b others = Ok (elim b [ true ↦ p ∷ others | false ↦ others ])
+
+    by_rest : (b : Bool) → (passing_rows s graph where_ ps ≡ Err f) ⊎ ((others : List Projected) × (passing_rows s graph where_ ps ≡ Ok others) × (rest_after b others ≡ Err f)) → (passing_rows s graph where_ ps ≡ Err f → Found ps) → Found (p ∷ ps)
+    by_rest b (inl h) rest = let q = rest h in (q.0, inr q.1, q.2)
+    by_rest b (inr h) rest = let impossible = h.2 in cc
+
+    by_first : (condition where_ (visible p) s.parameters graph ≡ Err f) ⊎ ((b : Bool) × (condition where_ (visible p) s.parameters graph ≡ Ok b) × ((passing_rows s graph where_ ps >>= rest_after b) ≡ Err f))
+        → (passing_rows s graph where_ ps ≡ Err f → Found ps) → Found (p ∷ ps)
+    by_first (inl h) rest = (p, inl refl, h)
+    by_first (inr h) rest = by_rest h.0 (went_wrong (passing_rows s graph where_ ps) (rest_after h.0) f h.2) rest
 
 module _ (P : Projected → Type 0) where
   all_taken : (n : ℕ) (ps : List Projected) → AllByRecursion P ps → AllByRecursion P (take n ps)
@@ -286,9 +290,9 @@ module _ (P : Projected → Type 0) where
   all_passing s graph where_ [] kept e h = subst (AllByRecursion P) (sym e) tt
   all_passing s graph where_ (p ∷ ps) kept e h = subst (AllByRecursion P) (sym e.4) (by_first e.0 (all_passing s graph where_ ps e.1 e.3 h.1))
     where
-    by_first : (b : Bool) → AllByRecursion P e.1 → AllByRecursion P (cond b (p ∷ e.1) e.1)
-    by_first true r = (h.0, r)
-    by_first false r = r
+      by_first : (b : Bool) → AllByRecursion P e.1 → AllByRecursion P (cond b (p ∷ e.1) e.1)
+      by_first true r = (h.0, r)
+      by_first false r = r
 
 rows_bind : (columns : List Column) (ps : List Projected) → AllByRecursion (Binds columns) ps → AreRowsOf (column_names columns) (map (λ (p : Projected). p.columns) ps)
 unfolding Binds
@@ -326,47 +330,48 @@ module _ (s : Setting) (columns : List Column) (distinct : Bool) (star : Option 
   unsorted_agrees : list_any is_aggregate columns ≡ false → ProjectionAgrees s columns unsorted where_ state (project_clause s columns unsorted where_ state)
   unsorted_agrees plain =
       by_answer Agrees (spend s state.steps (length state.rows)) charged_state
-        (λ steps e0. by_answer Agrees (count_given s state.graph skip_by) (skipped_state steps)
-          (λ skip e1. by_answer Agrees (count_given s state.graph limit_by) (limited_state steps skip)
-            (λ limit e2. by_answer Agrees (item_rows s state.graph distinct columns state.rows) (cut_state steps skip limit)
-              (λ made e3. by_answer Agrees (passing_rows s state.graph where_ (limited limit (skipped skip (distinct_rows distinct made)))) (kept_state steps)
-                (λ kept e4. went steps skip limit made kept e1 e2 e3 e4)
-                (λ f e4. inr (inr (inr (inr (inr (inr (where_fault skip limit made f e1 e2 e3 (passing_fault s state.graph where_ (limited limit (skipped skip (distinct_rows distinct made))) f e4)))))))))
-              (λ f e3. inr (inr (inr (inl (items_fault s state.graph distinct columns state.rows f (list_any is_aggregate columns) plain plain e3))))))
-            (λ f e2. inr (inr (inl e2))))
-          (λ f e1. inr (inl e1)))
-        (λ f e0. inl (spend_fault s state.steps (length state.rows) f e0))
+      (λ steps e0. by_answer Agrees (count_given s state.graph skip_by) (skipped_state steps)
+      (λ skip e1. by_answer Agrees (count_given s state.graph limit_by) (limited_state steps skip)
+      (λ limit e2. by_answer Agrees (item_rows s state.graph distinct columns state.rows) (cut_state steps skip limit)
+      (λ made e3. by_answer Agrees (passing_rows s state.graph where_ (limited limit (skipped skip (distinct_rows distinct made)))) (kept_state steps)
+      (λ kept e4. went steps skip limit made kept e1 e2 e3 e4)
+      (λ f e4. inr (inr (inr (inr (inr (inr (where_fault skip limit made f e1 e2 e3 (passing_fault s state.graph where_ (limited limit (skipped skip (distinct_rows distinct made))) f e4)))))))))
+      (λ f e3. inr (inr (inr (inl (items_fault s state.graph distinct columns state.rows f (list_any is_aggregate columns) plain plain e3))))))
+      (λ f e2. inr (inr (inl e2))))
+      (λ f e1. inr (inl e1)))
+      (λ f e0. inl (spend_fault s state.steps (length state.rows) f e0))
     where
-    made_from : (made : List Projected) → item_rows s state.graph distinct columns state.rows ≡ Ok made → Items (given s) state.graph distinct columns state.rows made
-    made_from made e3 = items_are s state.graph distinct columns state.rows made (list_any is_aggregate columns) plain e3
-    went : (steps : ℕ) (skip limit : Option ℕ) (made kept : List Projected) → count_given s state.graph skip_by ≡ Ok skip → count_given s state.graph limit_by ≡ Ok limit → item_rows s state.graph distinct columns state.rows ≡ Ok made
-        → passing_rows s state.graph where_ (limited limit (skipped skip (distinct_rows distinct made))) ≡ Ok kept → Agrees (kept_state steps kept)
-    went steps skip limit made kept e1 e2 e3 e4 =
-        let passes = passing_agrees s state.graph where_ (limited limit (skipped skip (distinct_rows distinct made))) kept e4 in
-        let bound = all_passing (Binds columns) s state.graph where_ _ kept passes (all_cut (Binds columns) skip limit _ (all_distinct (Binds columns) distinct made (items_bind s state.graph distinct columns state.rows made (list_any is_aggregate columns) plain e3))) in
-        (
-          refl,
-          record {
-            skip = skip;
-            skip_given = e1;
-            limit = limit;
-            limit_given = e2;
-            made = made;
-            items = made_from made e3;
-            kept = distinct_rows distinct made;
-            distinct = distinct_agrees distinct made;
-            sorted = distinct_rows distinct made;
-            order = refl;
-            passing = kept;
-            condition = passes;
-            shown = refl;
-          },
-          rows_bind columns kept bound,
-        )
-    where_fault : (skip limit : Option ℕ) (made : List Projected) (f : Fault) → count_given s state.graph skip_by ≡ Ok skip → count_given s state.graph limit_by ≡ Ok limit → item_rows s state.graph distinct columns state.rows ≡ Ok made
-        → (r : Projected) × IsIn r (limited limit (skipped skip (distinct_rows distinct made))) × (condition where_ (visible r) s.parameters state.graph ≡ Err f)
-        → PassingFaults (given s) state.graph columns unsorted where_ state.rows f
-    where_fault skip limit made f e1 e2 e3 h = (skip, limit, made, distinct_rows distinct made, distinct_rows distinct made, h.0, e1, e2, made_from made e3, distinct_agrees distinct made, refl, h.1, h.2)
+      made_from : (made : List Projected) → item_rows s state.graph distinct columns state.rows ≡ Ok made → Items (given s) state.graph distinct columns state.rows made
+      made_from made e3 = items_are s state.graph distinct columns state.rows made (list_any is_aggregate columns) plain e3
+
+      went : (steps : ℕ) (skip limit : Option ℕ) (made kept : List Projected) → count_given s state.graph skip_by ≡ Ok skip → count_given s state.graph limit_by ≡ Ok limit → item_rows s state.graph distinct columns state.rows ≡ Ok made
+          → passing_rows s state.graph where_ (limited limit (skipped skip (distinct_rows distinct made))) ≡ Ok kept → Agrees (kept_state steps kept)
+      went steps skip limit made kept e1 e2 e3 e4 =
+          let passes = passing_agrees s state.graph where_ (limited limit (skipped skip (distinct_rows distinct made))) kept e4 in
+          let bound = all_passing (Binds columns) s state.graph where_ _ kept passes (all_cut (Binds columns) skip limit _ (all_distinct (Binds columns) distinct made (items_bind s state.graph distinct columns state.rows made (list_any is_aggregate columns) plain e3))) in (
+            refl,
+            record {
+              skip = skip;
+              skip_given = e1;
+              limit = limit;
+              limit_given = e2;
+              made = made;
+              items = made_from made e3;
+              kept = distinct_rows distinct made;
+              distinct = distinct_agrees distinct made;
+              sorted = distinct_rows distinct made;
+              order = refl;
+              passing = kept;
+              condition = passes;
+              shown = refl;
+            },
+            rows_bind columns kept bound,
+          )
+
+      where_fault : (skip limit : Option ℕ) (made : List Projected) (f : Fault) → count_given s state.graph skip_by ≡ Ok skip → count_given s state.graph limit_by ≡ Ok limit → item_rows s state.graph distinct columns state.rows ≡ Ok made
+          → (r : Projected) × IsIn r (limited limit (skipped skip (distinct_rows distinct made))) × (condition where_ (visible r) s.parameters state.graph ≡ Err f)
+          → PassingFaults (given s) state.graph columns unsorted where_ state.rows f
+      where_fault skip limit made f e1 e2 e3 h = (skip, limit, made, distinct_rows distinct made, distinct_rows distinct made, h.0, e1, e2, made_from made e3, distinct_agrees distinct made, refl, h.1, h.2)
 
 -- ---- the laws
 
@@ -405,23 +410,23 @@ pub return_agrees : ReturnAgrees
 return_agrees distinct star items skip limit single s state faults planned g rows =
     let columns = star_columns s.scope star ++ map return_column items in
     of_return (project_clause s columns (record { distinct = distinct; star = star; items = items; order = []; skip = skip; limit = limit }) None state)
-      (unsorted_agrees s columns distinct star items skip limit None state (columns_single return_column (λ i. refl) s.scope star items single))
+    (unsorted_agrees s columns distinct star items skip limit None state (columns_single return_column (λ i. refl) s.scope star items single))
   where
-  of_return : (r : Result State Fault) → ProjectionAgrees s (star_columns s.scope star ++ map return_column items) (record { distinct = distinct; star = star; items = items; order = []; skip = skip; limit = limit }) None state r
-      → AnswerAgrees s (return_rows (record { distinct = distinct; star = star; items = items; order = []; skip = skip; limit = limit })) state r
-  of_return (Ok next) h = ((h.0, h.1), subst IsGraph (sym h.0) g, h.2)
-  of_return (Err f) h = h
+    of_return : (r : Result State Fault) → ProjectionAgrees s (star_columns s.scope star ++ map return_column items) (record { distinct = distinct; star = star; items = items; order = []; skip = skip; limit = limit }) None state r
+        → AnswerAgrees s (return_rows (record { distinct = distinct; star = star; items = items; order = []; skip = skip; limit = limit })) state r
+    of_return (Ok next) h = ((h.0, h.1), subst IsGraph (sym h.0) g, h.2)
+    of_return (Err f) h = h
 
 pub with_agrees : WithAgrees
 with_agrees distinct star items skip limit where_ single s state faults planned g rows =
     let columns = star_columns s.scope star ++ map with_column items in
     of_with (project_clause s columns (record { distinct = distinct; star = star; items = items; order = []; skip = skip; limit = limit }) where_ state)
-      (unsorted_agrees s columns distinct star items skip limit where_ state (columns_single with_column (λ i. refl) s.scope star items single))
+    (unsorted_agrees s columns distinct star items skip limit where_ state (columns_single with_column (λ i. refl) s.scope star items single))
   where
-  of_with : (r : Result State Fault) → ProjectionAgrees s (star_columns s.scope star ++ map with_column items) (record { distinct = distinct; star = star; items = items; order = []; skip = skip; limit = limit }) where_ state r
-      → AnswerAgrees s (with_rows (record { distinct = distinct; star = star; items = items; order = []; skip = skip; limit = limit }) where_) state r
-  of_with (Ok next) h = ((h.0, h.1), subst IsGraph (sym h.0) g, h.2)
-  of_with (Err f) h = h
+    of_with : (r : Result State Fault) → ProjectionAgrees s (star_columns s.scope star ++ map with_column items) (record { distinct = distinct; star = star; items = items; order = []; skip = skip; limit = limit }) where_ state r
+        → AnswerAgrees s (with_rows (record { distinct = distinct; star = star; items = items; order = []; skip = skip; limit = limit }) where_) state r
+    of_with (Ok next) h = ((h.0, h.1), subst IsGraph (sym h.0) g, h.2)
+    of_with (Err f) h = h
 
 -- ---- queries of one RETURN
 
@@ -433,4 +438,4 @@ ReturnQueriesAgree =
 pub return_queries_agree : ReturnQueriesAgree
 return_queries_agree distinct star items skip limit semicolon single =
     clauses_make_queries (record { clauses = return_rows (record { distinct = distinct; star = star; items = items; order = []; skip = skip; limit = limit }) ∷ []; semicolon = semicolon })
-      (return_agrees distinct star items skip limit single, tt)
+    (return_agrees distinct star items skip limit single, tt)

@@ -51,30 +51,28 @@ module _ (a b : Option (List ℕ)) (f0 f1 : ℕ) (header : List ℕ) (n : ℕ) (
           incoming = (partial_frame second.got second.filled.0, second.filled.1 ∙ ap next_count first.filled.1);
         }
 
--- the four bytes are those of the length of the body
-module _ (header body : List ℕ) (is : header ≡ to_be_bytes w32 (length body)) where
-  -- the writer failed in the length
-  pub sends_front : {T U E : Type 0} (a b : Option (List ℕ)) (f0 f1 : ℕ) (e e' : E) (r : Result U E) → r ≡ Err e' → Sends {T = T} {E = E} a b f0 f1 header (Err e) → Sends a b f0 f1 (frame body) r
-  sends_front a b f0 f1 e e' r err s =
-      subst (Sends a b f0 f1 (frame body)) (sym err)
-      (record {
-        sent = s.sent;
-        lacking = s.lacking ++ body;
-        wrote = s.wrote;
-        parts = ap (λ l. l ++ body) (sym is ∙ s.parts) ∙ append_assoc s.sent s.lacking body;
-        ok = tt;
-        err = (omega (arith, length-append s.lacking body, s.err.0), s.err.1);
-      })
+-- the writer failed in the front
+pub sends_front : {T U E : Type 0} (front back : List ℕ) (a b : Option (List ℕ)) (f0 f1 : ℕ) (e e' : E) (r : Result U E) → r ≡ Err e' → Sends {T = T} {E = E} a b f0 f1 front (Err e) → Sends a b f0 f1 (front ++ back) r
+sends_front front back a b f0 f1 e e' r err s =
+    subst (Sends a b f0 f1 (front ++ back)) (sym err)
+    (record {
+      sent = s.sent;
+      lacking = s.lacking ++ back;
+      wrote = s.wrote;
+      parts = ap (λ l. l ++ back) s.parts ∙ append_assoc s.sent s.lacking back;
+      ok = tt;
+      err = (omega (arith, length-append s.lacking back, s.err.0), s.err.1);
+    })
 
-  -- it took the length, and then what it took of the body
-  pub sends_then : {T U E : Type 0} (a b c : Option (List ℕ)) (f0 f1 f2 : ℕ) (u : T) (r : Result U E) → Sends {T = T} {E = E} a b f0 f1 header (Ok u) → Sends b c f1 f2 body r → Sends a c f0 f2 (frame body) r
-  sends_then a b c f0 f1 f2 u r s t =
-      let all : to_be_bytes w32 (length body) ≡ s.sent = sym is ∙ s.parts ∙ ap (λ l. s.sent ++ l) s.ok.0 ∙ append-nil s.sent in
-      record {
-        sent = s.sent ++ t.sent;
-        lacking = t.lacking;
-        wrote = Appends-trans a b c _ _ s.wrote t.wrote;
-        parts = ap (λ l. l ++ body) all ∙ ap (λ l. s.sent ++ l) t.parts ∙ sym (append_assoc s.sent t.sent t.lacking);
-        ok = on_ok_weaker r (λ h. (h.0, h.1 ∙ s.ok.1)) t.ok;
-        err = on_err_weaker r (λ h. (h.0, h.1 ∙ ap next_count s.ok.1)) t.err;
-      }
+-- it took the front, and then what it took of the back
+pub sends_then : {T U E : Type 0} (front back : List ℕ) (a b c : Option (List ℕ)) (f0 f1 f2 : ℕ) (u : T) (r : Result U E) → Sends {T = T} {E = E} a b f0 f1 front (Ok u) → Sends b c f1 f2 back r → Sends a c f0 f2 (front ++ back) r
+sends_then front back a b c f0 f1 f2 u r s t =
+    let all : front ≡ s.sent = s.parts ∙ ap (λ l. s.sent ++ l) s.ok.0 ∙ append-nil s.sent in
+    record {
+      sent = s.sent ++ t.sent;
+      lacking = t.lacking;
+      wrote = Appends-trans a b c _ _ s.wrote t.wrote;
+      parts = ap (λ l. l ++ back) all ∙ ap (λ l. s.sent ++ l) t.parts ∙ sym (append_assoc s.sent t.sent t.lacking);
+      ok = on_ok_weaker r (λ h. (h.0, h.1 ∙ s.ok.1)) t.ok;
+      err = on_err_weaker r (λ h. (h.0, h.1 ∙ ap next_count s.ok.1)) t.err;
+    }

@@ -3,7 +3,7 @@ use Rattle.std.proofs.Common.{◌≡◌, ◌≢◌, ℕ, ◌<◌, List, [], ◌�
 use Rattle.std.specs.Prelude.{◌&&◌, not, nat_eq, position}
 use Rattle.std.proofs.Math.Seq.{map-set_same}
 use Rattle.std.proofs.lemmas.Bool.Decides.{Decides-eqb, not_from_Decides}
-use Rattle.std.proofs.lemmas.List.{get_or-set_same, get_or-set_other, get_or_past}
+use Rattle.std.proofs.lemmas.List.{get_or-set_same, get_or-set_other, get_or_past, set-get_or}
 use Rattle.std.proofs.lemmas.Bool.{cases_lt, true≢false}
 use Rattle.std.proofs.lemmas.Grind.{common_steps}
 use Rattle.std.proofs.lemmas.List.Quantifiers.{position-Some}
@@ -19,7 +19,7 @@ use Rattle.pg_server.specs.Solo.{solo}
 use Rattle.pg_server.specs.State.{State, ServerState, state_at, tokens_of, settings_of, no_state, no_settings}
 use Rattle.pg_server.specs.Step.{Answers, StepAt, with_tenant, place_of}
 use Rattle.pg_server.proofs.DistinctLemmas.{others_lack}
-use Rattle.pg_server.proofs.ReplyLemmas.{settings_stay, solo_is_answered}
+use Rattle.pg_server.proofs.ReplyLemmas.{settings_stay, refused_keeps}
 use Rattle.pg_server.proofs.RunLemmas.{settings_at}
 
 none_passes : {X : Type 0} (p : X → Bool) (xs : List X) (k : ℕ) (d : X) → position p xs ≡ None → p d ≡ false → p (get_or xs k d) ≡ false
@@ -71,15 +71,12 @@ module _ (old : ServerState) (body : List ℕ) (request : Request) (short : is_s
     place : (t < length old.tenants) × (is_among (token_of request) (tokens_of (state_at old t)) ≡ true) × ((k : ℕ) → k < t → is_among (token_of request) (tokens_of (state_at old k)) ≡ false)
     place = position-Some (λ (s : State). is_among (token_of request) (tokens_of s)) old.tenants t no_state found
 
-    module _ (distinct : comes_again [] (all_tokens (settings_of old)) ≡ false) (reply : List ℕ) (told : reply ≡ (solo (state_at old t) request).reply) where
+    module _ (distinct : comes_again [] (all_tokens (settings_of old)) ≡ false) (reply : List ℕ) (told : reply ≡ (solo (state_at old t) request).reply) (is_answered : is_want_of_memory reply ≡ false) where
       abbrev after : State
       after = (solo (state_at old t) request).state
 
       abbrev one : Exchange
       one = record { body = body; reply = reply }
-
-      is_answered : is_want_of_memory reply ≡ false
-      is_answered = ap is_want_of_memory told ∙ solo_is_answered (state_at old t) request
 
       is_own : (u : ℕ) → shows_one_of (tokens_of (state_at old u)) (asked body) && not (is_want_of_memory reply) ≡ is_among (token_of request) (tokens_of (state_at old u))
       is_own u = and_true _ (not (is_want_of_memory reply)) (ap not is_answered) ∙ ap (shows_one_of (tokens_of (state_at old u))) asks
@@ -108,12 +105,25 @@ module _ (old : ServerState) (body : List ℕ) (request : Request) (short : is_s
             solo = λ u. solo_at u (nat_eq u t) refl;
           }
 
+-- an answer that says want of memory leaves the server
+kept_tenant : (old : ServerState) (t : ℕ) (request : Request) → is_want_of_memory (solo (state_at old t) request).reply ≡ true → with_tenant old t (solo (state_at old t) request).state ≡ old
+kept_tenant old t request h =
+    ap (with_tenant old t) (refused_keeps (state_at old t) request h) ∙ ap (λ ts. let s : ServerState = record { cache = old.cache; tenants = ts } in s) (set-get_or old.tenants t no_state)
+
 -- one request, as the tenant found by its token answers it
 pub answered : (old new : ServerState) (body reply : List ℕ) (request : Request) → comes_again [] (all_tokens (settings_of old)) ≡ false
     → is_short body ≡ true → meaning body ≡ Some request → Answers old request reply new → Runs old (record { body = body; reply = reply } ∷ []) new
 answered old new body reply request distinct short means step = by_place (place_of (token_of request) old.tenants) refl step
   where
+    by_reply : (t : ℕ) → place_of (token_of request) old.tenants ≡ Some t → reply ≡ (solo (state_at old t) request).reply → (b : Bool) → is_want_of_memory reply ≡ b
+        → Runs old (record { body = body; reply = reply } ∷ []) (with_tenant old t (solo (state_at old t) request).state)
+    by_reply t found told true is =
+        subst (Runs old (record { body = body; reply = reply } ∷ [])) (sym (kept_tenant old t request (sym (ap is_want_of_memory told) ∙ is)))
+        (out_of_memory old body reply short ((bytes_eq-Decides reply (refusal_text OutOfMemory)).0 is))
+    by_reply t found told false is = by_tenant old body request short means t found distinct reply told is
+
     by_place : (o : Option ℕ) → place_of (token_of request) old.tenants ≡ o → StepAt o old request reply new → Runs old (record { body = body; reply = reply } ∷ []) new
     by_place None none step = subst (Runs old (record { body = body; reply = reply } ∷ [])) (sym step.1) (unknown old body request short means reply none step.0)
     by_place (Some t) found (inl h) = subst (Runs old (record { body = body; reply = reply } ∷ [])) (sym h.1) (out_of_memory old body reply short h.0)
-    by_place (Some t) found (inr h) = subst (Runs old (record { body = body; reply = reply } ∷ [])) (sym h.1) (by_tenant old body request short means t found distinct reply h.0)
+    by_place (Some t) found (inr h) =
+        subst (Runs old (record { body = body; reply = reply } ∷ [])) (sym h.1) (by_reply t found h.0 (is_want_of_memory reply) refl)

@@ -14,7 +14,9 @@ use std::collections::BTreeSet;
 use std::marker::Model;
 
 const MAX_CACHE: u64 = 65_536;
+
 const MAX_TENANTS: usize = 4_096;
+
 const MAX_QUOTA: u64 = 1_000_000_000;
 
 /// What a server begins with: a size for its plan cache, and its tenants. No two tokens are equal.
@@ -136,10 +138,7 @@ fn has_token_twice(alloc: Global, tenants: &[TenantSettings]) -> Result<bool, Al
 }
 
 /// The texts of all tokens, tenant after tenant.
-fn token_texts<'a>(
-    alloc: Global,
-    tenants: &'a [TenantSettings],
-) -> Result<Vec<&'a str>, AllocError>
+fn token_texts<'a>(alloc: Global, tenants: &'a [TenantSettings]) -> Result<Vec<&'a str>, AllocError>
     ensures { IfOk result (λ v. map (λ t. t.now) v.items ≡ all_tokens tenants.now) }
 {
     let mut texts = Vec::new(alloc);

@@ -42,14 +42,14 @@ pub(crate) fn serve<S: Service, R: Read, W: Write>(
             Incoming::Cut => return End::Cut,
             Incoming::Failed => return End::ReadFailed,
             Incoming::TooLong => {
-                return match refuse_length(writer) {
+                return match refuse_length(writer, buffer) {
                     Ok(()) => End::TooLong,
                     Err(_) => End::WriteFailed,
                 };
             }
             Incoming::Body(length) => {
                 let reply = service.answer(&buffer[..length]);
-                match write_frame(writer, reply.as_slice()) {
+                match write_frame(writer, buffer, reply.as_slice()) {
                     Ok(()) => {}
                     Err(_) => return End::WriteFailed,
                 }
@@ -60,9 +60,9 @@ pub(crate) fn serve<S: Service, R: Read, W: Write>(
 }
 
 /// The reply to a frame that is too long, whose body stays unread.
-fn refuse_length<W: Write>(writer: &mut Counted<W>) -> Result<(), DeviceFault>
+fn refuse_length<W: Write>(writer: &mut Counted<W>, buffer: &mut [u8]) -> Result<(), DeviceFault>
     ensures { Sends (W.contents (inner_of writer.old)) (W.contents (inner_of writer.new))
         (faults_of writer.old) (faults_of writer.new) (frame too_long_reply) result }
 {
-    write_frame(writer, refusal(Fault::FrameTooLong).as_slice())
+    write_frame(writer, buffer, refusal(Fault::FrameTooLong).as_slice())
 }

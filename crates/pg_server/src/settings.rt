@@ -2,6 +2,7 @@
 ghost use Rattle.std.specs.Prelude.{◌≡◌, string_bytes};
 ghost use Rattle.pg_server.specs.Settings.{is_among, token_texts};
 
+use pg_tenant::Quota;
 use std::marker::Model;
 
 /// What the requests with a token may do.
@@ -58,6 +59,16 @@ impl Model for TenantSettings {
 }
 
 impl TenantSettings {
+    pub(crate) fn quota(&self) -> Quota
+        ensures steps { result.max_steps ≡ self.now.max_steps }
+        ensures elements { result.max_elements ≡ self.now.max_elements }
+    {
+        Quota {
+            max_steps: self.max_steps,
+            max_elements: self.max_elements,
+        }
+    }
+
     pub(crate) fn has_token(&self, text: &str) -> bool
         ensures { result ≡ is_among text.now (token_texts self.now) }
     {

@@ -1,5 +1,5 @@
 //! Frames over a reader and a writer.
-ghost use Rattle.std.specs.Prelude.{◌≡◌, ◌<◌, ◌^◌, length};
+ghost use Rattle.std.specs.Prelude.{◌≡◌, ◌<◌, ◌≤◌, ◌+◌, ◌^◌, ◌++◌, length, take};
 ghost use Rattle.pg_server.specs.Counts.{inner_of, faults_of};
 ghost use Rattle.pg_server.specs.Frames.{frame, body_limit};
 ghost use Rattle.pg_server.specs.Wire.{AreBytes, Fills, Receives, Sends};
@@ -74,7 +74,10 @@ pub(crate) fn read_frame<R: Read>(reader: &mut Counted<R>, buffer: &mut [u8]) ->
 }
 
 /// Writes all of the bytes, in as many writes as it takes.
-pub(crate) fn write_whole<W: Write>(writer: &mut Counted<W>, bytes: &[u8]) -> Result<(), DeviceFault>
+pub(crate) fn write_whole<W: Write>(
+    writer: &mut Counted<W>,
+    bytes: &[u8],
+) -> Result<(), DeviceFault>
     ensures { Sends (W.contents (inner_of writer.old)) (W.contents (inner_of writer.new))
         (faults_of writer.old) (faults_of writer.new) bytes.now result }
 {
@@ -86,13 +89,42 @@ pub(crate) fn write_whole<W: Write>(writer: &mut Counted<W>, bytes: &[u8]) -> Re
     Ok(())
 }
 
-/// Writes one frame.
-pub(crate) fn write_frame<W: Write>(writer: &mut Counted<W>, body: &[u8]) -> Result<(), DeviceFault>
+/// Writes one frame: by one write where the buffer has room for it and the writer takes it whole.
+pub(crate) fn write_frame<W: Write>(
+    writer: &mut Counted<W>,
+    buffer: &mut [u8],
+    body: &[u8],
+) -> Result<(), DeviceFault>
     requires { length body.now < 2 ^ 32 }
     ensures { Sends (W.contents (inner_of writer.old)) (W.contents (inner_of writer.new))
         (faults_of writer.old) (faults_of writer.new) (frame body.now) result }
 {
     let header = (body.len() as u32).to_be_bytes();
-    write_whole(writer, &header)?;
-    write_whole(writer, body)
+    if buffer.len() < 4 + body.len() {
+        return write_parts(writer, &header, body);
+    }
+    join(buffer, &header, body);
+    write_whole(writer, &buffer[..4 + body.len()])
+}
+
+/// Puts the parts one behind the other at the buffer's front.
+fn join(buffer: &mut [u8], front: &[u8], back: &[u8])
+    requires { length front.now + length back.now ≤ length buffer.old }
+    ensures { take (length front.now + length back.now) buffer.new ≡ front.now ++ back.now }
+{
+    let end = front.len() + back.len();
+    buffer[..front.len()].copy_from_slice(front);
+    buffer[front.len()..end].copy_from_slice(back);
+}
+
+fn write_parts<W: Write>(
+    writer: &mut Counted<W>,
+    front: &[u8],
+    back: &[u8],
+) -> Result<(), DeviceFault>
+    ensures { Sends (W.contents (inner_of writer.old)) (W.contents (inner_of writer.new))
+        (faults_of writer.old) (faults_of writer.new) (front.now ++ back.now) result }
+{
+    write_whole(writer, front)?;
+    write_whole(writer, back)
 }

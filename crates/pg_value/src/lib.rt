@@ -7,6 +7,7 @@ mod equality;
 mod logic;
 mod measures;
 mod membership;
+mod texts;
 
 pub use comparison::less3;
 pub use equality::eq3;
@@ -14,3 +15,7 @@ pub use logic::{and, not, or, truth, truth_of, value_of, xor};
 pub use measures::{depth, weight};
 pub use membership::is_in;
 pub use pg_value_core::{Fault, NodeId, Out, Path, RelId, Tri, Value, equivalent, order};
+pub use texts::comes_again;
+
+#[cfg(test)]
+mod tests;

@@ -4,7 +4,8 @@ use pg_server::{Config, ConfigFault, End};
 use std::alloc::Global;
 use std::test::Fail;
 
-const WHOLE: &str = "{\"cache\":4,\"tenants\":[{\"name\":\"A\",\"max_steps\":1000,\"max_elements\":10,\"tokens\":[{\"token\":\"a1\",\"rights\":\"write\"}]}]}";
+const WHOLE: &str =
+    "{\"cache\":4,\"tenants\":[{\"name\":\"A\",\"max_steps\":1000,\"max_elements\":10,\"tokens\":[{\"token\":\"a1\",\"rights\":\"write\"}]}]}";
 
 /// A configuration with this cache, these tenants.
 fn config_with(alloc: Global, cache: &str, tenants: &str) -> Result<String, Fail> {
@@ -12,9 +13,9 @@ fn config_with(alloc: Global, cache: &str, tenants: &str) -> Result<String, Fail
 }
 
 fn tenant_with(alloc: Global, name: &str, steps: &str, tokens: &str) -> Result<String, Fail> {
-    Ok(
-        format!(in alloc; "{{\"name\":{name},\"max_steps\":{steps},\"max_elements\":0,\"tokens\":[{tokens}]}}")?,
-    )
+    Ok(format!(in alloc;
+        "{{\"name\":{name},\"max_steps\":{steps},\"max_elements\":0,\"tokens\":[{tokens}]}}"
+    )?)
 }
 
 /// The line of the fault, or nothing where there is none.
@@ -26,8 +27,11 @@ fn line_of(alloc: Global, text: &str) -> Result<String, Fail> {
 }
 
 const NOT_JSON: &str = "configuration: not JSON";
+
 const WRONG_SHAPE: &str = "configuration: wrong shape";
+
 const OUT_OF_RANGE: &str = "configuration: number out of range";
+
 const TOKEN_TWICE: &str = "configuration: token used twice";
 
 #[test]
@@ -75,10 +79,18 @@ fn numbers(rt: HostRuntime) -> Result<(), Fail> {
     let plain = tenant_with(alloc, "\"\"", "0", "")?;
     for (number, of_cache, of_quota) in &cases {
         let text = config_with(alloc, number, &plain)?;
-        assert_eq!(rt; line_of(alloc, &text)?.as_str(), *of_cache, "cache {number}");
+        assert_eq!(rt;
+            line_of(alloc, &text)?.as_str(),
+            *of_cache,
+            "cache {number}"
+        );
         let tenant = tenant_with(alloc, "\"\"", number, "")?;
         let text = config_with(alloc, "1", &tenant)?;
-        assert_eq!(rt; line_of(alloc, &text)?.as_str(), *of_quota, "max_steps {number}");
+        assert_eq!(rt;
+            line_of(alloc, &text)?.as_str(),
+            *of_quota,
+            "max_steps {number}"
+        );
     }
     Ok(())
 }
@@ -94,10 +106,19 @@ fn tokens(rt: HostRuntime) -> Result<(), Fail> {
         ("{\"token\":\"a\",\"rights\":\"admin\"}", WRONG_SHAPE),
         ("{\"token\":\"a\"}", WRONG_SHAPE),
         ("{\"token\":1,\"rights\":\"read\"}", WRONG_SHAPE),
-        ("{\"token\":\"a\",\"rights\":\"read\",\"more\":1}", WRONG_SHAPE),
+        (
+            "{\"token\":\"a\",\"rights\":\"read\",\"more\":1}",
+            WRONG_SHAPE,
+        ),
         ("\"a\"", WRONG_SHAPE),
-        ("{\"token\":\"a\",\"rights\":\"read\"},{\"token\":\"b\",\"rights\":\"write\"}", ""),
-        ("{\"token\":\"a\",\"rights\":\"read\"},{\"token\":\"a\",\"rights\":\"write\"}", TOKEN_TWICE),
+        (
+            "{\"token\":\"a\",\"rights\":\"read\"},{\"token\":\"b\",\"rights\":\"write\"}",
+            "",
+        ),
+        (
+            "{\"token\":\"a\",\"rights\":\"read\"},{\"token\":\"a\",\"rights\":\"write\"}",
+            TOKEN_TWICE,
+        ),
         ("{\"token\":\"z\",\"rights\":\"read\"}", TOKEN_TWICE),
     ];
     // The last token is another tenant's too.
@@ -124,7 +145,10 @@ fn order_of_faults(rt: HostRuntime) -> Result<(), Fail> {
         (config_with(alloc, "0", &bad_range)?, OUT_OF_RANGE),
         (config_with(alloc, "1", &bad_range)?, OUT_OF_RANGE),
         (config_with(alloc, "\"0\"", &bad_range)?, WRONG_SHAPE),
-        (format!(in alloc; "{{\"cache\":0,\"tenants\":[{all}]")?, NOT_JSON),
+        (
+            format!(in alloc; "{{\"cache\":0,\"tenants\":[{all}]")?,
+            NOT_JSON,
+        ),
     ];
     for (text, line) in &cases {
         assert_eq!(rt; line_of(alloc, text)?.as_str(), *line, "{text}");
@@ -151,14 +175,38 @@ fn count_of_tenants(rt: HostRuntime) -> Result<(), Fail> {
 #[test]
 fn faults_are_told(rt: HostRuntime) {
     let told = [
-        (ProgramFault::Usage, "usage: graphd run CONFIG | graphd serve CONFIG PORT COUNT", 2),
+        (
+            ProgramFault::Usage,
+            "usage: graphd run CONFIG | graphd serve CONFIG PORT COUNT",
+            2,
+        ),
         (ProgramFault::Unreadable, "cannot read the configuration", 2),
         (ProgramFault::Config(ConfigFault::NotJson), NOT_JSON, 2),
-        (ProgramFault::Config(ConfigFault::WrongShape), WRONG_SHAPE, 2),
-        (ProgramFault::Config(ConfigFault::OutOfRange), OUT_OF_RANGE, 2),
-        (ProgramFault::Config(ConfigFault::TokenTwice), TOKEN_TWICE, 2),
-        (ProgramFault::Config(ConfigFault::Memory), "out of memory", 1),
-        (ProgramFault::Ended(End::Cut), "input ended inside a frame", 1),
+        (
+            ProgramFault::Config(ConfigFault::WrongShape),
+            WRONG_SHAPE,
+            2,
+        ),
+        (
+            ProgramFault::Config(ConfigFault::OutOfRange),
+            OUT_OF_RANGE,
+            2,
+        ),
+        (
+            ProgramFault::Config(ConfigFault::TokenTwice),
+            TOKEN_TWICE,
+            2,
+        ),
+        (
+            ProgramFault::Config(ConfigFault::Memory),
+            "out of memory",
+            1,
+        ),
+        (
+            ProgramFault::Ended(End::Cut),
+            "input ended inside a frame",
+            1,
+        ),
         (ProgramFault::OutOfMemory, "out of memory", 1),
     ];
     for (fault, line, status) in &told {

@@ -4,7 +4,8 @@ use pg_server::{Config, Counted, End, Server, law_calls, law_one_reading, law_tw
 use std::alloc::{AllocError, Global};
 use std::test::Fail;
 
-const CONFIG: &str = "{\"cache\":4,\"tenants\":[{\"name\":\"A\",\"max_steps\":1000,\"max_elements\":10,\"tokens\":[{\"token\":\"a1\",\"rights\":\"write\"},{\"token\":\"a2\",\"rights\":\"read\"}]},{\"name\":\"B\",\"max_steps\":1000,\"max_elements\":10,\"tokens\":[{\"token\":\"b1\",\"rights\":\"write\"}]}]}";
+const CONFIG: &str =
+    "{\"cache\":4,\"tenants\":[{\"name\":\"A\",\"max_steps\":1000,\"max_elements\":10,\"tokens\":[{\"token\":\"a1\",\"rights\":\"write\"},{\"token\":\"a2\",\"rights\":\"read\"}]},{\"name\":\"B\",\"max_steps\":1000,\"max_elements\":10,\"tokens\":[{\"token\":\"b1\",\"rights\":\"write\"}]}]}";
 
 const BODIES: [&str; 5] = [
     "{\"op\":\"query\",\"token\":\"a1\",\"text\":\"\"}",
@@ -150,10 +151,14 @@ fn frame_that_is_too_long(rt: HostRuntime) -> Result<(), Fail> {
     Ok(())
 }
 
+fn blanks(alloc: Global, count: usize) -> Result<Vec<u8>, AllocError> {
+    Ok(vec![in alloc; b' '; count]?)
+}
+
 #[test]
 fn frame_of_the_greatest_length(rt: HostRuntime) -> Result<(), Fail> {
-    let mut input = vec![in rt.alloc(); b' '; 1_048_580]?;
-    input[..4].copy_from_slice(&[0, 16, 0, 0]);
+    let mut input = Vec::from_array(rt.alloc(), [0, 16, 0, 0])?;
+    input.extend_from_slice(&blanks(rt.alloc(), 1_048_576)?)?;
     let reader = reader_of(&input, 1_000_000, 0);
     let ran = served(rt.alloc(), reader, writer_of(rt.alloc(), 100, 0), 100)?;
     assert_eq!(rt; ran.end, End::Done);
@@ -165,9 +170,12 @@ fn frame_of_the_greatest_length(rt: HostRuntime) -> Result<(), Fail> {
 #[test]
 fn body_that_is_too_long(rt: HostRuntime) -> Result<(), Fail> {
     let mut server = new_server(rt.alloc())?;
-    let body = vec![in rt.alloc(); b' '; 1_048_577]?;
+    let body = blanks(rt.alloc(), 1_048_577)?;
     let reply = server.handle(&body);
-    assert_eq!(rt; reply.as_slice(), b"{\"code\":1,\"error\":\"FrameTooLong\"}".as_slice());
+    assert_eq!(rt;
+        reply.as_slice(),
+        b"{\"code\":1,\"error\":\"FrameTooLong\"}".as_slice()
+    );
     Ok(())
 }
 
@@ -180,7 +188,7 @@ fn serves_again_after_each_end(rt: HostRuntime) -> Result<(), Fail> {
     let mut server = new_server(rt.alloc())?;
     let cases = [
         (input.bytes.as_slice(), 0, 0, End::Done),
-        (&input.bytes[..6], 0, 0, End::Cut),
+        (&input.bytes[..input.bytes.len().min(6)], 0, 0, End::Cut),
         (too_long.as_slice(), 0, 0, End::TooLong),
         (input.bytes.as_slice(), 3, 0, End::ReadFailed),
         (input.bytes.as_slice(), 0, 2, End::WriteFailed),
@@ -192,7 +200,10 @@ fn serves_again_after_each_end(rt: HostRuntime) -> Result<(), Fail> {
         let mut reader = reader_of(&input.bytes, 10, 0);
         let mut writer = writer_of(rt.alloc(), 10, 0);
         assert_eq!(rt; server.run(&mut reader, &mut writer, u64::MAX), End::Done);
-        assert_eq!(rt; writer.into_inner().taken.as_slice(), output.bytes.as_slice());
+        assert_eq!(rt;
+            writer.into_inner().taken.as_slice(),
+            output.bytes.as_slice()
+        );
     }
     Ok(())
 }

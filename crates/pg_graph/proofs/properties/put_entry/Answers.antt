@@ -1,6 +1,6 @@
 use Rattle.std.proofs.Common.{◌≡◌, false, slice_set, Ok, Err, sym, ap, subst, ◌∙◌}
 use Rattle.pg_graph.specs.Records.{AreEntries, is_null}
-use Rattle.pg_graph.specs.Sorted.{IsPlace, put}
+use Rattle.pg_graph.specs.Sorted.{IsPlace}
 use Rattle.pg_graph.proofs.SortedLists.{all_put, put_found, put_missing, put_rises}
 use Rattle.pg_value_core.specs.View.{view}
 use Rattle.pg_graph.proofs.properties.put_entry.Goals as goal
@@ -9,7 +9,7 @@ pub returns-in-Ok-clause-ok : goal.returns-in-Ok-clause-ok
 returns-in-Ok-clause-ok c =
     let items = c.args.entries.now.items in
     let at : IsPlace (λ e. e.0) c.args.key items (Ok c.in-Ok.i) =
-        subst (λ k. IsPlace (λ e. e.0) k items (Ok c.in-Ok.i)) c.number.ensures (subst (λ xs. IsPlace (λ e. e.0) c.number.result xs (Ok c.in-Ok.i)) c.as_slice.ensures.value c.in-Ok.ensures) in
+    subst (λ k. IsPlace (λ e. e.0) k items (Ok c.in-Ok.i)) c.number.ensures (subst (λ xs. IsPlace (λ e. e.0) c.number.result xs (Ok c.in-Ok.i)) c.as_slice.ensures.value c.in-Ok.ensures) in
     ap (slice_set items c.in-Ok.i) c.replace.ensures.after
     ∙ sym (put_found (λ e. e.0) (c.args.key, c.args.value) items c.in-Ok.i c.requires.entries.0 at.0 at.1)
 
@@ -23,7 +23,7 @@ pub returns-in_ok-insert-in-Err-clause-ok : goal.returns-in_ok-insert-in-Err-cla
 returns-in_ok-insert-in-Err-clause-ok c =
     let items = c.args.entries.now.items in
     let at : IsPlace (λ e. e.0) c.args.key items (Err c.in-Err.i) =
-        subst (λ k. IsPlace (λ e. e.0) k items (Err c.in-Err.i)) c.number.ensures (subst (λ xs. IsPlace (λ e. e.0) c.number.result xs (Err c.in-Err.i)) c.as_slice.ensures.value c.in-Err.ensures) in
+    subst (λ k. IsPlace (λ e. e.0) k items (Err c.in-Err.i)) c.number.ensures (subst (λ xs. IsPlace (λ e. e.0) c.number.result xs (Err c.in-Err.i)) c.as_slice.ensures.value c.in-Err.ensures) in
     c.in_ok-insert-in-Err.ensures.items ∙ sym (put_missing (λ e. e.0) (c.args.key, c.args.value) items c.in-Err.i at.0 at.1)
 
 pub returns-in_ok-insert-in-Err-clause-entries : goal.returns-in_ok-insert-in-Err-clause-entries

@@ -10,7 +10,7 @@ returns-in-Ok-clause-ok g c =
     let items = c.args.items.now.items in
     let number = g.T.Numbered.number in
     let at : IsPlace number (number c.args.item) items (Ok c.in-Ok.i) =
-        subst (λ k. IsPlace number k items (Ok c.in-Ok.i)) c.number.ensures (subst (λ xs. IsPlace number c.number.result xs (Ok c.in-Ok.i)) c.as_slice.ensures c.in-Ok.ensures) in
+    subst (λ k. IsPlace number k items (Ok c.in-Ok.i)) c.number.ensures (subst (λ xs. IsPlace number c.number.result xs (Ok c.in-Ok.i)) c.as_slice.ensures c.in-Ok.ensures) in
     ap (λ xs. refill (length items) items (slice_set xs c.in-Ok.i c.args.item)) c.as_mut_slice.ensures.value
     ∙ refilled items _ (length-set items c.in-Ok.i c.args.item)
     ∙ sym (put_found number c.args.item items c.in-Ok.i c.requires at.0 at.1)
@@ -23,7 +23,7 @@ returns-in_ok-insert-in-Err-clause-ok g c =
     let items = c.args.items.now.items in
     let number = g.T.Numbered.number in
     let at : IsPlace number (number c.args.item) items (Err c.in-Err.i) =
-        subst (λ k. IsPlace number k items (Err c.in-Err.i)) c.number.ensures (subst (λ xs. IsPlace number c.number.result xs (Err c.in-Err.i)) c.as_slice.ensures c.in-Err.ensures) in
+    subst (λ k. IsPlace number k items (Err c.in-Err.i)) c.number.ensures (subst (λ xs. IsPlace number c.number.result xs (Err c.in-Err.i)) c.as_slice.ensures c.in-Err.ensures) in
     c.in_ok-insert-in-Err.ensures.ok ∙ sym (put_missing number c.args.item items c.in-Err.i at.0 at.1)
 
 pub returns-in_ok-insert-in-Err-clause-rises : goal.returns-in_ok-insert-in-Err-clause-rises

@@ -10,4 +10,4 @@ abbrev pub invariant-loop-rest : goal.invariant-loop-rest
 invariant-loop-rest l = shadow (Utf8 l.rest) × (length l.rest ≤ length l.text) × (joined (tokens_view l.found.items) (lex_at (length l.text - length l.rest) (characters l.rest)) ≡ lex (characters l.text))
 
 abbrev pub decreases-loop-rest : goal.decreases-loop-rest
-decreases-loop-rest l = length l.rest
+decreases-loop-rest l = length (characters l.rest)

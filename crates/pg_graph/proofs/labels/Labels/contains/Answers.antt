@@ -8,5 +8,5 @@ pub returns : goal.returns
 returns c =
     let names = c.self.inside.names.items in
     let at : IsPlace (λ n. n) c.args.name names c.place.result =
-        subst (λ k. IsPlace (λ n. n) k names c.place.result) c.number.ensures (subst (λ xs. IsPlace (λ n. n) c.number.result xs c.place.result) c.as_slice.ensures c.place.ensures) in
+    subst (λ k. IsPlace (λ n. n) k names c.place.result) c.number.ensures (subst (λ xs. IsPlace (λ n. n) c.number.result xs c.place.result) c.as_slice.ensures c.place.ensures) in
     c.is_ok.ensures.value ∙ any_placed (λ n. n) c.args.name names c.place.result at ∙ ap (list_any (λ n. n == c.args.name)) c.self.view_is

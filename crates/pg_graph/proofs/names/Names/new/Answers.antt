@@ -1,4 +1,4 @@
-use Rattle.std.proofs.Common.{[], map, sym, ap, subst}
+use Rattle.std.proofs.Common.{map, sym, ap, subst}
 use Rattle.std.specs.List.{IsDistinct}
 use Rattle.std.specs.String.{string_bytes}
 use Rattle.pg_graph.specs.Names.{AreDistinct}

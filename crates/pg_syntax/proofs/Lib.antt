@@ -1,0 +1,16 @@
+pub mod Agree
+pub mod AgreeQueries
+pub mod Contract
+pub mod Ends
+pub mod Fits
+pub mod Generic
+pub mod Items
+pub mod Operations
+pub mod Queries
+pub mod Rows
+pub mod Separated
+pub mod Spans
+pub mod Steps
+pub mod Terminals
+pub mod Turns
+pub mod Views

@@ -1,0 +1,49 @@
+-- The data that the program's trees stand for.
+use Rattle.std.specs.Prelude.{ℕ, List, [], ◌∷◌, map, Option, option_map, string_bytes, String}
+use Rattle.std.specs.declared.alloc.Global.{Global}
+use Rattle.pg_meaning.specs.Parse.{expressions_of}
+use Rattle.pg_meaning.specs.Value as value
+use Rattle.pg_meaning.specs.Tree as tree
+use Rattle.pg_syntax.specs.Plain.{plain_projection}
+use Rattle.pg_syntax.specs.PlainParse.{equal_to, within}
+use Rattle.pg_syntax.specs.declared.tree.Name.{Name}
+use Rattle.pg_syntax.specs.declared.tree.Literal.{Literal}
+use Rattle.pg_syntax.specs.declared.tree.Literal.TheVariants as literal
+use Rattle.pg_syntax.specs.declared.tree.Expression.{Expression, fold-Expression}
+use Rattle.pg_syntax.specs.declared.tree.Expression.TheOpen.{Expression-F}
+use Rattle.pg_syntax.specs.declared.tree.Item.{Item}
+use Rattle.pg_syntax.specs.declared.tree.Projection.{Projection}
+use Rattle.pg_syntax.specs.declared.tree.Clause.{Clause}
+use Rattle.pg_syntax.specs.declared.tree.Clause.TheVariants as clause
+use Rattle.pg_syntax.specs.declared.tree.Query.{Query}
+
+abbrev pub name_view : Name → tree.Name
+name_view n = record { text = string_bytes n.text; quoted = n.quoted; place = n.place }
+
+abbrev pub literal_view : Literal → value.Value
+literal_view literal.Null = value.null
+literal_view (literal.Boolean b) = value.boolean b
+literal_view (literal.Integer i) = value.integer i
+literal_view (literal.Text s) = value.text (string_bytes s)
+
+-- one level, with each expression inside already seen as its data
+abbrev pub view_step : Expression-F tree.Expression → tree.Expression
+view_step (Expression-F.Literal l) = tree.literal (literal_view l)
+view_step (Expression-F.ListLiteral xs) = tree.list_literal (expressions_of xs.items)
+view_step (Expression-F.Equal x y) = equal_to x.value y.value
+view_step (Expression-F.In x y) = within x.value y.value
+
+abbrev pub expression_view : Expression → tree.Expression
+expression_view = fold-Expression tree.Expression view_step
+
+abbrev pub item_view : Item → tree.Item
+item_view x = record { start = x.start; source = string_bytes x.source; value = expression_view x.value; alias = option_map name_view x.alias }
+
+abbrev pub projection_view : Projection → tree.Projection
+projection_view p = plain_projection (map item_view p.items.items)
+
+abbrev pub clause_view : Clause → tree.Clause
+clause_view (clause.Return p) = tree.return_rows (projection_view p)
+
+abbrev pub query_view : Query → tree.Query
+query_view q = record { clauses = map clause_view q.clauses.items; semicolon = q.semicolon }

@@ -1,0 +1,12 @@
+//! From tokens to trees.
+#![tactic(auto)]
+
+mod cursor;
+mod depth;
+mod error;
+mod grammar;
+mod query;
+mod tree;
+
+pub use query::{law_of_plain_texts, law_one_reading, parse};
+pub use tree::{Clause, Expression, Item, Literal, Name, Projection, Query};

@@ -1,0 +1,54 @@
+//! The syntax tree of a query.
+
+/// A name, decoded, and where its token begins.
+#[derive(Debug, PartialEq, Eq, Drop)]
+pub struct Name {
+    pub text: String,
+    pub quoted: bool,
+    pub place: usize,
+}
+
+/// A value as a text can write it.
+#[derive(Debug, PartialEq, Eq, Drop)]
+pub enum Literal {
+    Null,
+    Boolean(bool),
+    Integer(i64),
+    Text(String),
+}
+
+#[derive(Debug, PartialEq, Eq, Drop)]
+pub enum Expression {
+    Literal(Literal),
+    ListLiteral(Vec<Expression>),
+    /// The two sides of `=`.
+    Equal(Box<Expression>, Box<Expression>),
+    /// An item and a list.
+    In(Box<Expression>, Box<Expression>),
+}
+
+/// An item of RETURN: where it begins, its expression as written and as read, and its alias.
+#[derive(Debug, PartialEq, Eq, Drop)]
+pub struct Item {
+    pub start: usize,
+    pub source: String,
+    pub value: Expression,
+    pub alias: Option<Name>,
+}
+
+/// What stands behind RETURN.
+#[derive(Debug, PartialEq, Eq, Drop)]
+pub struct Projection {
+    pub items: Vec<Item>,
+}
+
+#[derive(Debug, PartialEq, Eq, Drop)]
+pub enum Clause {
+    Return(Projection),
+}
+
+#[derive(Debug, PartialEq, Eq, Drop)]
+pub struct Query {
+    pub clauses: Vec<Clause>,
+    pub semicolon: bool,
+}

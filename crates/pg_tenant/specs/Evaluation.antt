@@ -1,0 +1,20 @@
+-- What an expression of a query without variables, parameters and elements gives.
+use Rattle.std.specs.Prelude.{List, [], map, Result}
+use Rattle.pg_meaning.specs.Answer.{Answer}
+use Rattle.pg_meaning.specs.Expressions.{evaluate, evaluate_each}
+use Rattle.pg_meaning.specs.Graph.{empty_graph}
+use Rattle.pg_meaning.specs.Parse.{expressions_of}
+use Rattle.pg_meaning.specs.Tree.{Expression, Expressions}
+use Rattle.pg_meaning.specs.Value.{Values, no_entries}
+use Rattle.pg_meaning.specs.declared.fault.Fault.{Fault}
+use Rattle.pg_syntax.specs.View.{expression_view}
+use Rattle.pg_syntax.specs.declared.tree.Expression.{Expression as Code}
+
+abbrev pub expressions_view : List Code → Expressions
+expressions_view xs = expressions_of (map expression_view xs)
+
+abbrev pub given : Expression → Answer
+given e = evaluate [] no_entries empty_graph e
+
+abbrev pub all_given : Expressions → Result Values Fault
+all_given es = evaluate_each [] no_entries empty_graph es

@@ -1,0 +1,92 @@
+"""The program graphd, built by the repository's toolchain where it isn't built yet."""
+import os
+import shutil
+import struct
+import subprocess
+import sys
+from pathlib import Path
+
+ROOT = Path(__file__).resolve().parent.parent
+CRATE = ROOT / "crates" / "graphd"
+PROGRAM = CRATE / "out" / "graphd"
+# written by the toolchain once the program was proved and built
+STAMP = CRATE / "out" / "graphd.stamp"
+LOG = CRATE / "out" / "build.log"
+
+
+class Failed(Exception):
+    """What a person is told where nothing more can be done."""
+
+
+def sources():
+    yield ROOT / "crates.txt"
+    for folder in (ROOT / "crates").iterdir():
+        yield from (folder / "src").rglob("*.rt")
+
+
+def is_built():
+    if not (PROGRAM.is_file() and STAMP.is_file()):
+        return False
+    built = PROGRAM.stat().st_mtime
+    return all(source.stat().st_mtime <= built for source in sources())
+
+
+def build():
+    """Builds the program, which proves it and all below it first."""
+    if shutil.which("rt") is None:
+        raise Failed("the Rattle toolchain's command 'rt' is not on the PATH, so graphd can't be built")
+    print(f"building graphd: all of it is proved first, which takes minutes (log: {LOG})", file=sys.stderr)
+    LOG.parent.mkdir(exist_ok=True)
+    with open(LOG, "wb") as log:
+        # Without words the program only tells its usage.
+        status = subprocess.run(["rt", "run"], cwd=CRATE, stdin=subprocess.DEVNULL, stdout=log, stderr=log)
+    if not (PROGRAM.is_file() and STAMP.is_file()):
+        end = LOG.read_text(errors="replace").splitlines()[-15:]
+        raise Failed("\n".join([f"graphd was not built (rt run ended with {status.returncode}):", *end]))
+    os.utime(PROGRAM)
+
+
+def program():
+    """The path of the built program."""
+    if not is_built():
+        build()
+    return PROGRAM
+
+
+class Session:
+    """A running graphd, which answers a frame at a time."""
+
+    def __init__(self, config):
+        command = [str(program()), "run", str(config)]
+        pipe = subprocess.PIPE
+        self.child = subprocess.Popen(command, stdin=pipe, stdout=pipe, stderr=pipe)
+
+    def ask(self, body):
+        """The reply to a request, both as bytes."""
+        try:
+            self.child.stdin.write(struct.pack(">I", len(body)) + body)
+            self.child.stdin.flush()
+        except BrokenPipeError:
+            raise Failed(self.last_words()) from None
+        length = self.take(4)
+        return self.take(int.from_bytes(length, "big"))
+
+    def take(self, count):
+        taken = self.child.stdout.read(count)
+        if len(taken) < count:
+            raise Failed(self.last_words())
+        return taken
+
+    def last_words(self):
+        """What graphd told before it ended."""
+        self.child.stdin = None
+        told = self.child.communicate()[1].decode(errors="replace").strip()
+        return told or f"graphd ended with status {self.child.returncode} and told nothing"
+
+    def close(self):
+        """Lets graphd end, and gives its status."""
+        if self.child.stdin:
+            self.child.stdin.close()
+        told = self.child.stderr.read().decode(errors="replace")
+        sys.stderr.write(told)
+        return self.child.wait()

@@ -1,5 +1,5 @@
 -- How the one answer and the meaning agree: what is said of a clause, and of a whole query.
-use Rattle.std.specs.Prelude.{◌≡◌, ℕ, Bool, ◌⊎◌, List, [], Result, Ok, Err, is_some}
+use Rattle.std.specs.Prelude.{◌≡◌, ℕ, ◌⊎◌, List, [], Result, Ok, Err, is_some}
 use Rattle.std.specs.List.{AllByRecursion}
 use Rattle.pg_meaning.specs.Graph.{Graph, IsGraph}
 use Rattle.pg_meaning.specs.Meaning.{given_of, Step, StepFaults, Means, MayFault}

@@ -1,18 +1,18 @@
 -- A query agrees with its meaning where its clauses do: the chain of answers is a chain of steps.
-use Rattle.std.proofs.Common.{◌≡◌, ℕ, Bool, true, false, ◌⊎◌, inl, inr, List, [], ◌∷◌, ◌++◌, map, flat_map, Result, Ok, Err, is_some, length, ◌+◌, nat_le, bytes_eq, refl, sym, ap, subst, ◌∙◌}
+use Rattle.std.proofs.Common.{◌≡◌, ℕ, Bool, true, false, ◌⊎◌, inl, inr, List, [], ◌∷◌, ◌++◌, flat_map, Result, Ok, Err, refl, subst}
 use Rattle.std.specs.List.{AllByRecursion}
-use Rattle.pg_meaning.specs.Agreement.{given, AreRowsOf, AnswerAgrees, ClauseAgrees, OutcomeAgrees, QueryAgrees, ClausesMakeQueries}
+use Rattle.pg_meaning.specs.Agreement.{AreRowsOf, AnswerAgrees, ClauseAgrees, OutcomeAgrees, ClausesMakeQueries}
 use Rattle.pg_meaning.specs.Answer.{◌>>=◌, ◌>>◌, unless, each_step}
 use Rattle.pg_meaning.specs.Graph.{Graph, IsGraph, has_node, has_relationship}
 use Rattle.pg_meaning.specs.Lists.{IsIn}
-use Rattle.pg_meaning.specs.Meaning.{given_of, Step, StepFaults, Steps, StepsFault, Means, MayFault, output_of}
-use Rattle.pg_meaning.specs.Meters.{Setting, State, Quota, spend}
-use Rattle.pg_meaning.specs.Names.{Names, is_among}
-use Rattle.pg_meaning.specs.Plans.{Plan, Anchor, ArePlanned, IsPlanFrom, IsPlanOf}
-use Rattle.pg_meaning.specs.Queries.{Outcome, clause_step, clauses_run, ordered, output_rows, returns, test_output, test_present, test_ids, test_items, test_entries}
+use Rattle.pg_meaning.specs.Meaning.{Steps, StepsFault, output_of}
+use Rattle.pg_meaning.specs.Meters.{Setting, State, Quota}
+use Rattle.pg_meaning.specs.Names.{Names}
+use Rattle.pg_meaning.specs.Plans.{Plan, Anchor, IsPlanFrom}
+use Rattle.pg_meaning.specs.Queries.{Outcome, clause_step, clauses_run, output_rows, returns, test_output, test_present, test_ids, test_items, test_entries}
 use Rattle.pg_meaning.specs.Rows.{Row}
 use Rattle.pg_meaning.specs.Scopes.{scope_after, columns}
-use Rattle.pg_meaning.specs.StaticFaults.{Found, clause_faults, clauses_faults, static_faults}
+use Rattle.pg_meaning.specs.StaticFaults.{clause_faults, clauses_faults, static_faults}
 use Rattle.pg_meaning.specs.Tree.{Clause, Query}
 use Rattle.pg_meaning.specs.Value.{Value, null, boolean, integer, text, list, mapping, node, relationship, path, Values, no_items, item, Entries, no_entries, entry}
 use Rattle.pg_meaning.specs.declared.fault.Fault.{Fault}

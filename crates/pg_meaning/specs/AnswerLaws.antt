@@ -1,7 +1,7 @@
 -- What an answer that went well, and one that didn't, says of its parts.
-use Rattle.std.proofs.Common.{◌≡◌, Bool, true, false, ◌⊎◌, inl, inr, List, [], ◌∷◌, Result, Ok, Err, refl, sym, ap, subst, ◌∙◌}
-use Rattle.std.specs.List.{AllByRecursion, AllZip}
-use Rattle.pg_meaning.specs.Answer.{◌>>=◌, each_answer, each_step}
+use Rattle.std.proofs.Common.{◌≡◌, ◌⊎◌, inl, inr, List, [], ◌∷◌, Result, Ok, Err, refl, ap, subst}
+use Rattle.std.specs.List.{AllZip}
+use Rattle.pg_meaning.specs.Answer.{◌>>=◌, each_answer}
 use Rattle.pg_meaning.specs.Lists.{IsIn}
 use Rattle.pg_meaning.specs.declared.fault.Fault.{Fault}
 

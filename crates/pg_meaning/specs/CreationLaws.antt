@@ -1,14 +1,13 @@
 -- CREATE of one node agrees with its meaning.
-use Rattle.std.proofs.Common.{◌≡◌, ℕ, ◌+◌, ◌*◌, ◌<◌, ◌≤◌, max, nat_lt, Bool, true, false, cond, ◌||◌, ◌⊎◌, inl, inr, List, [], ◌∷◌, ◌++◌, map, length, Option, Some, None, is_some, bytes_eq, Result, Ok, Err, refl, sym, ap, subst, ◌∙◌, arith, append_assoc, append-nil, add-zero, le_refl, le_trans, lt_irrefl, ltb→lt, nltb→le, T, not, IsTrue, ◌≢◌, Less, Equal, Greater}
+use Rattle.std.proofs.Common.{◌≡◌, ℕ, ◌+◌, ◌*◌, ◌<◌, ◌≤◌, max, nat_lt, Bool, true, false, cond, ◌||◌, inl, inr, List, [], ◌∷◌, ◌++◌, length, Option, Some, None, is_some, bytes_eq, Result, Ok, Err, refl, sym, ap, subst, ◌∙◌, arith, append_assoc, append-nil, add-zero, le_refl, le_trans, lt_irrefl, ltb→lt, nltb→le, T, not, IsTrue, ◌≢◌, Less, Equal, Greater}
 use Rattle.std.proofs.Math.Nat.{le-max_left, le-max_right}
 use Rattle.std.specs.FinMap.Entries as by_id
 use Rattle.std.specs.Ordering.{nat_cmp}
 use Rattle.std.specs.List.{AllByRecursion}
-use Rattle.std.specs.Map.{lookup}
 use Rattle.pg_meaning.specs.Agreement.{given, AreRowsOf, AnswerAgrees, ClauseAgrees, QueryAgrees}
 use Rattle.pg_meaning.specs.AgreementLaws.{clauses_make_queries}
 use Rattle.pg_meaning.specs.Answer.{◌>>=◌, ◌>>◌, unless, each_step}
-use Rattle.pg_meaning.specs.AnswerLaws.{by_answer, went_well, went_wrong, same_ok}
+use Rattle.pg_meaning.specs.AnswerLaws.{by_answer, went_well, same_ok}
 use Rattle.pg_meaning.specs.Entries.{are_rising, set_keys}
 use Rattle.pg_meaning.specs.EntriesLaws.{set_keys_keeps_rising}
 use Rattle.pg_meaning.specs.Graph.{Graph, Node, IsGraph, has_node, element_count, add_node}
@@ -41,7 +40,7 @@ bound_behind q name v (b ∷ row) =
       | false ↦ bound_behind q name v row
     ]
 
-among_behind : (q name : List ℕ) (names : Names) → is_among (names ++ name ∷ []) q ≡ (is_among names q || bytes_eq q name)
+pub among_behind : (q name : List ℕ) (names : Names) → is_among (names ++ name ∷ []) q ≡ (is_among names q || bytes_eq q name)
 among_behind q name [] = elim (bytes_eq q name) as (λ b. (b || false) ≡ b) [ true ↦ refl | false ↦ refl ]
 among_behind q name (m ∷ names) =
     elim (bytes_eq q m) as (λ c. (c || is_among (names ++ name ∷ []) q) ≡ ((c || is_among names q) || bytes_eq q name)) [ true ↦ refl | false ↦ among_behind q name names ]
@@ -72,7 +71,7 @@ TurnsAgree s paths state rows (Ok next) =
     (results : List Row) × (next.rows ≡ state.rows ++ results) × RowByRow (CreateRow (given s) paths) state.graph rows next.graph results × IsGraph next.graph × AreRowsOf (add_path_names paths s.scope) results
 TurnsAgree s paths state rows (Err f) = AtSomeTurn (CreateRow (given s) paths) (CreateFaults (given s) paths) state.graph rows f
 
-all_joined : (P : Row → Type 0) (xs ys : List Row) → AllByRecursion P xs → AllByRecursion P ys → AllByRecursion P (xs ++ ys)
+pub all_joined : (P : Row → Type 0) (xs ys : List Row) → AllByRecursion P xs → AllByRecursion P ys → AllByRecursion P (xs ++ ys)
 all_joined P [] ys g h = h
 all_joined P (x ∷ xs) ys g h = (g.0, all_joined P xs ys g.1 h)
 

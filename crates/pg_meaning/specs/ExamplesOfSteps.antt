@@ -1,14 +1,14 @@
 -- Small instances of each clause's step, of what a query means, of its faults and of the one answer: of each one that holds and one that doesn't.
-use Rattle.std.proofs.Common.{◌≡◌, ◌≢◌, ℕ, length, bytes_eq, ◌<◌, ◌≤◌, ◌+◌, ◌^◌, ◌-◌, ◌==◌, Bool, true, false, ◌⊎◌, inl, inr, cond, List, [], ◌∷◌, ◌++◌, map, Option, Some, None, Result, Ok, Err, codes, pos, refl, sym, ap, subst, ◌∙◌, arith}
+use Rattle.std.proofs.Common.{◌≡◌, ◌≢◌, ℕ, length, bytes_eq, ◌<◌, ◌+◌, ◌^◌, ◌-◌, ◌==◌, Bool, true, false, ◌⊎◌, inl, inr, cond, List, [], ◌∷◌, ◌++◌, map, Option, Some, None, Result, Ok, Err, codes, pos, refl, sym, ap, subst, ◌∙◌, arith}
 use Rattle.std.specs.List.{AllZip}
 use Rattle.pg_meaning.specs.AnswerLaws.{same_ok}
 use Rattle.pg_meaning.specs.Entries.{value_at}
 use Rattle.pg_meaning.specs.ExampleTrees.{named, var, number, node_place, path_of, column, project, query_of}
-use Rattle.pg_meaning.specs.ExamplesOfFits.{not_true, one_node, bare_node, pair_graph, alone, at_zero, alone_fits, only_zero}
+use Rattle.pg_meaning.specs.ExamplesOfFits.{not_true, bare_node, pair_graph, alone, at_zero, alone_fits, only_zero}
 use Rattle.pg_meaning.specs.Graph.{Graph, Node, empty_graph, add_node, node_at, remove_elements}
 use Rattle.pg_meaning.specs.GraphLaws.{empty_is_graph, add_node_keeps_graph}
 use Rattle.pg_meaning.specs.Lists.{IsIn}
-use Rattle.pg_meaning.specs.Meaning.{given_of, Step, MatchRow, UnwindRow, Passing, Projects, CreateRow, CreateFaults, MergeRow, MergeMatched, MergeMade, IsTrailOf, new_places, all_placed, Means, MayFault, Ordered}
+use Rattle.pg_meaning.specs.Meaning.{given_of, Step, MatchRow, UnwindRow, Passing, Projects, CreateRow, CreateFaults, MergeMatched, MergeMade, IsTrailOf, new_places, all_placed, Means, MayFault, Ordered}
 use Rattle.pg_meaning.specs.Meters.{Setting}
 use Rattle.pg_meaning.specs.Names.{Names}
 use Rattle.pg_meaning.specs.Order.{is_equivalent}

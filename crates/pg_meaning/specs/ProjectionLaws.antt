@@ -1,9 +1,8 @@
 -- WITH and RETURN agree with their meaning: items without aggregates, DISTINCT, SKIP, LIMIT and WHERE.
-use Rattle.std.proofs.Common.{◌≡◌, ℕ, ◌+◌, zero, suc, Bool, true, false, not, cond, ◌||◌, ◌&&◌, ◌⊎◌, inl, inr, List, [], ◌∷◌, ◌++◌, map, length, take, drop, Option, Some, None, is_some, is_eq, bytes_eq, Result, Ok, Err, refl, sym, ap, subst, ◌∙◌, true≢false}
+use Rattle.std.proofs.Common.{◌≡◌, ℕ, ◌+◌, zero, suc, Bool, true, false, cond, ◌||◌, ◌&&◌, ◌⊎◌, inl, inr, List, [], ◌∷◌, ◌++◌, map, length, take, drop, Option, Some, None, is_some, bytes_eq, Result, Ok, Err, refl, sym, ap, subst, ◌∙◌}
 use Rattle.std.specs.Cmp.{eq_by_cmp_equiv}
 use Rattle.std.specs.List.{AllByRecursion, AllZip, list_any}
 use Rattle.std.specs.Map.{lookup}
-use Rattle.std.specs.Ordering.{eq_by_cmp}
 use Rattle.pg_meaning.specs.Aggregates.{Aggregate, aggregate_of}
 use Rattle.pg_meaning.specs.Agreement.{given, AreRowsOf, AnswerAgrees, ClauseAgrees, QueryAgrees}
 use Rattle.pg_meaning.specs.AgreementLaws.{clauses_make_queries}
@@ -13,15 +12,14 @@ use Rattle.pg_meaning.specs.Conditions.{condition}
 use Rattle.pg_meaning.specs.Expressions.{evaluate}
 use Rattle.pg_meaning.specs.Graph.{Graph, IsGraph}
 use Rattle.pg_meaning.specs.Lists.{IsIn, AllPairsByRecursion}
-use Rattle.pg_meaning.specs.Meaning.{Items, Groups, OneOfEach, Distinct, Passing, Projects, ItemFaults, ArgumentFaults, AtSomeRow, PassingFaults, ProjectFaults}
+use Rattle.pg_meaning.specs.Meaning.{Items, Groups, Distinct, Passing, Projects, ItemFaults, ArgumentFaults, AtSomeRow, PassingFaults, ProjectFaults}
 use Rattle.pg_meaning.specs.Meters.{Setting, State, spend}
 use Rattle.pg_meaning.specs.Names.{Names, is_among, in_byte_order}
-use Rattle.pg_meaning.specs.Order.{value_order, is_equivalent}
 use Rattle.pg_meaning.specs.OrderLaws.{order_total}
-use Rattle.pg_meaning.specs.Projections.{Projected, visible, column_value, projected, grouped, item_rows, count_given, skipped, limited, same_values, firsts, distinct_rows, ordered_rows, passing_rows, project_clause}
+use Rattle.pg_meaning.specs.Projections.{Projected, visible, column_value, projected, grouped, item_rows, count_given, skipped, limited, same_values, firsts, distinct_rows, passing_rows, project_clause}
 use Rattle.pg_meaning.specs.Rows.{Row, value_in, values_in}
-use Rattle.pg_meaning.specs.Scopes.{Column, is_aggregate, variable_column, star_columns, with_column, return_column, with_columns, return_columns, column_names}
-use Rattle.pg_meaning.specs.Tree.{Expression, Item, SortItem, Projection, with_rows, return_rows}
+use Rattle.pg_meaning.specs.Scopes.{Column, is_aggregate, variable_column, star_columns, with_column, return_column, column_names}
+use Rattle.pg_meaning.specs.Tree.{Expression, Item, Projection, with_rows, return_rows}
 use Rattle.pg_meaning.specs.Value.{Value}
 use Rattle.pg_meaning.specs.declared.fault.Fault.{Fault}
 use Rattle.pg_meaning.specs.declared.fault.Fault.TheVariants.{StepQuota}
@@ -202,7 +200,7 @@ firsts_once seen (p ∷ ps) =
       )
     ]
 
-all_in_themselves : {X : Type 0} (xs : List X) → AllByRecursion (λ x. IsIn x xs) xs
+pub all_in_themselves : {X : Type 0} (xs : List X) → AllByRecursion (λ x. IsIn x xs) xs
 all_in_themselves [] = tt
 all_in_themselves {X} (x ∷ xs) = (inl refl, later xs xs (all_in_themselves xs))
   where

@@ -343,7 +343,14 @@ pub create_node_agrees : CreateNodeAgrees
 create_node_agrees variable n s state faults planned g h =
     rows_make_create s (record { variable = variable; first = n; hops = [] } ∷ []) (λ state row. row_agrees s variable n state row) state g h
 
--- and so do queries of one such CREATE and a RETURN
+-- and so do queries of one such CREATE alone
+abbrev pub CreateAloneAgrees : Type 0
+CreateAloneAgrees = (variable : Option Name) (n : NodePattern) (semicolon : Bool) → QueryAgrees (record { clauses = create (record { variable = variable; first = n; hops = [] } ∷ []) ∷ []; semicolon = semicolon })
+
+pub create_alone_agrees : CreateAloneAgrees
+create_alone_agrees variable n semicolon = clauses_make_queries (record { clauses = create (record { variable = variable; first = n; hops = [] } ∷ []) ∷ []; semicolon = semicolon }) (create_node_agrees variable n, tt)
+
+-- and those with a RETURN behind it
 abbrev pub CreateQueriesAgree : Type 0
 CreateQueriesAgree =
     (variable : Option Name) (n : NodePattern) (distinct : Bool) (star : Option ℕ) (items : List Item) (skip limit : Option Expression) (semicolon : Bool) → AreSingle items

@@ -4,7 +4,7 @@ use Rattle.pg_meaning.specs.ExampleTrees.{named, var, number, string, dot, node_
 use Rattle.pg_meaning.specs.Tree.{literal, parameter, list_literal, call, chain, signs, no_expressions, expression, no_operands, operand, no_properties, match_paths, unwind, create, delete, with_rows, return_rows, Query}
 use Rattle.pg_meaning.specs.Value.{null, boolean, integer, text, list, no_entries, entry, values_of}
 use Rattle.pg_meaning.specs.declared.fault.Fault.TheVariants.{TypeFault, Overflow, DivisionByZero, DeletedEntity, NegativeCount}
-use Rattle.pg_meaning.specs.declared.operators.Operator.TheVariants.{Greater, Minus, Divide}
+use Rattle.pg_meaning.specs.declared.operators.Operator.TheVariants.{Less, Greater, Minus, Divide}
 use Rattle.pg_meaning.specs.declared.operators.Sort.TheVariants.{Desc}
 
 -- MATCH (n:Nobody) RETURN count(*), sum(n.x), collect(n.x), max(n.x)
@@ -213,5 +213,15 @@ Example_15 =
     told (ask [] 1000 query_28 no_entries ∷ ask [] 1000 query_29 no_entries ∷ [])
     ≡ (answered ((codes "x") ∷ []) [] 0 ∷ refused TypeFault ∷ [])
 
+-- UNWIND [1,2] AS x WITH 0 - x AS x ORDER BY x WHERE x < 0 RETURN x
+abbrev pub query_30 : Query
+query_30 = query_of (unwind (list_literal (expression (number 1) (expression (number 2) no_expressions))) (named "x") ∷ with_rows (project false None ((column (codes "0 - x") (chain (number 0) (operand Minus (var "x") no_operands)) (Some (named "x"))) ∷ []) ((sort_by (var "x") None) ∷ []) None None) (Some (chain (var "x") (operand Less (number 0) no_operands))) ∷ return_rows (project false None ((column (codes "x") (var "x") None) ∷ []) [] None None) ∷ [])
+
+-- a column hides the earlier variable of its name
+abbrev pub Example_16 : Type 0
+Example_16 =
+    told (ask [] 1000 query_30 no_entries ∷ [])
+    ≡ (answered ((codes "x") ∷ []) (((integer (neg_ℤ (pos 2))) ∷ []) ∷ ((integer (neg_ℤ (pos 1))) ∷ []) ∷ []) 6 ∷ [])
+
 abbrev pub ExamplesOfProjections : Type 0
-ExamplesOfProjections = Example_1 × Example_2 × Example_3 × Example_4 × Example_5 × Example_6 × Example_7 × Example_8 × Example_9 × Example_10 × Example_11 × Example_12 × Example_13 × Example_14 × Example_15
+ExamplesOfProjections = Example_1 × Example_2 × Example_3 × Example_4 × Example_5 × Example_6 × Example_7 × Example_8 × Example_9 × Example_10 × Example_11 × Example_12 × Example_13 × Example_14 × Example_15 × Example_16

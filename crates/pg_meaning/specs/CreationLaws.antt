@@ -13,6 +13,7 @@ use Rattle.pg_meaning.specs.EntriesLaws.{set_keys_keeps_rising}
 use Rattle.pg_meaning.specs.Graph.{Graph, Node, IsGraph, has_node, element_count, add_node}
 use Rattle.pg_meaning.specs.GraphLaws.{add_node_keeps_graph, add_node_adds}
 use Rattle.pg_meaning.specs.Lists.{AllPairsByRecursion}
+use Rattle.pg_meaning.specs.ListsLaws.{all_joined}
 use Rattle.pg_meaning.specs.Meaning.{CreateRow, CreateFaults, IsMadeNode, new_nodes, RowByRow, AtSomeTurn}
 use Rattle.pg_meaning.specs.Meters.{Setting, State, spend, greatest_id}
 use Rattle.pg_meaning.specs.Names.{Names, is_among, add_name, in_byte_order}
@@ -70,10 +71,6 @@ abbrev TurnsAgree : Setting → List PathPattern → State → List Row → Resu
 TurnsAgree s paths state rows (Ok next) =
     (results : List Row) × (next.rows ≡ state.rows ++ results) × RowByRow (CreateRow (given s) paths) state.graph rows next.graph results × IsGraph next.graph × AreRowsOf (add_path_names paths s.scope) results
 TurnsAgree s paths state rows (Err f) = AtSomeTurn (CreateRow (given s) paths) (CreateFaults (given s) paths) state.graph rows f
-
-pub all_joined : (P : Row → Type 0) (xs ys : List Row) → AllByRecursion P xs → AllByRecursion P ys → AllByRecursion P (xs ++ ys)
-all_joined P [] ys g h = h
-all_joined P (x ∷ xs) ys g h = (g.0, all_joined P xs ys g.1 h)
 
 module _ (s : Setting) (paths : List PathPattern) (each : (state : State) (row : Row) → IsGraph state.graph → BindsOnly s.scope row → RowAgrees s paths state row (create_row s paths state row)) where
   one_turn : (rows : List Row) (state : State) (row : Row) (r : Result State Fault) → RowAgrees s paths state row r

@@ -9,6 +9,7 @@ use Rattle.std.specs.List.Sorted.{IsStrictlySortedBy}
 use Rattle.std.specs.Ordering.{nat_cmp, eq_by_cmp}
 use Rattle.pg_meaning.specs.Entries.{are_rising}
 use Rattle.pg_meaning.specs.Graph.{Graph, Node, Relationship, IsGraph, empty_graph, node_at, relationship_at, has_node, contains_id, add_node, add_relationship, change_node, change_relationship, remove_elements}
+use Rattle.pg_meaning.specs.ListsLaws.{all_weaker, all_both}
 use Rattle.pg_meaning.specs.Names.{in_byte_order}
 use Rattle.pg_meaning.specs.NamesLaws.{in_byte_order_rises}
 use Rattle.pg_meaning.specs.Order.{text_order}
@@ -63,14 +64,6 @@ module _ {X : Type 0} where
         | Equal ↦ λ r. (subst (λ n. P (n, v)) (nat_cmp-IsAntisymmetric k e.0 r) p, h.1)
         | Greater ↦ λ r. (h.0, all_put P k v es p h.1)
       ] refl
-
-  all_weaker : (P Q : ℕ × X → Type 0) → ((e : ℕ × X) → P e → Q e) → (es : List (ℕ × X)) → AllByRecursion P es → AllByRecursion Q es
-  all_weaker P Q f [] h = tt
-  all_weaker P Q f (e ∷ es) h = (f e h.0, all_weaker P Q f es h.1)
-
-  all_both : (P Q : ℕ × X → Type 0) (es : List (ℕ × X)) → AllByRecursion P es → AllByRecursion Q es → AllByRecursion (λ e. P e × Q e) es
-  all_both P Q [] g h = tt
-  all_both P Q (e ∷ es) g h = ((g.0, h.0), all_both P Q es g.1 h.1)
 
   all_where : (P : ℕ × X → Type 0) (p : ℕ → Bool) (es : List (ℕ × X)) → AllByRecursion P es → AllByRecursion P (by_id.where_key nat_cmp p es)
   all_where P p [] h = tt

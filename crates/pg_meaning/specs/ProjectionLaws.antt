@@ -12,6 +12,7 @@ use Rattle.pg_meaning.specs.Conditions.{condition}
 use Rattle.pg_meaning.specs.Expressions.{evaluate}
 use Rattle.pg_meaning.specs.Graph.{Graph, IsGraph}
 use Rattle.pg_meaning.specs.Lists.{IsIn, AllPairsByRecursion}
+use Rattle.pg_meaning.specs.ListsLaws.{all_weaker, all_in_themselves}
 use Rattle.pg_meaning.specs.Meaning.{Items, Groups, Distinct, Passing, Projects, ItemFaults, ArgumentFaults, AtSomeRow, PassingFaults, ProjectFaults}
 use Rattle.pg_meaning.specs.Meters.{Setting, State, spend}
 use Rattle.pg_meaning.specs.Names.{Names, is_among, in_byte_order}
@@ -168,17 +169,13 @@ kept_later p seen kept r (inl h) = by_first (same_values (values_in r.columns) (
     by_first true e = inr (p, inl refl, e)
     by_first false e = inl (sym (ap (λ b. b || Among r seen) e) ∙ h)
 
-all_later : (P Q : Projected → Type 0) → ((p : Projected) → P p → Q p) → (ps : List Projected) → AllByRecursion P ps → AllByRecursion Q ps
-all_later P Q f [] h = tt
-all_later P Q f (p ∷ ps) h = (f p h.0, all_later P Q f ps h.1)
-
 firsts_each : (seen : List (List Value)) (ps : List Projected) → AllByRecursion (Kept seen (firsts seen ps)) ps
 unfolding Kept
 firsts_each seen [] = tt
 firsts_each seen (p ∷ ps) =
     elim (Among p seen) as (λ b. Among p seen ≡ b → AllByRecursion (Kept seen (elim b [ true ↦ firsts seen ps | false ↦ p ∷ firsts (values_in p.columns ∷ seen) ps ])) (p ∷ ps)) [
       | true ↦ λ e. (inl e, firsts_each seen ps)
-      | false ↦ λ e. (inr (p, inl refl, same_itself (values_in p.columns)), all_later (Kept (values_in p.columns ∷ seen) (firsts (values_in p.columns ∷ seen) ps)) (Kept seen (p ∷ firsts (values_in p.columns ∷ seen) ps)) (kept_later p seen (firsts (values_in p.columns ∷ seen) ps)) ps (firsts_each (values_in p.columns ∷ seen) ps))
+      | false ↦ λ e. (inr (p, inl refl, same_itself (values_in p.columns)), all_weaker (Kept (values_in p.columns ∷ seen) (firsts (values_in p.columns ∷ seen) ps)) (Kept seen (p ∷ firsts (values_in p.columns ∷ seen) ps)) (kept_later p seen (firsts (values_in p.columns ∷ seen) ps)) ps (firsts_each (values_in p.columns ∷ seen) ps))
     ] refl
 
 firsts_unseen : (seen : List (List Value)) (ps : List Projected) → AllByRecursion (λ q. Among q seen ≡ false) (firsts seen ps)
@@ -186,7 +183,7 @@ firsts_unseen seen [] = tt
 firsts_unseen seen (p ∷ ps) =
     elim (Among p seen) as (λ b. Among p seen ≡ b → AllByRecursion (λ q. Among q seen ≡ false) (elim b [ true ↦ firsts seen ps | false ↦ p ∷ firsts (values_in p.columns ∷ seen) ps ])) [
       | true ↦ λ e. firsts_unseen seen ps
-      | false ↦ λ e. (e, all_later (λ q. Among q (values_in p.columns ∷ seen) ≡ false) (λ q. Among q seen ≡ false) (λ q h. (or_false _ _ h).1) (firsts (values_in p.columns ∷ seen) ps) (firsts_unseen (values_in p.columns ∷ seen) ps))
+      | false ↦ λ e. (e, all_weaker (λ q. Among q (values_in p.columns ∷ seen) ≡ false) (λ q. Among q seen ≡ false) (λ q h. (or_false _ _ h).1) (firsts (values_in p.columns ∷ seen) ps) (firsts_unseen (values_in p.columns ∷ seen) ps))
     ] refl
 
 firsts_once : (seen : List (List Value)) (ps : List Projected) → AllPairsByRecursion (λ p q. same_values (values_in p.columns) (values_in q.columns) ≡ false) (firsts seen ps)
@@ -195,24 +192,16 @@ firsts_once seen (p ∷ ps) =
     elim (Among p seen) as (λ b. AllPairsByRecursion (λ p q. same_values (values_in p.columns) (values_in q.columns) ≡ false) (elim b [ true ↦ firsts seen ps | false ↦ p ∷ firsts (values_in p.columns ∷ seen) ps ])) [
       | true ↦ firsts_once seen ps
       | false ↦ (
-        all_later (λ q. Among q (values_in p.columns ∷ seen) ≡ false) (λ q. same_values (values_in p.columns) (values_in q.columns) ≡ false) (λ q h. same_turned (values_in p.columns) (values_in q.columns) ∙ (or_false _ _ h).0) (firsts (values_in p.columns ∷ seen) ps) (firsts_unseen (values_in p.columns ∷ seen) ps),
+        all_weaker (λ q. Among q (values_in p.columns ∷ seen) ≡ false) (λ q. same_values (values_in p.columns) (values_in q.columns) ≡ false) (λ q h. same_turned (values_in p.columns) (values_in q.columns) ∙ (or_false _ _ h).0) (firsts (values_in p.columns ∷ seen) ps) (firsts_unseen (values_in p.columns ∷ seen) ps),
         firsts_once (values_in p.columns ∷ seen) ps,
       )
     ]
-
-pub all_in_themselves : {X : Type 0} (xs : List X) → AllByRecursion (λ x. IsIn x xs) xs
-all_in_themselves [] = tt
-all_in_themselves {X} (x ∷ xs) = (inl refl, later xs xs (all_in_themselves xs))
-  where
-    later : (ys zs : List X) → AllByRecursion (λ y. IsIn y zs) ys → AllByRecursion (λ y. (y ≡ x) ⊎ IsIn y zs) ys
-    later [] zs h = tt
-    later (y ∷ ys) zs h = (inr h.0, later ys zs h.1)
 
 distinct_agrees : (distinct : Bool) (ps : List Projected) → Distinct distinct ps (distinct_rows distinct ps)
 unfolding Kept
 distinct_agrees true ps = record {
   from = firsts_from [] ps ps (all_in_themselves ps);
-  each = all_later (Kept [] (firsts [] ps)) (λ p. (q : Projected) × IsIn q (firsts [] ps) × (same_values (values_in p.columns) (values_in q.columns) ≡ true)) kept_only ps (firsts_each [] ps);
+  each = all_weaker (Kept [] (firsts [] ps)) (λ p. (q : Projected) × IsIn q (firsts [] ps) × (same_values (values_in p.columns) (values_in q.columns) ≡ true)) kept_only ps (firsts_each [] ps);
   once = firsts_once [] ps;
 }
   where

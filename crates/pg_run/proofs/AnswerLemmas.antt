@@ -1,6 +1,6 @@
 -- Answers one after the other: how they regroup, and lists of them.
-use Rattle.std.proofs.Common.{◌≡◌, Bool, true, false, List, [], ◌∷◌, map, Result, Ok, Err, refl, ap, ◌∙◌}
-use Rattle.pg_meaning.specs.Answer.{◌>>=◌, ◌>>◌, unless, each_answer}
+use Rattle.std.proofs.Common.{◌≡◌, List, [], ◌∷◌, map, Result, Ok, Err, refl, ap, ◌∙◌}
+use Rattle.pg_meaning.specs.Answer.{◌>>=◌, ◌>>◌, each_answer}
 use Rattle.pg_meaning.specs.declared.fault.Fault.{Fault}
 
 module _ {X Y Z : Type 0} where

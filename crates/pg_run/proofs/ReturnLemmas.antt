@@ -1,8 +1,7 @@
 -- RETURN of items alone: each row's items, left to right.
-use Rattle.std.proofs.Common.{◌≡◌, ℕ, ◌+◌, length, Bool, true, false, List, [], ◌∷◌, ◌++◌, map, Result, Ok, Err, Option, None, refl, sym, ap, ◌∙◌}
+use Rattle.std.proofs.Common.{◌≡◌, ℕ, ◌+◌, length, Bool, true, false, List, [], ◌∷◌, ◌++◌, map, Result, Ok, Err, None, refl, ap, ◌∙◌}
 use Rattle.std.specs.Prelude.{flat_map, nat_le, is_some, ◌||◌}
 use Rattle.std.specs.List.{list_any}
-use Rattle.pg_meaning.specs.Aggregates.{aggregate_of}
 use Rattle.pg_meaning.specs.Answer.{◌>>=◌, ◌>>◌, unless, each_answer, each_step}
 use Rattle.pg_meaning.specs.Expressions.{evaluate}
 use Rattle.pg_meaning.specs.Graph.{Graph}
@@ -16,8 +15,8 @@ use Rattle.pg_meaning.specs.Tree.{Item}
 use Rattle.pg_meaning.specs.Value.{Value, values_of}
 use Rattle.pg_meaning.specs.declared.fault.Fault.{Fault}
 use Rattle.pg_meaning.specs.declared.fault.Fault.TheVariants.{StepQuota}
-use Rattle.pg_run.specs.Answers.{item_names, item_values, test_rows, returned, answer_in, ReturnAnswers}
-use Rattle.pg_run.proofs.AnswerLemmas.{regrouped, alike_after, tested_first, alike_behind, each_mapped, each_of_map, fused}
+use Rattle.pg_run.specs.Answers.{item_names, item_values, test_rows, answer_in, ReturnAnswers}
+use Rattle.pg_run.proofs.AnswerLemmas.{regrouped, alike_behind, each_mapped, each_of_map, fused}
 
 chosen : {X : Type 0} (b : Bool) (x y : X) → b ≡ false → elim b [ true ↦ x | false ↦ y ] ≡ y
 chosen true x y h = cc

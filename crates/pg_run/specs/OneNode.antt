@@ -1,5 +1,5 @@
 -- Queries of one node at most, a part of the language: RETURN, CREATE of a node, MATCH of a node (profile).
-use Rattle.std.specs.Prelude.{◌≡◌, true, false, Bool, List, [], ◌∷◌, Option, Some, None, bytes_eq, codes}
+use Rattle.std.specs.Prelude.{◌≡◌, true, false, Bool, List, [], ◌∷◌, None, bytes_eq, codes}
 use Rattle.std.specs.List.{AllByRecursion}
 use Rattle.std.specs.Str.{str_to_ascii_lowercase}
 use Rattle.pg_meaning.specs.Tree.{Expression, Expressions, Pairs, Properties, NodePattern, PathPattern, Item, Projection, Clause, Query}
@@ -30,9 +30,16 @@ AreSimplePairs (tree.pair k x ps) = IsSimpleExpression x × AreSimplePairs ps
 abbrev pub AreSimpleItems : List Item → Type 0
 AreSimpleItems items = AllByRecursion (λ i. IsSimpleExpression i.value) items
 
--- a pattern's properties are written out, or there are none
-abbrev pub IsSimpleNode : NodePattern → Type 0
-IsSimpleNode n = elim n.properties [ tree.no_properties ↦ Unit {0} | tree.given ps ↦ AreSimplePairs ps | tree.from_parameter p ↦ ⊥ ]
+-- written out in the pattern, where there are any
+abbrev pub IsWritten : Properties → Type 0
+IsWritten tree.no_properties = Unit {0}
+IsWritten (tree.given ps) = Unit {0}
+IsWritten (tree.from_parameter p) = ⊥
+
+abbrev pub AreSimpleProperties : Properties → Type 0
+AreSimpleProperties tree.no_properties = Unit {0}
+AreSimpleProperties (tree.given ps) = AreSimplePairs ps
+AreSimpleProperties (tree.from_parameter p) = ⊥
 
 -- ---- queries
 
@@ -44,9 +51,9 @@ pub data OneNode : Type 0 where
 
 abbrev pub IsSimple : OneNode → Type 0
 IsSimple (returns items) = AreSimpleItems items
-IsSimple (creates n) = IsSimpleNode n
-IsSimple (creates_and_returns n items) = IsSimpleNode n × AreSimpleItems items
-IsSimple (matches n items) = IsSimpleNode n × AreSimpleItems items
+IsSimple (creates n) = AreSimpleProperties n.properties
+IsSimple (creates_and_returns n items) = AreSimpleProperties n.properties × AreSimpleItems items
+IsSimple (matches n items) = AreSimpleProperties n.properties × AreSimpleItems items
 
 -- items, and nothing behind them
 abbrev pub items_alone : List Item → Projection

@@ -1,10 +1,35 @@
 //! What a checked query answers over a tenant's graph.
 #![tactic(auto)]
 
-ghost use Rattle.pg_run.specs.Answers.{ReturnAnswers};
+ghost use Rattle.pg_run.specs.Answers.{ReturnAnswers, CreateMakes, MatchFinds, OneNodeAnswers};
+ghost use Rattle.pg_run.specs.Checks.{OneNodeFaults};
 
 /// RETURN of items answers with each row's values.
 #[tactic(auto, using(crate::proofs::ReturnLemmas::return_answers))]
 pub fn law_of_return()
     ensures { ReturnAnswers }
+{}
+
+/// CREATE of one node makes it where these tests pass.
+#[tactic(auto, using(crate::proofs::CreateLemmas::create_makes))]
+pub fn law_of_create()
+    ensures { CreateMakes }
+{}
+
+/// MATCH of one node finds the candidates that fit.
+#[tactic(auto, using(crate::proofs::MatchLemmas::match_finds))]
+pub fn law_of_match()
+    ensures { MatchFinds }
+{}
+
+/// What a query of one node at most answers.
+#[tactic(auto, using(crate::proofs::QueryLemmas::one_node_answers))]
+pub fn law_of_one_node_answers()
+    ensures { OneNodeAnswers }
+{}
+
+/// Which static fault such a query has.
+#[tactic(auto, using(crate::proofs::CheckLemmas::one_node_faults))]
+pub fn law_of_one_node_faults()
+    ensures { OneNodeFaults }
 {}

@@ -73,7 +73,7 @@ anchor_by n o = elim (first_place (is_some o)) [
   | Some i ↦ record { place = i; index = elim (slice_get (n ∷ []) i) [ None ↦ None | Some m ↦ serving [] [] m ] }
 ]
 
-anchor_of_one : (place : ℕ) (v : Option Name) (labels : List Name) (properties : Properties)
+pub anchor_of_one : (place : ℕ) (v : Option Name) (labels : List Name) (properties : Properties)
     → anchor_of (node_alone (record { place = place; variable = v; labels = labels; properties = properties })) [] [] [] ≡ at_place 0
 anchor_of_one place None labels properties =
     let n : NodePattern = record { place = place; variable = None; labels = labels; properties = properties } in

@@ -1,3 +1,5 @@
+pub mod Agreement
 pub mod Answers
 pub mod Checks
+pub mod Evaluation
 pub mod OneNode

@@ -1,8 +1,10 @@
 //! What a checked query answers over a tenant's graph.
 #![tactic(auto)]
 
+ghost use Rattle.pg_run.specs.Agreement.{OneNodePlans, OneNodeAgrees};
 ghost use Rattle.pg_run.specs.Answers.{ReturnAnswers, CreateMakes, MatchFinds, OneNodeAnswers};
 ghost use Rattle.pg_run.specs.Checks.{OneNodeFaults};
+ghost use Rattle.pg_run.specs.Evaluation.{Stepwise};
 
 /// RETURN of items answers with each row's values.
 #[tactic(auto, using(crate::proofs::ReturnLemmas::return_answers))]
@@ -32,4 +34,20 @@ pub fn law_of_one_node_answers()
 #[tactic(auto, using(crate::proofs::CheckLemmas::one_node_faults))]
 pub fn law_of_one_node_faults()
     ensures { OneNodeFaults }
+{}
+
+/// What its expressions give, operand by operand.
+#[tactic(auto, using(crate::proofs::EvaluationLemmas::stepwise))]
+pub fn law_of_simple_expressions()
+    ensures { Stepwise }
+{}
+
+/// The anchors without an index are a plan of such a query.
+pub fn law_of_one_node_plans()
+    ensures { OneNodePlans }
+{}
+
+/// Its answer is one that the meaning of the query gives.
+pub fn law_of_one_node_meaning()
+    ensures { OneNodeAgrees }
 {}

@@ -4,6 +4,7 @@
 ghost use Rattle.pg_run.specs.Agreement.{OneNodePlans, OneNodeAgrees};
 ghost use Rattle.pg_run.specs.Answers.{ReturnAnswers, CreateMakes, MatchFinds, OneNodeAnswers};
 ghost use Rattle.pg_run.specs.Checks.{OneNodeFaults};
+ghost use Rattle.pg_run.specs.Examples.{ExamplesOfAnswers, ExamplesOfRefusals};
 ghost use Rattle.pg_run.specs.Evaluation.{Stepwise};
 
 /// RETURN of items answers with each row's values.
@@ -42,7 +43,7 @@ pub fn law_of_simple_expressions()
     ensures { Stepwise }
 {}
 
-/// The anchors without an index are a plan of such a query.
+/// Such a query has one plan that names no index.
 pub fn law_of_one_node_plans()
     ensures { OneNodePlans }
 {}
@@ -50,4 +51,10 @@ pub fn law_of_one_node_plans()
 /// Its answer is one that the meaning of the query gives.
 pub fn law_of_one_node_meaning()
     ensures { OneNodeAgrees }
+{}
+
+/// The worked examples hold.
+pub fn worked_examples_of_one_node()
+    ensures answers { ExamplesOfAnswers }
+    ensures refusals { ExamplesOfRefusals }
 {}

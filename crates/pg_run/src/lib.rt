@@ -48,7 +48,7 @@ pub fn law_of_one_node_plans()
     ensures { OneNodePlans }
 {}
 
-/// Its answer is one that the meaning of the query gives.
+/// Where all answers to such a query agree with its meaning, this one does.
 pub fn law_of_one_node_meaning()
     ensures { OneNodeAgrees }
 {}

@@ -1,0 +1,6 @@
+pub mod Agreement
+pub mod Answers
+pub mod Checks
+pub mod Evaluation
+pub mod Examples
+pub mod OneNode

@@ -1,0 +1,60 @@
+//! What a checked query answers over a tenant's graph.
+#![tactic(auto)]
+
+ghost use Rattle.pg_run.specs.Agreement.{OneNodePlans, OneNodeAgrees};
+ghost use Rattle.pg_run.specs.Answers.{ReturnAnswers, CreateMakes, MatchFinds, OneNodeAnswers};
+ghost use Rattle.pg_run.specs.Checks.{OneNodeFaults};
+ghost use Rattle.pg_run.specs.Examples.{ExamplesOfAnswers, ExamplesOfRefusals};
+ghost use Rattle.pg_run.specs.Evaluation.{Stepwise};
+
+/// RETURN of items answers with each row's values.
+#[tactic(auto, using(crate::proofs::ReturnLemmas::return_answers))]
+pub fn law_of_return()
+    ensures { ReturnAnswers }
+{}
+
+/// CREATE of one node makes it where these tests pass.
+#[tactic(auto, using(crate::proofs::CreateLemmas::create_makes))]
+pub fn law_of_create()
+    ensures { CreateMakes }
+{}
+
+/// MATCH of one node finds the candidates that fit.
+#[tactic(auto, using(crate::proofs::MatchLemmas::match_finds))]
+pub fn law_of_match()
+    ensures { MatchFinds }
+{}
+
+/// What a query of one node at most answers.
+#[tactic(auto, using(crate::proofs::QueryLemmas::one_node_answers))]
+pub fn law_of_one_node_answers()
+    ensures { OneNodeAnswers }
+{}
+
+/// Which static fault such a query has.
+#[tactic(auto, using(crate::proofs::CheckLemmas::one_node_faults))]
+pub fn law_of_one_node_faults()
+    ensures { OneNodeFaults }
+{}
+
+/// What its expressions give, operand by operand.
+#[tactic(auto, using(crate::proofs::EvaluationLemmas::stepwise))]
+pub fn law_of_simple_expressions()
+    ensures { Stepwise }
+{}
+
+/// Such a query has one plan that names no index.
+pub fn law_of_one_node_plans()
+    ensures { OneNodePlans }
+{}
+
+/// Where all answers to such a query agree with its meaning, this one does.
+pub fn law_of_one_node_meaning()
+    ensures { OneNodeAgrees }
+{}
+
+/// The worked examples hold.
+pub fn worked_examples_of_one_node()
+    ensures answers { ExamplesOfAnswers }
+    ensures refusals { ExamplesOfRefusals }
+{}

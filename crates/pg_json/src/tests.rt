@@ -9,7 +9,8 @@ use std::test::Fail;
 /// Whether the body asks with this token for this text.
 fn asks(alloc: Global, body: &[u8], wanted_token: &str, wanted_text: &str) -> bool {
     match read_request(alloc, body) {
-        Ok(RequestBody::Query { token, text }) => token == wanted_token && text == wanted_text,
+        Ok(RequestBody::Query { token, text }) => token.as_str() == wanted_token
+            && text.as_str() == wanted_text,
         Err(_) => false,
     }
 }
@@ -133,15 +134,19 @@ fn refuses_what_is_no_utf8(rt: HostRuntime) -> Result<(), Fail> {
     Ok(())
 }
 
+fn repeated(alloc: Global, text: &str, times: usize) -> Result<String, AllocError> {
+    let mut all = String::new(alloc);
+    for _ in 0..times {
+        all.push_str(text)?;
+    }
+    Ok(all)
+}
+
 /// A body in which a later text takes the place of so many arrays in one another.
 fn nested(alloc: Global, arrays: usize) -> Result<String, AllocError> {
     let mut body = String::from_str(alloc, r#"{"op":"query","token":"a","text":"#)?;
-    for _ in 0..arrays {
-        body.push_str("[")?;
-    }
-    for _ in 0..arrays {
-        body.push_str("]")?;
-    }
+    body.push_str(&repeated(alloc, "[", arrays)?)?;
+    body.push_str(&repeated(alloc, "]", arrays)?)?;
     body.push_str(r#","text":"t"}"#)?;
     Ok(body)
 }
@@ -272,12 +277,9 @@ const EACH: &str = "{\"code\":0,\"columns\":[\"\",\"\\n\"],\"rows\":[[],[\
 {\"$node\":1,\"labels\":[\"P\"],\"properties\":{\"name\":\"x\"}}]}\
 ]],\"steps\":18446744073709551615}";
 
-/// The length of a reply of one row with one text of so many times this character.
-fn length(alloc: Global, count: usize, character: &str) -> Result<usize, Fault> {
-    let mut text = String::new(alloc);
-    for _ in 0..count {
-        text.push_str(character)?;
-    }
+/// The length of a reply of one row with one text, which is this one so many times so many times.
+fn length(alloc: Global, text: &str, times: usize, more: usize) -> Result<usize, Fault> {
+    let text = repeated(alloc, &repeated(alloc, text, times)?, more)?;
     let body = ReplyBody::Query {
         columns: Vec::new(alloc),
         rows: vec![in alloc; vec![in alloc; Out::Text(text)]?]?,
@@ -290,9 +292,13 @@ fn length(alloc: Global, count: usize, character: &str) -> Result<usize, Fault> 
 #[test]
 fn writes_up_to_16_mebibytes(rt: HostRuntime) {
     let alloc = rt.alloc();
-    assert!(rt; length(alloc, 16_777_169, "x") == Ok(16_777_216));
-    for (count, character) in [(16_777_170, "x"), (16_777_215, "x"), (2_796_195, "\u{1}")] {
-        assert!(rt; length(alloc, count, character) == Err(Fault::ReplyTooLong));
+    assert!(rt; length(alloc, "x", 1_147, 14_627) == Ok(16_777_216));
+    for (text, times, more) in [
+        ("x", 11_790, 1_423),
+        ("x", 4_095, 4_097),
+        ("\u{1}", 1_965, 1_423),
+    ] {
+        assert!(rt; length(alloc, text, times, more) == Err(Fault::ReplyTooLong));
     }
 }
 
@@ -305,11 +311,11 @@ fn answers_want_of_memory_alone(rt: HostRuntime) {
         br#"{"op":"query","token":"a\n","text":"RETURN 1\n"}"#,
     ) {
         Ok(RequestBody::Query { token, text }) => {
-            assert!(rt; token == "a\n" && text == "RETURN 1\n");
+            assert!(rt; token.as_str() == "a\n" && text.as_str() == "RETURN 1\n");
         }
         Err(fault) => assert!(rt; fault == Fault::OutOfMemory),
     }
-    match length(alloc, 5_000, "x") {
+    match length(alloc, "x", 50, 100) {
         Ok(length) => assert!(rt; length == 5_047),
         Err(fault) => assert!(rt; fault == Fault::OutOfMemory),
     }

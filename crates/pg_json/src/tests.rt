@@ -6,103 +6,112 @@ use std::alloc::{AllocError, Global};
 use std::collections::BTreeMap;
 use std::test::Fail;
 
-/// Bodies with the token and the text that they ask with, or none where they are refused.
-const BODIES: [(&str, Option<(&str, &str)>); 49] = [
+/// Whether the body asks with this token for this text.
+fn asks(alloc: Global, body: &[u8], wanted_token: &str, wanted_text: &str) -> bool {
+    match read_request(alloc, body) {
+        Ok(RequestBody::Query { token, text }) => token.as_str() == wanted_token
+            && text.as_str() == wanted_text,
+        Err(_) => false,
+    }
+}
+
+fn is_refused(alloc: Global, body: &[u8]) -> bool {
+    matches!(read_request(alloc, body), Err(Fault::BadRequest))
+}
+
+/// Bodies with the token and the text that they ask with.
+const READ: [(&str, &str, &str); 6] = [
     (
         r#"{"op":"query","token":"a1","text":"RETURN 1"}"#,
-        Some(("a1", "RETURN 1")),
+        "a1",
+        "RETURN 1",
     ),
     (
         " {\t\"text\" : \"\" ,\r\n\"token\":\"\", \"op\":\"query\" } \n",
-        Some(("", "")),
+        "",
+        "",
     ),
     (
         r#"{"op":"query","token":"\u00e9\ud83d\ude00","text":"a\"\\\/\b\f\n\r\tb"}"#,
-        Some(("é😀", "a\"\\/\u{8}\u{c}\n\r\tb")),
+        "é😀",
+        "a\"\\/\u{8}\u{c}\n\r\tb",
     ),
     (
         r#"{"\u006fp":"quer\u0079","token":"a","text":"日本"}"#,
-        Some(("a", "日本")),
+        "a",
+        "日本",
     ),
     (
         r#"{"op":"query","token":"a","token":"b","text":"t"}"#,
-        Some(("b", "t")),
+        "b",
+        "t",
     ),
     (
         r#"{"op":"status","op":"query","token":"a","text":1,"text":"t"}"#,
-        Some(("a", "t")),
-    ),
-    (
-        r#"{"op":"query","op":"status","token":"a","text":"t"}"#,
-        None,
-    ),
-    (r#"{"op":"query","token":"a","text":"t","text":null}"#, None),
-    ("", None),
-    (" ", None),
-    ("null", None),
-    ("7", None),
-    (r#""query""#, None),
-    ("[]", None),
-    (r#"["query","a","t"]"#, None),
-    ("{}", None),
-    (r#"{"token":"a","text":"t"}"#, None),
-    (r#"{"op":"query","text":"t"}"#, None),
-    (r#"{"op":"query","token":"a"}"#, None),
-    (r#"{"op":"query","token":"a","text":"t","x":1}"#, None),
-    (r#"{"op":"query","token":"a","text":"t","":""}"#, None),
-    (r#"{"op":"query","token":"a","text":"t","params":{}}"#, None),
-    (r#"{"Op":"query","token":"a","text":"t"}"#, None),
-    (r#"{"op":"Query","token":"a","text":"t"}"#, None),
-    (r#"{"op":"","token":"a","text":"t"}"#, None),
-    (r#"{"op":"query ","token":"a","text":"t"}"#, None),
-    (r#"{"op":"status","token":"a"}"#, None),
-    (
-        r#"{"op":"create_index","token":"a","label":"P","key":"k"}"#,
-        None,
-    ),
-    (
-        r#"{"op":"drop_index","token":"a","label":"P","key":"k"}"#,
-        None,
-    ),
-    (r#"{"op":null,"token":"a","text":"t"}"#, None),
-    (r#"{"op":["query"],"token":"a","text":"t"}"#, None),
-    (r#"{"op":"query","token":1,"text":"t"}"#, None),
-    (r#"{"op":"query","token":null,"text":"t"}"#, None),
-    (r#"{"op":"query","token":["a"],"text":"t"}"#, None),
-    (r#"{"op":"query","token":"a","text":true}"#, None),
-    (r#"{"op":"query","token":"a","text":1.5}"#, None),
-    (r#"{"op":"query","token":"a","text":{"t":"t"}}"#, None),
-    (r#"{"op":"query","token":"a","text":"t",}"#, None),
-    (r#"{"op":"query","token":"a","text":"t"} x"#, None),
-    (r#"{"op":"query","token":"a","text":"t"}{}"#, None),
-    (r#"{"op":"query","token":"a","text":"t""#, None),
-    (r#"{"op":"query","token":"a" "text":"t"}"#, None),
-    (r#"{'op':'query','token':'a','text':'t'}"#, None),
-    (r#"{op:"query",token:"a",text:"t"}"#, None),
-    (r#"{"op":"query","token":"a","text":"\x"}"#, None),
-    (r#"{"op":"query","token":"a","text":"\ud800"}"#, None),
-    (r#"{"op":"query","token":"a","text":"\udc00\ud800"}"#, None),
-    ("{\"op\":\"query\",\"token\":\"a\",\"text\":\"\n\"}", None),
-    (
-        "\u{feff}{\"op\":\"query\",\"token\":\"a\",\"text\":\"t\"}",
-        None,
+        "a",
+        "t",
     ),
 ];
 
+/// Bodies that are refused, one a line; the first is empty.
+const REFUSED: &str = r#"
+null
+7
+"query"
+[]
+["query","a","t"]
+{}
+{"token":"a","text":"t"}
+{"op":"query","text":"t"}
+{"op":"query","token":"a"}
+{"op":"query","token":"a","text":"t","x":1}
+{"op":"query","token":"a","text":"t","":""}
+{"op":"query","token":"a","text":"t","params":{}}
+{"Op":"query","token":"a","text":"t"}
+{"op":"Query","token":"a","text":"t"}
+{"op":"","token":"a","text":"t"}
+{"op":"query ","token":"a","text":"t"}
+{"op":"query","op":"status","token":"a","text":"t"}
+{"op":"query","token":"a","text":"t","text":null}
+{"op":"status","token":"a"}
+{"op":"create_index","token":"a","label":"P","key":"k"}
+{"op":"drop_index","token":"a","label":"P","key":"k"}
+{"op":null,"token":"a","text":"t"}
+{"op":["query"],"token":"a","text":"t"}
+{"op":"query","token":1,"text":"t"}
+{"op":"query","token":null,"text":"t"}
+{"op":"query","token":["a"],"text":"t"}
+{"op":"query","token":"a","text":true}
+{"op":"query","token":"a","text":1.5}
+{"op":"query","token":"a","text":{"t":"t"}}
+{"op":"query","token":"a","text":"t",}
+{"op":"query","token":"a","text":"t"} x
+{"op":"query","token":"a","text":"t"}{}
+{"op":"query","token":"a","text":"t"
+{"op":"query","token":"a" "text":"t"}
+{'op':'query','token':'a','text':'t'}
+{op:"query",token:"a",text:"t"}
+{"op":"query","token":"a","text":"\x"}
+{"op":"query","token":"a","text":"\ud800"}
+{"op":"query","token":"a","text":"\udc00\ud800"}"#;
+
 #[test]
-fn reads(rt: HostRuntime) -> Result<(), Fail> {
+fn reads(rt: HostRuntime) {
     let alloc = rt.alloc();
-    for (body, expected) in BODIES {
-        match (read_request(alloc, body.as_bytes()), expected) {
-            (Ok(RequestBody::Query { token, text }), Some(expected)) => {
-                assert!(rt; token.as_str() == expected.0, "{body}");
-                assert!(rt; text.as_str() == expected.1, "{body}");
-            }
-            (Err(Fault::BadRequest), None) => {}
-            _ => assert!(rt; false, "{body}"),
-        }
+    for (body, token, text) in READ {
+        assert!(rt; asks(alloc, body.as_bytes(), token, text), "{body}");
     }
-    Ok(())
+    for body in REFUSED.lines() {
+        assert!(rt; is_refused(alloc, body.as_bytes()), "{body}");
+    }
+    assert!(rt; is_refused(alloc, b" "));
+    assert!(rt; is_refused(alloc, b"{\"op\":\"query\",\"token\":\"a\",\"text\":\"\n\"}"));
+    assert!(rt;
+        is_refused(
+            alloc,
+            b"\xef\xbb\xbf{\"op\":\"query\",\"token\":\"a\",\"text\":\"t\"}"
+        )
+    );
 }
 
 #[test]
@@ -110,7 +119,7 @@ fn refuses_what_is_no_utf8(rt: HostRuntime) -> Result<(), Fail> {
     let alloc = rt.alloc();
     let mut body = Vec::from_slice(alloc, b"{\"op\":\"query\",\"token\":\"a\",\"text\":\"")?;
     body.extend_from_slice(b"\xc3\xa9\xf0\x9f\x98\x80\"}")?;
-    assert!(rt; read_request(alloc, &body).is_ok());
+    assert!(rt; asks(alloc, &body, "a", "é😀"));
     for bytes in [
         b"\xff\"}\n".as_slice(),
         b"\xc3\"}",
@@ -120,23 +129,24 @@ fn refuses_what_is_no_utf8(rt: HostRuntime) -> Result<(), Fail> {
     ] {
         body.truncate(34);
         body.extend_from_slice(bytes)?;
-        assert!(rt;
-            matches!(read_request(alloc, &body), Err(Fault::BadRequest)),
-            "{bytes:?}"
-        );
+        assert!(rt; is_refused(alloc, &body));
     }
     Ok(())
+}
+
+fn repeated(alloc: Global, text: &str, times: usize) -> Result<String, AllocError> {
+    let mut all = String::new(alloc);
+    for _ in 0..times {
+        all.push_str(text)?;
+    }
+    Ok(all)
 }
 
 /// A body in which a later text takes the place of so many arrays in one another.
 fn nested(alloc: Global, arrays: usize) -> Result<String, AllocError> {
     let mut body = String::from_str(alloc, r#"{"op":"query","token":"a","text":"#)?;
-    for _ in 0..arrays {
-        body.push_str("[")?;
-    }
-    for _ in 0..arrays {
-        body.push_str("]")?;
-    }
+    body.push_str(&repeated(alloc, "[", arrays)?)?;
+    body.push_str(&repeated(alloc, "]", arrays)?)?;
     body.push_str(r#","text":"t"}"#)?;
     Ok(body)
 }
@@ -144,57 +154,47 @@ fn nested(alloc: Global, arrays: usize) -> Result<String, AllocError> {
 #[test]
 fn refuses_what_is_nested_too_deep(rt: HostRuntime) -> Result<(), Fail> {
     let alloc = rt.alloc();
-    assert!(rt; read_request(alloc, nested(alloc, 126)?.as_bytes()).is_ok());
-    let deep = nested(alloc, 127)?;
-    assert!(rt; matches!(read_request(alloc, deep.as_bytes()), Err(Fault::BadRequest)));
-    let deep = nested(alloc, 100_000)?;
-    assert!(rt; matches!(read_request(alloc, deep.as_bytes()), Err(Fault::BadRequest)));
+    assert!(rt; asks(alloc, nested(alloc, 126)?.as_bytes(), "a", "t"));
+    assert!(rt; is_refused(alloc, nested(alloc, 127)?.as_bytes()));
+    assert!(rt; is_refused(alloc, nested(alloc, 100_000)?.as_bytes()));
     Ok(())
 }
 
-fn string(alloc: Global, text: &str) -> Result<String, Fault> {
-    Ok(String::from_str(alloc, text)?)
-}
-
-fn strings(alloc: Global, texts: &[&str]) -> Result<Vec<String>, Fault> {
+fn texts(alloc: Global, texts: &[&str]) -> Result<Vec<String>, AllocError> {
     let mut all = Vec::new(alloc);
     for text in texts {
-        all.push(string(alloc, text)?)?;
+        all.push(String::from_str(alloc, text)?)?;
     }
     Ok(all)
 }
 
-fn put(map: &mut BTreeMap<String, Out>, key: String, value: Out) -> Result<(), Fault> {
-    drop(map.insert(key, value)?);
-    Ok(())
+/// `{name: 'x'}`
+fn properties(alloc: Global) -> Result<BTreeMap<String, Out>, AllocError> {
+    let mut all = BTreeMap::new(alloc);
+    let text = String::from_str(alloc, "x")?;
+    drop(all.insert(String::from_str(alloc, "name")?, Out::Text(text))?);
+    Ok(all)
 }
 
-fn node(alloc: Global, id: u64) -> Result<Out, Fault> {
-    let labels = strings(alloc, &["P"])?;
-    let mut properties = BTreeMap::new(alloc);
-    put(
-        &mut properties,
-        string(alloc, "name")?,
-        Out::Text(string(alloc, "x")?),
-    )?;
+fn node(alloc: Global, id: u64) -> Result<Out, AllocError> {
     Ok(Out::Node {
         id: NodeId(id),
-        labels,
-        properties,
+        labels: texts(alloc, &["P"])?,
+        properties: properties(alloc)?,
     })
 }
 
-fn relationship(alloc: Global) -> Result<Out, Fault> {
+fn relationship(alloc: Global) -> Result<Out, AllocError> {
     Ok(Out::Rel {
         id: RelId(0),
-        kind: string(alloc, "K")?,
+        kind: String::from_str(alloc, "K")?,
         start: NodeId(0),
         end: NodeId(1),
         properties: BTreeMap::new(alloc),
     })
 }
 
-fn path(alloc: Global) -> Result<Out, Fault> {
+fn path(alloc: Global) -> Result<Out, AllocError> {
     let mut elements = Vec::new(alloc);
     elements.push(node(alloc, 0)?)?;
     elements.push(relationship(alloc)?)?;
@@ -202,18 +202,17 @@ fn path(alloc: Global) -> Result<Out, Fault> {
     Ok(Out::Path(elements))
 }
 
-fn map(alloc: Global) -> Result<Out, Fault> {
+fn map(alloc: Global) -> Result<Out, AllocError> {
     let mut map = BTreeMap::new(alloc);
-    put(&mut map, string(alloc, "b\"")?, Out::List(Vec::new(alloc)))?;
-    put(
-        &mut map,
-        string(alloc, "a\u{1}")?,
+    drop(map.insert(String::from_str(alloc, "b\"")?, Out::Null)?);
+    drop(map.insert(
+        String::from_str(alloc, "a\u{1}")?,
         Out::Map(BTreeMap::new(alloc)),
-    )?;
+    )?);
     Ok(Out::Map(map))
 }
 
-fn integers(alloc: Global) -> Result<Out, Fault> {
+fn integers(alloc: Global) -> Result<Out, AllocError> {
     let mut items = Vec::new(alloc);
     for i in [i64::MIN, -1, 0, 9, 10, i64::MAX] {
         items.push(Out::Int(i))?;
@@ -221,94 +220,87 @@ fn integers(alloc: Global) -> Result<Out, Fault> {
     Ok(Out::List(items))
 }
 
-/// The reply of one row of one value.
-fn one(alloc: Global, value: Out) -> Result<ReplyBody, Fault> {
-    let mut row = Vec::new(alloc);
-    row.push(value)?;
-    let mut rows = Vec::new(alloc);
-    rows.push(row)?;
-    Ok(ReplyBody::Query {
-        columns: Vec::new(alloc),
-        rows,
-        steps: 0,
-    })
+/// One value of each kind.
+fn values(alloc: Global) -> Result<Vec<Out>, AllocError> {
+    let mut all = Vec::new(alloc);
+    all.push(Out::Text(String::from_str(alloc, "\"\\/\u{8}\u{c}\n\r\t\u{0}\u{1f}\u{7f}é😀")?))?;
+    all.push(Out::Bool(true))?;
+    all.push(Out::List(Vec::new(alloc)))?;
+    all.push(integers(alloc)?)?;
+    all.push(map(alloc)?)?;
+    all.push(node(alloc, 7)?)?;
+    all.push(relationship(alloc)?)?;
+    all.push(path(alloc)?)?;
+    Ok(all)
 }
 
-fn is_written(alloc: Global, value: Out, expected: &str) -> Result<bool, Fault> {
-    let bytes = write_reply(alloc, &one(alloc, value)?)?;
-    let text = bytes.as_slice();
-    let (front, back) = (r#"{"code":0,"columns":[],"rows":[["#, r#"]],"steps":0}"#);
-    Ok(
-        text.len() == expected.len() + 45
-            && text.starts_with(front.as_bytes())
-            && text[32..].starts_with(expected.as_bytes())
-            && text.ends_with(back.as_bytes()),
-    )
-}
-
-#[test]
-fn writes_values(rt: HostRuntime) -> Result<(), Fail> {
-    let alloc = rt.alloc();
-    let text = string(alloc, "\"\\/\u{8}\u{c}\n\r\t\u{0}\u{1f}\u{7f}é😀")?;
-    assert!(rt; is_written(alloc, Out::Text(text), TEXT)?);
-    assert!(rt; is_written(alloc, Out::Bool(true), "true")?);
-    assert!(rt; is_written(alloc, integers(alloc)?, INTEGERS)?);
-    assert!(rt; is_written(alloc, map(alloc)?, r#"{"a\u0001":{},"b\"":[]}"#)?);
-    assert!(rt; is_written(alloc, node(alloc, 7)?, NODE)?);
-    assert!(rt; is_written(alloc, relationship(alloc)?, RELATIONSHIP)?);
-    assert!(rt; is_written(alloc, path(alloc)?, PATH)?);
-    Ok(())
-}
-
-const TEXT: &str = "\"\\\"\\\\/\\b\\f\\n\\r\\t\\u0000\\u001f\u{7f}é😀\"";
-
-const INTEGERS: &str = "[-9223372036854775808,-1,0,9,10,9223372036854775807]";
-
-const NODE: &str = r#"{"$node":7,"labels":["P"],"properties":{"name":"x"}}"#;
-
-const RELATIONSHIP: &str = r#"{"$rel":0,"end":1,"properties":{},"start":0,"type":"K"}"#;
-
-const PATH: &str =
-    r#"{"$path":[{"$node":0,"labels":["P"],"properties":{"name":"x"}},{"$rel":0,"end":1,"properties":{},"start":0,"type":"K"},{"$node":1,"labels":["P"],"properties":{"name":"x"}}]}"#;
-
-fn three(alloc: Global) -> Result<ReplyBody, Fault> {
-    let mut row = Vec::new(alloc);
-    row.push(Out::Null)?;
-    row.push(Out::Null)?;
-    row.push(Out::Bool(false))?;
-    let mut rows = Vec::new(alloc);
-    rows.push(row)?;
-    Ok(ReplyBody::Query {
-        columns: strings(alloc, &["a", "b", "c"])?,
-        rows,
-        steps: 1,
-    })
+fn is_written(
+    alloc: Global,
+    columns: &[&str],
+    rows: Vec<Vec<Out>>,
+    steps: u64,
+    expected: &str,
+) -> Result<bool, Fault> {
+    let columns = texts(alloc, columns)?;
+    let bytes = write_reply(
+        alloc,
+        &ReplyBody::Query {
+            columns,
+            rows,
+            steps,
+        },
+    )?;
+    Ok(bytes.as_slice() == expected.as_bytes())
 }
 
 #[test]
-fn writes_replies(rt: HostRuntime) -> Result<(), Fail> {
+fn writes(rt: HostRuntime) -> Result<(), Fail> {
     let alloc = rt.alloc();
-    let bytes = write_reply(alloc, &three(alloc)?)?;
-    assert!(rt; bytes.as_slice() == THREE.as_bytes());
-    let bytes = write_reply(alloc, &empty(alloc)?)?;
-    assert!(rt; bytes.as_slice() == EMPTY.as_bytes());
+    let rows = vec![in alloc; vec![in alloc; Out::Null, Out::Null, Out::Bool(false)]?]?;
+    assert!(rt; is_written(alloc, &["a", "b", "c"], rows, 1, THREE)?);
+    let rows = vec![in alloc; Vec::new(alloc), values(alloc)?]?;
+    assert!(rt; is_written(alloc, &["", "\n"], rows, u64::MAX, EACH)?);
     Ok(())
-}
-
-fn empty(alloc: Global) -> Result<ReplyBody, Fault> {
-    let mut rows = Vec::new(alloc);
-    rows.push(Vec::new(alloc))?;
-    rows.push(Vec::new(alloc))?;
-    Ok(ReplyBody::Query {
-        columns: strings(alloc, &["", "\n"])?,
-        rows,
-        steps: u64::MAX,
-    })
 }
 
 const THREE: &str = r#"{"code":0,"columns":["a","b","c"],"rows":[[null,null,false]],"steps":1}"#;
 
-const EMPTY: &str = r#"{"code":0,"columns":["","\n"],"rows":[[],[]],"steps":18446744073709551615}"#;
+/// An empty row and one with each kind of value.
+const EACH: &str = "{\"code\":0,\"columns\":[\"\",\"\\n\"],\"rows\":[[],[\
+\"\\\"\\\\/\\b\\f\\n\\r\\t\\u0000\\u001f\u{7f}é😀\",true,[],\
+[-9223372036854775808,-1,0,9,10,9223372036854775807],\
+{\"a\\u0001\":{},\"b\\\"\":null},\
+{\"$node\":7,\"labels\":[\"P\"],\"properties\":{\"name\":\"x\"}},\
+{\"$rel\":0,\"end\":1,\"properties\":{},\"start\":0,\"type\":\"K\"},\
+{\"$path\":[{\"$node\":0,\"labels\":[\"P\"],\"properties\":{\"name\":\"x\"}},\
+{\"$rel\":0,\"end\":1,\"properties\":{},\"start\":0,\"type\":\"K\"},\
+{\"$node\":1,\"labels\":[\"P\"],\"properties\":{\"name\":\"x\"}}]}\
+]],\"steps\":18446744073709551615}";
+
+/// The length of a reply of one row with one text, which is this one so many times so many times.
+fn length(alloc: Global, text: &str, times: usize, more: usize) -> Result<usize, Fault> {
+    let text = repeated(alloc, &repeated(alloc, text, times)?, more)?;
+    let body = ReplyBody::Query {
+        columns: Vec::new(alloc),
+        rows: vec![in alloc; vec![in alloc; Out::Text(text)]?]?,
+        steps: 0,
+    };
+    Ok(write_reply(alloc, &body)?.len())
+}
+
+/// What stands about the text takes 47 bytes, and the text of a control character six.
+#[test]
+fn writes_up_to_16_mebibytes(rt: HostRuntime) {
+    let alloc = rt.alloc();
+    assert!(rt; length(alloc, "x", 1_147, 14_627) == Ok(16_777_216));
+    for (text, times, more) in [
+        ("x", 11_790, 1_423),
+        ("x", 4_095, 4_097),
+        ("\u{1}", 1_965, 1_423),
+    ] {
+        assert!(rt; length(alloc, text, times, more) == Err(Fault::ReplyTooLong));
+    }
+}
 
 /// Run with each allocation refused in turn, this finds no other answer in place of the error.
 #[test]
@@ -321,50 +313,12 @@ fn answers_want_of_memory_alone(rt: HostRuntime) {
         Ok(RequestBody::Query { token, text }) => {
             assert!(rt; token.as_str() == "a\n" && text.as_str() == "RETURN 1\n");
         }
-        Err(fault) => assert_eq!(rt; fault, Fault::OutOfMemory),
+        Err(fault) => assert!(rt; fault == Fault::OutOfMemory),
     }
-    let Ok(reply) = long(alloc, 5_000, "x") else {
-        return;
-    };
-    match write_reply(alloc, &reply) {
-        Ok(bytes) => assert_eq!(rt; bytes.len(), 5_047),
-        Err(fault) => assert_eq!(rt; fault, Fault::OutOfMemory),
+    match length(alloc, "x", 50, 100) {
+        Ok(length) => assert!(rt; length == 5_047),
+        Err(fault) => assert!(rt; fault == Fault::OutOfMemory),
     }
-}
-
-/// A reply of one row with one text of this character.
-fn long(alloc: Global, count: usize, character: &str) -> Result<ReplyBody, Fault> {
-    let mut block = String::new(alloc);
-    for _ in 0..4096 {
-        block.push_str(character)?;
-    }
-    let mut text = String::new(alloc);
-    for _ in 0..count / 4096 {
-        text.push_str(&block)?;
-    }
-    for _ in 0..count % 4096 {
-        text.push_str(character)?;
-    }
-    one(alloc, Out::Text(text))
-}
-
-/// What stands about the text takes 47 bytes, and the text of a control character six.
-#[test]
-fn writes_up_to_16_mebibytes(rt: HostRuntime) -> Result<(), Fail> {
-    let alloc = rt.alloc();
-    for (count, character, len) in [
-        (16_777_169, "x", Some(16_777_216)),
-        (16_777_170, "x", None),
-        (16_777_215, "x", None),
-        (2_796_195, "\u{1}", None),
-    ] {
-        let reply = long(alloc, count, character)?;
-        match write_reply(alloc, &reply) {
-            Ok(bytes) => assert_eq!(rt; Some(bytes.len()), len, "{count}"),
-            Err(fault) => assert!(rt; len.is_none() && fault == Fault::ReplyTooLong, "{count}"),
-        }
-    }
-    Ok(())
 }
 
 #[test]
@@ -381,8 +335,7 @@ fn refuses(rt: HostRuntime) {
         (Fault::OutOfMemory, r#"{"code":99,"error":"OutOfMemory"}"#),
     ] {
         let bytes = refusal(fault);
-        assert!(rt; bytes.as_slice() == expected.as_bytes(), "{expected}");
-        assert_eq!(rt; bytes.len(), expected.len());
+        assert!(rt; bytes.as_slice() == expected.as_bytes() && bytes.len() == expected.len());
     }
-    assert!(rt; done().as_slice() == br#"{"code":0}"#.as_slice());
+    assert!(rt; done().as_slice() == b"{\"code\":0}".as_slice());
 }

@@ -1,6 +1,6 @@
 use crate::{
-    Fault, NodeId, Path, RelId, Tri, Value, and, depth, eq3, equivalent, is_in, less3, not, or,
-    order, truth, truth_of, value_of, weight, xor,
+    Fault, NodeId, Path, RelId, Tri, Value, and, comes_again, depth, eq3, equivalent, is_in, less3,
+    not, or, order, truth, truth_of, value_of, weight, xor,
 };
 use std::alloc::{AllocError, Global};
 use std::collections::{BTreeMap, HashMap};
@@ -44,84 +44,87 @@ const NODE: Value = Value::Node(NodeId(1));
 
 const REL: Value = Value::Rel(RelId(1));
 
-#[test]
-fn scalars(rt: HostRuntime) {
-    // two operands, whether they are equal, and whether the first is less
-    let cases = [
-        (NULL, NULL, Tri::Null, Tri::Null),
-        (NULL, ONE, Tri::Null, Tri::Null),
-        (ONE, ONE, Tri::True, Tri::False),
-        (ONE, TWO, Tri::False, Tri::True),
-        (YES, NO, Tri::False, Tri::False),
-        (NO, YES, Tri::False, Tri::True),
-        (ONE, YES, Tri::False, Tri::Null),
-        (NODE, REL, Tri::False, Tri::Null),
-    ];
-    for (x, y, same, less) in &cases {
-        assert_eq!(rt; eq3(x, y), *same);
-        assert_eq!(rt; less3(x, y).ok(), Some(*less));
+/// In ascending order: maps, a node, a relationship, lists, a path, a text, booleans, integers, null.
+fn ascending(a: Global) -> Result<Vec<Value>, AllocError> {
+    let mut all = Vec::new(a);
+    all.push(map(a, "k", ONE)?)?;
+    all.push(map(a, "k", NULL)?)?;
+    all.push(map(a, "l", ONE)?)?;
+    all.push(NODE)?;
+    all.push(REL)?;
+    all.push(list(a, &[1])?)?;
+    all.push(list(a, &[1, 2])?)?;
+    all.push(list(a, &[-1])?)?;
+    all.push(path(a, &[0, 0, 1])?)?;
+    all.push(text(a, "a")?)?;
+    all.push(NO)?;
+    all.push(YES)?;
+    all.push(ONE)?;
+    all.push(TWO)?;
+    all.push(NULL)?;
+    Ok(all)
+}
+
+/// A line each value and a word each other one: `=`, `<` and IN as true, false, null or a fault.
+const ANSWERS: &str = "\
+txx nxx fxx fnx fnx fnf fnf fnn fnx fnx fnx fnx fnx fnx nnn\n\
+nxx nxx fxx fnx fnx fnf fnf fnn fnx fnx fnx fnx fnx fnx nnn\n\
+fxx fxx txx fnx fnx fnf fnf fnn fnx fnx fnx fnx fnx fnx nnn\n\
+fnx fnx fnx txx fnx fnf fnf fnn fnx fnx fnx fnx fnx fnx nnn\n\
+fnx fnx fnx fnx txx fnf fnf fnn fnx fnx fnx fnx fnx fnx nnn\n\
+fnx fnx fnx fnx fnx txf fxf nxn fnx fnx fnx fnx fnx fnx nnn\n\
+fnx fnx fnx fnx fnx fxf txf fxn fnx fnx fnx fnx fnx fnx nnn\n\
+fnx fnx fnx fnx fnx nxf fxf nxn fnx fnx fnx fnx fnx fnx nnn\n\
+fnx fnx fnx fnx fnx fnf fnf fnn txx fnx fnx fnx fnx fnx nnn\n\
+fnx fnx fnx fnx fnx fnf fnf fnn fnx tfx fnx fnx fnx fnx nnn\n\
+fnx fnx fnx fnx fnx fnf fnf fnn fnx fnx tfx ftx fnx fnx nnn\n\
+fnx fnx fnx fnx fnx fnf fnf fnn fnx fnx ffx tfx fnx fnx nnn\n\
+fnx fnx fnx fnx fnx fnt fnt fnn fnx fnx fnx fnx tfx ftx nnn\n\
+fnx fnx fnx fnx fnx fnf fnt fnn fnx fnx fnx fnx ffx tfx nnn\n\
+nnx nnx nnx nnx nnx nnn nnn nnn nnx nnx nnx nnx nnx nnx nnn";
+
+fn letter(answer: Result<Tri, Fault>) -> u8 {
+    match answer {
+        Ok(Tri::True) => b't',
+        Ok(Tri::False) => b'f',
+        Ok(Tri::Null) => b'n',
+        Err(Fault::TypeFault) => b'x',
+        Err(_) => b'?',
     }
-    assert_eq!(rt; eq3(&NODE, &NODE), Tri::True);
-    assert!(rt; matches!(less3(&NODE, &NODE), Err(Fault::TypeFault)));
 }
 
 #[test]
-fn lists(rt: HostRuntime) -> Result<(), Fail> {
-    let one = list(rt.alloc(), &[1])?;
-    let one_two = list(rt.alloc(), &[1, 2])?;
-    let null = list(rt.alloc(), &[-1])?;
-    let pairs = [
-        (&one, &one, Tri::True),
-        (&one, &one_two, Tri::False),
-        (&one, &null, Tri::Null),
-        (&null, &null, Tri::Null),
-        (&null, &one_two, Tri::False),
-        (&one, &NULL, Tri::Null),
-    ];
-    for (x, y, want) in pairs {
-        assert_eq!(rt; eq3(x, y), want);
+fn answers(rt: HostRuntime) -> Result<(), Fail> {
+    let all = ascending(rt.alloc())?;
+    for (x, line) in all.iter().zip(ANSWERS.lines()) {
+        for (y, word) in all.iter().zip(line.split(' ')) {
+            let found = [
+                letter(Ok(eq3(x, y))),
+                letter(less3(x, y)),
+                letter(is_in(x, y)),
+            ];
+            assert!(rt; word.as_bytes() == found.as_slice());
+        }
     }
-    let members = [
-        (&ONE, &one_two, Some(Tri::True)),
-        (&TWO, &one_two, Some(Tri::True)),
-        (&TWO, &one, Some(Tri::False)),
-        (&TWO, &null, Some(Tri::Null)),
-        (&NULL, &one, Some(Tri::Null)),
-        (&ONE, &NULL, Some(Tri::Null)),
-        (&ONE, &TWO, None),
-    ];
-    for (x, place, want) in members {
-        assert_eq!(rt; is_in(x, place).ok(), want);
-    }
-    Ok(())
-}
-
-#[test]
-fn maps(rt: HostRuntime) -> Result<(), Fail> {
-    let k_one = map(rt.alloc(), "k", ONE)?;
-    let k_null = map(rt.alloc(), "k", NULL)?;
-    let l_one = map(rt.alloc(), "l", ONE)?;
-    assert_eq!(rt; eq3(&k_one, &k_one), Tri::True);
-    assert_eq!(rt; eq3(&k_one, &k_null), Tri::Null);
-    assert_eq!(rt; eq3(&k_one, &l_one), Tri::False);
-    assert_eq!(rt; eq3(&k_null, &l_one), Tri::False);
     Ok(())
 }
 
 #[test]
 fn total_order(rt: HostRuntime) -> Result<(), Fail> {
-    let map = map(rt.alloc(), "k", ONE)?;
-    let list = list(rt.alloc(), &[1])?;
-    let text = text(rt.alloc(), "a")?;
-    let ascending = [
-        &map, &NODE, &REL, &list, &text, &NO, &YES, &ONE, &TWO, &NULL,
-    ];
-    for (i, x) in ascending.iter().enumerate() {
-        for (j, y) in ascending.iter().enumerate() {
-            assert!(rt; order(x, y) == i.cmp(&j));
-            assert!(rt; equivalent(x, y) == (i == j));
+    let all = ascending(rt.alloc())?;
+    for (i, x) in all.iter().enumerate() {
+        for (j, y) in all.iter().enumerate() {
+            assert!(rt; order(x, y) == i.cmp(&j) && equivalent(x, y) == (i == j));
         }
     }
+    Ok(())
+}
+
+#[test]
+fn texts(rt: HostRuntime) -> Result<(), Fail> {
+    assert!(rt; !comes_again(rt.alloc(), &[])?);
+    assert!(rt; !comes_again(rt.alloc(), &["a", "b", "A"])?);
+    assert!(rt; comes_again(rt.alloc(), &["a", "b", "a"])?);
     Ok(())
 }
 
@@ -138,39 +141,21 @@ fn hashing(rt: HostRuntime) -> Result<(), Fail> {
     let mut places = HashMap::new(rt.alloc());
     drop(places.insert(list(rt.alloc(), &[1, -1])?, 1)?);
     drop(places.insert(NULL, 2)?);
-    assert_eq!(rt; places.get(&list(rt.alloc(), &[1, -1])?).copied(), Some(1));
-    assert_eq!(rt; places.get(&NULL).copied(), Some(2));
-    assert_eq!(rt; places.get(&ONE).copied(), None);
+    assert!(rt; places.get(&list(rt.alloc(), &[1, -1])?).copied() == Some(1));
+    assert!(rt; places.get(&NULL).copied() == Some(2));
+    assert!(rt; places.get(&ONE).is_none());
     Ok(())
-}
-
-/// A list of one value of each kind.
-fn one_of_each(a: Global) -> Result<Value, AllocError> {
-    let mut values = vec![in a; NULL, YES, ONE, NODE, REL]?;
-    values.push(text(a, "ab")?)?;
-    values.push(list(a, &[1, -1])?)?;
-    values.push(map(a, "k", ONE)?)?;
-    values.push(path(a, &[0, 0, 1])?)?;
-    Ok(Value::List(values))
 }
 
 #[test]
 fn copies(rt: HostRuntime) -> Result<(), Fail> {
-    let whole = one_of_each(rt.alloc())?;
+    let whole = Value::List(ascending(rt.alloc())?);
+    assert!(rt; weight(&whole) == 30 && depth(&whole) == 3);
+    assert!(rt; weight(&NULL) == 1 && depth(&NULL) == 1);
     let copy = whole.copy(rt.alloc())?;
     assert!(rt; copy == whole);
     drop(whole);
-    assert!(rt; copy == one_of_each(rt.alloc())?);
-    Ok(())
-}
-
-#[test]
-fn measures(rt: HostRuntime) -> Result<(), Fail> {
-    let whole = one_of_each(rt.alloc())?;
-    assert_eq!(rt; weight(&whole), 19);
-    assert_eq!(rt; depth(&whole), 3);
-    assert_eq!(rt; weight(&NULL), 1);
-    assert_eq!(rt; depth(&NULL), 1);
+    assert!(rt; copy == Value::List(ascending(rt.alloc())?));
     Ok(())
 }
 
@@ -186,9 +171,7 @@ fn logic(rt: HostRuntime) {
         (Tri::Null, Tri::Null, Tri::Null, Tri::Null, Tri::Null),
     ];
     for (x, y, both, some, one) in table {
-        assert_eq!(rt; and(x, y), both);
-        assert_eq!(rt; or(x, y), some);
-        assert_eq!(rt; xor(x, y), one);
+        assert!(rt; and(x, y) == both && or(x, y) == some && xor(x, y) == one);
     }
 }
 
@@ -199,11 +182,9 @@ fn truths(rt: HostRuntime) {
         (Tri::False, Tri::True),
         (Tri::Null, Tri::Null),
     ] {
-        assert_eq!(rt; not(t), turned);
-        assert_eq!(rt; truth_of(&value_of(t)).ok(), Some(t));
+        assert!(rt; not(t) == turned && truth_of(&value_of(t)).ok() == Some(t));
     }
-    assert_eq!(rt; truth(true), Tri::True);
-    assert!(rt; value_of(Tri::True) == YES);
+    assert!(rt; truth(true) == Tri::True && value_of(Tri::True) == YES);
     assert!(rt; truth_of(&ONE).is_err());
 }
 
@@ -214,6 +195,6 @@ fn codes(rt: HostRuntime) {
         (Fault::NotYet, 90),
         (Fault::OutOfMemory, 99),
     ] {
-        assert_eq!(rt; fault.code(), code);
+        assert!(rt; fault.code() == code);
     }
 }

@@ -6,6 +6,8 @@ mod depth;
 mod error;
 mod grammar;
 mod query;
+#[cfg(test)]
+mod tests;
 mod tree;
 
 pub use query::{law_of_plain_texts, law_one_reading, parse};

@@ -18,32 +18,43 @@ fn main(rt: HostRuntime) -> anyhow::Result<()> {
     let mut args = env::args(&rt)?;
     drop(args.next());
     match args.next() {
-        Some(count) => measure(&rt, count.as_str().parse()?),
-        None => small(&rt),
+        Some(count) => measure::<PlainTables>(&rt, count.as_str().parse()?),
+        None => small::<PlainTables>(&rt),
     }
 }
 
 /// A little of each kind of work.
-fn small(rt: &HostRuntime) -> anyhow::Result<()> {
+fn small<T: Tables>(rt: &HostRuntime) -> anyhow::Result<()>
+where
+    T::Shared: Drop,
+{
     let alloc = rt.alloc();
     let schema = Schema::new(alloc)?;
-    let mut tables = PlainTables::new(alloc, 0);
-    fill(alloc, &mut tables, &mut (), schema, 1000)?;
-    println!(rt; "in order: {}", sum(&tables, &(), schema, 1000, 1))?;
-    println!(rt; "in jumps: {}", sum(&tables, &(), schema, 1000, JUMP))?;
+    let mut shared = T::new_shared(alloc);
+    let mut tables = T::new(alloc, 0);
+    fill(alloc, &mut tables, &mut shared, &schema, 1000)?;
+    for step in [1, JUMP] {
+        let total = sum(&tables, &shared, &schema, 1000, step);
+        println!(rt; "read {total}")?;
+    }
     Ok(())
 }
 
-fn measure(rt: &HostRuntime, count: u64) -> anyhow::Result<()> {
+fn measure<T: Tables>(rt: &HostRuntime, count: u64) -> anyhow::Result<()>
+where
+    T::Shared: Drop,
+{
     let alloc = rt.alloc();
     let schema = Schema::new(alloc)?;
-    let mut tables = PlainTables::new(alloc, 0);
+    let mut shared = T::new_shared(alloc);
+    let mut tables = T::new(alloc, 0);
     let start = Instant::now(rt)?;
-    fill(alloc, &mut tables, &mut (), schema, count)?;
-    println!(rt; "add {}", start.elapsed(rt)?.as_micros())?;
+    fill(alloc, &mut tables, &mut shared, &schema, count)?;
+    let time = start.elapsed(rt)?;
+    println!(rt; "add {}", time.as_micros())?;
     for step in [1, JUMP] {
         let start = Instant::now(rt)?;
-        let total = sum(&tables, &(), schema, count, step);
+        let total = sum(&tables, &shared, &schema, count, step);
         let time = start.elapsed(rt)?;
         println!(rt; "read {} {total}", time.as_micros())?;
     }

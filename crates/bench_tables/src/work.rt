@@ -10,7 +10,7 @@ use std::alloc::{AllocError, Global};
 const TEXT: &str = "a name of some forty letters, plain ones";
 
 /// The numbers of the names that each node has.
-#[derive(Clone, Copy)]
+#[derive(Drop)]
 pub struct Schema {
     label: NameId,
     name: NameId,
@@ -27,7 +27,7 @@ impl Schema {
         })
     }
 
-    fn node(self, alloc: Global, id: u64) -> Result<NodeRecord, AllocError> {
+    fn node(&self, alloc: Global, id: u64) -> Result<NodeRecord, AllocError> {
         let mut labels = Labels::new(alloc);
         labels.insert(self.label)?;
         let mut properties = Properties::with_capacity(alloc, 2)?;
@@ -37,7 +37,7 @@ impl Schema {
     }
 
     // What a node with the label has as its number.
-    fn number_of(self, node: &NodeRecord) -> u64 {
+    fn number_of(&self, node: &NodeRecord) -> u64 {
         match node.properties.get(self.number) {
             Some(Value::Int(n)) if node.labels.contains(self.label) => n.unsigned_abs(),
             _ => 0,
@@ -50,7 +50,7 @@ pub fn fill<T: Tables>(
     alloc: Global,
     tables: &mut T,
     shared: &mut T::Shared,
-    schema: Schema,
+    schema: &Schema,
     count: u64,
 ) -> Result<(), AllocError>
     requires fits { T.seen.fits tables.old shared.old }
@@ -67,10 +67,10 @@ pub fn fill<T: Tables>(
 
 /// The sum of the numbers of nodes 0 to `count`, each looked up by its id: in rising order where
 /// `step` is 1, and else jumping by so many ids each time.
-pub fn sum<T: Tables>(
-    tables: &T,
-    shared: &T::Shared,
-    schema: Schema,
+pub fn sum<'a, T: Tables>(
+    tables: &'a T,
+    shared: &'a T::Shared,
+    schema: &Schema,
     count: u64,
     step: u64,
 ) -> u64

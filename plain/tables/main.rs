@@ -1,7 +1,7 @@
 //! The same work in plain Rust, with nothing proved: what `bench_tables` is compared with.
 use std::collections::BTreeMap;
-use std::env;
 use std::time::Instant;
+use std::{env, fs};
 
 const TEXT: &str = "a name of some forty letters, plain ones";
 const JUMP: u64 = 7919;
@@ -56,14 +56,20 @@ fn sum(nodes: &BTreeMap<u64, Node>, count: u64, step: u64) -> u64 {
     total
 }
 
+fn print_memory() {
+    print!("memory {}", fs::read_to_string("/proc/self/statm").unwrap());
+}
+
 fn main() {
     let count: u64 = env::args().nth(1).unwrap().parse().unwrap();
     let mut nodes = BTreeMap::new();
+    print_memory();
     let start = Instant::now();
     for id in 0..count {
         nodes.insert(id, Node::new(id));
     }
     println!("add {}", start.elapsed().as_micros());
+    print_memory();
     for step in [1, JUMP] {
         let start = Instant::now();
         let total = sum(&nodes, count, step);

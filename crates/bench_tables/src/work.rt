@@ -1,0 +1,87 @@
+//! Tables filled with nodes of one label and two properties, and read.
+ghost use Rattle.std.specs.Prelude.{◌≡◌, ◌<◌, ◌≤◌, ℕ, None, IsSome, OnOk};
+ghost use Rattle.std.specs.FinMap as map;
+ghost use Rattle.pg_graph.specs.Content.{empty_content};
+
+use pg_graph::{Labels, NameId, Names, NodeRecord, Properties, Tables};
+use pg_value_core::{NodeId, Value};
+use std::alloc::{AllocError, Global};
+
+const TEXT: &str = "a name of some forty letters, plain ones";
+
+/// The numbers of the names that each node has.
+#[derive(Drop)]
+pub struct Schema {
+    label: NameId,
+    name: NameId,
+    number: NameId,
+}
+
+impl Schema {
+    pub fn new(alloc: Global) -> Result<Schema, AllocError> {
+        let mut names = Names::new(alloc);
+        Ok(Schema {
+            label: names.intern("Person")?,
+            name: names.intern("name")?,
+            number: names.intern("number")?,
+        })
+    }
+
+    fn node(&self, alloc: Global, id: u64) -> Result<NodeRecord, AllocError> {
+        let mut labels = Labels::new(alloc);
+        labels.insert(self.label)?;
+        let mut properties = Properties::with_capacity(alloc, 2)?;
+        properties.set(self.name, Value::Text(String::from_str(alloc, TEXT)?))?;
+        properties.set(self.number, Value::Int((id % 1000) as i64))?;
+        Ok(NodeRecord { labels, properties })
+    }
+
+    // What a node with the label has as its number.
+    fn number_of(&self, node: &NodeRecord) -> u64 {
+        match node.properties.get(self.number) {
+            Some(Value::Int(n)) if node.labels.contains(self.label) => n.unsigned_abs(),
+            _ => 0,
+        }
+    }
+}
+
+/// Adds nodes 0 to `count` to empty tables.
+pub fn fill<T: Tables>(
+    alloc: Global,
+    tables: &mut T,
+    shared: &mut T::Shared,
+    schema: &Schema,
+    count: u64,
+) -> Result<(), AllocError>
+    requires fits { T.seen.fits tables.old shared.old }
+    requires empty { T.seen.content tables.old shared.old ≡ empty_content }
+    ensures fits { T.seen.fits tables.new shared.new }
+    ensures filled { OnOk result ((id : ℕ) → id < count → IsSome (map.get (T.seen.content tables.new shared.new).nodes id)) }
+    ensures others { (id : ℕ) → count ≤ id → map.get (T.seen.content tables.new shared.new).nodes id ≡ None }
+{
+    for id in 0..count {
+        tables.add_node(shared, NodeId(id), schema.node(alloc, id)?)?;
+    }
+    Ok(())
+}
+
+/// The sum of the numbers of nodes 0 to `count`, each looked up by its id: in rising order where
+/// `step` is 1, and else jumping by so many ids each time.
+pub fn sum<'a, T: Tables>(
+    tables: &'a T,
+    shared: &'a T::Shared,
+    schema: &Schema,
+    count: u64,
+    step: u64,
+) -> u64
+    requires { T.seen.fits tables.now shared.now }
+{
+    let mut total: u64 = 0;
+    for turn in 0..count {
+        let id = turn.wrapping_mul(step) % count;
+        if let Some(node) = tables.node(shared, NodeId(id)) {
+            total = total.wrapping_add(schema.number_of(node));
+        }
+    }
+    total
+}

@@ -1,7 +1,7 @@
 -- A query of plain items answers with the values of its items.
 use Rattle.std.proofs.Common.{◌≡◌, ℕ, Bool, true, false, List, [], ◌∷◌, ◌++◌, map, Result, Ok, Err, refl, sym, ap, ◌∙◌}
 use Rattle.std.specs.Prelude.{nat_le}
-use Rattle.std.specs.List.{AllByRecursion}
+use Rattle.std.specs.List.{AllByRecursion, list_any}
 use Rattle.pg_meaning.specs.Answer.{◌>>=◌, ◌>>◌, unless, each_answer, each_step}
 use Rattle.pg_meaning.specs.Expressions.{evaluate}
 use Rattle.pg_meaning.specs.Graph.{Graph, empty_graph}
@@ -10,13 +10,13 @@ use Rattle.pg_meaning.specs.Plans.{plan_of}
 use Rattle.pg_meaning.specs.Projections.{column_value}
 use Rattle.pg_meaning.specs.Queries.{Outcome, test_output, test_items}
 use Rattle.pg_meaning.specs.Rows.{Row, values_in}
-use Rattle.pg_meaning.specs.Scopes.{return_column, column_names}
+use Rattle.pg_meaning.specs.Scopes.{is_aggregate, return_column, column_names}
 use Rattle.pg_meaning.specs.Tree.{Item}
 use Rattle.pg_meaning.specs.Value.{Value, values_of, no_entries}
 use Rattle.pg_meaning.specs.declared.fault.Fault.{Fault}
 use Rattle.pg_meaning.specs.declared.fault.Fault.TheVariants.{StepQuota}
 use Rattle.pg_syntax.specs.Plain.{IsPlainExpression, plain_query}
-use Rattle.pg_tenant.specs.Answers.{item_values, plain_answer, PlainAnswers}
+use Rattle.pg_tenant.specs.Answers.{query_answer, item_values, plain_answer, PlainAnswers}
 use Rattle.pg_tenant.specs.Checks.{names_of}
 use Rattle.pg_tenant.specs.Evaluation.{given}
 use Rattle.pg_tenant.specs.Items.{setting_of}
@@ -52,13 +52,17 @@ charged : (b : Bool) (n : ℕ) (k : ℕ → Result Outcome Fault) (q : Result Ou
 charged true n k q h = h
 charged false n k q h = refl
 
-pub plain_answers : PlainAnswers
-plain_answers items ends max_steps max_elements h =
+pub answers_of_values : (items : List Item) (ends : Bool) (max_steps max_elements : ℕ) → list_any is_aggregate (map return_column items) ≡ false
+    → query_answer max_steps max_elements (plain_query items ends) ≡ plain_answer max_steps items
+answers_of_values items ends max_steps max_elements none =
     let s : Setting = setting_of (plan_of [] (plain_query items ends)) no_entries max_steps max_elements in
     let tested : ℕ → List (List ℕ) → List Value → Result Outcome Fault = λ n ns vs. each_step (λ done v. test_output empty_graph v) tt vs >> Ok (record { columns = ns; rows = vs ∷ []; graph = empty_graph; steps = n }) in
-    items_alone (plan_of [] (plain_query items ends)) items ends no_entries empty_graph max_steps max_elements (no_aggregates items h)
+    items_alone (plan_of [] (plain_query items ends)) items ends no_entries empty_graph max_steps max_elements none
     ∙ charged (nat_le 1 max_steps) 1 (λ n. row_of s items >>= λ row. tested n (column_names (map return_column items)) (values_in row)) (item_values items >>= tested 1 (names_of items))
     (values_of_row s items (tested 1 (column_names (map return_column items))) refl ∙ ap (λ ns. item_values items >>= tested 1 ns) (names items))
+
+pub plain_answers : PlainAnswers
+plain_answers items ends max_steps max_elements h = answers_of_values items ends max_steps max_elements (no_aggregates items h)
 
 one_test : (r : Result (Unit {0}) Fault) (x y : Result (Unit {0}) Fault) → x ≡ y → (r >>= λ t. x) ≡ (r >> y)
 one_test (Ok t) x y h = h

@@ -3,6 +3,7 @@ pub mod CheckLemmas
 pub mod EntryLemmas
 pub mod EvaluationLemmas
 pub mod ItemLemmas
+pub mod PlanLemmas
 pub mod ReadingLemmas
 pub mod RunLemmas
 pub mod SpellingLemmas

@@ -1,27 +1,25 @@
--- From a text to the items of its plain query.
-use Rattle.std.proofs.Common.{◌≡◌, ℕ, ◌≤◌, ◌<◌, arith, length, Bool, true, false, List, [], ◌∷◌, ◌++◌, map, Option, Some, None, Result, Ok, Err, refl, sym, ap, ◌∙◌, subst, ◌⊎◌, inl, inr}
+-- From a text to the plan of its plain query.
+use Rattle.std.proofs.Common.{◌≡◌, ℕ, ◌≤◌, ◌<◌, arith, length, Bool, true, false, List, [], ◌∷◌, ◌++◌, map, Result, Ok, Err, refl, sym, ap, ◌∙◌, subst, inl, inr}
 use Rattle.std.proofs.lemmas.Bool.{le-leb}
 use Rattle.std.proofs.lemmas.Bool.Decides.{leb_tells}
 use Rattle.std.specs.List.{AllByRecursion}
 use Rattle.std.specs.Prelude.{nat_le}
-use Rattle.pg_meaning.specs.Answer.{◌>>=◌, ◌>>◌, unless}
-use Rattle.pg_meaning.specs.Queries.{Outcome}
 use Rattle.pg_meaning.specs.Texts.{checked_query}
 use Rattle.pg_meaning.specs.Tree.{Item, Query, Clause}
 use Rattle.pg_meaning.specs.Tree as tree
 use Rattle.pg_meaning.specs.declared.fault.Fault.{Fault}
 use Rattle.pg_meaning.specs.declared.fault.Fault.TheVariants.{TextTooLong, DuplicateColumn}
-use Rattle.pg_syntax.specs.Plain.{IsPlain, IsPlainExpression, plain_query, plain_projection}
+use Rattle.pg_syntax.specs.Plain.{IsPlain, IsPlainExpression, plain_projection}
 use Rattle.pg_syntax.specs.View.{query_view, clause_view, item_view}
 use Rattle.pg_syntax.specs.declared.tree.Clause.{Clause as CodeClause}
 use Rattle.pg_syntax.specs.declared.tree.Clause.TheVariants.{Return}
 use Rattle.pg_syntax.specs.declared.tree.Projection.{Projection as CodeProjection}
 use Rattle.pg_syntax.specs.declared.tree.Query.{Query as Code}
 use Rattle.pg_lex.specs.Plain.{plain_tokens_of}
-use Rattle.pg_tenant.specs.Answers.{query_answer, plain_answer}
 use Rattle.pg_tenant.specs.Checks.{names_of}
-use Rattle.pg_tenant.specs.Reading.{ReadsItems, text_query, text_answer, parsed, greatest_text}
-use Rattle.pg_tenant.proofs.AnswerLemmas.{plain_answers}
+use Rattle.pg_tenant.specs.Plans.{plan_query, ReadsPlan, IsPlanOfText, AnyPlanAnswers}
+use Rattle.pg_tenant.specs.Reading.{tested_length, text_checked, text_answer, parsed, greatest_text}
+use Rattle.pg_tenant.specs.declared.plan.Plan.{Plan}
 use Rattle.pg_tenant.proofs.CheckLemmas.{checked_plain}
 use Rattle.pg_value.specs.Texts.{comes_again}
 
@@ -34,13 +32,12 @@ items_in cs = []
 only_clause : (q : Code) → (h : IsPlain (query_view q)) → map clause_view q.clauses.items ≡ tree.return_rows (plain_projection h.items) ∷ []
 only_clause q h = ap (λ (x : Query). x.clauses) h.only
 
-pub last_clause : (q : Code) (before : List CodeClause) (p : CodeProjection) → IsPlain (query_view q) → q.clauses.items ≡ before ++ Return p ∷ [] → ReadsItems (Ok (query_view q)) (map item_view p.items.items)
+pub last_clause : (q : Code) (before : List CodeClause) (p : CodeProjection) → IsPlain (query_view q) → q.clauses.items ≡ before ++ Return p ∷ [] → ReadsPlan (Ok (query_view q)) (record { items = p.items; semicolon = q.semicolon })
 unfolding items_in
 last_clause q [] p h is =
     let clauses : map clause_view q.clauses.items ≡ tree.return_rows (plain_projection (map item_view p.items.items)) ∷ [] = ap (map clause_view) is in
     let items : h.items ≡ map item_view p.items.items = ap items_in (sym (only_clause q h) ∙ clauses) in
     record {
-      ends = q.semicolon;
       is = ap (λ cs. let x : Query = record { clauses = cs; semicolon = q.semicolon } in Ok x) clauses;
       each = subst (AllByRecursion (λ x. IsPlainExpression x.value)) items h.each;
     }
@@ -58,31 +55,39 @@ short n h = le-leb n greatest_text h
 long : (n : ℕ) → greatest_text < n → nat_le n greatest_text ≡ false
 long n h = elim (leb_tells n greatest_text) [ inl w ↦ absurd (omega (arith, w.1)) | inr w ↦ w.0 ]
 
-pub too_long : (text : List ℕ) → greatest_text < length text → text_query text ≡ Err TextTooLong
+pub too_long : (text : List ℕ) → greatest_text < length text → Err TextTooLong ≡ tested_length text
 too_long text h = rw (long (length text) h) refl
 
-pub not_read : (text : List ℕ) (e : Fault) → length text ≤ greatest_text → parsed text (plain_tokens_of text) ≡ Err e → text_query text ≡ Err e
-not_read text e h is = rw (short (length text) h, is) refl
+pub long_enough : (text : List ℕ) → length text ≤ greatest_text → Ok tt ≡ tested_length text
+long_enough text h = rw (short (length text) h) refl
 
-checked_items : (text : List ℕ) (items : List Item) → length text ≤ greatest_text → (r : ReadsItems (parsed text (plain_tokens_of text)) items)
-    → text_query text ≡ elim (comes_again [] (names_of items)) [ true ↦ Err DuplicateColumn | false ↦ Ok (plain_query items r.ends) ]
-checked_items text items h r = rw (short (length text) h) (ap checked_query r.is ∙ checked_plain items r.ends r.each)
+pub not_read : (text : List ℕ) (e : Fault) → parsed text (plain_tokens_of text) ≡ Err e → text_checked text ≡ Err e
+not_read text e is = ap checked_query is
 
-pub comes_twice : (text : List ℕ) (items : List Item) → length text ≤ greatest_text → ReadsItems (parsed text (plain_tokens_of text)) items → comes_again [] (names_of items) ≡ true → text_query text ≡ Err DuplicateColumn
-comes_twice text items h r again = checked_items text items h r ∙ ap (λ b. elim b as (λ _. Result Query Fault) [ true ↦ Err DuplicateColumn | false ↦ Ok (plain_query items r.ends) ]) again
+checked_columns : (text : List ℕ) (plan : Plan) → ReadsPlan (parsed text (plain_tokens_of text)) plan
+    → text_checked text ≡ elim (comes_again [] (names_of (map item_view plan.items.items))) [ true ↦ Err DuplicateColumn | false ↦ Ok (plan_query plan) ]
+checked_columns text plan r = ap checked_query r.is ∙ checked_plain (map item_view plan.items.items) plan.semicolon r.each
 
-pub is_read : (text : List ℕ) (items : List Item) → length text ≤ greatest_text → ReadsItems (parsed text (plain_tokens_of text)) items → comes_again [] (names_of items) ≡ false → ReadsItems (text_query text) items
-is_read text items h r once =
+pub comes_twice : (text : List ℕ) (plan : Plan) → ReadsPlan (parsed text (plain_tokens_of text)) plan → comes_again [] (names_of (map item_view plan.items.items)) ≡ true → text_checked text ≡ Err DuplicateColumn
+comes_twice text plan r again = checked_columns text plan r ∙ ap (λ b. elim b as (λ _. Result Query Fault) [ true ↦ Err DuplicateColumn | false ↦ Ok (plan_query plan) ]) again
+
+pub is_planned : (text : List ℕ) (plan : Plan) → ReadsPlan (parsed text (plain_tokens_of text)) plan → comes_again [] (names_of (map item_view plan.items.items)) ≡ false → IsPlanOfText text plan
+is_planned text plan r once =
     record {
-      ends = r.ends;
-      is = checked_items text items h r ∙ ap (λ b. elim b as (λ _. Result Query Fault) [ true ↦ Err DuplicateColumn | false ↦ Ok (plain_query items r.ends) ]) once;
-      each = r.each;
+      is = checked_columns text plan r ∙ ap (λ b. elim b as (λ _. Result Query Fault) [ true ↦ Err DuplicateColumn | false ↦ Ok (plan_query plan) ]) once;
+      begins = (refl, tt);
     }
 
 -- ---- the answer
 
-pub answers_items : (text : List ℕ) (items : List Item) (max_steps max_elements : ℕ) → ReadsItems (text_query text) items → text_answer max_steps max_elements text ≡ plain_answer max_steps items
-answers_items text items max_steps max_elements r = ap (λ q. q >>= query_answer max_steps max_elements) r.is ∙ plain_answers items r.ends max_steps max_elements r.each
+pub any_plan_answers : AnyPlanAnswers
+any_plan_answers text plan max_steps max_elements h p = rw (short (length text) h, p.is) refl
 
-pub answers_fault : (text : List ℕ) (e : Fault) (max_steps max_elements : ℕ) → text_query text ≡ Err e → text_answer max_steps max_elements text ≡ Err e
-answers_fault text e max_steps max_elements h = ap (λ q. q >>= query_answer max_steps max_elements) h
+pub refused_for_length : (text : List ℕ) (e : Fault) (max_steps max_elements : ℕ) → Err e ≡ tested_length text → text_answer max_steps max_elements text ≡ Err e
+refused_for_length text e max_steps max_elements h = rw (sym h) refl
+
+pub refused_by_text : (text : List ℕ) (e : Fault) (max_steps max_elements : ℕ) → Ok tt ≡ tested_length text → text_checked text ≡ Err e → text_answer max_steps max_elements text ≡ Err e
+refused_by_text text e max_steps max_elements fits h = rw (sym fits, h) refl
+
+pub short_text : (text : List ℕ) → Ok tt ≡ tested_length text → length text ≤ greatest_text
+short_text text h = elim (leb_tells (length text) greatest_text) [ inl w ↦ w.1 | inr w ↦ absurd (let bad : Ok tt ≡ Err TextTooLong = h ∙ sym (too_long text (omega (arith, w.1))) in cc) ]

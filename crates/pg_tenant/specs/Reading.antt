@@ -7,29 +7,29 @@ use Rattle.pg_meaning.specs.Queries.{Outcome}
 use Rattle.pg_meaning.specs.StaticFaults.{static_fault}
 use Rattle.pg_meaning.specs.Texts.{checked_query}
 use Rattle.pg_meaning.specs.Tokens.{Token}
-use Rattle.pg_meaning.specs.Tree.{Item, Query}
+use Rattle.pg_meaning.specs.Tree.{Query}
 use Rattle.pg_meaning.specs.declared.fault.Fault.{Fault}
 use Rattle.pg_meaning.specs.declared.fault.Fault.TheVariants.{TextTooLong, BadLexeme}
-use Rattle.pg_syntax.specs.Plain.{IsPlainExpression, plain_query}
 use Rattle.pg_syntax.specs.PlainParse.{plain_parse}
 use Rattle.pg_tenant.specs.Answers.{query_answer}
 
 abbrev pub greatest_text : ℕ
 greatest_text = 65536
 
+abbrev pub tested_length : (text : List ℕ) → Result (Unit {0}) Fault
+tested_length text = unless (nat_le (length text) greatest_text) TextTooLong
+
 abbrev pub parsed : (text : List ℕ) → Option (List Token) → Result Query Fault
 parsed text None = Err BadLexeme
 parsed text (Some tokens) = plain_parse text tokens
 
--- the tests in their order: the text's length, its lexemes, how deep they nest, the grammar, the static faults
+-- the tests of the text itself in their order: its lexemes, how deep they nest, the grammar, the static faults
+abbrev pub text_checked : List ℕ → Result Query Fault
+text_checked text = checked_query (parsed text (plain_tokens_of text))
+
+-- its length goes before them
 abbrev pub text_query : List ℕ → Result Query Fault
-text_query text = unless (nat_le (length text) greatest_text) TextTooLong >> checked_query (parsed text (plain_tokens_of text))
+text_query text = tested_length text >> text_checked text
 
 abbrev pub text_answer : (max_steps max_elements : ℕ) → List ℕ → Result Outcome Fault
 text_answer max_steps max_elements text = text_query text >>= query_answer max_steps max_elements
-
--- a query of these plain items was read
-pub record ReadsItems (answer : Result Query Fault) (items : List Item) : Type 0 where
-  pub ends : Bool
-  pub is : answer ≡ Ok (plain_query items ends)
-  pub each : AllByRecursion (λ x. IsPlainExpression x.value) items

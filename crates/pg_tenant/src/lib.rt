@@ -4,15 +4,18 @@
 ghost use Rattle.pg_tenant.specs.Answers.{PlainAnswers};
 ghost use Rattle.pg_tenant.specs.Checks.{PlainChecks};
 ghost use Rattle.pg_tenant.specs.Items.{ItemsAlone};
+ghost use Rattle.pg_tenant.specs.Plans.{AnyPlanAnswers};
 
 mod answer;
 mod columns;
 mod evaluation;
+mod plan;
 mod reading;
 mod spelling;
 
 pub use answer::{Answer, Quota};
-pub use reading::answer_text;
+pub use plan::{Plan, answer_plan};
+pub use reading::{answer_text, check_length, plan_text};
 
 /// What a query of one RETURN with plain items answers.
 #[tactic(auto, using(crate::proofs::ItemLemmas::items_alone))]
@@ -31,3 +34,12 @@ pub fn law_plain_checks()
 pub fn law_plain_answers()
     ensures { PlainAnswers }
 {}
+
+/// Whatever plan of a text is at hand, the text's answer is the one under it.
+#[tactic(auto, using(crate::proofs::ReadingLemmas::any_plan_answers))]
+pub fn law_any_plan_answers()
+    ensures { AnyPlanAnswers }
+{}
+
+#[cfg(test)]
+mod tests;

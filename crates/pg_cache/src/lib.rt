@@ -1,0 +1,9 @@
+//! Plans of query texts, shared by all tenants.
+#![tactic(auto)]
+
+mod cache;
+
+pub use cache::PlanCache;
+
+#[cfg(test)]
+mod tests;

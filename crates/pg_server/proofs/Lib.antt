@@ -8,4 +8,3 @@ pub mod RunLemmas
 pub mod ServeLemmas
 pub mod SoloLemmas
 pub mod StepLemmas
-pub mod TokenLemmas

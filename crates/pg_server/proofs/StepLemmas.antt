@@ -14,7 +14,9 @@ use Rattle.pg_json.specs.Requests.{Request, meaning}
 use Rattle.pg_meaning.specs.declared.fault.Fault.TheVariants.{UnknownToken, OutOfMemory}
 use Rattle.pg_server.specs.Exchange.{Exchange}
 use Rattle.pg_server.specs.Runs.{Runs, SoloRun, IsStrangers, IsStrangersReply, own, asked, token_of, shows_one_of, is_short, is_want_of_memory, fault_of_request}
-use Rattle.pg_server.specs.Settings.{is_among, comes_again, all_tokens, token_texts}
+use Rattle.pg_meaning.specs.Names.{is_among}
+use Rattle.pg_value.specs.Texts.{comes_again}
+use Rattle.pg_server.specs.Settings.{all_tokens, token_texts}
 use Rattle.pg_server.specs.Solo.{solo}
 use Rattle.pg_server.specs.State.{State, ServerState, state_at, tokens_of, settings_of, no_state, no_settings}
 use Rattle.pg_server.specs.Step.{Answers, StepAt, with_tenant, place_of}
@@ -65,11 +67,11 @@ module _ (old : ServerState) (body : List ℕ) (request : Request) (short : is_s
   unknown reply none told =
       left_alone old body reply (λ _. (λ long. cc, λ _. inl (told ∙ ap (λ r. refusal_text (fault_of_request r)) (sym means))))
       (λ t. ap (λ r. shows_one_of (tokens_of (state_at old t)) r && not (is_want_of_memory reply)) asks
-      ∙ ap (λ b. b && not (is_want_of_memory reply)) (none_passes (λ (s : State). is_among (token_of request) (tokens_of s)) old.tenants t no_state none refl))
+      ∙ ap (λ b. b && not (is_want_of_memory reply)) (none_passes (λ (s : State). is_among (tokens_of s) (token_of request)) old.tenants t no_state none refl))
 
   module _ (t : ℕ) (found : place_of (token_of request) old.tenants ≡ Some t) where
-    place : (t < length old.tenants) × (is_among (token_of request) (tokens_of (state_at old t)) ≡ true) × ((k : ℕ) → k < t → is_among (token_of request) (tokens_of (state_at old k)) ≡ false)
-    place = position-Some (λ (s : State). is_among (token_of request) (tokens_of s)) old.tenants t no_state found
+    place : (t < length old.tenants) × (is_among (tokens_of (state_at old t)) (token_of request) ≡ true) × ((k : ℕ) → k < t → is_among (tokens_of (state_at old k)) (token_of request) ≡ false)
+    place = position-Some (λ (s : State). is_among (tokens_of s) (token_of request)) old.tenants t no_state found
 
     module _ (distinct : comes_again [] (all_tokens (settings_of old)) ≡ false) (reply : List ℕ) (told : reply ≡ (solo (state_at old t) request).reply) (is_answered : is_want_of_memory reply ≡ false) where
       abbrev after : State
@@ -78,13 +80,13 @@ module _ (old : ServerState) (body : List ℕ) (request : Request) (short : is_s
       abbrev one : Exchange
       one = record { body = body; reply = reply }
 
-      is_own : (u : ℕ) → shows_one_of (tokens_of (state_at old u)) (asked body) && not (is_want_of_memory reply) ≡ is_among (token_of request) (tokens_of (state_at old u))
+      is_own : (u : ℕ) → shows_one_of (tokens_of (state_at old u)) (asked body) && not (is_want_of_memory reply) ≡ is_among (tokens_of (state_at old u)) (token_of request)
       is_own u = and_true _ (not (is_want_of_memory reply)) (ap not is_answered) ∙ ap (shows_one_of (tokens_of (state_at old u))) asks
 
-      others : (u : ℕ) → t ≢ u → is_among (token_of request) (tokens_of (state_at old u)) ≡ false
+      others : (u : ℕ) → t ≢ u → is_among (tokens_of (state_at old u)) (token_of request) ≡ false
       others u ne =
-          ap (is_among (token_of request)) (ap token_texts (settings_at old.tenants u))
-          ∙ others_lack (settings_of old) t u no_settings (token_of request) refl distinct ne (ap (is_among (token_of request)) (ap token_texts (sym (settings_at old.tenants t))) ∙ place.1)
+          ap (λ names. is_among names (token_of request)) (ap token_texts (settings_at old.tenants u))
+          ∙ others_lack (settings_of old) t u no_settings (token_of request) refl distinct ne (ap (λ names. is_among names (token_of request)) (ap token_texts (sym (settings_at old.tenants t))) ∙ place.1)
 
       solo_at : (u : ℕ) (b : Bool) → nat_eq u t ≡ b → SoloRun (state_at old u) (own (tokens_of (state_at old u)) (one ∷ [])) (state_at (with_tenant old t after) u)
       solo_at u true is =
@@ -101,7 +103,7 @@ module _ (old : ServerState) (body : List ℕ) (request : Request) (short : is_s
           record {
             cache = refl;
             settings = map-set_same (λ (s : State). s.settings) old.tenants t after no_state (settings_stay (state_at old t) request);
-            strangers = (λ none. let here : is_among (token_of request) (tokens_of (state_at old t)) ≡ false = sym (ap (shows_one_of (tokens_of (state_at old t))) asks) ∙ none t in absurd (true≢false (sym place.1 ∙ here)), tt);
+            strangers = (λ none. let here : is_among (tokens_of (state_at old t)) (token_of request) ≡ false = sym (ap (shows_one_of (tokens_of (state_at old t))) asks) ∙ none t in absurd (true≢false (sym place.1 ∙ here)), tt);
             solo = λ u. solo_at u (nat_eq u t) refl;
           }
 

@@ -6,7 +6,7 @@ use Rattle.pg_meaning.specs.declared.fault.Fault.{Fault}
 use Rattle.pg_meaning.specs.declared.fault.Fault.TheVariants.{FrameTooLong, BadRequest, UnknownToken, OutOfMemory}
 use Rattle.pg_server.specs.Exchange.{Exchange, replies_of, Chain}
 use Rattle.pg_server.specs.Frames.{body_limit}
-use Rattle.pg_server.specs.Settings.{is_among}
+use Rattle.pg_meaning.specs.Names.{is_among}
 use Rattle.pg_server.specs.Solo.{solo}
 use Rattle.pg_server.specs.State.{State, ServerState, state_at, tokens_of, settings_of}
 
@@ -25,7 +25,7 @@ token_of (query token text) = token
 -- the request has one of these tokens
 abbrev pub shows_one_of : List (List ℕ) → Option Request → Bool
 shows_one_of tokens None = false
-shows_one_of tokens (Some request) = is_among (token_of request) tokens
+shows_one_of tokens (Some request) = is_among tokens (token_of request)
 
 abbrev pub is_want_of_memory : List ℕ → Bool
 is_want_of_memory reply = bytes_eq reply (refusal_text OutOfMemory)

@@ -1,6 +1,5 @@
 -- What a configuration sets: the plan cache's entries, and each tenant's quotas and tokens.
-use Rattle.std.specs.List.{list_any}
-use Rattle.std.specs.Prelude.{ℕ, List, [], ◌∷◌, map, flat_map, Bool, false, ◌||◌, bytes_eq}
+use Rattle.std.specs.Prelude.{ℕ, List, map, flat_map}
 use Rattle.pg_server.specs.declared.settings.Rights.{Rights}
 
 pub record TokenSettings : Type 0 where
@@ -22,11 +21,3 @@ token_texts tenant = map (λ t. t.text) tenant.tokens
 -- the texts of all tokens, tenant after tenant
 abbrev pub all_tokens : List TenantSettings → List (List ℕ)
 all_tokens tenants = flat_map token_texts tenants
-
-abbrev pub is_among : List ℕ → List (List ℕ) → Bool
-is_among text texts = list_any (λ one. bytes_eq one text) texts
-
--- some text has come before: among these, or earlier in the list
-abbrev pub comes_again : List (List ℕ) → List (List ℕ) → Bool
-comes_again before [] = false
-comes_again before (text ∷ texts) = is_among text before || comes_again (text ∷ before) texts

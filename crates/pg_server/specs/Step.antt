@@ -4,12 +4,12 @@ use Rattle.pg_json.specs.Refusals.{refusal_text}
 use Rattle.pg_json.specs.Requests.{Request}
 use Rattle.pg_meaning.specs.declared.fault.Fault.TheVariants.{UnknownToken, OutOfMemory}
 use Rattle.pg_server.specs.Runs.{token_of}
-use Rattle.pg_server.specs.Settings.{is_among}
+use Rattle.pg_meaning.specs.Names.{is_among}
 use Rattle.pg_server.specs.Solo.{solo}
 use Rattle.pg_server.specs.State.{State, ServerState, state_at, tokens_of}
 
 abbrev pub place_of : List ℕ → List State → Option ℕ
-place_of token tenants = position (λ s. is_among token (tokens_of s)) tenants
+place_of token tenants = position (λ s. is_among (tokens_of s) token) tenants
 
 -- one tenant's state is this now
 abbrev pub with_tenant : ServerState → ℕ → State → ServerState

@@ -1,6 +1,7 @@
 //! The configuration of a server.
 ghost use Rattle.std.specs.Prelude.{◌≡◌, ◌≢◌, ℕ, ◌++◌, [], false, IfOk, IfErr, OnOk, Ok, Err, Some, None, map};
-ghost use Rattle.pg_server.specs.Settings.{all_tokens, token_texts as texts_of, comes_again as seen_again};
+ghost use Rattle.pg_server.specs.Settings.{all_tokens, token_texts as texts_of};
+ghost use Rattle.pg_value.specs.Texts.{comes_again as seen_again};
 ghost use Rattle.pg_server.specs.Configuration.{configuration, in_range as seen_in_range, tenant_in_range as seen_tenant, tenants_in_range as seen_tenants, settings_of_data, settings_of_draft};
 ghost use Rattle.serde_json.specs.View.{view};
 ghost use Rattle.pg_server.specs.declared.config_fault.ConfigFault.TheVariants.{OutOfRange, Memory};
@@ -8,9 +9,9 @@ ghost use Rattle.pg_server.specs.declared.config_fault.ConfigFault.TheVariants.{
 use crate::config_fault::ConfigFault;
 use crate::draft::{Draft, TenantDraft, draft_of};
 use crate::settings::TenantSettings;
+use pg_value::comes_again;
 use serde_json::Value as Json;
 use std::alloc::{AllocError, Global};
-use std::collections::BTreeSet;
 use std::marker::Model;
 
 const MAX_CACHE: u64 = 65_536;
@@ -155,17 +156,4 @@ fn push_texts<'a>(texts: &mut Vec<&'a str>, tenant: &'a TenantSettings) -> Resul
         texts.push(token.text())?;
     }
     Ok(())
-}
-
-/// Some text equals an earlier one.
-fn comes_again(alloc: Global, texts: &[&str]) -> Result<bool, AllocError>
-    ensures { IfOk result (λ b. b ≡ seen_again [] (map (λ t. t.now) texts.now)) }
-{
-    let mut before = BTreeSet::new(alloc);
-    for text in texts {
-        if !before.insert(*text)? {
-            return Ok(true);
-        }
-    }
-    Ok(false)
 }

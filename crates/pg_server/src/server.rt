@@ -30,7 +30,8 @@ pub struct Server {
 
 impl Model for Server {
     ghost use Rattle.std.specs.Prelude.{◌≡◌, [], false, map};
-    ghost use Rattle.pg_server.specs.Settings.{all_tokens, comes_again};
+    ghost use Rattle.pg_server.specs.Settings.{all_tokens};
+    ghost use Rattle.pg_value.specs.Texts.{comes_again};
     ghost use Rattle.pg_server.specs.State.{ServerState};
 
     ghost Value = { ServerState };

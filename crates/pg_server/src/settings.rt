@@ -1,6 +1,7 @@
 //! What a configuration sets for each tenant.
 ghost use Rattle.std.specs.Prelude.{◌≡◌, string_bytes};
-ghost use Rattle.pg_server.specs.Settings.{is_among, token_texts};
+ghost use Rattle.pg_meaning.specs.Names.{is_among};
+ghost use Rattle.pg_server.specs.Settings.{token_texts};
 
 use pg_tenant::Quota;
 use std::marker::Model;
@@ -70,10 +71,10 @@ impl TenantSettings {
     }
 
     pub(crate) fn has_token(&self, text: &str) -> bool
-        ensures { result ≡ is_among text.now (token_texts self.now) }
+        ensures { result ≡ is_among (token_texts self.now) text.now }
     {
         for token in &self.tokens {
-            if token.text() == text {
+            if text == token.text() {
                 return true;
             }
         }

@@ -3,7 +3,7 @@ ghost use Rattle.std.specs.Prelude.{◌≡◌, ◌≢◌, ◌⊎◌, ◌<◌, �
 ghost use Rattle.pg_json.specs.Refusals.{refusal_text};
 ghost use Rattle.pg_json.specs.Replies.{reply_text, max_reply};
 ghost use Rattle.pg_meaning.specs.declared.fault.Fault.TheVariants.{OutOfMemory, ReplyTooLong};
-ghost use Rattle.pg_server.specs.Settings.{is_among};
+ghost use Rattle.pg_meaning.specs.Names.{is_among};
 ghost use Rattle.pg_server.specs.Solo.{answer_text};
 ghost use Rattle.pg_server.specs.State.{opening, tokens_of};
 
@@ -35,7 +35,7 @@ impl Tenant {
     }
 
     pub(crate) fn has_token(&self, token: &str) -> bool
-        ensures { result ≡ is_among token.now (tokens_of self.now) }
+        ensures { result ≡ is_among (tokens_of self.now) token.now }
     {
         self.settings.has_token(token)
     }

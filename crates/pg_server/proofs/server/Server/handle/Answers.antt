@@ -1,5 +1,6 @@
 use Rattle.std.proofs.Common.{[], rules, sym, ap, ◌∙◌}
-use Rattle.pg_server.specs.Settings.{all_tokens, comes_again}
+use Rattle.pg_value.specs.Texts.{comes_again}
+use Rattle.pg_server.specs.Settings.{all_tokens}
 use Rattle.pg_server.specs.State.{settings_of}
 use Rattle.pg_server.proofs.StepLemmas.{answered}
 use Rattle.pg_server.proofs.server.Server.handle.Goals as goal

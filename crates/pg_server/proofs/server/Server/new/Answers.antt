@@ -1,6 +1,7 @@
 use Rattle.std.proofs.Common.{◌≡◌, [], map, arith, sym, ap, ◌∙◌}
 use Rattle.std.proofs.lemmas.Grind.{common_steps}
-use Rattle.pg_server.specs.Settings.{all_tokens, comes_again}
+use Rattle.pg_value.specs.Texts.{comes_again}
+use Rattle.pg_server.specs.Settings.{all_tokens}
 use Rattle.pg_server.specs.State.{State, opening}
 use Rattle.pg_server.proofs.RunLemmas.{settings-opening}
 use Rattle.pg_server.proofs.server.Server.new.Goals as goal

@@ -1,7 +1,7 @@
 //! What a checked query answers over a tenant's graph.
 #![tactic(auto)]
 
-ghost use Rattle.pg_run.specs.Agreement.{OneNodePlans, OneNodeAgrees};
+ghost use Rattle.pg_run.specs.Agreement.{OneNodePlans, OneNodeMeans};
 ghost use Rattle.pg_run.specs.Answers.{ReturnAnswers, CreateMakes, MatchFinds, OneNodeAnswers};
 ghost use Rattle.pg_run.specs.Checks.{OneNodeFaults};
 ghost use Rattle.pg_run.specs.Examples.{ExamplesOfAnswers, ExamplesOfRefusals};
@@ -48,9 +48,9 @@ pub fn law_of_one_node_plans()
     ensures { OneNodePlans }
 {}
 
-/// Where all answers to such a query agree with its meaning, this one does.
+/// Its answer is one that the meaning of the query gives.
 pub fn law_of_one_node_meaning()
-    ensures { OneNodeAgrees }
+    ensures { OneNodeMeans }
 {}
 
 /// The worked examples hold.

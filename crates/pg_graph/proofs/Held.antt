@@ -29,7 +29,7 @@ use Rattle.pg_meaning.specs.Value.{Value}
 
 module _ {X : Type 0} (m : FinMap nat_cmp X) (k : ℕ) where
   -- what the new value has and each old one has, each value has
-  inserted : (v : X) (P : ℕ → X → Type 0) → P k v → ((q : ℕ) (a : X) → map.get m q ≡ Some a → P q a) → (q : ℕ) (a : X) → map.get (map.insert m k v) q ≡ Some a → P q a
+  pub inserted : (v : X) (P : ℕ → X → Type 0) → P k v → ((q : ℕ) (a : X) → map.get m q ≡ Some a → P q a) → (q : ℕ) (a : X) → map.get (map.insert m k v) q ≡ Some a → P q a
   inserted v P here there q a h = elim (cases_eq q k) [
     | inl same ↦
         let found : map.get (map.insert m k v) k ≡ Some a = subst (λ n. map.get (map.insert m k v) n ≡ Some a) same h in
@@ -44,7 +44,7 @@ module _ {X : Type 0} (m : FinMap nat_cmp X) (k : ℕ) where
     | inr ne ↦ subst IsSome (sym (get_inserted_other m k v q ne)) h
   ]
 
-  removed : (P : ℕ → X → Type 0) → ((q : ℕ) (a : X) → map.get m q ≡ Some a → P q a) → (q : ℕ) (a : X) → map.get (map.remove m k) q ≡ Some a → P q a
+  pub removed : (P : ℕ → X → Type 0) → ((q : ℕ) (a : X) → map.get m q ≡ Some a → P q a) → (q : ℕ) (a : X) → map.get (map.remove m k) q ≡ Some a → P q a
   removed P there q a h = elim (cases_eq q k) [
     | inl same ↦
         let found : map.get (map.remove m k) k ≡ Some a = subst (λ n. map.get (map.remove m k) n ≡ Some a) same h in
@@ -97,7 +97,7 @@ module _ (old new : List (List ℕ)) (keeps : KeepsNames old new) where
   more : (n : ℕ) → n < length old → n < length new
   more n h = let t = text_stays old n h in slice_get_within new n t.0 (keeps n t.0 t.1)
 
-  more_named : (ns : List ℕ) → AreNamed old ns → AreNamed new ns
+  pub more_named : (ns : List ℕ) → AreNamed old ns → AreNamed new ns
   more_named [] h = tt
   more_named (n ∷ ns) h = (more n h.0, more_named ns h.1)
 
@@ -196,7 +196,7 @@ module _ {A B : Type 0} (f : A → B) where
   each_element : (P : ℕ × B → Type 0) (m : FinMap nat_cmp A) → ((q : ℕ) (a : A) → map.get m q ≡ Some a → P (q, f a)) → AllByRecursion P (elements f m)
   each_element P m h = all_seen f P (map.entries m) (all_entries (λ q a. P (q, f a)) m h)
 
-entries_rise : (names : List (List ℕ)) (es : List (ℕ × Value)) → are_rising (named_entries names es) ≡ true
+pub entries_rise : (names : List (List ℕ)) (es : List (ℕ × Value)) → are_rising (named_entries names es) ≡ true
 entries_rise names [] = refl
 entries_rise names (e ∷ es) = put_keeps_rising (text_of names e.0) e.1 (named_entries names es) (entries_rise names es)
 

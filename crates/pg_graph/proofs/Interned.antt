@@ -41,7 +41,7 @@ one_more n = omega arith
 pub same_bytes : (xs ys : List ℕ) → bytes_eq xs ys ≡ true → xs ≡ ys
 same_bytes xs ys h = (bytes_eq-Decides xs ys).0 h
 
-equal_bytes : (xs ys : List ℕ) → xs ≡ ys → bytes_eq xs ys ≡ true
+pub equal_bytes : (xs ys : List ℕ) → xs ≡ ys → bytes_eq xs ys ≡ true
 equal_bytes xs ys h = (bytes_eq-Decides xs ys).1 h
 
 stepped : (b : Bool) (r n : ℕ) → b ≡ false → cond (nat_lt (cond (not b) (1 + r) 0) (suc n)) (Some (cond (not b) (1 + r) 0)) None ≡ option_map suc (cond (nat_lt r n) (Some r) None)

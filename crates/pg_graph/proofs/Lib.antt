@@ -8,3 +8,6 @@ pub mod Refined
 pub mod Held
 pub mod Named
 pub mod Incident
+pub mod NamedChanges
+pub mod Listed
+pub mod Made

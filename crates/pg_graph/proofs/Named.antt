@@ -38,7 +38,7 @@ number_of m n h = grind (arith, nat_tests)
 
 module _ (names : List (List ℕ)) (distinct : AreDistinct names) (text : List ℕ) where
   -- a number of the table has the text exactly if the text is found there
-  by_number : (n l : ℕ) → position (bytes_eq text) names ≡ Some n → l < length names → bytes_eq text (text_of names l) ≡ (l == n)
+  pub by_number : (n l : ℕ) → position (bytes_eq text) names ≡ Some n → l < length names → bytes_eq text (text_of names l) ≡ (l == n)
   by_number n l found inside =
       let t = text_stays names l inside in
       let is : text_of names l ≡ t.0 = ap (λ o. option_map_or (λ t. t) o []) t.1 in
@@ -48,7 +48,7 @@ module _ (names : List (List ℕ)) (distinct : AreDistinct names) (text : List �
       let here : slice_get names l ≡ Some text = ap (slice_get names) (number_of l n h) ∙ found_text text names n found in
       equal_bytes text (text_of names l) (sym (ap (λ o. option_map_or (λ t. t) o []) here)))
 
-  by_no_number : (l : ℕ) → position (bytes_eq text) names ≡ None → l < length names → bytes_eq text (text_of names l) ≡ false
+  pub by_no_number : (l : ℕ) → position (bytes_eq text) names ≡ None → l < length names → bytes_eq text (text_of names l) ≡ false
   by_no_number l missing inside =
       let t = text_stays names l inside in
       let is : text_of names l ≡ t.0 = ap (λ o. option_map_or (λ t. t) o []) t.1 in
@@ -64,26 +64,26 @@ module _ (names : List (List ℕ)) (distinct : AreDistinct names) (text : List �
   no_label [] missing named = refl
   no_label (l ∷ ls) missing named = ap (λ b. b || list_any (bytes_eq text) (map_list (text_of names) ls)) (by_no_number l missing named.0) ∙ no_label ls missing named.1
 
-text_equal : (t u : List ℕ) → text_order t u ≡ Equal → t ≡ u
+pub text_equal : (t u : List ℕ) → text_order t u ≡ Equal → t ≡ u
 text_equal t u h = slice_cmp-IsAntisymmetric nat_cmp-IsAntisymmetric t u h
 
 -- ---- labels
 
-either_swap : (a b c : Bool) → (a || (b || c)) ≡ (b || (a || c))
+pub either_swap : (a b c : Bool) → (a || (b || c)) ≡ (b || (a || c))
 either_swap true true c = refl
 either_swap true false c = refl
 either_swap false true c = refl
 either_swap false false c = refl
 
-either_same : (a c : Bool) → (a || c) ≡ (a || (a || c))
+pub either_same : (a c : Bool) → (a || c) ≡ (a || (a || c))
 either_same true c = refl
 either_same false c = refl
 
-either_false : (a : Bool) → (a || false) ≡ a
+pub either_false : (a : Bool) → (a || false) ≡ a
 either_false true = refl
 either_false false = refl
 
-any_inserted : (p : List ℕ → Bool) (t : List ℕ) (us : List (List ℕ)) → list_any p (insert_key text_order us t) ≡ (p t || list_any p us)
+pub any_inserted : (p : List ℕ → Bool) (t : List ℕ) (us : List (List ℕ)) → list_any p (insert_key text_order us t) ≡ (p t || list_any p us)
 any_inserted p t [] = refl
 any_inserted p t (u ∷ us) = by_order (text_order t u) refl (any_inserted p t us)
   where
@@ -93,7 +93,7 @@ any_inserted p t (u ∷ us) = by_order (text_order t u) refl (any_inserted p t u
     by_order Equal is rest = either_same (p u) (list_any p us) ∙ ap (λ s. p s || (p u || list_any p us)) (sym (text_equal t u is))
     by_order Greater is rest = ap (λ b. p u || b) rest ∙ either_swap (p u) (p t) (list_any p us)
 
-any_put : (p : List ℕ → Bool) (more texts : List (List ℕ)) → list_any p (put_texts more texts) ≡ (list_any p more || list_any p texts)
+pub any_put : (p : List ℕ → Bool) (more texts : List (List ℕ)) → list_any p (put_texts more texts) ≡ (list_any p more || list_any p texts)
 any_put p [] texts = refl
 any_put p (t ∷ more) texts =
     any_put p more (insert_key text_order texts t) ∙ ap (λ b. list_any p more || b) (any_inserted p t texts) ∙ regroup (list_any p more) (p t) (list_any p texts)
@@ -114,18 +114,18 @@ label_is_read names labels text distinct named =
 
 -- ---- properties
 
-same_test : (x n : ℕ) → (x == n) ≡ eq_by_cmp nat_cmp n x
+pub same_test : (x n : ℕ) → (x == n) ≡ eq_by_cmp nat_cmp n x
 same_test x n = eq_flip x n ∙ sym (unsigned_tied n x)
 
 module _ (names : List (List ℕ)) (distinct : AreDistinct names) (text : List ℕ) where
-  entry_found : (n : ℕ) (es : List (ℕ × Value)) → position (bytes_eq text) names ≡ Some n → AreNamed names (map_list (λ e. e.0) es) → at_key text (named_entries names es) ≡ find nat_cmp n es
+  pub entry_found : (n : ℕ) (es : List (ℕ × Value)) → position (bytes_eq text) names ≡ Some n → AreNamed names (map_list (λ e. e.0) es) → at_key text (named_entries names es) ≡ find nat_cmp n es
   entry_found n [] found named = refl
   entry_found n (e ∷ es) found named =
       put_is_read text (text_of names e.0) e.1 (named_entries names es)
       ∙ ap (λ b. cond b (Some e.1) (at_key text (named_entries names es))) (by_number names distinct text n e.0 found named.0 ∙ same_test e.0 n)
       ∙ ap (cond (eq_by_cmp nat_cmp n e.0) (Some e.1)) (entry_found n es found named.1)
 
-  no_entry : (es : List (ℕ × Value)) → position (bytes_eq text) names ≡ None → AreNamed names (map_list (λ e. e.0) es) → at_key text (named_entries names es) ≡ None
+  pub no_entry : (es : List (ℕ × Value)) → position (bytes_eq text) names ≡ None → AreNamed names (map_list (λ e. e.0) es) → at_key text (named_entries names es) ≡ None
   no_entry [] missing named = refl
   no_entry (e ∷ es) missing named =
       put_is_read text (text_of names e.0) e.1 (named_entries names es)

@@ -21,11 +21,11 @@ use Rattle.pg_meaning.specs.Graph.{Graph, Node, Relationship, contains_id}
 use Rattle.pg_meaning.specs.Names.{in_byte_order}
 use Rattle.pg_meaning.specs.Value.{Value}
 
-left : (a b : Bool) → T (a && b) → T a
+pub left : (a b : Bool) → T (a && b) → T a
 left true b h = tt
 left false b h = h
 
-right : (a b : Bool) → T (a && b) → T b
+pub right : (a b : Bool) → T (a && b) → T b
 right true b h = h
 right false b h = absurd h
 
@@ -34,7 +34,7 @@ less_of Less h = refl
 less_of Equal h = absurd h
 less_of Greater h = absurd h
 
-is_less : (a b : ℕ) → T (is_lt (nat_cmp a b)) → a < b
+pub is_less : (a b : ℕ) → T (is_lt (nat_cmp a b)) → a < b
 is_less a b h = less a b (less_of (nat_cmp a b) h)
 
 not_same : (k x : ℕ) → k < x → eq_by_cmp nat_cmp k x ≡ false
@@ -52,7 +52,7 @@ or_false false = refl
 
 -- entries of a rising list, one by one
 module _ {A : Type 0} where
-  find_below : (k : ℕ) (es : List (ℕ × A)) → T (below_all nat_cmp k es) → find nat_cmp k es ≡ None
+  pub find_below : (k : ℕ) (es : List (ℕ × A)) → T (below_all nat_cmp k es) → find nat_cmp k es ≡ None
   find_below k [] h = refl
   find_below k (e ∷ es) h =
       ap (λ b. cond b (Some e.1) (find nat_cmp k es)) (not_same k e.0 (is_less k e.0 (left _ _ h)))
@@ -157,11 +157,11 @@ module _ (old new : List (List ℕ)) (keeps : KeepsNames old new) where
       let t = text_stays old n h in
       ap (λ o. option_map_or (λ t. t) o []) (keeps n t.0 t.1 ∙ sym t.1)
 
-  labels_kept : (labels : List ℕ) → AreNamed old labels → map_list (text_of new) labels ≡ map_list (text_of old) labels
+  pub labels_kept : (labels : List ℕ) → AreNamed old labels → map_list (text_of new) labels ≡ map_list (text_of old) labels
   labels_kept [] named = refl
   labels_kept (l ∷ ls) named = (λ i. text_kept l named.0 i ∷ labels_kept ls named.1 i)
 
-  entries_kept : (es : List (ℕ × Value)) → AreNamed old (map_list (λ e. e.0) es) → named_entries new es ≡ named_entries old es
+  pub entries_kept : (es : List (ℕ × Value)) → AreNamed old (map_list (λ e. e.0) es) → named_entries new es ≡ named_entries old es
   entries_kept [] named = refl
   entries_kept (e ∷ es) named = (λ i. put (text_kept e.0 named.0 i) e.1 (entries_kept es named.1 i))
 

@@ -5,3 +5,4 @@ pub mod ValueCode
 pub mod Content
 pub mod Links
 pub mod Refinement
+pub mod Stored

@@ -2,10 +2,12 @@
 #![tactic(auto)]
 
 mod by_id;
+mod by_text;
 mod labels;
 mod laws;
 mod links;
 mod names;
+mod nodes;
 mod properties;
 mod records;
 mod sorted;
@@ -16,6 +18,7 @@ pub use labels::Labels;
 pub use laws::{law_of_changes, law_of_graphs, law_of_reads};
 pub use links::{Incidence, Links};
 pub use names::{NameId, Names};
+pub use nodes::{NextIds, create_node, node_has_label, node_ids, node_property, nodes_with_label};
 pub use properties::Properties;
 pub use records::{Direction, NodeRecord, RelRecord};
 pub use tables::Tables;

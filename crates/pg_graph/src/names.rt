@@ -72,6 +72,7 @@ impl Names {
         ensures grown { OnOk result (self.new ≡ with_name self.old text.now) }
         ensures err { OnErr result (self.new ≡ self.old) }
         ensures keeps { KeepsNames self.old self.new }
+        ensures distinct { OnOk result (AreDistinct self.new) }
     {
         if let Some(number) = self.find(text) {
             return Ok(number);
@@ -83,7 +84,8 @@ impl Names {
 
     /// The number of a text that the table has.
     pub fn find(&self, text: &str) -> Option<NameId>
-        ensures { result ≡ position (bytes_eq text.now) self.now }
+        ensures found { result ≡ position (bytes_eq text.now) self.now }
+        ensures distinct { AreDistinct self.now }
     {
         match self.texts.get_index_of(text) {
             Some(index) => Some(NameId(index as u64)),

@@ -5,8 +5,8 @@ use Rattle.std.specs.String.{string_bytes}
 use Rattle.pg_graph.proofs.Interned.{position_map}
 use Rattle.pg_graph.proofs.names.Names.find.Goals as goal
 
-pub returns-in-Some : goal.returns-in-Some
-returns-in-Some c = c.in-Some.ensures.index ∙ sym (position_map string_bytes (bytes_eq c.args.text.now) c.self.inside.texts.keys) ∙ ap (position (bytes_eq c.args.text.now)) c.self.view_is
+pub returns-in-Some-clause-found : goal.returns-in-Some-clause-found
+returns-in-Some-clause-found c = c.in-Some.ensures.index ∙ sym (position_map string_bytes (bytes_eq c.args.text.now) c.self.inside.texts.keys) ∙ ap (position (bytes_eq c.args.text.now)) c.self.view_is
 
-pub returns-in-None : goal.returns-in-None
-returns-in-None c = c.in-None.ensures.index ∙ sym (position_map string_bytes (bytes_eq c.args.text.now) c.self.inside.texts.keys) ∙ ap (position (bytes_eq c.args.text.now)) c.self.view_is
+pub returns-in-None-clause-found : goal.returns-in-None-clause-found
+returns-in-None-clause-found c = c.in-None.ensures.index ∙ sym (position_map string_bytes (bytes_eq c.args.text.now) c.self.inside.texts.keys) ∙ ap (position (bytes_eq c.args.text.now)) c.self.view_is

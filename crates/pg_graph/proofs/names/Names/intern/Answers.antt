@@ -8,13 +8,13 @@ use Rattle.pg_graph.proofs.Interned.{distinct_map, found_any, found_text, grown,
 use Rattle.pg_graph.proofs.names.Names.intern.Goals as goal
 
 pub returns-in-Some-clause-number : goal.returns-in-Some-clause-number
-returns-in-Some-clause-number c = found_text _ _ _ (sym c.in-Some.ensures)
+returns-in-Some-clause-number c = found_text _ _ _ (sym c.in-Some.ensures.found)
 
 pub returns-in-Some-clause-grown : goal.returns-in-Some-clause-grown
 returns-in-Some-clause-grown c =
     let names = c.args.self.now in
     let text = c.args.text.now in
-    sym (ap (λ b. cond b names (names ++ text ∷ [])) (found_any (bytes_eq text) names _ (sym c.in-Some.ensures)))
+    sym (ap (λ b. cond b names (names ++ text ∷ [])) (found_any (bytes_eq text) names _ (sym c.in-Some.ensures.found)))
 
 pub invariant_of-self-2 : goal.invariant_of-self-2
 invariant_of-self-2 c = distinct_map string_bytes bytes_eq c.insert_full.new.self.keys c.in_ok-index.ensures.unique
@@ -33,3 +33,6 @@ returns-clause-grown c =
 
 pub returns-clause-keeps : goal.returns-clause-keeps
 returns-clause-keeps c = subst (KeepsNames c.args.self.now) (sym (returns-clause-grown c)) (with_name_keeps c.args.self.now c.args.text.now)
+
+pub returns-clause-distinct : goal.returns-clause-distinct
+returns-clause-distinct c = distinct_map string_bytes bytes_eq c.insert_full.new.self.keys c.in_ok-index.ensures.unique

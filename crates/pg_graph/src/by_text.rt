@@ -1,0 +1,76 @@
+//! Labels and properties by the texts of their names.
+ghost use Rattle.std.specs.Prelude.{◌≡◌, ◌∷◌, [], map as map_list, OnOk, OnErr, IfOk};
+ghost use Rattle.std.specs.FinMap as map;
+ghost use Rattle.std.specs.Option.{option_map};
+ghost use Rattle.pg_graph.specs.Names.{KeepsNames};
+ghost use Rattle.pg_graph.specs.Refinement.{AreNamed, label_texts, property_entries};
+ghost use Rattle.pg_meaning.specs.Entries.{at_key, set_key};
+ghost use Rattle.pg_meaning.specs.Names.{is_among, put_texts};
+ghost use Rattle.pg_value_core.specs.View.{view};
+
+use crate::labels::Labels;
+use crate::names::Names;
+use crate::properties::Properties;
+use pg_value_core::Value;
+use std::alloc::{AllocError, Global};
+use std::collections::BTreeSet;
+
+impl Labels {
+    /// Adds the label of this text, if it isn't there.
+    pub fn insert_text(&mut self, names: &mut Names, text: &str) -> Result<(), AllocError>
+        requires { AreNamed names.old self.old }
+        ensures ok { OnOk result (label_texts names.new self.new ≡ put_texts (text.now ∷ []) (label_texts names.old self.old)) }
+        ensures err { OnErr result (label_texts names.new self.new ≡ label_texts names.old self.old) }
+        ensures named { AreNamed names.new self.new }
+        ensures keeps { KeepsNames names.old names.new }
+    {
+        let name = names.intern(text)?;
+        self.insert(name)
+    }
+
+    /// The texts of the labels, in byte order.
+    pub fn texts<'a>(&self, alloc: Global, names: &'a Names) -> Result<Vec<&'a str>, AllocError>
+        requires { AreNamed names.now self.now }
+        ensures { IfOk result (λ texts. map_list (λ t. t.now) texts.items ≡ label_texts names.now self.now) }
+    {
+        let mut texts = BTreeSet::new(alloc);
+        for label in self.as_slice() {
+            texts.insert(names.text(*label))?;
+        }
+        texts.into_iter().collect(alloc)
+    }
+
+    pub fn contains_text(&self, names: &Names, text: &str) -> bool
+        requires { AreNamed names.now self.now }
+        ensures { result ≡ is_among (label_texts names.now self.now) text.now }
+    {
+        match names.find(text) {
+            Some(name) => self.contains(name),
+            None => false,
+        }
+    }
+}
+
+impl Properties {
+    /// Gives the key of this text its value. Null takes the key out.
+    pub fn set_text(&mut self, names: &mut Names, key: &str, value: Value) -> Result<(), AllocError>
+        requires { AreNamed names.old (map.keys self.old) }
+        ensures ok { OnOk result (property_entries names.new self.new ≡ set_key key.now (view value) (property_entries names.old self.old)) }
+        ensures err { OnErr result (property_entries names.new self.new ≡ property_entries names.old self.old) }
+        ensures named { AreNamed names.new (map.keys self.new) }
+        ensures keeps { KeepsNames names.old names.new }
+    {
+        let name = names.intern(key)?;
+        self.set(name, value)
+    }
+
+    pub fn get_text(&self, names: &Names, key: &str) -> Option<&Value>
+        requires { AreNamed names.now (map.keys self.now) }
+        ensures { option_map (λ v. view v.now) result ≡ at_key key.now (property_entries names.now self.now) }
+    {
+        match names.find(key) {
+            Some(name) => self.get(name),
+            None => None,
+        }
+    }
+}

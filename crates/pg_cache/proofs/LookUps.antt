@@ -1,5 +1,5 @@
 -- What a look-up leaves.
-use Rattle.std.proofs.Common.{◌≡◌, ℕ, ◌-◌, true, false, cond, List, [], ◌∷◌, map, take, Option, Some, None, Result, Ok, Err, refl, sym, ap, ◌∙◌, subst, inl, inr, ◌⊎◌, MatchResult, String, Global}
+use Rattle.std.proofs.Common.{◌≡◌, ℕ, ◌-◌, true, false, cond, List, [], ◌∷◌, map, Some, None, Result, Ok, Err, refl, sym, ap, ◌∙◌, subst, inl, inr, ◌⊎◌, MatchResult, String, Global}
 use Rattle.std.specs.Map.{lookup, lookup_entry, remove_entry}
 use Rattle.std.specs.Option.{option_map, option_map_or}
 use Rattle.std.specs.Result.{OnOk, OnErr, IsErrAnd}
@@ -8,7 +8,7 @@ use Rattle.std.specs.Str.{bytes_eq}
 use Rattle.std.specs.String.{string_eq}
 use Rattle.std.specs.declared.rc.Rc.{Rc}
 use Rattle.lru.specs.LruCache.{LruCache, lru_cache, promoted, put_entries}
-use Rattle.pg_cache.specs.Cache.{Cache, entry_view, ArePlanned, kept, one_more, after_hit, after_miss, with_plan, MayKeep, IsHit, IsMiss}
+use Rattle.pg_cache.specs.Cache.{Cache, entry_view, ArePlanned, kept, one_more, after_hit, with_plan, MayKeep, IsHit}
 use Rattle.pg_cache.proofs.Entries.{is_text, lookup-view, promoted-view, put-view}
 use Rattle.pg_cache.proofs.Planned.{planned_under, promoted_are_planned, put_are_planned}
 use Rattle.pg_meaning.specs.declared.fault.Fault.{Fault}

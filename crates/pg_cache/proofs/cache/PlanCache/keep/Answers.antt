@@ -1,4 +1,4 @@
-use Rattle.std.proofs.Common.{◌≡◌, string_bytes, sym, subst}
+use Rattle.std.proofs.Common.{string_bytes, sym, subst}
 use Rattle.pg_cache.proofs.LookUps.{either_way, put_or_not, put_leaves_planned}
 use Rattle.pg_cache.proofs.cache.PlanCache.keep.Goals as goal
 use Rattle.pg_tenant.specs.Plans.{IsPlanOfText}

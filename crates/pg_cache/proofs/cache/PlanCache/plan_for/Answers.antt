@@ -1,4 +1,4 @@
-use Rattle.std.proofs.Common.{◌≡◌, ◌∙◌, None, Some, Ok, sym, ap, subst}
+use Rattle.std.proofs.Common.{◌∙◌, Ok, sym, ap, subst}
 use Rattle.pg_cache.specs.Cache.{Cache, kept, IsMiss}
 use Rattle.pg_cache.proofs.LookUps.{told, is_hit, no_miss, no_hit, not_kept, stays, hit_is_planned, hit_leaves_planned}
 use Rattle.pg_cache.proofs.cache.PlanCache.plan_for.Goals as goal

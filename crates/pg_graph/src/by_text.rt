@@ -2,7 +2,7 @@
 ghost use Rattle.std.specs.Prelude.{◌≡◌, ◌∷◌, [], map as map_list, OnOk, OnErr, IfOk};
 ghost use Rattle.std.specs.FinMap as map;
 ghost use Rattle.std.specs.Option.{option_map};
-ghost use Rattle.pg_graph.specs.Names.{AreDistinct, KeepsNames};
+ghost use Rattle.pg_graph.specs.Names.{KeepsNames};
 ghost use Rattle.pg_graph.specs.Refinement.{AreNamed, label_texts, property_entries};
 ghost use Rattle.pg_meaning.specs.Entries.{at_key, set_key};
 ghost use Rattle.pg_meaning.specs.Names.{is_among, put_texts};
@@ -23,7 +23,6 @@ impl Labels {
         ensures err { OnErr result (label_texts names.new self.new ≡ label_texts names.old self.old) }
         ensures named { AreNamed names.new self.new }
         ensures keeps { KeepsNames names.old names.new }
-        ensures distinct { AreDistinct names.new }
     {
         let name = names.intern(text)?;
         self.insert(name)
@@ -60,7 +59,6 @@ impl Properties {
         ensures err { OnErr result (property_entries names.new self.new ≡ property_entries names.old self.old) }
         ensures named { AreNamed names.new (map.keys self.new) }
         ensures keeps { KeepsNames names.old names.new }
-        ensures distinct { AreDistinct names.new }
     {
         let name = names.intern(key)?;
         self.set(name, value)

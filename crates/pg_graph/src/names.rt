@@ -72,7 +72,7 @@ impl Names {
         ensures grown { OnOk result (self.new ≡ with_name self.old text.now) }
         ensures err { OnErr result (self.new ≡ self.old) }
         ensures keeps { KeepsNames self.old self.new }
-        ensures distinct { AreDistinct self.new }
+        ensures distinct { OnOk result (AreDistinct self.new) }
     {
         if let Some(number) = self.find(text) {
             return Ok(number);

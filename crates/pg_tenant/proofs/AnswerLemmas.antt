@@ -1,10 +1,10 @@
 -- A query of plain items answers with the values of its items.
-use Rattle.std.proofs.Common.{◌≡◌, ℕ, Bool, true, false, List, [], ◌∷◌, map, Result, Ok, Err, refl, sym, ap, ◌∙◌}
+use Rattle.std.proofs.Common.{◌≡◌, ℕ, Bool, true, false, List, [], ◌∷◌, ◌++◌, map, Result, Ok, Err, refl, sym, ap, ◌∙◌}
 use Rattle.std.specs.Prelude.{nat_le}
-use Rattle.std.specs.List.{list_any}
+use Rattle.std.specs.List.{AllByRecursion, list_any}
 use Rattle.pg_meaning.specs.Answer.{◌>>=◌, ◌>>◌, unless, each_answer, each_step}
 use Rattle.pg_meaning.specs.Expressions.{evaluate}
-use Rattle.pg_meaning.specs.Graph.{empty_graph}
+use Rattle.pg_meaning.specs.Graph.{Graph, empty_graph}
 use Rattle.pg_meaning.specs.Meters.{Setting}
 use Rattle.pg_meaning.specs.Plans.{plan_of}
 use Rattle.pg_meaning.specs.Projections.{column_value}
@@ -15,7 +15,7 @@ use Rattle.pg_meaning.specs.Tree.{Item}
 use Rattle.pg_meaning.specs.Value.{Value, values_of, no_entries}
 use Rattle.pg_meaning.specs.declared.fault.Fault.{Fault}
 use Rattle.pg_meaning.specs.declared.fault.Fault.TheVariants.{StepQuota}
-use Rattle.pg_syntax.specs.Plain.{plain_query}
+use Rattle.pg_syntax.specs.Plain.{IsPlainExpression, plain_query}
 use Rattle.pg_tenant.specs.Answers.{query_answer, item_values, plain_answer, PlainAnswers}
 use Rattle.pg_tenant.specs.Checks.{names_of}
 use Rattle.pg_tenant.specs.Evaluation.{given}

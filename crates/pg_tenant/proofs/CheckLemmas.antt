@@ -1,14 +1,15 @@
 -- The static faults of a plain query: its expressions have none, so a column that comes again is all there is.
-use Rattle.std.proofs.Common.{◌≡◌, ℕ, Bool, true, false, List, [], ◌∷◌, ◌++◌, map, Ok, Err, Option, Some, None, refl, ap, ◌∙◌, append-nil}
-use Rattle.std.specs.Prelude.{◌||◌}
+use Rattle.std.proofs.Common.{◌≡◌, ℕ, Bool, true, false, cond, List, [], ◌∷◌, ◌++◌, map, Result, Ok, Err, Option, Some, None, refl, sym, ap, ◌∙◌, append-nil}
+use Rattle.std.specs.Prelude.{◌||◌, flat_map}
 use Rattle.std.specs.List.{list_any, AllByRecursion}
 use Rattle.pg_meaning.specs.Aggregates.{aggregate_of}
 use Rattle.pg_meaning.specs.Names.{Names, is_among}
-use Rattle.pg_meaning.specs.Scopes.{is_aggregate, return_column}
+use Rattle.pg_meaning.specs.Scopes.{Column, is_aggregate, return_column}
 use Rattle.pg_meaning.specs.StaticFaults.{Found, Role, whole_item, elsewhere, found_if, expression_faults, all_faults, item_faults, goes_before, least, static_faults, static_fault}
 use Rattle.pg_meaning.specs.Texts.{checked_by}
 use Rattle.pg_meaning.specs.Tree.{Expression, Expressions, Item, Query}
 use Rattle.pg_meaning.specs.Tree as tree
+use Rattle.pg_meaning.specs.declared.fault.Fault.{Fault}
 use Rattle.pg_meaning.specs.declared.fault.Fault.TheVariants.{DuplicateColumn}
 use Rattle.pg_meaning.specs.declared.operators.Operator.TheVariants as op
 use Rattle.pg_meaning.specs.declared.operators.TextTest.TheVariants as test

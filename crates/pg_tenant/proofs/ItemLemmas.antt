@@ -1,14 +1,17 @@
 -- The clause of a RETURN with items alone, step by step.
-use Rattle.std.proofs.Common.{◌≡◌, ℕ, Bool, true, false, List, [], ◌∷◌, map, Result, Ok, Err, None, refl, ap, ◌∙◌, append-nil}
+use Rattle.std.proofs.Common.{◌≡◌, ℕ, Bool, true, false, List, [], ◌∷◌, ◌++◌, map, Result, Ok, Err, Option, None, refl, sym, ap, ◌∙◌, append-nil}
 use Rattle.std.specs.Prelude.{flat_map}
 use Rattle.std.specs.List.{list_any}
 use Rattle.pg_meaning.specs.Answer.{◌>>=◌, ◌>>◌, each_answer, each_step}
 use Rattle.pg_meaning.specs.Graph.{Graph}
 use Rattle.pg_meaning.specs.Meters.{Setting, State, spend}
-use Rattle.pg_meaning.specs.Projections.{Projected, column_value, projected, grouped, ordered_rows, distinct_rows, passing_rows, skipped, limited}
-use Rattle.pg_meaning.specs.Queries.{Outcome, test_output, output_rows}
+use Rattle.pg_meaning.specs.Plans.{Plan}
+use Rattle.pg_meaning.specs.Projections.{Projected, column_value, projected, item_rows, grouped, ordered_rows, distinct_rows, passing_rows, skipped, limited}
+use Rattle.pg_meaning.specs.Queries.{Outcome, ordered, test_output, output_rows}
 use Rattle.pg_meaning.specs.Rows.{Row, values_in}
 use Rattle.pg_meaning.specs.Scopes.{Column, is_aggregate, column_names}
+use Rattle.pg_meaning.specs.Tree.{Item}
+use Rattle.pg_meaning.specs.Value.{Value, Entries}
 use Rattle.pg_meaning.specs.declared.fault.Fault.{Fault}
 use Rattle.pg_tenant.specs.Items.{setting_of, item_columns, ItemsAlone}
 

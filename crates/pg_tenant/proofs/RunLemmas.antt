@@ -1,12 +1,14 @@
 -- Running a query of plain items, step by step.
-use Rattle.std.proofs.Common.{◌≡◌, ℕ, ◌<◌, ◌≤◌, length, drop, arith, false, List, [], ◌∷◌, ◌++◌, map, Result, Ok, Err, refl, sym, ap, ◌∙◌, append_assoc, append-nil, inl, inr}
+use Rattle.std.proofs.Common.{◌≡◌, ℕ, ◌+◌, ◌<◌, ◌≤◌, length, drop, arith, Bool, true, false, List, [], ◌∷◌, ◌++◌, map, Result, Ok, Err, refl, sym, ap, ◌∙◌, append_assoc, append-nil, inl, inr}
 use Rattle.std.proofs.lemmas.Bool.{le-leb}
 use Rattle.std.proofs.lemmas.Bool.Decides.{leb_tells}
 use Rattle.std.proofs.lemmas.List.{drop_all, map-append}
 use Rattle.std.specs.Prelude.{nat_le}
-use Rattle.pg_meaning.specs.Answer.{◌>>=◌}
+use Rattle.pg_json.specs.Replies.{outs}
+use Rattle.pg_meaning.specs.Answer.{◌>>=◌, ◌>>◌, unless, each_answer, each_step}
 use Rattle.pg_meaning.specs.Graph.{empty_graph}
-use Rattle.pg_meaning.specs.Queries.{test_items}
+use Rattle.pg_meaning.specs.Queries.{Outcome, test_output, test_items}
+use Rattle.pg_meaning.specs.Scopes.{return_column}
 use Rattle.pg_meaning.specs.Tree.{Item}
 use Rattle.pg_meaning.specs.Value.{Value, values_of}
 use Rattle.pg_meaning.specs.declared.fault.Fault.{Fault}

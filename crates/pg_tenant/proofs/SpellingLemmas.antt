@@ -1,10 +1,11 @@
 -- Values spelt out one after the other.
-use Rattle.std.proofs.Common.{◌≡◌, length, arith, List, [], ◌∷◌, ◌++◌, Ok, Err, refl, sym, ap, ◌∙◌}
+use Rattle.std.proofs.Common.{◌≡◌, ℕ, length, arith, List, [], ◌∷◌, ◌++◌, Result, Ok, Err, refl, sym, ap, ◌∙◌}
 use Rattle.serde_json.specs.Data.{Items, no_items, item}
 use Rattle.pg_json.specs.Replies.{data_of, outs}
 use Rattle.pg_meaning.specs.Answer.{◌>>◌}
 use Rattle.pg_meaning.specs.Graph.{empty_graph}
 use Rattle.pg_meaning.specs.Queries.{test_output, test_items}
+use Rattle.pg_meaning.specs.Value.{Values, item as value_item}
 use Rattle.pg_meaning.specs.declared.fault.Fault.{Fault}
 use Rattle.pg_tenant.specs.Printed.{printed, printed_items}
 use Rattle.pg_value_core.specs.View.{view, values_view}

@@ -1,7 +1,7 @@
 -- The one static fault that a query of plain items can have.
-use Rattle.std.specs.Prelude.{◌≡◌, Bool, false, true, List, [], map, Result, Ok, Err}
+use Rattle.std.specs.Prelude.{◌≡◌, Bool, false, true, ◌||◌, List, [], ◌∷◌, map, Result, Ok, Err, ℕ}
 use Rattle.std.specs.List.{AllByRecursion}
-use Rattle.pg_meaning.specs.Names.{Names}
+use Rattle.pg_meaning.specs.Names.{Names, is_among}
 use Rattle.pg_meaning.specs.Scopes.{return_column}
 use Rattle.pg_meaning.specs.StaticFaults.{static_fault}
 use Rattle.pg_meaning.specs.Texts.{checked_by}

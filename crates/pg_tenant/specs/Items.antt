@@ -1,5 +1,5 @@
 -- A query of one RETURN whose items are no aggregates, with nothing behind them: each item once.
-use Rattle.std.specs.Prelude.{◌≡◌, ℕ, Bool, false, List, [], ◌∷◌, Result, Ok}
+use Rattle.std.specs.Prelude.{◌≡◌, ℕ, Bool, true, false, List, [], ◌∷◌, map, Result, Ok, Err, Option, None}
 use Rattle.std.specs.List.{list_any}
 use Rattle.pg_meaning.specs.Answer.{◌>>=◌, ◌>>◌, each_answer, each_step}
 use Rattle.pg_meaning.specs.Graph.{Graph}
@@ -7,7 +7,7 @@ use Rattle.pg_meaning.specs.Meters.{Setting, spend}
 use Rattle.pg_meaning.specs.Plans.{Plan}
 use Rattle.pg_meaning.specs.Projections.{column_value}
 use Rattle.pg_meaning.specs.Queries.{Outcome, ordered, first_anchors, test_output}
-use Rattle.pg_meaning.specs.Rows.{values_in}
+use Rattle.pg_meaning.specs.Rows.{Row, values_in}
 use Rattle.pg_meaning.specs.Scopes.{Column, is_aggregate, return_columns, column_names}
 use Rattle.pg_meaning.specs.Tree.{Item}
 use Rattle.pg_meaning.specs.Value.{Entries}

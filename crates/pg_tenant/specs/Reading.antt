@@ -1,8 +1,10 @@
 -- What a query text reads as, where the program answers it, and what it is answered with.
-use Rattle.std.specs.Prelude.{ℕ, nat_le, List, Option, Some, None, Result, Err, length}
+use Rattle.std.specs.List.{AllByRecursion}
+use Rattle.std.specs.Prelude.{◌≡◌, ℕ, Bool, nat_le, List, [], Option, Some, None, Result, Ok, Err, length}
 use Rattle.pg_lex.specs.Plain.{plain_tokens_of}
 use Rattle.pg_meaning.specs.Answer.{◌>>=◌, ◌>>◌, unless}
 use Rattle.pg_meaning.specs.Queries.{Outcome}
+use Rattle.pg_meaning.specs.StaticFaults.{static_fault}
 use Rattle.pg_meaning.specs.Texts.{checked_query}
 use Rattle.pg_meaning.specs.Tokens.{Token}
 use Rattle.pg_meaning.specs.Tree.{Query}

@@ -1,4 +1,4 @@
-use Rattle.std.proofs.Common.{rules, ◌≡◌, ◌∷◌, [], ◌∙◌, ◌≤◌, map, Err, ap, refl, arith}
+use Rattle.std.proofs.Common.{rules, ◌≡◌, ◌∷◌, [], ◌∙◌, ◌≤◌, map, Ok, Err, ap, refl, arith}
 use Rattle.pg_json.specs.Replies.{outs}
 use Rattle.pg_meaning.specs.Graph.{empty_graph}
 use Rattle.pg_meaning.specs.Queries.{test_items}

@@ -9,7 +9,7 @@ use Rattle.pg_json.specs.Laws.{RefusalsDiffer, RepliesAreNoRefusals, DoneIsNoRef
 use Rattle.pg_json.specs.Refusals.{refusal_text, done_text}
 use Rattle.pg_json.specs.Replies.{reply_text}
 use Rattle.pg_json.specs.declared.reply.ReplyBody.{ReplyBody}
-use Rattle.pg_json.specs.declared.reply.ReplyBody.TheVariants.{Query}
+use Rattle.pg_json.specs.declared.reply.ReplyBody.TheVariants.{Query, Status}
 
 -- the number in `{"code":25,..`, of one digit or two
 abbrev code_in : List ℕ → ℕ
@@ -72,6 +72,7 @@ refusals_differ f g e = sym (fault_in-refusal f) ∙ ap fault_in e ∙ fault_in-
 code_in-reply : (r : ReplyBody) → code_in (reply_text r) ≡ 0
 unfolding serde_json_on_literals digits reply_text
 code_in-reply (Query columns rows steps) = refl
+code_in-reply (Status s) = refl
 
 code_in-done : code_in done_text ≡ 0
 unfolding serde_json_on_literals digits done_text

@@ -7,7 +7,8 @@ use Rattle.serde_json.specs.Written.{compact_text}
 use Rattle.pg_value_core.specs.declared.out.Out.{Out, fold-Out}
 use Rattle.pg_value_core.specs.declared.out.Out.TheOpen.{Out-F}
 use Rattle.pg_json.specs.declared.reply.ReplyBody.{ReplyBody}
-use Rattle.pg_json.specs.declared.reply.ReplyBody.TheVariants.{Query}
+use Rattle.pg_json.specs.declared.reply.ReplyBody.TheVariants.{Query, Status}
+use Rattle.pg_json.specs.declared.reply.TenantStatus.{TenantStatus}
 
 abbrev pub items_of : List Data → Items
 items_of [] = no_items
@@ -65,8 +66,26 @@ rows_of rows = items_of (map (λ row. array (outs row.items)) rows)
 abbrev pub query_data : Items → Items → ℕ → Data
 query_data columns rows steps = object (member (codes "code") (natural 0) (member (codes "columns") (array columns) (member (codes "rows") (array rows) (member (codes "steps") (natural steps) no_members))))
 
+-- [label,key]
+abbrev pub index_data : List ℕ → List ℕ → Data
+index_data label key = array (item (string label) (item (string key) no_items))
+
+abbrev pub index_items : List (String Global × String Global) → Items
+index_items is = items_of (map (λ i. index_data (string_bytes i.0) (string_bytes i.1)) is)
+
+-- {"code":0,"elements":n,"indexes":[[label,key],..],"max_elements":n,"max_steps":n,"next_node":n,"next_rel":n}
+abbrev pub status_data : ℕ → Items → ℕ → ℕ → ℕ → ℕ → Data
+status_data elements indexes max_elements max_steps next_node next_rel =
+    object (member (codes "code") (natural 0) (member (codes "elements") (natural elements) (member (codes "indexes") (array indexes)
+    (member (codes "max_elements") (natural max_elements) (member (codes "max_steps") (natural max_steps)
+    (member (codes "next_node") (natural next_node) (member (codes "next_rel") (natural next_rel) no_members)))))))
+
+abbrev pub tenant_data : TenantStatus → Data
+tenant_data s = status_data s.elements (index_items s.indexes.items) s.max_elements s.max_steps s.next_node s.next_rel
+
 abbrev pub reply_data : ReplyBody → Data
 reply_data (Query columns rows steps) = query_data (text_items columns.items) (rows_of rows.items) steps
+reply_data (Status s) = tenant_data s
 
 unfoldable pub reply_text : ReplyBody → List ℕ
 reply_text r = compact_text (reply_data r)

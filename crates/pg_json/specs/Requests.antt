@@ -8,6 +8,7 @@ use Rattle.serde_json.specs.Read.{read}
 -- what is asked for; a text is its bytes
 pub data Request : Type 0 where
   query : List ℕ → List ℕ → Request
+  status : List ℕ → Request
 
 -- the text at a key
 abbrev pub text_at : List ℕ → Members → Option (List ℕ)
@@ -28,6 +29,12 @@ query_keys = codes "op" ∷ codes "token" ∷ codes "text" ∷ []
 abbrev pub query_of : Members → Option Request
 query_of ms = option_and_then (λ token. option_map (λ text. query token text) (text_at (codes "text") ms)) (text_at (codes "token") ms)
 
+abbrev pub status_keys : List (List ℕ)
+status_keys = codes "op" ∷ codes "token" ∷ []
+
+abbrev pub status_of : Members → Option Request
+status_of ms = option_map (λ token. status token) (text_at (codes "token") ms)
+
 abbrev pub with_only : List (List ℕ) → Members → Option Request → Option Request
 with_only names ms r = if has_only names ms then r else None
 
@@ -35,6 +42,7 @@ with_only names ms r = if has_only names ms then r else None
 abbrev pub by_op : List ℕ → Members → Option Request
 by_op op ms =
     if bytes_eq op (codes "query") then with_only query_keys ms (query_of ms)
+    else if bytes_eq op (codes "status") then with_only status_keys ms (status_of ms)
     else None
 
 abbrev pub object_request : Members → Option Request

@@ -7,6 +7,7 @@ mod read;
 mod reply;
 mod request;
 mod room;
+mod status;
 #[cfg(test)]
 mod tests;
 mod value;
@@ -15,6 +16,6 @@ mod write;
 pub use bytes::{ReplyBytes, done, refusal};
 pub use laws::{law_of_refusals, law_of_replies};
 pub use read::read_request;
-pub use reply::ReplyBody;
+pub use reply::{ReplyBody, TenantStatus};
 pub use request::RequestBody;
 pub use write::write_reply;

@@ -2,7 +2,7 @@
 ghost use Rattle.std.specs.Prelude.{◌≡◌, ◌≢◌, IfOk, IfErr, None, Some, List, ℕ, option_map, string_bytes, map};
 ghost use Rattle.serde_json.specs.View.{view, members_view};
 ghost use Rattle.serde_json.specs.Find.{as_str, get_member};
-ghost use Rattle.pg_json.specs.Requests.{meaning, request_of, object_request, query_of, text_at as spec_text_at, has_only as spec_has_only, is_one_of as spec_is_one_of};
+ghost use Rattle.pg_json.specs.Requests.{meaning, request_of, object_request, query_of, status_of, text_at as spec_text_at, has_only as spec_has_only, is_one_of as spec_is_one_of};
 ghost use Rattle.pg_json.specs.Bodies.{request_view};
 ghost use Rattle.pg_meaning.specs.declared.fault.Fault.TheVariants.{BadRequest, OutOfMemory};
 
@@ -41,8 +41,15 @@ fn object_from(members: Map<String, Value>) -> Option<RequestBody>
     ensures { option_map request_view result ≡ object_request (members_view members.entries) }
 {
     let op = text_at(&members, "op")?;
-    if op == "query" && has_only(&members, &["op", "token", "text"]) {
-        return query_from(members);
+    if op == "query" {
+        return if has_only(&members, &["op", "token", "text"]) {
+            query_from(members)
+        } else {
+            None
+        };
+    }
+    if op == "status" && has_only(&members, &["op", "token"]) {
+        return status_from(members);
     }
     None
 }
@@ -53,6 +60,13 @@ fn query_from(mut members: Map<String, Value>) -> Option<RequestBody>
     let token = take_text(&mut members, "token")?;
     let text = take_text(&mut members, "text")?;
     Some(RequestBody::Query { token, text })
+}
+
+fn status_from(mut members: Map<String, Value>) -> Option<RequestBody>
+    ensures { option_map request_view result ≡ status_of (members_view members.entries) }
+{
+    let token = take_text(&mut members, "token")?;
+    Some(RequestBody::Status { token })
 }
 
 fn text_at<'a>(members: &'a Map<String, Value>, name: &str) -> Option<&'a str>

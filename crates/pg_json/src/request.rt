@@ -4,4 +4,5 @@
 #[derive(Drop)]
 pub enum RequestBody {
     Query { token: String, text: String },
+    Status { token: String },
 }

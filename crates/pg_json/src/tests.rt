@@ -1,17 +1,33 @@
 //! What requests are read as, and what replies are written as, by the rules for both.
-use crate::{ReplyBody, RequestBody, done, read_request, refusal, write_reply};
+use crate::{ReplyBody, RequestBody, TenantStatus, done, read_request, refusal, write_reply};
 use pg_meaning::Fault;
 use pg_value_core::{NodeId, Out, RelId};
 use std::alloc::{AllocError, Global};
 use std::collections::BTreeMap;
 use std::test::Fail;
 
+fn is_query(request: &RequestBody, wanted_token: &str, wanted_text: &str) -> bool {
+    match request {
+        RequestBody::Query { token, text } => {
+            token.as_str() == wanted_token && text.as_str() == wanted_text
+        }
+        RequestBody::Status { .. } => false,
+    }
+}
+
 /// Whether the body asks with this token for this text.
-fn asks(alloc: Global, body: &[u8], wanted_token: &str, wanted_text: &str) -> bool {
+fn asks(alloc: Global, body: &[u8], token: &str, text: &str) -> bool {
     match read_request(alloc, body) {
-        Ok(RequestBody::Query { token, text }) => token.as_str() == wanted_token
-            && text.as_str() == wanted_text,
+        Ok(request) => is_query(&request, token, text),
         Err(_) => false,
+    }
+}
+
+/// Whether the body asks for a status with this token.
+fn asks_status(alloc: Global, body: &str, wanted: &str) -> bool {
+    match read_request(alloc, body.as_bytes()) {
+        Ok(RequestBody::Status { token }) => token.as_str() == wanted,
+        _ => false,
     }
 }
 
@@ -73,7 +89,12 @@ null
 {"op":"query ","token":"a","text":"t"}
 {"op":"query","op":"status","token":"a","text":"t"}
 {"op":"query","token":"a","text":"t","text":null}
-{"op":"status","token":"a"}
+{"op":"status"}
+{"op":"status","token":null}
+{"op":"status","token":"a","text":"t"}
+{"op":"status","token":"a","x":1}
+{"op":"Status","token":"a"}
+{"op":"query","op":"status","token":"a","text":1}
 {"op":"create_index","token":"a","label":"P","key":"k"}
 {"op":"drop_index","token":"a","label":"P","key":"k"}
 {"op":null,"token":"a","text":"t"}
@@ -104,6 +125,14 @@ fn reads(rt: HostRuntime) {
     for body in REFUSED.lines() {
         assert!(rt; is_refused(alloc, body.as_bytes()), "{body}");
     }
+    assert!(rt; asks_status(alloc, r#"{"op":"status","token":"a"}"#, "a"));
+    assert!(rt;
+        asks_status(
+            alloc,
+            r#"{"token":1,"op":"query","token":"","op":"status"}"#,
+            ""
+        )
+    );
     assert!(rt; is_refused(alloc, b" "));
     assert!(rt; is_refused(alloc, b"{\"op\":\"query\",\"token\":\"a\",\"text\":\"\n\"}"));
     assert!(rt;
@@ -263,6 +292,50 @@ fn writes(rt: HostRuntime) -> Result<(), Fail> {
     Ok(())
 }
 
+fn status(alloc: Global) -> Result<ReplyBody, AllocError> {
+    let mut indexes = Vec::new(alloc);
+    indexes.push((
+        String::from_str(alloc, "P")?,
+        String::from_str(alloc, "na\"me")?,
+    ))?;
+    indexes.push((String::from_str(alloc, "Q")?, String::from_str(alloc, "k")?))?;
+    Ok(ReplyBody::Status(TenantStatus {
+        elements: 3,
+        indexes,
+        max_elements: 10,
+        max_steps: 1000,
+        next_node: 2,
+        next_rel: u64::MAX,
+    }))
+}
+
+fn no_status(alloc: Global) -> ReplyBody {
+    ReplyBody::Status(TenantStatus {
+        elements: 0,
+        indexes: Vec::new(alloc),
+        max_elements: 0,
+        max_steps: 0,
+        next_node: 0,
+        next_rel: 0,
+    })
+}
+
+#[test]
+fn writes_statuses(rt: HostRuntime) -> Result<(), Fail> {
+    let alloc = rt.alloc();
+    let bytes = write_reply(alloc, &status(alloc)?)?;
+    assert!(rt; bytes.as_slice() == STATUS.as_bytes());
+    let bytes = write_reply(alloc, &no_status(alloc))?;
+    assert!(rt; bytes.as_slice() == NO_STATUS.as_bytes());
+    Ok(())
+}
+
+const STATUS: &str =
+    r#"{"code":0,"elements":3,"indexes":[["P","na\"me"],["Q","k"]],"max_elements":10,"max_steps":1000,"next_node":2,"next_rel":18446744073709551615}"#;
+
+const NO_STATUS: &str =
+    r#"{"code":0,"elements":0,"indexes":[],"max_elements":0,"max_steps":0,"next_node":0,"next_rel":0}"#;
+
 const THREE: &str = r#"{"code":0,"columns":["a","b","c"],"rows":[[null,null,false]],"steps":1}"#;
 
 /// An empty row and one with each kind of value.
@@ -310,9 +383,7 @@ fn answers_want_of_memory_alone(rt: HostRuntime) {
         alloc,
         br#"{"op":"query","token":"a\n","text":"RETURN 1\n"}"#,
     ) {
-        Ok(RequestBody::Query { token, text }) => {
-            assert!(rt; token.as_str() == "a\n" && text.as_str() == "RETURN 1\n");
-        }
+        Ok(request) => assert!(rt; is_query(&request, "a\n", "RETURN 1\n")),
         Err(fault) => assert!(rt; fault == Fault::OutOfMemory),
     }
     match length(alloc, "x", 50, 100) {

@@ -11,6 +11,7 @@ ghost use Rattle.pg_meaning.specs.declared.fault.Fault.TheVariants.{OutOfMemory,
 use crate::bytes::ReplyBytes;
 use crate::reply::ReplyBody;
 use crate::room::{room_after_row, room_after_texts};
+use crate::status::write_status;
 use crate::value::{write_items, write_natural, write_texts};
 use json::Writer;
 use pg_meaning::Fault;
@@ -58,6 +59,7 @@ fn write_body(reply: &ReplyBody, to: &mut Writer) -> Result<(), Fault>
             rows,
             steps,
         } => write_query(columns, rows, *steps, to),
+        ReplyBody::Status(status) => Ok(write_status(status, to)?),
     }
 }
 

@@ -1,5 +1,5 @@
 -- The laws, in the words of the contracts.
-use Rattle.std.proofs.Common.{◌≡◌, ◌⊎◌, inl, inr, ℕ, Bool, true, false, cond, List, Option, Some, None, Result, Ok, Err, refl, sym, ap, ◌∙◌}
+use Rattle.std.proofs.Common.{◌≡◌, ◌⊎◌, inl, inr, ℕ, Bool, true, false, cond, List, Option, Some, None, Result, Ok, Err, refl, ap, ◌∙◌}
 use Rattle.std.specs.Prelude.{◌↔◌, IfOk, IfErr, IsErrOf}
 use Rattle.pg_meaning.specs.Depth.{is_too_deep}
 use Rattle.pg_meaning.specs.Grammar.{Reads}

@@ -1,7 +1,7 @@
 -- Tokens that fit marks.
 use Rattle.std.proofs.Common.{◌≡◌, List, [], ◌∷◌, ◌++◌, refl, ap}
 use Rattle.pg_meaning.specs.Tokens.{Token}
-use Rattle.pg_meaning.specs.Grammar.{Mark, Accepts, Fit}
+use Rattle.pg_meaning.specs.Grammar.{Mark, Fit}
 
 pub fit_append : (a b : List Token) (x y : List Mark) → Fit a x → Fit b y → Fit (a ++ b) (x ++ y)
 fit_append [] b [] y p q = q

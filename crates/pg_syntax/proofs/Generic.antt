@@ -1,8 +1,8 @@
 -- Laws of the combinators, whatever the grammar.
-use Rattle.std.proofs.Common.{◌≡◌, ℕ, zero, suc, ◌+◌, ◌<◌, ◌≤◌, Bool, true, false, List, [], ◌∷◌, ◌++◌, length, Option, Some, None, refl, sym, ap, subst, ◌∙◌, ◌⊎◌, inl, inr, append_assoc, length-append, arith}
+use Rattle.std.proofs.Common.{◌≡◌, ℕ, zero, suc, ◌+◌, ◌<◌, ◌≤◌, Bool, true, false, List, [], ◌∷◌, ◌++◌, length, Some, None, refl, sym, ap, ◌∙◌, ◌⊎◌, inl, inr, append_assoc, length-append, arith}
 use Rattle.std.proofs.lemmas.List.{append-nil}
 use Rattle.pg_meaning.specs.Tokens.{Token}
-use Rattle.pg_meaning.specs.Parse.{Parser, Outcome, Test, and_then, many_from, many}
+use Rattle.pg_meaning.specs.Parse.{Parser, Outcome, Test, and_then, many_from}
 
 -- What is read, is spelled by what was taken.
 abbrev pub Sound : {A : Type 0} → Parser A → (A → List Token → Type 0) → Type 0

@@ -1,23 +1,23 @@
 -- Items: an operation, its source and its alias.
-use Rattle.std.proofs.Common.{◌≡◌, ℕ, zero, suc, ◌+◌, ◌-◌, ◌<◌, ◌≤◌, Bool, true, false, List, [], ◌∷◌, ◌++◌, length, map, Option, Some, None, refl, sym, ap, subst, ◌∙◌, ◌⊎◌, inl, inr, append_assoc, length-append, arith}
-use Rattle.std.proofs.lemmas.List.{append-nil}
-use Rattle.std.specs.Prelude.{slice_get, slice_range}
+use Rattle.std.proofs.Common.{◌≡◌, ℕ, ◌+◌, ◌-◌, Bool, false, List, [], ◌∷◌, ◌++◌, length, Option, Some, None, refl, sym, ap, subst, ◌∙◌, inl, inr, append_assoc, length-append, arith}
+use Rattle.std.specs.Prelude.{slice_get}
 use Rattle.std.specs.Str.{IsUtf8}
 use Rattle.pg_meaning.specs.declared.lexemes.Keyword.TheVariants as k
 use Rattle.pg_meaning.specs.declared.lexemes.Symbol.TheVariants as s
 use Rattle.pg_meaning.specs.Tokens.{Token}
 use Rattle.pg_meaning.specs.Tree.{Name, Expression, Item}
-use Rattle.pg_meaning.specs.Grammar.{Mark, key, begun, ended, marks, optional_marks, alias_marks, item_marks, Accepts, Fit, HasSource}
+use Rattle.pg_meaning.specs.Grammar.{Mark, begun, ended, marks, optional_marks, alias_marks, item_marks, Fit, HasSource}
 use Rattle.pg_meaning.specs.Parse as parse
 use Rattle.pg_meaning.specs.Parse.{Parser, Outcome, and_then, ◌>>=◌, ◌>>◌, ◌<$>◌, pure, rest, with_rest, sees_symbol, sees_keyword, start_of, finish_of, finish_between, maybe, alias}
 use Rattle.pg_syntax.specs.Plain.{IsPlainExpression}
 use Rattle.pg_syntax.specs.PlainParse.{expression, cut, item_with, item}
 use Rattle.pg_syntax.proofs.Fits.{fit_append, fit_split}
 use Rattle.pg_syntax.proofs.Generic.{Sound, Complete, some, same_some, bind_some, pick, chosen}
-use Rattle.pg_syntax.proofs.Operations.{Spelled, Ends, expression_exact, comma_ends, opens_none}
+use Rattle.pg_syntax.proofs.Expressions.{expression_exact}
+use Rattle.pg_syntax.proofs.Operations.{Ends, opens_none}
 use Rattle.pg_syntax.proofs.Separated.{EachToken, each_front}
 use Rattle.pg_syntax.proofs.Spans.{Placed, cut_sound, cut_complete}
-use Rattle.pg_syntax.proofs.Terminals.{symbol_is, symbol_seen, keyword_is, keyword_seen, keyword_takes, keyword_again, var_takes, var_again, with_rest_is}
+use Rattle.pg_syntax.proofs.Terminals.{keyword_seen, keyword_takes, keyword_again, var_takes, var_again, with_rest_is}
 
 -- ---- places
 
@@ -161,7 +161,7 @@ unfolding parse.same_keyword
 alias_ends None [] more fits ends = ends.0
 alias_ends None (t ∷ g) more fits ends = absurd fits
 alias_ends (Some n) [] more fits ends = absurd fits
-alias_ends (Some n) (t ∷ g) more fits ends = rw fits.0.spelled.1 (refl, refl)
+alias_ends (Some n) (t ∷ g) more fits ends = rw fits.0.spelled.1 (refl, refl, refl, refl)
 
 pub item_complete : (text : List ℕ) (n : ℕ) → IsUtf8 text → Complete n (item text (expression n)) (PlacedItem text) ItemEnds
 unfolding item

@@ -1,12 +1,16 @@
 pub mod Agree
+pub mod AgreeNodes
 pub mod AgreeQueries
 pub mod Contract
 pub mod Ends
+pub mod Expressions
 pub mod Fits
 pub mod Generic
 pub mod Items
+pub mod Nodes
 pub mod Operations
 pub mod Queries
+pub mod References
 pub mod Rows
 pub mod Separated
 pub mod Spans

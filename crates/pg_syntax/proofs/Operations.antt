@@ -1,5 +1,5 @@
--- Atoms and operations: what they read, and that they miss no plain expression.
-use Rattle.std.proofs.Common.{◌≡◌, ℕ, zero, suc, ◌+◌, ◌<◌, ◌≤◌, Bool, true, false, List, [], ◌∷◌, ◌++◌, length, map, Option, Some, None, refl, sym, ap, subst, ◌∙◌, ◌⊎◌, inl, inr, append_assoc, length-append, pos, negsuc, arith}
+-- Atoms, alone and joined: what is read of them, and that none is missed.
+use Rattle.std.proofs.Common.{◌≡◌, ℕ, suc, ◌+◌, ◌<◌, Bool, true, false, List, [], ◌∷◌, ◌++◌, length, map, Option, Some, None, refl, sym, ap, subst, ◌∙◌, ◌⊎◌, inl, inr, append_assoc, length-append, pos, arith}
 use Rattle.std.proofs.lemmas.List.{append-nil}
 use Rattle.std.specs.List.{AllByRecursion}
 use Rattle.pg_meaning.specs.declared.lexemes.Keyword.TheVariants as k
@@ -12,15 +12,15 @@ use Rattle.pg_meaning.specs.Tokens.{Lexeme, Token}
 use Rattle.pg_meaning.specs.Tokens as lexeme
 use Rattle.pg_meaning.specs.Tree.{Expression, Expressions}
 use Rattle.pg_meaning.specs.Tree as tree
-use Rattle.pg_meaning.specs.Grammar.{Mark, mark, integer, string, key, sign, further, commas, literal_marks, marks, list_marks, Accepts, Fit, IsLiteral, IsNonEmpty}
+use Rattle.pg_meaning.specs.Grammar.{Mark, mark, integer, string, variable_name, IsSpelled, key, sign, further, commas, literal_marks, marks, list_marks, Accepts, Fit, IsLiteral}
 use Rattle.pg_meaning.specs.Parse as parse
 use Rattle.pg_meaning.specs.Parse.{Parser, Outcome, and_then, ◌>>=◌, ◌>>◌, pure, rest, is_symbol, sees_symbol, sees_keyword, symbol, separated, expressions_of, listed}
 use Rattle.pg_syntax.specs.Plain.{IsAtom, IsPlainExpression, ArePlainExpressions}
-use Rattle.pg_syntax.specs.PlainParse.{literal_by, literal_or, list_if, atom, equal_to, within, operation_from, operation, expression}
+use Rattle.pg_syntax.specs.PlainParse.{literal_by, literal_or, list_if, atom, equal_to, within, operation_from, joined}
 use Rattle.pg_syntax.proofs.Fits.{fit_append, fit_split}
 use Rattle.pg_syntax.proofs.Generic.{Sound, Complete, some, same_some, bind_some, pick, chosen}
 use Rattle.pg_syntax.proofs.Separated.{Listed, AfterItems, separated_sound, separated_complete, EachToken, listed_made, listed_of}
-use Rattle.pg_syntax.proofs.Terminals.{is_symbol_is, symbol_is, symbol_seen, keyword_is, keyword_seen, symbol_takes, symbol_again, keyword_takes, keyword_again, eat_takes, eat_yes, eat_no}
+use Rattle.pg_syntax.proofs.Terminals.{is_symbol_is, symbol_is, symbol_seen, keyword_seen, symbol_takes, symbol_again, keyword_takes, keyword_again, eat_takes, eat_yes, eat_no}
 
 -- an expression and its tokens
 pub record Spelled (x : Expression) (front : List Token) : Type 0 where
@@ -34,7 +34,7 @@ pub record AtomSpelled (x : Expression) (front : List Token) : Type 0 where
 
 -- no operation goes on with these tokens
 abbrev pub Ends : List Token → Type 0
-Ends ts = (sees_symbol s.Equal ts ≡ false) × (sees_keyword k.In ts ≡ false)
+Ends ts = (sees_symbol s.Equal ts ≡ false) × (sees_keyword k.In ts ≡ false) × (sees_symbol s.Dot ts ≡ false) × (sees_symbol s.OpenParenthesis ts ≡ false)
 
 pub record Exact (limit : ℕ) (p : Parser Expression) : Type 0 where
   pub sound : Sound p Spelled
@@ -73,11 +73,11 @@ IsEnd ts = (sees_symbol s.Comma ts ≡ true) ⊎ (sees_symbol s.CloseBracket ts 
 
 pub comma_ends : (ts : List Token) → sees_symbol s.Comma ts ≡ true → Ends ts
 unfolding parse.same_symbol
-comma_ends ts e = let i = symbol_is s.Comma ts e in rw (i.1, i.2.spelled) (refl, refl)
+comma_ends ts e = let i = symbol_is s.Comma ts e in rw (i.1, i.2.spelled) (refl, refl, refl, refl)
 
 pub bracket_ends : (t : Token) (more : List Token) → Accepts (sign s.CloseBracket) t → AfterItems Ends (t ∷ more)
 unfolding parse.same_symbol
-bracket_ends t more h = rw h.spelled (refl, (refl, refl))
+bracket_ends t more h = rw h.spelled (refl, (refl, refl, refl, refl))
 
 -- the first token of an expression closes no list
 abbrev pub OpensNone : List Token → Type 0
@@ -89,6 +89,11 @@ one_opens (t ∷ r) m ms fits none = (t, r, refl, λ more. none t more fits.0)
 
 front_opens : (front a b : List Token) → front ≡ a ++ b → OpensNone a → OpensNone front
 front_opens front a b e h = (h.0, h.1 ++ b, e ∙ ap (λ (r : List Token). r ++ b) h.2, h.3)
+
+-- a variable's name is a word or a quoted name
+named_opens : (q : Bool) (w : List ℕ) (t : Token) (more : List Token) → IsSpelled (variable_name q w) t.lexeme → sees_symbol s.CloseBracket (t ∷ more) ≡ false
+named_opens true w t more h = rw h refl
+named_opens false w t more h = rw h refl
 
 pub opens_none : (x : Expression) (front : List Token) → IsPlainExpression x → Fit front (marks x) → OpensNone front
 unfolding parse.same_symbol
@@ -102,6 +107,9 @@ opens_none (tree.chain x (tree.operand op.Equal y tree.no_operands)) front plain
     let parts = fit_split front (marks x) _ fits in front_opens front parts.0 parts.1 parts.2 (opens_none x parts.0 plain.1 parts.3)
 opens_none (tree.tests x (tree.text_test test.In y tree.no_tests)) front plain fits =
     let parts = fit_split front (marks x) _ fits in front_opens front parts.0 parts.1 parts.2 (opens_none x parts.0 plain.1 parts.3)
+opens_none (tree.variable n) front plain fits = one_opens front _ _ fits (λ t more h. named_opens n.quoted n.text t more h.spelled)
+opens_none (tree.suffixes (tree.variable n) (tree.property m tree.no_suffixes) []) front plain fits = one_opens front _ _ fits (λ t more h. named_opens n.quoted n.text t more h.spelled)
+opens_none (tree.call f false false (tree.expression (tree.variable n) tree.no_expressions)) front plain fits = one_opens front _ _ fits (λ t more h. rw h.spelled refl)
 opens_none _ front plain fits = absurd plain
 
 abbrev AnyToken : Token → Type 0
@@ -118,6 +126,12 @@ literal_spelled t (lexeme.keyword k.True w) v is e = let same : value.boolean tr
 literal_spelled t (lexeme.keyword k.False w) v is e = let same : value.boolean false ≡ v = cc in subst (λ (v : Value). IsLiteral v × Fit (t ∷ []) (literal_marks v)) same (tt, (record { spelled = (w, is); starts = tt; finishes = tt }, tt))
 literal_spelled t (lexeme.keyword k.Null w) v is e = let same : value.null ≡ v = cc in subst (λ (v : Value). IsLiteral v × Fit (t ∷ []) (literal_marks v)) same (tt, (record { spelled = (w, is); starts = tt; finishes = tt }, tt))
 literal_spelled t _ v is e = absurd cc
+
+-- atoms, alone or joined
+abbrev pub AreAtoms : Expression → Type 0
+AreAtoms (tree.chain x (tree.operand op.Equal y tree.no_operands)) = IsAtom x
+AreAtoms (tree.tests x (tree.text_test test.In y tree.no_tests)) = IsAtom x
+AreAtoms x = IsAtom x
 
 module _ (limit : ℕ) (whole : Parser Expression) (exact : Exact limit whole) where
   abbrev behind : Parser (List Expression)
@@ -286,9 +300,9 @@ module _ (limit : ℕ) (whole : Parser Expression) (exact : Exact limit whole) w
         ]
       ]
 
-  pub operation_sound : Sound (operation whole) Spelled
-  unfolding operation
-  operation_sound ts a more e =
+  pub joined_sound : Sound (joined whole) Spelled
+  unfolding joined
+  joined_sound ts a more e =
       let b = bind_some (atom whole ts) (operation_from whole) (a, more) e in
       let one = atom_sound ts b.0 b.1 b.2 in
       let two = from_sound b.1 b.0 a one.0 more one.2 b.3 in
@@ -314,17 +328,17 @@ module _ (limit : ℕ) (whole : Parser Expression) (exact : Exact limit whole) w
       ∙ ap (λ (b : Bool). pick b ((parse.keyword k.In >> (atom whole >>= λ y. pure (within x y))) (t ∷ (g ++ more))) (some x (t ∷ (g ++ more)))) (keyword_seen k.In t (g ++ more) h)
       ∙ rw (keyword_again k.In t (g ++ more) h, one) refl
 
-  atom_alone : (a : Expression) (front more : List Token) → IsAtom a → IsPlainExpression a → Fit front (marks a) → Ends more → length (front ++ more) < suc limit → operation whole (front ++ more) ≡ Some (a, more)
-  unfolding operation
+  atom_alone : (a : Expression) (front more : List Token) → IsAtom a → IsPlainExpression a → Fit front (marks a) → Ends more → length (front ++ more) < suc limit → joined whole (front ++ more) ≡ Some (a, more)
+  unfolding joined
   atom_alone a front more is plain fits ends less = rw (atom_complete a front more is plain fits less) (from_none a more ends)
 
   two_atoms : (x y a : Expression) (m : Mark) (front more : List Token) → IsAtom x → IsPlainExpression x → IsAtom y → IsPlainExpression y → Fit front (marks x ++ (m ∷ (marks y ++ []))) → length (front ++ more) < suc limit
-      → ((t : Token) (g : List Token) → Accepts m t → atom whole (g ++ more) ≡ Some (y, more) → operation_from whole x (t ∷ (g ++ more)) ≡ Some (a, more)) → operation whole (front ++ more) ≡ Some (a, more)
-  unfolding operation
+      → ((t : Token) (g : List Token) → Accepts m t → atom whole (g ++ more) ≡ Some (y, more) → operation_from whole x (t ∷ (g ++ more)) ≡ Some (a, more)) → joined whole (front ++ more) ≡ Some (a, more)
+  unfolding joined
   two_atoms x y a m front more xa xp ya yp fits less goes =
       let parts = fit_split front (marks x) (m ∷ (marks y ++ [])) fits in by parts.0 parts.1 parts.2 parts.3 parts.4
     where
-      by : (f g : List Token) → front ≡ f ++ g → Fit f (marks x) → Fit g (m ∷ (marks y ++ [])) → operation whole (front ++ more) ≡ Some (a, more)
+      by : (f g : List Token) → front ≡ f ++ g → Fit f (marks x) → Fit g (m ∷ (marks y ++ [])) → joined whole (front ++ more) ≡ Some (a, more)
       by f [] e p q = absurd q
       by f (t ∷ g) e p q =
           let there : front ++ more ≡ f ++ (t ∷ (g ++ more)) = ap (λ (r : List Token). r ++ more) e ∙ append_assoc f (t ∷ g) more in
@@ -334,16 +348,11 @@ module _ (limit : ℕ) (whole : Parser Expression) (exact : Exact limit whole) w
           let two : atom whole (g ++ more) ≡ Some (y, more) = atom_complete y g more ya yp last (omega arith) in
           rw (there, one) (goes t g q.0 two)
 
-  pub operation_complete : Complete (suc limit) (operation whole) Spelled Ends
-  operation_complete (tree.literal v) front more h ends less = atom_alone (tree.literal v) front more tt h.plain h.fits ends less
-  operation_complete (tree.list_literal xs) front more h ends less = atom_alone (tree.list_literal xs) front more tt h.plain h.fits ends less
-  operation_complete (tree.chain x (tree.operand op.Equal y tree.no_operands)) front more h ends less =
-      let p = h.plain in two_atoms x y _ _ front more p.0 p.1 p.2 p.3 h.fits less (λ t g accepts one. from_equal x y t g more accepts one)
-  operation_complete (tree.tests x (tree.text_test test.In y tree.no_tests)) front more h ends less =
-      let p = h.plain in two_atoms x y _ _ front more p.0 p.1 p.2 p.3 h.fits less (λ t g accepts one. from_within x y t g more accepts one)
-  operation_complete _ front more h ends less = absurd h.plain
-
-pub expression_exact : (n : ℕ) → Exact n (expression n)
-unfolding expression
-expression_exact zero = record { sound = λ ts a more e. absurd cc; complete = λ a front more h ends less. absurd (omega arith) }
-expression_exact (suc n) = record { sound = operation_sound n (expression n) (expression_exact n); complete = operation_complete n (expression n) (expression_exact n) }
+  pub joined_complete : (a : Expression) (front more : List Token) → AreAtoms a → IsPlainExpression a → Fit front (marks a) → Ends more → length (front ++ more) < suc limit → joined whole (front ++ more) ≡ Some (a, more)
+  joined_complete (tree.literal v) front more is plain fits ends less = atom_alone (tree.literal v) front more tt plain fits ends less
+  joined_complete (tree.list_literal xs) front more is plain fits ends less = atom_alone (tree.list_literal xs) front more tt plain fits ends less
+  joined_complete (tree.chain x (tree.operand op.Equal y tree.no_operands)) front more is p fits ends less =
+      two_atoms x y _ _ front more p.0 p.1 p.2 p.3 fits less (λ t g accepts one. from_equal x y t g more accepts one)
+  joined_complete (tree.tests x (tree.text_test test.In y tree.no_tests)) front more is p fits ends less =
+      two_atoms x y _ _ front more p.0 p.1 p.2 p.3 fits less (λ t g accepts one. from_within x y t g more accepts one)
+  joined_complete _ front more is plain fits ends less = absurd is

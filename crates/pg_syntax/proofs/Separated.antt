@@ -1,12 +1,12 @@
 -- One or more items with commas between, whatever the items are.
-use Rattle.std.proofs.Common.{◌≡◌, ℕ, zero, suc, ◌+◌, ◌<◌, ◌≤◌, Bool, true, false, List, [], ◌∷◌, ◌++◌, length, map, Option, Some, None, refl, sym, ap, subst, ◌∙◌, append_assoc, length-append, arith}
+use Rattle.std.proofs.Common.{◌≡◌, ℕ, suc, ◌+◌, true, false, List, [], ◌∷◌, ◌++◌, length, map, refl, sym, ap, subst, ◌∙◌, append_assoc, length-append, arith}
 use Rattle.std.specs.List.{AllByRecursion}
 use Rattle.pg_meaning.specs.declared.lexemes.Symbol.TheVariants as s
 use Rattle.pg_meaning.specs.Tokens.{Token}
 use Rattle.pg_meaning.specs.Grammar.{Mark, sign, further, commas, Accepts, Fit, IsNonEmpty}
-use Rattle.pg_meaning.specs.Parse.{Parser, ◌>>=◌, ◌>>◌, sees_symbol, symbol, many, separated}
+use Rattle.pg_meaning.specs.Parse.{Parser, ◌>>◌, sees_symbol, symbol, many, separated}
 use Rattle.pg_syntax.proofs.Fits.{fit_append, fit_split}
-use Rattle.pg_syntax.proofs.Generic.{Sound, Complete, Each, Row, some, same_some, bind_some, many_sound, many_complete, followed}
+use Rattle.pg_syntax.proofs.Generic.{Sound, Complete, Each, Row, some, bind_some, many_sound, many_complete, followed}
 use Rattle.pg_syntax.proofs.Terminals.{symbol_takes, symbol_again, symbol_seen}
 
 -- a comma and an item

@@ -1,10 +1,8 @@
 -- Where the tokens of a text begin and end, the text may be cut.
-use Rattle.std.proofs.Common.{◌≡◌, ℕ, ◌+◌, ◌-◌, ◌≤◌, ◌<◌, Bool, true, false, List, [], ◌∷◌, ◌++◌, length, take, drop, Option, Some, None, refl, sym, ap, subst, ◌∙◌, append_assoc, length-append, length-drop, length-take, cond, min, arith}
-use Rattle.std.proofs.lemmas.List.{append-nil}
-use Rattle.std.proofs.lemmas.Bool.{and_parts, and_from}
+use Rattle.std.proofs.Common.{◌≡◌, ℕ, ◌+◌, ◌-◌, ◌≤◌, Bool, true, false, List, [], ◌∷◌, ◌++◌, length, Some, None, refl, sym, ap, subst, ◌∙◌, append_assoc, length-append, length-drop, length-take, cond, arith}
+use Rattle.std.proofs.lemmas.Bool.{and_parts}
 use Rattle.std.proofs.lemmas.Bool.Decides.{nat_tests}
 use Rattle.std.proofs.lemmas.Str.{encodes-append, IsUtf8-between, IsCharBoundary-at_seam, length-encode, is_utf8-from_IsUtf8}
-use Rattle.std.specs.Char.{len_utf8}
 use Rattle.std.specs.Prelude.{slice_range, encode_utf8_all, encode_utf8, nat_le, ◌&&◌}
 use Rattle.std.specs.Str.{IsUtf8, IsCharBoundary, all_scalars, is_utf8}
 use Rattle.pg_meaning.specs.Tokens.{Lexeme, Token, Segment, segment_text, segments_text, token_of, segment_tokens, width, Lexes}

@@ -1,6 +1,6 @@
 -- One token.
 use denote.Enum.Bare.{same_true, true_same}
-use Rattle.std.proofs.Common.{◌≡◌, ℕ, Bool, true, false, List, [], ◌∷◌, ◌++◌, Option, Some, None, refl, sym, ap, ◌∙◌, ◌⊎◌, inl, inr}
+use Rattle.std.proofs.Common.{◌≡◌, ℕ, Bool, true, false, List, [], ◌∷◌, Option, Some, None, refl, sym, ap, ◌∙◌, ◌⊎◌, inl, inr}
 use Rattle.pg_meaning.specs.contracts.lexemes.Symbol.{the_type as symbol_type}
 use Rattle.pg_meaning.specs.contracts.lexemes.Keyword.{the_type as keyword_type}
 use Rattle.pg_meaning.specs.declared.lexemes.Symbol.{Symbol}
@@ -8,10 +8,10 @@ use Rattle.pg_meaning.specs.declared.lexemes.Keyword.{Keyword}
 use Rattle.pg_meaning.specs.Tokens.{Lexeme, Token}
 use Rattle.pg_meaning.specs.Tokens as lexeme
 use Rattle.pg_meaning.specs.Tree.{Name}
-use Rattle.pg_meaning.specs.Grammar.{What, keyword, variable_name, Mark, mark, key, sign, IsSpelled, Accepts}
+use Rattle.pg_meaning.specs.Grammar.{What, keyword, variable_name, any_name, Mark, mark, key, sign, IsSpelled, Accepts}
 use Rattle.pg_meaning.specs.Grammar as grammar
 use Rattle.pg_meaning.specs.Parse as parse
-use Rattle.pg_meaning.specs.Parse.{same_symbol, same_keyword, is_symbol, is_keyword, sees_symbol, sees_keyword, rest, with_rest, var_of, name_at}
+use Rattle.pg_meaning.specs.Parse.{same_symbol, same_keyword, is_symbol, is_keyword, sees_symbol, sees_keyword, rest, with_rest, var_of, name_of, name_at}
 use Rattle.pg_syntax.proofs.Generic.{some, same_some, pick, chosen}
 
 symbol_same : (a b : Symbol) → same_symbol a b ≡ true → a ≡ b
@@ -105,6 +105,35 @@ var_found at false w l h = rw h refl
 pub var_again : (t : Token) (more : List Token) (n : Name) → Accepts (grammar.var n) t → parse.var (t ∷ more) ≡ Some (n, more)
 unfolding parse.var
 var_again t more n h = rw (var_found t.start n.quoted n.text t.lexeme h.spelled, named t.start n h.starts.0) refl
+
+-- the token of a variable begins one
+pub var_seen : (t : Token) (more : List Token) (n : Name) → Accepts (grammar.var n) t → parse.begins_var (t ∷ more) ≡ true
+var_seen t more n h = rw (var_found 0 n.quoted n.text t.lexeme h.spelled) refl
+
+-- ---- any name
+
+name_spelled : (at : ℕ) (l : Lexeme) (n : Name) → name_of at l ≡ Some n → IsSpelled (any_name n.quoted n.text) l × (at ≡ n.place)
+name_spelled at (lexeme.word w) n e = let same : name_at at false w ≡ n = cc in rw (← same) (inl refl, refl)
+name_spelled at (lexeme.keyword x w) n e = let same : name_at at false w ≡ n = cc in rw (← same) (inr (x, refl), refl)
+name_spelled at (lexeme.quoted_name w) n e = let same : name_at at true w ≡ n = cc in rw (← same) (refl, refl)
+name_spelled at _ n e = absurd cc
+
+pub name_takes : (ts more : List Token) (n : Name) → parse.name ts ≡ Some (n, more) → (t : Token) × (ts ≡ t ∷ more) × Accepts (grammar.name n) t
+unfolding parse.name
+name_takes [] more n e = absurd cc
+name_takes (t ∷ ts) more n e =
+    let h = with_rest_is (name_of t.start t.lexeme) ts n more e in
+    let s = name_spelled t.start t.lexeme n h.0 in
+    (t, ap (λ (r : List Token). t ∷ r) h.1, record { spelled = s.0; starts = (s.1, tt); finishes = tt })
+
+name_found : (at : ℕ) (q : Bool) (w : List ℕ) (l : Lexeme) → IsSpelled (any_name q w) l → name_of at l ≡ Some (name_at at q w)
+name_found at true w l h = rw h refl
+name_found at false w l (inl h) = rw h refl
+name_found at false w l (inr h) = rw h.1 refl
+
+pub name_again : (t : Token) (more : List Token) (n : Name) → Accepts (grammar.name n) t → parse.name (t ∷ more) ≡ Some (n, more)
+unfolding parse.name
+name_again t more n h = rw (name_found t.start n.quoted n.text t.lexeme h.spelled, named t.start n h.starts.0) refl
 
 -- ---- a symbol that may be lacking
 

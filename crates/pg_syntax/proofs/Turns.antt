@@ -1,8 +1,7 @@
 -- What the program tests of a token's neighbours.
-use Rattle.std.proofs.Common.{◌≡◌, Bool, true, false, Option, Some, None, refl}
-use Rattle.pg_meaning.specs.declared.lexemes.Keyword.TheVariants as k
+use Rattle.std.proofs.Common.{◌≡◌, Option, Some, None, refl}
 use Rattle.pg_meaning.specs.declared.lexemes.Symbol.TheVariants as s
-use Rattle.pg_meaning.specs.Depth.{case_turn, turn_of}
+use Rattle.pg_meaning.specs.Depth.{case_turn}
 use Rattle.pg_meaning.specs.Parse as parse
 use Rattle.pg_meaning.specs.Tokens.{Lexeme}
 use Rattle.pg_meaning.specs.Tokens as lexeme

@@ -1,21 +1,26 @@
 -- The data that the program's trees stand for.
-use Rattle.std.specs.Prelude.{ℕ, List, [], ◌∷◌, map, Option, option_map, string_bytes, String}
+use Rattle.std.specs.Prelude.{List, map, Option, Some, None, option_map, string_bytes, Vec, false}
 use Rattle.std.specs.declared.alloc.Global.{Global}
-use Rattle.pg_meaning.specs.Parse.{expressions_of}
+use Rattle.pg_meaning.specs.Parse.{expressions_of, pairs_of}
 use Rattle.pg_meaning.specs.Value as value
 use Rattle.pg_meaning.specs.Tree as tree
-use Rattle.pg_syntax.specs.Plain.{plain_projection}
-use Rattle.pg_syntax.specs.PlainParse.{equal_to, within}
+use Rattle.pg_syntax.specs.Plain.{plain_projection, lone_node}
+use Rattle.pg_syntax.specs.Plain as plain
+use Rattle.pg_syntax.specs.PlainParse.{equal_to, within, property_of, call_of}
 use Rattle.pg_syntax.specs.declared.tree.Name.{Name}
 use Rattle.pg_syntax.specs.declared.tree.Literal.{Literal}
 use Rattle.pg_syntax.specs.declared.tree.Literal.TheVariants as literal
 use Rattle.pg_syntax.specs.declared.tree.Expression.{Expression, fold-Expression}
 use Rattle.pg_syntax.specs.declared.tree.Expression.TheOpen.{Expression-F}
+use Rattle.pg_syntax.specs.declared.tree.Pair.{Pair}
+use Rattle.pg_syntax.specs.declared.tree.NodePattern.{NodePattern}
 use Rattle.pg_syntax.specs.declared.tree.Item.{Item}
 use Rattle.pg_syntax.specs.declared.tree.Projection.{Projection}
 use Rattle.pg_syntax.specs.declared.tree.Clause.{Clause}
 use Rattle.pg_syntax.specs.declared.tree.Clause.TheVariants as clause
 use Rattle.pg_syntax.specs.declared.tree.Query.{Query}
+use Rattle.pg_syntax.specs.declared.query.Start.{Start}
+use Rattle.pg_syntax.specs.declared.query.Start.TheVariants as start
 
 abbrev pub name_view : Name → tree.Name
 name_view n = record { text = string_bytes n.text; quoted = n.quoted; place = n.place }
@@ -32,9 +37,30 @@ view_step (Expression-F.Literal l) = tree.literal (literal_view l)
 view_step (Expression-F.ListLiteral xs) = tree.list_literal (expressions_of xs.items)
 view_step (Expression-F.Equal x y) = equal_to x.value y.value
 view_step (Expression-F.In x y) = within x.value y.value
+view_step (Expression-F.Variable n) = tree.variable (name_view n)
+view_step (Expression-F.Property n m) = property_of (name_view n) (name_view m)
+view_step (Expression-F.Id f n) = call_of (name_view f) (tree.variable (name_view n))
 
 abbrev pub expression_view : Expression → tree.Expression
 expression_view = fold-Expression tree.Expression view_step
+
+abbrev pub names_view : List Name → List tree.Name
+names_view ns = map name_view ns
+
+abbrev pub pair_view : Pair → tree.Name × tree.Expression
+pair_view p = (name_view p.key, expression_view p.value)
+
+abbrev pub properties_view : Option (Vec Pair Global) → tree.Properties
+properties_view None = tree.no_properties
+properties_view (Some ps) = tree.given (pairs_of (map pair_view ps.items))
+
+abbrev pub node_view : NodePattern → tree.NodePattern
+node_view n = record { place = n.place; variable = option_map name_view n.variable; labels = names_view n.labels.items; properties = properties_view n.properties }
+
+abbrev pub start_view : Start → plain.Start
+start_view start.Alone = plain.alone
+start_view (start.Creating n) = plain.creating (node_view n)
+start_view (start.Matching n) = plain.matching (node_view n)
 
 abbrev pub item_view : Item → tree.Item
 item_view x = record { start = x.start; source = string_bytes x.source; value = expression_view x.value; alias = option_map name_view x.alias }
@@ -43,6 +69,8 @@ abbrev pub projection_view : Projection → tree.Projection
 projection_view p = plain_projection (map item_view p.items.items)
 
 abbrev pub clause_view : Clause → tree.Clause
+clause_view (clause.Match n) = tree.match_paths false (lone_node (node_view n)) None
+clause_view (clause.Create n) = tree.create (lone_node (node_view n))
 clause_view (clause.Return p) = tree.return_rows (projection_view p)
 
 abbrev pub query_view : Query → tree.Query

@@ -40,6 +40,15 @@ pub(crate) fn is_symbol(lexeme: &Lexeme<'_>, symbol: Symbol) -> bool
     }
 }
 
+pub(crate) fn start_of(tokens: &[Token<'_>]) -> usize
+    ensures { result ≡ spec.start_of (tokens_view tokens.now) }
+{
+    match tokens {
+        [] => 0,
+        [token, ..] => token.start,
+    }
+}
+
 impl<'t, 'a> Tokens<'t, 'a> {
     pub fn sees(&self, symbol: Symbol) -> bool
         ensures { result ≡ spec.sees_symbol symbol (tokens_view self.now.rest.now) }
@@ -59,6 +68,16 @@ impl<'t, 'a> Tokens<'t, 'a> {
                 Lexeme::Keyword(found, _) => same_keyword(found, keyword),
                 _ => false,
             },
+        }
+    }
+
+    /// Whether a variable's name stands next.
+    pub fn sees_var(&self) -> bool
+        ensures { result ≡ spec.begins_var (tokens_view self.now.rest.now) }
+    {
+        match self.rest {
+            [] => false,
+            [token, ..] => matches!(&token.lexeme, Lexeme::Word(_) | Lexeme::QuotedName(_)),
         }
     }
 
@@ -137,6 +156,27 @@ impl<'t, 'a> Tokens<'t, 'a> {
         };
         let (text, quoted) = match &token.lexeme {
             Lexeme::Word(word) => (*word, false),
+            Lexeme::QuotedName(name) => (name.as_str(), true),
+            _ => return Err(ParseError::BadSyntax),
+        };
+        self.rest = rest;
+        Ok(Name {
+            text: String::from_str(alloc, text)?,
+            quoted,
+            place: token.start,
+        })
+    }
+
+    /// A name, which may be spelled as a keyword is.
+    #[tactic(auto, unfolding(pg_meaning::specs::Parse::name))]
+    pub fn name(&mut self, alloc: Global) -> Result<Name, ParseError>
+        ensures { Gives name_view (spec.name (tokens_view self.old.rest.now)) result self.new.rest.now }
+    {
+        let [token, rest @ ..] = self.rest else {
+            return Err(ParseError::BadSyntax);
+        };
+        let (text, quoted) = match &token.lexeme {
+            Lexeme::Word(word) | Lexeme::Keyword(_, word) => (*word, false),
             Lexeme::QuotedName(name) => (name.as_str(), true),
             _ => return Err(ParseError::BadSyntax),
         };

@@ -1,16 +1,16 @@
 //! The rules of expressions. They take the parser of nested expressions as a parameter, so that each is proved by itself.
 
-ghost use Rattle.std.specs.Prelude.{◌≡◌, IfOk, map, option_map};
+ghost use Rattle.std.specs.Prelude.{◌≡◌, ◌&&◌, if◌then◌else◌, IfOk, Some, None, map, option_map};
 ghost use Rattle.pg_lex.specs.View.{lexeme_view, tokens_view};
 ghost use Rattle.pg_meaning.specs.Parse as parse;
-ghost use Rattle.pg_syntax.specs.Gives.{Gives};
+ghost use Rattle.pg_syntax.specs.Gives.{Gives, GivesValue};
 ghost use Rattle.pg_syntax.specs.Nests.{Nests};
 ghost use Rattle.pg_syntax.specs.PlainParse as spec;
-ghost use Rattle.pg_syntax.specs.View.{expression_view, literal_view};
+ghost use Rattle.pg_syntax.specs.View.{expression_view, literal_view, name_view};
 
 use crate::cursor::{Tokens, is_symbol};
 use crate::error::ParseError;
-use crate::tree::{Expression, Literal};
+use crate::tree::{Expression, Literal, Name};
 use pg_lex::Lexeme;
 use pg_meaning::{Keyword, Symbol};
 use std::alloc::{AllocError, Global};
@@ -39,6 +39,26 @@ fn within(alloc: Global, left: Expression, right: Expression) -> Result<Expressi
     ensures { IfOk result (λ x. expression_view x ≡ spec.within (expression_view left) (expression_view right)) }
 {
     Ok(Expression::In(Box::new(alloc, left)?, Box::new(alloc, right)?))
+}
+
+/// Whether it is the name of the function `id`.
+fn is_id(name: &Name) -> bool
+    ensures { result ≡ spec.is_id_name (name_view name.now) }
+{
+    !name.quoted && name.text.eq_ignore_ascii_case("id")
+}
+
+/// The function of a variable, and of nothing else.
+fn id_of(function: Name, argument: Expression) -> Result<Expression, ParseError>
+    ensures { GivesValue expression_view (if spec.is_id_name (name_view function) && spec.is_variable (expression_view argument) then Some (spec.call_of (name_view function) (expression_view argument)) else None) result }
+{
+    if !is_id(&function) {
+        return Err(ParseError::BadSyntax);
+    }
+    match argument {
+        Expression::Variable(variable) => Ok(Expression::Id(function, variable)),
+        _ => Err(ParseError::BadSyntax),
+    }
 }
 
 #[derive(Clone, Copy)]
@@ -88,7 +108,7 @@ impl<F: Fn(Global, &mut Tokens<'_, '_>, usize) -> Result<Expression, ParseError>
         Ok(found)
     }
 
-    fn atom(&self, tokens: &mut Tokens<'_, '_>) -> Result<Expression, ParseError>
+    pub fn atom(&self, tokens: &mut Tokens<'_, '_>) -> Result<Expression, ParseError>
         requires { Nests self.now.depth (F.pre self.now.expression) (F.post self.now.expression) }
         ensures { Gives expression_view (spec.atom (spec.expression self.now.depth) (tokens_view tokens.old.rest.now)) result tokens.new.rest.now }
     {
@@ -125,13 +145,52 @@ impl<F: Fn(Global, &mut Tokens<'_, '_>, usize) -> Result<Expression, ParseError>
         Ok(first)
     }
 
+    /// What stands behind the name of a function.
+    #[tactic(auto, unfolding(crate::specs::PlainParse::id_of))]
+    fn call(&self, tokens: &mut Tokens<'_, '_>, function: Name) -> Result<Expression, ParseError>
+        requires { Nests self.now.depth (F.pre self.now.expression) (F.post self.now.expression) }
+        ensures { Gives expression_view (spec.id_of (spec.expression self.now.depth) (name_view function) (tokens_view tokens.old.rest.now)) result tokens.new.rest.now }
+    {
+        tokens.expect(Symbol::OpenParenthesis)?;
+        let argument = self.whole(tokens)?;
+        tokens.expect(Symbol::CloseParenthesis)?;
+        id_of(function, argument)
+    }
+
+    /// A variable, a property or the id of one.
+    fn reference(&self, tokens: &mut Tokens<'_, '_>) -> Result<Expression, ParseError>
+        requires { Nests self.now.depth (F.pre self.now.expression) (F.post self.now.expression) }
+        ensures { Gives expression_view (spec.reference (spec.expression self.now.depth) (tokens_view tokens.old.rest.now)) result tokens.new.rest.now }
+    {
+        let name = tokens.var(self.alloc)?;
+        if tokens.eat(Symbol::Dot) {
+            return Ok(Expression::Property(name, tokens.name(self.alloc)?));
+        }
+        if tokens.sees(Symbol::OpenParenthesis) {
+            return self.call(tokens, name);
+        }
+        Ok(Expression::Variable(name))
+    }
+
+    /// An atom, or two of them with `=` or IN between.
+    #[tactic(auto, unfolding(crate::specs::PlainParse::joined))]
+    fn joined(&self, tokens: &mut Tokens<'_, '_>) -> Result<Expression, ParseError>
+        requires { Nests self.now.depth (F.pre self.now.expression) (F.post self.now.expression) }
+        ensures { Gives expression_view (spec.joined (spec.expression self.now.depth) (tokens_view tokens.old.rest.now)) result tokens.new.rest.now }
+    {
+        let first = self.atom(tokens)?;
+        self.operation_from(tokens, first)
+    }
+
     #[tactic(auto, unfolding(crate::specs::PlainParse::operation))]
     pub fn operation(&self, tokens: &mut Tokens<'_, '_>) -> Result<Expression, ParseError>
         requires { Nests self.now.depth (F.pre self.now.expression) (F.post self.now.expression) }
         ensures { Gives expression_view (spec.operation (spec.expression self.now.depth) (tokens_view tokens.old.rest.now)) result tokens.new.rest.now }
     {
-        let first = self.atom(tokens)?;
-        self.operation_from(tokens, first)
+        if tokens.sees_var() {
+            return self.reference(tokens);
+        }
+        self.joined(tokens)
     }
 }
 
@@ -153,4 +212,24 @@ pub(crate) fn expression(
         expression,
     }
     .operation(tokens)
+}
+
+/// An atom alone, with brackets nested less deep than the number.
+#[tactic(auto, unfolding(crate::specs::PlainParse::lone_atom))]
+pub(crate) fn value(
+    alloc: Global,
+    tokens: &mut Tokens<'_, '_>,
+    depth: usize,
+) -> Result<Expression, ParseError>
+    ensures { Gives expression_view (spec.lone_atom depth (tokens_view tokens.old.rest.now)) result tokens.new.rest.now }
+{
+    if depth == 0 {
+        return Err(ParseError::BadSyntax);
+    }
+    Grammar {
+        alloc,
+        depth: depth - 1,
+        expression,
+    }
+    .atom(tokens)
 }

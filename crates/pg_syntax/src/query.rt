@@ -11,25 +11,17 @@ ghost use Rattle.pg_meaning.specs.Tree as tree;
 ghost use Rattle.pg_syntax.specs.Gives.{Gives, GivesValue, Answers};
 ghost use Rattle.pg_syntax.specs.Plain.{IsPlain, plain_query};
 ghost use Rattle.pg_syntax.specs.PlainParse as spec;
-ghost use Rattle.pg_syntax.specs.View.{name_view, item_view, query_view};
+ghost use Rattle.pg_syntax.specs.View.{name_view, start_view, item_view, query_view};
 
-use crate::cursor::Tokens;
+use crate::cursor::{Tokens, start_of};
 use crate::depth::is_too_deep;
 use crate::error::ParseError;
 use crate::grammar::expression;
-use crate::tree::{Clause, Item, Name, Projection, Query};
+use crate::patterns::node;
+use crate::tree::{Clause, Item, Name, NodePattern, Projection, Query};
 use pg_lex::Token;
 use pg_meaning::{Fault, Keyword, Symbol};
 use std::alloc::{AllocError, Global};
-
-fn start_of(tokens: &[Token<'_>]) -> usize
-    ensures { result ≡ parse.start_of (tokens_view tokens.now) }
-{
-    match tokens {
-        [] => 0,
-        [token, ..] => token.start,
-    }
-}
 
 /// Where the last token ends that was taken between the two.
 fn finish_between(old: &[Token<'_>], new: &[Token<'_>]) -> usize
@@ -104,29 +96,86 @@ fn items(
     Ok(found)
 }
 
-fn with_items(alloc: Global, items: Vec<Item>, semicolon: bool) -> Result<Query, AllocError>
-    ensures { IfOk result (λ q. query_view q ≡ plain_query (map item_view items.items) semicolon) }
+/// What stands before RETURN.
+#[derive(Drop)]
+enum Start {
+    Alone,
+    Creating(NodePattern),
+    Matching(NodePattern),
+}
+
+fn read_start(alloc: Global, tokens: &mut Tokens<'_, '_>, depth: usize) -> Result<Start, ParseError>
+    ensures { Gives start_view (spec.start (spec.lone_atom depth) (tokens_view tokens.old.rest.now)) result tokens.new.rest.now }
+{
+    if tokens.eat_keyword(Keyword::Create) {
+        return Ok(Start::Creating(node(alloc, tokens, depth)?));
+    }
+    if tokens.eat_keyword(Keyword::Match) {
+        return Ok(Start::Matching(node(alloc, tokens, depth)?));
+    }
+    Ok(Start::Alone)
+}
+
+/// Whether RETURN may be lacking there, and is.
+fn is_over(start: &Start, tokens: &Tokens<'_, '_>) -> bool
+    ensures { result ≡ spec.may_end (start_view start.now) (tokens_view tokens.now.rest.now) }
+{
+    match start {
+        Start::Creating(_) => !tokens.sees_keyword(Keyword::Return),
+        Start::Alone | Start::Matching(_) => false,
+    }
+}
+
+fn returned(
+    alloc: Global,
+    text: &str,
+    tokens: &mut Tokens<'_, '_>,
+    start: &Start,
+    depth: usize,
+) -> Result<Vec<Item>, ParseError>
+    ensures { Gives (λ v. map item_view v.items) (spec.returned text.now (spec.expression depth) (start_view start.now) (tokens_view tokens.old.rest.now)) result tokens.new.rest.now }
+{
+    if is_over(start, tokens) {
+        return Ok(Vec::new(alloc));
+    }
+    tokens.expect_keyword(Keyword::Return)?;
+    items(alloc, text, tokens, depth)
+}
+
+fn whole_query(
+    alloc: Global,
+    start: Start,
+    items: Vec<Item>,
+    semicolon: bool,
+) -> Result<Query, AllocError>
+    ensures { IfOk result (λ q. query_view q ≡ plain_query (start_view start) (map item_view items.items) semicolon) }
 {
     let mut clauses = Vec::new(alloc);
-    clauses.push(Clause::Return(Projection { items }))?;
+    match start {
+        Start::Alone => {}
+        Start::Creating(node) => clauses.push(Clause::Create(node))?,
+        Start::Matching(node) => clauses.push(Clause::Match(node))?,
+    }
+    if !items.is_empty() {
+        clauses.push(Clause::Return(Projection { items }))?;
+    }
     Ok(Query { clauses, semicolon })
 }
 
-#[tactic(auto, unfolding(crate::specs::PlainParse::query))]
 fn query(
     alloc: Global,
     text: &str,
     tokens: &mut Tokens<'_, '_>,
     depth: usize,
 ) -> Result<Query, ParseError>
-    ensures { Gives query_view (spec.query text.now (spec.expression depth) (tokens_view tokens.old.rest.now)) result tokens.new.rest.now }
+    ensures { Gives query_view (spec.query text.now (spec.expression depth) (spec.lone_atom depth) (tokens_view tokens.old.rest.now)) result tokens.new.rest.now }
 {
-    tokens.expect_keyword(Keyword::Return)?;
-    let items = items(alloc, text, tokens, depth)?;
+    let start = read_start(alloc, tokens, depth)?;
+    let items = returned(alloc, text, tokens, &start, depth)?;
     let semicolon = tokens.eat(Symbol::Semicolon);
     match tokens.take() {
         Some(_) => Err(ParseError::BadSyntax),
-        None => Ok(with_items(alloc, items, semicolon)?),
+        None => Ok(whole_query(alloc, start, items, semicolon)?),
     }
 }
 

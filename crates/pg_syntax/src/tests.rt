@@ -1,6 +1,6 @@
 //! Texts and the trees that they have.
 
-use crate::{Clause, Query, parse};
+use crate::{Clause, Projection, Query, parse};
 use pg_lex::tokens;
 use pg_meaning::Fault;
 use std::alloc::{AllocError, Global};
@@ -11,7 +11,22 @@ fn read(alloc: Global, text: &str) -> Result<Query, Fault> {
     parse(alloc, text, tokens.as_slice())
 }
 
-/// The items as text, or the fault.
+/// The items as text.
+fn items(alloc: Global, projection: &Projection) -> Result<String, AllocError> {
+    let mut out = String::new(alloc);
+    for item in &projection.items {
+        let part = format!(in alloc; "{} {} {:?}", item.start, item.source, item.value)?;
+        out.push_str(part.as_str())?;
+        if let Some(name) = &item.alias {
+            let alias = format!(in alloc; " AS {:?} {} {}", name.text, name.quoted, name.place)?;
+            out.push_str(alias.as_str())?;
+        }
+        out.push_str("; ")?;
+    }
+    Ok(out)
+}
+
+/// The clauses as text, or the fault.
 fn shown(alloc: Global, text: &str) -> Result<String, AllocError> {
     let query = match read(alloc, text) {
         Ok(query) => query,
@@ -19,19 +34,12 @@ fn shown(alloc: Global, text: &str) -> Result<String, AllocError> {
     };
     let mut out = String::new(alloc);
     for clause in &query.clauses {
-        let Clause::Return(projection) = clause;
-        for item in &projection.items {
-            let part = format!(in alloc; "{} {} {:?}", item.start, item.source, item.value)?;
-            out.push_str(part.as_str())?;
-            if let Some(name) = &item.alias {
-                let alias = format!(in alloc;
-                    " AS {:?} {} {}",
-                    name.text, name.quoted, name.place
-                )?;
-                out.push_str(alias.as_str())?;
-            }
-            out.push_str("; ")?;
-        }
+        let part = match clause {
+            Clause::Match(node) => format!(in alloc; "MATCH {node:?}; ")?,
+            Clause::Create(node) => format!(in alloc; "CREATE {node:?}; ")?,
+            Clause::Return(projection) => items(alloc, projection)?,
+        };
+        out.push_str(part.as_str())?;
     }
     if query.semicolon {
         out.push_str("end")?;
@@ -74,7 +82,35 @@ fn texts_have_their_trees(rt: HostRuntime) -> Result<(), Fail> {
             "RETURN 'é' , 1",
             "7 'é' Literal(Text(\"é\")); 14 1 Literal(Integer(1)); ",
         ),
+        (
+            "RETURN n",
+            "7 n Variable(Name { text: \"n\", quoted: false, place: 7 }); ",
+        ),
+        (
+            "RETURN [`a b`.match]",
+            "7 [`a b`.match] ListLiteral([Property(Name { text: \"a b\", quoted: true, place: 8 }, Name { text: \"match\", quoted: false, place: 14 })]); ",
+        ),
+        (
+            "CREATE ({});",
+            "CREATE NodePattern { place: 7, variable: None, labels: [], properties: Some([]) }; end",
+        ),
+        (
+            "CREATE (n:P:Q {x: 1}) RETURN n",
+            "CREATE NodePattern { place: 7, variable: Some(Name { text: \"n\", quoted: false, place: 8 }), labels: [Name { text: \"P\", quoted: false, place: 10 }, Name { text: \"Q\", quoted: false, place: 12 }], properties: Some([Pair { key: Name { text: \"x\", quoted: false, place: 15 }, value: Literal(Integer(1)) }]) }; 29 n Variable(Name { text: \"n\", quoted: false, place: 29 }); ",
+        ),
+        (
+            "MATCH () RETURN ID(n)",
+            "MATCH NodePattern { place: 6, variable: None, labels: [], properties: None }; 16 ID(n) Id(Name { text: \"ID\", quoted: false, place: 16 }, Name { text: \"n\", quoted: false, place: 19 }); ",
+        ),
         ("", "BadSyntax"),
+        ("MATCH (n)", "BadSyntax"),
+        ("CREATE (n) CREATE (m)", "BadSyntax"),
+        ("CREATE (n {x: n})", "BadSyntax"),
+        ("CREATE (n:) RETURN n", "BadSyntax"),
+        ("RETURN id(1)", "BadSyntax"),
+        ("RETURN `id`(n)", "BadSyntax"),
+        ("RETURN type(n)", "BadSyntax"),
+        ("RETURN n.x = 1", "BadSyntax"),
         ("RETURN", "BadSyntax"),
         ("RETURN 1,", "BadSyntax"),
         ("RETURN 1 2", "BadSyntax"),

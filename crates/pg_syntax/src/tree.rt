@@ -25,6 +25,27 @@ pub enum Expression {
     Equal(Box<Expression>, Box<Expression>),
     /// An item and a list.
     In(Box<Expression>, Box<Expression>),
+    Variable(Name),
+    /// A variable and a key.
+    Property(Name, Name),
+    /// The function's name as it is written, and a variable.
+    Id(Name, Name),
+}
+
+/// A key of a map as written, and its value.
+#[derive(Debug, PartialEq, Eq, Drop)]
+pub struct Pair {
+    pub key: Name,
+    pub value: Expression,
+}
+
+/// A node pattern: where it begins, and its properties where braces are written.
+#[derive(Debug, PartialEq, Eq, Drop)]
+pub struct NodePattern {
+    pub place: usize,
+    pub variable: Option<Name>,
+    pub labels: Vec<Name>,
+    pub properties: Option<Vec<Pair>>,
 }
 
 /// An item of RETURN: where it begins, its expression as written and as read, and its alias.
@@ -44,6 +65,8 @@ pub struct Projection {
 
 #[derive(Debug, PartialEq, Eq, Drop)]
 pub enum Clause {
+    Match(NodePattern),
+    Create(NodePattern),
     Return(Projection),
 }
 

@@ -1,9 +1,9 @@
-use Rattle.std.proofs.Common.{◌≡◌, sym}
+use Rattle.std.proofs.Common.{sym}
 use Rattle.std.proofs.lemmas.Result.{err_from_is_err_and}
 use Rattle.pg_lex.specs.View.{tokens_view}
 use Rattle.pg_meaning.specs.Parse as parse
 use Rattle.pg_syntax.proofs.Rows.{passed}
-use Rattle.pg_syntax.proofs.Steps.{alias_none, alias_read, alias_fails}
+use Rattle.pg_syntax.proofs.Steps.{alias_read, alias_fails}
 use Rattle.pg_syntax.proofs.query.alias.Goals as goal
 
 pub returns-in_err-var : goal.returns-in_err-var

@@ -1,4 +1,4 @@
-use Rattle.std.proofs.Common.{◌≡◌, ◌≤◌, List, ℕ, take, drop, ◌-◌, sym, ap, ◌∙◌, arith}
+use Rattle.std.proofs.Common.{◌≡◌, List, ℕ, take, drop, ◌-◌, ap, arith}
 use Rattle.pg_syntax.proofs.Steps.{cut_is, cut_none}
 use Rattle.pg_syntax.proofs.query.source_of.Goals as goal
 

@@ -1,10 +1,10 @@
-use Rattle.std.proofs.Common.{◌≡◌, sym, ap, ◌∙◌, option_map}
+use Rattle.std.proofs.Common.{sym, ap, ◌∙◌, option_map}
 use Rattle.std.proofs.lemmas.Result.{err_from_is_err_and}
 use Rattle.pg_lex.specs.View.{tokens_view}
 use Rattle.pg_meaning.specs.declared.lexemes.Symbol.TheVariants as s
 use Rattle.pg_meaning.specs.Parse.{listed}
 use Rattle.pg_syntax.specs.PlainParse.{expression}
-use Rattle.pg_syntax.specs.View.{literal_view, expression_view}
+use Rattle.pg_syntax.specs.View.{literal_view}
 use Rattle.pg_syntax.proofs.Rows.{passed}
 use Rattle.pg_syntax.proofs.Steps.{atom_none, atom_literal, atom_refused, atom_list, atom_fails}
 use Rattle.pg_syntax.proofs.Views.{literal_is, list_is}

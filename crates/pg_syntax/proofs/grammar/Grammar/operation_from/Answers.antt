@@ -1,4 +1,4 @@
-use Rattle.std.proofs.Common.{◌≡◌, sym}
+use Rattle.std.proofs.Common.{sym}
 use Rattle.std.proofs.lemmas.Result.{err_from_is_err_and}
 use Rattle.pg_lex.specs.View.{tokens_view}
 use Rattle.pg_syntax.specs.PlainParse.{expression, atom}

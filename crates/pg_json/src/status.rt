@@ -1,0 +1,87 @@
+//! The reply that tells what a tenant has and may have.
+ghost use Rattle.std.specs.Prelude.{◌≡◌, ◌++◌, ◌∷◌, [], OnOk, codes, decimal};
+ghost use Rattle.json.specs.Tree.{json_tokens};
+ghost use Rattle.json.specs.Token.{key as key_token, number as number_token};
+ghost use Rattle.serde_json.specs.Data.{array};
+ghost use Rattle.serde_json.specs.Written.{outline};
+ghost use Rattle.pg_json.specs.Replies.{index_data, index_items, tenant_data};
+
+use crate::reply::TenantStatus;
+use crate::value::write_natural;
+use json::Writer;
+use std::alloc::AllocError;
+
+pub(crate) fn write_status(status: &TenantStatus, to: &mut Writer) -> Result<(), AllocError>
+    ensures ok { OnOk result (to.new.tokens ≡ to.old.tokens ++ json_tokens (outline (tenant_data status.now))) }
+    ensures before { to.new.before ≡ to.old.before }
+{
+    to.begin_object()?;
+    write_natural("code", 0, to)?;
+    write_present(status.elements, &status.indexes, to)?;
+    write_limits(status.max_elements, status.max_steps, to)?;
+    write_counters(status.next_node, status.next_rel, to)?;
+    to.end_object()
+}
+
+fn write_present(
+    elements: u64,
+    indexes: &[(String, String)],
+    to: &mut Writer,
+) -> Result<(), AllocError>
+    ensures ok { OnOk result (to.new.tokens ≡ to.old.tokens ++ key_token (codes "elements") ∷ number_token (decimal elements) ∷ key_token (codes "indexes") ∷ json_tokens (outline (array (index_items indexes.now)))) }
+    ensures before { to.new.before ≡ to.old.before }
+{
+    write_natural("elements", elements, to)?;
+    write_indexes(indexes, to)
+}
+
+fn write_limits(max_elements: u64, max_steps: u64, to: &mut Writer) -> Result<(), AllocError>
+    ensures ok { OnOk result (to.new.tokens ≡ to.old.tokens ++ key_token (codes "max_elements") ∷ number_token (decimal max_elements) ∷ key_token (codes "max_steps") ∷ number_token (decimal max_steps) ∷ []) }
+    ensures before { to.new.before ≡ to.old.before }
+{
+    write_pair("max_elements", max_elements, "max_steps", max_steps, to)
+}
+
+fn write_counters(next_node: u64, next_rel: u64, to: &mut Writer) -> Result<(), AllocError>
+    ensures ok { OnOk result (to.new.tokens ≡ to.old.tokens ++ key_token (codes "next_node") ∷ number_token (decimal next_node) ∷ key_token (codes "next_rel") ∷ number_token (decimal next_rel) ∷ []) }
+    ensures before { to.new.before ≡ to.old.before }
+{
+    write_pair("next_node", next_node, "next_rel", next_rel, to)
+}
+
+/// Two members in a row.
+fn write_pair(
+    first: &str,
+    one: u64,
+    second: &str,
+    other: u64,
+    to: &mut Writer,
+) -> Result<(), AllocError>
+    ensures ok { OnOk result (to.new.tokens ≡ to.old.tokens ++ key_token first.now ∷ number_token (decimal one) ∷ key_token second.now ∷ number_token (decimal other) ∷ []) }
+    ensures before { to.new.before ≡ to.old.before }
+{
+    write_natural(first, one, to)?;
+    write_natural(second, other, to)
+}
+
+fn write_indexes(indexes: &[(String, String)], to: &mut Writer) -> Result<(), AllocError>
+    ensures ok { OnOk result (to.new.tokens ≡ to.old.tokens ++ key_token (codes "indexes") ∷ json_tokens (outline (array (index_items indexes.now)))) }
+    ensures before { to.new.before ≡ to.old.before }
+{
+    to.key("indexes")?;
+    to.begin_array()?;
+    for index in indexes {
+        write_index(&index.0, &index.1, to)?;
+    }
+    to.end_array()
+}
+
+fn write_index(label: &str, key: &str, to: &mut Writer) -> Result<(), AllocError>
+    ensures ok { OnOk result (to.new.tokens ≡ to.old.tokens ++ json_tokens (outline (index_data label.now key.now))) }
+    ensures before { to.new.before ≡ to.old.before }
+{
+    to.begin_array()?;
+    to.string(label)?;
+    to.string(key)?;
+    to.end_array()
+}

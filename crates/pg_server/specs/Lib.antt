@@ -11,5 +11,7 @@ pub mod Serves
 pub mod Settings
 pub mod Solo
 pub mod State
+pub mod StateCode
 pub mod Step
+pub mod Tenants
 pub mod Wire

@@ -1,37 +1,49 @@
 -- Solo: one tenant's answer to a request of its own, from its own state.
-use Rattle.std.specs.Prelude.{ℕ, nat_le, List, map, length, Result, Ok, Err, if◌then◌else◌}
-use Rattle.serde_json.specs.Data.{array, string}
+use Rattle.std.specs.Prelude.{ℕ, Bool, true, false, ◌&&◌, nat_le, List, length, if◌then◌else◌}
+use Rattle.std.specs.List.{list_any}
+use Rattle.std.specs.Str.{bytes_eq}
+use Rattle.serde_json.specs.Data.{no_items}
 use Rattle.serde_json.specs.Written.{compact_text}
 use Rattle.pg_json.specs.Refusals.{refusal_text}
-use Rattle.pg_json.specs.Replies.{items_of, query_data, max_reply}
-use Rattle.pg_json.specs.Requests.{Request, query}
-use Rattle.pg_meaning.specs.declared.fault.Fault.{Fault}
+use Rattle.pg_json.specs.Replies.{status_data, max_reply}
+use Rattle.pg_json.specs.Requests.{Request, query, status}
+use Rattle.pg_meaning.specs.Graph.{element_count}
 use Rattle.pg_meaning.specs.declared.fault.Fault.TheVariants.{ReplyTooLong}
+use Rattle.pg_server.specs.Settings.{TenantSettings}
 use Rattle.pg_server.specs.State.{State}
-use Rattle.pg_tenant.specs.Answers.{Shown, shown}
-use Rattle.pg_tenant.specs.Reading.{text_answer}
+use Rattle.pg_server.specs.declared.settings.Rights.{Rights}
+use Rattle.pg_server.specs.declared.settings.Rights.TheVariants.{Read, Write}
+use Rattle.pg_tenant.specs.Answers.{Answered, answered}
+use Rattle.pg_tenant.specs.Outcomes.{text_outcome}
 
--- {"code":0,"columns":[..],"rows":[[..],..],"steps":n}
-unfoldable pub shown_text : Shown → List ℕ
-shown_text s = compact_text (query_data (items_of (map string s.columns)) (items_of (map array s.rows)) s.steps)
+abbrev pub is_write : Rights → Bool
+is_write Read = false
+is_write Write = true
+
+-- the token is one of the tenant's that may write
+abbrev pub may_write : TenantSettings → (token : List ℕ) → Bool
+may_write settings token = list_any (λ t. bytes_eq t.text token && is_write t.rights) settings.tokens
+
+-- the reply to a query, and the graph that it leaves
+abbrev pub query_answered : State → (token text : List ℕ) → Answered
+query_answered s token text = answered s.graph (text_outcome (may_write s.settings token) s.settings.max_steps s.settings.max_elements s.graph text)
+
+-- {"code":0,"elements":n,"indexes":[],"max_elements":n,"max_steps":n,"next_node":n,"next_rel":n}: no index can be made yet
+unfoldable pub status_text : State → List ℕ
+status_text s = compact_text (status_data (element_count s.graph) no_items s.settings.max_elements s.settings.max_steps s.graph.next_node s.graph.next_relationship)
 
 -- a reply that would be too long is a refusal
 abbrev pub limited : List ℕ → List ℕ
 limited reply = if nat_le (length reply) max_reply then reply else refusal_text ReplyTooLong
 
-abbrev pub reply_of : Result Shown Fault → List ℕ
-reply_of (Ok s) = limited (shown_text s)
-reply_of (Err f) = refusal_text f
-
--- the reply to a query
-abbrev pub answer_text : State → List ℕ → List ℕ
-answer_text state text = reply_of (shown (text_answer state.settings.max_steps state.settings.max_elements text))
-
 -- a reply, and the state that it leaves
-pub record Answered : Type 0 where
+pub record Replied : Type 0 where
   pub reply : List ℕ
   pub state : State
 
--- no query stores anything yet
-abbrev pub solo : State → Request → Answered
-solo state (query token text) = record { reply = answer_text state text; state = state }
+abbrev pub with_graph : State → Answered → Replied
+with_graph s a = record { reply = a.reply; state = record s { graph = a.graph } }
+
+abbrev pub solo : State → Request → Replied
+solo s (query token text) = with_graph s (query_answered s token text)
+solo s (status token) = record { reply = limited (status_text s); state = s }

@@ -1,9 +1,11 @@
 -- What a server is to its callers: the size of its plan cache, and each tenant's state.
 use Rattle.std.specs.Prelude.{ℕ, List, [], map, slice_index_or}
+use Rattle.pg_meaning.specs.Graph.{Graph, empty_graph}
 use Rattle.pg_server.specs.Settings.{Settings, TenantSettings, token_texts}
 
 pub record State : Type 0 where
   pub settings : TenantSettings
+  pub graph : Graph
 
 pub record ServerState : Type 0 where
   pub cache : ℕ
@@ -11,7 +13,7 @@ pub record ServerState : Type 0 where
 
 -- the state that a tenant begins with
 abbrev pub opening : TenantSettings → State
-opening settings = record { settings = settings }
+opening settings = record { settings = settings; graph = empty_graph }
 
 abbrev pub opening_server : Settings → ServerState
 opening_server s = record { cache = s.cache; tenants = map opening s.tenants }

@@ -1,9 +1,0 @@
-pub mod AnswerLemmas
-pub mod CheckLemmas
-pub mod EntryLemmas
-pub mod EvaluationLemmas
-pub mod ItemLemmas
-pub mod PlanLemmas
-pub mod ReadingLemmas
-pub mod RunLemmas
-pub mod SpellingLemmas

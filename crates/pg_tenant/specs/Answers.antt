@@ -1,57 +1,35 @@
--- What a query of plain items answers, and how an answer is shown.
-use Rattle.std.specs.Prelude.{◌≡◌, ℕ, Bool, nat_le, List, [], ◌∷◌, map, Result, Ok, Err, string_bytes}
-use Rattle.std.specs.List.{AllByRecursion}
-use Rattle.serde_json.specs.Data.{Items}
-use Rattle.pg_json.specs.Replies.{outs}
-use Rattle.pg_meaning.specs.Answer.{◌>>=◌, ◌>>◌, unless, each_answer, each_step}
-use Rattle.pg_meaning.specs.Graph.{empty_graph}
-use Rattle.pg_meaning.specs.Queries.{Outcome, answer_of, test_output}
-use Rattle.pg_meaning.specs.Tree.{Item, Query}
-use Rattle.pg_meaning.specs.Value.{Value, values_of, no_entries}
+-- What a query is answered: the text of a reply, and the graph that it leaves.
+use Rattle.std.specs.Prelude.{ℕ, nat_le, List, map, length, Result, Ok, Err, if◌then◌else◌}
+use Rattle.serde_json.specs.Data.{Data, array, string}
+use Rattle.serde_json.specs.Written.{compact_text}
+use Rattle.pg_json.specs.Refusals.{refusal_text}
+use Rattle.pg_json.specs.Replies.{items_of, query_data, max_reply}
+use Rattle.pg_meaning.specs.Graph.{Graph}
+use Rattle.pg_meaning.specs.Queries.{Outcome}
+use Rattle.pg_meaning.specs.Value.{Value, values_of}
 use Rattle.pg_meaning.specs.declared.fault.Fault.{Fault}
-use Rattle.pg_meaning.specs.declared.fault.Fault.TheVariants.{StepQuota}
-use Rattle.pg_syntax.specs.Plain.{IsPlainExpression, plain_query}
-use Rattle.pg_tenant.specs.Checks.{names_of}
-use Rattle.pg_tenant.specs.Evaluation.{given}
+use Rattle.pg_meaning.specs.declared.fault.Fault.TheVariants.{ReplyTooLong}
 use Rattle.pg_tenant.specs.Printed.{printed_items}
-use Rattle.pg_tenant.specs.declared.answer.Answer.{Answer}
 
--- ---- what is answered
+abbrev pub row_data : Graph → List Value → Data
+row_data graph row = array (printed_items graph (values_of row))
 
--- the answer to a query, over no graph yet and with no index
-abbrev pub query_answer : (max_steps max_elements : ℕ) → Query → Result Outcome Fault
-query_answer max_steps max_elements q = answer_of [] q no_entries empty_graph max_steps max_elements
+abbrev pub outcome_data : Outcome → Data
+outcome_data o = query_data (items_of (map string o.columns)) (items_of (map (row_data o.graph) o.rows)) o.steps
 
-abbrev pub item_values : List Item → Result (List Value) Fault
-item_values items = each_answer (λ x. given x.value) items
+-- {"code":0,"columns":[..],"rows":[[..],..],"steps":n}
+unfoldable pub outcome_text : Outcome → List ℕ
+outcome_text o = compact_text (outcome_data o)
 
--- one step, the items left to right, and no deleted element among them
-abbrev pub plain_answer : (max_steps : ℕ) → List Item → Result Outcome Fault
-plain_answer max_steps items =
-    unless (nat_le 1 max_steps) StepQuota
-    >> (item_values items >>= λ vs.
-    each_step (λ done v. test_output empty_graph v) tt vs
-    >> Ok (record { columns = names_of items; rows = vs ∷ []; graph = empty_graph; steps = 1 }))
+-- a reply, and the graph that it leaves
+pub record Answered : Type 0 where
+  pub reply : List ℕ
+  pub graph : Graph
 
-abbrev pub PlainAnswers : Type 0
-PlainAnswers =
-    (items : List Item) (ends : Bool) (max_steps max_elements : ℕ) → AllByRecursion (λ x. IsPlainExpression x.value) items
-    → query_answer max_steps max_elements (plain_query items ends) ≡ plain_answer max_steps items
+abbrev pub refused : Graph → Fault → Answered
+refused graph fault = record { reply = refusal_text fault; graph = graph }
 
--- ---- how it is shown
-
--- columns, rows with elements spelt out, and steps
-pub record Shown : Type 0 where
-  pub columns : List (List ℕ)
-  pub rows : List Items
-  pub steps : ℕ
-
-abbrev pub shown_outcome : Outcome → Shown
-shown_outcome o = record { columns = o.columns; rows = map (λ row. printed_items o.graph (values_of row)) o.rows; steps = o.steps }
-
-abbrev pub shown : Result Outcome Fault → Result Shown Fault
-shown (Ok o) = Ok (shown_outcome o)
-shown (Err f) = Err f
-
-abbrev pub answer_view : Answer → Shown
-answer_view a = record { columns = map string_bytes a.columns.items; rows = map (λ row. outs row.items) a.rows.items; steps = a.steps }
+-- a reply that would be too long is a refusal, and each refusal leaves the graph
+abbrev pub answered : Graph → Result Outcome Fault → Answered
+answered graph (Ok o) = if nat_le (length (outcome_text o)) max_reply then record { reply = outcome_text o; graph = o.graph } else refused graph ReplyTooLong
+answered graph (Err f) = refused graph f

@@ -1,17 +1,13 @@
--- What a query text reads as, where the program answers it, and what it is answered with.
-use Rattle.std.specs.List.{AllByRecursion}
+-- What a query text reads as.
 use Rattle.std.specs.Prelude.{◌≡◌, ℕ, Bool, nat_le, List, [], Option, Some, None, Result, Ok, Err, length}
 use Rattle.pg_lex.specs.Plain.{plain_tokens_of}
 use Rattle.pg_meaning.specs.Answer.{◌>>=◌, ◌>>◌, unless}
-use Rattle.pg_meaning.specs.Queries.{Outcome}
-use Rattle.pg_meaning.specs.StaticFaults.{static_fault}
 use Rattle.pg_meaning.specs.Texts.{checked_query}
 use Rattle.pg_meaning.specs.Tokens.{Token}
 use Rattle.pg_meaning.specs.Tree.{Query}
 use Rattle.pg_meaning.specs.declared.fault.Fault.{Fault}
 use Rattle.pg_meaning.specs.declared.fault.Fault.TheVariants.{TextTooLong, BadLexeme}
 use Rattle.pg_syntax.specs.PlainParse.{plain_parse}
-use Rattle.pg_tenant.specs.Answers.{query_answer}
 
 abbrev pub greatest_text : ℕ
 greatest_text = 65536
@@ -23,13 +19,8 @@ abbrev pub parsed : (text : List ℕ) → Option (List Token) → Result Query F
 parsed text None = Err BadLexeme
 parsed text (Some tokens) = plain_parse text tokens
 
--- the tests of the text itself in their order: its lexemes, how deep they nest, the grammar, the static faults
 abbrev pub text_checked : List ℕ → Result Query Fault
 text_checked text = checked_query (parsed text (plain_tokens_of text))
 
--- its length goes before them
 abbrev pub text_query : List ℕ → Result Query Fault
 text_query text = tested_length text >> text_checked text
-
-abbrev pub text_answer : (max_steps max_elements : ℕ) → List ℕ → Result Outcome Fault
-text_answer max_steps max_elements text = text_query text >>= query_answer max_steps max_elements

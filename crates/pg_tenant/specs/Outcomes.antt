@@ -1,0 +1,41 @@
+-- What a query text gives over a tenant's graph: the text's own tests, then whether its token may write, then its clauses.
+use Rattle.std.specs.Prelude.{◌≡◌, ℕ, ◌≤◌, Bool, ◌||◌, not, List, [], length, Result, Ok}
+use Rattle.pg_meaning.specs.Agreement.{OutcomeAgrees}
+use Rattle.pg_meaning.specs.Answer.{◌>>=◌, ◌>>◌, unless}
+use Rattle.pg_meaning.specs.Graph.{Graph, IsGraph}
+use Rattle.pg_meaning.specs.Queries.{Outcome, answer_of}
+use Rattle.pg_meaning.specs.Tree.{Query}
+use Rattle.pg_meaning.specs.Value.{no_entries}
+use Rattle.pg_meaning.specs.declared.fault.Fault.{Fault}
+use Rattle.pg_meaning.specs.declared.fault.Fault.TheVariants.{ReadOnly}
+use Rattle.pg_plan.specs.Plans.{IsPlanOfText, plan_query, statement_view}
+use Rattle.pg_plan.specs.Reading.{greatest_text, text_query}
+use Rattle.pg_plan.specs.Updates.{updates}
+use Rattle.pg_plan.specs.declared.plan.Plan.{Plan}
+use Rattle.pg_run.specs.Answers.{one_node_answer}
+
+module _ (may_write : Bool) (max_steps max_elements : ℕ) where
+  abbrev pub permitted : Query → Result (Unit {0}) Fault
+  permitted q = unless (may_write || not (updates q)) ReadOnly
+
+  abbrev pub query_outcome : Graph → Query → Result Outcome Fault
+  query_outcome graph q = permitted q >> answer_of [] q no_entries graph max_steps max_elements
+
+  abbrev pub text_outcome : Graph → List ℕ → Result Outcome Fault
+  text_outcome graph text = text_query text >>= query_outcome graph
+
+  -- the same of a text that was read before
+  abbrev pub plan_outcome : Graph → Plan → Result Outcome Fault
+  plan_outcome graph plan = permitted (plan_query plan) >> one_node_answer (statement_view plan.statement) no_entries graph max_steps max_elements
+
+-- whatever plan of a text is at hand, the text's answer is the one under it
+abbrev pub AnyPlanAnswers : Type 0
+AnyPlanAnswers =
+    (may_write : Bool) (max_steps max_elements : ℕ) (graph : Graph) (text : List ℕ) (plan : Plan) → length text ≤ greatest_text → IsPlanOfText text plan
+    → text_outcome may_write max_steps max_elements graph text ≡ plan_outcome may_write max_steps max_elements graph plan
+
+-- what a text that reads answers is one that the meaning of its query gives
+abbrev pub TextMeans : Type 0
+TextMeans =
+    (max_steps max_elements : ℕ) (graph : Graph) (text : List ℕ) (q : Query) → IsGraph graph → text_query text ≡ Ok q
+    → OutcomeAgrees q no_entries max_elements graph (answer_of [] q no_entries graph max_steps max_elements)

@@ -1,0 +1,9 @@
+use Rattle.std.proofs.Common.{option_copied, sym, ◌∙◌}
+use Rattle.pg_store.proofs.Stores.{copied_is_there, node_is_there}
+use Rattle.pg_store.proofs.store.Store.has_node.Goals as goal
+
+pub returns : goal.returns
+returns g c =
+    let store = c.args.self.now in
+    c.is_some.ensures ∙ sym (copied_is_there c.node.result)
+    ∙ sym (node_is_there store.names (g.T.Tables.seen.content store.tables c.args.shared.now) store.next.node store.next.rel c.args.id.0 (option_copied c.node.result) c.node.ensures)

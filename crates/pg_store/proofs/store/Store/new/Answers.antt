@@ -1,0 +1,10 @@
+use Rattle.pg_store.proofs.Stores.{new_is_fit, new_is_empty}
+use Rattle.pg_store.proofs.store.Store.new.Goals as goal
+
+pub returns-clause-fit : goal.returns-clause-fit
+returns-clause-fit g c = λ shared unused.
+    let made = c.new-2.ensures in
+    new_is_fit g.T.Tables.seen c.new-2.result shared c.new.result c.new.ensures (made.empty shared unused) (made.fits shared unused)
+
+pub returns-clause-empty : goal.returns-clause-empty
+returns-clause-empty g c = λ shared unused. new_is_empty g.T.Tables.seen c.new-2.result shared c.new.result c.new.ensures (c.new-2.ensures.empty shared unused)

@@ -1,0 +1,6 @@
+//! One tenant's graph: its names, tables and counters as one value, over a part that all tenants share.
+#![tactic(auto)]
+
+mod store;
+
+pub use store::{Store, law_of_stores};

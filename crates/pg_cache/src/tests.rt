@@ -1,6 +1,6 @@
 //! Look-ups in turn, and what they count and answer.
 use crate::PlanCache;
-use pg_plan::{Quota, answer_plan};
+use pg_tenant::{Quota, answer_plan};
 use std::hash::RandomState;
 use std::num::NonZeroUsize;
 use std::test::Fail;

@@ -1,13 +1,16 @@
 -- The code in a reply's text tells the fault.
 use Rattle.std.proofs.Common.{◌≡◌, ◌≢◌, ℕ, ◌+◌, ◌-◌, ◌*◌, List, [], ◌∷◌, cond, ◌==◌, ◌||◌, nat_lt, get_or, arith, refl, sym, ap, ◌∙◌}
 use Rattle.std.specs.Fmt.{digits}
+use Rattle.std.specs.Prelude.{codes}
+use Rattle.serde_json.specs.Data.{Data, object, Members, member}
+use Rattle.serde_json.specs.Written.{compact_text}
 use Rattle.serde_json.proofs.OnLiterals.{serde_json_on_literals}
 use Rattle.pg_meaning.specs.Codes.{code_of}
 use Rattle.pg_meaning.specs.declared.fault.Fault.{Fault}
 use Rattle.pg_meaning.specs.declared.fault.Fault.TheVariants.{FrameTooLong, BadRequest, UnknownToken, ReadOnly, TextTooLong, BadLexeme, BadSyntax, TooDeep, UndefinedVariable, VariableAlreadyBound, BadAggregate, BadPattern, UnknownFunction, DuplicateColumn, MissingParameter, TypeFault, Overflow, DivisionByZero, ValueTooLarge, NotStorable, MergeNull, NodeStillConnected, DeletedEntity, NegativeCount, StepQuota, ElementQuota, IdsExhausted, IndexExists, NoSuchIndex, TooManyIndexes, ReplyTooLong, TenantBusy, NoTransaction, TransactionOpen, NoSuchPage, HeldRowsQuota, NotYet, OutOfMemory}
 use Rattle.pg_json.specs.Laws.{RefusalsDiffer, RepliesAreNoRefusals, DoneIsNoRefusal}
 use Rattle.pg_json.specs.Refusals.{refusal_text, done_text}
-use Rattle.pg_json.specs.Replies.{reply_text}
+use Rattle.pg_json.specs.Replies.{reply_text, natural}
 use Rattle.pg_json.specs.declared.reply.ReplyBody.{ReplyBody}
 use Rattle.pg_json.specs.declared.reply.ReplyBody.TheVariants.{Query, Status}
 
@@ -95,3 +98,11 @@ replies_are_no_refusals r f = no_refusal (reply_text r) f (code_in-reply r)
 
 pub done_is_no_refusal : DoneIsNoRefusal
 done_is_no_refusal f = no_refusal done_text f code_in-done
+
+code_in-answer : (k : List ℕ) (d : Data) (ms : Members) → code_in (compact_text (object (member (codes "code") (natural 0) (member k d ms)))) ≡ 0
+unfolding serde_json_on_literals digits
+code_in-answer k d ms = refl
+
+-- the same of an answer as data, whatever stands behind its code
+pub answer_is_no_refusal : (k : List ℕ) (d : Data) (ms : Members) (f : Fault) → compact_text (object (member (codes "code") (natural 0) (member k d ms))) ≢ refusal_text f
+answer_is_no_refusal k d ms f = no_refusal _ f (code_in-answer k d ms)

@@ -2,9 +2,11 @@ pub mod ConfigLemmas
 pub mod DistinctLemmas
 pub mod FillLemmas
 pub mod FrameLemmas
+pub mod OpeningLemmas
 pub mod ReadingLemmas
 pub mod ReplyLemmas
 pub mod RunLemmas
 pub mod ServeLemmas
 pub mod SoloLemmas
 pub mod StepLemmas
+pub mod TenantLemmas

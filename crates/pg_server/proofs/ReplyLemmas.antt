@@ -1,75 +1,55 @@
 -- What holds of each answer: it leaves the settings, and where it is the text for want of memory the whole state.
-use Rattle.std.proofs.Common.{◌≡◌, ◌<◌, ◌≤◌, List, map, length, Result, Ok, Err, true, false, refl, sym, ap, ◌∙◌, inl, inr, arith, String, Global, Vec, string_bytes, [], ◌∷◌, ℕ}
+use Rattle.std.proofs.Common.{◌≡◌, ◌≢◌, ◌<◌, ◌≤◌, ℕ, List, [], length, Result, Ok, Err, true, false, refl, sym, ap, ◌∙◌, inl, inr, arith}
 use Rattle.std.proofs.lemmas.Bool.{le-leb}
 use Rattle.std.proofs.lemmas.Bool.Decides.{leb_tells}
-use Rattle.std.specs.Prelude.{nat_le, cond, IfOk, IfErr, ◌≢◌}
-use Rattle.serde_json.specs.Data.{array, string}
+use Rattle.std.proofs.lemmas.Slice.Eq.{bytes_eq-Decides}
+use Rattle.std.specs.Prelude.{nat_le, cond, IfOk, IfErr}
 use Rattle.pg_json.specs.Refusals.{refusal_text}
-use Rattle.pg_json.specs.Replies.{items_of, text_items, rows_of, outs, reply_text, max_reply}
-use Rattle.pg_json.specs.Requests.{Request, query}
-use Rattle.pg_json.specs.declared.reply.ReplyBody.{ReplyBody}
-use Rattle.pg_json.specs.declared.reply.ReplyBody.TheVariants.{Query}
+use Rattle.serde_json.specs.Written.{compact_text}
+use Rattle.pg_json.specs.Replies.{reply_text, max_reply, status_data, index_items}
+use Rattle.pg_json.specs.declared.reply.ReplyBody.TheVariants.{Status}
+use Rattle.pg_json.specs.declared.reply.TenantStatus.{TenantStatus}
+use Rattle.pg_json.specs.Requests.{Request, query, status}
+use Rattle.pg_meaning.specs.Graph.{Graph, element_count}
 use Rattle.pg_meaning.specs.declared.fault.Fault.{Fault}
 use Rattle.pg_meaning.specs.declared.fault.Fault.TheVariants.{ReplyTooLong, OutOfMemory}
 use Rattle.pg_server.specs.Runs.{is_want_of_memory}
-use Rattle.pg_server.specs.Solo.{solo, shown_text, limited, reply_of, answer_text}
+use Rattle.pg_server.specs.Solo.{solo, limited, may_write, status_text}
 use Rattle.pg_server.specs.State.{State}
-use Rattle.pg_tenant.specs.Answers.{Shown, shown, answer_view}
-use Rattle.pg_tenant.specs.Reading.{text_answer}
-use Rattle.pg_tenant.specs.declared.answer.Answer.{Answer}
-use Rattle.pg_value_core.specs.declared.out.Out.{Out}
+use Rattle.pg_tenant.proofs.AnswerLemmas.{refusal_leaves}
+use Rattle.pg_tenant.specs.Outcomes.{text_outcome}
 
 pub refused_keeps : (state : State) (request : Request) → is_want_of_memory (solo state request).reply ≡ true → (solo state request).state ≡ state
-refused_keeps state (query token text) h = refl
+refused_keeps state (query token text) h =
+    let outcome = text_outcome (may_write state.settings token) state.settings.max_steps state.settings.max_elements state.graph text in
+    ap (λ (g : Graph). let s : State = record state { graph = g } in s) (refusal_leaves state.graph outcome OutOfMemory ((bytes_eq-Decides (solo state (query token text)).reply (refusal_text OutOfMemory)).0 h))
+refused_keeps state (status token) h = refl
 
 pub settings_stay : (state : State) (request : Request) → (solo state request).state.settings ≡ state.settings
 settings_stay state (query token text) = refl
+settings_stay state (status token) = refl
 
--- ---- a reply's bytes are those of its answer
+-- ---- a reply that may be too long
 
-strings : (ts : List (String Global)) → map string (map string_bytes ts) ≡ map (λ t. string (string_bytes t)) ts
-strings [] = refl
-strings (t ∷ ts) = ap (λ ds. string (string_bytes t) ∷ ds) (strings ts)
-
-arrays : (rows : List (Vec Out Global)) → map array (map (λ row. outs row.items) rows) ≡ map (λ row. array (outs row.items)) rows
-arrays [] = refl
-arrays (r ∷ rows) = ap (λ ds. array (outs r.items) ∷ ds) (arrays rows)
-
-shown_is : (a : Answer) → shown_text (answer_view a) ≡ reply_text (Query a.columns a.rows a.steps)
-unfolding shown_text reply_text
-shown_is a = rw (strings a.columns.items, arrays a.rows.items) refl
-
-within : (text : List ℕ) → length text ≤ max_reply → limited text ≡ text
+pub within : (text : List ℕ) → length text ≤ max_reply → limited text ≡ text
 within text h = ap (λ b. cond b text (refusal_text ReplyTooLong)) (le-leb (length text) max_reply h)
 
-beyond : (text : List ℕ) → max_reply < length text → limited text ≡ refusal_text ReplyTooLong
+pub beyond : (text : List ℕ) → max_reply < length text → limited text ≡ refusal_text ReplyTooLong
 beyond text h = ap (λ b. cond b text (refusal_text ReplyTooLong)) (elim (leb_tells (length text) max_reply) as (λ _. nat_le (length text) max_reply ≡ false) [ inl w ↦ absurd (omega (arith, w.1)) | inr w ↦ w.0 ])
 
-module _ (state : State) (text : List ℕ) where
-  pub reply_is : (a : Answer) (bytes : List ℕ) → shown (text_answer state.settings.max_steps state.settings.max_elements text) ≡ Ok (answer_view a)
-      → bytes ≡ reply_text (Query a.columns a.rows a.steps) → length bytes ≤ max_reply → bytes ≡ answer_text state text
-  reply_is a bytes is written fits =
-      written ∙ sym (shown_is a) ∙ sym (ap reply_of is ∙ within (shown_text (answer_view a)) (omega (arith, ap length (written ∙ sym (shown_is a)))))
+module _ (made told : List ℕ) (same : made ≡ told) where
+  pub written_ok : (r : Result (List ℕ) Fault) → IfOk r (λ bytes. bytes ≡ made) → IfOk r (λ bytes. length bytes ≤ max_reply) → IfOk r (λ bytes. bytes ≡ limited told)
+  written_ok (Ok bytes) is fits = is ∙ same ∙ sym (within told (omega (arith, fits, ap length (is ∙ same))))
+  written_ok (Err e) is fits = tt
 
-  pub too_long_is : (a : Answer) → shown (text_answer state.settings.max_steps state.settings.max_elements text) ≡ Ok (answer_view a)
-      → max_reply < length (reply_text (Query a.columns a.rows a.steps)) → refusal_text ReplyTooLong ≡ answer_text state text
-  too_long_is a is over = sym (ap reply_of is ∙ beyond (shown_text (answer_view a)) (omega (arith, ap length (shown_is a))))
+  pub written_err : (r : Result (List ℕ) Fault) → IfErr r (λ e. e ≢ OutOfMemory → e ≡ ReplyTooLong) → IfErr r (λ e. e ≢ OutOfMemory → max_reply < length made)
+      → IfErr r (λ e. e ≢ OutOfMemory → refusal_text e ≡ limited told)
+  written_err (Ok bytes) kind long = tt
+  written_err (Err e) kind long = λ other. ap refusal_text (kind other) ∙ sym (beyond told (omega (arith, long other, ap length same)))
 
-  pub fault_is : (f : Fault) → text_answer state.settings.max_steps state.settings.max_elements text ≡ Err f → refusal_text f ≡ answer_text state text
-  fault_is f is = sym (ap (λ r. reply_of (shown r)) is)
-
-  pub written_ok : (a : Answer) → shown (text_answer state.settings.max_steps state.settings.max_elements text) ≡ Ok (answer_view a)
-      → (r : Result (List ℕ) Fault) → IfOk r (λ bytes. bytes ≡ reply_text (Query a.columns a.rows a.steps)) → IfOk r (λ bytes. length bytes ≤ max_reply) → IfOk r (λ bytes. bytes ≡ answer_text state text)
-  written_ok a is (Ok bytes) written fits = reply_is a bytes is written fits
-  written_ok a is (Err e) written fits = tt
-
-  pub written_err : (a : Answer) → shown (text_answer state.settings.max_steps state.settings.max_elements text) ≡ Ok (answer_view a)
-      → (r : Result (List ℕ) Fault) → IfErr r (λ e. e ≢ OutOfMemory → e ≡ ReplyTooLong) → IfErr r (λ e. e ≢ OutOfMemory → max_reply < length (reply_text (Query a.columns a.rows a.steps)))
-      → IfErr r (λ e. e ≢ OutOfMemory → refusal_text e ≡ answer_text state text)
-  written_err a is (Ok bytes) kind long = tt
-  written_err a is (Err e) kind long = λ other. ap refusal_text (kind other) ∙ too_long_is a is (long other)
-
--- the quota is the tenant's
-pub same_quota : (a : Answer) (text : List ℕ) (steps elements : ℕ) (state : State) → steps ≡ state.settings.max_steps → elements ≡ state.settings.max_elements
-    → shown (text_answer steps elements text) ≡ Ok (answer_view a) → shown (text_answer state.settings.max_steps state.settings.max_elements text) ≡ Ok (answer_view a)
-same_quota a text steps elements state s e h = ap (λ n. shown (text_answer n state.settings.max_elements text)) (sym s) ∙ ap (λ n. shown (text_answer steps n text)) (sym e) ∙ h
+-- what a status tells is what the tenant has
+pub status_is : (s : State) (r : TenantStatus) → r.elements ≡ element_count s.graph → r.indexes.items ≡ [] → r.max_elements ≡ s.settings.max_elements → r.max_steps ≡ s.settings.max_steps
+    → r.next_node ≡ s.graph.next_node → r.next_rel ≡ s.graph.next_relationship → reply_text (Status r) ≡ status_text s
+unfolding reply_text status_text
+status_is s r elements none most_elements most_steps next_node next_rel =
+    λ i. compact_text (status_data (elements i) (index_items (none i)) (most_elements i) (most_steps i) (next_node i) (next_rel i))

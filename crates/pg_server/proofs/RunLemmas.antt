@@ -25,7 +25,7 @@ same_tokens old new t same = ap token_texts (same_settings old new t same)
 
 SoloRun-append : (es fs : List Exchange) (s m n : State) → SoloRun s es m → SoloRun m fs n → SoloRun s (es ++ fs) n
 SoloRun-append [] fs s m n run more = subst (λ x. SoloRun x fs n) run more
-SoloRun-append (e ∷ es) fs s m n run more = (run.0, run.1, run.2, SoloRun-append es fs (solo s run.0).state m n run.3 more)
+SoloRun-append (e ∷ es) fs s m n run more = (run.0, run.1, run.2, run.3, SoloRun-append es fs (solo s run.0).state m n run.4 more)
 
 first_of_own : (b : Bool) (e : Exchange) (es : List Exchange) → cond b (e ∷ []) [] ++ es ≡ cond b (e ∷ es) es
 first_of_own true e es = refl

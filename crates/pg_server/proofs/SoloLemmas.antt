@@ -15,7 +15,7 @@ solo_alike s s' (e ∷ es) (e' ∷ es') n n' run run' same requests =
     let others : requests_of es ≡ requests_of es' = cc in
     let one : Some run.0 ≡ Some run'.0 = sym run.1 ∙ first ∙ run'.1 in
     let request : run.0 ≡ run'.0 = cc in
-    let rest = solo_alike (solo s run.0).state (solo s' run'.0).state es es' n n' run.3 run'.3 (ap₂ (λ t r. (solo t r).state) same request) others in
+    let rest = solo_alike (solo s run.0).state (solo s' run'.0).state es es' n n' run.4 run'.4 (ap₂ (λ t r. (solo t r).state) same request) others in
     let reply : e.reply ≡ e'.reply = run.2 ∙ ap₂ (λ t r. (solo t r).reply) same request ∙ sym run'.2 in
     (ap₂ (λ r rs. r ∷ rs) reply rest.0, rest.1)
 

@@ -13,7 +13,7 @@ use Rattle.pg_json.specs.Refusals.{refusal_text}
 use Rattle.pg_json.specs.Requests.{Request, meaning}
 use Rattle.pg_meaning.specs.declared.fault.Fault.TheVariants.{UnknownToken, OutOfMemory}
 use Rattle.pg_server.specs.Exchange.{Exchange}
-use Rattle.pg_server.specs.Runs.{Runs, SoloRun, IsStrangers, IsStrangersReply, own, asked, token_of, shows_one_of, is_short, is_want_of_memory, fault_of_request}
+use Rattle.pg_server.specs.Runs.{Runs, SoloRun, Means, IsStrangers, IsStrangersReply, own, asked, token_of, shows_one_of, is_short, is_want_of_memory, fault_of_request}
 use Rattle.pg_meaning.specs.Names.{is_among}
 use Rattle.pg_value.specs.Texts.{comes_again}
 use Rattle.pg_server.specs.Settings.{all_tokens, token_texts}
@@ -73,7 +73,7 @@ module _ (old : ServerState) (body : List ℕ) (request : Request) (short : is_s
     place : (t < length old.tenants) × (is_among (tokens_of (state_at old t)) (token_of request) ≡ true) × ((k : ℕ) → k < t → is_among (tokens_of (state_at old k)) (token_of request) ≡ false)
     place = position-Some (λ (s : State). is_among (tokens_of s) (token_of request)) old.tenants t no_state found
 
-    module _ (distinct : comes_again [] (all_tokens (settings_of old)) ≡ false) (reply : List ℕ) (told : reply ≡ (solo (state_at old t) request).reply) (is_answered : is_want_of_memory reply ≡ false) where
+    module _ (distinct : comes_again [] (all_tokens (settings_of old)) ≡ false) (means_it : Means (state_at old t) request) (reply : List ℕ) (told : reply ≡ (solo (state_at old t) request).reply) (is_answered : is_want_of_memory reply ≡ false) where
       abbrev after : State
       after = (solo (state_at old t) request).state
 
@@ -92,7 +92,7 @@ module _ (old : ServerState) (body : List ℕ) (request : Request) (short : is_s
       solo_at u true is =
           let same : u ≡ t = (Decides-eqb u t).0 is in
           subst (λ k. SoloRun (state_at old k) (own (tokens_of (state_at old k)) (one ∷ [])) (state_at (with_tenant old t after) k)) (sym same)
-          (subst (λ b. SoloRun (state_at old t) (cond b (one ∷ []) []) (state_at (with_tenant old t after) t)) (sym (is_own t ∙ place.1)) (request, asks, told, get_or-set_same old.tenants t after no_state place.0))
+          (subst (λ b. SoloRun (state_at old t) (cond b (one ∷ []) []) (state_at (with_tenant old t after) t)) (sym (is_own t ∙ place.1)) (request, asks, told, means_it, get_or-set_same old.tenants t after no_state place.0))
       solo_at u false is =
           let differ : u ≢ t = not_from_Decides (nat_eq u t) (Decides-eqb u t) is in
           subst (λ b. SoloRun (state_at old u) (cond b (one ∷ []) []) (state_at (with_tenant old t after) u)) (sym (is_own u ∙ others u (λ e. differ (sym e))))
@@ -114,15 +114,15 @@ kept_tenant old t request h =
 
 -- one request, as the tenant found by its token answers it
 pub answered : (old new : ServerState) (body reply : List ℕ) (request : Request) → comes_again [] (all_tokens (settings_of old)) ≡ false
-    → is_short body ≡ true → meaning body ≡ Some request → Answers old request reply new → Runs old (record { body = body; reply = reply } ∷ []) new
-answered old new body reply request distinct short means step = by_place (place_of (token_of request) old.tenants) refl step
+    → ((t : ℕ) → Means (state_at old t) request) → is_short body ≡ true → meaning body ≡ Some request → Answers old request reply new → Runs old (record { body = body; reply = reply } ∷ []) new
+answered old new body reply request distinct all_mean short means step = by_place (place_of (token_of request) old.tenants) refl step
   where
     by_reply : (t : ℕ) → place_of (token_of request) old.tenants ≡ Some t → reply ≡ (solo (state_at old t) request).reply → (b : Bool) → is_want_of_memory reply ≡ b
         → Runs old (record { body = body; reply = reply } ∷ []) (with_tenant old t (solo (state_at old t) request).state)
     by_reply t found told true is =
         subst (Runs old (record { body = body; reply = reply } ∷ [])) (sym (kept_tenant old t request (sym (ap is_want_of_memory told) ∙ is)))
         (out_of_memory old body reply short ((bytes_eq-Decides reply (refusal_text OutOfMemory)).0 is))
-    by_reply t found told false is = by_tenant old body request short means t found distinct reply told is
+    by_reply t found told false is = by_tenant old body request short means t found distinct (all_mean t) reply told is
 
     by_place : (o : Option ℕ) → place_of (token_of request) old.tenants ≡ o → StepAt o old request reply new → Runs old (record { body = body; reply = reply } ∷ []) new
     by_place None none step = subst (Runs old (record { body = body; reply = reply } ∷ [])) (sym step.1) (unknown old body request short means reply none step.0)

@@ -1,5 +1,5 @@
 -- The configuration that the bytes of a file mean, or the first fault in them.
-use Rattle.std.specs.Prelude.{ℕ, ℤ, pos, negsuc, List, [], ◌∷◌, Bool, nat_le, ◌&&◌, length, if◌then◌else◌, Option, Some, None, option_map, option_and_then, Result, Ok, Err}
+use Rattle.std.specs.Prelude.{◌≡◌, false, ℕ, ℤ, pos, negsuc, List, [], ◌∷◌, Bool, nat_le, ◌&&◌, length, if◌then◌else◌, Option, Some, None, option_map, option_and_then, Result, Ok, Err}
 use Rattle.std.specs.Str.{is_utf8}
 use Rattle.serde_json.specs.Data.{Data}
 use Rattle.serde_json.specs.Read.{read}
@@ -46,6 +46,9 @@ settings_in_range d =
 
 abbrev pub has_token_twice : Settings → Bool
 has_token_twice s = comes_again [] (all_tokens s.tenants)
+
+abbrev pub HasTokensOnce : List TenantSettings → Type 0
+HasTokensOnce tenants = comes_again [] (all_tokens tenants) ≡ false
 
 -- ---- the faults, one after the other over the whole file
 

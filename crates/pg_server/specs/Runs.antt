@@ -1,9 +1,14 @@
 -- Own, SoloRun and Runs: how exchanges with a server are a run of each tenant alone.
-use Rattle.std.specs.Prelude.{◌≡◌, ℕ, ◌⊎◌, Bool, true, false, ◌&&◌, not, nat_le, List, [], ◌∷◌, length, map, filter, Option, Some, None, if◌then◌else◌, bytes_eq}
+use Rattle.std.specs.Prelude.{◌≡◌, ℕ, ◌⊎◌, Bool, true, false, ◌&&◌, not, nat_le, List, [], ◌∷◌, length, map, filter, Option, Some, None, Ok, if◌then◌else◌, bytes_eq}
 use Rattle.pg_json.specs.Refusals.{refusal_text}
-use Rattle.pg_json.specs.Requests.{Request, query, meaning}
+use Rattle.pg_json.specs.Requests.{Request, query, status, meaning}
+use Rattle.pg_meaning.specs.Agreement.{OutcomeAgrees}
+use Rattle.pg_meaning.specs.Queries.{answer_of}
+use Rattle.pg_meaning.specs.Tree.{Query}
+use Rattle.pg_meaning.specs.Value.{no_entries}
 use Rattle.pg_meaning.specs.declared.fault.Fault.{Fault}
 use Rattle.pg_meaning.specs.declared.fault.Fault.TheVariants.{FrameTooLong, BadRequest, UnknownToken, OutOfMemory}
+use Rattle.pg_plan.specs.Reading.{text_query}
 use Rattle.pg_server.specs.Exchange.{Exchange, replies_of, Chain}
 use Rattle.pg_server.specs.Frames.{body_limit}
 use Rattle.pg_meaning.specs.Names.{is_among}
@@ -21,6 +26,7 @@ asked body = if is_short body then meaning body else None
 
 abbrev pub token_of : Request → List ℕ
 token_of (query token text) = token
+token_of (status token) = token
 
 -- the request has one of these tokens
 abbrev pub shows_one_of : List (List ℕ) → Option Request → Bool
@@ -34,10 +40,18 @@ is_want_of_memory reply = bytes_eq reply (refusal_text OutOfMemory)
 abbrev pub own : List (List ℕ) → List Exchange → List Exchange
 own tokens es = filter (λ e. shows_one_of tokens (asked e.body) && not (is_want_of_memory e.reply)) es
 
--- the tenant alone answers these requests with these replies, and ends in this state
+-- what a query that reads answers is one that its meaning gives: columns, rows and the new graph, or a fault in which it may end
+abbrev pub Means : State → Request → Type 0
+Means old (query token text) =
+    (q : Query) → text_query text ≡ Ok q
+    → OutcomeAgrees q no_entries old.settings.max_elements old.graph (answer_of [] q no_entries old.graph old.settings.max_steps old.settings.max_elements)
+Means old (status token) = Unit {0}
+
+-- the tenant alone answers these requests with these replies, which their meaning gives, and ends in this state
 abbrev pub SoloRun : State → List Exchange → State → Type 0
 SoloRun old [] new = new ≡ old
-SoloRun old (e ∷ es) new = (request : Request) × (asked e.body ≡ Some request) × (e.reply ≡ (solo old request).reply) × SoloRun (solo old request).state es new
+SoloRun old (e ∷ es) new =
+    (request : Request) × (asked e.body ≡ Some request) × (e.reply ≡ (solo old request).reply) × Means old request × SoloRun (solo old request).state es new
 
 -- ---- requests of no tenant
 

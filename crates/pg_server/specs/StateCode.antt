@@ -1,11 +1,15 @@
 -- A code by which proofs tell states apart.
-use Rattle.std.specs.Prelude.{ℕ, List, refl}
-use Rattle.std.specs.Coded.{Coded, code_by, coded×, coded_ℕ, coded_list}
+use Rattle.std.specs.Prelude.{◌≡◌, ℕ, List, Bool, true, false, refl}
+use Rattle.std.proofs.Common.{ap}
+use Rattle.std.specs.Coded.{Coded, code_by, coded×, coded_ℕ, coded_bool, coded_list}
 use Rattle.pg_graph.specs.ValueCode.{value_code}
 use Rattle.pg_meaning.specs.Graph.{Graph, Node, Relationship}
 use Rattle.pg_meaning.specs.Value.{Value, mapping, null, Entries, no_entries}
 use Rattle.pg_server.specs.Settings.{TenantSettings, TokenSettings}
+use Rattle.pg_server.specs.Solo.{is_write}
 use Rattle.pg_server.specs.State.{State, ServerState}
+use Rattle.pg_server.specs.declared.settings.Rights.{Rights}
+use Rattle.pg_server.specs.declared.settings.Rights.TheVariants.{Read, Write}
 
 abbrev entries_in : Value → Entries
 entries_in (mapping es) = es
@@ -22,12 +26,36 @@ node_code = code_by (List (List ℕ) × Entries) (coded× texts_code entries_cod
 
 abbrev relationship_code : Coded Relationship
 relationship_code =
-    code_by (List ℕ × ℕ × ℕ × Entries) (coded× (coded_list coded_ℕ) (coded× coded_ℕ (coded× coded_ℕ entries_code)))
-    (λ r. (r.type, r.source, r.target, r.properties)) (λ p. record { type = p.0; source = p.1; target = p.2; properties = p.3 }) (λ _. refl)
+    code_by (List ℕ × (ℕ × (ℕ × Entries))) (coded× (coded_list coded_ℕ) (coded× coded_ℕ (coded× coded_ℕ entries_code)))
+    (λ r. (r.type, (r.source, (r.target, r.properties)))) (λ p. record { type = p.0; source = p.1.0; target = p.1.1.0; properties = p.1.1.1 }) (λ _. refl)
 
 abbrev graph_code : Coded Graph
 graph_code =
-    code_by (List (ℕ × Node) × List (ℕ × Relationship) × ℕ × ℕ)
+    code_by (List (ℕ × Node) × (List (ℕ × Relationship) × (ℕ × ℕ)))
     (coded× (coded_list (coded× coded_ℕ node_code)) (coded× (coded_list (coded× coded_ℕ relationship_code)) (coded× coded_ℕ coded_ℕ)))
-    (λ g. (g.nodes, g.relationships, g.next_node, g.next_relationship))
-    (λ p. record { nodes = p.0; relationships = p.1; next_node = p.2; next_relationship = p.3 }) (λ _. refl)
+    (λ g. (g.nodes, (g.relationships, (g.next_node, g.next_relationship))))
+    (λ p. record { nodes = p.0; relationships = p.1.0; next_node = p.1.1.0; next_relationship = p.1.1.1 }) (λ _. refl)
+
+abbrev pub rights_of : Bool → Rights
+rights_of true = Write
+rights_of false = Read
+
+abbrev pub rights_back : (r : Rights) → rights_of (is_write r) ≡ r
+rights_back Read = refl
+rights_back Write = refl
+
+abbrev token_code : Coded TokenSettings
+token_code =
+    code_by (List ℕ × Bool) (coded× (coded_list coded_ℕ) coded_bool) (λ t. (t.text, is_write t.rights)) (λ p. record { text = p.0; rights = rights_of p.1 })
+    (λ t. ap (λ r. let s : TokenSettings = record { text = t.text; rights = r } in s) (rights_back t.rights))
+
+abbrev settings_code : Coded TenantSettings
+settings_code =
+    code_by (ℕ × (ℕ × List TokenSettings)) (coded× coded_ℕ (coded× coded_ℕ (coded_list token_code))) (λ s. (s.max_steps, (s.max_elements, s.tokens)))
+    (λ p. record { max_steps = p.0; max_elements = p.1.0; tokens = p.1.1 }) (λ _. refl)
+
+abbrev state_code : Coded State
+state_code = code_by (TenantSettings × Graph) (coded× settings_code graph_code) (λ s. (s.settings, s.graph)) (λ p. record { settings = p.0; graph = p.1 }) (λ _. refl)
+
+abbrev pub server_code : Coded ServerState
+server_code = code_by (ℕ × List State) (coded× coded_ℕ (coded_list state_code)) (λ s. (s.cache, s.tenants)) (λ p. record { cache = p.0; tenants = p.1 }) (λ _. refl)

@@ -1,12 +1,16 @@
 -- What one request does to a server, by the place of the tenant that has its token.
-use Rattle.std.specs.Prelude.{◌≡◌, ℕ, ◌⊎◌, List, Option, Some, None, position, slice_set}
+use Rattle.std.specs.Prelude.{◌≡◌, ◌≢◌, ℕ, ◌⊎◌, List, Option, Some, None, Result, Ok, Err, position, slice_set}
 use Rattle.pg_json.specs.Refusals.{refusal_text}
 use Rattle.pg_json.specs.Requests.{Request}
+use Rattle.pg_meaning.specs.declared.fault.Fault.{Fault}
 use Rattle.pg_meaning.specs.declared.fault.Fault.TheVariants.{UnknownToken, OutOfMemory}
+use Rattle.pg_plan.specs.declared.plan.Plan.{Plan}
 use Rattle.pg_server.specs.Runs.{token_of}
 use Rattle.pg_meaning.specs.Names.{is_among}
-use Rattle.pg_server.specs.Solo.{solo}
+use Rattle.pg_server.specs.Solo.{Replied, solo, may_write, with_graph}
 use Rattle.pg_server.specs.State.{State, ServerState, state_at, tokens_of}
+use Rattle.pg_tenant.specs.Answers.{Answered, answered}
+use Rattle.pg_tenant.specs.Outcomes.{plan_outcome}
 
 abbrev pub place_of : List ℕ → List State → Option ℕ
 place_of token tenants = position (λ s. is_among (tokens_of s) token) tenants
@@ -23,3 +27,19 @@ StepAt (Some t) old request reply new =
 
 abbrev pub Answers : ServerState → Request → List ℕ → ServerState → Type 0
 Answers old request reply new = StepAt (place_of (token_of request) old.tenants) old request reply new
+
+-- ---- the parts of a step
+
+-- one tenant replies so; where it is refused, which leaves the server, that is the refusal, unless memory failed
+abbrev pub Gives : ServerState → ℕ → Replied → Result (List ℕ) Fault → ServerState → Type 0
+Gives old t replied (Ok bytes) new = (bytes ≡ replied.reply) × (new ≡ with_tenant old t replied.state)
+Gives old t replied (Err e) new = (new ≡ old) × (e ≢ OutOfMemory → (refusal_text e ≡ replied.reply) × (replied.state ≡ state_at old t))
+
+abbrev pub RepliesAt : ℕ → ServerState → Request → Result (List ℕ) Fault → ServerState → Type 0
+RepliesAt t old request result new = Gives old t (solo (state_at old t) request) result new
+
+abbrev pub plan_answered : State → (token : List ℕ) → Plan → Answered
+plan_answered s token plan = answered s.graph (plan_outcome (may_write s.settings token) s.settings.max_steps s.settings.max_elements s.graph plan)
+
+abbrev pub RunsPlan : ℕ → (token : List ℕ) → Plan → ServerState → Result (List ℕ) Fault → ServerState → Type 0
+RunsPlan t token plan old result new = Gives old t (with_graph (state_at old t) (plan_answered (state_at old t) token plan)) result new

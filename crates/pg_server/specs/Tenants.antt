@@ -1,8 +1,8 @@
 -- The tenants of a server over the part that their tables share.
 use Rattle.std.specs.Prelude.{◌≡◌, ℕ, ◌<◌, List, [], false, length, map, slice_index_or}
 use Rattle.pg_graph.specs.Content.{Seen}
-use Rattle.pg_server.specs.Settings.{all_tokens}
-use Rattle.pg_server.specs.State.{State}
+use Rattle.pg_server.specs.Settings.{TenantSettings, all_tokens}
+use Rattle.pg_server.specs.State.{State, opening}
 use Rattle.pg_server.specs.declared.tenant.Tenant.{Tenant}
 use Rattle.pg_store.specs.Stores.{graph_of_store, IsFit}
 use Rattle.pg_value.specs.Texts.{comes_again}
@@ -23,3 +23,9 @@ module _ {T S : Type 0} (seen : Seen T S) where
   pub record AreTenants (tenants : List (Tenant T)) (shared : S) : Type 0 where
     pub distinct : comes_again [] (all_tokens (map (λ t. t.settings) tenants)) ≡ false
     pub fit : AllFit tenants shared
+
+  -- the tenants that these settings begin: over each part that none of them uses they fit, and their graphs are empty
+  pub record AreOpening (settings : List TenantSettings) (tenants : List (Tenant T)) : Type 0 where
+    pub same : map (λ t. t.settings) tenants ≡ settings
+    pub fit : (shared : S) → ((owner : ℕ) → seen.is_unused owner shared) → AllFit tenants shared
+    pub empty : (shared : S) → ((owner : ℕ) → seen.is_unused owner shared) → states_of tenants shared ≡ map opening settings

@@ -1,8 +1,9 @@
 //! The configuration of a server.
-ghost use Rattle.std.specs.Prelude.{◌≡◌, ◌≢◌, ℕ, ◌++◌, [], false, IfOk, IfErr, OnOk, Ok, Err, Some, None, map};
+ghost use Rattle.std.specs.Prelude.{◌≡◌, ◌≢◌, ◌≤◌, ℕ, ◌++◌, [], length, IfOk, IfErr, OnOk, Ok, Err, Some, None, map};
+ghost use Rattle.std.specs.NonZero.{non_zero_usize_get};
 ghost use Rattle.pg_server.specs.Settings.{all_tokens, token_texts as texts_of};
 ghost use Rattle.pg_value.specs.Texts.{comes_again as seen_again};
-ghost use Rattle.pg_server.specs.Configuration.{configuration, in_range as seen_in_range, tenant_in_range as seen_tenant, tenants_in_range as seen_tenants, settings_of_data, settings_of_draft};
+ghost use Rattle.pg_server.specs.Configuration.{configuration, HasTokensOnce, max_tenants, in_range as seen_in_range, tenant_in_range as seen_tenant, tenants_in_range as seen_tenants, settings_of_data, settings_of_draft};
 ghost use Rattle.serde_json.specs.View.{view};
 ghost use Rattle.pg_server.specs.declared.config_fault.ConfigFault.TheVariants.{OutOfRange, Memory};
 
@@ -13,6 +14,7 @@ use pg_value::comes_again;
 use serde_json::Value as Json;
 use std::alloc::{AllocError, Global};
 use std::marker::Model;
+use std::num::NonZeroUsize;
 
 const MAX_CACHE: u64 = 65_536;
 
@@ -23,20 +25,21 @@ const MAX_QUOTA: u64 = 1_000_000_000;
 /// What a server begins with: a size for its plan cache, and its tenants. No two tokens are equal.
 #[derive(Drop)]
 pub struct Config {
-    cache: u64,
+    cache: NonZeroUsize,
     tenants: Vec<TenantSettings>,
 }
 
 impl Model for Config {
-    ghost use Rattle.std.specs.Prelude.{◌≡◌, false};
+    ghost use Rattle.std.specs.Prelude.{◌≤◌, length};
+    ghost use Rattle.std.specs.NonZero.{non_zero_usize_get};
     ghost use Rattle.pg_server.specs.Settings.{Settings};
-    ghost use Rattle.pg_server.specs.Configuration.{has_token_twice};
+    ghost use Rattle.pg_server.specs.Configuration.{HasTokensOnce, max_tenants};
 
     ghost Value = { Settings };
 
-    ghost view = { λ c. record { cache = c.cache; tenants = c.tenants.items } };
+    ghost view = { λ c. record { cache = non_zero_usize_get c.cache; tenants = c.tenants.items } };
 
-    ghost invariant = { λ c. has_token_twice (record { cache = c.cache; tenants = c.tenants.items }) ≡ false };
+    ghost invariant = { λ c. HasTokensOnce c.tenants.items × (length c.tenants.items ≤ max_tenants) };
 }
 
 impl Config {
@@ -56,10 +59,11 @@ impl Config {
     }
 
     /// How many plans the cache holds, and what each tenant begins with.
-    pub(crate) fn into_parts(self) -> (u64, Vec<TenantSettings>)
-        ensures cache { result.0 ≡ self.cache }
+    pub(crate) fn into_parts(self) -> (NonZeroUsize, Vec<TenantSettings>)
+        ensures cache { non_zero_usize_get result.0 ≡ self.cache }
         ensures tenants { result.1.items ≡ self.tenants }
-        ensures distinct { seen_again [] (all_tokens result.1.items) ≡ false }
+        ensures distinct { HasTokensOnce result.1.items }
+        ensures few { length result.1.items ≤ max_tenants }
     {
         (self.cache, self.tenants)
     }
@@ -79,6 +83,9 @@ fn checked(alloc: Global, draft: Draft) -> Result<Config, ConfigFault>
     ensures fault { IfErr result (λ e. e ≢ Memory → settings_of_draft draft ≡ Err e) }
 {
     let cache = in_range(draft.cache, 1, MAX_CACHE)?;
+    let Some(cache) = NonZeroUsize::new(cache as usize) else {
+        return Err(ConfigFault::OutOfRange);
+    };
     if draft.tenants.is_empty() || draft.tenants.len() > MAX_TENANTS {
         return Err(ConfigFault::OutOfRange);
     }

@@ -1,59 +1,74 @@
 //! The server: tenants, and the requests that reach them.
-ghost use Rattle.std.specs.Prelude.{◌≡◌, ℕ, List, length, IfOk};
+ghost use Rattle.std.specs.Prelude.{◌≡◌, ◌≢◌, ◌<◌, ◌≤◌, ℕ, List, length, Some, IfOk, IfErr, position};
 ghost use Rattle.pg_json.specs.Bodies.{request_view};
+ghost use Rattle.pg_json.specs.Refusals.{refusal_text};
+ghost use Rattle.pg_json.specs.Requests.{query};
+ghost use Rattle.pg_meaning.specs.Names.{is_among};
+ghost use Rattle.pg_meaning.specs.declared.fault.Fault.TheVariants.{OutOfMemory};
+ghost use Rattle.pg_server.specs.Configuration.{max_tenants};
 ghost use Rattle.pg_server.specs.Counts.{inner_of, faults_of};
-ghost use Rattle.pg_server.specs.Runs.{CallsAreRuns, TwoWorlds, handles};
+ghost use Rattle.pg_server.specs.Runs.{CallsAreRuns, TwoWorlds, handles, token_of as token_shown};
 ghost use Rattle.pg_server.specs.Served.{OneReading, read_faults, write_faults};
 ghost use Rattle.pg_server.specs.Serves.{Serves};
-ghost use Rattle.pg_server.specs.State.{opening_server};
-ghost use Rattle.pg_server.specs.Step.{Answers, place_of as seen_place};
+ghost use Rattle.pg_server.specs.Settings.{token_texts};
+ghost use Rattle.pg_server.specs.Solo.{limited, status_text};
+ghost use Rattle.pg_server.specs.State.{opening_server, state_at};
+ghost use Rattle.pg_server.specs.Step.{Answers, StepAt, RepliesAt, RunsPlan};
+ghost use Rattle.pg_server.specs.Tenants.{AreOpening};
 
 use crate::config::Config;
 use crate::counted::Counted;
 use crate::end::End;
 use crate::service::{Service, serve};
+use crate::settings::TenantSettings;
 use crate::tenant::Tenant;
 use crate::wire::MAX_BODY;
-use pg_json::{ReplyBytes, RequestBody, read_request, refusal};
+use pg_cache::PlanCache;
+use pg_graph::Tables;
+use pg_json::{ReplyBytes, RequestBody, read_request, refusal, write_reply};
 use pg_meaning::Fault;
+use pg_plan::{Plan, check_length};
+use pg_store::Store;
 use std::alloc::{AllocError, Global};
+use std::hash::BuildHasher;
 use std::io::{Read, Write};
 use std::marker::Model;
 
-/// The tenants of a configuration, each with its own state.
+/// The tenants of a configuration over one shared part of their tables, and the plans of all.
 #[derive(Drop)]
-pub struct Server {
+pub struct Server<S: BuildHasher + Drop, T: Tables> {
     alloc: Global,
-    cache: u64,
-    tenants: Vec<Tenant>,
+    plans: PlanCache<S>,
+    shared: T::Shared,
+    tenants: Vec<Tenant<T>>,
 }
 
-impl Model for Server {
-    ghost use Rattle.std.specs.Prelude.{◌≡◌, [], false, map};
-    ghost use Rattle.pg_server.specs.Settings.{all_tokens};
-    ghost use Rattle.pg_value.specs.Texts.{comes_again};
+impl<S: BuildHasher + Drop, T: Tables> Model for Server<S, T> {
     ghost use Rattle.pg_server.specs.State.{ServerState};
+    ghost use Rattle.pg_server.specs.StateCode.{server_code};
+    ghost use Rattle.pg_server.specs.Tenants.{states_of, AreTenants};
 
     ghost Value = { ServerState };
 
-    ghost view = { λ s. record { cache = s.cache; tenants = s.tenants.items } };
+    ghost coded = { server_code };
 
-    ghost invariant = { λ s. comes_again [] (all_tokens (map (λ t. t.settings) s.tenants.items)) ≡ false };
+    ghost view = { λ s. record { cache = s.plans.capacity; tenants = states_of T.seen s.tenants.items s.shared } };
+
+    ghost invariant = { λ s. AreTenants T.seen s.tenants.items s.shared };
 }
 
-impl Server {
-    /// A server with the tenants of this configuration.
-    pub fn new(alloc: Global, config: Config) -> Result<Server, AllocError>
+impl<S: BuildHasher + Drop, T: Tables> Server<S, T> {
+    /// A server with the tenants of this configuration, each with the empty graph.
+    pub fn new(alloc: Global, config: Config, hasher: S) -> Result<Self, AllocError>
         ensures { IfOk result (λ s. s ≡ opening_server config) }
     {
         let (cache, settings) = config.into_parts();
-        let mut tenants = Vec::new(alloc);
-        for one in settings {
-            tenants.push(Tenant::new(one))?;
-        }
+        let plans = PlanCache::new(alloc, cache, hasher)?;
+        let tenants = opening_tenants(alloc, settings)?;
         Ok(Server {
             alloc,
-            cache,
+            plans,
+            shared: T::new_shared(alloc),
             tenants,
         })
     }
@@ -66,19 +81,65 @@ impl Server {
             return refusal(Fault::FrameTooLong);
         }
         match read_request(self.alloc, body) {
-            Ok(request) => self.answer_request(request),
+            Ok(request) => self.answer_request(&request),
             Err(fault) => refusal(fault),
         }
     }
 
-    fn answer_request(&mut self, request: RequestBody) -> ReplyBytes
-        ensures { Answers self.old (request_view request) result self.new }
+    fn answer_request(&mut self, request: &RequestBody) -> ReplyBytes
+        ensures { Answers self.old (request_view request.now) result self.new }
     {
-        let RequestBody::Query { token, text } = request;
-        match place_of(&self.tenants, token.as_str()) {
-            Some(place) => self.tenants[place].answer_query(self.alloc, text.as_str()),
+        match place_of(&self.tenants, token_of(request)) {
+            Some(place) => self.answer_at(place, request),
             None => refusal(Fault::UnknownToken),
         }
+    }
+
+    fn answer_at(&mut self, place: usize, request: &RequestBody) -> ReplyBytes
+        requires { place < length self.old.tenants }
+        ensures { StepAt (Some place) self.old (request_view request.now) result self.new }
+    {
+        match self.reply_at(place, request) {
+            Ok(bytes) => bytes,
+            Err(fault) => refusal(fault),
+        }
+    }
+
+    fn reply_at(&mut self, place: usize, request: &RequestBody) -> Result<ReplyBytes, Fault>
+        requires { place < length self.old.tenants }
+        ensures { RepliesAt place self.old (request_view request.now) result self.new }
+    {
+        match request {
+            RequestBody::Query { token, text } => self.query(place, token.as_str(), text.as_str()),
+            RequestBody::Status { token: _ } => self.status(place),
+        }
+    }
+
+    /// The reply to a query of a tenant.
+    fn query(&mut self, place: usize, token: &str, text: &str) -> Result<ReplyBytes, Fault>
+        requires { place < length self.old.tenants }
+        ensures { RepliesAt place self.old (query token.now text.now) result self.new }
+    {
+        check_length(text)?;
+        let plan = self.plans.plan_for(self.alloc, text)?;
+        self.run_plan(place, token, &plan)
+    }
+
+    fn run_plan(&mut self, place: usize, token: &str, plan: &Plan) -> Result<ReplyBytes, Fault>
+        requires { place < length self.old.tenants }
+        ensures { RunsPlan place token.now plan.now self.old result self.new }
+    {
+        self.tenants[place].answer_plan(self.alloc, &mut self.shared, token, plan)
+    }
+
+    /// What a tenant has and may have.
+    fn status(&self, place: usize) -> Result<ReplyBytes, Fault>
+        requires { place < length self.now.tenants }
+        ensures ok { IfOk result (λ bytes. bytes ≡ limited (status_text (state_at self.now place))) }
+        ensures err { IfErr result (λ e. e ≢ OutOfMemory → refusal_text e ≡ limited (status_text (state_at self.now place))) }
+    {
+        let body = self.tenants[place].status(self.alloc, &self.shared);
+        write_reply(self.alloc, &body)
     }
 
     /// Serves at most so many frames, and answers each whole one by `handle`.
@@ -100,7 +161,7 @@ impl Server {
     }
 }
 
-impl Service for Server {
+impl<S: BuildHasher + Drop, T: Tables> Service for Server<S, T> {
     ghost answers = { handles };
 
     fn answer(&mut self, body: &[u8]) -> ReplyBytes {
@@ -108,11 +169,39 @@ impl Service for Server {
     }
 }
 
+/// The token of a request.
+fn token_of(request: &RequestBody) -> &str
+    ensures { result.now ≡ token_shown (request_view request.now) }
+{
+    match request {
+        RequestBody::Query { token, text: _ } | RequestBody::Status { token } => token.as_str(),
+    }
+}
+
 /// Where the tenant with this token stands.
-fn place_of(tenants: &[Tenant], token: &str) -> Option<usize>
-    ensures { result ≡ seen_place token.now tenants.now }
+fn place_of<T: Tables>(tenants: &[Tenant<T>], token: &str) -> Option<usize>
+    ensures { result ≡ position (λ t. is_among (token_texts t.settings) token.now) tenants.now }
 {
     tenants.iter().position(|tenant| tenant.has_token(token))
+}
+
+/// Each tenant with the empty graph. Its place is the number by which the shared part knows it.
+fn opening_tenants<T: Tables>(
+    alloc: Global,
+    settings: Vec<TenantSettings>,
+) -> Result<Vec<Tenant<T>>, AllocError>
+    requires { length settings.items ≤ max_tenants }
+    ensures { IfOk result (λ tenants. AreOpening T.seen settings.items tenants.items) }
+{
+    let mut tenants = Vec::with_capacity(alloc, settings.len())?;
+    for one in settings {
+        let owner = tenants.len() as u32;
+        tenants.push(Tenant {
+            settings: one,
+            store: Store::new(alloc, owner),
+        })?;
+    }
+    Ok(tenants)
 }
 
 // The length is a parameter, so that no proof computes a list of a million bytes.

@@ -1,7 +1,9 @@
 //! What a configuration sets for each tenant.
-ghost use Rattle.std.specs.Prelude.{◌≡◌, string_bytes};
+ghost use Rattle.std.specs.Prelude.{◌≡◌, ◌&&◌, string_bytes};
+ghost use Rattle.std.specs.Str.{bytes_eq};
 ghost use Rattle.pg_meaning.specs.Names.{is_among};
 ghost use Rattle.pg_server.specs.Settings.{token_texts};
+ghost use Rattle.pg_server.specs.Solo.{is_write, may_write};
 
 use pg_tenant::Quota;
 use std::marker::Model;
@@ -41,6 +43,13 @@ impl TokenSettings {
     {
         self.text.as_str()
     }
+
+    /// Whether it is this text, and lets requests change the graph.
+    fn lets_write(&self, text: &str) -> bool
+        ensures { result ≡ bytes_eq self.now.text text.now && is_write self.now.rights }
+    {
+        self.text.as_str() == text && matches!(self.rights, Rights::Write)
+    }
 }
 
 /// What a tenant may use, and the tokens of its requests.
@@ -75,6 +84,18 @@ impl TenantSettings {
     {
         for token in &self.tokens {
             if text == token.text() {
+                return true;
+            }
+        }
+        false
+    }
+
+    /// Whether requests with this token may change the graph.
+    pub(crate) fn may_write(&self, text: &str) -> bool
+        ensures { result ≡ may_write self.now text.now }
+    {
+        for token in &self.tokens {
+            if token.lets_write(text) {
                 return true;
             }
         }

@@ -1,76 +1,73 @@
-//! A tenant: what it may use, and what it keeps.
-ghost use Rattle.std.specs.Prelude.{◌≡◌, ◌≢◌, ◌⊎◌, ◌<◌, ◌≤◌, length, IfOk, IfErr};
-ghost use Rattle.pg_json.specs.Refusals.{refusal_text};
-ghost use Rattle.pg_json.specs.Replies.{reply_text, max_reply};
-ghost use Rattle.pg_meaning.specs.declared.fault.Fault.TheVariants.{OutOfMemory, ReplyTooLong};
+//! A tenant: what it may use, and its graph.
+ghost use Rattle.std.specs.Prelude.{◌≡◌, ◌≢◌, IfOk, IfErr, OnErr};
+ghost use Rattle.pg_graph.specs.Content.{Keeps};
+ghost use Rattle.pg_json.specs.Replies.{reply_text};
 ghost use Rattle.pg_meaning.specs.Names.{is_among};
-ghost use Rattle.pg_server.specs.Solo.{answer_text};
-ghost use Rattle.pg_server.specs.State.{opening, tokens_of};
+ghost use Rattle.pg_meaning.specs.declared.fault.Fault.TheVariants.{OutOfMemory};
+ghost use Rattle.pg_server.specs.Settings.{token_texts};
+ghost use Rattle.pg_server.specs.Solo.{may_write, status_text};
+ghost use Rattle.pg_server.specs.Tenants.{state_of};
+ghost use Rattle.pg_store.specs.Stores.{graph_of_store, IsFit};
+ghost use Rattle.pg_tenant.specs.Answers.{answered, refused};
+ghost use Rattle.pg_tenant.specs.Outcomes.{plan_outcome};
 
 use crate::settings::TenantSettings;
-use pg_json::{ReplyBody, ReplyBytes, refusal, write_reply};
+use pg_graph::Tables;
+use pg_json::{ReplyBody, ReplyBytes, TenantStatus};
 use pg_meaning::Fault;
-use pg_tenant::{Answer, answer_text};
+use pg_plan::Plan;
+use pg_store::Store;
+use pg_tenant::answer_plan;
 use std::alloc::Global;
-use std::marker::Model;
 
 #[derive(Drop)]
-pub(crate) struct Tenant {
-    settings: TenantSettings,
+pub(crate) struct Tenant<T> {
+    pub(crate) settings: TenantSettings,
+    pub(crate) store: Store<T>,
 }
 
-impl Model for Tenant {
-    ghost use Rattle.pg_server.specs.State.{State};
-
-    ghost Value = { State };
-
-    ghost view = { λ t. record { settings = t.settings } };
-}
-
-impl Tenant {
-    pub(crate) fn new(settings: TenantSettings) -> Tenant
-        ensures { result ≡ opening settings }
-    {
-        Tenant { settings }
-    }
-
+impl<T: Tables> Tenant<T> {
     pub(crate) fn has_token(&self, token: &str) -> bool
-        ensures { result ≡ is_among (tokens_of self.now) token.now }
+        ensures { result ≡ is_among (token_texts self.now.settings) token.now }
     {
         self.settings.has_token(token)
     }
 
-    /// The reply to a query, whose bytes are made before anything is kept.
-    pub(crate) fn answer_query(&mut self, alloc: Global, text: &str) -> ReplyBytes
-        ensures reply { (result ≡ answer_text self.old text.now) ⊎ (result ≡ refusal_text OutOfMemory) }
-        ensures state { self.new ≡ self.old }
+    /// The reply to the query of a plan. What it changes is kept only once the reply's bytes are made.
+    pub(crate) fn answer_plan(
+        &mut self,
+        alloc: Global,
+        shared: &mut T::Shared,
+        token: &str,
+        plan: &Plan,
+    ) -> Result<ReplyBytes, Fault>
+        requires fit { IsFit T.seen self.old.store shared.old }
+        ensures ok { IfOk result (λ bytes. answered (graph_of_store T.seen self.old.store shared.old) (plan_outcome (may_write self.old.settings token.now) self.old.settings.max_steps self.old.settings.max_elements (graph_of_store T.seen self.old.store shared.old) plan.now) ≡ record { reply = bytes; graph = graph_of_store T.seen self.new.store shared.new }) }
+        ensures err { IfErr result (λ e. e ≢ OutOfMemory → answered (graph_of_store T.seen self.old.store shared.old) (plan_outcome (may_write self.old.settings token.now) self.old.settings.max_steps self.old.settings.max_elements (graph_of_store T.seen self.old.store shared.old) plan.now) ≡ refused (graph_of_store T.seen self.old.store shared.old) e) }
+        ensures refused { OnErr result (graph_of_store T.seen self.new.store shared.new ≡ graph_of_store T.seen self.old.store shared.old) }
+        ensures settings { self.new.settings ≡ self.old.settings }
+        ensures fit { IsFit T.seen self.new.store shared.new }
+        ensures keeps { Keeps T.seen self.old.store.tables shared.old self.new.store.tables shared.new }
     {
-        match self.answered(alloc, text) {
-            Ok(bytes) => bytes,
-            Err(fault) => refusal(fault),
-        }
+        let may_write = self.settings.may_write(token);
+        let quota = self.settings.quota();
+        answer_plan(alloc, &mut self.store, shared, quota, may_write, plan)
     }
 
-    fn answered(&self, alloc: Global, text: &str) -> Result<ReplyBytes, Fault>
-        ensures ok { IfOk result (λ bytes. bytes ≡ answer_text self.now text.now) }
-        ensures err { IfErr result (λ e. e ≢ OutOfMemory → refusal_text e ≡ answer_text self.now text.now) }
+    /// What the tenant has and may have.
+    pub(crate) fn status(&self, alloc: Global, shared: &T::Shared) -> ReplyBody
+        requires fit { IsFit T.seen self.now.store shared.now }
+        ensures { reply_text result ≡ status_text (state_of T.seen self.now shared.now) }
     {
-        let answer = answer_text(alloc, self.settings.quota(), text)?;
-        written(alloc, answer)
+        let next = self.store.next_ids();
+        let quota = self.settings.quota();
+        ReplyBody::Status(TenantStatus {
+            elements: self.store.elements(),
+            indexes: Vec::new(alloc),
+            max_elements: quota.max_elements,
+            max_steps: quota.max_steps,
+            next_node: next.node,
+            next_rel: next.rel,
+        })
     }
-}
-
-/// The bytes of an answer.
-fn written(alloc: Global, answer: Answer) -> Result<ReplyBytes, Fault>
-    ensures ok { IfOk result (λ bytes. bytes ≡ reply_text (ReplyBody.Query answer.columns answer.rows answer.steps)) }
-    ensures within { IfOk result (λ bytes. length bytes ≤ max_reply) }
-    ensures kind { IfErr result (λ e. e ≢ OutOfMemory → e ≡ ReplyTooLong) }
-    ensures long { IfErr result (λ e. e ≢ OutOfMemory → max_reply < length (reply_text (ReplyBody.Query answer.columns answer.rows answer.steps))) }
-{
-    let body = ReplyBody::Query {
-        columns: answer.columns,
-        rows: answer.rows,
-        steps: answer.steps,
-    };
-    write_reply(alloc, &body)
 }

@@ -1,0 +1,18 @@
+use Rattle.std.proofs.Common.{rules, arith, subst, sym, refl, ◌≡◌, length}
+use Rattle.pg_server.proofs.OpeningLemmas.{Opens, none_begun, one_begun, few_begun, all_begun}
+use Rattle.pg_server.proofs.server.opening_tenants.Goals as goal
+
+pub loop-one-init : goal.loop-one-init
+loop-one-init g c = none_begun g.T.Tables.seen _ _ _ (search rules) (search rules)
+
+pub overflow_cast-owner : goal.overflow_cast-owner
+overflow_cast-owner g c = omega (arith, few_begun g.T.Tables.seen _ _ _ c.loop-one.invariant, c.requires)
+
+pub loop-one-preserved : goal.loop-one-preserved
+loop-one-preserved g c =
+    let opens : Opens g.T.Tables.seen (record { settings = c.in-Some.one; store = c.new.result }) (length c.loop-one.tenants.items) =
+    subst (Opens g.T.Tables.seen (record { settings = c.in-Some.one; store = c.new.result })) (search rules) (record { own = c.new.ensures.owner; fit = c.new.ensures.fit; empty = c.new.ensures.empty }) in
+    one_begun g.T.Tables.seen _ _ _ _ _ _ _ c.loop-one.invariant c.in-Some.ensures.steps.0 c.in_ok-push.ensures.items refl opens
+
+pub returns : goal.returns
+returns g c = all_begun g.T.Tables.seen _ _ _ c.loop-one.invariant (omega (arith, c.in-None.ensures.steps.0))

@@ -1,3 +1,4 @@
 pub mod FaultLemmas
 pub mod Shapes
 pub mod TextLemmas
+pub mod MeaningLemmas

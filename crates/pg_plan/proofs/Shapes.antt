@@ -44,10 +44,10 @@ simple_items (x ∷ xs) h = (simple x.value h.0, simple_items xs h.1)
 
 -- ---- the four shapes
 
-record OneNodeOf (q : Query) : Type 0 where
-  shape : OneNode
-  is : q ≡ query_of shape q.semicolon
-  simple : IsSimple shape
+pub record OneNodeOf (q : Query) : Type 0 where
+  pub shape : OneNode
+  pub is : q ≡ query_of shape q.semicolon
+  pub simple : IsSimple shape
 
 shaped : (start : Start) (items : List Item) (q : Query) → q ≡ plain_query start items q.semicolon → IsPlainStart start → HasReturn start items → AllByRecursion (λ x. IsPlainExpression x.value) items → OneNodeOf q
 shaped alone [] q is begun has each = absurd has
@@ -57,7 +57,7 @@ shaped (creating n) (x ∷ xs) q is begun has each = record { shape = creates_an
 shaped (matching n) [] q is begun has each = absurd has
 shaped (matching n) (x ∷ xs) q is begun has each = record { shape = matches n (x ∷ xs); is = is; simple = (simple_properties n.properties begun, simple_items (x ∷ xs) each) }
 
-one_node_of : (q : Query) → IsPlain q → OneNodeOf q
+pub one_node_of : (q : Query) → IsPlain q → OneNodeOf q
 one_node_of q h = shaped h.start h.items q h.only h.begun h.returns h.each
 
 pub some_shape : (q : Code) → IsPlain (query_view q) → AreOfOneNode (map clause_view q.clauses.items)

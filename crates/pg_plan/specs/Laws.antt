@@ -1,10 +1,12 @@
 -- What a plan of a text is good for.
-use Rattle.std.specs.Prelude.{◌≡◌, ℕ, List, [], None}
+use Rattle.std.specs.Prelude.{◌≡◌, ℕ, List, [], None, Ok}
 use Rattle.pg_meaning.specs.Agreement.{OutcomeAgrees}
 use Rattle.pg_meaning.specs.Graph.{Graph, IsGraph}
 use Rattle.pg_meaning.specs.Queries.{answer_of, ordered}
+use Rattle.pg_meaning.specs.Tree.{Query}
 use Rattle.pg_meaning.specs.Value.{Entries}
 use Rattle.pg_plan.specs.Plans.{statement_view, plan_query, plan_anchors, IsPlanOfText}
+use Rattle.pg_plan.specs.Reading.{text_checked}
 use Rattle.pg_plan.specs.declared.statement.Plan.{Plan}
 use Rattle.pg_run.specs.Answers.{one_node_answer}
 use Rattle.pg_run.specs.Checks.{one_node_fault}
@@ -21,3 +23,9 @@ pub record IsGoodPlan (plan : Plan) : Type 0 where
 
 abbrev pub PlansAnswer : Type 0
 PlansAnswer = (text : List ℕ) (plan : Plan) → IsPlanOfText text plan → IsGoodPlan plan
+
+-- what the query of a text answers is what it means, or a fault in which it may end
+abbrev pub TextsMean : Type 0
+TextsMean =
+    (text : List ℕ) (q : Query) (parameters : Entries) (graph : Graph) (max_steps max_elements : ℕ) → text_checked text ≡ Ok q → IsGraph graph
+    → OutcomeAgrees q parameters max_elements graph (answer_of [] q parameters graph max_steps max_elements)

@@ -1,7 +1,7 @@
 //! From a query text to its plan.
 #![tactic(auto)]
 
-ghost use Rattle.pg_plan.specs.Laws.{PlansAnswer};
+ghost use Rattle.pg_plan.specs.Laws.{PlansAnswer, TextsMean};
 
 mod columns;
 mod faults;
@@ -16,6 +16,11 @@ pub use statement::{Plan, Statement};
 /// What a plan of a text is good for: its query has no static fault, and answers as that of one node at most does.
 pub fn law_of_plans()
     ensures { PlansAnswer }
+{}
+
+/// What the query of a text answers is what it means, or a fault in which it may end.
+pub fn law_of_texts()
+    ensures { TextsMean }
 {}
 
 #[cfg(test)]

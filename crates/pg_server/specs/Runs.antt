@@ -8,11 +8,11 @@ use Rattle.pg_meaning.specs.Tree.{Query}
 use Rattle.pg_meaning.specs.Value.{no_entries}
 use Rattle.pg_meaning.specs.declared.fault.Fault.{Fault}
 use Rattle.pg_meaning.specs.declared.fault.Fault.TheVariants.{FrameTooLong, BadRequest, UnknownToken, OutOfMemory}
-use Rattle.pg_plan.specs.Reading.{text_query}
 use Rattle.pg_server.specs.Exchange.{Exchange, replies_of, Chain}
 use Rattle.pg_server.specs.Frames.{body_limit}
 use Rattle.pg_meaning.specs.Names.{is_among}
 use Rattle.pg_server.specs.Solo.{solo}
+use Rattle.pg_tenant.specs.Outcomes.{text_query}
 use Rattle.pg_server.specs.State.{State, ServerState, state_at, tokens_of, settings_of}
 
 -- ---- one tenant alone

@@ -9,10 +9,14 @@ use Rattle.pg_meaning.specs.Value.{no_entries}
 use Rattle.pg_meaning.specs.declared.fault.Fault.{Fault}
 use Rattle.pg_meaning.specs.declared.fault.Fault.TheVariants.{ReadOnly}
 use Rattle.pg_plan.specs.Plans.{IsPlanOfText, plan_query, statement_view}
-use Rattle.pg_plan.specs.Reading.{greatest_text, text_query}
+use Rattle.pg_plan.specs.Reading.{greatest_text, tested_length, text_checked}
 use Rattle.pg_plan.specs.Updates.{updates}
-use Rattle.pg_plan.specs.declared.plan.Plan.{Plan}
+use Rattle.pg_plan.specs.declared.statement.Plan.{Plan}
 use Rattle.pg_run.specs.Answers.{one_node_answer}
+
+-- the query that a text is, behind the test of its length
+abbrev pub text_query : List ℕ → Result Query Fault
+text_query text = tested_length text >> text_checked text
 
 module _ (may_write : Bool) (max_steps max_elements : ℕ) where
   abbrev pub permitted : Query → Result (Unit {0}) Fault

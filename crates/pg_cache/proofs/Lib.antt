@@ -1,3 +1,4 @@
 pub mod Entries
 pub mod Planned
 pub mod LookUps
+pub mod Capacity

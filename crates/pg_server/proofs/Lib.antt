@@ -3,6 +3,7 @@ pub mod DistinctLemmas
 pub mod FillLemmas
 pub mod FrameLemmas
 pub mod OpeningLemmas
+pub mod PlanLemmas
 pub mod ReadingLemmas
 pub mod ReplyLemmas
 pub mod RunLemmas

@@ -10,8 +10,10 @@ use Rattle.std.proofs.lemmas.List.Quantifiers.{position-Some}
 use Rattle.std.proofs.lemmas.List.Sums.{fails_before_first}
 use Rattle.std.proofs.lemmas.Slice.Eq.{bytes_eq-Decides}
 use Rattle.pg_json.specs.Refusals.{refusal_text}
-use Rattle.pg_json.specs.Requests.{Request, meaning}
-use Rattle.pg_meaning.specs.declared.fault.Fault.TheVariants.{UnknownToken, OutOfMemory}
+use Rattle.pg_json.specs.Requests.{Request, query, status, meaning}
+use Rattle.pg_meaning.specs.Graph.{IsGraph}
+use Rattle.pg_meaning.specs.declared.fault.Fault.{Fault}
+use Rattle.pg_meaning.specs.declared.fault.Fault.TheVariants.{BadRequest, UnknownToken, OutOfMemory}
 use Rattle.pg_server.specs.Exchange.{Exchange}
 use Rattle.pg_server.specs.Runs.{Runs, SoloRun, Means, IsStrangers, IsStrangersReply, own, asked, token_of, shows_one_of, is_short, is_want_of_memory, fault_of_request}
 use Rattle.pg_meaning.specs.Names.{is_among}
@@ -23,6 +25,7 @@ use Rattle.pg_server.specs.Step.{Answers, StepAt, with_tenant, place_of}
 use Rattle.pg_server.proofs.DistinctLemmas.{others_lack}
 use Rattle.pg_server.proofs.ReplyLemmas.{settings_stay, refused_keeps}
 use Rattle.pg_server.proofs.RunLemmas.{settings_at}
+use Rattle.pg_tenant.proofs.OutcomeLemmas.{text_means}
 
 none_passes : {X : Type 0} (p : X → Bool) (xs : List X) (k : ℕ) (d : X) → position p xs ≡ None → p d ≡ false → p (get_or xs k d) ≡ false
 none_passes p xs k d none past =
@@ -129,3 +132,21 @@ answered old new body reply request distinct all_mean short means step = by_plac
     by_place (Some t) found (inl h) = subst (Runs old (record { body = body; reply = reply } ∷ [])) (sym h.1) (out_of_memory old body reply short h.0)
     by_place (Some t) found (inr h) =
         subst (Runs old (record { body = body; reply = reply } ∷ [])) (sym h.1) (by_reply t found h.0 (is_want_of_memory reply) refl)
+
+-- what a tenant's query answers is what it means, since its graph is one
+pub means_of : (s : State) (request : Request) → IsGraph s.graph → Means s request
+means_of s (query token text) is = λ q h. text_means s.settings.max_steps s.settings.max_elements s.graph text q is h
+means_of s (status token) is = tt
+
+-- a body that isn't read
+pub unread : (server : ServerState) (body reply : List ℕ) (e : Fault) → is_short body ≡ true → reply ≡ refusal_text e → (e ≢ OutOfMemory → e ≡ BadRequest)
+    → (e ≢ OutOfMemory → meaning body ≡ None) → Runs server (record { body = body; reply = reply } ∷ []) server
+unread server body reply e short told kind none = by_memory (is_want_of_memory reply) refl
+  where
+    by_memory : (b : Bool) → is_want_of_memory reply ≡ b → Runs server (record { body = body; reply = reply } ∷ []) server
+    by_memory true is = out_of_memory server body reply short ((bytes_eq-Decides reply (refusal_text OutOfMemory)).0 is)
+    by_memory false is =
+        let other : e ≢ OutOfMemory = λ same. true≢false (sym ((bytes_eq-Decides reply (refusal_text OutOfMemory)).1 (told ∙ ap refusal_text same)) ∙ is) in
+        let nothing : asked body ≡ None = ap (λ b. cond b (meaning body) None) short ∙ none other in
+        left_alone server body reply (λ _. (λ long. cc, λ _. inl (told ∙ ap refusal_text (kind other) ∙ ap (λ r. refusal_text (fault_of_request r)) (sym (none other)))))
+        (λ t. ap (λ r. shows_one_of (tokens_of (state_at server t)) r && not (is_want_of_memory reply)) nothing)

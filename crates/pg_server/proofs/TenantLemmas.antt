@@ -1,14 +1,16 @@
 -- One tenant's store changed over the shared part, and what the others keep there stayed.
 use Rattle.std.proofs.Common.{◌≡◌, ◌≢◌, ℕ, zero, suc, ◌<◌, List, [], ◌∷◌, length, get_or, set, map, Bool, true, false, arith, refl, sym, ap, subst, ◌∙◌}
-use Rattle.std.specs.Prelude.{nat_eq}
+use Rattle.std.specs.Prelude.{nat_eq, position}
 use Rattle.std.proofs.Math.Seq.{map-set_same}
 use Rattle.std.proofs.lemmas.Bool.Decides.{Decides-eqb, not_from_Decides}
 use Rattle.std.proofs.lemmas.List.{get_or-set_same, get_or-set_other, length-set}
+use Rattle.pg_graph.proofs.Interned.{position_map}
 use Rattle.pg_graph.specs.Content.{Content, Seen, Keeps}
 use Rattle.pg_graph.specs.Refinement.{graph_of, Holds}
 use Rattle.pg_meaning.specs.Graph.{Graph, IsGraph, element_count}
-use Rattle.pg_server.specs.Settings.{all_tokens}
-use Rattle.pg_server.specs.State.{State, ServerState, no_state}
+use Rattle.pg_meaning.specs.Names.{is_among}
+use Rattle.pg_server.specs.Settings.{all_tokens, token_texts}
+use Rattle.pg_server.specs.State.{State, no_state, tokens_of}
 use Rattle.pg_server.specs.Tenants.{state_of, states_of, AllFit, AreTenants}
 use Rattle.pg_server.specs.declared.tenant.Tenant.{Tenant}
 use Rattle.pg_store.specs.Stores.{graph_of_store, IsFit}
@@ -106,3 +108,12 @@ module _ {T S : Type 0} (seen : Seen T S) (shared : S) (law : (store : Store T) 
   graphs_are [] fit t = empty
   graphs_are (x ∷ xs) fit zero = law x.store (fit 0 x (omega arith))
   graphs_are (x ∷ xs) fit (suc t) = graphs_are xs (λ k d lt. fit (suc k) d (omega arith)) t
+
+pub settings_seen : {T S : Type 0} (seen : Seen T S) (tenants : List (Tenant T)) (shared : S) → map (λ (s : State). s.settings) (states_of seen tenants shared) ≡ map (λ (x : Tenant T). x.settings) tenants
+settings_seen seen [] shared = refl
+settings_seen seen (x ∷ xs) shared = ap (λ ss. x.settings ∷ ss) (settings_seen seen xs shared)
+
+-- a tenant stands where its state does
+pub place_seen : {T S : Type 0} (seen : Seen T S) (shared : S) (token : List ℕ) (tenants : List (Tenant T))
+    → position (λ (s : State). is_among (tokens_of s) token) (states_of seen tenants shared) ≡ position (λ (x : Tenant T). is_among (token_texts x.settings) token) tenants
+place_seen seen shared token tenants = position_map (λ x. state_of seen x shared) (λ (s : State). is_among (tokens_of s) token) tenants

@@ -121,8 +121,10 @@ impl<S: BuildHasher + Drop, T: Tables> Server<S, T> {
         ensures { RepliesAt place self.old (query token.now text.now) result self.new }
     {
         check_length(text)?;
-        let plan = self.plans.plan_for(self.alloc, text)?;
-        self.run_plan(place, token, &plan)
+        match self.plans.plan_for(self.alloc, text) {
+            Ok(plan) => self.run_plan(place, token, &plan),
+            Err(fault) => Err(fault),
+        }
     }
 
     fn run_plan(&mut self, place: usize, token: &str, plan: &Plan) -> Result<ReplyBytes, Fault>

@@ -1,26 +1,29 @@
-use Rattle.std.proofs.Common.{rules, ◌≡◌, ◌≢◌, ◌<◌, ◌≤◌, ℕ, List, length, Some, IfOk, IfErr, position, ◌+◌, ◌-◌, ◌*◌, ◌/◌, ◌%◌, Bool, true, false, nat_eq, nat_lt, [], ◌∷◌, ◌++◌, slice_index_or, slice_set, bit_and, bit_or, Fits, w8, w32, w64, Bor, MutBor}
+use Rattle.std.proofs.Common.{◌≡◌, Some, None, ℕ, List, Option, ap, subst, sym, ◌∙◌}
+use Rattle.std.specs.Prelude.{position}
 use Rattle.pg_json.specs.Bodies.{request_view}
-use Rattle.pg_json.specs.Refusals.{refusal_text}
-use Rattle.pg_json.specs.Requests.{query}
 use Rattle.pg_meaning.specs.Names.{is_among}
-use Rattle.pg_meaning.specs.declared.fault.Fault.TheVariants.{OutOfMemory}
-use Rattle.pg_server.specs.Configuration.{max_tenants}
-use Rattle.pg_server.specs.Counts.{inner_of, faults_of}
-use Rattle.pg_server.specs.Runs.{CallsAreRuns, TwoWorlds, handles}
-use Rattle.pg_server.specs.Runs.{token_of as token_shown}
-use Rattle.pg_server.specs.Served.{OneReading, read_faults, write_faults}
-use Rattle.pg_server.specs.Serves.{Serves}
+use Rattle.pg_server.specs.Runs.{token_of}
 use Rattle.pg_server.specs.Settings.{token_texts}
-use Rattle.pg_server.specs.Solo.{limited, status_text}
-use Rattle.pg_server.specs.State.{opening_server, state_at}
-use Rattle.pg_server.specs.Step.{Answers, StepAt, RepliesAt, RunsPlan}
-use Rattle.pg_server.specs.Tenants.{AreOpening}
+use Rattle.pg_server.specs.State.{ServerState}
+use Rattle.pg_server.specs.Step.{StepAt, place_of}
+use Rattle.pg_server.specs.declared.tenant.Tenant.{Tenant}
+use Rattle.pg_server.proofs.TenantLemmas.{place_seen}
 use Rattle.pg_server.proofs.server.Server.answer_request.Goals as goal
 
--- src/server.rt:89:5
 pub returns-in-Some : goal.returns-in-Some
-returns-in-Some g c = ?
+returns-in-Some g c =
+    let asked : List ℕ = token_of (request_view c.args.request.now) in
+    let stands : List (Tenant g.row.T.Denot) → List ℕ → Option ℕ = λ tenants token. position (λ (x : Tenant g.row.T.Denot). is_among (token_texts x.settings) token) tenants in
+    let found : place_of asked c.args.self.now.tenants ≡ Some c.in-Some.place =
+    ap (λ (s : ServerState). place_of asked s.tenants) (sym c.self.view_is) ∙ place_seen g.T.Tables.seen c.self.inside.shared asked c.self.inside.tenants.items
+    ∙ ap (stands c.self.inside.tenants.items) (sym c.token_of.ensures) ∙ ap (λ ts. stands ts c.token_of.result.now) (sym c.deref.ensures.value) ∙ sym c.in-Some.ensures in
+    subst (λ o. StepAt o c.args.self.now (request_view c.args.request.now) c.answer_at.result c.answer_at.new.self) (sym found) c.answer_at.ensures
 
--- src/server.rt:89:5
 pub returns-in-None : goal.returns-in-None
-returns-in-None g c = ?
+returns-in-None g c =
+    let asked : List ℕ = token_of (request_view c.args.request.now) in
+    let stands : List (Tenant g.row.T.Denot) → List ℕ → Option ℕ = λ tenants token. position (λ (x : Tenant g.row.T.Denot). is_among (token_texts x.settings) token) tenants in
+    let none : place_of asked c.args.self.now.tenants ≡ None =
+    ap (λ (s : ServerState). place_of asked s.tenants) (sym c.self.view_is) ∙ place_seen g.T.Tables.seen c.self.inside.shared asked c.self.inside.tenants.items
+    ∙ ap (stands c.self.inside.tenants.items) (sym c.token_of.ensures) ∙ ap (λ ts. stands ts c.token_of.result.now) (sym c.deref.ensures.value) ∙ sym c.in-None.ensures in
+    subst (λ o. StepAt o c.args.self.now (request_view c.args.request.now) c.refusal.result c.args.self.now) (sym none) (c.refusal.ensures, λ i. c.args.self.now)

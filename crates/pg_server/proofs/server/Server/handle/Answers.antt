@@ -1,26 +1,26 @@
-use Rattle.std.proofs.Common.{rules, ◌≡◌, ◌≢◌, ◌<◌, ◌≤◌, ℕ, List, length, Some, IfOk, IfErr, position, ◌+◌, ◌-◌, ◌*◌, ◌/◌, ◌%◌, Bool, true, false, nat_eq, nat_lt, [], ◌∷◌, ◌++◌, slice_index_or, slice_set, bit_and, bit_or, Fits, w8, w32, w64, Bor, MutBor}
+use Rattle.std.proofs.Common.{◌≡◌, ℕ, [], false, rules, sym, subst, ap, ◌∙◌}
 use Rattle.pg_json.specs.Bodies.{request_view}
-use Rattle.pg_json.specs.Refusals.{refusal_text}
-use Rattle.pg_json.specs.Requests.{query}
-use Rattle.pg_meaning.specs.Names.{is_among}
-use Rattle.pg_meaning.specs.declared.fault.Fault.TheVariants.{OutOfMemory}
-use Rattle.pg_server.specs.Configuration.{max_tenants}
-use Rattle.pg_server.specs.Counts.{inner_of, faults_of}
-use Rattle.pg_server.specs.Runs.{CallsAreRuns, TwoWorlds, handles}
-use Rattle.pg_server.specs.Runs.{token_of as token_shown}
-use Rattle.pg_server.specs.Served.{OneReading, read_faults, write_faults}
-use Rattle.pg_server.specs.Serves.{Serves}
-use Rattle.pg_server.specs.Settings.{token_texts}
-use Rattle.pg_server.specs.Solo.{limited, status_text}
-use Rattle.pg_server.specs.State.{opening_server, state_at}
-use Rattle.pg_server.specs.Step.{Answers, StepAt, RepliesAt, RunsPlan}
-use Rattle.pg_server.specs.Tenants.{AreOpening}
+use Rattle.pg_meaning.specs.Graph.{IsGraph}
+use Rattle.pg_meaning.specs.GraphLaws.{empty_is_graph}
+use Rattle.pg_server.specs.Runs.{Means}
+use Rattle.pg_server.specs.Settings.{all_tokens}
+use Rattle.pg_server.specs.State.{ServerState, settings_of, state_at}
+use Rattle.pg_server.proofs.StepLemmas.{answered, means_of, unread}
+use Rattle.pg_server.proofs.TenantLemmas.{graphs_are, settings_seen}
 use Rattle.pg_server.proofs.server.Server.handle.Goals as goal
+use Rattle.pg_store.proofs.Stores.{store_is_graph}
+use Rattle.pg_value.specs.Texts.{comes_again}
 
--- src/server.rt:77:5
 pub returns-in-Ok : goal.returns-in-Ok
-returns-in-Ok g c = ?
+returns-in-Ok g c =
+    let distinct : comes_again [] (all_tokens (settings_of c.args.self.now)) ≡ false =
+    ap (λ (s : ServerState). comes_again [] (all_tokens (settings_of s))) (sym c.self.view_is)
+    ∙ ap (λ ss. comes_again [] (all_tokens ss)) (settings_seen g.T.Tables.seen c.self.inside.tenants.items c.self.inside.shared) ∙ c.self.invariant.distinct in
+    let graphs : (t : ℕ) → IsGraph (state_at c.args.self.now t).graph =
+    λ t. subst (λ (s : ServerState). IsGraph (state_at s t).graph) c.self.view_is
+    (graphs_are g.T.Tables.seen c.self.inside.shared (λ store. store_is_graph g.T.Tables.seen store c.self.inside.shared) empty_is_graph c.self.inside.tenants.items c.self.invariant.fit.fit t) in
+    answered c.args.self.now c.answer_request.new.self c.args.body.now c.answer_request.result (request_view c.in-Ok.request) distinct (λ t. means_of (state_at c.args.self.now t) (request_view c.in-Ok.request) (graphs t))
+    (search rules) c.in-Ok.ensures.ok c.answer_request.ensures
 
--- src/server.rt:77:5
 pub returns-in-Err : goal.returns-in-Err
-returns-in-Err g c = ?
+returns-in-Err g c = unread c.args.self.now c.args.body.now c.refusal-in-Err.result c.in-Err.fault (search rules) c.refusal-in-Err.ensures c.in-Err.ensures.kind c.in-Err.ensures.refused

@@ -1,26 +1,21 @@
-use Rattle.std.proofs.Common.{rules, ◌≡◌, ◌≢◌, ◌<◌, ◌≤◌, ℕ, List, length, Some, IfOk, IfErr, position, ◌+◌, ◌-◌, ◌*◌, ◌/◌, ◌%◌, Bool, true, false, nat_eq, nat_lt, [], ◌∷◌, ◌++◌, slice_index_or, slice_set, bit_and, bit_or, Fits, w8, w32, w64, Bor, MutBor}
-use Rattle.pg_json.specs.Bodies.{request_view}
-use Rattle.pg_json.specs.Refusals.{refusal_text}
-use Rattle.pg_json.specs.Requests.{query}
-use Rattle.pg_meaning.specs.Names.{is_among}
-use Rattle.pg_meaning.specs.declared.fault.Fault.TheVariants.{OutOfMemory}
-use Rattle.pg_server.specs.Configuration.{max_tenants}
-use Rattle.pg_server.specs.Counts.{inner_of, faults_of}
-use Rattle.pg_server.specs.Runs.{CallsAreRuns, TwoWorlds, handles}
-use Rattle.pg_server.specs.Runs.{token_of as token_shown}
-use Rattle.pg_server.specs.Served.{OneReading, read_faults, write_faults}
-use Rattle.pg_server.specs.Serves.{Serves}
-use Rattle.pg_server.specs.Settings.{token_texts}
-use Rattle.pg_server.specs.Solo.{limited, status_text}
-use Rattle.pg_server.specs.State.{opening_server, state_at}
-use Rattle.pg_server.specs.Step.{Answers, StepAt, RepliesAt, RunsPlan}
-use Rattle.pg_server.specs.Tenants.{AreOpening}
+use Rattle.std.proofs.Common.{◌≡◌, [], map, sym, ap, ◌∙◌}
+use Rattle.std.proofs.Common.{rules}
+use Rattle.pg_server.specs.Settings.{all_tokens}
+use Rattle.pg_server.specs.State.{ServerState, State, opening}
+use Rattle.pg_server.specs.Tenants.{states_of}
 use Rattle.pg_server.proofs.server.Server.new.Goals as goal
+use Rattle.pg_value.specs.Texts.{comes_again}
 
--- src/server.rt:68:9
 pub invariant_of-result : goal.invariant_of-result
-invariant_of-result g c = ?
+invariant_of-result g c =
+    record {
+      distinct = ap (λ ss. comes_again [] (all_tokens ss)) c.in_ok-tenants.ensures.same ∙ c.into_parts-settings.ensures.distinct;
+      fit = c.in_ok-tenants.ensures.fit c.new_shared.result c.new_shared.ensures.unused;
+    }
 
--- src/server.rt:62:5
 pub returns : goal.returns
-returns g c = ?
+returns g c =
+    let tenants : states_of g.T.Tables.seen c.in_ok-tenants.tenants.items c.new_shared.result ≡ map opening c.args.config.tenants =
+    c.in_ok-tenants.ensures.empty c.new_shared.result c.new_shared.ensures.unused ∙ ap (map opening) c.into_parts-settings.ensures.tenants in
+    let cache : c.in_ok-plans.plans.capacity ≡ c.args.config.cache = search rules in
+    λ i. let s : ServerState = record { cache = cache i; tenants = tenants i } in s

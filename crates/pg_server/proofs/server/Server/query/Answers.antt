@@ -1,26 +1,27 @@
-use Rattle.std.proofs.Common.{rules, ◌≡◌, ◌≢◌, ◌<◌, ◌≤◌, ℕ, List, length, Some, IfOk, IfErr, position, ◌+◌, ◌-◌, ◌*◌, ◌/◌, ◌%◌, Bool, true, false, nat_eq, nat_lt, [], ◌∷◌, ◌++◌, slice_index_or, slice_set, bit_and, bit_or, Fits, w8, w32, w64, Bor, MutBor}
-use Rattle.pg_json.specs.Bodies.{request_view}
-use Rattle.pg_json.specs.Refusals.{refusal_text}
-use Rattle.pg_json.specs.Requests.{query}
-use Rattle.pg_meaning.specs.Names.{is_among}
-use Rattle.pg_meaning.specs.declared.fault.Fault.TheVariants.{OutOfMemory}
-use Rattle.pg_server.specs.Configuration.{max_tenants}
-use Rattle.pg_server.specs.Counts.{inner_of, faults_of}
-use Rattle.pg_server.specs.Runs.{CallsAreRuns, TwoWorlds, handles}
-use Rattle.pg_server.specs.Runs.{token_of as token_shown}
-use Rattle.pg_server.specs.Served.{OneReading, read_faults, write_faults}
-use Rattle.pg_server.specs.Serves.{Serves}
-use Rattle.pg_server.specs.Settings.{token_texts}
-use Rattle.pg_server.specs.Solo.{limited, status_text}
-use Rattle.pg_server.specs.State.{opening_server, state_at}
-use Rattle.pg_server.specs.Step.{Answers, StepAt, RepliesAt, RunsPlan}
-use Rattle.pg_server.specs.Tenants.{AreOpening}
+use Rattle.std.proofs.Common.{◌≡◌, Ok, rules, ap, subst, sym, ◌∙◌}
+use Rattle.pg_cache.proofs.Capacity.{capacity_stays}
+use Rattle.pg_plan.specs.Plans.{IsPlanOfText}
+use Rattle.pg_plan.specs.Reading.{tested_length}
+use Rattle.pg_server.specs.State.{ServerState}
+use Rattle.pg_server.specs.Tenants.{states_of}
+use Rattle.pg_server.proofs.PlanLemmas.{replies, refuses}
 use Rattle.pg_server.proofs.server.Server.query.Goals as goal
 
--- src/server.rt:124:20
-pub returns-in_err-plan : goal.returns-in_err-plan
-returns-in_err-plan g c = ?
+pub returns-in-Err : goal.returns-in-Err
+returns-in-Err g c =
+    let tenants = states_of g.T.Tables.seen c.self.inside.tenants.items c.self.inside.shared in
+    let after : ServerState = record { cache = c.plan_for.new.self.capacity; tenants = tenants } in
+    let same : after ≡ c.args.self.now =
+    ap (λ n. let s : ServerState = record { cache = n; tenants = tenants } in s) (capacity_stays c.self.inside.plans c.plan_for.new.self c.args.text.now c.plan_for.result c.plan_for.ensures.hit c.plan_for.ensures.miss) ∙ c.self.view_is in
+    let short : tested_length c.args.text.now ≡ Ok tt = search rules in
+    refuses c.args.place c.args.token.now c.args.text.now c.args.self.now after c.in-Err.fault same short c.in-Err.ensures.err
 
--- src/server.rt:119:5
-pub returns : goal.returns
-returns g c = ?
+pub returns-in-Ok : goal.returns-in-Ok
+returns-in-Ok g c =
+    let tenants = states_of g.T.Tables.seen c.self.inside.tenants.items c.self.inside.shared in
+    let after : ServerState = record { cache = c.plan_for.new.self.capacity; tenants = tenants } in
+    let same : after ≡ c.args.self.now =
+    ap (λ n. let s : ServerState = record { cache = n; tenants = tenants } in s) (capacity_stays c.self.inside.plans c.plan_for.new.self c.args.text.now c.plan_for.result c.plan_for.ensures.hit c.plan_for.ensures.miss) ∙ c.self.view_is in
+    let short : tested_length c.args.text.now ≡ Ok tt = search rules in
+    let lent : c.deref.result.now ≡ c.in-Ok.plan.value = search rules in
+    replies c.args.place c.args.token.now c.args.text.now c.args.self.now after c.run_plan.new.self c.deref.result.now c.run_plan.result same short (subst (IsPlanOfText c.args.text.now) (sym lent) c.in-Ok.ensures.ok) c.run_plan.ensures

@@ -1,22 +1,11 @@
-use Rattle.std.proofs.Common.{rules, ◌≡◌, ◌≢◌, ◌<◌, ◌≤◌, ℕ, List, length, Some, IfOk, IfErr, position, ◌+◌, ◌-◌, ◌*◌, ◌/◌, ◌%◌, Bool, true, false, nat_eq, nat_lt, [], ◌∷◌, ◌++◌, slice_index_or, slice_set, bit_and, bit_or, Fits, w8, w32, w64, Bor, MutBor}
+use Rattle.std.proofs.Common.{◌≡◌, string_bytes, ap, subst, sym, ◌∙◌}
 use Rattle.pg_json.specs.Bodies.{request_view}
-use Rattle.pg_json.specs.Refusals.{refusal_text}
-use Rattle.pg_json.specs.Requests.{query}
-use Rattle.pg_meaning.specs.Names.{is_among}
-use Rattle.pg_meaning.specs.declared.fault.Fault.TheVariants.{OutOfMemory}
-use Rattle.pg_server.specs.Configuration.{max_tenants}
-use Rattle.pg_server.specs.Counts.{inner_of, faults_of}
-use Rattle.pg_server.specs.Runs.{CallsAreRuns, TwoWorlds, handles}
-use Rattle.pg_server.specs.Runs.{token_of as token_shown}
-use Rattle.pg_server.specs.Served.{OneReading, read_faults, write_faults}
-use Rattle.pg_server.specs.Serves.{Serves}
-use Rattle.pg_server.specs.Settings.{token_texts}
-use Rattle.pg_server.specs.Solo.{limited, status_text}
-use Rattle.pg_server.specs.State.{opening_server, state_at}
-use Rattle.pg_server.specs.Step.{Answers, StepAt, RepliesAt, RunsPlan}
-use Rattle.pg_server.specs.Tenants.{AreOpening}
+use Rattle.pg_json.specs.Requests.{Request, query}
+use Rattle.pg_server.specs.Step.{RepliesAt}
 use Rattle.pg_server.proofs.server.Server.reply_at.Goals as goal
 
--- src/server.rt:108:5
 pub returns-in-Query : goal.returns-in-Query
-returns-in-Query g c = ?
+returns-in-Query g c =
+    let same : query c.as_str.result.now c.as_str-in-Query.result.now ≡ request_view c.args.request.now =
+    ap (λ t. query t c.as_str-in-Query.result.now) c.as_str.ensures.value ∙ ap (query (string_bytes c.in-Query.token)) c.as_str-in-Query.ensures.value ∙ ap request_view (sym c.in-Query.is) in
+    subst (λ r. RepliesAt c.args.place c.args.self.now r c.query.result c.query.new.self) same c.query.ensures

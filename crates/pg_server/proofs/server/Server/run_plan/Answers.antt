@@ -1,26 +1,25 @@
-use Rattle.std.proofs.Common.{rules, ◌≡◌, ◌≢◌, ◌<◌, ◌≤◌, ℕ, List, length, Some, IfOk, IfErr, position, ◌+◌, ◌-◌, ◌*◌, ◌/◌, ◌%◌, Bool, true, false, nat_eq, nat_lt, [], ◌∷◌, ◌++◌, slice_index_or, slice_set, bit_and, bit_or, Fits, w8, w32, w64, Bor, MutBor}
-use Rattle.pg_json.specs.Bodies.{request_view}
-use Rattle.pg_json.specs.Refusals.{refusal_text}
-use Rattle.pg_json.specs.Requests.{query}
-use Rattle.pg_meaning.specs.Names.{is_among}
-use Rattle.pg_meaning.specs.declared.fault.Fault.TheVariants.{OutOfMemory}
-use Rattle.pg_server.specs.Configuration.{max_tenants}
-use Rattle.pg_server.specs.Counts.{inner_of, faults_of}
-use Rattle.pg_server.specs.Runs.{CallsAreRuns, TwoWorlds, handles}
-use Rattle.pg_server.specs.Runs.{token_of as token_shown}
-use Rattle.pg_server.specs.Served.{OneReading, read_faults, write_faults}
-use Rattle.pg_server.specs.Serves.{Serves}
-use Rattle.pg_server.specs.Settings.{token_texts}
-use Rattle.pg_server.specs.Solo.{limited, status_text}
-use Rattle.pg_server.specs.State.{opening_server, state_at}
-use Rattle.pg_server.specs.Step.{Answers, StepAt, RepliesAt, RunsPlan}
-use Rattle.pg_server.specs.Tenants.{AreOpening}
+use Rattle.std.proofs.Common.{◌≡◌, ◌<◌, length, set, arith, ap, subst}
+use Rattle.pg_server.specs.State.{ServerState}
+use Rattle.pg_server.specs.Step.{RunsPlan}
+use Rattle.pg_server.specs.Tenants.{state_of, states_of}
+use Rattle.pg_server.proofs.PlanLemmas.{runs_plan}
+use Rattle.pg_server.proofs.TenantLemmas.{length_mapped, still_tenants}
 use Rattle.pg_server.proofs.server.Server.run_plan.Goals as goal
 
--- src/server.rt:128:5
 pub invariant_of-self : goal.invariant_of-self
-invariant_of-self g c = ?
+invariant_of-self g c =
+    let seen = g.T.Tables.seen in
+    let tenants = c.self.inside.tenants.items in
+    let lt : c.args.place < length tenants = omega (arith, c.requires, ap (λ (s : ServerState). length s.tenants) c.self.view_is, length_mapped (λ x. state_of seen x c.self.inside.shared) tenants) in
+    still_tenants seen tenants c.self.inside.shared c.answer_plan.new.shared c.self.invariant.fit c.args.place c.index_mut.result.now c.answer_plan.new.self lt c.index_mut.ensures.value c.answer_plan.ensures.keeps
+    c.answer_plan.ensures.settings c.answer_plan.ensures.fit c.self.invariant.distinct
 
--- src/server.rt:128:5
 pub returns : goal.returns
-returns g c = ?
+returns g c =
+    let seen = g.T.Tables.seen in
+    let tenants = c.self.inside.tenants.items in
+    let lt : c.args.place < length tenants = omega (arith, c.requires, ap (λ (s : ServerState). length s.tenants) c.self.view_is, length_mapped (λ x. state_of seen x c.self.inside.shared) tenants) in
+    let after : ServerState = record { cache = c.self.inside.plans.capacity; tenants = states_of seen (set tenants c.args.place c.answer_plan.new.self) c.answer_plan.new.shared } in
+    subst (λ (s : ServerState). RunsPlan c.args.place c.args.token.now c.args.plan.now s c.answer_plan.result after) c.self.view_is
+    (runs_plan seen tenants c.self.inside.shared c.answer_plan.new.shared c.self.invariant.fit c.args.place c.index_mut.result.now c.answer_plan.new.self lt c.index_mut.ensures.value c.answer_plan.ensures.keeps
+    c.answer_plan.ensures.settings c.self.inside.plans.capacity c.args.token.now c.args.plan.now c.answer_plan.result c.answer_plan.ensures.ok c.answer_plan.ensures.err c.answer_plan.ensures.refused)

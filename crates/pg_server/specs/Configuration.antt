@@ -5,7 +5,7 @@ use Rattle.serde_json.specs.Data.{Data}
 use Rattle.serde_json.specs.Read.{read}
 use Rattle.pg_server.specs.declared.config_fault.ConfigFault.{ConfigFault}
 use Rattle.pg_server.specs.declared.config_fault.ConfigFault.TheVariants.{NotJson, WrongShape, OutOfRange, TokenTwice}
-use Rattle.pg_server.specs.Settings.{Settings, TenantSettings, all_tokens}
+use Rattle.pg_server.specs.Settings.{Settings, TenantSettings, max_quota, all_tokens}
 use Rattle.pg_value.specs.Texts.{comes_again}
 use Rattle.pg_server.specs.Draft.{Draft, TenantDraft, draft_of}
 
@@ -16,9 +16,6 @@ within least most n = nat_le least n && nat_le n most
 abbrev pub in_range : ℕ → ℕ → ℤ → Option ℕ
 in_range least most (pos n) = if within least most n then Some n else None
 in_range least most (negsuc n) = None
-
-abbrev pub max_quota : ℕ
-max_quota = 1000000000
 
 abbrev pub max_cache : ℕ
 max_cache = 65536

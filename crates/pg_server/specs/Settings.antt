@@ -6,6 +6,10 @@ pub record TokenSettings : Type 0 where
   pub text : List ℕ
   pub rights : Rights
 
+-- the greatest quota, of steps and of elements
+abbrev pub max_quota : ℕ
+max_quota = 1000000000
+
 pub record TenantSettings : Type 0 where
   pub max_steps : ℕ
   pub max_elements : ℕ

@@ -126,6 +126,7 @@ fn tenant_in_range(draft: TenantDraft) -> Result<TenantSettings, ConfigFault>
 
 fn in_range(number: i64, least: u64, most: u64) -> Result<u64, ConfigFault>
     ensures ok { IfOk result (λ n. seen_in_range least most number ≡ Some n) }
+    ensures within { IfOk result (λ n. n ≤ most) }
     ensures err { IfErr result (λ e. (e ≡ OutOfRange) × (seen_in_range least most number ≡ None)) }
 {
     if number < 0 {

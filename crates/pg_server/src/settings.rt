@@ -1,8 +1,8 @@
 //! What a configuration sets for each tenant.
-ghost use Rattle.std.specs.Prelude.{◌≡◌, ◌&&◌, string_bytes};
+ghost use Rattle.std.specs.Prelude.{◌≡◌, ◌≤◌, ◌&&◌, string_bytes};
 ghost use Rattle.std.specs.Str.{bytes_eq};
 ghost use Rattle.pg_meaning.specs.Names.{is_among};
-ghost use Rattle.pg_server.specs.Settings.{token_texts};
+ghost use Rattle.pg_server.specs.Settings.{token_texts, max_quota};
 ghost use Rattle.pg_server.specs.Solo.{is_write, may_write};
 
 use pg_tenant::Quota;
@@ -61,17 +61,21 @@ pub(crate) struct TenantSettings {
 }
 
 impl Model for TenantSettings {
-    ghost use Rattle.pg_server.specs.Settings.{TenantSettings as Seen};
+    ghost use Rattle.std.specs.Prelude.{◌≤◌};
+    ghost use Rattle.pg_server.specs.Settings.{TenantSettings as Seen, max_quota};
 
     ghost Value = { Seen };
 
     ghost view = { λ t. record { max_steps = t.max_steps; max_elements = t.max_elements; tokens = t.tokens.items } };
+
+    ghost invariant = { λ t. t.max_elements ≤ max_quota };
 }
 
 impl TenantSettings {
     pub(crate) fn quota(&self) -> Quota
         ensures steps { result.max_steps ≡ self.now.max_steps }
         ensures elements { result.max_elements ≡ self.now.max_elements }
+        ensures within { result.max_elements ≤ max_quota }
     {
         Quota {
             max_steps: self.max_steps,

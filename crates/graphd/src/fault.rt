@@ -15,6 +15,8 @@ pub(crate) enum ProgramFault {
     Unreadable,
     Config(ConfigFault),
     Ended(End),
+    /// The system gives no random numbers for the keys of hashes.
+    NoRandomNumbers,
     OutOfMemory,
 }
 
@@ -54,6 +56,7 @@ impl ProgramFault {
             ProgramFault::Unreadable => "cannot read the configuration",
             ProgramFault::Config(fault) => fault.line(),
             ProgramFault::Ended(end) => end.line(),
+            ProgramFault::NoRandomNumbers => "no random numbers",
             ProgramFault::OutOfMemory => "out of memory",
         }
     }
@@ -66,7 +69,7 @@ impl ProgramFault {
             ProgramFault::Usage | ProgramFault::Unreadable => 2,
             ProgramFault::Config(fault) => fault.status(),
             ProgramFault::Ended(end) => end.status(),
-            ProgramFault::OutOfMemory => 1,
+            ProgramFault::NoRandomNumbers | ProgramFault::OutOfMemory => 1,
         }
     }
 }

@@ -7,6 +7,8 @@ mod tests;
 
 use fault::ProgramFault;
 use pg_server::{Config, Counted, End, Server};
+use pg_tables::PlainTables;
+use std::hash::RandomState;
 use std::io::BufReader;
 use std::process::ExitCode;
 use std::{env, fs, io};
@@ -53,7 +55,10 @@ fn read_file(rt: &HostRuntime, path: &str) -> Result<Vec<u8>, ProgramFault> {
 
 /// Serves standard input to standard output, until its end.
 fn serve_standard(rt: &HostRuntime, config: Config) -> Result<(), ProgramFault> {
-    let mut server = Server::new(rt.alloc(), config)?;
+    let Ok(hasher) = RandomState::new(rt) else {
+        return Err(ProgramFault::NoRandomNumbers);
+    };
+    let mut server: Server<RandomState, PlainTables> = Server::new(rt.alloc(), config, hasher)?;
     let mut reader = Counted::new(BufReader::new(rt.alloc(), rt.reader())?);
     let mut writer = Counted::new(io::writer(rt));
     match server.run(&mut reader, &mut writer, u64::MAX) {

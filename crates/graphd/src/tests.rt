@@ -1,3 +1,5 @@
 mod configurations;
 mod devices;
+mod queries;
 mod runs;
+mod servers;

@@ -207,6 +207,7 @@ fn faults_are_told(rt: HostRuntime) {
             "input ended inside a frame",
             1,
         ),
+        (ProgramFault::NoRandomNumbers, "no random numbers", 1),
         (ProgramFault::OutOfMemory, "out of memory", 1),
     ];
     for (fault, line, status) in &told {

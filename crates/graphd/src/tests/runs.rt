@@ -1,11 +1,9 @@
 //! Runs of the server over devices that give and take in pieces, and fail.
 use super::devices::{Pieces, Slots, Stream, reader_of, writer_of};
-use pg_server::{Config, Counted, End, Server, law_calls, law_one_reading, law_two_worlds};
+use super::servers::new_server;
+use pg_server::{Counted, End, law_calls, law_one_reading, law_two_worlds};
 use std::alloc::{AllocError, Global};
 use std::test::Fail;
-
-const CONFIG: &str =
-    "{\"cache\":4,\"tenants\":[{\"name\":\"A\",\"max_steps\":1000,\"max_elements\":10,\"tokens\":[{\"token\":\"a1\",\"rights\":\"write\"},{\"token\":\"a2\",\"rights\":\"read\"}]},{\"name\":\"B\",\"max_steps\":1000,\"max_elements\":10,\"tokens\":[{\"token\":\"b1\",\"rights\":\"write\"}]}]}";
 
 const BODIES: [&str; 5] = [
     "{\"op\":\"query\",\"token\":\"a1\",\"text\":\"\"}",
@@ -23,12 +21,6 @@ const REPLIES: [&str; 5] = [
     "{\"code\":7,\"error\":\"BadSyntax\"}",
 ];
 
-fn new_server(alloc: Global) -> Result<Server, Fail> {
-    let Ok(config) = Config::read(alloc, CONFIG.as_bytes()) else {
-        return Err(AllocError.into());
-    };
-    Ok(Server::new(alloc, config)?)
-}
 
 /// How a run ended, the faults that were counted, and what was written.
 #[derive(Drop)]
@@ -40,12 +32,12 @@ struct Outcome {
 }
 
 fn served(
-    alloc: Global,
+    rt: &HostRuntime,
     mut reader: Counted<Pieces<'_>>,
     mut writer: Counted<Slots>,
     max_frames: u64,
 ) -> Result<Outcome, Fail> {
-    let mut server = new_server(alloc)?;
+    let mut server = new_server(rt)?;
     let end = server.run(&mut reader, &mut writer, max_frames);
     let read_faults = reader.faults();
     let write_faults = writer.faults();
@@ -64,7 +56,7 @@ fn serves_in_pieces(rt: HostRuntime) -> Result<(), Fail> {
     let output = Stream::of(rt.alloc(), &REPLIES)?;
     for most in 1..9usize {
         let reader = reader_of(&input.bytes, most, 0);
-        let ran = served(rt.alloc(), reader, writer_of(rt.alloc(), most, 0), 100)?;
+        let ran = served(&rt, reader, writer_of(rt.alloc(), most, 0), 100)?;
         assert_eq!(rt; ran.end, End::Done);
         assert_eq!(rt; ran.read_faults, 0);
         assert_eq!(rt; ran.write_faults, 0);
@@ -79,7 +71,7 @@ fn stops_after_so_many_frames(rt: HostRuntime) -> Result<(), Fail> {
     let output = Stream::of(rt.alloc(), &REPLIES)?;
     for most in 0..6u64 {
         let reader = reader_of(&input.bytes, 7, 0);
-        let ran = served(rt.alloc(), reader, writer_of(rt.alloc(), 7, 0), most)?;
+        let ran = served(&rt, reader, writer_of(rt.alloc(), 7, 0), most)?;
         assert_eq!(rt; ran.end, End::Done);
         assert_eq!(rt; ran.taken.len(), output.end_of(most as usize));
     }
@@ -92,7 +84,7 @@ fn input_is_cut_at_each_place(rt: HostRuntime) -> Result<(), Fail> {
     let output = Stream::of(rt.alloc(), &REPLIES)?;
     for at in 0..=input.bytes.len() {
         let reader = reader_of(&input.bytes[..at], 5, 0);
-        let ran = served(rt.alloc(), reader, writer_of(rt.alloc(), 100, 0), 100)?;
+        let ran = served(&rt, reader, writer_of(rt.alloc(), 100, 0), 100)?;
         let whole = input.whole(at);
         let is_between = input.end_of(whole) == at;
         assert_eq!(rt; ran.end, if is_between { End::Done } else { End::Cut });
@@ -110,7 +102,7 @@ fn reader_fails_at_each_call(rt: HostRuntime) -> Result<(), Fail> {
     // A byte a call: the call after the last byte is the one that sees the end.
     for k in 0..=input.bytes.len() {
         let reader = reader_of(&input.bytes, 1, (k as u64).wrapping_add(1));
-        let ran = served(rt.alloc(), reader, writer_of(rt.alloc(), 100, 0), 100)?;
+        let ran = served(&rt, reader, writer_of(rt.alloc(), 100, 0), 100)?;
         assert_eq!(rt; ran.end, End::ReadFailed);
         assert_eq!(rt; ran.read_faults, 1);
         assert_eq!(rt; ran.write_faults, 0);
@@ -126,7 +118,7 @@ fn writer_takes_none_at_each_call(rt: HostRuntime) -> Result<(), Fail> {
     let output = Stream::of(rt.alloc(), &REPLIES)?;
     for k in 0..output.bytes.len() {
         let writer = writer_of(rt.alloc(), 1, (k as u64).wrapping_add(1));
-        let ran = served(rt.alloc(), reader_of(&input.bytes, 100, 0), writer, 100)?;
+        let ran = served(&rt, reader_of(&input.bytes, 100, 0), writer, 100)?;
         assert_eq!(rt; ran.end, End::WriteFailed);
         assert_eq!(rt; ran.read_faults, 0);
         assert_eq!(rt; ran.write_faults, 1);
@@ -140,7 +132,7 @@ fn writer_takes_none_at_each_call(rt: HostRuntime) -> Result<(), Fail> {
 fn frame_that_is_too_long(rt: HostRuntime) -> Result<(), Fail> {
     let input = [0, 0, 0, 0, 0, 16, 0, 1, 1, 2, 3];
     let reader = reader_of(&input, 100, 0);
-    let ran = served(rt.alloc(), reader, writer_of(rt.alloc(), 100, 0), 100)?;
+    let ran = served(&rt, reader, writer_of(rt.alloc(), 100, 0), 100)?;
     assert_eq!(rt; ran.end, End::TooLong);
     let replies = [
         "{\"code\":2,\"error\":\"BadRequest\"}",
@@ -160,7 +152,7 @@ fn frame_of_the_greatest_length(rt: HostRuntime) -> Result<(), Fail> {
     let mut input = Vec::from_array(rt.alloc(), [0, 16, 0, 0])?;
     input.extend_from_slice(&blanks(rt.alloc(), 1_048_576)?)?;
     let reader = reader_of(&input, 1_000_000, 0);
-    let ran = served(rt.alloc(), reader, writer_of(rt.alloc(), 100, 0), 100)?;
+    let ran = served(&rt, reader, writer_of(rt.alloc(), 100, 0), 100)?;
     assert_eq!(rt; ran.end, End::Done);
     let output = Stream::of(rt.alloc(), &["{\"code\":2,\"error\":\"BadRequest\"}"])?;
     assert_eq!(rt; ran.taken.as_slice(), output.bytes.as_slice());
@@ -169,7 +161,7 @@ fn frame_of_the_greatest_length(rt: HostRuntime) -> Result<(), Fail> {
 
 #[test]
 fn body_that_is_too_long(rt: HostRuntime) -> Result<(), Fail> {
-    let mut server = new_server(rt.alloc())?;
+    let mut server = new_server(&rt)?;
     let body = blanks(rt.alloc(), 1_048_577)?;
     let reply = server.handle(&body);
     assert_eq!(rt;
@@ -185,7 +177,7 @@ fn serves_again_after_each_end(rt: HostRuntime) -> Result<(), Fail> {
     let input = Stream::of(rt.alloc(), &BODIES)?;
     let output = Stream::of(rt.alloc(), &REPLIES)?;
     let too_long = [0, 16, 0, 1];
-    let mut server = new_server(rt.alloc())?;
+    let mut server = new_server(&rt)?;
     let cases = [
         (input.bytes.as_slice(), 0, 0, End::Done),
         (&input.bytes[..input.bytes.len().min(6)], 0, 0, End::Cut),

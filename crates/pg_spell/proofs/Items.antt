@@ -1,9 +1,8 @@
 -- The items of a list spelt out one after the other.
-use Rattle.std.proofs.Common.{◌≡◌, length, arith, List, [], ◌∷◌, ◌++◌, Ok, Err, refl, sym, ap, ◌∙◌}
+use Rattle.std.proofs.Common.{◌≡◌, length, arith, List, [], ◌∷◌, ◌++◌, Ok, refl, sym, ap, ◌∙◌}
 use Rattle.serde_json.specs.Data.{Items, no_items, item}
 use Rattle.pg_json.specs.Replies.{data_of, outs}
 use Rattle.pg_meaning.specs.Answer.{◌>>◌}
-use Rattle.pg_meaning.specs.declared.fault.Fault.{Fault}
 use Rattle.pg_spell.proofs.Ways.{Way}
 use Rattle.pg_value_core.specs.View.{view, values_view}
 use Rattle.pg_value_core.specs.declared.out.Out.{Out}
@@ -48,8 +47,3 @@ module _ (way : Way) where
     sym (so_far.shown ∙ ap (outs_before found) way.items_end ∙ outs_before-nothing found),
   )
   all_items_spelt all (v ∷ rest) found so_far is = absurd (omega arith)
-
-  pub one_item_refused : (all rest more : List Value) (found : List Out) (v : Value) (e : Fault) → ItemsSpelt way all rest found → rest ≡ v ∷ more
-      → way.test (view v) ≡ Err e → way.test_items (values_view all) ≡ Err e
-  one_item_refused all rest more found v e so_far is h =
-      so_far.tests ∙ ap (λ vs. way.test_items (values_view vs)) is ∙ way.test_items_more (view v) (values_view more) ∙ ap (λ r. r >> way.test_items (values_view more)) h

@@ -1,5 +1,5 @@
 -- The entries of a map spelt out one after the other.
-use Rattle.std.proofs.Common.{◌≡◌, List, [], ◌∷◌, ◌++◌, Ok, Err, String, Global, Less, Greater, string_bytes, string_cmp, refl, sym, ap, ◌∙◌, subst, append_assoc}
+use Rattle.std.proofs.Common.{◌≡◌, List, [], ◌∷◌, ◌++◌, Ok, String, Global, Less, Greater, string_bytes, string_cmp, refl, sym, ap, ◌∙◌, subst, append_assoc}
 use Rattle.std.proofs.lemmas.Cmp.{nat_list_cmp_total}
 use Rattle.std.specs.BTreeMap.{insert_entry}
 use Rattle.std.specs.List.{AllByRecursion}
@@ -9,7 +9,6 @@ use Rattle.std.specs.Ordering.{match_ordering, ordering_reverse}
 use Rattle.serde_json.specs.Data.{Members, no_members, member}
 use Rattle.pg_json.specs.Replies.{data_of, named_outs}
 use Rattle.pg_meaning.specs.Answer.{◌>>◌}
-use Rattle.pg_meaning.specs.declared.fault.Fault.{Fault}
 use Rattle.pg_spell.proofs.Ways.{Way}
 use Rattle.pg_value_core.specs.View.{view, entries_view}
 use Rattle.pg_value_core.specs.declared.out.Out.{Out}
@@ -92,9 +91,3 @@ module _ (way : Way) where
     so_far.tests ∙ way.test_members_end,
     sym (so_far.shown ∙ ap (named_before found) way.members_end ∙ named_before-nothing found),
   )
-
-  pub one_member_refused : (all rest more : List Pair) (found : List Named) (e : Pair) (f : Fault) → MembersSpelt way all rest found → rest ≡ e ∷ more
-      → way.test (view e.1) ≡ Err f → way.test_members (entries_view all) ≡ Err f
-  one_member_refused all rest more found e f so_far is h =
-      so_far.tests ∙ ap (λ es. way.test_members (entries_view es)) is ∙ way.test_members_more (string_bytes e.0) (view e.1) (entries_view more)
-      ∙ ap (λ r. r >> way.test_members (entries_view more)) h

@@ -15,7 +15,7 @@ use Rattle.pg_meaning.specs.Grammar.{Mark, key, sign, flag, commas, further, mar
 use Rattle.pg_meaning.specs.Grammar as grammar
 use Rattle.pg_meaning.specs.Parse as parse
 use Rattle.pg_meaning.specs.Parse.{Parser, Outcome, and_then, ◌>>=◌, ◌>>◌, ◌<$>◌, pure, sees_symbol, sees_keyword, eat_symbol, separated, done}
-use Rattle.pg_syntax.specs.Plain.{IsAtom, IsPlainExpression, ArePlainExpressions, ArePlainPairs, ArePlainProperties, Start, alone, creating, matching, IsPlainStart, lone_node, plain_projection, return_clauses, IsPlain, plain_query}
+use Rattle.pg_syntax.specs.Plain.{IsAtom, IsPlainExpression, ArePlainExpressions, ArePlainPairs, ArePlainProperties, Start, alone, creating, matching, IsPlainStart, lone_node, plain_projection, return_clauses, HasReturn, IsPlain, plain_query}
 use Rattle.pg_syntax.specs.PlainParse.{expression, lone_atom as atoms, node, item, start, returned, query, plain_query_of}
 use Rattle.pg_syntax.proofs.Fits.{fit_append, fit_split}
 use Rattle.pg_syntax.proofs.Generic.{Sound, some, same_some, bind_some, pick, chosen}
@@ -170,10 +170,6 @@ module _ (limit : ℕ) where
 
 -- ---- RETURN and its items
 
-abbrev HasReturn : Start → List Item → Type 0
-HasReturn (creating n) xs = Unit {0}
-HasReturn begun xs = IsNonEmpty xs
-
 record Returned (text : List ℕ) (begun : Start) (xs : List Item) (front : List Token) : Type 0 where
   returns : HasReturn begun xs
   all : AllByRecursion (IsPlainItem text) xs
@@ -306,14 +302,6 @@ query_formed text (creating n) (x ∷ xs) b plain has all = ((lone_path n plain,
 query_formed text (matching n) [] b plain has all = absurd has
 query_formed text (matching n) (x ∷ xs) b plain has all = (((lone_path n plain, tt), (items_clause text x xs all, tt)), (refl, refl))
 
--- the other way
-has_return : (begun : Start) (xs : List Item) (b : Bool) → IsWellFormedQuery (plain_query begun xs b) → HasReturn begun xs
-has_return alone [] b h = let no : false ≡ true = h.1 in absurd cc
-has_return alone (x ∷ xs) b h = tt
-has_return (creating n) xs b h = tt
-has_return (matching n) [] b h = let no : false ≡ true = h.1.1 in absurd cc
-has_return (matching n) (x ∷ xs) b h = tt
-
 abbrev Sources : List ℕ → List Clause → Type 0
 Sources text cs = AllByRecursion (λ c. AllByRecursion (HasSource text) (items_of_clause c)) cs
 
@@ -339,7 +327,7 @@ plain_made text ts begun xs b plain has all fits = (
     sources = sources_made text begun xs b (each_is (IsPlainItem text) (HasSource text) xs (λ x h. h.1) all);
     well_formed = query_formed text begun xs b plain has all;
   },
-  record { start = begun; items = xs; only = refl; begun = plain; each = each_is (IsPlainItem text) (λ x. IsPlainExpression x.value) xs (λ x h. h.0) all },
+  record { start = begun; items = xs; only = refl; begun = plain; returns = has; each = each_is (IsPlainItem text) (λ x. IsPlainExpression x.value) xs (λ x h. h.0) all },
 )
 
 abbrev behind : List ℕ → ℕ → Start → Parser Query
@@ -394,7 +382,7 @@ plain_complete text ts q l reads plain =
     let b = q.semicolon in
     let r : Reads text ts (plain_query plain.start plain.items b) = rw plain.only at reads in
     let all = both (λ x. IsPlainExpression x.value) (HasSource text) plain.items plain.each (sources_of text plain.start plain.items b r.sources) in
-    let found = query_complete text ts plain.start plain.items b l plain.begun (has_return plain.start plain.items b r.well_formed) all (rw marks-is at r.fit) in
+    let found = query_complete text ts plain.start plain.items b l plain.begun plain.returns all (rw marks-is at r.fit) in
     ap parse.read found ∙ ap (λ (x : Query). Some x) (sym plain.only)
 
 pub one_plain_reading : (text : List ℕ) (ts : List Token) (p q : Query) → Lexes text ts → Reads text ts p → Reads text ts q → IsPlain p → IsPlain q → p ≡ q

@@ -4,7 +4,7 @@ use Rattle.std.specs.List.{AllByRecursion}
 use Rattle.std.specs.Str.{str_to_ascii_lowercase}
 use Rattle.pg_meaning.specs.declared.operators.Operator.TheVariants as op
 use Rattle.pg_meaning.specs.declared.operators.TextTest.TheVariants as test
-use Rattle.pg_meaning.specs.Grammar.{IsLiteral}
+use Rattle.pg_meaning.specs.Grammar.{IsLiteral, IsNonEmpty}
 use Rattle.pg_meaning.specs.Tree.{Name, Expression, Expressions, Pairs, Properties, NodePattern, PathPattern, Item, Projection, Clause, Query}
 use Rattle.pg_meaning.specs.Tree as tree
 
@@ -75,10 +75,16 @@ return_clauses (x ∷ xs) = tree.return_rows (plain_projection (x ∷ xs)) ∷ [
 abbrev pub plain_query : Start → List Item → Bool → Query
 plain_query start xs ends = record { clauses = start_clauses start ++ return_clauses xs; semicolon = ends }
 
+-- it may be lacking behind CREATE alone
+abbrev pub HasReturn : Start → List Item → Type 0
+HasReturn (creating n) xs = Unit {0}
+HasReturn begun xs = IsNonEmpty xs
+
 -- RETURN of plain expressions behind such a start, and nothing else
 pub record IsPlain (q : Query) : Type 0 where
   pub start : Start
   pub items : List Item
   pub only : q ≡ plain_query start items q.semicolon
   pub begun : IsPlainStart start
+  pub returns : HasReturn start items
   pub each : AllByRecursion (λ x. IsPlainExpression x.value) items

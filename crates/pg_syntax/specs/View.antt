@@ -1,5 +1,5 @@
 -- The data that the program's trees stand for.
-use Rattle.std.specs.Prelude.{List, map, Option, Some, None, option_map, string_bytes, Vec, false}
+use Rattle.std.specs.Prelude.{ℕ, Bool, if◌then◌else◌, List, [], ◌∷◌, map, Option, Some, None, option_map, string_bytes, Vec, false}
 use Rattle.std.specs.declared.alloc.Global.{Global}
 use Rattle.pg_meaning.specs.Parse.{expressions_of, pairs_of}
 use Rattle.pg_meaning.specs.Value as value
@@ -8,6 +8,7 @@ use Rattle.pg_syntax.specs.Plain.{plain_projection, lone_node}
 use Rattle.pg_syntax.specs.Plain as plain
 use Rattle.pg_syntax.specs.PlainParse.{equal_to, within, property_of, call_of}
 use Rattle.pg_syntax.specs.declared.tree.Name.{Name}
+use Rattle.pg_syntax.specs.declared.tree.IdName.{IdName}
 use Rattle.pg_syntax.specs.declared.tree.Literal.{Literal}
 use Rattle.pg_syntax.specs.declared.tree.Literal.TheVariants as literal
 use Rattle.pg_syntax.specs.declared.tree.Expression.{Expression, fold-Expression}
@@ -25,6 +26,13 @@ use Rattle.pg_syntax.specs.declared.query.Start.TheVariants as start
 abbrev pub name_view : Name → tree.Name
 name_view n = record { text = string_bytes n.text; quoted = n.quoted; place = n.place }
 
+-- `id` with its letters in the case that is told
+abbrev pub id_spelling : (first_upper second_upper : Bool) → List ℕ
+id_spelling first_upper second_upper = (if first_upper then 73 else 105) ∷ (if second_upper then 68 else 100) ∷ []
+
+abbrev pub id_name_view : IdName → tree.Name
+id_name_view n = record { text = id_spelling n.first_upper n.second_upper; quoted = false; place = n.place }
+
 abbrev pub literal_view : Literal → value.Value
 literal_view literal.Null = value.null
 literal_view (literal.Boolean b) = value.boolean b
@@ -39,7 +47,7 @@ view_step (Expression-F.Equal x y) = equal_to x.value y.value
 view_step (Expression-F.In x y) = within x.value y.value
 view_step (Expression-F.Variable n) = tree.variable (name_view n)
 view_step (Expression-F.Property n m) = property_of (name_view n) (name_view m)
-view_step (Expression-F.Id f n) = call_of (name_view f) (tree.variable (name_view n))
+view_step (Expression-F.Id f n) = call_of (id_name_view f) (tree.variable (name_view n))
 
 abbrev pub expression_view : Expression → tree.Expression
 expression_view = fold-Expression tree.Expression view_step

@@ -6,11 +6,11 @@ ghost use Rattle.pg_meaning.specs.Parse as parse;
 ghost use Rattle.pg_syntax.specs.Gives.{Gives, GivesValue};
 ghost use Rattle.pg_syntax.specs.Nests.{Nests};
 ghost use Rattle.pg_syntax.specs.PlainParse as spec;
-ghost use Rattle.pg_syntax.specs.View.{expression_view, literal_view, name_view};
+ghost use Rattle.pg_syntax.specs.View.{expression_view, id_name_view, literal_view, name_view};
 
 use crate::cursor::{Tokens, is_symbol};
 use crate::error::ParseError;
-use crate::tree::{Expression, Literal, Name};
+use crate::tree::{Expression, IdName, Literal, Name};
 use pg_lex::Lexeme;
 use pg_meaning::{Keyword, Symbol};
 use std::alloc::{AllocError, Global};
@@ -48,15 +48,32 @@ fn is_id(name: &Name) -> bool
     !name.quoted && name.text.eq_ignore_ascii_case("id")
 }
 
+/// How the name of the function `id` is written, if it is that name.
+fn id_name(name: &Name) -> Option<IdName>
+    ensures { option_map id_name_view result ≡ (if spec.is_id_name (name_view name.now) then Some (name_view name.now) else None) }
+{
+    if !is_id(name) {
+        return None;
+    }
+    let [first, second] = name.text.as_bytes() else {
+        return None;
+    };
+    Some(IdName {
+        place: name.place,
+        first_upper: *first == b'I',
+        second_upper: *second == b'D',
+    })
+}
+
 /// The function of a variable, and of nothing else.
 fn id_of(function: Name, argument: Expression) -> Result<Expression, ParseError>
     ensures { GivesValue expression_view (if spec.is_id_name (name_view function) && spec.is_variable (expression_view argument) then Some (spec.call_of (name_view function) (expression_view argument)) else None) result }
 {
-    if !is_id(&function) {
+    let Some(name) = id_name(&function) else {
         return Err(ParseError::BadSyntax);
-    }
+    };
     match argument {
-        Expression::Variable(variable) => Ok(Expression::Id(function, variable)),
+        Expression::Variable(variable) => Ok(Expression::Id(name, variable)),
         _ => Err(ParseError::BadSyntax),
     }
 }

@@ -12,4 +12,6 @@ mod tests;
 mod tree;
 
 pub use query::{law_of_plain_texts, law_one_reading, parse};
-pub use tree::{Clause, Expression, Item, Literal, Name, NodePattern, Pair, Projection, Query};
+pub use tree::{
+    Clause, Expression, IdName, Item, Literal, Name, NodePattern, Pair, Projection, Query,
+};

@@ -100,7 +100,11 @@ fn texts_have_their_trees(rt: HostRuntime) -> Result<(), Fail> {
         ),
         (
             "MATCH () RETURN ID(n)",
-            "MATCH NodePattern { place: 6, variable: None, labels: [], properties: None }; 16 ID(n) Id(Name { text: \"ID\", quoted: false, place: 16 }, Name { text: \"n\", quoted: false, place: 19 }); ",
+            "MATCH NodePattern { place: 6, variable: None, labels: [], properties: None }; 16 ID(n) Id(IdName { place: 16, first_upper: true, second_upper: true }, Name { text: \"n\", quoted: false, place: 19 }); ",
+        ),
+        (
+            "RETURN Id(n), iD(n)",
+            "7 Id(n) Id(IdName { place: 7, first_upper: true, second_upper: false }, Name { text: \"n\", quoted: false, place: 10 }); 14 iD(n) Id(IdName { place: 14, first_upper: false, second_upper: true }, Name { text: \"n\", quoted: false, place: 17 }); ",
         ),
         ("", "BadSyntax"),
         ("MATCH (n)", "BadSyntax"),

@@ -17,6 +17,14 @@ pub enum Literal {
     Text(String),
 }
 
+/// The name of the function `id`, in the case that it is written in, and where its token begins.
+#[derive(Clone, Copy, Debug, PartialEq, Eq)]
+pub struct IdName {
+    pub place: usize,
+    pub first_upper: bool,
+    pub second_upper: bool,
+}
+
 #[derive(Debug, PartialEq, Eq, Drop)]
 pub enum Expression {
     Literal(Literal),
@@ -28,8 +36,8 @@ pub enum Expression {
     Variable(Name),
     /// A variable and a key.
     Property(Name, Name),
-    /// The function's name as it is written, and a variable.
-    Id(Name, Name),
+    /// The function `id` of a variable.
+    Id(IdName, Name),
 }
 
 /// A key of a map as written, and its value.

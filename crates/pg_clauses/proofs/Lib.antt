@@ -1,0 +1,3 @@
+pub mod AnswersInTurn
+pub mod EvaluationLemmas
+pub mod PropertyLemmas

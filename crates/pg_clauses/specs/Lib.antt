@@ -1,0 +1,3 @@
+pub mod Evaluation
+pub mod Properties
+pub mod Rows

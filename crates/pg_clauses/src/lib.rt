@@ -1,0 +1,10 @@
+//! What the clauses of a query compute over a tenant's store.
+#![tactic(auto)]
+
+mod evaluation;
+mod properties;
+mod row;
+
+pub use evaluation::evaluate;
+pub use properties::property_values;
+pub use row::{Row, Table, begin};

@@ -1,3 +1,4 @@
 pub mod Evaluation
+pub mod Items
 pub mod Properties
 pub mod Rows

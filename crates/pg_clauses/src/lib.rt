@@ -3,8 +3,10 @@
 
 mod evaluation;
 mod properties;
+mod returned;
 mod row;
 
 pub use evaluation::evaluate;
 pub use properties::property_values;
+pub use returned::return_values;
 pub use row::{Row, Table, begin};

@@ -1,3 +1,4 @@
 pub mod AnswersInTurn
 pub mod EvaluationLemmas
+pub mod FitLemmas
 pub mod PropertyLemmas

@@ -1,4 +1,5 @@
 pub mod Evaluation
+pub mod Fits
 pub mod Items
 pub mod Properties
 pub mod Rows

@@ -2,11 +2,13 @@
 #![tactic(auto)]
 
 mod evaluation;
+mod matching;
 mod properties;
 mod returned;
 mod row;
 
 pub use evaluation::evaluate;
+pub use matching::find;
 pub use properties::property_values;
 pub use returned::return_values;
 pub use row::{Row, Table, begin};

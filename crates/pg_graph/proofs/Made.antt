@@ -1,9 +1,8 @@
 -- A node that is made, and what is read and listed of nodes, as the graph tells it.
-use Rattle.std.proofs.Common.{◌≡◌, ◌==◌, ◌+◌, ℕ, Bool, true, false, cond, List, [], ◌∷◌, map as map_list, filter, length, Option, Some, None, is_some, arith, refl, sym, ap, ◌∙◌}
+use Rattle.std.proofs.Common.{◌≡◌, ◌==◌, ◌+◌, ℕ, false, cond, List, [], ◌∷◌, map as map_list, length, Option, Some, None, is_some, arith, refl, sym, ap, ◌∙◌}
 use Rattle.std.proofs.lemmas.List.{length-map}
 use Rattle.std.specs.Cmp.{nat_cmp_total}
 use Rattle.std.specs.FinMap as map
-use Rattle.std.specs.FinMap.{FinMap}
 use Rattle.std.specs.FinMap.Entries.{put as put_entry, length-put}
 use Rattle.std.specs.List.{list_any, position}
 use Rattle.std.specs.Option.{option_map, option_map_or}
@@ -18,7 +17,7 @@ use Rattle.pg_graph.specs.Refinement.{label_texts, property_entries, node_of, el
 use Rattle.pg_graph.specs.Stored.{has_label, property_at, has_number}
 use Rattle.pg_graph.specs.declared.records.NodeRecord.{NodeRecord}
 use Rattle.pg_meaning.specs.Entries.{at_key}
-use Rattle.pg_meaning.specs.Graph.{Graph, Node, add_node, element_count, ids_of, nodes_with_label}
+use Rattle.pg_meaning.specs.Graph.{Node, add_node, element_count, ids_of, nodes_with_label}
 use Rattle.pg_meaning.specs.Names.{is_among, in_byte_order}
 use Rattle.pg_meaning.specs.Value.{Value}
 

@@ -1,5 +1,5 @@
 -- Labels and properties change at the texts of their names as records change at the numbers.
-use Rattle.std.proofs.Common.{◌≡◌, ◌==◌, ◌<◌, ◌||◌, ◌&&◌, ℕ, Bool, true, false, cond, List, [], ◌∷◌, map as map_list, length, slice_get, Option, Some, None, Result, Ok, Err, OnOk, OnErr, Less, Equal, Greater, Ordering, inl, inr, refl, sym, ap, subst, ◌∙◌, true≢false}
+use Rattle.std.proofs.Common.{◌≡◌, ◌<◌, ◌||◌, ◌&&◌, ℕ, Bool, true, false, cond, List, [], ◌∷◌, map as map_list, length, slice_get, Option, Some, None, Result, Ok, Err, OnOk, OnErr, Less, Equal, Greater, Ordering, refl, sym, ap, subst, ◌∙◌, true≢false}
 use Rattle.std.proofs.lemmas.Cmp.{lists_total, nat_cmp_total}
 use Rattle.std.proofs.lemmas.Map.Text.{is_eq-slice_cmp}
 use Rattle.std.proofs.lemmas.Option.{slice_get_within}
@@ -18,8 +18,7 @@ use Rattle.pg_graph.proofs.Refined.{all_entries, labels_kept, entries_kept}
 use Rattle.pg_graph.proofs.SortedLists.{equal}
 use Rattle.pg_graph.specs.Names.{AreDistinct, KeepsNames}
 use Rattle.pg_graph.specs.Records.{Properties, with_label, with_property}
-use Rattle.pg_graph.specs.Refinement.{text_of, label_texts, named_entries, property_entries, AreNamed}
-use Rattle.pg_graph.specs.Sorted.{put as put_number}
+use Rattle.pg_graph.specs.Refinement.{text_of, label_texts, property_entries, AreNamed}
 use Rattle.pg_meaning.specs.Entries.{is_before_first, are_rising, at_key, put, without_key, set_key}
 use Rattle.pg_meaning.specs.EntriesLaws.{put_keeps_rising, without_keeps_rising, put_is_read, without_is_read}
 use Rattle.pg_meaning.specs.Names.{is_among, put_texts, in_byte_order}

@@ -2,18 +2,18 @@
 ghost use Rattle.std.specs.Prelude.{◌≡◌, ◌∷◌, [], map as map_list, OnOk, OnErr, IfOk};
 ghost use Rattle.std.specs.FinMap as map;
 ghost use Rattle.std.specs.Option.{option_map};
-ghost use Rattle.pg_graph.specs.Names.{KeepsNames};
+ghost use Rattle.pg_graph.specs.Names.{AreDistinct, KeepsNames};
 ghost use Rattle.pg_graph.specs.Refinement.{AreNamed, label_texts, property_entries};
 ghost use Rattle.pg_meaning.specs.Entries.{at_key, set_key};
 ghost use Rattle.pg_meaning.specs.Names.{is_among, put_texts};
-ghost use Rattle.pg_value_core.specs.View.{view};
+ghost use Rattle.pg_value_core.specs.View.{view, entries_view};
 
 use crate::labels::Labels;
 use crate::names::Names;
 use crate::properties::Properties;
 use pg_value_core::Value;
 use std::alloc::{AllocError, Global};
-use std::collections::BTreeSet;
+use std::collections::{BTreeMap, BTreeSet};
 
 impl Labels {
     /// Adds the label of this text, if it isn't there.
@@ -23,6 +23,7 @@ impl Labels {
         ensures err { OnErr result (label_texts names.new self.new ≡ label_texts names.old self.old) }
         ensures named { AreNamed names.new self.new }
         ensures keeps { KeepsNames names.old names.new }
+        ensures distinct { AreDistinct names.old → AreDistinct names.new }
     {
         let name = names.intern(text)?;
         self.insert(name)
@@ -59,6 +60,7 @@ impl Properties {
         ensures err { OnErr result (property_entries names.new self.new ≡ property_entries names.old self.old) }
         ensures named { AreNamed names.new (map.keys self.new) }
         ensures keeps { KeepsNames names.old names.new }
+        ensures distinct { AreDistinct names.old → AreDistinct names.new }
     {
         let name = names.intern(key)?;
         self.set(name, value)
@@ -72,5 +74,27 @@ impl Properties {
             Some(name) => self.get(name),
             None => None,
         }
+    }
+
+    /// The properties by the texts of their keys, in memory of their own.
+    pub fn by_text(
+        &self,
+        alloc: Global,
+        names: &Names,
+    ) -> Result<BTreeMap<String, Value>, AllocError>
+        requires { AreNamed names.now (map.keys self.now) }
+        ensures { IfOk result (λ found. entries_view found.entries ≡ property_entries names.now self.now) }
+    {
+        let entries = self.entries();
+        let mut found = BTreeMap::new(alloc);
+        let mut left = entries.len();
+        while left > 0 {
+            left -= 1;
+            let (key, value) = &entries[left];
+            let text = String::from_str(alloc, names.text(*key))?;
+            let copy = value.copy(alloc)?;
+            drop(found.insert(text, copy)?);
+        }
+        Ok(found)
     }
 }

@@ -1,1 +1,3 @@
 pub mod Stores
+pub mod Changes
+pub mod Undone

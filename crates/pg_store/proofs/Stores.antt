@@ -1,5 +1,6 @@
 -- A store as a graph: the empty one, and whether it has a node.
-use Rattle.std.proofs.Common.{◌≡◌, ℕ, List, [], ◌∷◌, map as map_list, length, Bor, Option, Some, None, is_some, option_copied, arith, refl, sym, ap, subst, ◌∙◌}
+use Rattle.std.proofs.Common.{◌≡◌, ℕ, List, [], map as map_list, Bor, Option, Some, None, is_some, option_copied, refl, sym, ap, subst, ◌∙◌}
+use Rattle.std.proofs.lemmas.List.{nil_from_length}
 use Rattle.std.specs.FinMap as map
 use Rattle.std.specs.List.{IsDistinct}
 use Rattle.std.specs.Ordering.{nat_cmp}
@@ -15,12 +16,8 @@ use Rattle.pg_meaning.specs.Graph.{Graph, IsGraph, empty_graph, element_count, h
 use Rattle.pg_store.specs.Stores.{graph_of_store, IsFit}
 use Rattle.pg_store.specs.declared.store.Store.{Store}
 
-no_length : {X : Type 0} (xs : List X) → length xs ≡ 0 → xs ≡ []
-no_length [] h = refl
-no_length (x ∷ xs) h = absurd (omega arith)
-
-no_entries : (X : Type 0) → map.entries (map.empty {X = X} {R = nat_cmp}) ≡ []
-no_entries X = no_length _ (sym (map.len-entries (map.empty {X = X} {R = nat_cmp})) ∙ map.len-empty nat_cmp X)
+pub nothing_held : (X : Type 0) → map.entries (map.empty {X = X} {R = nat_cmp}) ≡ []
+nothing_held X = nil_from_length _ (sym (map.len-entries (map.empty {X = X} {R = nat_cmp})) ∙ map.len-empty nat_cmp X)
 
 none_distinct : AreDistinct []
 unfolding IsDistinct
@@ -30,7 +27,7 @@ abbrev made : List (ℕ × NodeRecord) → List (ℕ × RelRecord) → Graph
 made ns rs = record { nodes = map_list (λ e. (e.0, node_of [] e.1)) ns; relationships = map_list (λ e. (e.0, relationship_of [] e.1)) rs; next_node = 0; next_relationship = 0 }
 
 no_elements : (c : Content) → c ≡ empty_content → graph_of [] c 0 0 ≡ empty_graph
-no_elements c h = ap (λ (c : Content). graph_of [] c 0 0) h ∙ (λ i. made (no_entries NodeRecord i) (no_entries RelRecord i))
+no_elements c h = ap (λ (c : Content). graph_of [] c 0 0) h ∙ (λ i. made (nothing_held NodeRecord i) (nothing_held RelRecord i))
 
 module _ {T S : Type 0} (seen : Seen T S) (tables : T) (shared : S) (names : List (List ℕ)) (none : names ≡ []) (empty : seen.content tables shared ≡ empty_content) where
   abbrev new_store : Store T

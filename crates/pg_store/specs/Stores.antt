@@ -1,9 +1,14 @@
--- One tenant's store as a graph.
-use Rattle.std.specs.Prelude.{◌≡◌}
+-- One tenant's store as a graph, and what its calls are given and give in the graph's words.
+use Rattle.std.specs.Prelude.{◌≡◌, ℕ, List, map as map_list, string_bytes}
+use Rattle.std.specs.Borrow.{Bor}
 use Rattle.pg_graph.specs.Content.{Seen}
 use Rattle.pg_graph.specs.Stored.{stored, IsStored}
-use Rattle.pg_meaning.specs.Graph.{Graph, element_count}
+use Rattle.pg_meaning.specs.Graph.{Graph, Node, element_count}
+use Rattle.pg_meaning.specs.Value.{Value}
 use Rattle.pg_store.specs.declared.store.Store.{Store}
+use Rattle.pg_store.specs.declared.texts.NodeTexts.{NodeTexts}
+use Rattle.pg_value_core.specs.View.{view, entries_view}
+use Rattle.pg_value_core.specs.declared.value.Value as code
 
 module _ {T S : Type 0} (seen : Seen T S) (store : Store T) (shared : S) where
   abbrev pub graph_of_store : Graph
@@ -13,3 +18,12 @@ module _ {T S : Type 0} (seen : Seen T S) (store : Store T) (shared : S) where
   pub record IsFit : Type 0 where
     pub stored : IsStored seen store.tables shared store.names store.next
     pub counted : store.elements ≡ element_count graph_of_store
+
+abbrev pub texts_of : List (Bor (List ℕ)) → List (List ℕ)
+texts_of texts = map_list (λ t. t.now) texts
+
+abbrev pub pairs_of : List (Bor (List ℕ) × code.Value) → List (List ℕ × Value)
+pairs_of pairs = map_list (λ p. (p.0.now, view p.1)) pairs
+
+abbrev pub node_texts_view : NodeTexts → Node
+node_texts_view texts = record { labels = map_list string_bytes texts.labels.items; properties = entries_view texts.properties.entries }

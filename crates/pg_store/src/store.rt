@@ -14,10 +14,10 @@ use std::alloc::{AllocError, Global};
 /// there are. Each call is lent the same shared part.
 #[derive(Drop)]
 pub struct Store<T> {
-    names: Names,
-    tables: T,
-    next: NextIds,
-    elements: u64,
+    pub(crate) names: Names,
+    pub(crate) tables: T,
+    pub(crate) next: NextIds,
+    pub(crate) elements: u64,
 }
 
 impl<T: Tables> Store<T> {

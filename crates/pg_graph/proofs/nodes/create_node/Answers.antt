@@ -1,4 +1,4 @@
-use Rattle.std.proofs.Common.{◌≡◌, ◌+◌, sym, ap, subst, ◌∙◌}
+use Rattle.std.proofs.Common.{◌+◌, sym, ap, subst, ◌∙◌}
 use Rattle.pg_graph.proofs.Held.{holds_with_node}
 use Rattle.pg_graph.proofs.Made.{next_is_absent, node_made, node_counted}
 use Rattle.pg_graph.proofs.nodes.create_node.Goals as goal

@@ -1,4 +1,4 @@
-use Rattle.std.proofs.Common.{ℕ, List, map as map_list, sym, ap, ◌∙◌}
+use Rattle.std.proofs.Common.{List, map as map_list, sym, ap, ◌∙◌}
 use Rattle.std.proofs.lemmas.Result.{IfOk-weaker}
 use Rattle.pg_graph.proofs.Made.{with_label_listed, with_no_label_listed}
 use Rattle.pg_graph.proofs.nodes.nodes_with_label.Goals as goal

@@ -1,0 +1,15 @@
+use Rattle.std.proofs.Common.{◌≡◌, ◌≤◌, drop, length}
+use Rattle.pg_graph.proofs.properties.Properties.by_text.Given as goal
+use Rattle.pg_graph.specs.Records.{seen_entries}
+use Rattle.pg_graph.specs.Refinement.{named_entries}
+use Rattle.pg_value_core.specs.View.{entries_view}
+
+-- what is behind the place is found
+abbrev pub invariant-loop-left : goal.invariant-loop-left
+invariant-loop-left l = record {
+  within : l.left ≤ length l.entries;
+  found : entries_view l.found.entries ≡ named_entries l.names (seen_entries (drop l.left l.entries));
+}
+
+abbrev pub decreases-loop-left : goal.decreases-loop-left
+decreases-loop-left l = l.left

@@ -1,0 +1,60 @@
+//! What a node holds, in texts.
+ghost use Rattle.std.specs.Prelude.{◌≡◌, IfOk, map as map_list, string_bytes};
+ghost use Rattle.std.specs.FinMap as map;
+ghost use Rattle.std.specs.Option.{option_map};
+ghost use Rattle.pg_graph.specs.Refinement.{AreNamed, label_texts, node_of};
+ghost use Rattle.pg_meaning.specs.Graph.{node_at};
+ghost use Rattle.pg_store.specs.Stores.{graph_of_store, IsFit, node_texts_view};
+
+use crate::store::Store;
+use pg_graph::{Labels, Names, NodeRecord, Tables};
+use pg_value_core::{NodeId, Value};
+use std::alloc::{AllocError, Global};
+use std::collections::BTreeMap;
+
+/// A node's labels in byte order, and its properties by their keys, in memory of their own.
+#[derive(Drop)]
+pub struct NodeTexts {
+    pub labels: Vec<String>,
+    pub properties: BTreeMap<String, Value>,
+}
+
+impl<T: Tables> Store<T> {
+    /// What a node holds, if there is such a node.
+    pub fn node_texts(
+        &self,
+        alloc: Global,
+        shared: &T::Shared,
+        id: NodeId,
+    ) -> Result<Option<NodeTexts>, AllocError>
+        requires fit { IsFit T.seen self.now shared.now }
+        ensures { IfOk result (λ found. option_map node_texts_view found ≡ node_at (graph_of_store T.seen self.now shared.now) id.0) }
+    {
+        match self.tables.node(shared, id) {
+            Some(node) => Ok(Some(texts_of_node(alloc, &self.names, node)?)),
+            None => Ok(None),
+        }
+    }
+}
+
+fn texts_of_node(alloc: Global, names: &Names, node: &NodeRecord) -> Result<NodeTexts, AllocError>
+    requires labels { AreNamed names.now node.now.labels }
+    requires keys { AreNamed names.now (map.keys node.now.properties) }
+    ensures { IfOk result (λ texts. node_texts_view texts ≡ node_of names.now node.now) }
+{
+    let labels = label_strings(alloc, names, &node.labels)?;
+    let properties = node.properties.by_text(alloc, names)?;
+    Ok(NodeTexts { labels, properties })
+}
+
+fn label_strings(alloc: Global, names: &Names, labels: &Labels) -> Result<Vec<String>, AllocError>
+    requires { AreNamed names.now labels.now }
+    ensures { IfOk result (λ texts. map_list string_bytes texts.items ≡ label_texts names.now labels.now) }
+{
+    let texts = labels.texts(alloc, names)?;
+    let mut strings = Vec::with_capacity(alloc, texts.len())?;
+    for text in &texts {
+        strings.push(String::from_str(alloc, text)?)?;
+    }
+    Ok(strings)
+}

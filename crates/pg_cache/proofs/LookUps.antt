@@ -13,8 +13,8 @@ use Rattle.pg_cache.proofs.Entries.{is_text, lookup-view, promoted-view, put-vie
 use Rattle.pg_cache.proofs.Planned.{planned_under, promoted_are_planned, put_are_planned}
 use Rattle.pg_meaning.specs.declared.fault.Fault.{Fault}
 use Rattle.pg_meaning.specs.declared.fault.Fault.TheVariants.{OutOfMemory}
-use Rattle.pg_tenant.specs.Plans.{IsPlanOfText}
-use Rattle.pg_tenant.specs.declared.plan.Plan.{Plan}
+use Rattle.pg_plan.specs.Plans.{IsPlanOfText}
+use Rattle.pg_plan.specs.declared.statement.Plan.{Plan}
 
 abbrev pub Plans : Type 0
 Plans = LruCache (String Global) (Rc Plan Global)

@@ -6,8 +6,8 @@ use Rattle.std.specs.Option.{option_map_or}
 use Rattle.std.specs.Str.{bytes_eq}
 use Rattle.lru.specs.LruCache.{promoted}
 use Rattle.pg_cache.specs.Cache.{ArePlanned}
-use Rattle.pg_tenant.specs.Plans.{IsPlanOfText}
-use Rattle.pg_tenant.specs.declared.plan.Plan.{Plan}
+use Rattle.pg_plan.specs.Plans.{IsPlanOfText}
+use Rattle.pg_plan.specs.declared.statement.Plan.{Plan}
 
 abbrev Entry : Type 0
 Entry = List ℕ × Plan

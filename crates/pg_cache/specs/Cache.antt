@@ -8,8 +8,8 @@ use Rattle.std.specs.declared.rc.Rc.{Rc}
 use Rattle.lru.specs.LruCache.{promoted}
 use Rattle.pg_meaning.specs.declared.fault.Fault.{Fault}
 use Rattle.pg_meaning.specs.declared.fault.Fault.TheVariants.{OutOfMemory}
-use Rattle.pg_tenant.specs.Plans.{IsPlanOfText}
-use Rattle.pg_tenant.specs.declared.plan.Plan.{Plan}
+use Rattle.pg_plan.specs.Plans.{IsPlanOfText}
+use Rattle.pg_plan.specs.declared.statement.Plan.{Plan}
 
 pub record Cache : Type 0 where
   pub entries : List (List ℕ × Plan)

@@ -1,0 +1,3 @@
+pub mod FaultLemmas
+pub mod Shapes
+pub mod TextLemmas

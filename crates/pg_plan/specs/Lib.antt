@@ -1,0 +1,4 @@
+pub mod Laws
+pub mod Plans
+pub mod Reading
+pub mod Updates

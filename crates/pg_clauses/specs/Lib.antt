@@ -1,3 +1,4 @@
+pub mod Creation
 pub mod Evaluation
 pub mod Fits
 pub mod Items

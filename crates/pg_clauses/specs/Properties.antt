@@ -1,5 +1,4 @@
--- The properties of a pattern and their values as data.
-use Rattle.std.specs.Borrow.{Bor}
+-- The properties of a pattern as data, and what they give.
 use Rattle.std.specs.Prelude.{ℕ, List, map, Result, Ok, string_bytes}
 use Rattle.pg_clauses.specs.Evaluation.{given}
 use Rattle.pg_meaning.specs.Answer.{◌>>=◌, each_answer}
@@ -10,15 +9,6 @@ use Rattle.pg_meaning.specs.Value.{Value as Datum}
 use Rattle.pg_meaning.specs.declared.fault.Fault.{Fault}
 use Rattle.pg_syntax.specs.View.{expression_view}
 use Rattle.pg_syntax.specs.declared.tree.Pair.{Pair}
-use Rattle.pg_value_core.specs.View.{view}
-use Rattle.pg_value_core.specs.declared.value.Value.{Value}
-
--- keys with their values
-abbrev pub pair_seen : Bor (List ℕ) × Value → List ℕ × Datum
-pair_seen p = (p.0.now, view p.1)
-
-abbrev pub pairs_seen : List (Bor (List ℕ) × Value) → List (List ℕ × Datum)
-pairs_seen ps = map pair_seen ps
 
 -- keys with their expressions
 abbrev pub pair_wanted : Pair → List ℕ × Expression

@@ -3,10 +3,11 @@ use Rattle.std.specs.Prelude.{◌≡◌, ℕ, List, map as map_list, string_byte
 use Rattle.std.specs.Borrow.{Bor}
 use Rattle.pg_graph.specs.Content.{Seen}
 use Rattle.pg_graph.specs.Stored.{stored, IsStored}
-use Rattle.pg_meaning.specs.Graph.{Graph, Node, element_count}
+use Rattle.pg_meaning.specs.Graph.{Graph, Node, Relationship, element_count}
 use Rattle.pg_meaning.specs.Value.{Value}
 use Rattle.pg_store.specs.declared.store.Store.{Store}
 use Rattle.pg_store.specs.declared.texts.NodeTexts.{NodeTexts}
+use Rattle.pg_store.specs.declared.texts.RelTexts.{RelTexts}
 use Rattle.pg_value_core.specs.View.{view, entries_view}
 use Rattle.pg_value_core.specs.declared.value.Value as code
 
@@ -27,3 +28,6 @@ pairs_of pairs = map_list (λ p. (p.0.now, view p.1)) pairs
 
 abbrev pub node_texts_view : NodeTexts → Node
 node_texts_view texts = record { labels = map_list string_bytes texts.labels.items; properties = entries_view texts.properties.entries }
+
+abbrev pub rel_texts_view : RelTexts → Relationship
+rel_texts_view texts = record { type = string_bytes texts.kind; source = texts.source.0; target = texts.target.0; properties = entries_view texts.properties.entries }

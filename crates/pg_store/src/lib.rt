@@ -6,4 +6,4 @@ mod store;
 mod texts;
 
 pub use store::{Store, law_of_stores};
-pub use texts::NodeTexts;
+pub use texts::{NodeTexts, RelTexts};

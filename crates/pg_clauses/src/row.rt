@@ -1,10 +1,11 @@
 //! Rows, and tables of them.
-ghost use Rattle.std.specs.Prelude.{◌≡◌, Some, None, [], ◌∷◌, map, IfOk, IfErr};
-ghost use Rattle.pg_clauses.specs.Rows.{row_view};
+ghost use Rattle.std.specs.Prelude.{◌≡◌, Some, None, IfOk, IfErr};
+ghost use Rattle.pg_clauses.specs.Rows.{row_view, state_of};
+ghost use Rattle.pg_meaning.specs.Graph.{Graph};
 ghost use Rattle.pg_meaning.specs.Rows.{value_in};
 ghost use Rattle.pg_meaning.specs.Value.{node};
 ghost use Rattle.pg_meaning.specs.declared.fault.Fault.TheVariants.{UndefinedVariable};
-ghost use Rattle.pg_run.specs.Answers.{node_row};
+ghost use Rattle.pg_run.specs.Answers.{begin, node_row};
 ghost use Rattle.pg_syntax.specs.View.{node_view};
 
 use pg_syntax::NodePattern;
@@ -55,8 +56,7 @@ pub struct Table<'a> {
 
 /// Where a query begins: one row, which binds nothing.
 pub fn begin<'a>(alloc: Global) -> Result<Table<'a>, AllocError>
-    ensures rows { IfOk result (λ table. map row_view table.rows.items ≡ [] ∷ []) }
-    ensures steps { IfOk result (λ table. table.steps ≡ 0) }
+    ensures { IfOk result (λ table. (graph : Graph) → state_of graph table ≡ begin graph) }
 {
     let mut rows = Vec::with_capacity(alloc, 1)?;
     rows.push(Row::Empty)?;

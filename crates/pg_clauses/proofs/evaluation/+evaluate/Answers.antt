@@ -59,5 +59,5 @@ evaluate-returns-in_ok-id-in-Id-clause-err g t c =
     let graph = graph_of_store g.T.Tables.seen c.args.store.now c.args.shared.now in
     IfErr-weaker c.id_value.result _ _
     (λ e h. λ other. ap (λ (x : Expression). given row graph (expression_view x)) c.in-Id.is
-    ∙ id_of_variable row graph c.in-Id.field-0 c.in-Id.name (Some (node c.in_ok-id-in-Id.id.0)) (ap (λ t. value_in t row) (sym c.as_str-in-Id.ensures.value) ∙ c.in_ok-id-in-Id.ensures.ok) ∙ h other)
+    ∙ id_of_variable row graph c.in-Id.field-0 c.in-Id.name (Some (node c.in_ok-id-in-Id.id.0)) (ap (λ t. value_in t row) (sym c.as_str-in-Id.ensures.value) ∙ c.in_ok-id-in-Id.ensures.ok) ∙ h)
     c.id_value.ensures.err

@@ -1,5 +1,5 @@
 //! What a query answers.
-ghost use Rattle.std.specs.Prelude.{◌≡◌, ◌≢◌, Bool, IfOk, IfErr, OnErr};
+ghost use Rattle.std.specs.Prelude.{◌≡◌, ◌≢◌, ◌≤◌, ◌^◌, Bool, IfOk, IfErr, OnErr};
 ghost use Rattle.pg_graph.specs.Content.{Keeps};
 ghost use Rattle.pg_meaning.specs.declared.fault.Fault.TheVariants.{OutOfMemory};
 ghost use Rattle.pg_store.specs.Stores.{graph_of_store, IsFit};
@@ -30,6 +30,7 @@ pub fn answer_plan<T: Tables>(
     plan: &Plan,
 ) -> Result<ReplyBytes, Fault>
     requires fit { IsFit T.seen store.old shared.old }
+    requires quota { quota.max_elements ≤ 2 ^ 63 }
     ensures ok { IfOk result (λ bytes. answered (graph_of_store T.seen store.old shared.old) (plan_outcome may_write quota.max_steps quota.max_elements (graph_of_store T.seen store.old shared.old) plan.now) ≡ record { reply = bytes; graph = graph_of_store T.seen store.new shared.new }) }
     ensures err { IfErr result (λ e. e ≢ OutOfMemory → answered (graph_of_store T.seen store.old shared.old) (plan_outcome may_write quota.max_steps quota.max_elements (graph_of_store T.seen store.old shared.old) plan.now) ≡ refused (graph_of_store T.seen store.old shared.old) e) }
     ensures refused { OnErr result (graph_of_store T.seen store.new shared.new ≡ graph_of_store T.seen store.old shared.old) }

@@ -6,6 +6,7 @@ ghost use Rattle.pg_store.specs.Stores.{graph_of_store, IsFit};
 ghost use Rattle.pg_tenant.specs.Answers.{answered, refused};
 ghost use Rattle.pg_tenant.specs.Outcomes.{plan_outcome};
 
+use crate::statement::answer_statement;
 use pg_graph::Tables;
 use pg_json::ReplyBytes;
 use pg_plan::Plan;
@@ -37,5 +38,8 @@ pub fn answer_plan<T: Tables>(
     ensures fit { IsFit T.seen store.new shared.new }
     ensures keeps { Keeps T.seen store.old.tables shared.old store.new.tables shared.new }
 {
-    Err(Fault::OutOfMemory)
+    if !may_write && plan.writes() {
+        return Err(Fault::ReadOnly);
+    }
+    answer_statement(alloc, store, shared, quota, plan.statement())
 }

@@ -29,4 +29,5 @@ module _ {T S : Type 0} (seen : Seen T S) (store : Store T) (shared : S) (names 
       holds = holds_with_more_names store.names names (seen.content store.tables shared) store.next.node store.next.rel fit.stored.holds distinct keeps;
     };
     counted = fit.counted ∙ sym (ap element_count same_graph);
+    ids = fit.ids;
   }

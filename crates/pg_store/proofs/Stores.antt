@@ -1,5 +1,5 @@
 -- A store as a graph: the empty one, and whether it has a node.
-use Rattle.std.proofs.Common.{◌≡◌, ℕ, List, [], map as map_list, Bor, Option, Some, None, is_some, option_copied, refl, sym, ap, subst, ◌∙◌}
+use Rattle.std.proofs.Common.{◌≡◌, ℕ, List, [], map as map_list, Bor, Option, Some, None, is_some, option_copied, arith, refl, sym, ap, subst, ◌∙◌}
 use Rattle.std.proofs.lemmas.List.{nil_from_length}
 use Rattle.std.specs.FinMap as map
 use Rattle.std.specs.List.{IsDistinct}
@@ -43,6 +43,7 @@ module _ {T S : Type 0} (seen : Seen T S) (tables : T) (shared : S) (names : Lis
       holds = subst (λ (c : Content). Holds names c 0 0) (sym empty) (subst (λ (ns : List (List ℕ)). Holds ns empty_content 0 0) (sym none) (empty_holds [] 0 0 none_distinct));
     };
     counted = sym (ap element_count new_is_empty);
+    ids = omega arith;
   }
 
 pub copied_is_there : {X : Type 0} (o : Option (Bor X)) → is_some (option_copied o) ≡ is_some o

@@ -1,5 +1,5 @@
 -- One tenant's store as a graph, and what its calls are given and give in the graph's words.
-use Rattle.std.specs.Prelude.{◌≡◌, ℕ, List, map as map_list, string_bytes}
+use Rattle.std.specs.Prelude.{◌≡◌, ◌≤◌, ◌^◌, ℕ, List, map as map_list, string_bytes}
 use Rattle.std.specs.Borrow.{Bor}
 use Rattle.pg_graph.specs.Content.{Seen}
 use Rattle.pg_graph.specs.Stored.{stored, IsStored}
@@ -15,10 +15,11 @@ module _ {T S : Type 0} (seen : Seen T S) (store : Store T) (shared : S) where
   abbrev pub graph_of_store : Graph
   graph_of_store = stored seen store.tables shared store.names store.next
 
-  -- the shared part is the store's, what it holds stands for a graph, and its elements are counted
+  -- the shared part is the store's, what it holds stands for a graph, its elements are counted, and each node's id is an integer of the language
   pub record IsFit : Type 0 where
     pub stored : IsStored seen store.tables shared store.names store.next
     pub counted : store.elements ≡ element_count graph_of_store
+    pub ids : store.next.node ≤ 2 ^ 63
 
 abbrev pub texts_of : List (Bor (List ℕ)) → List (List ℕ)
 texts_of texts = map_list (λ t. t.now) texts

@@ -1,5 +1,5 @@
 -- An answer that is the text of a refusal leaves the graph.
-use Rattle.std.proofs.Common.{◌≡◌, ◌≢◌, Bool, true, false, cond, length, map, Result, Ok, Err, refl, sym, ap, ◌∙◌}
+use Rattle.std.proofs.Common.{◌≡◌, ◌≢◌, Bool, true, false, cond, length, map, Result, Ok, Err, refl}
 use Rattle.std.specs.Prelude.{nat_le, codes}
 use Rattle.serde_json.specs.Data.{array, string, member, no_members}
 use Rattle.pg_json.specs.Refusals.{refusal_text}

@@ -1,11 +1,12 @@
 //! What a query answers.
-ghost use Rattle.std.specs.Prelude.{◌≡◌, ◌≢◌, Bool, IfOk, IfErr, OnErr};
+ghost use Rattle.std.specs.Prelude.{◌≡◌, ◌≢◌, ◌≤◌, ◌^◌, Bool, IfOk, IfErr, OnErr};
 ghost use Rattle.pg_graph.specs.Content.{Keeps};
 ghost use Rattle.pg_meaning.specs.declared.fault.Fault.TheVariants.{OutOfMemory};
 ghost use Rattle.pg_store.specs.Stores.{graph_of_store, IsFit};
 ghost use Rattle.pg_tenant.specs.Answers.{answered, refused};
 ghost use Rattle.pg_tenant.specs.Outcomes.{plan_outcome};
 
+use crate::statement::answer_statement;
 use pg_graph::Tables;
 use pg_json::ReplyBytes;
 use pg_plan::Plan;
@@ -30,11 +31,15 @@ pub fn answer_plan<T: Tables>(
     plan: &Plan,
 ) -> Result<ReplyBytes, Fault>
     requires fit { IsFit T.seen store.old shared.old }
+    requires quota { quota.max_elements ≤ 2 ^ 63 }
     ensures ok { IfOk result (λ bytes. answered (graph_of_store T.seen store.old shared.old) (plan_outcome may_write quota.max_steps quota.max_elements (graph_of_store T.seen store.old shared.old) plan.now) ≡ record { reply = bytes; graph = graph_of_store T.seen store.new shared.new }) }
     ensures err { IfErr result (λ e. e ≢ OutOfMemory → answered (graph_of_store T.seen store.old shared.old) (plan_outcome may_write quota.max_steps quota.max_elements (graph_of_store T.seen store.old shared.old) plan.now) ≡ refused (graph_of_store T.seen store.old shared.old) e) }
     ensures refused { OnErr result (graph_of_store T.seen store.new shared.new ≡ graph_of_store T.seen store.old shared.old) }
     ensures fit { IsFit T.seen store.new shared.new }
     ensures keeps { Keeps T.seen store.old.tables shared.old store.new.tables shared.new }
 {
-    Err(Fault::OutOfMemory)
+    if !may_write && plan.writes() {
+        return Err(Fault::ReadOnly);
+    }
+    answer_statement(alloc, store, shared, quota, plan.statement())
 }

@@ -4,6 +4,8 @@
 ghost use Rattle.pg_tenant.specs.Outcomes.{AnyPlanAnswers, TextMeans};
 
 mod answer;
+mod reply;
+mod statement;
 
 pub use answer::{Quota, answer_plan};
 

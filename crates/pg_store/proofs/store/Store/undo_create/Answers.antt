@@ -64,4 +64,5 @@ returns-clause-fit g c =
             (undone_holds store.names content store.next.node store.next.rel made.0 made.1 made.2 made.3 made.4 c.requires.fit.stored.holds));
       };
       counted = sym (ap element_count (returns-clause-undone g c made.0 made.1 made.2 made.3 made.4) ∙ left);
+      ids = let below = c.requires.fit.ids in omega (arith, below);
     }

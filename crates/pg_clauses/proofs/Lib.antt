@@ -1,0 +1,5 @@
+pub mod AnswersInTurn
+pub mod EvaluationLemmas
+pub mod FitLemmas
+pub mod IdLemmas
+pub mod PropertyLemmas

@@ -1,0 +1,12 @@
+use Rattle.std.proofs.Common.{◌≡◌, drop, map}
+use Rattle.pg_clauses.proofs.AnswersInTurn.{after}
+use Rattle.pg_clauses.specs.Properties.{wanted_of, given_of}
+use Rattle.pg_clauses.specs.Rows.{row_view}
+use Rattle.pg_store.specs.Stores.{graph_of_store, pairs_of}
+use Rattle.pg_clauses.proofs.properties.pair_values.Given as goal
+
+abbrev pub invariant-loop-pair : goal.invariant-loop-pair
+invariant-loop-pair g l =
+    let row = row_view l.row in
+    let graph = graph_of_store g.T.Tables.seen l.store l.shared in
+    given_of row graph (wanted_of l.pairs.items) ≡ after (pairs_of l.values.items) (given_of row graph (wanted_of (drop l.pair-index l.pairs.items)))

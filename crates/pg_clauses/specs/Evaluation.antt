@@ -1,0 +1,22 @@
+-- What expressions give at a row of a graph, without parameters.
+use Rattle.std.specs.Prelude.{List, map, Result}
+use Rattle.pg_meaning.specs.Answer.{Answer}
+use Rattle.pg_meaning.specs.Expressions.{evaluate, evaluate_each}
+use Rattle.pg_meaning.specs.Graph.{Graph}
+use Rattle.pg_meaning.specs.Parse.{expressions_of}
+use Rattle.pg_meaning.specs.Rows.{Row}
+use Rattle.pg_meaning.specs.Tree.{Expression, Expressions}
+use Rattle.pg_meaning.specs.Value.{Values, no_entries}
+use Rattle.pg_meaning.specs.declared.fault.Fault.{Fault}
+use Rattle.pg_syntax.specs.View.{expression_view}
+use Rattle.pg_syntax.specs.declared.tree.Expression.{Expression as Code}
+
+abbrev pub expressions_view : List Code → Expressions
+expressions_view xs = expressions_of (map expression_view xs)
+
+module _ (row : Row) (graph : Graph) where
+  abbrev pub given : Expression → Answer
+  given e = evaluate row no_entries graph e
+
+  abbrev pub all_given : Expressions → Result Values Fault
+  all_given es = evaluate_each row no_entries graph es

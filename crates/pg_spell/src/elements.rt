@@ -1,0 +1,99 @@
+//! Nodes, relationships and paths of a store, spelt out.
+ghost use Rattle.std.specs.Prelude.{◌≡◌, ◌≢◌, IfOk, IfErr, Ok, Err};
+ghost use Rattle.pg_json.specs.Replies.{data_of, path_data};
+ghost use Rattle.pg_meaning.specs.Graph.{node_at, has_node, relationship_at, has_relationship};
+ghost use Rattle.pg_meaning.specs.Queries.{test_present, test_ids};
+ghost use Rattle.pg_meaning.specs.declared.fault.Fault.TheVariants.{OutOfMemory};
+ghost use Rattle.pg_spell.specs.Printed.{shown_node, shown_relationship, path_items};
+ghost use Rattle.pg_spell.specs.Places.{test_place, shown_place};
+ghost use Rattle.pg_store.specs.Stores.{graph_of_store, IsFit};
+
+use crate::stored::spell_stored_entries;
+use pg_graph::Tables;
+use pg_store::Store;
+use pg_value_core::{Fault, NodeId, Out, Path, RelId};
+use std::alloc::Global;
+
+pub(crate) fn spell_node<T: Tables>(
+    alloc: Global,
+    store: &Store<T>,
+    shared: &T::Shared,
+    id: NodeId,
+) -> Result<Out, Fault>
+    requires fit { IsFit T.seen store.now shared.now }
+    ensures live { IfOk result (λ out. test_present (has_node (graph_of_store T.seen store.now shared.now) id.0) ≡ Ok tt) }
+    ensures data { IfOk result (λ out. data_of out ≡ shown_node (graph_of_store T.seen store.now shared.now) id.0 (node_at (graph_of_store T.seen store.now shared.now) id.0)) }
+    ensures err { IfErr result (λ e. e ≢ OutOfMemory → test_present (has_node (graph_of_store T.seen store.now shared.now) id.0) ≡ Err e) }
+{
+    match store.node_texts(alloc, shared, id)? {
+        Some(node) => Ok(Out::Node {
+            id,
+            labels: node.labels,
+            properties: spell_stored_entries(alloc, node.properties)?,
+        }),
+        None => Err(Fault::DeletedEntity),
+    }
+}
+
+pub(crate) fn spell_rel<T: Tables>(
+    alloc: Global,
+    store: &Store<T>,
+    shared: &T::Shared,
+    id: RelId,
+) -> Result<Out, Fault>
+    requires fit { IsFit T.seen store.now shared.now }
+    ensures live { IfOk result (λ out. test_present (has_relationship (graph_of_store T.seen store.now shared.now) id.0) ≡ Ok tt) }
+    ensures data { IfOk result (λ out. data_of out ≡ shown_relationship (graph_of_store T.seen store.now shared.now) id.0 (relationship_at (graph_of_store T.seen store.now shared.now) id.0)) }
+    ensures err { IfErr result (λ e. e ≢ OutOfMemory → test_present (has_relationship (graph_of_store T.seen store.now shared.now) id.0) ≡ Err e) }
+{
+    match store.rel_texts(alloc, shared, id)? {
+        Some(rel) => Ok(Out::Rel {
+            id,
+            kind: rel.kind,
+            start: rel.source,
+            end: rel.target,
+            properties: spell_stored_entries(alloc, rel.properties)?,
+        }),
+        None => Err(Fault::DeletedEntity),
+    }
+}
+
+pub(crate) fn spell_path<T: Tables>(
+    alloc: Global,
+    store: &Store<T>,
+    shared: &T::Shared,
+    path: Path,
+) -> Result<Out, Fault>
+    requires fit { IsFit T.seen store.now shared.now }
+    ensures live { IfOk result (λ out. test_ids (graph_of_store T.seen store.now shared.now) path.0.items ≡ Ok tt) }
+    ensures data { IfOk result (λ out. data_of out ≡ path_data (path_items (graph_of_store T.seen store.now shared.now) path.0.items)) }
+    ensures err { IfErr result (λ e. e ≢ OutOfMemory → test_ids (graph_of_store T.seen store.now shared.now) path.0.items ≡ Err e) }
+{
+    let mut found = Vec::with_capacity(alloc, path.0.len())?;
+    let mut is_node = true;
+    for id in &path.0 {
+        found.push(spell_place(alloc, store, shared, is_node, *id)?)?;
+        is_node = !is_node;
+    }
+    Ok(Out::Path(found))
+}
+
+// A node's or a relationship's place in a path.
+fn spell_place<T: Tables>(
+    alloc: Global,
+    store: &Store<T>,
+    shared: &T::Shared,
+    is_node: bool,
+    id: u64,
+) -> Result<Out, Fault>
+    requires fit { IsFit T.seen store.now shared.now }
+    ensures live { IfOk result (λ out. test_place (graph_of_store T.seen store.now shared.now) is_node id ≡ Ok tt) }
+    ensures data { IfOk result (λ out. data_of out ≡ shown_place (graph_of_store T.seen store.now shared.now) is_node id) }
+    ensures err { IfErr result (λ e. e ≢ OutOfMemory → test_place (graph_of_store T.seen store.now shared.now) is_node id ≡ Err e) }
+{
+    if is_node {
+        spell_node(alloc, store, shared, NodeId(id))
+    } else {
+        spell_rel(alloc, store, shared, RelId(id))
+    }
+}

@@ -1,13 +1,17 @@
 -- A text that has been checked, and what its plan answers.
-use Rattle.std.proofs.Common.{◌≡◌, ℕ, List, Result, Ok, Err, Option, Some, None, option_map, refl, sym, ap, ◌∙◌}
-use Rattle.pg_lex.specs.Plain.{plain_tokens_of}
+use Rattle.std.proofs.Common.{◌≡◌, ℕ, Bool, true, false, cond, List, Result, Ok, Err, Option, Some, None, option_map, refl, sym, ap, ◌∙◌}
+use Rattle.pg_lex.specs.Plain.{are_plain, if_plain, plain_tokens_of}
+use Rattle.pg_meaning.specs.Depth.{is_too_deep}
 use Rattle.pg_meaning.specs.Graph.{Graph}
 use Rattle.pg_meaning.specs.Queries.{ordered}
 use Rattle.pg_meaning.specs.StaticFaults.{Found, static_fault}
-use Rattle.pg_meaning.specs.Texts.{checked_query, checked_by}
+use Rattle.pg_meaning.specs.Parse.{query_of}
+use Rattle.pg_meaning.specs.Texts.{checked_query, checked_by, checked, read_query, read_tokens}
+use Rattle.pg_meaning.specs.Tokens.{Token, tokens_of}
 use Rattle.pg_meaning.specs.Tree.{Query}
 use Rattle.pg_meaning.specs.Value.{Entries}
 use Rattle.pg_meaning.specs.declared.fault.Fault.{Fault}
+use Rattle.pg_meaning.specs.declared.fault.Fault.TheVariants.{TooDeep}
 use Rattle.pg_plan.specs.Laws.{PlanAnswers, PlansAnswer}
 use Rattle.pg_plan.specs.Plans.{statement_view, plan_query, ReadsPlan, IsPlanOfText}
 use Rattle.pg_plan.specs.Reading.{parsed, text_checked}
@@ -15,6 +19,8 @@ use Rattle.pg_plan.specs.declared.statement.Plan.{Plan}
 use Rattle.pg_run.specs.Checks.{one_node_fault}
 use Rattle.pg_run.specs.OneNode.{IsSimple}
 use Rattle.pg_run.proofs.AgreementLemmas.{one_node_plans, one_node_means}
+use Rattle.pg_syntax.proofs.AgreeQueries.{plain_agrees}
+use Rattle.pg_syntax.specs.PlainParse.{plain_query_of}
 use Rattle.pg_run.proofs.CheckLemmas.{one_node_faults}
 use Rattle.pg_run.proofs.QueryLemmas.{one_node_answers}
 
@@ -64,7 +70,23 @@ module _ (plan : Plan) (parameters : Entries) (graph : Graph) (max_steps max_ele
         means = λ is. one_node_means x plan.semicolon parameters graph max_steps max_elements simple none is;
       }
 
+-- ---- the whole language
+
+plain_is_read : (text : List ℕ) (ts : List Token) (deep : Bool) (o : Option Query) → ((q : Query) → o ≡ Some q → query_of text ts ≡ Some q) → (q : Query) → checked_query (cond deep (Err TooDeep) (read_query o)) ≡ Ok q
+    → checked_query (elim deep [ true ↦ Err TooDeep | false ↦ read_query (query_of text ts) ]) ≡ Ok q
+plain_is_read text ts true o same q h = absurd cc
+plain_is_read text ts false None same q h = absurd cc
+plain_is_read text ts false (Some p) same q h = ap (λ o. checked_query (read_query o)) (same p refl) ∙ h
+
+lexed : (text : List ℕ) (tokens : Option (List Token)) (q : Query) → checked_query (parsed text (if_plain tokens)) ≡ Ok q → checked_query (read_tokens text tokens) ≡ Ok q
+lexed text None q h = absurd cc
+lexed text (Some ts) q h = (elim (are_plain ts) as (λ b. checked_query (parsed text (elim b [ true ↦ Some ts | false ↦ None ])) ≡ Ok q → checked_query (read_tokens text (Some ts)) ≡ Ok q)
+    [ true ↦ λ e. plain_is_read text ts (is_too_deep ts) (plain_query_of text ts) (plain_agrees text ts) q e | false ↦ λ e. absurd cc ]) h
+
+read_whole : (text : List ℕ) (plan : Plan) → IsPlanOfText text plan → checked text ≡ Ok (plan_query plan)
+read_whole text plan h = lexed text (tokens_of text) (plan_query plan) h.is
+
 pub plans_answer : PlansAnswer
 plans_answer text plan h =
     let none = no_fault text plan h in
-    record { faultless = none; answers = λ parameters graph max_steps max_elements. answered plan parameters graph max_steps max_elements h.simple none }
+    record { read = read_whole text plan h; faultless = none; answers = λ parameters graph max_steps max_elements. answered plan parameters graph max_steps max_elements h.simple none }

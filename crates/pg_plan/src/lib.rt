@@ -13,7 +13,8 @@ pub use columns::column_names;
 pub use reading::{check_length, plan_text};
 pub use statement::{Plan, Statement};
 
-/// What a plan of a text is good for: its query has no static fault, and answers as that of one node at most does.
+/// What a plan of a text is good for: its query is the text's one query in the whole language, has no static fault, and
+/// answers as that of one node at most does.
 pub fn law_of_plans()
     ensures { PlansAnswer }
 {}

@@ -302,6 +302,17 @@ query_formed text (creating n) (x ∷ xs) b plain has all = ((lone_path n plain,
 query_formed text (matching n) [] b plain has all = absurd has
 query_formed text (matching n) (x ∷ xs) b plain has all = (((lone_path n plain, tt), (items_clause text x xs all, tt)), (refl, refl))
 
+-- the other way
+has_return : (begun : Start) (xs : List Item) (b : Bool) → IsWellFormedQuery (plain_query begun xs b) → HasReturn begun xs
+has_return alone [] b h = let no : false ≡ true = h.1 in absurd cc
+has_return alone (x ∷ xs) b h = tt
+has_return (creating n) xs b h = tt
+has_return (matching n) [] b h = let no : false ≡ true = h.1.1 in absurd cc
+has_return (matching n) (x ∷ xs) b h = tt
+
+pub return_read : (text : List ℕ) (ts : List Token) (begun : Start) (xs : List Item) (b : Bool) → Reads text ts (plain_query begun xs b) → HasReturn begun xs
+return_read text ts begun xs b reads = has_return begun xs b reads.well_formed
+
 abbrev Sources : List ℕ → List Clause → Type 0
 Sources text cs = AllByRecursion (λ c. AllByRecursion (HasSource text) (items_of_clause c)) cs
 

@@ -1,6 +1,6 @@
 //! Queries.
 
-ghost use Rattle.std.specs.Prelude.{◌≡◌, ◌↔◌, ◌⊎◌, ℕ, List, true, Err, Some, IfOk, IfErr, IsErrOf, map, option_map, string_bytes};
+ghost use Rattle.std.specs.Prelude.{◌≡◌, ◌↔◌, ◌⊎◌, ℕ, Bool, List, true, Err, Some, IfOk, IfErr, IsErrOf, map, option_map, string_bytes};
 ghost use Rattle.pg_lex.specs.View.{tokens_view};
 ghost use Rattle.pg_meaning.specs.Depth.{is_too_deep};
 ghost use Rattle.pg_meaning.specs.Grammar.{Reads};
@@ -9,7 +9,8 @@ ghost use Rattle.pg_meaning.specs.Tokens as token;
 ghost use Rattle.pg_meaning.specs.Tokens.{Lexes};
 ghost use Rattle.pg_meaning.specs.Tree as tree;
 ghost use Rattle.pg_syntax.specs.Gives.{Gives, GivesValue, Answers};
-ghost use Rattle.pg_syntax.specs.Plain.{IsPlain, plain_query};
+ghost use Rattle.pg_syntax.specs.Plain as plain;
+ghost use Rattle.pg_syntax.specs.Plain.{HasReturn, IsPlain, plain_query};
 ghost use Rattle.pg_syntax.specs.PlainParse as spec;
 ghost use Rattle.pg_syntax.specs.View.{name_view, start_view, item_view, query_view};
 
@@ -223,9 +224,10 @@ pub fn law_one_reading()
 {}
 
 /// What the function of plain texts gives: exactly the plain tree that reads, and on that the whole language's function
-/// agrees.
+/// agrees. RETURN may be lacking only where the language lets it.
 pub fn law_of_plain_texts()
     ensures sound { (text : List ℕ) (tokens : List token.Token) (q : tree.Query) → spec.plain_query_of text tokens ≡ Some q → Reads text tokens q × IsPlain q }
     ensures complete { (text : List ℕ) (tokens : List token.Token) (q : tree.Query) → Lexes text tokens → Reads text tokens q → IsPlain q → spec.plain_query_of text tokens ≡ Some q }
     ensures agrees { (text : List ℕ) (tokens : List token.Token) (q : tree.Query) → spec.plain_query_of text tokens ≡ Some q → parse.query_of text tokens ≡ Some q }
+    ensures returns { (text : List ℕ) (tokens : List token.Token) (start : plain.Start) (items : List tree.Item) (ends : Bool) → Reads text tokens (plain_query start items ends) → HasReturn start items }
 {}

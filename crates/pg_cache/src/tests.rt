@@ -20,18 +20,18 @@ fn the_last_used_stay(rt: HostRuntime) -> Result<(), Fail> {
     let two = NonZeroUsize::new(2).ok_or("two")?;
     let mut cache = PlanCache::new(alloc, two, RandomState::new(&rt)?)?;
     let rows = [
-        ("RETURN 1", 0, 1),
-        ("RETURN 2", 0, 2),
-        ("RETURN 1", 1, 2),
-        ("RETURN 3", 1, 3),
-        ("RETURN 1", 2, 3),
-        ("RETURN 2", 2, 4),
-        ("RETURN 1", 3, 4),
+        ("RETURN 1", "1", 0, 1),
+        ("RETURN 2", "2", 0, 2),
+        ("RETURN 1", "1", 1, 2),
+        ("RETURN 3", "3", 1, 3),
+        ("RETURN 1", "1", 2, 3),
+        ("RETURN 2", "2", 2, 4),
+        ("RETURN 1", "1", 3, 4),
     ];
-    for (text, hits, misses) in rows {
+    for (text, name, hits, misses) in rows {
         let plan = cache.plan_for(alloc, text)?;
         let column = last_column(alloc, &plan)?.ok_or("no column")?;
-        assert!(rt; column.as_str() == &text[7..], "{text}");
+        assert!(rt; column.as_str() == name, "{text}");
         assert!(rt; cache.stats() == (hits, misses), "{text}");
     }
     for misses in [5, 6] {

@@ -25,10 +25,10 @@ pub fn return_values<T: Tables>(
     table: &Table<'_>,
 ) -> Result<(Vec<Vec<Value>>, u64), Fault>
     requires fit { IsFit T.seen store.now shared.now }
-    ensures quota { IfOk result (λ found. nat_le (table.now.steps + length table.now.rows.items) max_steps ≡ true) }
-    ensures steps { IfOk result (λ found. found.1 ≡ table.now.steps + length table.now.rows.items) }
+    ensures quota { IfOk result (λ found. nat_le (table.now.steps + length (rows_view table.now.rows.items)) max_steps ≡ true) }
+    ensures steps { IfOk result (λ found. found.1 ≡ table.now.steps + length (rows_view table.now.rows.items)) }
     ensures rows { IfOk result (λ found. rows_given (graph_of_store T.seen store.now shared.now) (items_view items.now.items) (rows_view table.now.rows.items) ≡ Ok (values_seen found.0.items)) }
-    ensures err { IfErr result (λ e. e ≢ OutOfMemory → and_after (unless (nat_le (table.now.steps + length table.now.rows.items) max_steps) StepQuota) (rows_given (graph_of_store T.seen store.now shared.now) (items_view items.now.items) (rows_view table.now.rows.items)) ≡ Err e) }
+    ensures err { IfErr result (λ e. e ≢ OutOfMemory → and_after (unless (nat_le (table.now.steps + length (rows_view table.now.rows.items)) max_steps) StepQuota) (rows_given (graph_of_store T.seen store.now shared.now) (items_view items.now.items) (rows_view table.now.rows.items)) ≡ Err e) }
 {
     let Some(steps) = table.steps.checked_add(table.rows.len() as u64) else {
         return Err(Fault::StepQuota);

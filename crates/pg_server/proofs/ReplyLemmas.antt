@@ -13,17 +13,20 @@ use Rattle.pg_json.specs.Requests.{Request, query, status}
 use Rattle.pg_meaning.specs.Graph.{Graph, element_count}
 use Rattle.pg_meaning.specs.declared.fault.Fault.{Fault}
 use Rattle.pg_meaning.specs.declared.fault.Fault.TheVariants.{ReplyTooLong, OutOfMemory}
-use Rattle.pg_server.specs.Runs.{is_want_of_memory}
+use Rattle.pg_server.specs.Runs.{is_want_of_memory, RefusalsKeep}
 use Rattle.pg_server.specs.Solo.{solo, limited, may_write, status_text}
 use Rattle.pg_server.specs.State.{State}
 use Rattle.pg_tenant.proofs.AnswerLemmas.{refusal_leaves}
 use Rattle.pg_tenant.specs.Outcomes.{text_outcome}
 
-pub refused_keeps : (state : State) (request : Request) → is_want_of_memory (solo state request).reply ≡ true → (solo state request).state ≡ state
-refused_keeps state (query token text) h =
+pub refusals_keep : RefusalsKeep
+refusals_keep state (query token text) f is =
     let outcome = text_outcome (may_write state.settings token) state.settings.max_steps state.settings.max_elements state.graph text in
-    ap (λ (g : Graph). let s : State = record state { graph = g } in s) (refusal_leaves state.graph outcome OutOfMemory ((bytes_eq-Decides (solo state (query token text)).reply (refusal_text OutOfMemory)).0 h))
-refused_keeps state (status token) h = refl
+    ap (λ (g : Graph). let s : State = record state { graph = g } in s) (refusal_leaves state.graph outcome f is)
+refusals_keep state (status token) f is = refl
+
+pub refused_keeps : (state : State) (request : Request) → is_want_of_memory (solo state request).reply ≡ true → (solo state request).state ≡ state
+refused_keeps state request h = refusals_keep state request OutOfMemory ((bytes_eq-Decides (solo state request).reply (refusal_text OutOfMemory)).0 h)
 
 pub settings_stay : (state : State) (request : Request) → (solo state request).state.settings ≡ state.settings
 settings_stay state (query token text) = refl

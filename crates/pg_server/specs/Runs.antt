@@ -53,6 +53,10 @@ SoloRun old [] new = new ≡ old
 SoloRun old (e ∷ es) new =
     (request : Request) × (asked e.body ≡ Some request) × (e.reply ≡ (solo old request).reply) × Means old request × SoloRun (solo old request).state es new
 
+-- a request that is refused leaves the tenant as it was
+abbrev pub RefusalsKeep : Type 0
+RefusalsKeep = (state : State) (request : Request) (fault : Fault) → (solo state request).reply ≡ refusal_text fault → (solo state request).state ≡ state
+
 -- ---- requests of no tenant
 
 abbrev pub IsStrangers : ServerState → List ℕ → Type 0

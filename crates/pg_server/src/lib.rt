@@ -16,5 +16,5 @@ pub use config::Config;
 pub use config_fault::ConfigFault;
 pub use counted::{Counted, DeviceFault};
 pub use end::End;
-pub use server::{Server, law_calls, law_one_reading, law_two_worlds};
+pub use server::{Server, law_calls, law_of_refusals, law_one_reading, law_two_worlds};
 pub use settings::Rights;

@@ -7,7 +7,7 @@ ghost use Rattle.pg_meaning.specs.Names.{is_among};
 ghost use Rattle.pg_meaning.specs.declared.fault.Fault.TheVariants.{OutOfMemory};
 ghost use Rattle.pg_server.specs.Configuration.{max_tenants};
 ghost use Rattle.pg_server.specs.Counts.{inner_of, faults_of};
-ghost use Rattle.pg_server.specs.Runs.{CallsAreRuns, TwoWorlds, handles, token_of as token_shown};
+ghost use Rattle.pg_server.specs.Runs.{CallsAreRuns, RefusalsKeep, TwoWorlds, handles, token_of as token_shown};
 ghost use Rattle.pg_server.specs.Served.{OneReading, read_faults, write_faults};
 ghost use Rattle.pg_server.specs.Serves.{Serves};
 ghost use Rattle.pg_server.specs.Settings.{token_texts};
@@ -227,4 +227,9 @@ pub fn law_one_reading()
 /// Calls of `handle`, one after another, are a run of each tenant alone too.
 pub fn law_calls()
     ensures { CallsAreRuns }
+{}
+
+/// A request that is refused leaves its tenant as it was, whatever the refusal.
+pub fn law_of_refusals()
+    ensures { RefusalsKeep }
 {}

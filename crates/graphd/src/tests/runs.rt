@@ -1,7 +1,7 @@
 //! Runs of the server over devices that give and take in pieces, and fail.
 use super::devices::{Pieces, Slots, Stream, reader_of, writer_of};
 use super::servers::new_server;
-use pg_server::{Counted, End, law_calls, law_one_reading, law_two_worlds};
+use pg_server::{Counted, End, law_calls, law_of_refusals, law_one_reading, law_two_worlds};
 use std::alloc::{AllocError, Global};
 use std::test::Fail;
 
@@ -219,6 +219,7 @@ fn ends_are_told(rt: HostRuntime) {
 #[test]
 fn laws_can_be_called() {
     law_calls();
+    law_of_refusals();
     law_one_reading();
     law_two_worlds();
 }

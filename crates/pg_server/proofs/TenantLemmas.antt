@@ -47,6 +47,7 @@ module _ {T S : Type 0} (seen : Seen T S) (store : Store T) (old new : S) (same 
       record {
         stored = record { fits = fits; holds = subst (λ (c : Content). Holds store.names c store.next.node store.next.rel) (sym same) was.stored.holds };
         counted = was.counted ∙ ap element_count (sym graph_stays);
+        ids = was.ids;
       }
 
 module _ {T S : Type 0} (seen : Seen T S) (tenants : List (Tenant T)) (old new : S) (all : AllFit seen tenants old) (t : ℕ) (was now : Tenant T) (lt : t < length tenants)

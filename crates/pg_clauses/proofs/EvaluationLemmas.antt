@@ -1,5 +1,5 @@
 -- The items of a list literal, one after the other, and the id of what a variable stands for.
-use Rattle.std.proofs.Common.{◌≡◌, ℕ, ◌≤◌, Bool, true, false, length, drop, List, [], ◌∷◌, ◌++◌, Result, Ok, Err, Option, Some, None, string_bytes, bytes_eq, refl, sym, ap, ◌∙◌}
+use Rattle.std.proofs.Common.{◌≡◌, ℕ, ◌≤◌, Bool, true, false, length, drop, List, [], ◌∷◌, ◌++◌, Result, Ok, Err, Option, string_bytes, bytes_eq, refl, sym, ap, ◌∙◌}
 use Rattle.std.proofs.lemmas.List.{drop_all}
 use Rattle.std.specs.Prelude.{codes}
 use Rattle.std.specs.Str.{str_to_ascii_lowercase}
@@ -57,12 +57,6 @@ module _ (row : Row) (graph : Graph) where
       ap (λ xs. together found (left xs)) is
       ∙ ap (λ r. together found (r >>= λ u. left more >>= λ us. Ok (item u us))) h
       ∙ moved found v (left more)
-
-  pub one_faulty : (found : List Value) (x : Expression) (rest more : List Expression) (e : Fault) → rest ≡ x ∷ more → given row graph (expression_view x) ≡ Err e
-      → together found (left rest) ≡ Err e
-  one_faulty found x rest more e is h =
-      ap (λ xs. together found (left xs)) is
-      ∙ ap (λ r. together found (r >>= λ u. left more >>= λ us. Ok (item u us))) h
 
   pub all_evaluated : (found : List Value) (i : ℕ) (xs : List Expression) → length xs ≤ i → together found (left (drop i xs)) ≡ Ok (values_view found)
   all_evaluated found i xs h = ap (λ ys. together found (left ys)) (drop_all i xs h) ∙ ap Ok (values_before-nothing found)

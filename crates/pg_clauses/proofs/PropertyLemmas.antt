@@ -1,5 +1,5 @@
 -- The properties of a pattern in turn.
-use Rattle.std.proofs.Common.{◌≡◌, List, [], ◌∷◌, map, Result, Ok, Err, Option, Some, None, refl, ap}
+use Rattle.std.proofs.Common.{◌≡◌, List, [], ◌∷◌, map, Some, refl, ap}
 use Rattle.std.specs.declared.alloc.Global.{Global}
 use Rattle.std.specs.Prelude.{Vec}
 use Rattle.pg_clauses.specs.Properties.{given_pair, given_of, pair_wanted, wanted_of}

@@ -1,5 +1,5 @@
 -- The parts of CREATE of one node.
-use Rattle.std.specs.Prelude.{◌≡◌, ℕ, nat_lt, List, [], Result, Ok}
+use Rattle.std.specs.Prelude.{ℕ, nat_lt, List, [], Result, Ok}
 use Rattle.pg_meaning.specs.Answer.{◌>>=◌, ◌>>◌, unless}
 use Rattle.pg_meaning.specs.Graph.{Graph, element_count}
 use Rattle.pg_meaning.specs.Meters.{greatest_id}

@@ -1,4 +1,4 @@
-use Rattle.std.proofs.Common.{◌≡◌, drop, map}
+use Rattle.std.proofs.Common.{◌≡◌, drop}
 use Rattle.pg_clauses.proofs.AnswersInTurn.{after}
 use Rattle.pg_clauses.specs.Properties.{wanted_of, given_of}
 use Rattle.pg_clauses.specs.Rows.{row_view}

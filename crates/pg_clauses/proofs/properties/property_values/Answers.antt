@@ -1,4 +1,4 @@
-use Rattle.std.proofs.Common.{ap, sym, ◌∙◌, Option, Vec, Global}
+use Rattle.std.proofs.Common.{ap, ◌∙◌, Option, Vec, Global}
 use Rattle.std.proofs.lemmas.Result.{IfOk-weaker, IfErr-weaker}
 use Rattle.pg_clauses.proofs.PropertyLemmas.{given_pairs}
 use Rattle.pg_clauses.specs.Rows.{row_view}

@@ -14,7 +14,7 @@ use Rattle.pg_meaning.specs.declared.fault.Fault.{Fault}
 use Rattle.pg_meaning.specs.declared.fault.Fault.TheVariants.{TooDeep}
 use Rattle.pg_plan.proofs.Shapes.{OneNodeOf, one_node_of}
 use Rattle.pg_plan.specs.Laws.{TextsMean}
-use Rattle.pg_plan.specs.Reading.{parsed, text_checked}
+use Rattle.pg_plan.specs.Reading.{parsed}
 use Rattle.pg_run.proofs.AgreementLemmas.{one_node_means}
 use Rattle.pg_run.proofs.CheckLemmas.{one_node_faults}
 use Rattle.pg_run.proofs.QueryLemmas.{one_node_answers}

@@ -1,11 +1,10 @@
 -- Tenants are begun one after the other, each under its place.
 use Rattle.std.proofs.Common.{◌≡◌, ℕ, zero, suc, ◌+◌, ◌<◌, ◌≤◌, List, [], ◌∷◌, ◌++◌, length, get_or, map, arith, refl, sym, ap, subst, ◌∙◌}
-use Rattle.std.specs.FinMap as finmap
 use Rattle.pg_graph.specs.Content.{Seen}
-use Rattle.pg_meaning.specs.Graph.{Graph, empty_graph}
+use Rattle.pg_meaning.specs.Graph.{empty_graph}
 use Rattle.pg_server.specs.Settings.{TenantSettings}
 use Rattle.pg_server.specs.State.{State, opening}
-use Rattle.pg_server.specs.Tenants.{state_of, states_of, AllFit, AreOpening}
+use Rattle.pg_server.specs.Tenants.{states_of, AreOpening}
 use Rattle.pg_server.specs.declared.tenant.Tenant.{Tenant}
 use Rattle.pg_store.specs.Stores.{graph_of_store, IsFit}
 

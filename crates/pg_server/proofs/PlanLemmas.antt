@@ -1,30 +1,27 @@
 -- What a tenant's answer is for the whole server, and that the plan of a text answers for the text.
-use Rattle.std.proofs.Common.{◌≡◌, ◌≢◌, ℕ, ◌<◌, ◌≤◌, List, length, get_or, set, Bool, Result, Ok, Err, inl, inr, sym, ap, subst, ◌∙◌}
+use Rattle.std.proofs.Common.{◌≡◌, ◌≢◌, ℕ, ◌<◌, ◌≤◌, List, length, get_or, set, Result, Ok, Err, inl, inr, sym, ap, subst, ◌∙◌}
 use Rattle.std.specs.Prelude.{IfOk, IfErr, OnErr}
 use Rattle.std.proofs.lemmas.Bool.Decides.{leb_tells}
 use Rattle.std.proofs.lemmas.List.{set-get_or}
 use Rattle.pg_graph.specs.Content.{Seen, Keeps}
-use Rattle.pg_json.specs.Refusals.{refusal_text}
-use Rattle.pg_json.specs.Requests.{Request, query}
+use Rattle.pg_json.specs.Requests.{query}
 use Rattle.pg_meaning.specs.Answer.{◌>>=◌, ◌>>◌, unless}
 use Rattle.pg_meaning.specs.Graph.{Graph}
-use Rattle.pg_meaning.specs.Queries.{Outcome}
-use Rattle.pg_meaning.specs.Tree.{Query}
 use Rattle.pg_meaning.specs.declared.fault.Fault.{Fault}
 use Rattle.pg_meaning.specs.declared.fault.Fault.TheVariants.{TextTooLong, OutOfMemory}
 use Rattle.pg_plan.specs.Plans.{IsPlanOfText}
 use Rattle.pg_plan.specs.Reading.{greatest_text, tested_length, text_checked}
 use Rattle.pg_plan.specs.declared.statement.Plan.{Plan}
-use Rattle.pg_server.specs.Solo.{Replied, solo, may_write, with_graph, query_answered}
+use Rattle.pg_server.specs.Solo.{may_write, with_graph, query_answered}
 use Rattle.pg_server.specs.State.{State, ServerState, state_at, no_state}
-use Rattle.pg_server.specs.Step.{Gives, RepliesAt, RunsPlan, plan_answered, with_tenant}
+use Rattle.pg_server.specs.Step.{Gives, RepliesAt, RunsPlan, plan_answered}
 use Rattle.pg_server.specs.Tenants.{state_of, states_of, AllFit}
 use Rattle.pg_server.specs.declared.tenant.Tenant.{Tenant}
 use Rattle.pg_server.proofs.TenantLemmas.{get_mapped, others_stay}
 use Rattle.pg_store.specs.Stores.{graph_of_store}
 use Rattle.pg_tenant.proofs.OutcomeLemmas.{any_plan_answers}
 use Rattle.pg_tenant.specs.Answers.{Answered, answered, refused}
-use Rattle.pg_tenant.specs.Outcomes.{plan_outcome, query_outcome}
+use Rattle.pg_tenant.specs.Outcomes.{query_outcome}
 
 abbrev server_of : (cache : ℕ) → List State → ServerState
 server_of cache tenants = record { cache = cache; tenants = tenants }

@@ -4,7 +4,7 @@ use Rattle.std.proofs.Common.{ap}
 use Rattle.std.specs.Coded.{Coded, code_by, coded×, coded_ℕ, coded_bool, coded_list}
 use Rattle.pg_graph.specs.ValueCode.{value_code}
 use Rattle.pg_meaning.specs.Graph.{Graph, Node, Relationship}
-use Rattle.pg_meaning.specs.Value.{Value, mapping, null, Entries, no_entries}
+use Rattle.pg_meaning.specs.Value.{Value, mapping, Entries, no_entries}
 use Rattle.pg_server.specs.Settings.{TenantSettings, TokenSettings}
 use Rattle.pg_server.specs.Solo.{is_write}
 use Rattle.pg_server.specs.State.{State, ServerState}

@@ -1,4 +1,4 @@
-use Rattle.std.proofs.Common.{rules, arith, subst, sym, refl, ◌≡◌, length}
+use Rattle.std.proofs.Common.{rules, arith, subst, refl, length}
 use Rattle.pg_server.proofs.OpeningLemmas.{Opens, none_begun, one_begun, few_begun, all_begun}
 use Rattle.pg_server.proofs.server.opening_tenants.Goals as goal
 

@@ -2,7 +2,6 @@ use Rattle.std.proofs.Common.{◌≡◌, ℕ, [], false, rules, sym, subst, ap, 
 use Rattle.pg_json.specs.Bodies.{request_view}
 use Rattle.pg_meaning.specs.Graph.{IsGraph}
 use Rattle.pg_meaning.specs.GraphLaws.{empty_is_graph}
-use Rattle.pg_server.specs.Runs.{Means}
 use Rattle.pg_server.specs.Settings.{all_tokens}
 use Rattle.pg_server.specs.State.{ServerState, settings_of, state_at}
 use Rattle.pg_server.proofs.StepLemmas.{answered, means_of, unread}

@@ -1,7 +1,7 @@
-use Rattle.std.proofs.Common.{◌≡◌, [], map, sym, ap, ◌∙◌}
+use Rattle.std.proofs.Common.{◌≡◌, [], map, ap, ◌∙◌}
 use Rattle.std.proofs.Common.{rules}
 use Rattle.pg_server.specs.Settings.{all_tokens}
-use Rattle.pg_server.specs.State.{ServerState, State, opening}
+use Rattle.pg_server.specs.State.{ServerState, opening}
 use Rattle.pg_server.specs.Tenants.{states_of}
 use Rattle.pg_server.proofs.server.Server.new.Goals as goal
 use Rattle.pg_value.specs.Texts.{comes_again}

@@ -1,6 +1,6 @@
 use Rattle.std.proofs.Common.{◌≡◌, string_bytes, ap, subst, sym, ◌∙◌}
 use Rattle.pg_json.specs.Bodies.{request_view}
-use Rattle.pg_json.specs.Requests.{Request, query}
+use Rattle.pg_json.specs.Requests.{query}
 use Rattle.pg_server.specs.Step.{RepliesAt}
 use Rattle.pg_server.proofs.server.Server.reply_at.Goals as goal
 

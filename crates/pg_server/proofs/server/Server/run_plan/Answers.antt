@@ -1,4 +1,4 @@
-use Rattle.std.proofs.Common.{◌≡◌, ◌<◌, length, set, arith, ap, subst}
+use Rattle.std.proofs.Common.{◌<◌, length, set, arith, ap, subst}
 use Rattle.pg_server.specs.State.{ServerState}
 use Rattle.pg_server.specs.Step.{RunsPlan}
 use Rattle.pg_server.specs.Tenants.{state_of, states_of}

@@ -1,3 +1,5 @@
+mod stores;
+
 use super::*;
 use pg_graph::{Labels, NameId, Names};
 use pg_value_core::Value;

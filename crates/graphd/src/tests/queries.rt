@@ -110,7 +110,8 @@ fn two_tenants_in_turn(rt: HostRuntime) -> Result<(), Fail> {
         assert!(rt; reply.as_slice() == want.as_bytes(), "{text}");
     }
     let reply = server.handle(STATUS.as_bytes());
-    let want = "{\"code\":0,\"elements\":3,\"indexes\":[],\"max_elements\":10,\"max_steps\":1000,\"next_node\":3,\"next_rel\":0}";
+    let want =
+        "{\"code\":0,\"elements\":3,\"indexes\":[],\"max_elements\":10,\"max_steps\":1000,\"next_node\":3,\"next_rel\":0}";
     assert!(rt; reply.as_slice() == want.as_bytes());
     Ok(())
 }
@@ -126,7 +127,8 @@ fn quota_of_elements(rt: HostRuntime) -> Result<(), Fail> {
     }
     let refused = "{\"code\":26,\"error\":\"ElementQuota\"}";
     assert!(rt; server.handle(create.as_bytes()).as_slice() == refused.as_bytes());
-    let want = "{\"code\":0,\"elements\":10,\"indexes\":[],\"max_elements\":10,\"max_steps\":1000,\"next_node\":10,\"next_rel\":0}";
+    let want =
+        "{\"code\":0,\"elements\":10,\"indexes\":[],\"max_elements\":10,\"max_steps\":1000,\"next_node\":10,\"next_rel\":0}";
     assert!(rt; server.handle(STATUS.as_bytes()).as_slice() == want.as_bytes());
     let other = body_of(rt.alloc(), "b1", "CREATE (:P)")?;
     assert!(rt; server.handle(other.as_bytes()).as_slice() == made.as_bytes());
@@ -154,7 +156,8 @@ fn reply_that_is_too_long(rt: HostRuntime) -> Result<(), Fail> {
     let body = body_of(alloc, "a1", long_answer(alloc)?.as_str())?;
     let refused = "{\"code\":31,\"error\":\"ReplyTooLong\"}";
     assert!(rt; server.handle(body.as_bytes()).as_slice() == refused.as_bytes());
-    let want = "{\"code\":0,\"elements\":0,\"indexes\":[],\"max_elements\":10,\"max_steps\":1000,\"next_node\":0,\"next_rel\":0}";
+    let want =
+        "{\"code\":0,\"elements\":0,\"indexes\":[],\"max_elements\":10,\"max_steps\":1000,\"next_node\":0,\"next_rel\":0}";
     assert!(rt; server.handle(STATUS.as_bytes()).as_slice() == want.as_bytes());
     Ok(())
 }

@@ -21,7 +21,6 @@ const REPLIES: [&str; 5] = [
     "{\"code\":7,\"error\":\"BadSyntax\"}",
 ];
 
-
 /// How a run ended, the faults that were counted, and what was written.
 #[derive(Drop)]
 struct Outcome {

@@ -1,0 +1,5 @@
+pub mod Fits
+pub mod Generic
+pub mod Separated
+pub mod Spans
+pub mod Terminals

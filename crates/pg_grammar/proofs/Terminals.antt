@@ -1,6 +1,6 @@
 -- One token.
 use denote.Enum.Bare.{same_true, true_same}
-use Rattle.std.proofs.Common.{◌≡◌, ℕ, Bool, true, false, List, [], ◌∷◌, Option, Some, None, refl, sym, ap, ◌∙◌, ◌⊎◌, inl, inr}
+use Rattle.std.proofs.Common.{◌≡◌, ℕ, Bool, true, false, List, [], ◌∷◌, ◌++◌, Option, Some, None, refl, sym, ap, ◌∙◌, ◌⊎◌, inl, inr}
 use Rattle.pg_meaning.specs.contracts.lexemes.Symbol.{the_type as symbol_type}
 use Rattle.pg_meaning.specs.contracts.lexemes.Keyword.{the_type as keyword_type}
 use Rattle.pg_meaning.specs.declared.lexemes.Symbol.{Symbol}

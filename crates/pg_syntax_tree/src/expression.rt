@@ -1,0 +1,58 @@
+//! Expressions.
+
+use pg_meaning::{Operator, TextTest};
+
+/// A name, decoded, and where its token begins.
+#[derive(Debug, PartialEq, Eq, Drop)]
+pub struct Name {
+    pub text: String,
+    pub quoted: bool,
+    pub place: usize,
+}
+
+/// A value as a text can write it.
+#[derive(Debug, PartialEq, Eq, Drop)]
+pub enum Literal {
+    Null,
+    Boolean(bool),
+    Integer(i64),
+    Text(String),
+}
+
+/// What stands behind an atom: a property's key, or an index.
+#[derive(Debug, Drop)]
+pub enum Suffix<E> {
+    Property(Name),
+    Index(E),
+}
+
+/// A test behind a sum; `IS NOT NULL` is negated.
+#[derive(Debug, Drop)]
+pub enum Test<E> {
+    Text(TextTest, E),
+    IsNull(bool),
+}
+
+#[derive(Debug, Drop)]
+pub enum Expression {
+    Literal(Literal),
+    Parameter(Name),
+    Variable(Name),
+    ListLiteral(Vec<Expression>),
+    /// The keys and values, as written.
+    MapLiteral(Vec<(Name, Expression)>),
+    Parentheses(Box<Expression>),
+    /// The function's name, whether `*` stands there, whether DISTINCT does, and the arguments.
+    Call(Name, bool, bool, Vec<Expression>),
+    /// A subject, the conditions with their results, and ELSE.
+    Case(Option<Box<Expression>>, Vec<(Expression, Expression)>, Option<Box<Expression>>),
+    /// An operand, and behind each operator a further one. The operators are of one level.
+    Chain(Box<Expression>, Vec<(Operator, Expression)>),
+    /// How many NOT stand before the operand.
+    Negation(usize, Box<Expression>),
+    /// The signs, outermost first, true for a minus.
+    Signs(Vec<bool>, Box<Expression>),
+    Tests(Box<Expression>, Vec<Test<Expression>>),
+    /// Properties and indexes, then labels.
+    Suffixes(Box<Expression>, Vec<Suffix<Expression>>, Vec<Name>),
+}

@@ -1,0 +1,58 @@
+//! Patterns.
+
+use crate::expression::{Expression, Name};
+
+#[derive(Debug, Drop)]
+pub enum Properties {
+    None,
+    Given(Vec<(Name, Expression)>),
+    Parameter(Name),
+}
+
+/// A node pattern, and where it begins.
+#[derive(Debug, Drop)]
+pub struct NodePattern {
+    pub place: usize,
+    pub variable: Option<Name>,
+    pub labels: Vec<Name>,
+    pub properties: Properties,
+}
+
+/// `*` with what stands behind it.
+#[derive(Clone, Copy, Debug, PartialEq, Eq)]
+pub struct Range {
+    pub lower: Option<u64>,
+    pub dots: bool,
+    pub upper: Option<u64>,
+}
+
+/// A type, and whether a colon stands before it.
+#[derive(Debug, Drop)]
+pub struct TypeName {
+    pub colon: bool,
+    pub name: Name,
+}
+
+/// What stands in the brackets of a relationship.
+#[derive(Debug, Drop)]
+pub struct Detail {
+    pub variable: Option<Name>,
+    pub types: Vec<TypeName>,
+    pub range: Option<Range>,
+    pub properties: Properties,
+}
+
+#[derive(Debug, Drop)]
+pub struct RelationshipPattern {
+    pub place: usize,
+    pub left_head: bool,
+    pub detail: Option<Detail>,
+    pub right_head: bool,
+}
+
+#[derive(Debug, Drop)]
+pub struct PathPattern {
+    pub variable: Option<Name>,
+    pub first: NodePattern,
+    pub hops: Vec<(RelationshipPattern, NodePattern)>,
+}

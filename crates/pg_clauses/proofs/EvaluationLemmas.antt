@@ -14,15 +14,15 @@ use Rattle.pg_meaning.specs.declared.fault.Fault.{Fault}
 use Rattle.pg_meaning.specs.declared.fault.Fault.TheVariants.{UndefinedVariable}
 use Rattle.pg_run.proofs.EvaluationLemmas.{stepwise}
 use Rattle.pg_run.specs.Evaluation.{id_given}
-use Rattle.pg_syntax.specs.PlainParse.{call_of}
-use Rattle.pg_syntax.specs.View.{expression_view, view_step, id_spelling, id_name_view, name_view}
-use Rattle.pg_syntax.specs.declared.tree.Expression.{Expression}
-use Rattle.pg_syntax.specs.declared.tree.Expression.TheVariants as expression
-use Rattle.pg_syntax.specs.declared.tree.Expression.TheOpen.{Expression-F}
-use Rattle.pg_syntax.specs.declared.tree.Expression.TheViews.{rolls-Id}
-use Rattle.pg_syntax.specs.declared.tree.Expression.TheFolds.{fold-roll-Expression}
-use Rattle.pg_syntax.specs.declared.tree.IdName.{IdName}
-use Rattle.pg_syntax.specs.declared.tree.Name.{Name}
+use Rattle.pg_plain.specs.PlainParse.{call_of}
+use Rattle.pg_plain.specs.View.{expression_view, view_step, id_spelling, id_name_view, name_view}
+use Rattle.pg_plain.specs.declared.tree.Expression.{Expression}
+use Rattle.pg_plain.specs.declared.tree.Expression.TheVariants as expression
+use Rattle.pg_plain.specs.declared.tree.Expression.TheOpen.{Expression-F}
+use Rattle.pg_plain.specs.declared.tree.Expression.TheViews.{rolls-Id}
+use Rattle.pg_plain.specs.declared.tree.Expression.TheFolds.{fold-roll-Expression}
+use Rattle.pg_plain.specs.declared.tree.IdName.{IdName}
+use Rattle.pg_plain.specs.declared.tree.Name.{Name}
 use Rattle.pg_value_core.specs.View.{view, values_view}
 use Rattle.pg_value_core.specs.declared.value.Value.{Value}
 

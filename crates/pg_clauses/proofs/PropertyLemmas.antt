@@ -10,8 +10,8 @@ use Rattle.pg_meaning.specs.Patterns.{pair_list}
 use Rattle.pg_meaning.specs.Rows.{Row}
 use Rattle.pg_meaning.specs.Value.{no_entries}
 use Rattle.pg_meaning.specs.Walks.{property_values}
-use Rattle.pg_syntax.specs.View.{pair_view, properties_view}
-use Rattle.pg_syntax.specs.declared.tree.Pair.{Pair}
+use Rattle.pg_plain.specs.View.{pair_view, properties_view}
+use Rattle.pg_plain.specs.declared.tree.Pair.{Pair}
 
 pairs_wanted : (ps : List Pair) → pair_list (pairs_of (map pair_view ps)) ≡ wanted_of ps
 pairs_wanted [] = refl

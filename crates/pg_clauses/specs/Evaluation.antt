@@ -8,8 +8,8 @@ use Rattle.pg_meaning.specs.Rows.{Row}
 use Rattle.pg_meaning.specs.Tree.{Expression, Expressions}
 use Rattle.pg_meaning.specs.Value.{Values, no_entries}
 use Rattle.pg_meaning.specs.declared.fault.Fault.{Fault}
-use Rattle.pg_syntax.specs.View.{expression_view}
-use Rattle.pg_syntax.specs.declared.tree.Expression.{Expression as Code}
+use Rattle.pg_plain.specs.View.{expression_view}
+use Rattle.pg_plain.specs.declared.tree.Expression.{Expression as Code}
 
 abbrev pub expressions_view : List Code → Expressions
 expressions_view xs = expressions_of (map expression_view xs)

@@ -7,8 +7,8 @@ use Rattle.pg_meaning.specs.Rows.{Row}
 use Rattle.pg_meaning.specs.Tree.{Expression}
 use Rattle.pg_meaning.specs.Value.{Value as Datum}
 use Rattle.pg_meaning.specs.declared.fault.Fault.{Fault}
-use Rattle.pg_syntax.specs.View.{expression_view}
-use Rattle.pg_syntax.specs.declared.tree.Pair.{Pair}
+use Rattle.pg_plain.specs.View.{expression_view}
+use Rattle.pg_plain.specs.declared.tree.Pair.{Pair}
 
 -- keys with their expressions
 abbrev pub pair_wanted : Pair → List ℕ × Expression

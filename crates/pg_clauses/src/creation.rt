@@ -10,14 +10,14 @@ ghost use Rattle.pg_meaning.specs.Value.{Entries, no_entries};
 ghost use Rattle.pg_meaning.specs.declared.fault.Fault.TheVariants.{OutOfMemory};
 ghost use Rattle.pg_run.specs.Answers.{created};
 ghost use Rattle.pg_store.specs.Stores.{graph_of_store, IsFit, texts_of, pairs_of};
-ghost use Rattle.pg_syntax.specs.View.{node_view, properties_view};
+ghost use Rattle.pg_plain.specs.View.{node_view, properties_view};
 
 use crate::properties::property_values;
 use crate::row::{Row, Table};
 use crate::storable::are_storable;
 use pg_graph::Tables;
 use pg_store::Store;
-use pg_syntax::{Name, NodePattern, Pair};
+use pg_plain::{Name, NodePattern, Pair};
 use pg_value_core::{Fault, NodeId, Value};
 use std::alloc::{AllocError, Global};
 

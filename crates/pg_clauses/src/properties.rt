@@ -6,13 +6,13 @@ ghost use Rattle.pg_meaning.specs.Value.{no_entries};
 ghost use Rattle.pg_meaning.specs.Walks.{property_values};
 ghost use Rattle.pg_meaning.specs.declared.fault.Fault.TheVariants.{OutOfMemory};
 ghost use Rattle.pg_store.specs.Stores.{graph_of_store, IsFit, pairs_of};
-ghost use Rattle.pg_syntax.specs.View.{properties_view};
+ghost use Rattle.pg_plain.specs.View.{properties_view};
 
 use crate::evaluation::evaluate;
 use crate::row::Row;
 use pg_graph::Tables;
 use pg_store::Store;
-use pg_syntax::Pair;
+use pg_plain::Pair;
 use pg_value_core::{Fault, Value};
 use std::alloc::Global;
 

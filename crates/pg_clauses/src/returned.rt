@@ -11,7 +11,7 @@ use crate::evaluation::evaluate;
 use crate::row::{Row, Table};
 use pg_graph::Tables;
 use pg_store::Store;
-use pg_syntax::Item;
+use pg_plain::Item;
 use pg_value_core::{Fault, Value};
 use std::alloc::Global;
 

@@ -6,9 +6,9 @@ use Rattle.pg_meaning.specs.Scopes.{return_column}
 use Rattle.pg_meaning.specs.StaticFaults.{Found}
 use Rattle.pg_meaning.specs.declared.fault.Fault.TheVariants.{BadPattern, DuplicateColumn}
 use Rattle.pg_run.specs.Checks.{noted, undefined_in, fault_in_pairs, fault_in_items}
-use Rattle.pg_syntax.specs.View.{expression_view, item_view, pair_view}
-use Rattle.pg_syntax.specs.declared.tree.Item.{Item}
-use Rattle.pg_syntax.specs.declared.tree.Pair.{Pair}
+use Rattle.pg_plain.specs.View.{expression_view, item_view, pair_view}
+use Rattle.pg_plain.specs.declared.tree.Item.{Item}
+use Rattle.pg_plain.specs.declared.tree.Pair.{Pair}
 use Rattle.std.specs.Prelude.{string_bytes}
 
 -- what was not added stood there

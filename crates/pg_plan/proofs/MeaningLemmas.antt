@@ -20,9 +20,9 @@ use Rattle.pg_run.proofs.CheckLemmas.{one_node_faults}
 use Rattle.pg_run.proofs.QueryLemmas.{one_node_answers}
 use Rattle.pg_run.specs.Checks.{one_node_fault}
 use Rattle.pg_run.specs.OneNode.{OneNode, IsSimple, query_of}
-use Rattle.pg_syntax.proofs.Queries.{plain_sound}
-use Rattle.pg_syntax.specs.Plain.{IsPlain}
-use Rattle.pg_syntax.specs.PlainParse.{plain_query_of}
+use Rattle.pg_plain.proofs.Queries.{plain_sound}
+use Rattle.pg_plain.specs.Plain.{IsPlain}
+use Rattle.pg_plain.specs.PlainParse.{plain_query_of}
 
 found_in : (o : Option Query) (q : Query) → read_query o ≡ Ok q → o ≡ Some q
 found_in None q h = absurd cc

@@ -8,9 +8,9 @@ use Rattle.pg_meaning.specs.declared.operators.TextTest.TheVariants as test
 use Rattle.pg_plan.specs.Plans.{statement_view, ReadsPlan, AreOfOneNode}
 use Rattle.pg_plan.specs.declared.statement.Statement.{Statement}
 use Rattle.pg_run.specs.OneNode.{OneNode, returns, creates, creates_and_returns, matches, IsSimpleExpression, AreSimpleExpressions, AreSimplePairs, AreSimpleProperties, AreSimpleItems, IsSimple, clauses_of, query_of}
-use Rattle.pg_syntax.specs.Plain.{IsPlainExpression, ArePlainExpressions, ArePlainPairs, ArePlainProperties, Start, alone, creating, matching, IsPlainStart, HasReturn, IsPlain, plain_query}
-use Rattle.pg_syntax.specs.View.{query_view, clause_view}
-use Rattle.pg_syntax.specs.declared.tree.Query.{Query as Code}
+use Rattle.pg_plain.specs.Plain.{IsPlainExpression, ArePlainExpressions, ArePlainPairs, ArePlainProperties, Start, alone, creating, matching, IsPlainStart, HasReturn, IsPlain, plain_query}
+use Rattle.pg_plain.specs.View.{query_view, clause_view}
+use Rattle.pg_plain.specs.declared.tree.Query.{Query as Code}
 
 -- ---- expressions
 

@@ -19,8 +19,8 @@ use Rattle.pg_plan.specs.declared.statement.Plan.{Plan}
 use Rattle.pg_run.specs.Checks.{one_node_fault}
 use Rattle.pg_run.specs.OneNode.{IsSimple}
 use Rattle.pg_run.proofs.AgreementLemmas.{one_node_plans, one_node_means}
-use Rattle.pg_syntax.proofs.AgreeQueries.{plain_agrees}
-use Rattle.pg_syntax.specs.PlainParse.{plain_query_of}
+use Rattle.pg_plain.proofs.AgreeQueries.{plain_agrees}
+use Rattle.pg_plain.specs.PlainParse.{plain_query_of}
 use Rattle.pg_run.proofs.CheckLemmas.{one_node_faults}
 use Rattle.pg_run.proofs.QueryLemmas.{one_node_answers}
 

@@ -12,7 +12,7 @@ use Rattle.pg_plan.specs.declared.statement.Statement.{Statement}
 use Rattle.pg_plan.specs.declared.statement.Statement.TheVariants.{Return, Create, CreateAndReturn, Match}
 use Rattle.pg_run.specs.Agreement.{one_node_plan}
 use Rattle.pg_run.specs.OneNode.{OneNode, returns, creates, creates_and_returns, matches, IsSimple, clauses_of, query_of}
-use Rattle.pg_syntax.specs.View.{item_view, node_view}
+use Rattle.pg_plain.specs.View.{item_view, node_view}
 
 abbrev pub statement_view : Statement → OneNode
 statement_view (Return items) = returns (map item_view items.items)

@@ -7,7 +7,7 @@ use Rattle.pg_meaning.specs.Tokens.{Token}
 use Rattle.pg_meaning.specs.Tree.{Query}
 use Rattle.pg_meaning.specs.declared.fault.Fault.{Fault}
 use Rattle.pg_meaning.specs.declared.fault.Fault.TheVariants.{TextTooLong, BadLexeme}
-use Rattle.pg_syntax.specs.PlainParse.{plain_parse}
+use Rattle.pg_plain.specs.PlainParse.{plain_parse}
 
 abbrev pub greatest_text : ℕ
 greatest_text = 65536

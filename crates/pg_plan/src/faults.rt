@@ -4,12 +4,12 @@ ghost use Rattle.pg_meaning.specs.Parse.{pairs_of};
 ghost use Rattle.pg_meaning.specs.declared.fault.Fault.TheVariants.{OutOfMemory};
 ghost use Rattle.pg_plan.specs.Plans.{names_in, statement_view};
 ghost use Rattle.pg_run.specs.Checks as spec;
-ghost use Rattle.pg_syntax.specs.View.{item_view, node_view, pair_view};
+ghost use Rattle.pg_plain.specs.View.{item_view, node_view, pair_view};
 
 use crate::columns::column_name;
 use crate::statement::Statement;
 use crate::variables::{Found, noted, undefined_in};
-use pg_syntax::{Item, NodePattern, Pair};
+use pg_plain::{Item, NodePattern, Pair};
 use pg_value::Fault;
 use std::alloc::{AllocError, Global};
 use std::collections::BTreeSet;

@@ -4,13 +4,13 @@ ghost use Rattle.pg_lex.specs.Plain.{plain_tokens_of};
 ghost use Rattle.pg_meaning.specs.declared.fault.Fault.TheVariants.{OutOfMemory};
 ghost use Rattle.pg_plan.specs.Plans.{IsPlanOfText, ReadsPlan};
 ghost use Rattle.pg_plan.specs.Reading.{parsed, tested_length, text_checked};
-ghost use Rattle.pg_syntax.specs.Plain.{IsPlain};
-ghost use Rattle.pg_syntax.specs.View.{query_view};
+ghost use Rattle.pg_plain.specs.Plain.{IsPlain};
+ghost use Rattle.pg_plain.specs.View.{query_view};
 
 use crate::faults::check;
 use crate::statement::{Plan, statement_of};
 use pg_lex::plain_tokens;
-use pg_syntax::{Query, parse};
+use pg_plain::{Query, parse};
 use pg_value::Fault;
 use std::alloc::Global;
 

@@ -3,9 +3,9 @@ ghost use Rattle.std.specs.Prelude.{◌≡◌, map, ◌∷◌, []};
 ghost use Rattle.pg_plan.specs.Plans.{statement_view, plan_query, AreOfOneNode};
 ghost use Rattle.pg_plan.specs.Updates.{any_updates, updates};
 ghost use Rattle.pg_run.specs.OneNode.{clauses_of};
-ghost use Rattle.pg_syntax.specs.View.{clause_view, item_view};
+ghost use Rattle.pg_plain.specs.View.{clause_view, item_view};
 
-use pg_syntax::{Clause, Item, NodePattern};
+use pg_plain::{Clause, Item, NodePattern};
 
 /// A query of one node at most.
 #[derive(Debug, PartialEq, Eq, Drop)]

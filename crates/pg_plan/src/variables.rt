@@ -4,10 +4,10 @@ ghost use Rattle.pg_meaning.specs.Names.{is_among};
 ghost use Rattle.pg_meaning.specs.Parse.{expressions_of};
 ghost use Rattle.pg_plan.specs.Plans.{names_in};
 ghost use Rattle.pg_run.specs.Checks as spec;
-ghost use Rattle.pg_syntax.specs.View.{expression_view, name_view};
+ghost use Rattle.pg_plain.specs.View.{expression_view, name_view};
 ghost use Rattle.pg_meaning.specs.StaticFaults.{goes_before};
 
-use pg_syntax::{Expression, Name};
+use pg_plain::{Expression, Name};
 use pg_value::Fault;
 
 /// A fault and where it stands.

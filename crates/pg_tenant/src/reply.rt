@@ -6,7 +6,7 @@ ghost use Rattle.pg_meaning.specs.Queries.{Outcome};
 ghost use Rattle.pg_meaning.specs.Value.{no_entries};
 ghost use Rattle.pg_run.specs.Answers.{returned};
 ghost use Rattle.pg_store.specs.Stores.{graph_of_store, IsFit};
-ghost use Rattle.pg_syntax.specs.View.{item_view};
+ghost use Rattle.pg_plain.specs.View.{item_view};
 ghost use Rattle.pg_tenant.specs.Replies.{IsReply, IsRefusal, Shows};
 
 use pg_clauses::{Table, return_values};
@@ -15,7 +15,7 @@ use pg_json::{ReplyBody, ReplyBytes, write_reply};
 use pg_plan::column_names;
 use pg_spell::spell_rows;
 use pg_store::Store;
-use pg_syntax::Item;
+use pg_plain::Item;
 use pg_value_core::{Fault, Out};
 use std::alloc::Global;
 

@@ -7,7 +7,7 @@ ghost use Rattle.pg_plan.specs.Plans.{statement_view};
 ghost use Rattle.pg_run.specs.Answers.{one_node_answer};
 ghost use Rattle.pg_run.specs.OneNode.{returns, creates, creates_and_returns, matches};
 ghost use Rattle.pg_store.specs.Stores.{graph_of_store, IsFit};
-ghost use Rattle.pg_syntax.specs.View.{item_view, node_view};
+ghost use Rattle.pg_plain.specs.View.{item_view, node_view};
 ghost use Rattle.pg_tenant.specs.Replies.{IsReply, IsRefusal};
 
 use crate::answer::Quota;
@@ -17,7 +17,7 @@ use pg_graph::Tables;
 use pg_json::ReplyBytes;
 use pg_plan::Statement;
 use pg_store::Store;
-use pg_syntax::{Item, NodePattern};
+use pg_plain::{Item, NodePattern};
 use pg_value_core::Fault;
 use std::alloc::Global;
 

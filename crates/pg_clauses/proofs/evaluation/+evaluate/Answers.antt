@@ -8,8 +8,8 @@ use Rattle.pg_meaning.specs.Rows.{value_in}
 use Rattle.pg_meaning.specs.Value.{node}
 use Rattle.pg_meaning.specs.declared.fault.Fault.TheVariants.{UndefinedVariable}
 use Rattle.pg_store.specs.Stores.{graph_of_store}
-use Rattle.pg_syntax.specs.View.{expression_view}
-use Rattle.pg_syntax.specs.declared.tree.Expression.{Expression}
+use Rattle.pg_plain.specs.View.{expression_view}
+use Rattle.pg_plain.specs.declared.tree.Expression.{Expression}
 use Rattle.pg_clauses.proofs.evaluation.+evaluate.Goals as goal
 
 pub evaluate_each-loop-item-preserved : goal.evaluate_each-loop-item-preserved

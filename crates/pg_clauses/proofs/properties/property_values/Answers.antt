@@ -5,8 +5,8 @@ use Rattle.pg_clauses.specs.Rows.{row_view}
 use Rattle.pg_meaning.specs.Value.{no_entries}
 use Rattle.pg_meaning.specs.Walks.{property_values}
 use Rattle.pg_store.specs.Stores.{graph_of_store}
-use Rattle.pg_syntax.specs.View.{properties_view}
-use Rattle.pg_syntax.specs.declared.tree.Pair.{Pair}
+use Rattle.pg_plain.specs.View.{properties_view}
+use Rattle.pg_plain.specs.declared.tree.Pair.{Pair}
 use Rattle.pg_clauses.proofs.properties.property_values.Goals as goal
 
 pub returns-in-Some-clause-ok : goal.returns-in-Some-clause-ok

@@ -4,7 +4,7 @@ use Rattle.std.specs.Cmp.Lexicographic.{slice_cmp}
 use Rattle.pg_meaning.specs.Names.{is_among}
 use Rattle.pg_plan.specs.Plans.{names_in}
 use Rattle.pg_run.specs.Checks.{fault_in_items}
-use Rattle.pg_syntax.specs.View.{item_view}
+use Rattle.pg_plain.specs.View.{item_view}
 use Rattle.pg_plan.proofs.faults.fault_in_items.Given as goal
 
 abbrev pub invariant-loop-item : goal.invariant-loop-item

@@ -4,7 +4,7 @@ use Rattle.std.specs.Cmp.Lexicographic.{slice_cmp}
 use Rattle.pg_meaning.specs.Names.{is_among}
 use Rattle.pg_meaning.specs.Parse.{pairs_of}
 use Rattle.pg_run.specs.Checks.{fault_in_pairs}
-use Rattle.pg_syntax.specs.View.{pair_view}
+use Rattle.pg_plain.specs.View.{pair_view}
 use Rattle.pg_plan.proofs.faults.fault_in_pairs.Given as goal
 
 abbrev pub invariant-loop-pair : goal.invariant-loop-pair

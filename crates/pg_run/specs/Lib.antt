@@ -4,3 +4,4 @@ pub mod Checks
 pub mod Evaluation
 pub mod Examples
 pub mod OneNode
+pub mod Plain

@@ -41,5 +41,11 @@ pub fn answer_plan<T: Tables>(
     if !may_write && plan.writes() {
         return Err(Fault::ReadOnly);
     }
-    answer_statement(alloc, store, shared, quota, plan.statement())
+    if plan.names_parameter() {
+        return Err(Fault::MissingParameter);
+    }
+    match plan.statement() {
+        Some(statement) => answer_statement(alloc, store, shared, quota, statement),
+        None => Err(Fault::NotYet),
+    }
 }

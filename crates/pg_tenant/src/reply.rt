@@ -1,12 +1,13 @@
 //! The replies to queries.
-ghost use Rattle.std.specs.Prelude.{IfOk, IfErr, Ok, [], map};
+ghost use Rattle.std.specs.Prelude.{◌≡◌, IfOk, IfErr, Ok, [], map, true};
 ghost use Rattle.pg_clauses.specs.Rows.{state_of};
 ghost use Rattle.pg_meaning.specs.Graph.{Graph};
 ghost use Rattle.pg_meaning.specs.Queries.{Outcome};
 ghost use Rattle.pg_meaning.specs.Value.{no_entries};
 ghost use Rattle.pg_run.specs.Answers.{returned};
 ghost use Rattle.pg_store.specs.Stores.{graph_of_store, IsFit};
-ghost use Rattle.pg_plain.specs.View.{item_view};
+ghost use Rattle.pg_run.specs.Plain.{are_plain_items};
+ghost use Rattle.pg_syntax_tree.specs.View.{item_view};
 ghost use Rattle.pg_tenant.specs.Replies.{IsReply, IsRefusal, Shows};
 
 use pg_clauses::{Table, return_values};
@@ -15,7 +16,7 @@ use pg_json::{ReplyBody, ReplyBytes, write_reply};
 use pg_plan::column_names;
 use pg_spell::spell_rows;
 use pg_store::Store;
-use pg_plain::Item;
+use pg_syntax_tree::Item;
 use pg_value_core::{Fault, Out};
 use std::alloc::Global;
 
@@ -29,6 +30,7 @@ pub(crate) fn reply_of_rows<T: Tables>(
     table: &Table<'_>,
 ) -> Result<ReplyBytes, Fault>
     requires fit { IsFit T.seen store.now shared.now }
+    requires plain { are_plain_items (map item_view items.now.items) ≡ true }
     ensures ok { IfOk result (λ bytes. (graph : Graph) → IsReply graph (returned no_entries max_steps (map item_view items.now.items) (state_of (graph_of_store T.seen store.now shared.now) table.now)) bytes (graph_of_store T.seen store.now shared.now)) }
     ensures err { IfErr result (λ e. (graph : Graph) → IsRefusal graph (returned no_entries max_steps (map item_view items.now.items) (state_of (graph_of_store T.seen store.now shared.now) table.now)) e) }
 {

@@ -1,5 +1,5 @@
 //! What each statement answers.
-ghost use Rattle.std.specs.Prelude.{◌≡◌, ◌≤◌, ◌^◌, ℕ, List, map, IfOk, IfErr, OnOk, OnErr};
+ghost use Rattle.std.specs.Prelude.{◌≡◌, ◌≤◌, ◌^◌, ℕ, List, map, true, IfOk, IfErr, OnOk, OnErr};
 ghost use Rattle.pg_graph.specs.Content.{Keeps};
 ghost use Rattle.pg_meaning.specs.Graph.{Graph, IsGraph, add_node};
 ghost use Rattle.pg_meaning.specs.Value.{Entries, no_entries};
@@ -7,7 +7,8 @@ ghost use Rattle.pg_plan.specs.Plans.{statement_view};
 ghost use Rattle.pg_run.specs.Answers.{one_node_answer};
 ghost use Rattle.pg_run.specs.OneNode.{returns, creates, creates_and_returns, matches};
 ghost use Rattle.pg_store.specs.Stores.{graph_of_store, IsFit};
-ghost use Rattle.pg_plain.specs.View.{item_view, node_view};
+ghost use Rattle.pg_run.specs.Plain.{is_plain_statement};
+ghost use Rattle.pg_syntax_tree.specs.View.{item_view, node_view};
 ghost use Rattle.pg_tenant.specs.Replies.{IsReply, IsRefusal};
 
 use crate::answer::Quota;
@@ -17,7 +18,7 @@ use pg_graph::Tables;
 use pg_json::ReplyBytes;
 use pg_plan::Statement;
 use pg_store::Store;
-use pg_plain::{Item, NodePattern};
+use pg_syntax_tree::{Item, NodePattern};
 use pg_value_core::Fault;
 use std::alloc::Global;
 
@@ -27,12 +28,13 @@ pub(crate) fn answer_statement<T: Tables>(
     store: &mut Store<T>,
     shared: &mut T::Shared,
     quota: Quota,
-    statement: &Statement,
+    statement: Statement<'_>,
 ) -> Result<ReplyBytes, Fault>
     requires fit { IsFit T.seen store.old shared.old }
     requires quota { quota.max_elements ≤ 2 ^ 63 }
-    ensures ok { IfOk result (λ bytes. IsReply (graph_of_store T.seen store.old shared.old) (one_node_answer (statement_view statement.now) no_entries (graph_of_store T.seen store.old shared.old) quota.max_steps quota.max_elements) bytes (graph_of_store T.seen store.new shared.new)) }
-    ensures err { IfErr result (λ e. IsRefusal (graph_of_store T.seen store.old shared.old) (one_node_answer (statement_view statement.now) no_entries (graph_of_store T.seen store.old shared.old) quota.max_steps quota.max_elements) e) }
+    requires plain { is_plain_statement (statement_view statement) ≡ true }
+    ensures ok { IfOk result (λ bytes. IsReply (graph_of_store T.seen store.old shared.old) (one_node_answer (statement_view statement) no_entries (graph_of_store T.seen store.old shared.old) quota.max_steps quota.max_elements) bytes (graph_of_store T.seen store.new shared.new)) }
+    ensures err { IfErr result (λ e. IsRefusal (graph_of_store T.seen store.old shared.old) (one_node_answer (statement_view statement) no_entries (graph_of_store T.seen store.old shared.old) quota.max_steps quota.max_elements) e) }
     ensures refused { OnErr result (graph_of_store T.seen store.new shared.new ≡ graph_of_store T.seen store.old shared.old) }
     ensures fit { IsFit T.seen store.new shared.new }
     ensures keeps { Keeps T.seen store.old.tables shared.old store.new.tables shared.new }
@@ -55,6 +57,7 @@ fn answer_return<T: Tables>(
     items: &Vec<Item>,
 ) -> Result<ReplyBytes, Fault>
     requires fit { IsFit T.seen store.now shared.now }
+    requires plain { is_plain_statement (returns (map item_view items.now.items)) ≡ true }
     ensures ok { IfOk result (λ bytes. IsReply (graph_of_store T.seen store.now shared.now) (one_node_answer (returns (map item_view items.now.items)) no_entries (graph_of_store T.seen store.now shared.now) quota.max_steps quota.max_elements) bytes (graph_of_store T.seen store.now shared.now)) }
     ensures err { IfErr result (λ e. IsRefusal (graph_of_store T.seen store.now shared.now) (one_node_answer (returns (map item_view items.now.items)) no_entries (graph_of_store T.seen store.now shared.now) quota.max_steps quota.max_elements) e) }
 {
@@ -71,6 +74,7 @@ fn answer_match<T: Tables>(
     items: &Vec<Item>,
 ) -> Result<ReplyBytes, Fault>
     requires fit { IsFit T.seen store.now shared.now }
+    requires plain { is_plain_statement (matches (node_view node.now) (map item_view items.now.items)) ≡ true }
     ensures ok { IfOk result (λ bytes. IsReply (graph_of_store T.seen store.now shared.now) (one_node_answer (matches (node_view node.now) (map item_view items.now.items)) no_entries (graph_of_store T.seen store.now shared.now) quota.max_steps quota.max_elements) bytes (graph_of_store T.seen store.now shared.now)) }
     ensures err { IfErr result (λ e. IsRefusal (graph_of_store T.seen store.now shared.now) (one_node_answer (matches (node_view node.now) (map item_view items.now.items)) no_entries (graph_of_store T.seen store.now shared.now) quota.max_steps quota.max_elements) e) }
 {
@@ -87,6 +91,7 @@ fn answer_create<T: Tables>(
 ) -> Result<ReplyBytes, Fault>
     requires fit { IsFit T.seen store.old shared.old }
     requires quota { quota.max_elements ≤ 2 ^ 63 }
+    requires plain { is_plain_statement (creates (node_view node.now)) ≡ true }
     ensures ok { IfOk result (λ bytes. IsReply (graph_of_store T.seen store.old shared.old) (one_node_answer (creates (node_view node.now)) no_entries (graph_of_store T.seen store.old shared.old) quota.max_steps quota.max_elements) bytes (graph_of_store T.seen store.new shared.new)) }
     ensures err { IfErr result (λ e. IsRefusal (graph_of_store T.seen store.old shared.old) (one_node_answer (creates (node_view node.now)) no_entries (graph_of_store T.seen store.old shared.old) quota.max_steps quota.max_elements) e) }
     ensures refused { OnErr result (graph_of_store T.seen store.new shared.new ≡ graph_of_store T.seen store.old shared.old) }
@@ -115,6 +120,7 @@ fn answer_create_and_return<T: Tables>(
 ) -> Result<ReplyBytes, Fault>
     requires fit { IsFit T.seen store.old shared.old }
     requires quota { quota.max_elements ≤ 2 ^ 63 }
+    requires plain { is_plain_statement (creates_and_returns (node_view node.now) (map item_view items.now.items)) ≡ true }
     ensures ok { IfOk result (λ bytes. IsReply (graph_of_store T.seen store.old shared.old) (one_node_answer (creates_and_returns (node_view node.now) (map item_view items.now.items)) no_entries (graph_of_store T.seen store.old shared.old) quota.max_steps quota.max_elements) bytes (graph_of_store T.seen store.new shared.new)) }
     ensures err { IfErr result (λ e. IsRefusal (graph_of_store T.seen store.old shared.old) (one_node_answer (creates_and_returns (node_view node.now) (map item_view items.now.items)) no_entries (graph_of_store T.seen store.old shared.old) quota.max_steps quota.max_elements) e) }
     ensures refused { OnErr result (graph_of_store T.seen store.new shared.new ≡ graph_of_store T.seen store.old shared.old) }

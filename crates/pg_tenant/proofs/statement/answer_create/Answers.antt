@@ -9,7 +9,7 @@ use Rattle.pg_clauses.specs.Rows.{state_of}
 use Rattle.pg_run.specs.Answers.{created}
 use Rattle.pg_store.proofs.Stores.{store_is_graph}
 use Rattle.pg_store.specs.Stores.{graph_of_store}
-use Rattle.pg_plain.specs.View.{node_view}
+use Rattle.pg_syntax_tree.specs.View.{node_view}
 use Rattle.pg_tenant.proofs.ReplyLemmas.{settled_ok, settled_err}
 use Rattle.pg_tenant.proofs.statement.answer_create.Goals as goal
 

@@ -6,7 +6,7 @@ use Rattle.pg_meaning.specs.Value.{no_entries}
 use Rattle.pg_run.specs.Answers.{created, returned}
 use Rattle.pg_store.proofs.Stores.{store_is_graph}
 use Rattle.pg_store.specs.Stores.{graph_of_store}
-use Rattle.pg_plain.specs.View.{item_view, node_view}
+use Rattle.pg_syntax_tree.specs.View.{item_view, node_view}
 use Rattle.pg_tenant.proofs.ReplyLemmas.{settled_ok, settled_err}
 use Rattle.pg_tenant.proofs.statement.answer_create_and_return.Goals as goal
 

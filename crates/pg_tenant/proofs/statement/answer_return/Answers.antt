@@ -3,7 +3,7 @@ use Rattle.pg_clauses.specs.Rows.{state_of}
 use Rattle.pg_meaning.specs.Value.{no_entries}
 use Rattle.pg_run.specs.Answers.{begin, returned}
 use Rattle.pg_store.specs.Stores.{graph_of_store}
-use Rattle.pg_plain.specs.View.{item_view}
+use Rattle.pg_syntax_tree.specs.View.{item_view}
 use Rattle.pg_tenant.proofs.ReplyLemmas.{reply_of_same, refusal_of_same}
 use Rattle.pg_tenant.proofs.statement.answer_return.Goals as goal
 

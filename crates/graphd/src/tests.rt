@@ -3,3 +3,4 @@ mod devices;
 mod queries;
 mod runs;
 mod servers;
+mod texts;

@@ -4,7 +4,7 @@ use std::alloc::{AllocError, Global};
 use std::test::Fail;
 
 /// A query's body. The text has no quotes and no backslash.
-fn body_of(alloc: Global, token: &str, text: &str) -> Result<String, AllocError> {
+pub(super) fn body_of(alloc: Global, token: &str, text: &str) -> Result<String, AllocError> {
     format!(in alloc; "{{\"op\":\"query\",\"token\":\"{token}\",\"text\":\"{text}\"}}")
 }
 
@@ -76,8 +76,8 @@ const TURNS: [(&str, &str, &str); 19] = [
     ),
     (
         "a1",
-        "CREATE (n:P) RETURN id(n) = 0",
-        "{\"code\":7,\"error\":\"BadSyntax\"}",
+        "CREATE (n:P) RETURN id(n) + 0",
+        "{\"code\":90,\"error\":\"NotYet\"}",
     ),
     (
         "a1",

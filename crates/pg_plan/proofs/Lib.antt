@@ -1,4 +1,4 @@
-pub mod FaultLemmas
-pub mod Shapes
-pub mod TextLemmas
 pub mod MeaningLemmas
+pub mod PlainLemmas
+pub mod TextLemmas
+pub mod Views

@@ -1,62 +1,52 @@
--- A text that reads and has no static fault answers as its query means.
-use Rattle.std.proofs.Common.{◌≡◌, ℕ, List, [], Bool, true, false, cond, Result, Ok, Err, Option, Some, None, refl, sym, ap, subst, ◌∙◌}
-use Rattle.pg_lex.specs.Plain.{plain_tokens_of}
+-- What the query of a text answers, where it is answered so far.
+use Rattle.std.proofs.Common.{◌≡◌, ℕ, Bool, Result, Ok, Err, Option, Some, None, refl, sym, ap, subst, ◌∙◌}
 use Rattle.pg_meaning.specs.Agreement.{OutcomeAgrees}
-use Rattle.pg_meaning.specs.Depth.{is_too_deep}
-use Rattle.pg_meaning.specs.Graph.{Graph, IsGraph}
-use Rattle.pg_meaning.specs.Queries.{answer_of}
+use Rattle.pg_meaning.specs.Graph.{Graph}
+use Rattle.pg_meaning.specs.Queries.{ordered}
 use Rattle.pg_meaning.specs.StaticFaults.{Found, static_fault}
-use Rattle.pg_meaning.specs.Texts.{read_query, checked_query, checked_by}
-use Rattle.pg_meaning.specs.Tokens.{Token}
+use Rattle.pg_meaning.specs.Texts.{checked_query, checked_by, read}
 use Rattle.pg_meaning.specs.Tree.{Query}
 use Rattle.pg_meaning.specs.Value.{Entries}
 use Rattle.pg_meaning.specs.declared.fault.Fault.{Fault}
-use Rattle.pg_meaning.specs.declared.fault.Fault.TheVariants.{TooDeep}
-use Rattle.pg_plan.proofs.Shapes.{OneNodeOf, one_node_of}
-use Rattle.pg_plan.specs.Laws.{TextsMean}
-use Rattle.pg_plan.specs.Reading.{parsed}
-use Rattle.pg_run.proofs.AgreementLemmas.{one_node_means}
-use Rattle.pg_run.proofs.CheckLemmas.{one_node_faults}
-use Rattle.pg_run.proofs.QueryLemmas.{one_node_answers}
-use Rattle.pg_run.specs.Checks.{one_node_fault}
+use Rattle.pg_plan.specs.Laws.{PlanAnswers, IsGoodPlan, PlansAnswer, TextsMean}
+use Rattle.pg_plan.specs.Plans.{plan_query}
 use Rattle.pg_run.specs.OneNode.{OneNode, IsSimple, query_of}
-use Rattle.pg_plain.proofs.Queries.{plain_sound}
-use Rattle.pg_plain.specs.Plain.{IsPlain}
-use Rattle.pg_plain.specs.PlainParse.{plain_query_of}
+use Rattle.pg_run.specs.Plain.{answered_statement}
+use Rattle.pg_run.proofs.AgreementLemmas.{one_node_plans, one_node_means}
+use Rattle.pg_run.proofs.CheckLemmas.{one_node_faults}
+use Rattle.pg_run.proofs.PlainLemmas.{answered_simple, answered_query}
+use Rattle.pg_run.proofs.QueryLemmas.{one_node_answers}
 
-found_in : (o : Option Query) (q : Query) → read_query o ≡ Ok q → o ≡ Some q
-found_in None q h = absurd cc
-found_in (Some p) q h = cc
+without_fault : (p : Query) (found : Option Found) (q : Query) → static_fault p ≡ found → checked_by found p ≡ Ok q → static_fault q ≡ None
+without_fault p None q is h = let same : p ≡ q = cc in ap static_fault (sym same) ∙ is
+without_fault p (Some f) q is h = absurd cc
 
-plain_if_read : (text : List ℕ) (ts : List Token) (deep : Bool) (q : Query) → cond deep (Err TooDeep) (read_query (plain_query_of text ts)) ≡ Ok q → IsPlain q
-plain_if_read text ts true q h = absurd cc
-plain_if_read text ts false q h = (plain_sound text ts q (found_in (plain_query_of text ts) q h)).1
+faultless : (r : Result Query Fault) (q : Query) → checked_query r ≡ Ok q → static_fault q ≡ None
+faultless (Err e) q h = absurd cc
+faultless (Ok p) q h = without_fault p (static_fault p) q refl h
 
-plain_if_parsed : (text : List ℕ) (tokens : Option (List Token)) (q : Query) → parsed text tokens ≡ Ok q → IsPlain q
-plain_if_parsed text None q h = absurd cc
-plain_if_parsed text (Some ts) q h = plain_if_read text ts (is_too_deep ts) q h
+module _ (x : OneNode) (semicolon : Bool) (simple : IsSimple x) (none : static_fault (query_of x semicolon) ≡ None) where
+  answers : (parameters : Entries) (graph : Graph) (max_steps max_elements : ℕ) → PlanAnswers (query_of x semicolon) x parameters graph max_steps max_elements
+  answers parameters graph max_steps max_elements =
+      let same = one_node_answers x semicolon parameters graph max_steps max_elements simple in
+      record {
+        query = same;
+        planned = ap (λ p. ordered p (query_of x semicolon) parameters graph max_steps max_elements) (sym (one_node_plans x semicolon).chosen) ∙ same;
+        means = λ is. one_node_means x semicolon parameters graph max_steps max_elements simple (sym (one_node_faults x semicolon simple) ∙ none) is;
+      }
 
-by_fault : (p : Query) (found : Option Found) (q : Query) → static_fault p ≡ found → checked_by found p ≡ Ok q → (p ≡ q) × (static_fault q ≡ None)
-by_fault p None q is h = let same : p ≡ q = cc in (same, ap static_fault (sym same) ∙ is)
-by_fault p (Some f) q is h = absurd cc
+  good : IsGoodPlan (query_of x semicolon) x
+  good = record { faultless = none; begins = (one_node_plans x semicolon).begins; simple = simple; answers = answers }
 
-passed : (r : Result Query Fault) (q : Query) → checked_query r ≡ Ok q → (r ≡ Ok q) × (static_fault q ≡ None)
-passed (Err e) q h = absurd cc
-passed (Ok p) q h = let both = by_fault p (static_fault p) q refl h in (ap (λ (x : Query). Ok x) both.0, both.1)
+good_if_answered : (q : Query) (x : OneNode) → answered_statement q ≡ Some x → static_fault q ≡ None → IsGoodPlan q x
+good_if_answered q x h none =
+    let same = answered_query q x h in
+    subst (λ p. IsGoodPlan p x) same (good x q.semicolon (answered_simple q x h) (ap static_fault same ∙ none))
 
-module _ (parameters : Entries) (max_steps max_elements : ℕ) (graph : Graph) (is : IsGraph graph) where
-  simple_means : (x : OneNode) (semicolon : Bool) → IsSimple x → one_node_fault x ≡ None
-      → OutcomeAgrees (query_of x semicolon) parameters max_elements graph (answer_of [] (query_of x semicolon) parameters graph max_steps max_elements)
-  simple_means x semicolon simple none =
-      subst (OutcomeAgrees (query_of x semicolon) parameters max_elements graph) (sym (one_node_answers x semicolon parameters graph max_steps max_elements simple))
-      (one_node_means x semicolon parameters graph max_steps max_elements simple none is)
-
-  plain_means : (q : Query) → OneNodeOf q → static_fault q ≡ None → OutcomeAgrees q parameters max_elements graph (answer_of [] q parameters graph max_steps max_elements)
-  plain_means q one none =
-      let fault : one_node_fault one.shape ≡ None = sym (one_node_faults one.shape q.semicolon one.simple) ∙ ap static_fault (sym one.is) ∙ none in
-      subst (λ (p : Query). OutcomeAgrees p parameters max_elements graph (answer_of [] p parameters graph max_steps max_elements)) (sym one.is) (simple_means one.shape q.semicolon one.simple fault)
+pub plans_answer : PlansAnswer
+plans_answer text plan x h answered = good_if_answered (plan_query plan) x answered (faultless (read text) (plan_query plan) h.is)
 
 pub texts_mean : TextsMean
-texts_mean text q parameters graph max_steps max_elements h is =
-    let both = passed (parsed text (plain_tokens_of text)) q h in
-    plain_means parameters max_steps max_elements graph is q (one_node_of q (plain_if_parsed text (plain_tokens_of text) q both.0)) both.1
+texts_mean text q x parameters graph max_steps max_elements h answered is =
+    let a = (good_if_answered q x answered (faultless (read text) q h)).answers parameters graph max_steps max_elements in
+    subst (OutcomeAgrees q parameters max_elements graph) (sym a.query) (a.means is)

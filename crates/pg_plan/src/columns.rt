@@ -2,9 +2,9 @@
 ghost use Rattle.std.specs.Prelude.{◌≡◌, map, IfOk, string_bytes};
 ghost use Rattle.pg_meaning.specs.Scopes.{return_column};
 ghost use Rattle.pg_run.specs.Answers.{item_names};
-ghost use Rattle.pg_plain.specs.View.{item_view};
+ghost use Rattle.pg_syntax_tree.specs.View.{item_view};
 
-use pg_plain::Item;
+use pg_syntax_tree::Item;
 use std::alloc::{AllocError, Global};
 
 /// The name of an item's column: its alias, or its text as written.

@@ -4,25 +4,23 @@
 ghost use Rattle.pg_plan.specs.Laws.{PlansAnswer, TextsMean};
 
 mod columns;
-mod faults;
+mod plain;
 mod reading;
+mod shapes;
 mod statement;
-mod variables;
+mod updates;
 
 pub use columns::column_names;
 pub use reading::{check_length, plan_text};
 pub use statement::{Plan, Statement};
 
-/// What a plan of a text is good for: its query is the text's one query in the whole language, has no static fault, and
-/// answers as that of one node at most does.
+/// What a plan of a text is good for, where its query is answered so far: it has no static fault, and answers as its
+/// statement does.
 pub fn law_of_plans()
     ensures { PlansAnswer }
 {}
 
-/// What the query of a text answers is what it means, or a fault in which it may end.
+/// What such a query of a text answers is what it means, or a fault in which it may end.
 pub fn law_of_texts()
     ensures { TextsMean }
 {}
-
-#[cfg(test)]
-mod tests;

@@ -1,17 +1,19 @@
 //! From a query text to its plan.
 ghost use Rattle.std.specs.Prelude.{◌≡◌, ◌≢◌, IfOk, IfErr, Ok, Err};
-ghost use Rattle.pg_lex.specs.Plain.{plain_tokens_of};
+ghost use Rattle.pg_lex.specs.View.{tokens_view};
+ghost use Rattle.pg_meaning.specs.Texts as spec;
 ghost use Rattle.pg_meaning.specs.declared.fault.Fault.TheVariants.{OutOfMemory};
-ghost use Rattle.pg_plan.specs.Plans.{IsPlanOfText, ReadsPlan};
-ghost use Rattle.pg_plan.specs.Reading.{parsed, tested_length, text_checked};
-ghost use Rattle.pg_plain.specs.Plain.{IsPlain};
-ghost use Rattle.pg_plain.specs.View.{query_view};
+ghost use Rattle.pg_plan.specs.Parameters.{any_parameter, has_parameters};
+ghost use Rattle.pg_plan.specs.Plans.{IsPlanOfText};
+ghost use Rattle.pg_plan.specs.Reading.{tested_length, text_checked};
+ghost use Rattle.pg_syntax_tree.specs.View.{query_view};
 
-use crate::faults::check;
-use crate::statement::{Plan, statement_of};
-use pg_lex::plain_tokens;
-use pg_plain::{Query, parse};
-use pg_value::Fault;
+use crate::statement::Plan;
+use pg_lex::{Lexeme, Token, tokens};
+use pg_meaning::Fault;
+use pg_scope::check;
+use pg_syntax::parse;
+use pg_syntax_tree::Query;
 use std::alloc::Global;
 
 /// A query text has at most so many bytes.
@@ -32,38 +34,32 @@ pub fn plan_text(alloc: Global, text: &str) -> Result<Plan, Fault>
     ensures ok { IfOk result (IsPlanOfText text.now) }
     ensures err { IfErr result (λ e. e ≢ OutOfMemory → text_checked text.now ≡ Err e) }
 {
-    let plan = plan_read(alloc, text)?;
-    check(alloc, &plan.statement)?;
-    Ok(plan)
+    let (query, names_parameter) = read(alloc, text)?;
+    let query = check(alloc, query)?;
+    Ok(Plan::new(query, names_parameter))
 }
 
-/// The plan of a text, before its names are checked.
-fn plan_read(alloc: Global, text: &str) -> Result<Plan, Fault>
-    ensures ok { IfOk result (ReadsPlan (parsed text.now (plain_tokens_of text.now))) }
-    ensures err { IfErr result (λ e. e ≢ OutOfMemory → parsed text.now (plain_tokens_of text.now) ≡ Err e) }
+/// The tree of a text, and whether it names a parameter.
+fn read(alloc: Global, text: &str) -> Result<(Query, bool), Fault>
+    ensures ok { IfOk result (λ r. spec.read text.now ≡ Ok (query_view r.0)) }
+    ensures parameter { IfOk result (λ r. r.1 ≡ has_parameters (query_view r.0)) }
+    ensures err { IfErr result (λ e. e ≢ OutOfMemory → spec.read text.now ≡ Err e) }
 {
-    let query = read(alloc, text)?;
-    Ok(into_plan(query))
+    let tokens = tokens(alloc, text)?;
+    let query = parse(alloc, text, &tokens)?;
+    Ok((query, any_parameter(&tokens)))
 }
 
-/// The plan of a plain query.
-fn into_plan(query: Query) -> Plan
-    requires { IsPlain (query_view query) }
-    ensures { ReadsPlan (Ok (query_view query)) result }
+fn any_parameter(tokens: &Vec<Token<'_>>) -> bool
+    ensures { result ≡ any_parameter (tokens_view tokens.now.items) }
 {
-    let semicolon = query.semicolon;
-    Plan {
-        statement: statement_of(query.clauses),
-        semicolon,
+    for token in tokens {
+        if matches!(
+            token.lexeme,
+            Lexeme::Parameter(_) | Lexeme::QuotedParameter(_)
+        ) {
+            return true;
+        }
     }
-}
-
-/// The tree of a text without escapes, quoted names and parameters.
-fn read(alloc: Global, text: &str) -> Result<Query, Fault>
-    ensures ok { IfOk result (λ q. parsed text.now (plain_tokens_of text.now) ≡ Ok (query_view q)) }
-    ensures plain { IfOk result (λ q. IsPlain (query_view q)) }
-    ensures err { IfErr result (λ e. e ≢ OutOfMemory → parsed text.now (plain_tokens_of text.now) ≡ Err e) }
-{
-    let tokens = plain_tokens(alloc, text)?;
-    parse(alloc, text, &tokens)
+    false
 }

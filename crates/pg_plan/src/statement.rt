@@ -1,70 +1,73 @@
 //! What is kept of a query text.
-ghost use Rattle.std.specs.Prelude.{◌≡◌, map, ◌∷◌, []};
-ghost use Rattle.pg_plan.specs.Plans.{statement_view, plan_query, AreOfOneNode};
-ghost use Rattle.pg_plan.specs.Updates.{any_updates, updates};
-ghost use Rattle.pg_run.specs.OneNode.{clauses_of};
-ghost use Rattle.pg_plain.specs.View.{clause_view, item_view};
+ghost use Rattle.std.specs.Prelude.{◌≡◌, is_some};
+ghost use Rattle.pg_plan.specs.Parameters.{has_parameters};
+ghost use Rattle.pg_plan.specs.Updates.{updates};
+ghost use Rattle.pg_run.specs.Plain.{answered_statement};
+ghost use Rattle.pg_syntax_tree.specs.View.{query_view};
 
-use pg_plain::{Clause, Item, NodePattern};
+use crate::shapes::{is_answered, statement_of};
+use crate::updates::any_updates;
+use pg_syntax_tree::{Item, NodePattern, Query};
 
-/// A query of one node at most.
-#[derive(Debug, PartialEq, Eq, Drop)]
-pub enum Statement {
-    Return(Vec<Item>),
-    Create(NodePattern),
-    CreateAndReturn(NodePattern, Vec<Item>),
-    Match(NodePattern, Vec<Item>),
+/// What is answered so far.
+#[derive(Clone, Copy, Debug)]
+pub enum Statement<'a> {
+    Return(&'a Vec<Item>),
+    Create(&'a NodePattern),
+    CreateAndReturn(&'a NodePattern, &'a Vec<Item>),
+    Match(&'a NodePattern, &'a Vec<Item>),
 }
 
-impl Statement {
-    /// Whether it changes the graph.
-    pub fn writes(&self) -> bool
-        ensures { result ≡ any_updates (clauses_of (statement_view self.now)) }
-    {
-        match self {
-            Statement::Create(_) | Statement::CreateAndReturn(_, _) => true,
-            Statement::Return(_) | Statement::Match(_, _) => false,
-        }
-    }
-}
-
-/// A query that was read and has no static fault. Each walk of it begins at its one node.
-#[derive(Debug, PartialEq, Eq, Drop)]
+/// A query that was read and has no static fault, with what every request asks of it.
+#[derive(Debug, Drop)]
 pub struct Plan {
-    pub(crate) statement: Statement,
-    pub(crate) semicolon: bool,
+    pub(crate) query: Query,
+    writes: bool,
+    names_parameter: bool,
+    is_answered: bool,
+    ghost writing: { writes ≡ updates (query_view query) },
+    ghost naming: { names_parameter ≡ has_parameters (query_view query) },
+    ghost answering: { is_answered ≡ is_some (answered_statement (query_view query)) },
 }
 
 impl Plan {
-    pub fn statement(&self) -> &Statement
-        ensures { result.now ≡ self.now.statement }
+    ghost use Rattle.std.specs.Prelude.{option_map};
+    ghost use Rattle.pg_plan.specs.Plans.{statement_view, plan_query};
+
+    pub(crate) fn new(query: Query, names_parameter: bool) -> Self
+        requires { names_parameter ≡ has_parameters (query_view query) }
+        ensures { plan_query result ≡ query_view query }
     {
-        &self.statement
+        let writes = any_updates(&query.clauses);
+        let is_answered = is_answered(&query);
+        Plan {
+            query,
+            writes,
+            names_parameter,
+            is_answered,
+        }
     }
 
     /// Whether its query changes the graph.
     pub fn writes(&self) -> bool
         ensures { result ≡ updates (plan_query self.now) }
     {
-        self.statement.writes()
+        self.writes
     }
-}
 
-/// The query of these clauses.
-pub(crate) fn statement_of(clauses: Vec<Clause>) -> Statement
-    requires { AreOfOneNode (map clause_view clauses.items) }
-    ensures { clauses_of (statement_view result) ≡ map clause_view clauses.items }
-{
-    let mut clauses = clauses;
-    match clauses.pop() {
-        Some(Clause::Return(projection)) => match clauses.pop() {
-            None => Statement::Return(projection.items),
-            Some(Clause::Create(node)) => Statement::CreateAndReturn(node, projection.items),
-            Some(Clause::Match(node)) => Statement::Match(node, projection.items),
-            Some(Clause::Return(_)) => unreachable!(),
-        },
-        Some(Clause::Create(node)) => Statement::Create(node),
-        Some(Clause::Match(_)) => unreachable!(),
-        None => unreachable!(),
+    pub fn names_parameter(&self) -> bool
+        ensures { result ≡ has_parameters (plan_query self.now) }
+    {
+        self.names_parameter
+    }
+
+    /// Its statement, where it is answered so far.
+    pub fn statement(&self) -> Option<Statement<'_>>
+        ensures { option_map statement_view result ≡ answered_statement (plan_query self.now) }
+    {
+        if !self.is_answered {
+            return None;
+        }
+        statement_of(&self.query.clauses)
     }
 }

@@ -5,5 +5,6 @@ pub mod CreateLemmas
 pub mod EvaluationLemmas
 pub mod Examples
 pub mod MatchLemmas
+pub mod PlainLemmas
 pub mod QueryLemmas
 pub mod ReturnLemmas

@@ -1,4 +1,4 @@
-use Rattle.pg_plan.proofs.TextLemmas.{plans_answer}
+use Rattle.pg_plan.proofs.MeaningLemmas.{plans_answer}
 use Rattle.pg_plan.proofs.law_of_plans.Goals as goal
 
 pub returns : goal.returns

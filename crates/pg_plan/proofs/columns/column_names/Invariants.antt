@@ -1,6 +1,6 @@
 use Rattle.std.proofs.Common.{◌≡◌, ◌++◌, drop, map, string_bytes}
 use Rattle.pg_run.specs.Answers.{item_names}
-use Rattle.pg_plain.specs.View.{item_view}
+use Rattle.pg_syntax_tree.specs.View.{item_view}
 use Rattle.pg_plan.proofs.columns.column_names.Given as goal
 
 abbrev pub invariant-loop-item : goal.invariant-loop-item

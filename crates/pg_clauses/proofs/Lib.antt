@@ -1,4 +1,5 @@
 pub mod AnswersInTurn
 pub mod EvaluationLemmas
 pub mod IdLemmas
+pub mod PlainForms
 pub mod PropertyLemmas

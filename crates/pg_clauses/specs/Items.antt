@@ -8,8 +8,8 @@ use Rattle.pg_meaning.specs.Tree.{Item}
 use Rattle.pg_meaning.specs.Value.{Value as Datum, no_entries}
 use Rattle.pg_meaning.specs.declared.fault.Fault.{Fault}
 use Rattle.pg_run.specs.Answers.{item_values}
-use Rattle.pg_plain.specs.View.{item_view}
-use Rattle.pg_plain.specs.declared.tree.Item.{Item as Code}
+use Rattle.pg_syntax_tree.specs.View.{item_view}
+use Rattle.pg_syntax_tree.specs.declared.clauses.Item.{Item as Code}
 use Rattle.pg_value_core.specs.View.{view}
 use Rattle.pg_value_core.specs.declared.value.Value.{Value}
 

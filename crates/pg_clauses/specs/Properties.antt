@@ -4,17 +4,22 @@ use Rattle.pg_clauses.specs.Evaluation.{given}
 use Rattle.pg_meaning.specs.Answer.{◌>>=◌, each_answer}
 use Rattle.pg_meaning.specs.Graph.{Graph}
 use Rattle.pg_meaning.specs.Rows.{Row}
-use Rattle.pg_meaning.specs.Tree.{Expression}
+use Rattle.pg_meaning.specs.Parse.{pairs_of}
+use Rattle.pg_meaning.specs.Tree.{Expression, Pairs}
 use Rattle.pg_meaning.specs.Value.{Value as Datum}
 use Rattle.pg_meaning.specs.declared.fault.Fault.{Fault}
-use Rattle.pg_plain.specs.View.{expression_view}
-use Rattle.pg_plain.specs.declared.tree.Pair.{Pair}
+use Rattle.pg_syntax_tree.specs.View.{expression_view, pair_view}
+use Rattle.pg_syntax_tree.specs.declared.expression.Expression.{Expression as Code}
+use Rattle.pg_syntax_tree.specs.declared.expression.Name.{Name}
+
+abbrev pub pairs_view : List (Name × Code) → Pairs
+pairs_view ps = pairs_of (map pair_view ps)
 
 -- keys with their expressions
-abbrev pub pair_wanted : Pair → List ℕ × Expression
-pair_wanted p = (string_bytes p.key.text, expression_view p.value)
+abbrev pub pair_wanted : Name × Code → List ℕ × Expression
+pair_wanted p = (string_bytes p.0.text, expression_view p.1)
 
-abbrev pub wanted_of : List Pair → List (List ℕ × Expression)
+abbrev pub wanted_of : List (Name × Code) → List (List ℕ × Expression)
 wanted_of ps = map pair_wanted ps
 
 -- what they give, one after the other

@@ -1,5 +1,5 @@
 //! CREATE of one node.
-ghost use Rattle.std.specs.Prelude.{◌≡◌, ◌≢◌, ◌<◌, ◌≤◌, ◌^◌, ◌∷◌, [], ℕ, List, IfOk, IfErr, OnOk, OnErr, Ok, Err};
+ghost use Rattle.std.specs.Prelude.{◌≡◌, ◌≢◌, ◌<◌, ◌≤◌, ◌^◌, ◌∷◌, [], ℕ, List, IfOk, IfErr, OnOk, OnErr, Ok, Err, true};
 ghost use Rattle.pg_clauses.specs.Creation.{storable_values, room_for_one};
 ghost use Rattle.pg_clauses.specs.Fits.{label_texts};
 ghost use Rattle.pg_clauses.specs.Rows.{state_of};
@@ -9,15 +9,16 @@ ghost use Rattle.pg_meaning.specs.Meters.{greatest_id};
 ghost use Rattle.pg_meaning.specs.Value.{Entries, no_entries};
 ghost use Rattle.pg_meaning.specs.declared.fault.Fault.TheVariants.{OutOfMemory};
 ghost use Rattle.pg_run.specs.Answers.{created};
+ghost use Rattle.pg_run.specs.Plain.{are_plain_properties};
 ghost use Rattle.pg_store.specs.Stores.{graph_of_store, IsFit, texts_of, pairs_of};
-ghost use Rattle.pg_plain.specs.View.{node_view, properties_view};
+ghost use Rattle.pg_syntax_tree.specs.View.{node_view, properties_view};
 
 use crate::properties::property_values;
 use crate::row::{Row, Table};
 use crate::storable::are_storable;
 use pg_graph::Tables;
 use pg_store::Store;
-use pg_plain::{Name, NodePattern, Pair};
+use pg_syntax_tree::{Name, NodePattern, Properties};
 use pg_value_core::{Fault, NodeId, Value};
 use std::alloc::{AllocError, Global};
 
@@ -35,6 +36,7 @@ pub fn create<'a, T: Tables>(
 ) -> Result<Table<'a>, Fault>
     requires fit { IsFit T.seen store.old shared.old }
     requires quota { max_elements ≤ 2 ^ 63 }
+    requires plain { are_plain_properties (properties_view pattern.now.properties) ≡ true }
     ensures ok { IfOk result (λ table. created no_entries max_steps max_elements (node_view pattern.now) (graph_of_store T.seen store.old shared.old) ≡ Ok (state_of (graph_of_store T.seen store.new shared.new) table)) }
     ensures made { OnOk result ((labels : List (List ℕ)) × (properties : Entries) × (graph_of_store T.seen store.new shared.new ≡ add_node labels properties (graph_of_store T.seen store.old shared.old))) }
     ensures err { IfErr result (λ e. e ≢ OutOfMemory → created no_entries max_steps max_elements (node_view pattern.now) (graph_of_store T.seen store.old shared.old) ≡ Err e) }
@@ -58,9 +60,10 @@ fn storable_values<'a, T: Tables>(
     alloc: Global,
     store: &Store<T>,
     shared: &T::Shared,
-    properties: &'a Option<Vec<Pair>>,
+    properties: &'a Properties,
 ) -> Result<Vec<(&'a str, Value)>, Fault>
     requires fit { IsFit T.seen store.now shared.now }
+    requires plain { are_plain_properties (properties_view properties.now) ≡ true }
     ensures ok { IfOk result (λ pairs. storable_values (graph_of_store T.seen store.now shared.now) (properties_view properties.now) ≡ Ok (pairs_of pairs.items)) }
     ensures err { IfErr result (λ e. e ≢ OutOfMemory → storable_values (graph_of_store T.seen store.now shared.now) (properties_view properties.now) ≡ Err e) }
 {

@@ -4,6 +4,7 @@ ghost use Rattle.pg_clauses.specs.Items.{items_view, items_given, rows_given, va
 ghost use Rattle.pg_clauses.specs.Rows.{row_view, rows_view};
 ghost use Rattle.pg_meaning.specs.Answer.{◌>>◌ as and_after, unless};
 ghost use Rattle.pg_meaning.specs.declared.fault.Fault.TheVariants.{OutOfMemory, StepQuota};
+ghost use Rattle.pg_run.specs.Plain.{are_plain_items};
 ghost use Rattle.pg_store.specs.Stores.{graph_of_store, IsFit};
 ghost use Rattle.pg_value_core.specs.View.{view};
 
@@ -11,7 +12,7 @@ use crate::evaluation::evaluate;
 use crate::row::{Row, Table};
 use pg_graph::Tables;
 use pg_store::Store;
-use pg_plain::Item;
+use pg_syntax_tree::Item;
 use pg_value_core::{Fault, Value};
 use std::alloc::Global;
 
@@ -25,6 +26,7 @@ pub fn return_values<T: Tables>(
     table: &Table<'_>,
 ) -> Result<(Vec<Vec<Value>>, u64), Fault>
     requires fit { IsFit T.seen store.now shared.now }
+    requires plain { are_plain_items (items_view items.now.items) ≡ true }
     ensures quota { IfOk result (λ found. nat_le (table.now.steps + length (rows_view table.now.rows.items)) max_steps ≡ true) }
     ensures steps { IfOk result (λ found. found.1 ≡ table.now.steps + length (rows_view table.now.rows.items)) }
     ensures rows { IfOk result (λ found. rows_given (graph_of_store T.seen store.now shared.now) (items_view items.now.items) (rows_view table.now.rows.items) ≡ Ok (values_seen found.0.items)) }
@@ -49,6 +51,7 @@ fn row_values<T: Tables>(
     rows: &Vec<Row<'_>>,
 ) -> Result<Vec<Vec<Value>>, Fault>
     requires fit { IsFit T.seen store.now shared.now }
+    requires plain { are_plain_items (items_view items.now.items) ≡ true }
     ensures ok { IfOk result (λ found. rows_given (graph_of_store T.seen store.now shared.now) (items_view items.now.items) (rows_view rows.now.items) ≡ Ok (values_seen found.items)) }
     ensures err { IfErr result (λ e. e ≢ OutOfMemory → rows_given (graph_of_store T.seen store.now shared.now) (items_view items.now.items) (rows_view rows.now.items) ≡ Err e) }
 {
@@ -68,6 +71,7 @@ fn item_values<T: Tables>(
     row: &Row<'_>,
 ) -> Result<Vec<Value>, Fault>
     requires fit { IsFit T.seen store.now shared.now }
+    requires plain { are_plain_items (items_view items.now.items) ≡ true }
     ensures ok { IfOk result (λ values. items_given (graph_of_store T.seen store.now shared.now) (items_view items.now.items) (row_view row.now) ≡ Ok (map view values.items)) }
     ensures err { IfErr result (λ e. e ≢ OutOfMemory → items_given (graph_of_store T.seen store.now shared.now) (items_view items.now.items) (row_view row.now) ≡ Err e) }
 {

@@ -6,9 +6,9 @@ ghost use Rattle.pg_meaning.specs.Rows.{value_in};
 ghost use Rattle.pg_meaning.specs.Value.{node};
 ghost use Rattle.pg_meaning.specs.declared.fault.Fault.TheVariants.{UndefinedVariable};
 ghost use Rattle.pg_run.specs.Answers.{begin, node_row};
-ghost use Rattle.pg_plain.specs.View.{node_view};
+ghost use Rattle.pg_syntax_tree.specs.View.{node_view};
 
-use pg_plain::NodePattern;
+use pg_syntax_tree::NodePattern;
 use pg_value_core::{Fault, NodeId};
 use std::alloc::{AllocError, Global};
 

@@ -125,3 +125,6 @@ answered_is q x h = statement_is q.clauses x (answered_by (statement_of q.clause
 -- the whole query
 pub answered_query : (q : Query) (x : OneNode) → answered_statement q ≡ Some x → query_of x q.semicolon ≡ q
 answered_query q x h = ap (λ cs. let p : Query = record { clauses = cs; semicolon = q.semicolon } in p) (answered_is q x h)
+
+pub answered_plain : (q : Query) (x : OneNode) → answered_statement q ≡ Some x → is_plain_statement x ≡ true
+answered_plain q x h = (answered_by (statement_of q.clauses) x h).1

@@ -1,5 +1,5 @@
 -- What a query text gives over a tenant's graph: the text's own tests, whether its token may write, whether its parameters are given, whether it is answered so far, then its clauses.
-use Rattle.std.specs.Prelude.{◌≡◌, ℕ, ◌≤◌, Bool, ◌||◌, not, List, [], length, Result, Ok, Some, is_some}
+use Rattle.std.specs.Prelude.{◌≡◌, ℕ, ◌≤◌, Bool, ◌||◌, not, List, [], length, Result, Ok, is_some}
 use Rattle.pg_meaning.specs.Agreement.{OutcomeAgrees}
 use Rattle.pg_meaning.specs.Answer.{◌>>=◌, ◌>>◌, unless}
 use Rattle.pg_meaning.specs.Graph.{Graph, IsGraph}

@@ -33,8 +33,8 @@ pub(crate) fn answer_statement<T: Tables>(
     requires fit { IsFit T.seen store.old shared.old }
     requires quota { quota.max_elements ≤ 2 ^ 63 }
     requires plain { is_plain_statement (statement_view statement) ≡ true }
-    ensures ok { IfOk result (λ bytes. IsReply (graph_of_store T.seen store.old shared.old) (one_node_answer (statement_view statement) no_entries (graph_of_store T.seen store.old shared.old) quota.max_steps quota.max_elements) bytes (graph_of_store T.seen store.new shared.new)) }
-    ensures err { IfErr result (λ e. IsRefusal (graph_of_store T.seen store.old shared.old) (one_node_answer (statement_view statement) no_entries (graph_of_store T.seen store.old shared.old) quota.max_steps quota.max_elements) e) }
+    ensures ok { IfOk result (λ bytes. IsReply (graph_of_store T.seen store.old shared.old) (one_node_answer (statement_view statement.entry) no_entries (graph_of_store T.seen store.old shared.old) quota.max_steps quota.max_elements) bytes (graph_of_store T.seen store.new shared.new)) }
+    ensures err { IfErr result (λ e. IsRefusal (graph_of_store T.seen store.old shared.old) (one_node_answer (statement_view statement.entry) no_entries (graph_of_store T.seen store.old shared.old) quota.max_steps quota.max_elements) e) }
     ensures refused { OnErr result (graph_of_store T.seen store.new shared.new ≡ graph_of_store T.seen store.old shared.old) }
     ensures fit { IsFit T.seen store.new shared.new }
     ensures keeps { Keeps T.seen store.old.tables shared.old store.new.tables shared.new }

@@ -27,7 +27,7 @@ impl<S: BuildHasher + Drop> Model for PlanCache<S> {
     ghost use Rattle.std.specs.Prelude.{map};
     ghost use Rattle.std.specs.Coded.{codes};
     ghost use Rattle.pg_cache.specs.Cache.{Cache, entry_view, ArePlanned};
-    ghost use Rattle.pg_plain.specs.contracts.tree.Expression as expression;
+    ghost use Rattle.pg_syntax_tree.specs.contracts.expression.Expression as expression;
 
     ghost Value = { Cache };
 

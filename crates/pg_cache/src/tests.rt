@@ -9,7 +9,7 @@ use std::test::Fail;
 /// The name of the last column, or nothing.
 fn last_column(alloc: Global, plan: &Plan) -> Result<Option<String>, AllocError> {
     match plan.statement() {
-        Statement::Return(items) => Ok(column_names(alloc, items)?.pop()),
+        Some(Statement::Return(items)) => Ok(column_names(alloc, items)?.pop()),
         _ => Ok(None),
     }
 }

@@ -1,4 +1,4 @@
--- A text that has been read, and the parameters that it names.
+-- The tokens of a text have a parameter just where its query names one.
 use Rattle.std.proofs.Common.{◌≡◌, ℕ, Bool, true, false, not, List, [], ◌∷◌, ◌++◌, refl, ap, ◌∙◌, inl, inr}
 use Rattle.std.specs.Prelude.{flat_map, ◌||◌}
 use Rattle.pg_meaning.specs.Grammar.{What, keyword, function_name, variable_name, any_name, integer, string, parameter, symbol, Mark, parameter_name, IsSpelled, Fit, Reads, query_marks}

@@ -1,10 +1,10 @@
 -- The class of a first character.
-use Rattle.std.proofs.Common.{◌≡◌, ℕ, ◌<◌, ◌≤◌, Bool, true, false, cond, ◌⊎◌, inl, inr, ◌||◌, ◌&&◌, eqb, leb, List, [], ◌∷◌, ◌++◌, refl, ap, sym, subst, ◌∙◌, arith}
+use Rattle.std.proofs.Common.{◌≡◌, ℕ, ◌≤◌, Bool, true, false, cond, ◌⊎◌, inl, inr, ◌||◌, eqb, leb, List, [], ◌∷◌, refl, ap, sym, ◌∙◌, arith}
 use Rattle.std.proofs.lemmas.Bool.{eqb-true, leb-true, and_parts, or_cases, not-true}
 use Rattle.pg_lex.proofs.Whites.{at_each, begins_none}
 use Rattle.pg_meaning.specs.declared.lexemes.Symbol.{Symbol}
 use Rattle.pg_meaning.specs.declared.lexemes.Symbol.TheVariants as s
-use Rattle.pg_meaning.specs.Tokens.{class, Class, letter, digit, backquote, quotation, dollar, other, lexeme_at, lexeme_by, Front, Lexeme, word, keyword, quoted_name, integer, string, parameter, symbol, symbol_text, symbol_among, symbols, begins_word, is_digit, Spells}
+use Rattle.pg_meaning.specs.Tokens.{class, Class, letter, digit, backquote, quotation, dollar, other, lexeme_at, lexeme_by, Lexeme, word, keyword, quoted_name, integer, string, parameter, symbol, symbol_text, symbol_among, symbols, begins_word, is_digit, Spells}
 
 pub other_is : (cs b : List ℕ) (c : ℕ) → cs ≡ c ∷ b → class c ≡ other → lexeme_at cs ≡ symbol_among symbols cs
 other_is cs b c e h = ap lexeme_at e ∙ ap (λ (k : Class). lexeme_by k c b) h ∙ ap (symbol_among symbols) (sym e)

@@ -1,16 +1,16 @@
 -- What stands at a place comes next.
-use Rattle.std.proofs.Common.{◌≡◌, ◌≢◌, ℕ, ◌+◌, ◌<◌, ◌≤◌, Bool, true, false, cond, not, ◌&&◌, ◌||◌, ◌⊎◌, inl, inr, eqb, leb, List, [], ◌∷◌, ◌++◌, length, Option, Some, None, refl, sym, ap, ◌∙◌, subst, append_assoc, length-append, arith}
+use Rattle.std.proofs.Common.{◌≡◌, ◌≢◌, ℕ, ◌≤◌, Bool, true, false, cond, not, ◌&&◌, ◌||◌, ◌⊎◌, inl, inr, eqb, leb, List, [], ◌∷◌, ◌++◌, length, Option, Some, None, refl, sym, ap, ◌∙◌, subst, append_assoc, length-append, arith}
 use Rattle.std.specs.Char.{is_whitespace}
-use Rattle.std.proofs.lemmas.Bool.{eqb-true, eqb-false, ne_eqb, eq-eqb, le-leb, false≢true, not-true}
+use Rattle.std.proofs.lemmas.Bool.{eqb-true, eqb-false, ne_eqb, le-leb, false≢true, not-true}
 use Rattle.pg_meaning.specs.declared.lexemes.Keyword.{Keyword}
 use Rattle.pg_meaning.specs.declared.lexemes.Symbol.{Symbol}
 use Rattle.pg_meaning.specs.declared.lexemes.Symbol.TheVariants as s
-use Rattle.pg_meaning.specs.Tokens.{class, Class, letter, digit, backquote, quotation, dollar, other, Lexeme, word, keyword, quoted_name, integer, string, parameter, symbol, Front, Spells, Longest, MayFollow, Starts, All, IsWord, AreDigits, run, after, word_at, worded, keyword_of, continues_word, begins_word, is_digit, integer_at, is_empty, value_of, greatest_integer, utf8, doubled, named, made, quoted_from, string_from, outside, pieces_text, parameter_at, parameter_by, lexeme_by, lexeme_at, symbol_among, symbols, symbol_text, is_line_end, comment_from, closed, Next, gap, found, bad, next, next_slash, next_lexeme, Segment, blank, line_comment, block_comment, lexeme, segment_text, segments_text, Stands, AllStand}
+use Rattle.pg_meaning.specs.Tokens.{class, Class, letter, digit, backquote, quotation, dollar, other, Lexeme, word, keyword, quoted_name, integer, string, parameter, symbol, Front, Spells, Longest, MayFollow, Starts, All, IsWord, AreDigits, after, worded, keyword_of, continues_word, begins_word, is_digit, integer_at, is_empty, value_of, greatest_integer, utf8, doubled, named, made, quoted_from, string_from, outside, pieces_text, parameter_at, parameter_by, lexeme_by, symbol_text, is_line_end, comment_from, closed, Next, gap, found, next, next_lexeme, Segment, blank, line_comment, block_comment, lexeme, segment_text, segments_text, Stands, AllStand}
 use Rattle.pg_lex.specs.Scans.{is_in_line, pair_front, with_rest}
 use Rattle.pg_lex.proofs.Pairs.{both}
 use Rattle.pg_lex.proofs.Whites.{white_no_word, at_each}
 use Rattle.pg_lex.proofs.Runs.{run_is, after_is, all_more, longest_ends, starts_parts, utf8_digits}
-use Rattle.pg_lex.proofs.Classes.{kind, kind_of, class_letter, class_digit, digit_bounds, not_empty}
+use Rattle.pg_lex.proofs.Classes.{kind, class_letter, class_digit, digit_bounds, not_empty}
 use Rattle.pg_lex.proofs.Quotes.{quoted_complete, doubled_two, is_quote}
 use Rattle.pg_lex.proofs.Pieces.{string_complete}
 use Rattle.pg_lex.proofs.Comments.{comment_complete}

@@ -1,6 +1,6 @@
 -- The contents of strings.
-use Rattle.std.proofs.Common.{◌≡◌, ℕ, zero, suc, ◌+◌, ◌*◌, Bool, true, false, cond, eqb, List, [], ◌∷◌, ◌++◌, Option, Some, None, refl, sym, ap, ◌∙◌, append-nil, encode_utf8, zero-mul, zero-add}
-use Rattle.pg_meaning.specs.Tokens.{Front, string_from, outside, backslash, hexadecimal, put, hexadecimal_value, escape_of, is_surrogate, utf8}
+use Rattle.std.proofs.Common.{◌≡◌, ℕ, zero, suc, ◌+◌, ◌*◌, Bool, true, false, cond, eqb, List, [], ◌∷◌, ◌++◌, Option, Some, None, refl, sym, ap, ◌∙◌, encode_utf8, zero-add}
+use Rattle.pg_meaning.specs.Tokens.{Front, string_from, outside, backslash, hexadecimal, put, hexadecimal_value, escape_of, is_surrogate}
 use Rattle.pg_lex.specs.Scans.{behind_text, meant_front, escaped, coded_front, hexadecimal_front, with_rest, character_of, ◌>>=◌}
 use Rattle.pg_lex.proofs.Backquotes.{behind_put}
 

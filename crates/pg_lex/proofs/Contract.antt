@@ -1,5 +1,5 @@
 -- The laws in the words of the contract.
-use Rattle.std.proofs.Common.{◌≡◌, List, ℕ, Option, Some, None, Result, Ok, Err, Vec, Global, IfOk, IsErrOf, ok_or, option_map, sym, ap, ◌∙◌}
+use Rattle.std.proofs.Common.{◌≡◌, List, ℕ, Option, Some, None, Result, Ok, Err, Vec, Global, IfOk, IsErrOf, ok_or, option_map, sym, ◌∙◌}
 use Rattle.std.specs.Str.{IsUtf8}
 use Rattle.pg_meaning.specs.declared.fault.Fault.{Fault}
 use Rattle.pg_meaning.specs.declared.fault.Fault.TheVariants.{BadLexeme}

@@ -1,5 +1,5 @@
 -- The lexer's laws.
-use Rattle.std.proofs.Common.{◌≡◌, true, ℕ, zero, suc, ◌+◌, ◌-◌, ◌<◌, ◌≤◌, List, [], ◌∷◌, ◌++◌, length, Option, Some, None, refl, sym, ap, ◌∙◌, subst, length-append, encode_utf8_all, arith}
+use Rattle.std.proofs.Common.{◌≡◌, true, ℕ, zero, suc, ◌+◌, ◌≤◌, List, [], ◌∷◌, ◌++◌, length, Option, Some, None, refl, sym, ap, ◌∙◌, subst, length-append, encode_utf8_all, arith}
 use Rattle.std.specs.Str.{IsUtf8, all_scalars, chars}
 use Rattle.std.proofs.lemmas.Str.{encodes-chars, chars-encodes, scalars-chars}
 use Rattle.pg_meaning.specs.Tokens.{Lexeme, Token, Next, gap, found, bad, next, turn, put_token, passed, lex_from, lex, width, characters, Segment, blank, line_comment, block_comment, lexeme, segment_text, segments_text, Stands, AllStand, token_of, segment_tokens, Lexes, tokens_of, LexesExactly, OneLexing}

@@ -1,11 +1,9 @@
-pub mod Ascii
 pub mod Backquotes
 pub mod Classes
 pub mod Comes
 pub mod Comments
 pub mod Contents
 pub mod Contract
-pub mod Escapes
 pub mod Lexing
 pub mod Longest
 pub mod Pairs

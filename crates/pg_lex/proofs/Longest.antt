@@ -1,12 +1,12 @@
 -- What the lexer finds is the longest.
-use Rattle.std.proofs.Common.{◌≡◌, ◌≢◌, ℕ, ◌+◌, ◌<◌, ◌≤◌, Bool, true, false, ◌⊎◌, inl, inr, eqb, leb, not, ◌&&◌, ◌||◌, List, [], ◌∷◌, ◌++◌, length, Option, Some, None, refl, sym, ap, ◌∙◌, subst, append_assoc, length-append, arith}
+use Rattle.std.proofs.Common.{◌≡◌, ℕ, ◌≤◌, Bool, true, false, ◌⊎◌, inl, inr, eqb, leb, not, ◌&&◌, ◌||◌, List, [], ◌∷◌, ◌++◌, length, Some, None, refl, sym, ap, ◌∙◌, subst, append_assoc, length-append, arith}
 use Rattle.std.proofs.lemmas.Bool.{eqb-false}
 use Rattle.pg_meaning.specs.declared.lexemes.Symbol.{Symbol}
 use Rattle.pg_meaning.specs.declared.lexemes.Symbol.TheVariants as s
-use Rattle.pg_meaning.specs.Tokens.{class, Class, letter, digit, backquote, quotation, dollar, other, Lexeme, word, keyword, quoted_name, integer, string, parameter, symbol, Front, Spells, Longest, Starts, All, IsWord, AreDigits, run, after, word_at, worded, keyword_of, continues_word, begins_word, is_digit, integer_at, is_empty, value_of, greatest_integer, utf8, doubled, named, made, quoted_from, string_from, outside, pieces_text, parameter_at, parameter_by, lexeme_by, symbol_among, symbols, symbol_text}
+use Rattle.pg_meaning.specs.Tokens.{class, Class, letter, digit, backquote, quotation, dollar, other, Lexeme, word, keyword, quoted_name, integer, string, parameter, symbol, Front, Spells, Longest, Starts, IsWord, AreDigits, run, after, word_at, worded, keyword_of, continues_word, begins_word, is_digit, integer_at, is_empty, value_of, greatest_integer, utf8, doubled, named, made, quoted_from, string_from, outside, pieces_text, parameter_at, parameter_by, lexeme_by, symbol_among, symbols, symbol_text}
 use Rattle.pg_lex.proofs.Pairs.{both, same_pair}
 use Rattle.pg_lex.proofs.Runs.{after_len}
-use Rattle.pg_lex.proofs.Classes.{kind, kind_of, class_letter, class_digit}
+use Rattle.pg_lex.proofs.Classes.{kind, class_letter, class_digit}
 use Rattle.pg_lex.proofs.Quotes.{quoted_len}
 use Rattle.pg_lex.proofs.Pieces.{string_complete}
 use Rattle.pg_lex.proofs.Spelled.{found, symbol_sound}

@@ -1,7 +1,7 @@
 -- A string in pieces, each of which stands for a character.
-use Rattle.std.proofs.Common.{◌≡◌, ◌≢◌, ℕ, suc, zero, ◌+◌, ◌*◌, ◌<◌, ◌≤◌, Bool, true, false, cond, eqb, List, [], ◌∷◌, ◌++◌, length, Option, Some, None, refl, sym, ap, ◌∙◌, subst, append_assoc, length-append, arith}
+use Rattle.std.proofs.Common.{◌≡◌, ℕ, suc, zero, ◌+◌, ◌*◌, ◌≤◌, Bool, true, false, cond, eqb, List, [], ◌∷◌, ◌++◌, length, Option, Some, None, refl, sym, ap, ◌∙◌, subst, append_assoc, length-append, arith}
 use Rattle.std.proofs.lemmas.Bool.{eqb-true, eqb-false, eq-eqb, ne_eqb}
-use Rattle.pg_meaning.specs.Tokens.{Front, string_from, outside, backslash, hexadecimal, put, hexadecimal_value, escape_of, is_surrogate, Piece, plain, escaped, coded, piece_text, pieces_text, StandsFor, AllStandFor}
+use Rattle.pg_meaning.specs.Tokens.{Front, string_from, outside, backslash, put, hexadecimal_value, escape_of, is_surrogate, Piece, plain, escaped, coded, piece_text, pieces_text, StandsFor, AllStandFor}
 use Rattle.pg_lex.specs.Scans.{meant_front, escaped as escaped_front, coded_front, hexadecimal_front, with_rest, character_of, ◌>>=◌}
 use Rattle.pg_lex.proofs.Pairs.{same_pair}
 use Rattle.pg_lex.proofs.Quotes.{put_parts}

@@ -1,11 +1,10 @@
 -- What stands at a place, as a segment.
-use Rattle.std.proofs.Common.{◌≡◌, ◌≢◌, ℕ, ◌+◌, ◌<◌, ◌≤◌, Bool, true, false, cond, not, ◌||◌, ◌⊎◌, inl, inr, eqb, List, [], ◌∷◌, ◌++◌, length, Option, Some, None, refl, sym, ap, ◌∙◌, subst, append_assoc, length-append, arith}
+use Rattle.std.proofs.Common.{◌≡◌, ℕ, ◌<◌, Bool, true, false, ◌||◌, ◌⊎◌, inl, inr, eqb, List, [], ◌∷◌, ◌++◌, length, Option, Some, None, refl, sym, ap, ◌∙◌, subst, append_assoc, arith}
 use Rattle.std.specs.Char.{is_whitespace}
 use Rattle.std.proofs.lemmas.Bool.{eqb-true, eqb-false, not-false}
-use Rattle.pg_meaning.specs.declared.lexemes.Symbol.{Symbol}
 use Rattle.pg_meaning.specs.declared.lexemes.Symbol.TheVariants as s
-use Rattle.pg_meaning.specs.Tokens.{class, Lexeme, symbol, Front, Spells, Longest, MayFollow, Starts, All, run, after, is_line_end, lexeme_at, comment_from, closed, Next, gap, found, bad, next, next_slash, next_lexeme, Segment, blank, line_comment, block_comment, lexeme, segment_text, Stands, token_of, Token, other}
-use Rattle.pg_lex.specs.Scans.{is_in_line, next_at}
+use Rattle.pg_meaning.specs.Tokens.{class, Lexeme, symbol, Front, Starts, run, after, is_line_end, lexeme_at, comment_from, closed, Next, gap, found, next, next_slash, next_lexeme, Segment, blank, line_comment, block_comment, lexeme, segment_text, Stands, token_of}
+use Rattle.pg_lex.specs.Scans.{is_in_line}
 use Rattle.pg_lex.proofs.Runs.{run_after, run_all, after_starts}
 use Rattle.pg_lex.proofs.Comments.{comment_sound, Ends}
 use Rattle.pg_lex.proofs.Spelled.{spelled_by, Spelled}

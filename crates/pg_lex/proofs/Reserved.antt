@@ -1,11 +1,11 @@
 -- Words and keywords.
-use Rattle.std.proofs.Common.{◌≡◌, ℕ, ◌+◌, ◌/◌, ◌%◌, ◌<◌, ◌≤◌, Bool, true, false, cond, ltb, leb, eqb, ◌&&◌, List, [], ◌∷◌, ◌++◌, Option, Some, None, refl, sym, ap, ◌∙◌, arith, map, encode_utf8, bytes_eq}
+use Rattle.std.proofs.Common.{◌≡◌, ℕ, ◌+◌, ◌/◌, ◌%◌, ◌<◌, ◌≤◌, Bool, true, false, cond, ltb, eqb, ◌&&◌, List, [], ◌∷◌, ◌++◌, Option, Some, refl, sym, ap, ◌∙◌, arith, map, bytes_eq}
 use Rattle.std.specs.Char.{to_ascii_lowercase}
 use Rattle.std.specs.Char.{encode_utf8 as encode}
 use Rattle.std.proofs.lemmas.Bool.{ltb-true, ltb-false, ne_eqb, le-ltb, and_parts}
 use Rattle.std.proofs.lemmas.Slice.Eq.{bytes_eq-Decides}
 use Rattle.pg_meaning.specs.declared.lexemes.Keyword.{Keyword}
-use Rattle.pg_meaning.specs.Tokens.{utf8, utf8_of, keywords, keyword_among, keyword_of, worded, word_at, after, continues_word}
+use Rattle.pg_meaning.specs.Tokens.{utf8, keywords, keyword_among, keyword_of, worded, word_at, after, continues_word}
 use Rattle.pg_lex.proofs.Pairs.{both, same_pair}
 use Rattle.pg_lex.specs.Scans.{word_front, worded_front}
 

@@ -1,9 +1,9 @@
 -- The longest front whose characters pass a test.
-use Rattle.std.proofs.Common.{◌≡◌, ℕ, ◌+◌, ◌<◌, ◌≤◌, Bool, true, false, List, [], ◌∷◌, ◌++◌, length, length-append, ◌||◌, Some, refl, sym, ap, ◌∙◌, arith, leb}
+use Rattle.std.proofs.Common.{◌≡◌, ℕ, ◌<◌, ◌≤◌, Bool, true, false, List, [], ◌∷◌, ◌++◌, length, length-append, ◌||◌, Some, refl, ap, ◌∙◌, arith, leb}
 use Rattle.std.proofs.lemmas.Bool.{leb-true, and_parts}
 use Rattle.std.proofs.lemmas.Str.{encode_ascii}
 use Rattle.pg_lex.proofs.Texts.{utf8_of_same}
-use Rattle.pg_meaning.specs.Tokens.{run, after, characters, utf8, continues_word, is_digit, All, Starts}
+use Rattle.pg_meaning.specs.Tokens.{run, after, utf8, continues_word, is_digit, All, Starts}
 use Rattle.pg_lex.specs.Scans.{word_front, digits_front}
 
 pub run_after : (p : ℕ → Bool) (cs : List ℕ) → cs ≡ run p cs ++ after p cs

@@ -1,10 +1,10 @@
 -- What the lexer finds is spelled so.
-use Rattle.std.proofs.Common.{◌≡◌, ◌≢◌, ℕ, ◌+◌, ◌<◌, ◌≤◌, Bool, true, false, cond, not, ◌&&◌, ◌||◌, ◌⊎◌, inl, inr, eqb, leb, List, [], ◌∷◌, ◌++◌, length, Option, Some, None, refl, sym, ap, ◌∙◌, subst, append_assoc, length-append, arith}
-use Rattle.std.proofs.lemmas.Bool.{eqb-true, eqb-false, leb-true, and_parts}
+use Rattle.std.proofs.Common.{◌≡◌, ◌≢◌, ℕ, Bool, true, false, not, ◌&&◌, ◌||◌, ◌⊎◌, inl, inr, eqb, leb, List, [], ◌∷◌, ◌++◌, length, Option, Some, None, refl, sym, ap, ◌∙◌, subst, append_assoc, arith}
+use Rattle.std.proofs.lemmas.Bool.{eqb-true, leb-true}
 use Rattle.pg_meaning.specs.declared.lexemes.Keyword.{Keyword}
 use Rattle.pg_meaning.specs.declared.lexemes.Symbol.{Symbol}
 use Rattle.pg_meaning.specs.declared.lexemes.Symbol.TheVariants as s
-use Rattle.pg_meaning.specs.Tokens.{class, Class, letter, digit, backquote, quotation, dollar, other, Lexeme, word, keyword, quoted_name, integer, string, parameter, symbol, Front, Spells, MayFollow, Starts, All, IsWord, IsNumeral, run, after, word_at, worded, keyword_of, continues_word, begins_word, is_digit, integer_at, is_empty, value_of, greatest_integer, utf8, doubled, named, made, quoted_from, string_from, outside, pieces_text, parameter_at, parameter_by, lexeme_by, symbol_among, symbols, symbol_text, behind}
+use Rattle.pg_meaning.specs.Tokens.{class, Class, letter, digit, backquote, quotation, dollar, other, Lexeme, quoted_name, integer, string, parameter, symbol, Front, Spells, MayFollow, Starts, IsWord, run, after, word_at, worded, keyword_of, continues_word, begins_word, is_digit, integer_at, is_empty, value_of, greatest_integer, utf8, doubled, named, made, quoted_from, string_from, outside, pieces_text, parameter_at, parameter_by, lexeme_by, symbol_among, symbols, symbol_text, behind}
 use Rattle.pg_lex.proofs.Pairs.{both, same_pair}
 use Rattle.pg_lex.proofs.Runs.{run_after, run_all, after_starts, starts_or, utf8_digits}
 use Rattle.pg_lex.proofs.Classes.{letter_begins, digit_is, backquote_is, quotation_is, dollar_is}

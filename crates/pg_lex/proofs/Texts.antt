@@ -1,9 +1,8 @@
 -- A text as its bytes and as its characters.
-use Rattle.std.proofs.Common.{◌≡◌, ℕ, ◌+◌, ◌-◌, ◌<◌, ◌≤◌, Bool, true, false, List, [], ◌∷◌, ◌++◌, length, take, slice_range, refl, sym, ap, ◌∙◌, arith, append_assoc, length-append, take_all}
+use Rattle.std.proofs.Common.{◌≡◌, ℕ, ◌-◌, ◌≤◌, Bool, true, false, List, [], ◌∷◌, ◌++◌, length, take, slice_range, refl, sym, ap, ◌∙◌, arith, append_assoc, length-append, take_all}
 use Rattle.std.specs.Prelude.{nat_lt, encode_utf8, encode_utf8_all}
-use Rattle.std.specs.Char.{len_utf8}
-use Rattle.std.specs.Str.{IsUtf8, IsCharBoundary, chars, all_scalars}
-use Rattle.std.proofs.lemmas.Str.{encodes-chars, chars-encodes, chars_past_char, encodes-append, encode_ascii, length-encode, IsCharBoundary-at_seam, scalars-chars}
+use Rattle.std.specs.Str.{IsUtf8, IsCharBoundary, chars}
+use Rattle.std.proofs.lemmas.Str.{encodes-chars, chars_past_char, encode_ascii, length-encode, IsCharBoundary-at_seam}
 use Rattle.std.proofs.lemmas.Bool.{ltb-true}
 use Rattle.std.proofs.lemmas.List.{take-append-le}
 use Rattle.pg_meaning.specs.Tokens.{characters, utf8, utf8_of, width}

@@ -1,5 +1,5 @@
 -- One turn of the loop over what stands in a text.
-use Rattle.std.proofs.Common.{◌≡◌, ℕ, zero, suc, ◌+◌, ◌-◌, ◌<◌, ◌≤◌, List, [], ◌∷◌, ◌++◌, length, map, Option, Some, None, refl, sym, ap, ◌∙◌, append_assoc, append-nil, length-append, arith}
+use Rattle.std.proofs.Common.{◌≡◌, ℕ, zero, suc, ◌+◌, ◌-◌, ◌<◌, ◌≤◌, List, [], ◌∷◌, ◌++◌, length, Option, Some, None, refl, sym, ap, ◌∙◌, append_assoc, append-nil, length-append, arith}
 use Rattle.std.specs.Str.{IsUtf8}
 use Rattle.pg_meaning.specs.Tokens.{Lexeme, Token, Next, gap, found, bad, next, turn, put_token, passed, lex_from, lex, width, characters, segment_text, tokens_of}
 use Rattle.pg_lex.specs.declared.token.Token.{Token as CodeToken}
@@ -7,7 +7,7 @@ use Rattle.pg_lex.specs.Scans.{next_at}
 use Rattle.pg_lex.specs.Turns.{lex_at, joined}
 use Rattle.pg_lex.specs.View.{tokens_view, token_view}
 use Rattle.pg_lex.proofs.Texts.{width_characters}
-use Rattle.pg_lex.proofs.Places.{Stood, Gapped, Found, gap_sound, found_sound}
+use Rattle.pg_lex.proofs.Places.{Gapped, Found, gap_sound, found_sound}
 
 pub width-append : (xs ys : List ℕ) → width (xs ++ ys) ≡ width xs + width ys
 width-append [] ys = omega arith

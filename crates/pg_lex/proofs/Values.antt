@@ -1,7 +1,7 @@
 -- The value of digits.
-use Rattle.std.proofs.Common.{◌≡◌, ℕ, suc, ◌+◌, ◌-◌, ◌*◌, ◌<◌, ◌≤◌, ◌||◌, ◌&&◌, Bool, true, false, cond, not, List, [], ◌∷◌, ◌++◌, Option, Some, None, refl, sym, ap, ◌∙◌, arith, fold, drop, leb, eqb, get_or, length, drop-cons}
-use Rattle.std.proofs.lemmas.Bool.{lt-leb, leb-true, ltb-true, lt-ltb, and_parts}
-use Rattle.pg_meaning.specs.Tokens.{digit_more, value_of, greatest_integer, utf8, is_digit, run, after, integer_at, integer, Lexeme, Starts, begins_word, is_empty}
+use Rattle.std.proofs.Common.{◌≡◌, ℕ, suc, ◌+◌, ◌-◌, ◌*◌, ◌<◌, ◌≤◌, ◌||◌, ◌&&◌, Bool, true, false, cond, not, List, [], ◌∷◌, Option, Some, None, refl, sym, ap, ◌∙◌, arith, fold, drop, leb, eqb, get_or, length, drop-cons}
+use Rattle.std.proofs.lemmas.Bool.{lt-leb}
+use Rattle.pg_meaning.specs.Tokens.{digit_more, value_of, greatest_integer, is_digit, run, after, integer_at, integer, Lexeme, Starts, begins_word, is_empty}
 use Rattle.pg_lex.proofs.Pairs.{same_pair}
 use Rattle.pg_lex.specs.Scans.{small_value, natural_of, digits_front, integer_front}
 

@@ -4,7 +4,7 @@ use Rattle.std.specs.Borrow.{Bor}
 use Rattle.std.specs.Prelude.{String, string_bytes}
 use Rattle.std.specs.declared.alloc.Global.{Global}
 use Rattle.pg_lex.specs.declared.token.Natural.{Natural}
-use Rattle.pg_meaning.specs.Tokens.{characters, utf8, Front, hexadecimal_value, escape_of, is_surrogate, value_of, greatest_integer, is_empty, word_at, after, run, continues_word, begins_word, is_digit, is_line_end, Starts, Next, bad, next, Lexeme, worded, keyword_of, parameter, integer_at}
+use Rattle.pg_meaning.specs.Tokens.{characters, utf8, Front, hexadecimal_value, escape_of, is_surrogate, value_of, greatest_integer, is_empty, word_at, after, run, continues_word, is_digit, is_line_end, Next, bad, next, Lexeme, worded, keyword_of, parameter, integer_at}
 use Rattle.pg_meaning.specs.declared.lexemes.Symbol.{Symbol}
 use Rattle.pg_meaning.specs.declared.lexemes.Symbol.TheVariants as s
 

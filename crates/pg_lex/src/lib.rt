@@ -9,7 +9,6 @@ mod laws;
 mod lexer;
 mod names;
 mod numbers;
-mod plain;
 mod strings;
 mod symbols;
 #[cfg(test)]
@@ -20,5 +19,4 @@ mod words;
 
 pub use laws::{law_lexes_exactly, law_one_lexing};
 pub use lexer::tokens;
-pub use plain::{is_plain, law_plain_strings, plain_tokens};
 pub use token::{Lexeme, Natural, Token};

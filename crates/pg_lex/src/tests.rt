@@ -1,6 +1,6 @@
 //! Texts and the tokens that they have.
 
-use crate::{is_plain, plain_tokens, tokens};
+use crate::tokens;
 use pg_meaning::Fault;
 use std::alloc::{AllocError, Global};
 use std::test::Fail;
@@ -145,29 +145,6 @@ fn texts_have_their_tokens(rt: HostRuntime) -> Result<(), Fail> {
     ];
     for (text, want) in rows {
         assert_eq!(rt; shown(rt.alloc(), text)?.as_str(), want, "{text}");
-    }
-    Ok(())
-}
-
-/// Whether the text has plain tokens alone.
-fn is_plain_text(alloc: Global, text: &str) -> Result<bool, AllocError> {
-    match plain_tokens(alloc, text) {
-        Ok(_) => Ok(true),
-        Err(Fault::OutOfMemory) => Err(AllocError),
-        Err(_) => Ok(false),
-    }
-}
-
-#[test]
-fn plain_texts_have_plain_tokens(rt: HostRuntime) -> Result<(), Fail> {
-    for text in ["RETURN [1, 'a'] = null AS x_1;", "/* é */ RETURN 'é'", ""] {
-        assert!(rt; is_plain_text(rt.alloc(), text)?, "{text}");
-    }
-    for text in ["`a`", "$a", "$`a`", "é", "'\\n'", "'\\u0041'", "'a' $1"] {
-        assert!(rt; !is_plain_text(rt.alloc(), text)?, "{text}");
-    }
-    for token in &tokens(rt.alloc(), "a")? {
-        assert!(rt; is_plain(token));
     }
     Ok(())
 }

@@ -1,4 +1,4 @@
-use Rattle.std.proofs.Common.{rules, arith, sym, ◌∙◌, IsUtf8, length, ◌+◌, ◌≤◌}
+use Rattle.std.proofs.Common.{rules, arith, sym, ◌∙◌, IsUtf8, length, ◌≤◌}
 use Rattle.std.proofs.lemmas.Bool.{eqb-false, eqb-true}
 use Rattle.pg_lex.specs.View.{tokens_view, lexeme_view}
 use Rattle.pg_lex.proofs.Turns.{gap_step, found_step, bad_step, end_step, characters_some, tokens_more, tokens_are}

@@ -1,4 +1,4 @@
-use Rattle.std.proofs.Common.{subst, sym, Option, List, ℕ}
+use Rattle.std.proofs.Common.{subst, sym}
 use Rattle.pg_meaning.specs.Tokens.{Front, Lexeme}
 use Rattle.pg_lex.specs.Scans.{Fronts}
 use Rattle.pg_lex.specs.View.{lexeme_view}

@@ -1,4 +1,4 @@
-use Rattle.std.proofs.Common.{◌≡◌, ℕ, sym, ◌∙◌, eqb-true, string_bytes, length, arith}
+use Rattle.std.proofs.Common.{◌≡◌, sym, ◌∙◌, eqb-true, string_bytes, length, arith}
 use Rattle.std.proofs.lemmas.Bool.{eqb-false}
 use Rattle.pg_lex.proofs.Backquotes.{name_empty, name_some}
 use Rattle.pg_lex.proofs.names.name.Goals as goal

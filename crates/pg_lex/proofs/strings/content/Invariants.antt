@@ -1,4 +1,4 @@
-use Rattle.std.proofs.Common.{◌≡◌, length, string_bytes, [], false}
+use Rattle.std.proofs.Common.{◌≡◌, length, string_bytes, []}
 use denote.Text.{Utf8}
 use denote.Shadow.{shadow}
 use Rattle.pg_meaning.specs.Tokens.{string_from, outside, characters}

@@ -1,4 +1,4 @@
-use Rattle.std.proofs.Common.{◌∙◌, sym, ap, ◌++◌, ℕ, List, ◌∷◌}
+use Rattle.std.proofs.Common.{◌∙◌, sym, ap, ℕ, List, ◌∷◌}
 use Rattle.pg_meaning.specs.Tokens.{characters}
 use Rattle.pg_lex.proofs.Texts.{characters_past}
 use Rattle.pg_lex.proofs.text.split_first.Goals as goal

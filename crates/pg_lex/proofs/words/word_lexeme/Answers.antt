@@ -1,4 +1,4 @@
-use Rattle.std.proofs.Common.{◌∙◌, ap, sym, Option}
+use Rattle.std.proofs.Common.{◌∙◌, ap, sym}
 use Rattle.pg_lex.proofs.Reserved.{worded_word}
 use Rattle.pg_lex.proofs.Pairs.{both}
 use Rattle.pg_meaning.specs.Tokens.{Lexeme, characters}

@@ -5,6 +5,7 @@ ghost use Rattle.pg_run.specs.Agreement.{OneNodePlans, OneNodeMeans};
 ghost use Rattle.pg_run.specs.Answers.{ReturnAnswers, CreateMakes, MatchFinds, OneNodeAnswers};
 ghost use Rattle.pg_run.specs.Checks.{OneNodeFaults};
 ghost use Rattle.pg_run.specs.Examples.{ExamplesOfAnswers, ExamplesOfRefusals};
+ghost use Rattle.pg_run.specs.ExamplesOfPlain.{ExamplesOfPlain, ExamplesOfOtherExpressions, ExamplesOfOtherClauses};
 ghost use Rattle.pg_run.specs.Evaluation.{Stepwise};
 
 /// RETURN of items answers with each row's values.
@@ -57,4 +58,11 @@ pub fn law_of_one_node_meaning()
 pub fn worked_examples_of_one_node()
     ensures answers { ExamplesOfAnswers }
     ensures refusals { ExamplesOfRefusals }
+{}
+
+/// So do those of which texts are answered so far.
+pub fn worked_examples_of_plain_queries()
+    ensures plain { ExamplesOfPlain }
+    ensures expressions { ExamplesOfOtherExpressions }
+    ensures clauses { ExamplesOfOtherClauses }
 {}

@@ -1,5 +1,5 @@
 -- What an expression begins with, and what may stand behind one.
-use Rattle.std.proofs.Common.{◌≡◌, ℕ, zero, suc, ◌<◌, ◌≤◌, Bool, true, false, List, [], ◌∷◌, ◌++◌, replicate, refl, sym, ap, ◌∙◌, append_assoc, pos, arith}
+use Rattle.std.proofs.Common.{◌≡◌, ℕ, zero, suc, ◌<◌, ◌≤◌, Bool, true, false, List, [], ◌∷◌, ◌++◌, refl, ap, ◌∙◌, append_assoc, pos, arith}
 use Rattle.pg_meaning.specs.declared.lexemes.Keyword.{Keyword}
 use Rattle.pg_meaning.specs.declared.lexemes.Symbol.{Symbol}
 use Rattle.pg_meaning.specs.Value as value
@@ -68,6 +68,9 @@ begun_with (tree.suffixes x xs ls) front well fits = let parts = fit_split front
 
 pub opened : ExpressionsOpen
 opened x front well fits = let b = begun_with x front well fits in record { token = b.token; others = b.others; whole = b.whole; first = b.first }
+
+pub opened_front : (front a b : List Token) → front ≡ a ++ b → Opened a → Opened front
+opened_front front a b e o = record { token = o.token; others = o.others ++ b; whole = e ∙ ap (λ (r : List Token). r ++ b) o.whole; first = o.first }
 
 -- ---- what it doesn't begin with
 

@@ -1,5 +1,16 @@
+pub mod Atoms
+pub mod Calls
+pub mod Cases
+pub mod Chains
+pub mod Enclosed
+pub mod Expressions
 pub mod Fits
 pub mod Generic
+pub mod Openings
+pub mod Prefixes
 pub mod Separated
 pub mod Spans
+pub mod Suffixes
+pub mod Tails
 pub mod Terminals
+pub mod Tests

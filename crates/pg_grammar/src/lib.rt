@@ -1,9 +1,14 @@
 //! The grammar of the language: which tokens have which tree, and that its functions read exactly these.
 #![tactic(auto)]
 
-ghost use Rattle.pg_grammar.specs.Rules.{SymbolsAreExact};
+ghost use Rattle.pg_grammar.specs.Rules.{LabelsAreExact, SymbolsAreExact};
 
 /// A symbol is read exactly where it stands.
 pub fn law_of_symbols()
     ensures { SymbolsAreExact }
+{}
+
+/// Labels are read exactly where they stand.
+pub fn law_of_labels()
+    ensures { LabelsAreExact }
 {}

@@ -1,6 +1,7 @@
 //! The grammar of the language: which tokens have which tree, and that its functions read exactly these.
 #![tactic(auto)]
 
+ghost use Rattle.pg_grammar.specs.Patterns.{MapsAreExact};
 ghost use Rattle.pg_grammar.specs.Rules.{LabelsAreExact, SymbolsAreExact};
 
 /// A symbol is read exactly where it stands.
@@ -11,4 +12,9 @@ pub fn law_of_symbols()
 /// Labels are read exactly where they stand.
 pub fn law_of_labels()
     ensures { LabelsAreExact }
+{}
+
+/// A map is read exactly where expressions are.
+pub fn law_of_maps()
+    ensures { MapsAreExact }
 {}

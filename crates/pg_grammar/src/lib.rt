@@ -1,7 +1,7 @@
 //! The grammar of the language: which tokens have which tree, and that its functions read exactly these.
 #![tactic(auto)]
 
-ghost use Rattle.pg_grammar.specs.Patterns.{MapsAreExact};
+ghost use Rattle.pg_grammar.specs.Patterns.{MapsAreExact, PathsAreExactWhereExpressionsAre, PathsOpen};
 ghost use Rattle.pg_grammar.specs.Rules.{LabelsAreExact, SymbolsAreExact};
 
 /// A symbol is read exactly where it stands.
@@ -17,4 +17,10 @@ pub fn law_of_labels()
 /// A map is read exactly where expressions are.
 pub fn law_of_maps()
     ensures { MapsAreExact }
+{}
+
+/// Paths are read exactly where expressions are, and each begins with a variable or a node.
+pub fn law_of_paths()
+    ensures exact { PathsAreExactWhereExpressionsAre }
+    ensures begins { PathsOpen }
 {}

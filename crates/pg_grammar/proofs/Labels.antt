@@ -1,77 +1,46 @@
 -- Labels.
-use Rattle.std.proofs.Common.{◌≡◌, ℕ, ◌<◌, true, List, [], ◌∷◌, ◌++◌, length, Some, refl, sym, ap, subst, ◌∙◌, append_assoc, arith}
+use Rattle.std.proofs.Common.{◌≡◌, ℕ, List, [], ◌∷◌, ◌++◌, map, refl, ap}
 use Rattle.pg_meaning.specs.declared.lexemes.Symbol.TheVariants as s
 use Rattle.pg_meaning.specs.Tokens.{Token}
 use Rattle.pg_meaning.specs.Tree.{Name}
-use Rattle.pg_meaning.specs.Grammar.{sign, name, label_marks, Accepts, Fit}
-use Rattle.pg_meaning.specs.Parse as parse
-use Rattle.pg_meaning.specs.Parse.{sees_symbol, symbol, label, labels, many}
-use Rattle.pg_grammar.specs.Rules.{Sound, Complete, Anything, LabelsSpelled, NoColon, LabelsAreExact}
-use Rattle.pg_grammar.proofs.Fits.{fit_append}
-use Rattle.pg_grammar.proofs.Generic.{Each, Row, bind_some, many_sound, many_complete}
-use Rattle.pg_grammar.proofs.Terminals.{symbol_takes, symbol_again, symbol_seen, name_takes, name_again}
+use Rattle.pg_meaning.specs.Grammar.{Mark, sign, name, label_marks, joined}
+use Rattle.pg_meaning.specs.Parse.{sees_symbol, label, labels}
+use Rattle.pg_grammar.specs.Rules.{Exactly, Anything, LabelsSpelled, LabelsAreExact}
+use Rattle.pg_grammar.proofs.Fits.{fit_append, fit_split}
+use Rattle.pg_grammar.proofs.Marks.{Marked, Free, Split, More, then_exactly, behind, many_exactly, name_exact, all_free, symbol_begins}
+
+abbrev label_mark : Name → List Mark
+label_mark n = sign s.Colon ∷ name n ∷ []
 
 abbrev LabelSpelled : Name → List Token → Type 0
-LabelSpelled n front = Fit front (sign s.Colon ∷ name n ∷ [])
+LabelSpelled = Marked Free Free label_mark
 
-label_sound : Sound label LabelSpelled
-label_sound ts a more e =
-    let b = bind_some (symbol s.Colon ts) (λ _. parse.name) (a, more) e in
-    let c = symbol_takes s.Colon ts b.1 b.0 b.2 in
-    let n = name_takes b.1 more a b.3 in
-    (c.0 ∷ n.0 ∷ [], c.1 ∙ ap (λ (r : List Token). c.0 ∷ r) n.1, (c.2, (n.2, tt)))
+label_exact : (limit : ℕ) → Exactly limit label LabelSpelled Anything
+label_exact limit = behind s.Colon (name_exact limit)
 
-labels_fit : (xs : List Name) (front : List Token) → Each LabelSpelled xs front → Fit front (label_marks xs)
-labels_fit [] front each = rw each tt
-labels_fit (x ∷ xs) front each = rw each.2 (fit_append each.0 each.1 (sign s.Colon ∷ name x ∷ []) (label_marks xs) each.3 (labels_fit xs each.1 each.4))
-
-labels_each : (xs : List Name) (front : List Token) → Fit front (label_marks xs) → Each LabelSpelled xs front
-labels_each [] [] fits = refl
-labels_each [] (t ∷ front) fits = absurd fits
-labels_each (x ∷ xs) [] fits = absurd fits
-labels_each (x ∷ xs) (t ∷ []) fits = absurd fits.1
-labels_each (x ∷ xs) (t ∷ u ∷ front) fits = (t ∷ u ∷ [], front, refl, (fits.0, (fits.1.0, tt)), labels_each xs front fits.1.1)
-
-labels_sound : Sound labels LabelsSpelled
-unfolding labels
-labels_sound ts a more e =
-    let b = bind_some (label ts) (λ n. many (sees_symbol s.Colon) label (n ∷ [])) (a, more) e in
-    let one = label_sound ts b.0 b.1 b.2 in
-    let others = many_sound (sees_symbol s.Colon) label LabelSpelled label_sound (length b.1) (b.0 ∷ []) b.1 a more b.3 in
-    let fits : Fit (one.0 ++ others.1) (label_marks (b.0 ∷ others.0)) = fit_append one.0 others.1 (sign s.Colon ∷ name b.0 ∷ []) (label_marks others.0) one.2 (labels_fit others.0 others.1 others.4) in
-    let made : LabelsSpelled (b.0 ∷ others.0) (one.0 ++ others.1) = record { some = tt; fits = fits } in (
-      one.0 ++ others.1,
-      one.1 ∙ ap (λ (r : List Token). one.0 ++ r) others.3 ∙ sym (append_assoc one.0 others.1 more),
-      subst (λ (l : List Name). LabelsSpelled l (one.0 ++ others.1)) (sym others.2) made,
-    )
-
-label_again : (t u : Token) (more : List Token) (n : Name) → Accepts (sign s.Colon) t → Accepts (name n) u → label (t ∷ u ∷ more) ≡ Some (n, more)
-label_again t u more n ht hu = rw (symbol_again s.Colon t (u ∷ more) ht, name_again u more n hu) refl
-
-label_read : (limit : ℕ) → Complete limit label LabelSpelled Anything
-label_read limit a [] more h ends less = absurd h
-label_read limit a (t ∷ []) more h ends less = absurd h.1
-label_read limit a (t ∷ u ∷ v ∷ front) more h ends less = absurd h.1.1
-label_read limit a (t ∷ u ∷ []) more h ends less = label_again t u more a h.0 h.1.0
-
-label_first : (a : Name) (front more : List Token) → LabelSpelled a front → sees_symbol s.Colon (front ++ more) ≡ true
-label_first a [] more h = absurd h
-label_first a (t ∷ front) more h = symbol_seen s.Colon t (front ++ more) h.0
-
-label_some : (a : Name) (front : List Token) → LabelSpelled a front → 0 < length front
-label_some a [] h = absurd h
-label_some a (t ∷ front) h = omega arith
-
-label_row : (limit : ℕ) → Row limit (sees_symbol s.Colon) label LabelSpelled Anything NoColon
-label_row limit = record { read = label_read limit; first = label_first; some = label_some; ends = λ more h. (h, tt); goes = λ more h. tt }
-
-labels_complete : (limit : ℕ) → Complete limit labels LabelsSpelled NoColon
-unfolding labels
-labels_complete limit [] front more h none less = absurd h.some
-labels_complete limit (x ∷ xs) [] more h none less = absurd h.fits
-labels_complete limit (x ∷ xs) (t ∷ []) more h none less = absurd h.fits.1
-labels_complete limit (x ∷ xs) (t ∷ u ∷ front) more h none less =
-    rw (label_again t u (front ++ more) x h.fits.0 h.fits.1.0) (many_complete (label_row limit) (length (front ++ more)) (x ∷ []) xs front more (labels_each xs front h.fits.1.1) none (omega arith) (omega arith))
+marks_of : (ns : List Name) → joined (map label_mark ns) ≡ label_marks ns
+marks_of [] = refl
+marks_of (n ∷ ns) = ap (λ (ms : List Mark). sign s.Colon ∷ name n ∷ ms) (marks_of ns)
 
 pub labels_exact : LabelsAreExact
-labels_exact limit = record { sound = labels_sound; complete = labels_complete limit }
+unfolding labels
+labels_exact limit =
+    then_exactly (label_exact limit)
+    (λ n. many_exactly (sees_symbol s.Colon) (n ∷ []) (label_exact limit) (λ m front more fits. symbol_begins s.Colon (name m ∷ []) front more fits) (λ m. tt) (λ more h. (h, tt)) (λ more h. tt))
+    out into (λ n ns y more h ends. tt)
+  where
+    out : (n : Name) (ns : List Name) (x y : List Token) → LabelSpelled n x → More Free label_mark (n ∷ []) ns y → LabelsSpelled ns (x ++ y)
+    out n ns x y hx hy = rw hy.is (record { some = tt; fits = fit_append x y (label_mark n) (label_marks hy.others) hx.fits (rw (← marks_of hy.others) hy.fits) })
+
+    into : (ns : List Name) (front : List Token) → LabelsSpelled ns front → Split LabelSpelled (λ n. More Free label_mark (n ∷ [])) ns front
+    into [] front h = absurd h.some
+    into (n ∷ ns) front h =
+        let r = fit_split front (label_mark n) (label_marks ns) h.fits in
+        record {
+          value = n;
+          before = r.0;
+          behind = r.1;
+          whole = r.2;
+          first = record { known = tt; well = tt; fits = r.3 };
+          second = record { others = ns; is = refl; well = all_free ns; fits = rw (marks_of ns) r.4 };
+        }

@@ -2,11 +2,11 @@ pub mod Fits
 pub mod Generic
 pub mod Labels
 pub mod Maps
+pub mod Marks
 pub mod Nodes
 pub mod Paths
 pub mod Properties
 pub mod Relationships
 pub mod Separated
-pub mod Sequences
 pub mod Spans
 pub mod Terminals

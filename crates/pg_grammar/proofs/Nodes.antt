@@ -8,7 +8,7 @@ use Rattle.pg_meaning.specs.Parse as parse
 use Rattle.pg_meaning.specs.Parse.{Parser, ◌>>=◌, ◌>>◌, pure, is_symbol, sees_symbol, begins_var, begins_parameter, begins_integer, symbol, maybe, labels_if_any, properties, node}
 use Rattle.pg_grammar.specs.Rules.{Exactly, Exact, Anything}
 use Rattle.pg_grammar.proofs.Properties.{NoProperties, properties_exact, labels_or_none, var_or_none, behind_properties, behind_labels, avoids_symbol}
-use Rattle.pg_grammar.proofs.Sequences.{Marked, Free, avoided, spelled_as, step, behind, made, here_exactly, each_free}
+use Rattle.pg_grammar.proofs.Marks.{Marked, Free, avoided, spelled_as, step, behind, made, here_exactly, each_free}
 
 abbrev made_node : ℕ → Option Name → List Name → Properties → NodePattern
 made_node at n ls ps = record { place = at; variable = n; labels = ls; properties = ps }

@@ -11,9 +11,9 @@ use Rattle.pg_meaning.specs.Parse.{Parser, ◌>>=◌, ◌>>◌, pure, many, mayb
 use Rattle.pg_grammar.specs.Patterns.{opens_path, PathOpened, PathsOpen}
 use Rattle.pg_grammar.specs.Rules.{Exactly, Exact, Anything, PathSpelled, NoHop, PathsAreExact}
 use Rattle.pg_grammar.proofs.Nodes.{HasProperties, node_exact}
-use Rattle.pg_grammar.proofs.Properties.{var_exact, var_begins}
+use Rattle.pg_grammar.proofs.Properties.{var_begins}
 use Rattle.pg_grammar.proofs.Relationships.{HasDetail, relationship_exact}
-use Rattle.pg_grammar.proofs.Sequences.{Marked, Free, More, Starts, avoided, spelled_as, step, behind, made, maybe_exactly, many_exactly, ending}
+use Rattle.pg_grammar.proofs.Marks.{var_exact, Marked, Free, More, Starts, avoided, spelled_as, step, behind, made, maybe_exactly, many_exactly, ending}
 
 -- ---- the path's variable
 

@@ -12,8 +12,8 @@ use Rattle.pg_meaning.specs.Parse.{Parser, ◌<$>◌, branch, pure, maybe, is_sy
 use Rattle.pg_grammar.specs.Rules.{Exactly, Exact, Anything, LabelsSpelled, PairsSpelled, NoColon}
 use Rattle.pg_grammar.proofs.Labels.{labels_exact}
 use Rattle.pg_grammar.proofs.Maps.{pairs_exact}
-use Rattle.pg_grammar.proofs.Sequences.{Marked, Free, Image, Nothing, Avoids, fewer, branch_exactly, mapped, nothing, maybe_exactly, one_token}
-use Rattle.pg_grammar.proofs.Terminals.{symbol_seen, var_takes, var_again, var_seen, with_rest_is}
+use Rattle.pg_grammar.proofs.Marks.{Marked, Free, Image, Nothing, Avoids, fewer, branch_exactly, mapped, nothing, maybe_exactly, one_token, var_exact}
+use Rattle.pg_grammar.proofs.Terminals.{symbol_seen, var_seen, with_rest_is}
 
 -- ---- a parameter
 
@@ -110,9 +110,6 @@ labels_or_none limit = branch_exactly (sees_symbol s.Colon) (labels_exact limit)
     choice [] (t ∷ front) more h ends = absurd h.fits
     choice (l ∷ ls) [] more h ends = absurd h.fits
     choice (l ∷ ls) (t ∷ front) more h ends = inl (symbol_seen s.Colon t (front ++ more) h.fits.0, record { some = tt; fits = h.fits }, ends)
-
-pub var_exact : (limit : ℕ) → Exactly limit parse.var (Marked Free Free (λ n. var n ∷ [])) Anything
-var_exact limit = one_token var var_takes var_again
 
 pub var_begins : (n : Name) (ms : List Mark) (front more : List Token) → Fit front (var n ∷ ms) → begins_var (front ++ more) ≡ true
 var_begins n ms [] more fits = absurd fits

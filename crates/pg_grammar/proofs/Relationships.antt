@@ -13,8 +13,8 @@ use Rattle.pg_meaning.specs.Parse.{Parser, ◌>>=◌, ◌>>◌, pure, branch, ma
 use Rattle.pg_grammar.specs.Rules.{Exactly, Exact, Anything}
 use Rattle.pg_grammar.proofs.Fits.{fit_append, fit_split}
 use Rattle.pg_grammar.proofs.Properties.{NoProperties, properties_exact, var_or_none, behind_properties, avoids_symbol}
-use Rattle.pg_grammar.proofs.Sequences.{Marked, Free, Split, Nothing, More, Starts, Avoids, avoided, opened, spelled_as, then_exactly, step, behind, made, branch_exactly, nothing, maybe_exactly, flag_exactly, one_token, here_exactly, many_exactly, ending, each_free}
-use Rattle.pg_grammar.proofs.Terminals.{symbol_seen, name_takes, name_again, with_rest_is}
+use Rattle.pg_grammar.proofs.Marks.{Marked, Free, Split, Nothing, More, Starts, Avoids, avoided, opened, spelled_as, then_exactly, step, behind, made, branch_exactly, nothing, maybe_exactly, flag_exactly, one_token, here_exactly, many_exactly, ending, each_free, name_exact, symbol_begins}
+use Rattle.pg_grammar.proofs.Terminals.{symbol_seen, with_rest_is}
 
 -- ---- types
 
@@ -29,9 +29,6 @@ from_colon p = flag p.0 (sign s.Colon) ++ from_name p
 
 abbrev type_mark : Bool × Name → List Mark
 type_mark p = sign s.Bar ∷ from_colon p
-
-name_exact : (limit : ℕ) → Exactly limit parse.name (Marked Free Free (λ n. name n ∷ [])) Anything
-name_exact limit = one_token name name_takes name_again
 
 other_type_exact : (limit : ℕ) → Exactly limit other_type (Marked Free (λ p. Free p.0 × (Free p.1 × Free p)) type_mark) Anything
 other_type_exact limit =
@@ -75,10 +72,6 @@ types_exact : (limit : ℕ) → Exactly limit types (Marked Free HasColon types_
 unfolding types
 types_exact limit = spelled_as (behind s.Colon by) out into (λ more h. h)
   where
-    bar : (p : Bool × Name) (front more : List Token) → Fit front (type_mark p) → sees_symbol s.Bar (front ++ more) ≡ true
-    bar p [] more fits = absurd fits
-    bar p (t ∷ front) more fits = symbol_seen s.Bar t (front ++ more) fits.0
-
     first : (n : Name) (ps : List (Bool × Name)) (x y : List Token) → Marked Free Free (λ m. name m ∷ []) n x → More Other type_mark (made_type true n ∷ []) ps y → Marked Free HasColon behind_colon ps (x ++ y)
     first n ps x y hx hy = rw hy.is (record { known = tt; well = refl; fits = fit_append x y (name n ∷ []) (more_types_marks hy.others) hx.fits (rw (more_types hy.others) hy.fits) })
 
@@ -96,7 +89,7 @@ types_exact limit = spelled_as (behind s.Colon by) out into (λ more h. h)
         }
 
     by : Exactly limit (parse.name >>= λ n. many (sees_symbol s.Bar) other_type ((true, n) ∷ [])) (Marked Free HasColon behind_colon) NoBar
-    by = then_exactly (name_exact limit) (λ n. many_exactly (sees_symbol s.Bar) (made_type true n ∷ []) (other_type_exact limit) bar (λ p. tt) (λ more h. (h, tt)) (λ more h. tt)) first split (λ n ps y more h ends. tt)
+    by = then_exactly (name_exact limit) (λ n. many_exactly (sees_symbol s.Bar) (made_type true n ∷ []) (other_type_exact limit) (λ p front more fits. symbol_begins s.Bar (from_colon p) front more fits) (λ p. tt) (λ more h. (h, tt)) (λ more h. tt)) first split (λ n ps y more h ends. tt)
 
     out : (ps : List (Bool × Name)) (front : List Token) → Marked Free HasColon (λ a. sign s.Colon ∷ behind_colon a) ps front → Marked Free HasColon types_marks ps front
     out [] front h = absurd h.well
@@ -296,11 +289,7 @@ no_var : (d : Detail) (y more : List Token) → AreTypes d.types → Fit y (from
 no_var d y more well fits = avoided _ (from_types d) y more (behind_types _ d.types _ well refl (behind_range _ d.range _ refl (past_properties _ d refl (λ q w. refl) refl))) fits
 
 range_or_none : (limit : ℕ) → Exactly limit (maybe (sees_symbol s.Star) range) (Marked Free (EachOf IsRange) (optional_marks range_marks)) (λ more. (sees_symbol s.Star more ≡ false) × RangeEnds more)
-range_or_none limit = maybe_exactly (sees_symbol s.Star) (range_exact limit) by
-  where
-    by : (r : Range) (front more : List Token) → Fit front (range_marks r) → sees_symbol s.Star (front ++ more) ≡ true
-    by r [] more fits = absurd fits
-    by r (t ∷ front) more fits = symbol_seen s.Star t (front ++ more) fits.0
+range_or_none limit = maybe_exactly (sees_symbol s.Star) (range_exact limit) (λ r front more fits. symbol_begins s.Star _ front more fits)
 
 same_detail : (d : Detail) → detail_marks d ≡ from_bracket d
 same_detail d = simp append_assoc
@@ -354,11 +343,7 @@ NoHead more = sees_symbol s.Greater more ≡ false
 
 detail_or_none : (limit : ℕ) (whole : Parser Expression) → Exact limit 1 whole
     → Exactly limit (maybe (sees_symbol s.OpenBracket) (detail whole)) (Marked Free (EachOf IsDetail) (optional_marks detail_marks)) (λ more. (sees_symbol s.OpenBracket more ≡ false) × Anything more)
-detail_or_none limit whole exact = maybe_exactly (sees_symbol s.OpenBracket) (detail_exact limit whole exact) by
-  where
-    by : (d : Detail) (front more : List Token) → Fit front (detail_marks d) → sees_symbol s.OpenBracket (front ++ more) ≡ true
-    by d [] more fits = absurd fits
-    by d (t ∷ front) more fits = symbol_seen s.OpenBracket t (front ++ more) fits.0
+detail_or_none limit whole exact = maybe_exactly (sees_symbol s.OpenBracket) (detail_exact limit whole exact) (λ d front more fits. symbol_begins s.OpenBracket _ front more fits)
 
 same_relationship : (r : RelationshipPattern) → relationship_marks r ≡ begun r.place (from_left r)
 same_relationship r = simp append-nil

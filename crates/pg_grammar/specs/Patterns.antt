@@ -1,4 +1,4 @@
--- What the laws of maps and patterns are.
+-- What the laws of maps and paths say.
 use Rattle.std.specs.Prelude.{◌≡◌, ℕ, Bool, true, false, List, ◌∷◌}
 use Rattle.pg_meaning.specs.declared.lexemes.Symbol.TheVariants as s
 use Rattle.pg_meaning.specs.Tokens.{Lexeme, Token}
@@ -6,13 +6,10 @@ use Rattle.pg_meaning.specs.Tokens as lexeme
 use Rattle.pg_meaning.specs.Tree.{Expression, PathPattern}
 use Rattle.pg_meaning.specs.Grammar.{path_marks, Fit}
 use Rattle.pg_meaning.specs.Parse.{Parser}
-use Rattle.pg_grammar.specs.Rules.{Exact, PairsAreExact, ExpressionsAreExact, PathsAreExact}
+use Rattle.pg_grammar.specs.Rules.{Exact, PairsAreExact}
 
 abbrev pub MapsAreExact : Type 0
 MapsAreExact = (limit : ℕ) (whole : Parser Expression) → Exact limit 1 whole → PairsAreExact limit whole
-
-abbrev pub PathsAreExactWhereExpressionsAre : Type 0
-PathsAreExactWhereExpressionsAre = ExpressionsAreExact → PathsAreExact
 
 -- the lexemes that a path can begin with: a variable or the opening of a node
 abbrev pub opens_path : Lexeme → Bool

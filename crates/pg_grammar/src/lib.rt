@@ -1,8 +1,8 @@
 //! The grammar of the language: which tokens have which tree, and that its functions read exactly these.
 #![tactic(auto)]
 
-ghost use Rattle.pg_grammar.specs.Patterns.{MapsAreExact, PathsAreExactWhereExpressionsAre, PathsOpen};
-ghost use Rattle.pg_grammar.specs.Rules.{LabelsAreExact, SymbolsAreExact};
+ghost use Rattle.pg_grammar.specs.Patterns.{MapsAreExact, PathsOpen};
+ghost use Rattle.pg_grammar.specs.Rules.{ExpressionsAreExact, LabelsAreExact, PathsAreExact, SymbolsAreExact};
 
 /// A symbol is read exactly where it stands.
 pub fn law_of_symbols()
@@ -21,6 +21,6 @@ pub fn law_of_maps()
 
 /// Paths are read exactly where expressions are, and each begins with a variable or a node.
 pub fn law_of_paths()
-    ensures exact { PathsAreExactWhereExpressionsAre }
+    ensures exact { ExpressionsAreExact → PathsAreExact }
     ensures begins { PathsOpen }
 {}

@@ -2,13 +2,16 @@
 use Rattle.std.proofs.Common.{◌≡◌, ℕ, ◌+◌, ◌<◌, ◌≤◌, Bool, true, false, List, [], ◌∷◌, ◌++◌, length, map, Option, Some, None, refl, sym, ap, subst, ◌∙◌, ◌⊎◌, inl, inr, append_assoc, length-append, arith}
 use Rattle.std.specs.List.{AllByRecursion}
 use Rattle.pg_meaning.specs.declared.lexemes.Symbol.{Symbol}
+use Rattle.pg_meaning.specs.declared.lexemes.Symbol.TheVariants as s
 use Rattle.pg_meaning.specs.Tokens.{Lexeme, Token}
-use Rattle.pg_meaning.specs.Grammar.{Mark, sign, begun, flag, joined, optional_marks, IsSpelled, Accepts, Fit, Each as EachOf}
-use Rattle.pg_meaning.specs.Parse.{Parser, Test, ◌>>=◌, ◌>>◌, ◌<$>◌, pure, branch, maybe, many, sees, sees_symbol, symbol, eat_symbol, here, start_of}
+use Rattle.pg_meaning.specs.Grammar.{Mark, sign, begun, flag, var, name, joined, commas, optional_marks, IsSpelled, Accepts, Fit, IsNonEmpty, Each as EachOf}
+use Rattle.pg_meaning.specs.Parse as parse
+use Rattle.pg_meaning.specs.Parse.{Parser, Test, ◌>>=◌, ◌>>◌, ◌<$>◌, pure, branch, maybe, many, separated, sees, sees_symbol, symbol, eat_symbol, here, start_of}
 use Rattle.pg_grammar.specs.Rules.{Sound, Complete, Exactly, Anything}
 use Rattle.pg_grammar.proofs.Fits.{fit_append, fit_split}
 use Rattle.pg_grammar.proofs.Generic.{Each, Row, some, bind_some, same_some, pick, chosen, many_sound, many_complete}
-use Rattle.pg_grammar.proofs.Terminals.{symbol_takes, symbol_again, eat_takes, eat_yes, eat_no}
+use Rattle.pg_grammar.proofs.Terminals.{symbol_seen, symbol_takes, symbol_again, eat_takes, eat_yes, eat_no, var_takes, var_again, name_takes, name_again}
+use Rattle.pg_grammar.proofs.Separated.{AfterItems, separated_sound, separated_complete, listed_made, listed_of}
 
 -- ---- the same parser, spelled in other words
 
@@ -232,6 +235,12 @@ one_token {A} {n} {p} m takes again = record {
     by a (t ∷ []) more h ends less = again t more a h.fits.0
     by a (t ∷ u ∷ front) more h ends less = absurd h.fits.1
 
+pub var_exact : (n : ℕ) → Exactly n parse.var (Marked Free Free (λ x. var x ∷ [])) Anything
+var_exact n = one_token var var_takes var_again
+
+pub name_exact : (n : ℕ) → Exactly n parse.name (Marked Free Free (λ x. name x ∷ [])) Anything
+name_exact n = one_token name name_takes name_again
+
 -- ---- where a piece begins
 
 abbrev pub Starts : List Mark → Type 0
@@ -304,7 +313,28 @@ many_exactly {A} {n} {piece} {P} {m} {E} {F} begins found exact seen starts ends
     row : Row n begins piece (Marked Free P m) E F
     row = record { read = exact.complete; first = λ a front more h. seen a front more h.fits; some = λ a front h. long (m a) front (starts a) h.fits; ends = ends; goes = goes }
 
+pub all_free : {A : Type 0} (xs : List A) → AllByRecursion Free xs
+all_free [] = tt
+all_free (x ∷ xs) = (tt, all_free xs)
+
+-- one or more, with commas between
+pub separated_exactly : {A : Type 0} {n : ℕ} {item : Parser A} {P : A → Type 0} {m : A → List Mark} {E : List Token → Type 0}
+    → Exactly n item (Marked Free P m) E → ((more : List Token) → sees_symbol s.Comma more ≡ true → E more)
+    → Exactly n (separated item) (Marked Free (λ xs. IsNonEmpty xs × AllByRecursion P xs) (λ xs. commas (map m xs))) (AfterItems E)
+separated_exactly {A} {n} {item} {P} {m} {E} exact goes = record {
+  sound = λ ts xs more e.
+      let r = separated_sound (Marked Free P m) item exact.sound ts xs more e in
+      let l = listed_made (Marked Free P m) P m (λ x front h. (h.well, h.fits)) xs r.0 r.2 in
+      (r.0, r.1, record { known = tt; well = (l.0, l.1); fits = l.2 });
+  complete = λ xs front more h ends less.
+      separated_complete n (Marked Free P m) E item goes exact.complete xs front more (listed_of Free (Marked Free P m) P m (λ x l tokens well fits. record { known = tt; well = well; fits = fits }) xs front (all_free front) h.well.0 h.well.1 h.fits) ends less;
+}
+
 -- ---- what marks begin with
+
+pub symbol_begins : (x : Symbol) (ms : List Mark) (front more : List Token) → Fit front (sign x ∷ ms) → sees_symbol x (front ++ more) ≡ true
+symbol_begins x ms [] more fits = absurd fits
+symbol_begins x ms (t ∷ front) more fits = symbol_seen x t (front ++ more) fits.0
 
 -- the first of these marks is no such lexeme
 abbrev pub Avoids : (Lexeme → Bool) → List Mark → Type 0

@@ -6,8 +6,15 @@ pub mod Enclosed
 pub mod Expressions
 pub mod Fits
 pub mod Generic
+pub mod Labels
+pub mod Maps
+pub mod Marks
+pub mod Nodes
 pub mod Openings
+pub mod Paths
 pub mod Prefixes
+pub mod Properties
+pub mod Relationships
 pub mod Separated
 pub mod Spans
 pub mod Suffixes

@@ -1,20 +1,33 @@
 //! The grammar of the language: which tokens have which tree, and that its functions read exactly these.
 #![tactic(auto)]
 
-ghost use Rattle.pg_grammar.specs.Levels.{MapsAreExact};
-ghost use Rattle.pg_grammar.specs.Rules.{ExpressionsAreExact, ExpressionsOpen, LabelsAreExact, SymbolsAreExact};
+ghost use Rattle.pg_grammar.specs.Patterns.{PathsOpen};
+ghost use Rattle.pg_grammar.specs.Rules.{ExpressionsAreExact, ExpressionsOpen, LabelsAreExact, PathsAreExact, ReadingClausesAreExact, UpdatingClausesAreExact, SymbolsAreExact};
 
 /// A symbol is read exactly where it stands.
 pub fn law_of_symbols()
     ensures { SymbolsAreExact }
 {}
 
-/// What an expression can begin with.
-pub fn law_of_openings()
-    ensures { ExpressionsOpen }
+/// Labels are read exactly where they stand.
+pub fn law_of_labels()
+    ensures { LabelsAreExact }
 {}
 
-/// An expression is read exactly where it stands, if labels and maps are.
+/// An expression is read exactly where it stands, and what it can begin with.
 pub fn law_of_expressions()
-    ensures { LabelsAreExact → MapsAreExact → ExpressionsAreExact }
+    ensures exact { ExpressionsAreExact }
+    ensures begins { ExpressionsOpen }
+{}
+
+/// A path is read exactly where it stands, and each begins with a variable or a node.
+pub fn law_of_paths()
+    ensures exact { PathsAreExact }
+    ensures begins { PathsOpen }
+{}
+
+/// The clauses that read and those that update are read exactly where they stand.
+pub fn law_of_clauses()
+    ensures reading { ReadingClausesAreExact }
+    ensures updating { UpdatingClausesAreExact }
 {}

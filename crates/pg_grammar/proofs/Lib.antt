@@ -1,3 +1,4 @@
+pub mod ClauseEnds
 pub mod Fits
 pub mod Generic
 pub mod Separated

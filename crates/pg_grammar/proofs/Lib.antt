@@ -2,5 +2,11 @@ pub mod ClauseEnds
 pub mod Fits
 pub mod Generic
 pub mod Separated
+pub mod Conditions
+pub mod SetItems
+pub mod RemoveItems
+pub mod Matches
+pub mod Merges
+pub mod Sequences
 pub mod Spans
 pub mod Terminals

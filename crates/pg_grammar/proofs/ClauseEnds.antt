@@ -1,5 +1,5 @@
 -- What doesn't stand behind a clause.
-use Rattle.std.proofs.Common.{◌≡◌, ℕ, ◌<◌, Bool, true, false, List, [], ◌∷◌, is_some, refl, ap, arith}
+use Rattle.std.proofs.Common.{◌≡◌, ◌<◌, true, false, List, [], ◌∷◌, is_some, refl, arith}
 use Rattle.pg_meaning.specs.declared.lexemes.Keyword.TheVariants as k
 use Rattle.pg_meaning.specs.declared.lexemes.Symbol.TheVariants as s
 use Rattle.pg_meaning.specs.Tokens.{Lexeme, Token}
@@ -79,6 +79,3 @@ on_follow more e = let h = keyword_is k.On more e in rw (h.1, h.2.spelled.1) (om
 
 pub on_comma : (more : List Token) → sees_keyword k.On more ≡ true → sees_symbol s.Comma more ≡ false
 on_comma more e = let h = keyword_is k.On more e in rw (h.1, h.2.spelled.1) refl
-
-pub on_hop : (more : List Token) → sees_keyword k.On more ≡ true → begins_relationship more ≡ false
-on_hop more e = let h = keyword_is k.On more e in rw (h.1, h.2.spelled.1) refl

@@ -1,7 +1,6 @@
 -- Expressions behind a keyword, as WHERE has one.
-use Rattle.std.proofs.Common.{◌≡◌, ℕ, ◌<◌, ◌≤◌, true, false, List, [], ◌∷◌, ◌++◌, Option, Some, None, map, refl, arith}
+use Rattle.std.proofs.Common.{◌≡◌, ℕ, ◌≤◌, true, false, List, Option, Some, None, map, arith}
 use Rattle.pg_meaning.specs.declared.lexemes.Keyword.{Keyword}
-use Rattle.pg_meaning.specs.declared.lexemes.Keyword.TheVariants as k
 use Rattle.pg_meaning.specs.declared.lexemes.Symbol.TheVariants as s
 use Rattle.pg_meaning.specs.declared.operators.Operator.{Operator}
 use Rattle.pg_meaning.specs.declared.operators.Operator.TheVariants as op

@@ -1,5 +1,5 @@
 -- The clauses MATCH and UNWIND.
-use Rattle.std.proofs.Common.{◌≡◌, ℕ, ◌<◌, Bool, true, false, List, [], ◌∷◌, ◌++◌, Option, Some, None, map, refl, sym, subst, arith}
+use Rattle.std.proofs.Common.{◌≡◌, ℕ, Bool, true, false, List, [], ◌∷◌, ◌++◌, Option, Some, None, map, refl, sym, subst, arith}
 use Rattle.pg_meaning.specs.declared.lexemes.Keyword.TheVariants as k
 use Rattle.pg_meaning.specs.declared.lexemes.Symbol.TheVariants as s
 use Rattle.pg_meaning.specs.Tokens.{Token}
@@ -13,7 +13,7 @@ use Rattle.pg_grammar.specs.Rules.{Exactly, Ends, PathSpelled, NoHop, ClauseEnds
 use Rattle.pg_grammar.proofs.ClauseEnds.{end_follow, end_where, end_comma, end_hop}
 use Rattle.pg_grammar.proofs.Separated.{AfterItems}
 use Rattle.pg_grammar.proofs.Terminals.{symbol_is}
-use Rattle.pg_grammar.proofs.Sequences.{Is, Fitting, Sequence, Behind, Made, restated, keyword_exact, var_exact, eat_keyword_exact, sequence_exact, behind_exact, made_exact, items_exact, sequence_fits, sequence_of, behind_fits, behind_of, keyword_other, no_tokens}
+use Rattle.pg_grammar.proofs.Sequences.{Is, Fitting, Sequence, Behind, Made, restated, narrowed, keyword_exact, var_exact, eat_keyword_exact, sequence_exact, behind_exact, made_exact, items_exact, sequence_fits, sequence_of, behind_fits, behind_of, keyword_other, no_tokens}
 use Rattle.pg_grammar.proofs.Conditions.{Whole, MayHave, may_have_exact}
 
 -- ---- paths
@@ -64,7 +64,7 @@ match_exact {limit} {whole} exact paths =
     (λ b c front more h ends. keyword_other k.Match k.Optional refl front more h)
   where
     conditions : Exactly limit (parse.condition whole) (MayHave k.Where) ClauseEnds
-    conditions = restated (MayHave k.Where) (MayHave k.Where) (λ more. Ends 1 more × (sees_keyword k.Where more ≡ false)) ClauseEnds (may_have_exact k.Where exact) (λ c front h. h) (λ c front h. h) (λ more ends. (end_follow more ends, end_where more ends))
+    conditions = narrowed (MayHave k.Where) (λ more. Ends 1 more × (sees_keyword k.Where more ≡ false)) ClauseEnds (may_have_exact k.Where exact) (λ more ends. (end_follow more ends, end_where more ends))
 
 pub match_out : (c : Clause) (front : List Token) → MatchParts c front → ClauseSpelled grammar.reading c front
 match_out c front h =

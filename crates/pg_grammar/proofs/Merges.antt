@@ -1,5 +1,5 @@
 -- The clause MERGE, with its ON.
-use Rattle.std.proofs.Common.{◌≡◌, ℕ, ◌+◌, ◌<◌, Bool, true, false, List, [], ◌∷◌, ◌++◌, length, map, refl, sym, ap, subst, ◌∙◌, ◌⊎◌, inl, inr, append_assoc, arith}
+use Rattle.std.proofs.Common.{◌≡◌, ℕ, ◌<◌, Bool, true, false, List, [], ◌∷◌, ◌++◌, length, map, refl, sym, ap, subst, inl, inr, arith}
 use Rattle.std.specs.List.{AllByRecursion}
 use Rattle.pg_meaning.specs.declared.lexemes.Keyword.TheVariants as k
 use Rattle.pg_meaning.specs.Tokens.{Token}
@@ -10,7 +10,7 @@ use Rattle.pg_meaning.specs.Grammar as grammar
 use Rattle.pg_meaning.specs.Parse as parse
 use Rattle.pg_meaning.specs.Parse.{Parser, ◌>>=◌, ◌>>◌, ◌<$>◌, sees_keyword, many, event, on_items, merge_clause}
 use Rattle.pg_grammar.specs.Rules.{Exactly, Ends, PathSpelled, NoHop, ClauseEnds, ClauseSpelled, LabelsAreExact, Anything}
-use Rattle.pg_grammar.proofs.ClauseEnds.{end_follow, end_comma, end_hop, end_on, on_follow, on_comma, on_hop}
+use Rattle.pg_grammar.proofs.ClauseEnds.{end_follow, end_comma, end_hop, end_on, on_follow, on_comma}
 use Rattle.pg_grammar.proofs.Generic.{Each}
 use Rattle.pg_grammar.proofs.Separated.{AfterItems}
 use Rattle.pg_grammar.proofs.Terminals.{keyword_seen}

@@ -1,5 +1,5 @@
 -- The items of REMOVE.
-use Rattle.std.proofs.Common.{◌≡◌, ℕ, true, false, List, [], ◌∷◌, ◌++◌, map, refl, sym, subst, ◌⊎◌, inl, inr}
+use Rattle.std.proofs.Common.{◌≡◌, ℕ, true, List, [], ◌∷◌, map, refl, sym, subst, inl, inr}
 use Rattle.pg_meaning.specs.declared.lexemes.Symbol.TheVariants as s
 use Rattle.pg_meaning.specs.Tokens.{Token}
 use Rattle.pg_meaning.specs.Tree.{Name, RemoveItem}
@@ -11,7 +11,7 @@ use Rattle.pg_meaning.specs.Parse.{◌>>=◌, ◌>>◌, ◌<$>◌, sees_symbol, 
 use Rattle.pg_grammar.specs.Rules.{Exactly, LabelsSpelled, LabelsAreExact, NoColon, Anything}
 use Rattle.pg_grammar.proofs.Separated.{AfterItems}
 use Rattle.pg_grammar.proofs.Terminals.{symbol_is, symbols_exact}
-use Rattle.pg_grammar.proofs.Sequences.{Is, Fitting, Items, Sequence, Behind, Made, Either, restated, var_exact, name_exact, sequence_exact, behind_exact, made_exact, either_exact, items_exact, sequence_fits, sequence_of, behind_fits, behind_of, symbol_first}
+use Rattle.pg_grammar.proofs.Sequences.{Is, Fitting, Items, Sequence, Behind, Made, Either, restated, narrowed, var_exact, name_exact, sequence_exact, behind_exact, made_exact, either_exact, items_exact, sequence_fits, sequence_of, behind_fits, behind_of, symbol_first}
 use Rattle.pg_grammar.proofs.SetItems.{labels_first}
 
 abbrev OfProperty : Name → RemoveItem → List Token → Type 0
@@ -50,7 +50,7 @@ remove_item_exact {limit} labels = restated Parts RemoveSpelled NoColon NoColon 
     of_property n =
         let named = made_exact (tree.remove_property n) (Is grammar.name) Anything (name_exact limit) in
         behind_exact (sign s.Dot) (Made (tree.remove_property n) (Is grammar.name)) NoColon (symbols_exact limit s.Dot)
-        (restated (Made (tree.remove_property n) (Is grammar.name)) (Made (tree.remove_property n) (Is grammar.name)) Anything NoColon named (λ a front h. h) (λ a front h. h) (λ more ends. tt))
+        (narrowed (Made (tree.remove_property n) (Is grammar.name)) Anything NoColon named (λ more ends. tt))
 
     from : (n : Name) → Exactly limit (branch (sees_symbol s.Dot) (parse.symbol s.Dot >> (tree.remove_property n <$> parse.name)) (tree.remove_labels n <$> parse.labels)) (Either (OfProperty n) (OfLabels n)) NoColon
     from n = either_exact (sees_symbol s.Dot) (OfProperty n) (OfLabels n) NoColon (of_property n) (made_exact (tree.remove_labels n) LabelsSpelled NoColon (labels limit))

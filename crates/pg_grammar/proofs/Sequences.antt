@@ -5,16 +5,15 @@ use Rattle.pg_meaning.specs.declared.lexemes.Keyword.{Keyword}
 use Rattle.pg_meaning.specs.declared.lexemes.Symbol.{Symbol}
 use Rattle.pg_meaning.specs.declared.lexemes.Symbol.TheVariants as s
 use Rattle.pg_meaning.specs.Tokens.{Token}
-use Rattle.pg_meaning.specs.Tree.{Name}
 use Rattle.pg_meaning.specs.Grammar.{Mark, key, sign, flag, commas, joined, Accepts, Fit, IsNonEmpty}
 use Rattle.pg_meaning.specs.Grammar as grammar
 use Rattle.pg_meaning.specs.Parse as parse
 use Rattle.pg_meaning.specs.Parse.{Parser, Outcome, Test, same_symbol, same_keyword, ◌>>=◌, ◌>>◌, ◌<$>◌, pure, branch, maybe, many, separated, sees_symbol, sees_keyword}
-use Rattle.pg_grammar.specs.Rules.{Sound, Complete, Exactly, Anything}
+use Rattle.pg_grammar.specs.Rules.{Exactly, Anything}
 use Rattle.pg_grammar.proofs.Fits.{fit_append, fit_split}
 use Rattle.pg_grammar.proofs.Generic.{Each, Row, some, same_some, bind_some, pick, chosen, many_sound, many_complete}
-use Rattle.pg_grammar.proofs.Separated.{Listed, AfterItems, separated_sound, separated_complete, EachToken, listed_made, listed_of}
-use Rattle.pg_grammar.proofs.Terminals.{keyword_takes, keyword_again, keyword_seen, symbol_takes, symbol_again, symbol_seen, var_takes, var_again, name_takes, name_again, eat_keyword_takes, eat_keyword_yes, eat_keyword_no}
+use Rattle.pg_grammar.proofs.Separated.{AfterItems, separated_sound, separated_complete, EachToken, listed_made, listed_of}
+use Rattle.pg_grammar.proofs.Terminals.{keyword_takes, keyword_again, keyword_seen, symbol_seen, var_takes, var_again, name_takes, name_again, eat_keyword_takes, eat_keyword_yes, eat_keyword_no}
 
 -- ---- one token
 
@@ -22,38 +21,26 @@ use Rattle.pg_grammar.proofs.Terminals.{keyword_takes, keyword_again, keyword_se
 abbrev pub Is : {A : Type 0} → (A → Mark) → A → List Token → Type 0
 Is m a front = Fit front (m a ∷ [])
 
-pub keyword_exact : (n : ℕ) (x : Keyword) → Exactly n (parse.keyword x) (Is (λ u. key x)) Anything
-keyword_exact n x = record {
-  sound = λ ts u more e. let t = keyword_takes x ts more u e in (t.0 ∷ [], t.1, (t.2, tt));
-  complete = λ u front more h ends less. by u front more h;
+pub one_exact : {A : Type 0} (n : ℕ) (m : A → Mark) (p : Parser A) → ((ts more : List Token) (a : A) → p ts ≡ Some (a, more) → (t : Token) × (ts ≡ t ∷ more) × Accepts (m a) t)
+    → ((t : Token) (more : List Token) (a : A) → Accepts (m a) t → p (t ∷ more) ≡ Some (a, more)) → Exactly n p (Is m) Anything
+one_exact {A} n m p takes again = record {
+  sound = λ ts a more e. let t = takes ts more a e in (t.0 ∷ [], t.1, (t.2, tt));
+  complete = λ a front more h ends less. by a front more h;
 }
   where
-    by : (u : Unit {0}) (front more : List Token) → Fit front (key x ∷ []) → parse.keyword x (front ++ more) ≡ Some (u, more)
-    by u [] more h = absurd h
-    by u (t ∷ []) more h = keyword_again x t more h.0
-    by u (t ∷ w ∷ front) more h = absurd h.1
+    by : (a : A) (front more : List Token) → Fit front (m a ∷ []) → p (front ++ more) ≡ Some (a, more)
+    by a [] more h = absurd h
+    by a (t ∷ []) more h = again t more a h.0
+    by a (t ∷ u ∷ front) more h = absurd h.1
+
+pub keyword_exact : (n : ℕ) (x : Keyword) → Exactly n (parse.keyword x) (Is (λ u. key x)) Anything
+keyword_exact n x = one_exact n (λ u. key x) (parse.keyword x) (keyword_takes x) (λ t more u h. keyword_again x t more h)
 
 pub var_exact : (n : ℕ) → Exactly n parse.var (Is grammar.var) Anything
-var_exact n = record {
-  sound = λ ts a more e. let t = var_takes ts more a e in (t.0 ∷ [], t.1, (t.2, tt));
-  complete = λ a front more h ends less. by a front more h;
-}
-  where
-    by : (a : Name) (front more : List Token) → Fit front (grammar.var a ∷ []) → parse.var (front ++ more) ≡ Some (a, more)
-    by a [] more h = absurd h
-    by a (t ∷ []) more h = var_again t more a h.0
-    by a (t ∷ w ∷ front) more h = absurd h.1
+var_exact n = one_exact n grammar.var parse.var var_takes var_again
 
 pub name_exact : (n : ℕ) → Exactly n parse.name (Is grammar.name) Anything
-name_exact n = record {
-  sound = λ ts a more e. let t = name_takes ts more a e in (t.0 ∷ [], t.1, (t.2, tt));
-  complete = λ a front more h ends less. by a front more h;
-}
-  where
-    by : (a : Name) (front more : List Token) → Fit front (grammar.name a ∷ []) → parse.name (front ++ more) ≡ Some (a, more)
-    by a [] more h = absurd h
-    by a (t ∷ []) more h = name_again t more a h.0
-    by a (t ∷ w ∷ front) more h = absurd h.1
+name_exact n = one_exact n grammar.name parse.name name_takes name_again
 
 pub eat_keyword_exact : (n : ℕ) (x : Keyword) → Exactly n (parse.eat_keyword x) (λ b front. Fit front (flag b (key x))) (λ more. sees_keyword x more ≡ false)
 eat_keyword_exact n x = record {
@@ -89,6 +76,10 @@ restated S T E F exact out into ends = record {
   sound = λ ts a more e. let r = exact.sound ts a more e in (r.0, r.1, out a r.0 r.2);
   complete = λ a front more h end less. exact.complete a front more (into a front h) (ends more end) less;
 }
+
+-- less may follow
+pub narrowed : {A : Type 0} {limit : ℕ} {p : Parser A} (S : A → List Token → Type 0) (E F : List Token → Type 0) → Exactly limit p S E → ((more : List Token) → F more → E more) → Exactly limit p S F
+narrowed S E F exact ends = restated S S E F exact (λ a front h. h) (λ a front h. h) ends
 
 -- ---- one behind another
 
@@ -271,10 +262,6 @@ keyword_first x front more h = rw h.whole (keyword_seen x h.token (h.others ++ m
 pub other_symbol : (x y : Symbol) → same_symbol x y ≡ false → (ms : List Mark) (front more : List Token) → Fit front (sign x ∷ ms) → sees_symbol y (front ++ more) ≡ false
 other_symbol x y differ ms [] more fits = absurd fits
 other_symbol x y differ ms (t ∷ front) more fits = rw fits.0.spelled differ
-
-pub other_keyword : (x y : Keyword) → same_keyword x y ≡ false → (ms : List Mark) (front more : List Token) → Fit front (key x ∷ ms) → sees_keyword y (front ++ more) ≡ false
-other_keyword x y differ ms [] more fits = absurd fits
-other_keyword x y differ ms (t ∷ front) more fits = rw fits.0.spelled.1 differ
 
 -- a token that isn't that
 pub symbol_other : {A : Type 0} {S : A → List Token → Type 0} {a : A} (x y : Symbol) → same_symbol x y ≡ false → (front more : List Token) → Behind (sign x) S a front → sees_symbol y (front ++ more) ≡ false

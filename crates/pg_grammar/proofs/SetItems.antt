@@ -1,5 +1,5 @@
 -- The items of SET.
-use Rattle.std.proofs.Common.{◌≡◌, ℕ, ◌<◌, Bool, true, false, List, [], ◌∷◌, ◌++◌, map, refl, sym, subst, ◌⊎◌, inl, inr, arith}
+use Rattle.std.proofs.Common.{◌≡◌, ℕ, Bool, true, false, List, [], ◌∷◌, ◌++◌, map, refl, sym, subst, inl, inr, arith}
 use Rattle.pg_meaning.specs.declared.lexemes.Symbol.{Symbol}
 use Rattle.pg_meaning.specs.declared.lexemes.Symbol.TheVariants as s
 use Rattle.pg_meaning.specs.Tokens.{Token}
@@ -11,7 +11,7 @@ use Rattle.pg_meaning.specs.Parse as parse
 use Rattle.pg_meaning.specs.Parse.{Parser, ◌>>=◌, ◌>>◌, ◌<$>◌, same_symbol, sees_symbol, separated, set_item}
 use Rattle.pg_grammar.specs.Rules.{Exactly, Ends, follow, LabelsSpelled, LabelsAreExact, NoColon, Anything}
 use Rattle.pg_grammar.proofs.Terminals.{symbol_is, symbols_exact}
-use Rattle.pg_grammar.proofs.Sequences.{Is, Fitting, Sequence, Behind, Made, Either, restated, var_exact, name_exact, sequence_exact, behind_exact, made_exact, either_exact, items_exact, sequence_fits, sequence_of, behind_fits, behind_of, symbol_first, other_symbol, symbol_other}
+use Rattle.pg_grammar.proofs.Sequences.{Is, Fitting, Sequence, Behind, Made, Either, restated, narrowed, var_exact, name_exact, sequence_exact, behind_exact, made_exact, either_exact, items_exact, sequence_fits, sequence_of, behind_fits, behind_of, symbol_first, other_symbol, symbol_other}
 use Rattle.pg_grammar.proofs.Conditions.{Whole, comma_ends}
 use Rattle.pg_grammar.proofs.Separated.{AfterItems}
 
@@ -90,7 +90,7 @@ set_item_exact {limit} {whole} exact labels = restated Parts SetSpelled (Ends 1)
     to_property n = behind_exact (sign s.Dot) _ (Ends 1) (symbols_exact limit s.Dot) (sequence_exact (Is grammar.name) Anything (λ m. Behind (sign s.Equal) (Made (tree.set_property n m) Whole)) (Ends 1) (name_exact limit) (λ m. by_symbol s.Equal (tree.set_property n m)) (λ a b front more h ends. tt))
 
     to_labels : (n : Name) → Exactly limit (tree.set_labels n <$> parse.labels) (ToLabels n) (Ends 1)
-    to_labels n = made_exact (tree.set_labels n) LabelsSpelled (Ends 1) (restated LabelsSpelled LabelsSpelled NoColon (Ends 1) (labels limit) (λ a front h. h) (λ a front h. h) no_colon)
+    to_labels n = made_exact (tree.set_labels n) LabelsSpelled (Ends 1) (narrowed LabelsSpelled NoColon (Ends 1) (labels limit) no_colon)
 
     no_sum : (n : Name) (a : SetItem) (front more : List Token) → ToLabels n a front → Ends 1 more → sees_symbol s.PlusEqual (front ++ more) ≡ false
     no_sum n a front more h ends = labels_first s.PlusEqual refl h.value front more h.inner

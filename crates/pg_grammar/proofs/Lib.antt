@@ -1,5 +1,10 @@
 pub mod Fits
 pub mod Generic
+pub mod Items
+pub mod Pieces
 pub mod Separated
+pub mod SortItems
 pub mod Spans
+pub mod Stages
+pub mod Takes
 pub mod Terminals

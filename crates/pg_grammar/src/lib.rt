@@ -7,3 +7,10 @@ ghost use Rattle.pg_grammar.specs.Rules.{SymbolsAreExact};
 pub fn law_of_symbols()
     ensures { SymbolsAreExact }
 {}
+
+ghost use Rattle.pg_grammar.specs.Rules.{ReadingClausesAreExact};
+
+/// x
+pub fn law_of_readings()
+    ensures { SymbolsAreExact }
+{}

@@ -10,7 +10,7 @@ use Rattle.pg_meaning.specs.Tree as tree
 use Rattle.pg_meaning.specs.Grammar.{Mark, begun, ended, var_marks, marks, optional_marks, alias_marks, item_marks, Fit, IsWellFormed, IsVariable, IsNamed, HasSource, Each}
 use Rattle.pg_meaning.specs.Parse as parse
 use Rattle.pg_meaning.specs.Parse.{Parser, Outcome, and_then, ◌>>=◌, pure, with_rest, sees_symbol, sees_keyword, start_of, finish_of, finish_between, cut, maybe, alias, item_with, return_item, with_item, may_stand}
-use Rattle.pg_grammar.specs.Rules.{Ends, Exact, Opened, ExpressionsOpen}
+use Rattle.pg_grammar.specs.Rules.{Ends, Exact, opens, Opened, ExpressionsOpen}
 use Rattle.pg_grammar.proofs.Generic.{some, same_some, bind_some, pick, chosen}
 use Rattle.pg_grammar.proofs.Pieces.{ReadsMarks, maybe_reads, keyword_reads, keyword_first, fewer, level_some}
 use Rattle.pg_grammar.proofs.Separated.{EachToken}
@@ -104,16 +104,16 @@ pub comma_item_ends : (more : List Token) → sees_symbol s.Comma more ≡ true 
 unfolding parse.same_keyword
 comma_item_ends more e = let i = symbol_is s.Comma more e in rw (i.1, i.2.spelled) (omega arith, refl)
 
-module _ (text : List ℕ) {n : ℕ} {whole : Parser Expression} (exact : Exact n 1 whole) (opened : ExpressionsOpen) where
-  -- no expression is spelled by nothing
-  no_marks : (x : Expression) (start finish : ℕ) → IsWellFormed x → Fit [] (begun start (ended finish (marks x))) → ⊥
-  no_marks x start finish well fits = by (marks x) fits (opened x [] well)
-    where
-      by : (ms : List Mark) → Fit [] (begun start (ended finish ms)) → (Fit [] ms → Opened []) → ⊥
-      by [] f none = let bad = (none tt).whole in absurd cc
-      by (m ∷ []) f none = f
-      by (m ∷ n ∷ ms) f none = f
+-- no expression is spelled by nothing
+no_marks : ExpressionsOpen → (x : Expression) (start finish : ℕ) → IsWellFormed x → Fit [] (begun start (ended finish (marks x))) → ⊥
+no_marks opened x start finish well fits = by (marks x) fits (opened x [] well)
+  where
+    by : (ms : List Mark) → Fit [] (begun start (ended finish ms)) → (Fit [] ms → Opened []) → ⊥
+    by [] f none = let bad = (none tt).whole in absurd cc
+    by (m ∷ []) f none = f
+    by (m ∷ n ∷ ms) f none = f
 
+module _ (text : List ℕ) {n : ℕ} {whole : Parser Expression} (exact : Exact n 1 whole) (opened : ExpressionsOpen) where
   item_made : (bytes : List ℕ) (x : Expression) (a : Option Name) (f more : List Token) → IsWellFormed x → Fit f (marks x)
       → cut text (start_of (f ++ more)) (finish_between (f ++ more) more) ≡ Some bytes
       → HasSource text (item_with (start_of (f ++ more)) bytes x a) × Fit f (begun (start_of (f ++ more)) (ended (start_of (f ++ more) + length bytes) (marks x)))
@@ -160,7 +160,7 @@ module _ (text : List ℕ) {n : ℕ} {whole : Parser Expression} (exact : Exact 
     where
       by : (us front : List Token) → ts ≡ front ++ us → Fit front (begun a.start (ended (a.start + length a.source) (marks a.value))) → EachToken (Placed text) front → Takes (Placed text) us (optional_marks alias_marks a.alias) more
           → return_item text whole ts ≡ Some (a, more)
-      by us [] e fits tokens others = absurd (no_marks a.value a.start (a.start + length a.source) ok.0 fits)
+      by us [] e fits tokens others = absurd (no_marks opened a.value a.start (a.start + length a.source) ok.0 fits)
       by us (t ∷ f) e fits tokens others =
           let b = begun_is a.start t f (ended (a.start + length a.source) (marks a.value)) fits in
           let l = ended_is (a.start + length a.source) t f (marks a.value) b.0 in
@@ -176,6 +176,22 @@ module _ (text : List ℕ) {n : ℕ} {whole : Parser Expression} (exact : Exact 
 
   pub item_reads : IsUtf8 text → ReadsMarks (Placed text) n (return_item text whole) (IsItem text) item_marks ItemEnds
   item_reads utf8 = record { sound = item_sound; complete = item_complete utf8 }
+
+-- the token that an item begins with
+pub item_opens : {P : Token → Type 0} → ExpressionsOpen → (x : Item) (ts : List Token) (ms : List Mark) (more : List Token) → IsWellFormed x.value → Takes P ts (item_marks x ++ ms) more → (t : Token) × (left : List Token) × (ts ≡ t ∷ left) × (opens t.lexeme ≡ true)
+item_opens {P} opened x ts ms more well h =
+    let whole = takes_split (item_marks x) ms h in
+    let parts = takes_split (begun x.start (ended (x.start + length x.source) (marks x.value))) (optional_marks alias_marks x.alias) whole.1 in
+    by parts.0 parts.1.front parts.1.whole parts.1.fits
+  where
+    by : (us front : List Token) → ts ≡ front ++ us → Fit front (begun x.start (ended (x.start + length x.source) (marks x.value))) → (t : Token) × (left : List Token) × (ts ≡ t ∷ left) × (opens t.lexeme ≡ true)
+    by us [] e fits = absurd (no_marks opened x.value x.start (x.start + length x.source) well fits)
+    by us (t ∷ f) e fits =
+        let b = begun_is x.start t f (ended (x.start + length x.source) (marks x.value)) fits in
+        let l = ended_is (x.start + length x.source) t f (marks x.value) b.0 in
+        let o = opened x.value (t ∷ f) well l.0 in
+        let same : o.token ≡ t = cc (o.whole) in
+        (t, f ++ us, e, rw (← same) o.first)
 
 -- ---- items of WITH
 

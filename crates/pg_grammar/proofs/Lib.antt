@@ -2,6 +2,7 @@ pub mod Fits
 pub mod Generic
 pub mod Items
 pub mod Pieces
+pub mod ProjectionClauses
 pub mod Projections
 pub mod Separated
 pub mod SortItems

@@ -3,6 +3,7 @@ use Rattle.std.proofs.Common.{◌≡◌, ℕ, suc, ◌+◌, ◌<◌, ◌≤◌, 
 use Rattle.std.specs.List.{AllByRecursion}
 use Rattle.pg_meaning.specs.declared.lexemes.Keyword.{Keyword}
 use Rattle.pg_meaning.specs.declared.lexemes.Symbol.TheVariants as s
+use Rattle.pg_meaning.specs.ListsLaws.{all_trivial, all_joined}
 use Rattle.pg_meaning.specs.Tokens.{Token}
 use Rattle.pg_meaning.specs.Grammar.{Mark, key, further, commas, Accepts, Fit, IsNonEmpty}
 use Rattle.pg_meaning.specs.Parse as parse
@@ -15,14 +16,6 @@ use Rattle.pg_grammar.proofs.Separated.{Further, Listed, AfterItems, further_sou
 abbrev pub AnyToken : Token → Type 0
 AnyToken t = Unit {0}
 
-pub any_tokens : (ts : List Token) → EachToken AnyToken ts
-any_tokens [] = tt
-any_tokens (t ∷ ts) = (tt, any_tokens ts)
-
-each_append : (P : Token → Type 0) (a b : List Token) → EachToken P a → EachToken P b → EachToken P (a ++ b)
-each_append P [] b p q = q
-each_append P (t ∷ a) b p q = (p.0, each_append P a b p.1 q)
-
 -- tokens of which each has the property, and what is left behind them
 pub record Takes (P : Token → Type 0) (ts : List Token) (ms : List Mark) (more : List Token) : Type 0 where
   pub front : List Token
@@ -34,7 +27,7 @@ abbrev pub Took : List Token → List Mark → List Token → Type 0
 Took = Takes AnyToken
 
 pub took : {ts more : List Token} {ms : List Mark} (front : List Token) → ts ≡ front ++ more → Fit front ms → Took ts ms more
-took front whole fits = record { front = front; whole = whole; fits = fits; tokens = any_tokens front }
+took front whole fits = record { front = front; whole = whole; fits = fits; tokens = all_trivial front }
 
 pub takes_none : {P : Token → Type 0} (ts : List Token) → Takes P ts [] ts
 takes_none ts = record { front = []; whole = refl; fits = tt; tokens = tt }
@@ -51,7 +44,7 @@ takes_then {P} {ts} {us} {more} {ms} {ns} a b = record {
   front = a.front ++ b.front;
   whole = a.whole ∙ ap (λ (r : List Token). a.front ++ r) b.whole ∙ sym (append_assoc a.front b.front more);
   fits = fit_append a.front b.front ms ns a.fits b.fits;
-  tokens = each_append P a.front b.front a.tokens b.tokens;
+  tokens = all_joined P a.front b.front a.tokens b.tokens;
 }
 
 pub takes_split : {P : Token → Type 0} {ts more : List Token} (ms ns : List Mark) → Takes P ts (ms ++ ns) more → (us : List Token) × Takes P ts ms us × Takes P us ns more

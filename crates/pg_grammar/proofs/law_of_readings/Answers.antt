@@ -2,7 +2,7 @@ use Rattle.pg_grammar.proofs.law_of_readings.Goals as goal
 use Rattle.pg_grammar.proofs.Terminals.{symbols_exact}
 use Rattle.pg_grammar.proofs.Items
 use Rattle.pg_grammar.proofs.SortItems
-use Rattle.pg_grammar.proofs.Projections
+use Rattle.pg_grammar.proofs.ProjectionClauses
 use Rattle.pg_grammar.proofs.Stages
 
 pub returns : goal.returns

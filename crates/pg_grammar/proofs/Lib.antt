@@ -1,3 +1,4 @@
+pub mod Beginnings
 pub mod Fits
 pub mod Generic
 pub mod Items

@@ -170,8 +170,9 @@ ExpressionsOpen = (x : Expression) (front : List Token) → IsWellFormed x → F
 abbrev pub PathsAreExact : Type 0
 PathsAreExact = (n : ℕ) → Exactly n (parse.path (parse.expr n)) PathSpelled NoHop
 
+-- a clause begins with a keyword, so what it has of expressions is shorter than itself
 abbrev pub ReadingClausesAreExact : Type 0
-ReadingClausesAreExact = (n : ℕ) → Exactly n (parse.reading (parse.expr n)) (ClauseSpelled grammar.reading) ClauseEnds
+ReadingClausesAreExact = (n : ℕ) → Exactly (n + 1) (parse.reading (parse.expr n)) (ClauseSpelled grammar.reading) ClauseEnds
 
 abbrev pub UpdatingClausesAreExact : Type 0
-UpdatingClausesAreExact = (n : ℕ) → Exactly n (parse.updating (parse.expr n)) (ClauseSpelled grammar.updating) ClauseEnds
+UpdatingClausesAreExact = (n : ℕ) → Exactly (n + 1) (parse.updating (parse.expr n)) (ClauseSpelled grammar.updating) ClauseEnds

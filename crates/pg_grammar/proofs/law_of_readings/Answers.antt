@@ -3,6 +3,7 @@ use Rattle.pg_grammar.proofs.Terminals.{symbols_exact}
 use Rattle.pg_grammar.proofs.Items
 use Rattle.pg_grammar.proofs.SortItems
 use Rattle.pg_grammar.proofs.ProjectionClauses
+use Rattle.pg_grammar.proofs.Beginnings
 use Rattle.pg_grammar.proofs.Stages
 
 pub returns : goal.returns

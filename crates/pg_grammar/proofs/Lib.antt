@@ -6,6 +6,7 @@ pub mod Pieces
 pub mod ProjectionClauses
 pub mod Projections
 pub mod Separated
+pub mod Shapes
 pub mod SortItems
 pub mod Spans
 pub mod Stages

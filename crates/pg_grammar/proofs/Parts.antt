@@ -1,0 +1,193 @@
+-- The parts of a query, and its last one.
+use Rattle.std.proofs.Common.{◌≡◌, ◌⊎◌, inl, inr, ℕ, zero, suc, ◌+◌, ◌<◌, ◌≤◌, Bool, true, false, List, [], ◌∷◌, ◌++◌, length, map, Option, Some, None, refl, sym, ap, subst, ◌∙◌, append_assoc, length-append, arith}
+use Rattle.std.proofs.lemmas.List.{append-nil}
+use Rattle.std.specs.List.{AllByRecursion}
+use Rattle.std.specs.Str.{IsUtf8}
+use Rattle.pg_meaning.specs.declared.lexemes.Keyword.TheVariants as k
+use Rattle.pg_meaning.specs.ListsLaws.{all_weaker, all_joined, all_trivial}
+use Rattle.pg_meaning.specs.Tokens.{Token, is_empty}
+use Rattle.pg_meaning.specs.Tree.{Expression, Clause}
+use Rattle.pg_meaning.specs.Tree as tree
+use Rattle.pg_meaning.specs.Grammar.{Mark, joined, clause_marks, Fit, IsClause, AreParts, HasSource, Kind, reading, updating, passing, returning, kind_of, items_of}
+use Rattle.pg_meaning.specs.Parse as parse
+use Rattle.pg_meaning.specs.Parse.{Parser, Outcome, Test, and_then, ◌>>=◌, pure, refuse, sees_keyword, begins_reading, begins_updating, many, with_clause, return_clause, last, parts}
+use Rattle.pg_grammar.specs.Rules.{Exactly, ExpressionsAreExact, ExpressionsOpen, ReadingClausesAreExact, UpdatingClausesAreExact, ClauseEnds, ClauseSpelled}
+use Rattle.pg_grammar.proofs.Beginnings.{next_kind, is_kind, same_kind, reading_is, updating_is, passing_is, returning_is, kind_ends, clause_first, clause_some}
+use Rattle.pg_grammar.proofs.Fits.{fit_append, fit_split}
+use Rattle.pg_grammar.proofs.Generic.{Each, Row, some, same_some, bind_some, pick, chosen, many_sound, many_complete}
+use Rattle.pg_grammar.proofs.ProjectionClauses.{IsTextClause, IsOfKind, return_reads, with_reads}
+use Rattle.pg_grammar.proofs.Separated.{EachToken}
+use Rattle.pg_grammar.proofs.Shapes.{kinds, AllOf, Passes, Returns, Ending, Shape, shape_of, parts_made}
+use Rattle.pg_grammar.proofs.Spans.{Placed}
+use Rattle.pg_grammar.proofs.Takes.{AnyToken, Takes, Took, took, takes_none, none_taken, takes_then, takes_split, takes_less, takes_first}
+
+-- ---- clauses in a row
+
+abbrev pub all_marks : List Clause → List Mark
+all_marks cs = joined (map clause_marks cs)
+
+marks_joined : (cs ds : List Clause) → all_marks (cs ++ ds) ≡ all_marks cs ++ all_marks ds
+marks_joined [] ds = refl
+marks_joined (c ∷ cs) ds = ap (λ (ms : List Mark). clause_marks c ++ ms) (marks_joined cs ds) ∙ sym (append_assoc (clause_marks c) (all_marks cs) (all_marks ds))
+
+three_marks : (rs us ds : List Clause) → all_marks (rs ++ us ++ ds) ≡ all_marks rs ++ all_marks us ++ all_marks ds
+three_marks rs us ds = marks_joined (rs ++ us) ds ∙ ap (λ (ms : List Mark). ms ++ all_marks ds) (marks_joined rs us)
+
+all_front : {A : Type 0} (Q : A → Type 0) (xs ys : List A) → AllByRecursion Q (xs ++ ys) → AllByRecursion Q xs
+all_front Q [] ys h = tt
+all_front Q (x ∷ xs) ys h = (h.0, all_front Q xs ys h.1)
+
+all_back : {A : Type 0} (Q : A → Type 0) (xs ys : List A) → AllByRecursion Q (xs ++ ys) → AllByRecursion Q ys
+all_back Q [] ys h = h
+all_back Q (x ∷ xs) ys h = all_back Q xs ys h.1
+
+module _ (text : List ℕ) where
+  abbrev Sourced : Clause → Type 0
+  Sourced c = AllByRecursion (HasSource text) (items_of c)
+
+  -- clauses that read and clauses that update have no items
+  no_reading_items : (c : Clause) → kind_of c ≡ reading → Sourced c
+  no_reading_items (tree.with_rows p x) e = absurd cc
+  no_reading_items (tree.return_rows p) e = absurd cc
+  no_reading_items _ e = tt
+
+  no_updating_items : (c : Clause) → kind_of c ≡ updating → Sourced c
+  no_updating_items (tree.with_rows p x) e = absurd cc
+  no_updating_items (tree.return_rows p) e = absurd cc
+  no_updating_items _ e = tt
+
+  -- ---- any number of clauses of one kind
+
+  module _ {limit : ℕ} {piece : Parser Clause} (a : Kind) (begins : Test) (begins_is : (ts : List Token) → begins ts ≡ is_kind a (next_kind ts))
+      (no_items : (c : Clause) → kind_of c ≡ a → Sourced c) (exact : Exactly limit piece (ClauseSpelled a) ClauseEnds) where
+    spelled_all : (cs : List Clause) (front : List Token) → Each (ClauseSpelled a) cs front → AllByRecursion (IsTextClause text) cs × AllOf a cs × Fit front (all_marks cs)
+    spelled_all [] front h = (tt, tt, rw h tt)
+    spelled_all (c ∷ cs) front h =
+        let r = spelled_all cs h.1 h.4 in
+        (((h.3.well, no_items c h.3.is), r.0), (h.3.is, r.1), rw h.2 (fit_append h.0 h.1 (clause_marks c) (all_marks cs) h.3.fits r.2))
+
+    all_spelled : (cs : List Clause) (front : List Token) → AllByRecursion (IsTextClause text) cs → AllOf a cs → Fit front (all_marks cs) → Each (ClauseSpelled a) cs front
+    all_spelled [] [] all is fits = refl
+    all_spelled [] (t ∷ front) all is fits = absurd fits
+    all_spelled (c ∷ cs) front all is fits =
+        let r = fit_split front (clause_marks c) (all_marks cs) fits in
+        (r.0, r.1, r.2, record { well = all.0.0; is = is.0; fits = r.3 }, all_spelled cs r.1 all.1 is.1 r.4)
+
+    spelled_begins : (c : Clause) (front more : List Token) → ClauseSpelled a c front → begins (front ++ more) ≡ true
+    spelled_begins c front more h = begins_is (front ++ more) ∙ ap (is_kind a) (clause_first c (front ++ more) more (took front refl h.fits) ∙ ap (λ (b : Kind). Some b) h.is) ∙ same_kind a
+
+    abbrev AfterClauses : List Token → Type 0
+    AfterClauses more = (begins more ≡ false) × ClauseEnds more
+
+    row : Row limit begins piece (ClauseSpelled a) ClauseEnds AfterClauses
+    row = record {
+      read = exact.complete;
+      first = spelled_begins;
+      some = λ c front h. clause_some c front (took front (sym (append-nil front)) h.fits);
+      ends = λ more h. h;
+      goes = λ more e. kind_ends a more (sym (begins_is more) ∙ e);
+    }
+
+    pub clauses_sound : (ts : List Token) (cs : List Clause) (more : List Token) → many begins piece [] ts ≡ Some (cs, more) → AllByRecursion (IsTextClause text) cs × AllOf a cs × Took ts (all_marks cs) more
+    clauses_sound ts cs more e =
+        let h = many_sound begins piece (ClauseSpelled a) exact.sound (length ts) [] ts cs more e in
+        let r = spelled_all h.0 h.1 h.4 in
+        rw h.2 (r.0, r.1, took h.1 h.3 r.2)
+
+    pub clauses_complete : {P : Token → Type 0} (ts : List Token) (cs : List Clause) (more : List Token) → AllByRecursion (IsTextClause text) cs → AllOf a cs → Takes P ts (all_marks cs) more → is_kind a (next_kind more) ≡ false → ClauseEnds more → length ts < limit
+        → many begins piece [] ts ≡ Some (cs, more)
+    clauses_complete ts cs more all is h unseen ends less =
+        ap (many begins piece []) h.whole
+        ∙ many_complete row (length (h.front ++ more)) [] cs h.front more (all_spelled cs h.front all is h.fits) (begins_is more ∙ unseen, ends) (omega (arith, ap length h.whole)) (omega arith)
+
+  -- ---- the parts
+
+  module _ (utf8 : IsUtf8 text) (n : ℕ) (exact : ExpressionsAreExact) (opened : ExpressionsOpen) (readings : ReadingClausesAreExact) (updatings : UpdatingClausesAreExact) where
+    abbrev whole : Parser Expression
+    whole = parse.expr n
+
+    abbrev many_reading : Parser (List Clause)
+    many_reading = many begins_reading (parse.reading whole) []
+
+    abbrev many_updating : Parser (List Clause)
+    many_updating = many begins_updating (parse.updating whole) []
+
+    -- behind WITH of this part
+    abbrev further_parts : ℕ → List Clause → List Clause → Clause → Parser (List Clause)
+    further_parts m rs us c = parts text whole m >>= λ cs. pure (rs ++ us ++ c ∷ cs)
+
+    abbrev passed_on : ℕ → List Clause → List Clause → Parser (List Clause)
+    passed_on m rs us = with_clause text whole >>= further_parts m rs us
+
+    abbrev returned : List Clause → List Clause → Parser (List Clause)
+    returned rs us = return_clause text whole >>= λ c. pure (rs ++ us ++ c ∷ [])
+
+    abbrev stopped : List Clause → List Clause → Parser (List Clause)
+    stopped rs us = elim (is_empty us) [ true ↦ refuse | false ↦ pure (rs ++ us) ]
+
+    abbrev ending : ℕ → List Clause → List Clause → Parser (List Clause)
+    ending m rs us ts = pick (sees_keyword k.With ts) (passed_on m rs us ts) (last text whole rs us ts)
+
+    -- what a list of clauses is that is read
+    abbrev AreRead : List Token → List Clause → List Token → Type 0
+    AreRead ts cs more = AllByRecursion (IsTextClause text) cs × AreParts false (kinds cs) × Took ts (all_marks cs) more
+
+    -- what stands behind the clauses that read and update
+    record Left (us ds : List Clause) (ts more : List Token) : Type 0 where
+      all : AllByRecursion (IsTextClause text) ds
+      ends : Ending us ds
+      taken : Took ts (all_marks ds) more
+
+    stopped_sound : (rs us : List Clause) (ts : List Token) (cs : List Clause) (more : List Token) → stopped rs us ts ≡ Some (cs, more) → (ds : List Clause) × (cs ≡ rs ++ us ++ ds) × Left us ds ts more
+    stopped_sound rs [] ts cs more e = absurd cc
+    stopped_sound rs (u ∷ us) ts cs more e =
+        let last = same_some (rs ++ u ∷ us) cs ts more e in
+        ([], sym last.0 ∙ sym (append-nil (rs ++ u ∷ us)), record { all = tt; ends = inr (inr (tt, refl)); taken = rw last.1 (takes_none more) })
+
+    returned_sound : (rs us : List Clause) (ts : List Token) (cs : List Clause) (more : List Token) → returned rs us ts ≡ Some (cs, more) → (ds : List Clause) × (cs ≡ rs ++ us ++ ds) × Left us ds ts more
+    returned_sound rs us ts cs more e =
+        let b = bind_some (return_clause text whole ts) (λ c. pure (rs ++ us ++ c ∷ [])) (cs, more) e in
+        let last = same_some (rs ++ us ++ b.0 ∷ []) cs b.1 more b.3 in
+        let one = (return_reads text utf8 (exact n) opened).sound ts b.0 b.1 b.2 in
+        (b.0 ∷ [], sym last.0, record { all = (one.0.0, tt); ends = inr (inl (b.0, refl, one.0.1)); taken = takes_then one.1 (rw last.1 (takes_none more)) })
+
+    abbrev PartsSound : ℕ → Type 0
+    PartsSound m = (ts : List Token) (cs : List Clause) (more : List Token) → parts text whole m ts ≡ Some (cs, more) → AreRead ts cs more
+
+    passed_sound : (m : ℕ) → PartsSound m → (rs us : List Clause) (ts : List Token) (cs : List Clause) (more : List Token) → passed_on m rs us ts ≡ Some (cs, more) → (ds : List Clause) × (cs ≡ rs ++ us ++ ds) × Left us ds ts more
+    passed_sound m again rs us ts cs more e =
+        let b = bind_some (with_clause text whole ts) (further_parts m rs us) (cs, more) e in
+        let d = bind_some (parts text whole m b.1) (λ l. pure (rs ++ us ++ b.0 ∷ l)) (cs, more) b.3 in
+        let last = same_some (rs ++ us ++ b.0 ∷ d.0) cs d.1 more d.3 in
+        let one = (with_reads text utf8 (exact n) opened).sound ts b.0 b.1 b.2 in
+        let two = again b.1 d.0 d.1 d.2 in
+        (b.0 ∷ d.0, sym last.0, record {
+          all = (one.0.0, two.0);
+          ends = inl (b.0, d.0, refl, one.0.1, two.1);
+          taken = takes_then one.1 (subst (λ (r : List Token). Took b.1 (all_marks d.0) r) last.1 two.2);
+        })
+
+    ending_sound : (m : ℕ) → PartsSound m → (rs us : List Clause) (ts : List Token) (cs : List Clause) (more : List Token) → ending m rs us ts ≡ Some (cs, more) → (ds : List Clause) × (cs ≡ rs ++ us ++ ds) × Left us ds ts more
+    unfolding last
+    ending_sound m again rs us ts cs more e =
+        elim (chosen (sees_keyword k.With ts) (passed_on m rs us ts) (last text whole rs us ts) (Some (cs, more)) e) [
+          | inl h ↦ passed_sound m again rs us ts cs more h.1
+          | inr h ↦ elim (chosen (sees_keyword k.Return ts) (returned rs us ts) (stopped rs us ts) (Some (cs, more)) h.1) [
+            | inl i ↦ returned_sound rs us ts cs more i.1
+            | inr i ↦ stopped_sound rs us ts cs more i.1
+          ]
+        ]
+
+    pub parts_sound : (m : ℕ) → PartsSound m
+    unfolding parts
+    parts_sound zero ts cs more e = absurd cc
+    parts_sound (suc m) ts cs more e =
+        let a = bind_some (many_reading ts) (λ rs. many_updating >>= ending m rs) (cs, more) e in
+        let b = bind_some (many_updating a.1) (ending m a.0) (cs, more) a.3 in
+        let one = clauses_sound reading begins_reading reading_is no_reading_items (readings n) ts a.0 a.1 a.2 in
+        let two = clauses_sound updating begins_updating updating_is no_updating_items (updatings n) a.1 b.0 b.1 b.2 in
+        let three = ending_sound m (parts_sound m) a.0 b.0 b.1 cs more b.3 in
+        let ds = three.0 in
+        let all = all_joined (IsTextClause text) (a.0 ++ b.0) ds (all_joined (IsTextClause text) a.0 b.0 one.0 two.0) three.2.all in
+        let taken : Took ts (all_marks (a.0 ++ b.0 ++ ds)) more = rw (three_marks a.0 b.0 ds) (takes_then (takes_then one.2 two.2) three.2.taken) in
+        subst (λ (l : List Clause). AreRead ts l more) (sym three.1) (all, parts_made a.0 b.0 ds one.1 two.1 three.2.ends, taken)

@@ -6,6 +6,7 @@ pub mod Parts
 pub mod Pieces
 pub mod ProjectionClauses
 pub mod Projections
+pub mod Queries
 pub mod Separated
 pub mod Shapes
 pub mod SortItems

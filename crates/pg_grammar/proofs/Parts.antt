@@ -8,7 +8,7 @@ use Rattle.pg_meaning.specs.ListsLaws.{all_weaker, all_joined, all_trivial}
 use Rattle.pg_meaning.specs.Tokens.{Token, is_empty}
 use Rattle.pg_meaning.specs.Tree.{Expression, Clause}
 use Rattle.pg_meaning.specs.Tree as tree
-use Rattle.pg_meaning.specs.Grammar.{Mark, joined, clause_marks, Fit, IsClause, AreParts, HasSource, Kind, reading, updating, passing, returning, kind_of, items_of}
+use Rattle.pg_meaning.specs.Grammar.{Mark, joined, clause_marks, Fit, IsClause, IsNonEmpty, AreParts, HasSource, Kind, reading, updating, passing, returning, kind_of, items_of}
 use Rattle.pg_meaning.specs.Parse as parse
 use Rattle.pg_meaning.specs.Parse.{Parser, Outcome, Test, and_then, ◌>>=◌, pure, refuse, sees_keyword, begins_reading, begins_updating, many, with_clause, return_clause, last, parts}
 use Rattle.pg_grammar.specs.Rules.{Exactly, ExpressionsAreExact, ExpressionsOpen, ReadingClausesAreExact, UpdatingClausesAreExact, ClauseEnds, ClauseSpelled}
@@ -40,6 +40,49 @@ all_front Q (x ∷ xs) ys h = (h.0, all_front Q xs ys h.1)
 all_back : {A : Type 0} (Q : A → Type 0) (xs ys : List A) → AllByRecursion Q (xs ++ ys) → AllByRecursion Q ys
 all_back Q [] ys h = h
 all_back Q (x ∷ xs) ys h = all_back Q xs ys h.1
+
+-- ---- what stands behind
+
+-- no clause
+pub record AfterQuery (ts : List Token) : Type 0 where
+  pub none : next_kind ts ≡ None
+  pub ends : ClauseEnds ts
+
+-- no clause that reads or updates
+record AfterUpdates (ts : List Token) : Type 0 where
+  no_reading : is_kind reading (next_kind ts) ≡ false
+  no_updating : is_kind updating (next_kind ts) ≡ false
+  ends : ClauseEnds ts
+
+module _ {P : Token → Type 0} where
+  clause_shorter : (c : Clause) (ts more : List Token) → Takes P ts (clause_marks c) more → length more < length ts
+  clause_shorter c ts more h =
+      let taken = clause_some c h.front (took h.front (sym (append-nil h.front)) h.fits) in
+      omega (arith, ap length h.whole, length-append h.front more)
+
+  clause_begins : (c : Clause) (cs : List Clause) (ts more : List Token) → Takes P ts (all_marks (c ∷ cs)) more → next_kind ts ≡ Some (kind_of c)
+  clause_begins c cs ts more h = let parts = takes_split (clause_marks c) (all_marks cs) h in clause_first c ts parts.0 parts.1
+
+  clauses_end : (cs : List Clause) (ts more : List Token) → AreParts false (kinds cs) → Takes P ts (all_marks cs) more → ClauseEnds ts
+  clauses_end [] ts more are h = absurd (let bad : false ≡ true = are in cc)
+  clauses_end (c ∷ cs) ts more are h = kind_ends (kind_of c) ts (ap (is_kind (kind_of c)) (clause_begins c cs ts more h) ∙ same_kind (kind_of c))
+
+  ending_begins : (us ds : List Clause) (ts more : List Token) → Ending us ds → Takes P ts (all_marks ds) more → AfterQuery more → AfterUpdates ts
+  ending_begins us ds ts more (inl e) h after =
+      let begins : next_kind ts ≡ Some passing = clause_begins e.0 e.1 ts more (subst (λ (l : List Clause). Takes P ts (all_marks l) more) e.2 h) ∙ ap (λ (a : Kind). Some a) e.3 in
+      record { no_reading = rw begins refl; no_updating = rw begins refl; ends = kind_ends passing ts (rw begins refl) }
+  ending_begins us ds ts more (inr (inl e)) h after =
+      let begins : next_kind ts ≡ Some returning = clause_begins e.0 [] ts more (subst (λ (l : List Clause). Takes P ts (all_marks l) more) e.1 h) ∙ ap (λ (a : Kind). Some a) e.2 in
+      record { no_reading = rw begins refl; no_updating = rw begins refl; ends = kind_ends returning ts (rw begins refl) }
+  ending_begins us ds ts more (inr (inr e)) h after =
+      let same : ts ≡ more = none_taken (subst (λ (l : List Clause). Takes P ts (all_marks l) more) e.1 h) in
+      rw same (record { no_reading = rw after.none refl; no_updating = rw after.none refl; ends = after.ends })
+
+  updates_begin : (us : List Clause) (ts more : List Token) → AllOf updating us → Takes P ts (all_marks us) more → AfterUpdates more → (is_kind reading (next_kind ts) ≡ false) × ClauseEnds ts
+  updates_begin [] ts more all h after = rw (none_taken h) (after.no_reading, after.ends)
+  updates_begin (u ∷ us) ts more all h after =
+      let begins : next_kind ts ≡ Some updating = clause_begins u us ts more h ∙ ap (λ (a : Kind). Some a) all.0 in
+      (rw begins refl, kind_ends updating ts (rw begins refl))
 
 module _ (text : List ℕ) where
   abbrev Sourced : Clause → Type 0
@@ -191,3 +234,77 @@ module _ (text : List ℕ) where
         let all = all_joined (IsTextClause text) (a.0 ++ b.0) ds (all_joined (IsTextClause text) a.0 b.0 one.0 two.0) three.2.all in
         let taken : Took ts (all_marks (a.0 ++ b.0 ++ ds)) more = rw (three_marks a.0 b.0 ds) (takes_then (takes_then one.2 two.2) three.2.taken) in
         subst (λ (l : List Clause). AreRead ts l more) (sym three.1) (all, parts_made a.0 b.0 ds one.1 two.1 three.2.ends, taken)
+
+    -- ---- none is missed
+
+    abbrev PartsComplete : ℕ → Type 0
+    PartsComplete m = (ts : List Token) (cs : List Clause) (more : List Token) → AllByRecursion (IsTextClause text) cs → AreParts false (kinds cs) → Takes (Placed text) ts (all_marks cs) more → AfterQuery more → length ts ≤ m → length ts < n + 1
+        → parts text whole m ts ≡ Some (cs, more)
+
+    passed_complete : (m : ℕ) → PartsComplete m → (rs us : List Clause) (c : Clause) (others : List Clause) (ts more : List Token) → AllByRecursion (IsTextClause text) (c ∷ others) → kind_of c ≡ passing → AreParts false (kinds others)
+        → Takes (Placed text) ts (all_marks (c ∷ others)) more → AfterQuery more → length ts ≤ suc m → length ts < n + 1 → passed_on m rs us ts ≡ Some (rs ++ us ++ c ∷ others, more)
+    passed_complete m again rs us c others ts more all is are h after turns less =
+        let taken = takes_split (clause_marks c) (all_marks others) h in
+        let shorter = clause_shorter c ts taken.0 taken.1 in
+        let one = (with_reads text utf8 (exact n) opened).complete ts c taken.0 (all.0, is) taken.1 (clauses_end others taken.0 more are taken.2) less in
+        let two = again taken.0 others more all.1 are taken.2 after (omega arith) (omega arith) in
+        rw (one, two) refl
+
+    returned_complete : (rs us : List Clause) (c : Clause) (ts more : List Token) → IsTextClause text c → kind_of c ≡ returning → Takes (Placed text) ts (all_marks (c ∷ [])) more → AfterQuery more → length ts < n + 1 → returned rs us ts ≡ Some (rs ++ us ++ c ∷ [], more)
+    returned_complete rs us c ts more ok is h after less =
+        let taken = takes_split (clause_marks c) [] h in
+        let same = none_taken taken.2 in
+        let one = (return_reads text utf8 (exact n) opened).complete ts c taken.0 (ok, is) taken.1 (rw same after.ends) less in
+        rw (one, same) refl
+
+    stopped_complete : (rs us : List Clause) (ts : List Token) → IsNonEmpty us → stopped rs us ts ≡ Some (rs ++ us ++ [], ts)
+    stopped_complete rs [] ts h = absurd h
+    stopped_complete rs (u ∷ us) ts h = ap (λ (l : List Clause). some l ts) (sym (append-nil (rs ++ u ∷ us)))
+
+    ending_complete : (m : ℕ) → PartsComplete m → (rs us ds : List Clause) (ts more : List Token) → AllByRecursion (IsTextClause text) ds → Ending us ds → Takes (Placed text) ts (all_marks ds) more → AfterQuery more → length ts ≤ suc m → length ts < n + 1
+        → ending m rs us ts ≡ Some (rs ++ us ++ ds, more)
+    unfolding last
+    ending_complete m again rs us ds ts more all (inl e) h after turns less =
+        let all-is : AllByRecursion (IsTextClause text) (e.0 ∷ e.1) = subst (AllByRecursion (IsTextClause text)) e.2 all in
+        let taken : Takes (Placed text) ts (all_marks (e.0 ∷ e.1)) more = subst (λ (l : List Clause). Takes (Placed text) ts (all_marks l) more) e.2 h in
+        let seen : sees_keyword k.With ts ≡ true = passing_is ts ∙ ap (is_kind passing) (clause_begins e.0 e.1 ts more taken ∙ ap (λ (a : Kind). Some a) e.3) in
+        ap (λ (b : Bool). pick b (passed_on m rs us ts) (last text whole rs us ts)) seen
+        ∙ passed_complete m again rs us e.0 e.1 ts more all-is e.3 e.4 taken after turns less
+        ∙ ap (λ (l : List Clause). some (rs ++ us ++ l) more) (sym e.2)
+    ending_complete m again rs us ds ts more all (inr (inl e)) h after turns less =
+        let all-is : AllByRecursion (IsTextClause text) (e.0 ∷ []) = subst (AllByRecursion (IsTextClause text)) e.1 all in
+        let taken : Takes (Placed text) ts (all_marks (e.0 ∷ [])) more = subst (λ (l : List Clause). Takes (Placed text) ts (all_marks l) more) e.1 h in
+        let begins : next_kind ts ≡ Some returning = clause_begins e.0 [] ts more taken ∙ ap (λ (a : Kind). Some a) e.2 in
+        ap (λ (b : Bool). pick b (passed_on m rs us ts) (last text whole rs us ts)) (passing_is ts ∙ ap (is_kind passing) begins)
+        ∙ ap (λ (b : Bool). pick b (returned rs us ts) (stopped rs us ts)) (returning_is ts ∙ ap (is_kind returning) begins)
+        ∙ returned_complete rs us e.0 ts more all-is.0 e.2 taken after less
+        ∙ ap (λ (l : List Clause). some (rs ++ us ++ l) more) (sym e.1)
+    ending_complete m again rs us ds ts more all (inr (inr e)) h after turns less =
+        let same : ts ≡ more = none_taken (subst (λ (l : List Clause). Takes (Placed text) ts (all_marks l) more) e.1 h) in
+        let begins : next_kind ts ≡ None = ap next_kind same ∙ after.none in
+        ap (λ (b : Bool). pick b (passed_on m rs us ts) (last text whole rs us ts)) (passing_is ts ∙ ap (is_kind passing) begins)
+        ∙ ap (λ (b : Bool). pick b (returned rs us ts) (stopped rs us ts)) (returning_is ts ∙ ap (is_kind returning) begins)
+        ∙ stopped_complete rs us ts e.0
+        ∙ rw (same, e.1) refl
+
+    pub parts_complete : (m : ℕ) → PartsComplete m
+    unfolding parts
+    parts_complete zero ts [] more all are h after turns less = absurd (let bad : false ≡ true = are in cc)
+    parts_complete zero ts (c ∷ cs) more all are h after turns less =
+        let taken = takes_split (clause_marks c) (all_marks cs) h in
+        absurd (omega (arith, clause_shorter c ts taken.0 taken.1))
+    parts_complete (suc m) ts cs more all are h after turns less =
+        let s = shape_of cs are in
+        let rs = s.reads in let us = s.updates in let ds = s.left in
+        let all-is : AllByRecursion (IsTextClause text) (rs ++ us ++ ds) = subst (AllByRecursion (IsTextClause text)) s.whole all in
+        let taken : Takes (Placed text) ts (all_marks rs ++ all_marks us ++ all_marks ds) more = subst (λ (ms : List Mark). Takes (Placed text) ts ms more) (ap all_marks s.whole ∙ three_marks rs us ds) h in
+        let b = takes_split (all_marks rs ++ all_marks us) (all_marks ds) taken in
+        let a = takes_split (all_marks rs) (all_marks us) b.1 in
+        let la = takes_less a.1 in let lb = takes_less a.2 in
+        let front-is = all_front (IsTextClause text) (rs ++ us) ds all-is in
+        let behind = ending_begins us ds b.0 more s.ending b.2 after in
+        let between = updates_begin us a.0 b.0 s.updating a.2 behind in
+        let one = clauses_complete reading begins_reading reading_is no_reading_items (readings n) ts rs a.0 (all_front (IsTextClause text) rs us front-is) s.reading a.1 between.0 between.1 less in
+        let two = clauses_complete updating begins_updating updating_is no_updating_items (updatings n) a.0 us b.0 (all_back (IsTextClause text) rs us front-is) s.updating a.2 behind.no_updating behind.ends (omega arith) in
+        let three = ending_complete m (parts_complete m) rs us ds b.0 more (all_back (IsTextClause text) (rs ++ us) ds all-is) s.ending b.2 after (omega arith) (omega arith) in
+        rw (one, two) three ∙ ap (λ (l : List Clause). some l more) (sym s.whole)

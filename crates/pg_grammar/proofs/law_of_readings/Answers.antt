@@ -6,6 +6,7 @@ use Rattle.pg_grammar.proofs.ProjectionClauses
 use Rattle.pg_grammar.proofs.Beginnings
 use Rattle.pg_grammar.proofs.Shapes
 use Rattle.pg_grammar.proofs.Parts
+use Rattle.pg_grammar.proofs.Queries
 use Rattle.pg_grammar.proofs.Stages
 
 pub returns : goal.returns

@@ -1,14 +1,12 @@
 -- The kind of a clause shows in its first token.
-use Rattle.std.proofs.Common.{◌≡◌, ℕ, ◌<◌, Bool, true, false, List, [], ◌∷◌, ◌++◌, length, map, Option, Some, None, refl, sym, ap, subst, ◌∙◌, arith}
+use Rattle.std.proofs.Common.{◌≡◌, ◌<◌, Bool, true, false, List, [], ◌∷◌, length, Option, Some, None, refl, arith}
 use Rattle.std.specs.Prelude.{◌||◌}
-use Rattle.std.specs.List.{AllByRecursion}
 use Rattle.pg_meaning.specs.declared.lexemes.Keyword.TheVariants as k
-use Rattle.pg_meaning.specs.declared.lexemes.Symbol.TheVariants as s
 use Rattle.pg_meaning.specs.Tokens.{Lexeme, Token}
 use Rattle.pg_meaning.specs.Tokens as lexeme
 use Rattle.pg_meaning.specs.Tree.{Clause}
 use Rattle.pg_meaning.specs.Tree as tree
-use Rattle.pg_meaning.specs.Grammar.{Mark, clause_marks, Kind, reading, updating, passing, returning, kind_of}
+use Rattle.pg_meaning.specs.Grammar.{clause_marks, Kind, reading, updating, passing, returning, kind_of}
 use Rattle.pg_meaning.specs.Parse as parse
 use Rattle.pg_meaning.specs.Parse.{is_keyword, sees_keyword, begins_reading, begins_updating}
 use Rattle.pg_grammar.specs.Rules.{begins_clause, ClauseEnds}

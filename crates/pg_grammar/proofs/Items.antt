@@ -1,5 +1,5 @@
 -- Items of WITH and RETURN: an expression, its source and its alias.
-use Rattle.std.proofs.Common.{◌≡◌, ℕ, ◌+◌, ◌-◌, ◌<◌, Bool, true, false, List, [], ◌∷◌, ◌++◌, length, Option, Some, None, refl, sym, ap, subst, ◌∙◌, ◌⊎◌, inl, inr, length-append, arith}
+use Rattle.std.proofs.Common.{◌≡◌, ℕ, ◌+◌, ◌-◌, ◌<◌, Bool, true, false, List, [], ◌∷◌, ◌++◌, length, Option, Some, None, refl, sym, ap, subst, ◌∙◌, length-append, arith}
 use Rattle.std.specs.Prelude.{slice_get}
 use Rattle.std.specs.Str.{IsUtf8}
 use Rattle.pg_meaning.specs.declared.lexemes.Keyword.TheVariants as k
@@ -7,15 +7,15 @@ use Rattle.pg_meaning.specs.declared.lexemes.Symbol.TheVariants as s
 use Rattle.pg_meaning.specs.Tokens.{Token}
 use Rattle.pg_meaning.specs.Tree.{Name, Expression, Item}
 use Rattle.pg_meaning.specs.Tree as tree
-use Rattle.pg_meaning.specs.Grammar.{Mark, begun, ended, var_marks, marks, optional_marks, alias_marks, item_marks, Fit, IsWellFormed, IsVariable, IsNamed, HasSource, Each}
+use Rattle.pg_meaning.specs.Grammar.{Mark, begun, ended, var_marks, marks, optional_marks, alias_marks, item_marks, Fit, IsWellFormed, IsNamed, HasSource, Each}
 use Rattle.pg_meaning.specs.Parse as parse
 use Rattle.pg_meaning.specs.Parse.{Parser, Outcome, and_then, ◌>>=◌, pure, with_rest, sees_symbol, sees_keyword, start_of, finish_of, finish_between, cut, maybe, alias, item_with, return_item, with_item, may_stand}
 use Rattle.pg_grammar.specs.Rules.{Ends, Exact, opens, Opened, ExpressionsOpen}
-use Rattle.pg_grammar.proofs.Generic.{some, same_some, bind_some, pick, chosen}
+use Rattle.pg_grammar.proofs.Generic.{same_some, bind_some, pick}
 use Rattle.pg_grammar.proofs.Pieces.{ReadsMarks, maybe_reads, keyword_reads, keyword_first, fewer, level_some}
 use Rattle.pg_grammar.proofs.Separated.{EachToken}
 use Rattle.pg_grammar.proofs.Spans.{Placed, cut_sound, cut_complete}
-use Rattle.pg_grammar.proofs.Takes.{Takes, Took, took, none_taken, takes_then, takes_split, takes_less, takes_first, took_first, takes_none}
+use Rattle.pg_grammar.proofs.Takes.{Takes, Took, took, none_taken, takes_then, takes_split, takes_first, took_first, takes_none}
 use Rattle.pg_grammar.proofs.Terminals.{symbol_is, var_takes, var_again, with_rest_is}
 
 -- ---- places

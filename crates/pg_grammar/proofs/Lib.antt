@@ -2,6 +2,7 @@ pub mod Beginnings
 pub mod Fits
 pub mod Generic
 pub mod Items
+pub mod OneReadings
 pub mod Parts
 pub mod Pieces
 pub mod ProjectionClauses

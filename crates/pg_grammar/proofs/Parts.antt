@@ -1,25 +1,24 @@
 -- The parts of a query, and its last one.
-use Rattle.std.proofs.Common.{◌≡◌, ◌⊎◌, inl, inr, ℕ, zero, suc, ◌+◌, ◌<◌, ◌≤◌, Bool, true, false, List, [], ◌∷◌, ◌++◌, length, map, Option, Some, None, refl, sym, ap, subst, ◌∙◌, append_assoc, length-append, arith}
+use Rattle.std.proofs.Common.{◌≡◌, inl, inr, ℕ, zero, suc, ◌+◌, ◌<◌, ◌≤◌, Bool, true, false, List, [], ◌∷◌, ◌++◌, length, map, Some, None, refl, sym, ap, subst, ◌∙◌, append_assoc, length-append, arith}
 use Rattle.std.proofs.lemmas.List.{append-nil}
 use Rattle.std.specs.List.{AllByRecursion}
 use Rattle.std.specs.Str.{IsUtf8}
 use Rattle.pg_meaning.specs.declared.lexemes.Keyword.TheVariants as k
-use Rattle.pg_meaning.specs.ListsLaws.{all_weaker, all_joined, all_trivial}
+use Rattle.pg_meaning.specs.ListsLaws.{all_joined}
 use Rattle.pg_meaning.specs.Tokens.{Token, is_empty}
 use Rattle.pg_meaning.specs.Tree.{Expression, Clause}
 use Rattle.pg_meaning.specs.Tree as tree
-use Rattle.pg_meaning.specs.Grammar.{Mark, joined, clause_marks, Fit, IsClause, IsNonEmpty, AreParts, HasSource, Kind, reading, updating, passing, returning, kind_of, items_of}
+use Rattle.pg_meaning.specs.Grammar.{Mark, joined, clause_marks, Fit, IsNonEmpty, AreParts, HasSource, Kind, reading, updating, passing, returning, kind_of, items_of}
 use Rattle.pg_meaning.specs.Parse as parse
 use Rattle.pg_meaning.specs.Parse.{Parser, Outcome, Test, and_then, ◌>>=◌, pure, refuse, sees_keyword, begins_reading, begins_updating, many, with_clause, return_clause, last, parts}
 use Rattle.pg_grammar.specs.Rules.{Exactly, ExpressionsAreExact, ExpressionsOpen, ReadingClausesAreExact, UpdatingClausesAreExact, ClauseEnds, ClauseSpelled}
 use Rattle.pg_grammar.proofs.Beginnings.{next_kind, is_kind, same_kind, reading_is, updating_is, passing_is, returning_is, kind_ends, clause_first, clause_some}
 use Rattle.pg_grammar.proofs.Fits.{fit_append, fit_split}
 use Rattle.pg_grammar.proofs.Generic.{Each, Row, some, same_some, bind_some, pick, chosen, many_sound, many_complete}
-use Rattle.pg_grammar.proofs.ProjectionClauses.{IsTextClause, IsOfKind, return_reads, with_reads}
-use Rattle.pg_grammar.proofs.Separated.{EachToken}
-use Rattle.pg_grammar.proofs.Shapes.{kinds, AllOf, Passes, Returns, Ending, Shape, shape_of, parts_made}
+use Rattle.pg_grammar.proofs.ProjectionClauses.{IsTextClause, return_reads, with_reads}
+use Rattle.pg_grammar.proofs.Shapes.{kinds, AllOf, Ending, shape_of, parts_made}
 use Rattle.pg_grammar.proofs.Spans.{Placed}
-use Rattle.pg_grammar.proofs.Takes.{AnyToken, Takes, Took, took, takes_none, none_taken, takes_then, takes_split, takes_less, takes_first}
+use Rattle.pg_grammar.proofs.Takes.{Takes, Took, took, takes_none, none_taken, takes_then, takes_split, takes_less}
 
 -- ---- clauses in a row
 
@@ -203,12 +202,15 @@ module _ (text : List ℕ) where
         let d = bind_some (parts text whole m b.1) (λ l. pure (rs ++ us ++ b.0 ∷ l)) (cs, more) b.3 in
         let last = same_some (rs ++ us ++ b.0 ∷ d.0) cs d.1 more d.3 in
         let one = (with_reads text utf8 (exact n) opened).sound ts b.0 b.1 b.2 in
-        let two = again b.1 d.0 d.1 d.2 in
-        (b.0 ∷ d.0, sym last.0, record {
-          all = (one.0.0, two.0);
-          ends = inl (b.0, d.0, refl, one.0.1, two.1);
-          taken = takes_then one.1 (subst (λ (r : List Token). Took b.1 (all_marks d.0) r) last.1 two.2);
-        })
+        let two = again b.1 d.0 d.1 d.2 in (
+          b.0 ∷ d.0,
+          sym last.0,
+          record {
+            all = (one.0.0, two.0);
+            ends = inl (b.0, d.0, refl, one.0.1, two.1);
+            taken = takes_then one.1 (subst (λ (r : List Token). Took b.1 (all_marks d.0) r) last.1 two.2);
+          },
+        )
 
     ending_sound : (m : ℕ) → PartsSound m → (rs us : List Clause) (ts : List Token) (cs : List Clause) (more : List Token) → ending m rs us ts ≡ Some (cs, more) → (ds : List Clause) × (cs ≡ rs ++ us ++ ds) × Left us ds ts more
     unfolding last

@@ -1,5 +1,5 @@
 -- Functions that read exactly the trees whose marks the tokens fit, and what is made of them.
-use Rattle.std.proofs.Common.{◌≡◌, ℕ, suc, ◌+◌, ◌<◌, ◌≤◌, Bool, true, false, List, [], ◌∷◌, ◌++◌, length, map, Option, Some, None, refl, sym, ap, subst, ◌∙◌, inl, inr, arith}
+use Rattle.std.proofs.Common.{◌≡◌, ℕ, ◌+◌, ◌<◌, ◌≤◌, Bool, true, false, List, [], ◌∷◌, ◌++◌, length, map, Option, Some, None, refl, ap, subst, ◌∙◌, inl, inr, arith}
 use Rattle.std.specs.List.{AllByRecursion}
 use Rattle.pg_meaning.specs.declared.lexemes.Keyword.{Keyword}
 use Rattle.pg_meaning.specs.declared.lexemes.Symbol.TheVariants as s
@@ -11,9 +11,9 @@ use Rattle.pg_meaning.specs.Tree as tree
 use Rattle.pg_meaning.specs.Grammar.{Mark, key, further, commas, optional_marks, marks, level, operator_level, IsNonEmpty, IsWellFormed, Each, Fit}
 use Rattle.pg_meaning.specs.Parse as parse
 use Rattle.pg_meaning.specs.Parse.{Parser, Outcome, Test, and_then, ◌>>◌, ◌<$>◌, pure, sees_symbol, sees_keyword, comma_and, maybe, many, separated}
-use Rattle.pg_grammar.specs.Rules.{Sound, Complete, Exact, Spelled, Ends}
+use Rattle.pg_grammar.specs.Rules.{Sound, Complete, Exact, Ends}
 use Rattle.pg_grammar.proofs.Generic.{some, same_some, bind_some, pick, chosen, many_sound, many_complete}
-use Rattle.pg_grammar.proofs.Separated.{Further, Listed, AfterItems, further_sound, comma_row, separated_sound, separated_complete, EachToken, further_made, further_of, listed_made, listed_of}
+use Rattle.pg_grammar.proofs.Separated.{Further, AfterItems, further_sound, comma_row, separated_sound, separated_complete, EachToken, further_made, further_of, listed_made, listed_of}
 use Rattle.pg_grammar.proofs.Takes.{AnyToken, Takes, Took, took, takes_none, none_taken, takes_first, took_first}
 use Rattle.pg_grammar.proofs.Terminals.{keyword_seen, keyword_takes, keyword_again}
 

@@ -1,5 +1,5 @@
 -- WITH and RETURN.
-use Rattle.std.proofs.Common.{◌≡◌, ℕ, ◌+◌, ◌<◌, ◌≤◌, List, [], ◌∷◌, ◌++◌, length, Option, Some, None, refl, sym, ap, subst, ◌∙◌, arith}
+use Rattle.std.proofs.Common.{◌≡◌, ℕ, ◌+◌, ◌<◌, List, ◌∷◌, length, Some, refl, ap, subst, arith}
 use Rattle.std.specs.List.{AllByRecursion}
 use Rattle.std.specs.Str.{IsUtf8}
 use Rattle.pg_meaning.specs.declared.lexemes.Keyword.TheVariants as k
@@ -7,7 +7,7 @@ use Rattle.pg_meaning.specs.ListsLaws.{all_weaker, all_both}
 use Rattle.pg_meaning.specs.Tokens.{Token}
 use Rattle.pg_meaning.specs.Tree.{Expression, Item, SortItem, Projection, Clause}
 use Rattle.pg_meaning.specs.Tree as tree
-use Rattle.pg_meaning.specs.Grammar.{Mark, key, keyed, optional_marks, projection_marks, clause_marks, IsProjection, IsClause, IsWellFormed, IsNamed, HasSource, Each, Kind, passing, returning, kind_of, items_of}
+use Rattle.pg_meaning.specs.Grammar.{keyed, optional_marks, projection_marks, clause_marks, IsProjection, IsClause, IsWellFormed, IsNamed, HasSource, Kind, passing, returning, kind_of, items_of}
 use Rattle.pg_meaning.specs.Parse as parse
 use Rattle.pg_meaning.specs.Parse.{Parser, ◌>>=◌, pure, projection, return_item, with_item, with_clause, return_clause}
 use Rattle.pg_grammar.specs.Rules.{Exact, ExpressionsOpen, ClauseEnds}

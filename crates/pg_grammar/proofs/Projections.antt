@@ -1,5 +1,5 @@
 -- What stands behind WITH or RETURN.
-use Rattle.std.proofs.Common.{◌≡◌, ℕ, ◌+◌, ◌<◌, ◌≤◌, Bool, true, false, List, [], ◌∷◌, ◌++◌, length, map, Option, Some, None, refl, sym, ap, subst, ◌∙◌, inl, inr, arith}
+use Rattle.std.proofs.Common.{◌≡◌, ℕ, ◌<◌, Bool, true, false, List, [], ◌∷◌, ◌++◌, length, map, Option, Some, None, refl, sym, ap, subst, ◌∙◌, inl, inr, arith}
 use Rattle.std.specs.Prelude.{is_some}
 use Rattle.std.specs.List.{AllByRecursion}
 use Rattle.pg_meaning.specs.declared.lexemes.Keyword.{Keyword}
@@ -8,17 +8,17 @@ use Rattle.pg_meaning.specs.declared.lexemes.Symbol.TheVariants as s
 use Rattle.pg_meaning.specs.Tokens.{Lexeme, Token}
 use Rattle.pg_meaning.specs.Tokens as lexeme
 use Rattle.pg_meaning.specs.Tree.{Expression, Item, SortItem, Projection}
-use Rattle.pg_meaning.specs.Grammar.{Mark, key, sign, flag, keyed, further, optional_marks, item_marks, items_marks, order_marks, projection_marks, HasColumns, IsNonEmpty, IsWellFormed, Each}
+use Rattle.pg_meaning.specs.Grammar.{key, flag, keyed, further, optional_marks, item_marks, items_marks, order_marks, projection_marks, HasColumns, IsWellFormed, Each}
 use Rattle.pg_meaning.specs.Parse as parse
 use Rattle.pg_meaning.specs.Parse.{Parser, Outcome, and_then, ◌>>=◌, pure, sees_symbol, sees_keyword, is_symbol, is_keyword, eat_symbol, eat_keyword, start_of, star_of, many, comma_and, separated, ordering, projection, here}
 use Rattle.pg_grammar.specs.Rules.{Exact, opens, ExpressionsOpen}
-use Rattle.pg_grammar.proofs.Generic.{some, same_some, bind_some, pick, chosen}
+use Rattle.pg_grammar.proofs.Generic.{same_some, bind_some}
 use Rattle.pg_grammar.proofs.Items.{ItemEnds, comma_item_ends, item_opens}
 use Rattle.pg_grammar.proofs.Pieces.{ReadsMarks, separated_reads, further_reads}
 use Rattle.pg_grammar.proofs.Separated.{AfterItems}
 use Rattle.pg_grammar.proofs.SortItems.{IsOrder, keyed_expression, ordering_sound, ordering_complete, order_from, keyed_sound, keyed_complete, keyed_from}
 use Rattle.pg_grammar.proofs.Stages.{From, from_ends, from_not, from_no_comma}
-use Rattle.pg_grammar.proofs.Takes.{Takes, Took, none_taken, takes_then, takes_split, takes_less, takes_first, took_first, takes_none, only_token, AnyToken}
+use Rattle.pg_grammar.proofs.Takes.{Takes, Took, none_taken, takes_then, takes_split, takes_less, takes_first, took_first, takes_none, only_token}
 use Rattle.pg_grammar.proofs.Terminals.{eat_takes, eat_yes, eat_no, eat_keyword_takes, eat_keyword_yes, eat_keyword_no}
 
 -- ---- a keyword that may be lacking

@@ -1,13 +1,13 @@
 -- Whole queries: what is read is spelled so, and none is missed.
-use Rattle.std.proofs.Common.{◌≡◌, inl, inr, ℕ, ◌+◌, ◌<◌, ◌≤◌, Bool, true, false, List, [], ◌∷◌, ◌++◌, length, map, Option, Some, None, refl, sym, ap, subst, ◌∙◌, arith}
+use Rattle.std.proofs.Common.{◌≡◌, inl, inr, ℕ, Bool, true, false, List, [], ◌∷◌, length, Some, None, refl, sym, ap, subst, ◌∙◌, arith}
 use Rattle.std.proofs.lemmas.List.{append-nil}
 use Rattle.std.specs.List.{AllByRecursion}
 use Rattle.std.specs.Str.{IsUtf8}
 use Rattle.pg_meaning.specs.declared.lexemes.Symbol.TheVariants as s
 use Rattle.pg_meaning.specs.ListsLaws.{all_weaker, all_both}
-use Rattle.pg_meaning.specs.Tokens.{Token, Lexes}
+use Rattle.pg_meaning.specs.Tokens.{Token}
 use Rattle.pg_meaning.specs.Tree.{Clause, Query}
-use Rattle.pg_meaning.specs.Grammar.{Mark, sign, flag, query_marks, Fit, IsClause, HasSource, items_of, Reads}
+use Rattle.pg_meaning.specs.Grammar.{sign, flag, query_marks, Fit, IsClause, HasSource, items_of, Reads}
 use Rattle.pg_meaning.specs.Parse as parse
 use Rattle.pg_meaning.specs.Parse.{Parser, Outcome, ◌>>=◌, ◌>>◌, pure, eat_symbol, done, parts, query, query_of, read, ReadsExactly}
 use Rattle.pg_grammar.specs.Rules.{ExpressionsAreExact, ExpressionsOpen, ReadingClausesAreExact, UpdatingClausesAreExact}

@@ -1,5 +1,5 @@
 -- The clauses of a query, as its parts group them.
-use Rattle.std.proofs.Common.{◌≡◌, ◌⊎◌, inl, inr, Bool, true, false, List, [], ◌∷◌, ◌++◌, map, refl, sym, ap, subst, ◌∙◌, append_assoc}
+use Rattle.std.proofs.Common.{◌≡◌, ◌⊎◌, inl, inr, Bool, true, false, List, [], ◌∷◌, ◌++◌, map, refl, sym, ap, subst, append_assoc}
 use Rattle.std.specs.List.{AllByRecursion}
 use Rattle.pg_meaning.specs.Tree.{Clause}
 use Rattle.pg_meaning.specs.Grammar.{IsNonEmpty, AreParts, Kind, reading, updating, passing, returning, kind_of}

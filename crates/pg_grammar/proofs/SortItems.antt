@@ -1,5 +1,5 @@
 -- Sort items, and what stands with them behind the items of WITH and RETURN.
-use Rattle.std.proofs.Common.{◌≡◌, ℕ, ◌+◌, ◌<◌, ◌≤◌, Bool, true, false, List, [], ◌∷◌, ◌++◌, length, map, Option, Some, None, refl, sym, ap, subst, ◌∙◌, inl, inr, arith}
+use Rattle.std.proofs.Common.{◌≡◌, ℕ, ◌+◌, ◌<◌, Bool, true, false, List, [], ◌∷◌, length, map, Option, Some, None, refl, ap, subst, ◌∙◌, inl, inr, arith}
 use Rattle.std.specs.List.{AllByRecursion}
 use Rattle.pg_meaning.specs.declared.lexemes.Keyword.{Keyword}
 use Rattle.pg_meaning.specs.declared.lexemes.Keyword.TheVariants as k
@@ -9,14 +9,14 @@ use Rattle.pg_meaning.specs.declared.operators.Sort.TheVariants as sort
 use Rattle.pg_meaning.specs.Tokens.{Lexeme, Token}
 use Rattle.pg_meaning.specs.Tokens as lexeme
 use Rattle.pg_meaning.specs.Tree.{Expression, SortItem}
-use Rattle.pg_meaning.specs.Grammar.{Mark, key, keyed, marks, optional_marks, direction_marks, sort_marks, order_marks, commas, Accepts, IsNonEmpty, IsWellFormed, Each}
+use Rattle.pg_meaning.specs.Grammar.{Mark, key, keyed, marks, optional_marks, direction_marks, sort_marks, order_marks, commas, IsNonEmpty, IsWellFormed, Each}
 use Rattle.pg_meaning.specs.Parse as parse
 use Rattle.pg_meaning.specs.Parse.{Parser, Outcome, and_then, ◌>>=◌, ◌>>◌, pure, sees_symbol, sees_keyword, maybe, separated, direction_of, direction, sort_item, ordering}
 use Rattle.pg_grammar.specs.Rules.{Ends, Exact}
 use Rattle.pg_grammar.proofs.Generic.{some, same_some, bind_some, pick, chosen}
-use Rattle.pg_grammar.proofs.Pieces.{ReadsMarks, separated_reads, maybe_reads, keyword_reads, keyword_first, expression_reads, fewer}
+use Rattle.pg_grammar.proofs.Pieces.{ReadsMarks, separated_reads, maybe_reads, keyword_reads, keyword_first, expression_reads}
 use Rattle.pg_grammar.proofs.Separated.{AfterItems}
-use Rattle.pg_grammar.proofs.Stages.{begins_direction, stage, stage_of, From, from_ends, from_not, from_no_comma, from_no_direction}
+use Rattle.pg_grammar.proofs.Stages.{begins_direction, stage, From, from_ends, from_not, from_no_comma, from_no_direction}
 use Rattle.pg_grammar.proofs.Takes.{Takes, Took, none_taken, takes_then, takes_split, takes_less, takes_first, took_first, takes_none, only_token, AnyToken}
 use Rattle.pg_grammar.proofs.Terminals.{symbol_is, with_rest_is}
 

@@ -1,17 +1,10 @@
 -- The tokens that a function of the grammar takes, and the marks that they fit.
-use Rattle.std.proofs.Common.{◌≡◌, ℕ, suc, ◌+◌, ◌<◌, ◌≤◌, Bool, true, false, List, [], ◌∷◌, ◌++◌, length, map, Option, Some, None, refl, sym, ap, subst, ◌∙◌, inl, inr, append_assoc, length-append, arith}
-use Rattle.std.specs.List.{AllByRecursion}
-use Rattle.pg_meaning.specs.declared.lexemes.Keyword.{Keyword}
-use Rattle.pg_meaning.specs.declared.lexemes.Symbol.TheVariants as s
+use Rattle.std.proofs.Common.{◌≡◌, ◌≤◌, List, [], ◌∷◌, ◌++◌, length, refl, sym, ap, subst, ◌∙◌, append_assoc, length-append, arith}
 use Rattle.pg_meaning.specs.ListsLaws.{all_trivial, all_joined}
 use Rattle.pg_meaning.specs.Tokens.{Token}
-use Rattle.pg_meaning.specs.Grammar.{Mark, key, further, commas, Accepts, Fit, IsNonEmpty}
-use Rattle.pg_meaning.specs.Parse as parse
-use Rattle.pg_meaning.specs.Parse.{Parser, ◌>>◌, sees_symbol, comma_and, many, separated}
-use Rattle.pg_grammar.specs.Rules.{Sound, Complete}
+use Rattle.pg_meaning.specs.Grammar.{Mark, Accepts, Fit}
 use Rattle.pg_grammar.proofs.Fits.{fit_append, fit_split}
-use Rattle.pg_grammar.proofs.Generic.{Each, many_sound, many_complete}
-use Rattle.pg_grammar.proofs.Separated.{Further, Listed, AfterItems, further_sound, comma_row, separated_sound, separated_complete, EachToken, each_front, each_back, further_made, further_of, listed_made, listed_of}
+use Rattle.pg_grammar.proofs.Separated.{EachToken, each_front, each_back}
 
 abbrev pub AnyToken : Token → Type 0
 AnyToken t = Unit {0}

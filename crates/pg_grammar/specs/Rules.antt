@@ -6,7 +6,8 @@ use Rattle.pg_meaning.specs.declared.lexemes.Symbol.TheVariants as s
 use Rattle.pg_meaning.specs.declared.operators.Operator.{Operator}
 use Rattle.pg_meaning.specs.Tokens.{Lexeme, Token}
 use Rattle.pg_meaning.specs.Tokens as lexeme
-use Rattle.pg_meaning.specs.Tree.{Name, Expression, Pairs, PathPattern, Clause}
+use Rattle.pg_meaning.specs.Tree.{Name, Expression, Pairs, Properties, NodePattern, PathPattern, Clause}
+use Rattle.pg_meaning.specs.Tree as tree
 use Rattle.pg_meaning.specs.Grammar.{Mark, sign, label_marks, commas, pair_marks, marks, level, operator_level, node_marks, path_marks, clause_marks, Accepts, Fit, IsNonEmpty, IsWellFormed, ArePairs, AreProperties, IsPath, IsClause, Kind, kind_of}
 use Rattle.pg_meaning.specs.Grammar as grammar
 use Rattle.pg_meaning.specs.Parse as parse

@@ -82,9 +82,6 @@ var_reads = record {
 abbrev may_alias : Parser (Option Name)
 may_alias = maybe (sees_keyword k.As) alias
 
-abbrev HasName : Option Name → Type 0
-HasName a = Unit {0}
-
 alias_reads : {P : Token → Type 0} {limit : ℕ} → ReadsMarks P limit may_alias (Each NoPremise) (optional_marks alias_marks) (λ more. Unit {0} × (sees_keyword k.As more ≡ false))
 alias_reads {P} {limit} = maybe_reads (fewer (keyword_reads (var_reads {limit = limit}) k.As) (omega arith)) (sees_keyword k.As) (λ ts a more ok h. keyword_first k.As h)
 

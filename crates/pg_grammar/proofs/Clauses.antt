@@ -1,5 +1,5 @@
 -- The clauses that read and those that update.
-use Rattle.std.proofs.Common.{◌≡◌, false, List, ◌++◌, refl, sym, subst, inl, inr}
+use Rattle.std.proofs.Common.{◌≡◌, ◌+◌, false, List, ◌++◌, refl, sym, subst, inl, inr}
 use Rattle.pg_meaning.specs.declared.lexemes.Keyword.{Keyword}
 use Rattle.pg_meaning.specs.declared.lexemes.Keyword.TheVariants as k
 use Rattle.pg_meaning.specs.Tokens.{Token}
@@ -12,7 +12,7 @@ use Rattle.pg_meaning.specs.Parse.{Parser, ◌>>◌, ◌<$>◌, sees_keyword}
 use Rattle.pg_grammar.specs.Rules.{Exactly, Ends, NoHop, NoColon, ClauseEnds, ClauseSpelled, Anything, ExpressionsAreExact, LabelsAreExact, PathsAreExact, ReadingClausesAreExact, UpdatingClausesAreExact}
 use Rattle.pg_grammar.proofs.ClauseEnds.{end_comma, end_follow, end_colon, end_hop}
 use Rattle.pg_grammar.proofs.Separated.{AfterItems}
-use Rattle.pg_grammar.proofs.Sequences.{Behind, Made, Either, restated, narrowed, keyword_exact, behind_exact, made_exact, either_exact, behind_fits, behind_of, keyword_first, keyword_other, flagged_other}
+use Rattle.pg_grammar.proofs.Sequences.{Behind, Made, Either, restated, narrowed, leading_exact, made_exact, either_exact, behind_fits, behind_of, keyword_first, keyword_other, flagged_other}
 use Rattle.pg_grammar.proofs.Conditions.{whole_exact}
 use Rattle.pg_grammar.proofs.Matches.{PathsFit, paths_fit, MatchParts, match_exact, match_out, match_into, UnwindParts, unwind_exact, unwind_out, unwind_into}
 use Rattle.pg_grammar.proofs.SetItems.{SetsSpelled, sets_exact}
@@ -123,8 +123,8 @@ updating_exact expressions paths labels n =
     (λ c front more h. keyword_first k.Create front more h) (λ c front more h ends. no_create c front more h))
     updating_out updating_into (λ more ends. ends)
   where
-    simple : {A : Type 0} (x : Keyword) (f : A → Clause) (S : A → List Token → Type 0) {p : Parser A} → Exactly n p S ClauseEnds → Exactly n (parse.keyword x >> (f <$> p)) (Simple x f S) ClauseEnds
-    simple x f S exact = behind_exact (key x) (Made f S) ClauseEnds (keyword_exact n x) (made_exact f S ClauseEnds exact)
+    simple : {A : Type 0} (x : Keyword) (f : A → Clause) (S : A → List Token → Type 0) {p : Parser A} → Exactly n p S ClauseEnds → Exactly (n + 1) (parse.keyword x >> (f <$> p)) (Simple x f S) ClauseEnds
+    simple x f S exact = leading_exact x (Made f S) ClauseEnds (made_exact f S ClauseEnds exact)
 
     items_end : (more : List Token) → ClauseEnds more → AfterItems (Ends 1) more
     items_end more ends = (end_comma more ends, end_follow more ends)

@@ -1,45 +1,18 @@
 -- Expressions behind a keyword, as WHERE has one.
-use Rattle.std.proofs.Common.{◌≡◌, ℕ, ◌≤◌, true, false, List, Option, Some, None, map, arith}
+use Rattle.std.proofs.Common.{◌≡◌, ℕ, true, false, List, Option, Some, None, map, arith}
 use Rattle.pg_meaning.specs.declared.lexemes.Keyword.{Keyword}
 use Rattle.pg_meaning.specs.declared.lexemes.Symbol.TheVariants as s
-use Rattle.pg_meaning.specs.declared.operators.Operator.{Operator}
-use Rattle.pg_meaning.specs.declared.operators.Operator.TheVariants as op
 use Rattle.pg_meaning.specs.Tokens.{Token}
-use Rattle.pg_meaning.specs.Tree.{Expression, Operands}
-use Rattle.pg_meaning.specs.Tree as tree
+use Rattle.pg_meaning.specs.Tree.{Expression}
 use Rattle.pg_meaning.specs.Grammar.{key, commas, keyed, marks, optional_marks, Fit, IsWellFormed, HasOperands, level, chain_level, operator_level}
 use Rattle.pg_meaning.specs.Grammar as grammar
 use Rattle.pg_meaning.specs.Parse as parse
 use Rattle.pg_meaning.specs.Parse.{Parser, ◌>>◌, maybe, sees_symbol, sees_keyword, separated}
 use Rattle.pg_grammar.specs.Rules.{Exactly, Exact, Ends, Spelled}
+use Rattle.pg_grammar.proofs.Pieces.{level_some}
 use Rattle.pg_grammar.proofs.Separated.{AfterItems}
 use Rattle.pg_grammar.proofs.Terminals.{symbol_is}
 use Rattle.pg_grammar.proofs.Sequences.{Fitting, Items, items_exact, Behind, Perhaps, restated, keyword_exact, behind_exact, perhaps_exact, behind_fits, behind_of, keyword_first, no_tokens}
-
--- ---- each expression is of a level
-
-operator_some : (o : Operator) → 1 ≤ operator_level o
-operator_some op.Or = omega arith
-operator_some op.Xor = omega arith
-operator_some op.And = omega arith
-operator_some op.Plus = omega arith
-operator_some op.Minus = omega arith
-operator_some op.Times = omega arith
-operator_some op.Divide = omega arith
-operator_some op.Modulo = omega arith
-operator_some _ = omega arith
-
-chain_some : (os : Operands) → HasOperands os → 1 ≤ chain_level os
-chain_some tree.no_operands h = absurd h
-chain_some (tree.operand o x os) h = operator_some o
-
-level_some : (x : Expression) → IsWellFormed x → 1 ≤ level x
-level_some (tree.chain x os) h = chain_some os h.0
-level_some (tree.negation n x) h = omega arith
-level_some (tree.tests x ts) h = omega arith
-level_some (tree.signs bs x) h = omega arith
-level_some (tree.suffixes x xs ls) h = omega arith
-level_some _ h = omega arith
 
 abbrev pub Whole : Expression → List Token → Type 0
 Whole = Fitting IsWellFormed marks

@@ -1,5 +1,5 @@
 -- The clause DELETE.
-use Rattle.std.proofs.Common.{◌≡◌, ℕ, Bool, false, List, refl, sym, subst}
+use Rattle.std.proofs.Common.{◌≡◌, ℕ, ◌+◌, Bool, false, List, refl, sym, subst}
 use Rattle.pg_meaning.specs.declared.lexemes.Keyword.TheVariants as k
 use Rattle.pg_meaning.specs.Tokens.{Token}
 use Rattle.pg_meaning.specs.Tree.{Expression, Clause}
@@ -10,7 +10,7 @@ use Rattle.pg_meaning.specs.Parse as parse
 use Rattle.pg_meaning.specs.Parse.{Parser, sees_keyword, delete_clause}
 use Rattle.pg_grammar.specs.Rules.{Exactly, Ends, ClauseSpelled}
 use Rattle.pg_grammar.proofs.Separated.{AfterItems}
-use Rattle.pg_grammar.proofs.Sequences.{Sequence, Behind, Made, keyword_exact, eat_keyword_exact, sequence_exact, behind_exact, made_exact, sequence_fits, sequence_of, behind_fits, behind_of, keyword_other}
+use Rattle.pg_grammar.proofs.Sequences.{Sequence, Behind, Made, eat_keyword_exact, sequence_exact, leading_exact, made_exact, sequence_fits, sequence_of, behind_fits, behind_of, keyword_other}
 use Rattle.pg_grammar.proofs.Conditions.{Whole, WholesSpelled, wholes_exact}
 
 abbrev Detached : Bool → List Token → Type 0
@@ -22,11 +22,11 @@ Deleted b = Made (tree.delete b) WholesSpelled
 abbrev pub DeleteParts : Clause → List Token → Type 0
 DeleteParts = Sequence Detached (λ b. Behind (key k.Delete) (Deleted b))
 
-pub delete_exact : {limit : ℕ} {whole : Parser Expression} → Exactly limit whole Whole (Ends 1) → Exactly limit (delete_clause whole) DeleteParts (AfterItems (Ends 1))
+pub delete_exact : {limit : ℕ} {whole : Parser Expression} → Exactly limit whole Whole (Ends 1) → Exactly (limit + 1) (delete_clause whole) DeleteParts (AfterItems (Ends 1))
 unfolding delete_clause parse.same_keyword
 delete_exact {limit} exact =
-    sequence_exact Detached (λ more. sees_keyword k.Detach more ≡ false) (λ b. Behind (key k.Delete) (Deleted b)) (AfterItems (Ends 1)) (eat_keyword_exact limit k.Detach)
-    (λ b. behind_exact (key k.Delete) (Deleted b) (AfterItems (Ends 1)) (keyword_exact limit k.Delete) (made_exact (tree.delete b) WholesSpelled (AfterItems (Ends 1)) (wholes_exact exact)))
+    sequence_exact Detached (λ more. sees_keyword k.Detach more ≡ false) (λ b. Behind (key k.Delete) (Deleted b)) (AfterItems (Ends 1)) (eat_keyword_exact (limit + 1) k.Detach)
+    (λ b. leading_exact k.Delete (Deleted b) (AfterItems (Ends 1)) (made_exact (tree.delete b) WholesSpelled (AfterItems (Ends 1)) (wholes_exact exact)))
     (λ b c front more h ends. keyword_other k.Delete k.Detach refl front more h)
 
 pub delete_out : (c : Clause) (front : List Token) → DeleteParts c front → ClauseSpelled grammar.updating c front

@@ -1,5 +1,5 @@
 -- The clauses MATCH and UNWIND.
-use Rattle.std.proofs.Common.{◌≡◌, ℕ, Bool, true, false, List, [], ◌∷◌, ◌++◌, Option, Some, None, map, refl, sym, subst, arith}
+use Rattle.std.proofs.Common.{◌≡◌, ℕ, ◌+◌, Bool, true, false, List, [], ◌∷◌, ◌++◌, Option, Some, None, map, refl, sym, subst, arith}
 use Rattle.pg_meaning.specs.declared.lexemes.Keyword.TheVariants as k
 use Rattle.pg_meaning.specs.declared.lexemes.Symbol.TheVariants as s
 use Rattle.pg_meaning.specs.Tokens.{Token}
@@ -13,7 +13,7 @@ use Rattle.pg_grammar.specs.Rules.{Exactly, Ends, PathSpelled, NoHop, ClauseEnds
 use Rattle.pg_grammar.proofs.ClauseEnds.{end_follow, end_where, end_comma, end_hop}
 use Rattle.pg_grammar.proofs.Separated.{AfterItems}
 use Rattle.pg_grammar.proofs.Terminals.{symbol_is}
-use Rattle.pg_grammar.proofs.Sequences.{Is, Fitting, Sequence, Behind, Made, restated, narrowed, keyword_exact, var_exact, eat_keyword_exact, sequence_exact, behind_exact, made_exact, items_exact, sequence_fits, sequence_of, behind_fits, behind_of, keyword_other, no_tokens}
+use Rattle.pg_grammar.proofs.Sequences.{Is, Fitting, Sequence, Behind, Made, restated, narrowed, keyword_exact, var_exact, eat_keyword_exact, sequence_exact, behind_exact, leading_exact, made_exact, items_exact, sequence_fits, sequence_of, behind_fits, behind_of, keyword_other, no_tokens}
 use Rattle.pg_grammar.proofs.Conditions.{Whole, MayHave, may_have_exact}
 
 -- ---- paths
@@ -54,11 +54,11 @@ condition_ends None front more h ends = rw (no_tokens front h.fits) (end_comma m
 condition_ends (Some x) [] more h ends = absurd h.fits
 condition_ends (Some x) (t ∷ front) more h ends = rw h.fits.0.spelled.1 (refl, refl)
 
-pub match_exact : {limit : ℕ} {whole : Parser Expression} → Exactly limit whole Whole (Ends 1) → Exactly limit (parse.path whole) PathSpelled NoHop → Exactly limit (match_clause whole) MatchParts ClauseEnds
+pub match_exact : {limit : ℕ} {whole : Parser Expression} → Exactly limit whole Whole (Ends 1) → Exactly limit (parse.path whole) PathSpelled NoHop → Exactly (limit + 1) (match_clause whole) MatchParts ClauseEnds
 unfolding match_clause parse.same_keyword
 match_exact {limit} {whole} exact paths =
-    sequence_exact Optionally (λ more. sees_keyword k.Optional more ≡ false) (λ b. Behind (key k.Match) (BehindMatch b)) ClauseEnds (eat_keyword_exact limit k.Optional)
-    (λ b. behind_exact (key k.Match) (BehindMatch b) ClauseEnds (keyword_exact limit k.Match)
+    sequence_exact Optionally (λ more. sees_keyword k.Optional more ≡ false) (λ b. Behind (key k.Match) (BehindMatch b)) ClauseEnds (eat_keyword_exact (limit + 1) k.Optional)
+    (λ b. leading_exact k.Match (BehindMatch b) ClauseEnds
     (sequence_exact PathsFit (AfterItems NoHop) (BehindPaths b) ClauseEnds (paths_fit paths) (λ ps. made_exact (tree.match_paths b ps) (MayHave k.Where) ClauseEnds conditions)
     (λ ps c front more h ends. condition_ends h.value front more h.inner ends)))
     (λ b c front more h ends. keyword_other k.Match k.Optional refl front more h)
@@ -88,10 +88,10 @@ Named x = Behind (key k.As) (Made (tree.unwind x) (Is grammar.var))
 abbrev pub UnwindParts : Clause → List Token → Type 0
 UnwindParts = Behind (key k.Unwind) (Sequence Whole Named)
 
-pub unwind_exact : {limit : ℕ} {whole : Parser Expression} → Exactly limit whole Whole (Ends 1) → Exactly limit (unwind_clause whole) UnwindParts Anything
+pub unwind_exact : {limit : ℕ} {whole : Parser Expression} → Exactly limit whole Whole (Ends 1) → Exactly (limit + 1) (unwind_clause whole) UnwindParts Anything
 unfolding unwind_clause
 unwind_exact {limit} {whole} exact =
-    behind_exact (key k.Unwind) (Sequence Whole Named) Anything (keyword_exact limit k.Unwind)
+    leading_exact k.Unwind (Sequence Whole Named) Anything
     (sequence_exact Whole (Ends 1) Named Anything exact
     (λ x. behind_exact (key k.As) (Made (tree.unwind x) (Is grammar.var)) Anything (keyword_exact limit k.As) (made_exact (tree.unwind x) (Is grammar.var) Anything (var_exact limit)))
     (λ x c front more h ends. rw (h.whole, h.accepts.spelled.1) (omega arith)))

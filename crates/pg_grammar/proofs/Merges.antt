@@ -1,5 +1,5 @@
 -- The clause MERGE, with its ON.
-use Rattle.std.proofs.Common.{◌≡◌, ℕ, ◌<◌, Bool, true, false, List, [], ◌∷◌, ◌++◌, length, map, refl, sym, ap, subst, inl, inr, arith}
+use Rattle.std.proofs.Common.{◌≡◌, ℕ, ◌+◌, ◌<◌, Bool, true, false, List, [], ◌∷◌, ◌++◌, length, map, refl, sym, ap, subst, inl, inr, arith}
 use Rattle.std.specs.List.{AllByRecursion}
 use Rattle.pg_meaning.specs.declared.lexemes.Keyword.TheVariants as k
 use Rattle.pg_meaning.specs.Tokens.{Token}
@@ -14,7 +14,7 @@ use Rattle.pg_grammar.proofs.ClauseEnds.{end_follow, end_comma, end_hop, end_on,
 use Rattle.pg_grammar.proofs.Generic.{Each}
 use Rattle.pg_grammar.proofs.Separated.{AfterItems}
 use Rattle.pg_grammar.proofs.Terminals.{keyword_seen}
-use Rattle.pg_grammar.proofs.Sequences.{Is, Only, Fitting, Sequence, Behind, Made, Either, restated, pure_exact, keyword_exact, sequence_exact, behind_exact, made_exact, either_exact, many_exact, sequence_fits, sequence_of, behind_fits, behind_of, keyword_first, keyword_other, no_tokens, all_made, all_of}
+use Rattle.pg_grammar.proofs.Sequences.{Is, Only, Fitting, Sequence, Behind, Made, Either, restated, pure_exact, keyword_exact, sequence_exact, behind_exact, leading_exact, made_exact, either_exact, many_exact, sequence_fits, sequence_of, behind_fits, behind_of, keyword_first, keyword_other, no_tokens, all_made, all_of}
 use Rattle.pg_grammar.proofs.Conditions.{Whole}
 use Rattle.pg_grammar.proofs.SetItems.{SetsSpelled, sets_exact}
 use Rattle.pg_grammar.proofs.Matches.{PathFits, path_fits}
@@ -117,10 +117,10 @@ ons_end [] front more h ends = rw (no_tokens front h.fits) (end_hop more ends)
 ons_end (o ∷ os) [] more h ends = absurd h.fits
 ons_end (o ∷ os) (t ∷ front) more h ends = rw h.fits.0.spelled.1 refl
 
-pub merge_exact : {limit : ℕ} {whole : Parser Expression} → Exactly limit whole Whole (Ends 1) → Exactly limit (parse.path whole) PathSpelled NoHop → LabelsAreExact → Exactly limit (merge_clause whole) MergeParts ClauseEnds
+pub merge_exact : {limit : ℕ} {whole : Parser Expression} → Exactly limit whole Whole (Ends 1) → Exactly limit (parse.path whole) PathSpelled NoHop → LabelsAreExact → Exactly (limit + 1) (merge_clause whole) MergeParts ClauseEnds
 unfolding merge_clause
 merge_exact {limit} exact paths labels =
-    behind_exact (key k.Merge) (Sequence PathFits BehindPath) ClauseEnds (keyword_exact limit k.Merge)
+    leading_exact k.Merge (Sequence PathFits BehindPath) ClauseEnds
     (sequence_exact PathFits NoHop BehindPath ClauseEnds (path_fits paths) (λ p. made_exact (tree.merge p) OnsSpelled ClauseEnds (ons_exact exact labels)) (λ p c front more h ends. ons_end h.value front more h.inner ends))
 
 pub merge_out : (c : Clause) (front : List Token) → MergeParts c front → ClauseSpelled grammar.updating c front

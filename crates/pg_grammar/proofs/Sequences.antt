@@ -1,5 +1,5 @@
 -- Parsers in a row, the choice between two, and what may be lacking, whatever the grammar.
-use Rattle.std.proofs.Common.{◌≡◌, ℕ, ◌+◌, ◌<◌, Bool, true, false, List, [], ◌∷◌, ◌++◌, length, map, Option, Some, None, refl, sym, ap, subst, ◌∙◌, ◌⊎◌, inl, inr, append_assoc, length-append, arith}
+use Rattle.std.proofs.Common.{◌≡◌, ℕ, suc, ◌+◌, ◌<◌, Bool, true, false, List, [], ◌∷◌, ◌++◌, length, map, Option, Some, None, refl, sym, ap, subst, ◌∙◌, ◌⊎◌, inl, inr, append_assoc, length-append, arith}
 use Rattle.std.specs.List.{AllByRecursion}
 use Rattle.pg_meaning.specs.declared.lexemes.Keyword.{Keyword}
 use Rattle.pg_meaning.specs.declared.lexemes.Symbol.{Symbol}
@@ -128,6 +128,15 @@ behind_exact {A} m S E one two = restated (Sequence (Is (λ (u : Unit {0}). m)) 
 
     into : (a : A) (front : List Token) → Behind m S a front → Sequence (Is (λ (u : Unit {0}). m)) (λ u. S) a front
     into a front h = record { value = tt; f = h.token ∷ []; g = h.others; whole = h.whole; first = (h.accepts, tt); second = h.inner }
+
+-- behind a keyword there is a token less
+pub leading_exact : {A : Type 0} {limit : ℕ} (x : Keyword) (S : A → List Token → Type 0) (E : List Token → Type 0) {q : Parser A} → Exactly limit q S E → Exactly (limit + 1) (parse.keyword x >> q) (Behind (key x) S) E
+leading_exact {A} {limit} x S E exact = record {
+  sound = (behind_exact (key x) S E (keyword_exact limit x) exact).sound;
+  complete = λ a front more h ends less.
+      let len : length (front ++ more) ≡ suc (length (h.others ++ more)) = ap (λ (l : List Token). length (l ++ more)) h.whole in
+      rw (h.whole, keyword_again x h.token (h.others ++ more) h.accepts) (exact.complete a h.others more h.inner ends (omega arith));
+}
 
 -- what is made of what was read
 pub record Made {A B : Type 0} (f : A → B) (S : A → List Token → Type 0) (b : B) (front : List Token) : Type 0 where

@@ -1,13 +1,10 @@
 -- What the laws of maps and paths say.
-use Rattle.std.specs.Prelude.{◌≡◌, ℕ, Bool, true, false, List, ◌∷◌}
+use Rattle.std.specs.Prelude.{◌≡◌, Bool, true, false, List, ◌∷◌}
 use Rattle.pg_meaning.specs.declared.lexemes.Symbol.TheVariants as s
 use Rattle.pg_meaning.specs.Tokens.{Lexeme, Token}
 use Rattle.pg_meaning.specs.Tokens as lexeme
-use Rattle.pg_meaning.specs.Tree.{Expression, PathPattern}
+use Rattle.pg_meaning.specs.Tree.{PathPattern}
 use Rattle.pg_meaning.specs.Grammar.{path_marks, Fit}
-use Rattle.pg_meaning.specs.Parse.{Parser}
-use Rattle.pg_grammar.specs.Rules.{Exact, PairsAreExact}
-
 
 -- the lexemes that a path can begin with: a variable or the opening of a node
 abbrev pub opens_path : Lexeme → Bool

@@ -3,6 +3,7 @@
 
 ghost use Rattle.pg_grammar.specs.Patterns.{PathsOpen};
 ghost use Rattle.pg_grammar.specs.Rules.{ExpressionsAreExact, ExpressionsOpen, LabelsAreExact, PathsAreExact, ReadingClausesAreExact, UpdatingClausesAreExact, SymbolsAreExact};
+ghost use Rattle.pg_meaning.specs.Parse.{OneReading, ReadsExactly};
 
 /// A symbol is read exactly where it stands.
 pub fn law_of_symbols()
@@ -30,4 +31,10 @@ pub fn law_of_paths()
 pub fn law_of_clauses()
     ensures reading { ReadingClausesAreExact }
     ensures updating { UpdatingClausesAreExact }
+{}
+
+/// What is read of a text's tokens is their reading, and none is missed. Tokens have one reading at most.
+pub fn law_of_readings()
+    ensures exact { ReadsExactly }
+    ensures one { OneReading }
 {}

@@ -31,7 +31,7 @@ pub record Listed {A : Type 0} (S : A → List Token → Type 0) (all : List A) 
 abbrev comma_item : {A : Type 0} → Parser A → Parser A
 comma_item item = symbol s.Comma >> item
 
-further_sound : {A : Type 0} (S : A → List Token → Type 0) (item : Parser A) → Sound item S → Sound (comma_item item) (Further S)
+pub further_sound : {A : Type 0} (S : A → List Token → Type 0) (item : Parser A) → Sound item S → Sound (comma_item item) (Further S)
 further_sound S item sound ts a more e =
     let b = bind_some (symbol s.Comma ts) (λ _. item) (a, more) e in
     let c = symbol_takes s.Comma ts b.1 b.0 b.2 in
@@ -52,18 +52,22 @@ separated_sound S item sound ts a more e =
 abbrev pub AfterItems : (List Token → Type 0) → List Token → Type 0
 AfterItems E more = (sees_symbol s.Comma more ≡ false) × E more
 
+pub comma_row : {A : Type 0} (limit : ℕ) (S : A → List Token → Type 0) (E : List Token → Type 0) (item : Parser A)
+    → ((more : List Token) → sees_symbol s.Comma more ≡ true → E more) → Complete limit item S E → Row limit (sees_symbol s.Comma) (comma_item item) (Further S) E (AfterItems E)
+comma_row limit S E item goes complete = record {
+  read = λ a front more f ends fits.
+      let len : length (front ++ more) ≡ suc (length (f.others ++ more)) = ap (λ (r : List Token). length (r ++ more)) f.whole in
+      rw (f.whole, symbol_again s.Comma f.comma (f.others ++ more) f.accepts) (complete a f.others more f.item ends (omega arith));
+  first = λ a front more f. rw f.whole (symbol_seen s.Comma f.comma (f.others ++ more) f.accepts);
+  some = λ a front f. rw f.whole (omega arith);
+  ends = λ more ends. ends;
+  goes = goes;
+}
+
 pub separated_complete : {A : Type 0} (limit : ℕ) (S : A → List Token → Type 0) (E : List Token → Type 0) (item : Parser A)
     → ((more : List Token) → sees_symbol s.Comma more ≡ true → E more) → Complete limit item S E → Complete limit (separated item) (Listed S) (AfterItems E)
 separated_complete limit S E item goes complete a front more l ends fits =
-    let row : Row limit (sees_symbol s.Comma) (comma_item item) (Further S) E (AfterItems E) = record {
-      read = λ a front more f ends fits.
-          let len : length (front ++ more) ≡ suc (length (f.others ++ more)) = ap (λ (r : List Token). length (r ++ more)) f.whole in
-          rw (f.whole, symbol_again s.Comma f.comma (f.others ++ more) f.accepts) (complete a f.others more f.item ends (omega arith));
-      first = λ a front more f. rw f.whole (symbol_seen s.Comma f.comma (f.others ++ more) f.accepts);
-      some = λ a front f. rw f.whole (omega arith);
-      ends = λ more ends. ends;
-      goes = goes;
-    } in
+    let row : Row limit (sees_symbol s.Comma) (comma_item item) (Further S) E (AfterItems E) = comma_row limit S E item goes complete in
     let whole : front ++ more ≡ l.f ++ (l.g ++ more) = ap (λ (r : List Token). r ++ more) l.whole ∙ append_assoc l.f l.g more in
     let len : length (front ++ more) ≡ length l.f + length (l.g ++ more) = ap length whole ∙ length-append l.f (l.g ++ more) in
     let one = complete l.x l.f (l.g ++ more) l.first (followed row l.xs l.g more l.others ends) (omega (arith, ap length whole)) in
@@ -84,7 +88,7 @@ each_back P [] b h = h
 each_back P (t ∷ a) b h = each_back P a b h.1
 
 module _ {A : Type 0} (S : A → List Token → Type 0) (ok : A → Type 0) (ms : A → List Mark) (out : (x : A) (front : List Token) → S x front → ok x × Fit front (ms x)) where
-  further_made : (xs : List A) (g : List Token) → Each (Further S) xs g → AllByRecursion ok xs × Fit g (further (map ms xs))
+  pub further_made : (xs : List A) (g : List Token) → Each (Further S) xs g → AllByRecursion ok xs × Fit g (further (map ms xs))
   further_made [] g each = (tt, rw each tt)
   further_made (x ∷ xs) g each =
       let f = each.3 in let more = further_made xs each.1 each.4 in let one = out x f.others f.item in
@@ -98,7 +102,7 @@ module _ {A : Type 0} (S : A → List Token → Type 0) (ok : A → Type 0) (ms 
       rw (l.items, l.whole) (tt, (one.0, more.0), fit_append l.f l.g (ms l.x) (further (map ms l.xs)) one.1 more.1)
 
 module _ {A : Type 0} (P : Token → Type 0) (S : A → List Token → Type 0) (ok : A → Type 0) (ms : A → List Mark) (into : (x : A) (front : List Token) → EachToken P front → ok x → Fit front (ms x) → S x front) where
-  further_of : (xs : List A) (g : List Token) → EachToken P g → AllByRecursion ok xs → Fit g (further (map ms xs)) → Each (Further S) xs g
+  pub further_of : (xs : List A) (g : List Token) → EachToken P g → AllByRecursion ok xs → Fit g (further (map ms xs)) → Each (Further S) xs g
   further_of [] [] tokens all fits = refl
   further_of [] (t ∷ g) tokens all fits = absurd fits
   further_of (x ∷ xs) [] tokens all fits = absurd fits

@@ -35,7 +35,7 @@ pub is_symbol_is : (x : Symbol) (l : Lexeme) → is_symbol x l ≡ true → l �
 is_symbol_is x (lexeme.symbol y) e = ap lexeme.symbol (symbol_same y x e)
 is_symbol_is x _ e = absurd cc
 
-is_keyword_is : (x : Keyword) (l : Lexeme) → is_keyword x l ≡ true → IsSpelled (keyword x) l
+pub is_keyword_is : (x : Keyword) (l : Lexeme) → is_keyword x l ≡ true → IsSpelled (keyword x) l
 is_keyword_is x (lexeme.keyword y text) e = (text, ap (λ (z : Keyword). lexeme.keyword z text) (keyword_same y x e))
 is_keyword_is x _ e = absurd cc
 

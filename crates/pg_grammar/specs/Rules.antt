@@ -6,8 +6,7 @@ use Rattle.pg_meaning.specs.declared.lexemes.Symbol.TheVariants as s
 use Rattle.pg_meaning.specs.declared.operators.Operator.{Operator}
 use Rattle.pg_meaning.specs.Tokens.{Lexeme, Token}
 use Rattle.pg_meaning.specs.Tokens as lexeme
-use Rattle.pg_meaning.specs.Tree.{Name, Expression, Pairs, Properties, NodePattern, PathPattern, Clause}
-use Rattle.pg_meaning.specs.Tree as tree
+use Rattle.pg_meaning.specs.Tree.{Name, Expression, Pairs, PathPattern, Clause}
 use Rattle.pg_meaning.specs.Grammar.{Mark, sign, label_marks, commas, pair_marks, marks, level, operator_level, node_marks, path_marks, clause_marks, Accepts, Fit, IsNonEmpty, IsWellFormed, ArePairs, AreProperties, IsPath, IsClause, Kind, kind_of}
 use Rattle.pg_meaning.specs.Grammar as grammar
 use Rattle.pg_meaning.specs.Parse as parse
@@ -170,8 +169,9 @@ ExpressionsOpen = (x : Expression) (front : List Token) → IsWellFormed x → F
 abbrev pub PathsAreExact : Type 0
 PathsAreExact = (n : ℕ) → Exactly n (parse.path (parse.expr n)) PathSpelled NoHop
 
+-- a clause begins with a keyword, so what it has of expressions is shorter than itself
 abbrev pub ReadingClausesAreExact : Type 0
-ReadingClausesAreExact = (n : ℕ) → Exactly n (parse.reading (parse.expr n)) (ClauseSpelled grammar.reading) ClauseEnds
+ReadingClausesAreExact = (n : ℕ) → Exactly (n + 1) (parse.reading (parse.expr n)) (ClauseSpelled grammar.reading) ClauseEnds
 
 abbrev pub UpdatingClausesAreExact : Type 0
-UpdatingClausesAreExact = (n : ℕ) → Exactly n (parse.updating (parse.expr n)) (ClauseSpelled grammar.updating) ClauseEnds
+UpdatingClausesAreExact = (n : ℕ) → Exactly (n + 1) (parse.updating (parse.expr n)) (ClauseSpelled grammar.updating) ClauseEnds

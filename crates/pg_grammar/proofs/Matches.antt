@@ -1,0 +1,106 @@
+-- The clauses MATCH and UNWIND.
+use Rattle.std.proofs.Common.{◌≡◌, ℕ, ◌+◌, Bool, true, false, List, [], ◌∷◌, ◌++◌, Option, Some, None, map, refl, sym, subst, arith}
+use Rattle.pg_meaning.specs.declared.lexemes.Keyword.TheVariants as k
+use Rattle.pg_meaning.specs.declared.lexemes.Symbol.TheVariants as s
+use Rattle.pg_meaning.specs.Tokens.{Token}
+use Rattle.pg_meaning.specs.Tree.{Name, Expression, PathPattern, Clause}
+use Rattle.pg_meaning.specs.Tree as tree
+use Rattle.pg_meaning.specs.Grammar.{key, keyed, flag, commas, marks, path_marks, optional_marks, IsPath, ArePaths, Fit}
+use Rattle.pg_meaning.specs.Grammar as grammar
+use Rattle.pg_meaning.specs.Parse as parse
+use Rattle.pg_meaning.specs.Parse.{Parser, ◌>>=◌, ◌>>◌, ◌<$>◌, sees_symbol, sees_keyword, begins_relationship, separated, match_clause, unwind_clause}
+use Rattle.pg_grammar.specs.Rules.{Exactly, Ends, PathSpelled, NoHop, ClauseEnds, ClauseSpelled, Anything}
+use Rattle.pg_grammar.proofs.ClauseEnds.{end_follow, end_where, end_comma, end_hop}
+use Rattle.pg_grammar.proofs.Separated.{AfterItems}
+use Rattle.pg_grammar.proofs.Terminals.{symbol_is}
+use Rattle.pg_grammar.proofs.Sequences.{Is, Fitting, Sequence, Behind, Made, restated, narrowed, keyword_exact, var_exact, eat_keyword_exact, sequence_exact, behind_exact, leading_exact, made_exact, items_exact, sequence_fits, sequence_of, behind_fits, behind_of, keyword_other, no_tokens}
+use Rattle.pg_grammar.proofs.Conditions.{Whole, MayHave, may_have_exact}
+
+-- ---- paths
+
+abbrev pub PathFits : PathPattern → List Token → Type 0
+PathFits = Fitting IsPath path_marks
+
+pub path_fits : {limit : ℕ} {path : Parser PathPattern} → Exactly limit path PathSpelled NoHop → Exactly limit path PathFits NoHop
+path_fits exact = restated PathSpelled PathFits NoHop NoHop exact (λ p front h. record { well = h.well; fits = h.fits }) (λ p front h. record { well = h.well; fits = h.fits }) (λ more ends. ends)
+
+abbrev pub PathsFit : List PathPattern → List Token → Type 0
+PathsFit = Fitting ArePaths (λ ps. commas (map path_marks ps))
+
+comma_ends : (more : List Token) → sees_symbol s.Comma more ≡ true → NoHop more
+unfolding parse.same_symbol
+comma_ends more e = let i = symbol_is s.Comma more e in rw (i.1, i.2.spelled) refl
+
+pub paths_fit : {limit : ℕ} {path : Parser PathPattern} → Exactly limit path PathSpelled NoHop → Exactly limit (separated path) PathsFit (AfterItems NoHop)
+paths_fit exact = items_exact IsPath path_marks NoHop (path_fits exact) comma_ends
+
+-- ---- MATCH
+
+abbrev Optionally : Bool → List Token → Type 0
+Optionally b front = Fit front (flag b (key k.Optional))
+
+abbrev BehindPaths : Bool → List PathPattern → Clause → List Token → Type 0
+BehindPaths b ps = Made (tree.match_paths b ps) (MayHave k.Where)
+
+abbrev BehindMatch : Bool → Clause → List Token → Type 0
+BehindMatch b = Sequence PathsFit (BehindPaths b)
+
+abbrev pub MatchParts : Clause → List Token → Type 0
+MatchParts = Sequence Optionally (λ b. Behind (key k.Match) (BehindMatch b))
+
+-- what stands behind the paths
+condition_ends : (c : Option Expression) (front more : List Token) → MayHave k.Where c front → ClauseEnds more → AfterItems NoHop (front ++ more)
+condition_ends None front more h ends = rw (no_tokens front h.fits) (end_comma more ends, end_hop more ends)
+condition_ends (Some x) [] more h ends = absurd h.fits
+condition_ends (Some x) (t ∷ front) more h ends = rw h.fits.0.spelled.1 (refl, refl)
+
+pub match_exact : {limit : ℕ} {whole : Parser Expression} → Exactly limit whole Whole (Ends 1) → Exactly limit (parse.path whole) PathSpelled NoHop → Exactly (limit + 1) (match_clause whole) MatchParts ClauseEnds
+unfolding match_clause parse.same_keyword
+match_exact {limit} {whole} exact paths =
+    sequence_exact Optionally (λ more. sees_keyword k.Optional more ≡ false) (λ b. Behind (key k.Match) (BehindMatch b)) ClauseEnds (eat_keyword_exact (limit + 1) k.Optional)
+    (λ b. leading_exact k.Match (BehindMatch b) ClauseEnds
+    (sequence_exact PathsFit (AfterItems NoHop) (BehindPaths b) ClauseEnds (paths_fit paths) (λ ps. made_exact (tree.match_paths b ps) (MayHave k.Where) ClauseEnds conditions)
+    (λ ps c front more h ends. condition_ends h.value front more h.inner ends)))
+    (λ b c front more h ends. keyword_other k.Match k.Optional refl front more h)
+  where
+    conditions : Exactly limit (parse.condition whole) (MayHave k.Where) ClauseEnds
+    conditions = narrowed (MayHave k.Where) (λ more. Ends 1 more × (sees_keyword k.Where more ≡ false)) ClauseEnds (may_have_exact k.Where exact) (λ more ends. (end_follow more ends, end_where more ends))
+
+pub match_out : (c : Clause) (front : List Token) → MatchParts c front → ClauseSpelled grammar.reading c front
+match_out c front h =
+    let p = h.second in let q = p.inner in let v = q.second in
+    subst (λ y. ClauseSpelled grammar.reading y front) (sym v.is) (record {
+      well = (q.first.well, v.inner.well);
+      is = refl;
+      fits = sequence_fits h (flag h.value (key k.Optional)) _ h.first (behind_fits p _ (sequence_fits q (commas (map path_marks q.value)) _ q.first.fits v.inner.fits));
+    })
+
+pub match_into : (b : Bool) (ps : List PathPattern) (w : Option Expression) (front : List Token) → ClauseSpelled grammar.reading (tree.match_paths b ps w) front → MatchParts (tree.match_paths b ps w) front
+match_into b ps w front h =
+    sequence_of Optionally _ b _ (flag b (key k.Optional)) _ front h.fits (λ f p. p) (λ g p. behind_of (key k.Match) _ _ _ g p (λ g p.
+    sequence_of PathsFit _ ps _ (commas (map path_marks ps)) _ g p (λ f p. record { well = h.well.0; fits = p }) (λ g p. record { value = w; is = refl; inner = record { well = h.well.1; fits = p } })))
+
+-- ---- UNWIND
+
+abbrev Named : Expression → Clause → List Token → Type 0
+Named x = Behind (key k.As) (Made (tree.unwind x) (Is grammar.var))
+
+abbrev pub UnwindParts : Clause → List Token → Type 0
+UnwindParts = Behind (key k.Unwind) (Sequence Whole Named)
+
+pub unwind_exact : {limit : ℕ} {whole : Parser Expression} → Exactly limit whole Whole (Ends 1) → Exactly (limit + 1) (unwind_clause whole) UnwindParts Anything
+unfolding unwind_clause
+unwind_exact {limit} {whole} exact =
+    leading_exact k.Unwind (Sequence Whole Named) Anything
+    (sequence_exact Whole (Ends 1) Named Anything exact
+    (λ x. behind_exact (key k.As) (Made (tree.unwind x) (Is grammar.var)) Anything (keyword_exact limit k.As) (made_exact (tree.unwind x) (Is grammar.var) Anything (var_exact limit)))
+    (λ x c front more h ends. rw (h.whole, h.accepts.spelled.1) (omega arith)))
+
+pub unwind_out : (c : Clause) (front : List Token) → UnwindParts c front → ClauseSpelled grammar.reading c front
+unwind_out c front h =
+    let q = h.inner in let p = q.second in let v = p.inner in
+    subst (λ y. ClauseSpelled grammar.reading y front) (sym v.is) (record { well = q.first.well; is = refl; fits = behind_fits h _ (sequence_fits q (marks q.value) _ q.first.fits (behind_fits p _ v.inner)) })
+
+pub unwind_into : (x : Expression) (n : Name) (front : List Token) → ClauseSpelled grammar.reading (tree.unwind x n) front → UnwindParts (tree.unwind x n) front
+unwind_into x n front h =
+    behind_of (key k.Unwind) _ _ _ front h.fits (λ g p. sequence_of Whole _ x _ (marks x) _ g p (λ f p. record { well = h.well; fits = p }) (λ g p. behind_of (key k.As) _ _ _ g p (λ g p. record { value = n; is = refl; inner = p })))

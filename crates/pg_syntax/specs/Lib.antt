@@ -1,0 +1,5 @@
+pub mod Gives
+pub mod Nests
+pub mod Shrinks
+pub mod ShrinksLaws
+pub mod Turns

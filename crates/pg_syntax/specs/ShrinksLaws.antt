@@ -159,7 +159,7 @@ labels_if_any_shrinks = branch_shrinks (sees_symbol s.Colon) labels_shrinks (pur
 
 -- ---- expressions
 
-link_eats : {p : Parser Expression} (level : ℕ) → Shrinks p → Eats (parse.link level p)
+pub link_eats : {p : Parser Expression} (level : ℕ) → Shrinks p → Eats (parse.link level p)
 link_eats level h = bind_eats (operator_eats level) (λ o. bind_shrinks h (λ y. pure_shrinks (o, y)))
 
 pub chain_shrinks : {p : Parser Expression} (level : ℕ) → Shrinks p → Shrinks (parse.chain level p)
@@ -257,9 +257,13 @@ pub unary_shrinks : {p : Parser Expression} → Shrinks p → Shrinks (parse.una
 unfolding parse.unary
 unary_shrinks h = bind_shrinks (many_shrinks parse.begins_sign [] (eats_shrinks sign_eats)) (λ bs. bind_shrinks (post_shrinks h) (λ x. pure_shrinks (parse.signed bs x)))
 
+pub product_shrinks : {p : Parser Expression} → Shrinks p → Shrinks (parse.product p)
+unfolding parse.product
+product_shrinks h = chain_shrinks 8 (unary_shrinks h)
+
 pub sum_shrinks : {p : Parser Expression} → Shrinks p → Shrinks (parse.sum p)
-unfolding parse.sum parse.product
-sum_shrinks h = chain_shrinks 7 (chain_shrinks 8 (unary_shrinks h))
+unfolding parse.sum
+sum_shrinks h = chain_shrinks 7 (product_shrinks h)
 
 test_by_eats : {p : Parser Expression} (t : TextTest) {front : Parser (Unit {0})} → Eats front → Shrinks p → Eats (parse.test_by t front p)
 test_by_eats t front h = bind_eats front (λ _. bind_shrinks h (λ x. pure_shrinks (tree.text_test t x)))
@@ -273,17 +277,29 @@ test_eats h =
     (branch_eats (parse.sees_keyword k.In) (test_by_eats test.In (keyword_eats k.In) h)
     (after_keyword k.Is (bind_shrinks (eat_keyword_shrinks k.Not) (λ negated. eats_shrinks (after_keyword k.Null (pure_shrinks (tree.null_test negated)))))))))
 
+pub predicate_shrinks : {p : Parser Expression} → Shrinks p → Shrinks (parse.predicate p)
+unfolding parse.predicate
+predicate_shrinks h = bind_shrinks (sum_shrinks h) (λ x. bind_shrinks (many_shrinks parse.begins_test [] (eats_shrinks (test_eats (sum_shrinks h)))) (λ fs. pure_shrinks (parse.tested x fs)))
+
 pub comparison_shrinks : {p : Parser Expression} → Shrinks p → Shrinks (parse.comparison p)
-unfolding parse.comparison parse.predicate
-comparison_shrinks h = chain_shrinks 5 (bind_shrinks (sum_shrinks h) (λ x. bind_shrinks (many_shrinks parse.begins_test [] (eats_shrinks (test_eats (sum_shrinks h)))) (λ fs. pure_shrinks (parse.tested x fs))))
+unfolding parse.comparison
+comparison_shrinks h = chain_shrinks 5 (predicate_shrinks h)
 
 pub negation_shrinks : {p : Parser Expression} → Shrinks p → Shrinks (parse.negation p)
 unfolding parse.negation
 negation_shrinks h = bind_shrinks (many_shrinks (parse.sees_keyword k.Not) [] (eats_shrinks (keyword_eats k.Not))) (λ us. bind_shrinks (comparison_shrinks h) (λ x. pure_shrinks (parse.negated us x)))
 
+pub conjunction_shrinks : {p : Parser Expression} → Shrinks p → Shrinks (parse.conjunction p)
+unfolding parse.conjunction
+conjunction_shrinks h = chain_shrinks 3 (negation_shrinks h)
+
+pub exclusion_shrinks : {p : Parser Expression} → Shrinks p → Shrinks (parse.exclusion p)
+unfolding parse.exclusion
+exclusion_shrinks h = chain_shrinks 2 (conjunction_shrinks h)
+
 pub disjunction_shrinks : {p : Parser Expression} → Shrinks p → Shrinks (parse.disjunction p)
-unfolding parse.disjunction parse.exclusion parse.conjunction
-disjunction_shrinks h = chain_shrinks 1 (chain_shrinks 2 (chain_shrinks 3 (negation_shrinks h)))
+unfolding parse.disjunction
+disjunction_shrinks h = chain_shrinks 1 (exclusion_shrinks h)
 
 pub expr_shrinks : (n : ℕ) → Shrinks (parse.expr n)
 unfolding parse.expr

@@ -60,6 +60,18 @@ pub(crate) fn many<R: Row>(
     Ok(found)
 }
 
+/// All pieces of a row.
+pub(crate) fn pieces<R: Row>(
+    alloc: Global,
+    rule: &R,
+    tokens: &mut Tokens<'_, '_>,
+) -> Result<Vec<R::Tree>, ParseError>
+    requires { R.ready rule.now }
+    ensures { Gives (λ v. map R.view v.items) (parse.many (R.begins rule.now) (R.parser rule.now) [] (tokens_view tokens.old.rest.now)) result tokens.new.rest.now }
+{
+    many(rule, tokens, Vec::new(alloc))
+}
+
 /// A comma and a piece.
 #[derive(Drop)]
 struct CommaAnd<'r, R> {

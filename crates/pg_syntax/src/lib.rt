@@ -7,6 +7,8 @@ mod cursor;
 mod depth;
 mod error;
 mod expression;
+#[cfg(test)]
+mod expression_tests;
 mod levels;
 mod names;
 mod rules;

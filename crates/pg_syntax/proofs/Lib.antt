@@ -1,3 +1,7 @@
+pub mod Contract
+pub mod Cuts
+pub mod Ends
+pub mod Parts
 pub mod Rows
 pub mod Steps
 pub mod Turns

@@ -186,10 +186,10 @@ map_pairs_shrinks {p} h = bind_shrinks (eats_shrinks (symbol_eats s.OpenBrace)) 
     by false = bind_shrinks (separated_shrinks (eats_shrinks (map_pair_eats h))) (λ ps. bind_shrinks (eats_shrinks (symbol_eats s.CloseBrace)) (λ _. pure_shrinks (parse.pairs_of ps)))
 
 -- a symbol or a keyword, and then what takes nothing back
-after_symbol : {A : Type 0} {p : Parser A} (x : Symbol) → Shrinks p → Eats (parse.symbol x >> p)
+pub after_symbol : {A : Type 0} {p : Parser A} (x : Symbol) → Shrinks p → Eats (parse.symbol x >> p)
 after_symbol x h = bind_eats (symbol_eats x) (λ _. h)
 
-after_keyword : {A : Type 0} {p : Parser A} (x : Keyword) → Shrinks p → Eats (parse.keyword x >> p)
+pub after_keyword : {A : Type 0} {p : Parser A} (x : Keyword) → Shrinks p → Eats (parse.keyword x >> p)
 after_keyword x h = bind_eats (keyword_eats x) (λ _. h)
 
 pub call_shrinks : {p : Parser Expression} (f : Name) → Shrinks p → Shrinks (parse.call p f)

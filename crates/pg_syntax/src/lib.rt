@@ -3,6 +3,7 @@
 
 mod atoms;
 mod chains;
+mod clauses;
 mod cursor;
 mod depth;
 mod error;
@@ -11,5 +12,10 @@ mod expression;
 mod expression_tests;
 mod levels;
 mod names;
+mod patterns;
+mod projections;
+mod query;
 mod rules;
 mod whole;
+
+pub use query::parse;

@@ -1,0 +1,14 @@
+use Rattle.std.proofs.Common.{length, map}
+use Rattle.pg_lex.specs.View.{tokens_view}
+use Rattle.pg_meaning.specs.Parse.{expr, parts}
+use Rattle.pg_syntax_tree.specs.View.{clause_view}
+use Rattle.pg_syntax.proofs.Parts.{LeftParts}
+use Rattle.pg_syntax.proofs.query.parts.Given as goal
+
+abbrev pub invariant-loop-found : goal.invariant-loop-found
+invariant-loop-found l =
+    LeftParts l.text (expr l.depth) (parts l.text (expr l.depth) (length l.fn.tokens.rest.now) (tokens_view l.fn.tokens.rest.now))
+    (map clause_view l.found.items) l.updates (tokens_view l.tokens.rest.now)
+
+abbrev pub decreases-loop-found : goal.decreases-loop-found
+decreases-loop-found l = length l.tokens.rest.now

@@ -1,0 +1,10 @@
+pub mod Gives
+pub mod Nests
+pub mod Parts
+pub mod Pieces
+pub mod Shrinks
+pub mod ShrinksClauses
+pub mod ShrinksLaws
+pub mod ShrinksPatterns
+pub mod Turns
+pub mod WholeParse

@@ -1,0 +1,61 @@
+-- What the parts of expressions stand for.
+use Rattle.std.specs.Prelude.{Option, Some, None, option_map, Box, pos, true, false}
+use Rattle.std.specs.declared.alloc.Global.{Global}
+use Rattle.pg_meaning.specs.declared.lexemes.Keyword.TheVariants as k
+use Rattle.pg_meaning.specs.declared.operators.Operator.{Operator}
+use Rattle.pg_meaning.specs.declared.operators.TextTest.{TextTest}
+use Rattle.pg_meaning.specs.Parse.{Parser, ◌>>=◌, ◌>>◌, ◌<$>◌, pure, keyword, symbol, listed, expressions_of}
+use Rattle.pg_meaning.specs.Tokens.{Lexeme}
+use Rattle.pg_meaning.specs.Tokens as lexeme
+use Rattle.pg_meaning.specs.Value as value
+use Rattle.pg_meaning.specs.declared.lexemes.Symbol.TheVariants as s
+use Rattle.pg_meaning.specs.Tree as tree
+use Rattle.pg_syntax_tree.specs.View.{name_view, expression_view}
+use Rattle.pg_syntax_tree.specs.declared.expression.Expression.{Expression}
+use Rattle.pg_syntax_tree.specs.declared.expression.Suffix.{Suffix}
+use Rattle.pg_syntax_tree.specs.declared.expression.Suffix.TheVariants as suffix
+use Rattle.pg_syntax_tree.specs.declared.expression.Test.{Test}
+use Rattle.pg_syntax_tree.specs.declared.expression.Test.TheVariants as test
+
+abbrev pub operand_view : Operator × Expression → Operator × tree.Expression
+operand_view p = (p.0, expression_view p.1)
+
+abbrev pub when_view : Expression × Expression → tree.Expression × tree.Expression
+when_view p = (expression_view p.0, expression_view p.1)
+
+-- a suffix, before the further ones
+abbrev pub suffix_view : Suffix Expression → tree.Suffixes → tree.Suffixes
+suffix_view (suffix.Property n) = tree.property (name_view n)
+suffix_view (suffix.Index x) = tree.index (expression_view x)
+
+-- a test, before the further ones
+abbrev pub test_view : Test Expression → tree.Tests → tree.Tests
+test_view (test.Text t x) = tree.text_test t (expression_view x)
+test_view (test.IsNull negated) = tree.null_test negated
+
+-- a test with a right side, behind its keywords
+abbrev pub test_behind : TextTest → Parser tree.Expression → Parser (tree.Tests → tree.Tests)
+test_behind t right = (λ x. tree.text_test t x) <$> right
+
+abbrev pub perhaps_view : Option (Box Expression Global) → Option tree.Expression
+perhaps_view = option_map (λ b. expression_view b.value)
+
+abbrev pub else_of : Parser tree.Expression → Parser tree.Expression
+else_of whole = keyword k.Else >> whole
+
+-- a list behind its opening sign
+abbrev pub list_behind : Parser tree.Expression → Parser tree.Expression
+list_behind whole = (λ xs. tree.list_literal (expressions_of xs)) <$> listed s.CloseBracket whole
+
+-- parentheses behind the opening one
+abbrev pub parentheses_behind : Parser tree.Expression → Parser tree.Expression
+parentheses_behind whole = do x ← whole; symbol s.CloseParenthesis; pure (tree.parentheses x)
+
+-- a lexeme that is a literal
+abbrev pub literal_by : Lexeme → Option value.Value
+literal_by (lexeme.integer n) = Some (value.integer (pos n))
+literal_by (lexeme.string t) = Some (value.text t)
+literal_by (lexeme.keyword k.True w) = Some (value.boolean true)
+literal_by (lexeme.keyword k.False w) = Some (value.boolean false)
+literal_by (lexeme.keyword k.Null w) = Some value.null
+literal_by l = None

@@ -1,0 +1,300 @@
+//! Patterns.
+
+ghost use Rattle.std.specs.Prelude.{◌≡◌, ℕ, Bool, true, false, map, option_map, refl};
+ghost use Rattle.pg_lex.specs.View.{tokens_view};
+ghost use Rattle.pg_meaning.specs.Parse as parse;
+ghost use Rattle.pg_meaning.specs.declared.lexemes.Symbol.TheVariants as s;
+ghost use Rattle.pg_meaning.specs.Tree as tree;
+ghost use Rattle.pg_syntax.specs.Gives.{Gives, same};
+ghost use Rattle.pg_syntax.specs.Pieces as pieces;
+ghost use Rattle.pg_syntax.specs.ShrinksLaws.{eats_shrinks, expr_shrinks};
+ghost use Rattle.pg_syntax.specs.ShrinksPatterns.{other_type_eats, hop_eats, path_shrinks};
+ghost use Rattle.pg_syntax_tree.specs.View.{name_view, properties_view, node_view, type_view, range_view, detail_view, relationship_view, hop_view, path_view};
+
+use crate::atoms::map_pairs;
+use crate::cursor::{Tokens, start_of};
+use crate::error::ParseError;
+use crate::expression::Whole;
+use crate::names::{labels_if_any, variable};
+use crate::rules::{Row, Rule, many, pieces};
+use pg_meaning::Symbol;
+use pg_syntax_tree::{
+    Detail, Name, NodePattern, PathPattern, Properties, Range, RelationshipPattern, TypeName,
+};
+use std::alloc::Global;
+
+#[tactic(auto, unfolding(pg_meaning::specs::Parse::properties))]
+fn properties(
+    alloc: Global,
+    tokens: &mut Tokens<'_, '_>,
+    depth: usize,
+) -> Result<Properties, ParseError>
+    ensures { Gives properties_view (parse.properties (parse.expr depth) (tokens_view tokens.old.rest.now)) result tokens.new.rest.now }
+{
+    if tokens.sees(Symbol::OpenBrace) {
+        return Ok(Properties::Given(map_pairs(&Whole { alloc, depth }, tokens)?));
+    }
+    if tokens.sees_parameter() {
+        return Ok(Properties::Parameter(tokens.parameter(alloc)?));
+    }
+    Ok(Properties::None)
+}
+
+#[tactic(auto, unfolding(pg_meaning::specs::Parse::node, pg_meaning::specs::Parse::here))]
+fn node(alloc: Global, tokens: &mut Tokens<'_, '_>, depth: usize) -> Result<NodePattern, ParseError>
+    ensures { Gives node_view (parse.node (parse.expr depth) (tokens_view tokens.old.rest.now)) result tokens.new.rest.now }
+{
+    let place = start_of(tokens.rest);
+    tokens.expect(Symbol::OpenParenthesis)?;
+    let variable = variable(alloc, tokens)?;
+    let labels = labels_if_any(alloc, tokens)?;
+    let properties = properties(alloc, tokens, depth)?;
+    tokens.expect(Symbol::CloseParenthesis)?;
+    Ok(NodePattern {
+        place,
+        variable,
+        labels,
+        properties,
+    })
+}
+
+/// A type behind a bar.
+#[derive(Clone, Copy)]
+struct OtherType {
+    alloc: Global,
+}
+
+impl Rule for OtherType {
+    type Tree = TypeName;
+
+    ghost Datum = { Bool × tree.Name };
+
+    ghost view = { type_view };
+
+    ghost parser = { λ _. parse.other_type };
+
+    ghost shrinks = { λ _. eats_shrinks other_type_eats };
+
+    fn read(&self, tokens: &mut Tokens<'_, '_>) -> Result<TypeName, ParseError> {
+        tokens.expect(Symbol::Bar)?;
+        let colon = tokens.eat(Symbol::Colon);
+        let name = tokens.name(self.alloc)?;
+        Ok(TypeName { colon, name })
+    }
+}
+
+impl Row for OtherType {
+    ghost begins = { λ _. parse.sees_symbol s.Bar };
+
+    ghost none = { λ _. refl };
+
+    ghost takes = { λ _. other_type_eats };
+
+    fn begins(&self, tokens: &Tokens<'_, '_>) -> bool {
+        tokens.sees(Symbol::Bar)
+    }
+}
+
+#[tactic(auto, unfolding(pg_meaning::specs::Parse::types))]
+fn types(alloc: Global, tokens: &mut Tokens<'_, '_>) -> Result<Vec<TypeName>, ParseError>
+    ensures { Gives (λ v. map type_view v.items) (parse.types (tokens_view tokens.old.rest.now)) result tokens.new.rest.now }
+{
+    tokens.expect(Symbol::Colon)?;
+    let name = tokens.name(alloc)?;
+    let mut found = Vec::new(alloc);
+    found.push(TypeName { colon: true, name })?;
+    many(&OtherType { alloc }, tokens, found)
+}
+
+fn types_if_any(alloc: Global, tokens: &mut Tokens<'_, '_>) -> Result<Vec<TypeName>, ParseError>
+    ensures { Gives (λ v. map type_view v.items) (pieces.types_if_any (tokens_view tokens.old.rest.now)) result tokens.new.rest.now }
+{
+    if !tokens.sees(Symbol::Colon) {
+        return Ok(Vec::new(alloc));
+    }
+    types(alloc, tokens)
+}
+
+fn integer_if_any(tokens: &mut Tokens<'_, '_>) -> Result<Option<u64>, ParseError>
+    ensures { Gives same (parse.maybe parse.begins_integer parse.integer (tokens_view tokens.old.rest.now)) result tokens.new.rest.now }
+{
+    if !tokens.sees_integer() {
+        return Ok(None);
+    }
+    Ok(Some(tokens.integer()?))
+}
+
+/// What stands behind the dots of a range, if they are there.
+fn upper_end(tokens: &mut Tokens<'_, '_>, dots: bool) -> Result<Option<u64>, ParseError>
+    ensures { Gives same (pieces.upper_end dots (tokens_view tokens.old.rest.now)) result tokens.new.rest.now }
+{
+    if !dots {
+        return Ok(None);
+    }
+    integer_if_any(tokens)
+}
+
+#[tactic(auto, unfolding(pg_meaning::specs::Parse::range))]
+fn range(tokens: &mut Tokens<'_, '_>) -> Result<Range, ParseError>
+    ensures { Gives range_view (parse.range (tokens_view tokens.old.rest.now)) result tokens.new.rest.now }
+{
+    tokens.expect(Symbol::Star)?;
+    let lower = integer_if_any(tokens)?;
+    let dots = tokens.eat(Symbol::TwoDots);
+    let upper = upper_end(tokens, dots)?;
+    Ok(Range { lower, dots, upper })
+}
+
+fn range_if_any(tokens: &mut Tokens<'_, '_>) -> Result<Option<Range>, ParseError>
+    ensures { Gives (option_map range_view) (parse.maybe (parse.sees_symbol s.Star) parse.range (tokens_view tokens.old.rest.now)) result tokens.new.rest.now }
+{
+    if !tokens.sees(Symbol::Star) {
+        return Ok(None);
+    }
+    Ok(Some(range(tokens)?))
+}
+
+#[tactic(auto, unfolding(pg_meaning::specs::Parse::detail))]
+fn detail(alloc: Global, tokens: &mut Tokens<'_, '_>, depth: usize) -> Result<Detail, ParseError>
+    ensures { Gives detail_view (parse.detail (parse.expr depth) (tokens_view tokens.old.rest.now)) result tokens.new.rest.now }
+{
+    tokens.expect(Symbol::OpenBracket)?;
+    let variable = variable(alloc, tokens)?;
+    let types = types_if_any(alloc, tokens)?;
+    let range = range_if_any(tokens)?;
+    let properties = properties(alloc, tokens, depth)?;
+    tokens.expect(Symbol::CloseBracket)?;
+    Ok(Detail {
+        variable,
+        types,
+        range,
+        properties,
+    })
+}
+
+fn detail_if_any(
+    alloc: Global,
+    tokens: &mut Tokens<'_, '_>,
+    depth: usize,
+) -> Result<Option<Detail>, ParseError>
+    ensures { Gives (option_map detail_view) (parse.maybe (parse.sees_symbol s.OpenBracket) (parse.detail (parse.expr depth)) (tokens_view tokens.old.rest.now)) result tokens.new.rest.now }
+{
+    if !tokens.sees(Symbol::OpenBracket) {
+        return Ok(None);
+    }
+    Ok(Some(detail(alloc, tokens, depth)?))
+}
+
+#[tactic(auto, unfolding(pg_meaning::specs::Parse::relationship, pg_meaning::specs::Parse::here))]
+fn relationship(
+    alloc: Global,
+    tokens: &mut Tokens<'_, '_>,
+    depth: usize,
+) -> Result<RelationshipPattern, ParseError>
+    ensures { Gives relationship_view (parse.relationship (parse.expr depth) (tokens_view tokens.old.rest.now)) result tokens.new.rest.now }
+{
+    let place = start_of(tokens.rest);
+    let left_head = tokens.eat(Symbol::Less);
+    tokens.expect(Symbol::Minus)?;
+    let detail = detail_if_any(alloc, tokens, depth)?;
+    tokens.expect(Symbol::Minus)?;
+    let right_head = tokens.eat(Symbol::Greater);
+    Ok(RelationshipPattern {
+        place,
+        left_head,
+        detail,
+        right_head,
+    })
+}
+
+/// A relationship and the node behind it.
+#[derive(Clone, Copy)]
+struct Hop {
+    alloc: Global,
+    depth: usize,
+}
+
+impl Rule for Hop {
+    type Tree = (RelationshipPattern, NodePattern);
+
+    ghost Datum = { tree.RelationshipPattern × tree.NodePattern };
+
+    ghost view = { hop_view };
+
+    ghost parser = { λ h. parse.hop (parse.expr h.depth) };
+
+    ghost shrinks = { λ h. eats_shrinks (hop_eats (expr_shrinks h.depth)) };
+
+    fn read(
+        &self,
+        tokens: &mut Tokens<'_, '_>,
+    ) -> Result<(RelationshipPattern, NodePattern), ParseError> {
+        let relationship = relationship(self.alloc, tokens, self.depth)?;
+        let node = node(self.alloc, tokens, self.depth)?;
+        Ok((relationship, node))
+    }
+}
+
+impl Row for Hop {
+    ghost begins = { λ _. parse.begins_relationship };
+
+    ghost none = { λ _. refl };
+
+    ghost takes = { λ h. hop_eats (expr_shrinks h.depth) };
+
+    fn begins(&self, tokens: &Tokens<'_, '_>) -> bool {
+        tokens.sees(Symbol::Less) || tokens.sees(Symbol::Minus)
+    }
+}
+
+fn path_variable(alloc: Global, tokens: &mut Tokens<'_, '_>) -> Result<Option<Name>, ParseError>
+    ensures { Gives (option_map name_view) (parse.maybe parse.begins_var parse.path_variable (tokens_view tokens.old.rest.now)) result tokens.new.rest.now }
+{
+    if !tokens.sees_var() {
+        return Ok(None);
+    }
+    let name = tokens.var(alloc)?;
+    tokens.expect(Symbol::Equal)?;
+    Ok(Some(name))
+}
+
+#[tactic(auto, unfolding(pg_meaning::specs::Parse::path))]
+pub(crate) fn path(
+    alloc: Global,
+    tokens: &mut Tokens<'_, '_>,
+    depth: usize,
+) -> Result<PathPattern, ParseError>
+    ensures { Gives path_view (parse.path (parse.expr depth) (tokens_view tokens.old.rest.now)) result tokens.new.rest.now }
+{
+    let variable = path_variable(alloc, tokens)?;
+    let first = node(alloc, tokens, depth)?;
+    let hops = pieces(alloc, &Hop { alloc, depth }, tokens)?;
+    Ok(PathPattern {
+        variable,
+        first,
+        hops,
+    })
+}
+
+/// Paths, as pieces of a row.
+#[derive(Clone, Copy)]
+pub(crate) struct Paths {
+    pub alloc: Global,
+    pub depth: usize,
+}
+
+impl Rule for Paths {
+    type Tree = PathPattern;
+
+    ghost Datum = { tree.PathPattern };
+
+    ghost view = { path_view };
+
+    ghost parser = { λ p. parse.path (parse.expr p.depth) };
+
+    ghost shrinks = { λ p. path_shrinks (expr_shrinks p.depth) };
+
+    fn read(&self, tokens: &mut Tokens<'_, '_>) -> Result<PathPattern, ParseError> {
+        path(self.alloc, tokens, self.depth)
+    }
+}

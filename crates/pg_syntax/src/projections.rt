@@ -1,0 +1,282 @@
+//! WITH and RETURN.
+
+ghost use Rattle.std.specs.Prelude.{◌≡◌, Some, map, option_map, string_bytes, is_some};
+ghost use Rattle.pg_lex.specs.View.{lexeme_view, tokens_view};
+ghost use Rattle.pg_meaning.specs.Parse as parse;
+ghost use Rattle.pg_meaning.specs.declared.lexemes.Keyword.TheVariants as k;
+ghost use Rattle.pg_meaning.specs.Tree as tree;
+ghost use Rattle.pg_syntax.specs.Gives.{Gives, GivesValue};
+ghost use Rattle.pg_syntax.specs.Pieces as pieces;
+ghost use Rattle.pg_syntax.specs.ShrinksLaws.{expr_shrinks};
+ghost use Rattle.pg_syntax.specs.ShrinksClauses.{item_shrinks, sort_item_shrinks};
+ghost use Rattle.pg_syntax_tree.specs.View.{name_view, expression_view, item_view, sort_item_view, projection_view, clause_view};
+
+use crate::clauses::expression_behind;
+use crate::cursor::{Tokens, start_of};
+use crate::error::ParseError;
+use crate::expression::expression;
+use crate::rules::{Rule, further, separated};
+use pg_lex::{Lexeme, Token};
+use pg_meaning::{Keyword, Sort, Symbol};
+use pg_syntax_tree::{Clause, Expression, Item, Name, Projection, SortItem};
+use std::alloc::Global;
+
+/// Where the last token ends that was taken between the two.
+fn finish_between(old: &[Token<'_>], new: &[Token<'_>]) -> usize
+    ensures { result ≡ parse.finish_between (tokens_view old.now) (tokens_view new.now) }
+{
+    let taken = old.len().saturating_sub(new.len());
+    match old.get(taken.saturating_sub(1)) {
+        Some(token) => token.finish,
+        None => 0,
+    }
+}
+
+/// The bytes between two places. Tokens of another text may cut a character, and then there are none.
+#[tactic(auto, unfolding(pg_meaning::specs::Parse::cut))]
+fn source_of(alloc: Global, text: &str, start: usize, finish: usize) -> Result<String, ParseError>
+    ensures { GivesValue string_bytes (parse.cut text.now start finish) result }
+{
+    if finish < start || text.len() < finish {
+        return Err(ParseError::BadSyntax);
+    }
+    let Ok(source) = str::from_utf8(&text.as_bytes()[start..finish]) else {
+        return Err(ParseError::BadSyntax);
+    };
+    Ok(String::from_str(alloc, source)?)
+}
+
+fn alias(alloc: Global, tokens: &mut Tokens<'_, '_>) -> Result<Option<Name>, ParseError>
+    ensures { Gives (option_map name_view) (parse.maybe (parse.sees_keyword k.As) parse.alias (tokens_view tokens.old.rest.now)) result tokens.new.rest.now }
+{
+    if !tokens.sees_keyword(Keyword::As) {
+        return Ok(None);
+    }
+    tokens.expect_keyword(Keyword::As)?;
+    Ok(Some(tokens.var(alloc)?))
+}
+
+#[tactic(auto, unfolding(pg_meaning::specs::Parse::return_item))]
+fn return_item(
+    alloc: Global,
+    text: &str,
+    tokens: &mut Tokens<'_, '_>,
+    depth: usize,
+) -> Result<Item, ParseError>
+    ensures { Gives item_view (parse.return_item text.now (parse.expr depth) (tokens_view tokens.old.rest.now)) result tokens.new.rest.now }
+{
+    let old = tokens.rest;
+    let value = expression(alloc, tokens, depth)?;
+    let start = start_of(old);
+    let source = source_of(alloc, text, start, finish_between(old, tokens.rest))?;
+    let alias = alias(alloc, tokens)?;
+    Ok(Item {
+        start,
+        source,
+        value,
+        alias,
+    })
+}
+
+/// Whether WITH may have it as an item.
+fn may_stand(item: &Item) -> bool
+    ensures { result ≡ parse.may_stand (expression_view item.now.value) (option_map name_view item.now.alias) }
+{
+    match (&item.value, &item.alias) {
+        (_, Some(_)) | (Expression::Variable(_), None) => true,
+        _ => false,
+    }
+}
+
+#[tactic(auto, unfolding(pg_meaning::specs::Parse::with_item))]
+fn with_item(
+    alloc: Global,
+    text: &str,
+    tokens: &mut Tokens<'_, '_>,
+    depth: usize,
+) -> Result<Item, ParseError>
+    ensures { Gives item_view (parse.with_item text.now (parse.expr depth) (tokens_view tokens.old.rest.now)) result tokens.new.rest.now }
+{
+    let item = return_item(alloc, text, tokens, depth)?;
+    if !may_stand(&item) {
+        return Err(ParseError::BadSyntax);
+    }
+    Ok(item)
+}
+
+/// Items of WITH, or of RETURN.
+#[derive(Clone, Copy)]
+struct Items<'t> {
+    alloc: Global,
+    text: &'t str,
+    depth: usize,
+    of_with: bool,
+}
+
+impl<'t> Rule for Items<'t> {
+    type Tree = Item;
+
+    ghost Datum = { tree.Item };
+
+    ghost view = { item_view };
+
+    ghost parser = { λ r. pieces.item r.of_with r.text.now (parse.expr r.depth) };
+
+    ghost shrinks = { λ r. item_shrinks r.of_with r.text.now (expr_shrinks r.depth) };
+
+    fn read(&self, tokens: &mut Tokens<'_, '_>) -> Result<Item, ParseError> {
+        if self.of_with {
+            return with_item(self.alloc, self.text, tokens, self.depth);
+        }
+        return_item(self.alloc, self.text, tokens, self.depth)
+    }
+}
+
+/// One or more; behind a star, any number, each behind a comma.
+fn item_row(
+    piece: &Items<'_>,
+    tokens: &mut Tokens<'_, '_>,
+    star: bool,
+) -> Result<Vec<Item>, ParseError>
+    ensures { Gives (λ v. map item_view v.items) (pieces.items star (pieces.item piece.now.of_with piece.now.text.now (parse.expr piece.now.depth)) (tokens_view tokens.old.rest.now)) result tokens.new.rest.now }
+{
+    if star {
+        return further(piece, tokens, Vec::new(piece.alloc));
+    }
+    separated(piece.alloc, piece, tokens)
+}
+
+fn direction_of(lexeme: &Lexeme<'_>) -> Option<Sort>
+    ensures { result ≡ parse.direction_of (lexeme_view lexeme.now) }
+{
+    match lexeme {
+        Lexeme::Keyword(Keyword::Asc, _) => Some(Sort::Asc),
+        Lexeme::Keyword(Keyword::Ascending, _) => Some(Sort::Ascending),
+        Lexeme::Keyword(Keyword::Desc, _) => Some(Sort::Desc),
+        Lexeme::Keyword(Keyword::Descending, _) => Some(Sort::Descending),
+        _ => None,
+    }
+}
+
+#[tactic(auto, unfolding(pg_meaning::specs::Parse::direction))]
+fn direction(tokens: &mut Tokens<'_, '_>) -> Option<Sort>
+    ensures { parse.maybe (parse.sees (λ l. is_some (parse.direction_of l))) parse.direction (tokens_view tokens.old.rest.now) ≡ Some (result, tokens_view tokens.new.rest.now) }
+{
+    let [token, rest @ ..] = tokens.rest else {
+        return None;
+    };
+    let found = direction_of(&token.lexeme)?;
+    tokens.rest = rest;
+    Some(found)
+}
+
+#[tactic(auto, unfolding(pg_meaning::specs::Parse::sort_item))]
+fn sort_item(
+    alloc: Global,
+    tokens: &mut Tokens<'_, '_>,
+    depth: usize,
+) -> Result<SortItem, ParseError>
+    ensures { Gives sort_item_view (parse.sort_item (parse.expr depth) (tokens_view tokens.old.rest.now)) result tokens.new.rest.now }
+{
+    let key = expression(alloc, tokens, depth)?;
+    let direction = direction(tokens);
+    Ok(SortItem { key, direction })
+}
+
+#[derive(Clone, Copy)]
+struct SortItems {
+    alloc: Global,
+    depth: usize,
+}
+
+impl Rule for SortItems {
+    type Tree = SortItem;
+
+    ghost Datum = { tree.SortItem };
+
+    ghost view = { sort_item_view };
+
+    ghost parser = { λ r. parse.sort_item (parse.expr r.depth) };
+
+    ghost shrinks = { λ r. sort_item_shrinks (expr_shrinks r.depth) };
+
+    fn read(&self, tokens: &mut Tokens<'_, '_>) -> Result<SortItem, ParseError> {
+        sort_item(self.alloc, tokens, self.depth)
+    }
+}
+
+fn ordering(
+    alloc: Global,
+    tokens: &mut Tokens<'_, '_>,
+    depth: usize,
+) -> Result<Vec<SortItem>, ParseError>
+    ensures { Gives (λ v. map sort_item_view v.items) (parse.ordering (parse.expr depth) (tokens_view tokens.old.rest.now)) result tokens.new.rest.now }
+{
+    if !tokens.sees_keyword(Keyword::Order) {
+        return Ok(Vec::new(alloc));
+    }
+    tokens.expect_keyword(Keyword::Order)?;
+    tokens.expect_keyword(Keyword::By)?;
+    separated(alloc, &SortItems { alloc, depth }, tokens)
+}
+
+#[tactic(auto, unfolding(pg_meaning::specs::Parse::projection, pg_meaning::specs::Parse::here))]
+fn projection(
+    alloc: Global,
+    text: &str,
+    tokens: &mut Tokens<'_, '_>,
+    depth: usize,
+    of_with: bool,
+) -> Result<Projection, ParseError>
+    ensures { Gives projection_view (parse.projection (parse.expr depth) (pieces.item of_with text.now (parse.expr depth)) (tokens_view tokens.old.rest.now)) result tokens.new.rest.now }
+{
+    let piece = Items {
+        alloc,
+        text,
+        depth,
+        of_with,
+    };
+    let distinct = tokens.eat_keyword(Keyword::Distinct);
+    let place = start_of(tokens.rest);
+    let has_star = tokens.eat(Symbol::Star);
+    let items = item_row(&piece, tokens, has_star)?;
+    let order = ordering(alloc, tokens, depth)?;
+    let skip = expression_behind(alloc, tokens, depth, Keyword::Skip)?;
+    let limit = expression_behind(alloc, tokens, depth, Keyword::Limit)?;
+    Ok(Projection {
+        distinct,
+        star: has_star.then_some(place),
+        items,
+        order,
+        skip,
+        limit,
+    })
+}
+
+#[tactic(auto, unfolding(pg_meaning::specs::Parse::with_clause))]
+pub(crate) fn with_clause(
+    alloc: Global,
+    text: &str,
+    tokens: &mut Tokens<'_, '_>,
+    depth: usize,
+) -> Result<Clause, ParseError>
+    ensures { Gives clause_view (parse.with_clause text.now (parse.expr depth) (tokens_view tokens.old.rest.now)) result tokens.new.rest.now }
+{
+    tokens.expect_keyword(Keyword::With)?;
+    let projection = projection(alloc, text, tokens, depth, true)?;
+    let condition = expression_behind(alloc, tokens, depth, Keyword::Where)?;
+    Ok(Clause::With(projection, condition))
+}
+
+#[tactic(auto, unfolding(pg_meaning::specs::Parse::return_clause))]
+pub(crate) fn return_clause(
+    alloc: Global,
+    text: &str,
+    tokens: &mut Tokens<'_, '_>,
+    depth: usize,
+) -> Result<Clause, ParseError>
+    ensures { Gives clause_view (parse.return_clause text.now (parse.expr depth) (tokens_view tokens.old.rest.now)) result tokens.new.rest.now }
+{
+    tokens.expect_keyword(Keyword::Return)?;
+    Ok(Clause::Return(projection(alloc, text, tokens, depth, false)?))
+}

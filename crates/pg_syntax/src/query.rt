@@ -1,0 +1,124 @@
+//! Queries.
+
+ghost use Rattle.std.specs.Prelude.{◌≡◌, ◌↔◌, true, Err, IsErrOf, length, map};
+ghost use Rattle.pg_lex.specs.View.{tokens_view};
+ghost use Rattle.pg_meaning.specs.Depth.{is_too_deep};
+ghost use Rattle.pg_meaning.specs.Parse as parse;
+ghost use Rattle.pg_syntax.specs.Gives.{Gives, GivesValue, Answers};
+ghost use Rattle.pg_syntax.specs.Pieces as pieces;
+ghost use Rattle.pg_syntax.specs.WholeParse.{whole_parse};
+ghost use Rattle.pg_syntax_tree.specs.View.{clause_view, query_view};
+
+use crate::clauses::{ReadingClauses, UpdatingClauses};
+use crate::cursor::Tokens;
+use crate::depth::is_too_deep;
+use crate::error::ParseError;
+use crate::projections::{return_clause, with_clause};
+use crate::rules::many;
+use pg_lex::Token;
+use pg_meaning::{Fault, Keyword, Symbol};
+use pg_syntax_tree::{Clause, Query};
+use std::alloc::Global;
+
+/// The clauses up to WITH, behind those that were found, and whether some of them write.
+fn part(
+    alloc: Global,
+    tokens: &mut Tokens<'_, '_>,
+    depth: usize,
+    found: Vec<Clause>,
+) -> Result<(Vec<Clause>, bool), ParseError>
+    ensures { Gives (λ r. (map clause_view r.0.items, r.1)) (pieces.part (parse.expr depth) (map clause_view found.items) (tokens_view tokens.old.rest.now)) result tokens.new.rest.now }
+{
+    let read = many(&ReadingClauses { alloc, depth }, tokens, found)?;
+    let before = read.len();
+    let clauses = many(&UpdatingClauses { alloc, depth }, tokens, read)?;
+    let updates = before < clauses.len();
+    Ok((clauses, updates))
+}
+
+/// The last clause, behind those that were found.
+fn last(
+    alloc: Global,
+    text: &str,
+    tokens: &mut Tokens<'_, '_>,
+    depth: usize,
+    mut found: Vec<Clause>,
+    updates: bool,
+) -> Result<Vec<Clause>, ParseError>
+    ensures { Gives (λ v. map clause_view v.items) (pieces.last text.now (parse.expr depth) (map clause_view found.items) updates (tokens_view tokens.old.rest.now)) result tokens.new.rest.now }
+{
+    if tokens.sees_keyword(Keyword::Return) {
+        found.push(return_clause(alloc, text, tokens, depth)?)?;
+        return Ok(found);
+    }
+    if !updates {
+        return Err(ParseError::BadSyntax);
+    }
+    Ok(found)
+}
+
+fn parts(
+    alloc: Global,
+    text: &str,
+    tokens: &mut Tokens<'_, '_>,
+    depth: usize,
+) -> Result<Vec<Clause>, ParseError>
+    ensures { Gives (λ v. map clause_view v.items) (parse.parts text.now (parse.expr depth) (length tokens.old.rest.now) (tokens_view tokens.old.rest.now)) result tokens.new.rest.now }
+{
+    let (mut found, mut updates) = part(alloc, tokens, depth, Vec::new(alloc))?;
+    while tokens.sees_keyword(Keyword::With) {
+        found.push(with_clause(alloc, text, tokens, depth)?)?;
+        let next = part(alloc, tokens, depth, found)?;
+        found = next.0;
+        updates = next.1;
+    }
+    last(alloc, text, tokens, depth, found, updates)
+}
+
+#[tactic(auto, unfolding(pg_meaning::specs::Parse::query))]
+fn query(
+    alloc: Global,
+    text: &str,
+    tokens: &mut Tokens<'_, '_>,
+    depth: usize,
+) -> Result<Query, ParseError>
+    ensures { Gives query_view (parse.query text.now (parse.expr depth) (length tokens.old.rest.now) (tokens_view tokens.old.rest.now)) result tokens.new.rest.now }
+{
+    let clauses = parts(alloc, text, tokens, depth)?;
+    let semicolon = tokens.eat(Symbol::Semicolon);
+    match tokens.take() {
+        Some(_) => Err(ParseError::BadSyntax),
+        None => Ok(Query { clauses, semicolon }),
+    }
+}
+
+/// The tree of all the tokens.
+#[tactic(auto, unfolding(pg_meaning::specs::Parse::query_of))]
+fn read(alloc: Global, text: &str, tokens: &[Token<'_>]) -> Result<Query, ParseError>
+    ensures { GivesValue query_view (parse.query_of text.now (tokens_view tokens.now)) result }
+{
+    let mut left = Tokens { rest: tokens };
+    query(alloc, text, &mut left, tokens.len())
+}
+
+/// The tree of the tokens, unless they nest too deep.
+fn answer(alloc: Global, text: &str, tokens: &[Token<'_>]) -> Result<Query, Fault>
+    ensures answers { Answers query_view (whole_parse text.now (tokens_view tokens.now)) result }
+    ensures deep { is_too_deep (tokens_view tokens.now) ≡ true → result ≡ Err Fault.TooDeep }
+{
+    if is_too_deep(tokens) {
+        return Err(Fault::TooDeep);
+    }
+    Ok(read(alloc, text, tokens)?)
+}
+
+/// The tree of a text's tokens. The tokens are tested for their depth first, so that no recursion
+/// goes deeper than they nest.
+pub fn parse(alloc: Global, text: &str, tokens: &[Token<'_>]) -> Result<Query, Fault>
+    // It is refused as too deep exactly where the tokens nest too deep.
+    ensures too_deep { IsErrOf result Fault.TooDeep ↔ (is_too_deep (tokens_view tokens.now) ≡ true) }
+    // The answer of a function.
+    ensures function { Answers query_view (whole_parse text.now (tokens_view tokens.now)) result }
+{
+    answer(alloc, text, tokens)
+}

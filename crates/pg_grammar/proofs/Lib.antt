@@ -12,6 +12,7 @@ pub mod Expressions
 pub mod Fits
 pub mod Generic
 pub mod Items
+pub mod Joined
 pub mod Labels
 pub mod Maps
 pub mod Marks

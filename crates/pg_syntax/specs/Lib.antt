@@ -7,4 +7,3 @@ pub mod ShrinksClauses
 pub mod ShrinksLaws
 pub mod ShrinksPatterns
 pub mod Turns
-pub mod WholeParse

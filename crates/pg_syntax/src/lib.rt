@@ -18,4 +18,4 @@ mod query;
 mod rules;
 mod whole;
 
-pub use query::parse;
+pub use query::{law_one_reading, parse};

@@ -1,12 +1,16 @@
 //! Queries.
 
-ghost use Rattle.std.specs.Prelude.{◌≡◌, ◌↔◌, true, Err, IsErrOf, length, map};
+ghost use Rattle.std.specs.Prelude.{◌≡◌, ◌≢◌, ◌↔◌, ◌⊎◌, true, Some, Ok, Err, IfOk, IfErr, IsErrOf, length, map};
 ghost use Rattle.pg_lex.specs.View.{tokens_view};
 ghost use Rattle.pg_meaning.specs.Depth.{is_too_deep};
+ghost use Rattle.pg_meaning.specs.Grammar.{Reads};
 ghost use Rattle.pg_meaning.specs.Parse as parse;
+ghost use Rattle.pg_meaning.specs.Parse.{OneReading};
+ghost use Rattle.pg_meaning.specs.Texts.{read_tokens};
+ghost use Rattle.pg_meaning.specs.Tokens.{Lexes};
+ghost use Rattle.pg_meaning.specs.Tree as tree;
 ghost use Rattle.pg_syntax.specs.Gives.{Gives, GivesValue, Answers};
 ghost use Rattle.pg_syntax.specs.Pieces as pieces;
-ghost use Rattle.pg_syntax.specs.WholeParse.{whole_parse};
 ghost use Rattle.pg_syntax_tree.specs.View.{clause_view, query_view};
 
 use crate::clauses::{ReadingClauses, UpdatingClauses};
@@ -103,7 +107,7 @@ fn read(alloc: Global, text: &str, tokens: &[Token<'_>]) -> Result<Query, ParseE
 
 /// The tree of the tokens, unless they nest too deep.
 fn answer(alloc: Global, text: &str, tokens: &[Token<'_>]) -> Result<Query, Fault>
-    ensures answers { Answers query_view (whole_parse text.now (tokens_view tokens.now)) result }
+    ensures answers { Answers query_view (read_tokens text.now (Some (tokens_view tokens.now))) result }
     ensures deep { is_too_deep (tokens_view tokens.now) ≡ true → result ≡ Err Fault.TooDeep }
 {
     if is_too_deep(tokens) {
@@ -117,8 +121,21 @@ fn answer(alloc: Global, text: &str, tokens: &[Token<'_>]) -> Result<Query, Faul
 pub fn parse(alloc: Global, text: &str, tokens: &[Token<'_>]) -> Result<Query, Fault>
     // It is refused as too deep exactly where the tokens nest too deep.
     ensures too_deep { IsErrOf result Fault.TooDeep ↔ (is_too_deep (tokens_view tokens.now) ≡ true) }
-    // The answer of a function.
-    ensures function { Answers query_view (whole_parse text.now (tokens_view tokens.now)) result }
+    // What is read of the tokens of the text is a tree that has these tokens.
+    ensures found { IfOk result (λ q. Lexes text.now (tokens_view tokens.now) → Reads text.now (tokens_view tokens.now) (query_view q)) }
+    // It is the only one.
+    ensures only { (q : tree.Query) → Lexes text.now (tokens_view tokens.now) → Reads text.now (tokens_view tokens.now) q → IfOk result (λ r. query_view r ≡ q) }
+    // Where the tokens of the text have a tree, they are no bad syntax.
+    ensures none { IsErrOf result Fault.BadSyntax → (q : tree.Query) → Lexes text.now (tokens_view tokens.now) → Reads text.now (tokens_view tokens.now) q → ⊥ }
+    ensures faults { IfErr result (λ e. (e ≡ Fault.TooDeep) ⊎ ((e ≡ Fault.BadSyntax) ⊎ (e ≡ Fault.OutOfMemory))) }
+    // The same, as the answer of a function.
+    ensures ok { IfOk result (λ q. read_tokens text.now (Some (tokens_view tokens.now)) ≡ Ok (query_view q)) }
+    ensures err { IfErr result (λ e. e ≢ Fault.OutOfMemory → read_tokens text.now (Some (tokens_view tokens.now)) ≡ Err e) }
 {
     answer(alloc, text, tokens)
 }
+
+/// The tokens of a text are those of one tree at most.
+pub fn law_one_reading()
+    ensures { OneReading }
+{}

@@ -1,7 +1,9 @@
 //! What a query answers.
-ghost use Rattle.std.specs.Prelude.{◌≡◌, ◌≢◌, ◌≤◌, ◌^◌, Bool, IfOk, IfErr, OnErr};
+ghost use Rattle.std.specs.Prelude.{◌≡◌, ◌≢◌, ◌≤◌, ◌^◌, ◌||◌, not, Bool, IfOk, IfErr, OnErr};
 ghost use Rattle.pg_graph.specs.Content.{Keeps};
 ghost use Rattle.pg_meaning.specs.declared.fault.Fault.TheVariants.{OutOfMemory};
+ghost use Rattle.pg_plan.specs.Plans.{plan_query};
+ghost use Rattle.pg_plan.specs.Updates.{updates};
 ghost use Rattle.pg_store.specs.Stores.{graph_of_store, IsFit};
 ghost use Rattle.pg_tenant.specs.Answers.{answered, refused};
 ghost use Rattle.pg_tenant.specs.Outcomes.{plan_outcome};
@@ -21,6 +23,13 @@ pub struct Quota {
     pub max_elements: u64,
 }
 
+/// Whether the token's right lets the query run.
+fn is_permitted(may_write: bool, plan: &Plan) -> bool
+    ensures { result ≡ (may_write || not (updates (plan_query plan.now))) }
+{
+    may_write || !plan.writes()
+}
+
 /// The reply to the query of a plan. What it changes is kept only once the reply's bytes are made.
 pub fn answer_plan<T: Tables>(
     alloc: Global,
@@ -38,7 +47,7 @@ pub fn answer_plan<T: Tables>(
     ensures fit { IsFit T.seen store.new shared.new }
     ensures keeps { Keeps T.seen store.old.tables shared.old store.new.tables shared.new }
 {
-    if !may_write && plan.writes() {
+    if !is_permitted(may_write, plan) {
         return Err(Fault::ReadOnly);
     }
     if plan.names_parameter() {

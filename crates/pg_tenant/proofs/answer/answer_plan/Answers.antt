@@ -13,7 +13,6 @@ use Rattle.pg_tenant.specs.Answers.{answered, refused}
 use Rattle.pg_tenant.specs.Outcomes.{plan_outcome}
 use Rattle.pg_tenant.proofs.OutcomeLemmas.{answered_by}
 use Rattle.pg_tenant.proofs.answer.answer_plan.Given.{Over}
-use Rattle.pg_tenant.proofs.answer.answer_plan.Goals.{else-not-may_write-via-then-not-may_write+else-writes, else-not-may_write-via-else-not-may_write}
 use Rattle.pg_tenant.proofs.answer.answer_plan.Goals as goal
 
 module _ (g : Over) (c : goal.After-answer_statement g) where
@@ -21,10 +20,7 @@ module _ (g : Over) (c : goal.After-answer_statement g) where
   graph = graph_of_store g.T.Tables.seen c.args.store.now c.args.shared.now
 
   permitted : (c.args.may_write || not (updates (plan_query c.args.plan.now))) ≡ true
-  permitted = elim c.else-not-may_write.branch as (λ _. (c.args.may_write || not (updates (plan_query c.args.plan.now))) ≡ true) [
-    | else-not-may_write-via-then-not-may_write+else-writes w ↦ grind (arith, w.writes.ensures, w.if-writes)
-    | else-not-may_write-via-else-not-may_write w ↦ grind (arith, w.if-not-may_write)
-  ]
+  permitted = grind (arith, c.is_permitted.ensures, c.if-not-is_permitted)
 
   same : plan_outcome c.args.may_write c.args.quota.max_steps c.args.quota.max_elements graph c.args.plan.now ≡ one_node_answer (statement_view c.in-Some.statement) no_entries graph c.args.quota.max_steps c.args.quota.max_elements
   same = answered_by c.args.may_write c.args.quota.max_steps c.args.quota.max_elements graph (plan_query c.args.plan.now) permitted (grind (arith, c.names_parameter.ensures, c.if-names_parameter)) (statement_view c.in-Some.statement) (sym c.in-Some.ensures)

@@ -80,8 +80,8 @@ const ANSWERED: [(&str, &str); 6] = [
         "{\"code\":0,\"columns\":[\"found\"],\"rows\":[[true]],\"steps\":3}",
     ),
     (
-        "CREATE (\u00fcber:P) RETURN \u00fcber.x AS \u00e4",
-        "{\"code\":0,\"columns\":[\"\u00e4\"],\"rows\":[[null]],\"steps\":2}",
+        "CREATE (über:P) RETURN über.x AS ä",
+        "{\"code\":0,\"columns\":[\"ä\"],\"rows\":[[null]],\"steps\":2}",
     ),
 ];
 

@@ -1,0 +1,4 @@
+pub mod Calls
+pub mod First
+pub mod Names
+pub mod Roles

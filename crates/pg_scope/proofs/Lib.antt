@@ -1,3 +1,4 @@
 pub mod FirstLemmas
 pub mod NameLemmas
+pub mod PartLemmas
 pub mod Views

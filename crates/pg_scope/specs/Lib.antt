@@ -1,4 +1,6 @@
 pub mod Calls
 pub mod First
+pub mod Modes
 pub mod Names
 pub mod Roles
+pub mod Used

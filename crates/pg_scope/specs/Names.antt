@@ -9,5 +9,5 @@ abbrev pub names_in : BTreeSet (Bor (List ℕ)) → Names
 names_in s = map (λ k. k.now) s.keys
 
 -- the same names stand in both, in any order
-abbrev pub HasSame : Names → Names → Type 0
-HasSame ns ms = (name : List ℕ) → is_among ns name ≡ is_among ms name
+pub record HasSame (ns ms : Names) : Type 0 where
+  pub is : (name : List ℕ) → is_among ns name ≡ is_among ms name

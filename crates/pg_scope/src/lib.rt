@@ -4,6 +4,12 @@
 mod calls;
 mod expressions;
 mod found;
+mod modes;
 mod names;
+mod paths;
+mod patterns;
+mod properties;
+mod relationships;
+mod used;
 
 pub use calls::{Function, Summary, function_named, summary_named};

@@ -1,4 +1,5 @@
 pub mod FirstLemmas
 pub mod NameLemmas
 pub mod PartLemmas
+pub mod TreeLemmas
 pub mod Views

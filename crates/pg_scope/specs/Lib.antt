@@ -3,4 +3,5 @@ pub mod First
 pub mod Modes
 pub mod Names
 pub mod Roles
+pub mod Trees
 pub mod Used

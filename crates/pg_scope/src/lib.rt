@@ -10,6 +10,8 @@ mod paths;
 mod patterns;
 mod properties;
 mod relationships;
+mod trees;
 mod used;
 
 pub use calls::{Function, Summary, function_named, summary_named};
+pub use trees::same_expression;

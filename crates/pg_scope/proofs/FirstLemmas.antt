@@ -1,6 +1,6 @@
 -- The first fault of two lists.
-use Rattle.std.proofs.Common.{◌≡◌, ℕ, ◌+◌, ◌<◌, length, get_or, drop, subst, Bool, true, false, List, [], ◌∷◌, ◌++◌, Option, Some, None, Result, Ok, Err, refl, sym, ap, ◌∙◌}
-use Rattle.std.proofs.lemmas.List.{drop_more}
+use Rattle.std.proofs.Common.{◌≡◌, ℕ, ◌+◌, ◌<◌, ◌≤◌, length, get_or, drop, subst, Bool, true, false, List, [], ◌∷◌, ◌++◌, Option, Some, None, Result, Ok, Err, refl, sym, ap, ◌∙◌}
+use Rattle.std.proofs.lemmas.List.{drop_all, drop_more}
 use Rattle.std.specs.Prelude.{IfOk}
 use Rattle.std.specs.declared.alloc.AllocError.{AllocError}
 use Rattle.pg_meaning.specs.StaticFaults.{Found, goes_before, least}
@@ -35,6 +35,9 @@ then_in_turn gs (Err f) e h = tt
 
 pub item_here : {X : Type 0} {xs items : List X} {i : ℕ} {x : X} → i < length xs → x ≡ get_or xs i x → xs ≡ items → drop i items ≡ x ∷ drop (i + 1) items
 item_here {X} {xs} {items} {i} {x} within is same = subst (λ ys. drop i ys ≡ x ∷ drop (i + 1) ys) same (drop_more xs i x within ∙ ap (λ y. y ∷ drop (i + 1) xs) (sym is))
+
+pub items_end : {X : Type 0} {xs items : List X} {i : ℕ} → length xs ≤ i → xs ≡ items → drop i items ≡ []
+items_end {X} {xs} {items} {i} past is = subst (λ ys. drop i ys ≡ []) is (drop_all i xs past)
 
 -- a walk over a list comes past one element, behind which other faults may count
 pub walk_past : {X : Type 0} (F G : List X → List Found) {here : List Found} {xs items : List X} {i : ℕ} {x : X} → ((ys : List X) → F (x ∷ ys) ≡ here ++ G ys)

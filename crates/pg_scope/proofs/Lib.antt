@@ -1,5 +1,7 @@
 pub mod FirstLemmas
 pub mod NameLemmas
 pub mod PartLemmas
+pub mod SameLemmas
+pub mod ScopeLemmas
 pub mod TreeLemmas
 pub mod Views

@@ -1,4 +1,5 @@
 pub mod Calls
+pub mod Columns
 pub mod First
 pub mod Modes
 pub mod Names

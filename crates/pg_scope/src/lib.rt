@@ -2,14 +2,17 @@
 #![tactic(auto)]
 
 mod calls;
+mod columns;
 mod expressions;
 mod found;
+mod items;
 mod modes;
 mod names;
 mod paths;
 mod patterns;
 mod properties;
 mod relationships;
+mod scopes;
 mod trees;
 mod used;
 

@@ -109,4 +109,4 @@ items_same column ns ms s before after t [] = refl
 items_same column ns ms s before after t (x ∷ xs) =
     let name = (column x).name in
     joined (joined (ap (λ b. found_if b x.start DuplicateColumn) (t.is name)) (expression_same ns ms s whole_item x.value))
-      (items_same column ns ms s (name ∷ before) (name ∷ after) (record { is = λ n. ap (λ b. bytes_eq n name || b) (t.is n) }) xs)
+    (items_same column ns ms s (name ∷ before) (name ∷ after) (record { is = λ n. ap (λ b. bytes_eq n name || b) (t.is n) }) xs)

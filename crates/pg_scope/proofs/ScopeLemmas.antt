@@ -32,9 +32,11 @@ among_added ns x n = by_case (is_among ns x) refl
     or_comm true false = refl
     or_comm false true = refl
     or_comm false false = refl
+
     by_equal : (b : Bool) → bytes_eq n x ≡ b → is_among ns x ≡ true → is_among ns n ≡ (b || is_among ns n)
     by_equal true e h = ap (is_among ns) ((bytes_eq-Decides n x).0 e) ∙ h
     by_equal false e h = refl
+
     by_case : (b : Bool) → is_among ns x ≡ b → is_among (cond b ns (ns ++ x ∷ [])) n ≡ (bytes_eq n x || is_among ns n)
     by_case true e = by_equal (bytes_eq n x) refl e
     by_case false e = among_both ns (x ∷ []) n ∙ or_comm (is_among ns n) (bytes_eq n x)
@@ -66,7 +68,7 @@ hops_same : (hs : List (RelationshipPattern × NodePattern)) (ns ms : Names) →
 hops_same [] ns ms s = s
 hops_same (h ∷ hs) ns ms s =
     hops_same hs (add_if_named (node_name h.1) (add_if_named (relationship_name h.0) ns)) (add_if_named (node_name h.1) (add_if_named (relationship_name h.0) ms))
-      (name_same (node_name h.1) (add_if_named (relationship_name h.0) ns) (add_if_named (relationship_name h.0) ms) (name_same (relationship_name h.0) ns ms s))
+    (name_same (node_name h.1) (add_if_named (relationship_name h.0) ns) (add_if_named (relationship_name h.0) ms) (name_same (relationship_name h.0) ns ms s))
 
 path_names : PathPattern → Names → Names
 path_names p ns = add_hop_names p.hops (add_if_named (node_name p.first) (add_if_named (text_of p.variable) ns))
@@ -75,7 +77,7 @@ path_same : (p : PathPattern) (ns ms : Names) → HasSame ns ms → HasSame (pat
 unfolding path_names
 path_same p ns ms s =
     hops_same p.hops (add_if_named (node_name p.first) (add_if_named (text_of p.variable) ns)) (add_if_named (node_name p.first) (add_if_named (text_of p.variable) ms))
-      (name_same (node_name p.first) (add_if_named (text_of p.variable) ns) (add_if_named (text_of p.variable) ms) (name_same (text_of p.variable) ns ms s))
+    (name_same (node_name p.first) (add_if_named (text_of p.variable) ns) (add_if_named (text_of p.variable) ms) (name_same (text_of p.variable) ns ms s))
 
 all_paths_same : (ps : List PathPattern) (ns ms : Names) → HasSame ns ms → HasSame (add_path_names ps ns) (add_path_names ps ms)
 unfolding path_names
@@ -101,9 +103,9 @@ or_turned false false c = refl
 -- a name more on the left
 pub more_left : (rest : Names) {new old done : Names} {key text : List ℕ} → HasSame new (key ∷ old) → key ≡ text → HasSame (old ++ rest) done → HasSame (new ++ rest) (text ∷ done)
 more_left rest {new} {old} {done} {key} {text} more is same = record {
-    is = λ n. among_both new rest n ∙ ap (λ b. b || is_among rest n) (more.is n) ∙ ap (λ k. (bytes_eq n k || is_among old n) || is_among rest n) is
-      ∙ or_left (bytes_eq n text) (is_among old n) (is_among rest n) ∙ ap (λ b. bytes_eq n text || b) (sym (among_both old rest n) ∙ same.is n)
-  }
+  is = λ n. among_both new rest n ∙ ap (λ b. b || is_among rest n) (more.is n) ∙ ap (λ k. (bytes_eq n k || is_among old n) || is_among rest n) is
+      ∙ or_left (bytes_eq n text) (is_among old n) (is_among rest n) ∙ ap (λ b. bytes_eq n text || b) (sym (among_both old rest n) ∙ same.is n);
+}
   where
     or_left : (a b c : Bool) → ((a || b) || c) ≡ (a || (b || c))
     or_left true b c = refl
@@ -112,16 +114,16 @@ more_left rest {new} {old} {done} {key} {text} more is same = record {
 -- a name goes from the right to the left
 pub moves_left : (rest : Names) {new old all : Names} {key text : List ℕ} → HasSame new (key ∷ old) → key ≡ text → HasSame (old ++ (text ∷ rest)) all → HasSame (new ++ rest) all
 moves_left rest {new} {old} {all} {key} {text} more is same = record {
-    is = λ n. among_both new rest n ∙ ap (λ b. b || is_among rest n) (more.is n) ∙ ap (λ k. (bytes_eq n k || is_among old n) || is_among rest n) is
-      ∙ or_turned (bytes_eq n text) (is_among old n) (is_among rest n) ∙ sym (among_both old (text ∷ rest) n) ∙ same.is n
-  }
+  is = λ n. among_both new rest n ∙ ap (λ b. b || is_among rest n) (more.is n) ∙ ap (λ k. (bytes_eq n k || is_among old n) || is_among rest n) is
+      ∙ or_turned (bytes_eq n text) (is_among old n) (is_among rest n) ∙ sym (among_both old (text ∷ rest) n) ∙ same.is n;
+}
 
 -- a name goes from the left to the right
 pub moves_right : (rest : Names) {new old all : Names} {key text : List ℕ} → HasSame new (key ∷ old) → key ≡ text → HasSame ((text ∷ rest) ++ old) all → HasSame (rest ++ new) all
 moves_right rest {new} {old} {all} {key} {text} more is same = record {
-    is = λ n. among_both rest new n ∙ ap (λ b. is_among rest n || b) (more.is n) ∙ ap (λ k. is_among rest n || (bytes_eq n k || is_among old n)) is
-      ∙ or_right (is_among rest n) (bytes_eq n text) (is_among old n) ∙ sym (ap (λ b. bytes_eq n text || b) (among_both rest old n)) ∙ same.is n
-  }
+  is = λ n. among_both rest new n ∙ ap (λ b. is_among rest n || b) (more.is n) ∙ ap (λ k. is_among rest n || (bytes_eq n k || is_among old n)) is
+      ∙ or_right (is_among rest n) (bytes_eq n text) (is_among old n) ∙ sym (ap (λ b. bytes_eq n text || b) (among_both rest old n)) ∙ same.is n;
+}
   where
     or_right : (a b c : Bool) → (a || (b || c)) ≡ (b || (a || c))
     or_right true true c = refl

@@ -1,5 +1,5 @@
 -- How a clause names its columns, and what stands behind them.
-use Rattle.std.specs.Prelude.{Bool, true, false, ◌||◌, List, [], ◌++◌, flat_map, Option, is_some}
+use Rattle.std.specs.Prelude.{Bool, true, false, ◌||◌, ◌&&◌, List, [], ◌++◌, flat_map, Option, is_some, is_none}
 use Rattle.std.specs.List.{list_any}
 use Rattle.pg_meaning.specs.Aggregates.{aggregate_of}
 use Rattle.pg_meaning.specs.Names.{Names}
@@ -22,7 +22,7 @@ starred false scope = []
 
 -- what stands behind the items sees the columns alone
 abbrev pub narrow : Projection → Bool
-narrow p = p.distinct || list_any (λ x. is_some (aggregate_of x.value)) p.items
+narrow p = is_none p.star && (p.distinct || list_any (λ x. is_some (aggregate_of x.value)) p.items)
 
 -- a sort that is no item's expression
 abbrev pub sorts : List Item → Names → SortItem → List Found

@@ -8,10 +8,10 @@ ghost use Rattle.pg_scope.specs.First.{IsFirst};
 ghost use Rattle.pg_scope.specs.Names.{names_in, HasSame};
 ghost use Rattle.pg_syntax_tree.specs.View.{item_view};
 
-use crate::columns::{column_name, Naming};
-use crate::expressions::{fault_in_expression, Role};
-use crate::found::{noted, Found};
-use crate::names::{add, is_among, Names};
+use crate::columns::{Naming, column_name};
+use crate::expressions::{Role, fault_in_expression};
+use crate::found::{Found, noted};
+use crate::names::{Names, add, is_among};
 use pg_meaning::Fault;
 use pg_syntax_tree::Item;
 use std::alloc::{AllocError, Global};

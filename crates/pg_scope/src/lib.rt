@@ -2,6 +2,7 @@
 #![tactic(auto)]
 
 mod calls;
+mod clauses;
 mod columns;
 mod expressions;
 mod found;
@@ -10,6 +11,7 @@ mod modes;
 mod names;
 mod paths;
 mod patterns;
+mod projections;
 mod properties;
 mod relationships;
 mod scopes;

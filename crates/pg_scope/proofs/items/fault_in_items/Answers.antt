@@ -36,7 +36,7 @@ loop-item-preserved c =
       more_left (starred c.args.star (names_in c.args.scope.now)) c.in_ok-again.ensures.names is same,
       moves_left (column_names (map column (map item_view (drop (i + 1) c.args.items.now.items)))) c.in_ok-again.ensures.names is (subst (λ ys. HasSame (names_in c.loop-item.columns ++ column_names (map column (map item_view ys))) all) here names),
       rest ∙ walk_past (λ ys. item_faults column (names_in c.args.scope.now) done (map item_view ys)) (λ ys. item_faults column (names_in c.args.scope.now) (name ∷ done) (map item_view ys)) (λ ys. refl)
-        c.loop-item-test.true c.item-item.is c.deref-item-items.ensures.value (in_turn noted c.fault_in_expression-first.ensures),
+          c.loop-item-test.true c.item-item.is c.deref-item-items.ensures.value (in_turn noted c.fault_in_expression-first.ensures),
     )
 
 pub returns : goal.returns

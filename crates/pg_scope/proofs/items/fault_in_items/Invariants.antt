@@ -11,4 +11,4 @@ abbrev pub invariant-loop-item : goal.invariant-loop-item
 invariant-loop-item l = (done : Names) × HasSame (names_in l.columns ++ starred l.star (names_in l.scope)) done
     × HasSame (names_in l.columns ++ column_names (map (column_of l.naming) (map item_view (drop l.item-index l.items.items)))) (column_names (map (column_of l.naming) (map item_view l.items.items)))
     × (least l.fn.first (item_faults (column_of l.naming) (names_in l.scope) (starred l.star (names_in l.scope)) (map item_view l.items.items))
-      ≡ least l.first (item_faults (column_of l.naming) (names_in l.scope) done (map item_view (drop l.item-index l.items.items))))
+    ≡ least l.first (item_faults (column_of l.naming) (names_in l.scope) done (map item_view (drop l.item-index l.items.items))))

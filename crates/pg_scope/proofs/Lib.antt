@@ -4,5 +4,6 @@ pub mod PartLemmas
 pub mod ProjectionLemmas
 pub mod SameLemmas
 pub mod ScopeLemmas
+pub mod StepLemmas
 pub mod TreeLemmas
 pub mod Views

@@ -24,7 +24,7 @@ among_both (x ∷ ns) ms n = ap (λ b. bytes_eq n x || b) (among_both ns ms n) �
     or_assoc false b c = refl
 
 -- a name is there, or it is put at the end
-among_added : (ns : Names) (x n : List ℕ) → is_among (add_name ns x) n ≡ (bytes_eq n x || is_among ns n)
+pub among_added : (ns : Names) (x n : List ℕ) → is_among (add_name ns x) n ≡ (bytes_eq n x || is_among ns n)
 among_added ns x n = by_case (is_among ns x) refl
   where
     or_comm : (a b : Bool) → (a || (b || false)) ≡ (b || a)

@@ -4,5 +4,6 @@ pub mod First
 pub mod Modes
 pub mod Names
 pub mod Roles
+pub mod Steps
 pub mod Trees
 pub mod Used

@@ -35,7 +35,7 @@ fn fault_in_set<'a>(scope: &Names<'a>, item: &'a SetItem, first: Option<Found>) 
     }
 }
 
-fn fault_in_sets<'a>(
+pub(crate) fn fault_in_sets<'a>(
     scope: &Names<'a>,
     items: &'a Vec<SetItem>,
     first: Option<Found>,
@@ -49,7 +49,7 @@ fn fault_in_sets<'a>(
     first
 }
 
-fn fault_in_ons<'a>(scope: &Names<'a>, ons: &'a Vec<On>, first: Option<Found>) -> Option<Found>
+pub(crate) fn fault_in_ons<'a>(scope: &Names<'a>, ons: &'a Vec<On>, first: Option<Found>) -> Option<Found>
     ensures { IsFirst first (flat_map (λ o. flat_map (spec.set_faults (names_in scope.now)) o.1) (map on_view ons.now.items)) result }
 {
     let mut first = first;
@@ -74,7 +74,7 @@ fn fault_in_remove<'a>(
     }
 }
 
-fn fault_in_removes<'a>(
+pub(crate) fn fault_in_removes<'a>(
     scope: &Names<'a>,
     items: &'a Vec<RemoveItem>,
     first: Option<Found>,
@@ -88,7 +88,7 @@ fn fault_in_removes<'a>(
     first
 }
 
-fn fault_in_each<'a>(
+pub(crate) fn fault_in_each<'a>(
     scope: &Names<'a>,
     items: &'a Vec<Expression>,
     first: Option<Found>,

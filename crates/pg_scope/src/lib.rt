@@ -15,6 +15,7 @@ mod projections;
 mod properties;
 mod relationships;
 mod scopes;
+mod steps;
 mod trees;
 mod used;
 

@@ -244,3 +244,43 @@ module _ (naming : Naming) (scope : Names) (p : Projection) where
       ∙ ap (λ fs. whole (item_faults (column_of naming) scope (column_names (star_columns scope p.star)) p.items) fs (faults_if_any ns condition)) (sorts_same p.items ns visible s p.order ∙ sorts_are p.order)
       ∙ ap (λ fs. whole (item_faults (column_of naming) scope (column_names (star_columns scope p.star)) p.items) (flat_map (sort_faults columns visible) p.order) fs) (if_any_same ns visible s condition) in
       subst (λ fs. IsFirst first fs last) moved given
+
+-- ---- the same names bring the same faults
+
+module _ (naming : Naming) (ns ms : Names) (s : HasSame ns ms) (p : Projection) where
+  starred_same : (b : Bool) (n : List ℕ) → is_among (starred b ns) n ≡ is_among (starred b ms) n
+  starred_same true n = s.is n
+  starred_same false n = refl
+
+  columns_same : (n : List ℕ) → is_among (column_names (projection_columns (column_of naming) ns p)) n ≡ is_among (column_names (projection_columns (column_of naming) ms p)) n
+  columns_same n = all_names naming ns p n ∙ ap (λ b. b || is_among (own_names naming ns p) n) (starred_same (is_some p.star) n) ∙ sym (all_names naming ms p n)
+
+  pub names_same : HasSame (column_names (projection_columns (column_of naming) ns p)) (column_names (projection_columns (column_of naming) ms p))
+  names_same = record { is = columns_same }
+
+  visible_same : HasSame (visible naming ns p) (visible naming ms p)
+  visible_same =
+      let own = p.distinct || list_any (λ x. is_some (aggregate_of x.value)) p.items in
+      let here = chosen naming ns p own (ap (λ b. p.distinct || b) (aggregates naming ns p)) in
+      let there = chosen naming ms p own (ap (λ b. p.distinct || b) (aggregates naming ms p)) in
+      record { is = λ n. ap (λ ls. is_among ls n) here ∙ either own n ∙ ap (λ ls. is_among ls n) (sym there) }
+    where
+      either : (b : Bool) (n : List ℕ)
+          → is_among (if b then column_names (projection_columns (column_of naming) ns p) else (column_names (projection_columns (column_of naming) ns p) ++ ns)) n
+          ≡ is_among (if b then column_names (projection_columns (column_of naming) ms p) else (column_names (projection_columns (column_of naming) ms p) ++ ms)) n
+      either true n = columns_same n
+      either false n =
+          among_both (column_names (projection_columns (column_of naming) ns p)) ns n ∙ ap (λ b. b || is_among ns n) (columns_same n) ∙ ap (λ b. is_among (column_names (projection_columns (column_of naming) ms p)) n || b) (s.is n)
+          ∙ sym (among_both (column_names (projection_columns (column_of naming) ms p)) ms n)
+
+  pub projection_same : (condition : Option Expression) → projection_faults (column_of naming) ns p condition ≡ projection_faults (column_of naming) ms p condition
+  projection_same condition =
+      let whole : List Found → List Found → List Found → List Found = λ front order rest. front ++ order ++ faults_if_any [] p.skip ++ faults_if_any [] p.limit ++ rest in
+      let names : Names → Names = λ ls. column_names (star_columns ls p.star) in
+      let before : HasSame (names ns) (names ms) = record { is = λ n. (star_names ns p.star).is n ∙ starred_same (is_some p.star) n ∙ sym ((star_names ms p.star).is n) } in
+      let sorted : List SortItem → List Found = λ xs. flat_map (sort_faults (projection_columns (column_of naming) ns p) (visible naming ns p)) xs in
+      ap (λ fs. whole fs (sorted p.order) (faults_if_any (visible naming ns p) condition)) (items_same (column_of naming) ns ms s (names ns) (names ms) before p.items)
+      ∙ ap (λ fs. whole (item_faults (column_of naming) ms (names ms) p.items) fs (faults_if_any (visible naming ns p) condition))
+      (sym (sorts_are naming ns p p.order) ∙ sorts_same p.items (visible naming ns p) (visible naming ms p) visible_same p.order ∙ sorts_are naming ms p p.order)
+      ∙ ap (λ fs. whole (item_faults (column_of naming) ms (names ms) p.items) (flat_map (sort_faults (projection_columns (column_of naming) ms p) (visible naming ms p)) p.order) fs)
+      (if_any_same (visible naming ns p) (visible naming ms p) visible_same condition)

@@ -1,5 +1,6 @@
 -- The roles of expressions, and the parts of a tree whose expressions are seen as data.
 use Rattle.std.specs.Prelude.{Option, Some, None, Box}
+use Rattle.std.specs.Borrow.{Bor}
 use Rattle.std.specs.declared.alloc.Global.{Global}
 use Rattle.pg_meaning.specs.StaticFaults as faults
 use Rattle.pg_meaning.specs.Tree as tree
@@ -34,3 +35,7 @@ suffix_view (suffix.Index x) = suffix.Index (expression_view x)
 abbrev pub test_view : Test Expression → Test tree.Expression
 test_view (test.Text t x) = test.Text t (expression_view x)
 test_view (test.IsNull negated) = test.IsNull negated
+
+abbrev pub seen : Option (Bor Expression) → Option tree.Expression
+seen None = None
+seen (Some x) = Some (expression_view x.now)

@@ -49,7 +49,11 @@ pub(crate) fn fault_in_sets<'a>(
     first
 }
 
-pub(crate) fn fault_in_ons<'a>(scope: &Names<'a>, ons: &'a Vec<On>, first: Option<Found>) -> Option<Found>
+pub(crate) fn fault_in_ons<'a>(
+    scope: &Names<'a>,
+    ons: &'a Vec<On>,
+    first: Option<Found>,
+) -> Option<Found>
     ensures { IsFirst first (flat_map (λ o. flat_map (spec.set_faults (names_in scope.now)) o.1) (map on_view ons.now.items)) result }
 {
     let mut first = first;

@@ -4,6 +4,7 @@ ghost use Rattle.pg_meaning.specs.Scopes.{column_names, projection_columns};
 ghost use Rattle.pg_meaning.specs.StaticFaults as spec;
 ghost use Rattle.pg_scope.specs.Columns.{column_of, narrow, sorts, IsTail};
 ghost use Rattle.pg_scope.specs.First.{IsFirst};
+ghost use Rattle.pg_scope.specs.Roles.{seen};
 ghost use Rattle.pg_scope.specs.Names.{names_in, HasSame};
 ghost use Rattle.pg_syntax_tree.specs.View.{expression_view, item_view, projection_view, sort_item_view};
 
@@ -26,6 +27,20 @@ pub(crate) fn fault_if_any<'a>(
 {
     match expression {
         Some(expression) => fault_in_expression(visible, Role::Elsewhere, expression, first),
+        None => first,
+    }
+}
+
+/// The first fault, with those of a condition.
+fn fault_if_seen<'a>(
+    visible: &Names<'a>,
+    condition: Option<&'a Expression>,
+    first: Option<Found>,
+) -> Option<Found>
+    ensures { IsFirst first (spec.faults_if_any (names_in visible.now) (seen condition.entry)) result }
+{
+    match condition {
+        Some(condition) => fault_in_expression(visible, Role::Elsewhere, condition, first),
         None => first,
     }
 }
@@ -66,16 +81,16 @@ fn fault_in_tail<'a>(
     alloc: Global,
     visible: &Names<'a>,
     projection: &'a Projection,
-    condition: &'a Option<Expression>,
+    condition: Option<&'a Expression>,
     first: Option<Found>,
 ) -> Option<Found>
-    ensures { IsTail (projection_view projection.now) (option_map expression_view condition.now) (names_in visible.now) first result }
+    ensures { IsTail (projection_view projection.now) (seen condition.entry) (names_in visible.now) first result }
 {
     let nothing = BTreeSet::new(alloc);
     let first = fault_in_sorts(visible, &projection.items, &projection.order, first);
     let first = fault_if_any(&nothing, &projection.skip, first);
     let first = fault_if_any(&nothing, &projection.limit, first);
-    fault_if_any(visible, condition, first)
+    fault_if_seen(visible, condition, first)
 }
 
 /// Whether what stands behind the items sees the columns alone.
@@ -91,10 +106,10 @@ pub(crate) fn fault_in_projection<'a>(
     naming: Naming,
     scope: Names<'a>,
     projection: &'a Projection,
-    condition: &'a Option<Expression>,
+    condition: Option<&'a Expression>,
     first: Option<Found>,
 ) -> Result<(Option<Found>, Names<'a>), AllocError>
-    ensures { IfOk result (λ r. IsFirst first (spec.projection_faults (column_of naming) (names_in scope.entry) (projection_view projection.now) (option_map expression_view condition.now)) r.0 × HasSame (names_in r.1) (column_names (projection_columns (column_of naming) (names_in scope.entry) (projection_view projection.now)))) }
+    ensures { IfOk result (λ r. IsFirst first (spec.projection_faults (column_of naming) (names_in scope.entry) (projection_view projection.now) (seen condition.entry)) r.0 × HasSame (names_in r.1) (column_names (projection_columns (column_of naming) (names_in scope.entry) (projection_view projection.now)))) }
 {
     let star = projection.star.is_some();
     let items = &projection.items;

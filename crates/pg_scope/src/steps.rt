@@ -1,20 +1,24 @@
 //! The static faults of a clause, and the names behind it.
-ghost use Rattle.std.specs.Prelude.{Bool, map, IfOk, option_map};
+ghost use Rattle.std.specs.Prelude.{◌≡◌, Bool, map, IfOk, option_map};
+ghost use Rattle.pg_meaning.specs.StaticFaults as spec;
+ghost use Rattle.pg_meaning.specs.Tokens.{is_empty};
 ghost use Rattle.pg_meaning.specs.Tree as tree;
+ghost use Rattle.pg_scope.specs.First.{IsFirst};
 ghost use Rattle.pg_scope.specs.Names.{names_in};
 ghost use Rattle.pg_scope.specs.Steps.{Steps};
-ghost use Rattle.pg_syntax_tree.specs.View.{expression_view, name_view, on_view, path_view};
+ghost use Rattle.pg_syntax_tree.specs.View.{clause_view, expression_view, name_view, on_view, path_view, projection_view};
 
-use crate::clauses::fault_in_ons;
-use crate::expressions::{fault_in_expression, Role};
-use crate::found::{noted, Found};
+use crate::clauses::{fault_in_each, fault_in_ons, fault_in_removes, fault_in_sets};
+use crate::columns::Naming;
+use crate::expressions::{Role, fault_in_expression};
+use crate::found::{Found, noted};
 use crate::modes::Mode;
-use crate::names::{add, is_among, Names};
+use crate::names::{Names, add, is_among};
 use crate::paths::{fault_in_path, fault_in_paths};
-use crate::projections::fault_if_any;
+use crate::projections::{fault_if_any, fault_in_projection};
 use crate::scopes::{add_path, add_paths};
 use pg_meaning::Fault;
-use pg_syntax_tree::{Expression, Name, On, PathPattern};
+use pg_syntax_tree::{Clause, Expression, Name, On, PathPattern, Projection};
 use std::alloc::{AllocError, Global};
 
 /// The first fault, and the names behind a clause.
@@ -80,4 +84,96 @@ fn through_merge<'a>(
     add_path(&mut names, path)?;
     let first = fault_in_ons(&names, ons, first);
     Ok((first, names))
+}
+
+fn is_nothing(scope: &Names) -> bool
+    ensures { result ≡ is_empty (names_in scope.now) }
+{
+    scope.is_empty()
+}
+
+/// The first fault, with `*` that stands for no variable.
+fn fault_in_star(scope: &Names, projection: &Projection, first: Option<Found>) -> Option<Found>
+    ensures { IsFirst first (spec.star_faults (names_in scope.now) projection.now.star) result }
+{
+    match projection.star {
+        Some(place) => noted(is_nothing(scope), place, Fault::UndefinedVariable, first),
+        None => first,
+    }
+}
+
+fn through_with<'a>(
+    alloc: Global,
+    scope: Names<'a>,
+    projection: &'a Projection,
+    condition: &'a Option<Expression>,
+    first: Option<Found>,
+) -> Result<Step<'a>, AllocError>
+    ensures { IfOk result (λ r. Steps (names_in scope.entry) (tree.with_rows (projection_view projection.now) (option_map expression_view condition.now)) first r.0 (names_in r.1)) }
+{
+    match condition {
+        Some(condition) => {
+            let naming = Naming::Variable;
+            let step = fault_in_projection(
+                alloc,
+                naming,
+                scope,
+                projection,
+                Some(condition),
+                first,
+            )?;
+            Ok(step)
+        }
+        None => {
+            let step = fault_in_projection(
+                alloc,
+                Naming::Variable,
+                scope,
+                projection,
+                None,
+                first,
+            )?;
+            Ok(step)
+        }
+    }
+}
+
+fn through_return<'a>(
+    alloc: Global,
+    scope: Names<'a>,
+    projection: &'a Projection,
+    first: Option<Found>,
+) -> Result<Step<'a>, AllocError>
+    ensures { IfOk result (λ r. Steps (names_in scope.entry) (tree.return_rows (projection_view projection.now)) first r.0 (names_in r.1)) }
+{
+    let first = fault_in_star(&scope, projection, first);
+    let step = fault_in_projection(alloc, Naming::Source, scope, projection, None, first)?;
+    Ok(step)
+}
+
+/// Past a clause.
+pub(crate) fn through_clause<'a>(
+    alloc: Global,
+    scope: Names<'a>,
+    clause: &'a Clause,
+    first: Option<Found>,
+) -> Result<Step<'a>, AllocError>
+    ensures { IfOk result (λ r. Steps (names_in scope.entry) (clause_view clause.now) first r.0 (names_in r.1)) }
+{
+    match clause {
+        Clause::Match(_, paths, condition) => {
+            let step = through_match(alloc, scope, paths, condition, first)?;
+            Ok(step)
+        }
+        Clause::Unwind(list, name) => through_unwind(scope, list, name, first),
+        Clause::Create(paths) => through_create(alloc, scope, paths, first),
+        Clause::Merge(path, ons) => through_merge(alloc, scope, path, ons, first),
+        Clause::Set(items) => Ok((fault_in_sets(&scope, items, first), scope)),
+        Clause::Remove(items) => Ok((fault_in_removes(&scope, items, first), scope)),
+        Clause::Delete(_, items) => Ok((fault_in_each(&scope, items, first), scope)),
+        Clause::With(projection, condition) => through_with(
+            alloc, scope, projection, condition, first,
+        ),
+        Clause::Return(projection) => through_return(alloc, scope, projection, first),
+    }
 }

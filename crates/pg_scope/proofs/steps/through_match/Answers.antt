@@ -6,6 +6,6 @@ use Rattle.pg_scope.proofs.steps.through_match.Goals as goal
 
 pub returns : goal.returns
 returns c = λ is_optional. record {
-    faults = in_turn c.in_ok-first.ensures (if_any_seen (option_map expression_view c.args.condition.now) c.in_ok-add_paths.ensures c.fault_if_any-first.ensures);
-    names_behind = c.in_ok-add_paths.ensures;
-  }
+  faults = in_turn c.in_ok-first.ensures (if_any_seen (option_map expression_view c.args.condition.now) c.in_ok-add_paths.ensures c.fault_if_any-first.ensures);
+  names_behind = c.in_ok-add_paths.ensures;
+}

@@ -6,6 +6,6 @@ use Rattle.pg_scope.proofs.steps.through_merge.Goals as goal
 
 pub returns : goal.returns
 returns c = record {
-    faults = in_turn c.in_ok-first.ensures (ons_seen (map on_view c.args.ons.now.items) c.in_ok-add_path.ensures c.fault_in_ons-first.ensures);
-    names_behind = c.in_ok-add_path.ensures;
-  }
+  faults = in_turn c.in_ok-first.ensures (ons_seen (map on_view c.args.ons.now.items) c.in_ok-add_path.ensures c.fault_in_ons-first.ensures);
+  names_behind = c.in_ok-add_path.ensures;
+}

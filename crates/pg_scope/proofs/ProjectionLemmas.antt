@@ -1,5 +1,5 @@
 -- What a projection brings into scope, and what is visible behind it.
-use Rattle.std.proofs.Common.{◌≡◌, ℕ, Bool, true, false, not, if◌then◌else◌, List, [], ◌∷◌, ◌++◌, map, Option, Some, None, is_some, refl, sym, ap, subst, ◌∙◌, bytes_eq, nat_cmp}
+use Rattle.std.proofs.Common.{◌≡◌, ℕ, Bool, true, false, not, if◌then◌else◌, List, [], ◌∷◌, ◌++◌, map, Option, Some, None, is_some, refl, sym, ap, subst, ◌∙◌, bytes_eq}
 use Rattle.std.specs.Prelude.{◌||◌, ◌&&◌, flat_map, is_none}
 use Rattle.std.specs.List.{list_any}
 use Rattle.std.specs.BTreeSet.{insert_key}
@@ -10,14 +10,14 @@ use Rattle.std.proofs.lemmas.Slice.Eq.{bytes_eq-Decides}
 use Rattle.pg_meaning.specs.Aggregates.{aggregate_of}
 use Rattle.pg_meaning.specs.Names.{Names, is_among, put_texts, in_byte_order}
 use Rattle.pg_meaning.specs.Order.{text_order}
-use Rattle.pg_meaning.specs.Scopes.{Column, variable_column, star_columns, projection_columns, column_names, is_aggregate, with_column, return_column}
+use Rattle.pg_meaning.specs.Scopes.{Column, variable_column, star_columns, projection_columns, column_names, is_aggregate}
 use Rattle.pg_meaning.specs.StaticFaults.{Found, found_if, elsewhere, faults_of, faults_if_any, item_faults, visible_of, sort_faults, projection_faults}
 use Rattle.pg_meaning.specs.Tree.{Expression, Item, SortItem, Projection}
 use Rattle.pg_meaning.specs.Tree as tree
 use Rattle.pg_meaning.specs.Trees.{same_expression}
 use Rattle.pg_meaning.specs.declared.fault.Fault.TheVariants.{UndefinedVariable}
 use Rattle.pg_scope.proofs.SameLemmas.{expression_same, if_any_same, items_same}
-use Rattle.pg_scope.proofs.ScopeLemmas.{same_self, same_in_turn, among_both}
+use Rattle.pg_scope.proofs.ScopeLemmas.{same_self, among_both}
 use Rattle.pg_scope.specs.Columns.{column_of, narrow, sorts, starred, IsTail}
 use Rattle.pg_scope.specs.First.{IsFirst}
 use Rattle.pg_scope.specs.Names.{HasSame}

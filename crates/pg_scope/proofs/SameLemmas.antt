@@ -1,10 +1,9 @@
 -- The same names bring the same faults, in whichever order they stand.
-use Rattle.std.proofs.Common.{◌≡◌, ℕ, Bool, true, false, not, List, [], ◌∷◌, ◌++◌, Option, Some, None, refl, sym, ap, ◌∙◌}
+use Rattle.std.proofs.Common.{◌≡◌, ℕ, Bool, not, List, [], ◌∷◌, ◌++◌, Option, Some, None, refl, ap, ◌∙◌}
 use Rattle.std.specs.Prelude.{◌||◌, ◌&&◌, bytes_eq}
-use Rattle.std.specs.List.{list_any}
 use Rattle.pg_meaning.specs.Names.{Names, is_among}
 use Rattle.pg_meaning.specs.Scopes.{Column}
-use Rattle.pg_meaning.specs.StaticFaults.{Found, Mode, Part, path_part, node_part, relationship_part, Used, used_with, relationship_variable, is_used, is_matching, is_described, new_faults, node_variable_faults, key_faults, properties_faults, detail_faults, relationship_faults, is_free, is_fixed, is_creating, found_if, part_faults, parts_faults, Role, elsewhere, expression_faults, all_faults, pair_faults, perhaps_faults, when_faults, operand_faults, test_faults, suffix_faults, faults_of, faults_if_any, item_faults, whole_item}
+use Rattle.pg_meaning.specs.StaticFaults.{Found, Mode, Part, path_part, node_part, relationship_part, Used, used_with, relationship_variable, is_used, is_matching, is_described, new_faults, node_variable_faults, key_faults, properties_faults, detail_faults, relationship_faults, is_free, found_if, part_faults, parts_faults, Role, elsewhere, expression_faults, all_faults, pair_faults, perhaps_faults, when_faults, operand_faults, test_faults, suffix_faults, faults_if_any, item_faults, whole_item}
 use Rattle.pg_meaning.specs.Tree.{Name, Expression, Expressions, Pairs, Perhaps, Whens, Operands, Tests, Suffixes, Properties, NodePattern, Detail, RelationshipPattern, Item}
 use Rattle.pg_meaning.specs.Tree as tree
 use Rattle.pg_meaning.specs.declared.fault.Fault.TheVariants.{UndefinedVariable, VariableAlreadyBound, BadPattern, BadAggregate, UnknownFunction, DuplicateColumn}

@@ -1,8 +1,7 @@
 -- Names that are brought into scope.
-use Rattle.std.proofs.Common.{◌≡◌, ℕ, ◌+◌, ◌<◌, length, get_or, drop, Bool, true, false, cond, not, List, [], ◌∷◌, ◌++◌, map, Option, Some, None, refl, sym, ap, subst, ◌∙◌}
+use Rattle.std.proofs.Common.{◌≡◌, ℕ, Bool, true, false, cond, List, [], ◌∷◌, ◌++◌, Option, Some, None, refl, sym, ap, subst, ◌∙◌}
 use Rattle.std.specs.Prelude.{◌||◌, bytes_eq}
 use Rattle.std.proofs.lemmas.Slice.Eq.{bytes_eq-Decides}
-use Rattle.std.specs.List.{list_any}
 use Rattle.pg_meaning.specs.Names.{Names, is_among, add_name}
 use Rattle.pg_meaning.specs.Patterns.{text_of, node_name, relationship_name, add_if_named, add_hop_names, add_path_names}
 use Rattle.pg_meaning.specs.StaticFaults.{with_variable, relationship_variable}

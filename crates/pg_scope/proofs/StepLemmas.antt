@@ -1,5 +1,5 @@
 -- Past a clause.
-use Rattle.std.proofs.Common.{◌≡◌, ℕ, List, [], ◌∷◌, ◌++◌, map, Option, Some, None, refl, sym, ap, subst, ◌∙◌}
+use Rattle.std.proofs.Common.{◌≡◌, ℕ, List, [], ◌∷◌, ◌++◌, Option, Some, None, refl, sym, ap, subst, ◌∙◌}
 use Rattle.std.specs.Prelude.{flat_map, bytes_eq, ◌||◌}
 use Rattle.pg_meaning.specs.Names.{Names, is_among, add_name}
 use Rattle.pg_meaning.specs.Patterns.{add_path_names}

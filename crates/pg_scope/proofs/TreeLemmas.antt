@@ -1,6 +1,6 @@
 -- Lists of other lengths are not the same.
-use Rattle.std.proofs.Common.{◌≡◌, ℕ, suc, Bool, true, false, List, [], ◌∷◌, map, length, refl, sym, ap, ◌∙◌}
-use Rattle.std.specs.Prelude.{◌≢◌, ◌&&◌, bytes_eq}
+use Rattle.std.proofs.Common.{◌≡◌, suc, Bool, true, false, List, [], ◌∷◌, map, length, refl, ap, ◌∙◌}
+use Rattle.std.specs.Prelude.{◌≢◌, ◌&&◌}
 use Rattle.std.specs.Bool.{beq}
 use Rattle.pg_meaning.specs.Parse.{expressions_of, operands_of, pairs_of, whens_of}
 use Rattle.pg_meaning.specs.Trees.{same_name, same_names, same_flags, same_operator, same_expression, same_expressions, same_pairs, same_whens, same_operands, same_tests, same_suffixes}

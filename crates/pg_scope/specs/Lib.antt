@@ -4,6 +4,7 @@ pub mod First
 pub mod Modes
 pub mod Names
 pub mod Roles
+pub mod Scoped
 pub mod Steps
 pub mod Trees
 pub mod Used

@@ -1,5 +1,5 @@
 -- When two tests, or two suffixes, are one tree.
-use Rattle.std.specs.Prelude.{Bool, false, ◌&&◌, bytes_eq}
+use Rattle.std.specs.Prelude.{Bool, false, ◌&&◌}
 use Rattle.std.specs.Bool.{beq}
 use Rattle.pg_meaning.specs.Trees.{same_name, same_test, same_expression}
 use Rattle.pg_syntax_tree.specs.View.{name_view, expression_view}

@@ -13,11 +13,15 @@ mod paths;
 mod patterns;
 mod projections;
 mod properties;
+mod query;
 mod relationships;
+mod scoped;
 mod scopes;
 mod steps;
 mod trees;
 mod used;
 
 pub use calls::{Function, Summary, function_named, summary_named};
+pub use query::check;
+pub use scoped::Scoped;
 pub use trees::same_expression;

@@ -1,4 +1,4 @@
-use Rattle.std.proofs.Common.{◌≡◌, ◌+◌, ◌++◌, drop, map, subst}
+use Rattle.std.proofs.Common.{◌+◌, ◌++◌, drop, map, subst}
 use Rattle.pg_meaning.specs.Scopes.{column_names}
 use Rattle.pg_scope.proofs.FirstLemmas.{item_here, items_end}
 use Rattle.pg_scope.proofs.ScopeLemmas.{same_self, moves_right}

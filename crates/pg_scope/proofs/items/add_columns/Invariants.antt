@@ -1,4 +1,4 @@
-use Rattle.std.proofs.Common.{◌≡◌, ◌++◌, drop, map}
+use Rattle.std.proofs.Common.{◌++◌, drop, map}
 use Rattle.pg_meaning.specs.Scopes.{column_names}
 use Rattle.pg_scope.specs.Columns.{column_of}
 use Rattle.pg_scope.specs.Names.{names_in, HasSame}

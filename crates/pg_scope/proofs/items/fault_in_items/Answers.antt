@@ -1,4 +1,4 @@
-use Rattle.std.proofs.Common.{◌≡◌, ◌+◌, ◌∷◌, ◌++◌, drop, map, refl, sym, ap, subst, ◌∙◌}
+use Rattle.std.proofs.Common.{◌+◌, ◌∷◌, ◌++◌, drop, map, refl, sym, ap, subst, ◌∙◌}
 use Rattle.pg_meaning.specs.Names.{is_among}
 use Rattle.pg_meaning.specs.Scopes.{column_names}
 use Rattle.pg_meaning.specs.StaticFaults.{least, found_if, item_faults}

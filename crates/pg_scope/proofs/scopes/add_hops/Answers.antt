@@ -1,4 +1,4 @@
-use Rattle.std.proofs.Common.{[], map, refl, sym, ap, subst, ◌∙◌}
+use Rattle.std.proofs.Common.{map, refl, sym, ap, subst, ◌∙◌}
 use Rattle.pg_meaning.specs.Patterns.{node_name, relationship_name, add_if_named, add_hop_names}
 use Rattle.pg_scope.proofs.FirstLemmas.{item_here, items_end}
 use Rattle.pg_scope.proofs.ScopeLemmas.{same_self, variable_added, relationship_added}

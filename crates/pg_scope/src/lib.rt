@@ -1,20 +1,27 @@
-//! The static fault of a query.
+//! The static faults of a query.
 #![tactic(auto)]
 
-ghost use Rattle.std.specs.Prelude.{◌≡◌, ◌≢◌, Some, None, IfOk, IfErr, option_map};
-ghost use Rattle.pg_meaning.specs.StaticFaults.{static_fault};
-ghost use Rattle.pg_meaning.specs.declared.fault.Fault.TheVariants.{OutOfMemory};
-ghost use Rattle.pg_syntax_tree.specs.View.{query_view};
+mod calls;
+mod clauses;
+mod columns;
+mod expressions;
+mod found;
+mod items;
+mod modes;
+mod names;
+mod paths;
+mod patterns;
+mod projections;
+mod properties;
+mod query;
+mod relationships;
+mod scoped;
+mod scopes;
+mod steps;
+mod trees;
+mod used;
 
-use pg_meaning::Fault;
-use pg_syntax_tree::Query;
-use std::alloc::Global;
-
-/// The query, where it has no static fault.
-pub fn check(alloc: Global, query: Query) -> Result<Query, Fault>
-    ensures ok { IfOk result (λ q. (query_view q ≡ query_view query) × (static_fault (query_view q) ≡ None)) }
-    ensures err { IfErr result (λ e. e ≢ OutOfMemory → option_map (λ f. f.1) (static_fault (query_view query)) ≡ Some e) }
-{
-    let _ = (alloc, query);
-    Err(Fault::OutOfMemory)
-}
+pub use calls::{Function, Summary, function_named, summary_named};
+pub use query::check;
+pub use scoped::Scoped;
+pub use trees::same_expression;

@@ -1,0 +1,9 @@
+pub mod FirstLemmas
+pub mod NameLemmas
+pub mod PartLemmas
+pub mod ProjectionLemmas
+pub mod SameLemmas
+pub mod ScopeLemmas
+pub mod StepLemmas
+pub mod TreeLemmas
+pub mod Views

@@ -1,0 +1,93 @@
+-- Past a clause.
+use Rattle.std.proofs.Common.{◌≡◌, ℕ, List, [], ◌∷◌, ◌++◌, Option, Some, None, refl, sym, ap, subst, ◌∙◌}
+use Rattle.std.specs.Prelude.{flat_map, bytes_eq, ◌||◌}
+use Rattle.pg_meaning.specs.Names.{Names, is_among, add_name}
+use Rattle.pg_meaning.specs.Patterns.{add_path_names}
+use Rattle.pg_meaning.specs.StaticFaults.{Found, faults_if_any, set_faults, faults_of, target_faults, found_if}
+use Rattle.pg_meaning.specs.Tree.{Expression, SetItem, RemoveItem, Name, PathPattern, Clause}
+use Rattle.pg_meaning.specs.Tree as tree
+use Rattle.pg_meaning.specs.declared.fault.Fault.TheVariants.{UndefinedVariable, VariableAlreadyBound}
+use Rattle.std.specs.Prelude.{Bool, not}
+use Rattle.pg_meaning.specs.StaticFaults.{elsewhere, Mode, matching, creating, merging, path_parts, paths_faults, remove_faults, star_faults, clause_faults}
+use Rattle.pg_meaning.specs.Scopes.{scope_after}
+use Rattle.std.proofs.lemmas.Bool.{false≢true}
+use Rattle.std.proofs.lemmas.Slice.Eq.{bytes_eq-Decides}
+use Rattle.pg_scope.proofs.ProjectionLemmas.{names_same, projection_same}
+use Rattle.pg_scope.specs.Steps.{Steps}
+use Rattle.pg_scope.specs.Used.{nothing_used}
+use Rattle.pg_scope.specs.declared.columns.Naming.TheVariants.{Variable, Source}
+use Rattle.pg_scope.proofs.SameLemmas.{expression_same, if_any_same, parts_same}
+use Rattle.pg_scope.proofs.ScopeLemmas.{among_added, paths_same, same_in_turn}
+use Rattle.pg_scope.specs.First.{IsFirst}
+use Rattle.pg_scope.specs.Names.{HasSame}
+
+-- an expression that sees other sets of the same names
+pub if_any_seen : {ns ms : Names} (x : Option Expression) {first next : Option Found} → HasSame ns ms → IsFirst first (faults_if_any ns x) next → IsFirst first (faults_if_any ms x) next
+if_any_seen {ns} {ms} x {first} {next} s h = subst (λ fs. IsFirst first fs next) (if_any_same ns ms s x) h
+
+set_same : (ns ms : Names) → HasSame ns ms → (x : SetItem) → set_faults ns x ≡ set_faults ms x
+set_same ns ms s (tree.set_property n m x) = ap (λ b. found_if (not b) n.place UndefinedVariable ++ faults_of ns x) (s.is n.text) ∙ ap (λ fs. target_faults ms n ++ fs) (expression_same ns ms s elsewhere x)
+set_same ns ms s (tree.set_all n x) = ap (λ b. found_if (not b) n.place UndefinedVariable ++ faults_of ns x) (s.is n.text) ∙ ap (λ fs. target_faults ms n ++ fs) (expression_same ns ms s elsewhere x)
+set_same ns ms s (tree.set_more n x) = ap (λ b. found_if (not b) n.place UndefinedVariable ++ faults_of ns x) (s.is n.text) ∙ ap (λ fs. target_faults ms n ++ fs) (expression_same ns ms s elsewhere x)
+set_same ns ms s (tree.set_labels n ls) = ap (λ b. found_if (not b) n.place UndefinedVariable) (s.is n.text)
+
+each_same : {X : Type 0} (f g : X → List Found) → ((x : X) → f x ≡ g x) → (xs : List X) → flat_map f xs ≡ flat_map g xs
+each_same f g e [] = refl
+each_same f g e (x ∷ xs) = ap (λ fs. fs ++ flat_map f xs) (e x) ∙ ap (λ fs. g x ++ fs) (each_same f g e xs)
+
+pub ons_seen : {ns ms : Names} (os : List (Bool × List SetItem)) {first next : Option Found} → HasSame ns ms → IsFirst first (flat_map (λ o. flat_map (set_faults ns) o.1) os) next
+    → IsFirst first (flat_map (λ o. flat_map (set_faults ms) o.1) os) next
+ons_seen {ns} {ms} os {first} {next} s h =
+    subst (λ fs. IsFirst first fs next) (each_same (λ (o : Bool × List SetItem). flat_map (set_faults ns) o.1) (λ (o : Bool × List SetItem). flat_map (set_faults ms) o.1) (λ o. each_same (set_faults ns) (set_faults ms) (set_same ns ms s) o.1) os) h
+
+pub name_added : {new old : Names} {key : List ℕ} (text : List ℕ) → HasSame new (key ∷ old) → key ≡ text → HasSame new (add_name old text)
+name_added {new} {old} {key} text s is = record { is = λ n. s.is n ∙ ap (λ k. bytes_eq n k || is_among old n) is ∙ sym (among_added old text n) }
+
+-- ---- the same names bring the same faults, and stay so
+
+remove_same : (ns ms : Names) → HasSame ns ms → (x : RemoveItem) → remove_faults ns x ≡ remove_faults ms x
+remove_same ns ms s (tree.remove_property n m) = ap (λ b. found_if (not b) n.place UndefinedVariable) (s.is n.text)
+remove_same ns ms s (tree.remove_labels n ls) = ap (λ b. found_if (not b) n.place UndefinedVariable) (s.is n.text)
+
+paths_faults_same : (mode : Mode) (ns ms : Names) → HasSame ns ms → (ps : List PathPattern) → paths_faults mode ns ps ≡ paths_faults mode ms ps
+paths_faults_same mode ns ms s ps = parts_same ns ms s mode nothing_used (flat_map path_parts ps)
+
+star_same : (ns ms : Names) → HasSame ns ms → (star : Option ℕ) → star_faults ns star ≡ star_faults ms star
+star_same [] [] s star = refl
+star_same [] (m ∷ ms) s star = absurd (false≢true (s.is m ∙ ap (λ b. b || is_among ms m) ((bytes_eq-Decides m m).1 refl)))
+star_same (n ∷ ns) [] s star = absurd (false≢true (sym (s.is n) ∙ ap (λ b. b || is_among ns n) ((bytes_eq-Decides n n).1 refl)))
+star_same (n ∷ ns) (m ∷ ms) s None = refl
+star_same (n ∷ ns) (m ∷ ms) s (Some at) = refl
+
+both : {a b c d : List Found} → a ≡ b → c ≡ d → a ++ c ≡ b ++ d
+both {a} {b} {c} {d} e h = ap (λ x. x ++ c) e ∙ ap (λ x. b ++ x) h
+
+clause_same : (ns ms : Names) → HasSame ns ms → (c : Clause) → clause_faults ns c ≡ clause_faults ms c
+clause_same ns ms s (tree.match_paths is_optional ps condition) = both (paths_faults_same matching ns ms s ps) (if_any_same (add_path_names ps ns) (add_path_names ps ms) (paths_same ps s) condition)
+clause_same ns ms s (tree.unwind x n) = both (expression_same ns ms s elsewhere x) (ap (λ b. found_if b n.place VariableAlreadyBound) (s.is n.text))
+clause_same ns ms s (tree.create ps) = paths_faults_same creating ns ms s ps
+clause_same ns ms s (tree.merge p os) =
+    let after : Names → Names = λ ls. add_path_names (p ∷ []) ls in
+    both (paths_faults_same merging ns ms s (p ∷ []))
+    (each_same (λ (o : Bool × List SetItem). flat_map (set_faults (after ns)) o.1) (λ (o : Bool × List SetItem). flat_map (set_faults (after ms)) o.1)
+    (λ o. each_same (set_faults (after ns)) (set_faults (after ms)) (set_same (after ns) (after ms) (paths_same (p ∷ []) s)) o.1) os)
+clause_same ns ms s (tree.set_items xs) = each_same (set_faults ns) (set_faults ms) (set_same ns ms s) xs
+clause_same ns ms s (tree.remove_items xs) = each_same (remove_faults ns) (remove_faults ms) (remove_same ns ms s) xs
+clause_same ns ms s (tree.delete is_detach xs) = each_same (faults_of ns) (faults_of ms) (expression_same ns ms s elsewhere) xs
+clause_same ns ms s (tree.with_rows p condition) = projection_same Variable ns ms s p condition
+clause_same ns ms s (tree.return_rows p) = both (star_same ns ms s p.star) (projection_same Source ns ms s p None)
+
+after_same : (ns ms : Names) → HasSame ns ms → (c : Clause) → HasSame (scope_after ns c) (scope_after ms c)
+after_same ns ms s (tree.match_paths is_optional ps condition) = paths_same ps s
+after_same ns ms s (tree.unwind x n) = record { is = λ m. among_added ns n.text m ∙ ap (λ b. bytes_eq m n.text || b) (s.is m) ∙ sym (among_added ms n.text m) }
+after_same ns ms s (tree.create ps) = paths_same ps s
+after_same ns ms s (tree.merge p os) = paths_same (p ∷ []) s
+after_same ns ms s (tree.set_items xs) = s
+after_same ns ms s (tree.remove_items xs) = s
+after_same ns ms s (tree.delete is_detach xs) = s
+after_same ns ms s (tree.with_rows p condition) = names_same Variable ns ms s p
+after_same ns ms s (tree.return_rows p) = names_same Source ns ms s p
+
+-- one clause more
+pub steps_more : {names ns behind : Names} {c : Clause} {before first : Option Found} → HasSame names ns → Steps names c before first behind → IsFirst before (clause_faults ns c) first × HasSame behind (scope_after ns c)
+steps_more {names} {ns} {behind} {c} {before} {first} s h = (subst (λ fs. IsFirst before fs first) (clause_same names ns s c) h.faults, same_in_turn h.names_behind (after_same names ns s c))

@@ -1,0 +1,10 @@
+use Rattle.std.proofs.Common.{◌≡◌, drop, map}
+use Rattle.std.specs.Prelude.{flat_map}
+use Rattle.pg_meaning.specs.StaticFaults.{least, set_faults}
+use Rattle.pg_scope.specs.Names.{names_in}
+use Rattle.pg_syntax_tree.specs.View.{set_item_view}
+use Rattle.pg_scope.proofs.clauses.fault_in_sets.Given as goal
+
+abbrev pub invariant-loop-item : goal.invariant-loop-item
+invariant-loop-item l =
+    least l.fn.first (flat_map (set_faults (names_in l.scope)) (map set_item_view l.items.items)) ≡ least l.first (flat_map (set_faults (names_in l.scope)) (map set_item_view (drop l.item-index l.items.items)))

@@ -1,0 +1,93 @@
+use Rattle.std.proofs.Common.{◌≡◌, ℕ, Bool, Option, length, map, List, [], ◌∷◌, ◌++◌, refl, subst, ◌∙◌, arith}
+use Rattle.pg_meaning.specs.Parse.{expressions_of, operands_of, pairs_of, whens_of}
+use Rattle.pg_meaning.specs.StaticFaults.{all_faults, pair_faults, when_faults, operand_faults, test_faults, suffix_faults, faults_of, expression_faults, count_of, Role, Found}
+use Rattle.pg_meaning.specs.Tree as tree
+use Rattle.pg_scope.specs.Calls.{own_faults}
+use Rattle.pg_scope.specs.First.{IsFirst}
+use Rattle.pg_meaning.specs.Names.{Names}
+use Rattle.pg_scope.specs.Names.{names_in}
+use Rattle.pg_scope.specs.Roles.{role_view, suffix_view, test_view, operand_view, when_view}
+use Rattle.pg_syntax_tree.specs.View.{expression_view, name_view, pair_view, suffixes_of, tests_of}
+use Rattle.pg_syntax_tree.specs.declared.expression.Expression.{Expression}
+use Rattle.pg_syntax_tree.specs.declared.expression.Suffix.{Suffix}
+use Rattle.pg_syntax_tree.specs.declared.expression.Suffix.TheVariants as suffix
+use Rattle.pg_syntax_tree.specs.declared.expression.Test.{Test}
+use Rattle.pg_syntax_tree.specs.declared.expression.Test.TheVariants as test
+use Rattle.pg_scope.proofs.FirstLemmas.{in_turn, walk_item, no_more}
+use Rattle.pg_scope.proofs.Views.{map_is, call_is, chain_is, tests_is, suffixes_is, case_is}
+use Rattle.pg_scope.proofs.expressions.+expressions.Goals as goal
+
+abbrev faults_in_test : Names → Test Expression → List Found
+faults_in_test visible (test.Text t x) = faults_of visible (expression_view x)
+faults_in_test visible (test.IsNull b) = []
+
+test_step : (visible : Names) (x : Test Expression) (xs : List (Test Expression)) → test_faults visible (tests_of (map test_view (x ∷ xs))) ≡ faults_in_test visible x ++ test_faults visible (tests_of (map test_view xs))
+test_step visible (test.Text t x) xs = refl
+test_step visible (test.IsNull b) xs = refl
+
+abbrev faults_in_suffix : Names → Suffix Expression → List Found
+faults_in_suffix visible (suffix.Property n) = []
+faults_in_suffix visible (suffix.Index x) = faults_of visible (expression_view x)
+
+suffix_step : (visible : Names) (x : Suffix Expression) (xs : List (Suffix Expression)) → suffix_faults visible (suffixes_of (map suffix_view (x ∷ xs))) ≡ faults_in_suffix visible x ++ suffix_faults visible (suffixes_of (map suffix_view xs))
+suffix_step visible (suffix.Property n) xs = refl
+suffix_step visible (suffix.Index x) xs = refl
+
+count_is : (xs : List Expression) → length xs ≡ count_of (expressions_of (map expression_view xs))
+count_is [] = refl
+count_is (x ∷ xs) = let rest = count_is xs in omega arith
+
+-- a call, with so many arguments
+called : (visible : Names) (role : Role) (n : tree.Name) (star distinct : Bool) (count : ℕ) (xs : List Expression) {first next last : Option Found} → count ≡ length xs
+    → IsFirst first (own_faults role n star distinct count) next → IsFirst next (all_faults visible (expressions_of (map expression_view xs))) last
+    → IsFirst first (expression_faults visible role (tree.call n star distinct (expressions_of (map expression_view xs)))) last
+called visible role n star distinct count xs {first} {next} {last} is e h = in_turn (subst (λ m. IsFirst first (own_faults role n star distinct m) next) (is ∙ count_is xs) e) h
+
+pub fault_in_all-loop-item-preserved : goal.fault_in_all-loop-item-preserved
+fault_in_all-loop-item-preserved t c = let visible = names_in c.args.visible.now in
+    c.loop-item.invariant ∙ walk_item (λ ys. all_faults visible (expressions_of (map expression_view ys))) (λ y. faults_of visible (expression_view y)) (λ y ys. refl) c.loop-item-test.true c.item-item.is c.deref-item-items.ensures.value (c.fault_in_expression-first.ensures)
+
+pub fault_in_pairs-loop-value-preserved : goal.fault_in_pairs-loop-value-preserved
+fault_in_pairs-loop-value-preserved t c = let visible = names_in c.args.visible.now in
+    c.loop-value.invariant ∙ walk_item (λ ys. pair_faults visible (pairs_of (map pair_view ys))) (λ y. faults_of visible (expression_view y.1)) (λ y ys. refl) c.loop-value-test.true c.loop-value-item.is c.deref-value-items.ensures.value (c.fault_in_expression-first.ensures)
+
+pub fault_in_operands-loop-operand-preserved : goal.fault_in_operands-loop-operand-preserved
+fault_in_operands-loop-operand-preserved t c = let visible = names_in c.args.visible.now in
+    c.loop-operand.invariant ∙ walk_item (λ ys. operand_faults visible (operands_of (map operand_view ys))) (λ y. faults_of visible (expression_view y.1)) (λ y ys. refl) c.loop-operand-test.true c.loop-operand-item.is c.deref-operand-items.ensures.value (c.fault_in_expression-first.ensures)
+
+pub fault_in_whens-loop-condition-preserved : goal.fault_in_whens-loop-condition-preserved
+fault_in_whens-loop-condition-preserved t c = let visible = names_in c.args.visible.now in
+    c.loop-condition.invariant ∙ walk_item (λ ys. when_faults visible (whens_of (map when_view ys))) (λ y. faults_of visible (expression_view y.0) ++ faults_of visible (expression_view y.1)) (λ y ys. refl) c.loop-condition-test.true c.loop-condition-item.is c.deref-condition-items.ensures.value (in_turn c.fault_in_expression-first.ensures c.fault_in_expression-first-in-loop-condition.ensures)
+
+pub fault_in_tests-loop-test-preserved : goal.fault_in_tests-loop-test-preserved
+fault_in_tests-loop-test-preserved t c = let visible = names_in c.args.visible.now in
+    c.loop-test.invariant ∙ walk_item (λ ys. test_faults visible (tests_of (map test_view ys))) (faults_in_test visible) (test_step visible) c.loop-test-test.true c.test-item.is c.deref-test-items.ensures.value (elim c.match-test.branch [
+      | goal.fault_in_tests-in-Text w ↦ rw w.first-is (rw w.in-Text.is w.fault_in_expression-first.ensures)
+      | goal.fault_in_tests-in-IsNull w ↦ rw w.first-is (rw w.in-IsNull.is (no_more _))
+    ])
+
+pub fault_in_suffixes-loop-suffix-preserved : goal.fault_in_suffixes-loop-suffix-preserved
+fault_in_suffixes-loop-suffix-preserved t c = let visible = names_in c.args.visible.now in
+    c.loop-suffix.invariant ∙ walk_item (λ ys. suffix_faults visible (suffixes_of (map suffix_view ys))) (faults_in_suffix visible) (suffix_step visible) c.loop-suffix-test.true c.suffix-item.is c.deref-suffix-items.ensures.value (elim c.match-suffix.branch [
+      | goal.fault_in_suffixes-in-Index w ↦ rw w.first-is (rw w.in-Index.is w.fault_in_expression-first.ensures)
+      | goal.fault_in_suffixes-in-Property w ↦ rw w.first-is (rw w.in-Property.is (no_more _))
+    ])
+
+pub fault_in_expression-returns-in-Call : goal.fault_in_expression-returns-in-Call
+fault_in_expression-returns-in-Call t c = let a = c.in-Call in rw a.is (rw (call_is a.name a.star a.distinct a.arguments) (called (names_in c.args.visible.now) (role_view c.args.role) (name_view a.name) a.star a.distinct c.len-count.result a.arguments.items (omega (arith, c.len-count.ensures, a.arguments.ok.0)) c.fault_in_call-first.ensures c.fault_in_all-in-Call.ensures))
+
+pub fault_in_expression-returns-in-MapLiteral : goal.fault_in_expression-returns-in-MapLiteral
+fault_in_expression-returns-in-MapLiteral t c = rw c.in-MapLiteral.is (rw (map_is c.in-MapLiteral.pairs) c.fault_in_pairs.ensures)
+
+pub fault_in_expression-returns-in-Chain : goal.fault_in_expression-returns-in-Chain
+fault_in_expression-returns-in-Chain t c = let a = c.in-Chain in rw a.is (rw (chain_is a.operand a.operands) (in_turn (rw c.deref.ensures at c.fault_in_expression-first.ensures) c.fault_in_operands.ensures))
+
+pub fault_in_expression-returns-in-Tests : goal.fault_in_expression-returns-in-Tests
+fault_in_expression-returns-in-Tests t c = let a = c.in-Tests in rw a.is (rw (tests_is a.operand a.tests) (in_turn (rw c.deref-in-Tests.ensures at c.fault_in_expression-first-in-Tests.ensures) c.fault_in_tests.ensures))
+
+pub fault_in_expression-returns-in-Suffixes : goal.fault_in_expression-returns-in-Suffixes
+fault_in_expression-returns-in-Suffixes t c = let a = c.in-Suffixes in rw a.is (rw (suffixes_is a.atom a.suffixes a.field-2) (in_turn (rw c.deref-in-Suffixes.ensures at c.fault_in_expression-first-in-Suffixes.ensures) c.fault_in_suffixes.ensures))
+
+pub fault_in_expression-returns-in-Case : goal.fault_in_expression-returns-in-Case
+fault_in_expression-returns-in-Case t c = let a = c.in-Case in
+    rw a.is (rw (case_is a.subject a.whens a.otherwise) (in_turn (in_turn c.fault_in_perhaps-first.ensures c.fault_in_whens-first.ensures) c.fault_in_perhaps.ensures))

@@ -1,0 +1,49 @@
+use Rattle.std.proofs.Common.{◌+◌, ◌∷◌, ◌++◌, drop, map, refl, sym, ap, subst, ◌∙◌}
+use Rattle.pg_meaning.specs.Names.{is_among}
+use Rattle.pg_meaning.specs.Scopes.{column_names}
+use Rattle.pg_meaning.specs.StaticFaults.{least, found_if, item_faults}
+use Rattle.pg_meaning.specs.declared.fault.Fault.TheVariants.{DuplicateColumn}
+use Rattle.pg_scope.proofs.FirstLemmas.{in_turn, walk_past, walked, item_here, items_end}
+use Rattle.pg_scope.proofs.ScopeLemmas.{same_self, more_left, moves_left, nothing_right}
+use Rattle.pg_scope.specs.Columns.{column_of, starred}
+use Rattle.pg_scope.specs.First.{IsFirst}
+use Rattle.pg_scope.specs.Names.{names_in, HasSame}
+use Rattle.pg_syntax_tree.specs.View.{item_view}
+use Rattle.pg_scope.proofs.items.fault_in_items.Goals as goal
+
+pub loop-item-init : goal.loop-item-init
+loop-item-init c =
+    let none = c.new-columns.ensures.empty in (
+      starred c.args.star (names_in c.args.scope.now),
+      subst (λ ks. HasSame (map (λ k. k.now) ks ++ starred c.args.star (names_in c.args.scope.now)) (starred c.args.star (names_in c.args.scope.now))) (sym none) (same_self _),
+      subst (λ ks. HasSame (map (λ k. k.now) ks ++ column_names (map (column_of c.args.naming) (map item_view c.args.items.now.items))) (column_names (map (column_of c.args.naming) (map item_view c.args.items.now.items)))) (sym none) (same_self _),
+      refl,
+    )
+
+pub loop-item-preserved : goal.loop-item-preserved
+loop-item-preserved c =
+    let (done, same, names, rest) = c.loop-item.invariant in
+    let column = column_of c.args.naming in
+    let x = c.item-item.result in
+    let i = c.loop-item.item-index in
+    let name = (column (item_view x)).name in
+    let is = c.column_name.ensures in
+    let here = item_here c.loop-item-test.true c.item-item.is c.deref-item-items.ensures.value in
+    let again = c.in_ok-again.ensures.stood ∙ ap (is_among (names_in c.loop-item.columns ++ starred c.args.star (names_in c.args.scope.now))) is ∙ same.is name in
+    let noted = subst (λ b. IsFirst c.loop-item.first (found_if b x.start DuplicateColumn) c.noted-first.result) again c.noted-first.ensures in
+    let all = column_names (map column (map item_view c.args.items.now.items)) in (
+      name ∷ done,
+      more_left (starred c.args.star (names_in c.args.scope.now)) c.in_ok-again.ensures.names is same,
+      moves_left (column_names (map column (map item_view (drop (i + 1) c.args.items.now.items)))) c.in_ok-again.ensures.names is (subst (λ ys. HasSame (names_in c.loop-item.columns ++ column_names (map column (map item_view ys))) all) here names),
+      rest ∙ walk_past (λ ys. item_faults column (names_in c.args.scope.now) done (map item_view ys)) (λ ys. item_faults column (names_in c.args.scope.now) (name ∷ done) (map item_view ys)) (λ ys. refl)
+          c.loop-item-test.true c.item-item.is c.deref-item-items.ensures.value (in_turn noted c.fault_in_expression-first.ensures),
+    )
+
+pub returns : goal.returns
+returns c =
+    let (done, same, names, rest) = c.loop-item.invariant in
+    let column = column_of c.args.naming in
+    let none = items_end c.loop-item-test.false c.deref-item-items.ensures.value in (
+      walked _ _ _ (rest ∙ ap (λ ys. least c.loop-item.first (item_faults column (names_in c.args.scope.now) done (map item_view ys))) none),
+      nothing_right (ap (λ ys. column_names (map column (map item_view ys))) none) names,
+    )

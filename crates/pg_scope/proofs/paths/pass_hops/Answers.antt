@@ -1,0 +1,12 @@
+use Rattle.std.proofs.Common.{map, refl, ◌∙◌}
+use Rattle.std.specs.Prelude.{flat_map}
+use Rattle.pg_meaning.specs.StaticFaults.{hop_parts}
+use Rattle.pg_scope.proofs.PartLemmas.{passes_in_turn, passes_item}
+use Rattle.pg_syntax_tree.specs.View.{hop_view}
+use Rattle.pg_scope.proofs.paths.pass_hops.Goals as goal
+
+pub loop-relationship-preserved : goal.loop-relationship-preserved
+loop-relationship-preserved c = λ rest.
+    c.loop-relationship.invariant rest
+    ∙ passes_item (λ ys. flat_map hop_parts (map hop_view ys)) (λ ys. refl) c.loop-relationship-test.true c.loop-relationship-item.is c.deref-relationship-items.ensures.value
+    (passes_in_turn c.in_ok-first.ensures c.in_ok-first-2.ensures) rest

@@ -1,0 +1,55 @@
+-- The data that the program's functions and aggregates stand for.
+use Rattle.std.specs.Prelude.{ℕ, Bool, not, ◌&&◌, List, [], ◌∷◌, ◌++◌, codes}
+use Rattle.pg_meaning.specs.Aggregates as summary
+use Rattle.pg_meaning.specs.Functions as function
+use Rattle.pg_meaning.specs.StaticFaults.{Role, is_elsewhere, is_aggregate, is_known, Found, found_if}
+use Rattle.pg_meaning.specs.Tree.{Name}
+use Rattle.pg_meaning.specs.declared.fault.Fault.TheVariants.{BadAggregate, UnknownFunction}
+use Rattle.pg_scope.specs.declared.calls.Function.{Function}
+use Rattle.pg_scope.specs.declared.calls.Function.TheVariants.{Id, Labels, «Type», Keys, Properties, Size, Length, Nodes, Relationships, Head, Last, Coalesce, Range, ToString, ToInteger, Abs, StartNode, EndNode}
+use Rattle.pg_scope.specs.declared.calls.Summary.{Summary}
+use Rattle.pg_scope.specs.declared.calls.Summary.TheVariants.{Counting, Summing, Least, Greatest, Collecting}
+
+abbrev pub function_view : Function → function.Function
+function_view Id = function.id
+function_view Labels = function.labels
+function_view «Type» = function.type
+function_view Keys = function.keys
+function_view Properties = function.properties
+function_view Size = function.size
+function_view Length = function.length
+function_view Nodes = function.nodes
+function_view Relationships = function.relationships
+function_view Head = function.head
+function_view Last = function.last
+function_view Coalesce = function.coalesce
+function_view Range = function.range
+function_view ToString = function.to_string
+function_view ToInteger = function.to_integer
+function_view Abs = function.abs
+function_view StartNode = function.start_node
+function_view EndNode = function.end_node
+
+abbrev pub summary_view : Summary → summary.Summary
+summary_view Counting = summary.counting
+summary_view Summing = summary.summing
+summary_view Least = summary.least
+summary_view Greatest = summary.greatest
+summary_view Collecting = summary.collecting
+
+-- ---- the functions from one on
+
+abbrev pub from_coalesce : List (List ℕ × function.Function)
+from_coalesce =
+    (codes "coalesce", function.coalesce) ∷ (codes "range", function.range) ∷ (codes "tostring", function.to_string) ∷ (codes "tointeger", function.to_integer)
+    ∷ (codes "abs", function.abs) ∷ (codes "startnode", function.start_node) ∷ (codes "endnode", function.end_node) ∷ []
+
+abbrev pub from_length : List (List ℕ × function.Function)
+from_length =
+    (codes "length", function.length) ∷ (codes "nodes", function.nodes) ∷ (codes "relationships", function.relationships) ∷ (codes "head", function.head)
+    ∷ (codes "last", function.last) ∷ from_coalesce
+
+-- the faults of a call itself, with so many arguments
+abbrev pub own_faults : Role → Name → (star distinct : Bool) → ℕ → List Found
+own_faults role n star distinct count =
+    found_if (is_aggregate n && is_elsewhere role) n.place BadAggregate ++ found_if (not (is_known n star distinct count)) n.place UnknownFunction

@@ -1,0 +1,10 @@
+pub mod Calls
+pub mod Columns
+pub mod First
+pub mod Modes
+pub mod Names
+pub mod Roles
+pub mod Scoped
+pub mod Steps
+pub mod Trees
+pub mod Used

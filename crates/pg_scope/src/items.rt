@@ -1,0 +1,75 @@
+//! The static faults of the items of WITH and RETURN.
+ghost use Rattle.std.specs.Prelude.{◌≡◌, ◌∷◌, ◌++◌, map, IfOk, OnOk};
+ghost use Rattle.pg_meaning.specs.Names.{is_among};
+ghost use Rattle.pg_meaning.specs.Scopes.{column_names};
+ghost use Rattle.pg_meaning.specs.StaticFaults as spec;
+ghost use Rattle.pg_scope.specs.Columns.{column_of, starred};
+ghost use Rattle.pg_scope.specs.First.{IsFirst};
+ghost use Rattle.pg_scope.specs.Names.{names_in, HasSame};
+ghost use Rattle.pg_syntax_tree.specs.View.{item_view};
+
+use crate::columns::{Naming, column_name};
+use crate::expressions::{Role, fault_in_expression};
+use crate::found::{Found, noted};
+use crate::names::{Names, add, is_among};
+use pg_meaning::Fault;
+use pg_syntax_tree::Item;
+use std::alloc::{AllocError, Global};
+use std::collections::BTreeSet;
+
+/// Whether `*` stands for the name.
+fn is_starred<'a>(scope: &Names<'a>, star: bool, name: &'a str) -> bool
+    ensures { result ≡ is_among (starred star (names_in scope.now)) name.now }
+{
+    star && is_among(scope, name)
+}
+
+/// Puts a name among the columns; whether it stood there, or `*` stands for it.
+#[tactic(auto, using(crate::proofs::ScopeLemmas::among_both))]
+fn stood<'a>(
+    scope: &Names<'a>,
+    star: bool,
+    columns: &mut Names<'a>,
+    name: &'a str,
+) -> Result<bool, AllocError>
+    ensures stood { IfOk result (λ again. again ≡ is_among (names_in columns.old ++ starred star (names_in scope.now)) name.now) }
+    ensures names { OnOk result (HasSame (names_in columns.new) (name.now ∷ names_in columns.old)) }
+{
+    let new = add(columns, name)?;
+    Ok(!new || is_starred(scope, star, name))
+}
+
+/// The first fault, with those of the items, and the names of their columns.
+pub(crate) fn fault_in_items<'a>(
+    alloc: Global,
+    naming: Naming,
+    scope: &Names<'a>,
+    star: bool,
+    items: &'a Vec<Item>,
+    first: Option<Found>,
+) -> Result<(Option<Found>, Names<'a>), AllocError>
+    ensures { IfOk result (λ r. IsFirst first (spec.item_faults (column_of naming) (names_in scope.now) (starred star (names_in scope.now)) (map item_view items.now.items)) r.0 × HasSame (names_in r.1) (column_names (map (column_of naming) (map item_view items.now.items)))) }
+{
+    let mut columns = BTreeSet::new(alloc);
+    let mut first = first;
+    for item in items {
+        let again = stood(scope, star, &mut columns, column_name(naming, item))?;
+        first = noted(again, item.start, Fault::DuplicateColumn, first);
+        first = fault_in_expression(scope, Role::WholeItem, &item.value, first);
+    }
+    Ok((first, columns))
+}
+
+/// Brings the columns into scope beside what is there.
+pub(crate) fn add_columns<'a>(
+    naming: Naming,
+    names: &mut Names<'a>,
+    items: &'a Vec<Item>,
+) -> Result<(), AllocError>
+    ensures { OnOk result (HasSame (names_in names.new) (column_names (map (column_of naming) (map item_view items.now.items)) ++ names_in names.old)) }
+{
+    for item in items {
+        add(names, column_name(naming, item))?;
+    }
+    Ok(())
+}

@@ -1,0 +1,165 @@
+//! The static faults of paths.
+ghost use Rattle.std.specs.Prelude.{◌≡◌, [], ◌∷◌, map, flat_map, IfOk, option_map};
+ghost use Rattle.pg_meaning.specs.StaticFaults as spec;
+ghost use Rattle.pg_meaning.specs.Tokens.{is_empty};
+ghost use Rattle.pg_scope.specs.First.{IsFirst};
+ghost use Rattle.pg_scope.specs.Modes.{mode_view};
+ghost use Rattle.pg_scope.specs.Names.{names_in};
+ghost use Rattle.pg_scope.specs.Used.{used_in, Passes};
+ghost use Rattle.pg_syntax_tree.specs.View.{hop_view, name_view, node_view, path_view, relationship_view};
+
+use crate::found::Found;
+use crate::modes::Mode;
+use crate::names::Names;
+use crate::patterns::{fault_in_new, fault_in_node_variable, fault_in_relationship_variable};
+use crate::properties::fault_in_properties;
+use crate::relationships::fault_in_relationship;
+use crate::used::{Used, add_relationship_variable, add_variable};
+use pg_syntax_tree::{Name, NodePattern, PathPattern, RelationshipPattern};
+use std::alloc::{AllocError, Global};
+
+/// Past the variable of a path.
+fn pass_variable<'a>(
+    outer: &Names<'a>,
+    used: &mut Used<'a>,
+    variable: &'a Option<Name>,
+    first: Option<Found>,
+) -> Result<Option<Found>, AllocError>
+    ensures { IfOk result (λ found. (mode : spec.Mode) → Passes mode (names_in outer.now) (spec.path_variable_part (option_map name_view variable.now)) (used_in used.old) first (used_in used.new) found) }
+{
+    match variable {
+        Some(name) => {
+            let first = fault_in_new(outer, used, name, first);
+            add_variable(&mut used.others, variable)?;
+            Ok(first)
+        }
+        None => Ok(first),
+    }
+}
+
+/// Past a node.
+fn pass_node<'a>(
+    alloc: Global,
+    mode: Mode,
+    outer: &Names<'a>,
+    used: &mut Used<'a>,
+    is_whole: bool,
+    node: &'a NodePattern,
+    first: Option<Found>,
+) -> Result<Option<Found>, AllocError>
+    ensures { IfOk result (λ found. Passes (mode_view mode) (names_in outer.now) (spec.node_part is_whole (node_view node.now) ∷ []) (used_in used.old) first (used_in used.new) found) }
+{
+    let first = fault_in_node_variable(mode, outer, used, is_whole, node, first);
+    let first = fault_in_properties(alloc, mode, outer, node.place, &node.properties, first)?;
+    add_variable(&mut used.nodes, &node.variable)?;
+    Ok(first)
+}
+
+/// Past a relationship.
+fn pass_relationship<'a>(
+    alloc: Global,
+    mode: Mode,
+    outer: &Names<'a>,
+    used: &mut Used<'a>,
+    relationship: &'a RelationshipPattern,
+    first: Option<Found>,
+) -> Result<Option<Found>, AllocError>
+    ensures { IfOk result (λ found. Passes (mode_view mode) (names_in outer.now) (spec.relationship_part (relationship_view relationship.now) ∷ []) (used_in used.old) first (used_in used.new) found) }
+{
+    let first = fault_in_relationship_variable(outer, used, relationship, first);
+    let first = fault_in_relationship(alloc, mode, outer, relationship, first)?;
+    add_relationship_variable(&mut used.others, relationship)?;
+    Ok(first)
+}
+
+/// Past the hops of a path.
+fn pass_hops<'a>(
+    alloc: Global,
+    mode: Mode,
+    outer: &Names<'a>,
+    used: &mut Used<'a>,
+    hops: &'a Vec<(RelationshipPattern, NodePattern)>,
+    first: Option<Found>,
+) -> Result<Option<Found>, AllocError>
+    ensures { IfOk result (λ found. Passes (mode_view mode) (names_in outer.now) (flat_map spec.hop_parts (map hop_view hops.now.items)) (used_in used.old) first (used_in used.new) found) }
+{
+    let mut first = first;
+    for (relationship, node) in hops {
+        first = pass_relationship(alloc, mode, outer, used, relationship, first)?;
+        first = pass_node(alloc, mode, outer, used, false, node, first)?;
+    }
+    Ok(first)
+}
+
+/// Whether one node is the whole path.
+fn is_one_node(path: &PathPattern) -> bool
+    ensures { result ≡ is_empty (path_view path.now).hops }
+{
+    path.hops.is_empty()
+}
+
+/// Past a path.
+fn pass_path<'a>(
+    alloc: Global,
+    mode: Mode,
+    outer: &Names<'a>,
+    used: &mut Used<'a>,
+    path: &'a PathPattern,
+    first: Option<Found>,
+) -> Result<Option<Found>, AllocError>
+    ensures { IfOk result (λ found. Passes (mode_view mode) (names_in outer.now) (spec.path_parts (path_view path.now)) (used_in used.old) first (used_in used.new) found) }
+{
+    let first = pass_variable(outer, used, &path.variable, first)?;
+    let is_whole = is_one_node(path);
+    let first = pass_node(alloc, mode, outer, used, is_whole, &path.first, first)?;
+    let first = pass_hops(alloc, mode, outer, used, &path.hops, first)?;
+    Ok(first)
+}
+
+/// Past some paths.
+fn pass_paths<'a>(
+    alloc: Global,
+    mode: Mode,
+    outer: &Names<'a>,
+    used: &mut Used<'a>,
+    paths: &'a Vec<PathPattern>,
+    first: Option<Found>,
+) -> Result<Option<Found>, AllocError>
+    ensures { IfOk result (λ found. Passes (mode_view mode) (names_in outer.now) (flat_map spec.path_parts (map path_view paths.now.items)) (used_in used.old) first (used_in used.new) found) }
+{
+    let mut first = first;
+    for path in paths {
+        first = pass_path(alloc, mode, outer, used, path, first)?;
+    }
+    Ok(first)
+}
+
+/// The first fault, with those of one path.
+pub(crate) fn fault_in_path<'a>(
+    alloc: Global,
+    mode: Mode,
+    outer: &Names<'a>,
+    path: &'a PathPattern,
+    first: Option<Found>,
+) -> Result<Option<Found>, AllocError>
+    ensures { IfOk result (λ found. IsFirst first (spec.paths_faults (mode_view mode) (names_in outer.now) (path_view path.now ∷ [])) found) }
+{
+    let mut used = Used::new(alloc);
+    let first = pass_path(alloc, mode, outer, &mut used, path, first)?;
+    Ok(first)
+}
+
+/// The first fault, with those of the paths of a clause.
+pub(crate) fn fault_in_paths<'a>(
+    alloc: Global,
+    mode: Mode,
+    outer: &Names<'a>,
+    paths: &'a Vec<PathPattern>,
+    first: Option<Found>,
+) -> Result<Option<Found>, AllocError>
+    ensures { IfOk result (λ found. IsFirst first (spec.paths_faults (mode_view mode) (names_in outer.now) (map path_view paths.now.items)) found) }
+{
+    let mut used = Used::new(alloc);
+    let first = pass_paths(alloc, mode, outer, &mut used, paths, first)?;
+    Ok(first)
+}

@@ -1,0 +1,129 @@
+//! The static faults of WITH and RETURN.
+ghost use Rattle.std.specs.Prelude.{◌≡◌, map, flat_map, IfOk, option_map};
+ghost use Rattle.pg_meaning.specs.Scopes.{column_names, projection_columns};
+ghost use Rattle.pg_meaning.specs.StaticFaults as spec;
+ghost use Rattle.pg_scope.specs.Columns.{column_of, narrow, sorts, IsTail};
+ghost use Rattle.pg_scope.specs.First.{IsFirst};
+ghost use Rattle.pg_scope.specs.Roles.{seen};
+ghost use Rattle.pg_scope.specs.Names.{names_in, HasSame};
+ghost use Rattle.pg_syntax_tree.specs.View.{expression_view, item_view, projection_view, sort_item_view};
+
+use crate::columns::{Naming, have_aggregate, is_column};
+use crate::expressions::{Role, fault_in_expression};
+use crate::found::Found;
+use crate::items::{add_columns, fault_in_items};
+use crate::names::Names;
+use pg_syntax_tree::{Expression, Item, Projection, SortItem};
+use std::alloc::{AllocError, Global};
+use std::collections::BTreeSet;
+
+/// The first fault, with those of an expression that may be absent.
+pub(crate) fn fault_if_any<'a>(
+    visible: &Names<'a>,
+    expression: &'a Option<Expression>,
+    first: Option<Found>,
+) -> Option<Found>
+    ensures { IsFirst first (spec.faults_if_any (names_in visible.now) (option_map expression_view expression.now)) result }
+{
+    match expression {
+        Some(expression) => fault_in_expression(visible, Role::Elsewhere, expression, first),
+        None => first,
+    }
+}
+
+/// The first fault, with those of a condition.
+fn fault_if_seen<'a>(
+    visible: &Names<'a>,
+    condition: Option<&'a Expression>,
+    first: Option<Found>,
+) -> Option<Found>
+    ensures { IsFirst first (spec.faults_if_any (names_in visible.now) (seen condition.entry)) result }
+{
+    match condition {
+        Some(condition) => fault_in_expression(visible, Role::Elsewhere, condition, first),
+        None => first,
+    }
+}
+
+/// The first fault, with those of a sort that stands for no item.
+fn fault_in_sort<'a>(
+    visible: &Names<'a>,
+    items: &'a Vec<Item>,
+    sort: &'a SortItem,
+    first: Option<Found>,
+) -> Option<Found>
+    ensures { IsFirst first (sorts (map item_view items.now.items) (names_in visible.now) (sort_item_view sort.now)) result }
+{
+    if is_column(&sort.key, items) {
+        first
+    } else {
+        fault_in_expression(visible, Role::Elsewhere, &sort.key, first)
+    }
+}
+
+fn fault_in_sorts<'a>(
+    visible: &Names<'a>,
+    items: &'a Vec<Item>,
+    order: &'a Vec<SortItem>,
+    first: Option<Found>,
+) -> Option<Found>
+    ensures { IsFirst first (flat_map (sorts (map item_view items.now.items) (names_in visible.now)) (map sort_item_view order.now.items)) result }
+{
+    let mut first = first;
+    for sort in order {
+        first = fault_in_sort(visible, items, sort, first);
+    }
+    first
+}
+
+/// The first fault, with those of what stands behind the items, where some names are visible.
+fn fault_in_tail<'a>(
+    alloc: Global,
+    visible: &Names<'a>,
+    projection: &'a Projection,
+    condition: Option<&'a Expression>,
+    first: Option<Found>,
+) -> Option<Found>
+    ensures { IsTail (projection_view projection.now) (seen condition.entry) (names_in visible.now) first result }
+{
+    let nothing = BTreeSet::new(alloc);
+    let first = fault_in_sorts(visible, &projection.items, &projection.order, first);
+    let first = fault_if_any(&nothing, &projection.skip, first);
+    let first = fault_if_any(&nothing, &projection.limit, first);
+    fault_if_seen(visible, condition, first)
+}
+
+/// Whether what stands behind the items sees the columns alone.
+fn is_narrow(projection: &Projection) -> bool
+    ensures { result ≡ narrow (projection_view projection.now) }
+{
+    projection.star.is_none() && (projection.distinct || have_aggregate(&projection.items))
+}
+
+/// The first fault, with those of WITH or RETURN, and the names behind it.
+pub(crate) fn fault_in_projection<'a>(
+    alloc: Global,
+    naming: Naming,
+    scope: Names<'a>,
+    projection: &'a Projection,
+    condition: Option<&'a Expression>,
+    first: Option<Found>,
+) -> Result<(Option<Found>, Names<'a>), AllocError>
+    ensures { IfOk result (λ r. IsFirst first (spec.projection_faults (column_of naming) (names_in scope.entry) (projection_view projection.now) (seen condition.entry)) r.0 × HasSame (names_in r.1) (column_names (projection_columns (column_of naming) (names_in scope.entry) (projection_view projection.now)))) }
+{
+    let star = projection.star.is_some();
+    let items = &projection.items;
+    let (first, columns) = fault_in_items(alloc, naming, &scope, star, items, first)?;
+    if is_narrow(projection) {
+        let first = fault_in_tail(alloc, &columns, projection, condition, first);
+        return Ok((first, columns));
+    }
+    let mut visible = scope;
+    add_columns(naming, &mut visible, items)?;
+    let first = fault_in_tail(alloc, &visible, projection, condition, first);
+    if star {
+        Ok((first, visible))
+    } else {
+        Ok((first, columns))
+    }
+}

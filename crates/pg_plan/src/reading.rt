@@ -35,8 +35,8 @@ pub fn plan_text(alloc: Global, text: &str) -> Result<Plan, Fault>
     ensures err { IfErr result (λ e. e ≢ OutOfMemory → text_checked text.now ≡ Err e) }
 {
     let (query, names_parameter) = read(alloc, text)?;
-    let query = check(alloc, query)?;
-    Ok(Plan::new(query, names_parameter))
+    let scoped = check(alloc, query)?;
+    Ok(Plan::new(scoped.into_query(), names_parameter))
 }
 
 /// The tree of a text, and whether it names a parameter.

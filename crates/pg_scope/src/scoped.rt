@@ -1,5 +1,7 @@
 //! A query that was checked.
-ghost use Rattle.std.specs.Prelude.{◌≡◌};
+ghost use Rattle.std.specs.Prelude.{◌≡◌, None};
+ghost use Rattle.pg_meaning.specs.StaticFaults.{static_fault};
+ghost use Rattle.pg_syntax_tree.specs.View.{query_view};
 
 use pg_syntax_tree::Query;
 
@@ -7,6 +9,7 @@ use pg_syntax_tree::Query;
 #[derive(Debug, Drop)]
 pub struct Scoped {
     pub(crate) query: Query,
+    ghost faultless: { static_fault (query_view query) ≡ None },
 }
 
 impl Scoped {
@@ -14,5 +17,11 @@ impl Scoped {
         ensures { result.now ≡ self.now.query }
     {
         &self.query
+    }
+
+    pub fn into_query(self) -> Query
+        ensures { result ≡ self.query }
+    {
+        self.query
     }
 }

@@ -11,6 +11,7 @@ use Rattle.pg_meaning.specs.Parse.{Parser, ◌>>=◌, ◌>>◌, ◌<$>◌, branc
 abbrev pub types_if_any : Parser (List (Bool × Name))
 types_if_any = branch (sees_symbol s.Colon) parse.types (pure [])
 
+-- what stands behind a range's dots
 abbrev pub upper_end : Bool → Parser (Option ℕ)
 upper_end dots = elim dots [ true ↦ maybe parse.begins_integer parse.integer | false ↦ pure None ]
 
@@ -23,7 +24,7 @@ item false text whole = parse.return_item text whole
 abbrev pub items : (star : Bool) → Parser Item → Parser (List Item)
 items star piece = elim star [ true ↦ many (sees_symbol s.Comma) (comma_and piece) [] | false ↦ separated piece ]
 
--- what stands behind the target and before its value
+-- what stands behind the target of SET, and of REMOVE
 abbrev pub set_property : Parser Expression → Name → Parser SetItem
 set_property whole n = do symbol s.Dot; m ← parse.name; symbol s.Equal; x ← whole; pure (tree.set_property n m x)
 

@@ -1,6 +1,6 @@
 //! Clauses that read and clauses that write.
 
-ghost use Rattle.std.specs.Prelude.{◌≡◌, Bool, List, map, option_map, refl};
+ghost use Rattle.std.specs.Prelude.{Bool, List, map, option_map, refl};
 ghost use Rattle.pg_lex.specs.View.{tokens_view};
 ghost use Rattle.pg_meaning.specs.Parse as parse;
 ghost use Rattle.pg_meaning.specs.declared.lexemes.Keyword.TheVariants as k;

@@ -15,6 +15,8 @@ mod names;
 mod patterns;
 mod projections;
 mod query;
+#[cfg(test)]
+mod query_tests;
 mod rules;
 mod whole;
 

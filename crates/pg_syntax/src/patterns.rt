@@ -1,6 +1,6 @@
 //! Patterns.
 
-ghost use Rattle.std.specs.Prelude.{◌≡◌, ℕ, Bool, true, false, map, option_map, refl};
+ghost use Rattle.std.specs.Prelude.{Bool, map, option_map, refl};
 ghost use Rattle.pg_lex.specs.View.{tokens_view};
 ghost use Rattle.pg_meaning.specs.Parse as parse;
 ghost use Rattle.pg_meaning.specs.declared.lexemes.Symbol.TheVariants as s;

@@ -5,16 +5,17 @@ pub mod Cases
 pub mod Chains
 pub mod ClauseEnds
 pub mod Clauses
+pub mod Combinators
 pub mod Conditions
 pub mod Deletes
 pub mod Enclosed
 pub mod Expressions
+pub mod FirstTokens
 pub mod Fits
 pub mod Generic
 pub mod Items
 pub mod Labels
 pub mod Maps
-pub mod Marks
 pub mod Matches
 pub mod Merges
 pub mod Nodes
@@ -31,7 +32,6 @@ pub mod Queries
 pub mod Relationships
 pub mod RemoveItems
 pub mod Separated
-pub mod Sequences
 pub mod SetItems
 pub mod Shapes
 pub mod SortItems

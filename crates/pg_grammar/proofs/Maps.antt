@@ -13,8 +13,8 @@ use Rattle.pg_meaning.specs.Parse as parse
 use Rattle.pg_meaning.specs.Parse.{Parser, ◌>>=◌, ◌>>◌, pure, is_symbol, sees_symbol, symbol, eat_symbol, map_pair, map_pairs, pairs_of, separated}
 use Rattle.pg_grammar.specs.Rules.{Complete, Exactly, Exact, Anything, Ends, PairsAreExact}
 use Rattle.pg_grammar.proofs.Generic.{bind_some, same_some}
-use Rattle.pg_grammar.proofs.Marks.{Marked, Free, avoided, spelled_as, step, opening, behind, made, ending, name_exact, separated_exactly}
-use Rattle.pg_grammar.proofs.Separated.{AfterItems}
+use Rattle.pg_grammar.proofs.Combinators.{Fitting, Free, AfterItems, fitting, restated, step, leading, behind, made, ending, symbol_exact, name_exact, items_exact}
+use Rattle.pg_grammar.proofs.FirstTokens.{shown}
 use Rattle.pg_grammar.proofs.Terminals.{symbol_is, eat_takes, eat_yes, eat_no}
 
 operator_positive : (o : Operator) → 1 ≤ operator_level o
@@ -106,14 +106,14 @@ abbrev behind_opening : Pairs → List Mark
 behind_opening ps = commas (pair_marks ps) ++ sign s.CloseBrace ∷ []
 
 module _ (limit : ℕ) (whole : Parser Expression) (exact : Exact limit 1 whole) where
-  value_exact : Exactly limit whole (Marked Free IsWellFormed marks) (Ends 1)
+  value_exact : Exactly limit whole (Fitting IsWellFormed marks) (Ends 1)
   value_exact =
-      spelled_as exact (λ x front h. record { known = tt; well = h.well; fits = h.fits }) (λ x front h. record { well = h.well; tight = level_positive x h.well; fits = h.fits }) (λ more h. h)
+      restated exact (λ x front h. fitting h.well h.fits) (λ x front h. record { well = h.well; tight = level_positive x h.well; fits = h.fits }) (λ more h. h)
 
-  pair_exact : Exactly limit (map_pair whole) (Marked Free IsPair pair_mark) (Ends 1)
+  pair_exact : Exactly limit (map_pair whole) (Fitting IsPair pair_mark) (Ends 1)
   pair_exact =
       step (λ (p : Pair). p.0) Free (name_exact limit)
-      (λ n. behind s.Colon (step (λ (p : Pair). p.1) (λ (p : Pair). (p.0 ≡ n) × Free p) value_exact
+      (λ n. behind (symbol_exact s.Colon) (step (λ (p : Pair). p.1) (λ (p : Pair). (p.0 ≡ n) × Free p) value_exact
       (λ x. made (made_pair n x) (λ (p : Pair). (p.1 ≡ x) × ((p.0 ≡ n) × Free p)) (refl, (refl, tt)) (λ p h. rw (← h.0, ← h.1.0) refl))
       (λ p y more well fits ends. ending (Ends 1) y more fits ends)))
       (λ p y more well fits ends. tt)
@@ -124,39 +124,39 @@ module _ (limit : ℕ) (whole : Parser Expression) (exact : Exact limit 1 whole)
   abbrev some_pairs : Parser Pairs
   some_pairs = separated (map_pair whole) >>= λ ps. symbol s.CloseBrace >> pure (pairs_of ps)
 
-  some_pairs_exact : Exactly limit some_pairs (Marked Free SomePairs (λ ps. commas (map pair_mark (list_of ps)) ++ closing)) Anything
+  some_pairs_exact : Exactly limit some_pairs (Fitting SomePairs (λ ps. commas (map pair_mark (list_of ps)) ++ closing)) Anything
   some_pairs_exact =
-      step list_of Free (separated_exactly pair_exact comma_ends)
-      (λ ps. behind s.CloseBrace (made (pairs_of ps) (λ (qs : Pairs). (list_of qs ≡ ps) × Free qs) (list_again ps, tt) (λ qs h. ap pairs_of (sym h.0) ∙ pairs_again qs)))
+      step list_of Free (items_exact pair_exact comma_ends)
+      (λ ps. behind (symbol_exact s.CloseBrace) (made (pairs_of ps) (λ (qs : Pairs). (list_of qs ≡ ps) × Free qs) (list_again ps, tt) (λ qs h. ap pairs_of (sym h.0) ∙ pairs_again qs)))
       (λ ps y more well fits ends. brace_ends y more fits)
 
   abbrev by_empty : Bool → Parser Pairs
   by_empty is_empty = elim is_empty [ true ↦ pure tree.no_pairs | false ↦ some_pairs ]
 
-  behind_exact : Exactly limit (eat_symbol s.CloseBrace >>= by_empty) (Marked Free ArePairs behind_opening) Anything
+  behind_exact : Exactly limit (eat_symbol s.CloseBrace >>= by_empty) (Fitting ArePairs behind_opening) Anything
   behind_exact = record {
     sound = λ ts ps more e.
         let b = bind_some (eat_symbol s.CloseBrace ts) by_empty (ps, more) e in
         elim (eat_takes s.CloseBrace ts b.1 b.0 b.2) [
           | inl h ↦
               let last = same_some tree.no_pairs ps b.1 more (subst (λ (y : Bool). by_empty y b.1 ≡ Some (ps, more)) h.0 b.3) in
-              (h.1 ∷ [], h.2 ∙ ap (λ (l : List Token). h.1 ∷ l) last.1, rw (← last.0) (record { known = tt; well = tt; fits = (h.3, tt) }))
+              (h.1 ∷ [], h.2 ∙ ap (λ (l : List Token). h.1 ∷ l) last.1, rw (← last.0) (fitting tt (h.3, tt)))
           | inr h ↦
               let r = some_pairs_exact.sound b.1 ps more (subst (λ (y : Bool). by_empty y b.1 ≡ Some (ps, more)) h.0 b.3) in
-              (r.0, h.1 ∙ r.1, record { known = tt; well = well_of ps r.2.well.0.1; fits = rw (← marks_of ps) r.2.fits })
+              (r.0, h.1 ∙ r.1, fitting (well_of ps r.2.well.0.1) (rw (← marks_of ps) r.2.fits))
         ];
     complete = by;
   }
     where
-      by : Complete limit (eat_symbol s.CloseBrace >>= by_empty) (Marked Free ArePairs behind_opening) Anything
+      by : Complete limit (eat_symbol s.CloseBrace >>= by_empty) (Fitting ArePairs behind_opening) Anything
       by tree.no_pairs [] more h ends less = absurd h.fits
       by tree.no_pairs (t ∷ []) more h ends less = rw (eat_yes s.CloseBrace t more h.fits.0) refl
       by tree.no_pairs (t ∷ u ∷ front) more h ends less = absurd h.fits.1
       by (tree.pair n x ps) front more h ends less =
-          let all : Marked Free SomePairs (λ qs. commas (map pair_mark (list_of qs)) ++ closing) (tree.pair n x ps) front = record { known = tt; well = ((tt, all_of (tree.pair n x ps) h.well), tt); fits = subst (λ (ms : List (List Mark)). Fit front (commas ms ++ closing)) (sym (marks_of (tree.pair n x ps))) h.fits } in
-          rw (eat_no s.CloseBrace (front ++ more) (avoided (is_symbol s.CloseBrace) (behind_opening (tree.pair n x ps)) front more (name_opens n.quoted n.text) h.fits)) (some_pairs_exact.complete (tree.pair n x ps) front more all ends less)
+          let all : Fitting SomePairs (λ qs. commas (map pair_mark (list_of qs)) ++ closing) (tree.pair n x ps) front = fitting ((tt, all_of (tree.pair n x ps) h.well), tt) (subst (λ (ms : List (List Mark)). Fit front (commas ms ++ closing)) (sym (marks_of (tree.pair n x ps))) h.fits) in
+          rw (eat_no s.CloseBrace (front ++ more) (shown (is_symbol s.CloseBrace) (behind_opening (tree.pair n x ps)) front more (name_opens n.quoted n.text) h.fits)) (some_pairs_exact.complete (tree.pair n x ps) front more all ends less)
 
 pub pairs_exact : (limit : ℕ) (whole : Parser Expression) → Exact limit 1 whole → PairsAreExact limit whole
 unfolding map_pairs
 pairs_exact limit whole exact =
-    spelled_as (opening s.OpenBrace (behind_exact limit whole exact)) (λ ps front h. record { well = h.well; fits = h.fits }) (λ ps front h. record { known = tt; well = h.well; fits = h.fits }) (λ more h. h)
+    restated (leading (symbol_exact s.OpenBrace) (behind_exact limit whole exact)) (λ ps front h. record { well = h.well; fits = h.fits }) (λ ps front h. fitting h.well h.fits) (λ more h. h)

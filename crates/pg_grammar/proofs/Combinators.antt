@@ -9,10 +9,10 @@ use Rattle.pg_meaning.specs.Grammar.{Mark, key, sign, begun, flag, further, comm
 use Rattle.pg_meaning.specs.Grammar as grammar
 use Rattle.pg_meaning.specs.Parse as parse
 use Rattle.pg_meaning.specs.Parse.{Parser, Test, ◌>>=◌, ◌>>◌, ◌<$>◌, pure, branch, maybe, many, comma_and, separated, sees_symbol, sees_keyword, here, start_of}
-use Rattle.pg_grammar.specs.Rules.{Sound, Complete, Exactly, Anything}
+use Rattle.pg_grammar.specs.Rules.{Exactly, Anything}
 use Rattle.pg_grammar.proofs.Fits.{fit_append, fit_split}
 use Rattle.pg_grammar.proofs.Generic.{Each, Row, some, same_some, bind_some, pick, chosen, many_sound, many_complete}
-use Rattle.pg_grammar.proofs.Terminals.{symbols_exact, symbol_seen, keyword_takes, keyword_again, var_takes, var_again, name_takes, name_again, eat_takes, eat_yes, eat_no, eat_keyword_takes, eat_keyword_yes, eat_keyword_no}
+use Rattle.pg_grammar.proofs.Terminals.{symbols_exact, symbol_seen, keyword_seen, keyword_takes, keyword_again, var_takes, var_again, name_takes, name_again, eat_takes, eat_yes, eat_no, eat_keyword_takes, eat_keyword_yes, eat_keyword_no}
 
 -- ---- the same, said otherwise
 
@@ -40,9 +40,10 @@ pub record Sequence {A B : Type 0} (S : A → List Token → Type 0) (T : A → 
   pub first : S value f
   pub second : T value b g
 
-pub sequence_exact : {A B : Type 0} {limit : ℕ} {S : A → List Token → Type 0} {E : List Token → Type 0} {T : A → B → List Token → Type 0} {F : List Token → Type 0} {p : Parser A} {q : A → Parser B}
-    → Exactly limit p S E → ((a : A) → Exactly limit (q a) (T a) F) → ((a : A) (b : B) (front more : List Token) → T a b front → F more → E (front ++ more)) → Exactly limit (p >>= q) (Sequence S T) F
-sequence_exact {A} {B} {limit} {S} {E} {T} {F} {p} {q} one two follows = record {
+-- behind a first part of so many tokens there are as many less
+pub past_exact : {A B : Type 0} {limit : ℕ} {S : A → List Token → Type 0} {E : List Token → Type 0} {T : A → B → List Token → Type 0} {F : List Token → Type 0} {p : Parser A} {q : A → Parser B} (k : ℕ)
+    → ((a : A) (front : List Token) → S a front → k ≤ length front) → Exactly (limit + k) p S E → ((a : A) → Exactly limit (q a) (T a) F) → ((a : A) (b : B) (front more : List Token) → T a b front → F more → E (front ++ more)) → Exactly (limit + k) (p >>= q) (Sequence S T) F
+past_exact {A} {B} {limit} {S} {E} {T} {F} {p} {q} k taken one two follows = record {
   sound = λ ts b more e.
       let r = bind_some (p ts) q (b, more) e in
       let x = one.sound ts r.0 r.1 r.2 in
@@ -51,9 +52,14 @@ sequence_exact {A} {B} {limit} {S} {E} {T} {F} {p} {q} one two follows = record 
   complete = λ b front more h ends less.
       let there : front ++ more ≡ h.f ++ (h.g ++ more) = ap (λ (l : List Token). l ++ more) h.whole ∙ append_assoc h.f h.g more in
       let len : length (front ++ more) ≡ length h.f + length (h.g ++ more) = ap length there ∙ length-append h.f (h.g ++ more) in
+      let some_tokens = taken h.value h.f h.first in
       let x : p (h.f ++ (h.g ++ more)) ≡ Some (h.value, h.g ++ more) = one.complete h.value h.f (h.g ++ more) h.first (follows h.value b h.g more h.second ends) (omega (arith, ap length there)) in
       rw (there, x) ((two h.value).complete b h.g more h.second ends (omega arith));
 }
+
+pub sequence_exact : {A B : Type 0} {limit : ℕ} {S : A → List Token → Type 0} {E : List Token → Type 0} {T : A → B → List Token → Type 0} {F : List Token → Type 0} {p : Parser A} {q : A → Parser B}
+    → Exactly limit p S E → ((a : A) → Exactly limit (q a) (T a) F) → ((a : A) (b : B) (front more : List Token) → T a b front → F more → E (front ++ more)) → Exactly limit (p >>= q) (Sequence S T) F
+sequence_exact one two follows = fewer (omega arith) (past_exact 0 (λ a front h. omega arith) (fewer (omega arith) one) two follows)
 
 -- behind a token
 pub record Behind {A : Type 0} (m : Mark) (S : A → List Token → Type 0) (a : A) (front : List Token) : Type 0 where
@@ -69,22 +75,17 @@ ReadsMark m p = (n : ℕ) → Exactly n p (λ u front. Fit front (m ∷ [])) Any
 
 -- behind a token there is one less
 pub leading_exact : {A : Type 0} {limit : ℕ} {m : Mark} {S : A → List Token → Type 0} {E : List Token → Type 0} {p : Parser (Unit {0})} {q : Parser A} → ReadsMark m p → Exactly limit q S E → Exactly (limit + 1) (p >> q) (Behind m S) E
-leading_exact {A} {limit} {m} {S} {E} {p} {q} one exact = record {
-  sound = λ ts a more e.
-      let b = bind_some (p ts) (λ _. q) (a, more) e in
-      let t = (one 0).sound ts b.0 b.1 b.2 in
-      let r = exact.sound b.1 a more b.3 in
-      (t.0 ++ r.0, t.1 ∙ ap (λ (l : List Token). t.0 ++ l) r.1 ∙ sym (append_assoc t.0 r.0 more), by a t.0 r.0 t.2 r.2);
-  complete = λ a front more h ends less.
-      let len : length (front ++ more) ≡ length (h.token ∷ (h.others ++ more)) = ap (λ (l : List Token). length (l ++ more)) h.whole in
-      let x : p (h.token ∷ (h.others ++ more)) ≡ Some (tt, h.others ++ more) = (one (limit + 1)).complete tt (h.token ∷ []) (h.others ++ more) (h.accepts, tt) tt (omega arith) in
-      rw (h.whole, x) (exact.complete a h.others more h.inner ends (omega arith));
-}
+leading_exact {A} {limit} {m} {S} {E} one exact = restated (past_exact 1 (λ u f h. taken f h) (one (limit + 1)) (λ u. exact) (λ u a front more h ends. tt)) (λ a front h. by a front h.f h.g h.whole h.first h.second)
+    (λ a front h. record { value = tt; f = h.token ∷ []; g = h.others; whole = h.whole; first = (h.accepts, tt); second = h.inner }) (λ more ends. ends)
   where
-    by : (a : A) (f g : List Token) → Fit f (m ∷ []) → S a g → Behind m S a (f ++ g)
-    by a [] g fits h = absurd fits
-    by a (t ∷ []) g fits h = record { token = t; others = g; whole = refl; accepts = fits.0; inner = h }
-    by a (t ∷ u ∷ f) g fits h = absurd fits.1
+    taken : (f : List Token) → Fit f (m ∷ []) → 1 ≤ length f
+    taken [] fits = absurd fits
+    taken (t ∷ f) fits = omega arith
+
+    by : (a : A) (front f g : List Token) → front ≡ f ++ g → Fit f (m ∷ []) → S a g → Behind m S a front
+    by a front [] g e fits h = absurd fits
+    by a front (t ∷ []) g e fits h = record { token = t; others = g; whole = e; accepts = fits.0; inner = h }
+    by a front (t ∷ u ∷ f) g e fits h = absurd fits.1
 
 pub behind_exact : {A : Type 0} {limit : ℕ} {m : Mark} {S : A → List Token → Type 0} {E : List Token → Type 0} {p : Parser (Unit {0})} {q : Parser A} → ReadsMark m p → Exactly limit q S E → Exactly limit (p >> q) (Behind m S) E
 behind_exact one exact = fewer (omega arith) (leading_exact one exact)
@@ -298,10 +299,10 @@ or_none_exact {A} {n} {p} {P} {Q} {m} begins empty none weaker stronger exact se
 
 -- any number, each with its marks, behind those found
 pub row_exact : {A : Type 0} {n : ℕ} {piece : Parser A} {P : A → Type 0} {m : A → List Mark} {E F : List Token → Type 0} (begins : Test) (found : List A) → begins [] ≡ false → Exactly n piece (Fitting P m) E
-    → ((a : A) (front more : List Token) → Fit front (m a) → begins (front ++ more) ≡ true) → ((more : List Token) → F more → After begins E more) → ((more : List Token) → begins more ≡ true → E more)
+    → ((a : A) (front more : List Token) → Fitting P m a front → begins (front ++ more) ≡ true) → ((more : List Token) → F more → After begins E more) → ((more : List Token) → begins more ≡ true → E more)
     → Exactly n (many begins piece found) (Made (λ xs. found ++ xs) (Fitting (AllByRecursion P) (λ xs. joined (map m xs)))) F
 row_exact {A} {n} {piece} {P} {m} begins found none exact seen ends goes =
-    restated (many_exact begins found none exact (λ a front more h. seen a front more h.fits) ends goes)
+    restated (many_exact begins found none exact seen ends goes)
     (λ all front h. record { value = h.value; is = h.is; inner = out h.value front h.inner }) (λ all front h. record { value = h.value; is = h.is; inner = into h.value front h.inner.well h.inner.fits }) (λ more h. h)
   where
     out : (xs : List A) (front : List Token) → Each (Fitting P m) xs front → Fitting (AllByRecursion P) (λ xs. joined (map m xs)) xs front
@@ -313,7 +314,7 @@ row_exact {A} {n} {piece} {P} {m} begins found none exact seen ends goes =
     into (x ∷ xs) front well fits = let r = fit_split front (m x) (joined (map m xs)) fits in (r.0, r.1, r.2, fitting well.0 r.3, into xs r.1 well.1 r.4)
 
 pub rows_exact : {A : Type 0} {n : ℕ} {piece : Parser A} {P : A → Type 0} {m : A → List Mark} {E F : List Token → Type 0} (begins : Test) → begins [] ≡ false → Exactly n piece (Fitting P m) E
-    → ((a : A) (front more : List Token) → Fit front (m a) → begins (front ++ more) ≡ true) → ((more : List Token) → F more → After begins E more) → ((more : List Token) → begins more ≡ true → E more)
+    → ((a : A) (front more : List Token) → Fitting P m a front → begins (front ++ more) ≡ true) → ((more : List Token) → F more → After begins E more) → ((more : List Token) → begins more ≡ true → E more)
     → Exactly n (many begins piece []) (Fitting (AllByRecursion P) (λ xs. joined (map m xs))) F
 rows_exact {A} {n} {piece} {P} {m} begins none exact seen ends goes =
     restated (row_exact begins [] none exact seen ends goes)
@@ -375,6 +376,10 @@ pub symbol_begins : (x : Symbol) (ms : List Mark) (front more : List Token) → 
 symbol_begins x ms [] more fits = absurd fits
 symbol_begins x ms (t ∷ front) more fits = symbol_seen x t (front ++ more) fits.0
 
+pub keyword_begins : (x : Keyword) (ms : List Mark) (front more : List Token) → Fit front (key x ∷ ms) → sees_keyword x (front ++ more) ≡ true
+keyword_begins x ms [] more fits = absurd fits
+keyword_begins x ms (t ∷ front) more fits = keyword_seen x t (front ++ more) fits.0
+
 -- what may follow the last item
 abbrev pub AfterItems : (List Token → Type 0) → List Token → Type 0
 AfterItems = After (sees_symbol s.Comma)
@@ -391,7 +396,7 @@ module _ {A : Type 0} {limit : ℕ} {ok : A → Type 0} {ms : A → List Mark} {
   further_is (x ∷ xs) = ap (λ (ns : List Mark). sign s.Comma ∷ ms x ++ ns) (further_is xs)
 
   commas_exact : (found : List A) → Exactly limit (many (sees_symbol s.Comma) (comma_and item) found) (Made (λ xs. found ++ xs) Behinds) (AfterItems E)
-  commas_exact found = row_exact (sees_symbol s.Comma) found refl (behind (symbol_exact s.Comma) exact) (λ x front more fits. symbol_begins s.Comma (ms x) front more fits) (λ more h. h) goes
+  commas_exact found = row_exact (sees_symbol s.Comma) found refl (behind (symbol_exact s.Comma) exact) (λ x front more h. symbol_begins s.Comma (ms x) front more h.fits) (λ more h. h) goes
 
   pub further_exact : Exactly limit (many (sees_symbol s.Comma) (comma_and item) []) (Fitting (AllByRecursion ok) (λ xs. further (map ms xs))) (AfterItems E)
   further_exact =
@@ -425,11 +430,20 @@ abbrev pub Starts : List Mark → Type 0
 Starts [] = ⊥
 Starts (m ∷ ms) = Unit {0}
 
+pub here_then : {A : Type 0} {n : ℕ} {f : ℕ → Parser A} {T : ℕ → A → List Token → Type 0} {S : A → List Token → Type 0} {F : List Token → Type 0} → ((at : ℕ) → Exactly n (f at) (T at) F)
+    → ((a : A) (front more : List Token) → T (start_of (front ++ more)) a front → S a front) → ((a : A) (front more : List Token) → S a front → T (start_of (front ++ more)) a front) → Exactly n (here >>= f) S F
+unfolding here
+here_then {A} {n} {f} {T} {S} {F} exact out into = record {
+  sound = λ ts a more e. let r = (exact (start_of ts)).sound ts a more e in (r.0, r.1, out a r.0 more (subst (λ (l : List Token). T (start_of l) a r.0) r.1 r.2));
+  complete = λ a front more h ends less. (exact (start_of (front ++ more))).complete a front more (into a front more h) ends less;
+}
+
 pub here_exact : {A : Type 0} {n : ℕ} {f : ℕ → Parser A} {Well : A → Type 0} {k : A → List Mark} {F : List Token → Type 0} (place : A → ℕ)
     → ((at : ℕ) → Exactly n (f at) (Marked (λ a. place a ≡ at) Well k) F) → ((a : A) → Starts (k a))
     → Exactly n (here >>= f) (Fitting Well (λ a. begun (place a) (k a))) F
-unfolding here
-here_exact {A} {n} {f} {Well} {k} {F} place exact starts = record { sound = found; complete = by }
+here_exact {A} {n} {f} {Well} {k} {F} place exact starts = here_then exact
+    (λ a front more h. fitting h.well (fit_begun (k a) (place a) front more (starts a) h.fits h.known))
+    (λ a front more h. let b = fit_begins (k a) (place a) front more (starts a) h.fits in record { known = b.1; well = h.well; fits = b.0 })
   where
     fit_begun : (ms : List Mark) (at : ℕ) (front more : List Token) → Starts ms → Fit front ms → at ≡ start_of (front ++ more) → Fit front (begun at ms)
     fit_begun [] at front more some fits e = absurd some
@@ -440,13 +454,3 @@ here_exact {A} {n} {f} {Well} {k} {F} place exact starts = record { sound = foun
     fit_begins [] at front more some fits = absurd some
     fit_begins (m ∷ ms) at [] more some fits = absurd fits
     fit_begins (m ∷ ms) at (t ∷ front) more some fits = let a = fits.0 in ((record { spelled = a.spelled; starts = a.starts.1; finishes = a.finishes }, fits.1), sym a.starts.0)
-
-    found : Sound (here >>= f) (Fitting Well (λ a. begun (place a) (k a)))
-    found ts a more e =
-        let r = (exact (start_of ts)).sound ts a more e in
-        (r.0, r.1, fitting r.2.well (fit_begun (k a) (place a) r.0 more (starts a) r.2.fits (r.2.known ∙ ap start_of r.1)))
-
-    by : Complete n (here >>= f) (Fitting Well (λ a. begun (place a) (k a))) F
-    by a front more h ends less =
-        let b = fit_begins (k a) (place a) front more (starts a) h.fits in
-        (exact (start_of (front ++ more))).complete a front more (record { known = b.1; well = h.well; fits = b.0 }) ends less

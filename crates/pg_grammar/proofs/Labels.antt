@@ -26,7 +26,7 @@ pub labels_exact : LabelsAreExact
 unfolding labels
 labels_exact limit =
     restated
-    (sequence_exact (label_exact limit) (λ n. row_exact (sees_symbol s.Colon) (n ∷ []) refl (label_exact limit) (λ m front more fits. symbol_begins s.Colon (name m ∷ []) front more fits) (λ more h. (h, tt)) (λ more h. tt)) (λ n ns y more h ends. tt))
+    (sequence_exact (label_exact limit) (λ n. row_exact (sees_symbol s.Colon) (n ∷ []) refl (label_exact limit) (λ m front more h. symbol_begins s.Colon (name m ∷ []) front more h.fits) (λ more h. (h, tt)) (λ more h. tt)) (λ n ns y more h ends. tt))
     out into (λ more h. h)
   where
     out : (ns : List Name) (front : List Token) → Parts ns front → LabelsSpelled ns front

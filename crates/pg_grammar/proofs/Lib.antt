@@ -23,7 +23,6 @@ pub mod OneReadings
 pub mod Openings
 pub mod Parts
 pub mod Paths
-pub mod Pieces
 pub mod Prefixes
 pub mod ProjectionClauses
 pub mod Projections
@@ -35,10 +34,10 @@ pub mod Separated
 pub mod SetItems
 pub mod Shapes
 pub mod SortItems
+pub mod Sources
 pub mod Spans
 pub mod Stages
 pub mod Suffixes
 pub mod Tails
-pub mod Takes
 pub mod Terminals
 pub mod Tests

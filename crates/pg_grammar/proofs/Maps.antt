@@ -1,42 +1,20 @@
 -- Maps.
-use Rattle.std.proofs.Common.{◌≡◌, ℕ, ◌≤◌, Bool, true, false, List, [], ◌∷◌, ◌++◌, map, Some, refl, sym, ap, subst, ◌∙◌, inl, inr, arith}
+use Rattle.std.proofs.Common.{◌≡◌, ℕ, Bool, true, false, List, [], ◌∷◌, ◌++◌, map, Some, refl, sym, ap, subst, ◌∙◌, inl, inr, arith}
 use Rattle.std.proofs.lemmas.List.{append-nil}
 use Rattle.std.specs.List.{AllByRecursion}
 use Rattle.pg_meaning.specs.declared.lexemes.Symbol.TheVariants as s
-use Rattle.pg_meaning.specs.declared.operators.Operator.{Operator}
-use Rattle.pg_meaning.specs.declared.operators.Operator.TheVariants as op
 use Rattle.pg_meaning.specs.Tokens.{Lexeme, Token}
 use Rattle.pg_meaning.specs.Tree.{Name, Expression, Pairs}
 use Rattle.pg_meaning.specs.Tree as tree
-use Rattle.pg_meaning.specs.Grammar.{any_name, IsSpelled, Mark, sign, name, commas, marks, pair_marks, Fit, IsNonEmpty, IsWellFormed, ArePairs, level, operator_level}
+use Rattle.pg_meaning.specs.Grammar.{any_name, IsSpelled, Mark, sign, name, commas, marks, pair_marks, Fit, IsNonEmpty, IsWellFormed, ArePairs}
 use Rattle.pg_meaning.specs.Parse as parse
 use Rattle.pg_meaning.specs.Parse.{Parser, ◌>>=◌, ◌>>◌, pure, is_symbol, sees_symbol, symbol, eat_symbol, map_pair, map_pairs, pairs_of, separated}
 use Rattle.pg_grammar.specs.Rules.{Complete, Exactly, Exact, Anything, Ends, PairsAreExact}
 use Rattle.pg_grammar.proofs.Generic.{bind_some, same_some}
 use Rattle.pg_grammar.proofs.Combinators.{Fitting, Free, AfterItems, fitting, restated, step, leading, behind, made, ending, symbol_exact, name_exact, items_exact}
+use Rattle.pg_grammar.proofs.Conditions.{whole_exact, comma_ends}
 use Rattle.pg_grammar.proofs.FirstTokens.{shown}
-use Rattle.pg_grammar.proofs.Terminals.{symbol_is, eat_takes, eat_yes, eat_no}
-
-operator_positive : (o : Operator) → 1 ≤ operator_level o
-operator_positive op.Or = omega arith
-operator_positive op.Xor = omega arith
-operator_positive op.And = omega arith
-operator_positive op.Plus = omega arith
-operator_positive op.Minus = omega arith
-operator_positive op.Times = omega arith
-operator_positive op.Divide = omega arith
-operator_positive op.Modulo = omega arith
-operator_positive _ = omega arith
-
--- an expression stands at some level
-pub level_positive : (x : Expression) → IsWellFormed x → 1 ≤ level x
-level_positive (tree.chain x tree.no_operands) well = absurd well.0
-level_positive (tree.chain x (tree.operand o y os)) well = operator_positive o
-level_positive (tree.negation n x) well = omega arith
-level_positive (tree.tests x ts) well = omega arith
-level_positive (tree.signs bs x) well = omega arith
-level_positive (tree.suffixes x xs ls) well = omega arith
-level_positive _ well = omega arith
+use Rattle.pg_grammar.proofs.Terminals.{eat_takes, eat_yes, eat_no}
 
 -- ---- lists of pairs
 
@@ -78,11 +56,6 @@ all_of (tree.pair n x ps) well = ((tt, (well.0, tt)), all_of ps well.1)
 
 -- ---- what follows a pair
 
-comma_ends : (more : List Token) → sees_symbol s.Comma more ≡ true → Ends 1 more
-comma_ends more e =
-    let i = symbol_is s.Comma more e in
-    rw (i.1, i.2.spelled) (omega arith)
-
 abbrev closing : List Mark
 closing = sign s.CloseBrace ∷ []
 
@@ -106,14 +79,10 @@ abbrev behind_opening : Pairs → List Mark
 behind_opening ps = commas (pair_marks ps) ++ sign s.CloseBrace ∷ []
 
 module _ (limit : ℕ) (whole : Parser Expression) (exact : Exact limit 1 whole) where
-  value_exact : Exactly limit whole (Fitting IsWellFormed marks) (Ends 1)
-  value_exact =
-      restated exact (λ x front h. fitting h.well h.fits) (λ x front h. record { well = h.well; tight = level_positive x h.well; fits = h.fits }) (λ more h. h)
-
   pair_exact : Exactly limit (map_pair whole) (Fitting IsPair pair_mark) (Ends 1)
   pair_exact =
       step (λ (p : Pair). p.0) Free (name_exact limit)
-      (λ n. behind (symbol_exact s.Colon) (step (λ (p : Pair). p.1) (λ (p : Pair). (p.0 ≡ n) × Free p) value_exact
+      (λ n. behind (symbol_exact s.Colon) (step (λ (p : Pair). p.1) (λ (p : Pair). (p.0 ≡ n) × Free p) (whole_exact exact)
       (λ x. made (made_pair n x) (λ (p : Pair). (p.1 ≡ x) × ((p.0 ≡ n) × Free p)) (refl, (refl, tt)) (λ p h. rw (← h.0, ← h.1.0) refl))
       (λ p y more well fits ends. ending (Ends 1) y more fits ends)))
       (λ p y more well fits ends. tt)

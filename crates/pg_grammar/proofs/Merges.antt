@@ -89,7 +89,7 @@ on_marks-of (o ∷ os) = ap (λ (ms : List Mark). on_mark o ++ ms) (on_marks-of 
 ons_exact : {limit : ℕ} {whole : Parser Expression} → Exactly limit whole Whole (Ends 1) → LabelsAreExact → Exactly limit (many (sees_keyword k.On) (on_items whole) []) OnsSpelled ClauseEnds
 unfolding parse.same_keyword
 ons_exact exact labels =
-    restated (rows_exact (sees_keyword k.On) refl (on_exact exact labels) (λ o front more fits. shown (is_keyword k.On) (on_mark o) front more (λ l h. rw h.1 refl) fits) (λ more ends. (end_on more ends, (end_comma more ends, end_follow more ends))) (λ more e. (on_comma more e, on_follow more e)))
+    restated (rows_exact (sees_keyword k.On) refl (on_exact exact labels) (λ o front more h. shown (is_keyword k.On) (on_mark o) front more (λ l h. rw h.1 refl) h.fits) (λ more ends. (end_on more ends, (end_comma more ends, end_follow more ends))) (λ more e. (on_comma more e, on_follow more e)))
     (λ os front h. fitting h.well (rw on_marks-of h.fits))
     (λ os front h. fitting h.well (rw on_marks-of at h.fits))
     (λ more ends. ends)

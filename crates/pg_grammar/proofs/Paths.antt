@@ -85,7 +85,7 @@ relationship_begins r ms y more fits = by r.left_head _ y fits
 hops_exact : (limit : ℕ) (whole : Parser Expression) → Exact limit 1 whole → Exactly limit (many begins_relationship (hop whole) []) (Fitting (AllByRecursion IsHop) hop_marks) NoHop
 hops_exact limit whole exact =
     restated
-    (rows_exact begins_relationship refl (hop_exact limit whole exact) (λ h front more fits. relationship_begins h.0 (from_node h) front more fits) (λ more h. (h, tt)) (λ more h. tt))
+    (rows_exact begins_relationship refl (hop_exact limit whole exact) (λ h front more f. relationship_begins h.0 (from_node h) front more f.fits) (λ more h. (h, tt)) (λ more h. tt))
     out into (λ more h. h)
   where
     out : (hs : List Hop) (front : List Token) → Fitting (AllByRecursion HopWell) (λ hs. joined (map from_relationship hs)) hs front → Fitting (AllByRecursion IsHop) hop_marks hs front

@@ -72,7 +72,7 @@ unfolding types
 types_exact limit =
     restated
     (behind_exact (symbol_exact s.Colon) (sequence_exact (name_exact limit)
-    (λ n. row_exact (sees_symbol s.Bar) (made_type true n ∷ []) refl (other_type_exact limit) (λ p front more fits. symbol_begins s.Bar (from_colon p) front more fits) (λ more h. (h, tt)) (λ more h. tt)) (λ n ps y more h ends. tt)))
+    (λ n. row_exact (sees_symbol s.Bar) (made_type true n ∷ []) refl (other_type_exact limit) (λ p front more h. symbol_begins s.Bar (from_colon p) front more h.fits) (λ more h. (h, tt)) (λ more h. tt)) (λ n ps y more h ends. tt)))
     out into (λ more h. h)
   where
     out : (ps : List (Bool × Name)) (front : List Token) → Typed ps front → Fitting HasColon types_marks ps front

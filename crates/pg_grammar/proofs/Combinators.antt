@@ -176,6 +176,24 @@ many_exact {A} {limit} {S} {E} {F} {piece} begins found none exact first ends go
     row : Row limit begins piece S E F
     row = record { read = exact.complete; first = first; some = taken; ends = ends; goes = goes }
 
+pub pieces_exact : {A : Type 0} {limit : ℕ} {S : A → List Token → Type 0} {E F : List Token → Type 0} {piece : Parser A} (begins : Test) → begins [] ≡ false → Exactly limit piece S E
+    → ((a : A) (front more : List Token) → S a front → begins (front ++ more) ≡ true) → ((more : List Token) → F more → After begins E more) → ((more : List Token) → begins more ≡ true → E more) → Exactly limit (many begins piece []) (Each S) F
+pieces_exact {A} {limit} {S} begins none exact first ends goes =
+    restated (many_exact begins [] none exact first ends goes) (λ all front h. subst (λ (xs : List A). Each S xs front) (sym h.is) h.inner) (λ all front h. record { value = all; is = refl; inner = h }) (λ more h. h)
+
+-- a piece with a row behind it
+pub tail_exact : {A B C : Type 0} {limit : ℕ} {P : A → List Token → Type 0} {S : B → List Token → Type 0} {E F : List Token → Type 0} {operand : Parser A} {piece : Parser B} (begins : Test) (build : A → List B → C) → begins [] ≡ false
+    → Exactly limit operand P E → Exactly limit piece S E → ((b : B) (front more : List Token) → S b front → begins (front ++ more) ≡ true) → ((more : List Token) → F more → After begins E more) → ((more : List Token) → begins more ≡ true → E more)
+    → Exactly limit (operand >>= λ x. many begins piece [] >>= λ ps. pure (build x ps)) (Sequence P (λ x. Made (build x) (Each S))) F
+tail_exact {A} {B} {C} {limit} {P} {S} {E} {F} begins build none one exact first ends goes =
+    sequence_exact one (λ x. made_exact (build x) (pieces_exact begins none exact first ends goes)) (λ x c y more h after. follows h.value y more h.inner after)
+  where
+    follows : (ps : List B) (y more : List Token) → Each S ps y → F more → E (y ++ more)
+    follows [] y more each after = rw each ((ends more after).1)
+    follows (p ∷ ps) y more each after =
+        let there : y ++ more ≡ each.0 ++ (each.1 ++ more) = ap (λ (l : List Token). l ++ more) each.2 ∙ append_assoc each.0 each.1 more in
+        rw there (goes _ (first p each.0 (each.1 ++ more) each.3))
+
 -- ---- from marks and to marks
 
 pub no_tokens : (front : List Token) → Fit front [] → front ≡ []
@@ -345,6 +363,21 @@ var_exact n = one_exact grammar.var var_takes var_again
 
 pub name_exact : (n : ℕ) → Exactly n parse.name (Is grammar.name) Anything
 name_exact n = one_exact grammar.name name_takes name_again
+
+-- one of two
+pub choice_exact : {n : ℕ} {p q : Parser (Unit {0})} (begins : Test) (m : Bool → Mark) → ReadsMark (m true) p → ReadsMark (m false) q → ((t : Token) (more : List Token) → Accepts (m true) t → begins (t ∷ more) ≡ true)
+    → ((t : Token) (more : List Token) → Accepts (m false) t → begins (t ∷ more) ≡ false) → Exactly n (branch begins (p >> pure true) (q >> pure false)) (Is m) Anything
+choice_exact begins m one two seen unseen = restated
+    (either_exact begins (behind_exact one (pure_exact true)) (behind_exact two (pure_exact false)) (λ b front more h. rw h.whole (seen h.token (h.others ++ more) h.accepts)) (λ b front more h ends. rw h.whole (unseen h.token (h.others ++ more) h.accepts)))
+    out into (λ more h. h)
+  where
+    out : (b : Bool) (front : List Token) → Either (Behind (m true) (Only true)) (Behind (m false) (Only false)) b front → Is m b front
+    out b front (inl h) = subst (λ c. Is m c front) (sym h.inner.0) (fitting tt (behind_fits h [] (rw h.inner.1 tt)))
+    out b front (inr h) = subst (λ c. Is m c front) (sym h.inner.0) (fitting tt (behind_fits h [] (rw h.inner.1 tt)))
+
+    into : (b : Bool) (front : List Token) → Is m b front → Either (Behind (m true) (Only true)) (Behind (m false) (Only false)) b front
+    into true front h = inl (behind_of h.fits (λ g p. (refl, no_tokens g p)))
+    into false front h = inr (behind_of h.fits (λ g p. (refl, no_tokens g p)))
 
 -- one that may be lacking
 flag_exact : {n : ℕ} {p : Parser Bool} (m : Mark) (begins : Test) → ((ts more : List Token) (b : Bool) → p ts ≡ Some (b, more) → ((b ≡ true) × (t : Token) × (ts ≡ t ∷ more) × Accepts m t) ⊎ ((b ≡ false) × (ts ≡ more)))

@@ -1,5 +1,5 @@
 -- The clause MERGE, with its ON.
-use Rattle.std.proofs.Common.{◌≡◌, ℕ, ◌+◌, Bool, true, false, List, [], ◌∷◌, ◌++◌, map, refl, sym, ap, subst, inl, inr}
+use Rattle.std.proofs.Common.{◌≡◌, ℕ, ◌+◌, Bool, List, [], ◌∷◌, ◌++◌, map, refl, sym, ap, subst}
 use Rattle.std.specs.List.{AllByRecursion}
 use Rattle.pg_meaning.specs.declared.lexemes.Keyword.TheVariants as k
 use Rattle.pg_meaning.specs.Tokens.{Token}
@@ -11,34 +11,17 @@ use Rattle.pg_meaning.specs.Parse as parse
 use Rattle.pg_meaning.specs.Parse.{Parser, ◌>>=◌, ◌>>◌, ◌<$>◌, is_keyword, sees_keyword, many, event, on_items, merge_clause}
 use Rattle.pg_grammar.specs.Rules.{Exactly, Ends, PathSpelled, NoHop, ClauseEnds, ClauseSpelled, LabelsAreExact, Anything}
 use Rattle.pg_grammar.proofs.ClauseEnds.{end_follow, end_comma, end_hop, end_on, on_follow, on_comma}
-use Rattle.pg_grammar.proofs.Combinators.{Is, Only, Fitting, Sequence, Behind, Made, Either, restated, pure_exact, keyword_exact, sequence_exact, behind_exact, leading_exact, made_exact, either_exact, rows_exact, sequence_fits, sequence_of, behind_fits, behind_of, no_tokens, AfterItems, fitting}
-use Rattle.pg_grammar.proofs.FirstTokens.{shown, keyword_first, keyword_other}
+use Rattle.pg_grammar.proofs.Combinators.{choice_exact, Is, Fitting, Sequence, Behind, Made, restated, keyword_exact, sequence_exact, behind_exact, leading_exact, made_exact, rows_exact, sequence_fits, sequence_of, behind_fits, behind_of, no_tokens, AfterItems, fitting}
+use Rattle.pg_grammar.proofs.FirstTokens.{shown}
 use Rattle.pg_grammar.proofs.Conditions.{Whole}
 use Rattle.pg_grammar.proofs.SetItems.{SetsSpelled, sets_exact}
 use Rattle.pg_grammar.proofs.Matches.{PathFits, path_fits}
 
 -- ---- CREATE or MATCH
 
-abbrev Created : Bool → List Token → Type 0
-Created = Behind (key k.Create) (Only true)
-
-abbrev Matched : Bool → List Token → Type 0
-Matched = Behind (key k.Match) (Only false)
-
 event_exact : {limit : ℕ} → Exactly limit event (Is event_mark) Anything
 unfolding parse.same_keyword
-event_exact {limit} = restated
-    (either_exact (sees_keyword k.Create) (behind_exact (keyword_exact k.Create) (pure_exact true)) (behind_exact (keyword_exact k.Match) (pure_exact false))
-    (λ b front more h. keyword_first k.Create front more h) (λ b front more h ends. keyword_other k.Match k.Create refl front more h))
-    out into (λ more ends. tt)
-  where
-    out : (b : Bool) (front : List Token) → Either Created Matched b front → Is event_mark b front
-    out b front (inl h) = subst (λ y. Is event_mark y front) (sym h.inner.0) (fitting tt (behind_fits h [] (rw h.inner.1 tt)))
-    out b front (inr h) = subst (λ y. Is event_mark y front) (sym h.inner.0) (fitting tt (behind_fits h [] (rw h.inner.1 tt)))
-
-    into : (b : Bool) (front : List Token) → Is event_mark b front → Either Created Matched b front
-    into true front h = inl (behind_of h.fits (λ g p. (refl, no_tokens g p)))
-    into false front h = inr (behind_of h.fits (λ g p. (refl, no_tokens g p)))
+event_exact = choice_exact (sees_keyword k.Create) event_mark (keyword_exact k.Create) (keyword_exact k.Match) (λ t more h. rw h.spelled.1 refl) (λ t more h. rw h.spelled.1 refl)
 
 -- ---- ON
 

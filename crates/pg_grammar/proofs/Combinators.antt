@@ -8,7 +8,7 @@ use Rattle.pg_meaning.specs.Tokens.{Token}
 use Rattle.pg_meaning.specs.Grammar.{Mark, key, sign, begun, flag, further, commas, joined, optional_marks, Accepts, Fit, IsNonEmpty, Each as EachOf}
 use Rattle.pg_meaning.specs.Grammar as grammar
 use Rattle.pg_meaning.specs.Parse as parse
-use Rattle.pg_meaning.specs.Parse.{Parser, Test, ◌>>=◌, ◌>>◌, ◌<$>◌, pure, branch, maybe, many, comma_and, separated, sees_symbol, sees_keyword, here, start_of}
+use Rattle.pg_meaning.specs.Parse.{Parser, Test, and_then, rest, ◌>>=◌, ◌>>◌, ◌<$>◌, pure, branch, maybe, many, comma_and, separated, sees_symbol, sees_keyword, here, start_of}
 use Rattle.pg_grammar.specs.Rules.{Exactly, Anything}
 use Rattle.pg_grammar.proofs.Fits.{fit_append, fit_split}
 use Rattle.pg_grammar.proofs.Generic.{Each, Row, some, same_some, bind_some, pick, chosen, many_sound, many_complete}
@@ -73,6 +73,9 @@ pub record Behind {A : Type 0} (m : Mark) (S : A → List Token → Type 0) (a :
 abbrev pub ReadsMark : Mark → Parser (Unit {0}) → Type 0
 ReadsMark m p = (n : ℕ) → Exactly n p (λ u front. Fit front (m ∷ [])) Anything
 
+pub symbol_exact : (x : Symbol) → ReadsMark (sign x) (parse.symbol x)
+symbol_exact x n = symbols_exact n x
+
 -- behind a token there is one less
 pub leading_exact : {A : Type 0} {limit : ℕ} {m : Mark} {S : A → List Token → Type 0} {E : List Token → Type 0} {p : Parser (Unit {0})} {q : Parser A} → ReadsMark m p → Exactly limit q S E → Exactly (limit + 1) (p >> q) (Behind m S) E
 leading_exact {A} {limit} {m} {S} {E} one exact = restated (past_exact 1 (λ u f h. taken f h) (one (limit + 1)) (λ u. exact) (λ u a front more h ends. tt)) (λ a front h. by a front h.f h.g h.whole h.first h.second)
@@ -136,6 +139,22 @@ either_exact {A} {limit} {S} {T} {E} {p} {q} begins one two seen unseen = record
     by a front more (inl h) ends less = ap (λ (b : Bool). pick b (p (front ++ more)) (q (front ++ more))) (seen a front more h) ∙ one.complete a front more h ends less
     by a front more (inr h) ends less = ap (λ (b : Bool). pick b (p (front ++ more)) (q (front ++ more))) (unseen a front more h ends) ∙ two.complete a front more h ends less
 
+-- a symbol that may be lacking, and what its test decides
+pub eat_exact : {A : Type 0} {limit : ℕ} {S T : A → List Token → Type 0} {E : List Token → Type 0} (x : Symbol) (f : Bool → Parser A) → Exactly limit (f true) S E → Exactly limit (f false) T E
+    → ((a : A) (front more : List Token) → T a front → E more → sees_symbol x (front ++ more) ≡ false) → Exactly limit (parse.eat_symbol x >>= f) (Either (Behind (sign x) S) T) E
+unfolding parse.eat_symbol parse.symbol
+eat_exact {A} {limit} {S} {T} {E} x f one two unseen = record {
+  sound = λ ts a more e. branched.sound ts a more (sym (same {u = tt} (sees_symbol x ts) ts) ∙ e);
+  complete = λ a front more h ends less. same {u = tt} (sees_symbol x (front ++ more)) (front ++ more) ∙ branched.complete a front more h ends less;
+}
+  where
+    branched : Exactly limit (branch (sees_symbol x) (parse.symbol x >> f true) (f false)) (Either (Behind (sign x) S) T) E
+    branched = either_exact (sees_symbol x) (behind_exact (symbol_exact x) one) two (λ a front more h. rw h.whole (symbol_seen x h.token (h.others ++ more) h.accepts)) unseen
+
+    same : {u : Unit {0}} (b : Bool) (ts : List Token) → and_then (pick b (some true (rest ts)) (some false ts)) f ≡ pick b (and_then (pick b (some u (rest ts)) None) (λ u. f true)) (f false ts)
+    same true ts = refl
+    same false ts = refl
+
 -- where none begins any more
 abbrev pub After : Test → (List Token → Type 0) → List Token → Type 0
 After begins E more = (begins more ≡ false) × E more
@@ -181,18 +200,20 @@ pub pieces_exact : {A : Type 0} {limit : ℕ} {S : A → List Token → Type 0} 
 pieces_exact {A} {limit} {S} begins none exact first ends goes =
     restated (many_exact begins [] none exact first ends goes) (λ all front h. subst (λ (xs : List A). Each S xs front) (sym h.is) h.inner) (λ all front h. record { value = all; is = refl; inner = h }) (λ more h. h)
 
+-- what stands behind the piece before a row
+pub row_follows : {A : Type 0} {S : A → List Token → Type 0} {E F : List Token → Type 0} {begins : Test} → ((a : A) (front more : List Token) → S a front → begins (front ++ more) ≡ true) → ((more : List Token) → F more → E more) → ((more : List Token) → begins more ≡ true → E more)
+    → (xs : List A) (y more : List Token) → Each S xs y → F more → E (y ++ more)
+row_follows first ends goes [] y more each after = rw each (ends more after)
+row_follows first ends goes (x ∷ xs) y more each after =
+    let there : y ++ more ≡ each.0 ++ (each.1 ++ more) = ap (λ (l : List Token). l ++ more) each.2 ∙ append_assoc each.0 each.1 more in
+    rw there (goes _ (first x each.0 (each.1 ++ more) each.3))
+
 -- a piece with a row behind it
 pub tail_exact : {A B C : Type 0} {limit : ℕ} {P : A → List Token → Type 0} {S : B → List Token → Type 0} {E F : List Token → Type 0} {operand : Parser A} {piece : Parser B} (begins : Test) (build : A → List B → C) → begins [] ≡ false
     → Exactly limit operand P E → Exactly limit piece S E → ((b : B) (front more : List Token) → S b front → begins (front ++ more) ≡ true) → ((more : List Token) → F more → After begins E more) → ((more : List Token) → begins more ≡ true → E more)
     → Exactly limit (operand >>= λ x. many begins piece [] >>= λ ps. pure (build x ps)) (Sequence P (λ x. Made (build x) (Each S))) F
-tail_exact {A} {B} {C} {limit} {P} {S} {E} {F} begins build none one exact first ends goes =
-    sequence_exact one (λ x. made_exact (build x) (pieces_exact begins none exact first ends goes)) (λ x c y more h after. follows h.value y more h.inner after)
-  where
-    follows : (ps : List B) (y more : List Token) → Each S ps y → F more → E (y ++ more)
-    follows [] y more each after = rw each ((ends more after).1)
-    follows (p ∷ ps) y more each after =
-        let there : y ++ more ≡ each.0 ++ (each.1 ++ more) = ap (λ (l : List Token). l ++ more) each.2 ∙ append_assoc each.0 each.1 more in
-        rw there (goes _ (first p each.0 (each.1 ++ more) each.3))
+tail_exact begins build none one exact first ends goes =
+    sequence_exact one (λ x. made_exact (build x) (pieces_exact begins none exact first ends goes)) (λ x c y more h after. row_follows first (λ more after. (ends more after).1) goes h.value y more h.inner after)
 
 -- ---- from marks and to marks
 
@@ -352,9 +373,6 @@ one_exact {A} {n} {p} m takes again = record {
     by a (t ∷ []) more h = again t more a h.0
     by a (t ∷ u ∷ front) more h = absurd h.1
 
-pub symbol_exact : (x : Symbol) → ReadsMark (sign x) (parse.symbol x)
-symbol_exact x n = symbols_exact n x
-
 pub keyword_exact : (x : Keyword) → ReadsMark (key x) (parse.keyword x)
 keyword_exact x n = restated (one_exact (λ u. key x) (keyword_takes x) (λ t more u h. keyword_again x t more h)) (λ u front h. h.fits) (λ u front h. fitting tt h) (λ more h. h)
 
@@ -456,6 +474,45 @@ module _ {A : Type 0} {limit : ℕ} {ok : A → Type 0} {ms : A → List Mark} {
       into : (xs : List A) (front : List Token) → Fitting (Items ok) (λ xs. commas (map ms xs)) xs front → Sequence (Fitting ok ms) (λ x. Made (λ xs. (x ∷ []) ++ xs) Behinds) xs front
       into [] front h = absurd h.well.0
       into (x ∷ xs) front h = sequence_of x (ms x) (further (map ms xs)) h.fits (λ f p. fitting h.well.1.0 p) (λ g p. record { value = xs; is = refl; inner = fitting h.well.1.1 (rw (further_is xs) p) })
+
+  -- none, or several, up to a closing symbol
+  abbrev Closing : {B : Type 0} → Symbol → (List A → B) → B → List Token → Type 0
+  Closing close f = Made f (Fitting (AllByRecursion ok) (λ xs. commas (map ms xs) ++ sign close ∷ []))
+
+  abbrev Closed : {B : Type 0} → Symbol → (List A → B) → B → List Token → Type 0
+  Closed close f = Sequence (Fitting (Items ok) (λ xs. commas (map ms xs))) (λ xs. Behind (sign close) (Only (f xs)))
+
+  pub closed_exact : {B : Type 0} (close : Symbol) (f : List A → B) → ((t : Token) (more : List Token) → Accepts (sign close) t → AfterItems E (t ∷ more)) → Exactly limit (separated item >>= λ xs. parse.symbol close >> pure (f xs)) (Closed close f) Anything
+  closed_exact close f ends = sequence_exact items_exact (λ xs. behind_exact (symbol_exact close) (pure_exact (f xs))) (λ xs a y more h after. rw h.whole (ends h.token (h.others ++ more) h.accepts))
+
+  pub closed_fits : {B : Type 0} (close : Symbol) (f : List A → B) (a : B) (front : List Token) (h : Closed close f a front) → Fit front (commas (map ms h.value) ++ sign close ∷ [])
+  closed_fits close f a front h = sequence_fits h (commas (map ms h.value)) (sign close ∷ []) h.first.fits (behind_fits h.second [] (rw h.second.inner.1 tt))
+
+  pub closed_of : {B : Type 0} (close : Symbol) (f : List A → B) (a : B) (xs : List A) (front : List Token) → a ≡ f xs → Items ok xs → Fit front (commas (map ms xs) ++ sign close ∷ []) → Closed close f a front
+  closed_of close f a xs front is all fits = sequence_of xs (commas (map ms xs)) (sign close ∷ []) fits (λ g p. fitting all p) (λ g p. behind_of p (λ g p. (is, no_tokens g p)))
+
+  pub closing_exact : {B : Type 0} (close : Symbol) (f : List A → B) → ((t : Token) (more : List Token) → Accepts (sign close) t → AfterItems E (t ∷ more))
+      → ((x : A) (ns : List Mark) (front more : List Token) → ok x → Fit front (ms x ++ ns) → sees_symbol close (front ++ more) ≡ false)
+      → Exactly limit (parse.eat_symbol close >>= λ b. elim b [ true ↦ pure (f []) | false ↦ separated item >>= λ xs. parse.symbol close >> pure (f xs) ]) (Closing close f) Anything
+  closing_exact {B} close f ends opens = restated (eat_exact close (λ b. elim b [ true ↦ pure (f []) | false ↦ separated item >>= λ xs. parse.symbol close >> pure (f xs) ]) (pure_exact (f [])) (closed_exact close f ends) unseen) out into (λ more h. h)
+    where
+      unseen : (a : B) (front more : List Token) → Closed close f a front → Anything more → sees_symbol close (front ++ more) ≡ false
+      unseen a front more h after = by h.value h.first.well (closed_fits close f a front h)
+        where
+          by : (xs : List A) → Items ok xs → Fit front (commas (map ms xs) ++ sign close ∷ []) → sees_symbol close (front ++ more) ≡ false
+          by [] all fits = absurd all.0
+          by (x ∷ xs) all fits = opens x (further (map ms xs) ++ sign close ∷ []) front more all.1.0 (rw append_assoc at fits)
+
+      out : (a : B) (front : List Token) → Either (Behind (sign close) (Only (f []))) (Closed close f) a front → Closing close f a front
+      out a front (inl h) = record { value = []; is = h.inner.0; inner = fitting tt (behind_fits h [] (rw h.inner.1 tt)) }
+      out a front (inr h) = record { value = h.value; is = h.second.inner.0; inner = fitting h.first.well.1 (closed_fits close f a front h) }
+
+      into : (a : B) (front : List Token) → Closing close f a front → Either (Behind (sign close) (Only (f []))) (Closed close f) a front
+      into a front h = by h.value h.is h.inner.well h.inner.fits
+        where
+          by : (xs : List A) → a ≡ f xs → AllByRecursion ok xs → Fit front (commas (map ms xs) ++ sign close ∷ []) → Either (Behind (sign close) (Only (f []))) (Closed close f) a front
+          by [] is all fits = inl (behind_of fits (λ g p. (is, no_tokens g p)))
+          by (x ∷ xs) is all fits = inr (closed_of close f a (x ∷ xs) front is (tt, all) fits)
 
 -- ---- where a piece begins
 

@@ -1,13 +1,13 @@
 -- Labels.
-use Rattle.std.proofs.Common.{◌≡◌, ℕ, List, [], ◌∷◌, ◌++◌, map, refl, sym, ap, subst}
+use Rattle.std.proofs.Common.{◌≡◌, ℕ, true, List, [], ◌∷◌, ◌++◌, map, refl, sym, ap, subst}
 use Rattle.std.specs.List.{AllByRecursion}
 use Rattle.pg_meaning.specs.declared.lexemes.Symbol.TheVariants as s
 use Rattle.pg_meaning.specs.Tokens.{Token}
 use Rattle.pg_meaning.specs.Tree.{Name}
-use Rattle.pg_meaning.specs.Grammar.{Mark, sign, name, label_marks, joined}
-use Rattle.pg_meaning.specs.Parse.{sees_symbol, label, labels}
-use Rattle.pg_grammar.specs.Rules.{Exactly, Anything, LabelsSpelled, LabelsAreExact}
-use Rattle.pg_grammar.proofs.Combinators.{Fitting, Free, Sequence, Made, fitting, restated, sequence_exact, sequence_fits, sequence_of, behind, row_exact, symbol_exact, name_exact, all_free, symbol_begins}
+use Rattle.pg_meaning.specs.Grammar.{Mark, sign, name, label_marks, joined, IsNonEmpty}
+use Rattle.pg_meaning.specs.Parse.{sees_symbol, label, labels, labels_if_any}
+use Rattle.pg_grammar.specs.Rules.{Exactly, Anything, LabelsSpelled, LabelsAreExact, NoColon}
+use Rattle.pg_grammar.proofs.Combinators.{narrowed, or_none_exact, Fitting, Free, Sequence, Made, fitting, restated, sequence_exact, sequence_fits, sequence_of, behind, row_exact, symbol_exact, name_exact, all_free, symbol_begins}
 
 abbrev label_mark : Name → List Mark
 label_mark n = sign s.Colon ∷ name n ∷ []
@@ -37,3 +37,13 @@ labels_exact limit =
     into : (ns : List Name) (front : List Token) → LabelsSpelled ns front → Parts ns front
     into [] front h = absurd h.some
     into (n ∷ ns) front h = sequence_of n (label_mark n) (label_marks ns) h.fits (λ f p. fitting tt p) (λ g p. record { value = ns; is = refl; inner = fitting (all_free ns) (rw (marks_of ns) p) })
+
+pub labels_or_none : (limit : ℕ) → Exactly limit labels_if_any (Fitting Free label_marks) NoColon
+labels_or_none limit =
+    narrowed
+    (or_none_exact (sees_symbol s.Colon) refl tt (λ ls h. tt) (λ l ls h. tt) (restated (labels_exact limit) (λ ls front h. fitting h.some h.fits) (λ ls front h. record { some = h.well; fits = h.fits }) (λ more h. h)) seen)
+    (λ more h. (h, h))
+  where
+    seen : (ls : List Name) (front more : List Token) → Fitting IsNonEmpty label_marks ls front → sees_symbol s.Colon (front ++ more) ≡ true
+    seen [] front more h = absurd h.well
+    seen (l ∷ ls) front more h = symbol_begins s.Colon _ front more h.fits

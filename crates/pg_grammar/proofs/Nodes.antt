@@ -7,7 +7,8 @@ use Rattle.pg_meaning.specs.Grammar.{Mark, sign, begun, var_marks, optional_mark
 use Rattle.pg_meaning.specs.Parse as parse
 use Rattle.pg_meaning.specs.Parse.{Parser, ◌>>=◌, ◌>>◌, pure, is_symbol, sees_symbol, begins_var, begins_parameter, begins_integer, symbol, maybe, labels_if_any, properties, node}
 use Rattle.pg_grammar.specs.Rules.{Exactly, Exact, Anything}
-use Rattle.pg_grammar.proofs.Properties.{NoProperties, properties_exact, labels_or_none, var_or_none, behind_properties, behind_labels}
+use Rattle.pg_grammar.proofs.Labels.{labels_or_none}
+use Rattle.pg_grammar.proofs.Properties.{NoProperties, properties_exact, var_or_none, behind_properties, behind_labels}
 use Rattle.pg_grammar.proofs.Combinators.{Marked, Fitting, Free, fitting, restated, step, behind, made, here_exact, symbol_exact, each_free}
 use Rattle.pg_grammar.proofs.FirstTokens.{shown, shows_symbol}
 

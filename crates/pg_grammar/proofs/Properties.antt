@@ -5,13 +5,12 @@ use Rattle.pg_meaning.specs.Tokens.{Lexeme, Token}
 use Rattle.pg_meaning.specs.Tokens as lexeme
 use Rattle.pg_meaning.specs.Tree.{Name, Expression, Pairs, Properties}
 use Rattle.pg_meaning.specs.Tree as tree
-use Rattle.pg_meaning.specs.Grammar.{IsSpelled, Mark, var, var_marks, optional_marks, label_marks, properties_marks, parameter_mark, parameter as parameter_what, Accepts, Fit, IsNonEmpty, AreProperties, Each as EachOf}
+use Rattle.pg_meaning.specs.Grammar.{IsSpelled, Mark, var, var_marks, optional_marks, label_marks, properties_marks, parameter_mark, parameter as parameter_what, Accepts, Fit, AreProperties, Each as EachOf}
 use Rattle.pg_meaning.specs.Parse as parse
 use Rattle.pg_meaning.specs.Parse.{Parser, ◌<$>◌, branch, pure, maybe, is_symbol, sees, sees_symbol, var_of, name_at, parameter_of, with_rest, begins_var, begins_parameter, map_pairs, properties, labels, labels_if_any}
-use Rattle.pg_grammar.specs.Rules.{Exactly, Exact, Anything, PairsSpelled, NoColon}
-use Rattle.pg_grammar.proofs.Labels.{labels_exact}
+use Rattle.pg_grammar.specs.Rules.{Exactly, Exact, Anything, PairsSpelled}
 use Rattle.pg_grammar.proofs.Maps.{pairs_exact}
-use Rattle.pg_grammar.proofs.Combinators.{Fitting, Free, Is, Made, Only, Either, After, fitting, fewer, restated, narrowed, pure_exact, made_exact, either_exact, maybe_exact, or_none_exact, one_exact, var_exact, no_tokens, symbol_begins}
+use Rattle.pg_grammar.proofs.Combinators.{Fitting, Free, Is, Made, Only, Either, After, fitting, fewer, restated, narrowed, pure_exact, made_exact, either_exact, maybe_exact, one_exact, var_exact, no_tokens, symbol_begins}
 use Rattle.pg_grammar.proofs.FirstTokens.{Shows}
 use Rattle.pg_grammar.proofs.Terminals.{var_seen, with_rest_is}
 
@@ -81,17 +80,7 @@ properties_exact limit whole exact =
     into (tree.given ps) front h = inl (record { value = ps; is = refl; inner = record { well = h.well; fits = h.fits } })
     into (tree.from_parameter n) front h = inr (inl (record { value = n; is = refl; inner = fitting tt h.fits }))
 
--- ---- labels and a variable
-
-pub labels_or_none : (limit : ℕ) → Exactly limit labels_if_any (Fitting Free label_marks) NoColon
-labels_or_none limit =
-    narrowed
-    (or_none_exact (sees_symbol s.Colon) refl tt (λ ls h. tt) (λ l ls h. tt) (restated (labels_exact limit) (λ ls front h. fitting h.some h.fits) (λ ls front h. record { some = h.well; fits = h.fits }) (λ more h. h)) seen)
-    (λ more h. (h, h))
-  where
-    seen : (ls : List Name) (front more : List Token) → Fitting IsNonEmpty label_marks ls front → sees_symbol s.Colon (front ++ more) ≡ true
-    seen [] front more h = absurd h.well
-    seen (l ∷ ls) front more h = symbol_begins s.Colon _ front more h.fits
+-- ---- a variable
 
 pub var_begins : (n : Name) (ms : List Mark) (front more : List Token) → Fit front (var n ∷ ms) → begins_var (front ++ more) ≡ true
 var_begins n ms [] more fits = absurd fits

@@ -7,7 +7,7 @@ use Rattle.pg_grammar.specs.Rules.{ExpressionsAreExact, PathsAreExact}
 use Rattle.pg_grammar.proofs.law_of_clauses.Goals as goal
 
 expressions : ExpressionsAreExact
-expressions = expressions_exact labels_exact pairs_exact
+expressions = expressions_exact pairs_exact
 
 paths : PathsAreExact
 paths = paths_exact expressions

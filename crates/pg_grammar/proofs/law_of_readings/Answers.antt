@@ -10,7 +10,7 @@ use Rattle.pg_grammar.specs.Rules.{ExpressionsAreExact, PathsAreExact, ReadingCl
 use Rattle.pg_grammar.proofs.law_of_readings.Goals as goal
 
 expressions : ExpressionsAreExact
-expressions = expressions_exact labels_exact pairs_exact
+expressions = expressions_exact pairs_exact
 
 paths : PathsAreExact
 paths = paths_exact expressions

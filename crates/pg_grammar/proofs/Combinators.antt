@@ -438,6 +438,20 @@ AfterItems = After (sees_symbol s.Comma)
 abbrev pub Items : {A : Type 0} (ok : A → Type 0) → List A → Type 0
 Items ok xs = IsNonEmpty xs × AllByRecursion ok xs
 
+-- items up to a closing symbol
+abbrev pub ClosedItems : {A B : Type 0} → (A → Type 0) → (A → List Mark) → Symbol → (List A → B) → B → List Token → Type 0
+ClosedItems ok ms close f = Sequence (Fitting (Items ok) (λ xs. commas (map ms xs))) (λ xs. Behind (sign close) (Only (f xs)))
+
+pub closed_fits : {A B : Type 0} {ok : A → Type 0} {ms : A → List Mark} {close : Symbol} {f : List A → B} {a : B} {front : List Token} (h : ClosedItems ok ms close f a front) → Fit front (commas (map ms h.value) ++ sign close ∷ [])
+closed_fits {A} {B} {ok} {ms} {close} h = sequence_fits h (commas (map ms h.value)) (sign close ∷ []) h.first.fits (behind_fits h.second [] (rw h.second.inner.1 tt))
+
+pub closed_of : {A B : Type 0} {ok : A → Type 0} {ms : A → List Mark} {close : Symbol} {f : List A → B} {a : B} {front : List Token} (xs : List A) → a ≡ f xs → Items ok xs → Fit front (commas (map ms xs) ++ sign close ∷ []) → ClosedItems ok ms close f a front
+closed_of {A} {B} {ok} {ms} {close} xs is all fits = sequence_of xs (commas (map ms xs)) (sign close ∷ []) fits (λ g p. fitting all p) (λ g p. behind_of p (λ g p. (is, no_tokens g p)))
+
+-- the same, or none
+abbrev pub Closing : {A B : Type 0} → (A → Type 0) → (A → List Mark) → Symbol → (List A → B) → B → List Token → Type 0
+Closing ok ms close f = Made f (Fitting (AllByRecursion ok) (λ xs. commas (map ms xs) ++ sign close ∷ []))
+
 module _ {A : Type 0} {limit : ℕ} {ok : A → Type 0} {ms : A → List Mark} {E : List Token → Type 0} {item : Parser A} (exact : Exactly limit item (Fitting ok ms) E) (goes : (more : List Token) → sees_symbol s.Comma more ≡ true → E more) where
   abbrev Behinds : List A → List Token → Type 0
   Behinds = Fitting (AllByRecursion ok) (λ xs. joined (map (λ x. sign s.Comma ∷ ms x) xs))
@@ -475,44 +489,31 @@ module _ {A : Type 0} {limit : ℕ} {ok : A → Type 0} {ms : A → List Mark} {
       into [] front h = absurd h.well.0
       into (x ∷ xs) front h = sequence_of x (ms x) (further (map ms xs)) h.fits (λ f p. fitting h.well.1.0 p) (λ g p. record { value = xs; is = refl; inner = fitting h.well.1.1 (rw (further_is xs) p) })
 
-  -- none, or several, up to a closing symbol
-  abbrev Closing : {B : Type 0} → Symbol → (List A → B) → B → List Token → Type 0
-  Closing close f = Made f (Fitting (AllByRecursion ok) (λ xs. commas (map ms xs) ++ sign close ∷ []))
-
-  abbrev Closed : {B : Type 0} → Symbol → (List A → B) → B → List Token → Type 0
-  Closed close f = Sequence (Fitting (Items ok) (λ xs. commas (map ms xs))) (λ xs. Behind (sign close) (Only (f xs)))
-
-  pub closed_exact : {B : Type 0} (close : Symbol) (f : List A → B) → ((t : Token) (more : List Token) → Accepts (sign close) t → AfterItems E (t ∷ more)) → Exactly limit (separated item >>= λ xs. parse.symbol close >> pure (f xs)) (Closed close f) Anything
+  pub closed_exact : {B : Type 0} (close : Symbol) (f : List A → B) → ((t : Token) (more : List Token) → Accepts (sign close) t → AfterItems E (t ∷ more)) → Exactly limit (separated item >>= λ xs. parse.symbol close >> pure (f xs)) (ClosedItems ok ms close f) Anything
   closed_exact close f ends = sequence_exact items_exact (λ xs. behind_exact (symbol_exact close) (pure_exact (f xs))) (λ xs a y more h after. rw h.whole (ends h.token (h.others ++ more) h.accepts))
-
-  pub closed_fits : {B : Type 0} (close : Symbol) (f : List A → B) (a : B) (front : List Token) (h : Closed close f a front) → Fit front (commas (map ms h.value) ++ sign close ∷ [])
-  closed_fits close f a front h = sequence_fits h (commas (map ms h.value)) (sign close ∷ []) h.first.fits (behind_fits h.second [] (rw h.second.inner.1 tt))
-
-  pub closed_of : {B : Type 0} (close : Symbol) (f : List A → B) (a : B) (xs : List A) (front : List Token) → a ≡ f xs → Items ok xs → Fit front (commas (map ms xs) ++ sign close ∷ []) → Closed close f a front
-  closed_of close f a xs front is all fits = sequence_of xs (commas (map ms xs)) (sign close ∷ []) fits (λ g p. fitting all p) (λ g p. behind_of p (λ g p. (is, no_tokens g p)))
 
   pub closing_exact : {B : Type 0} (close : Symbol) (f : List A → B) → ((t : Token) (more : List Token) → Accepts (sign close) t → AfterItems E (t ∷ more))
       → ((x : A) (ns : List Mark) (front more : List Token) → ok x → Fit front (ms x ++ ns) → sees_symbol close (front ++ more) ≡ false)
-      → Exactly limit (parse.eat_symbol close >>= λ b. elim b [ true ↦ pure (f []) | false ↦ separated item >>= λ xs. parse.symbol close >> pure (f xs) ]) (Closing close f) Anything
+      → Exactly limit (parse.eat_symbol close >>= λ b. elim b [ true ↦ pure (f []) | false ↦ separated item >>= λ xs. parse.symbol close >> pure (f xs) ]) (Closing ok ms close f) Anything
   closing_exact {B} close f ends opens = restated (eat_exact close (λ b. elim b [ true ↦ pure (f []) | false ↦ separated item >>= λ xs. parse.symbol close >> pure (f xs) ]) (pure_exact (f [])) (closed_exact close f ends) unseen) out into (λ more h. h)
     where
-      unseen : (a : B) (front more : List Token) → Closed close f a front → Anything more → sees_symbol close (front ++ more) ≡ false
-      unseen a front more h after = by h.value h.first.well (closed_fits close f a front h)
+      unseen : (a : B) (front more : List Token) → ClosedItems ok ms close f a front → Anything more → sees_symbol close (front ++ more) ≡ false
+      unseen a front more h after = by h.value h.first.well (closed_fits h)
         where
           by : (xs : List A) → Items ok xs → Fit front (commas (map ms xs) ++ sign close ∷ []) → sees_symbol close (front ++ more) ≡ false
           by [] all fits = absurd all.0
           by (x ∷ xs) all fits = opens x (further (map ms xs) ++ sign close ∷ []) front more all.1.0 (rw append_assoc at fits)
 
-      out : (a : B) (front : List Token) → Either (Behind (sign close) (Only (f []))) (Closed close f) a front → Closing close f a front
+      out : (a : B) (front : List Token) → Either (Behind (sign close) (Only (f []))) (ClosedItems ok ms close f) a front → Closing ok ms close f a front
       out a front (inl h) = record { value = []; is = h.inner.0; inner = fitting tt (behind_fits h [] (rw h.inner.1 tt)) }
-      out a front (inr h) = record { value = h.value; is = h.second.inner.0; inner = fitting h.first.well.1 (closed_fits close f a front h) }
+      out a front (inr h) = record { value = h.value; is = h.second.inner.0; inner = fitting h.first.well.1 (closed_fits h) }
 
-      into : (a : B) (front : List Token) → Closing close f a front → Either (Behind (sign close) (Only (f []))) (Closed close f) a front
+      into : (a : B) (front : List Token) → Closing ok ms close f a front → Either (Behind (sign close) (Only (f []))) (ClosedItems ok ms close f) a front
       into a front h = by h.value h.is h.inner.well h.inner.fits
         where
-          by : (xs : List A) → a ≡ f xs → AllByRecursion ok xs → Fit front (commas (map ms xs) ++ sign close ∷ []) → Either (Behind (sign close) (Only (f []))) (Closed close f) a front
+          by : (xs : List A) → a ≡ f xs → AllByRecursion ok xs → Fit front (commas (map ms xs) ++ sign close ∷ []) → Either (Behind (sign close) (Only (f []))) (ClosedItems ok ms close f) a front
           by [] is all fits = inl (behind_of fits (λ g p. (is, no_tokens g p)))
-          by (x ∷ xs) is all fits = inr (closed_of close f a (x ∷ xs) front is (tt, all) fits)
+          by (x ∷ xs) is all fits = inr (closed_of (x ∷ xs) is (tt, all) fits)
 
 -- ---- where a piece begins
 

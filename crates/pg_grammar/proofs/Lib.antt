@@ -8,7 +8,6 @@ pub mod Clauses
 pub mod Combinators
 pub mod Conditions
 pub mod Deletes
-pub mod Enclosed
 pub mod Expressions
 pub mod FirstTokens
 pub mod Fits
@@ -30,7 +29,6 @@ pub mod Properties
 pub mod Queries
 pub mod Relationships
 pub mod RemoveItems
-pub mod Separated
 pub mod SetItems
 pub mod Shapes
 pub mod SortItems

@@ -13,13 +13,12 @@ use Rattle.pg_meaning.specs.Grammar as grammar
 use Rattle.pg_meaning.specs.Parse as parse
 use Rattle.pg_meaning.specs.Parse.{Parser, branch, ◌>>=◌, ◌>>◌, ◌<$>◌, pure, sees_symbol, symbol, name_at, expressions_of, map_pairs, listed, call, case, word_atom, atom_by, plain_atom, atom}
 use Rattle.pg_grammar.specs.Rules.{Exactly, Anything, Sound, Ends, Spelled, Exact, PairsAreExact}
-use Rattle.pg_grammar.proofs.Generic.{bind_some, same_some, some, chosen}
+use Rattle.pg_grammar.proofs.Generic.{branch_yes, branch_no, bind_some, same_some, some, chosen}
 use Rattle.pg_grammar.proofs.Openings.{symbol_unbound}
 use Rattle.pg_grammar.proofs.Chains.{chain_levels, any_spelled}
 use Rattle.pg_grammar.proofs.Combinators.{Only, Sequence, Behind, behind_exact, sequence_exact, pure_exact, symbol_exact, no_tokens, sequence_fits, sequence_of, behind_fits, behind_of}
 use Rattle.pg_grammar.proofs.Calls.{items_of, items_again, Bracketed, listed_exact, call_exact}
-use Rattle.pg_grammar.proofs.Cases.{case_sound, case_complete}
-use Rattle.pg_grammar.proofs.Tails.{branch_yes, branch_no}
+use Rattle.pg_grammar.proofs.Cases.{case_exact}
 use Rattle.pg_grammar.proofs.Terminals.{symbol_takes, symbol_again, symbol_seen}
 
 -- the name that a token gives
@@ -84,7 +83,7 @@ module _ (limit : ℕ) (whole : Parser Expression) (exact : Exact limit 1 whole)
 
   case_found : (t : Token) (w : List ℕ) → t.lexeme ≡ lexeme.keyword k.Case w → (ts : List Token) (a : Expression) (more : List Token) → case whole ts ≡ Some (a, more) → Found t ts a more
   case_found t w is ts a more e =
-      let c = case_sound limit whole exact ts a more e in
+      let c = (case_exact limit whole exact).sound ts a more e in
       let h = c.2 in
       let made : Spelled 11 (tree.case h.subject h.whens h.otherwise) (t ∷ c.0) = record { well = h.well; tight = omega arith; fits = (record { spelled = (w, is); starts = tt; finishes = tt }, h.fits) } in
       (t ∷ c.0, ap (λ (r : List Token). t ∷ r) c.1, subst (λ (y : Expression). Spelled 11 y (t ∷ c.0)) (sym h.is) made)
@@ -192,7 +191,7 @@ module _ (limit : ℕ) (whole : Parser Expression) (exact : Exact limit 1 whole)
       call_atom n t u (front ++ more) more (tree.call n star distinct xs) fits.0 well.0 fits.1.0 ((call_exact limit whole exact n).complete (tree.call n star distinct xs) front more (record { star = star; distinct = distinct; xs = xs; is = refl; has = well.1; well = well.2; fits = fits.1.1 }) tt (omega arith))
   atom_complete (tree.case subject whens otherwise) [] more well tight fits ends less = absurd fits
   atom_complete (tree.case subject whens otherwise) (t ∷ front) more well tight fits ends less =
-      to_plain t (lexeme.keyword k.Case fits.0.spelled.0) (front ++ more) (tree.case subject whens otherwise) more fits.0.spelled.1 refl (case_complete limit whole exact subject whens otherwise front more well.0 well.1 well.2 well.3 fits.1 (omega arith))
+      to_plain t (lexeme.keyword k.Case fits.0.spelled.0) (front ++ more) (tree.case subject whens otherwise) more fits.0.spelled.1 refl ((case_exact limit whole exact).complete (tree.case subject whens otherwise) front more (record { subject = subject; whens = whens; otherwise = otherwise; is = refl; well = well; fits = fits.1 }) tt (omega arith))
   atom_complete (tree.chain x os) front more well tight fits ends less = absurd (omega (arith, chain_levels os))
   atom_complete (tree.negation n x) front more well tight fits ends less = absurd (omega arith)
   atom_complete (tree.signs bs x) front more well tight fits ends less = absurd (omega arith)

@@ -11,7 +11,7 @@ use Rattle.pg_meaning.specs.Parse as parse
 use Rattle.pg_meaning.specs.Parse.{Parser, Test, and_then, rest, ◌>>=◌, ◌>>◌, ◌<$>◌, pure, branch, maybe, many, comma_and, separated, sees_symbol, sees_keyword, here, start_of}
 use Rattle.pg_grammar.specs.Rules.{Exactly, Anything}
 use Rattle.pg_grammar.proofs.Fits.{fit_append, fit_split}
-use Rattle.pg_grammar.proofs.Generic.{Each, Row, some, same_some, bind_some, pick, chosen, many_sound, many_complete}
+use Rattle.pg_grammar.proofs.Generic.{Each, Row, some, same_some, bind_some, pick, chosen, followed, branch_yes, branch_no, many_sound, many_complete}
 use Rattle.pg_grammar.proofs.Terminals.{symbols_exact, symbol_seen, keyword_seen, keyword_takes, keyword_again, var_takes, var_again, name_takes, name_again, eat_takes, eat_yes, eat_no, eat_keyword_takes, eat_keyword_yes, eat_keyword_no}
 
 -- ---- the same, said otherwise
@@ -136,8 +136,8 @@ either_exact {A} {limit} {S} {T} {E} {p} {q} begins one two seen unseen = record
 }
   where
     by : (a : A) (front more : List Token) → Either S T a front → E more → length (front ++ more) < limit → branch begins p q (front ++ more) ≡ Some (a, more)
-    by a front more (inl h) ends less = ap (λ (b : Bool). pick b (p (front ++ more)) (q (front ++ more))) (seen a front more h) ∙ one.complete a front more h ends less
-    by a front more (inr h) ends less = ap (λ (b : Bool). pick b (p (front ++ more)) (q (front ++ more))) (unseen a front more h ends) ∙ two.complete a front more h ends less
+    by a front more (inl h) ends less = branch_yes begins p q (front ++ more) (seen a front more h) ∙ one.complete a front more h ends less
+    by a front more (inr h) ends less = branch_no begins p q (front ++ more) (unseen a front more h ends) ∙ two.complete a front more h ends less
 
 -- a symbol that may be lacking, and what its test decides
 pub eat_exact : {A : Type 0} {limit : ℕ} {S T : A → List Token → Type 0} {E : List Token → Type 0} (x : Symbol) (f : Bool → Parser A) → Exactly limit (f true) S E → Exactly limit (f false) T E
@@ -200,20 +200,12 @@ pub pieces_exact : {A : Type 0} {limit : ℕ} {S : A → List Token → Type 0} 
 pieces_exact {A} {limit} {S} begins none exact first ends goes =
     restated (many_exact begins [] none exact first ends goes) (λ all front h. subst (λ (xs : List A). Each S xs front) (sym h.is) h.inner) (λ all front h. record { value = all; is = refl; inner = h }) (λ more h. h)
 
--- what stands behind the piece before a row
-pub row_follows : {A : Type 0} {S : A → List Token → Type 0} {E F : List Token → Type 0} {begins : Test} → ((a : A) (front more : List Token) → S a front → begins (front ++ more) ≡ true) → ((more : List Token) → F more → E more) → ((more : List Token) → begins more ≡ true → E more)
-    → (xs : List A) (y more : List Token) → Each S xs y → F more → E (y ++ more)
-row_follows first ends goes [] y more each after = rw each (ends more after)
-row_follows first ends goes (x ∷ xs) y more each after =
-    let there : y ++ more ≡ each.0 ++ (each.1 ++ more) = ap (λ (l : List Token). l ++ more) each.2 ∙ append_assoc each.0 each.1 more in
-    rw there (goes _ (first x each.0 (each.1 ++ more) each.3))
-
 -- a piece with a row behind it
 pub tail_exact : {A B C : Type 0} {limit : ℕ} {P : A → List Token → Type 0} {S : B → List Token → Type 0} {E F : List Token → Type 0} {operand : Parser A} {piece : Parser B} (begins : Test) (build : A → List B → C) → begins [] ≡ false
     → Exactly limit operand P E → Exactly limit piece S E → ((b : B) (front more : List Token) → S b front → begins (front ++ more) ≡ true) → ((more : List Token) → F more → After begins E more) → ((more : List Token) → begins more ≡ true → E more)
     → Exactly limit (operand >>= λ x. many begins piece [] >>= λ ps. pure (build x ps)) (Sequence P (λ x. Made (build x) (Each S))) F
 tail_exact begins build none one exact first ends goes =
-    sequence_exact one (λ x. made_exact (build x) (pieces_exact begins none exact first ends goes)) (λ x c y more h after. row_follows first (λ more after. (ends more after).1) goes h.value y more h.inner after)
+    sequence_exact one (λ x. made_exact (build x) (pieces_exact begins none exact first ends goes)) (λ x c y more h after. followed first (λ more after. (ends more after).1) goes h.value y more h.inner after)
 
 -- ---- from marks and to marks
 
@@ -309,9 +301,9 @@ made {A} {n} {F} a Known known determined =
 
 -- a piece that may be lacking
 pub maybe_exact : {A : Type 0} {n : ℕ} {p : Parser A} {P : A → Type 0} {m : A → List Mark} {E : List Token → Type 0} (begins : Test)
-    → Exactly n p (Fitting P m) E → ((a : A) (front more : List Token) → Fit front (m a) → begins (front ++ more) ≡ true)
+    → Exactly n p (Fitting P m) E → ((a : A) (front more : List Token) → Fitting P m a front → begins (front ++ more) ≡ true)
     → Exactly n (maybe begins p) (Fitting (EachOf P) (optional_marks m)) (After begins E)
-maybe_exact {A} {n} {p} {P} {m} begins exact seen = restated (perhaps_exact begins exact (λ a front more h. seen a front more h.fits)) out into (λ more h. h)
+maybe_exact {A} {n} {p} {P} {m} begins exact seen = restated (perhaps_exact begins exact seen) out into (λ more h. h)
   where
     out : (o : Option A) (front : List Token) → Perhaps (Fitting P m) o front → Fitting (EachOf P) (optional_marks m) o front
     out None front h = rw h (fitting tt tt)

@@ -25,7 +25,7 @@ abbrev pub MayHave : Keyword → Option Expression → List Token → Type 0
 MayHave x = Fitting (grammar.Each IsWellFormed) (optional_marks (keyed x))
 
 pub may_have_exact : {limit : ℕ} {whole : Parser Expression} (x : Keyword) → Exactly limit whole Whole (Ends 1) → Exactly limit (maybe (sees_keyword x) (parse.keyword x >> whole)) (MayHave x) (After (sees_keyword x) (Ends 1))
-may_have_exact x exact = maybe_exact (sees_keyword x) (behind (keyword_exact x) exact) (λ e front more fits. keyword_begins x (marks e) front more fits)
+may_have_exact x exact = maybe_exact (sees_keyword x) (behind (keyword_exact x) exact) (λ e front more h. keyword_begins x (marks e) front more h.fits)
 
 -- ---- several of them
 

@@ -70,7 +70,7 @@ abbrev may_alias : Parser (Option Name)
 may_alias = maybe (sees_keyword k.As) alias
 
 alias_exact : {limit : ℕ} → Exactly limit may_alias (Fitting (EachOf Free) (optional_marks alias_marks)) (After (sees_keyword k.As) Anything)
-alias_exact {limit} = maybe_exact (sees_keyword k.As) (behind (keyword_exact k.As) (var_exact limit)) (λ n front more fits. keyword_begins k.As _ front more fits)
+alias_exact {limit} = maybe_exact (sees_keyword k.As) (behind (keyword_exact k.As) (var_exact limit)) (λ n front more h. keyword_begins k.As _ front more h.fits)
 
 -- its source can be cut from the text
 abbrev pub IsCut : List ℕ → Item → Type 0

@@ -36,6 +36,5 @@ pub mod Sources
 pub mod Spans
 pub mod Stages
 pub mod Suffixes
-pub mod Tails
 pub mod Terminals
 pub mod Tests

@@ -22,7 +22,7 @@ path_variable_exact : (limit : ℕ) → Exactly limit path_variable (Fitting (λ
 path_variable_exact limit = step (λ (n : Name). n) Free (var_exact limit) (λ n. behind (symbol_exact s.Equal) (made n (λ (m : Name). (m ≡ n) × Free m) (refl, tt) (λ m h. sym h.0))) (λ n y more well fits ends. tt)
 
 path_variable_or_none : (limit : ℕ) → Exactly limit (maybe begins_var path_variable) (Fitting (EachOf (λ n. Free n × Free n)) (optional_marks path_variable_marks)) (After begins_var Anything)
-path_variable_or_none limit = maybe_exact begins_var (path_variable_exact limit) (λ n front more fits. var_begins n (sign s.Equal ∷ []) front more fits)
+path_variable_or_none limit = maybe_exact begins_var (path_variable_exact limit) (λ n front more h. var_begins n (sign s.Equal ∷ []) front more h.fits)
 
 each_free : (o : Option Name) → EachOf (λ n. Free n × Free n) o
 each_free None = tt

@@ -87,7 +87,7 @@ var_begins n ms [] more fits = absurd fits
 var_begins n ms (t ∷ front) more fits = var_seen t (front ++ more) n fits.0
 
 pub var_or_none : (limit : ℕ) → Exactly limit (maybe begins_var parse.var) (Fitting (EachOf Free) (optional_marks var_marks)) (After begins_var Anything)
-var_or_none limit = maybe_exact begins_var (var_exact limit) (λ n front more fits. var_begins n [] front more fits)
+var_or_none limit = maybe_exact begins_var (var_exact limit) (λ n front more h. var_begins n [] front more h.fits)
 
 -- ---- what these begin with
 

@@ -120,7 +120,7 @@ unfolding parse.integer
 integer_again t more n h = rw h.spelled refl
 
 integer_or_none : (limit : ℕ) → Exactly limit (maybe begins_integer parse.integer) (Fitting (EachOf Free) (optional_marks integer_marks)) (After begins_integer Anything)
-integer_or_none limit = maybe_exact begins_integer (one_exact (λ n. mark (integer_what n)) integer_takes integer_again) (λ n front more fits. shown _ (integer_marks n) front more (λ l h. rw h refl) fits)
+integer_or_none limit = maybe_exact begins_integer (one_exact (λ n. mark (integer_what n)) integer_takes integer_again) (λ n front more h. shown _ (integer_marks n) front more (λ l h. rw h refl) h.fits)
 
 abbrev is_integer : Lexeme → Bool
 is_integer l = is_some (integer_of l)
@@ -269,7 +269,7 @@ no_var : (d : Detail) (y more : List Token) → AreTypes d.types → Fit y (from
 no_var d y more well fits = shown _ (from_types d) y more (behind_types _ d.types _ well refl (behind_range _ d.range _ refl (past_properties _ d refl (λ q w. refl) refl))) fits
 
 range_or_none : (limit : ℕ) → Exactly limit (maybe (sees_symbol s.Star) range) (Fitting (EachOf IsRange) (optional_marks range_marks)) (After (sees_symbol s.Star) RangeEnds)
-range_or_none limit = maybe_exact (sees_symbol s.Star) (range_exact limit) (λ r front more fits. symbol_begins s.Star _ front more fits)
+range_or_none limit = maybe_exact (sees_symbol s.Star) (range_exact limit) (λ r front more h. symbol_begins s.Star _ front more h.fits)
 
 same_detail : (d : Detail) → detail_marks d ≡ from_bracket d
 same_detail d = simp append_assoc
@@ -323,7 +323,7 @@ NoHead more = sees_symbol s.Greater more ≡ false
 
 detail_or_none : (limit : ℕ) (whole : Parser Expression) → Exact limit 1 whole
     → Exactly limit (maybe (sees_symbol s.OpenBracket) (detail whole)) (Fitting (EachOf IsDetail) (optional_marks detail_marks)) (After (sees_symbol s.OpenBracket) Anything)
-detail_or_none limit whole exact = maybe_exact (sees_symbol s.OpenBracket) (detail_exact limit whole exact) (λ d front more fits. symbol_begins s.OpenBracket _ front more fits)
+detail_or_none limit whole exact = maybe_exact (sees_symbol s.OpenBracket) (detail_exact limit whole exact) (λ d front more h. symbol_begins s.OpenBracket _ front more h.fits)
 
 same_relationship : (r : RelationshipPattern) → relationship_marks r ≡ begun r.place (from_left r)
 same_relationship r = simp append-nil

@@ -109,7 +109,7 @@ unfolding sort_item
 sort_item_exact exact =
     restated
     (step (λ (i : SortItem). i.key) Free exact
-    (λ x. step (λ (i : SortItem). i.direction) (λ (i : SortItem). (i.key ≡ x) × Free i) (maybe_exact begins_direction direction_exact direction_first)
+    (λ x. step (λ (i : SortItem). i.direction) (λ (i : SortItem). (i.key ≡ x) × Free i) (maybe_exact begins_direction direction_exact (λ d front more h. direction_first d front more h.fits))
     (λ d. made (sorted_by x d) (λ (i : SortItem). (i.direction ≡ d) × ((i.key ≡ x) × Free i)) (refl, (refl, tt)) (λ i h. rw (← h.0, ← h.1.0) refl))
     (λ i y more well fits ends. ending (After begins_direction Anything) y more fits (ends.0, tt)))
     (λ i y more well fits ends. key_ends i.direction y more fits ends))

@@ -12,9 +12,9 @@ use Rattle.pg_meaning.specs.Parse as parse
 use Rattle.pg_meaning.specs.Parse.{Parser, Test, branch, ◌>>=◌, ◌>>◌, pure, sees_symbol, symbol, name, labels, labels_if_any, begins_suffix, suffix, all_suffixes, suffixed, atom, post}
 use Rattle.pg_grammar.specs.Rules.{Exactly, follow, Ends, Spelled, Exact}
 use Rattle.pg_grammar.proofs.Fits.{fit_append, fit_split}
-use Rattle.pg_grammar.proofs.Generic.{Each}
+use Rattle.pg_grammar.proofs.Generic.{Each, followed}
 use Rattle.pg_grammar.proofs.Labels.{labels_or_none}
-use Rattle.pg_grammar.proofs.Combinators.{Fitting, Free, Is, Only, Sequence, Behind, Made, Either, After, fitting, fewer, restated, narrowed, leading_exact, behind_exact, sequence_exact, made_exact, pure_exact, either_exact, pieces_exact, row_follows, symbol_exact, name_exact, no_tokens, sequence_fits, sequence_of, behind_fits, behind_of}
+use Rattle.pg_grammar.proofs.Combinators.{Fitting, Free, Is, Only, Sequence, Behind, Made, Either, After, fitting, fewer, restated, narrowed, leading_exact, behind_exact, sequence_exact, made_exact, pure_exact, either_exact, pieces_exact, symbol_exact, name_exact, no_tokens, sequence_fits, sequence_of, behind_fits, behind_of}
 use Rattle.pg_grammar.proofs.FirstTokens.{symbol_first, symbol_other}
 use Rattle.pg_grammar.proofs.Openings.{symbol_binds, symbol_unbound}
 use Rattle.pg_grammar.proofs.Chains.{chain_levels, any_spelled}
@@ -206,4 +206,4 @@ module _ (limit : ℕ) (whole : Parser Expression) (exact : Exact limit 1 whole)
       follows : (x a : Expression) (y more : List Token) → Sequence (Each IsSuffix) (λ fs. Made (suffixed x fs) (Fitting Free label_marks)) a y → Ends 10 more → Ends 11 (y ++ more)
       follows x a y more h ends =
           let there : y ++ more ≡ h.f ++ (h.g ++ more) = ap (λ (r : List Token). r ++ more) h.whole ∙ append_assoc h.f h.g more in
-          rw there (row_follows {F = AfterSuffixes} suffix_first (λ more after. after.1) suffix_goes h.value h.f (h.g ++ more) h.first (labels_after h.second.value h.g more h.second.inner.fits ends))
+          rw there (followed {F = AfterSuffixes} suffix_first (λ more after. after.1) suffix_goes h.value h.f (h.g ++ more) h.first (labels_after h.second.value h.g more h.second.inner.fits ends))

@@ -1,5 +1,5 @@
 -- The items of SET.
-use Rattle.std.proofs.Common.{◌≡◌, ℕ, Bool, true, false, List, [], ◌∷◌, ◌++◌, map, refl, sym, subst, inl, inr, arith}
+use Rattle.std.proofs.Common.{◌≡◌, ℕ, false, List, [], ◌∷◌, ◌++◌, map, refl, sym, subst, inl, inr, arith}
 use Rattle.pg_meaning.specs.declared.lexemes.Symbol.{Symbol}
 use Rattle.pg_meaning.specs.declared.lexemes.Symbol.TheVariants as s
 use Rattle.pg_meaning.specs.Tokens.{Token}
@@ -9,19 +9,15 @@ use Rattle.pg_meaning.specs.Grammar.{Mark, sign, marks, label_marks, set_marks, 
 use Rattle.pg_meaning.specs.Grammar as grammar
 use Rattle.pg_meaning.specs.Parse as parse
 use Rattle.pg_meaning.specs.Parse.{Parser, ◌>>=◌, ◌>>◌, ◌<$>◌, same_symbol, is_symbol, sees_symbol, separated, set_item}
-use Rattle.pg_grammar.specs.Rules.{Exactly, Ends, follow, LabelsSpelled, LabelsAreExact, NoColon}
-use Rattle.pg_grammar.proofs.Terminals.{symbol_is}
+use Rattle.pg_grammar.specs.Rules.{Exactly, Ends, LabelsSpelled, LabelsAreExact, NoColon}
+use Rattle.pg_grammar.proofs.Openings.{symbol_unbound}
 use Rattle.pg_grammar.proofs.Combinators.{Is, Fitting, Sequence, Behind, Made, Either, restated, narrowed, var_exact, name_exact, sequence_exact, behind_exact, made_exact, either_exact, items_exact, sequence_fits, sequence_of, behind_fits, behind_of, AfterItems, fitting, symbol_exact}
 use Rattle.pg_grammar.proofs.FirstTokens.{shown, symbol_first, symbol_other}
 use Rattle.pg_grammar.proofs.Conditions.{Whole, comma_ends}
 
 -- where no expression goes on, there is no colon
 pub no_colon : (more : List Token) → Ends 1 more → NoColon more
-no_colon more ends = at (sees_symbol s.Colon more) refl
-  where
-    at : (b : Bool) → sees_symbol s.Colon more ≡ b → NoColon more
-    at false e = e
-    at true e = let i = symbol_is s.Colon more e in let bad : follow more ≡ 10 = rw (i.1, i.2.spelled) refl in absurd (omega (arith, ends))
+no_colon more ends = symbol_unbound s.Colon more (omega (arith, ends))
 
 -- labels begin with a colon
 pub labels_first : (x : Symbol) → same_symbol s.Colon x ≡ false → (ns : List Name) (front more : List Token) → LabelsSpelled ns front → sees_symbol x (front ++ more) ≡ false

@@ -10,7 +10,7 @@ use Rattle.pg_meaning.specs.declared.operators.Sort.TheVariants as sort
 use Rattle.pg_meaning.specs.Tokens.{Lexeme, Token}
 use Rattle.pg_meaning.specs.Tokens as lexeme
 use Rattle.pg_meaning.specs.Tree.{Expression, SortItem}
-use Rattle.pg_meaning.specs.Grammar.{Mark, key, keyed, marks, optional_marks, direction_marks, sort_marks, order_marks, commas, Accepts, Fit, IsWellFormed, Each as EachOf}
+use Rattle.pg_meaning.specs.Grammar.{Mark, key, keyed, marks, optional_marks, direction_marks, sort_marks, order_marks, commas, Accepts, Fit, IsWellFormed}
 use Rattle.pg_meaning.specs.Parse as parse
 use Rattle.pg_meaning.specs.Parse.{Parser, ◌>>=◌, ◌>>◌, pure, sees_symbol, sees_keyword, maybe, separated, direction_of, direction, sort_item, ordering}
 use Rattle.pg_grammar.specs.Rules.{Ends, Exactly, Anything}
@@ -83,9 +83,6 @@ sorted_by x d = record { key = x; direction = d }
 
 abbrev from_key : SortItem → List Mark
 from_key i = marks i.key ++ (optional_marks direction_marks i.direction ++ [])
-
-abbrev Sorted : SortItem → Type 0
-Sorted i = IsWellFormed i.key × (EachOf Free i.direction × Free i)
 
 comma_sort_ends : (more : List Token) → sees_symbol s.Comma more ≡ true → SortEnds more
 comma_sort_ends more e = let i = symbol_is s.Comma more e in rw (i.1, i.2.spelled) (refl, omega arith)

@@ -126,9 +126,9 @@ module _ (text : List ℕ) {n : ℕ} {whole : Parser Expression} (exact : Exact 
       let made = item_made c.0 b.0 d.0 one.0 b.1 one.2.well one.2.fits cut_at in
       let x : Item = item_with (start_of (one.0 ++ b.1)) c.0 b.0 d.0 in
       let is : x ≡ a = ap (λ (old : List Token). item_with (start_of old) c.0 b.0 d.0) (sym one.1) ∙ last.0 in
-      let spelled : Fitting (IsItem text) item_marks x (one.0 ++ two.0) = fitting (one.2.well, made.0) (fit_append one.0 two.0 (value_marks x) (optional_marks alias_marks d.0) made.1 two.2.fits) in
+      let spelled : Fitting (IsItem text) item_marks x (one.0 ++ two.0) = fitting {front = one.0 ++ two.0} (one.2.well, made.0) (fit_append one.0 two.0 (value_marks x) (optional_marks alias_marks d.0) made.1 two.2.fits) in
       let left : b.1 ≡ two.0 ++ more = ◌∙◌ {b = two.0 ++ d.1} {c = two.0 ++ more} (◌∙◌ {c = two.0 ++ d.1} w.1 two.1) (ap (λ (r : List Token). two.0 ++ r) last.1) in
-      (one.0 ++ two.0, ◌∙◌ {b = one.0 ++ (two.0 ++ more)} {c = (one.0 ++ two.0) ++ more} (◌∙◌ {c = one.0 ++ (two.0 ++ more)} one.1 (ap (λ (r : List Token). one.0 ++ r) left)) (sym (append_assoc one.0 two.0 more)), subst (λ (y : Item). Fitting (IsItem text) item_marks y (one.0 ++ two.0)) is spelled)
+      (one.0 ++ two.0, ◌∙◌ {b = one.0 ++ (two.0 ++ more)} {c = (one.0 ++ two.0) ++ more} (◌∙◌ {c = one.0 ++ (two.0 ++ more)} one.1 (ap (λ (r : List Token). one.0 ++ r) left)) (sym {a = (one.0 ++ two.0) ++ more} {b = one.0 ++ (two.0 ++ more)} (append_assoc one.0 two.0 more)), subst (λ (y : Item). Fitting (IsItem text) item_marks y (one.0 ++ two.0)) is spelled)
 
   alias_ends : (a : Option Name) (g more : List Token) → Fit g (optional_marks alias_marks a) → ItemEnds more → Ends 1 (g ++ more)
   alias_ends None g more fits ends = ending (Ends 1) g more fits ends.1

@@ -12,14 +12,13 @@ use Rattle.pg_meaning.specs.Grammar.{Mark, mark, key, sign, integer, string, var
 use Rattle.pg_meaning.specs.Grammar as grammar
 use Rattle.pg_meaning.specs.Parse as parse
 use Rattle.pg_meaning.specs.Parse.{Parser, branch, ◌>>=◌, ◌>>◌, ◌<$>◌, pure, sees_symbol, symbol, name_at, expressions_of, map_pairs, listed, call, case, word_atom, atom_by, plain_atom, atom}
-use Rattle.pg_grammar.specs.Rules.{Sound, Ends, Spelled, Exact, PairsAreExact}
-use Rattle.pg_grammar.proofs.Generic.{bind_some, same_some, some, chosen}
+use Rattle.pg_grammar.specs.Rules.{Exactly, Anything, Sound, Ends, Spelled, Exact, PairsAreExact}
+use Rattle.pg_grammar.proofs.Generic.{branch_yes, branch_no, bind_some, same_some, some, chosen}
 use Rattle.pg_grammar.proofs.Openings.{symbol_unbound}
 use Rattle.pg_grammar.proofs.Chains.{chain_levels, any_spelled}
-use Rattle.pg_grammar.proofs.Enclosed.{items_of, items_again, closed, closed_sound, closed_complete, closed_fits, closed_of}
-use Rattle.pg_grammar.proofs.Calls.{Bracketed, listed_sound, listed_complete, call_sound, call_complete}
-use Rattle.pg_grammar.proofs.Cases.{case_sound, case_complete}
-use Rattle.pg_grammar.proofs.Tails.{branch_yes, branch_no}
+use Rattle.pg_grammar.proofs.Combinators.{Only, Sequence, Behind, behind_exact, sequence_exact, pure_exact, symbol_exact, no_tokens, sequence_fits, sequence_of, behind_fits, behind_of}
+use Rattle.pg_grammar.proofs.Calls.{items_of, items_again, Bracketed, listed_exact, call_exact}
+use Rattle.pg_grammar.proofs.Cases.{case_exact}
 use Rattle.pg_grammar.proofs.Terminals.{symbol_takes, symbol_again, symbol_seen}
 
 -- the name that a token gives
@@ -46,7 +45,7 @@ module _ (limit : ℕ) (whole : Parser Expression) (exact : Exact limit 1 whole)
         | inl h ↦
             let b = bind_some (symbol s.OpenParenthesis ts) (λ _. call whole (name_at t.start false w)) (a, more) h.1 in
             let u = symbol_takes s.OpenParenthesis ts b.1 b.0 b.2 in
-            let c = call_sound limit whole exact (name_at t.start false w) b.1 a more b.3 in
+            let c = (call_exact limit whole exact (name_at t.start false w)).sound b.1 a more b.3 in
             let h = c.2 in
             let made : Spelled 11 (tree.call (name_at t.start false w) h.star h.distinct h.xs) (t ∷ u.0 ∷ c.0) = record {
               well = (refl, h.has, h.well);
@@ -61,23 +60,30 @@ module _ (limit : ℕ) (whole : Parser Expression) (exact : Exact limit 1 whole)
   list_sound t is ts a more e =
       let b = bind_some (listed s.CloseBracket whole ts) (λ xs. pure (tree.list_literal (expressions_of xs))) (a, more) e in
       let g = same_some (tree.list_literal (expressions_of b.0)) a b.1 more b.3 in
-      let one = listed_sound limit whole exact ts b.0 b.1 b.2 in
+      let one = (listed_exact limit whole exact).sound ts b.0 b.1 b.2 in
       let made : Spelled 11 (tree.list_literal (expressions_of b.0)) (t ∷ one.0) = record { well = one.2.well; tight = omega arith; fits = (record { spelled = is; starts = tt; finishes = tt }, one.2.fits) } in
       (t ∷ one.0, ap (λ (r : List Token). t ∷ r) (one.1 ∙ ap (λ (r : List Token). one.0 ++ r) g.1), subst (λ (y : Expression). Spelled 11 y (t ∷ one.0)) g.0 made)
 
-  parentheses_sound : (t : Token) → t.lexeme ≡ lexeme.symbol s.OpenParenthesis → (ts : List Token) (a : Expression) (more : List Token) → closed whole s.CloseParenthesis tree.parentheses ts ≡ Some (a, more) → Found t ts a more
+  abbrev parenthesized : Parser Expression
+  parenthesized = whole >>= λ x. symbol s.CloseParenthesis >> pure (tree.parentheses x)
+
+  parenthesized_exact : Exactly limit parenthesized (Sequence (Spelled 1) (λ x. Behind (sign s.CloseParenthesis) (Only (tree.parentheses x)))) Anything
+  parenthesized_exact = sequence_exact exact (λ x. behind_exact (symbol_exact s.CloseParenthesis) (pure_exact (tree.parentheses x))) (λ x a y more h ends. rw (h.whole, h.accepts.spelled) (omega arith))
+
+  parentheses_sound : (t : Token) → t.lexeme ≡ lexeme.symbol s.OpenParenthesis → (ts : List Token) (a : Expression) (more : List Token) → parenthesized ts ≡ Some (a, more) → Found t ts a more
   parentheses_sound t is ts a more e =
-      let c = closed_sound whole (Spelled 1) s.CloseParenthesis tree.parentheses exact.sound ts a more e in
-      let made : Spelled 11 (tree.parentheses c.0) (t ∷ c.2) = record {
-        well = c.4.spelled.well;
+      let r = parenthesized_exact.sound ts a more e in
+      let h = r.2 in let c = h.second in
+      let made : Spelled 11 (tree.parentheses h.value) (t ∷ r.0) = record {
+        well = h.first.well;
         tight = omega arith;
-        fits = (record { spelled = is; starts = tt; finishes = tt }, closed_fits (Spelled 1) s.CloseParenthesis c.0 c.2 (marks c.0) c.4 (λ inner h. h.fits));
+        fits = (record { spelled = is; starts = tt; finishes = tt }, sequence_fits h (marks h.value) (sign s.CloseParenthesis ∷ []) h.first.fits (behind_fits c [] (rw c.inner.1 tt)));
       } in
-      (t ∷ c.2, ap (λ (r : List Token). t ∷ r) c.3, subst (λ (y : Expression). Spelled 11 y (t ∷ c.2)) (sym c.1) made)
+      (t ∷ r.0, ap (λ (l : List Token). t ∷ l) r.1, subst (λ (y : Expression). Spelled 11 y (t ∷ r.0)) (sym c.inner.0) made)
 
   case_found : (t : Token) (w : List ℕ) → t.lexeme ≡ lexeme.keyword k.Case w → (ts : List Token) (a : Expression) (more : List Token) → case whole ts ≡ Some (a, more) → Found t ts a more
   case_found t w is ts a more e =
-      let c = case_sound limit whole exact ts a more e in
+      let c = (case_exact limit whole exact).sound ts a more e in
       let h = c.2 in
       let made : Spelled 11 (tree.case h.subject h.whens h.otherwise) (t ∷ c.0) = record { well = h.well; tight = omega arith; fits = (record { spelled = (w, is); starts = tt; finishes = tt }, h.fits) } in
       (t ∷ c.0, ap (λ (r : List Token). t ∷ r) c.1, subst (λ (y : Expression). Spelled 11 y (t ∷ c.0)) (sym h.is) made)
@@ -143,14 +149,13 @@ module _ (limit : ℕ) (whole : Parser Expression) (exact : Exact limit 1 whole)
   list_complete xs t front more is well fits less =
       let again = items_again xs in
       let spelled : Bracketed (items_of xs) front = record { well = rw again well; fits = rw again fits } in
-      let one : listed s.CloseBracket whole (front ++ more) ≡ Some (items_of xs, more) = listed_complete limit whole exact (items_of xs) front more spelled less in
+      let one : listed s.CloseBracket whole (front ++ more) ≡ Some (items_of xs, more) = (listed_exact limit whole exact).complete (items_of xs) front more spelled tt less in
       to_plain t (lexeme.symbol s.OpenBracket) (front ++ more) (tree.list_literal xs) more is refl (rw one (ap (λ (ys : Expressions). some (tree.list_literal ys) more) again))
 
   parentheses_complete : (x : Expression) (t : Token) (front more : List Token) → t.lexeme ≡ lexeme.symbol s.OpenParenthesis → IsWellFormed x → Fit front (marks x ++ sign s.CloseParenthesis ∷ []) → length (front ++ more) < limit → atom whole (t ∷ (front ++ more)) ≡ Some (tree.parentheses x, more)
   unfolding parse.same_symbol
   parentheses_complete x t front more is well fits less =
-      let c = closed_of (Spelled 1) s.CloseParenthesis x front (marks x) fits (λ inner h. any_spelled x inner well h) in
-      let one = closed_complete limit whole (Spelled 1) (Ends 1) s.CloseParenthesis tree.parentheses exact.complete (λ t more h. rw h.spelled (omega arith)) x front more c less in
+      let one = parenthesized_exact.complete (tree.parentheses x) front more (sequence_of x (marks x) (sign s.CloseParenthesis ∷ []) fits (λ f p. any_spelled x f well p) (λ g p. behind_of p (λ g p. (refl, no_tokens g p)))) tt less in
       to_plain t (lexeme.symbol s.OpenParenthesis) (front ++ more) (tree.parentheses x) more is refl one
 
   call_atom : (f : Name) (t u : Token) (more rest : List Token) (x : Expression) → Accepts (grammar.at_place f.place (grammar.function_name f.text)) t → f.quoted ≡ false → Accepts (sign s.OpenParenthesis) u → call whole f more ≡ Some (x, rest) → atom whole (t ∷ u ∷ more) ≡ Some (x, rest)
@@ -183,10 +188,10 @@ module _ (limit : ℕ) (whole : Parser Expression) (exact : Exact limit 1 whole)
   atom_complete (tree.call n star distinct xs) [] more well tight fits ends less = absurd fits
   atom_complete (tree.call n star distinct xs) (t ∷ []) more well tight fits ends less = absurd fits.1
   atom_complete (tree.call n star distinct xs) (t ∷ u ∷ front) more well tight fits ends less =
-      call_atom n t u (front ++ more) more (tree.call n star distinct xs) fits.0 well.0 fits.1.0 (call_complete limit whole exact n star distinct xs front more well.1 well.2 fits.1.1 (omega arith))
+      call_atom n t u (front ++ more) more (tree.call n star distinct xs) fits.0 well.0 fits.1.0 ((call_exact limit whole exact n).complete (tree.call n star distinct xs) front more (record { star = star; distinct = distinct; xs = xs; is = refl; has = well.1; well = well.2; fits = fits.1.1 }) tt (omega arith))
   atom_complete (tree.case subject whens otherwise) [] more well tight fits ends less = absurd fits
   atom_complete (tree.case subject whens otherwise) (t ∷ front) more well tight fits ends less =
-      to_plain t (lexeme.keyword k.Case fits.0.spelled.0) (front ++ more) (tree.case subject whens otherwise) more fits.0.spelled.1 refl (case_complete limit whole exact subject whens otherwise front more well.0 well.1 well.2 well.3 fits.1 (omega arith))
+      to_plain t (lexeme.keyword k.Case fits.0.spelled.0) (front ++ more) (tree.case subject whens otherwise) more fits.0.spelled.1 refl ((case_exact limit whole exact).complete (tree.case subject whens otherwise) front more (record { subject = subject; whens = whens; otherwise = otherwise; is = refl; well = well; fits = fits.1 }) tt (omega arith))
   atom_complete (tree.chain x os) front more well tight fits ends less = absurd (omega (arith, chain_levels os))
   atom_complete (tree.negation n x) front more well tight fits ends less = absurd (omega arith)
   atom_complete (tree.signs bs x) front more well tight fits ends less = absurd (omega arith)

@@ -1,16 +1,15 @@
 -- The kind of a clause shows in its first token.
-use Rattle.std.proofs.Common.{◌≡◌, ◌<◌, Bool, true, false, List, [], ◌∷◌, length, Option, Some, None, refl, arith}
+use Rattle.std.proofs.Common.{◌≡◌, Bool, true, false, List, [], ◌∷◌, ◌++◌, Option, Some, None, refl}
 use Rattle.std.specs.Prelude.{◌||◌}
 use Rattle.pg_meaning.specs.declared.lexemes.Keyword.TheVariants as k
 use Rattle.pg_meaning.specs.Tokens.{Lexeme, Token}
 use Rattle.pg_meaning.specs.Tokens as lexeme
 use Rattle.pg_meaning.specs.Tree.{Clause}
 use Rattle.pg_meaning.specs.Tree as tree
-use Rattle.pg_meaning.specs.Grammar.{clause_marks, Kind, reading, updating, passing, returning, kind_of}
+use Rattle.pg_meaning.specs.Grammar.{Mark, clause_marks, IsSpelled, Fit, Kind, reading, updating, passing, returning, kind_of}
 use Rattle.pg_meaning.specs.Parse as parse
 use Rattle.pg_meaning.specs.Parse.{is_keyword, sees_keyword, begins_reading, begins_updating}
 use Rattle.pg_grammar.specs.Rules.{begins_clause, ClauseEnds}
-use Rattle.pg_grammar.proofs.Takes.{Takes, takes_first, AnyToken}
 
 -- the kind of the clause that a lexeme begins
 abbrev pub kind_at : Lexeme → Option Kind
@@ -92,20 +91,19 @@ kind_ends a [] h = refl
 kind_ends a (t ∷ ts) h = lexeme_begins a t.lexeme h
 
 -- the first token of a clause
-pub clause_first : {P : Token → Type 0} (c : Clause) (ts more : List Token) → Takes P ts (clause_marks c) more → next_kind ts ≡ Some (kind_of c)
-clause_first (tree.match_paths true ps x) ts more h = let f = takes_first h in rw (f.whole, f.accepts.spelled.1) refl
-clause_first (tree.match_paths false ps x) ts more h = let f = takes_first h in rw (f.whole, f.accepts.spelled.1) refl
-clause_first (tree.unwind x n) ts more h = let f = takes_first h in rw (f.whole, f.accepts.spelled.1) refl
-clause_first (tree.create ps) ts more h = let f = takes_first h in rw (f.whole, f.accepts.spelled.1) refl
-clause_first (tree.merge p os) ts more h = let f = takes_first h in rw (f.whole, f.accepts.spelled.1) refl
-clause_first (tree.set_items xs) ts more h = let f = takes_first h in rw (f.whole, f.accepts.spelled.1) refl
-clause_first (tree.remove_items xs) ts more h = let f = takes_first h in rw (f.whole, f.accepts.spelled.1) refl
-clause_first (tree.delete true xs) ts more h = let f = takes_first h in rw (f.whole, f.accepts.spelled.1) refl
-clause_first (tree.delete false xs) ts more h = let f = takes_first h in rw (f.whole, f.accepts.spelled.1) refl
-clause_first (tree.with_rows p x) ts more h = let f = takes_first h in rw (f.whole, f.accepts.spelled.1) refl
-clause_first (tree.return_rows p) ts more h = let f = takes_first h in rw (f.whole, f.accepts.spelled.1) refl
+first_kind : {a : Kind} (m : Mark) (ms : List Mark) (front more : List Token) → Fit front (m ∷ ms) → ((l : Lexeme) → IsSpelled m.what l → kind_at l ≡ Some a) → next_kind (front ++ more) ≡ Some a
+first_kind m ms [] more fits is = absurd fits
+first_kind m ms (t ∷ front) more fits is = is t.lexeme fits.0.spelled
 
--- a clause has a token
-pub clause_some : (c : Clause) (front : List Token) → (Takes AnyToken front (clause_marks c) []) → 0 < length front
-clause_some c [] h = let bad = clause_first c [] [] h in absurd cc
-clause_some c (t ∷ front) h = omega arith
+pub clause_first : (c : Clause) (ms : List Mark) (front more : List Token) → Fit front (clause_marks c ++ ms) → next_kind (front ++ more) ≡ Some (kind_of c)
+clause_first (tree.match_paths true ps x) ms front more fits = first_kind _ _ front more fits (λ l h. rw h.1 refl)
+clause_first (tree.match_paths false ps x) ms front more fits = first_kind _ _ front more fits (λ l h. rw h.1 refl)
+clause_first (tree.unwind x n) ms front more fits = first_kind _ _ front more fits (λ l h. rw h.1 refl)
+clause_first (tree.create ps) ms front more fits = first_kind _ _ front more fits (λ l h. rw h.1 refl)
+clause_first (tree.merge p os) ms front more fits = first_kind _ _ front more fits (λ l h. rw h.1 refl)
+clause_first (tree.set_items xs) ms front more fits = first_kind _ _ front more fits (λ l h. rw h.1 refl)
+clause_first (tree.remove_items xs) ms front more fits = first_kind _ _ front more fits (λ l h. rw h.1 refl)
+clause_first (tree.delete true xs) ms front more fits = first_kind _ _ front more fits (λ l h. rw h.1 refl)
+clause_first (tree.delete false xs) ms front more fits = first_kind _ _ front more fits (λ l h. rw h.1 refl)
+clause_first (tree.with_rows p x) ms front more fits = first_kind _ _ front more fits (λ l h. rw h.1 refl)
+clause_first (tree.return_rows p) ms front more fits = first_kind _ _ front more fits (λ l h. rw h.1 refl)

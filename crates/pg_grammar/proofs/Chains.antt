@@ -1,5 +1,5 @@
 -- Chains of operands with operators of one level between.
-use Rattle.std.proofs.Common.{◌≡◌, ◌≢◌, ℕ, suc, ◌<◌, ◌≤◌, Bool, true, false, is_some, List, [], ◌∷◌, ◌++◌, length, Option, Some, None, refl, sym, ap, subst, ◌∙◌, inl, inr, arith}
+use Rattle.std.proofs.Common.{◌≡◌, ◌≢◌, ℕ, suc, ◌<◌, ◌≤◌, Bool, true, false, is_some, List, [], ◌∷◌, ◌++◌, Option, Some, None, refl, sym, ap, subst, ◌∙◌, inl, inr, arith}
 use Rattle.std.proofs.lemmas.List.{append-nil}
 use Rattle.std.proofs.lemmas.Bool.Decides.{nat_tests}
 use Rattle.std.proofs.Math.Nat.{eq-or-lt_of_le}
@@ -12,13 +12,13 @@ use Rattle.pg_meaning.specs.Tokens.{Lexeme, Token}
 use Rattle.pg_meaning.specs.Tokens as lexeme
 use Rattle.pg_meaning.specs.Tree.{Expression, Operands}
 use Rattle.pg_meaning.specs.Tree as tree
-use Rattle.pg_meaning.specs.Grammar.{mark, operator_what, operator_level, chain_level, level, marks, operand_marks, IsSpelled, Accepts, Fit, HasOperands, IsWellFormed, AreOperands}
-use Rattle.pg_meaning.specs.Parse.{Parser, ◌>>=◌, pure, operator_of, at_level, begins_operator, operator, link, operands_of, chained, chain}
-use Rattle.pg_grammar.specs.Rules.{Sound, binding, operator_binding, follow, Ends, Spelled, Exact}
+use Rattle.pg_meaning.specs.Grammar.{Mark, mark, operator_what, operator_level, chain_level, level, marks, operand_marks, IsSpelled, Fit, HasOperands, IsWellFormed, AreOperands}
+use Rattle.pg_meaning.specs.Parse.{Parser, operator_of, at_level, begins_operator, operator, link, operands_of, chained, chain}
+use Rattle.pg_grammar.specs.Rules.{Sound, Complete, Exactly, Anything, binding, operator_binding, follow, Ends, Spelled, Exact}
 use Rattle.pg_grammar.proofs.Fits.{fit_append, fit_split}
-use Rattle.pg_grammar.proofs.Generic.{Each, Row, bind_some, same_some, pick, chosen}
+use Rattle.pg_grammar.proofs.Generic.{Each, pick, chosen}
 use Rattle.pg_grammar.proofs.Openings.{refuted}
-use Rattle.pg_grammar.proofs.Tails.{sound_as, complete_as, Tailed, tail_sound, tail_complete}
+use Rattle.pg_grammar.proofs.Combinators.{Fitting, Free, Sequence, Made, fitting, restated, step, made, tail_exact, ending, no_tokens}
 use Rattle.pg_grammar.proofs.Terminals.{with_rest_is}
 
 -- ---- operators
@@ -146,75 +146,74 @@ any_spelled x front well fits = record { well = well; tight = level_counts x wel
 
 -- ---- an operator and its operand
 
-pub record Linked (at : ℕ) (p : Operator × Expression) (front : List Token) : Type 0 where
-  pub token : Token
-  pub others : List Token
-  pub whole : front ≡ token ∷ others
-  pub accepts : Accepts (mark (operator_what p.0)) token
-  pub same_level : operator_level p.0 ≡ at
-  pub operand : Spelled (suc at) p.1 others
+abbrev LinkedOperand : ℕ → Expression → Type 0
+LinkedOperand at x = IsWellFormed x × (suc at ≤ level x)
+
+abbrev IsLinked : ℕ → Operator × Expression → Type 0
+IsLinked at p = (operator_level p.0 ≡ at) × (LinkedOperand at p.1 × Free p)
+
+abbrev link_marks : Operator × Expression → List Mark
+link_marks p = mark (operator_what p.0) ∷ (marks p.1 ++ [])
+
+abbrev Linked : ℕ → Operator × Expression → List Token → Type 0
+Linked at = Fitting (IsLinked at) link_marks
 
 linked_made : (at : ℕ) (ps : List (Operator × Expression)) (g : List Token) → Each (Linked at) ps g → AreOperands at (operands_of ps) × Fit g (operand_marks (operands_of ps))
 linked_made at [] g each = (tt, rw each tt)
 linked_made at (p ∷ ps) g each =
-    let l = each.3 in
     let more = linked_made at ps each.1 each.4 in
-    let fits : Fit (l.token ∷ (l.others ++ each.1)) (operand_marks (operands_of (p ∷ ps))) = (l.accepts, fit_append l.others each.1 (marks p.1) (operand_marks (operands_of ps)) l.operand.fits more.1) in
-    let g-is : g ≡ l.token ∷ (l.others ++ each.1) = each.2 ∙ ap (λ (r : List Token). r ++ each.1) l.whole in
-    ((l.same_level, l.operand.well, l.operand.tight, more.0), rw g-is fits)
+    let fits : Fit each.0 (mark (operator_what p.0) ∷ marks p.1) = rw append-nil at each.3.fits in
+    let w = each.3.well in
+    ((w.0, w.1.0.0, w.1.0.1, more.0), rw each.2 (fit_append each.0 each.1 (mark (operator_what p.0) ∷ marks p.1) (operand_marks (operands_of ps)) fits more.1))
 
 linked_of : (at : ℕ) (os : Operands) (g : List Token) → AreOperands at os → Fit g (operand_marks os) → (ps : List (Operator × Expression)) × (operands_of ps ≡ os) × Each (Linked at) ps g
-linked_of at tree.no_operands [] are fits = ([], refl, refl)
-linked_of at tree.no_operands (t ∷ g) are fits = absurd fits
-linked_of at (tree.operand o x os) [] are fits = absurd fits
-linked_of at (tree.operand o x os) (t ∷ g) are fits =
-    let parts = fit_split g (marks x) (operand_marks os) fits.1 in
+linked_of at tree.no_operands g are fits = ([], refl, no_tokens g fits)
+linked_of at (tree.operand o x os) g are fits =
+    let parts = fit_split g (mark (operator_what o) ∷ marks x) (operand_marks os) fits in
     let more = linked_of at os parts.1 are.3 parts.4 in
-    let l : Linked at (o, x) (t ∷ parts.0) = record { token = t; others = parts.0; whole = refl; accepts = fits.0; same_level = are.0; operand = record { well = are.1; tight = are.2; fits = parts.3 } } in
-    ((o, x) ∷ more.0, ap (tree.operand o x) more.1, (t ∷ parts.0, parts.1, ap (λ (r : List Token). t ∷ r) parts.2, l, more.2))
+    ((o, x) ∷ more.0, ap (tree.operand o x) more.1, (parts.0, parts.1, parts.2, fitting (are.0, ((are.1, are.2), tt)) (rw append-nil parts.3), more.2))
 
 module _ (limit at : ℕ) (low : at < 9) (not_four : at ≢ 4) (not_six : at ≢ 6) (operand : Parser Expression) (exact : Exact limit (suc at) operand) where
   abbrev ChainTailed : Expression → List Token → Type 0
-  ChainTailed = Tailed (Spelled (suc at)) (Linked at) chained
+  ChainTailed = Sequence (Spelled (suc at)) (λ x. Made (chained x) (Each (Linked at)))
 
-  link_sound : Sound (link at operand) (Linked at)
+  abbrev IsOperator : Operator → List Token → Type 0
+  IsOperator = Fitting (λ o. operator_level o ≡ at) (λ o. mark (operator_what o) ∷ [])
+
+  operator_sound : Sound (operator at) IsOperator
   unfolding operator
-  link_sound [] a more e = absurd cc
-  link_sound (t ∷ ts) a more e =
-      let b = bind_some (operator at (t ∷ ts)) (λ o. operand >>= λ y. pure (o, y)) (a, more) e in
-      let c = bind_some (operand b.1) (λ y. pure (b.0, y)) (a, more) b.3 in
-      let pair : Operator × Expression = (b.0, c.0) in
-      let last = same_some pair a c.1 more c.3 in
-      let w = with_rest_is (at_level at (operator_of t.lexeme)) ts b.0 b.1 b.2 in
-      let o = at_level_is at (operator_of t.lexeme) b.0 w.0 in
-      let one = exact.sound b.1 c.0 c.1 c.2 in
-      let made : Linked at pair (t ∷ one.0) = record { token = t; others = one.0; whole = refl; accepts = record { spelled = operator_spelled t.lexeme b.0 o.0; starts = tt; finishes = tt }; same_level = o.1; operand = one.2 } in
-      (t ∷ one.0, ap (λ (r : List Token). t ∷ r) (w.1 ∙ one.1 ∙ ap (λ (r : List Token). one.0 ++ r) last.1), subst (λ (p : Operator × Expression). Linked at p (t ∷ one.0)) last.0 made)
+  operator_sound [] o more e = absurd cc
+  operator_sound (t ∷ ts) o more e =
+      let w = with_rest_is (at_level at (operator_of t.lexeme)) ts o more e in
+      let i = at_level_is at (operator_of t.lexeme) o w.0 in
+      (t ∷ [], ap (λ (r : List Token). t ∷ r) w.1, fitting i.1 (record { spelled = operator_spelled t.lexeme o i.0; starts = tt; finishes = tt }, tt))
 
-  operator_again : (t : Token) (more : List Token) (o : Operator) → Accepts (mark (operator_what o)) t → operator_level o ≡ at → operator at (t ∷ more) ≡ Some (o, more)
+  operator_complete : Complete limit (operator at) IsOperator Anything
   unfolding operator
-  operator_again t more o h is = rw (operator_found o t.lexeme h.spelled, at_level_found at o is) refl
+  operator_complete o [] more h ends less = absurd h.fits
+  operator_complete o (t ∷ []) more h ends less = rw (operator_found o t.lexeme h.fits.0.spelled, at_level_found at o h.well) refl
+  operator_complete o (t ∷ u ∷ front) more h ends less = absurd h.fits.1
 
-  operator_seen : (t : Token) (more : List Token) (o : Operator) → Accepts (mark (operator_what o)) t → operator_level o ≡ at → begins_operator at (t ∷ more) ≡ true
-  operator_seen t more o h is = rw (operator_found o t.lexeme h.spelled, at_level_found at o is) refl
+  abbrev linked_with : Operator → Expression → Operator × Expression
+  linked_with o x = (o, x)
 
-  link_row : Row limit (begins_operator at) (link at operand) (Linked at) (Ends (suc at)) (Ends at)
-  link_row = record {
-    read = λ p front more l ends less.
-        let len : length (front ++ more) ≡ suc (length (l.others ++ more)) = ap (λ (r : List Token). length (r ++ more)) l.whole in
-        rw (l.whole, operator_again l.token (l.others ++ more) p.0 l.accepts l.same_level, exact.complete p.1 l.others more l.operand ends (omega arith)) refl;
-    first = λ p front more l. rw l.whole (operator_seen l.token (l.others ++ more) p.0 l.accepts l.same_level);
-    some = λ p front l. rw l.whole (omega arith);
-    ends = λ more ends. (operator_unbound at more ends, omega arith);
-    goes = λ more goes. let f = operator_follows at more goes in omega arith;
-  }
+  link_exact : Exactly limit (link at operand) (Linked at) (Ends (suc at))
+  link_exact =
+      step (λ (p : Operator × Expression). p.0) Free (record { sound = operator_sound; complete = operator_complete })
+      (λ o. step (λ (p : Operator × Expression). p.1) (λ (p : Operator × Expression). (p.0 ≡ o) × Free p) (restated exact (λ x front h. fitting (h.well, h.tight) h.fits) (λ x front h. record { well = h.well.0; tight = h.well.1; fits = h.fits }) (λ more h. h))
+      (λ x. made (linked_with o x) (λ (p : Operator × Expression). (p.1 ≡ x) × ((p.0 ≡ o) × Free p)) (refl, (refl, tt)) (λ p h. rw (← h.0, ← h.1.0) refl))
+      (λ p y more well fits ends. ending (Ends (suc at)) y more fits ends))
+      (λ p y more well fits ends. tt)
+
+  link_first : (p : Operator × Expression) (front more : List Token) → Linked at p front → begins_operator at (front ++ more) ≡ true
+  link_first p [] more h = absurd h.fits
+  link_first p (t ∷ front) more h = rw (operator_found p.0 t.lexeme h.fits.0.spelled, at_level_found at p.0 h.well.0) refl
 
   chained_made : (x : Expression) (ps : List (Operator × Expression)) (f g : List Token) → Spelled (suc at) x f → Each (Linked at) ps g → Spelled at (chained x ps) (f ++ g)
   chained_made x [] f g one each = rw (each, append-nil f) (record { well = one.well; tight = omega (arith, one.tight); fits = one.fits })
   chained_made x (p ∷ ps) f g one each =
-      let l = each.3 in
       let more = linked_made at (p ∷ ps) g each in
-      let level_is : operator_level p.0 ≡ at = l.same_level in
+      let level_is : operator_level p.0 ≡ at = each.3.well.0 in
       let are : AreOperands (operator_level p.0) (operands_of (p ∷ ps)) = subst (λ (n : ℕ). AreOperands n (operands_of (p ∷ ps))) (sym level_is) more.0 in
       record { well = (tt, one.well, omega (arith, one.tight), are); tight = omega arith; fits = fit_append f g (marks x) (operand_marks (operands_of (p ∷ ps))) one.fits more.1 }
 
@@ -223,7 +222,7 @@ module _ (limit at : ℕ) (low : at < 9) (not_four : at ≢ 4) (not_six : at ≢
       let parts = fit_split front (marks x) (operand_marks os) fits in
       let are : AreOperands at os = subst (λ (n : ℕ). AreOperands n os) is well.3 in
       let l = linked_of at os parts.1 are parts.4 in
-      record { x = x; ps = l.0; f = parts.0; g = parts.1; is = by os well.0 l.0 l.1; whole = parts.2; head = record { well = well.1; tight = omega (arith, well.2); fits = parts.3 }; others = l.2 }
+      record { value = x; f = parts.0; g = parts.1; whole = parts.2; first = record { well = well.1; tight = omega (arith, well.2); fits = parts.3 }; second = record { value = l.0; is = by os well.0 l.0 l.1; inner = l.2 } }
     where
       by : (os : Operands) → HasOperands os → (ps : List (Operator × Expression)) → operands_of ps ≡ os → tree.chain x os ≡ chained x ps
       by os has [] e = absurd (subst HasOperands (sym e) has)
@@ -238,15 +237,13 @@ module _ (limit at : ℕ) (low : at < 9) (not_four : at ≢ 4) (not_six : at ≢
   tailed_of a front h =
       elim (eq-or-lt_of_le h.tight) [
         | inl e ↦ chained_of a front h.well h.fits (sym e)
-        | inr less ↦ record { x = a; ps = []; f = front; g = []; is = refl; whole = sym (append-nil front); head = record { well = h.well; tight = less; fits = h.fits }; others = refl }
+        | inr less ↦ record { value = a; f = front; g = []; whole = sym (append-nil front); first = record { well = h.well; tight = less; fits = h.fits }; second = record { value = []; is = refl; inner = refl } }
       ]
 
   tailed_made : (a : Expression) (front : List Token) → ChainTailed a front → Spelled at a front
-  tailed_made a front h = rw (h.is, h.whole) (chained_made h.x h.ps h.f h.g h.head h.others)
+  tailed_made a front h = rw (h.second.is, h.whole) (chained_made h.value h.second.value h.f h.g h.first h.second.inner)
 
   pub chain_exact : Exact limit at (chain at operand)
   unfolding chain
-  chain_exact = record {
-    sound = sound_as (chain at operand) _ _ (tail_sound (Spelled (suc at)) (Linked at) operand (begins_operator at) (link at operand) chained exact.sound link_sound) tailed_made;
-    complete = complete_as limit (chain at operand) _ _ _ (tail_complete (Spelled (suc at)) (Linked at) operand (begins_operator at) (link at operand) limit chained (Ends (suc at)) (Ends at) exact.complete link_row) tailed_of;
-  }
+  chain_exact =
+      restated (tail_exact (begins_operator at) chained refl exact link_exact link_first (λ more ends. (operator_unbound at more ends, omega arith)) (λ more goes. let f = operator_follows at more goes in omega arith)) tailed_made tailed_of (λ more h. h)

@@ -1,5 +1,5 @@
 -- What doesn't stand behind a clause.
-use Rattle.std.proofs.Common.{◌≡◌, ◌<◌, true, false, List, [], ◌∷◌, is_some, refl, arith}
+use Rattle.std.proofs.Common.{◌≡◌, ◌<◌, true, false, List, [], ◌∷◌, refl, arith}
 use Rattle.pg_meaning.specs.declared.lexemes.Keyword.TheVariants as k
 use Rattle.pg_meaning.specs.declared.lexemes.Symbol.TheVariants as s
 use Rattle.pg_meaning.specs.Tokens.{Lexeme, Token}
@@ -10,22 +10,22 @@ use Rattle.pg_grammar.specs.Rules.{binding, follow, begins_clause, ClauseEnds, N
 use Rattle.pg_grammar.proofs.Terminals.{keyword_is}
 
 abbrev Ended : Lexeme → Type 0
-Ended l = (binding l ≡ 0) × (is_symbol s.Less l ≡ false) × (is_symbol s.Minus l ≡ false) × (is_symbol s.Comma l ≡ false) × (is_symbol s.Colon l ≡ false) × (is_keyword k.Where l ≡ false) × (is_keyword k.On l ≡ false) × (is_keyword k.As l ≡ false) × (is_keyword k.Order l ≡ false) × (is_keyword k.Skip l ≡ false) × (is_keyword k.Limit l ≡ false) × (is_some (direction_of l) ≡ false)
+Ended l = (binding l ≡ 0) × (is_symbol s.Less l ≡ false) × (is_symbol s.Minus l ≡ false) × (is_symbol s.Comma l ≡ false) × (is_symbol s.Colon l ≡ false) × (is_keyword k.Where l ≡ false) × (is_keyword k.On l ≡ false)
 
 ended : (l : Lexeme) → begins_clause l ≡ true → Ended l
 unfolding parse.same_symbol parse.same_keyword
-ended (lexeme.symbol s.Semicolon) e = (refl, refl, refl, refl, refl, refl, refl, refl, refl, refl, refl, refl)
-ended (lexeme.keyword k.Optional w) e = (refl, refl, refl, refl, refl, refl, refl, refl, refl, refl, refl, refl)
-ended (lexeme.keyword k.Match w) e = (refl, refl, refl, refl, refl, refl, refl, refl, refl, refl, refl, refl)
-ended (lexeme.keyword k.Unwind w) e = (refl, refl, refl, refl, refl, refl, refl, refl, refl, refl, refl, refl)
-ended (lexeme.keyword k.Create w) e = (refl, refl, refl, refl, refl, refl, refl, refl, refl, refl, refl, refl)
-ended (lexeme.keyword k.Merge w) e = (refl, refl, refl, refl, refl, refl, refl, refl, refl, refl, refl, refl)
-ended (lexeme.keyword k.Set w) e = (refl, refl, refl, refl, refl, refl, refl, refl, refl, refl, refl, refl)
-ended (lexeme.keyword k.Remove w) e = (refl, refl, refl, refl, refl, refl, refl, refl, refl, refl, refl, refl)
-ended (lexeme.keyword k.Detach w) e = (refl, refl, refl, refl, refl, refl, refl, refl, refl, refl, refl, refl)
-ended (lexeme.keyword k.Delete w) e = (refl, refl, refl, refl, refl, refl, refl, refl, refl, refl, refl, refl)
-ended (lexeme.keyword k.With w) e = (refl, refl, refl, refl, refl, refl, refl, refl, refl, refl, refl, refl)
-ended (lexeme.keyword k.Return w) e = (refl, refl, refl, refl, refl, refl, refl, refl, refl, refl, refl, refl)
+ended (lexeme.symbol s.Semicolon) e = (refl, refl, refl, refl, refl, refl, refl)
+ended (lexeme.keyword k.Optional w) e = (refl, refl, refl, refl, refl, refl, refl)
+ended (lexeme.keyword k.Match w) e = (refl, refl, refl, refl, refl, refl, refl)
+ended (lexeme.keyword k.Unwind w) e = (refl, refl, refl, refl, refl, refl, refl)
+ended (lexeme.keyword k.Create w) e = (refl, refl, refl, refl, refl, refl, refl)
+ended (lexeme.keyword k.Merge w) e = (refl, refl, refl, refl, refl, refl, refl)
+ended (lexeme.keyword k.Set w) e = (refl, refl, refl, refl, refl, refl, refl)
+ended (lexeme.keyword k.Remove w) e = (refl, refl, refl, refl, refl, refl, refl)
+ended (lexeme.keyword k.Detach w) e = (refl, refl, refl, refl, refl, refl, refl)
+ended (lexeme.keyword k.Delete w) e = (refl, refl, refl, refl, refl, refl, refl)
+ended (lexeme.keyword k.With w) e = (refl, refl, refl, refl, refl, refl, refl)
+ended (lexeme.keyword k.Return w) e = (refl, refl, refl, refl, refl, refl, refl)
 ended _ e = absurd cc
 
 pub end_follow : (more : List Token) → ClauseEnds more → follow more < 1
@@ -51,26 +51,6 @@ end_where (t ∷ ts) e = (ended t.lexeme e).5
 pub end_on : (more : List Token) → ClauseEnds more → sees_keyword k.On more ≡ false
 end_on [] e = refl
 end_on (t ∷ ts) e = (ended t.lexeme e).6
-
-pub end_as : (more : List Token) → ClauseEnds more → sees_keyword k.As more ≡ false
-end_as [] e = refl
-end_as (t ∷ ts) e = (ended t.lexeme e).7
-
-pub end_order : (more : List Token) → ClauseEnds more → sees_keyword k.Order more ≡ false
-end_order [] e = refl
-end_order (t ∷ ts) e = (ended t.lexeme e).8
-
-pub end_skip : (more : List Token) → ClauseEnds more → sees_keyword k.Skip more ≡ false
-end_skip [] e = refl
-end_skip (t ∷ ts) e = (ended t.lexeme e).9
-
-pub end_limit : (more : List Token) → ClauseEnds more → sees_keyword k.Limit more ≡ false
-end_limit [] e = refl
-end_limit (t ∷ ts) e = (ended t.lexeme e).10
-
-pub end_direction : (more : List Token) → ClauseEnds more → sees (λ l. is_some (direction_of l)) more ≡ false
-end_direction [] e = refl
-end_direction (t ∷ ts) e = (ended t.lexeme e).11
 
 -- ---- nor before a further ON
 

@@ -9,10 +9,10 @@ use Rattle.pg_meaning.specs.Grammar.{Kind, Mark, key, clause_marks, IsClause, ki
 use Rattle.pg_meaning.specs.Grammar as grammar
 use Rattle.pg_meaning.specs.Parse as parse
 use Rattle.pg_meaning.specs.Parse.{Parser, ◌>>◌, ◌<$>◌, sees_keyword}
-use Rattle.pg_grammar.specs.Rules.{Exactly, Ends, NoHop, NoColon, ClauseEnds, ClauseSpelled, Anything, ExpressionsAreExact, LabelsAreExact, PathsAreExact, ReadingClausesAreExact, UpdatingClausesAreExact}
+use Rattle.pg_grammar.specs.Rules.{Exactly, Ends, ClauseEnds, ClauseSpelled, ExpressionsAreExact, LabelsAreExact, PathsAreExact, ReadingClausesAreExact, UpdatingClausesAreExact}
 use Rattle.pg_grammar.proofs.ClauseEnds.{end_comma, end_follow, end_colon, end_hop}
-use Rattle.pg_grammar.proofs.Separated.{AfterItems}
-use Rattle.pg_grammar.proofs.Sequences.{Behind, Made, Either, restated, narrowed, leading_exact, made_exact, either_exact, behind_fits, behind_of, keyword_first, keyword_other, flagged_other}
+use Rattle.pg_grammar.proofs.Combinators.{Behind, Made, Either, restated, narrowed, keyword_exact, leading_exact, made_exact, either_exact, behind_fits, behind_of, AfterItems, fitting}
+use Rattle.pg_grammar.proofs.FirstTokens.{keyword_first, keyword_other, flagged_other}
 use Rattle.pg_grammar.proofs.Conditions.{whole_exact}
 use Rattle.pg_grammar.proofs.Matches.{PathsFit, paths_fit, MatchParts, match_exact, match_out, match_into, UnwindParts, unwind_exact, unwind_out, unwind_into}
 use Rattle.pg_grammar.proofs.SetItems.{SetsSpelled, sets_exact}
@@ -38,8 +38,8 @@ pub reading_exact : ExpressionsAreExact → PathsAreExact → ReadingClausesAreE
 unfolding parse.reading parse.same_keyword
 reading_exact expressions paths n =
     let whole = whole_exact (expressions n) in
-    restated ReadingParts (ClauseSpelled grammar.reading) ClauseEnds ClauseEnds
-    (either_exact (sees_keyword k.Unwind) UnwindParts MatchParts ClauseEnds (narrowed UnwindParts Anything ClauseEnds (unwind_exact whole) (λ more ends. tt)) (match_exact whole (paths n))
+    restated
+    (either_exact (sees_keyword k.Unwind) (narrowed (unwind_exact whole) (λ more ends. tt)) (match_exact whole (paths n))
     (λ c front more h. keyword_first k.Unwind front more h) (λ c front more h ends. flagged_other k.Optional k.Match k.Unwind refl refl front more h))
     reading_out reading_into (λ more ends. ends)
 
@@ -77,10 +77,10 @@ updating_out c front (inr (inr (inr (inl h)))) = let v = h.inner in subst (λ y.
 updating_out c front (inr (inr (inr (inr h)))) = delete_out c front h
 
 updating_into : (c : Clause) (front : List Token) → ClauseSpelled grammar.updating c front → UpdatingParts c front
-updating_into (tree.create ps) front h = inl (behind_of (key k.Create) _ _ _ front h.fits (λ g p. record { value = ps; is = refl; inner = record { well = h.well; fits = p } }))
+updating_into (tree.create ps) front h = inl (behind_of h.fits (λ g p. record { value = ps; is = refl; inner = fitting h.well p }))
 updating_into (tree.merge p os) front h = inr (inl (merge_into p os front h))
-updating_into (tree.set_items xs) front h = inr (inr (inl (behind_of (key k.Set) _ _ _ front h.fits (λ g p. record { value = xs; is = refl; inner = record { well = h.well; fits = p } }))))
-updating_into (tree.remove_items xs) front h = inr (inr (inr (inl (behind_of (key k.Remove) _ _ _ front h.fits (λ g p. record { value = xs; is = refl; inner = record { well = h.well; fits = p } })))))
+updating_into (tree.set_items xs) front h = inr (inr (inl (behind_of h.fits (λ g p. record { value = xs; is = refl; inner = fitting h.well p }))))
+updating_into (tree.remove_items xs) front h = inr (inr (inr (inl (behind_of h.fits (λ g p. record { value = xs; is = refl; inner = fitting h.well p })))))
 updating_into (tree.delete b xs) front h = inr (inr (inr (inr (delete_into b xs front h))))
 updating_into _ front h = let bad = h.is in absurd cc
 
@@ -111,12 +111,12 @@ pub updating_exact : ExpressionsAreExact → PathsAreExact → LabelsAreExact �
 unfolding parse.updating
 updating_exact expressions paths labels n =
     let whole = whole_exact (expressions n) in
-    restated UpdatingParts (ClauseSpelled grammar.updating) ClauseEnds ClauseEnds
-    (either_exact (sees_keyword k.Create) CreateParts FromMerge ClauseEnds (simple k.Create tree.create PathsFit (narrowed PathsFit (AfterItems NoHop) ClauseEnds (paths_fit (paths n)) (λ more ends. (end_comma more ends, end_hop more ends))))
-    (either_exact (sees_keyword k.Merge) MergeParts FromSet ClauseEnds (merge_exact whole (paths n) labels)
-    (either_exact (sees_keyword k.Set) SetParts FromRemove ClauseEnds (simple k.Set tree.set_items SetsSpelled (narrowed SetsSpelled (AfterItems (Ends 1)) ClauseEnds (sets_exact whole labels) items_end))
-    (either_exact (sees_keyword k.Remove) RemoveParts DeleteParts ClauseEnds (simple k.Remove tree.remove_items RemovesSpelled (narrowed RemovesSpelled (AfterItems NoColon) ClauseEnds (removes_exact labels) (λ more ends. (end_comma more ends, end_colon more ends))))
-    (narrowed DeleteParts (AfterItems (Ends 1)) ClauseEnds (delete_exact whole) items_end)
+    restated
+    (either_exact (sees_keyword k.Create) (simple k.Create tree.create PathsFit (narrowed (paths_fit (paths n)) (λ more ends. (end_comma more ends, end_hop more ends))))
+    (either_exact (sees_keyword k.Merge) (merge_exact whole (paths n) labels)
+    (either_exact (sees_keyword k.Set) (simple k.Set tree.set_items SetsSpelled (narrowed (sets_exact whole labels) items_end))
+    (either_exact (sees_keyword k.Remove) (simple k.Remove tree.remove_items RemovesSpelled (narrowed (removes_exact labels) (λ more ends. (end_comma more ends, end_colon more ends))))
+    (narrowed (delete_exact whole) items_end)
     (λ c front more h. keyword_first k.Remove front more h) (λ c front more h ends. no_remove c front more h))
     (λ c front more h. keyword_first k.Set front more h) (λ c front more h ends. no_set c front more h))
     (λ c front more h. keyword_first k.Merge front more h) (λ c front more h ends. no_merge c front more h))
@@ -124,7 +124,7 @@ updating_exact expressions paths labels n =
     updating_out updating_into (λ more ends. ends)
   where
     simple : {A : Type 0} (x : Keyword) (f : A → Clause) (S : A → List Token → Type 0) {p : Parser A} → Exactly n p S ClauseEnds → Exactly (n + 1) (parse.keyword x >> (f <$> p)) (Simple x f S) ClauseEnds
-    simple x f S exact = leading_exact x (Made f S) ClauseEnds (made_exact f S ClauseEnds exact)
+    simple x f S exact = leading_exact (keyword_exact x) (made_exact f exact)
 
     items_end : (more : List Token) → ClauseEnds more → AfterItems (Ends 1) more
     items_end more ends = (end_comma more ends, end_follow more ends)

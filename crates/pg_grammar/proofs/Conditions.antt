@@ -1,5 +1,5 @@
 -- Expressions behind a keyword, as WHERE has one.
-use Rattle.std.proofs.Common.{◌≡◌, ℕ, true, false, List, Option, Some, None, map, arith}
+use Rattle.std.proofs.Common.{◌≡◌, ℕ, true, List, Option, map, arith}
 use Rattle.pg_meaning.specs.declared.lexemes.Keyword.{Keyword}
 use Rattle.pg_meaning.specs.declared.lexemes.Symbol.TheVariants as s
 use Rattle.pg_meaning.specs.Tokens.{Token}
@@ -8,38 +8,24 @@ use Rattle.pg_meaning.specs.Grammar.{key, commas, keyed, marks, optional_marks, 
 use Rattle.pg_meaning.specs.Grammar as grammar
 use Rattle.pg_meaning.specs.Parse as parse
 use Rattle.pg_meaning.specs.Parse.{Parser, ◌>>◌, maybe, sees_symbol, sees_keyword, separated}
-use Rattle.pg_grammar.specs.Rules.{Exactly, Exact, Ends, Spelled}
-use Rattle.pg_grammar.proofs.Pieces.{level_some}
-use Rattle.pg_grammar.proofs.Separated.{AfterItems}
+use Rattle.pg_grammar.specs.Rules.{Exactly, Exact, Ends}
+use Rattle.pg_grammar.proofs.Chains.{any_spelled}
 use Rattle.pg_grammar.proofs.Terminals.{symbol_is}
-use Rattle.pg_grammar.proofs.Sequences.{Fitting, Items, items_exact, Behind, Perhaps, restated, keyword_exact, behind_exact, perhaps_exact, behind_fits, behind_of, keyword_first, no_tokens}
+use Rattle.pg_grammar.proofs.Combinators.{Fitting, Items, After, AfterItems, fitting, restated, behind, maybe_exact, items_exact, keyword_exact, keyword_begins}
 
 abbrev pub Whole : Expression → List Token → Type 0
 Whole = Fitting IsWellFormed marks
 
 pub whole_exact : {limit : ℕ} {whole : Parser Expression} → Exact limit 1 whole → Exactly limit whole Whole (Ends 1)
-whole_exact exact = restated (Spelled 1) Whole (Ends 1) (Ends 1) exact
-    (λ x front h. record { well = h.well; fits = h.fits })
-    (λ x front h. record { well = h.well; tight = level_some x h.well; fits = h.fits })
-    (λ more ends. ends)
+whole_exact exact = restated exact (λ x front h. fitting h.well h.fits) (λ x front h. any_spelled x front h.well h.fits) (λ more ends. ends)
 
 -- ---- behind a keyword, where that stands
 
 abbrev pub MayHave : Keyword → Option Expression → List Token → Type 0
 MayHave x = Fitting (grammar.Each IsWellFormed) (optional_marks (keyed x))
 
-pub may_have_exact : {limit : ℕ} {whole : Parser Expression} (x : Keyword) → Exactly limit whole Whole (Ends 1) → Exactly limit (maybe (sees_keyword x) (parse.keyword x >> whole)) (MayHave x) (λ more. Ends 1 more × (sees_keyword x more ≡ false))
-may_have_exact {limit} x exact = restated (Perhaps (Behind (key x) Whole)) (MayHave x) (λ more. Ends 1 more × (sees_keyword x more ≡ false)) (λ more. Ends 1 more × (sees_keyword x more ≡ false))
-    (perhaps_exact (sees_keyword x) (Behind (key x) Whole) (Ends 1) (behind_exact (key x) Whole (Ends 1) (keyword_exact limit x) exact) (λ a front more h. keyword_first x front more h))
-    out into (λ more ends. ends)
-  where
-    out : (a : Option Expression) (front : List Token) → Perhaps (Behind (key x) Whole) a front → MayHave x a front
-    out None front h = rw h (record { well = tt; fits = tt })
-    out (Some e) front h = record { well = h.inner.well; fits = behind_fits h (marks e) h.inner.fits }
-
-    into : (a : Option Expression) (front : List Token) → MayHave x a front → Perhaps (Behind (key x) Whole) a front
-    into None front h = no_tokens front h.fits
-    into (Some e) front h = behind_of (key x) Whole e (marks e) front h.fits (λ g p. record { well = h.well; fits = p })
+pub may_have_exact : {limit : ℕ} {whole : Parser Expression} (x : Keyword) → Exactly limit whole Whole (Ends 1) → Exactly limit (maybe (sees_keyword x) (parse.keyword x >> whole)) (MayHave x) (After (sees_keyword x) (Ends 1))
+may_have_exact x exact = maybe_exact (sees_keyword x) (behind (keyword_exact x) exact) (λ e front more h. keyword_begins x (marks e) front more h.fits)
 
 -- ---- several of them
 
@@ -51,4 +37,4 @@ abbrev pub WholesSpelled : List Expression → List Token → Type 0
 WholesSpelled = Fitting (Items IsWellFormed) (λ xs. commas (map marks xs))
 
 pub wholes_exact : {limit : ℕ} {whole : Parser Expression} → Exactly limit whole Whole (Ends 1) → Exactly limit (separated whole) WholesSpelled (AfterItems (Ends 1))
-wholes_exact exact = items_exact IsWellFormed marks (Ends 1) exact comma_ends
+wholes_exact exact = items_exact exact comma_ends

@@ -2,7 +2,7 @@
 use Rattle.std.proofs.Common.{ℕ, zero, suc, arith}
 use Rattle.pg_meaning.specs.Tree.{Expression}
 use Rattle.pg_meaning.specs.Parse.{Parser, post, unary, product, sum, predicate, comparison, negation, conjunction, exclusion, disjunction, expr}
-use Rattle.pg_grammar.specs.Rules.{Exact, LabelsAreExact, ExpressionsAreExact}
+use Rattle.pg_grammar.specs.Rules.{Exact, ExpressionsAreExact}
 use Rattle.pg_grammar.specs.Levels.{MapsAreExact}
 use Rattle.pg_grammar.proofs.Atoms.{atom_exact}
 use Rattle.pg_grammar.proofs.Suffixes.{post_exact}
@@ -10,11 +10,11 @@ use Rattle.pg_grammar.proofs.Prefixes.{signs_exact, negation_exact}
 use Rattle.pg_grammar.proofs.Tests.{tests_exact}
 use Rattle.pg_grammar.proofs.Chains.{chain_exact}
 
-module _ (labels_exact : LabelsAreExact) (maps_exact : MapsAreExact) where
+module _ (maps_exact : MapsAreExact) where
   module _ (limit : ℕ) (whole : Parser Expression) (exact : Exact limit 1 whole) where
     unary_exact : Exact (suc limit) 9 (unary whole)
     unfolding unary
-    unary_exact = signs_exact (suc limit) (post whole) (post_exact limit whole exact (atom_exact limit whole exact (maps_exact limit whole exact)) labels_exact)
+    unary_exact = signs_exact (suc limit) (post whole) (post_exact limit whole exact (atom_exact limit whole exact (maps_exact limit whole exact)))
 
     product_exact : Exact (suc limit) 8 (product whole)
     unfolding product

@@ -2,7 +2,7 @@
 use Rattle.std.proofs.Common.{◌≡◌, ℕ, zero, suc, ◌+◌, ◌<◌, ◌≤◌, Bool, true, false, List, [], ◌∷◌, ◌++◌, length, Some, None, refl, sym, ap, ◌∙◌, ◌⊎◌, inl, inr, append_assoc, length-append, arith}
 use Rattle.std.proofs.lemmas.List.{append-nil}
 use Rattle.pg_meaning.specs.Tokens.{Token}
-use Rattle.pg_meaning.specs.Parse.{Parser, Outcome, Test, and_then, many_from}
+use Rattle.pg_meaning.specs.Parse.{Parser, Outcome, Test, and_then, branch, many_from}
 use Rattle.pg_grammar.specs.Rules.{Sound, Complete}
 
 -- each item is spelled by its part
@@ -33,6 +33,12 @@ pick b x y = elim b [ true ↦ x | false ↦ y ]
 pub chosen : {A : Type 0} (b : Bool) (x y z : A) → pick b x y ≡ z → ((b ≡ true) × (x ≡ z)) ⊎ ((b ≡ false) × (y ≡ z))
 chosen true x y z e = inl (refl, e)
 chosen false x y z e = inr (refl, e)
+
+pub branch_yes : {A : Type 0} (begins : Test) (p q : Parser A) (ts : List Token) → begins ts ≡ true → branch begins p q ts ≡ p ts
+branch_yes begins p q ts e = ap (λ (b : Bool). pick b (p ts) (q ts)) e
+
+pub branch_no : {A : Type 0} (begins : Test) (p q : Parser A) (ts : List Token) → begins ts ≡ false → branch begins p q ts ≡ q ts
+branch_no begins p q ts e = ap (λ (b : Bool). pick b (p ts) (q ts)) e
 
 -- a turn that goes on, and one that doesn't
 pub many_turn : {A : Type 0} (begins : Test) (piece : Parser A) (n : ℕ) (found : List A) (ts : List Token) → begins ts ≡ true
@@ -75,12 +81,12 @@ pub record Row {A : Type 0} (limit : ℕ) (begins : Test) (piece : Parser A) (S 
   pub goes : (more : List Token) → begins more ≡ true → E more
 
 -- what stands behind the piece before the row
-pub followed : {A : Type 0} {limit : ℕ} {begins : Test} {piece : Parser A} {S : A → List Token → Type 0} {E F : List Token → Type 0} → Row limit begins piece S E F
+pub followed : {A : Type 0} {S : A → List Token → Type 0} {E F : List Token → Type 0} {begins : Test} → ((a : A) (front more : List Token) → S a front → begins (front ++ more) ≡ true) → ((more : List Token) → F more → E more) → ((more : List Token) → begins more ≡ true → E more)
     → (xs : List A) (b more : List Token) → Each S xs b → F more → E (b ++ more)
-followed row [] b more each follow = rw each ((row.ends more follow).1)
-followed row (y ∷ ys) b more each follow =
+followed first ends goes [] b more each follow = rw each (ends more follow)
+followed first ends goes (x ∷ xs) b more each follow =
     let e : b ++ more ≡ each.0 ++ (each.1 ++ more) = ap (λ (t : List Token). t ++ more) each.2 ∙ append_assoc each.0 each.1 more in
-    rw e (row.goes _ (row.first y each.0 (each.1 ++ more) each.3))
+    rw e (goes _ (first x each.0 (each.1 ++ more) each.3))
 
 pub many_complete : {A : Type 0} {limit : ℕ} {begins : Test} {piece : Parser A} {S : A → List Token → Type 0} {E F : List Token → Type 0} → Row limit begins piece S E F
     → (n : ℕ) (found : List A) (xs : List A) (front more : List Token) → Each S xs front → F more → length (front ++ more) < limit → length (front ++ more) ≤ n
@@ -94,7 +100,7 @@ many_complete {A} {limit} {begins} {piece} {S} {E} {F} row (suc n) found (x ∷ 
     let whole : front ++ more ≡ a ++ (b ++ more) = ap (λ (t : List Token). t ++ more) each.2 ∙ append_assoc a b more in
     let len : length (front ++ more) ≡ length a + length (b ++ more) = ap length whole ∙ length-append a (b ++ more) in
     let some_token = row.some x a each.3 in
-    let next : E (b ++ more) = followed row xs b more each.4 follow in
+    let next : E (b ++ more) = followed row.first (λ more f. (row.ends more f).1) row.goes xs b more each.4 follow in
     let one : piece (a ++ (b ++ more)) ≡ Some (x, b ++ more) = row.read x a (b ++ more) each.3 next (omega (arith, ap length whole)) in
     let others = many_complete row n (found ++ x ∷ []) xs b more each.4 follow (omega arith) (omega arith) in
     rw (whole, many_turn begins piece n found (a ++ (b ++ more)) (row.first x a (b ++ more) each.3), one) (others ∙ ap (λ (l : List A). some l more) (append_assoc found (x ∷ []) xs))

@@ -11,7 +11,7 @@ use Rattle.pg_grammar.proofs.Paths.{paths_exact}
 use Rattle.pg_grammar.proofs.Queries as queries
 
 pub expressions : ExpressionsAreExact
-expressions = expressions_exact labels_exact pairs_exact
+expressions = expressions_exact pairs_exact
 
 pub paths : PathsAreExact
 paths = paths_exact expressions

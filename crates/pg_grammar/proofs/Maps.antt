@@ -1,42 +1,18 @@
 -- Maps.
-use Rattle.std.proofs.Common.{◌≡◌, ℕ, ◌≤◌, Bool, true, false, List, [], ◌∷◌, ◌++◌, map, Some, refl, sym, ap, subst, ◌∙◌, inl, inr, arith}
+use Rattle.std.proofs.Common.{◌≡◌, ℕ, Bool, true, false, List, [], ◌∷◌, ◌++◌, map, refl, sym, ap, subst, ◌∙◌, inl, inr, arith}
 use Rattle.std.proofs.lemmas.List.{append-nil}
 use Rattle.std.specs.List.{AllByRecursion}
 use Rattle.pg_meaning.specs.declared.lexemes.Symbol.TheVariants as s
-use Rattle.pg_meaning.specs.declared.operators.Operator.{Operator}
-use Rattle.pg_meaning.specs.declared.operators.Operator.TheVariants as op
 use Rattle.pg_meaning.specs.Tokens.{Lexeme, Token}
 use Rattle.pg_meaning.specs.Tree.{Name, Expression, Pairs}
 use Rattle.pg_meaning.specs.Tree as tree
-use Rattle.pg_meaning.specs.Grammar.{any_name, IsSpelled, Mark, sign, name, commas, marks, pair_marks, Fit, IsNonEmpty, IsWellFormed, ArePairs, level, operator_level}
+use Rattle.pg_meaning.specs.Grammar.{any_name, IsSpelled, Mark, sign, name, commas, marks, pair_marks, Fit, IsWellFormed, ArePairs}
 use Rattle.pg_meaning.specs.Parse as parse
 use Rattle.pg_meaning.specs.Parse.{Parser, ◌>>=◌, ◌>>◌, pure, is_symbol, sees_symbol, symbol, eat_symbol, map_pair, map_pairs, pairs_of, separated}
-use Rattle.pg_grammar.specs.Rules.{Complete, Exactly, Exact, Anything, Ends, PairsAreExact}
-use Rattle.pg_grammar.proofs.Generic.{bind_some, same_some}
-use Rattle.pg_grammar.proofs.Marks.{Marked, Free, avoided, spelled_as, step, opening, behind, made, ending, name_exact, separated_exactly}
-use Rattle.pg_grammar.proofs.Separated.{AfterItems}
-use Rattle.pg_grammar.proofs.Terminals.{symbol_is, eat_takes, eat_yes, eat_no}
-
-operator_positive : (o : Operator) → 1 ≤ operator_level o
-operator_positive op.Or = omega arith
-operator_positive op.Xor = omega arith
-operator_positive op.And = omega arith
-operator_positive op.Plus = omega arith
-operator_positive op.Minus = omega arith
-operator_positive op.Times = omega arith
-operator_positive op.Divide = omega arith
-operator_positive op.Modulo = omega arith
-operator_positive _ = omega arith
-
--- an expression stands at some level
-pub level_positive : (x : Expression) → IsWellFormed x → 1 ≤ level x
-level_positive (tree.chain x tree.no_operands) well = absurd well.0
-level_positive (tree.chain x (tree.operand o y os)) well = operator_positive o
-level_positive (tree.negation n x) well = omega arith
-level_positive (tree.tests x ts) well = omega arith
-level_positive (tree.signs bs x) well = omega arith
-level_positive (tree.suffixes x xs ls) well = omega arith
-level_positive _ well = omega arith
+use Rattle.pg_grammar.specs.Rules.{Exactly, Exact, Ends, PairsSpelled, PairsAreExact}
+use Rattle.pg_grammar.proofs.Combinators.{Fitting, Free, Behind, Closing, fitting, restated, leading_exact, closing_exact, step, behind, made, ending, symbol_exact, name_exact, behind_fits, behind_of}
+use Rattle.pg_grammar.proofs.Conditions.{whole_exact, comma_ends}
+use Rattle.pg_grammar.proofs.FirstTokens.{shown}
 
 -- ---- lists of pairs
 
@@ -78,19 +54,6 @@ all_of (tree.pair n x ps) well = ((tt, (well.0, tt)), all_of ps well.1)
 
 -- ---- what follows a pair
 
-comma_ends : (more : List Token) → sees_symbol s.Comma more ≡ true → Ends 1 more
-comma_ends more e =
-    let i = symbol_is s.Comma more e in
-    rw (i.1, i.2.spelled) (omega arith)
-
-abbrev closing : List Mark
-closing = sign s.CloseBrace ∷ []
-
-brace_ends : (y more : List Token) → Fit y closing → AfterItems (Ends 1) (y ++ more)
-unfolding parse.same_symbol
-brace_ends [] more fits = absurd fits
-brace_ends (c ∷ y) more fits = rw fits.0.spelled (refl, omega arith)
-
 -- a name is no closing brace
 name_opens : (q : Bool) (w : List ℕ) (l : Lexeme) → IsSpelled (any_name q w) l → is_symbol s.CloseBrace l ≡ false
 name_opens true w l h = rw h refl
@@ -102,61 +65,32 @@ name_opens false w l (inr h) = rw h.1 refl
 abbrev made_pair : Name → Expression → Pair
 made_pair n x = (n, x)
 
-abbrev behind_opening : Pairs → List Mark
-behind_opening ps = commas (pair_marks ps) ++ sign s.CloseBrace ∷ []
-
 module _ (limit : ℕ) (whole : Parser Expression) (exact : Exact limit 1 whole) where
-  value_exact : Exactly limit whole (Marked Free IsWellFormed marks) (Ends 1)
-  value_exact =
-      spelled_as exact (λ x front h. record { known = tt; well = h.well; fits = h.fits }) (λ x front h. record { well = h.well; tight = level_positive x h.well; fits = h.fits }) (λ more h. h)
-
-  pair_exact : Exactly limit (map_pair whole) (Marked Free IsPair pair_mark) (Ends 1)
+  pair_exact : Exactly limit (map_pair whole) (Fitting IsPair pair_mark) (Ends 1)
   pair_exact =
       step (λ (p : Pair). p.0) Free (name_exact limit)
-      (λ n. behind s.Colon (step (λ (p : Pair). p.1) (λ (p : Pair). (p.0 ≡ n) × Free p) value_exact
+      (λ n. behind (symbol_exact s.Colon) (step (λ (p : Pair). p.1) (λ (p : Pair). (p.0 ≡ n) × Free p) (whole_exact exact)
       (λ x. made (made_pair n x) (λ (p : Pair). (p.1 ≡ x) × ((p.0 ≡ n) × Free p)) (refl, (refl, tt)) (λ p h. rw (← h.0, ← h.1.0) refl))
       (λ p y more well fits ends. ending (Ends 1) y more fits ends)))
       (λ p y more well fits ends. tt)
 
-  abbrev SomePairs : Pairs → Type 0
-  SomePairs ps = (IsNonEmpty (list_of ps) × AllByRecursion IsPair (list_of ps)) × Free ps
-
-  abbrev some_pairs : Parser Pairs
-  some_pairs = separated (map_pair whole) >>= λ ps. symbol s.CloseBrace >> pure (pairs_of ps)
-
-  some_pairs_exact : Exactly limit some_pairs (Marked Free SomePairs (λ ps. commas (map pair_mark (list_of ps)) ++ closing)) Anything
-  some_pairs_exact =
-      step list_of Free (separated_exactly pair_exact comma_ends)
-      (λ ps. behind s.CloseBrace (made (pairs_of ps) (λ (qs : Pairs). (list_of qs ≡ ps) × Free qs) (list_again ps, tt) (λ qs h. ap pairs_of (sym h.0) ∙ pairs_again qs)))
-      (λ ps y more well fits ends. brace_ends y more fits)
-
-  abbrev by_empty : Bool → Parser Pairs
-  by_empty is_empty = elim is_empty [ true ↦ pure tree.no_pairs | false ↦ some_pairs ]
-
-  behind_exact : Exactly limit (eat_symbol s.CloseBrace >>= by_empty) (Marked Free ArePairs behind_opening) Anything
-  behind_exact = record {
-    sound = λ ts ps more e.
-        let b = bind_some (eat_symbol s.CloseBrace ts) by_empty (ps, more) e in
-        elim (eat_takes s.CloseBrace ts b.1 b.0 b.2) [
-          | inl h ↦
-              let last = same_some tree.no_pairs ps b.1 more (subst (λ (y : Bool). by_empty y b.1 ≡ Some (ps, more)) h.0 b.3) in
-              (h.1 ∷ [], h.2 ∙ ap (λ (l : List Token). h.1 ∷ l) last.1, rw (← last.0) (record { known = tt; well = tt; fits = (h.3, tt) }))
-          | inr h ↦
-              let r = some_pairs_exact.sound b.1 ps more (subst (λ (y : Bool). by_empty y b.1 ≡ Some (ps, more)) h.0 b.3) in
-              (r.0, h.1 ∙ r.1, record { known = tt; well = well_of ps r.2.well.0.1; fits = rw (← marks_of ps) r.2.fits })
-        ];
-    complete = by;
-  }
-    where
-      by : Complete limit (eat_symbol s.CloseBrace >>= by_empty) (Marked Free ArePairs behind_opening) Anything
-      by tree.no_pairs [] more h ends less = absurd h.fits
-      by tree.no_pairs (t ∷ []) more h ends less = rw (eat_yes s.CloseBrace t more h.fits.0) refl
-      by tree.no_pairs (t ∷ u ∷ front) more h ends less = absurd h.fits.1
-      by (tree.pair n x ps) front more h ends less =
-          let all : Marked Free SomePairs (λ qs. commas (map pair_mark (list_of qs)) ++ closing) (tree.pair n x ps) front = record { known = tt; well = ((tt, all_of (tree.pair n x ps) h.well), tt); fits = subst (λ (ms : List (List Mark)). Fit front (commas ms ++ closing)) (sym (marks_of (tree.pair n x ps))) h.fits } in
-          rw (eat_no s.CloseBrace (front ++ more) (avoided (is_symbol s.CloseBrace) (behind_opening (tree.pair n x ps)) front more (name_opens n.quoted n.text) h.fits)) (some_pairs_exact.complete (tree.pair n x ps) front more all ends less)
+abbrev Parts : Pairs → List Token → Type 0
+Parts = Behind (sign s.OpenBrace) (Closing IsPair pair_mark s.CloseBrace pairs_of)
 
 pub pairs_exact : (limit : ℕ) (whole : Parser Expression) → Exact limit 1 whole → PairsAreExact limit whole
-unfolding map_pairs
+unfolding map_pairs parse.same_symbol
 pairs_exact limit whole exact =
-    spelled_as (opening s.OpenBrace (behind_exact limit whole exact)) (λ ps front h. record { well = h.well; fits = h.fits }) (λ ps front h. record { known = tt; well = h.well; fits = h.fits }) (λ more h. h)
+    restated
+    (leading_exact (symbol_exact s.OpenBrace)
+    (closing_exact (pair_exact limit whole exact) comma_ends s.CloseBrace pairs_of (λ t more h. rw h.spelled (refl, omega arith)) (λ p ns front more well fits. shown (is_symbol s.CloseBrace) (pair_mark p ++ ns) front more (name_opens p.0.quoted p.0.text) fits)))
+    out into (λ more h. h)
+  where
+    out : (ps : Pairs) (front : List Token) → Parts ps front → PairsSpelled ps front
+    out ps front h =
+        let v = h.inner in
+        let same : v.value ≡ list_of ps = sym (ap list_of v.is ∙ list_again v.value) in
+        let listed = subst (λ (qs : List Pair). Fitting (AllByRecursion IsPair) (λ qs. commas (map pair_mark qs) ++ sign s.CloseBrace ∷ []) qs h.others) same v.inner in
+        record { well = well_of ps listed.well; fits = behind_fits h (commas (pair_marks ps) ++ sign s.CloseBrace ∷ []) (subst (λ (ms : List (List Mark)). Fit h.others (commas ms ++ sign s.CloseBrace ∷ [])) (marks_of ps) listed.fits) }
+
+    into : (ps : Pairs) (front : List Token) → PairsSpelled ps front → Parts ps front
+    into ps front h = behind_of h.fits (λ g p. record { value = list_of ps; is = sym (pairs_again ps); inner = fitting (all_of ps h.well) (subst (λ (ms : List (List Mark)). Fit g (commas ms ++ sign s.CloseBrace ∷ [])) (sym (marks_of ps)) p) })

@@ -1,5 +1,5 @@
 -- The clauses MATCH and UNWIND.
-use Rattle.std.proofs.Common.{◌≡◌, ℕ, ◌+◌, Bool, true, false, List, [], ◌∷◌, ◌++◌, Option, Some, None, map, refl, sym, subst, arith}
+use Rattle.std.proofs.Common.{◌≡◌, ℕ, ◌+◌, Bool, true, List, [], ◌∷◌, ◌++◌, Option, Some, None, map, refl, sym, subst, arith}
 use Rattle.pg_meaning.specs.declared.lexemes.Keyword.TheVariants as k
 use Rattle.pg_meaning.specs.declared.lexemes.Symbol.TheVariants as s
 use Rattle.pg_meaning.specs.Tokens.{Token}
@@ -11,9 +11,9 @@ use Rattle.pg_meaning.specs.Parse as parse
 use Rattle.pg_meaning.specs.Parse.{Parser, ◌>>=◌, ◌>>◌, ◌<$>◌, sees_symbol, sees_keyword, begins_relationship, separated, match_clause, unwind_clause}
 use Rattle.pg_grammar.specs.Rules.{Exactly, Ends, PathSpelled, NoHop, ClauseEnds, ClauseSpelled, Anything}
 use Rattle.pg_grammar.proofs.ClauseEnds.{end_follow, end_where, end_comma, end_hop}
-use Rattle.pg_grammar.proofs.Separated.{AfterItems}
 use Rattle.pg_grammar.proofs.Terminals.{symbol_is}
-use Rattle.pg_grammar.proofs.Sequences.{Is, Fitting, Sequence, Behind, Made, restated, narrowed, keyword_exact, var_exact, eat_keyword_exact, sequence_exact, behind_exact, leading_exact, made_exact, items_exact, sequence_fits, sequence_of, behind_fits, behind_of, keyword_other, no_tokens}
+use Rattle.pg_grammar.proofs.Combinators.{Is, Fitting, Sequence, Behind, Made, restated, narrowed, keyword_exact, var_exact, eat_keyword_exact, sequence_exact, behind_exact, leading_exact, made_exact, items_exact, sequence_fits, sequence_of, behind_fits, behind_of, no_tokens, AfterItems, fitting, Free}
+use Rattle.pg_grammar.proofs.FirstTokens.{keyword_other}
 use Rattle.pg_grammar.proofs.Conditions.{Whole, MayHave, may_have_exact}
 
 -- ---- paths
@@ -22,7 +22,7 @@ abbrev pub PathFits : PathPattern → List Token → Type 0
 PathFits = Fitting IsPath path_marks
 
 pub path_fits : {limit : ℕ} {path : Parser PathPattern} → Exactly limit path PathSpelled NoHop → Exactly limit path PathFits NoHop
-path_fits exact = restated PathSpelled PathFits NoHop NoHop exact (λ p front h. record { well = h.well; fits = h.fits }) (λ p front h. record { well = h.well; fits = h.fits }) (λ more ends. ends)
+path_fits exact = restated exact (λ p front h. fitting h.well h.fits) (λ p front h. record { well = h.well; fits = h.fits }) (λ more ends. ends)
 
 abbrev pub PathsFit : List PathPattern → List Token → Type 0
 PathsFit = Fitting ArePaths (λ ps. commas (map path_marks ps))
@@ -32,12 +32,12 @@ unfolding parse.same_symbol
 comma_ends more e = let i = symbol_is s.Comma more e in rw (i.1, i.2.spelled) refl
 
 pub paths_fit : {limit : ℕ} {path : Parser PathPattern} → Exactly limit path PathSpelled NoHop → Exactly limit (separated path) PathsFit (AfterItems NoHop)
-paths_fit exact = items_exact IsPath path_marks NoHop (path_fits exact) comma_ends
+paths_fit exact = items_exact (path_fits exact) comma_ends
 
 -- ---- MATCH
 
 abbrev Optionally : Bool → List Token → Type 0
-Optionally b front = Fit front (flag b (key k.Optional))
+Optionally = Fitting Free (λ b. flag b (key k.Optional))
 
 abbrev BehindPaths : Bool → List PathPattern → Clause → List Token → Type 0
 BehindPaths b ps = Made (tree.match_paths b ps) (MayHave k.Where)
@@ -57,14 +57,14 @@ condition_ends (Some x) (t ∷ front) more h ends = rw h.fits.0.spelled.1 (refl,
 pub match_exact : {limit : ℕ} {whole : Parser Expression} → Exactly limit whole Whole (Ends 1) → Exactly limit (parse.path whole) PathSpelled NoHop → Exactly (limit + 1) (match_clause whole) MatchParts ClauseEnds
 unfolding match_clause parse.same_keyword
 match_exact {limit} {whole} exact paths =
-    sequence_exact Optionally (λ more. sees_keyword k.Optional more ≡ false) (λ b. Behind (key k.Match) (BehindMatch b)) ClauseEnds (eat_keyword_exact (limit + 1) k.Optional)
-    (λ b. leading_exact k.Match (BehindMatch b) ClauseEnds
-    (sequence_exact PathsFit (AfterItems NoHop) (BehindPaths b) ClauseEnds (paths_fit paths) (λ ps. made_exact (tree.match_paths b ps) (MayHave k.Where) ClauseEnds conditions)
+    sequence_exact (eat_keyword_exact k.Optional)
+    (λ b. leading_exact (keyword_exact k.Match)
+    (sequence_exact (paths_fit paths) (λ ps. made_exact (tree.match_paths b ps) conditions)
     (λ ps c front more h ends. condition_ends h.value front more h.inner ends)))
     (λ b c front more h ends. keyword_other k.Match k.Optional refl front more h)
   where
     conditions : Exactly limit (parse.condition whole) (MayHave k.Where) ClauseEnds
-    conditions = narrowed (MayHave k.Where) (λ more. Ends 1 more × (sees_keyword k.Where more ≡ false)) ClauseEnds (may_have_exact k.Where exact) (λ more ends. (end_follow more ends, end_where more ends))
+    conditions = narrowed (may_have_exact k.Where exact) (λ more ends. (end_where more ends, end_follow more ends))
 
 pub match_out : (c : Clause) (front : List Token) → MatchParts c front → ClauseSpelled grammar.reading c front
 match_out c front h =
@@ -72,13 +72,13 @@ match_out c front h =
     subst (λ y. ClauseSpelled grammar.reading y front) (sym v.is) (record {
       well = (q.first.well, v.inner.well);
       is = refl;
-      fits = sequence_fits h (flag h.value (key k.Optional)) _ h.first (behind_fits p _ (sequence_fits q (commas (map path_marks q.value)) _ q.first.fits v.inner.fits));
+      fits = sequence_fits h (flag h.value (key k.Optional)) _ h.first.fits (behind_fits p _ (sequence_fits q (commas (map path_marks q.value)) _ q.first.fits v.inner.fits));
     })
 
 pub match_into : (b : Bool) (ps : List PathPattern) (w : Option Expression) (front : List Token) → ClauseSpelled grammar.reading (tree.match_paths b ps w) front → MatchParts (tree.match_paths b ps w) front
 match_into b ps w front h =
-    sequence_of Optionally _ b _ (flag b (key k.Optional)) _ front h.fits (λ f p. p) (λ g p. behind_of (key k.Match) _ _ _ g p (λ g p.
-    sequence_of PathsFit _ ps _ (commas (map path_marks ps)) _ g p (λ f p. record { well = h.well.0; fits = p }) (λ g p. record { value = w; is = refl; inner = record { well = h.well.1; fits = p } })))
+    sequence_of b (flag b (key k.Optional)) _ h.fits (λ f p. fitting tt p) (λ g p. behind_of p (λ g p.
+    sequence_of ps (commas (map path_marks ps)) _ p (λ f p. fitting h.well.0 p) (λ g p. record { value = w; is = refl; inner = fitting h.well.1 p })))
 
 -- ---- UNWIND
 
@@ -91,16 +91,16 @@ UnwindParts = Behind (key k.Unwind) (Sequence Whole Named)
 pub unwind_exact : {limit : ℕ} {whole : Parser Expression} → Exactly limit whole Whole (Ends 1) → Exactly (limit + 1) (unwind_clause whole) UnwindParts Anything
 unfolding unwind_clause
 unwind_exact {limit} {whole} exact =
-    leading_exact k.Unwind (Sequence Whole Named) Anything
-    (sequence_exact Whole (Ends 1) Named Anything exact
-    (λ x. behind_exact (key k.As) (Made (tree.unwind x) (Is grammar.var)) Anything (keyword_exact limit k.As) (made_exact (tree.unwind x) (Is grammar.var) Anything (var_exact limit)))
+    leading_exact (keyword_exact k.Unwind)
+    (sequence_exact exact
+    (λ x. behind_exact (keyword_exact k.As) (made_exact (tree.unwind x) (var_exact limit)))
     (λ x c front more h ends. rw (h.whole, h.accepts.spelled.1) (omega arith)))
 
 pub unwind_out : (c : Clause) (front : List Token) → UnwindParts c front → ClauseSpelled grammar.reading c front
 unwind_out c front h =
     let q = h.inner in let p = q.second in let v = p.inner in
-    subst (λ y. ClauseSpelled grammar.reading y front) (sym v.is) (record { well = q.first.well; is = refl; fits = behind_fits h _ (sequence_fits q (marks q.value) _ q.first.fits (behind_fits p _ v.inner)) })
+    subst (λ y. ClauseSpelled grammar.reading y front) (sym v.is) (record { well = q.first.well; is = refl; fits = behind_fits h _ (sequence_fits q (marks q.value) _ q.first.fits (behind_fits p _ v.inner.fits)) })
 
 pub unwind_into : (x : Expression) (n : Name) (front : List Token) → ClauseSpelled grammar.reading (tree.unwind x n) front → UnwindParts (tree.unwind x n) front
 unwind_into x n front h =
-    behind_of (key k.Unwind) _ _ _ front h.fits (λ g p. sequence_of Whole _ x _ (marks x) _ g p (λ f p. record { well = h.well; fits = p }) (λ g p. behind_of (key k.As) _ _ _ g p (λ g p. record { value = n; is = refl; inner = p })))
+    behind_of h.fits (λ g p. sequence_of x (marks x) _ p (λ f p. fitting h.well p) (λ g p. behind_of p (λ g p. record { value = n; is = refl; inner = fitting tt p })))

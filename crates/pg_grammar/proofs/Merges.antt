@@ -1,5 +1,5 @@
 -- The clause MERGE, with its ON.
-use Rattle.std.proofs.Common.{◌≡◌, ℕ, ◌+◌, ◌<◌, Bool, true, false, List, [], ◌∷◌, ◌++◌, length, map, refl, sym, ap, subst, inl, inr, arith}
+use Rattle.std.proofs.Common.{◌≡◌, ℕ, ◌+◌, Bool, List, [], ◌∷◌, ◌++◌, map, refl, sym, ap, subst}
 use Rattle.std.specs.List.{AllByRecursion}
 use Rattle.pg_meaning.specs.declared.lexemes.Keyword.TheVariants as k
 use Rattle.pg_meaning.specs.Tokens.{Token}
@@ -8,39 +8,20 @@ use Rattle.pg_meaning.specs.Tree as tree
 use Rattle.pg_meaning.specs.Grammar.{Mark, key, commas, joined, path_marks, set_marks, event_mark, on_marks, AreSetItems, Fit}
 use Rattle.pg_meaning.specs.Grammar as grammar
 use Rattle.pg_meaning.specs.Parse as parse
-use Rattle.pg_meaning.specs.Parse.{Parser, ◌>>=◌, ◌>>◌, ◌<$>◌, sees_keyword, many, event, on_items, merge_clause}
+use Rattle.pg_meaning.specs.Parse.{Parser, ◌>>=◌, ◌>>◌, ◌<$>◌, is_keyword, sees_keyword, many, event, on_items, merge_clause}
 use Rattle.pg_grammar.specs.Rules.{Exactly, Ends, PathSpelled, NoHop, ClauseEnds, ClauseSpelled, LabelsAreExact, Anything}
 use Rattle.pg_grammar.proofs.ClauseEnds.{end_follow, end_comma, end_hop, end_on, on_follow, on_comma}
-use Rattle.pg_grammar.proofs.Generic.{Each}
-use Rattle.pg_grammar.proofs.Separated.{AfterItems}
-use Rattle.pg_grammar.proofs.Terminals.{keyword_seen}
-use Rattle.pg_grammar.proofs.Sequences.{Is, Only, Fitting, Sequence, Behind, Made, Either, restated, pure_exact, keyword_exact, sequence_exact, behind_exact, leading_exact, made_exact, either_exact, many_exact, sequence_fits, sequence_of, behind_fits, behind_of, keyword_first, keyword_other, no_tokens, all_made, all_of}
+use Rattle.pg_grammar.proofs.Combinators.{choice_exact, Is, Fitting, Sequence, Behind, Made, restated, keyword_exact, sequence_exact, behind_exact, leading_exact, made_exact, rows_exact, sequence_fits, sequence_of, behind_fits, behind_of, no_tokens, AfterItems, fitting}
+use Rattle.pg_grammar.proofs.FirstTokens.{shown}
 use Rattle.pg_grammar.proofs.Conditions.{Whole}
 use Rattle.pg_grammar.proofs.SetItems.{SetsSpelled, sets_exact}
 use Rattle.pg_grammar.proofs.Matches.{PathFits, path_fits}
 
 -- ---- CREATE or MATCH
 
-abbrev Created : Bool → List Token → Type 0
-Created = Behind (key k.Create) (Only true)
-
-abbrev Matched : Bool → List Token → Type 0
-Matched = Behind (key k.Match) (Only false)
-
 event_exact : {limit : ℕ} → Exactly limit event (Is event_mark) Anything
 unfolding parse.same_keyword
-event_exact {limit} = restated (Either Created Matched) (Is event_mark) Anything Anything
-    (either_exact (sees_keyword k.Create) Created Matched Anything (behind_exact (key k.Create) (Only true) Anything (keyword_exact limit k.Create) (pure_exact true)) (behind_exact (key k.Match) (Only false) Anything (keyword_exact limit k.Match) (pure_exact false))
-    (λ b front more h. keyword_first k.Create front more h) (λ b front more h ends. keyword_other k.Match k.Create refl front more h))
-    out into (λ more ends. tt)
-  where
-    out : (b : Bool) (front : List Token) → Either Created Matched b front → Is event_mark b front
-    out b front (inl h) = subst (λ y. Is event_mark y front) (sym h.inner.0) (behind_fits h [] (rw h.inner.1 tt))
-    out b front (inr h) = subst (λ y. Is event_mark y front) (sym h.inner.0) (behind_fits h [] (rw h.inner.1 tt))
-
-    into : (b : Bool) (front : List Token) → Is event_mark b front → Either Created Matched b front
-    into true front h = inl (behind_of (key k.Create) _ _ [] front h (λ g p. (refl, no_tokens g p)))
-    into false front h = inr (behind_of (key k.Match) _ _ [] front h (λ g p. (refl, no_tokens g p)))
+event_exact = choice_exact (sees_keyword k.Create) event_mark (keyword_exact k.Create) (keyword_exact k.Match) (λ t more h. rw h.spelled.1 refl) (λ t more h. rw h.spelled.1 refl)
 
 -- ---- ON
 
@@ -64,20 +45,20 @@ OnParts = Behind (key k.On) (Sequence (Is event_mark) Setting)
 
 on_exact : {limit : ℕ} {whole : Parser Expression} → Exactly limit whole Whole (Ends 1) → LabelsAreExact → Exactly limit (on_items whole) OnSpelled (AfterItems (Ends 1))
 unfolding on_items
-on_exact {limit} {whole} exact labels = restated OnParts OnSpelled (AfterItems (Ends 1)) (AfterItems (Ends 1))
-    (behind_exact (key k.On) (Sequence (Is event_mark) Setting) (AfterItems (Ends 1)) (keyword_exact limit k.On)
-    (sequence_exact (Is event_mark) Anything Setting (AfterItems (Ends 1)) event_exact
-    (λ b. behind_exact (key k.Set) (Made (on_with b) SetsSpelled) (AfterItems (Ends 1)) (keyword_exact limit k.Set) (made_exact (on_with b) SetsSpelled (AfterItems (Ends 1)) (sets_exact exact labels)))
+on_exact {limit} {whole} exact labels = restated
+    (behind_exact (keyword_exact k.On)
+    (sequence_exact event_exact
+    (λ b. behind_exact (keyword_exact k.Set) (made_exact (on_with b) (sets_exact exact labels)))
     (λ b o front more h ends. tt)))
     out into (λ more ends. ends)
   where
     out : (o : On) (front : List Token) → OnParts o front → OnSpelled o front
     out o front h =
         let q = h.inner in let p = q.second in let v = p.inner in
-        subst (λ y. OnSpelled y front) (sym v.is) (record { well = v.inner.well; fits = behind_fits h _ (sequence_fits q (event_mark q.value ∷ []) _ q.first (behind_fits p _ v.inner.fits)) })
+        subst (λ y. OnSpelled y front) (sym v.is) (fitting v.inner.well (behind_fits h _ (sequence_fits q (event_mark q.value ∷ []) _ q.first.fits (behind_fits p _ v.inner.fits))))
 
     into : (o : On) (front : List Token) → OnSpelled o front → OnParts o front
-    into o front h = behind_of (key k.On) _ _ _ front h.fits (λ g p. sequence_of (Is event_mark) _ o.0 _ (event_mark o.0 ∷ []) _ g p (λ f p. p) (λ g p. behind_of (key k.Set) _ _ _ g p (λ g p. record { value = o.1; is = refl; inner = record { well = h.well; fits = p } })))
+    into o front h = behind_of h.fits (λ g p. sequence_of o.0 (event_mark o.0 ∷ []) _ p (λ f p. fitting tt p) (λ g p. behind_of p (λ g p. record { value = o.1; is = refl; inner = fitting h.well p })))
 
 -- ---- any number of them
 
@@ -88,19 +69,12 @@ on_marks-of : (os : List On) → on_marks os ≡ joined (map on_mark os)
 on_marks-of [] = refl
 on_marks-of (o ∷ os) = ap (λ (ms : List Mark). on_mark o ++ ms) (on_marks-of os)
 
-on_first : (o : On) (front more : List Token) → OnSpelled o front → sees_keyword k.On (front ++ more) ≡ true
-on_first o [] more h = absurd h.fits
-on_first o (t ∷ front) more h = keyword_seen k.On t (front ++ more) h.fits.0
-
-on_takes : (o : On) (front : List Token) → OnSpelled o front → 0 < length front
-on_takes o [] h = absurd h.fits
-on_takes o (t ∷ front) h = omega arith
-
 ons_exact : {limit : ℕ} {whole : Parser Expression} → Exactly limit whole Whole (Ends 1) → LabelsAreExact → Exactly limit (many (sees_keyword k.On) (on_items whole) []) OnsSpelled ClauseEnds
-ons_exact {limit} {whole} exact labels = restated (Each OnSpelled) OnsSpelled ClauseEnds ClauseEnds
-    (many_exact (sees_keyword k.On) OnSpelled (AfterItems (Ends 1)) ClauseEnds (on_exact exact labels) on_first on_takes (λ more ends. (end_on more ends, (end_comma more ends, end_follow more ends))) (λ more e. (on_comma more e, on_follow more e)))
-    (λ os front h. let m = all_made (λ o. AreSetItems o.1) on_mark os front h in record { well = m.well; fits = rw on_marks-of m.fits })
-    (λ os front h. all_of (λ o. AreSetItems o.1) on_mark os front h.well (rw on_marks-of at h.fits))
+unfolding parse.same_keyword
+ons_exact exact labels =
+    restated (rows_exact (sees_keyword k.On) refl (on_exact exact labels) (λ o front more h. shown (is_keyword k.On) (on_mark o) front more (λ l h. rw h.1 refl) h.fits) (λ more ends. (end_on more ends, (end_comma more ends, end_follow more ends))) (λ more e. (on_comma more e, on_follow more e)))
+    (λ os front h. fitting h.well (rw on_marks-of h.fits))
+    (λ os front h. fitting h.well (rw on_marks-of at h.fits))
     (λ more ends. ends)
 
 -- ---- MERGE
@@ -120,8 +94,8 @@ ons_end (o ∷ os) (t ∷ front) more h ends = rw h.fits.0.spelled.1 refl
 pub merge_exact : {limit : ℕ} {whole : Parser Expression} → Exactly limit whole Whole (Ends 1) → Exactly limit (parse.path whole) PathSpelled NoHop → LabelsAreExact → Exactly (limit + 1) (merge_clause whole) MergeParts ClauseEnds
 unfolding merge_clause
 merge_exact {limit} exact paths labels =
-    leading_exact k.Merge (Sequence PathFits BehindPath) ClauseEnds
-    (sequence_exact PathFits NoHop BehindPath ClauseEnds (path_fits paths) (λ p. made_exact (tree.merge p) OnsSpelled ClauseEnds (ons_exact exact labels)) (λ p c front more h ends. ons_end h.value front more h.inner ends))
+    leading_exact (keyword_exact k.Merge)
+    (sequence_exact (path_fits paths) (λ p. made_exact (tree.merge p) (ons_exact exact labels)) (λ p c front more h ends. ons_end h.value front more h.inner ends))
 
 pub merge_out : (c : Clause) (front : List Token) → MergeParts c front → ClauseSpelled grammar.updating c front
 merge_out c front h =
@@ -130,4 +104,4 @@ merge_out c front h =
 
 pub merge_into : (p : PathPattern) (os : List On) (front : List Token) → ClauseSpelled grammar.updating (tree.merge p os) front → MergeParts (tree.merge p os) front
 merge_into x os front h =
-    behind_of (key k.Merge) _ _ _ front h.fits (λ g p. sequence_of PathFits _ x _ (path_marks x) _ g p (λ f p. record { well = h.well.0; fits = p }) (λ g p. record { value = os; is = refl; inner = record { well = h.well.1; fits = p } }))
+    behind_of h.fits (λ g p. sequence_of x (path_marks x) _ p (λ f p. fitting h.well.0 p) (λ g p. record { value = os; is = refl; inner = fitting h.well.1 p }))

@@ -15,7 +15,6 @@ use Rattle.pg_meaning.specs.Parse.{OneReading, query_of}
 use Rattle.pg_grammar.specs.Rules.{ExpressionsAreExact, ExpressionsOpen, ReadingClausesAreExact, UpdatingClausesAreExact}
 use Rattle.pg_grammar.proofs.Parts.{all_marks}
 use Rattle.pg_grammar.proofs.Queries.{read_complete}
-use Rattle.pg_grammar.proofs.Separated.{EachToken}
 use Rattle.pg_grammar.proofs.Shapes.{kinds}
 use Rattle.pg_grammar.proofs.Spans.{Placed}
 
@@ -178,7 +177,7 @@ query_back text q h = ap (λ (cs : List Clause). record q { clauses = cs }) (cla
 module _ (exact : ExpressionsAreExact) (opened : ExpressionsOpen) (readings : ReadingClausesAreExact) (updatings : UpdatingClausesAreExact) where
   in_letters_found : (n : ℕ) (text : List ℕ) (tokens : List Token) (q : Query) → total token_reach tokens ≤ n → total clause_reach q.clauses ≤ n → Reads text tokens q → query_of (letters n) tokens ≡ Some (resourced in_letters q)
   in_letters_found n text tokens q few short reads =
-      let placed : EachToken (Placed (letters n)) tokens = all_weaker (λ t. token_reach t ≤ n) (Placed (letters n)) (token_within n) tokens (within_total token_reach n tokens few) in
+      let placed : AllByRecursion (Placed (letters n)) tokens = all_weaker (λ t. token_reach t ≤ n) (Placed (letters n)) (token_within n) tokens (within_total token_reach n tokens few) in
       let sources = all_weaker (λ c. clause_reach c ≤ n) (λ c. AllByRecursion (HasSource (letters n)) (items_of (resourced_clause in_letters c))) (clause_within n) q.clauses (within_total clause_reach n q.clauses short) in
       read_complete (letters n) (IsUtf8-from_ascii (letters n) (letters_ascii n)) exact opened readings updatings tokens (resourced in_letters q) placed
       (resourced_reads in_letters in_letters_same text (letters n) tokens q reads sources)

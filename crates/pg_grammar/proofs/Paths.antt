@@ -13,15 +13,16 @@ use Rattle.pg_grammar.specs.Rules.{Exactly, Exact, Anything, PathSpelled, NoHop,
 use Rattle.pg_grammar.proofs.Nodes.{HasProperties, node_exact}
 use Rattle.pg_grammar.proofs.Properties.{var_begins}
 use Rattle.pg_grammar.proofs.Relationships.{HasDetail, relationship_exact}
-use Rattle.pg_grammar.proofs.Marks.{var_exact, Marked, Free, More, Starts, avoided, spelled_as, step, behind, made, maybe_exactly, many_exactly, ending}
+use Rattle.pg_grammar.proofs.Combinators.{Fitting, Free, After, fitting, restated, step, behind, made, maybe_exact, rows_exact, symbol_exact, var_exact, ending}
+use Rattle.pg_grammar.proofs.FirstTokens.{shown}
 
 -- ---- the path's variable
 
-path_variable_exact : (limit : ℕ) → Exactly limit path_variable (Marked Free (λ n. Free n × Free n) path_variable_marks) Anything
-path_variable_exact limit = step (λ (n : Name). n) Free (var_exact limit) (λ n. behind s.Equal (made n (λ (m : Name). (m ≡ n) × Free m) (refl, tt) (λ m h. sym h.0))) (λ n y more well fits ends. tt)
+path_variable_exact : (limit : ℕ) → Exactly limit path_variable (Fitting (λ n. Free n × Free n) path_variable_marks) Anything
+path_variable_exact limit = step (λ (n : Name). n) Free (var_exact limit) (λ n. behind (symbol_exact s.Equal) (made n (λ (m : Name). (m ≡ n) × Free m) (refl, tt) (λ m h. sym h.0))) (λ n y more well fits ends. tt)
 
-path_variable_or_none : (limit : ℕ) → Exactly limit (maybe begins_var path_variable) (Marked Free (EachOf (λ n. Free n × Free n)) (optional_marks path_variable_marks)) (λ more. (begins_var more ≡ false) × Anything more)
-path_variable_or_none limit = maybe_exactly begins_var (path_variable_exact limit) (λ n front more fits. var_begins n (sign s.Equal ∷ []) front more fits)
+path_variable_or_none : (limit : ℕ) → Exactly limit (maybe begins_var path_variable) (Fitting (EachOf (λ n. Free n × Free n)) (optional_marks path_variable_marks)) (After begins_var Anything)
+path_variable_or_none limit = maybe_exact begins_var (path_variable_exact limit) (λ n front more h. var_begins n (sign s.Equal ∷ []) front more h.fits)
 
 each_free : (o : Option Name) → EachOf (λ n. Free n × Free n) o
 each_free None = tt
@@ -46,12 +47,12 @@ HopWell h = HasDetail h.0 × (HasProperties h.1 × Free h)
 
 no_head : (n : NodePattern) (ms : List Mark) (y more : List Token) → Fit y (node_marks n ++ ms) → sees_symbol s.Greater (y ++ more) ≡ false
 unfolding parse.same_symbol
-no_head n ms y more fits = avoided (is_symbol s.Greater) (node_marks n ++ ms) y more (λ l h. rw h refl) fits
+no_head n ms y more fits = shown (is_symbol s.Greater) (node_marks n ++ ms) y more (λ l h. rw h refl) fits
 
 no_var : (n : NodePattern) (ms : List Mark) (y more : List Token) → Fit y (node_marks n ++ ms) → begins_var (y ++ more) ≡ false
-no_var n ms y more fits = avoided _ (node_marks n ++ ms) y more (λ l h. rw h refl) fits
+no_var n ms y more fits = shown _ (node_marks n ++ ms) y more (λ l h. rw h refl) fits
 
-hop_exact : (limit : ℕ) (whole : Parser Expression) → Exact limit 1 whole → Exactly limit (hop whole) (Marked Free HopWell from_relationship) Anything
+hop_exact : (limit : ℕ) (whole : Parser Expression) → Exact limit 1 whole → Exactly limit (hop whole) (Fitting HopWell from_relationship) Anything
 hop_exact limit whole exact =
     step (λ (h : Hop). h.0) Free (relationship_exact limit whole exact)
     (λ r. step (λ (h : Hop). h.1) (λ (h : Hop). (h.0 ≡ r) × Free h) (node_exact limit whole exact)
@@ -81,24 +82,17 @@ relationship_begins r ms y more fits = by r.left_head _ y fits
     by true ns (t ∷ l) fits = rw fits.0.spelled refl
     by false ns (t ∷ l) fits = rw fits.0.spelled refl
 
-relationship_starts : (r : RelationshipPattern) (ms : List Mark) → Starts (relationship_marks r ++ ms)
-relationship_starts r ms = by r.left_head _
-  where
-    by : (b : Bool) (ns : List Mark) → Starts (begun r.place (flag b (sign s.Less) ++ sign s.Minus ∷ ns) ++ ms)
-    by true ns = tt
-    by false ns = tt
-
-hops_exact : (limit : ℕ) (whole : Parser Expression) → Exact limit 1 whole → Exactly limit (many begins_relationship (hop whole) []) (Marked Free (AllByRecursion IsHop) hop_marks) NoHop
+hops_exact : (limit : ℕ) (whole : Parser Expression) → Exact limit 1 whole → Exactly limit (many begins_relationship (hop whole) []) (Fitting (AllByRecursion IsHop) hop_marks) NoHop
 hops_exact limit whole exact =
-    spelled_as
-    (many_exactly begins_relationship [] (hop_exact limit whole exact) (λ h front more fits. relationship_begins h.0 (from_node h) front more fits) (λ h. relationship_starts h.0 (from_node h)) (λ more h. (h, tt)) (λ more h. tt))
+    restated
+    (rows_exact begins_relationship refl (hop_exact limit whole exact) (λ h front more f. relationship_begins h.0 (from_node h) front more f.fits) (λ more h. (h, tt)) (λ more h. tt))
     out into (λ more h. h)
   where
-    out : (hs : List Hop) (front : List Token) → More HopWell from_relationship [] hs front → Marked Free (AllByRecursion IsHop) hop_marks hs front
-    out hs front h = rw h.is (record { known = tt; well = well_hops h.others h.well; fits = rw (← same_hops h.others) h.fits })
+    out : (hs : List Hop) (front : List Token) → Fitting (AllByRecursion HopWell) (λ hs. joined (map from_relationship hs)) hs front → Fitting (AllByRecursion IsHop) hop_marks hs front
+    out hs front h = fitting (well_hops hs h.well) (rw (← same_hops hs) h.fits)
 
-    into : (hs : List Hop) (front : List Token) → Marked Free (AllByRecursion IsHop) hop_marks hs front → More HopWell from_relationship [] hs front
-    into hs front h = record { others = hs; is = refl; well = hops_well hs h.well; fits = rw (same_hops hs) h.fits }
+    into : (hs : List Hop) (front : List Token) → Fitting (AllByRecursion IsHop) hop_marks hs front → Fitting (AllByRecursion HopWell) (λ hs. joined (map from_relationship hs)) hs front
+    into hs front h = fitting (hops_well hs h.well) (rw (same_hops hs) h.fits)
 
 -- ---- a path
 
@@ -123,7 +117,7 @@ same_path p = simp (append_assoc, append-nil)
 path_exact : (limit : ℕ) (whole : Parser Expression) → Exact limit 1 whole → Exactly limit (path whole) PathSpelled NoHop
 unfolding path
 path_exact limit whole exact =
-    spelled_as
+    restated
     (step (λ (p : PathPattern). p.variable) Free (path_variable_or_none limit)
     (λ n. step (λ (p : PathPattern). p.first) (λ (p : PathPattern). (p.variable ≡ n) × Free p) (node_exact limit whole exact)
     (λ x. step (λ (p : PathPattern). p.hops) (λ (p : PathPattern). (p.first ≡ x) × ((p.variable ≡ n) × Free p)) (hops_exact limit whole exact)
@@ -133,11 +127,11 @@ path_exact limit whole exact =
     (λ p y more well fits ends. (no_var p.first (from_hops p) y more fits, tt)))
     out into (λ more h. h)
   where
-    out : (p : PathPattern) (front : List Token) → Marked Free Inner from_variable p front → PathSpelled p front
+    out : (p : PathPattern) (front : List Token) → Fitting Inner from_variable p front → PathSpelled p front
     out p front h = let w = h.well in record { well = (w.1.0, w.1.1.0); fits = rw (same_path p) h.fits }
 
-    into : (p : PathPattern) (front : List Token) → PathSpelled p front → Marked Free Inner from_variable p front
-    into p front h = let w = h.well in record { known = tt; well = (each_free p.variable, (w.0, (w.1, tt))); fits = rw (← same_path p) h.fits }
+    into : (p : PathPattern) (front : List Token) → PathSpelled p front → Fitting Inner from_variable p front
+    into p front h = let w = h.well in fitting (each_free p.variable, (w.0, (w.1, tt))) (rw (← same_path p) h.fits)
 
 pub paths_exact : ((n : ℕ) → Exact n 1 (parse.expr n)) → PathsAreExact
 paths_exact exact n = path_exact n (parse.expr n) (exact n)

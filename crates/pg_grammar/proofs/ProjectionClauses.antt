@@ -1,38 +1,34 @@
 -- WITH and RETURN.
-use Rattle.std.proofs.Common.{◌≡◌, ℕ, ◌+◌, ◌<◌, List, ◌∷◌, length, Some, refl, ap, subst, arith}
+use Rattle.std.proofs.Common.{◌≡◌, ℕ, ◌+◌, List, [], ◌++◌, refl, sym, subst, arith}
+use Rattle.std.proofs.lemmas.List.{append-nil}
 use Rattle.std.specs.List.{AllByRecursion}
-use Rattle.std.specs.Str.{IsUtf8}
 use Rattle.pg_meaning.specs.declared.lexemes.Keyword.TheVariants as k
 use Rattle.pg_meaning.specs.ListsLaws.{all_weaker, all_both}
 use Rattle.pg_meaning.specs.Tokens.{Token}
-use Rattle.pg_meaning.specs.Tree.{Expression, Item, SortItem, Projection, Clause}
+use Rattle.pg_meaning.specs.Tree.{Expression, Projection, Clause}
 use Rattle.pg_meaning.specs.Tree as tree
-use Rattle.pg_meaning.specs.Grammar.{keyed, optional_marks, projection_marks, clause_marks, IsProjection, IsClause, IsWellFormed, IsNamed, HasSource, Kind, passing, returning, kind_of, items_of}
-use Rattle.pg_meaning.specs.Parse as parse
-use Rattle.pg_meaning.specs.Parse.{Parser, ◌>>=◌, pure, projection, return_item, with_item, with_clause, return_clause}
-use Rattle.pg_grammar.specs.Rules.{Exact, ExpressionsOpen, ClauseEnds}
-use Rattle.pg_grammar.proofs.Generic.{same_some, bind_some}
-use Rattle.pg_grammar.proofs.Items.{IsItem, IsNamedItem, item_reads, named_reads}
-use Rattle.pg_grammar.proofs.Pieces.{ReadsMarks}
-use Rattle.pg_grammar.proofs.Projections.{Projected, projection_reads}
-use Rattle.pg_grammar.proofs.SortItems.{keyed_expression, keyed_sound, keyed_complete, keyed_from}
-use Rattle.pg_grammar.proofs.Spans.{Placed}
+use Rattle.pg_meaning.specs.Grammar.{key, keyed, optional_marks, projection_marks, clause_marks, IsProjection, IsClause, IsWellFormed, IsNamed, Kind, passing, returning, kind_of, items_of}
+use Rattle.pg_meaning.specs.Parse.{Parser, projection, return_item, with_item, with_clause, return_clause}
+use Rattle.pg_grammar.specs.Rules.{Exactly, Exact, ExpressionsOpen, ClauseEnds}
+use Rattle.pg_grammar.proofs.Combinators.{Fitting, Sequence, Behind, Made, fitting, restated, leading_exact, made_exact, sequence_exact, keyword_exact, sequence_fits, sequence_of, behind_fits, behind_of, ending}
+use Rattle.pg_grammar.proofs.Conditions.{MayHave, whole_exact}
+use Rattle.pg_grammar.proofs.Items.{IsCut, IsItem, IsNamedItem, item_exact, named_exact}
+use Rattle.pg_grammar.proofs.Projections.{Projected, projection_exact}
+use Rattle.pg_grammar.proofs.SortItems.{keyed_exact, keyed_from}
 use Rattle.pg_grammar.proofs.Stages.{From, from_clause}
-use Rattle.pg_grammar.proofs.Takes.{Takes, Took, takes_then, takes_split, takes_less, takes_first, took_first}
-use Rattle.pg_grammar.proofs.Terminals.{keyword_takes, keyword_again}
 
 -- a clause whose items have their sources from the text
 abbrev pub IsTextClause : List ℕ → Clause → Type 0
-IsTextClause text c = IsClause c × AllByRecursion (HasSource text) (items_of c)
+IsTextClause text c = IsClause c × AllByRecursion (IsCut text) (items_of c)
 
 abbrev pub IsOfKind : List ℕ → Kind → Clause → Type 0
 IsOfKind text kind c = IsTextClause text c × (kind_of c ≡ kind)
 
-projection_is : (text : List ℕ) (p : Projection) → Projected (IsItem text) p → IsProjection p × AllByRecursion (HasSource text) p.items
-projection_is text p h = ((h.0, all_weaker (IsItem text) (λ x. IsWellFormed x.value) (λ x i. i.0) p.items h.1, h.2, h.3, h.4), all_weaker (IsItem text) (HasSource text) (λ x i. i.1) p.items h.1)
+projection_is : (text : List ℕ) (p : Projection) → Projected (IsItem text) p → IsProjection p × AllByRecursion (IsCut text) p.items
+projection_is text p h = ((h.0, all_weaker (IsItem text) (λ x. IsWellFormed x.value) (λ x i. i.0) p.items h.1, h.2, h.3, h.4), all_weaker (IsItem text) (IsCut text) (λ x i. i.1) p.items h.1)
 
-projection_of : (text : List ℕ) (p : Projection) → IsProjection p → AllByRecursion (HasSource text) p.items → Projected (IsItem text) p
-projection_of text p h sources = (h.0, all_both (λ x. IsWellFormed x.value) (HasSource text) p.items h.1 sources, h.2, h.3, h.4)
+projection_of : (text : List ℕ) (p : Projection) → IsProjection p → AllByRecursion (IsCut text) p.items → Projected (IsItem text) p
+projection_of text p h sources = (h.0, all_both (λ x. IsWellFormed x.value) (IsCut text) p.items h.1 sources, h.2, h.3, h.4)
 
 named_is : (text : List ℕ) (p : Projection) → Projected (IsNamedItem text) p → Projected (IsItem text) p × AllByRecursion (λ x. IsNamed x.value x.alias) p.items
 named_is text p h = ((h.0, all_weaker (IsNamedItem text) (IsItem text) (λ x i. i.0) p.items h.1, h.2, h.3, h.4), all_weaker (IsNamedItem text) (λ x. IsNamed x.value x.alias) (λ x i. i.1) p.items h.1)
@@ -40,64 +36,52 @@ named_is text p h = ((h.0, all_weaker (IsNamedItem text) (IsItem text) (λ x i. 
 named_of : (text : List ℕ) (p : Projection) → Projected (IsItem text) p → AllByRecursion (λ x. IsNamed x.value x.alias) p.items → Projected (IsNamedItem text) p
 named_of text p h named = (h.0, all_both (IsItem text) (λ x. IsNamed x.value x.alias) p.items h.1 named, h.2, h.3, h.4)
 
-module _ (text : List ℕ) (utf8 : IsUtf8 text) {n : ℕ} {whole : Parser Expression} (exact : Exact n 1 whole) (opened : ExpressionsOpen) where
-  returned : ReadsMarks (Placed text) n (projection whole (return_item text whole)) (Projected (IsItem text)) projection_marks (From 4)
-  returned = projection_reads exact opened (λ x h. h.0) (item_reads text exact opened utf8)
+module _ (text : List ℕ) {n : ℕ} {whole : Parser Expression} (exact : Exact n 1 whole) (opened : ExpressionsOpen) where
+  returned : Exactly n (projection whole (return_item text whole)) (Fitting (Projected (IsItem text)) projection_marks) (From 4)
+  returned = projection_exact exact opened (λ x h. h.0) (item_exact text exact opened)
 
-  passed : ReadsMarks (Placed text) n (projection whole (with_item text whole)) (Projected (IsNamedItem text)) projection_marks (From 4)
-  passed = projection_reads exact opened (λ x h. h.0.0) (named_reads text whole (item_reads text exact opened utf8))
+  passed : Exactly n (projection whole (with_item text whole)) (Fitting (Projected (IsNamedItem text)) projection_marks) (From 4)
+  passed = projection_exact exact opened (λ x h. h.0.0) (named_exact text whole (item_exact text exact opened))
 
-  return_sound : (ts : List Token) (c : Clause) (more : List Token) → return_clause text whole ts ≡ Some (c, more) → IsOfKind text returning c × Took ts (clause_marks c) more
+  abbrev ReturnParts : Clause → List Token → Type 0
+  ReturnParts = Behind (key k.Return) (Made tree.return_rows (Fitting (Projected (IsItem text)) projection_marks))
+
+  pub return_exact : Exactly (n + 1) (return_clause text whole) (Fitting (IsOfKind text returning) clause_marks) ClauseEnds
   unfolding return_clause
-  return_sound ts c more e =
-      let b = bind_some (parse.keyword k.Return ts) (λ _. projection whole (return_item text whole) >>= λ p. pure (tree.return_rows p)) (c, more) e in
-      let d = bind_some (projection whole (return_item text whole) b.1) (λ p. pure (tree.return_rows p)) (c, more) b.3 in
-      let last = same_some (tree.return_rows d.0) c d.1 more d.3 in
-      let t = keyword_takes k.Return ts b.1 b.0 b.2 in
-      let one = returned.sound b.1 d.0 d.1 d.2 in
-      subst (λ (r : List Token). IsOfKind text returning c × Took ts (clause_marks c) r) last.1
-      (subst (λ (y : Clause). IsOfKind text returning y × Took ts (clause_marks y) d.1) last.0 ((projection_is text d.0 one.0, refl), took_first t.0 b.1 t.1 t.2 one.1))
+  return_exact = restated (leading_exact (keyword_exact k.Return) (made_exact tree.return_rows returned)) out into (λ more ends. let from = from_clause more ends in omega arith)
+    where
+      out : (c : Clause) (front : List Token) → ReturnParts c front → Fitting (IsOfKind text returning) clause_marks c front
+      out c front h =
+          let v = h.inner in
+          subst (λ y. Fitting (IsOfKind text returning) clause_marks y front) (sym v.is) (fitting (projection_is text v.value v.inner.well, refl) (behind_fits h (projection_marks v.value) v.inner.fits))
 
-  return_complete : (ts : List Token) (c : Clause) (more : List Token) → IsOfKind text returning c → Takes (Placed text) ts (clause_marks c) more → ClauseEnds more → length ts < n + 1 → return_clause text whole ts ≡ Some (c, more)
-  unfolding return_clause
-  return_complete ts (tree.return_rows p) more ok h ends less =
-      let f = takes_first h in
-      let from = from_clause more ends in
-      let one = returned.complete f.left p more (projection_of text p ok.0.0 ok.0.1) f.others (omega arith) (omega (arith, ap length f.whole)) in
-      rw (f.whole, keyword_again k.Return f.token f.left f.accepts, one) refl
-  return_complete ts _ more ok h ends less = absurd (let bad = ok.1 in cc)
+      into : (c : Clause) (front : List Token) → Fitting (IsOfKind text returning) clause_marks c front → ReturnParts c front
+      into (tree.return_rows p) front h = behind_of h.fits (λ g f. record { value = p; is = refl; inner = fitting (projection_of text p h.well.0.0 h.well.0.1) f })
+      into _ front h = absurd (let bad = h.well.1 in cc)
 
-  with_sound : (ts : List Token) (c : Clause) (more : List Token) → with_clause text whole ts ≡ Some (c, more) → IsOfKind text passing c × Took ts (clause_marks c) more
+  abbrev Condition : Projection → Clause → List Token → Type 0
+  Condition p = Made (tree.with_rows p) (MayHave k.Where)
+
+  abbrev WithParts : Clause → List Token → Type 0
+  WithParts = Behind (key k.With) (Sequence (Fitting (Projected (IsNamedItem text)) projection_marks) Condition)
+
+  pub with_exact : Exactly (n + 1) (with_clause text whole) (Fitting (IsOfKind text passing) clause_marks) ClauseEnds
   unfolding with_clause
-  with_sound ts c more e =
-      let b = bind_some (parse.keyword k.With ts) (λ _. projection whole (with_item text whole) >>= λ p. keyed_expression k.Where whole >>= λ x. pure (tree.with_rows p x)) (c, more) e in
-      let d = bind_some (projection whole (with_item text whole) b.1) (λ p. keyed_expression k.Where whole >>= λ x. pure (tree.with_rows p x)) (c, more) b.3 in
-      let f = bind_some (keyed_expression k.Where whole d.1) (λ x. pure (tree.with_rows d.0 x)) (c, more) d.3 in
-      let last = same_some (tree.with_rows d.0 f.0) c f.1 more f.3 in
-      let t = keyword_takes k.With ts b.1 b.0 b.2 in
-      let one = passed.sound b.1 d.0 d.1 d.2 in
-      let two = keyed_sound exact k.Where d.1 f.0 f.1 f.2 in
-      let named = named_is text d.0 one.0 in
-      let is = projection_is text d.0 named.0 in
-      subst (λ (r : List Token). IsOfKind text passing c × Took ts (clause_marks c) r) last.1
-      (subst (λ (y : Clause). IsOfKind text passing y × Took ts (clause_marks y) f.1) last.0 ((((is.0, named.1, two.0), is.1), refl), took_first t.0 b.1 t.1 t.2 (takes_then one.1 two.1)))
+  with_exact = restated (leading_exact (keyword_exact k.With) (sequence_exact passed (λ p. made_exact (tree.with_rows p) (keyed_exact (whole_exact exact) k.Where 4 (λ w. refl))) follows)) out into from_clause
+    where
+      follows : (p : Projection) (c : Clause) (y more : List Token) → Condition p c y → From 5 more → From 4 (y ++ more)
+      follows p c y more h from = keyed_from k.Where 4 (λ w. refl) h.value [] y more (rw append-nil h.inner.fits) (λ z f. ending (From 5) z more f from)
 
-  with_complete : (ts : List Token) (c : Clause) (more : List Token) → IsOfKind text passing c → Takes (Placed text) ts (clause_marks c) more → ClauseEnds more → length ts < n + 1 → with_clause text whole ts ≡ Some (c, more)
-  unfolding with_clause
-  with_complete ts (tree.with_rows p x) more ok h ends less =
-      let f = takes_first h in
-      let len : length ts ≡ length (f.token ∷ f.left) = ap length f.whole in
-      let parts = takes_split (projection_marks p) (optional_marks (keyed k.Where) x) f.others in
-      let from : From 5 more = from_clause more ends in
-      let from4 : From 4 parts.0 = keyed_from k.Where 4 (λ w. refl) parts.0 x more parts.2 from in
-      let shorter = takes_less parts.1 in
-      let one = passed.complete f.left p parts.0 (named_of text p (projection_of text p ok.0.0.0 ok.0.1) ok.0.0.1) parts.1 from4 (omega arith) in
-      let two = keyed_complete exact k.Where 4 (λ w. refl) parts.0 x more ok.0.0.2 parts.2 from (omega arith) in
-      rw (f.whole, keyword_again k.With f.token f.left f.accepts, one, two) refl
-  with_complete ts _ more ok h ends less = absurd (let bad = ok.1 in cc)
+      out : (c : Clause) (front : List Token) → WithParts c front → Fitting (IsOfKind text passing) clause_marks c front
+      out c front h =
+          let q = h.inner in let v = q.second in
+          let named = named_is text q.value q.first.well in
+          let is = projection_is text q.value named.0 in
+          subst (λ y. Fitting (IsOfKind text passing) clause_marks y front) (sym v.is)
+          (fitting (((is.0, named.1, v.inner.well), is.1), refl) (behind_fits h (projection_marks q.value ++ optional_marks (keyed k.Where) v.value) (sequence_fits q (projection_marks q.value) (optional_marks (keyed k.Where) v.value) q.first.fits v.inner.fits)))
 
-  pub return_reads : ReadsMarks (Placed text) (n + 1) (return_clause text whole) (IsOfKind text returning) clause_marks ClauseEnds
-  return_reads = record { sound = return_sound; complete = return_complete }
-
-  pub with_reads : ReadsMarks (Placed text) (n + 1) (with_clause text whole) (IsOfKind text passing) clause_marks ClauseEnds
-  with_reads = record { sound = with_sound; complete = with_complete }
+      into : (c : Clause) (front : List Token) → Fitting (IsOfKind text passing) clause_marks c front → WithParts c front
+      into (tree.with_rows p x) front h =
+          let w = h.well.0 in
+          behind_of h.fits (λ g f. sequence_of p (projection_marks p) (optional_marks (keyed k.Where) x) f (λ f r. fitting (named_of text p (projection_of text p w.0.0 w.1) w.0.1) r) (λ g r. record { value = x; is = refl; inner = fitting w.0.2 r }))
+      into _ front h = absurd (let bad = h.well.1 in cc)

@@ -1,5 +1,6 @@
 -- What stands behind WITH or RETURN.
-use Rattle.std.proofs.Common.{◌≡◌, ℕ, ◌<◌, Bool, true, false, List, [], ◌∷◌, ◌++◌, length, map, Option, Some, None, refl, sym, ap, subst, ◌∙◌, inl, inr, arith}
+use Rattle.std.proofs.Common.{◌≡◌, ℕ, Bool, true, false, List, [], ◌∷◌, ◌++◌, map, Option, Some, None, refl, append_assoc, arith}
+use Rattle.std.proofs.lemmas.List.{append-nil}
 use Rattle.std.specs.Prelude.{is_some}
 use Rattle.std.specs.List.{AllByRecursion}
 use Rattle.pg_meaning.specs.declared.lexemes.Keyword.{Keyword}
@@ -7,165 +8,171 @@ use Rattle.pg_meaning.specs.declared.lexemes.Keyword.TheVariants as k
 use Rattle.pg_meaning.specs.declared.lexemes.Symbol.TheVariants as s
 use Rattle.pg_meaning.specs.Tokens.{Token}
 use Rattle.pg_meaning.specs.Tree.{Expression, Item, SortItem, Projection}
-use Rattle.pg_meaning.specs.Grammar.{key, flag, keyed, further, optional_marks, item_marks, items_marks, order_marks, projection_marks, HasColumns, IsWellFormed, Each}
+use Rattle.pg_meaning.specs.Grammar.{Mark, key, sign, flag, keyed, further, commas, optional_marks, item_marks, items_marks, order_marks, projection_marks, Fit, HasColumns, IsWellFormed, Each as EachOf}
 use Rattle.pg_meaning.specs.Parse as parse
-use Rattle.pg_meaning.specs.Parse.{Parser, Outcome, and_then, ◌>>=◌, pure, sees_symbol, sees_keyword, is_symbol, is_keyword, eat_symbol, eat_keyword, start_of, star_of, many, comma_and, separated, ordering, projection, here}
-use Rattle.pg_grammar.specs.Rules.{Exact, opens, Opened, ExpressionsOpen}
-use Rattle.pg_grammar.proofs.Openings.{symbol_closed, keyword_closed}
-use Rattle.pg_grammar.proofs.Generic.{same_some, bind_some}
+use Rattle.pg_meaning.specs.Parse.{Parser, ◌>>=◌, ◌>>◌, pure, maybe, sees_symbol, sees_keyword, is_symbol, is_keyword, eat_symbol, eat_keyword, start_of, star_of, many, comma_and, separated, ordering, projection, here}
+use Rattle.pg_grammar.specs.Rules.{Exactly, Exact, ExpressionsOpen}
+use Rattle.pg_grammar.proofs.Combinators.{Marked, Fitting, Free, Items, AfterItems, fitting, restated, step, made, here_then, items_exact, further_exact, eat_symbol_exact, eat_keyword_exact, ending}
+use Rattle.pg_grammar.proofs.Conditions.{whole_exact}
+use Rattle.pg_grammar.proofs.FirstTokens.{shown}
 use Rattle.pg_grammar.proofs.Items.{ItemEnds, comma_item_ends, item_opens}
-use Rattle.pg_grammar.proofs.Pieces.{ReadsMarks, separated_reads, further_reads}
-use Rattle.pg_grammar.proofs.Separated.{AfterItems}
-use Rattle.pg_grammar.proofs.SortItems.{IsOrder, keyed_expression, ordering_sound, ordering_complete, order_from, keyed_sound, keyed_complete, keyed_from}
+use Rattle.pg_grammar.proofs.Openings.{symbol_closed, keyword_closed, symbol_unbound}
+use Rattle.pg_grammar.proofs.SortItems.{IsOrder, ordering_exact, order_from, keyed_exact, keyed_from}
 use Rattle.pg_grammar.proofs.Stages.{From, from_ends, from_not, from_no_comma}
-use Rattle.pg_grammar.proofs.Takes.{Takes, Took, none_taken, takes_then, takes_split, takes_less, takes_first, took_first, takes_none, only_token}
-use Rattle.pg_grammar.proofs.Terminals.{eat_takes, eat_yes, eat_no, eat_keyword_takes, eat_keyword_yes, eat_keyword_no}
-
--- ---- a keyword that may be lacking
-
-pub flag_took : (x : Keyword) (ts : List Token) (b : Bool) (more : List Token) → eat_keyword x ts ≡ Some (b, more) → Took ts (flag b (key x)) more
-flag_took x ts true more e = elim (eat_keyword_takes x ts more true e) [
-  | inl h ↦ took_first h.1 more h.2 h.3 (takes_none more)
-  | inr h ↦ absurd (let bad = h.0 in cc)
-]
-flag_took x ts false more e = elim (eat_keyword_takes x ts more false e) [
-  | inl h ↦ absurd (let bad = h.0 in cc)
-  | inr h ↦ rw h.1 (takes_none more)
-]
-
-pub flag_again : {P : Token → Type 0} (x : Keyword) (ts : List Token) (b : Bool) (more : List Token) → Takes P ts (flag b (key x)) more → sees_keyword x more ≡ false → eat_keyword x ts ≡ Some (b, more)
-flag_again x ts true more h unseen = let f = only_token h in rw f.1 (eat_keyword_yes x f.0 more f.2)
-flag_again x ts false more h unseen = rw (none_taken h) (eat_keyword_no x more unseen)
-
--- ---- projections
-
-alone : (t : Token) → opens t.lexeme ≡ true → Opened (t ∷ [])
-alone t h = record { token = t; others = []; whole = refl; first = h }
 
 abbrev pub Projected : (Item → Type 0) → Projection → Type 0
-Projected Ok p = HasColumns p.star p.items × AllByRecursion Ok p.items × IsOrder p.order × Each IsWellFormed p.skip × Each IsWellFormed p.limit
+Projected Ok p = HasColumns p.star p.items × AllByRecursion Ok p.items × IsOrder p.order × EachOf IsWellFormed p.skip × EachOf IsWellFormed p.limit
 
-abbrev projected : Bool → Option ℕ → List Item → List SortItem → Option Expression → Option Expression → Projection
-projected d star xs os m l = record { distinct = d; star = star; items = xs; order = os; skip = m; limit = l }
+abbrev made_projection : Bool → Option ℕ → List Item → List SortItem → Option Expression → Option Expression → Projection
+made_projection d star xs os m l = record { distinct = d; star = star; items = xs; order = os; skip = m; limit = l }
 
-module _ {P : Token → Type 0} {n : ℕ} {whole : Parser Expression} {item : Parser Item} {Ok : Item → Type 0}
-    (exact : Exact n 1 whole) (opened : ExpressionsOpen) (well : (x : Item) → Ok x → IsWellFormed x.value) (items : ReadsMarks P n item Ok item_marks ItemEnds) where
+-- ---- the marks, from each part on
+
+abbrev column_marks : Bool → List Item → List Mark
+column_marks true xs = further (map item_marks xs)
+column_marks false xs = commas (map item_marks xs)
+
+abbrev from_limit : Projection → List Mark
+from_limit p = optional_marks (keyed k.Limit) p.limit ++ []
+
+abbrev from_skip : Projection → List Mark
+from_skip p = optional_marks (keyed k.Skip) p.skip ++ from_limit p
+
+abbrev from_order : Projection → List Mark
+from_order p = order_marks p.order ++ from_skip p
+
+-- where the star's place isn't said
+abbrev from_star : Projection → List Mark
+from_star p = flag (is_some p.star) (sign s.Star) ++ (column_marks (is_some p.star) p.items ++ from_order p)
+
+abbrev from_columns : Projection → List Mark
+from_columns p = items_marks p.star p.items ++ from_order p
+
+-- ---- what stands behind each part
+
+limit_from : (p : Projection) (y more : List Token) → Fit y (from_limit p) → From 4 more → From 3 (y ++ more)
+limit_from p y more fits from = keyed_from k.Limit 3 (λ w. refl) p.limit [] y more fits (λ z f. ending (From 4) z more f from)
+
+skip_from : (p : Projection) (y more : List Token) → Fit y (from_skip p) → From 4 more → From 2 (y ++ more)
+skip_from p y more fits from = keyed_from k.Skip 2 (λ w. refl) p.skip (from_limit p) y more fits (λ z f. limit_from p z more f from)
+
+rest_from : (p : Projection) (y more : List Token) → Fit y (from_order p) → From 4 more → From 1 (y ++ more)
+rest_from p y more fits from = order_from p.order (from_skip p) y more fits (λ z f. skip_from p z more f from)
+
+columns_end : (ts : List Token) → From 1 ts → AfterItems ItemEnds ts
+columns_end ts from = (from_no_comma 1 ts (omega arith) from, (from_not k.As 1 ts (λ w. omega arith) from, from_ends 1 ts (omega arith) from))
+
+module _ {n : ℕ} {whole : Parser Expression} {item : Parser Item} {Ok : Item → Type 0}
+    (exact : Exact n 1 whole) (opened : ExpressionsOpen) (well : (x : Item) → Ok x → IsWellFormed x.value) (item_exact : Exactly n item (Fitting Ok item_marks) ItemEnds) where
   abbrev columns : Bool → Parser (List Item)
   columns b = elim b [ true ↦ many (sees_symbol s.Comma) (comma_and item) [] | false ↦ separated item ]
 
-  abbrev tail : Bool → Option ℕ → List Item → Parser Projection
-  tail d star xs = ordering whole >>= λ os. keyed_expression k.Skip whole >>= λ m. keyed_expression k.Limit whole >>= λ l. pure (projected d star xs os m l)
+  abbrev Columns : Bool → List Item → Type 0
+  Columns true xs = AllByRecursion Ok xs
+  Columns false xs = Items Ok xs
 
-  abbrev behind_distinct : Bool → Parser Projection
-  behind_distinct d = λ ts. and_then (eat_symbol s.Star ts) (λ b. columns b >>= λ xs. tail d (star_of b (start_of ts)) xs)
+  columns_exact : (b : Bool) → Exactly n (columns b) (Fitting (Columns b) (column_marks b)) (AfterItems ItemEnds)
+  columns_exact true = further_exact item_exact comma_item_ends
+  columns_exact false = items_exact item_exact comma_item_ends
 
-  columns_sound : (ts : List Token) (b : Bool) (us : List Token) (xs : List Item) (more : List Token) → eat_symbol s.Star ts ≡ Some (b, us) → columns b us ≡ Some (xs, more)
-      → HasColumns (star_of b (start_of ts)) xs × AllByRecursion Ok xs × Took ts (items_marks (star_of b (start_of ts)) xs) more
-  columns_sound ts true us xs more e f = elim (eat_takes s.Star ts us true e) [
-    | inr h ↦ absurd (let bad = h.0 in cc)
-    | inl h ↦
-        let all = (further_reads items comma_item_ends).sound us xs more f in
-        rw h.2 (tt, all.0, took_first h.1 us refl (record { spelled = h.3.spelled; starts = (refl, tt); finishes = tt }) all.1)
-  ]
-  columns_sound ts false us xs more e f = elim (eat_takes s.Star ts us false e) [
-    | inl h ↦ absurd (let bad = h.0 in cc)
-    | inr h ↦
-        let all = (separated_reads items comma_item_ends).sound us xs more f in
-        rw h.1 (all.0.0, all.0.1, all.1)
-  ]
+  abbrev Rest : Projection → Type 0
+  Rest p = IsOrder p.order × (EachOf IsWellFormed p.skip × (EachOf IsWellFormed p.limit × Free p))
 
-  -- ORDER BY, SKIP and LIMIT
-  record Tail (d : Bool) (star : Option ℕ) (xs : List Item) (ts : List Token) (p : Projection) (more : List Token) : Type 0 where
-    order : List SortItem
-    skip : Option Expression
-    limit : Option Expression
-    us : List Token
-    vs : List Token
-    whole_is : p ≡ projected d star xs order skip limit
-    ordered : IsOrder order
-    skipped : Each IsWellFormed skip
-    limited : Each IsWellFormed limit
-    first : Took ts (order_marks order) us
-    second : Took us (optional_marks (keyed k.Skip) skip) vs
-    third : Took vs (optional_marks (keyed k.Limit) limit) more
+  abbrev Inner : Projection → Type 0
+  Inner p = Free (is_some p.star) × (Columns (is_some p.star) p.items × Rest p)
 
-  tail_sound : (d : Bool) (star : Option ℕ) (xs : List Item) (ts : List Token) (p : Projection) (more : List Token) → tail d star xs ts ≡ Some (p, more) → Tail d star xs ts p more
-  tail_sound d star xs ts p more e =
-      let b = bind_some (ordering whole ts) (λ os. keyed_expression k.Skip whole >>= λ m. keyed_expression k.Limit whole >>= λ l. pure (projected d star xs os m l)) (p, more) e in
-      let c = bind_some (keyed_expression k.Skip whole b.1) (λ m. keyed_expression k.Limit whole >>= λ l. pure (projected d star xs b.0 m l)) (p, more) b.3 in
-      let f = bind_some (keyed_expression k.Limit whole c.1) (λ l. pure (projected d star xs b.0 c.0 l)) (p, more) c.3 in
-      let last = same_some (projected d star xs b.0 c.0 f.0) p f.1 more f.3 in
-      let one = ordering_sound exact ts b.0 b.1 b.2 in
-      let two = keyed_sound exact k.Skip b.1 c.0 c.1 c.2 in
-      let three = keyed_sound exact k.Limit c.1 f.0 f.1 f.2 in
-      record {
-        order = b.0;
-        skip = c.0;
-        limit = f.0;
-        us = b.1;
-        vs = c.1;
-        whole_is = sym last.0;
-        ordered = one.0;
-        skipped = two.0;
-        limited = three.0;
-        first = one.1;
-        second = two.1;
-        third = subst (λ (r : List Token). Took c.1 (optional_marks (keyed k.Limit) f.0) r) last.1 three.1;
-      }
+  -- neither DISTINCT nor, without one, a star begins the columns
+  no_star : (star : Option ℕ) (xs : List Item) (ms : List Mark) (y more : List Token) → Columns (is_some star) xs → Fit y (column_marks (is_some star) xs ++ ms) → ((z : List Token) → Fit z ms → From 1 (z ++ more)) → sees_symbol s.Star (y ++ more) ≡ false
+  unfolding parse.same_symbol
+  no_star None [] ms y more has fits from = absurd has.0
+  no_star None (x ∷ xs) ms y more has fits from = symbol_closed s.Star y more refl (item_opens opened x (further (map item_marks xs) ++ ms) y (well x has.1.0) (rw append_assoc at fits))
+  no_star (Some at) [] ms y more has fits from = symbol_unbound s.Star (y ++ more) (let f = from_ends 1 (y ++ more) (omega arith) (from y fits) in omega arith)
+  no_star (Some at) (x ∷ xs) ms y more has fits from = shown (is_symbol s.Star) (further (map item_marks (x ∷ xs)) ++ ms) y more (λ l h. rw h refl) fits
 
-  projection_sound : (ts : List Token) (p : Projection) (more : List Token) → projection whole item ts ≡ Some (p, more) → Projected Ok p × Took ts (projection_marks p) more
-  unfolding projection here
-  projection_sound ts p more e =
-      let b = bind_some (eat_keyword k.Distinct ts) behind_distinct (p, more) e in
-      let c = bind_some (eat_symbol s.Star b.1) (λ has. columns has >>= λ xs. tail b.0 (star_of has (start_of b.1)) xs) (p, more) b.3 in
-      let x = bind_some (columns c.0 c.1) (λ xs. tail b.0 (star_of c.0 (start_of b.1)) xs) (p, more) c.3 in
-      let one = flag_took k.Distinct ts b.0 b.1 b.2 in
-      let two = columns_sound b.1 c.0 c.1 x.0 x.1 c.2 x.2 in
-      let three = tail_sound b.0 (star_of c.0 (start_of b.1)) x.0 x.1 p more x.3 in
-      let made : Projected Ok (projected b.0 (star_of c.0 (start_of b.1)) x.0 three.order three.skip three.limit) = (two.0, two.1, three.ordered, three.skipped, three.limited) in
-      subst (λ (q : Projection). Projected Ok q × Took ts (projection_marks q) more) (sym three.whole_is) (made, takes_then (takes_then (takes_then (takes_then one two.2) three.first) three.second) three.third)
-
-  -- ---- none is missed
-
-  no_expression : (star : Option ℕ) (xs : List Item) (ts more : List Token) → HasColumns star xs → AllByRecursion Ok xs → Takes P ts (items_marks star xs) more → sees_keyword k.Distinct ts ≡ false
+  no_distinct : (star : Option ℕ) (xs : List Item) (ms : List Mark) (y more : List Token) → Columns (is_some star) xs → Fit y (items_marks star xs ++ ms) → sees_keyword k.Distinct (y ++ more) ≡ false
   unfolding parse.same_keyword
-  no_expression None [] ts more has all h = absurd has
-  no_expression None (x ∷ xs) ts more has all h = let o = item_opens opened x ts (further (map item_marks xs)) more (well x all.0) h in rw o.2 (keyword_closed k.Distinct (o.0 ∷ []) o.1 (λ w. refl) (alone o.0 o.3))
-  no_expression (Some at) xs ts more has all h = let f = takes_first h in rw (f.whole, f.accepts.spelled) refl
+  no_distinct None [] ms y more has fits = absurd has.0
+  no_distinct None (x ∷ xs) ms y more has fits = keyword_closed k.Distinct y more (λ w. refl) (item_opens opened x (further (map item_marks xs) ++ ms) y (well x has.1.0) (rw append_assoc at fits))
+  no_distinct (Some at) xs ms y more has fits = shown (is_keyword k.Distinct) (items_marks (Some at) xs ++ ms) y more (λ l h. rw h refl) fits
 
-  columns_complete : (star : Option ℕ) (xs : List Item) (ts more : List Token) → HasColumns star xs → AllByRecursion Ok xs → Takes P ts (items_marks star xs) more → AfterItems ItemEnds more → length ts < n
-      → (us : List Token) × (eat_symbol s.Star ts ≡ Some (is_some star, us)) × (columns (is_some star) us ≡ Some (xs, more)) × (star_of (is_some star) (start_of ts) ≡ star)
-  columns_complete None [] ts more has all h ends less = absurd has
-  columns_complete None (x ∷ xs) ts more has all h ends less =
-      let o = item_opens opened x ts (further (map item_marks xs)) more (well x all.0) h in
-      (ts, eat_no s.Star ts (rw o.2 (symbol_closed s.Star (o.0 ∷ []) o.1 refl (alone o.0 o.3))), (separated_reads items comma_item_ends).complete ts (x ∷ xs) more (tt, all) h ends less, refl)
-  columns_complete (Some at) xs ts more has all h ends less =
-      let f = takes_first h in
-      let here_is : star_of true (start_of ts) ≡ Some at = rw (f.whole, f.accepts.starts.0) refl in
-      (f.left, ap (eat_symbol s.Star) f.whole ∙ eat_yes s.Star f.token f.left (record { spelled = f.accepts.spelled; starts = tt; finishes = tt }), (further_reads items comma_item_ends).complete f.left xs more all f.others ends (omega (arith, ap length f.whole)), here_is)
+  -- ---- the star's place
 
-  projection_complete : (ts : List Token) (p : Projection) (more : List Token) → Projected Ok p → Takes P ts (projection_marks p) more → From 4 more → length ts < n → projection whole item ts ≡ Some (p, more)
-  unfolding projection here
-  projection_complete ts p more ok h from less =
-      let m1 = flag p.distinct (key k.Distinct) in
-      let m2 = items_marks p.star p.items in
-      let m3 = order_marks p.order in
-      let m4 = optional_marks (keyed k.Skip) p.skip in
-      let m5 = optional_marks (keyed k.Limit) p.limit in
-      let d = takes_split (m1 ++ m2 ++ m3 ++ m4) m5 h in
-      let c = takes_split (m1 ++ m2 ++ m3) m4 d.1 in
-      let b = takes_split (m1 ++ m2) m3 c.1 in
-      let a = takes_split m1 m2 b.1 in
-      let from3 : From 3 d.0 = keyed_from k.Limit 3 (λ w. refl) d.0 p.limit more d.2 from in
-      let from2 : From 2 c.0 = keyed_from k.Skip 2 (λ w. refl) c.0 p.skip d.0 c.2 from3 in
-      let from1 : From 1 b.0 = order_from b.0 p.order c.0 b.2 from2 in
-      let la = takes_less a.1 in let lb = takes_less b.1 in let lc = takes_less c.1 in let ld = takes_less d.1 in
-      let one = flag_again k.Distinct ts p.distinct a.0 a.1 (no_expression p.star p.items a.0 b.0 ok.0 ok.1 a.2) in
-      let two = columns_complete p.star p.items a.0 b.0 ok.0 ok.1 a.2 (from_no_comma 1 b.0 (omega arith) from1, (from_ends 1 b.0 (omega arith) from1, from_not k.As 1 b.0 (λ w. omega arith) from1)) (omega arith) in
-      let three = ordering_complete exact b.0 p.order c.0 ok.2 b.2 from2 (omega arith) in
-      let four = keyed_complete exact k.Skip 2 (λ w. refl) c.0 p.skip d.0 ok.3 c.2 from3 (omega arith) in
-      let five = keyed_complete exact k.Limit 3 (λ w. refl) d.0 p.limit more ok.4 d.2 from (omega arith) in
-      rw (one, two.1, two.2, two.3, three, four, five) refl
+  starred : (star : Option ℕ) (ms : List Mark) (xs : List Item) (front more : List Token) → star ≡ star_of (is_some star) (start_of (front ++ more)) → Fit front (flag (is_some star) (sign s.Star) ++ (column_marks (is_some star) xs ++ ms)) → Fit front (items_marks star xs ++ ms)
+  starred None ms xs front more is fits = fits
+  starred (Some at) ms xs [] more is fits = absurd fits
+  starred (Some at) ms xs (t ∷ front) more is fits = let same : t.start ≡ at = cc in (record { spelled = fits.0.spelled; starts = (same, tt); finishes = tt }, fits.1)
 
-  pub projection_reads : ReadsMarks P n (projection whole item) (Projected Ok) projection_marks (From 4)
-  projection_reads = record { sound = projection_sound; complete = projection_complete }
+  unstarred : (star : Option ℕ) (ms : List Mark) (xs : List Item) (front more : List Token) → Fit front (items_marks star xs ++ ms)
+      → (star ≡ star_of (is_some star) (start_of (front ++ more))) × Fit front (flag (is_some star) (sign s.Star) ++ (column_marks (is_some star) xs ++ ms))
+  unstarred None ms xs front more fits = (refl, fits)
+  unstarred (Some at) ms xs [] more fits = absurd fits
+  unstarred (Some at) ms xs (t ∷ front) more fits = (rw fits.0.starts.0 refl, (record { spelled = fits.0.spelled; starts = tt; finishes = tt }, fits.1))
+
+  -- ---- read
+
+  abbrev keyed_expression : Keyword → Parser (Option Expression)
+  keyed_expression x = maybe (sees_keyword x) (parse.keyword x >> whole)
+
+  abbrev Placed : Bool → ℕ → Projection → Type 0
+  Placed d at p = (p.star ≡ star_of (is_some p.star) at) × (p.distinct ≡ d)
+
+  abbrev Starred : Bool → ℕ → Bool → Projection → Type 0
+  Starred d at b p = (is_some p.star ≡ b) × Placed d at p
+
+  behind_star : (d : Bool) (at : ℕ) (b : Bool) → Exactly n (columns b >>= λ xs. ordering whole >>= λ os. keyed_expression k.Skip >>= λ m. keyed_expression k.Limit >>= λ l. pure (made_projection d (star_of b at) xs os m l))
+      (Marked (Starred d at b) (λ p. Columns (is_some p.star) p.items × Rest p) (λ p. column_marks (is_some p.star) p.items ++ from_order p)) (From 4)
+  behind_star d at b =
+      let value = whole_exact exact in
+      restated
+      (step (λ (p : Projection). p.items) (Starred d at b) (columns_exact b)
+      (λ xs. step (λ (p : Projection). p.order) (λ (p : Projection). (p.items ≡ xs) × Starred d at b p) (ordering_exact value)
+      (λ os. step (λ (p : Projection). p.skip) (λ (p : Projection). (p.order ≡ os) × ((p.items ≡ xs) × Starred d at b p)) (keyed_exact value k.Skip 2 (λ w. refl))
+      (λ m. step (λ (p : Projection). p.limit) (λ (p : Projection). (p.skip ≡ m) × ((p.order ≡ os) × ((p.items ≡ xs) × Starred d at b p))) (keyed_exact value k.Limit 3 (λ w. refl))
+      (λ l. made (made_projection d (star_of b at) xs os m l) (λ (p : Projection). (p.limit ≡ l) × ((p.skip ≡ m) × ((p.order ≡ os) × ((p.items ≡ xs) × Starred d at b p)))) (refl, (refl, (refl, (refl, known)))) again)
+      (λ p y more well fits ends. ending (From 4) y more fits ends))
+      (λ p y more well fits ends. limit_from p y more fits ends))
+      (λ p y more well fits ends. skip_from p y more fits ends))
+      (λ p y more well fits ends. columns_end (y ++ more) (rest_from p y more fits ends)))
+      (λ p front h. record { known = h.known; well = rw h.known.0 h.well; fits = rw h.known.0 h.fits })
+      (λ p front h. record { known = h.known; well = rw (← h.known.0) h.well; fits = rw (← h.known.0) h.fits })
+      (λ more h. h)
+    where
+      star_is : (c : Bool) → (is_some (star_of c at) ≡ c) × (star_of c at ≡ star_of (is_some (star_of c at)) at)
+      star_is true = (refl, refl)
+      star_is false = (refl, refl)
+
+      known : (is_some (star_of b at) ≡ b) × ((star_of b at ≡ star_of (is_some (star_of b at)) at) × (d ≡ d))
+      known = ((star_is b).0, ((star_is b).1, refl))
+
+      again : {xs : List Item} {os : List SortItem} {m l : Option Expression} (p : Projection) → (p.limit ≡ l) × ((p.skip ≡ m) × ((p.order ≡ os) × ((p.items ≡ xs) × Starred d at b p))) → made_projection d (star_of b at) xs os m l ≡ p
+      again p h = rw (← h.0, ← h.1.0, ← h.1.1.0, ← h.1.1.1.0, ← h.1.1.1.1.0, ← h.1.1.1.1.1.0, ← h.1.1.1.1.1.1) refl
+
+  abbrev Formed : Projection → Type 0
+  Formed p = Columns (is_some p.star) p.items × Rest p
+
+  behind_distinct : (d : Bool) → Exactly n (here >>= λ at. eat_symbol s.Star >>= λ b. columns b >>= λ xs. ordering whole >>= λ os. keyed_expression k.Skip >>= λ m. keyed_expression k.Limit >>= λ l. pure (made_projection d (star_of b at) xs os m l))
+      (Marked (λ p. (p.distinct ≡ d) × Free p) Formed from_columns) (From 4)
+  behind_distinct d =
+      here_then
+      (λ at. step (λ (p : Projection). is_some p.star) (Placed d at) (eat_symbol_exact s.Star) (behind_star d at) (λ p y more well fits ends. no_star p.star p.items (from_order p) y more well.0 fits (λ z f. rest_from p z more f ends)))
+      (λ p front more h. record { known = (h.known.1, tt); well = h.well.1; fits = starred p.star (from_order p) p.items front more h.known.0 h.fits })
+      (λ p front more h. let u = unstarred p.star (from_order p) p.items front more h.fits in record { known = (u.0, h.known.0); well = (tt, h.well); fits = u.1 })
+
+  has_columns : (star : Option ℕ) (xs : List Item) → Columns (is_some star) xs → HasColumns star xs × AllByRecursion Ok xs
+  has_columns None xs h = h
+  has_columns (Some at) xs h = (tt, h)
+
+  columns_have : (star : Option ℕ) (xs : List Item) → HasColumns star xs → AllByRecursion Ok xs → Columns (is_some star) xs
+  columns_have None xs has all = (has, all)
+  columns_have (Some at) xs has all = all
+
+  same : (p : Projection) → projection_marks p ≡ flag p.distinct (key k.Distinct) ++ from_columns p
+  same p = simp (append_assoc, append-nil)
+
+  pub projection_exact : Exactly n (projection whole item) (Fitting (Projected Ok) projection_marks) (From 4)
+  unfolding projection
+  projection_exact =
+      restated (step (λ (p : Projection). p.distinct) Free (eat_keyword_exact k.Distinct) behind_distinct (λ p y more well fits ends. no_distinct p.star p.items (from_order p) y more well.0 fits))
+      (λ p front h. let w = h.well.1 in let c = has_columns p.star p.items w.0 in fitting (c.0, c.1, w.1.0, w.1.1.0, w.1.1.1.0) (rw (same p) h.fits))
+      (λ p front h. let w = h.well in fitting (tt, (columns_have p.star p.items w.0 w.1, (w.2, (w.3, (w.4, tt))))) (rw (← same p) h.fits))
+      (λ more h. h)

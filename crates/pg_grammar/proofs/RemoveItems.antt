@@ -8,10 +8,10 @@ use Rattle.pg_meaning.specs.Grammar.{sign, commas, remove_marks, IsRemoveItem}
 use Rattle.pg_meaning.specs.Grammar as grammar
 use Rattle.pg_meaning.specs.Parse as parse
 use Rattle.pg_meaning.specs.Parse.{◌>>=◌, ◌>>◌, ◌<$>◌, sees_symbol, branch, separated, remove_item}
-use Rattle.pg_grammar.specs.Rules.{Exactly, LabelsSpelled, LabelsAreExact, NoColon, Anything}
-use Rattle.pg_grammar.proofs.Separated.{AfterItems}
-use Rattle.pg_grammar.proofs.Terminals.{symbol_is, symbols_exact}
-use Rattle.pg_grammar.proofs.Sequences.{Is, Fitting, Items, Sequence, Behind, Made, Either, restated, narrowed, var_exact, name_exact, sequence_exact, behind_exact, made_exact, either_exact, items_exact, sequence_fits, sequence_of, behind_fits, behind_of, symbol_first}
+use Rattle.pg_grammar.specs.Rules.{Exactly, LabelsSpelled, LabelsAreExact, NoColon}
+use Rattle.pg_grammar.proofs.Terminals.{symbol_is}
+use Rattle.pg_grammar.proofs.Combinators.{Is, Fitting, Items, Sequence, Behind, Made, Either, restated, narrowed, var_exact, name_exact, sequence_exact, behind_exact, made_exact, either_exact, items_exact, sequence_fits, sequence_of, behind_fits, behind_of, AfterItems, fitting, symbol_exact}
+use Rattle.pg_grammar.proofs.FirstTokens.{symbol_first}
 use Rattle.pg_grammar.proofs.SetItems.{labels_first}
 
 abbrev OfProperty : Name → RemoveItem → List Token → Type 0
@@ -32,28 +32,28 @@ out a front h = by h.second
     by : Either (OfProperty h.value) (OfLabels h.value) a h.g → RemoveSpelled a front
     by (inl p) =
         let v = p.inner in
-        subst (λ y. RemoveSpelled y front) (sym v.is) (record { well = tt; fits = sequence_fits h (grammar.var h.value ∷ []) _ h.first (behind_fits p _ v.inner) })
+        subst (λ y. RemoveSpelled y front) (sym v.is) (fitting tt (sequence_fits h (grammar.var h.value ∷ []) _ h.first.fits (behind_fits p _ v.inner.fits)))
     by (inr v) =
-        subst (λ y. RemoveSpelled y front) (sym v.is) (record { well = v.inner.some; fits = sequence_fits h (grammar.var h.value ∷ []) _ h.first v.inner.fits })
+        subst (λ y. RemoveSpelled y front) (sym v.is) (fitting v.inner.some (sequence_fits h (grammar.var h.value ∷ []) _ h.first.fits v.inner.fits))
 
 into : (a : RemoveItem) (front : List Token) → RemoveSpelled a front → Parts a front
 into (tree.remove_property n m) front h =
-    sequence_of (Is grammar.var) _ n _ (grammar.var n ∷ []) _ front h.fits (λ f p. p) (λ g p. inl (behind_of (sign s.Dot) _ _ _ g p (λ g p. record { value = m; is = refl; inner = p })))
+    sequence_of n (grammar.var n ∷ []) _ h.fits (λ f p. fitting tt p) (λ g p. inl (behind_of p (λ g p. record { value = m; is = refl; inner = fitting tt p })))
 into (tree.remove_labels n ls) front h =
-    sequence_of (Is grammar.var) _ n _ (grammar.var n ∷ []) _ front h.fits (λ f p. p) (λ g p. inr (record { value = ls; is = refl; inner = record { some = h.well; fits = p } }))
+    sequence_of n (grammar.var n ∷ []) _ h.fits (λ f p. fitting tt p) (λ g p. inr (record { value = ls; is = refl; inner = record { some = h.well; fits = p } }))
 
 remove_item_exact : {limit : ℕ} → LabelsAreExact → Exactly limit remove_item RemoveSpelled NoColon
 unfolding remove_item parse.same_symbol
-remove_item_exact {limit} labels = restated Parts RemoveSpelled NoColon NoColon (sequence_exact (Is grammar.var) Anything (λ n. Either (OfProperty n) (OfLabels n)) NoColon (var_exact limit) from (λ a b front more h ends. tt)) out into (λ more ends. ends)
+remove_item_exact {limit} labels = restated (sequence_exact (var_exact limit) from (λ a b front more h ends. tt)) out into (λ more ends. ends)
   where
     of_property : (n : Name) → Exactly limit (parse.symbol s.Dot >> (tree.remove_property n <$> parse.name)) (OfProperty n) NoColon
     of_property n =
-        let named = made_exact (tree.remove_property n) (Is grammar.name) Anything (name_exact limit) in
-        behind_exact (sign s.Dot) (Made (tree.remove_property n) (Is grammar.name)) NoColon (symbols_exact limit s.Dot)
-        (narrowed (Made (tree.remove_property n) (Is grammar.name)) Anything NoColon named (λ more ends. tt))
+        let named = made_exact (tree.remove_property n) (name_exact limit) in
+        behind_exact (symbol_exact s.Dot)
+        (narrowed named (λ more ends. tt))
 
     from : (n : Name) → Exactly limit (branch (sees_symbol s.Dot) (parse.symbol s.Dot >> (tree.remove_property n <$> parse.name)) (tree.remove_labels n <$> parse.labels)) (Either (OfProperty n) (OfLabels n)) NoColon
-    from n = either_exact (sees_symbol s.Dot) (OfProperty n) (OfLabels n) NoColon (of_property n) (made_exact (tree.remove_labels n) LabelsSpelled NoColon (labels limit))
+    from n = either_exact (sees_symbol s.Dot) (of_property n) (made_exact (tree.remove_labels n) (labels limit))
         (λ a front more h. symbol_first s.Dot front more h) (λ a front more h ends. labels_first s.Dot refl h.value front more h.inner)
 
 -- ---- several of them
@@ -66,4 +66,4 @@ abbrev pub RemovesSpelled : List RemoveItem → List Token → Type 0
 RemovesSpelled = Fitting (Items IsRemoveItem) (λ xs. commas (map remove_marks xs))
 
 pub removes_exact : {limit : ℕ} → LabelsAreExact → Exactly limit (separated remove_item) RemovesSpelled (AfterItems NoColon)
-removes_exact labels = items_exact IsRemoveItem remove_marks NoColon (remove_item_exact labels) comma_ends
+removes_exact labels = items_exact (remove_item_exact labels) comma_ends

@@ -1,5 +1,5 @@
 -- The items of SET.
-use Rattle.std.proofs.Common.{◌≡◌, ℕ, Bool, true, false, List, [], ◌∷◌, ◌++◌, map, refl, sym, subst, inl, inr, arith}
+use Rattle.std.proofs.Common.{◌≡◌, ℕ, false, List, [], ◌∷◌, ◌++◌, map, refl, sym, subst, inl, inr, arith}
 use Rattle.pg_meaning.specs.declared.lexemes.Symbol.{Symbol}
 use Rattle.pg_meaning.specs.declared.lexemes.Symbol.TheVariants as s
 use Rattle.pg_meaning.specs.Tokens.{Token}
@@ -8,25 +8,21 @@ use Rattle.pg_meaning.specs.Tree as tree
 use Rattle.pg_meaning.specs.Grammar.{Mark, sign, marks, label_marks, set_marks, commas, Fit, IsNonEmpty, IsSetItem, AreSetItems}
 use Rattle.pg_meaning.specs.Grammar as grammar
 use Rattle.pg_meaning.specs.Parse as parse
-use Rattle.pg_meaning.specs.Parse.{Parser, ◌>>=◌, ◌>>◌, ◌<$>◌, same_symbol, sees_symbol, separated, set_item}
-use Rattle.pg_grammar.specs.Rules.{Exactly, Ends, follow, LabelsSpelled, LabelsAreExact, NoColon, Anything}
-use Rattle.pg_grammar.proofs.Terminals.{symbol_is, symbols_exact}
-use Rattle.pg_grammar.proofs.Sequences.{Is, Fitting, Sequence, Behind, Made, Either, restated, narrowed, var_exact, name_exact, sequence_exact, behind_exact, made_exact, either_exact, items_exact, sequence_fits, sequence_of, behind_fits, behind_of, symbol_first, other_symbol, symbol_other}
+use Rattle.pg_meaning.specs.Parse.{Parser, ◌>>=◌, ◌>>◌, ◌<$>◌, same_symbol, is_symbol, sees_symbol, separated, set_item}
+use Rattle.pg_grammar.specs.Rules.{Exactly, Ends, LabelsSpelled, LabelsAreExact, NoColon}
+use Rattle.pg_grammar.proofs.Openings.{symbol_unbound}
+use Rattle.pg_grammar.proofs.Combinators.{Is, Fitting, Sequence, Behind, Made, Either, restated, narrowed, var_exact, name_exact, sequence_exact, behind_exact, made_exact, either_exact, items_exact, sequence_fits, sequence_of, behind_fits, behind_of, AfterItems, fitting, symbol_exact}
+use Rattle.pg_grammar.proofs.FirstTokens.{shown, symbol_first, symbol_other}
 use Rattle.pg_grammar.proofs.Conditions.{Whole, comma_ends}
-use Rattle.pg_grammar.proofs.Separated.{AfterItems}
 
 -- where no expression goes on, there is no colon
 pub no_colon : (more : List Token) → Ends 1 more → NoColon more
-no_colon more ends = at (sees_symbol s.Colon more) refl
-  where
-    at : (b : Bool) → sees_symbol s.Colon more ≡ b → NoColon more
-    at false e = e
-    at true e = let i = symbol_is s.Colon more e in let bad : follow more ≡ 10 = rw (i.1, i.2.spelled) refl in absurd (omega (arith, ends))
+no_colon more ends = symbol_unbound s.Colon more (omega (arith, ends))
 
 -- labels begin with a colon
 pub labels_first : (x : Symbol) → same_symbol s.Colon x ≡ false → (ns : List Name) (front more : List Token) → LabelsSpelled ns front → sees_symbol x (front ++ more) ≡ false
 labels_first x differ [] front more h = absurd h.some
-labels_first x differ (n ∷ ns) front more h = other_symbol s.Colon x differ (grammar.name n ∷ label_marks ns) front more h.fits
+labels_first x differ (n ∷ ns) front more h = shown (is_symbol x) (label_marks (n ∷ ns)) front more (λ l h. rw h differ) h.fits
 
 abbrev ToProperty : Name → SetItem → List Token → Type 0
 ToProperty n = Behind (sign s.Dot) (Sequence (Is grammar.name) (λ m. Behind (sign s.Equal) (Made (tree.set_property n m) Whole)))
@@ -58,39 +54,39 @@ out a front h = by h.second
     by : Either (ToProperty h.value) (WithoutDot h.value) a h.g → SetSpelled a front
     by (inl p) =
         let q = p.inner in let r = q.second in let v = r.inner in
-        subst (λ y. SetSpelled y front) (sym v.is) (record { well = v.inner.well; fits = sequence_fits h (grammar.var h.value ∷ []) _ h.first (behind_fits p _ (sequence_fits q (grammar.name q.value ∷ []) _ q.first (behind_fits r _ v.inner.fits))) })
+        subst (λ y. SetSpelled y front) (sym v.is) (fitting v.inner.well (sequence_fits h (grammar.var h.value ∷ []) _ h.first.fits (behind_fits p _ (sequence_fits q (grammar.name q.value ∷ []) _ q.first.fits (behind_fits r _ v.inner.fits)))))
     by (inr (inl p)) =
         let v = p.inner in
-        subst (λ y. SetSpelled y front) (sym v.is) (record { well = v.inner.well; fits = sequence_fits h (grammar.var h.value ∷ []) _ h.first (behind_fits p _ v.inner.fits) })
+        subst (λ y. SetSpelled y front) (sym v.is) (fitting v.inner.well (sequence_fits h (grammar.var h.value ∷ []) _ h.first.fits (behind_fits p _ v.inner.fits)))
     by (inr (inr (inl p))) =
         let v = p.inner in
-        subst (λ y. SetSpelled y front) (sym v.is) (record { well = v.inner.well; fits = sequence_fits h (grammar.var h.value ∷ []) _ h.first (behind_fits p _ v.inner.fits) })
+        subst (λ y. SetSpelled y front) (sym v.is) (fitting v.inner.well (sequence_fits h (grammar.var h.value ∷ []) _ h.first.fits (behind_fits p _ v.inner.fits)))
     by (inr (inr (inr v))) =
-        subst (λ y. SetSpelled y front) (sym v.is) (record { well = v.inner.some; fits = sequence_fits h (grammar.var h.value ∷ []) _ h.first v.inner.fits })
+        subst (λ y. SetSpelled y front) (sym v.is) (fitting v.inner.some (sequence_fits h (grammar.var h.value ∷ []) _ h.first.fits v.inner.fits))
 
 into : (a : SetItem) (front : List Token) → SetSpelled a front → Parts a front
 into (tree.set_property n m x) front h =
-    sequence_of (Is grammar.var) _ n _ (grammar.var n ∷ []) _ front h.fits (λ f p. p) (λ g p. inl (behind_of (sign s.Dot) _ _ _ g p (λ g p.
-    sequence_of (Is grammar.name) _ m _ (grammar.name m ∷ []) _ g p (λ f p. p) (λ g p. behind_of (sign s.Equal) _ _ _ g p (λ g p. record { value = x; is = refl; inner = record { well = h.well; fits = p } })))))
+    sequence_of n (grammar.var n ∷ []) _ h.fits (λ f p. fitting tt p) (λ g p. inl (behind_of p (λ g p.
+    sequence_of m (grammar.name m ∷ []) _ p (λ f p. fitting tt p) (λ g p. behind_of p (λ g p. record { value = x; is = refl; inner = fitting h.well p })))))
 into (tree.set_all n x) front h =
-    sequence_of (Is grammar.var) _ n _ (grammar.var n ∷ []) _ front h.fits (λ f p. p) (λ g p. inr (inl (behind_of (sign s.Equal) _ _ _ g p (λ g p. record { value = x; is = refl; inner = record { well = h.well; fits = p } }))))
+    sequence_of n (grammar.var n ∷ []) _ h.fits (λ f p. fitting tt p) (λ g p. inr (inl (behind_of p (λ g p. record { value = x; is = refl; inner = fitting h.well p }))))
 into (tree.set_more n x) front h =
-    sequence_of (Is grammar.var) _ n _ (grammar.var n ∷ []) _ front h.fits (λ f p. p) (λ g p. inr (inr (inl (behind_of (sign s.PlusEqual) _ _ _ g p (λ g p. record { value = x; is = refl; inner = record { well = h.well; fits = p } })))))
+    sequence_of n (grammar.var n ∷ []) _ h.fits (λ f p. fitting tt p) (λ g p. inr (inr (inl (behind_of p (λ g p. record { value = x; is = refl; inner = fitting h.well p })))))
 into (tree.set_labels n ls) front h =
-    sequence_of (Is grammar.var) _ n _ (grammar.var n ∷ []) _ front h.fits (λ f p. p) (λ g p. inr (inr (inr (record { value = ls; is = refl; inner = record { some = h.well; fits = p } }))))
+    sequence_of n (grammar.var n ∷ []) _ h.fits (λ f p. fitting tt p) (λ g p. inr (inr (inr (record { value = ls; is = refl; inner = record { some = h.well; fits = p } }))))
 
 pub set_item_exact : {limit : ℕ} {whole : Parser Expression} → Exactly limit whole Whole (Ends 1) → LabelsAreExact → Exactly limit (set_item whole) SetSpelled (Ends 1)
 unfolding set_item parse.same_symbol
-set_item_exact {limit} {whole} exact labels = restated Parts SetSpelled (Ends 1) (Ends 1) (sequence_exact (Is grammar.var) Anything (λ n. Either (ToProperty n) (WithoutDot n)) (Ends 1) (var_exact limit) from (λ a b front more h ends. tt)) out into (λ more ends. ends)
+set_item_exact {limit} {whole} exact labels = restated (sequence_exact (var_exact limit) from (λ a b front more h ends. tt)) out into (λ more ends. ends)
   where
     by_symbol : (x : Symbol) (f : Expression → SetItem) → Exactly limit (parse.symbol x >> (f <$> whole)) (Behind (sign x) (Made f Whole)) (Ends 1)
-    by_symbol x f = behind_exact (sign x) (Made f Whole) (Ends 1) (symbols_exact limit x) (made_exact f Whole (Ends 1) exact)
+    by_symbol x f = behind_exact (symbol_exact x) (made_exact f exact)
 
     to_property : (n : Name) → Exactly limit (parse.symbol s.Dot >> (parse.name >>= λ m. parse.symbol s.Equal >> (tree.set_property n m <$> whole))) (ToProperty n) (Ends 1)
-    to_property n = behind_exact (sign s.Dot) _ (Ends 1) (symbols_exact limit s.Dot) (sequence_exact (Is grammar.name) Anything (λ m. Behind (sign s.Equal) (Made (tree.set_property n m) Whole)) (Ends 1) (name_exact limit) (λ m. by_symbol s.Equal (tree.set_property n m)) (λ a b front more h ends. tt))
+    to_property n = behind_exact (symbol_exact s.Dot) (sequence_exact (name_exact limit) (λ m. by_symbol s.Equal (tree.set_property n m)) (λ a b front more h ends. tt))
 
     to_labels : (n : Name) → Exactly limit (tree.set_labels n <$> parse.labels) (ToLabels n) (Ends 1)
-    to_labels n = made_exact (tree.set_labels n) LabelsSpelled (Ends 1) (narrowed LabelsSpelled NoColon (Ends 1) (labels limit) no_colon)
+    to_labels n = made_exact (tree.set_labels n) (narrowed (labels limit) no_colon)
 
     no_sum : (n : Name) (a : SetItem) (front more : List Token) → ToLabels n a front → Ends 1 more → sees_symbol s.PlusEqual (front ++ more) ≡ false
     no_sum n a front more h ends = labels_first s.PlusEqual refl h.value front more h.inner
@@ -107,9 +103,9 @@ set_item_exact {limit} {whole} exact labels = restated Parts SetSpelled (Ends 1)
     from : (n : Name) → Exactly limit (parse.branch (sees_symbol s.Dot) (parse.symbol s.Dot >> (parse.name >>= λ m. parse.symbol s.Equal >> (tree.set_property n m <$> whole)))
         (parse.branch (sees_symbol s.Equal) (parse.symbol s.Equal >> (tree.set_all n <$> whole)) (parse.branch (sees_symbol s.PlusEqual) (parse.symbol s.PlusEqual >> (tree.set_more n <$> whole)) (tree.set_labels n <$> parse.labels)))) (Either (ToProperty n) (WithoutDot n)) (Ends 1)
     from n =
-        either_exact (sees_symbol s.Dot) (ToProperty n) (WithoutDot n) (Ends 1) (to_property n)
-        (either_exact (sees_symbol s.Equal) (ToAll n) (WithoutSum n) (Ends 1) (by_symbol s.Equal (tree.set_all n))
-        (either_exact (sees_symbol s.PlusEqual) (ToMore n) (ToLabels n) (Ends 1) (by_symbol s.PlusEqual (tree.set_more n)) (to_labels n) (λ a front more h. symbol_first s.PlusEqual front more h) (no_sum n))
+        either_exact (sees_symbol s.Dot) (to_property n)
+        (either_exact (sees_symbol s.Equal) (by_symbol s.Equal (tree.set_all n))
+        (either_exact (sees_symbol s.PlusEqual) (by_symbol s.PlusEqual (tree.set_more n)) (to_labels n) (λ a front more h. symbol_first s.PlusEqual front more h) (no_sum n))
         (λ a front more h. symbol_first s.Equal front more h) (no_equal n))
         (λ a front more h. symbol_first s.Dot front more h) (no_dot n)
 
@@ -119,4 +115,4 @@ abbrev pub SetsSpelled : List SetItem → List Token → Type 0
 SetsSpelled = Fitting AreSetItems (λ xs. commas (map set_marks xs))
 
 pub sets_exact : {limit : ℕ} {whole : Parser Expression} → Exactly limit whole Whole (Ends 1) → LabelsAreExact → Exactly limit (separated (set_item whole)) SetsSpelled (AfterItems (Ends 1))
-sets_exact exact labels = items_exact IsSetItem set_marks (Ends 1) (set_item_exact exact labels) comma_ends
+sets_exact exact labels = items_exact (set_item_exact exact labels) comma_ends

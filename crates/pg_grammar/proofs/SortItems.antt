@@ -1,5 +1,6 @@
 -- Sort items, and what stands with them behind the items of WITH and RETURN.
-use Rattle.std.proofs.Common.{◌≡◌, ℕ, ◌+◌, ◌<◌, Bool, true, false, List, [], ◌∷◌, length, map, Option, Some, None, refl, ap, subst, ◌∙◌, inl, inr, arith}
+use Rattle.std.proofs.Common.{◌≡◌, ℕ, ◌+◌, true, List, [], ◌∷◌, ◌++◌, map, Option, Some, None, refl, ap, arith}
+use Rattle.std.proofs.lemmas.List.{append-nil}
 use Rattle.std.specs.List.{AllByRecursion}
 use Rattle.pg_meaning.specs.declared.lexemes.Keyword.{Keyword}
 use Rattle.pg_meaning.specs.declared.lexemes.Keyword.TheVariants as k
@@ -9,60 +10,65 @@ use Rattle.pg_meaning.specs.declared.operators.Sort.TheVariants as sort
 use Rattle.pg_meaning.specs.Tokens.{Lexeme, Token}
 use Rattle.pg_meaning.specs.Tokens as lexeme
 use Rattle.pg_meaning.specs.Tree.{Expression, SortItem}
-use Rattle.pg_meaning.specs.Grammar.{Mark, key, keyed, marks, optional_marks, direction_marks, sort_marks, order_marks, commas, IsNonEmpty, IsWellFormed, Each}
+use Rattle.pg_meaning.specs.Grammar.{Mark, key, keyed, marks, optional_marks, direction_marks, sort_marks, order_marks, commas, Accepts, Fit, IsWellFormed}
 use Rattle.pg_meaning.specs.Parse as parse
-use Rattle.pg_meaning.specs.Parse.{Parser, Outcome, and_then, ◌>>=◌, ◌>>◌, pure, sees_symbol, sees_keyword, maybe, separated, direction_of, direction, sort_item, ordering}
-use Rattle.pg_grammar.specs.Rules.{Ends, Exact}
-use Rattle.pg_grammar.proofs.Generic.{some, same_some, bind_some, pick, chosen}
-use Rattle.pg_grammar.proofs.Pieces.{ReadsMarks, separated_reads, maybe_reads, keyword_reads, keyword_first, expression_reads}
-use Rattle.pg_grammar.proofs.Separated.{AfterItems}
+use Rattle.pg_meaning.specs.Parse.{Parser, ◌>>=◌, ◌>>◌, pure, sees_symbol, sees_keyword, maybe, separated, direction_of, direction, sort_item, ordering}
+use Rattle.pg_grammar.specs.Rules.{Ends, Exactly, Anything}
+use Rattle.pg_grammar.proofs.Combinators.{Fitting, Free, Items, After, AfterItems, fitting, narrowed, restated, step, behind, made, maybe_exact, or_none_exact, one_exact, items_exact, each_free, ending, keyword_exact, keyword_begins}
+use Rattle.pg_grammar.proofs.Conditions.{Whole, MayHave, may_have_exact}
 use Rattle.pg_grammar.proofs.Stages.{begins_direction, stage, From, from_ends, from_not, from_no_comma, from_no_direction}
-use Rattle.pg_grammar.proofs.Takes.{Takes, Took, none_taken, takes_then, takes_split, takes_less, takes_first, took_first, takes_none, only_token, AnyToken}
 use Rattle.pg_grammar.proofs.Terminals.{symbol_is, with_rest_is}
 
 -- ---- directions
 
-direction_spelled : (l : Lexeme) (d : Sort) → direction_of l ≡ Some d → (x : Keyword) × (w : List ℕ) × (l ≡ lexeme.keyword x w) × (direction_marks d ≡ key x ∷ [])
-direction_spelled (lexeme.keyword k.Asc w) d e = let same : sort.Asc ≡ d = cc in (k.Asc, w, refl, rw (← same) refl)
-direction_spelled (lexeme.keyword k.Ascending w) d e = let same : sort.Ascending ≡ d = cc in (k.Ascending, w, refl, rw (← same) refl)
-direction_spelled (lexeme.keyword k.Desc w) d e = let same : sort.Desc ≡ d = cc in (k.Desc, w, refl, rw (← same) refl)
-direction_spelled (lexeme.keyword k.Descending w) d e = let same : sort.Descending ≡ d = cc in (k.Descending, w, refl, rw (← same) refl)
+abbrev direction_word : Sort → Keyword
+direction_word sort.Asc = k.Asc
+direction_word sort.Ascending = k.Ascending
+direction_word sort.Desc = k.Desc
+direction_word sort.Descending = k.Descending
+
+abbrev direction_mark : Sort → Mark
+direction_mark d = key (direction_word d)
+
+marks_of : (d : Sort) → direction_marks d ≡ direction_mark d ∷ []
+marks_of sort.Asc = refl
+marks_of sort.Ascending = refl
+marks_of sort.Desc = refl
+marks_of sort.Descending = refl
+
+direction_spelled : (l : Lexeme) (d : Sort) → direction_of l ≡ Some d → (w : List ℕ) × (l ≡ lexeme.keyword (direction_word d) w)
+direction_spelled (lexeme.keyword k.Asc w) d e = let same : sort.Asc ≡ d = cc in rw (← same) (w, refl)
+direction_spelled (lexeme.keyword k.Ascending w) d e = let same : sort.Ascending ≡ d = cc in rw (← same) (w, refl)
+direction_spelled (lexeme.keyword k.Desc w) d e = let same : sort.Desc ≡ d = cc in rw (← same) (w, refl)
+direction_spelled (lexeme.keyword k.Descending w) d e = let same : sort.Descending ≡ d = cc in rw (← same) (w, refl)
 direction_spelled _ d e = absurd cc
 
-direction_found : {P : Token → Type 0} {ts more : List Token} (d : Sort) → Takes P ts (direction_marks d) more → (t : Token) × (ts ≡ t ∷ more) × (direction_of t.lexeme ≡ Some d)
-direction_found sort.Asc h = let f = only_token h in (f.0, f.1, rw f.2.spelled.1 refl)
-direction_found sort.Ascending h = let f = only_token h in (f.0, f.1, rw f.2.spelled.1 refl)
-direction_found sort.Desc h = let f = only_token h in (f.0, f.1, rw f.2.spelled.1 refl)
-direction_found sort.Descending h = let f = only_token h in (f.0, f.1, rw f.2.spelled.1 refl)
+direction_found : (d : Sort) (w : List ℕ) → direction_of (lexeme.keyword (direction_word d) w) ≡ Some d
+direction_found sort.Asc w = refl
+direction_found sort.Ascending w = refl
+direction_found sort.Desc w = refl
+direction_found sort.Descending w = refl
 
-direction_sound : (ts : List Token) (d : Sort) (more : List Token) → direction ts ≡ Some (d, more) → Took ts (direction_marks d) more
+direction_takes : (ts more : List Token) (d : Sort) → direction ts ≡ Some (d, more) → (t : Token) × (ts ≡ t ∷ more) × Accepts (direction_mark d) t
 unfolding direction
-direction_sound [] d more e = absurd cc
-direction_sound (t ∷ ts) d more e =
+direction_takes [] more d e = absurd cc
+direction_takes (t ∷ ts) more d e =
     let h = with_rest_is (direction_of t.lexeme) ts d more e in
-    let i = direction_spelled t.lexeme d h.0 in
-    let taken : Took (t ∷ ts) (key i.0 ∷ []) more = took_first t ts refl (record { spelled = (i.1, i.2); starts = tt; finishes = tt }) (rw h.1 (takes_none more)) in
-    rw i.3 taken
+    (t, ap (λ (r : List Token). t ∷ r) h.1, record { spelled = direction_spelled t.lexeme d h.0; starts = tt; finishes = tt })
 
-abbrev IsDirection : Sort → Type 0
-IsDirection d = Unit {0}
-
-abbrev Anywhere : List Token → Type 0
-Anywhere ts = Unit {0}
-
-direction_reads : {P : Token → Type 0} {limit : ℕ} → ReadsMarks P limit direction IsDirection direction_marks Anywhere
+direction_again : (t : Token) (more : List Token) (d : Sort) → Accepts (direction_mark d) t → direction (t ∷ more) ≡ Some (d, more)
 unfolding direction
-direction_reads = record {
-  sound = λ ts d more e. (tt, direction_sound ts d more e);
-  complete = λ ts d more ok h ends less. let f = direction_found d h in rw (f.1, f.2) refl;
-}
+direction_again t more d h = rw (h.spelled.1, direction_found d h.spelled.0) refl
 
-direction_first : {P : Token → Type 0} (ts : List Token) (d : Sort) (more : List Token) → IsDirection d → Takes P ts (direction_marks d) more → begins_direction ts ≡ true
-direction_first ts d more ok h = let f = direction_found d h in rw (f.1, f.2) refl
+direction_exact : {limit : ℕ} → Exactly limit direction (Fitting Free direction_marks) Anything
+direction_exact = restated (one_exact direction_mark direction_takes direction_again) (λ d front h. fitting tt (rw (marks_of d) h.fits)) (λ d front h. fitting tt (rw (← marks_of d) h.fits)) (λ more h. h)
 
-any_direction : (d : Option Sort) → Each IsDirection d
-any_direction None = tt
-any_direction (Some d) = tt
+direction_first : (d : Sort) (front more : List Token) → Fit front (direction_marks d) → begins_direction (front ++ more) ≡ true
+direction_first d front more fits = by front (rw (← marks_of d) fits)
+  where
+    by : (front : List Token) → Fit front (direction_mark d ∷ []) → begins_direction (front ++ more) ≡ true
+    by [] fits = absurd fits
+    by (t ∷ front) fits = rw (fits.0.spelled.1, direction_found d fits.0.spelled.0) refl
 
 -- ---- sort items
 
@@ -70,102 +76,89 @@ abbrev pub IsSortItem : SortItem → Type 0
 IsSortItem x = IsWellFormed x.key
 
 abbrev SortEnds : List Token → Type 0
-SortEnds more = Ends 1 more × (begins_direction more ≡ false)
+SortEnds = After begins_direction (Ends 1)
 
 abbrev sorted_by : Expression → Option Sort → SortItem
 sorted_by x d = record { key = x; direction = d }
 
+abbrev from_key : SortItem → List Mark
+from_key i = marks i.key ++ (optional_marks direction_marks i.direction ++ [])
+
 comma_sort_ends : (more : List Token) → sees_symbol s.Comma more ≡ true → SortEnds more
-comma_sort_ends more e = let i = symbol_is s.Comma more e in rw (i.1, i.2.spelled) (omega arith, refl)
+comma_sort_ends more e = let i = symbol_is s.Comma more e in rw (i.1, i.2.spelled) (refl, omega arith)
 
-direction_ends : {P : Token → Type 0} (d : Sort) (ts more : List Token) → Takes P ts (direction_marks d) more → Ends 1 ts
-direction_ends sort.Asc ts more h = let f = takes_first h in rw (f.whole, f.accepts.spelled.1) (omega arith)
-direction_ends sort.Ascending ts more h = let f = takes_first h in rw (f.whole, f.accepts.spelled.1) (omega arith)
-direction_ends sort.Desc ts more h = let f = takes_first h in rw (f.whole, f.accepts.spelled.1) (omega arith)
-direction_ends sort.Descending ts more h = let f = takes_first h in rw (f.whole, f.accepts.spelled.1) (omega arith)
+key_ends : (d : Option Sort) (y more : List Token) → Fit y (optional_marks direction_marks d ++ []) → SortEnds more → Ends 1 (y ++ more)
+key_ends None y more fits ends = ending (Ends 1) y more fits ends.1
+key_ends (Some d) y more fits ends = by y (rw (append-nil (direction_marks d), marks_of d) at fits)
+  where
+    binds : (d : Sort) (w : List ℕ) → Ends 1 (record { lexeme = lexeme.keyword (direction_word d) w; start = 0; finish = 0 } ∷ [])
+    binds sort.Asc w = omega arith
+    binds sort.Ascending w = omega arith
+    binds sort.Desc w = omega arith
+    binds sort.Descending w = omega arith
 
-key_ends : {P : Token → Type 0} (d : Option Sort) (ts more : List Token) → Takes P ts (optional_marks direction_marks d) more → SortEnds more → Ends 1 ts
-key_ends None ts more h ends = rw (none_taken h) ends.0
-key_ends (Some d) ts more h ends = direction_ends d ts more h
+    by : (y : List Token) → Fit y (direction_mark d ∷ []) → Ends 1 (y ++ more)
+    by [] fits = absurd fits
+    by (t ∷ y) fits = rw fits.0.spelled.1 (binds d fits.0.spelled.0)
 
-sort_item_reads : {P : Token → Type 0} {n : ℕ} {whole : Parser Expression} → Exact n 1 whole → ReadsMarks P n (sort_item whole) IsSortItem sort_marks SortEnds
+sort_item_exact : {n : ℕ} {whole : Parser Expression} → Exactly n whole Whole (Ends 1) → Exactly n (sort_item whole) (Fitting IsSortItem sort_marks) SortEnds
 unfolding sort_item
-sort_item_reads {P} {n} {whole} exact =
-    let keys = expression_reads {P = P} exact in
-    let directions = maybe_reads (direction_reads {P = P} {limit = n}) begins_direction direction_first in
-    record {
-      sound = λ ts a more e.
-          let b = bind_some (whole ts) (λ x. maybe begins_direction direction >>= λ d. pure (sorted_by x d)) (a, more) e in
-          let c = bind_some (maybe begins_direction direction b.1) (λ d. pure (sorted_by b.0 d)) (a, more) b.3 in
-          let last = same_some (sorted_by b.0 c.0) a c.1 more c.3 in
-          let one = keys.sound ts b.0 b.1 b.2 in
-          let two = directions.sound b.1 c.0 c.1 c.2 in
-          subst (λ (r : List Token). IsSortItem a × Took ts (sort_marks a) r) last.1
-          (subst (λ (y : SortItem). IsSortItem y × Took ts (sort_marks y) c.1) last.0 (one.0, takes_then one.1 two.1));
-      complete = λ ts a more ok h ends less.
-          let parts = takes_split (marks a.key) (optional_marks direction_marks a.direction) h in
-          let one = keys.complete ts a.key parts.0 ok parts.1 (key_ends a.direction parts.0 more parts.2 ends) less in
-          let two = directions.complete parts.0 a.direction more (any_direction a.direction) parts.2 (tt, ends.1) (omega (arith, takes_less parts.1)) in
-          rw (one, two) refl;
-    }
+sort_item_exact exact =
+    restated
+    (step (λ (i : SortItem). i.key) Free exact
+    (λ x. step (λ (i : SortItem). i.direction) (λ (i : SortItem). (i.key ≡ x) × Free i) (maybe_exact begins_direction direction_exact (λ d front more h. direction_first d front more h.fits))
+    (λ d. made (sorted_by x d) (λ (i : SortItem). (i.direction ≡ d) × ((i.key ≡ x) × Free i)) (refl, (refl, tt)) (λ i h. rw (← h.0, ← h.1.0) refl))
+    (λ i y more well fits ends. ending (After begins_direction Anything) y more fits (ends.0, tt)))
+    (λ i y more well fits ends. key_ends i.direction y more fits ends))
+    (λ i front h. fitting h.well.0 (rw (← same i) h.fits))
+    (λ i front h. fitting (h.well, (each_free i.direction, tt)) (rw (same i) h.fits))
+    (λ more h. h)
+  where
+    same : (i : SortItem) → from_key i ≡ sort_marks i
+    same i = simp append-nil
 
 -- ---- ORDER BY
 
 abbrev pub IsOrder : List SortItem → Type 0
 IsOrder xs = AllByRecursion IsSortItem xs
 
-abbrev sorting : Parser Expression → Parser (List SortItem)
-sorting whole = parse.keyword k.Order >> (parse.keyword k.By >> separated (sort_item whole))
+abbrev sorting_marks : List SortItem → List Mark
+sorting_marks xs = key k.Order ∷ key k.By ∷ commas (map sort_marks xs)
 
-sorting_reads : {P : Token → Type 0} {n : ℕ} {whole : Parser Expression} → Exact n 1 whole
-    → ReadsMarks P (n + 1 + 1) (sorting whole) (λ xs. IsNonEmpty xs × IsOrder xs) (λ xs. key k.Order ∷ key k.By ∷ commas (map sort_marks xs)) (AfterItems SortEnds)
-sorting_reads exact = keyword_reads (keyword_reads (separated_reads (sort_item_reads exact) comma_sort_ends) k.By) k.Order
+sorting_exact : {n : ℕ} {whole : Parser Expression} → Exactly n whole Whole (Ends 1)
+    → Exactly n (parse.keyword k.Order >> (parse.keyword k.By >> separated (sort_item whole))) (Fitting (Items IsSortItem) order_marks) (AfterItems SortEnds)
+sorting_exact exact = restated (behind (keyword_exact k.Order) (behind (keyword_exact k.By) (items_exact (sort_item_exact exact) comma_sort_ends))) out into (λ more h. h)
+  where
+    out : (xs : List SortItem) (front : List Token) → Fitting (Items IsSortItem) sorting_marks xs front → Fitting (Items IsSortItem) order_marks xs front
+    out [] front h = absurd h.well.0
+    out (x ∷ xs) front h = fitting h.well h.fits
 
-nonempty_order : (xs : List SortItem) → IsNonEmpty xs → key k.Order ∷ key k.By ∷ commas (map sort_marks xs) ≡ order_marks xs
-nonempty_order [] h = absurd h
-nonempty_order (x ∷ xs) h = refl
+    into : (xs : List SortItem) (front : List Token) → Fitting (Items IsSortItem) order_marks xs front → Fitting (Items IsSortItem) sorting_marks xs front
+    into [] front h = absurd h.well.0
+    into (x ∷ xs) front h = fitting h.well h.fits
 
-pub ordering_sound : {n : ℕ} {whole : Parser Expression} → Exact n 1 whole → (ts : List Token) (xs : List SortItem) (more : List Token) → ordering whole ts ≡ Some (xs, more) → IsOrder xs × Took ts (order_marks xs) more
-ordering_sound {n} {whole} exact ts xs more e =
-    elim (chosen (sees_keyword k.Order ts) (sorting whole ts) (some [] ts) (Some (xs, more)) e) [
-      | inl h ↦
-          let one = (sorting_reads {P = AnyToken} exact).sound ts xs more h.1 in
-          (one.0.1, subst (λ (ms : List Mark). Took ts ms more) (nonempty_order xs one.0.0) one.1)
-      | inr h ↦
-          let nil : List SortItem = [] in
-          let last = same_some nil xs ts more h.1 in
-          subst (λ (y : List SortItem). IsOrder y × Took ts (order_marks y) more) last.0 (subst (λ (r : List Token). Unit {0} × Took ts [] r) last.1 (tt, takes_none ts))
-    ]
+pub ordering_exact : {n : ℕ} {whole : Parser Expression} → Exactly n whole Whole (Ends 1) → Exactly n (ordering whole) (Fitting IsOrder order_marks) (From 2)
+ordering_exact exact =
+    narrowed (or_none_exact (sees_keyword k.Order) refl tt (λ xs h. h.1) (λ x xs h. (tt, h)) (sorting_exact exact) seen)
+    (λ more from. (from_not k.Order 2 more (λ w. omega arith) from, (from_no_comma 2 more (omega arith) from, (from_no_direction 2 more (omega arith) from, from_ends 2 more (omega arith) from))))
+  where
+    seen : (xs : List SortItem) (front more : List Token) → Fitting (Items IsSortItem) order_marks xs front → sees_keyword k.Order (front ++ more) ≡ true
+    seen [] front more h = absurd h.well.0
+    seen (x ∷ xs) front more h = keyword_begins k.Order _ front more h.fits
 
-pub ordering_complete : {P : Token → Type 0} {n : ℕ} {whole : Parser Expression} → Exact n 1 whole → (ts : List Token) (xs : List SortItem) (more : List Token) → IsOrder xs → Takes P ts (order_marks xs) more → From 2 more → length ts < n → ordering whole ts ≡ Some (xs, more)
-ordering_complete {P} {n} {whole} exact ts [] more ok h from less =
-    rw (none_taken h) (ap (λ (b : Bool). pick b (sorting whole more) (some [] more)) (from_not k.Order 2 more (λ w. omega arith) from))
-ordering_complete {P} {n} {whole} exact ts (x ∷ xs) more ok h from less =
-    ap (λ (b : Bool). pick b (sorting whole ts) (some [] ts)) (keyword_first k.Order h)
-    ∙ (sorting_reads exact).complete ts (x ∷ xs) more (tt, ok) h (from_no_comma 2 more (omega arith) from, (from_ends 2 more (omega arith) from, from_no_direction 2 more (omega arith) from)) (omega arith)
-
-pub order_from : {P : Token → Type 0} (ts : List Token) (xs : List SortItem) (more : List Token) → Takes P ts (order_marks xs) more → From 2 more → From 1 ts
-order_from ts [] more h from = rw (none_taken h) (omega arith)
-order_from ts (x ∷ xs) more h from = let f = takes_first h in rw (f.whole, f.accepts.spelled.1) (omega arith)
+pub order_from : (xs : List SortItem) (ms : List Mark) (y more : List Token) → Fit y (order_marks xs ++ ms) → ((z : List Token) → Fit z ms → From 2 (z ++ more)) → From 1 (y ++ more)
+order_from [] ms y more fits from = let f = from y fits in omega arith
+order_from (x ∷ xs) ms [] more fits from = absurd fits
+order_from (x ∷ xs) ms (t ∷ y) more fits from = rw fits.0.spelled.1 (omega arith)
 
 -- ---- SKIP, LIMIT and WHERE
 
-abbrev pub keyed_expression : Keyword → Parser Expression → Parser (Option Expression)
-keyed_expression x whole = maybe (sees_keyword x) (parse.keyword x >> whole)
-
-keyed_reads : {P : Token → Type 0} {n : ℕ} {whole : Parser Expression} → Exact n 1 whole → (x : Keyword)
-    → ReadsMarks P (n + 1) (keyed_expression x whole) (Each IsWellFormed) (optional_marks (keyed x)) (λ more. Ends 1 more × (sees_keyword x more ≡ false))
-keyed_reads exact x = maybe_reads (keyword_reads (expression_reads exact) x) (sees_keyword x) (λ ts a more ok h. keyword_first x h)
-
-pub keyed_sound : {n : ℕ} {whole : Parser Expression} → Exact n 1 whole → (x : Keyword) (ts : List Token) (a : Option Expression) (more : List Token) → keyed_expression x whole ts ≡ Some (a, more) → Each IsWellFormed a × Took ts (optional_marks (keyed x) a) more
-keyed_sound exact x = (keyed_reads {P = AnyToken} exact x).sound
-
 -- where it has this place of the order, and what stands behind it a later one
-pub keyed_complete : {P : Token → Type 0} {n : ℕ} {whole : Parser Expression} → Exact n 1 whole → (x : Keyword) (at : ℕ) → ((w : List ℕ) → stage (lexeme.keyword x w) ≡ at)
-    → (ts : List Token) (a : Option Expression) (more : List Token) → Each IsWellFormed a → Takes P ts (optional_marks (keyed x) a) more → From (at + 1) more → length ts < n → keyed_expression x whole ts ≡ Some (a, more)
-keyed_complete exact x at place ts a more ok h from less =
-    (keyed_reads exact x).complete ts a more ok h (from_ends (at + 1) more (omega arith) from, from_not x (at + 1) more (λ w. omega (arith, place w)) from) (omega arith)
+pub keyed_exact : {n : ℕ} {whole : Parser Expression} → Exactly n whole Whole (Ends 1) → (x : Keyword) (at : ℕ) → ((w : List ℕ) → stage (lexeme.keyword x w) ≡ at)
+    → Exactly n (maybe (sees_keyword x) (parse.keyword x >> whole)) (MayHave x) (From (at + 1))
+keyed_exact exact x at place = narrowed (may_have_exact x exact) (λ more from. (from_not x (at + 1) more (λ w. omega (arith, place w)) from, from_ends (at + 1) more (omega arith) from))
 
-pub keyed_from : {P : Token → Type 0} (x : Keyword) (at : ℕ) → ((w : List ℕ) → stage (lexeme.keyword x w) ≡ at) → (ts : List Token) (a : Option Expression) (more : List Token) → Takes P ts (optional_marks (keyed x) a) more → From (at + 1) more → From at ts
-keyed_from x at place ts None more h from = rw (none_taken h) (omega arith)
-keyed_from x at place ts (Some a) more h from = let f = takes_first h in rw (f.whole, f.accepts.spelled.1, place f.accepts.spelled.0) (omega arith)
+pub keyed_from : (x : Keyword) (at : ℕ) → ((w : List ℕ) → stage (lexeme.keyword x w) ≡ at) → (e : Option Expression) (ms : List Mark) (y more : List Token) → Fit y (optional_marks (keyed x) e ++ ms) → ((z : List Token) → Fit z ms → From (at + 1) (z ++ more)) → From at (y ++ more)
+keyed_from x at place None ms y more fits from = let f = from y fits in omega arith
+keyed_from x at place (Some e) ms [] more fits from = absurd fits
+keyed_from x at place (Some e) ms (t ∷ y) more fits from = rw (fits.0.spelled.1, place fits.0.spelled.0) (omega arith)

@@ -4,11 +4,11 @@ use Rattle.std.proofs.lemmas.Bool.{and_parts}
 use Rattle.std.proofs.lemmas.Bool.Decides.{nat_tests}
 use Rattle.std.proofs.lemmas.Str.{encodes-append, IsUtf8-between, IsCharBoundary-at_seam, length-encode, is_utf8-from_IsUtf8}
 use Rattle.std.specs.Prelude.{slice_range, encode_utf8_all, encode_utf8, nat_le, ◌&&◌}
+use Rattle.std.specs.List.{AllByRecursion}
 use Rattle.std.specs.Str.{IsUtf8, IsCharBoundary, all_scalars, is_utf8}
 use Rattle.pg_meaning.specs.Tokens.{Lexeme, Token, Segment, segment_text, segments_text, token_of, segment_tokens, width, Lexes}
 use Rattle.pg_meaning.specs.Tokens as lexeme
 use Rattle.pg_meaning.specs.Parse.{cut}
-use Rattle.pg_grammar.proofs.Separated.{EachToken}
 
 pub record Placed (text : List ℕ) (t : Token) : Type 0 where
   pub start : IsCharBoundary text t.start
@@ -27,7 +27,7 @@ seam text a b e h = IsCharBoundary-at_seam text (encode_utf8_all a) (encode_utf8
 
 -- the segments behind those characters
 placed : (text before : List ℕ) (xs : List Segment) → text ≡ encode_utf8_all (before ++ segments_text xs) → all_scalars (before ++ segments_text xs) ≡ true
-    → (at : ℕ) → at ≡ length (encode_utf8_all before) → EachToken (Placed text) (segment_tokens at xs)
+    → (at : ℕ) → at ≡ length (encode_utf8_all before) → AllByRecursion (Placed text) (segment_tokens at xs)
 placed text before [] e h at here = tt
 placed text before (x ∷ xs) e h at here =
     let front = segment_text x in let more = segments_text xs in
@@ -40,13 +40,13 @@ placed text before (x ∷ xs) e h at here =
     let last : IsCharBoundary text (at + width front) = subst (IsCharBoundary text) (sym there) (seam text (before ++ front) more e' h') in
     by x first last others
   where
-    by : (x : Segment) → IsCharBoundary text at → IsCharBoundary text (at + width (segment_text x)) → EachToken (Placed text) (segment_tokens (at + width (segment_text x)) xs) → EachToken (Placed text) (segment_tokens at (x ∷ xs))
+    by : (x : Segment) → IsCharBoundary text at → IsCharBoundary text (at + width (segment_text x)) → AllByRecursion (Placed text) (segment_tokens (at + width (segment_text x)) xs) → AllByRecursion (Placed text) (segment_tokens at (x ∷ xs))
     by (lexeme.lexeme l front) first last others = (record { start = first; finish = last }, others)
     by (lexeme.blank c) first last others = others
     by (lexeme.line_comment body) first last others = others
     by (lexeme.block_comment body) first last others = others
 
-pub tokens_placed : (text : List ℕ) (tokens : List Token) → Lexes text tokens → EachToken (Placed text) tokens
+pub tokens_placed : (text : List ℕ) (tokens : List Token) → Lexes text tokens → AllByRecursion (Placed text) tokens
 tokens_placed text tokens l = rw l.are (placed text [] l.segments l.spelled l.scalars 0 refl)
 
 pub text_is_utf8 : (text : List ℕ) (tokens : List Token) → Lexes text tokens → IsUtf8 text

@@ -19,12 +19,10 @@ use Rattle.pg_meaning.specs.declared.operators.TextTest.TheVariants as text_test
 use Rattle.pg_run.proofs.EvaluationLemmas.{stepwise}
 use Rattle.pg_run.specs.Evaluation.{id_given}
 use Rattle.pg_run.specs.Plain.{is_plain}
-use Rattle.pg_syntax_tree.specs.View.{expression_view, view_step, name_view, names_view, suffixes_of, tests_of}
+use Rattle.pg_syntax_tree.proofs.Views.{call_is, chain_is, tests_is, suffixes_is}
+use Rattle.pg_syntax_tree.specs.View.{expression_view, name_view, names_view, operand_view, test_view, tests_of, suffix_view, suffixes_of}
 use Rattle.pg_syntax_tree.specs.declared.expression.Expression.{Expression}
 use Rattle.pg_syntax_tree.specs.declared.expression.Expression.TheVariants as expression
-use Rattle.pg_syntax_tree.specs.declared.expression.Expression.TheOpen.{Expression-F}
-use Rattle.pg_syntax_tree.specs.declared.expression.Expression.TheViews.{rolls-Chain, rolls-Tests, rolls-Suffixes, rolls-Call}
-use Rattle.pg_syntax_tree.specs.declared.expression.Expression.TheFolds.{fold-roll-Expression}
 use Rattle.pg_syntax_tree.specs.declared.expression.Name.{Name}
 use Rattle.pg_syntax_tree.specs.declared.expression.Suffix.{Suffix}
 use Rattle.pg_syntax_tree.specs.declared.expression.Suffix.TheVariants as suffix
@@ -45,12 +43,6 @@ the_only (y ∷ []) x one read = ap (λ z. z ∷ []) (sym read)
 the_only (y ∷ z ∷ xs) x one read = absurd (omega arith)
 
 -- ---- `=`
-
-abbrev operand_view : Operator × Expression → Operator × tree.Expression
-operand_view p = (p.0, expression_view p.1)
-
-chain_is : (x : Box Expression Global) (os : Vec (Operator × Expression) Global) → expression_view (expression.Chain x os) ≡ tree.chain (expression_view x.value) (operands_of (map operand_view os.items))
-chain_is x os = ap expression_view (sym (rolls-Chain x os)) ∙ fold-roll-Expression tree.Expression view_step (Expression-F.Chain x os)
 
 pub record IsEquality (e x : Expression) (os : List (Operator × Expression)) (p : Operator × Expression) : Type 0 where
   pub only : os ≡ p ∷ []
@@ -90,22 +82,6 @@ equality_of {e} {x} {p} l os is plain left read =
     }
 
 -- ---- IN
-
-abbrev test_view : Test Expression → Test tree.Expression
-test_view (test.Text t x) = test.Text t (expression_view x)
-test_view (test.IsNull negated) = test.IsNull negated
-
-tests_alike : (seen : Test Expression → Test tree.Expression) (ts : List (Test Expression)) → ((t : TextTest) (y : Expression) → seen (test.Text t y) ≡ test.Text t (expression_view y))
-    → ((negated : Bool) → seen (test.IsNull negated) ≡ test.IsNull negated) → tests_of (map seen ts) ≡ tests_of (map test_view ts)
-tests_alike seen [] text null = refl
-tests_alike seen (test.Text t y ∷ ts) text null = ap (λ u. tests_of (u ∷ map seen ts)) (text t y) ∙ ap (tree.text_test t (expression_view y)) (tests_alike seen ts text null)
-tests_alike seen (test.IsNull negated ∷ ts) text null = ap (λ u. tests_of (u ∷ map seen ts)) (null negated) ∙ ap (tree.null_test negated) (tests_alike seen ts text null)
-
-tests_is : (x : Box Expression Global) (ts : Vec (Test Expression) Global) → expression_view (expression.Tests x ts) ≡ tree.tests (expression_view x.value) (tests_of (map test_view ts.items))
-tests_is x ts =
-    ap expression_view (sym (rolls-Tests x ts))
-    ∙ fold-roll-Expression tree.Expression view_step (Expression-F.Tests x ts)
-    ∙ ap (tree.tests (expression_view x.value)) (tests_alike _ ts.items (λ t y. refl) (λ negated. refl))
 
 pub record IsMembership (e x : Expression) (ts : List (Test Expression)) (y : Expression) : Type 0 where
   pub only : ts ≡ test.Text text_test.In y ∷ []
@@ -159,23 +135,6 @@ module _ {e : Expression} (l : Box Expression Global) (ts : Vec (Test Expression
 
 -- ---- a property
 
-abbrev suffix_view : Suffix Expression → Suffix tree.Expression
-suffix_view (suffix.Property n) = suffix.Property n
-suffix_view (suffix.Index x) = suffix.Index (expression_view x)
-
-suffixes_alike : (seen : Suffix Expression → Suffix tree.Expression) (ss : List (Suffix Expression)) → ((n : Name) → seen (suffix.Property n) ≡ suffix.Property n)
-    → ((y : Expression) → seen (suffix.Index y) ≡ suffix.Index (expression_view y)) → suffixes_of (map seen ss) ≡ suffixes_of (map suffix_view ss)
-suffixes_alike seen [] property index = refl
-suffixes_alike seen (suffix.Property n ∷ ss) property index = ap (λ u. suffixes_of (u ∷ map seen ss)) (property n) ∙ ap (tree.property (name_view n)) (suffixes_alike seen ss property index)
-suffixes_alike seen (suffix.Index y ∷ ss) property index = ap (λ u. suffixes_of (u ∷ map seen ss)) (index y) ∙ ap (tree.index (expression_view y)) (suffixes_alike seen ss property index)
-
-suffixes_is : (x : Box Expression Global) (ss : Vec (Suffix Expression) Global) (ls : Vec Name Global)
-    → expression_view (expression.Suffixes x ss ls) ≡ tree.suffixes (expression_view x.value) (suffixes_of (map suffix_view ss.items)) (names_view ls.items)
-suffixes_is x ss ls =
-    ap expression_view (sym (rolls-Suffixes x ss ls))
-    ∙ fold-roll-Expression tree.Expression view_step (Expression-F.Suffixes x ss ls)
-    ∙ ap (λ xs. tree.suffixes (expression_view x.value) xs (names_view ls.items)) (suffixes_alike _ ss.items (λ n. refl) (λ y. refl))
-
 -- of a variable, one property, and no labels
 record IsOneProperty (ss : List (Suffix Expression)) (ls : List tree.Name) : Type 0 where
   pub key : Name
@@ -215,9 +174,6 @@ module _ {e : Expression} (l : Box Expression Global) (ss : Vec (Suffix Expressi
       ∙ (stepwise row no_entries graph).property (expression_view x) (name_view k)
 
 -- ---- the function `id`
-
-call_is : (f : Name) (star distinct : Bool) (xs : Vec Expression Global) → expression_view (expression.Call f star distinct xs) ≡ tree.call (name_view f) star distinct (expressions_view xs.items)
-call_is f star distinct xs = ap expression_view (sym (rolls-Call f star distinct xs)) ∙ fold-roll-Expression tree.Expression view_step (Expression-F.Call f star distinct xs)
 
 record IsIdOfOne (f : tree.Name) (star distinct : Bool) (xs : List Expression) : Type 0 where
   pub argument : Expression

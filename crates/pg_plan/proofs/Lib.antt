@@ -1,4 +1,3 @@
 pub mod MeaningLemmas
 pub mod PlainLemmas
 pub mod TextLemmas
-pub mod Views

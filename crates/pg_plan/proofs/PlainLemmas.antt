@@ -8,9 +8,9 @@ use Rattle.pg_meaning.specs.Tree as tree
 use Rattle.pg_meaning.specs.declared.operators.Operator.{Operator}
 use Rattle.pg_meaning.specs.declared.operators.Operator.TheVariants as op
 use Rattle.pg_meaning.specs.declared.operators.TextTest.TheVariants as text_test
-use Rattle.pg_plan.specs.Plain.{is_variable, is_one_variable, is_one_property, suffix_view, operand_view, test_view}
+use Rattle.pg_plan.specs.Plain.{is_variable, is_one_variable, is_one_property}
 use Rattle.pg_run.specs.Plain.{is_id, is_plain}
-use Rattle.pg_syntax_tree.specs.View.{expression_view, suffixes_of, tests_of}
+use Rattle.pg_syntax_tree.specs.View.{expression_view, suffixes_of, tests_of, operand_view, test_view, suffix_view}
 use Rattle.pg_syntax_tree.specs.declared.expression.Expression.{Expression as Code}
 use Rattle.pg_syntax_tree.specs.declared.expression.Suffix.{Suffix}
 use Rattle.pg_syntax_tree.specs.declared.expression.Suffix.TheVariants as suffix

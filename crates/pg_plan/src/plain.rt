@@ -2,9 +2,9 @@
 ghost use Rattle.std.specs.Prelude.{◌≡◌, map, false};
 ghost use Rattle.pg_meaning.specs.Parse.{expressions_of, pairs_of};
 ghost use Rattle.pg_meaning.specs.Tree as tree;
-ghost use Rattle.pg_plan.specs.Plain.{is_variable, is_one_variable, is_one_property, suffix_view};
+ghost use Rattle.pg_plan.specs.Plain.{is_variable, is_one_variable, is_one_property};
 ghost use Rattle.pg_run.specs.Plain as spec;
-ghost use Rattle.pg_syntax_tree.specs.View.{expression_view, name_view, pair_view, properties_view, item_view, suffixes_of, names_view};
+ghost use Rattle.pg_syntax_tree.specs.View.{expression_view, name_view, pair_view, properties_view, item_view, suffixes_of, names_view, suffix_view};
 
 use pg_meaning::{Operator, TextTest};
 use pg_syntax_tree::{Expression, Item, Name, NodePattern, Properties, Suffix, Test};

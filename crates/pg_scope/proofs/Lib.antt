@@ -6,4 +6,3 @@ pub mod SameLemmas
 pub mod ScopeLemmas
 pub mod StepLemmas
 pub mod TreeLemmas
-pub mod Views

@@ -5,8 +5,8 @@ ghost use Rattle.pg_meaning.specs.StaticFaults as spec;
 ghost use Rattle.pg_scope.specs.Calls.{own_faults};
 ghost use Rattle.pg_scope.specs.First.{IsFirst};
 ghost use Rattle.pg_scope.specs.Names.{names_in};
-ghost use Rattle.pg_scope.specs.Roles.{role_view, perhaps_view, suffix_view, test_view, operand_view, when_view};
-ghost use Rattle.pg_syntax_tree.specs.View.{expression_view, name_view, pair_view, suffixes_of, tests_of};
+ghost use Rattle.pg_scope.specs.Roles.{role_view};
+ghost use Rattle.pg_syntax_tree.specs.View.{expression_view, name_view, pair_view, suffixes_of, tests_of, when_view, operand_view, test_view, suffix_view, perhaps_view};
 
 use crate::calls::{is_aggregate, is_known};
 use crate::found::{Found, noted};

@@ -5,9 +5,8 @@ ghost use Rattle.std.specs.Str.{str_eq_ignore_ascii_case};
 ghost use Rattle.pg_meaning.specs.Parse.{expressions_of, operands_of, pairs_of, whens_of};
 ghost use Rattle.pg_meaning.specs.Trees as spec;
 ghost use Rattle.pg_meaning.specs.Value as value;
-ghost use Rattle.pg_scope.specs.Roles.{perhaps_view, suffix_view, test_view, operand_view, when_view};
 ghost use Rattle.pg_scope.specs.Trees.{is_same_test, is_same_suffix};
-ghost use Rattle.pg_syntax_tree.specs.View.{expression_view, literal_view, name_view, names_view, pair_view, suffixes_of, tests_of};
+ghost use Rattle.pg_syntax_tree.specs.View.{expression_view, literal_view, name_view, names_view, pair_view, suffixes_of, tests_of, when_view, operand_view, test_view, suffix_view, perhaps_view};
 
 use pg_meaning::Operator;
 use pg_syntax_tree::{Expression, Literal, Name, Suffix, Test};
@@ -84,7 +83,7 @@ fn same_call(
 
 /// Whether two expressions are one tree.
 #[cycle(trees)]
-#[tactic(auto, using(crate::proofs::Views::map_is, crate::proofs::Views::case_is, crate::proofs::Views::chain_is, crate::proofs::Views::tests_is, crate::proofs::Views::suffixes_is))]
+#[tactic(auto, using(pg_syntax_tree::proofs::Views::map_is, pg_syntax_tree::proofs::Views::case_is, pg_syntax_tree::proofs::Views::chain_is, pg_syntax_tree::proofs::Views::tests_is, pg_syntax_tree::proofs::Views::suffixes_is))]
 pub fn same_expression(a: &Expression, b: &Expression) -> bool
     ensures { result ≡ spec.same_expression (expression_view a.now) (expression_view b.now) }
 {

@@ -2,7 +2,6 @@
 use Rattle.std.specs.Prelude.{Option, Some, None, option_map, Box, pos, true, false}
 use Rattle.std.specs.declared.alloc.Global.{Global}
 use Rattle.pg_meaning.specs.declared.lexemes.Keyword.TheVariants as k
-use Rattle.pg_meaning.specs.declared.operators.Operator.{Operator}
 use Rattle.pg_meaning.specs.declared.operators.TextTest.{TextTest}
 use Rattle.pg_meaning.specs.Parse.{Parser, ◌>>=◌, ◌>>◌, ◌<$>◌, pure, keyword, symbol, listed, expressions_of}
 use Rattle.pg_meaning.specs.Tokens.{Lexeme}
@@ -16,12 +15,6 @@ use Rattle.pg_syntax_tree.specs.declared.expression.Suffix.{Suffix}
 use Rattle.pg_syntax_tree.specs.declared.expression.Suffix.TheVariants as suffix
 use Rattle.pg_syntax_tree.specs.declared.expression.Test.{Test}
 use Rattle.pg_syntax_tree.specs.declared.expression.Test.TheVariants as test
-
-abbrev pub operand_view : Operator × Expression → Operator × tree.Expression
-operand_view p = (p.0, expression_view p.1)
-
-abbrev pub when_view : Expression × Expression → tree.Expression × tree.Expression
-when_view p = (expression_view p.0, expression_view p.1)
 
 -- a suffix, before the further ones
 abbrev pub suffix_view : Suffix Expression → tree.Suffixes → tree.Suffixes

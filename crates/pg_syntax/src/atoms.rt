@@ -7,9 +7,9 @@ ghost use Rattle.pg_meaning.specs.Parse as parse;
 ghost use Rattle.pg_meaning.specs.Parse.{pairs_of};
 ghost use Rattle.pg_meaning.specs.Tree as tree;
 ghost use Rattle.pg_syntax.specs.Gives.{Gives};
-ghost use Rattle.pg_syntax.specs.Parts.{suffix_view, when_view, perhaps_view, else_of, literal_by, list_behind, parentheses_behind};
+ghost use Rattle.pg_syntax.specs.Parts.{suffix_view, perhaps_view, else_of, literal_by, list_behind, parentheses_behind};
 ghost use Rattle.pg_syntax.specs.ShrinksLaws.{eats_shrinks, map_pair_eats, suffix_eats, when_eats};
-ghost use Rattle.pg_syntax_tree.specs.View.{expression_view, literal_view, name_view, names_view, pair_view};
+ghost use Rattle.pg_syntax_tree.specs.View.{expression_view, literal_view, name_view, names_view, pair_view, when_view};
 
 use crate::cursor::Tokens;
 use crate::error::ParseError;
@@ -83,7 +83,7 @@ pub(crate) fn map_pairs<W: Expressions>(
 }
 
 /// What stands behind the opening sign of a call.
-#[tactic(auto, using(crate::proofs::Views::call_is), unfolding(pg_meaning::specs::Parse::call))]
+#[tactic(auto, using(pg_syntax_tree::proofs::Views::call_is), unfolding(pg_meaning::specs::Parse::call))]
 fn call<W: Expressions>(
     function: Name,
     whole: &W,
@@ -178,7 +178,7 @@ fn otherwise<W: Expressions>(
 }
 
 /// What stands behind CASE.
-#[tactic(auto, using(crate::proofs::Views::case_is), unfolding(pg_meaning::specs::Parse::case))]
+#[tactic(auto, using(pg_syntax_tree::proofs::Views::case_is), unfolding(pg_meaning::specs::Parse::case))]
 fn case<W: Expressions>(whole: &W, tokens: &mut Tokens<'_, '_>) -> Result<Expression, ParseError>
     requires { W.ready whole.now }
     ensures { Gives expression_view (parse.case (W.parser whole.now) (tokens_view tokens.old.rest.now)) result tokens.new.rest.now }
@@ -355,7 +355,7 @@ fn plain_atom<W: Expressions>(
     atom_by(token.start, &token.lexeme, whole, tokens)
 }
 
-#[tactic(auto, using(crate::proofs::Views::map_is), unfolding(pg_meaning::specs::Parse::atom))]
+#[tactic(auto, using(pg_syntax_tree::proofs::Views::map_is), unfolding(pg_meaning::specs::Parse::atom))]
 fn atom<W: Expressions>(whole: &W, tokens: &mut Tokens<'_, '_>) -> Result<Expression, ParseError>
     requires { W.ready whole.now }
     ensures { Gives expression_view (parse.atom (W.parser whole.now) (tokens_view tokens.old.rest.now)) result tokens.new.rest.now }

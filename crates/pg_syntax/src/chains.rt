@@ -7,9 +7,8 @@ ghost use Rattle.pg_meaning.specs.Grammar.{operator_level};
 ghost use Rattle.pg_meaning.specs.Parse as parse;
 ghost use Rattle.pg_meaning.specs.Tree as tree;
 ghost use Rattle.pg_syntax.specs.Gives.{Gives, same};
-ghost use Rattle.pg_syntax.specs.Parts.{operand_view};
 ghost use Rattle.pg_syntax.specs.ShrinksLaws.{eats_shrinks, link_eats};
-ghost use Rattle.pg_syntax_tree.specs.View.{expression_view};
+ghost use Rattle.pg_syntax_tree.specs.View.{expression_view, operand_view};
 
 use crate::cursor::Tokens;
 use crate::error::ParseError;
@@ -134,7 +133,7 @@ impl<'o, O: Expressions> Row for Link<'o, O> {
 }
 
 /// The operands together, where there are several.
-#[tactic(auto, using(crate::proofs::Views::chain_is))]
+#[tactic(auto, using(pg_syntax_tree::proofs::Views::chain_is))]
 fn chained(
     alloc: Global,
     first: Expression,

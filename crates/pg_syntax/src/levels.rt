@@ -58,7 +58,7 @@ impl Row for Sign {
     }
 }
 
-#[tactic(auto, using(crate::proofs::Views::signs_is))]
+#[tactic(auto, using(pg_syntax_tree::proofs::Views::signs_is))]
 fn signed(alloc: Global, signs: Vec<bool>, operand: Expression) -> Result<Expression, AllocError>
     ensures { IfOk result (λ x. expression_view x ≡ parse.signed signs.items (expression_view operand)) }
 {
@@ -219,7 +219,6 @@ impl<'o, O: Expressions> Row for OneTest<'o, O> {
     }
 }
 
-#[tactic(auto, using(crate::proofs::Views::tests_is))]
 fn tested(
     alloc: Global,
     first: Expression,
@@ -309,7 +308,7 @@ impl Row for Not {
     }
 }
 
-#[tactic(auto, using(crate::proofs::Views::negation_is))]
+#[tactic(auto, using(pg_syntax_tree::proofs::Views::negation_is))]
 fn negated(alloc: Global, nots: Vec<()>, operand: Expression) -> Result<Expression, AllocError>
     ensures { IfOk result (λ x. expression_view x ≡ parse.negated nots.items (expression_view operand)) }
 {

@@ -1,9 +1,10 @@
 -- The data that the program's trees stand for.
 use Rattle.std.specs.Prelude.{Bool, List, [], ◌∷◌, map, Option, Some, None, option_map, string_bytes, Box}
 use Rattle.std.specs.declared.alloc.Global.{Global}
-use Rattle.pg_meaning.specs.Parse.{expressions_of, pairs_of, whens_of, operands_of}
+use Rattle.pg_meaning.specs.Parse.{expressions_of, pairs_of, whens_of, operands_of, perhaps_of}
 use Rattle.pg_meaning.specs.Value as value
 use Rattle.pg_meaning.specs.Tree as tree
+use Rattle.pg_meaning.specs.declared.operators.Operator.{Operator}
 use Rattle.pg_syntax_tree.specs.declared.expression.Name.{Name}
 use Rattle.pg_syntax_tree.specs.declared.expression.Literal.{Literal}
 use Rattle.pg_syntax_tree.specs.declared.expression.Literal.TheVariants as literal
@@ -78,10 +79,29 @@ view_step (Expression-F.Suffixes x xs ls) = tree.suffixes x.value (suffixes_of x
 abbrev pub expression_view : Expression → tree.Expression
 expression_view = fold-Expression tree.Expression view_step
 
--- ---- patterns
+-- ---- parts of expressions
 
 abbrev pub pair_view : Name × Expression → tree.Name × tree.Expression
 pair_view p = (name_view p.0, expression_view p.1)
+
+abbrev pub when_view : Expression × Expression → tree.Expression × tree.Expression
+when_view p = (expression_view p.0, expression_view p.1)
+
+abbrev pub operand_view : Operator × Expression → Operator × tree.Expression
+operand_view p = (p.0, expression_view p.1)
+
+abbrev pub test_view : Test Expression → Test tree.Expression
+test_view (test.Text t x) = test.Text t (expression_view x)
+test_view (test.IsNull negated) = test.IsNull negated
+
+abbrev pub suffix_view : Suffix Expression → Suffix tree.Expression
+suffix_view (suffix.Property n) = suffix.Property n
+suffix_view (suffix.Index x) = suffix.Index (expression_view x)
+
+abbrev pub perhaps_view : Option (Box Expression Global) → tree.Perhaps
+perhaps_view x = perhaps_of (option_map (λ b. expression_view b.value) x)
+
+-- ---- patterns
 
 abbrev pub properties_view : Properties → tree.Properties
 properties_view properties.None = tree.no_properties

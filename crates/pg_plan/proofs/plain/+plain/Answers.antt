@@ -1,10 +1,9 @@
 use Rattle.std.proofs.Common.{◌≤◌, length, map, sym, ap, subst, ◌∙◌}
 use Rattle.pg_meaning.specs.Tree as tree
-use Rattle.pg_plan.specs.Plain.{suffix_view}
 use Rattle.pg_run.specs.Plain.{is_plain}
-use Rattle.pg_syntax_tree.specs.View.{expression_view, names_view, suffixes_of}
+use Rattle.pg_syntax_tree.specs.View.{expression_view, names_view, suffixes_of, suffix_view}
 use Rattle.pg_plan.proofs.PlainLemmas.{several_operands, several_tests}
-use Rattle.pg_plan.proofs.Views.{chain_is, tests_is, suffixes_is}
+use Rattle.pg_syntax_tree.proofs.Views.{chain_is, tests_is, suffixes_is}
 use Rattle.pg_plan.proofs.plain.+plain.Goals as goal
 
 pub is_plain-returns-in_default-as_slice-3 : goal.is_plain-returns-in_default-as_slice-3

@@ -6,15 +6,15 @@ use Rattle.pg_scope.specs.Calls.{own_faults}
 use Rattle.pg_scope.specs.First.{IsFirst}
 use Rattle.pg_meaning.specs.Names.{Names}
 use Rattle.pg_scope.specs.Names.{names_in}
-use Rattle.pg_scope.specs.Roles.{role_view, suffix_view, test_view, operand_view, when_view}
-use Rattle.pg_syntax_tree.specs.View.{expression_view, name_view, pair_view, suffixes_of, tests_of}
+use Rattle.pg_scope.specs.Roles.{role_view}
+use Rattle.pg_syntax_tree.specs.View.{expression_view, name_view, pair_view, suffixes_of, tests_of, when_view, operand_view, test_view, suffix_view}
 use Rattle.pg_syntax_tree.specs.declared.expression.Expression.{Expression}
 use Rattle.pg_syntax_tree.specs.declared.expression.Suffix.{Suffix}
 use Rattle.pg_syntax_tree.specs.declared.expression.Suffix.TheVariants as suffix
 use Rattle.pg_syntax_tree.specs.declared.expression.Test.{Test}
 use Rattle.pg_syntax_tree.specs.declared.expression.Test.TheVariants as test
 use Rattle.pg_scope.proofs.FirstLemmas.{in_turn, walk_item, no_more}
-use Rattle.pg_scope.proofs.Views.{map_is, call_is, chain_is, tests_is, suffixes_is, case_is}
+use Rattle.pg_syntax_tree.proofs.Views.{map_is, call_is, chain_is, tests_is, suffixes_is, case_is}
 use Rattle.pg_scope.proofs.expressions.+expressions.Goals as goal
 
 abbrev faults_in_test : Names → Test Expression → List Found

@@ -2,8 +2,7 @@ use Rattle.std.proofs.Common.{◌≡◌, drop, map}
 use Rattle.pg_meaning.specs.Parse.{expressions_of, operands_of, pairs_of, whens_of}
 use Rattle.pg_meaning.specs.StaticFaults.{least, all_faults, pair_faults, when_faults, operand_faults, test_faults, suffix_faults}
 use Rattle.pg_scope.specs.Names.{names_in}
-use Rattle.pg_scope.specs.Roles.{suffix_view, test_view, operand_view, when_view}
-use Rattle.pg_syntax_tree.specs.View.{expression_view, pair_view, suffixes_of, tests_of}
+use Rattle.pg_syntax_tree.specs.View.{expression_view, pair_view, suffixes_of, tests_of, when_view, operand_view, test_view, suffix_view}
 use Rattle.pg_scope.proofs.expressions.+expressions.Given as goal
 
 abbrev pub invariant-fault_in_all-loop-item : goal.invariant-fault_in_all-loop-item

@@ -1,5 +1,5 @@
 use Rattle.std.proofs.Common.{arith}
-use Rattle.pg_scope.proofs.Views.{case_is, suffixes_is}
+use Rattle.pg_syntax_tree.proofs.Views.{case_is, suffixes_is}
 use Rattle.pg_scope.proofs.trees.+trees.Goals as goal
 
 pub same_expression-returns-then-same_whens : goal.same_expression-returns-then-same_whens

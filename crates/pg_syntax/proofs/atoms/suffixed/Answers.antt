@@ -1,6 +1,7 @@
 use Rattle.std.proofs.Common.{◌<◌, length, arith}
 use Rattle.std.proofs.lemmas.Bool.Decides.{nat_tests}
-use Rattle.pg_syntax.proofs.Views.{suffixes_is, suffixed_more, labelled_more}
+use Rattle.pg_syntax.proofs.Views.{suffixed_more, labelled_more}
+use Rattle.pg_syntax_tree.proofs.Views.{suffixes_is}
 use Rattle.pg_syntax.proofs.atoms.suffixed.Goals.{else-is_empty-via-then-is_empty+else-is_empty-2, else-is_empty-via-else-is_empty}
 use Rattle.pg_syntax.proofs.atoms.suffixed.Goals as goal
 

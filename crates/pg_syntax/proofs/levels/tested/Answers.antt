@@ -1,6 +1,7 @@
 use Rattle.std.proofs.Common.{◌<◌, length, arith}
 use Rattle.std.proofs.lemmas.Bool.Decides.{nat_tests}
-use Rattle.pg_syntax.proofs.Views.{tests_is, tested_more}
+use Rattle.pg_syntax.proofs.Views.{tested_more}
+use Rattle.pg_syntax_tree.proofs.Views.{tests_is}
 use Rattle.pg_syntax.proofs.levels.tested.Goals as goal
 
 pub returns : goal.returns

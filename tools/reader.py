@@ -1,0 +1,889 @@
+"""Reads the text of a query by the rules of openCypher 9 and of docs/, apart from graphd's own reader.
+
+`answer` gives the number of the first refusal that the text meets before any of it runs, or READS.
+"""
+import sys
+from typing import NamedTuple
+
+# each of at most 64 levels of nesting takes a score of calls
+sys.setrecursionlimit(5_000)
+
+TEXT_TOO_LONG, BAD_LEXEME, BAD_SYNTAX, TOO_DEEP = 5, 6, 7, 8
+READ_ONLY, MISSING_PARAMETER = 4, 15
+UNDEFINED, ALREADY_BOUND, BAD_AGGREGATE = 9, 10, 11
+BAD_PATTERN, UNKNOWN_FUNCTION, DUPLICATE_COLUMN = 12, 13, 14
+READS = "reads"
+
+LONGEST_TEXT = 65_536
+GREATEST_INTEGER = 9_223_372_036_854_775_807
+DEEPEST = 64
+GREATEST_BOUND = 16
+
+KEYWORDS = set(
+    "AND AS ASC ASCENDING BY CASE CONTAINS CREATE DELETE DESC DESCENDING DETACH DISTINCT ELSE END ENDS"
+    " FALSE IN IS LIMIT MATCH MERGE NOT NULL ON OPTIONAL OR ORDER REMOVE RETURN SET SKIP STARTS THEN"
+    " TRUE UNWIND WHEN WHERE WITH XOR".split()
+)
+SYMBOLS = ["..", "<>", "<=", ">=", "+=", *"()[]{},.:;+-*/%=<>|"]
+ESCAPES = {"\\": "\\", "'": "'", '"': '"', "b": "\b", "f": "\f", "n": "\n", "r": "\r", "t": "\t"}
+SPACES = set("\t\n\v\f\r \x85\xa0\u1680\u2028\u2029\u202f\u205f\u3000") | {chr(i) for i in range(0x2000, 0x200B)}
+DIGITS = set("0123456789")
+HEXADECIMAL = set("0123456789abcdefABCDEF")
+
+AGGREGATES = {"count", "sum", "min", "max", "collect"}
+OF_ONE = (
+    "id labels type keys properties size length nodes relationships head last tostring tointeger abs"
+    " startnode endnode".split()
+)
+# the least and the greatest number of arguments
+ARGUMENTS = {name: (1, 1) for name in OF_ONE} | {"coalesce": (1, None), "range": (2, 3)}
+
+
+class Refused(Exception):
+    """A text that isn't read: its argument is the refusal's number."""
+
+
+# Lexemes
+
+
+class Token(NamedTuple):
+    kind: str
+    value: object
+    place: int
+    end: int
+
+
+def folded(word):
+    """The word with its ASCII letters made small, and no others."""
+    return "".join(letter.lower() if letter.isascii() else letter for letter in word)
+
+
+def begins_word(letter):
+    return letter.isidentifier()
+
+
+def goes_on_word(letter):
+    return ("a" + letter).isidentifier()
+
+
+def past(text, place, belongs):
+    """The first place from this one on whose character doesn't belong."""
+    while place < len(text) and belongs(text[place]):
+        place += 1
+    return place
+
+
+def past_comment(text, place):
+    """The place after the comment that begins here, or this place if none does."""
+    if text.startswith("//", place):
+        return past(text, place, lambda letter: letter not in "\n\r")
+    if text.startswith("/*", place):
+        end = text.find("*/", place + 2)
+        if end < 0:
+            raise Refused(BAD_LEXEME)
+        return end + 2
+    return place
+
+
+def past_space(text, place):
+    before = None
+    while before != place:
+        before = place
+        place = past_comment(text, past(text, place, SPACES.__contains__))
+    return place
+
+
+def quoted_name(text, place):
+    """The name that the backquotes at this place stand round, and the place after it."""
+    name = ""
+    at = place + 1
+    while at < len(text):
+        if text[at] != "`":
+            name += text[at]
+            at += 1
+        elif text.startswith("``", at):
+            name += "`"
+            at += 2
+        elif name:
+            return name, at + 1
+        else:
+            break
+    raise Refused(BAD_LEXEME)
+
+
+def escaped(text, place):
+    """The character that an escape stands for, and the place after it."""
+    letter = text[place + 1 : place + 2]
+    if letter in ESCAPES:
+        return ESCAPES[letter], place + 2
+    number = text[place + 2 : place + 6]
+    if letter != "u" or len(number) < 4 or not HEXADECIMAL.issuperset(number):
+        raise Refused(BAD_LEXEME)
+    if 0xD800 <= int(number, 16) <= 0xDFFF:
+        raise Refused(BAD_LEXEME)
+    return chr(int(number, 16)), place + 6
+
+
+def string(text, place):
+    mark = text[place]
+    told = ""
+    at = place + 1
+    while at < len(text):
+        if text[at] == mark:
+            return told, at + 1
+        if text[at] == "\\":
+            letter, at = escaped(text, at)
+        else:
+            letter, at = text[at], at + 1
+        told += letter
+    raise Refused(BAD_LEXEME)
+
+
+def integer(text, place):
+    end = past(text, place, DIGITS.__contains__)
+    digits = text[place:end]
+    follows_word = end < len(text) and begins_word(text[end])
+    if digits.startswith("0") and len(digits) > 1 or int(digits) > GREATEST_INTEGER or follows_word:
+        raise Refused(BAD_LEXEME)
+    return int(digits), end
+
+
+def parameter(text, place):
+    if place < len(text) and text[place] == "`":
+        return quoted_name(text, place)
+    if place < len(text) and text[place] in DIGITS:
+        end = past(text, place, DIGITS.__contains__)
+    elif place < len(text) and begins_word(text[place]):
+        end = past(text, place, goes_on_word)
+    else:
+        raise Refused(BAD_LEXEME)
+    return text[place:end], end
+
+
+def word(text, place):
+    end = past(text, place, goes_on_word)
+    upper = folded(text[place:end]).upper() if text[place:end].isascii() else None
+    if upper in KEYWORDS:
+        return Token("keyword", upper, place, end)
+    return Token("word", text[place:end], place, end)
+
+
+def lexeme(text, place):
+    first = text[place]
+    if begins_word(first):
+        return word(text, place)
+    for kind, marks, read in [
+        ("quoted", "`", quoted_name),
+        ("string", "'\"", string),
+        ("integer", DIGITS, integer),
+    ]:
+        if first in marks:
+            value, end = read(text, place)
+            return Token(kind, value, place, end)
+    if first == "$":
+        value, end = parameter(text, place + 1)
+        return Token("parameter", value, place, end)
+    for symbol in SYMBOLS:
+        if text.startswith(symbol, place):
+            return Token("symbol", symbol, place, place + len(symbol))
+    raise Refused(BAD_LEXEME)
+
+
+def lexemes(text):
+    found = []
+    place = past_space(text, 0)
+    while place < len(text):
+        found.append(lexeme(text, place))
+        place = past_space(text, found[-1].end)
+    return found
+
+
+# Nesting, told from the tokens alone
+
+
+def opens(before, token, after):
+    if token == ("keyword", "CASE"):
+        return before != ("symbol", ".") and after != ("symbol", ":")
+    return token[0] == "symbol" and token[1] in ("(", "[", "{")
+
+
+def closes(before, token):
+    if token == ("keyword", "END"):
+        return before not in [("symbol", mark) for mark in (".", ":", ",", "{", "|")]
+    return token[0] == "symbol" and token[1] in (")", "]", "}")
+
+
+def is_too_deep(tokens):
+    marks = [(token.kind, token.value) for token in tokens]
+    depth, signs = 0, 0
+    for before, mark, after in zip([None, *marks], marks, [*marks[1:], None]):
+        depth += opens(before, mark, after) - closes(before, mark)
+        is_sign = mark in (("symbol", "+"), ("symbol", "-"), ("keyword", "NOT"))
+        signs = signs + 1 if is_sign else 0
+        if depth > DEEPEST or signs > DEEPEST:
+            return True
+    return False
+
+
+# Grammar
+
+
+class Expr(NamedTuple):
+    kind: str
+    place: int
+    value: object = None
+    parts: tuple = ()
+
+    def tree(self):
+        """The expression without its places, so that equal ones compare so."""
+        return self.kind, self.value, tuple(part.tree() for part in self.parts)
+
+
+class Variable(NamedTuple):
+    name: str
+    place: int
+
+
+class Node(NamedTuple):
+    place: int
+    variable: Variable | None
+    labels: list
+    properties: object
+
+
+class Rel(NamedTuple):
+    place: int
+    variable: Variable | None
+    types: list
+    # the lower and the upper bound, where a range is written
+    range: tuple | None
+    properties: object
+    heads: int
+
+
+class Properties(NamedTuple):
+    """Keys with their values, or a parameter, which has neither."""
+
+    is_parameter: bool
+    keys: list
+    values: list
+
+
+class Path(NamedTuple):
+    variable: Variable | None
+    elements: list
+
+
+class Item(NamedTuple):
+    place: int
+    column: str
+    expr: Expr
+
+
+class Clause(NamedTuple):
+    kind: str
+    parts: dict
+
+    def __getattr__(self, name):
+        return self.parts[name]
+
+
+class Reader:
+    """Reads tokens by the grammar, each method a line of it."""
+
+    def __init__(self, text, tokens):
+        self.text = text
+        self.tokens = [*tokens, Token("end", None, len(text), len(text))]
+        self.marks = [token.value if token.kind in ("symbol", "keyword") else None for token in self.tokens]
+        self.at = 0
+
+    def now(self):
+        return self.tokens[self.at]
+
+    def sees(self, *marks):
+        """Whether the next tokens are these symbols and keywords."""
+        return self.marks[self.at : self.at + len(marks)] == list(marks)
+
+    def takes(self, *values):
+        if not self.sees(*values):
+            return False
+        self.at += len(values)
+        return True
+
+    def needs(self, *values):
+        if not self.takes(*values):
+            raise Refused(BAD_SYNTAX)
+
+    def one_of(self, marks):
+        """The next token where it is one of these symbols and keywords, which is then taken."""
+        mark = self.marks[self.at]
+        if mark not in marks:
+            return None
+        self.at += 1
+        return mark
+
+    def take(self, *kinds):
+        if self.now().kind not in kinds:
+            raise Refused(BAD_SYNTAX)
+        self.at += 1
+        return self.tokens[self.at - 1]
+
+    def listed(self, read):
+        found = [read()]
+        while self.takes(","):
+            found.append(read())
+        return found
+
+    def sees_variable(self):
+        return self.now().kind in ("word", "quoted")
+
+    def variable(self):
+        token = self.take("word", "quoted")
+        return Variable(token.value, token.place)
+
+    def name(self):
+        """The token of a name, and the name: keywords are names as they are written."""
+        token = self.take("word", "quoted", "keyword")
+        told = self.text[token.place : token.end] if token.kind == "keyword" else token.value
+        return Variable(told, token.place)
+
+    # clauses
+
+    def query(self):
+        clauses = []
+        is_over = False
+        while not is_over:
+            clauses += self.clauses_of(self.reading)
+            updates = self.clauses_of(self.updating)
+            clauses += updates
+            if self.takes("WITH"):
+                clauses.append(self.projection("WITH"))
+            elif self.takes("RETURN"):
+                clauses.append(self.projection("RETURN"))
+                is_over = True
+            elif updates:
+                is_over = True
+            else:
+                raise Refused(BAD_SYNTAX)
+        self.takes(";")
+        self.take("end")
+        return clauses
+
+    def clauses_of(self, read):
+        found = []
+        clause = read()
+        while clause:
+            found.append(clause)
+            clause = read()
+        return found
+
+    def reading(self):
+        if self.takes("MATCH") or self.takes("OPTIONAL", "MATCH"):
+            paths = self.listed(self.path)
+            return Clause("MATCH", {"paths": paths, "where": self.after("WHERE")})
+        if self.takes("UNWIND"):
+            expr = self.expression()
+            self.needs("AS")
+            return Clause("UNWIND", {"expr": expr, "variable": self.variable()})
+        return None
+
+    def after(self, *words):
+        """The expression behind these words, where they stand here."""
+        return self.expression() if self.takes(*words) else None
+
+    def updating(self):
+        if self.takes("CREATE"):
+            return Clause("CREATE", {"paths": self.listed(self.path)})
+        if self.takes("MERGE"):
+            return Clause("MERGE", {"paths": [self.path()], "items": self.merge_items()})
+        if self.takes("SET"):
+            return Clause("SET", {"items": self.listed(self.set_item)})
+        if self.takes("REMOVE"):
+            return Clause("REMOVE", {"items": self.listed(self.remove_item)})
+        if self.takes("DELETE") or self.takes("DETACH", "DELETE"):
+            return Clause("DELETE", {"exprs": self.listed(self.expression)})
+        return None
+
+    def merge_items(self):
+        items = []
+        while self.takes("ON"):
+            if not self.one_of(["CREATE", "MATCH"]):
+                raise Refused(BAD_SYNTAX)
+            self.needs("SET")
+            items += self.listed(self.set_item)
+        return items
+
+    def set_item(self):
+        """The target, and the expression unless labels are set."""
+        target = self.variable()
+        if self.sees(":"):
+            self.labels()
+            return target, None
+        if self.takes("."):
+            self.name()
+            self.needs("=")
+        elif not self.one_of(["=", "+="]):
+            raise Refused(BAD_SYNTAX)
+        return target, self.expression()
+
+    def remove_item(self):
+        target = self.variable()
+        if self.takes("."):
+            self.name()
+        elif not self.labels():
+            raise Refused(BAD_SYNTAX)
+        return target, None
+
+    def projection(self, kind):
+        is_distinct = self.takes("DISTINCT")
+        star = self.now().place if self.sees("*") else None
+        read = self.with_item if kind == "WITH" else self.return_item
+        if star is None:
+            items = self.listed(read)
+        else:
+            self.needs("*")
+            items = self.listed(read) if self.takes(",") else []
+        sorts = self.listed(self.sort) if self.takes("ORDER", "BY") else []
+        limits = [self.after("SKIP"), self.after("LIMIT")]
+        where = self.after("WHERE") if kind == "WITH" else None
+        return Clause(
+            kind,
+            {
+                "is_distinct": is_distinct,
+                "star": star,
+                "items": items,
+                "sorts": sorts,
+                "limits": [limit for limit in limits if limit],
+                "where": where,
+            },
+        )
+
+    def with_item(self):
+        expr = self.expression()
+        if self.takes("AS"):
+            return Item(expr.place, self.variable().name, expr)
+        if expr.kind != "variable":
+            raise Refused(BAD_SYNTAX)
+        return Item(expr.place, expr.value, expr)
+
+    def return_item(self):
+        place = self.now().place
+        expr = self.expression()
+        column = self.text[place : self.tokens[self.at - 1].end]
+        if self.takes("AS"):
+            column = self.variable().name
+        return Item(place, column, expr)
+
+    def sort(self):
+        expr = self.expression()
+        self.one_of(["ASC", "ASCENDING", "DESC", "DESCENDING"])
+        return expr
+
+    # patterns
+
+    def path(self):
+        variable = None
+        if self.sees_variable():
+            variable = self.variable()
+            self.needs("=")
+        elements = [self.node()]
+        while self.sees("<") or self.sees("-"):
+            elements.append(self.relationship())
+            elements.append(self.node())
+        return Path(variable, elements)
+
+    def node(self):
+        place = self.now().place
+        self.needs("(")
+        variable = self.variable() if self.sees_variable() else None
+        node = Node(place, variable, self.labels(), self.properties())
+        self.needs(")")
+        return node
+
+    def relationship(self):
+        place = self.now().place
+        heads = int(self.takes("<"))
+        self.needs("-")
+        inside = None, [], None, None
+        if self.takes("["):
+            variable = self.variable() if self.sees_variable() else None
+            inside = variable, self.types(), self.range(), self.properties()
+            self.needs("]")
+        self.needs("-")
+        heads += self.takes(">")
+        return Rel(place, *inside, heads)
+
+    def types(self):
+        found = []
+        if self.takes(":"):
+            found.append(self.name())
+            while self.takes("|"):
+                self.takes(":")
+                found.append(self.name())
+        return found
+
+    def range(self):
+        if not self.takes("*"):
+            return None
+        lower = self.bound()
+        if not self.takes(".."):
+            return lower, lower
+        return lower, self.bound()
+
+    def bound(self):
+        return self.take("integer").value if self.now().kind == "integer" else None
+
+    def properties(self):
+        if self.now().kind == "parameter":
+            self.at += 1
+            return Properties(True, [], [])
+        if self.sees("{"):
+            return Properties(False, *self.entries())
+        return None
+
+    def labels(self):
+        found = []
+        while self.takes(":"):
+            found.append(self.name())
+        return found
+
+    def entries(self):
+        """The keys and values of a map."""
+        keys, values = [], []
+        self.needs("{")
+        while not keys and not self.sees("}") or keys and self.takes(","):
+            keys.append(self.name())
+            self.needs(":")
+            values.append(self.expression())
+        self.needs("}")
+        return keys, values
+
+    # expressions, the loosest operators first
+
+    def expression(self):
+        return self.chain(["OR"], self.exclusive)
+
+    def exclusive(self):
+        return self.chain(["XOR"], self.conjunction)
+
+    def conjunction(self):
+        return self.chain(["AND"], self.negation)
+
+    def chain(self, operators, read):
+        left = read()
+        operator = self.one_of(operators)
+        while operator:
+            left = Expr("operation", left.place, operator, (left, read()))
+            operator = self.one_of(operators)
+        return left
+
+    def prefixed(self, operators, read):
+        before = []
+        token = self.now()
+        while self.one_of(operators):
+            before.append(token)
+            token = self.now()
+        expr = read()
+        for token in reversed(before):
+            expr = Expr("prefix", token.place, token.value, (expr,))
+        return expr
+
+    def negation(self):
+        return self.prefixed(["NOT"], self.comparison)
+
+    def comparison(self):
+        operands, operators = [self.tested()], []
+        operator = self.one_of(["=", "<>", "<", "<=", ">", ">="])
+        while operator:
+            operators.append(operator)
+            operands.append(self.tested())
+            operator = self.one_of(["=", "<>", "<", "<=", ">", ">="])
+        if not operators:
+            return operands[0]
+        return Expr("comparison", operands[0].place, tuple(operators), tuple(operands))
+
+    def tested(self):
+        expr = self.sum()
+        test = self.test()
+        while test:
+            kind, *operand = test
+            expr = Expr("test", expr.place, kind, (expr, *operand))
+            test = self.test()
+        return expr
+
+    def test(self):
+        for words in [("STARTS", "WITH"), ("ENDS", "WITH"), ("CONTAINS",), ("IN",)]:
+            if self.takes(*words):
+                return words, self.sum()
+        for words in [("IS", "NULL"), ("IS", "NOT", "NULL")]:
+            if self.takes(*words):
+                return (words,)
+        return None
+
+    def sum(self):
+        return self.chain(["+", "-"], self.product)
+
+    def product(self):
+        return self.chain(["*", "/", "%"], self.signed)
+
+    def signed(self):
+        return self.prefixed(["+", "-"], self.looked_up)
+
+    def looked_up(self):
+        expr = self.atom()
+        while self.sees(".") or self.sees("["):
+            if self.takes("."):
+                expr = Expr("property", expr.place, self.name().name, (expr,))
+            else:
+                self.needs("[")
+                expr = Expr("index", expr.place, None, (expr, self.expression()))
+                self.needs("]")
+        labels = tuple(label.name for label in self.labels())
+        return Expr("labels", expr.place, labels, (expr,)) if labels else expr
+
+    def atom(self):
+        token = self.now()
+        if token.kind == "word" and self.tokens[self.at + 1][:2] == ("symbol", "("):
+            return self.call()
+        if token.kind in ("word", "quoted"):
+            self.at += 1
+            return Expr("variable", token.place, token.value)
+        if token.kind in ("integer", "string", "parameter"):
+            self.at += 1
+            return Expr(token.kind, token.place, token.value)
+        constant = self.one_of(["TRUE", "FALSE", "NULL"])
+        if constant:
+            return Expr("constant", token.place, constant)
+        if self.sees("{"):
+            keys, values = self.entries()
+            return Expr("map", token.place, tuple(key.name for key in keys), tuple(values))
+        if self.takes("["):
+            items = [] if self.sees("]") else self.listed(self.expression)
+            self.needs("]")
+            return Expr("list", token.place, None, tuple(items))
+        if self.takes("("):
+            inner = self.expression()
+            self.needs(")")
+            return Expr("parentheses", token.place, None, (inner,))
+        return self.case()
+
+    def call(self):
+        token = self.take("word")
+        self.needs("(")
+        is_star = self.takes("*")
+        is_distinct = not is_star and self.takes("DISTINCT")
+        arguments = []
+        if not is_star and (is_distinct or not self.sees(")")):
+            arguments = self.listed(self.expression)
+        self.needs(")")
+        return Expr("call", token.place, (folded(token.value), is_star, is_distinct), tuple(arguments))
+
+    def case(self):
+        place = self.now().place
+        self.needs("CASE")
+        parts, shape = [], []
+        if not self.sees("WHEN"):
+            shape.append("subject")
+            parts.append(self.expression())
+        self.needs("WHEN")
+        parts.append(self.expression())
+        self.needs("THEN")
+        parts.append(self.expression())
+        while self.takes("WHEN"):
+            parts.append(self.expression())
+            self.needs("THEN")
+            parts.append(self.expression())
+        if self.takes("ELSE"):
+            shape.append("else")
+            parts.append(self.expression())
+        self.needs("END")
+        return Expr("case", place, tuple(shape), tuple(parts))
+
+
+# Scope
+
+
+def fits_call(name, is_star, is_distinct, count):
+    if is_star:
+        return name == "count"
+    if name in AGGREGATES:
+        return count == 1
+    least, greatest = ARGUMENTS.get(name, (1, 0))
+    return not is_distinct and count >= least and (greatest is None or count <= greatest)
+
+
+def is_aggregate(expr):
+    return expr.kind == "call" and expr.value[0] in AGGREGATES
+
+
+class Checker:
+    """Gathers the faults of clauses, each as its place and number."""
+
+    def __init__(self):
+        self.scope = set()
+        self.faults = []
+
+    def fault(self, place, number):
+        self.faults.append((place, number))
+
+    def expression(self, expr, scope, may_aggregate=False):
+        if expr.kind == "variable" and expr.value not in scope:
+            self.fault(expr.place, UNDEFINED)
+        if is_aggregate(expr) and not may_aggregate:
+            self.fault(expr.place, BAD_AGGREGATE)
+        if expr.kind == "call" and not fits_call(*expr.value, len(expr.parts)):
+            self.fault(expr.place, UNKNOWN_FUNCTION)
+        for part in expr.parts:
+            self.expression(part, scope)
+
+    def clause(self, clause):
+        if clause.kind in ("WITH", "RETURN"):
+            self.projection(clause)
+        elif clause.kind == "UNWIND":
+            self.unwind(clause)
+        elif clause.kind == "DELETE":
+            for expr in clause.exprs:
+                self.expression(expr, self.scope)
+        elif clause.kind in ("SET", "REMOVE"):
+            self.set_items(clause.items)
+        else:
+            self.pattern(clause)
+
+    def unwind(self, clause):
+        self.expression(clause.expr, self.scope)
+        if clause.variable.name in self.scope:
+            self.fault(clause.variable.place, ALREADY_BOUND)
+        self.scope = self.scope | {clause.variable.name}
+
+    def set_items(self, items):
+        for target, expr in items:
+            if target.name not in self.scope:
+                self.fault(target.place, UNDEFINED)
+            if expr:
+                self.expression(expr, self.scope)
+
+    # patterns
+
+    def pattern(self, clause):
+        nodes, others = set(), set()
+        for path in clause.paths:
+            if path.variable:
+                self.bind_once(path.variable, nodes, others)
+            for element in path.elements:
+                if isinstance(element, Node):
+                    self.node(element, clause.kind, len(path.elements) == 1, nodes, others)
+                else:
+                    self.relationship(element, clause.kind, nodes, others)
+                self.properties(element, clause.kind)
+        self.scope = self.scope | nodes | others
+        if clause.kind == "MATCH" and clause.where:
+            self.expression(clause.where, self.scope)
+        if clause.kind == "MERGE":
+            self.set_items(clause.items)
+
+    def bind_once(self, variable, nodes, others):
+        """Binds the variable of a relationship or a path."""
+        if variable.name in self.scope | nodes | others:
+            self.fault(variable.place, ALREADY_BOUND)
+        others.add(variable.name)
+
+    def node(self, node, kind, is_whole_path, nodes, others):
+        if not node.variable:
+            return
+        name, place = node.variable
+        is_made_here = is_whole_path or bool(node.labels) or node.properties is not None
+        if name in others:
+            self.fault(place, ALREADY_BOUND)
+        if kind != "MATCH" and is_made_here and name in self.scope | nodes:
+            self.fault(place, ALREADY_BOUND)
+        nodes.add(name)
+
+    def relationship(self, rel, kind, nodes, others):
+        if rel.variable:
+            self.bind_once(rel.variable, nodes, others)
+        if rel.range and (rel.range[1] is None or rel.range[1] > GREATEST_BOUND):
+            self.fault(rel.place, BAD_PATTERN)
+        if kind != "MATCH" and (rel.range or len(rel.types) != 1):
+            self.fault(rel.place, BAD_PATTERN)
+        if kind == "CREATE" and rel.heads != 1:
+            self.fault(rel.place, BAD_PATTERN)
+
+    def properties(self, element, kind):
+        properties = element.properties
+        if properties is None:
+            return
+        if properties.is_parameter and kind != "CREATE":
+            self.fault(element.place, BAD_PATTERN)
+        seen = set()
+        for key in properties.keys:
+            if key.name in seen:
+                self.fault(key.place, BAD_PATTERN)
+            seen.add(key.name)
+        for value in properties.values:
+            self.expression(value, self.scope)
+
+    # projections
+
+    def projection(self, clause):
+        columns = self.columns(clause)
+        narrows = clause.is_distinct or any(is_aggregate(item.expr) for item in clause.items)
+        seen = columns if narrows else columns | self.scope
+        trees = [item.expr.tree() for item in clause.items]
+        for sort in clause.sorts:
+            if sort.tree() not in trees:
+                self.expression(sort, seen)
+        for limit in clause.limits:
+            self.expression(limit, set())
+        if clause.where:
+            self.expression(clause.where, seen)
+        self.scope = columns
+
+    def columns(self, clause):
+        columns = set()
+        if clause.star is not None:
+            columns |= self.scope
+            if clause.kind == "RETURN" and not self.scope:
+                self.fault(clause.star, UNDEFINED)
+        for item in clause.items:
+            self.expression(item.expr, self.scope, may_aggregate=True)
+            if item.column in columns:
+                self.fault(item.place, DUPLICATE_COLUMN)
+            columns.add(item.column)
+        return columns
+
+
+def static_faults(clauses):
+    checker = Checker()
+    for clause in clauses:
+        checker.clause(clause)
+    return checker.faults
+
+
+def updates(clauses):
+    return any(clause.kind in ("CREATE", "MERGE", "SET", "REMOVE", "DELETE") for clause in clauses)
+
+
+def read(text):
+    """The tokens and clauses of the text."""
+    if len(text.encode()) > LONGEST_TEXT:
+        raise Refused(TEXT_TOO_LONG)
+    tokens = lexemes(text)
+    if is_too_deep(tokens):
+        raise Refused(TOO_DEEP)
+    return tokens, Reader(text, tokens).query()
+
+
+def answer(text, may_write):
+    """What a text without parameters in its request is answered, from a token that may write or not."""
+    try:
+        tokens, clauses = read(text)
+    except Refused as refused:
+        return refused.args[0]
+    faults = static_faults(clauses)
+    if faults:
+        return min(faults)[1]
+    if updates(clauses) and not may_write:
+        return READ_ONLY
+    if any(token.kind == "parameter" for token in tokens):
+        return MISSING_PARAMETER
+    return READS

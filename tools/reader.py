@@ -28,6 +28,8 @@ SYMBOLS = ["..", "<>", "<=", ">=", "+=", *"()[]{},.:;+-*/%=<>|"]
 ESCAPES = {"\\": "\\", "'": "'", '"': '"', "b": "\b", "f": "\f", "n": "\n", "r": "\r", "t": "\t"}
 SPACES = set("\t\n\v\f\r \x85\xa0\u1680\u2028\u2029\u202f\u205f\u3000") | {chr(i) for i in range(0x2000, 0x200B)}
 DIGITS = set("0123456789")
+# belong to words since Unicode 15.1, which Python's tables may be older than
+JOINERS = set("\u200c\u200d\u30fb\uff65")
 HEXADECIMAL = set("0123456789abcdefABCDEF")
 
 AGGREGATES = {"count", "sum", "min", "max", "collect"}
@@ -63,7 +65,7 @@ def begins_word(letter):
 
 
 def goes_on_word(letter):
-    return ("a" + letter).isidentifier()
+    return letter in JOINERS or ("a" + letter).isidentifier()
 
 
 def past(text, place, belongs):

@@ -1,6 +1,8 @@
 -- How the one answer and the meaning agree: what is said of a clause, and of a whole query.
-use Rattle.std.specs.Prelude.{◌≡◌, ℕ, ◌⊎◌, List, [], Result, Ok, Err, is_some}
+use Rattle.std.specs.Prelude.{◌≡◌, ℕ, true, ◌⊎◌, List, [], Result, Ok, Err, is_some}
 use Rattle.std.specs.List.{AllByRecursion}
+use Rattle.pg_meaning.specs.Entries.{at_key}
+use Rattle.pg_meaning.specs.Grammar.{clause_parameters, parameters_of}
 use Rattle.pg_meaning.specs.Graph.{Graph, IsGraph}
 use Rattle.pg_meaning.specs.Meaning.{given_of, Step, StepFaults, Means, MayFault}
 use Rattle.pg_meaning.specs.Meters.{Setting, State}
@@ -28,10 +30,14 @@ abbrev pub AnswerAgrees : Setting → Clause → State → Result State Fault �
 AnswerAgrees s c state (Ok next) = Step (given s) c state.graph state.rows next.graph next.rows × IsGraph next.graph × AreRowsOf (scope_after s.scope c) next.rows
 AnswerAgrees s c state (Err f) = (f ≡ StepQuota) ⊎ StepFaults (given s) c state.graph state.rows f
 
+-- the request gives each of these parameters, which is tested before anything runs
+abbrev pub AreGiven : Names → Entries → Type 0
+AreGiven names parameters = AllByRecursion (λ name. is_some (at_key name parameters) ≡ true) names
+
 -- so it is at every state, for every plan of the clause; each kind of clause joins by a law of this form
 abbrev pub ClauseAgrees : Clause → Type 0
 ClauseAgrees c =
-    (s : Setting) (state : State) → clause_faults s.scope c ≡ [] → ArePlanned s.scope c s.anchors → IsGraph state.graph → AreRowsOf s.scope state.rows
+    (s : Setting) (state : State) → clause_faults s.scope c ≡ [] → AreGiven (clause_parameters c) s.parameters → ArePlanned s.scope c s.anchors → IsGraph state.graph → AreRowsOf s.scope state.rows
     → AnswerAgrees s c state (clause_step s c state)
 
 abbrev pub OutcomeAgrees : Query → (parameters : Entries) → (max_elements : ℕ) → Graph → Result Outcome Fault → Type 0
@@ -41,7 +47,7 @@ OutcomeAgrees q parameters max_elements graph (Err f) = (f ≡ StepQuota) ⊎ Ma
 -- for every plan of the query
 abbrev pub QueryAgrees : Query → Type 0
 QueryAgrees q =
-    (plan : Plan) (parameters : Entries) (graph : Graph) (max_steps max_elements : ℕ) → static_faults q ≡ [] → IsPlanOf plan q → IsGraph graph
+    (plan : Plan) (parameters : Entries) (graph : Graph) (max_steps max_elements : ℕ) → static_faults q ≡ [] → AreGiven (parameters_of q) parameters → IsPlanOf plan q → IsGraph graph
     → OutcomeAgrees q parameters max_elements graph (ordered plan q parameters graph max_steps max_elements)
 
 -- a query agrees whose clauses do

@@ -1,10 +1,13 @@
 -- A query agrees with its meaning where its clauses do: the chain of answers is a chain of steps.
-use Rattle.std.proofs.Common.{◌≡◌, ℕ, Bool, true, false, ◌⊎◌, inl, inr, List, [], ◌∷◌, ◌++◌, flat_map, Result, Ok, Err, refl, subst}
+use Rattle.std.proofs.Common.{◌≡◌, ℕ, is_some, Bool, true, false, ◌⊎◌, inl, inr, List, [], ◌∷◌, ◌++◌, map, flat_map, Result, Ok, Err, refl, subst}
 use Rattle.std.specs.List.{AllByRecursion}
-use Rattle.pg_meaning.specs.Agreement.{AreRowsOf, AnswerAgrees, ClauseAgrees, OutcomeAgrees, ClausesMakeQueries}
+use Rattle.pg_meaning.specs.Agreement.{AreGiven, AreRowsOf, AnswerAgrees, ClauseAgrees, OutcomeAgrees, ClausesMakeQueries}
 use Rattle.pg_meaning.specs.Answer.{◌>>=◌, ◌>>◌, unless, each_step}
+use Rattle.pg_meaning.specs.Entries.{at_key}
+use Rattle.pg_meaning.specs.Grammar.{Mark, joined as joined_marks, clause_marks, parameter_name, clause_parameters}
 use Rattle.pg_meaning.specs.Graph.{Graph, IsGraph, has_node, has_relationship}
 use Rattle.pg_meaning.specs.Lists.{IsIn}
+use Rattle.pg_meaning.specs.ListsLaws.{all_joined}
 use Rattle.pg_meaning.specs.Meaning.{Steps, StepsFault, output_of}
 use Rattle.pg_meaning.specs.Meters.{Setting, State, Quota}
 use Rattle.pg_meaning.specs.Names.{Names}
@@ -25,6 +28,27 @@ no_first (x ∷ xs) ys e = cc
 no_second : {X : Type 0} (xs ys : List X) → xs ++ ys ≡ [] → ys ≡ []
 no_second [] ys e = e
 no_second (x ∷ xs) ys e = cc
+
+-- ---- parameters
+
+abbrev pub named_in : List Mark → Names
+named_in ms = flat_map (λ m. parameter_name m.what) ms
+
+all_split : {X : Type 0} (P : X → Type 0) (xs ys : List X) → AllByRecursion P (xs ++ ys) → AllByRecursion P xs × AllByRecursion P ys
+all_split P [] ys h = (tt, h)
+all_split P (x ∷ xs) ys h = let rest = all_split P xs ys h.1 in ((h.0, rest.0), rest.1)
+
+pub given_split : (parameters : Entries) (ms more : List Mark) → AreGiven (named_in (ms ++ more)) parameters → AreGiven (named_in ms) parameters × AreGiven (named_in more) parameters
+given_split parameters [] more h = (tt, h)
+given_split parameters (m ∷ ms) more h =
+    let first = all_split (λ name. is_some (at_key name parameters) ≡ true) (parameter_name m.what) (named_in (ms ++ more)) h in
+    let rest = given_split parameters ms more first.1 in
+    (all_joined (λ name. is_some (at_key name parameters) ≡ true) (parameter_name m.what) (named_in ms) first.0 rest.0, rest.1)
+
+-- a query's parameters are those of its clauses
+given_each : (parameters : Entries) (cs : List Clause) → AreGiven (named_in (joined_marks (map clause_marks cs))) parameters → AllByRecursion (λ c. AreGiven (clause_parameters c) parameters) cs
+given_each parameters [] h = tt
+given_each parameters (c ∷ cs) h = let both = given_split parameters (clause_marks c) (joined_marks (map clause_marks cs)) h in (both.0, given_each parameters cs both.1)
 
 -- ---- clauses
 
@@ -51,15 +75,15 @@ first_then_rest parameters quota q scope c cs anchors plan state (Ok next) h res
     joined (Err f) (inr e) = inr (inr (next.graph, next.rows, h.0, e))
 
 rest_agrees : (parameters : Entries) (quota : Quota) (q : Query) (scope : Names) (cs : List Clause) (plan : Plan) (state : State)
-    → AllByRecursion ClauseAgrees cs → clauses_faults scope cs ≡ [] → IsPlanFrom scope cs plan → IsGraph state.graph → AreRowsOf scope state.rows
+    → AllByRecursion ClauseAgrees cs → clauses_faults scope cs ≡ [] → AllByRecursion (λ c. AreGiven (clause_parameters c) parameters) cs → IsPlanFrom scope cs plan → IsGraph state.graph → AreRowsOf scope state.rows
     → RestAgrees parameters quota q scope cs state (clauses_run parameters quota scope plan cs state)
-rest_agrees parameters quota q scope [] plan state agrees faults planned g rows = ((refl, refl), g)
-rest_agrees parameters quota q scope (c ∷ cs) [] state agrees faults planned g rows = absurd planned
-rest_agrees parameters quota q scope (c ∷ cs) (anchors ∷ plan) state agrees faults planned g rows =
+rest_agrees parameters quota q scope [] plan state agrees faults given planned g rows = ((refl, refl), g)
+rest_agrees parameters quota q scope (c ∷ cs) [] state agrees faults given planned g rows = absurd planned
+rest_agrees parameters quota q scope (c ∷ cs) (anchors ∷ plan) state agrees faults given planned g rows =
     first_then_rest parameters quota q scope c cs anchors plan state
     (clause_step (setting parameters quota scope anchors) c state)
-    (agrees.0 (setting parameters quota scope anchors) state (no_first (clause_faults scope c) _ faults) planned.0 g rows)
-    (λ next h rows_after. rest_agrees parameters quota q (scope_after scope c) cs plan next agrees.1 (no_second (clause_faults scope c) _ faults) planned.1 h rows_after)
+    (agrees.0 (setting parameters quota scope anchors) state (no_first (clause_faults scope c) _ faults) given.0 planned.0 g rows)
+    (λ next h rows_after. rest_agrees parameters quota q (scope_after scope c) cs plan next agrees.1 (no_second (clause_faults scope c) _ faults) given.1 planned.1 h rows_after)
 
 -- ---- output
 
@@ -151,7 +175,7 @@ outcome_agrees q parameters quota graph (Ok last) h =
 
 pub clauses_make_queries : ClausesMakeQueries
 unfolding static_faults
-clauses_make_queries q agrees plan parameters graph max_steps max_elements faults planned g =
+clauses_make_queries q agrees plan parameters graph max_steps max_elements faults given planned g =
     let quota : Quota = record { max_steps = max_steps; max_elements = max_elements } in
     outcome_agrees q parameters quota graph (clauses_run parameters quota [] plan q.clauses (record { graph = graph; rows = [] ∷ []; steps = 0 }))
-    (rest_agrees parameters quota q [] q.clauses plan (record { graph = graph; rows = [] ∷ []; steps = 0 }) agrees faults planned g ((λ name. refl), tt))
+    (rest_agrees parameters quota q [] q.clauses plan (record { graph = graph; rows = [] ∷ []; steps = 0 }) agrees faults (given_each parameters q.clauses (given_split parameters (joined_marks (map clause_marks q.clauses)) _ given).0) planned g ((λ name. refl), tt))

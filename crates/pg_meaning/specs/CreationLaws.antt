@@ -10,7 +10,7 @@ use Rattle.pg_meaning.specs.Answer.{◌>>=◌, ◌>>◌, unless, each_step}
 use Rattle.pg_meaning.specs.AnswerLaws.{by_answer, went_well, same_ok}
 use Rattle.pg_meaning.specs.Entries.{are_rising, set_keys}
 use Rattle.pg_meaning.specs.EntriesLaws.{set_keys_keeps_rising}
-use Rattle.pg_meaning.specs.Graph.{Graph, Node, IsGraph, has_node, element_count, add_node}
+use Rattle.pg_meaning.specs.Graph.{Graph, IsGraph, has_node, element_count, add_node}
 use Rattle.pg_meaning.specs.GraphLaws.{add_node_keeps_graph, add_node_adds}
 use Rattle.pg_meaning.specs.Lists.{AllPairsByRecursion}
 use Rattle.pg_meaning.specs.ListsLaws.{all_joined}
@@ -106,17 +106,17 @@ module _ (s : Setting) (paths : List PathPattern) (each : (state : State) (row :
 
 -- ---- tests
 
-by_unless : {Y : Type 0} (P : Result Y Fault → Type 0) (b : Bool) (f : Fault) (rest : Result Y Fault) → (b ≡ true → P rest) → (b ≡ false → P (Err f)) → P (unless b f >> rest)
+pub by_unless : {Y : Type 0} (P : Result Y Fault → Type 0) (b : Bool) (f : Fault) (rest : Result Y Fault) → (b ≡ true → P rest) → (b ≡ false → P (Err f)) → P (unless b f >> rest)
 by_unless P true f rest p q = p refl
 by_unless P false f rest p q = q refl
 
-below : (a b : ℕ) → nat_lt a b ≡ true → a < b
+pub below : (a b : ℕ) → nat_lt a b ≡ true → a < b
 below a b e = ltb→lt a b (subst T (sym e) tt)
 
-not_below : (a b : ℕ) → nat_lt a b ≡ false → b ≤ a
+pub not_below : (a b : ℕ) → nat_lt a b ≡ false → b ≤ a
 not_below a b e = nltb→le a b (subst (λ c. T (not c)) (sym e) tt)
 
-given_rises : (s : Setting) (graph : Graph) (row : Row) (ps : Properties) (props : Entries) → given_properties s graph row ps ≡ Ok props → IsTrue (are_rising props)
+pub given_rises : (s : Setting) (graph : Graph) (row : Row) (ps : Properties) (props : Entries) → given_properties s graph row ps ≡ Ok props → IsTrue (are_rising props)
 given_rises s graph row ps props e =
     let pairs = went_well (given_pairs s graph row ps) (λ pairs. test_storable pairs >> Ok (set_keys pairs no_entries)) props e in
     subst (λ es. are_rising es ≡ true) (by_test (test_storable pairs.0) pairs.0 pairs.2) (set_keys_keeps_rising pairs.0 no_entries refl)
@@ -125,7 +125,7 @@ given_rises s graph row ps props e =
     by_test (Ok x) pairs h = same_ok (set_keys pairs no_entries) props h
     by_test (Err f) pairs h = cc
 
-put_is_longer : (k : ℕ) (v : Node) (es : List (ℕ × Node)) → length (by_id.put nat_cmp k v es) ≤ length es + 1
+pub put_is_longer : {X : Type 0} (k : ℕ) (v : X) (es : List (ℕ × X)) → length (by_id.put nat_cmp k v es) ≤ length es + 1
 put_is_longer k v [] = le_refl 1
 put_is_longer k v (e ∷ es) =
     let rest = put_is_longer k v es in
@@ -153,7 +153,7 @@ past n most new l e = omega arith
 past_room : (n most new : ℕ) → most ≤ n → new ≡ 1 → most < n + new + 0
 past_room n most new l e = omega arith
 
-next_below : (n : ℕ) → n < n + 1
+pub next_below : (n : ℕ) → n < n + 1
 next_below n = omega arith
 
 -- ---- one node
@@ -169,10 +169,10 @@ module _ (s : Setting) (v : Option Name) (n : NodePattern) (state : State) (row 
   Agrees = RowAgrees s (path_of_one ∷ []) state row
 
   abbrev bonded : Making → Result (Graph × Row × Trail) Fault
-  bonded m = make_bonds s row [] m.ids m.graph >>= λ made. let trail : Trail = record { nodes = m.ids; bonds = made.1 } in Ok (made.0, m.bound, trail)
+  bonded m = make_bonds s state.graph row [] m.ids m.graph >>= λ made. let trail : Trail = record { nodes = m.ids; bonds = made.1 } in Ok (made.0, m.bound, trail)
 
   abbrev with_rest : Graph × Row × Trail → Result (Graph × Assignment) Fault
-  with_rest made = make_paths s row (made.0, made.1) [] >>= λ others. Ok (others.0, made.2 ∷ others.1)
+  with_rest made = make_paths s state.graph row (made.0, made.1) [] >>= λ others. Ok (others.0, made.2 ∷ others.1)
 
   abbrev with_row : Graph × Assignment → Result (Graph × Row) Fault
   with_row made = Ok (made.0, bind_match made.0 (path_of_one ∷ []) made.1 row)
@@ -186,7 +186,7 @@ module _ (s : Setting) (v : Option Name) (n : NodePattern) (state : State) (row 
   abbrev node_by : Option Value → Result Making Fault
   node_by o = elim o [
     | Some u ↦ elim u [ node id ↦ Ok (record { graph = state.graph; bound = row; ids = [] ++ id ∷ [] }) | _ ↦ Err TypeFault ]
-    | None ↦ make_new_node s row n unmade
+    | None ↦ make_new_node s state.graph row n unmade
   ]
 
   abbrev row_by : Option Value → Result State Fault
@@ -337,7 +337,7 @@ abbrev pub CreateNodeAgrees : Type 0
 CreateNodeAgrees = (variable : Option Name) (n : NodePattern) → ClauseAgrees (create (record { variable = variable; first = n; hops = [] } ∷ []))
 
 pub create_node_agrees : CreateNodeAgrees
-create_node_agrees variable n s state faults planned g h =
+create_node_agrees variable n s state faults given_here planned g h =
     rows_make_create s (record { variable = variable; first = n; hops = [] } ∷ []) (λ state row. row_agrees s variable n state row) state g h
 
 -- and so do queries of one such CREATE alone

@@ -1,8 +1,8 @@
 -- Worked examples of CREATE, MERGE, SET, REMOVE and DELETE.
 use Rattle.std.specs.Prelude.{true, false, [], ◌∷◌, Some, None, codes, pos, ◌≡◌}
 use Rattle.pg_meaning.specs.ExampleTrees.{named, var, number, string, dot, node_place, detail, hop, path_of, column, project, query_of, ask, told, told_within, answered, refused}
-use Rattle.pg_meaning.specs.Tree.{literal, list_literal, map_literal, call, chain, no_expressions, expression, no_pairs, pair, no_operands, operand, no_properties, given, from_parameter, set_property, set_all, set_more, set_labels, remove_property, remove_labels, match_paths, unwind, create, merge, set_items, remove_items, delete, with_rows, return_rows, Query}
-use Rattle.pg_meaning.specs.Value.{null, integer, text, list, mapping, no_entries, entry, values_of}
+use Rattle.pg_meaning.specs.Tree.{literal, parameter, list_literal, map_literal, call, chain, no_expressions, expression, no_pairs, pair, no_operands, operand, no_properties, given, from_parameter, set_property, set_all, set_more, set_labels, remove_property, remove_labels, match_paths, unwind, create, merge, set_items, remove_items, delete, with_rows, return_rows, Query}
+use Rattle.pg_meaning.specs.Value.{null, integer, text, list, mapping, node, no_entries, entry, values_of}
 use Rattle.pg_meaning.specs.declared.fault.Fault.TheVariants.{TypeFault, DivisionByZero, NotStorable, MergeNull, NodeStillConnected, DeletedEntity, StepQuota, ElementQuota}
 use Rattle.pg_meaning.specs.declared.operators.Operator.TheVariants.{Divide}
 
@@ -314,5 +314,19 @@ Example_22 =
     told (ask [] 1000 query_8 no_entries ∷ ask [] 1000 query_44 no_entries ∷ [])
     ≡ (answered [] [] 20 ∷ answered ((codes "id(m)") ∷ []) (((integer (pos 10)) ∷ []) ∷ []) 42 ∷ [])
 
+-- CREATE (a), (b {x: $p.name})
+abbrev pub query_45 : Query
+query_45 = query_of (create ((path_of None (node_place (Some (named "a")) [] no_properties) []) ∷ (path_of None (node_place (Some (named "b")) [] (given (pair (named "x") (dot (parameter (named "p")) "name") no_pairs))) []) ∷ []) ∷ [])
+
+-- CREATE (a)-[:K {x: $p.name}]->(b)
+abbrev pub query_46 : Query
+query_46 = query_of (create ((path_of None (node_place (Some (named "a")) [] no_properties) (((hop false (detail None ((true, (named "K")) ∷ []) None (given (pair (named "x") (dot (parameter (named "p")) "name") no_pairs))) true), (node_place (Some (named "b")) [] no_properties)) ∷ [])) ∷ []) ∷ [])
+
+-- an expression reads the graph that the row found, where what the row makes isn't yet
+abbrev pub Example_23 : Type 0
+Example_23 =
+    told (ask [] 1000 query_45 (entry (codes "p") (node 0) no_entries) ∷ ask [] 1000 query_46 (entry (codes "p") (node 0) no_entries) ∷ [])
+    ≡ (refused DeletedEntity ∷ refused DeletedEntity ∷ [])
+
 abbrev pub ExamplesOfUpdates : Type 0
-ExamplesOfUpdates = Example_1 × Example_2 × Example_3 × Example_4 × Example_5 × Example_6 × Example_7 × Example_8 × Example_9 × Example_10 × Example_11 × Example_12 × Example_13 × Example_14 × Example_15 × Example_16 × Example_17 × Example_18 × Example_19 × Example_20 × Example_21 × Example_22
+ExamplesOfUpdates = Example_1 × Example_2 × Example_3 × Example_4 × Example_5 × Example_6 × Example_7 × Example_8 × Example_9 × Example_10 × Example_11 × Example_12 × Example_13 × Example_14 × Example_15 × Example_16 × Example_17 × Example_18 × Example_19 × Example_20 × Example_21 × Example_22 × Example_23

@@ -39,7 +39,7 @@ module _ {X : Type 0} where
   found_other q k v es h = by_id.find-put nat_cmp nat_cmp_total q k v es ∙ ap (λ b. cond b (Some v) (by_id.find nat_cmp q es)) (apart q k h)
 
   -- who is there stays, when another is put
-  still_there : (q k : ℕ) (v : X) (es : List (ℕ × X)) → is_some (by_id.find nat_cmp q es) ≡ true → is_some (by_id.find nat_cmp q (by_id.put nat_cmp k v es)) ≡ true
+  pub still_there : (q k : ℕ) (v : X) (es : List (ℕ × X)) → is_some (by_id.find nat_cmp q es) ≡ true → is_some (by_id.find nat_cmp q (by_id.put nat_cmp k v es)) ≡ true
   still_there q k v es h =
       ap is_some (by_id.find-put nat_cmp nat_cmp_total q k v es)
       ∙ elim (eq_by_cmp nat_cmp q k) as (λ b. is_some (cond b (Some v) (by_id.find nat_cmp q es)) ≡ true) [ true ↦ refl | false ↦ h ]

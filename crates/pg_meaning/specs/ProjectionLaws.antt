@@ -37,10 +37,10 @@ spend_fault s steps more f e = by_test _ e
 -- ---- items
 
 -- a projected row binds the names of its columns
-Binds : List Column → Projected → Type 0
+unfoldable pub Binds : List Column → Projected → Type 0
 Binds columns p = (name : List ℕ) → is_some (value_in name p.columns) ≡ is_among (map (λ (c : Column). c.name) columns) name
 
-columns_bind : (s : Setting) (graph : Graph) (row : Row) (columns : List Column) (vs : Row) → each_answer (column_value s graph row) columns ≡ Ok vs
+pub columns_bind : (s : Setting) (graph : Graph) (row : Row) (columns : List Column) (vs : Row) → each_answer (column_value s graph row) columns ≡ Ok vs
     → (name : List ℕ) → is_some (value_in name vs) ≡ is_among (map (λ (c : Column). c.name) columns) name
 columns_bind s graph row [] vs e name = subst (λ ws. is_some (value_in name ws) ≡ false) (same_ok [] vs e) refl
 columns_bind s graph row (c ∷ cs) vs e name =
@@ -62,7 +62,7 @@ projected_binds s graph distinct columns row p e name =
     let vs = went_well (each_answer (column_value s graph row) columns) (λ vs. Ok (record { columns = vs; earlier = cond distinct [] row })) p e in
     subst (λ (q : Projected). is_some (value_in name q.columns) ≡ is_among (map (λ (c : Column). c.name) columns) name) (same_ok _ p vs.2) (columns_bind s graph row columns vs.0 vs.1 name)
 
-all_bind : (s : Setting) (graph : Graph) (distinct : Bool) (columns : List Column) (rows : List Row) (ps : List Projected) → AllZip (λ row p. projected s graph distinct columns row ≡ Ok p) rows ps → AllByRecursion (Binds columns) ps
+pub all_bind : (s : Setting) (graph : Graph) (distinct : Bool) (columns : List Column) (rows : List Row) (ps : List Projected) → AllZip (λ row p. projected s graph distinct columns row ≡ Ok p) rows ps → AllByRecursion (Binds columns) ps
 all_bind s graph distinct columns [] [] h = tt
 all_bind s graph distinct columns [] (p ∷ ps) h = absurd h
 all_bind s graph distinct columns (row ∷ rows) [] h = absurd h
@@ -89,7 +89,7 @@ items_bind : (s : Setting) (graph : Graph) (distinct : Bool) (columns : List Col
 items_bind s graph distinct columns rows ps true none e = cc
 items_bind s graph distinct columns rows ps false none e = all_bind s graph distinct columns rows ps (answers_zip (projected s graph distinct columns) rows ps e)
 
-none_in : {X : Type 0} (test : X → Bool) (xs : List X) (x : X) → list_any test xs ≡ false → IsIn x xs → test x ≡ false
+pub none_in : {X : Type 0} (test : X → Bool) (xs : List X) (x : X) → list_any test xs ≡ false → IsIn x xs → test x ≡ false
 none_in test [] x h i = absurd i
 none_in test (y ∷ ys) x h (inl e) = ap test e ∙ first_false (test y) _ h
   where
@@ -107,7 +107,7 @@ item_fault : (s : Setting) (graph : Graph) (row : Row) (f : Fault) (c : Column) 
 item_fault s graph row f c None none e = e
 item_fault s graph row f c (Some a) none e = cc
 
-row_fault : (s : Setting) (graph : Graph) (distinct : Bool) (columns : List Column) (row : Row) (f : Fault) → list_any is_aggregate columns ≡ false → projected s graph distinct columns row ≡ Err f → ItemFaults (given s) graph columns row f
+pub row_fault : (s : Setting) (graph : Graph) (distinct : Bool) (columns : List Column) (row : Row) (f : Fault) → list_any is_aggregate columns ≡ false → projected s graph distinct columns row ≡ Err f → ItemFaults (given s) graph columns row f
 row_fault s graph distinct columns row f none e = by_columns (went_wrong (each_answer (column_value s graph row) columns) (λ vs. let p : Projected = record { columns = vs; earlier = cond distinct [] row } in Ok p) f e)
   where
     of_column : (c : Column) → IsIn c columns → column_value s graph row c ≡ Err f → ItemFaults (given s) graph columns row f
@@ -131,11 +131,11 @@ items_fault s graph distinct columns rows f false apart none e =
 
 -- ---- DISTINCT
 
-same_itself : (vs : List Value) → same_values vs vs ≡ true
+pub same_itself : (vs : List Value) → same_values vs vs ≡ true
 same_itself [] = refl
 same_itself (v ∷ vs) = ap (λ b. b && same_values vs vs) ((eq_by_cmp_equiv order_total).refl v) ∙ same_itself vs
 
-same_turned : (vs ws : List Value) → same_values vs ws ≡ same_values ws vs
+pub same_turned : (vs ws : List Value) → same_values vs ws ≡ same_values ws vs
 same_turned [] [] = refl
 same_turned [] (w ∷ ws) = refl
 same_turned (v ∷ vs) [] = refl
@@ -144,7 +144,7 @@ same_turned (v ∷ vs) (w ∷ ws) = λ i. (eq_by_cmp_equiv order_total).symm v w
 abbrev Among : Projected → List (List Value) → Bool
 Among p seen = list_any (same_values (values_in p.columns)) seen
 
-or_false : (a b : Bool) → (a || b) ≡ false → (a ≡ false) × (b ≡ false)
+pub or_false : (a b : Bool) → (a || b) ≡ false → (a ≡ false) × (b ≡ false)
 or_false true b h = cc
 or_false false b h = (refl, h)
 
@@ -197,7 +197,7 @@ firsts_once seen (p ∷ ps) =
       )
     ]
 
-distinct_agrees : (distinct : Bool) (ps : List Projected) → Distinct distinct ps (distinct_rows distinct ps)
+pub distinct_agrees : (distinct : Bool) (ps : List Projected) → Distinct distinct ps (distinct_rows distinct ps)
 unfolding Kept
 distinct_agrees true ps = record {
   from = firsts_from [] ps ps (all_in_themselves ps);
@@ -219,13 +219,13 @@ all_firsts P seen (p ∷ ps) h =
       | false ↦ (h.0, all_firsts P (values_in p.columns ∷ seen) ps h.1)
     ]
 
-all_distinct : (P : Projected → Type 0) (distinct : Bool) (ps : List Projected) → AllByRecursion P ps → AllByRecursion P (distinct_rows distinct ps)
+pub all_distinct : (P : Projected → Type 0) (distinct : Bool) (ps : List Projected) → AllByRecursion P ps → AllByRecursion P (distinct_rows distinct ps)
 all_distinct P true ps h = all_firsts P [] ps h
 all_distinct P false ps h = h
 
 -- ---- WHERE, SKIP and LIMIT
 
-passing_agrees : (s : Setting) (graph : Graph) (where_ : Option Expression) (ps kept : List Projected) → passing_rows s graph where_ ps ≡ Ok kept → Passing (given s) graph where_ ps kept
+pub passing_agrees : (s : Setting) (graph : Graph) (where_ : Option Expression) (ps kept : List Projected) → passing_rows s graph where_ ps ≡ Ok kept → Passing (given s) graph where_ ps kept
 passing_agrees s graph where_ [] kept e = sym (same_ok [] kept e)
 passing_agrees s graph where_ (p ∷ ps) kept e =
     let first = went_well (condition where_ (visible p) s.parameters graph) (λ b. passing_rows s graph where_ ps >>= λ others. Ok (elim b [ true ↦ p ∷ others | false ↦ others ])) kept e in
@@ -236,7 +236,7 @@ passing_agrees s graph where_ (p ∷ ps) kept e =
     as_cond true p others = refl
     as_cond false p others = refl
 
-passing_fault : (s : Setting) (graph : Graph) (where_ : Option Expression) (ps : List Projected) (f : Fault) → passing_rows s graph where_ ps ≡ Err f → (p : Projected) × IsIn p ps × (condition where_ (visible p) s.parameters graph ≡ Err f)
+pub passing_fault : (s : Setting) (graph : Graph) (where_ : Option Expression) (ps : List Projected) (f : Fault) → passing_rows s graph where_ ps ≡ Err f → (p : Projected) × IsIn p ps × (condition where_ (visible p) s.parameters graph ≡ Err f)
 passing_fault s graph where_ [] f e = cc
 passing_fault s graph where_ (p ∷ ps) f e =
     by_first (went_wrong (condition where_ (visible p) s.parameters graph) (λ b. passing_rows s graph where_ ps >>= λ others. Ok (elim b [ true ↦ p ∷ others | false ↦ others ])) f e) (passing_fault s graph where_ ps f)
@@ -267,13 +267,13 @@ module _ (P : Projected → Type 0) where
   all_dropped (suc n) [] h = tt
   all_dropped (suc n) (p ∷ ps) h = all_dropped n ps h.1
 
-  all_cut : (skip limit : Option ℕ) (ps : List Projected) → AllByRecursion P ps → AllByRecursion P (limited limit (skipped skip ps))
+  pub all_cut : (skip limit : Option ℕ) (ps : List Projected) → AllByRecursion P ps → AllByRecursion P (limited limit (skipped skip ps))
   all_cut None None ps h = h
   all_cut None (Some n) ps h = all_taken n ps h
   all_cut (Some m) None ps h = all_dropped m ps h
   all_cut (Some m) (Some n) ps h = all_taken n (drop m ps) (all_dropped m ps h)
 
-  all_passing : (s : Setting) (graph : Graph) (where_ : Option Expression) (ps kept : List Projected) → Passing (given s) graph where_ ps kept → AllByRecursion P ps → AllByRecursion P kept
+  pub all_passing : (s : Setting) (graph : Graph) (where_ : Option Expression) (ps kept : List Projected) → Passing (given s) graph where_ ps kept → AllByRecursion P ps → AllByRecursion P kept
   all_passing s graph where_ [] kept e h = subst (AllByRecursion P) (sym e) tt
   all_passing s graph where_ (p ∷ ps) kept e h = subst (AllByRecursion P) (sym e.4) (by_first e.0 (all_passing s graph where_ ps e.1 e.3 h.1))
     where
@@ -281,14 +281,14 @@ module _ (P : Projected → Type 0) where
       by_first true r = (h.0, r)
       by_first false r = r
 
-rows_bind : (columns : List Column) (ps : List Projected) → AllByRecursion (Binds columns) ps → AreRowsOf (column_names columns) (map (λ (p : Projected). p.columns) ps)
+pub rows_bind : (columns : List Column) (ps : List Projected) → AllByRecursion (Binds columns) ps → AreRowsOf (column_names columns) (map (λ (p : Projected). p.columns) ps)
 unfolding Binds
 rows_bind columns [] h = tt
 rows_bind columns (p ∷ ps) h = (h.0, rows_bind columns ps h.1)
 
 -- ---- the clause
 
-abbrev ProjectionAgrees : Setting → List Column → Projection → Option Expression → State → Result State Fault → Type 0
+abbrev pub ProjectionAgrees : Setting → List Column → Projection → Option Expression → State → Result State Fault → Type 0
 ProjectionAgrees s columns p where_ state (Ok next) = (next.graph ≡ state.graph) × Projects (given s) state.graph columns p where_ state.rows next.rows × AreRowsOf (column_names columns) next.rows
 ProjectionAgrees s columns p where_ state (Err f) = (f ≡ StepQuota) ⊎ ProjectFaults (given s) state.graph columns p where_ state.rows f
 
@@ -394,7 +394,7 @@ columns_single column value scope None items h = items_single column value items
 columns_single column value scope (Some place) items h = any_joined (map variable_column (in_byte_order scope)) (map column items) (stars_single (in_byte_order scope)) (items_single column value items h)
 
 pub return_agrees : ReturnAgrees
-return_agrees distinct star items skip limit single s state faults planned g rows =
+return_agrees distinct star items skip limit single s state faults given_here planned g rows =
     let columns = star_columns s.scope star ++ map return_column items in
     of_return (project_clause s columns (record { distinct = distinct; star = star; items = items; order = []; skip = skip; limit = limit }) None state)
     (unsorted_agrees s columns distinct star items skip limit None state (columns_single return_column (λ i. refl) s.scope star items single))
@@ -405,7 +405,7 @@ return_agrees distinct star items skip limit single s state faults planned g row
     of_return (Err f) h = h
 
 pub with_agrees : WithAgrees
-with_agrees distinct star items skip limit where_ single s state faults planned g rows =
+with_agrees distinct star items skip limit where_ single s state faults given_here planned g rows =
     let columns = star_columns s.scope star ++ map with_column items in
     of_with (project_clause s columns (record { distinct = distinct; star = star; items = items; order = []; skip = skip; limit = limit }) where_ state)
     (unsorted_agrees s columns distinct star items skip limit where_ state (columns_single with_column (λ i. refl) s.scope star items single))

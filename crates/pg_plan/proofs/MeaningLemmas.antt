@@ -32,7 +32,7 @@ module _ (x : OneNode) (semicolon : Bool) (simple : IsSimple x) (none : static_f
       record {
         query = same;
         planned = ap (λ p. ordered p (query_of x semicolon) parameters graph max_steps max_elements) (sym (one_node_plans x semicolon).chosen) ∙ same;
-        means = λ is. one_node_means x semicolon parameters graph max_steps max_elements simple (sym (one_node_faults x semicolon simple) ∙ none) is;
+        means = λ given is. one_node_means x semicolon parameters graph max_steps max_elements simple (sym (one_node_faults x semicolon simple) ∙ none) given is;
       }
 
   good : IsGoodPlan (query_of x semicolon) x
@@ -47,6 +47,6 @@ pub plans_answer : PlansAnswer
 plans_answer text plan x h answered = good_if_answered (plan_query plan) x answered (faultless (read text) (plan_query plan) h.is)
 
 pub texts_mean : TextsMean
-texts_mean text q x parameters graph max_steps max_elements h answered is =
+texts_mean text q x parameters graph max_steps max_elements h answered given is =
     let a = (good_if_answered q x answered (faultless (read text) q h)).answers parameters graph max_steps max_elements in
-    subst (OutcomeAgrees q parameters max_elements graph) (sym a.query) (a.means is)
+    subst (OutcomeAgrees q parameters max_elements graph) (sym a.query) (a.means given is)

@@ -1,6 +1,7 @@
 -- What a plan of a text is good for.
 use Rattle.std.specs.Prelude.{◌≡◌, ℕ, List, [], None, Some, Ok}
-use Rattle.pg_meaning.specs.Agreement.{OutcomeAgrees}
+use Rattle.pg_meaning.specs.Agreement.{AreGiven, OutcomeAgrees}
+use Rattle.pg_meaning.specs.Grammar.{parameters_of}
 use Rattle.pg_meaning.specs.Graph.{Graph, IsGraph}
 use Rattle.pg_meaning.specs.Plans.{IsPlanOf}
 use Rattle.pg_meaning.specs.Queries.{answer_of, ordered}
@@ -19,7 +20,7 @@ use Rattle.pg_run.specs.Plain.{answered_statement}
 pub record PlanAnswers (q : Query) (x : OneNode) (parameters : Entries) (graph : Graph) (max_steps max_elements : ℕ) : Type 0 where
   pub query : answer_of [] q parameters graph max_steps max_elements ≡ one_node_answer x parameters graph max_steps max_elements
   pub planned : ordered (one_node_plan x) q parameters graph max_steps max_elements ≡ one_node_answer x parameters graph max_steps max_elements
-  pub means : IsGraph graph → OutcomeAgrees q parameters max_elements graph (one_node_answer x parameters graph max_steps max_elements)
+  pub means : AreGiven (parameters_of q) parameters → IsGraph graph → OutcomeAgrees q parameters max_elements graph (one_node_answer x parameters graph max_steps max_elements)
 
 pub record IsGoodPlan (q : Query) (x : OneNode) : Type 0 where
   pub faultless : static_fault q ≡ None
@@ -30,8 +31,8 @@ pub record IsGoodPlan (q : Query) (x : OneNode) : Type 0 where
 abbrev pub PlansAnswer : Type 0
 PlansAnswer = (text : List ℕ) (plan : Plan) (x : OneNode) → IsPlanOfText text plan → answered_statement (plan_query plan) ≡ Some x → IsGoodPlan (plan_query plan) x
 
--- what the query of a text answers is what it means, or a fault in which it may end
+-- what the query of a text answers, its parameters given, is what it means, or a fault in which it may end
 abbrev pub TextsMean : Type 0
 TextsMean =
-    (text : List ℕ) (q : Query) (x : OneNode) (parameters : Entries) (graph : Graph) (max_steps max_elements : ℕ) → text_checked text ≡ Ok q → answered_statement q ≡ Some x → IsGraph graph
+    (text : List ℕ) (q : Query) (x : OneNode) (parameters : Entries) (graph : Graph) (max_steps max_elements : ℕ) → text_checked text ≡ Ok q → answered_statement q ≡ Some x → AreGiven (parameters_of q) parameters → IsGraph graph
     → OutcomeAgrees q parameters max_elements graph (answer_of [] q parameters graph max_steps max_elements)

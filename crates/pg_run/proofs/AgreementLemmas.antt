@@ -87,8 +87,8 @@ query_agrees (creates_and_returns n items) semicolon h = create_queries_agree No
 query_agrees (matches n items) semicolon h = match_queries_agree false None n None false None items None None semicolon (λ scope. refl) (single_items items h.1)
 
 pub one_node_means : OneNodeMeans
-one_node_means x semicolon parameters graph max_steps max_elements simple none is_graph =
+one_node_means x semicolon parameters graph max_steps max_elements simple none given is_graph =
     let q = query_of x semicolon in
     let plan = one_node_plans x semicolon in
     subst (OutcomeAgrees q parameters max_elements graph) (one_node_answers x semicolon parameters graph max_steps max_elements simple)
-    (query_agrees x semicolon simple (plan_of [] q) parameters graph max_steps max_elements (no_static_faults x semicolon simple none) (subst (λ p. IsPlanOf p q) (sym plan.chosen) plan.begins) is_graph)
+    (query_agrees x semicolon simple (plan_of [] q) parameters graph max_steps max_elements (no_static_faults x semicolon simple none) given (subst (λ p. IsPlanOf p q) (sym plan.chosen) plan.begins) is_graph)

@@ -26,10 +26,10 @@ pairs_written s graph (from_parameter p) h = absurd h
 
 module _ (s : Setting) (n : NodePattern) (graph : Graph) where
   abbrev bonded : Making → Result (Graph × Row × Trail) Fault
-  bonded m = make_bonds s [] [] m.ids m.graph >>= λ made. let trail : Trail = record { nodes = m.ids; bonds = made.1 } in Ok (made.0, m.bound, trail)
+  bonded m = make_bonds s graph [] [] m.ids m.graph >>= λ made. let trail : Trail = record { nodes = m.ids; bonds = made.1 } in Ok (made.0, m.bound, trail)
 
   abbrev with_rest : Graph × Row × Trail → Result (Graph × Assignment) Fault
-  with_rest made = make_paths s [] (made.0, made.1) [] >>= λ others. Ok (others.0, made.2 ∷ others.1)
+  with_rest made = make_paths s graph [] (made.0, made.1) [] >>= λ others. Ok (others.0, made.2 ∷ others.1)
 
   abbrev with_row : Graph × Assignment → Result (Graph × Row) Fault
   with_row made = Ok (made.0, bind_match made.0 (node_alone n ∷ []) made.1 [])

@@ -1,7 +1,8 @@
 -- The answer to a query of one node at most is one that the language's meaning gives it.
 use Rattle.std.specs.Prelude.{◌≡◌, ℕ, Bool, [], ◌∷◌, None}
 use Rattle.std.specs.List.{AllByRecursion}
-use Rattle.pg_meaning.specs.Agreement.{OutcomeAgrees}
+use Rattle.pg_meaning.specs.Agreement.{AreGiven, OutcomeAgrees}
+use Rattle.pg_meaning.specs.Grammar.{parameters_of}
 use Rattle.pg_meaning.specs.Graph.{Graph, IsGraph}
 use Rattle.pg_meaning.specs.Plans.{Plan, plan_of, IsPlanOf}
 use Rattle.pg_meaning.specs.Tree.{Query}
@@ -29,8 +30,8 @@ pub record IsOnePlan (x : OneNode) (q : Query) : Type 0 where
 abbrev pub OneNodePlans : Type 0
 OneNodePlans = (x : OneNode) (semicolon : Bool) → IsOnePlan x (query_of x semicolon)
 
--- of a query without a static fault: the answer is one that the query means, and a fault one in which it may end, the quota of steps aside
+-- of a query without a static fault, whose parameters are given: the answer is one that the query means, and a fault one in which it may end, the quota of steps aside
 abbrev pub OneNodeMeans : Type 0
 OneNodeMeans =
-    (x : OneNode) (semicolon : Bool) (parameters : Entries) (graph : Graph) (max_steps max_elements : ℕ) → IsSimple x → one_node_fault x ≡ None → IsGraph graph
+    (x : OneNode) (semicolon : Bool) (parameters : Entries) (graph : Graph) (max_steps max_elements : ℕ) → IsSimple x → one_node_fault x ≡ None → AreGiven (parameters_of (query_of x semicolon)) parameters → IsGraph graph
     → OutcomeAgrees (query_of x semicolon) parameters max_elements graph (one_node_answer x parameters graph max_steps max_elements)

@@ -1,9 +1,13 @@
 -- A text that reads answers as its query means, and as any plan of it does.
-use Rattle.std.proofs.Common.{◌≡◌, ℕ, ◌≤◌, Bool, true, false, not, ◌||◌, List, [], length, Option, Some, None, is_some, Result, Ok, Err, refl, sym, ap, ◌∙◌}
+use Rattle.std.proofs.Common.{◌≡◌, ℕ, ◌≤◌, Bool, true, false, not, ◌||◌, List, [], ◌∷◌, length, Option, Some, None, is_some, Result, Ok, Err, refl, sym, ap, ◌∙◌}
 use Rattle.std.proofs.lemmas.Bool.{le-leb}
+use Rattle.pg_meaning.specs.Agreement.{AreGiven}
 use Rattle.pg_meaning.specs.Answer.{◌>>=◌, ◌>>◌, unless}
+use Rattle.pg_meaning.specs.Grammar.{parameters_of}
 use Rattle.pg_meaning.specs.Graph.{Graph}
+use Rattle.pg_meaning.specs.Names.{Names}
 use Rattle.pg_meaning.specs.Queries.{Outcome, answer_of}
+use Rattle.pg_meaning.specs.Tokens.{is_empty}
 use Rattle.pg_meaning.specs.Tree.{Query}
 use Rattle.pg_meaning.specs.Value.{no_entries}
 use Rattle.pg_meaning.specs.declared.fault.Fault.{Fault}
@@ -39,10 +43,14 @@ built_by : (o : Option OneNode) → unless (is_some o) NotYet ≡ Ok tt → (x :
 built_by None h = absurd cc
 built_by (Some x) h = (x, refl)
 
+none_named : (names : Names) → unless (not (not (is_empty names))) MissingParameter ≡ Ok tt → AreGiven names no_entries
+none_named [] h = tt
+none_named (n ∷ names) h = absurd cc
+
 pub text_means : TextMeans
-text_means max_steps max_elements graph text q is h built =
+text_means max_steps max_elements graph text q is h given built =
     let x = built_by (answered_statement q) built in
-    texts_mean text q x.0 no_entries graph max_steps max_elements (behind (tested_length text) (text_checked text) q h) x.1 is
+    texts_mean text q x.0 no_entries graph max_steps max_elements (behind (tested_length text) (text_checked text) q h) x.1 (none_named (parameters_of q) given) is
 
 -- ---- the tests before any clause
 

@@ -48,8 +48,8 @@ AnyPlanAnswers =
     (may_write : Bool) (max_steps max_elements : ℕ) (graph : Graph) (text : List ℕ) (plan : Plan) → length text ≤ greatest_text → IsPlanOfText text plan
     → text_outcome may_write max_steps max_elements graph text ≡ plan_outcome may_write max_steps max_elements graph plan
 
--- what a text that reads and is answered so far answers is one that the meaning of its query gives
+-- what a text that reads, has its parameters and is answered so far answers is one that the meaning of its query gives
 abbrev pub TextMeans : Type 0
 TextMeans =
-    (max_steps max_elements : ℕ) (graph : Graph) (text : List ℕ) (q : Query) → IsGraph graph → text_query text ≡ Ok q → is_built q ≡ Ok tt
+    (max_steps max_elements : ℕ) (graph : Graph) (text : List ℕ) (q : Query) → IsGraph graph → text_query text ≡ Ok q → are_given q ≡ Ok tt → is_built q ≡ Ok tt
     → OutcomeAgrees q no_entries max_elements graph (answer_of [] q no_entries graph max_steps max_elements)

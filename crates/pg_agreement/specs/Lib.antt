@@ -1,0 +1,9 @@
+pub mod Changes
+pub mod Changing
+pub mod WholeQueries
+pub mod Listing
+pub mod Matching
+pub mod Making
+pub mod Projecting
+pub mod Planning
+pub mod Faults

@@ -1,26 +1,25 @@
 -- WITH and RETURN agree with their meaning: items without aggregates, DISTINCT, SKIP, LIMIT and WHERE.
-use Rattle.std.proofs.Common.{◌≡◌, ℕ, ◌+◌, zero, suc, Bool, true, false, cond, ◌||◌, ◌&&◌, ◌⊎◌, inl, inr, List, [], ◌∷◌, ◌++◌, map, length, take, drop, Option, Some, None, is_some, bytes_eq, Result, Ok, Err, refl, sym, ap, subst, ◌∙◌}
+use Rattle.std.proofs.Common.{◌≡◌, ℕ, ◌+◌, zero, suc, Bool, true, false, cond, ◌||◌, ◌&&◌, ◌⊎◌, inl, inr, List, [], ◌∷◌, map, take, drop, Option, Some, None, is_some, bytes_eq, Result, Ok, Err, refl, sym, ap, subst, ◌∙◌}
 use Rattle.std.specs.Cmp.{eq_by_cmp_equiv}
 use Rattle.std.specs.List.{AllByRecursion, AllZip, list_any}
 use Rattle.std.specs.Map.{lookup}
 use Rattle.pg_meaning.specs.Aggregates.{Aggregate, aggregate_of}
-use Rattle.pg_meaning.specs.Agreement.{given, AreRowsOf, AnswerAgrees, ClauseAgrees, QueryAgrees}
-use Rattle.pg_meaning.specs.AgreementLaws.{clauses_make_queries}
+use Rattle.pg_meaning.specs.Agreement.{given, AreRowsOf}
 use Rattle.pg_meaning.specs.Answer.{◌>>=◌, ◌>>◌, unless, each_answer}
-use Rattle.pg_meaning.specs.AnswerLaws.{by_answer, went_well, went_wrong, same_ok, answers_zip, answers_fault}
+use Rattle.pg_meaning.specs.AnswerLaws.{went_well, went_wrong, same_ok, answers_fault}
 use Rattle.pg_meaning.specs.Conditions.{condition}
 use Rattle.pg_meaning.specs.Expressions.{evaluate}
-use Rattle.pg_meaning.specs.Graph.{Graph, IsGraph}
+use Rattle.pg_meaning.specs.Graph.{Graph}
 use Rattle.pg_meaning.specs.Lists.{IsIn, AllPairsByRecursion}
 use Rattle.pg_meaning.specs.ListsLaws.{all_weaker, all_in_themselves}
-use Rattle.pg_meaning.specs.Meaning.{Items, Groups, Distinct, Passing, Projects, ItemFaults, ArgumentFaults, AtSomeRow, PassingFaults, ProjectFaults}
+use Rattle.pg_meaning.specs.Meaning.{Distinct, Passing, Projects, ItemFaults, ArgumentFaults, ProjectFaults}
 use Rattle.pg_meaning.specs.Meters.{Setting, State, spend}
-use Rattle.pg_meaning.specs.Names.{Names, is_among, in_byte_order}
+use Rattle.pg_meaning.specs.Names.{is_among}
 use Rattle.pg_meaning.specs.OrderLaws.{order_total}
-use Rattle.pg_meaning.specs.Projections.{Projected, visible, column_value, projected, grouped, item_rows, count_given, skipped, limited, same_values, firsts, distinct_rows, passing_rows, project_clause}
+use Rattle.pg_meaning.specs.Projections.{Projected, visible, column_value, projected, skipped, limited, same_values, firsts, distinct_rows, passing_rows}
 use Rattle.pg_meaning.specs.Rows.{Row, value_in, values_in}
-use Rattle.pg_meaning.specs.Scopes.{Column, is_aggregate, variable_column, star_columns, with_column, return_column, column_names}
-use Rattle.pg_meaning.specs.Tree.{Expression, Item, Projection, with_rows, return_rows}
+use Rattle.pg_meaning.specs.Scopes.{Column, is_aggregate, column_names}
+use Rattle.pg_meaning.specs.Tree.{Expression, Item, Projection}
 use Rattle.pg_meaning.specs.Value.{Value}
 use Rattle.pg_meaning.specs.declared.fault.Fault.{Fault}
 use Rattle.pg_meaning.specs.declared.fault.Fault.TheVariants.{StepQuota}
@@ -68,26 +67,8 @@ all_bind s graph distinct columns [] (p ∷ ps) h = absurd h
 all_bind s graph distinct columns (row ∷ rows) [] h = absurd h
 all_bind s graph distinct columns (row ∷ rows) (p ∷ ps) h = (projected_binds s graph distinct columns row p h.0, all_bind s graph distinct columns rows ps h.1)
 
-abbrev items_by : Setting → Graph → (distinct : Bool) → List Column → List Row → (has_aggregate : Bool) → Result (List Projected) Fault
-items_by s graph distinct columns rows has_aggregate = elim has_aggregate [ true ↦ grouped s graph columns rows | false ↦ each_answer (projected s graph distinct columns) rows ]
-
-abbrev ItemsBy : Setting → Graph → (distinct : Bool) → List Column → List Row → List Projected → (has_aggregate : Bool) → Type 0
-ItemsBy s graph distinct columns rows ps has_aggregate = elim has_aggregate [ true ↦ Groups (given s) graph columns rows ps | false ↦ AllZip (λ row r. projected (given s) graph distinct columns row ≡ Ok r) rows ps ]
-
 abbrev FaultBy : Setting → Graph → Row → Fault → Column → Option Aggregate → Type 0
 FaultBy s graph row f c o = elim o [ None ↦ evaluate row s.parameters graph c.value ≡ Err f | Some a ↦ ArgumentFaults (given s) graph row a f ]
-
--- without aggregates the items are each row's
-items_are : (s : Setting) (graph : Graph) (distinct : Bool) (columns : List Column) (rows : List Row) (ps : List Projected) (b : Bool) → b ≡ false
-    → items_by s graph distinct columns rows b ≡ Ok ps
-    → ItemsBy s graph distinct columns rows ps b
-items_are s graph distinct columns rows ps true none e = cc
-items_are s graph distinct columns rows ps false none e = answers_zip (projected s graph distinct columns) rows ps e
-
-items_bind : (s : Setting) (graph : Graph) (distinct : Bool) (columns : List Column) (rows : List Row) (ps : List Projected) (b : Bool) → b ≡ false
-    → items_by s graph distinct columns rows b ≡ Ok ps → AllByRecursion (Binds columns) ps
-items_bind s graph distinct columns rows ps true none e = cc
-items_bind s graph distinct columns rows ps false none e = all_bind s graph distinct columns rows ps (answers_zip (projected s graph distinct columns) rows ps e)
 
 pub none_in : {X : Type 0} (test : X → Bool) (xs : List X) (x : X) → list_any test xs ≡ false → IsIn x xs → test x ≡ false
 none_in test [] x h i = absurd i
@@ -121,13 +102,6 @@ row_fault s graph distinct columns row f none e = by_columns (went_wrong (each_a
         → ItemFaults (given s) graph columns row f
     by_columns (inl h) = let found = answers_fault (column_value s graph row) columns f h in of_column found.0 found.1 found.2
     by_columns (inr h) = let impossible = h.2 in cc
-
-items_fault : (s : Setting) (graph : Graph) (distinct : Bool) (columns : List Column) (rows : List Row) (f : Fault) (b : Bool) → list_any is_aggregate columns ≡ false → b ≡ false
-    → items_by s graph distinct columns rows b ≡ Err f
-    → AtSomeRow (ItemFaults (given s) graph columns) rows f
-items_fault s graph distinct columns rows f true apart none e = cc
-items_fault s graph distinct columns rows f false apart none e =
-    let found = answers_fault (projected s graph distinct columns) rows f e in (found.0, found.1, row_fault s graph distinct columns found.0 f apart found.2)
 
 -- ---- DISTINCT
 
@@ -292,137 +266,8 @@ abbrev pub ProjectionAgrees : Setting → List Column → Projection → Option 
 ProjectionAgrees s columns p where_ state (Ok next) = (next.graph ≡ state.graph) × Projects (given s) state.graph columns p where_ state.rows next.rows × AreRowsOf (column_names columns) next.rows
 ProjectionAgrees s columns p where_ state (Err f) = (f ≡ StepQuota) ⊎ ProjectFaults (given s) state.graph columns p where_ state.rows f
 
-module _ (s : Setting) (columns : List Column) (distinct : Bool) (star : Option ℕ) (items : List Item) (skip_by limit_by : Option Expression) (where_ : Option Expression) (state : State) where
-  abbrev unsorted : Projection
-  unsorted = record { distinct = distinct; star = star; items = items; order = []; skip = skip_by; limit = limit_by }
-
-  abbrev kept_state : ℕ → List Projected → Result State Fault
-  kept_state steps kept = Ok (record { graph = state.graph; rows = map (λ (r : Projected). r.columns) kept; steps = steps })
-
-  abbrev cut_state : ℕ → Option ℕ → Option ℕ → List Projected → Result State Fault
-  cut_state steps skip limit made = passing_rows s state.graph where_ (limited limit (skipped skip (distinct_rows distinct made))) >>= kept_state steps
-
-  abbrev limited_state : ℕ → Option ℕ → Option ℕ → Result State Fault
-  limited_state steps skip limit = item_rows s state.graph distinct columns state.rows >>= cut_state steps skip limit
-
-  abbrev skipped_state : ℕ → Option ℕ → Result State Fault
-  skipped_state steps skip = count_given s state.graph limit_by >>= limited_state steps skip
-
-  abbrev charged_state : ℕ → Result State Fault
-  charged_state steps = count_given s state.graph skip_by >>= skipped_state steps
-
-  abbrev Agrees : Result State Fault → Type 0
-  Agrees = ProjectionAgrees s columns unsorted where_ state
-
-  unsorted_agrees : list_any is_aggregate columns ≡ false → ProjectionAgrees s columns unsorted where_ state (project_clause s columns unsorted where_ state)
-  unsorted_agrees plain =
-      by_answer Agrees (spend s state.steps (length state.rows)) charged_state
-      (λ steps e0. by_answer Agrees (count_given s state.graph skip_by) (skipped_state steps)
-      (λ skip e1. by_answer Agrees (count_given s state.graph limit_by) (limited_state steps skip)
-      (λ limit e2. by_answer Agrees (item_rows s state.graph distinct columns state.rows) (cut_state steps skip limit)
-      (λ made e3. by_answer Agrees (passing_rows s state.graph where_ (limited limit (skipped skip (distinct_rows distinct made)))) (kept_state steps)
-      (λ kept e4. went steps skip limit made kept e1 e2 e3 e4)
-      (λ f e4. inr (inr (inr (inr (inr (inr (where_fault skip limit made f e1 e2 e3 (passing_fault s state.graph where_ (limited limit (skipped skip (distinct_rows distinct made))) f e4)))))))))
-      (λ f e3. inr (inr (inr (inl (items_fault s state.graph distinct columns state.rows f (list_any is_aggregate columns) plain plain e3))))))
-      (λ f e2. inr (inr (inl e2))))
-      (λ f e1. inr (inl e1)))
-      (λ f e0. inl (spend_fault s state.steps (length state.rows) f e0))
-    where
-      made_from : (made : List Projected) → item_rows s state.graph distinct columns state.rows ≡ Ok made → Items (given s) state.graph distinct columns state.rows made
-      made_from made e3 = items_are s state.graph distinct columns state.rows made (list_any is_aggregate columns) plain e3
-
-      went : (steps : ℕ) (skip limit : Option ℕ) (made kept : List Projected) → count_given s state.graph skip_by ≡ Ok skip → count_given s state.graph limit_by ≡ Ok limit → item_rows s state.graph distinct columns state.rows ≡ Ok made
-          → passing_rows s state.graph where_ (limited limit (skipped skip (distinct_rows distinct made))) ≡ Ok kept → Agrees (kept_state steps kept)
-      went steps skip limit made kept e1 e2 e3 e4 =
-          let passes = passing_agrees s state.graph where_ (limited limit (skipped skip (distinct_rows distinct made))) kept e4 in
-          let bound = all_passing (Binds columns) s state.graph where_ _ kept passes (all_cut (Binds columns) skip limit _ (all_distinct (Binds columns) distinct made (items_bind s state.graph distinct columns state.rows made (list_any is_aggregate columns) plain e3))) in (
-            refl,
-            record {
-              skip = skip;
-              skip_given = e1;
-              limit = limit;
-              limit_given = e2;
-              made = made;
-              items = made_from made e3;
-              kept = distinct_rows distinct made;
-              distinct = distinct_agrees distinct made;
-              sorted = distinct_rows distinct made;
-              order = refl;
-              passing = kept;
-              condition = passes;
-              shown = refl;
-            },
-            rows_bind columns kept bound,
-          )
-
-      where_fault : (skip limit : Option ℕ) (made : List Projected) (f : Fault) → count_given s state.graph skip_by ≡ Ok skip → count_given s state.graph limit_by ≡ Ok limit → item_rows s state.graph distinct columns state.rows ≡ Ok made
-          → (r : Projected) × IsIn r (limited limit (skipped skip (distinct_rows distinct made))) × (condition where_ (visible r) s.parameters state.graph ≡ Err f)
-          → PassingFaults (given s) state.graph columns unsorted where_ state.rows f
-      where_fault skip limit made f e1 e2 e3 h = (skip, limit, made, distinct_rows distinct made, distinct_rows distinct made, h.0, e1, e2, made_from made e3, distinct_agrees distinct made, refl, h.1, h.2)
-
 -- ---- the laws
 
 -- no item is an aggregate
 abbrev pub AreSingle : List Item → Type 0
 AreSingle items = AllByRecursion (λ i. aggregate_of i.value ≡ None) items
-
-abbrev pub ReturnAgrees : Type 0
-ReturnAgrees =
-    (distinct : Bool) (star : Option ℕ) (items : List Item) (skip limit : Option Expression) → AreSingle items
-    → ClauseAgrees (return_rows (record { distinct = distinct; star = star; items = items; order = []; skip = skip; limit = limit }))
-
-abbrev pub WithAgrees : Type 0
-WithAgrees =
-    (distinct : Bool) (star : Option ℕ) (items : List Item) (skip limit : Option Expression) (where_ : Option Expression) → AreSingle items
-    → ClauseAgrees (with_rows (record { distinct = distinct; star = star; items = items; order = []; skip = skip; limit = limit }) where_)
-
--- the columns of '*' are variables
-stars_single : (names : Names) → list_any is_aggregate (map variable_column names) ≡ false
-stars_single [] = refl
-stars_single (n ∷ ns) = stars_single ns
-
-items_single : (column : Item → Column) → ((i : Item) → (column i).value ≡ i.value) → (items : List Item) → AreSingle items → list_any is_aggregate (map column items) ≡ false
-items_single column value [] h = refl
-items_single column value (i ∷ is) h = ap (λ e. is_some (aggregate_of e) || list_any is_aggregate (map column is)) (value i) ∙ ap (λ o. is_some o || list_any is_aggregate (map column is)) h.0 ∙ items_single column value is h.1
-
-any_joined : (xs ys : List Column) → list_any is_aggregate xs ≡ false → list_any is_aggregate ys ≡ false → list_any is_aggregate (xs ++ ys) ≡ false
-any_joined [] ys g h = h
-any_joined (x ∷ xs) ys g h = let b = or_false (is_aggregate x) (list_any is_aggregate xs) g in ap (λ c. c || list_any is_aggregate (xs ++ ys)) b.0 ∙ any_joined xs ys b.1 h
-
-columns_single : (column : Item → Column) → ((i : Item) → (column i).value ≡ i.value) → (scope : Names) (star : Option ℕ) (items : List Item) → AreSingle items → list_any is_aggregate (star_columns scope star ++ map column items) ≡ false
-columns_single column value scope None items h = items_single column value items h
-columns_single column value scope (Some place) items h = any_joined (map variable_column (in_byte_order scope)) (map column items) (stars_single (in_byte_order scope)) (items_single column value items h)
-
-pub return_agrees : ReturnAgrees
-return_agrees distinct star items skip limit single s state faults given_here planned g rows =
-    let columns = star_columns s.scope star ++ map return_column items in
-    of_return (project_clause s columns (record { distinct = distinct; star = star; items = items; order = []; skip = skip; limit = limit }) None state)
-    (unsorted_agrees s columns distinct star items skip limit None state (columns_single return_column (λ i. refl) s.scope star items single))
-  where
-    of_return : (r : Result State Fault) → ProjectionAgrees s (star_columns s.scope star ++ map return_column items) (record { distinct = distinct; star = star; items = items; order = []; skip = skip; limit = limit }) None state r
-        → AnswerAgrees s (return_rows (record { distinct = distinct; star = star; items = items; order = []; skip = skip; limit = limit })) state r
-    of_return (Ok next) h = ((h.0, h.1), subst IsGraph (sym h.0) g, h.2)
-    of_return (Err f) h = h
-
-pub with_agrees : WithAgrees
-with_agrees distinct star items skip limit where_ single s state faults given_here planned g rows =
-    let columns = star_columns s.scope star ++ map with_column items in
-    of_with (project_clause s columns (record { distinct = distinct; star = star; items = items; order = []; skip = skip; limit = limit }) where_ state)
-    (unsorted_agrees s columns distinct star items skip limit where_ state (columns_single with_column (λ i. refl) s.scope star items single))
-  where
-    of_with : (r : Result State Fault) → ProjectionAgrees s (star_columns s.scope star ++ map with_column items) (record { distinct = distinct; star = star; items = items; order = []; skip = skip; limit = limit }) where_ state r
-        → AnswerAgrees s (with_rows (record { distinct = distinct; star = star; items = items; order = []; skip = skip; limit = limit }) where_) state r
-    of_with (Ok next) h = ((h.0, h.1), subst IsGraph (sym h.0) g, h.2)
-    of_with (Err f) h = h
-
--- ---- queries of one RETURN
-
-abbrev pub ReturnQueriesAgree : Type 0
-ReturnQueriesAgree =
-    (distinct : Bool) (star : Option ℕ) (items : List Item) (skip limit : Option Expression) (semicolon : Bool) → AreSingle items
-    → QueryAgrees (record { clauses = return_rows (record { distinct = distinct; star = star; items = items; order = []; skip = skip; limit = limit }) ∷ []; semicolon = semicolon })
-
-pub return_queries_agree : ReturnQueriesAgree
-return_queries_agree distinct star items skip limit semicolon single =
-    clauses_make_queries (record { clauses = return_rows (record { distinct = distinct; star = star; items = items; order = []; skip = skip; limit = limit }) ∷ []; semicolon = semicolon })
-    (return_agrees distinct star items skip limit single, tt)

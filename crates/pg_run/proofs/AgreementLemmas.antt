@@ -2,23 +2,20 @@
 use Rattle.std.proofs.Common.{◌≡◌, ℕ, zero, suc, Bool, true, false, true≢false, List, [], ◌∷◌, Some, None, is_some, refl, sym, ap, subst, ◌∙◌}
 use Rattle.std.specs.List.{AllByRecursion, AllZip}
 use Rattle.std.specs.Prelude.{slice_get}
-use Rattle.pg_meaning.specs.Agreement.{OutcomeAgrees, QueryAgrees}
-use Rattle.pg_meaning.specs.AgreementLaws.{clauses_make_queries}
-use Rattle.pg_meaning.specs.CreationLaws.{create_node_agrees, create_queries_agree}
-use Rattle.pg_meaning.specs.MatchLaws.{match_queries_agree}
+use Rattle.pg_meaning.specs.Agreement.{OutcomeAgrees}
 use Rattle.pg_meaning.specs.Names.{Names}
 use Rattle.pg_meaning.specs.Patterns.{add_path_names}
 use Rattle.pg_meaning.specs.Plans.{Plan, Anchor, plan_of, IsAnchorOf, ArePlanned, IsPlanFrom, IsPlanOf}
-use Rattle.pg_meaning.specs.ProjectionLaws.{return_queries_agree}
 use Rattle.pg_meaning.specs.Scopes.{scope_after}
 use Rattle.pg_meaning.specs.StaticFaults.{Found, goes_before, least, static_faults, static_fault}
 use Rattle.pg_meaning.specs.Tree.{NodePattern, Clause, create, match_paths, return_rows}
+use Rattle.pg_agreement.proofs.WholeQueriesAnswers.{meaning_of_queries}
 use Rattle.pg_run.specs.Agreement.{NamesNoIndex, OneNodePlans, OneNodeMeans}
 use Rattle.pg_run.specs.Answers.{at_the_node}
 use Rattle.pg_run.specs.Checks.{one_node_fault}
 use Rattle.pg_run.specs.OneNode.{OneNode, returns, creates, creates_and_returns, matches, IsSimple, items_alone, node_alone, query_of}
 use Rattle.pg_run.proofs.CheckLemmas.{one_node_faults}
-use Rattle.pg_run.proofs.QueryLemmas.{anchor_of_one, single_items, one_node_answers}
+use Rattle.pg_run.proofs.QueryLemmas.{anchor_of_one, one_node_answers}
 
 some_stays : (b : Found) (fs : List Found) → is_some (least (Some b) fs) ≡ true
 some_stays b [] = refl
@@ -80,15 +77,9 @@ one_node_plans (matches n items) semicolon =
 
 -- ---- the meaning
 
-query_agrees : (x : OneNode) (semicolon : Bool) → IsSimple x → QueryAgrees (query_of x semicolon)
-query_agrees (returns items) semicolon h = return_queries_agree false None items None None semicolon (single_items items h)
-query_agrees (creates n) semicolon h = clauses_make_queries (query_of (creates n) semicolon) (create_node_agrees None n, tt)
-query_agrees (creates_and_returns n items) semicolon h = create_queries_agree None n false None items None None semicolon (single_items items h.1)
-query_agrees (matches n items) semicolon h = match_queries_agree false None n None false None items None None semicolon (λ scope. refl) (single_items items h.1)
-
 pub one_node_means : OneNodeMeans
 one_node_means x semicolon parameters graph max_steps max_elements simple none given is_graph =
     let q = query_of x semicolon in
     let plan = one_node_plans x semicolon in
     subst (OutcomeAgrees q parameters max_elements graph) (one_node_answers x semicolon parameters graph max_steps max_elements simple)
-    (query_agrees x semicolon simple (plan_of [] q) parameters graph max_steps max_elements (no_static_faults x semicolon simple none) given (subst (λ p. IsPlanOf p q) (sym plan.chosen) plan.begins) is_graph)
+    (meaning_of_queries q (plan_of [] q) parameters graph max_steps max_elements (no_static_faults x semicolon simple none) given (subst (λ p. IsPlanOf p q) (sym plan.chosen) plan.begins) is_graph)

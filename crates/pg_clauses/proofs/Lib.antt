@@ -1,5 +1,4 @@
 pub mod AnswersInTurn
 pub mod EvaluationLemmas
-pub mod IdLemmas
 pub mod PlainForms
 pub mod PropertyLemmas

@@ -1,23 +1,24 @@
 //! CREATE of one node.
-ghost use Rattle.std.specs.Prelude.{◌≡◌, ◌≢◌, ◌<◌, ◌≤◌, ◌^◌, ◌∷◌, [], ℕ, List, IfOk, IfErr, OnOk, OnErr, Ok, Err, true};
+ghost use Rattle.std.specs.Prelude.{◌≡◌, ◌≢◌, ◌<◌, ◌≤◌, ◌^◌, ◌∷◌, [], IfOk, IfErr, OnOk, Ok, Err, true};
 ghost use Rattle.pg_clauses.specs.Creation.{storable_values, room_for_one};
 ghost use Rattle.pg_clauses.specs.Fits.{label_texts};
+ghost use Rattle.pg_clauses.specs.Gives.{Gives};
 ghost use Rattle.pg_clauses.specs.Rows.{state_of};
-ghost use Rattle.pg_graph.specs.Content.{Keeps};
-ghost use Rattle.pg_meaning.specs.Graph.{element_count, add_node};
+ghost use Rattle.pg_meaning.specs.Graph.{element_count};
 ghost use Rattle.pg_meaning.specs.Meters.{greatest_id};
-ghost use Rattle.pg_meaning.specs.Value.{Entries, no_entries};
+ghost use Rattle.pg_meaning.specs.Value.{no_entries};
 ghost use Rattle.pg_meaning.specs.declared.fault.Fault.TheVariants.{OutOfMemory};
 ghost use Rattle.pg_run.specs.Answers.{created};
 ghost use Rattle.pg_run.specs.Plain.{are_plain_properties};
-ghost use Rattle.pg_store.specs.Stores.{graph_of_store, IsFit, texts_of, pairs_of};
+ghost use Rattle.pg_store.specs.Changes.{Changes};
+ghost use Rattle.pg_store.specs.Stores.{IsFit, KeepsMarks, texts_of, pairs_of};
 ghost use Rattle.pg_syntax_tree.specs.View.{node_view, properties_view};
 
 use crate::properties::property_values;
 use crate::row::{Row, Table};
 use crate::storable::are_storable;
 use pg_graph::Tables;
-use pg_store::Store;
+use pg_store::{Snapshot, Store};
 use pg_syntax_tree::{Name, NodePattern, Properties};
 use pg_value_core::{Fault, NodeId, Value};
 use std::alloc::{AllocError, Global};
@@ -37,20 +38,17 @@ pub fn create<'a, T: Tables>(
     requires fit { IsFit T.seen store.old shared.old }
     requires quota { max_elements ≤ 2 ^ 63 }
     requires plain { are_plain_properties (properties_view pattern.now.properties) ≡ true }
-    ensures ok { IfOk result (λ table. created no_entries max_steps max_elements (node_view pattern.now) (graph_of_store T.seen store.old shared.old) ≡ Ok (state_of (graph_of_store T.seen store.new shared.new) table)) }
-    ensures made { OnOk result ((labels : List (List ℕ)) × (properties : Entries) × (graph_of_store T.seen store.new shared.new ≡ add_node labels properties (graph_of_store T.seen store.old shared.old))) }
-    ensures err { IfErr result (λ e. e ≢ OutOfMemory → created no_entries max_steps max_elements (node_view pattern.now) (graph_of_store T.seen store.old shared.old) ≡ Err e) }
-    ensures same { OnErr result (graph_of_store T.seen store.new shared.new ≡ graph_of_store T.seen store.old shared.old) }
-    ensures fit { IsFit T.seen store.new shared.new }
-    ensures keeps { Keeps T.seen store.old.tables shared.old store.new.tables shared.new }
+    ensures changes { Changes T.seen store.old shared.old store.new shared.new result (λ start end. Gives result (created no_entries max_steps max_elements (node_view pattern.now) start) (state_of end)) }
+    ensures marks { KeepsMarks T.seen store.old shared.old store.new shared.new }
 {
     if max_steps < 1 {
         return Err(Fault::StepQuota);
     }
-    let properties = storable_values(alloc, store, shared, &pattern.properties)?;
-    test_room(store, shared, max_elements)?;
+    let graph = store.graph(shared);
+    let properties = storable_values(alloc, &graph, &pattern.properties)?;
+    test_room(&graph, max_elements)?;
     let labels = label_texts(alloc, &pattern.labels)?;
-    let rows = one_row(alloc, Row::of(pattern, NodeId(store.next_ids().node)))?;
+    let rows = one_row(alloc, Row::of(pattern, NodeId(graph.next_ids().node)))?;
     store.create_node(alloc, shared, &labels, properties)?;
     Ok(Table { rows, steps: 1 })
 }
@@ -58,16 +56,14 @@ pub fn create<'a, T: Tables>(
 /// The values of the properties, which see no variable, where all may be stored.
 fn storable_values<'a, T: Tables>(
     alloc: Global,
-    store: &Store<T>,
-    shared: &T::Shared,
+    graph: &Snapshot<'_, T>,
     properties: &'a Properties,
 ) -> Result<Vec<(&'a str, Value)>, Fault>
-    requires fit { IsFit T.seen store.now shared.now }
     requires plain { are_plain_properties (properties_view properties.now) ≡ true }
-    ensures ok { IfOk result (λ pairs. storable_values (graph_of_store T.seen store.now shared.now) (properties_view properties.now) ≡ Ok (pairs_of pairs.items)) }
-    ensures err { IfErr result (λ e. e ≢ OutOfMemory → storable_values (graph_of_store T.seen store.now shared.now) (properties_view properties.now) ≡ Err e) }
+    ensures ok { IfOk result (λ pairs. storable_values graph.now (properties_view properties.now) ≡ Ok (pairs_of pairs.items)) }
+    ensures err { IfErr result (λ e. e ≢ OutOfMemory → storable_values graph.now (properties_view properties.now) ≡ Err e) }
 {
-    let pairs = property_values(alloc, store, shared, &Row::Empty, properties)?;
+    let pairs = property_values(alloc, graph, &Row::Empty, properties)?;
     if !are_storable(&pairs) {
         return Err(Fault::NotStorable);
     }
@@ -75,20 +71,15 @@ fn storable_values<'a, T: Tables>(
 }
 
 /// Room for one more node, and an id for it.
-fn test_room<T: Tables>(
-    store: &Store<T>,
-    shared: &T::Shared,
-    max_elements: u64,
-) -> Result<(), Fault>
-    requires fit { IsFit T.seen store.now shared.now }
-    ensures elements { OnOk result (element_count (graph_of_store T.seen store.now shared.now) < max_elements) }
-    ensures ids { OnOk result ((graph_of_store T.seen store.now shared.now).next_node < greatest_id) }
-    ensures err { IfErr result (λ e. room_for_one max_elements (graph_of_store T.seen store.now shared.now) ≡ Err e) }
+fn test_room<T: Tables>(graph: &Snapshot<'_, T>, max_elements: u64) -> Result<(), Fault>
+    ensures elements { OnOk result (element_count graph.now < max_elements) }
+    ensures ids { OnOk result (graph.now.next_node < greatest_id) }
+    ensures err { IfErr result (λ e. room_for_one max_elements graph.now ≡ Err e) }
 {
-    if max_elements <= store.elements() {
+    if max_elements <= graph.elements() {
         return Err(Fault::ElementQuota);
     }
-    if GREATEST_ID <= store.next_ids().node {
+    if GREATEST_ID <= graph.next_ids().node {
         return Err(Fault::IdsExhausted);
     }
     Ok(())

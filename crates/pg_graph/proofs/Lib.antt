@@ -11,3 +11,5 @@ pub mod Incident
 pub mod NamedChanges
 pub mod Listed
 pub mod Made
+pub mod Removed
+pub mod LabelsRemoved

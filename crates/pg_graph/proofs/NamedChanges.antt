@@ -48,7 +48,7 @@ not_among : (t : List ℕ) (us : List (List ℕ)) → AllByRecursion (λ v. text
 not_among t [] h = refl
 not_among t (u ∷ us) h = ap (λ b. b || is_among us t) (differs t u h.0) ∙ not_among t us h.1
 
-same_texts : (ts us : List (List ℕ)) → IsStrictlySortedBy text_order ts → IsStrictlySortedBy text_order us → ((t : List ℕ) → is_among ts t ≡ is_among us t) → ts ≡ us
+pub same_texts : (ts us : List (List ℕ)) → IsStrictlySortedBy text_order ts → IsStrictlySortedBy text_order us → ((t : List ℕ) → is_among ts t ≡ is_among us t) → ts ≡ us
 unfolding IsStrictlySortedBy
 same_texts [] [] p q h = refl
 same_texts [] (u ∷ us) p q h = absurd (true≢false (sym (h u ∙ ap (λ b. b || is_among us u) (itself u))))
@@ -92,7 +92,7 @@ module _ (names : List (List ℕ)) (n : ℕ) where
           ap (λ b. p (text_of names l) || b) tail
           ∙ either_swap (p (text_of names l)) (p (text_of names n)) (list_any p (map_list (text_of names) ls))
 
-  among : (t : List ℕ) (ls : List ℕ) → is_among (label_texts names ls) t ≡ list_any (bytes_eq t) (map_list (text_of names) ls)
+  pub among : (t : List ℕ) (ls : List ℕ) → is_among (label_texts names ls) t ≡ list_any (bytes_eq t) (map_list (text_of names) ls)
   among t ls = any_put (bytes_eq t) (map_list (text_of names) ls) [] ∙ either_false _
 
   label_put : (ls : List ℕ) → label_texts names (with_label ls n) ≡ put_texts (text_of names n ∷ []) (label_texts names ls)

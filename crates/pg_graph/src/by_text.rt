@@ -1,7 +1,8 @@
 //! Labels and properties by the texts of their names.
-ghost use Rattle.std.specs.Prelude.{◌≡◌, ◌∷◌, [], map as map_list, OnOk, OnErr, IfOk};
+ghost use Rattle.std.specs.Prelude.{◌≡◌, ◌∷◌, [], map as map_list, filter, not, OnOk, OnErr, IfOk};
 ghost use Rattle.std.specs.FinMap as map;
 ghost use Rattle.std.specs.Option.{option_map};
+ghost use Rattle.std.specs.Str.{bytes_eq};
 ghost use Rattle.pg_graph.specs.Names.{AreDistinct, KeepsNames};
 ghost use Rattle.pg_graph.specs.Refinement.{AreNamed, label_texts, property_entries};
 ghost use Rattle.pg_meaning.specs.Entries.{at_key, set_key};
@@ -27,6 +28,17 @@ impl Labels {
     {
         let name = names.intern(text)?;
         self.insert(name)
+    }
+
+    /// Takes the label of this text out, if it is there.
+    pub fn remove_text(&mut self, names: &Names, text: &str)
+        requires { AreNamed names.now self.old }
+        ensures texts { label_texts names.now self.new ≡ filter (λ l. not (bytes_eq l text.now)) (label_texts names.now self.old) }
+        ensures named { AreNamed names.now self.new }
+    {
+        if let Some(name) = names.find(text) {
+            self.remove(name);
+        }
     }
 
     /// The texts of the labels, in byte order.

@@ -49,7 +49,8 @@ impl Labels {
 
     /// Takes a label out, if it is there.
     pub fn remove(&mut self, name: NameId)
-        ensures { self.new ≡ without_label self.old name }
+        ensures removed { self.new ≡ without_label self.old name }
+        ensures rising { AreLabels self.old }
     {
         sorted::remove(&mut self.names, name.number());
     }

@@ -6,13 +6,14 @@ use Rattle.std.proofs.lemmas.Bool.Decides.{Decides-eqb, not_from_Decides}
 use Rattle.std.proofs.lemmas.List.{get_or-set_same, get_or-set_other, length-set}
 use Rattle.pg_graph.proofs.Interned.{position_map}
 use Rattle.pg_graph.specs.Content.{Content, Seen, Keeps}
-use Rattle.pg_graph.specs.Refinement.{graph_of, Holds}
-use Rattle.pg_meaning.specs.Graph.{Graph, IsGraph, element_count}
+use Rattle.pg_meaning.specs.Graph.{Graph, IsGraph}
 use Rattle.pg_meaning.specs.Names.{is_among}
 use Rattle.pg_server.specs.Settings.{all_tokens, token_texts}
 use Rattle.pg_server.specs.State.{State, no_state, tokens_of}
 use Rattle.pg_server.specs.Tenants.{state_of, states_of, AllFit, AreTenants}
 use Rattle.pg_server.specs.declared.tenant.Tenant.{Tenant}
+use Rattle.pg_store.specs.Journal.{CanUndo, IsWell, graph_in}
+use Rattle.pg_store.specs.Stores as stores
 use Rattle.pg_store.specs.Stores.{graph_of_store, IsFit}
 use Rattle.pg_store.specs.declared.store.Store.{Store}
 use Rattle.pg_value.specs.Texts.{comes_again}
@@ -39,16 +40,18 @@ length_mapped f (x ∷ xs) = ap suc (length_mapped f xs)
 
 -- a store whose content over the shared part stayed fits, and its graph stayed
 module _ {T S : Type 0} (seen : Seen T S) (store : Store T) (old new : S) (same : seen.content store.tables new ≡ seen.content store.tables old) where
+  stays : stores.state_of seen store new ≡ stores.state_of seen store old
+  stays = ap (λ (c : Content). record (stores.state_of seen store old) { content = c }) same
+
   graph_stays : graph_of_store seen store new ≡ graph_of_store seen store old
-  graph_stays = ap (λ (c : Content). graph_of store.names c store.next.node store.next.rel) same
+  graph_stays = ap (graph_in store.names) stays
 
   fit_stays : seen.fits store.tables new → IsFit seen store old → IsFit seen store new
-  fit_stays fits was =
-      record {
-        stored = record { fits = fits; holds = subst (λ (c : Content). Holds store.names c store.next.node store.next.rel) (sym same) was.stored.holds };
-        counted = was.counted ∙ ap element_count (sym graph_stays);
-        ids = was.ids;
-      }
+  fit_stays fits was = record {
+    fits = fits;
+    well = subst (IsWell store.names) (sym stays) was.well;
+    journal = subst (CanUndo store.names store.journal.items) (sym stays) was.journal;
+  }
 
 module _ {T S : Type 0} (seen : Seen T S) (tenants : List (Tenant T)) (old new : S) (all : AllFit seen tenants old) (t : ℕ) (was now : Tenant T) (lt : t < length tenants)
     (at : was ≡ get_or tenants t was) (keeps : Keeps seen was.store.tables old now.store.tables new) (settings : now.settings ≡ was.settings) where
@@ -60,10 +63,10 @@ module _ {T S : Type 0} (seen : Seen T S) (tenants : List (Tenant T)) (old new :
     another e = ne (sym (all.own j d below) ∙ e ∙ owner_is)
 
     same_there : seen.content (get_or tenants j d).store.tables new ≡ seen.content (get_or tenants j d).store.tables old
-    same_there = keeps.others.same (get_or tenants j d).store.tables another (all.fit j d below).stored.fits
+    same_there = keeps.others.same (get_or tenants j d).store.tables another (all.fit j d below).fits
 
     fits_there : IsFit seen (get_or tenants j d).store new
-    fits_there = fit_stays seen (get_or tenants j d).store old new same_there (keeps.others.fit (get_or tenants j d).store.tables another (all.fit j d below).stored.fits) (all.fit j d below)
+    fits_there = fit_stays seen (get_or tenants j d).store old new same_there (keeps.others.fit (get_or tenants j d).store.tables another (all.fit j d below).fits) (all.fit j d below)
 
     state_there : state_of seen (get_or tenants j d) new ≡ state_of seen (get_or tenants j d) old
     state_there =

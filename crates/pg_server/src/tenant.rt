@@ -1,15 +1,14 @@
 //! A tenant: what it may use, and its graph.
-ghost use Rattle.std.specs.Prelude.{◌≡◌, ◌≢◌, IfOk, IfErr, OnErr};
-ghost use Rattle.pg_graph.specs.Content.{Keeps};
+ghost use Rattle.std.specs.Prelude.{◌≡◌};
 ghost use Rattle.pg_json.specs.Replies.{reply_text};
 ghost use Rattle.pg_meaning.specs.Names.{is_among};
-ghost use Rattle.pg_meaning.specs.declared.fault.Fault.TheVariants.{OutOfMemory};
 ghost use Rattle.pg_server.specs.Settings.{token_texts};
 ghost use Rattle.pg_server.specs.Solo.{may_write, status_text};
 ghost use Rattle.pg_server.specs.Tenants.{state_of};
-ghost use Rattle.pg_store.specs.Stores.{graph_of_store, IsFit};
-ghost use Rattle.pg_tenant.specs.Answers.{answered, refused};
+ghost use Rattle.pg_store.specs.Changes.{Changes};
+ghost use Rattle.pg_store.specs.Stores.{IsFit};
 ghost use Rattle.pg_tenant.specs.Outcomes.{plan_outcome};
+ghost use Rattle.pg_tenant.specs.Replies.{IsAnswer};
 
 use crate::settings::TenantSettings;
 use pg_graph::Tables;
@@ -42,12 +41,8 @@ impl<T: Tables> Tenant<T> {
         plan: &Plan,
     ) -> Result<ReplyBytes, Fault>
         requires fit { IsFit T.seen self.old.store shared.old }
-        ensures ok { IfOk result (λ bytes. answered (graph_of_store T.seen self.old.store shared.old) (plan_outcome (may_write self.old.settings token.now) self.old.settings.max_steps self.old.settings.max_elements (graph_of_store T.seen self.old.store shared.old) plan.now) ≡ record { reply = bytes; graph = graph_of_store T.seen self.new.store shared.new }) }
-        ensures err { IfErr result (λ e. e ≢ OutOfMemory → answered (graph_of_store T.seen self.old.store shared.old) (plan_outcome (may_write self.old.settings token.now) self.old.settings.max_steps self.old.settings.max_elements (graph_of_store T.seen self.old.store shared.old) plan.now) ≡ refused (graph_of_store T.seen self.old.store shared.old) e) }
-        ensures refused { OnErr result (graph_of_store T.seen self.new.store shared.new ≡ graph_of_store T.seen self.old.store shared.old) }
         ensures settings { self.new.settings ≡ self.old.settings }
-        ensures fit { IsFit T.seen self.new.store shared.new }
-        ensures keeps { Keeps T.seen self.old.store.tables shared.old self.new.store.tables shared.new }
+        ensures changes { Changes T.seen self.old.store shared.old self.new.store shared.new result (λ start end. IsAnswer result (plan_outcome (may_write self.old.settings token.now) self.old.settings.max_steps self.old.settings.max_elements start plan.now) start end) }
     {
         let may_write = self.settings.may_write(token);
         let quota = self.settings.quota();

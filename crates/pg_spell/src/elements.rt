@@ -6,26 +6,23 @@ ghost use Rattle.pg_meaning.specs.Queries.{test_present, test_ids};
 ghost use Rattle.pg_meaning.specs.declared.fault.Fault.TheVariants.{OutOfMemory};
 ghost use Rattle.pg_spell.specs.Printed.{shown_node, shown_relationship, path_items};
 ghost use Rattle.pg_spell.specs.Places.{test_place, shown_place};
-ghost use Rattle.pg_store.specs.Stores.{graph_of_store, IsFit};
 
 use crate::stored::spell_stored_entries;
 use pg_graph::Tables;
-use pg_store::Store;
+use pg_store::Snapshot;
 use pg_value_core::{Fault, NodeId, Out, Path, RelId};
 use std::alloc::Global;
 
 pub(crate) fn spell_node<T: Tables>(
     alloc: Global,
-    store: &Store<T>,
-    shared: &T::Shared,
+    graph: &Snapshot<'_, T>,
     id: NodeId,
 ) -> Result<Out, Fault>
-    requires fit { IsFit T.seen store.now shared.now }
-    ensures live { IfOk result (λ out. test_present (has_node (graph_of_store T.seen store.now shared.now) id.0) ≡ Ok tt) }
-    ensures data { IfOk result (λ out. data_of out ≡ shown_node (graph_of_store T.seen store.now shared.now) id.0 (node_at (graph_of_store T.seen store.now shared.now) id.0)) }
-    ensures err { IfErr result (λ e. e ≢ OutOfMemory → test_present (has_node (graph_of_store T.seen store.now shared.now) id.0) ≡ Err e) }
+    ensures live { IfOk result (λ out. test_present (has_node graph.now id.0) ≡ Ok tt) }
+    ensures data { IfOk result (λ out. data_of out ≡ shown_node graph.now id.0 (node_at graph.now id.0)) }
+    ensures err { IfErr result (λ e. e ≢ OutOfMemory → test_present (has_node graph.now id.0) ≡ Err e) }
 {
-    match store.node_texts(alloc, shared, id)? {
+    match graph.node_texts(alloc, id)? {
         Some(node) => Ok(Out::Node {
             id,
             labels: node.labels,
@@ -37,16 +34,14 @@ pub(crate) fn spell_node<T: Tables>(
 
 pub(crate) fn spell_rel<T: Tables>(
     alloc: Global,
-    store: &Store<T>,
-    shared: &T::Shared,
+    graph: &Snapshot<'_, T>,
     id: RelId,
 ) -> Result<Out, Fault>
-    requires fit { IsFit T.seen store.now shared.now }
-    ensures live { IfOk result (λ out. test_present (has_relationship (graph_of_store T.seen store.now shared.now) id.0) ≡ Ok tt) }
-    ensures data { IfOk result (λ out. data_of out ≡ shown_relationship (graph_of_store T.seen store.now shared.now) id.0 (relationship_at (graph_of_store T.seen store.now shared.now) id.0)) }
-    ensures err { IfErr result (λ e. e ≢ OutOfMemory → test_present (has_relationship (graph_of_store T.seen store.now shared.now) id.0) ≡ Err e) }
+    ensures live { IfOk result (λ out. test_present (has_relationship graph.now id.0) ≡ Ok tt) }
+    ensures data { IfOk result (λ out. data_of out ≡ shown_relationship graph.now id.0 (relationship_at graph.now id.0)) }
+    ensures err { IfErr result (λ e. e ≢ OutOfMemory → test_present (has_relationship graph.now id.0) ≡ Err e) }
 {
-    match store.rel_texts(alloc, shared, id)? {
+    match graph.rel_texts(alloc, id)? {
         Some(rel) => Ok(Out::Rel {
             id,
             kind: rel.kind,
@@ -60,19 +55,17 @@ pub(crate) fn spell_rel<T: Tables>(
 
 pub(crate) fn spell_path<T: Tables>(
     alloc: Global,
-    store: &Store<T>,
-    shared: &T::Shared,
+    graph: &Snapshot<'_, T>,
     path: Path,
 ) -> Result<Out, Fault>
-    requires fit { IsFit T.seen store.now shared.now }
-    ensures live { IfOk result (λ out. test_ids (graph_of_store T.seen store.now shared.now) path.0.items ≡ Ok tt) }
-    ensures data { IfOk result (λ out. data_of out ≡ path_data (path_items (graph_of_store T.seen store.now shared.now) path.0.items)) }
-    ensures err { IfErr result (λ e. e ≢ OutOfMemory → test_ids (graph_of_store T.seen store.now shared.now) path.0.items ≡ Err e) }
+    ensures live { IfOk result (λ out. test_ids graph.now path.0.items ≡ Ok tt) }
+    ensures data { IfOk result (λ out. data_of out ≡ path_data (path_items graph.now path.0.items)) }
+    ensures err { IfErr result (λ e. e ≢ OutOfMemory → test_ids graph.now path.0.items ≡ Err e) }
 {
     let mut found = Vec::with_capacity(alloc, path.0.len())?;
     let mut is_node = true;
     for id in &path.0 {
-        found.push(spell_place(alloc, store, shared, is_node, *id)?)?;
+        found.push(spell_place(alloc, graph, is_node, *id)?)?;
         is_node = !is_node;
     }
     Ok(Out::Path(found))
@@ -81,19 +74,17 @@ pub(crate) fn spell_path<T: Tables>(
 // A node's or a relationship's place in a path.
 fn spell_place<T: Tables>(
     alloc: Global,
-    store: &Store<T>,
-    shared: &T::Shared,
+    graph: &Snapshot<'_, T>,
     is_node: bool,
     id: u64,
 ) -> Result<Out, Fault>
-    requires fit { IsFit T.seen store.now shared.now }
-    ensures live { IfOk result (λ out. test_place (graph_of_store T.seen store.now shared.now) is_node id ≡ Ok tt) }
-    ensures data { IfOk result (λ out. data_of out ≡ shown_place (graph_of_store T.seen store.now shared.now) is_node id) }
-    ensures err { IfErr result (λ e. e ≢ OutOfMemory → test_place (graph_of_store T.seen store.now shared.now) is_node id ≡ Err e) }
+    ensures live { IfOk result (λ out. test_place graph.now is_node id ≡ Ok tt) }
+    ensures data { IfOk result (λ out. data_of out ≡ shown_place graph.now is_node id) }
+    ensures err { IfErr result (λ e. e ≢ OutOfMemory → test_place graph.now is_node id ≡ Err e) }
 {
     if is_node {
-        spell_node(alloc, store, shared, NodeId(id))
+        spell_node(alloc, graph, NodeId(id))
     } else {
-        spell_rel(alloc, store, shared, RelId(id))
+        spell_rel(alloc, graph, RelId(id))
     }
 }

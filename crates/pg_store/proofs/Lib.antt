@@ -1,3 +1,7 @@
+pub mod JournalLemmas
+pub mod States
 pub mod Stores
-pub mod Changes
-pub mod Undone
+pub mod ChangeLemmas
+pub mod Changed
+pub mod TakenBack
+pub mod Settled

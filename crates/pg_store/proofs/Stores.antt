@@ -1,19 +1,24 @@
 -- A store as a graph: the empty one, and whether it has a node.
-use Rattle.std.proofs.Common.{◌≡◌, ℕ, List, [], map as map_list, Bor, Option, Some, None, is_some, option_copied, arith, refl, sym, ap, subst, ◌∙◌}
+use Rattle.std.proofs.Common.{◌≡◌, ◌<◌, ◌^◌, ℕ, List, [], map as map_list, Bor, Option, Some, None, IsSome, is_some, true, option_copied, arith, refl, sym, ap, subst, ◌∙◌}
 use Rattle.std.proofs.lemmas.List.{nil_from_length}
 use Rattle.std.specs.FinMap as map
+use Rattle.std.specs.Global.{Vec}
 use Rattle.std.specs.List.{IsDistinct}
 use Rattle.std.specs.Ordering.{nat_cmp}
 use Rattle.std.specs.Option.{option_map}
 use Rattle.pg_graph.proofs.Held.{empty_holds, held_is_graph}
-use Rattle.pg_graph.proofs.Refined.{node_is_read}
+use Rattle.pg_graph.proofs.Refined.{node_is_read, relationship_is_read}
+use Rattle.pg_graph.proofs.Removed.{without_none, has_none}
 use Rattle.pg_graph.specs.Content.{Content, Seen, empty_content}
 use Rattle.pg_graph.specs.Names.{AreDistinct}
 use Rattle.pg_graph.specs.Refinement.{graph_of, node_of, relationship_of, Holds}
+use Rattle.pg_graph.specs.Removed.{Ids, has_id, live_content}
 use Rattle.pg_graph.specs.declared.records.NodeRecord.{NodeRecord}
 use Rattle.pg_graph.specs.declared.records.RelRecord.{RelRecord}
-use Rattle.pg_meaning.specs.Graph.{Graph, IsGraph, empty_graph, element_count, has_node}
-use Rattle.pg_store.specs.Stores.{graph_of_store, IsFit}
+use Rattle.pg_meaning.specs.Graph.{Graph, IsGraph, empty_graph, element_count, has_node, has_relationship}
+use Rattle.pg_store.specs.Journal.{CanUndo, live}
+use Rattle.pg_store.specs.Stores.{graph_of_store, state_of, IsFit}
+use Rattle.pg_store.specs.declared.journal.Entry.{Entry}
 use Rattle.pg_store.specs.declared.store.Store.{Store}
 
 pub nothing_held : (X : Type 0) → map.entries (map.empty {X = X} {R = nat_cmp}) ≡ []
@@ -29,21 +34,36 @@ made ns rs = record { nodes = map_list (λ e. (e.0, node_of [] e.1)) ns; relatio
 no_elements : (c : Content) → c ≡ empty_content → graph_of [] c 0 0 ≡ empty_graph
 no_elements c h = ap (λ (c : Content). graph_of [] c 0 0) h ∙ (λ i. made (nothing_held NodeRecord i) (nothing_held RelRecord i))
 
-module _ {T S : Type 0} (seen : Seen T S) (tables : T) (shared : S) (names : List (List ℕ)) (none : names ≡ []) (empty : seen.content tables shared ≡ empty_content) where
+module _ {T S : Type 0} (seen : Seen T S) (tables : T) (shared : S) (names : List (List ℕ)) (gone_nodes gone_rels : Ids) (journal : Vec Entry) (none : names ≡ []) (empty : seen.content tables shared ≡ empty_content) (no_nodes : gone_nodes ≡ map.empty) (no_rels : gone_rels ≡ map.empty) (nothing_done : journal.items ≡ []) where
   abbrev new_store : Store T
-  new_store = record { names = names; tables = tables; next = record { node = 0; rel = 0 }; elements = 0 }
+  new_store = record { names = names; tables = tables; next = record { node = 0; rel = 0 }; elements = 0; gone_nodes = gone_nodes; gone_rels = gone_rels; journal = journal }
+
+  live_empty : live (state_of seen new_store shared) ≡ empty_content
+  live_empty =
+      (λ i. live_content (seen.content tables shared) (no_nodes i) (no_rels i))
+      ∙ (λ i. record { nodes = without_none (seen.content tables shared).nodes i; rels = without_none (seen.content tables shared).rels i })
+      ∙ empty
 
   pub new_is_empty : graph_of_store seen new_store shared ≡ empty_graph
-  new_is_empty = ap (λ (ns : List (List ℕ)). graph_of ns (seen.content tables shared) 0 0) none ∙ no_elements (seen.content tables shared) empty
+  new_is_empty = ap (λ (ns : List (List ℕ)). graph_of ns (live (state_of seen new_store shared)) 0 0) none ∙ no_elements (live (state_of seen new_store shared)) live_empty
+
+  holds_empty : (c : Content) → c ≡ empty_content → Holds names c 0 0
+  holds_empty c is = subst (λ (c : Content). Holds names c 0 0) (sym is) (subst (λ (ns : List (List ℕ)). Holds ns empty_content 0 0) (sym none) (empty_holds [] 0 0 none_distinct))
 
   pub new_is_fit : seen.fits tables shared → IsFit seen new_store shared
   new_is_fit fits = record {
-    stored = record {
-      fits = fits;
-      holds = subst (λ (c : Content). Holds names c 0 0) (sym empty) (subst (λ (ns : List (List ℕ)). Holds ns empty_content 0 0) (sym none) (empty_holds [] 0 0 none_distinct));
+    fits = fits;
+    well = record {
+      held = holds_empty (seen.content tables shared) empty;
+      holds = holds_empty (live (state_of seen new_store shared)) live_empty;
+      counted = sym (ap element_count new_is_empty);
+      nodes_wait = λ id h. absurd (cc (h, ap (λ (ids : Ids). has_id ids id) no_nodes, has_none id));
+      rels_wait = λ id h. absurd (cc (h, ap (λ (ids : Ids). has_id ids id) no_rels, has_none id));
+      node_ids = omega arith;
+      rel_ids = omega arith;
+      few = omega arith;
     };
-    counted = sym (ap element_count new_is_empty);
-    ids = omega arith;
+    journal = subst (λ (es : List Entry). CanUndo names es (state_of seen new_store shared)) (sym nothing_done) tt;
   }
 
 pub copied_is_there : {X : Type 0} (o : Option (Bor X)) → is_some (option_copied o) ≡ is_some o
@@ -58,4 +78,38 @@ node_is_there names c i j id o is = ap is_some (node_is_read names c i j id ∙ 
     by_case (Some n) = refl
 
 pub store_is_graph : {T S : Type 0} (seen : Seen T S) (store : Store T) (shared : S) → IsFit seen store shared → IsGraph (graph_of_store seen store shared)
-store_is_graph seen store shared fit = held_is_graph store.names (seen.content store.tables shared) store.next.node store.next.rel fit.stored.holds
+store_is_graph seen store shared fit = held_is_graph store.names (live (state_of seen store shared)) store.next.node store.next.rel fit.well.holds
+
+pub rel_is_there : (names : List (List ℕ)) (c : Content) (i j id : ℕ) (o : Option RelRecord) → o ≡ map.get c.rels id → has_relationship (graph_of names c i j) id ≡ is_some o
+rel_is_there names c i j id o is = ap is_some (relationship_is_read names c i j id ∙ ap (option_map (relationship_of names)) (sym is)) ∙ by_case o
+  where
+    by_case : (o : Option RelRecord) → is_some (option_map (relationship_of names) o) ≡ is_some o
+    by_case None = refl
+    by_case (Some r) = refl
+
+-- whether an id is one of a set, as a look-up tells
+pub id_is_among : (ids : Ids) (id : ℕ) (o : Option (Bor (Unit {0}))) → option_copied o ≡ map.get ids id → has_id ids id ≡ is_some o
+id_is_among ids id o is = ap is_some (sym is) ∙ copied_is_there o
+
+some_of : {A B : Type 0} (f : A → B) (o : Option A) → is_some (option_map f o) ≡ true → IsSome o
+some_of f None h = absurd (cc)
+some_of f (Some a) h = refl
+
+-- what the graph has, the content has
+pub node_held : (names : List (List ℕ)) (c : Content) (i j id : ℕ) → has_node (graph_of names c i j) id ≡ true → IsSome (map.get c.nodes id)
+node_held names c i j id h = some_of (node_of names) (map.get c.nodes id) (ap is_some (sym (node_is_read names c i j id)) ∙ h)
+
+pub rel_held : (names : List (List ℕ)) (c : Content) (i j id : ℕ) → has_relationship (graph_of names c i j) id ≡ true → IsSome (map.get c.rels id)
+rel_held names c i j id h = some_of (relationship_of names) (map.get c.rels id) (ap is_some (sym (relationship_is_read names c i j id)) ∙ h)
+
+pub copied_some : {X : Type 0} (o : Option (Bor X)) → IsSome (option_copied o) → IsSome o
+copied_some None h = h
+copied_some (Some x) h = refl
+
+-- an integer of 64 bits
+pub node_is_below : {T S : Type 0} (seen : Seen T S) (store : Store T) (shared : S) (id : ℕ) → IsFit seen store shared → has_node (graph_of_store seen store shared) id ≡ true → id < 2 ^ 63
+node_is_below seen store shared id fit is = by_case (map.get (live (state_of seen store shared)).nodes id) refl (node_held store.names (live (state_of seen store shared)) store.next.node store.next.rel id is)
+  where
+    by_case : (o : Option NodeRecord) → map.get (live (state_of seen store shared)).nodes id ≡ o → IsSome o → id < 2 ^ 63
+    by_case None none h = absurd (cc)
+    by_case (Some n) there h = let below = (fit.well.holds.nodes id n there).below in let ids = fit.well.node_ids in omega (arith, below, ids)

@@ -1,1 +1,4 @@
+pub mod Changes
+pub mod GraphCode
+pub mod Journal
 pub mod Stores

@@ -1,10 +1,11 @@
 -- One tenant's store as a graph, and what its calls are given and give in the graph's words.
-use Rattle.std.specs.Prelude.{◌≡◌, ◌≤◌, ◌^◌, ℕ, List, map as map_list, string_bytes}
+use Rattle.std.specs.Prelude.{◌≡◌, ◌≤◌, ℕ, List, not, filter, fold, length, drop, map as map_list, bytes_eq, string_bytes}
 use Rattle.std.specs.Borrow.{Bor}
 use Rattle.pg_graph.specs.Content.{Seen}
-use Rattle.pg_graph.specs.Stored.{stored, IsStored}
-use Rattle.pg_meaning.specs.Graph.{Graph, Node, Relationship, element_count}
+use Rattle.pg_meaning.specs.Graph.{Graph, Node, Relationship}
 use Rattle.pg_meaning.specs.Value.{Value}
+use Rattle.pg_store.specs.Journal.{State, IsWell, CanUndo, graph_in, undone}
+use Rattle.pg_store.specs.declared.journal.Mark.{Mark}
 use Rattle.pg_store.specs.declared.store.Store.{Store}
 use Rattle.pg_store.specs.declared.texts.NodeTexts.{NodeTexts}
 use Rattle.pg_store.specs.declared.texts.RelTexts.{RelTexts}
@@ -12,17 +13,43 @@ use Rattle.pg_value_core.specs.View.{view, entries_view}
 use Rattle.pg_value_core.specs.declared.value.Value as code
 
 module _ {T S : Type 0} (seen : Seen T S) (store : Store T) (shared : S) where
-  abbrev pub graph_of_store : Graph
-  graph_of_store = stored seen store.tables shared store.names store.next
+  abbrev pub state_of : State
+  state_of = record {
+    content = seen.content store.tables shared;
+    gone_nodes = store.gone_nodes;
+    gone_rels = store.gone_rels;
+    next = store.next;
+    elements = store.elements;
+  }
 
-  -- the shared part is the store's, what it holds stands for a graph, its elements are counted, and each node's id is an integer of the language
+  abbrev pub graph_of_store : Graph
+  graph_of_store = graph_in store.names state_of
+
+  -- the graph at the moment of a mark
+  abbrev pub graph_at : Mark → Graph
+  graph_at mark = graph_in store.names (undone (drop mark.0 store.journal.items) state_of)
+
+  -- the shared part is the store's, what it holds stands for a graph, and all that was done since each mark can be undone
   pub record IsFit : Type 0 where
-    pub stored : IsStored seen store.tables shared store.names store.next
-    pub counted : store.elements ≡ element_count graph_of_store
-    pub ids : store.next.node ≤ 2 ^ 63
+    pub fits : seen.fits store.tables shared
+    pub well : IsWell store.names state_of
+    pub journal : CanUndo store.names store.journal.items state_of
+
+-- the mark is of a moment that the store can go back to
+abbrev pub HasMark : {T : Type 0} → Store T → Mark → Type 0
+HasMark store mark = mark.0 ≤ length store.journal.items
+
+-- each mark of the old store is one of the new, of the same graph
+pub record KeepsMarks {T S : Type 0} (seen : Seen T S) (old : Store T) (before : S) (new : Store T) (after : S) : Type 0 where
+  pub there : (mark : Mark) → HasMark old mark → HasMark new mark
+  pub same : (mark : Mark) → HasMark old mark → graph_at seen new after mark ≡ graph_at seen old before mark
 
 abbrev pub texts_of : List (Bor (List ℕ)) → List (List ℕ)
 texts_of texts = map_list (λ t. t.now) texts
+
+-- the texts without others, one after the other
+abbrev pub without_texts : (gone texts : List (List ℕ)) → List (List ℕ)
+without_texts gone texts = fold (λ us t. filter (λ u. not (bytes_eq u t)) us) texts gone
 
 abbrev pub pairs_of : List (Bor (List ℕ) × code.Value) → List (List ℕ × Value)
 pairs_of pairs = map_list (λ p. (p.0.now, view p.1)) pairs

@@ -1,18 +1,20 @@
-//! Nodes made of texts, and the last one taken back.
-ghost use Rattle.std.specs.Prelude.{◌≡◌, ◌<◌, ◌^◌, ℕ, List, OnOk, OnErr, IfOk};
+//! Nodes and relationships made of texts.
+ghost use Rattle.std.specs.Prelude.{◌≡◌, ◌<◌, ◌^◌, ℕ, List, true, length, IsSome, OnOk, OnErr, IfOk};
 ghost use Rattle.std.specs.FinMap as map;
 ghost use Rattle.pg_graph.specs.Content.{Keeps};
-ghost use Rattle.pg_graph.specs.Names.{AreDistinct, KeepsNames};
-ghost use Rattle.pg_graph.specs.Refinement.{AreNamed, label_texts, property_entries};
+ghost use Rattle.pg_graph.specs.Refinement.{AreNamed, label_texts, property_entries, text_of};
 ghost use Rattle.pg_meaning.specs.Entries.{set_keys};
-ghost use Rattle.pg_meaning.specs.Graph.{Graph, IsGraph, add_node};
+ghost use Rattle.pg_meaning.specs.Graph.{add_node, add_relationship, has_node};
 ghost use Rattle.pg_meaning.specs.Names.{in_byte_order};
-ghost use Rattle.pg_meaning.specs.Value.{Entries, no_entries};
-ghost use Rattle.pg_store.specs.Stores.{graph_of_store, IsFit, texts_of, pairs_of};
+ghost use Rattle.pg_meaning.specs.Value.{no_entries};
+ghost use Rattle.pg_store.specs.Journal.{live};
+ghost use Rattle.pg_store.specs.Stores.{graph_of_store, state_of, IsFit, KeepsMarks, texts_of, pairs_of};
 
+use crate::journal::Entry;
+use crate::names::{labels_of, properties_of};
 use crate::store::Store;
-use pg_graph::{Labels, Names, NodeRecord, Properties, Tables};
-use pg_value_core::{NodeId, Value};
+use pg_graph::{NodeRecord, RelRecord, Tables};
+use pg_value_core::{NodeId, RelId, Value};
 use std::alloc::{AllocError, Global};
 
 impl<T: Tables> Store<T> {
@@ -31,16 +33,17 @@ impl<T: Tables> Store<T> {
         ensures id { IfOk result (λ id. id.0 ≡ (graph_of_store T.seen self.old shared.old).next_node) }
         ensures ok { OnOk result (graph_of_store T.seen self.new shared.new ≡ add_node (texts_of labels.now.items) (set_keys (pairs_of properties.entry.items) no_entries) (graph_of_store T.seen self.old shared.old)) }
         ensures err { OnErr result (graph_of_store T.seen self.new shared.new ≡ graph_of_store T.seen self.old shared.old) }
+        ensures marks { KeepsMarks T.seen self.old shared.old self.new shared.new }
         ensures fit { IsFit T.seen self.new shared.new }
         ensures keeps { Keeps T.seen self.old.tables shared.old self.new.tables shared.new }
     {
         let labels = labels_of(alloc, &mut self.names, labels)?;
         let properties = properties_of(alloc, &mut self.names, properties)?;
-        self.add(shared, NodeRecord { labels, properties })
+        self.add_node(shared, NodeRecord { labels, properties })
     }
 
     // Adds a node whose names the store has.
-    fn add(&mut self, shared: &mut T::Shared, node: NodeRecord) -> Result<NodeId, AllocError>
+    fn add_node(&mut self, shared: &mut T::Shared, node: NodeRecord) -> Result<NodeId, AllocError>
         requires fit { IsFit T.seen self.old shared.old }
         requires room { self.old.next.node < 2 ^ 63 }
         requires count { self.old.elements < 2 ^ 63 }
@@ -49,64 +52,75 @@ impl<T: Tables> Store<T> {
         ensures id { IfOk result (λ id. id.0 ≡ (graph_of_store T.seen self.old shared.old).next_node) }
         ensures ok { OnOk result ((labels : List (List ℕ)) → in_byte_order labels ≡ label_texts self.old.names node.labels → graph_of_store T.seen self.new shared.new ≡ add_node labels (property_entries self.old.names node.properties) (graph_of_store T.seen self.old shared.old)) }
         ensures err { OnErr result (graph_of_store T.seen self.new shared.new ≡ graph_of_store T.seen self.old shared.old) }
+        ensures marks { KeepsMarks T.seen self.old shared.old self.new shared.new }
         ensures fit { IsFit T.seen self.new shared.new }
         ensures keeps { Keeps T.seen self.old.tables shared.old self.new.tables shared.new }
     {
-        let id = pg_graph::create_node(
-            &mut self.tables,
-            shared,
-            &self.names,
-            &mut self.next,
-            node,
-        )?;
+        self.journal.reserve(1)?;
+        let id = NodeId(self.next.node);
+        self.tables.add_node(shared, id, node)?;
+        self.next.node += 1;
         self.elements += 1;
+        self.journal.push_reserved(Entry::NodeAdded);
         Ok(id)
     }
 
-    /// Takes back the node that was made last. It takes no memory.
-    pub fn undo_create(&mut self, shared: &mut T::Shared)
+    /// Makes a relationship of a type between two nodes that are there, with properties as a node
+    /// gets them. Or changes nothing.
+    pub fn create_rel(
+        &mut self,
+        alloc: Global,
+        shared: &mut T::Shared,
+        kind: &str,
+        source: NodeId,
+        target: NodeId,
+        properties: Vec<(&str, Value)>,
+    ) -> Result<RelId, AllocError>
         requires fit { IsFit T.seen self.old shared.old }
-        requires made { (g : Graph) × (labels : List (List ℕ)) × (properties : Entries) × IsGraph g × (graph_of_store T.seen self.old shared.old ≡ add_node labels properties g) }
-        ensures undone { (g : Graph) (labels : List (List ℕ)) (properties : Entries) → IsGraph g → graph_of_store T.seen self.old shared.old ≡ add_node labels properties g → graph_of_store T.seen self.new shared.new ≡ g }
+        requires room { self.old.next.rel < 2 ^ 63 }
+        requires count { self.old.elements < 2 ^ 63 }
+        requires source { has_node (graph_of_store T.seen self.old shared.old) source.0 ≡ true }
+        requires target { has_node (graph_of_store T.seen self.old shared.old) target.0 ≡ true }
+        ensures id { IfOk result (λ id. id.0 ≡ (graph_of_store T.seen self.old shared.old).next_relationship) }
+        ensures ok { OnOk result (graph_of_store T.seen self.new shared.new ≡ add_relationship kind.now source.0 target.0 (set_keys (pairs_of properties.entry.items) no_entries) (graph_of_store T.seen self.old shared.old)) }
+        ensures err { OnErr result (graph_of_store T.seen self.new shared.new ≡ graph_of_store T.seen self.old shared.old) }
+        ensures marks { KeepsMarks T.seen self.old shared.old self.new shared.new }
         ensures fit { IsFit T.seen self.new shared.new }
         ensures keeps { Keeps T.seen self.old.tables shared.old self.new.tables shared.new }
     {
-        self.next.node -= 1;
-        self.tables.drop_node(shared, NodeId(self.next.node));
-        self.elements -= 1;
+        let kind = self.names.intern(kind)?;
+        let properties = properties_of(alloc, &mut self.names, properties)?;
+        let rel = RelRecord {
+            kind,
+            source,
+            target,
+            properties,
+        };
+        self.add_rel(shared, rel)
     }
-}
 
-// The labels of these texts.
-fn labels_of(alloc: Global, names: &mut Names, texts: &Vec<&str>) -> Result<Labels, AllocError>
-    requires { AreDistinct names.old }
-    ensures labels { IfOk result (λ labels. label_texts names.new labels ≡ in_byte_order (texts_of texts.now.items)) }
-    ensures named { IfOk result (λ labels. AreNamed names.new labels) }
-    ensures keeps { KeepsNames names.old names.new }
-    ensures distinct { AreDistinct names.new }
-{
-    let mut labels = Labels::new(alloc);
-    for text in texts {
-        labels.insert_text(names, text)?;
+    // Adds a relationship whose names the store has.
+    fn add_rel(&mut self, shared: &mut T::Shared, rel: RelRecord) -> Result<RelId, AllocError>
+        requires fit { IsFit T.seen self.old shared.old }
+        requires room { self.old.next.rel < 2 ^ 63 }
+        requires count { self.old.elements < 2 ^ 63 }
+        requires kind { rel.kind < length self.old.names }
+        requires keys { AreNamed self.old.names (map.keys rel.properties) }
+        requires source { IsSome (map.get (live (state_of T.seen self.old shared.old)).nodes rel.source.0) }
+        requires target { IsSome (map.get (live (state_of T.seen self.old shared.old)).nodes rel.target.0) }
+        ensures id { IfOk result (λ id. id.0 ≡ (graph_of_store T.seen self.old shared.old).next_relationship) }
+        ensures ok { OnOk result (graph_of_store T.seen self.new shared.new ≡ add_relationship (text_of self.old.names rel.kind) rel.source.0 rel.target.0 (property_entries self.old.names rel.properties) (graph_of_store T.seen self.old shared.old)) }
+        ensures err { OnErr result (graph_of_store T.seen self.new shared.new ≡ graph_of_store T.seen self.old shared.old) }
+        ensures marks { KeepsMarks T.seen self.old shared.old self.new shared.new }
+        ensures fit { IsFit T.seen self.new shared.new }
+        ensures keeps { Keeps T.seen self.old.tables shared.old self.new.tables shared.new }
+    {
+        self.journal.reserve(1)?;
+        let id = RelId(self.next.rel);
+        self.tables.add_rel(shared, id, rel)?;
+        self.next.rel += 1;
+        self.elements += 1;
+        self.journal.push_reserved(Entry::RelAdded);
+        Ok(id)
     }
-    Ok(labels)
-}
-
-// The properties of these pairs.
-fn properties_of(
-    alloc: Global,
-    names: &mut Names,
-    pairs: Vec<(&str, Value)>,
-) -> Result<Properties, AllocError>
-    requires { AreDistinct names.old }
-    ensures properties { IfOk result (λ properties. property_entries names.new properties ≡ set_keys (pairs_of pairs.entry.items) no_entries) }
-    ensures named { IfOk result (λ properties. AreNamed names.new (map.keys properties)) }
-    ensures keeps { KeepsNames names.old names.new }
-    ensures distinct { AreDistinct names.new }
-{
-    let mut properties = Properties::with_capacity(alloc, pairs.len())?;
-    for (key, value) in pairs {
-        properties.set_text(names, key, value)?;
-    }
-    Ok(properties)
 }

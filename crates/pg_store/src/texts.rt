@@ -30,7 +30,7 @@ pub struct RelTexts {
 
 impl<T: Tables> Store<T> {
     /// What a node holds, if there is such a node.
-    pub fn node_texts(
+    pub(crate) fn node_texts(
         &self,
         alloc: Global,
         shared: &T::Shared,
@@ -39,14 +39,14 @@ impl<T: Tables> Store<T> {
         requires fit { IsFit T.seen self.now shared.now }
         ensures { IfOk result (λ found. option_map node_texts_view found ≡ node_at (graph_of_store T.seen self.now shared.now) id.0) }
     {
-        match self.tables.node(shared, id) {
+        match self.node(shared, id) {
             Some(node) => Ok(Some(texts_of_node(alloc, &self.names, node)?)),
             None => Ok(None),
         }
     }
 
     /// What a relationship holds, if there is such a relationship.
-    pub fn rel_texts(
+    pub(crate) fn rel_texts(
         &self,
         alloc: Global,
         shared: &T::Shared,
@@ -55,7 +55,7 @@ impl<T: Tables> Store<T> {
         requires fit { IsFit T.seen self.now shared.now }
         ensures { IfOk result (λ found. option_map rel_texts_view found ≡ relationship_at (graph_of_store T.seen self.now shared.now) id.0) }
     {
-        match self.tables.rel(shared, id) {
+        match self.rel(shared, id) {
             Some(rel) => Ok(Some(texts_of_rel(alloc, &self.names, rel)?)),
             None => Ok(None),
         }

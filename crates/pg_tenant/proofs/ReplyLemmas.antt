@@ -1,5 +1,5 @@
 -- A text that shows an outcome is its reply, or too long for one; and equal outcomes have equal replies.
-use Rattle.std.proofs.Common.{◌≡◌, ◌≢◌, ℕ, ◌<◌, ◌≤◌, Bool, false, List, [], ◌∷◌, map, length, String, Global, Vec, string_bytes, Result, Ok, Err, IfOk, IfErr, OnOk, inl, inr, arith, refl, sym, ap, subst, ◌∙◌}
+use Rattle.std.proofs.Common.{◌≡◌, ◌≢◌, ℕ, ◌+◌, ◌<◌, ◌≤◌, Bool, true, false, List, [], ◌∷◌, map, length, String, Global, Vec, string_bytes, Result, Ok, Err, IfOk, IfErr, OnOk, inl, inr, arith, refl, sym, ap, subst, ◌∙◌}
 use Rattle.std.proofs.lemmas.Bool.{le-leb}
 use Rattle.std.proofs.lemmas.Bool.Decides.{leb_tells}
 use Rattle.std.specs.Prelude.{nat_le, cond}
@@ -7,11 +7,15 @@ use Rattle.serde_json.specs.Data.{Items, array, string}
 use Rattle.serde_json.specs.Written.{compact_text}
 use Rattle.pg_json.specs.Replies.{items_of, outs, query_data, reply_text, max_reply}
 use Rattle.pg_json.specs.declared.reply.ReplyBody.TheVariants.{Query}
+use Rattle.pg_meaning.specs.Answer.{◌>>=◌, ◌>>◌, each_answer, unless}
 use Rattle.pg_meaning.specs.Graph.{Graph}
+use Rattle.pg_meaning.specs.Meters.{State}
 use Rattle.pg_meaning.specs.Queries.{Outcome}
-use Rattle.pg_meaning.specs.Value.{values_of}
+use Rattle.pg_meaning.specs.Tree.{Item}
+use Rattle.pg_meaning.specs.Value.{Value, no_entries, values_of}
 use Rattle.pg_meaning.specs.declared.fault.Fault.{Fault}
-use Rattle.pg_meaning.specs.declared.fault.Fault.TheVariants.{ReplyTooLong, OutOfMemory}
+use Rattle.pg_meaning.specs.declared.fault.Fault.TheVariants.{ReplyTooLong, OutOfMemory, StepQuota}
+use Rattle.pg_run.specs.Answers.{returned, test_rows, item_names, item_values}
 use Rattle.pg_spell.specs.Printed.{printed_items}
 use Rattle.pg_tenant.specs.Answers.{Answered, row_data, outcome_text, refused, answered}
 use Rattle.pg_tenant.specs.Replies.{IsReply, IsRefusal, Shows}
@@ -94,3 +98,19 @@ module _ (graph : Graph) (x y : Result Outcome Fault) (same : x ≡ y) (reply r 
 
   pub settled_err : IfErr reply (λ e. (g : Graph) → IsRefusal g y e) → IfErr r (λ e. IsRefusal graph x e)
   settled_err h = refusal_of_same graph x y same r (subst (λ s. IfErr s (λ e. (g : Graph) → IsRefusal g y e)) (sym is) h)
+
+-- ---- what a RETURN gives, from its tests in turn
+
+module _ (max_steps : ℕ) (items : List Item) (state : State) (rows : List (List Value)) where
+  abbrev shown_with : List (List Value) → Result Outcome Fault
+  shown_with rows = Ok (record { columns = item_names items; rows = rows; graph = state.graph; steps = state.steps + length state.rows })
+
+  abbrev tested_with : List (List Value) → Result Outcome Fault
+  tested_with rows = test_rows state.graph rows >> shown_with rows
+
+  pub returned_is : nat_le (state.steps + length state.rows) max_steps ≡ true → each_answer (item_values no_entries state.graph items) state.rows ≡ Ok rows → test_rows state.graph rows ≡ Ok tt
+      → returned no_entries max_steps items state ≡ shown_with rows
+  returned_is few given live =
+      ap (λ b. unless b StepQuota >> (each_answer (item_values no_entries state.graph items) state.rows >>= tested_with)) few
+      ∙ ap (λ r. r >>= tested_with) given
+      ∙ ap (λ r. r >> shown_with rows) live

@@ -1,12 +1,11 @@
 //! What a query answers.
-ghost use Rattle.std.specs.Prelude.{◌≡◌, ◌≢◌, ◌≤◌, ◌^◌, ◌||◌, not, Bool, IfOk, IfErr, OnErr};
-ghost use Rattle.pg_graph.specs.Content.{Keeps};
-ghost use Rattle.pg_meaning.specs.declared.fault.Fault.TheVariants.{OutOfMemory};
+ghost use Rattle.std.specs.Prelude.{◌≡◌, ◌≤◌, ◌^◌, ◌||◌, not, Bool};
 ghost use Rattle.pg_plan.specs.Plans.{plan_query};
 ghost use Rattle.pg_plan.specs.Updates.{updates};
-ghost use Rattle.pg_store.specs.Stores.{graph_of_store, IsFit};
-ghost use Rattle.pg_tenant.specs.Answers.{answered, refused};
+ghost use Rattle.pg_store.specs.Changes.{Changes};
+ghost use Rattle.pg_store.specs.Stores.{IsFit};
 ghost use Rattle.pg_tenant.specs.Outcomes.{plan_outcome};
+ghost use Rattle.pg_tenant.specs.Replies.{IsAnswer};
 
 use crate::statement::answer_statement;
 use pg_graph::Tables;
@@ -41,11 +40,7 @@ pub fn answer_plan<T: Tables>(
 ) -> Result<ReplyBytes, Fault>
     requires fit { IsFit T.seen store.old shared.old }
     requires quota { quota.max_elements ≤ 2 ^ 63 }
-    ensures ok { IfOk result (λ bytes. answered (graph_of_store T.seen store.old shared.old) (plan_outcome may_write quota.max_steps quota.max_elements (graph_of_store T.seen store.old shared.old) plan.now) ≡ record { reply = bytes; graph = graph_of_store T.seen store.new shared.new }) }
-    ensures err { IfErr result (λ e. e ≢ OutOfMemory → answered (graph_of_store T.seen store.old shared.old) (plan_outcome may_write quota.max_steps quota.max_elements (graph_of_store T.seen store.old shared.old) plan.now) ≡ refused (graph_of_store T.seen store.old shared.old) e) }
-    ensures refused { OnErr result (graph_of_store T.seen store.new shared.new ≡ graph_of_store T.seen store.old shared.old) }
-    ensures fit { IsFit T.seen store.new shared.new }
-    ensures keeps { Keeps T.seen store.old.tables shared.old store.new.tables shared.new }
+    ensures { Changes T.seen store.old shared.old store.new shared.new result (λ start end. IsAnswer result (plan_outcome may_write quota.max_steps quota.max_elements start plan.now) start end) }
 {
     if !is_permitted(may_write, plan) {
         return Err(Fault::ReadOnly);

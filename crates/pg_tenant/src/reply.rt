@@ -5,7 +5,6 @@ ghost use Rattle.pg_meaning.specs.Graph.{Graph};
 ghost use Rattle.pg_meaning.specs.Queries.{Outcome};
 ghost use Rattle.pg_meaning.specs.Value.{no_entries};
 ghost use Rattle.pg_run.specs.Answers.{returned};
-ghost use Rattle.pg_store.specs.Stores.{graph_of_store, IsFit};
 ghost use Rattle.pg_run.specs.Plain.{are_plain_items};
 ghost use Rattle.pg_syntax_tree.specs.View.{item_view};
 ghost use Rattle.pg_tenant.specs.Replies.{IsReply, IsRefusal, Shows};
@@ -15,7 +14,7 @@ use pg_graph::Tables;
 use pg_json::{ReplyBody, ReplyBytes, write_reply};
 use pg_plan::column_names;
 use pg_spell::spell_rows;
-use pg_store::Store;
+use pg_store::Snapshot;
 use pg_syntax_tree::Item;
 use pg_value_core::{Fault, Out};
 use std::alloc::Global;
@@ -23,19 +22,17 @@ use std::alloc::Global;
 /// The reply to a RETURN of these items at each row of a table.
 pub(crate) fn reply_of_rows<T: Tables>(
     alloc: Global,
-    store: &Store<T>,
-    shared: &T::Shared,
+    graph: &Snapshot<'_, T>,
     max_steps: u64,
     items: &Vec<Item>,
     table: &Table<'_>,
 ) -> Result<ReplyBytes, Fault>
-    requires fit { IsFit T.seen store.now shared.now }
     requires plain { are_plain_items (map item_view items.now.items) ≡ true }
-    ensures ok { IfOk result (λ bytes. (graph : Graph) → IsReply graph (returned no_entries max_steps (map item_view items.now.items) (state_of (graph_of_store T.seen store.now shared.now) table.now)) bytes (graph_of_store T.seen store.now shared.now)) }
-    ensures err { IfErr result (λ e. (graph : Graph) → IsRefusal graph (returned no_entries max_steps (map item_view items.now.items) (state_of (graph_of_store T.seen store.now shared.now) table.now)) e) }
+    ensures ok { IfOk result (λ bytes. (start : Graph) → IsReply start (returned no_entries max_steps (map item_view items.now.items) (state_of graph.now table.now)) bytes graph.now) }
+    ensures err { IfErr result (λ e. (start : Graph) → IsRefusal start (returned no_entries max_steps (map item_view items.now.items) (state_of graph.now table.now)) e) }
 {
-    let (rows, steps) = return_values(alloc, store, shared, max_steps, items, table)?;
-    let rows = spell_rows(alloc, store, shared, rows)?;
+    let (rows, steps) = return_values(alloc, graph, max_steps, items, table)?;
+    let rows = spell_rows(alloc, graph, rows)?;
     let columns = column_names(alloc, items)?;
     written(alloc, columns, rows, steps)
 }

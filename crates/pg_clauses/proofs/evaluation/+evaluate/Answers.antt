@@ -13,7 +13,6 @@ use Rattle.pg_meaning.specs.Value.{node}
 use Rattle.pg_meaning.specs.declared.fault.Fault.TheVariants.{OutOfMemory}
 use Rattle.pg_run.specs.Evaluation.{id_given}
 use Rattle.pg_run.specs.Plain.{is_plain, are_plain}
-use Rattle.pg_store.specs.Stores.{graph_of_store}
 use Rattle.pg_syntax_tree.specs.View.{expression_view}
 use Rattle.pg_syntax_tree.specs.declared.expression.Expression.TheViews.{sized-Chain, sized-Tests}
 use Rattle.pg_value_core.specs.View.{view}
@@ -34,7 +33,7 @@ evaluate-evaluate-requires-in-Chain g t c κs within =
 pub evaluate-returns-in_err-right-in-Chain-clause-err : goal.evaluate-returns-in_err-right-in-Chain-clause-err
 evaluate-returns-in_err-right-in-Chain-clause-err g t c =
     let row = row_view c.args.row.now in
-    let graph = graph_of_store g.T.Tables.seen c.args.store.now c.args.shared.now in
+    let graph = c.args.graph.now in
     let here = given row graph (expression_view c.args.expression.now) in
     let h = equality_of c.in-Chain.left c.in-Chain.operands c.in-Chain.is c.requires.plain c.deref.ensures c.index.ensures in
     let failed : c.in_err-right-in-Chain.field-0.0 ≢ OutOfMemory → here ≡ Err c.in_err-right-in-Chain.field-0.0 = λ other.
@@ -46,7 +45,7 @@ evaluate-returns-in_err-right-in-Chain-clause-err g t c =
 pub evaluate-returns-in_ok-right-in-Chain-clause-ok : goal.evaluate-returns-in_ok-right-in-Chain-clause-ok
 evaluate-returns-in_ok-right-in-Chain-clause-ok g t c =
     let row = row_view c.args.row.now in
-    let graph = graph_of_store g.T.Tables.seen c.args.store.now c.args.shared.now in
+    let graph = c.args.graph.now in
     let here = given row graph (expression_view c.args.expression.now) in
     let h = equality_of c.in-Chain.left c.in-Chain.operands c.in-Chain.is c.requires.plain c.deref.ensures c.index.ensures in
     let found : here ≡ Ok (value_of (eq3 (view c.in_ok-left-in-Chain.left) (view c.in_ok-right-in-Chain.right))) =
@@ -76,7 +75,7 @@ evaluate-evaluate-requires-in-Tests-2 g t c κs within =
 pub evaluate-returns-in_err-list-in-Tests-clause-err : goal.evaluate-returns-in_err-list-in-Tests-clause-err
 evaluate-returns-in_err-list-in-Tests-clause-err g t c =
     let row = row_view c.args.row.now in
-    let graph = graph_of_store g.T.Tables.seen c.args.store.now c.args.shared.now in
+    let graph = c.args.graph.now in
     let here = given row graph (expression_view c.args.expression.now) in
     let h = membership_of c.in-Tests.item c.in-Tests.tests c.in-Tests.is c.requires.plain c.deref-in-Tests.ensures c.index-in-Tests.ensures c.in-Text.is in
     let failed : c.in_err-list-in-Tests.field-0.0 ≢ OutOfMemory → here ≡ Err c.in_err-list-in-Tests.field-0.0 = λ other.
@@ -88,7 +87,7 @@ evaluate-returns-in_err-list-in-Tests-clause-err g t c =
 pub evaluate-returns-in_err-is_in-in-Tests-clause-err : goal.evaluate-returns-in_err-is_in-in-Tests-clause-err
 evaluate-returns-in_err-is_in-in-Tests-clause-err g t c =
     let row = row_view c.args.row.now in
-    let graph = graph_of_store g.T.Tables.seen c.args.store.now c.args.shared.now in
+    let graph = c.args.graph.now in
     let here = given row graph (expression_view c.args.expression.now) in
     let h = membership_of c.in-Tests.item c.in-Tests.tests c.in-Tests.is c.requires.plain c.deref-in-Tests.ensures c.index-in-Tests.ensures c.in-Text.is in
     let found : here ≡ is_in (view c.in_ok-item-in-Tests.item) (view c.in_ok-list-in-Tests.list) =
@@ -100,7 +99,7 @@ evaluate-returns-in_err-is_in-in-Tests-clause-err g t c =
 pub evaluate-returns-in_ok-is_in-in-Tests-clause-ok : goal.evaluate-returns-in_ok-is_in-in-Tests-clause-ok
 evaluate-returns-in_ok-is_in-in-Tests-clause-ok g t c =
     let row = row_view c.args.row.now in
-    let graph = graph_of_store g.T.Tables.seen c.args.store.now c.args.shared.now in
+    let graph = c.args.graph.now in
     let here = given row graph (expression_view c.args.expression.now) in
     let h = membership_of c.in-Tests.item c.in-Tests.tests c.in-Tests.is c.requires.plain c.deref-in-Tests.ensures c.index-in-Tests.ensures c.in-Text.is in
     let found : here ≡ is_in (view c.in_ok-item-in-Tests.item) (view c.in_ok-list-in-Tests.list) =
@@ -120,7 +119,7 @@ evaluate-unreachable-requires-in_default-index-2 g t c = no_index c.in-Suffixes.
 pub evaluate-returns-in_ok-id-in-Suffixes-clause-ok : goal.evaluate-returns-in_ok-id-in-Suffixes-clause-ok
 evaluate-returns-in_ok-id-in-Suffixes-clause-ok g t c =
     let row = row_view c.args.row.now in
-    let graph = graph_of_store g.T.Tables.seen c.args.store.now c.args.shared.now in
+    let graph = c.args.graph.now in
     let same = property_gives c.in-Suffixes.subject c.in-Suffixes.suffixes c.in-Suffixes.field-2 c.in-Suffixes.is c.requires.plain c.deref-in-Suffixes.ensures c.index-in-Suffixes.ensures c.in-Property.is row graph
     ∙ ap (λ a. a >>= λ v. property_of graph v (string_bytes c.in-Property.key.text)) (c.in_ok-id-in-Suffixes.ensures.ok graph)
     ∙ ap (property_of graph (node c.in_ok-id-in-Suffixes.id.0)) (sym c.as_str-in-Suffixes.ensures.value) in
@@ -129,7 +128,7 @@ evaluate-returns-in_ok-id-in-Suffixes-clause-ok g t c =
 pub evaluate-returns-in_ok-id-in-Suffixes-clause-err : goal.evaluate-returns-in_ok-id-in-Suffixes-clause-err
 evaluate-returns-in_ok-id-in-Suffixes-clause-err g t c =
     let row = row_view c.args.row.now in
-    let graph = graph_of_store g.T.Tables.seen c.args.store.now c.args.shared.now in
+    let graph = c.args.graph.now in
     let same = property_gives c.in-Suffixes.subject c.in-Suffixes.suffixes c.in-Suffixes.field-2 c.in-Suffixes.is c.requires.plain c.deref-in-Suffixes.ensures c.index-in-Suffixes.ensures c.in-Property.is row graph
     ∙ ap (λ a. a >>= λ v. property_of graph v (string_bytes c.in-Property.key.text)) (c.in_ok-id-in-Suffixes.ensures.ok graph)
     ∙ ap (property_of graph (node c.in_ok-id-in-Suffixes.id.0)) (sym c.as_str-in-Suffixes.ensures.value) in
@@ -146,7 +145,7 @@ evaluate-node_of-requires-in-Call g t c = argument_is_variable c.in-Call.field-0
 pub evaluate-returns-in_err-id-in-Call-clause-err : goal.evaluate-returns-in_err-id-in-Call-clause-err
 evaluate-returns-in_err-id-in-Call-clause-err g t c =
     let row = row_view c.args.row.now in
-    let graph = graph_of_store g.T.Tables.seen c.args.store.now c.args.shared.now in
+    let graph = c.args.graph.now in
     let here = given row graph (expression_view c.args.expression.now) in
     let failed : here ≡ Err c.in_err-id-in-Call.field-0.0 = id_gives c.in-Call.field-0 c.in-Call.field-1 c.in-Call.field-2 c.in-Call.arguments c.in-Call.is c.requires.plain c.index-in-Call.ensures row graph
     ∙ ap (λ a. a >>= id_given graph) (c.in_err-id-in-Call.ensures.err graph) in
@@ -155,7 +154,7 @@ evaluate-returns-in_err-id-in-Call-clause-err g t c =
 pub evaluate-returns-in_ok-id-in-Call-clause-ok : goal.evaluate-returns-in_ok-id-in-Call-clause-ok
 evaluate-returns-in_ok-id-in-Call-clause-ok g t c =
     let row = row_view c.args.row.now in
-    let graph = graph_of_store g.T.Tables.seen c.args.store.now c.args.shared.now in
+    let graph = c.args.graph.now in
     let same = id_gives c.in-Call.field-0 c.in-Call.field-1 c.in-Call.field-2 c.in-Call.arguments c.in-Call.is c.requires.plain c.index-in-Call.ensures row graph
     ∙ ap (λ a. a >>= id_given graph) (c.in_ok-id-in-Call.ensures.ok graph) in
     IfOk-weaker c.id_value.result _ _ (λ v found. same ∙ found) c.id_value.ensures.ok
@@ -163,7 +162,7 @@ evaluate-returns-in_ok-id-in-Call-clause-ok g t c =
 pub evaluate-returns-in_ok-id-in-Call-clause-err : goal.evaluate-returns-in_ok-id-in-Call-clause-err
 evaluate-returns-in_ok-id-in-Call-clause-err g t c =
     let row = row_view c.args.row.now in
-    let graph = graph_of_store g.T.Tables.seen c.args.store.now c.args.shared.now in
+    let graph = c.args.graph.now in
     let same = id_gives c.in-Call.field-0 c.in-Call.field-1 c.in-Call.field-2 c.in-Call.arguments c.in-Call.is c.requires.plain c.index-in-Call.ensures row graph
     ∙ ap (λ a. a >>= id_given graph) (c.in_ok-id-in-Call.ensures.ok graph) in
     IfErr-weaker c.id_value.result _ _ (λ e failed. λ other. same ∙ failed) c.id_value.ensures.err
@@ -174,7 +173,7 @@ pub evaluate_each-loop-item-preserved : goal.evaluate_each-loop-item-preserved
 evaluate_each-loop-item-preserved g t c =
     let l = c.loop-item in
     let row = row_view c.args.row.now in
-    let graph = graph_of_store g.T.Tables.seen c.args.store.now c.args.shared.now in
+    let graph = c.args.graph.now in
     let xs = c.deref-item-items.result.now in
     let x = c.item-item.result in
     let here : drop l.item-index xs ≡ x ∷ drop (l.item-index + 1) xs = drop_more xs l.item-index x (omega arith) ∙ ap (λ y. y ∷ drop (l.item-index + 1) xs) (sym c.item-item.is) in
@@ -193,6 +192,6 @@ pub evaluate_each-returns-clause-ok : goal.evaluate_each-returns-clause-ok
 evaluate_each-returns-clause-ok g t c =
     let l = c.loop-item in
     let row = row_view c.args.row.now in
-    let graph = graph_of_store g.T.Tables.seen c.args.store.now c.args.shared.now in
+    let graph = c.args.graph.now in
     let same : c.args.items.now.items ≡ c.deref-item-items.result.now = sym c.deref-item-items.ensures.value in
     l.invariant.0 ∙ all_evaluated row graph l.values.items l.item-index c.args.items.now.items (omega (arith, ap length same, c.loop-item-test.false))

@@ -6,7 +6,7 @@ use Rattle.pg_json.specs.Replies as reply
 use Rattle.pg_meaning.specs.Graph.{node_at}
 use Rattle.pg_spell.proofs.elements.spell_node.Goals as goal
 use Rattle.pg_spell.specs.Printed.{text_items, shown_node}
-use Rattle.pg_store.specs.Stores.{graph_of_store, node_texts_view}
+use Rattle.pg_store.specs.Stores.{node_texts_view}
 use Rattle.pg_value_core.specs.declared.out.Out.TheFolds.{fold-roll-Out}
 use Rattle.pg_value_core.specs.declared.out.Out.TheOpen.{Out-F}
 use Rattle.pg_value_core.specs.declared.out.Out.TheViews.{rolls-Node}
@@ -17,7 +17,7 @@ same_texts (t ∷ ts) = ap (item (string (string_bytes t))) (same_texts ts)
 
 pub returns-in_ok-spell_stored_entries-in-Some-clause-data : goal.returns-in_ok-spell_stored_entries-in-Some-clause-data
 returns-in_ok-spell_stored_entries-in-Some-clause-data g c =
-    let graph = graph_of_store g.T.Tables.seen c.args.store.now c.args.shared.now in
+    let graph = c.args.graph.now in
     let node = c.in-Some.node in
     let there : node_at graph c.args.id.0 ≡ Some (node_texts_view node) = sym c.in_ok-node.ensures ∙ ap (option_map node_texts_view) c.in-Some.is in
     ap data_of (sym (rolls-Node c.args.id node.labels c.in_ok-spell_stored_entries-in-Some.field-0)) ∙ fold-roll-Out Data data_step (Out-F.Node c.args.id node.labels c.in_ok-spell_stored_entries-in-Some.field-0)

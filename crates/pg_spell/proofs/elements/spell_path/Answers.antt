@@ -8,14 +8,13 @@ use Rattle.pg_spell.proofs.Places.{one_place_spelt, one_place_refused, all_place
 use Rattle.pg_spell.proofs.elements.spell_path.Goals as goal
 use Rattle.pg_spell.specs.Places.{test_place}
 use Rattle.pg_spell.specs.Printed.{path_items}
-use Rattle.pg_store.specs.Stores.{graph_of_store}
 use Rattle.pg_value_core.specs.declared.out.Out.TheFolds.{fold-roll-Out}
 use Rattle.pg_value_core.specs.declared.out.Out.TheOpen.{Out-F}
 use Rattle.pg_value_core.specs.declared.out.Out.TheViews.{rolls-Path}
 
 pub returns-in_err-spell_place-clause-err : goal.returns-in_err-spell_place-clause-err
 returns-in_err-spell_place-clause-err g c =
-    let graph = graph_of_store g.T.Tables.seen c.args.store.now c.args.shared.now in
+    let graph = c.args.graph.now in
     let ids = c.deref-id-items.result.now in
     let i = c.loop-id.id-index in
     let refused : (e : Fault) → test_place graph c.loop-id.is_node (get_or ids i 0) ≡ Err e → test_ids graph c.args.path.0.items ≡ Err e =
@@ -25,7 +24,7 @@ returns-in_err-spell_place-clause-err g c =
 
 pub loop-id-preserved : goal.loop-id-preserved
 loop-id-preserved g c =
-    let graph = graph_of_store g.T.Tables.seen c.args.store.now c.args.shared.now in
+    let graph = c.args.graph.now in
     let ids = c.deref-id-items.result.now in
     rw c.in_ok-push.ensures.items
     (one_place_spelt graph c.loop-id.is_node ids (drop c.loop-id.id-index ids) (drop (c.loop-id.id-index + 1) ids) c.loop-id.found.items _ c.in_ok-spell_place.field-0
@@ -33,7 +32,7 @@ loop-id-preserved g c =
 
 pub returns-clause-data : goal.returns-clause-data
 returns-clause-data g c =
-    let graph = graph_of_store g.T.Tables.seen c.args.store.now c.args.shared.now in
+    let graph = c.args.graph.now in
     let ids = c.deref-id-items.result.now in
     let all = all_places_spelt graph c.loop-id.is_node ids (drop c.loop-id.id-index ids) c.loop-id.found.items c.loop-id.invariant (drop_all c.loop-id.id-index ids c.loop-id-test.false) in
     ap data_of (sym (rolls-Path c.loop-id.found)) ∙ fold-roll-Out Data data_step (Out-F.Path c.loop-id.found)

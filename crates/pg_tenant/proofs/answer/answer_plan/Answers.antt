@@ -1,16 +1,15 @@
-use Rattle.std.proofs.Common.{◌≡◌, ◌≢◌, true, not, ◌||◌, Result, IfOk, IfErr, sym, subst, arith}
+use Rattle.std.proofs.Common.{◌≡◌, true, not, ◌||◌, Result, sym, subst, arith}
 use Rattle.pg_meaning.specs.Graph.{Graph}
 use Rattle.pg_meaning.specs.Queries.{Outcome}
 use Rattle.pg_meaning.specs.Value.{no_entries}
 use Rattle.pg_meaning.specs.declared.fault.Fault.{Fault}
-use Rattle.pg_meaning.specs.declared.fault.Fault.TheVariants.{OutOfMemory}
 use Rattle.pg_plan.specs.Plans.{plan_query, statement_view}
 use Rattle.pg_plan.specs.Updates.{updates}
 use Rattle.pg_run.proofs.PlainLemmas.{answered_plain}
 use Rattle.pg_run.specs.Answers.{one_node_answer}
 use Rattle.pg_store.specs.Stores.{graph_of_store}
-use Rattle.pg_tenant.specs.Answers.{answered, refused}
 use Rattle.pg_tenant.specs.Outcomes.{plan_outcome}
+use Rattle.pg_tenant.specs.Replies.{IsAnswer}
 use Rattle.pg_tenant.proofs.OutcomeLemmas.{answered_by}
 use Rattle.pg_tenant.proofs.answer.answer_plan.Given.{Over}
 use Rattle.pg_tenant.proofs.answer.answer_plan.Goals as goal
@@ -18,6 +17,9 @@ use Rattle.pg_tenant.proofs.answer.answer_plan.Goals as goal
 module _ (g : Over) (c : goal.After-answer_statement g) where
   abbrev graph : Graph
   graph = graph_of_store g.T.Tables.seen c.args.store.now c.args.shared.now
+
+  abbrev left : Graph
+  left = graph_of_store g.T.Tables.seen c.answer_statement.new.store c.answer_statement.new.shared
 
   permitted : (c.args.may_write || not (updates (plan_query c.args.plan.now))) ≡ true
   permitted = grind (arith, c.is_permitted.ensures, c.if-not-is_permitted)
@@ -28,10 +30,12 @@ module _ (g : Over) (c : goal.After-answer_statement g) where
 pub answer_statement-requires-clause-plain : goal.answer_statement-requires-clause-plain
 answer_statement-requires-clause-plain g c = answered_plain (plan_query c.args.plan.now) (statement_view c.in-Some.statement) (sym c.in-Some.ensures)
 
-pub returns-in-Some-clause-ok : goal.returns-in-Some-clause-ok
-returns-in-Some-clause-ok g c =
-    subst (λ (o : Result Outcome Fault). IfOk c.answer_statement.result (λ bytes. answered (graph g c) o ≡ record { reply = bytes; graph = graph_of_store g.T.Tables.seen c.answer_statement.new.store c.answer_statement.new.shared })) (sym (same g c)) c.answer_statement.ensures.ok
-
-pub returns-in-Some-clause-err : goal.returns-in-Some-clause-err
-returns-in-Some-clause-err g c =
-    subst (λ (o : Result Outcome Fault). IfErr c.answer_statement.result (λ e. e ≢ OutOfMemory → answered (graph g c) o ≡ refused (graph g c) e)) (sym (same g c)) c.answer_statement.ensures.err
+pub returns-in-Some : goal.returns-in-Some
+returns-in-Some g c =
+    let said = c.answer_statement.ensures in
+    record {
+      says = subst (λ (o : Result Outcome Fault). IsAnswer c.answer_statement.result o (graph g c) (left g c)) (sym (same g c)) said.says;
+      same = said.same;
+      fit = said.fit;
+      keeps = said.keeps;
+    }

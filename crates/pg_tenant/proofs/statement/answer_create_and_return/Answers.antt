@@ -1,41 +1,31 @@
-use Rattle.std.proofs.Common.{map, ap}
+use Rattle.std.proofs.Common.{map, ap, ◌∙◌}
 use Rattle.std.proofs.lemmas.Result.{on_err_weaker}
 use Rattle.pg_clauses.specs.Rows.{state_of}
+use Rattle.pg_graph.proofs.Others.{keeps_trans}
 use Rattle.pg_meaning.specs.Answer.{◌>>=◌}
 use Rattle.pg_meaning.specs.Value.{no_entries}
 use Rattle.pg_run.specs.Answers.{created, returned}
-use Rattle.pg_store.proofs.Stores.{store_is_graph}
 use Rattle.pg_store.specs.Stores.{graph_of_store}
 use Rattle.pg_syntax_tree.specs.View.{item_view, node_view}
 use Rattle.pg_tenant.proofs.ReplyLemmas.{settled_ok, settled_err}
 use Rattle.pg_tenant.proofs.statement.answer_create_and_return.Goals as goal
 
-pub settled-requires-clause-made : goal.settled-requires-clause-made
-settled-requires-clause-made g c =
+pub returns : goal.returns
+returns g c =
     let seen = g.T.Tables.seen in
-    let made = c.in_ok-table.ensures.made in
-    (graph_of_store seen c.args.store.now c.args.shared.now, made.0, made.1, store_is_graph seen c.args.store.now c.args.shared.now c.requires.fit, made.2)
-
-pub returns-clause-ok : goal.returns-clause-ok
-returns-clause-ok g c =
-    let graph = graph_of_store g.T.Tables.seen c.args.store.now c.args.shared.now in
-    let made = graph_of_store g.T.Tables.seen c.create.new.store c.create.new.shared in
-    let left = graph_of_store g.T.Tables.seen c.settled.new.store c.settled.new.shared in
+    let graph = graph_of_store seen c.args.store.now c.args.shared.now in
+    let made = graph_of_store seen c.create.new.store c.create.new.shared in
+    let left = graph_of_store seen c.settled.new.store c.settled.new.shared in
     let answer = returned no_entries c.args.quota.max_steps (map item_view c.args.items.now.items) in
-    settled_ok graph (created no_entries c.args.quota.max_steps c.args.quota.max_elements (node_view c.args.node.now) graph >>= answer) (answer (state_of made c.in_ok-table.table))
-    (ap (λ r. r >>= answer) c.in_ok-table.ensures.ok) c.reply_of_rows-reply.result c.settled.result c.settled.ensures.reply made left c.reply_of_rows-reply.ensures.ok c.settled.ensures.kept
-
-pub returns-clause-err : goal.returns-clause-err
-returns-clause-err g c =
-    let graph = graph_of_store g.T.Tables.seen c.args.store.now c.args.shared.now in
-    let made = graph_of_store g.T.Tables.seen c.create.new.store c.create.new.shared in
-    let answer = returned no_entries c.args.quota.max_steps (map item_view c.args.items.now.items) in
-    settled_err graph (created no_entries c.args.quota.max_steps c.args.quota.max_elements (node_view c.args.node.now) graph >>= answer) (answer (state_of made c.in_ok-table.table))
-    (ap (λ r. r >>= answer) c.in_ok-table.ensures.ok) c.reply_of_rows-reply.result c.settled.result c.settled.ensures.reply c.reply_of_rows-reply.ensures.err
-
-pub returns-clause-refused : goal.returns-clause-refused
-returns-clause-refused g c =
-    let seen = g.T.Tables.seen in
-    let made = c.in_ok-table.ensures.made in
-    on_err_weaker c.settled.result (λ h. h (graph_of_store seen c.args.store.now c.args.shared.now) made.0 made.1 (store_is_graph seen c.args.store.now c.args.shared.now c.requires.fit) made.2)
-    c.settled.ensures.undone
+    let all = created no_entries c.args.quota.max_steps c.args.quota.max_elements (node_view c.args.node.now) graph >>= answer in
+    let same = ap (λ r. r >>= answer) c.in_ok-table.ensures.changes.says.ok in
+    let reply = c.reply_of_rows-reply in
+    record {
+      says = record {
+        ok = settled_ok graph all (answer (state_of made c.in_ok-table.table)) same reply.result c.settled.result c.settled.ensures.reply made left (rw (← c.graph.ensures) reply.ensures.ok) c.settled.ensures.kept;
+        err = settled_err graph all (answer (state_of made c.in_ok-table.table)) same reply.result c.settled.result c.settled.ensures.reply (rw (← c.graph.ensures) reply.ensures.err);
+      };
+      same = on_err_weaker c.settled.result (λ h. h ∙ c.create.ensures.marks.same c.mark-mark.result c.mark-mark.ensures.there ∙ c.mark-mark.ensures.graph c.args.shared.now) c.settled.ensures.undone;
+      fit = c.settled.ensures.fit;
+      keeps = keeps_trans _ _ _ _ _ _ c.create.ensures.changes.keeps c.settled.ensures.keeps;
+    }

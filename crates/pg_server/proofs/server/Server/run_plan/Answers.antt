@@ -11,8 +11,8 @@ invariant_of-self g c =
     let seen = g.T.Tables.seen in
     let tenants = c.self.inside.tenants.items in
     let lt : c.args.place < length tenants = omega (arith, c.requires, ap (λ (s : ServerState). length s.tenants) c.self.view_is, length_mapped (λ x. state_of seen x c.self.inside.shared) tenants) in
-    still_tenants seen tenants c.self.inside.shared c.answer_plan.new.shared c.self.invariant.fit c.args.place c.index_mut.result.now c.answer_plan.new.self lt c.index_mut.ensures.value c.answer_plan.ensures.keeps
-    c.answer_plan.ensures.settings c.answer_plan.ensures.fit c.self.invariant.distinct
+    still_tenants seen tenants c.self.inside.shared c.answer_plan.new.shared c.self.invariant.fit c.args.place c.index_mut.result.now c.answer_plan.new.self lt c.index_mut.ensures.value c.answer_plan.ensures.changes.keeps
+    c.answer_plan.ensures.settings c.answer_plan.ensures.changes.fit c.self.invariant.distinct
 
 pub returns : goal.returns
 returns g c =
@@ -21,5 +21,5 @@ returns g c =
     let lt : c.args.place < length tenants = omega (arith, c.requires, ap (λ (s : ServerState). length s.tenants) c.self.view_is, length_mapped (λ x. state_of seen x c.self.inside.shared) tenants) in
     let after : ServerState = record { cache = c.self.inside.plans.capacity; tenants = states_of seen (set tenants c.args.place c.answer_plan.new.self) c.answer_plan.new.shared } in
     subst (λ (s : ServerState). RunsPlan c.args.place c.args.token.now c.args.plan.now s c.answer_plan.result after) c.self.view_is
-    (runs_plan seen tenants c.self.inside.shared c.answer_plan.new.shared c.self.invariant.fit c.args.place c.index_mut.result.now c.answer_plan.new.self lt c.index_mut.ensures.value c.answer_plan.ensures.keeps
-    c.answer_plan.ensures.settings c.self.inside.plans.capacity c.args.token.now c.args.plan.now c.answer_plan.result c.answer_plan.ensures.ok c.answer_plan.ensures.err c.answer_plan.ensures.refused)
+    (runs_plan seen tenants c.self.inside.shared c.answer_plan.new.shared c.self.invariant.fit c.args.place c.index_mut.result.now c.answer_plan.new.self lt c.index_mut.ensures.value c.answer_plan.ensures.changes.keeps
+    c.answer_plan.ensures.settings c.self.inside.plans.capacity c.args.token.now c.args.plan.now c.answer_plan.result c.answer_plan.ensures.changes.says.ok c.answer_plan.ensures.changes.says.err c.answer_plan.ensures.changes.same)

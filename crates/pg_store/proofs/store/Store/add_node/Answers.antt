@@ -1,0 +1,45 @@
+use Rattle.std.proofs.Common.{◌++◌, ◌∷◌, [], refl, ap, ◌∙◌}
+use Rattle.pg_graph.proofs.Made.{next_is_absent}
+use Rattle.pg_graph.specs.Content.{Content}
+use Rattle.pg_store.proofs.ChangeLemmas.{changed_fit, changed_marks}
+use Rattle.pg_store.proofs.States.{with_new_node, new_node_made, new_node_undone}
+use Rattle.pg_store.proofs.store.Store.add_node.Goals as goal
+use Rattle.pg_store.specs.Journal.{graph_in}
+use Rattle.pg_store.specs.Stores.{state_of}
+use Rattle.pg_store.specs.declared.journal.Entry.TheVariants.{NodeAdded}
+
+pub add_node-requires-clause-absent : goal.add_node-requires-clause-absent
+add_node-requires-clause-absent g c =
+    let store = c.args.self.now in
+    next_is_absent store.names (g.T.Tables.seen.content store.tables c.args.shared.now) store.next.node store.next.rel c.requires.fit.well.held
+
+pub returns-clause-ok : goal.returns-clause-ok
+returns-clause-ok g c = λ texts h.
+    let store = c.args.self.now in
+    let s = state_of g.T.Tables.seen store c.args.shared.now in
+    let made = with_new_node store.names s c.args.node c.requires.fit.well c.requires.labels c.requires.keys c.requires.room c.requires.count in
+    ap (λ (content : Content). graph_in store.names (record made { content = content })) c.in_ok-add_node.ensures.ok
+    ∙ new_node_made store.names s c.args.node c.requires.fit.well c.requires.labels c.requires.keys c.requires.room c.requires.count texts h
+
+pub returns-clause-marks : goal.returns-clause-marks
+returns-clause-marks g c =
+    let store = c.args.self.now in
+    let s = state_of g.T.Tables.seen store c.args.shared.now in
+    let made = with_new_node store.names s c.args.node c.requires.fit.well c.requires.labels c.requires.keys c.requires.room c.requires.count in
+    changed_marks g.T.Tables.seen store _ c.args.shared.now _ c.requires.fit NodeAdded made
+    (new_node_undone store.names s c.args.node c.requires.fit.well c.requires.labels c.requires.keys c.requires.room c.requires.count)
+    refl
+    (ap (λ (content : Content). record made { content = content }) c.in_ok-add_node.ensures.ok)
+    (c.push_reserved.ensures.items ∙ ap (λ es. es ++ NodeAdded ∷ []) c.in_ok-reserve.ensures.items)
+
+pub returns-clause-fit : goal.returns-clause-fit
+returns-clause-fit g c =
+    let store = c.args.self.now in
+    let s = state_of g.T.Tables.seen store c.args.shared.now in
+    let made = with_new_node store.names s c.args.node c.requires.fit.well c.requires.labels c.requires.keys c.requires.room c.requires.count in
+    changed_fit g.T.Tables.seen store _ c.args.shared.now _ c.requires.fit NodeAdded made
+    (new_node_undone store.names s c.args.node c.requires.fit.well c.requires.labels c.requires.keys c.requires.room c.requires.count)
+    refl
+    (ap (λ (content : Content). record made { content = content }) c.in_ok-add_node.ensures.ok)
+    (c.push_reserved.ensures.items ∙ ap (λ es. es ++ NodeAdded ∷ []) c.in_ok-reserve.ensures.items)
+    c.add_node.ensures.keeps.fits

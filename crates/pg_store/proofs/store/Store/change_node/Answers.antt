@@ -1,0 +1,51 @@
+use Rattle.std.proofs.Common.{◌++◌, ◌∷◌, [], refl, ap, ◌∙◌}
+use Rattle.pg_graph.proofs.Removed.{is_live}
+use Rattle.pg_graph.specs.Content.{Content}
+use Rattle.pg_store.proofs.ChangeLemmas.{changed_fit, changed_marks}
+use Rattle.pg_store.proofs.States.{with_node_changed, node_changed, node_change_undone}
+use Rattle.pg_store.proofs.store.Store.change_node.Goals as goal
+use Rattle.pg_store.specs.Journal.{graph_in}
+use Rattle.pg_store.specs.Stores.{state_of}
+use Rattle.pg_store.specs.declared.journal.Entry.TheVariants.{NodeChanged}
+
+pub change-before-requires-clause-present : goal.change-before-requires-clause-present
+change-before-requires-clause-present g c =
+    let store = c.args.self.now in
+    (is_live (g.T.Tables.seen.content store.tables c.args.shared.now).nodes store.gone_nodes c.args.id.0 c.requires.there).1
+
+pub returns-clause-ok : goal.returns-clause-ok
+returns-clause-ok g c =
+    let store = c.args.self.now in
+    let r = c.requires in
+    let s = state_of g.T.Tables.seen store c.args.shared.now in
+    let was = c.change-before.result in
+    let changed = with_node_changed store.names s c.args.id c.args.node was r.fit.well r.there r.labels r.keys c.change-before.ensures.before in
+    ap (λ (content : Content). graph_in store.names (record changed { content = content })) c.change-before.ensures.changed
+    ∙ node_changed store.names s c.args.id c.args.node was r.fit.well r.there r.labels r.keys c.change-before.ensures.before
+
+pub returns-clause-marks : goal.returns-clause-marks
+returns-clause-marks g c =
+    let store = c.args.self.now in
+    let r = c.requires in
+    let s = state_of g.T.Tables.seen store c.args.shared.now in
+    let was = c.change-before.result in
+    let changed = with_node_changed store.names s c.args.id c.args.node was r.fit.well r.there r.labels r.keys c.change-before.ensures.before in
+    changed_marks g.T.Tables.seen store _ c.args.shared.now _ r.fit (NodeChanged c.args.id was) changed
+    (node_change_undone store.names s c.args.id c.args.node was r.fit.well r.there r.labels r.keys c.change-before.ensures.before)
+    refl
+    (ap (λ (content : Content). record changed { content = content }) c.change-before.ensures.changed)
+    (c.push_reserved.ensures.items ∙ ap (λ es. es ++ NodeChanged c.args.id was ∷ []) c.in_ok-reserve.ensures.items)
+
+pub returns-clause-fit : goal.returns-clause-fit
+returns-clause-fit g c =
+    let store = c.args.self.now in
+    let r = c.requires in
+    let s = state_of g.T.Tables.seen store c.args.shared.now in
+    let was = c.change-before.result in
+    let changed = with_node_changed store.names s c.args.id c.args.node was r.fit.well r.there r.labels r.keys c.change-before.ensures.before in
+    changed_fit g.T.Tables.seen store _ c.args.shared.now _ r.fit (NodeChanged c.args.id was) changed
+    (node_change_undone store.names s c.args.id c.args.node was r.fit.well r.there r.labels r.keys c.change-before.ensures.before)
+    refl
+    (ap (λ (content : Content). record changed { content = content }) c.change-before.ensures.changed)
+    (c.push_reserved.ensures.items ∙ ap (λ es. es ++ NodeChanged c.args.id was ∷ []) c.in_ok-reserve.ensures.items)
+    c.change-before.ensures.keeps.fits

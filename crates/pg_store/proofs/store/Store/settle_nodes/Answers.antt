@@ -1,0 +1,38 @@
+use Rattle.std.proofs.Common.{subst, sym, refl, ◌<◌}
+use Rattle.std.specs.FinMap as map
+use Rattle.pg_graph.specs.Removed.{Ids}
+use Rattle.pg_store.proofs.Settled.{among, settles_on, fewer, graph_without_node, well_without_node, without_gone_node, nothing_out, nothing_in}
+use Rattle.pg_store.proofs.store.Store.settle_nodes.Goals as goal
+use Rattle.pg_store.specs.Stores.{state_of}
+
+pub drop_node-requires-clause-no_outgoing : goal.drop_node-requires-clause-no_outgoing
+drop_node-requires-clause-no_outgoing g c =
+    let now = c.loop-id.self in
+    let was = c.loop-id.invariant in
+    nothing_out now.names (state_of g.T.Tables.seen now c.loop-id.shared) c.in-Some.id was.settles.fit.well (among now.gone_nodes c.in-Some.id _ c.in-Some.ensures.before) was.no_rels
+
+pub drop_node-requires-clause-no_incoming : goal.drop_node-requires-clause-no_incoming
+drop_node-requires-clause-no_incoming g c =
+    let now = c.loop-id.self in
+    let was = c.loop-id.invariant in
+    nothing_in now.names (state_of g.T.Tables.seen now c.loop-id.shared) c.in-Some.id was.settles.fit.well (among now.gone_nodes c.in-Some.id _ c.in-Some.ensures.before) was.no_rels
+
+pub loop-id-smaller : goal.loop-id-smaller
+loop-id-smaller g c =
+    let gone = c.loop-id.self.gone_nodes in
+    subst (λ (ids : Ids). map.len ids < map.len gone) (sym c.in-Some.ensures.removed) (fewer gone c.in-Some.id _ c.in-Some.ensures.before)
+
+pub loop-id-preserved : goal.loop-id-preserved
+loop-id-preserved g c =
+    let now = c.loop-id.self in
+    let was = c.loop-id.invariant in
+    let s = state_of g.T.Tables.seen now c.loop-id.shared in
+    let gone = among now.gone_nodes c.in-Some.id _ c.in-Some.ensures.before in
+    record {
+      settles = settles_on g.T.Tables.seen c.args.self.now now _ c.args.shared.now c.loop-id.shared _ (without_gone_node now.names s c.in-Some.id was.settles.fit.well gone was.no_rels) was.settles
+          (λ t. record s { content = c.drop_node.ensures.dropped t; gone_nodes = c.in-Some.ensures.removed t })
+          (well_without_node now.names s c.in-Some.id was.settles.fit.well gone was.no_rels)
+          (graph_without_node now.names s c.in-Some.id was.settles.fit.well gone was.no_rels)
+          refl refl c.drop_node.ensures.keeps;
+      no_rels = was.no_rels;
+    }

@@ -1,0 +1,129 @@
+//! The undo journal: marks, and a store taken back to one.
+ghost use Rattle.std.specs.Prelude.{◌≡◌, [], ◌≤◌};
+ghost use Rattle.std.specs.FinMap as map;
+ghost use Rattle.pg_graph.specs.Content.{Keeps};
+ghost use Rattle.pg_store.specs.Journal.{CanUndoOne, undo_one};
+ghost use Rattle.pg_store.specs.Stores.{graph_of_store, graph_at, state_of, IsFit, HasMark};
+
+use crate::store::Store;
+use pg_graph::{NodeRecord, Properties, Tables};
+use pg_value_core::{NodeId, RelId};
+
+/// How one change is taken back.
+#[derive(Drop)]
+pub enum Entry {
+    NodeAdded,
+    RelAdded,
+    NodeChanged(NodeId, NodeRecord),
+    RelChanged(RelId, Properties),
+    NodeRemoved(NodeId),
+    RelRemoved(RelId),
+}
+
+/// A moment of a store to which it can be taken back.
+#[derive(Clone, Copy, Debug, PartialEq, Eq)]
+pub struct Mark(usize);
+
+impl<T: Tables> Store<T> {
+    /// Marks this moment.
+    pub fn mark(&self) -> Mark
+        ensures there { HasMark self.now result }
+        ensures graph { (shared : T.Shared) → graph_at T.seen self.now shared result ≡ graph_of_store T.seen self.now shared }
+    {
+        Mark(self.journal.len())
+    }
+
+    /// Takes back all that was done since the mark. It takes no memory.
+    pub fn undo(&mut self, shared: &mut T::Shared, mark: Mark)
+        requires fit { IsFit T.seen self.old shared.old }
+        requires mark { HasMark self.old mark }
+        ensures graph { graph_of_store T.seen self.new shared.new ≡ graph_at T.seen self.old shared.old mark }
+        ensures marks { (earlier : Mark) → earlier.0 ≤ mark.0 → graph_at T.seen self.new shared.new earlier ≡ graph_at T.seen self.old shared.old earlier }
+        ensures there { HasMark self.new mark }
+        ensures fit { IsFit T.seen self.new shared.new }
+        ensures keeps { Keeps T.seen self.old.tables shared.old self.new.tables shared.new }
+    {
+        while self.journal.len() > mark.0 {
+            let entry = self.journal.pop().unwrap();
+            self.take_back(shared, entry);
+        }
+    }
+
+    // Takes back one change.
+    fn take_back(&mut self, shared: &mut T::Shared, entry: Entry)
+        requires fits { T.seen.fits self.old.tables shared.old }
+        requires can { CanUndoOne entry (state_of T.seen self.old shared.old) }
+        ensures state { state_of T.seen self.new shared.new ≡ undo_one entry (state_of T.seen self.old shared.old) }
+        ensures names { self.new.names ≡ self.old.names }
+        ensures journal { self.new.journal ≡ self.old.journal }
+        ensures keeps { Keeps T.seen self.old.tables shared.old self.new.tables shared.new }
+    {
+        match entry {
+            Entry::NodeAdded => {
+                self.next.node -= 1;
+                self.elements -= 1;
+                self.tables.drop_node(shared, NodeId(self.next.node));
+            }
+            Entry::RelAdded => {
+                self.next.rel -= 1;
+                self.elements -= 1;
+                self.tables.drop_rel(shared, RelId(self.next.rel));
+            }
+            Entry::NodeChanged(id, before) => {
+                self.tables.change(shared, id, before);
+            }
+            Entry::RelChanged(id, before) => {
+                self.tables.change_rel(shared, id, before);
+            }
+            Entry::NodeRemoved(id) => {
+                self.gone_nodes.remove(id.0);
+                self.elements += 1;
+            }
+            Entry::RelRemoved(id) => {
+                self.gone_rels.remove(id.0);
+                self.elements += 1;
+            }
+        }
+    }
+
+    /// Forgets all marks, and keeps what was done. It takes no memory.
+    pub fn commit(&mut self, shared: &mut T::Shared)
+        requires fit { IsFit T.seen self.old shared.old }
+        ensures graph { graph_of_store T.seen self.new shared.new ≡ graph_of_store T.seen self.old shared.old }
+        ensures fit { IsFit T.seen self.new shared.new }
+        ensures keeps { Keeps T.seen self.old.tables shared.old self.new.tables shared.new }
+    {
+        self.journal.clear();
+        self.settle_rels(shared);
+        self.settle_nodes(shared);
+    }
+
+    // Lets the removed relationships go.
+    fn settle_rels(&mut self, shared: &mut T::Shared)
+        requires fit { IsFit T.seen self.old shared.old }
+        requires journal { self.old.journal.items ≡ [] }
+        ensures graph { graph_of_store T.seen self.new shared.new ≡ graph_of_store T.seen self.old shared.old }
+        ensures fit { IsFit T.seen self.new shared.new }
+        ensures journal { self.new.journal.items ≡ [] }
+        ensures none { self.new.gone_rels ≡ map.empty }
+        ensures keeps { Keeps T.seen self.old.tables shared.old self.new.tables shared.new }
+    {
+        while let Some((id, _)) = self.gone_rels.pop_first() {
+            self.tables.drop_rel(shared, RelId(id));
+        }
+    }
+
+    // Lets the removed nodes go.
+    fn settle_nodes(&mut self, shared: &mut T::Shared)
+        requires fit { IsFit T.seen self.old shared.old }
+        requires journal { self.old.journal.items ≡ [] }
+        requires none { self.old.gone_rels ≡ map.empty }
+        ensures graph { graph_of_store T.seen self.new shared.new ≡ graph_of_store T.seen self.old shared.old }
+        ensures fit { IsFit T.seen self.new shared.new }
+        ensures keeps { Keeps T.seen self.old.tables shared.old self.new.tables shared.new }
+    {
+        while let Some((id, _)) = self.gone_nodes.pop_first() {
+            self.tables.drop_node(shared, NodeId(id));
+        }
+    }
+}

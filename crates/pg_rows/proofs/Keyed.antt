@@ -1,0 +1,51 @@
+-- Keys with their places, as the program and the definitions have them.
+use Rattle.std.proofs.Common.{◌≡◌, Bool, ℕ, zero, suc, ◌+◌, List, [], ◌∷◌, ◌++◌, map, take, length, slice_get, Some, Bor, refl, sym, ap, ◌∙◌, arith}
+use Rattle.std.proofs.Math.Seq.{take-length}
+use Rattle.std.proofs.lemmas.List.Sorted.{ranks_by}
+use Rattle.std.specs.Cmp.{IsStrictWeakOrder}
+use Rattle.std.specs.List.Sorted.{IsSortedBy, IsStableBy}
+use Rattle.pg_meaning.specs.Value.{Value as Datum}
+use Rattle.pg_value_core.specs.View.{view}
+use Rattle.pg_value_core.specs.declared.value.Value.{Value}
+use Rattle.pg_rows.specs.Sorts.{numbered, sorted_by, sorted_places, keyed_below}
+use Rattle.pg_rows.proofs.Orders.{key_order_total}
+use Rattle.pg_rows.proofs.Stable.{stable_is, sorted_map}
+
+abbrev pub entry_of : Bor (List Value) × ℕ → List Datum × ℕ
+entry_of e = (map view e.0.now, e.1)
+
+pub length_numbered : (n : ℕ) (ks : List (List Datum)) → length (numbered n ks) ≡ length ks
+length_numbered n [] = refl
+length_numbered n (k ∷ ks) = ap suc (length_numbered (suc n) ks)
+
+pub entry_order : (ds : List Bool) → IsStrictWeakOrder (λ a b. keyed_below ds (entry_of a) (entry_of b))
+entry_order ds = ranks_by (key_order_total ds) (λ (e : Bor (List Value) × ℕ). map view e.0.now)
+
+-- one more of them
+pub numbered_more : (n i : ℕ) (ks : List (List Datum)) (k : List Datum) → slice_get ks i ≡ Some k → take (i + 1) (numbered n ks) ≡ take i (numbered n ks) ++ (k, n + i) ∷ []
+numbered_more n i [] k h = absurd (let no : ⊥ = cc in no)
+numbered_more n zero (x ∷ ks) k h =
+    let e : x ≡ k = cc in
+    let m : n ≡ n + 0 = omega arith in
+    (λ i. (e i, m i) ∷ [])
+numbered_more n (suc i) (x ∷ ks) k h =
+    let m : suc n + i ≡ n + suc i = omega arith in
+    let t : suc i + 1 ≡ suc (i + 1) = omega arith in
+    ap (λ c. take c ((x, n) ∷ numbered (suc n) ks)) t
+    ∙ ap (λ zs. (x, n) ∷ zs) (numbered_more (suc n) i ks k h)
+    ∙ ap (λ c. (x, n) ∷ (take i (numbered (suc n) ks) ++ (k, c) ∷ [])) m
+
+pub all_numbered : (ks : List (List Datum)) (i : ℕ) → i ≡ length ks → take i (numbered 0 ks) ≡ numbered 0 ks
+all_numbered ks i h = ap (λ c. take c (numbered 0 ks)) (h ∙ sym (length_numbered 0 ks)) ∙ take-length (numbered 0 ks)
+
+-- entries sorted by a stable sort, seen as keys with places
+pub sorted_entries : (ds : List Bool) (xs ys : List (Bor (List Value) × ℕ)) (ks : List (List Datum)) → map entry_of xs ≡ numbered 0 ks
+    → IsSortedBy (λ a b. keyed_below ds (entry_of a) (entry_of b)) ys → IsStableBy (λ a b. keyed_below ds (entry_of a) (entry_of b)) xs ys → map (λ e. e.1) ys ≡ sorted_places ds ks
+sorted_entries ds xs ys ks seen up stable =
+    ap (map (λ e. e.1)) (stable_is (entry_order ds) xs ys up stable)
+    ∙ places_of (sorted_by (λ a b. keyed_below ds (entry_of a) (entry_of b)) xs)
+    ∙ ap (map (λ k. k.1)) (sym (sorted_map entry_of (keyed_below ds) xs) ∙ ap (sorted_by (keyed_below ds)) seen)
+  where
+    places_of : (es : List (Bor (List Value) × ℕ)) → map (λ e. e.1) es ≡ map (λ k. k.1) (map entry_of es)
+    places_of [] = refl
+    places_of (e ∷ es) = ap (λ zs. e.1 ∷ zs) (places_of es)

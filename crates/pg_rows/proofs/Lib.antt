@@ -1,0 +1,10 @@
+pub mod Apart
+pub mod FirstRows
+pub mod Moved
+pub mod Occurrences
+pub mod Grouped
+pub mod Keyed
+pub mod Orders
+pub mod Places
+pub mod Stable
+pub mod Tabled

@@ -1,0 +1,4 @@
+pub mod Groups
+pub mod Laws
+pub mod Sorts
+pub mod Tables

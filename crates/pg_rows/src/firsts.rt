@@ -1,0 +1,24 @@
+//! Which rows are the first of equivalent ones.
+ghost use Rattle.std.specs.Prelude.{◌≡◌, [], length, IfOk};
+ghost use Rattle.pg_rows.specs.Tables.{table, first_places, EachBelow};
+
+use crate::table::Rows;
+use indexmap::IndexSet;
+use pg_value_core::Value;
+use std::alloc::{AllocError, Global};
+
+/// The places of rows, of equivalent ones the first alone.
+pub fn distinct(rows: &Rows, alloc: Global) -> Result<Vec<usize>, AllocError>
+    ensures places { IfOk result (λ places. places.items ≡ first_places [] 0 (table rows.now)) }
+    ensures below { IfOk result (λ places. EachBelow (length (table rows.now)) places.items) }
+{
+    let mut seen: IndexSet<&[Value]> = IndexSet::new(alloc);
+    let mut places = Vec::new(alloc);
+    for at in 0..rows.len() {
+        let (_, is_new) = seen.insert_full(rows.row(at))?;
+        if is_new {
+            places.push(at)?;
+        }
+    }
+    Ok(places)
+}

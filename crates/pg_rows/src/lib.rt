@@ -1,0 +1,14 @@
+//! The rows on which clauses work: which are equal, how they group, and how they sort.
+#![tactic(auto)]
+
+mod firsts;
+mod groups;
+mod laws;
+mod moves;
+mod sorts;
+mod table;
+
+pub use firsts::distinct;
+pub use groups::Groups;
+pub use sorts::sort;
+pub use table::Rows;

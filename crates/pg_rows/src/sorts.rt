@@ -1,0 +1,69 @@
+//! Rows sorted by keys that stand beside them.
+ghost use Rattle.std.specs.Prelude.{◌≡◌, map, length, IfOk};
+ghost use Rattle.pg_meaning.specs.Order.{value_order};
+ghost use Rattle.pg_meaning.specs.Projections.{first_or_null};
+ghost use Rattle.pg_value_core.specs.View.{view};
+ghost use Rattle.pg_rows.specs.Sorts.{key_order, other_values, sorted_places};
+ghost use Rattle.pg_rows.specs.Tables.{table, EachBelow};
+
+use crate::table::Rows;
+use pg_value_core::{Value, order};
+use std::alloc::{AllocError, Global};
+use std::cmp::Ordering;
+
+fn order_first(a: &[Value], b: &[Value]) -> Ordering
+    ensures { result ≡ value_order (first_or_null (map view a.now)) (first_or_null (map view b.now)) }
+{
+    match (a.first(), b.first()) {
+        (Some(x), Some(y)) => order(x, y),
+        (Some(x), None) => order(x, &Value::Null),
+        (None, Some(y)) => order(&Value::Null, y),
+        (None, None) => Ordering::Equal,
+    }
+}
+
+fn others(values: &[Value]) -> &[Value]
+    ensures { map view result.now ≡ other_values (map view values.now) }
+{
+    match values.split_first() {
+        Some((_, rest)) => rest,
+        None => values,
+    }
+}
+
+/// Key by key, each in its direction. A key that is missing counts as null.
+pub(crate) fn order_keys(descending: &[bool], a: &[Value], b: &[Value]) -> Ordering
+    ensures { result ≡ key_order descending.now (map view a.now) (map view b.now) }
+{
+    let mut left = a;
+    let mut right = b;
+    for descends in descending {
+        let found = match (*descends, order_first(left, right)) {
+            (true, found) => found.reverse(),
+            (false, found) => found,
+        };
+        if found != Ordering::Equal {
+            return found;
+        }
+        left = others(left);
+        right = others(right);
+    }
+    Ordering::Equal
+}
+
+/// The places of the keys, sorted by them; keys that tie stay in their order.
+pub fn sort(keys: &Rows, descending: &[bool], alloc: Global) -> Result<Vec<usize>, AllocError>
+    ensures places { IfOk result (λ places. places.items ≡ sorted_places descending.now (table keys.now)) }
+    ensures below { IfOk result (λ places. EachBelow (length (table keys.now)) places.items) }
+{
+    let mut entries: Vec<(&[Value], usize)> = Vec::with_capacity(alloc, keys.len())?;
+    for at in 0..keys.len() {
+        entries.push((keys.row(at), at))?;
+    }
+    entries.sort_by(|a, b| order_keys(descending, a.0, b.0))?;
+    let mut places = Vec::with_capacity(alloc, entries.len())?;
+    for entry in &entries {
+        places.push(entry.1)?;
+    }
+    Ok(places)
+}

@@ -1,0 +1,126 @@
+//! Rows of one width, in one list of values.
+use crate::moves::move_row;
+use pg_value_core::Value;
+use std::alloc::{AllocError, Global};
+
+/// Rows of values, each as wide as any other; a width of 0 has rows too.
+#[derive(Drop)]
+pub struct Rows {
+    pub(crate) values: Vec<Value>,
+    pub(crate) width: usize,
+    pub(crate) count: usize,
+    ghost sized: { length values.items ≡ count * width },
+}
+
+ghost use Rattle.std.specs.Prelude.{◌≡◌, ◌*◌, length};
+
+impl Rows {
+    ghost use Rattle.std.specs.Prelude.{◌≡◌, ◌<◌, ◌++◌, ◌∷◌, [], Some, map, length, slice_get, take, drop, OnOk, OnErr, IfOk};
+    ghost use Rattle.pg_value_core.specs.View.{view};
+    ghost use Rattle.pg_rows.specs.Tables.{table, EachBelow, moved_rows};
+
+    pub fn new(alloc: Global, width: usize) -> Self
+        ensures rows { table result ≡ [] }
+        ensures width { result.width ≡ width }
+    {
+        Rows {
+            values: Vec::new(alloc),
+            width,
+            count: 0,
+        }
+    }
+
+    pub fn width(&self) -> usize
+        ensures { result ≡ self.now.width }
+    {
+        self.width
+    }
+
+    /// How many rows there are.
+    pub fn len(&self) -> usize
+        ensures { result ≡ length (table self.now) }
+    {
+        self.count
+    }
+
+    /// Takes the values in as the last row.
+    pub fn push(&mut self, mut row: Vec<Value>) -> Result<(), AllocError>
+        requires { length row.items ≡ self.old.width }
+        ensures rows { OnOk result (table self.new ≡ table self.old ++ map view row.items ∷ []) }
+        ensures err { OnErr result (table self.new ≡ table self.old) }
+        ensures width { self.new.width ≡ self.old.width }
+    {
+        let Some(count) = self.count.checked_add(1) else {
+            return Err(AllocError);
+        };
+        self.values.append(&mut row)?;
+        self.count = count;
+        Ok(())
+    }
+
+    pub fn row(&self, at: usize) -> &[Value]
+        requires { at < length (table self.now) }
+        ensures { slice_get (table self.now) at ≡ Some (map view result.now) }
+    {
+        let start = at * self.width;
+        &self.values[start..start + self.width]
+    }
+
+    /// No rows, in the memory that there was.
+    pub fn clear(&mut self)
+        ensures rows { table self.new ≡ [] }
+        ensures width { self.new.width ≡ self.old.width }
+    {
+        self.values.clear();
+        self.count = 0;
+    }
+
+    /// At most the first rows.
+    pub fn truncate(&mut self, count: usize)
+        ensures rows { table self.new ≡ take count (table self.old) }
+        ensures width { self.new.width ≡ self.old.width }
+    {
+        if count < self.count {
+            self.values.truncate(count * self.width);
+            self.count = count;
+        }
+    }
+
+    /// The rows of these places, in their order; each is moved, and leaves nulls.
+    pub fn pick(&mut self, places: &[usize], alloc: Global) -> Result<Rows, AllocError>
+        requires { EachBelow (length (table self.old)) places.now }
+        ensures rows { IfOk result (λ r. table r ≡ moved_rows self.old.width (table self.old) places.now) }
+        ensures width { IfOk result (λ r. r.width ≡ self.old.width) }
+    {
+        let mut moved = Vec::with_capacity(alloc, self.values.len())?;
+        for place in places {
+            move_row(
+                &mut self.values,
+                *place * self.width,
+                self.width,
+                &mut moved,
+            )?;
+        }
+        Ok(Rows {
+            values: moved,
+            width: self.width,
+            count: places.len(),
+        })
+    }
+
+    /// Moves all rows of the other to the end.
+    pub fn append(&mut self, other: &mut Rows) -> Result<(), AllocError>
+        requires { other.old.width ≡ self.old.width }
+        ensures rows { OnOk result (table self.new ≡ table self.old ++ table other.old) }
+        ensures other { OnOk result (table other.new ≡ []) }
+        ensures width { self.new.width ≡ self.old.width }
+    {
+        let Some(count) = self.count.checked_add(other.count) else {
+            return Err(AllocError);
+        };
+        self.values.append(&mut other.values)?;
+        self.count = count;
+        other.count = 0;
+        Ok(())
+    }
+}

@@ -1,0 +1,25 @@
+//! What the operators, the tests and the functions of the query language give at values.
+#![tactic(auto)]
+
+mod access;
+mod arithmetic;
+mod chains;
+mod functions;
+mod joined;
+mod limits;
+mod parts;
+mod ranges;
+mod texts;
+
+pub use access::{index_list, index_map, index_other, property};
+pub use arithmetic::{divide, minus, modulo, negative, positive, times};
+pub use chains::{compared, conjunction, disjunction, exclusive};
+pub use functions::{absolute, head, last, length, size, to_integer, to_text};
+pub use joined::plus;
+pub use limits::made;
+pub use parts::{keys, nodes, relationships};
+pub use ranges::integers_from;
+pub use texts::{begins_with, contains, finishes_with, is_not_null, is_null};
+
+#[cfg(test)]
+mod tests;

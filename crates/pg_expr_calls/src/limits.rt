@@ -1,0 +1,23 @@
+//! The limits of what an expression makes.
+
+ghost use Rattle.std.specs.Prelude.{◌≡◌, IfOk, IfErr, Ok, Err};
+ghost use Rattle.pg_meaning.specs.Measure.{made};
+ghost use Rattle.pg_value_core.specs.View.{view};
+
+use pg_value::{depth, weight};
+use pg_value_core::{Fault, Value};
+
+pub(crate) const GREATEST_WEIGHT: u64 = 1_048_576;
+
+const GREATEST_DEPTH: u64 = 64;
+
+/// A value that an expression makes, where it is within the limits.
+pub fn made(value: Value) -> Result<Value, Fault>
+    ensures ok { IfOk result (λ v. made (view value) ≡ Ok (view v)) }
+    ensures err { IfErr result (λ e. made (view value) ≡ Err e) }
+{
+    if weight(&value) > GREATEST_WEIGHT || depth(&value) > GREATEST_DEPTH {
+        return Err(Fault::ValueTooLarge);
+    }
+    Ok(value)
+}

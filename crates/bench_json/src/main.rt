@@ -5,7 +5,7 @@
 mod work;
 
 use anyhow::anyhow;
-use pg_json::{read_request, write_reply};
+use pg_json::{RequestScratch, read_request, write_reply};
 use pg_meaning::Fault;
 use std::env;
 use std::time::Instant;
@@ -38,7 +38,8 @@ fn small(rt: &HostRuntime) -> anyhow::Result<()> {
         println!(rt; "{kind}: {} bytes", bytes.len())?;
     }
     let body = request(alloc, 3).map_err(refused)?;
-    drop(read_request(alloc, body.as_bytes()).map_err(refused)?);
+    let mut scratch = RequestScratch::new(alloc);
+    drop(read_request(alloc, &mut scratch, body.as_bytes()).map_err(refused)?);
     println!(rt; "request: {} bytes", body.len())?;
     Ok(())
 }
@@ -61,9 +62,10 @@ fn measure(rt: &HostRuntime, kind: &str, size: u32, times: u32) -> anyhow::Resul
 fn measure_reading(rt: &HostRuntime, size: u32, times: u32) -> anyhow::Result<()> {
     let alloc = rt.alloc();
     let body = request(alloc, size).map_err(refused)?;
+    let mut scratch = RequestScratch::new(alloc);
     for _ in 0..times {
         let start = Instant::now(rt)?;
-        let request = read_request(alloc, body.as_bytes()).map_err(refused)?;
+        let request = read_request(alloc, &mut scratch, body.as_bytes()).map_err(refused)?;
         let time = start.elapsed(rt)?;
         println!(rt; "request {} {}", body.len(), time.as_micros())?;
         drop(request);

@@ -1,6 +1,9 @@
 pub mod Codes
 pub mod Digits
 pub mod Elements
+pub mod Members
+pub mod Reading
+pub mod Strangers
 pub mod Lengths
 pub mod Meanings
 pub mod Taking

@@ -4,4 +4,5 @@ pub mod Replies
 pub mod Refusals
 pub mod Bytes
 pub mod Room
+pub mod Fields
 pub mod Laws

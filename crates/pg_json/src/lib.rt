@@ -2,11 +2,13 @@
 #![tactic(auto)]
 
 mod bytes;
+mod fields;
 mod laws;
 mod read;
 mod reply;
 mod request;
 mod room;
+mod scratch;
 mod status;
 #[cfg(test)]
 mod tests;
@@ -18,4 +20,5 @@ pub use laws::{law_of_refusals, law_of_replies};
 pub use read::read_request;
 pub use reply::{ReplyBody, TenantStatus};
 pub use request::RequestBody;
+pub use scratch::RequestScratch;
 pub use write::write_reply;

@@ -1,19 +1,26 @@
 //! From a body to a request.
-ghost use Rattle.std.specs.Prelude.{◌≡◌, ◌≢◌, IfOk, IfErr, None, Some, List, ℕ, option_map, string_bytes, map};
+ghost use Rattle.std.specs.Prelude.{◌≡◌, ◌≢◌, IfOk, IfErr, None, Some, List, ℕ, option_map, option_and_then, string_bytes, map};
+ghost use Rattle.serde_json.specs.Read.{read};
 ghost use Rattle.serde_json.specs.View.{view, members_view};
 ghost use Rattle.serde_json.specs.Find.{as_str, get_member};
 ghost use Rattle.pg_json.specs.Requests.{meaning, request_of, object_request, query_of, status_of, text_at as spec_text_at, has_only as spec_has_only, is_one_of as spec_is_one_of};
 ghost use Rattle.pg_json.specs.Bodies.{request_view};
 ghost use Rattle.pg_meaning.specs.declared.fault.Fault.TheVariants.{BadRequest, OutOfMemory};
 
+use crate::fields::{Glance, look, request_with};
 use crate::request::RequestBody;
+use crate::scratch::RequestScratch;
 use pg_meaning::Fault;
 use serde_json::{Map, Value};
 use std::alloc::Global;
 
 /// The request that a frame's body is.
 #[tactic(auto, unfolding(crate::specs::Requests::meaning))]
-pub fn read_request(alloc: Global, body: &[u8]) -> Result<RequestBody, Fault>
+pub fn read_request(
+    alloc: Global,
+    scratch: &mut RequestScratch,
+    body: &[u8],
+) -> Result<RequestBody, Fault>
     ensures ok { IfOk result (λ r. meaning body.now ≡ Some (request_view r)) }
     ensures kind { IfErr result (λ e. e ≢ OutOfMemory → e ≡ BadRequest) }
     ensures refused { IfErr result (λ e. e ≢ OutOfMemory → meaning body.now ≡ None) }
@@ -21,6 +28,20 @@ pub fn read_request(alloc: Global, body: &[u8]) -> Result<RequestBody, Fault>
     let Ok(text) = simdutf8::basic::from_utf8(body) else {
         return Err(Fault::BadRequest);
     };
+    match look(text, &mut scratch.places) {
+        Ok(Glance::Texts(found)) => request_with(alloc, found),
+        Ok(Glance::NoRequest) => Err(Fault::BadRequest),
+        Ok(Glance::Unclear) => read_slowly(alloc, text),
+        Err(_) => Err(Fault::OutOfMemory),
+    }
+}
+
+/// The request that a text is, whatever its members are.
+fn read_slowly(alloc: Global, text: &str) -> Result<RequestBody, Fault>
+    ensures ok { IfOk result (λ r. option_and_then request_of (read text.now) ≡ Some (request_view r)) }
+    ensures kind { IfErr result (λ e. e ≢ OutOfMemory → e ≡ BadRequest) }
+    ensures refused { IfErr result (λ e. e ≢ OutOfMemory → option_and_then request_of (read text.now) ≡ None) }
+{
     match Value::from_str(alloc, text) {
         Ok(value) => request_from(value).ok_or(Fault::BadRequest),
         Err(e) if e.is_memory() => Err(Fault::OutOfMemory),

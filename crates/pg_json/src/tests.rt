@@ -1,5 +1,7 @@
 //! What requests are read as, and what replies are written as, by the rules for both.
-use crate::{ReplyBody, RequestBody, TenantStatus, done, read_request, refusal, write_reply};
+use crate::{
+    ReplyBody, RequestBody, RequestScratch, TenantStatus, done, read_request, refusal, write_reply,
+};
 use pg_meaning::Fault;
 use pg_value_core::{NodeId, Out, RelId};
 use std::alloc::{AllocError, Global};
@@ -17,7 +19,7 @@ fn is_query(request: &RequestBody, wanted_token: &str, wanted_text: &str) -> boo
 
 /// Whether the body asks with this token for this text.
 fn asks(alloc: Global, body: &[u8], token: &str, text: &str) -> bool {
-    match read_request(alloc, body) {
+    match read_request(alloc, &mut RequestScratch::new(alloc), body) {
         Ok(request) => is_query(&request, token, text),
         Err(_) => false,
     }
@@ -25,14 +27,17 @@ fn asks(alloc: Global, body: &[u8], token: &str, text: &str) -> bool {
 
 /// Whether the body asks for a status with this token.
 fn asks_status(alloc: Global, body: &str, wanted: &str) -> bool {
-    match read_request(alloc, body.as_bytes()) {
+    match read_request(alloc, &mut RequestScratch::new(alloc), body.as_bytes()) {
         Ok(RequestBody::Status { token }) => token.as_str() == wanted,
         _ => false,
     }
 }
 
 fn is_refused(alloc: Global, body: &[u8]) -> bool {
-    matches!(read_request(alloc, body), Err(Fault::BadRequest))
+    matches!(
+        read_request(alloc, &mut RequestScratch::new(alloc), body),
+        Err(Fault::BadRequest)
+    )
 }
 
 /// Bodies with the token and the text that they ask with.
@@ -186,6 +191,30 @@ fn refuses_what_is_nested_too_deep(rt: HostRuntime) -> Result<(), Fail> {
     assert!(rt; asks(alloc, nested(alloc, 126)?.as_bytes(), "a", "t"));
     assert!(rt; is_refused(alloc, nested(alloc, 127)?.as_bytes()));
     assert!(rt; is_refused(alloc, nested(alloc, 100_000)?.as_bytes()));
+    Ok(())
+}
+
+/// What a scratch has served before changes nothing.
+#[test]
+fn reads_with_a_kept_scratch(rt: HostRuntime) -> Result<(), Fail> {
+    let alloc = rt.alloc();
+    let mut scratch = RequestScratch::new(alloc);
+    let long = nested(alloc, 20_000)?;
+    for _ in 0..2 {
+        for (body, token, text) in READ {
+            let asked = match read_request(alloc, &mut scratch, body.as_bytes()) {
+                Ok(request) => is_query(&request, token, text),
+                Err(_) => false,
+            };
+            assert!(rt; asked, "{body}");
+        }
+        for body in REFUSED.lines() {
+            let read = read_request(alloc, &mut scratch, body.as_bytes());
+            assert!(rt; matches!(read, Err(Fault::BadRequest)), "{body}");
+        }
+        let read = read_request(alloc, &mut scratch, long.as_bytes());
+        assert!(rt; matches!(read, Err(Fault::BadRequest)));
+    }
     Ok(())
 }
 
@@ -381,6 +410,7 @@ fn answers_want_of_memory_alone(rt: HostRuntime) {
     let alloc = rt.alloc();
     match read_request(
         alloc,
+        &mut RequestScratch::new(alloc),
         br#"{"op":"query","token":"a\n","text":"RETURN 1\n"}"#,
     ) {
         Ok(request) => assert!(rt; is_query(&request, "a\n", "RETURN 1\n")),

@@ -25,7 +25,7 @@ use crate::tenant::Tenant;
 use crate::wire::MAX_BODY;
 use pg_cache::PlanCache;
 use pg_graph::Tables;
-use pg_json::{ReplyBytes, RequestBody, read_request, refusal, write_reply};
+use pg_json::{ReplyBytes, RequestBody, RequestScratch, read_request, refusal, write_reply};
 use pg_meaning::Fault;
 use pg_plan::{Plan, check_length};
 use pg_store::Store;
@@ -38,6 +38,7 @@ use std::marker::Model;
 #[derive(Drop)]
 pub struct Server<S: BuildHasher + Drop, T: Tables> {
     alloc: Global,
+    scratch: RequestScratch,
     plans: PlanCache<S>,
     shared: T::Shared,
     tenants: Vec<Tenant<T>>,
@@ -67,6 +68,7 @@ impl<S: BuildHasher + Drop, T: Tables> Server<S, T> {
         let tenants = opening_tenants(alloc, settings)?;
         Ok(Server {
             alloc,
+            scratch: RequestScratch::new(alloc),
             plans,
             shared: T::new_shared(alloc),
             tenants,
@@ -80,7 +82,7 @@ impl<S: BuildHasher + Drop, T: Tables> Server<S, T> {
         if body.len() > MAX_BODY {
             return refusal(Fault::FrameTooLong);
         }
-        match read_request(self.alloc, body) {
+        match read_request(self.alloc, &mut self.scratch, body) {
             Ok(request) => self.answer_request(&request),
             Err(fault) => refusal(fault),
         }

@@ -1,11 +1,13 @@
-use Rattle.std.proofs.Common.{◌≡◌, ℕ, [], length, arith, false, rules, sym, subst, ap, ◌∙◌}
+use Rattle.std.proofs.Common.{◌≡◌, ℕ, [], ◌∷◌, length, arith, false, rules, sym, subst, ap, ◌∙◌}
 use Rattle.std.proofs.lemmas.Bool.{le-leb}
 use Rattle.pg_json.specs.Bodies.{request_view}
 use Rattle.pg_meaning.specs.Graph.{IsGraph}
 use Rattle.pg_meaning.specs.GraphLaws.{empty_is_graph}
 use Rattle.pg_server.specs.Frames.{body_limit}
+use Rattle.pg_server.specs.Runs.{Runs}
 use Rattle.pg_server.specs.Settings.{all_tokens}
 use Rattle.pg_server.specs.State.{ServerState, settings_of, state_at}
+use Rattle.pg_server.specs.Step.{Answers}
 use Rattle.pg_server.proofs.StepLemmas.{answered, means_of, unread}
 use Rattle.pg_server.proofs.TenantLemmas.{graphs_are, settings_seen}
 use Rattle.pg_server.proofs.server.Server.handle.Goals as goal
@@ -21,7 +23,9 @@ returns-in-Ok g c =
     λ t. subst (λ (s : ServerState). IsGraph (state_at s t).graph) c.self.view_is
     (graphs_are g.T.Tables.seen c.self.inside.shared (λ store. store_is_graph g.T.Tables.seen store c.self.inside.shared) empty_is_graph c.self.inside.tenants.items c.self.invariant.fit.fit t) in
     answered c.args.self.now c.answer_request.new.self c.args.body.now c.answer_request.result (request_view c.in-Ok.request) distinct (λ t. means_of (state_at c.args.self.now t) (request_view c.in-Ok.request) (graphs t))
-    (le-leb (length c.args.body.now) body_limit (omega (arith, c.if-body-gt-MAX_BODY.false))) c.in-Ok.ensures.ok c.answer_request.ensures
+    (le-leb (length c.args.body.now) body_limit (omega (arith, c.if-body-gt-MAX_BODY.false))) c.in-Ok.ensures.ok (subst (λ s. Answers s (request_view c.in-Ok.request) c.answer_request.result c.answer_request.new.self) c.self.view_is c.answer_request.ensures)
 
 pub returns-in-Err : goal.returns-in-Err
-returns-in-Err g c = unread c.args.self.now c.args.body.now c.refusal-in-Err.result c.in-Err.fault (search rules) c.refusal-in-Err.ensures c.in-Err.ensures.kind c.in-Err.ensures.refused
+returns-in-Err g c =
+    subst (λ s. Runs c.args.self.now (record { body = c.args.body.now; reply = c.refusal-in-Err.result } ∷ []) s) (sym c.self.view_is)
+    (unread c.args.self.now c.args.body.now c.refusal-in-Err.result c.in-Err.fault (search rules) c.refusal-in-Err.ensures c.in-Err.ensures.kind c.in-Err.ensures.refused)

@@ -1,0 +1,91 @@
+-- A key that no request has stays, whatever members follow, and makes the object no request.
+use Rattle.std.proofs.Common.{◌≡◌, ℕ, zero, suc, List, Bool, true, false, ◌&&◌, ◌||◌, is_eq, Option, Some, None, option_map, option_and_then, Ordering, Less, Equal, Greater, nat_cmp, bytes_eq, MatchOption, refl, sym, ap, ◌∙◌}
+use Rattle.std.proofs.lemmas.Map.Text.{is_eq-slice_cmp}
+use Rattle.std.proofs.lemmas.Slice.Eq.{bytes_eq-Decides}
+use Rattle.std.specs.Prelude.{⊤, codes}
+use Rattle.std.specs.Ordering.{match_ordering}
+use Rattle.std.specs.Cmp.Lexicographic.{slice_cmp}
+use Rattle.json.specs.Token.{Token}
+use Rattle.json.specs.Json as json
+use Rattle.json.specs.Json.{Parse, parse_map, read_key, members}
+use Rattle.serde_json.specs.Data.{Data, Members, no_members, member, put}
+use Rattle.serde_json.specs.Read.{of_json, of_members, converted}
+use Rattle.pg_json.specs.Fields.{AsksNothing}
+use Rattle.pg_json.specs.Requests.{has_only, is_one_of, query_keys, status_keys, object_request, by_op, text_at}
+use Rattle.pg_json.proofs.Members.{same_either}
+
+and_false : (a : Bool) → (a && false) ≡ false
+and_false true = refl
+and_false false = refl
+
+either_lacks : (names : List (List ℕ)) (o : Ordering) (a b c : Members) → has_only names a ≡ false → has_only names b ≡ false → has_only names c ≡ false → has_only names (match_ordering o a b c) ≡ false
+either_lacks names Less a b c p q r = p
+either_lacks names Equal a b c p q r = q
+either_lacks names Greater a b c p q r = r
+
+later : (a b c : Bool) → (a && b) ≡ false → (b ≡ false → c ≡ false) → (a && c) ≡ false
+later true b c h k = k h
+later false b c h k = refl
+
+put_keeps : (names : List (List ℕ)) (k : List ℕ) (d : Data) (ms : Members) → has_only names ms ≡ false → has_only names (put k d ms) ≡ false
+put_keeps names k d no_members h = absurd (cc)
+put_keeps names k d (member l e ms) h =
+    either_lacks names (slice_cmp nat_cmp k l) (member k d (member l e ms)) (member l d ms) (member l e (put k d ms))
+    (ap (λ b. is_one_of names k && b) h ∙ and_false (is_one_of names k)) h
+    (later (is_one_of names l) (has_only names ms) (has_only names (put k d ms)) h (put_keeps names k d ms))
+
+same_key : (k l : List ℕ) → slice_cmp nat_cmp k l ≡ Equal → k ≡ l
+same_key k l is = (bytes_eq-Decides k l).0 (sym (is_eq-slice_cmp k l) ∙ ap is_eq is)
+
+either_strange : (names : List (List ℕ)) (k l : List ℕ) (d e : Data) (ms more : Members) → is_one_of names k ≡ false → has_only names more ≡ false → (o : Ordering) → slice_cmp nat_cmp k l ≡ o
+    → has_only names (match_ordering o (member k d (member l e ms)) (member l d ms) (member l e more)) ≡ false
+either_strange names k l d e ms more h m Less is = rw h
+either_strange names k l d e ms more h m Equal is = rw (← same_key k l is, h)
+either_strange names k l d e ms more h m Greater is = rw m (and_false (is_one_of names l))
+
+put_strange : (names : List (List ℕ)) (k : List ℕ) (d : Data) (ms : Members) → is_one_of names k ≡ false → has_only names (put k d ms) ≡ false
+put_strange names k d no_members h = rw h
+put_strange names k d (member l e ms) h = either_strange names k l d e ms (put k d ms) h (put_strange names k d ms h) (slice_cmp nat_cmp k l) refl
+
+no_request : (op : Option (List ℕ)) (ms : Members) → has_only query_keys ms ≡ false → has_only status_keys ms ≡ false → option_and_then (λ o. by_op o ms) op ≡ None
+no_request None ms q s = refl
+no_request (Some op) ms q s = rw (q, s) (same_either (bytes_eq op (codes "query")) (bytes_eq op (codes "status")) None)
+
+abbrev Nothing : Option Members → Type 0
+Nothing o = MatchOption o ⊤ (λ ms. object_request ms ≡ None)
+
+nothing_then : (f : Data → Option Members) → ((d : Data) → Nothing (f d)) → (o : Option Data) → Nothing (option_and_then f o)
+nothing_then f h None = tt
+nothing_then f h (Some d) = h d
+
+strange_stays : (ms : json.Members) (found : Members) → has_only query_keys found ≡ false → has_only status_keys found ≡ false → Nothing (of_members ms found)
+strange_stays json.no_members found q s = no_request (text_at (codes "op") found) found q s
+strange_stays (json.member k j ms) found q s =
+    nothing_then (λ d. of_members ms (put k d found)) (λ d. strange_stays ms (put k d found) (put_keeps query_keys k d found q) (put_keeps status_keys k d found s)) (of_json j)
+
+with_rest : (r : List Token) (o : Option Members) → Nothing o → AsksNothing (option_map (λ ms. (ms, r)) o)
+with_rest r None h = tt
+with_rest r (Some ms) h = h
+
+few_keys : (k : List ℕ) → is_one_of query_keys k ≡ false → is_one_of status_keys k ≡ false
+few_keys k h = by_first (bytes_eq k (codes "op")) (bytes_eq k (codes "token")) (bytes_eq k (codes "text")) h
+  where
+    by_first : (a b c : Bool) → (a || (b || (c || false))) ≡ false → (a || (b || false)) ≡ false
+    by_first true b c e = absurd (cc)
+    by_first false true c e = absurd (cc)
+    by_first false false c e = refl
+
+pub strange_member : (p : Parse json.Json) (old : Members) (n : ℕ) (k : List ℕ) (ts s : List Token) → read_key ts ≡ Some (Some k, s) → is_one_of query_keys k ≡ false
+    → AsksNothing (converted (λ ms. of_members ms old) (members p n ts))
+unfolding members
+strange_member p old zero k ts s key h = tt
+strange_member p old (suc n) k ts s key h = rw key (first (p s))
+  where
+    fall : (j : json.Json) (o : Option (json.Members × List Token)) → AsksNothing (converted (λ ms. of_members ms old) (parse_map (json.member k j) o))
+    fall j None = tt
+    fall j (Some q) =
+        with_rest q.1 _ (nothing_then (λ d. of_members q.0 (put k d old)) (λ d. strange_stays q.0 (put k d old) (put_strange query_keys k d old h) (put_strange status_keys k d old (few_keys k h))) (of_json j))
+
+    first : (o : Option (json.Json × List Token)) → AsksNothing (converted (λ ms. of_members ms old) (option_and_then (λ q. parse_map (json.member k q.0) (members p n q.1)) o))
+    first None = tt
+    first (Some q) = fall q.0 (members p n q.1)

@@ -10,7 +10,8 @@ ghost use Rattle.pg_store.specs.Stores.{graph_of_store, state_of, IsFit};
 ghost use Rattle.pg_value_core.specs.View.{view};
 
 use crate::store::Store;
-use pg_graph::{NameId, NodeRecord, RelRecord, Tables};
+use pg_graph::{NodeRecord, RelRecord, Tables};
+use pg_names::NameId;
 use pg_value_core::{NodeId, RelId, Value};
 use std::alloc::{AllocError, Global};
 

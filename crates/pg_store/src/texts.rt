@@ -7,7 +7,8 @@ ghost use Rattle.pg_meaning.specs.Graph.{node_at, relationship_at};
 ghost use Rattle.pg_store.specs.Stores.{graph_of_store, IsFit, node_texts_view, rel_texts_view};
 
 use crate::store::Store;
-use pg_graph::{Labels, Names, NodeRecord, RelRecord, Tables};
+use pg_graph::{Labels, NodeRecord, RelRecord, Tables};
+use pg_names::Names;
 use pg_value_core::{NodeId, RelId, Value};
 use std::alloc::{AllocError, Global};
 use std::collections::BTreeMap;

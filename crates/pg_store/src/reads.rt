@@ -53,7 +53,12 @@ impl<T: Tables> Store<T> {
     }
 
     /// What a node has under a key, if there is such a node.
-    pub(crate) fn property<'a>(&'a self, shared: &'a T::Shared, id: NodeId, key: &str) -> Option<&'a Value>
+    pub(crate) fn property<'a>(
+        &'a self,
+        shared: &'a T::Shared,
+        id: NodeId,
+        key: &str,
+    ) -> Option<&'a Value>
         requires fit { IsFit T.seen self.now shared.now }
         ensures { option_map (λ v. view v.now) result ≡ property_at (graph_of_store T.seen self.now shared.now) id.0 key.now }
     {
@@ -75,7 +80,11 @@ impl<T: Tables> Store<T> {
     }
 
     /// The ids of all nodes, rising.
-    pub(crate) fn node_ids(&self, alloc: Global, shared: &T::Shared) -> Result<Vec<NodeId>, AllocError>
+    pub(crate) fn node_ids(
+        &self,
+        alloc: Global,
+        shared: &T::Shared,
+    ) -> Result<Vec<NodeId>, AllocError>
         requires fit { IsFit T.seen self.now shared.now }
         ensures { IfOk result (λ ids. map_list (λ id. id.0) ids.items ≡ ids_of (graph_of_store T.seen self.now shared.now).nodes) }
     {

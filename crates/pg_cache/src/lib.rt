@@ -4,6 +4,3 @@
 mod cache;
 
 pub use cache::PlanCache;
-
-#[cfg(test)]
-mod tests;

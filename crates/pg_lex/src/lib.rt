@@ -11,8 +11,6 @@ mod names;
 mod numbers;
 mod strings;
 mod symbols;
-#[cfg(test)]
-mod tests;
 mod text;
 mod token;
 mod words;

@@ -3,14 +3,14 @@ ghost use Rattle.std.specs.Prelude.{◌≤◌};
 use pg_meaning::{Keyword, Symbol};
 
 /// A whole number as a text can spell it.
-#[derive(Clone, Copy, Debug, PartialEq, Eq)]
+#[derive(Clone, Copy)]
 pub struct Natural {
     pub value: u64,
     ghost within: { value ≤ 9223372036854775807 },
 }
 
 /// A lexeme with its decoded content. Where nothing is decoded, that is a part of the text.
-#[derive(Debug, PartialEq, Eq, Drop)]
+#[derive(Drop)]
 pub enum Lexeme<'a> {
     /// No keyword.
     Word(&'a str),
@@ -25,7 +25,7 @@ pub enum Lexeme<'a> {
 }
 
 /// A lexeme and the bytes of the text that spell it, from `start` up to `finish`.
-#[derive(Debug, PartialEq, Eq, Drop)]
+#[derive(Drop)]
 pub struct Token<'a> {
     pub lexeme: Lexeme<'a>,
     pub start: usize,
@@ -43,7 +43,6 @@ pub(crate) enum Next<'a> {
 }
 
 /// What the first character of a lexeme tells of it.
-#[derive(Clone, Copy, Debug, PartialEq, Eq)]
 pub(crate) enum Class {
     Letter,
     Digit,

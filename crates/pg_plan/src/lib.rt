@@ -24,6 +24,3 @@ pub fn law_of_plans()
 pub fn law_of_texts()
     ensures { TextsMean }
 {}
-
-#[cfg(test)]
-mod tests;

@@ -10,7 +10,7 @@ use crate::updates::any_updates;
 use pg_syntax_tree::{Item, NodePattern, Query};
 
 /// What is answered so far.
-#[derive(Clone, Copy, Debug)]
+#[derive(Clone, Copy)]
 pub enum Statement<'a> {
     Return(&'a Vec<Item>),
     Create(&'a NodePattern),
@@ -19,7 +19,7 @@ pub enum Statement<'a> {
 }
 
 /// A query that was read and has no static fault, with what every request asks of it.
-#[derive(Debug, Drop)]
+#[derive(Drop)]
 pub struct Plan {
     pub(crate) query: Query,
     writes: bool,

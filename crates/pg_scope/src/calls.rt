@@ -10,7 +10,7 @@ ghost use Rattle.pg_syntax_tree.specs.View.{name_view};
 
 use pg_syntax_tree::Name;
 
-#[derive(Clone, Copy, Debug, PartialEq, Eq)]
+#[derive(Clone, Copy)]
 pub enum Function {
     Id,
     Labels,
@@ -33,7 +33,7 @@ pub enum Function {
 }
 
 /// What is told of a group's values.
-#[derive(Clone, Copy, Debug, PartialEq, Eq)]
+#[derive(Clone, Copy)]
 pub enum Summary {
     Counting,
     Summing,

@@ -12,7 +12,7 @@ use crate::trees::same_expression;
 use pg_syntax_tree::{Expression, Item, Projection};
 
 /// How a clause names a column that has no alias.
-#[derive(Clone, Copy, Debug, PartialEq, Eq)]
+#[derive(Clone, Copy)]
 pub(crate) enum Naming {
     /// WITH names it by the variable that it is.
     Variable,

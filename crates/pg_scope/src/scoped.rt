@@ -6,7 +6,7 @@ ghost use Rattle.pg_syntax_tree.specs.View.{query_view};
 use pg_syntax_tree::Query;
 
 /// A query that has no static fault.
-#[derive(Debug, Drop)]
+#[derive(Drop)]
 pub struct Scoped {
     pub(crate) query: Query,
     ghost faultless: { static_fault (query_view query) ≡ None },

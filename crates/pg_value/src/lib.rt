@@ -16,6 +16,3 @@ pub use measures::{depth, weight};
 pub use membership::is_in;
 pub use pg_value_core::{Fault, NodeId, Out, Path, RelId, Tri, Value, equivalent, order};
 pub use texts::comes_again;
-
-#[cfg(test)]
-mod tests;

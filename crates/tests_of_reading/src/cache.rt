@@ -1,5 +1,6 @@
 //! Look-ups in turn, and what they count and answer.
-use crate::PlanCache;
+
+use pg_cache::PlanCache;
 use pg_plan::{Plan, Statement, column_names};
 use std::alloc::{AllocError, Global};
 use std::hash::RandomState;

@@ -1,4 +1,6 @@
-use crate::{
+//! What is asked of values: order, equality, hash, copies, membership, logic and measures.
+
+use pg_value::{
     Fault, NodeId, Path, RelId, Tri, Value, and, comes_again, depth, eq3, equivalent, is_in, less3,
     not, or, order, truth, truth_of, value_of, weight, xor,
 };

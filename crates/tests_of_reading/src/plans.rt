@@ -1,6 +1,7 @@
 //! Query texts, and what is kept of them.
-use crate::{Plan, Statement, check_length, column_names, plan_text};
+
 use pg_meaning::Fault;
+use pg_plan::{Plan, Statement, check_length, column_names, plan_text};
 use std::alloc::{AllocError, Global};
 use std::test::Fail;
 

@@ -1,7 +1,0 @@
-//! Tests of the crates that read texts.
-#![tactic(auto)]
-
-#[cfg(test)]
-mod lexemes;
-#[cfg(test)]
-mod queries;

@@ -41,10 +41,16 @@ impl Columns {
     }
 
     /// The first column of this name.
+    #[tactic(auto, using(crate::proofs::NamedRows::first_named))]
     pub fn find(&self, name: &str) -> Option<usize>
         ensures { result ≡ position (bytes_eq name.now) self.now }
     {
-        self.names.iter().position(|held| name == held.as_str())
+        for (at, held) in self.names.iter().enumerate() {
+            if name == held.as_str() {
+                return Some(at);
+            }
+        }
+        None
     }
 
     /// Takes a name in behind the others, unless it is there.

@@ -26,7 +26,7 @@ returns c =
     let name = c.args.name.now in
     let items = c.deref-held-items.result.now in
     let all : map string_bytes items ≡ c.args.self.now = ap (map string_bytes) c.deref-held-items.ensures.value ∙ c.self.view_is in
-    sym (ap (position_from (is_named name) l.at) (drop_all items l.at (omega arith)))
+    sym (ap (position_from (is_named name) l.at) (drop_all l.at items (omega arith)))
     ∙ sym l.invariant
     ∙ sym (first_named name items)
     ∙ ap (position (bytes_eq name)) all

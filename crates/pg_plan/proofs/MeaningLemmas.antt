@@ -31,7 +31,7 @@ module _ (x : OneNode) (semicolon : Bool) (simple : IsSimple x) (none : static_f
       let same = one_node_answers x semicolon parameters graph max_steps max_elements simple in
       record {
         query = same;
-        planned = ap (λ p. ordered p (query_of x semicolon) parameters graph max_steps max_elements) (sym (one_node_plans x semicolon).chosen) ∙ same;
+        planned = ap (λ p. ordered p [] (query_of x semicolon) parameters graph max_steps max_elements) (sym (one_node_plans x semicolon).chosen) ∙ same;
         means = λ given is. one_node_means x semicolon parameters graph max_steps max_elements simple (sym (one_node_faults x semicolon simple) ∙ none) given is;
       }
 

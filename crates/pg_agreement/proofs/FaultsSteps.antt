@@ -6,7 +6,7 @@ use Rattle.pg_meaning.specs.Agreement.{AreGiven, AreRowsOf}
 use Rattle.pg_meaning.specs.AgreementLaws.{named_in, given_split, planned_over}
 use Rattle.pg_meaning.specs.Answer.{◌>>=◌, ◌>>◌, unless, each_answer, each_step}
 use Rattle.pg_meaning.specs.Conditions.{conjuncts, operands_of, all_true, condition}
-use Rattle.pg_meaning.specs.CreationLaws.{BindsOnly}
+use Rattle.pg_agreement.proofs.RowNames.{BindsOnly}
 use Rattle.pg_meaning.specs.Expressions.{evaluate}
 use Rattle.pg_meaning.specs.Grammar.{mark, flag, sign, joined, marks, operand_marks, operator_what, optional_marks, keyed, clause_marks, clause_parameters, IsWellFormed, AreOperands, Each, IsClause}
 use Rattle.pg_meaning.specs.Graph.{Graph, has_node, has_relationship}

@@ -7,7 +7,7 @@ use Rattle.pg_agreement.proofs.MakingProgress.{Progress, newness, bound_is_live,
 use Rattle.pg_meaning.specs.Agreement.{given}
 use Rattle.pg_meaning.specs.Answer.{◌>>=◌, ◌>>◌, unless}
 use Rattle.pg_meaning.specs.AnswerLaws.{by_answer}
-use Rattle.pg_meaning.specs.CreationLaws.{by_unless, not_below}
+use Rattle.pg_agreement.proofs.MakingTurns.{by_unless, not_below}
 use Rattle.pg_meaning.specs.Graph.{Graph, IsGraph, Way, outgoing, incoming, both, has_node, element_count, add_node}
 use Rattle.pg_meaning.specs.Lists.{IsIn}
 use Rattle.pg_meaning.specs.ListsLaws.{all_weaker}

@@ -4,20 +4,22 @@ use Rattle.std.specs.List.{AllByRecursion, AllZip}
 use Rattle.pg_agreement.proofs.MatchFound.{walks_list_fits}
 use Rattle.pg_agreement.proofs.MakingClauses.{BoundTested, bound_tested, MakeAgrees, made}
 use Rattle.pg_agreement.proofs.MakingRows.{as_many_nodes, HasShape, binds_match}
+use Rattle.pg_agreement.proofs.ChangesComputed.{set_is_computed, set_fault_is_computed}
 use Rattle.pg_agreement.proofs.MergingItems.{Keeps, rows_keep, ItemsRun, items_run}
 use Rattle.pg_agreement.proofs.MergingProperties.{NullTested, WantedAgrees, wanted_agrees}
 use Rattle.pg_agreement.specs.Making.{MergeAgrees}
+use Rattle.pg_meaning.specs.Turns.{RowByRow, AtSomeTurn}
 use Rattle.pg_meaning.specs.Agreement.{given, AreRowsOf, AnswerAgrees}
 use Rattle.pg_meaning.specs.Answer.{◌>>=◌, ◌>>◌, each_step}
-use Rattle.pg_meaning.specs.CreationLaws.{BindsOnly}
+use Rattle.pg_agreement.proofs.RowNames.{BindsOnly}
 use Rattle.pg_meaning.specs.Graph.{Graph, IsGraph}
 use Rattle.pg_meaning.specs.Lists.{IsListOf}
 use Rattle.pg_meaning.specs.ListsLaws.{all_joined, all_mapped}
-use Rattle.pg_meaning.specs.Meaning.{RowByRow, AtSomeTurn, BoundNodesLive, PropertiesEvaluate, MergeTests, MergeRow, MergeFaults}
+use Rattle.pg_meaning.specs.Meaning.{BoundNodesLive, PropertiesEvaluate, MergeTests, MergeRow, MergeFaults}
 use Rattle.pg_meaning.specs.Meters.{Setting, State, spend}
 use Rattle.pg_meaning.specs.Patterns.{Fits, PathFits, HopsFit, Bond, Trail, Assignment, bind_match, add_path_names}
 use Rattle.pg_meaning.specs.Plans.{IsAnchorOf}
-use Rattle.pg_meaning.specs.ProjectionLaws.{spend_fault}
+use Rattle.pg_agreement.proofs.ProjectedParts.{spend_fault}
 use Rattle.pg_meaning.specs.Reading.{test_paths}
 use Rattle.pg_meaning.specs.Rows.{Row}
 use Rattle.pg_meaning.specs.Tree.{NodePattern, RelationshipPattern, PathPattern, SetItem, merge}
@@ -85,11 +87,12 @@ module _ (s : Setting) (p : PathPattern) (parts : List (Bool × List SetItem)) (
     where
       by_run : (r : Result State Fault) → ItemsRun s (items_on false parts) (charged steps state.graph) (map (λ a. bind_match state.graph (p ∷ []) a row) found) r → Merges r
       by_run (Err f) (inl e) = inl e
-      by_run (Err f) (inr e) = inr (inr (inr (inr (inr (tested, inl (found, matches, e))))))
+      by_run (Err f) (inr e) =
+          inr (inr (inr (inr (inr (tested, inl (found, matches, (set_fault_is_computed (given s) (items_on false parts) state.graph (map (λ a. bind_match state.graph (p ∷ []) a row) found) f g).0 e))))))
       by_run (Ok next) k = (
         map (λ a. bind_match state.graph (p ∷ []) a row) found,
         k.1,
-        record { tested = tested; one = inl (record { found = found; matches = matches; some = some; rows = refl; items_run = k.0 }) },
+        record { tested = tested; one = inl (record { found = found; matches = matches; some = some; rows = refl; items_run = (set_is_computed (given s) (items_on false parts) state.graph next.graph (map (λ a. bind_match state.graph (p ∷ []) a row) found) g).0 k.0 }) },
         kept (each_step (set_row s (items_on false parts)) state.graph (map (λ a. bind_match state.graph (p ∷ []) a row) found)) next.graph
             (rows_keep s (items_on false parts) (map (λ a. bind_match state.graph (p ∷ []) a row) found) state.graph g) k.0,
         rows_of_fits s.parameters state.graph row (p ∷ []) s.scope found h matches.each,
@@ -102,11 +105,12 @@ module _ (s : Setting) (p : PathPattern) (parts : List (Bool × List SetItem)) (
     where
       by_run : (after : Graph × Row) → MakeAgrees s (p ∷ []) state.graph row (Ok after) → (more : ℕ) (r : Result State Fault) → ItemsRun s (items_on true parts) (charged more after.0) (after.1 ∷ []) r → Merges r
       by_run after k more (Err f) (inl e) = inl e
-      by_run after k more (Err f) (inr e) = inr (inr (inr (inr (inr (tested, inr (after.0, after.1 ∷ [], none, k.0, e))))))
+      by_run after k more (Err f) (inr e) =
+          inr (inr (inr (inr (inr (tested, inr (after.0, after.1 ∷ [], none, k.0, (set_fault_is_computed (given s) (items_on true parts) after.0 (after.1 ∷ []) f k.0.graph_again).0 e))))))
       by_run after k more (Ok next) run = (
         after.1 ∷ [],
         run.1,
-        record { tested = tested; one = inr (record { none = none; made = after.0; creation = k.0; items_run = run.0 }) },
+        record { tested = tested; one = inr (record { none = none; made = after.0; creation = k.0; items_run = (set_is_computed (given s) (items_on true parts) after.0 next.graph (after.1 ∷ []) k.0.graph_again).0 run.0 }) },
         kept (each_step (set_row s (items_on true parts)) after.0 (after.1 ∷ [])) next.graph (rows_keep s (items_on true parts) (after.1 ∷ []) after.0 k.0.graph_again) run.0,
         (k.1, tt),
       )

@@ -1,9 +1,10 @@
-pub mod Changes
 pub mod Changing
+pub mod InstancesOfChanges
 pub mod WholeQueries
 pub mod Listing
 pub mod Matching
 pub mod Making
 pub mod Projecting
+pub mod Places
 pub mod Planning
 pub mod Faults

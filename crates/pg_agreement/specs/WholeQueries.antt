@@ -12,7 +12,7 @@ use Rattle.pg_meaning.specs.Queries.{Outcome, ordered, answer_of, returns}
 use Rattle.pg_meaning.specs.StaticFaults.{static_faults}
 use Rattle.pg_meaning.specs.Tree.{Projection, Clause, create, merge, set_items, remove_items, delete, return_rows, Query}
 use Rattle.pg_meaning.specs.Value.{Value, list, mapping, node, relationship, path, Values, no_items, item, Entries, no_entries, entry}
-use Rattle.pg_agreement.specs.Changes.{path_nodes, path_relationships}
+use Rattle.pg_meaning.specs.Changes.{path_nodes, path_relationships}
 
 -- ---- the one answer stands in the meaning
 

@@ -5,7 +5,8 @@ ghost use Rattle.pg_agreement.specs.Faults.{FaultsOfExpressions, FaultsOfQueries
 ghost use Rattle.pg_agreement.specs.Listing.{WalksAreTheListing};
 ghost use Rattle.pg_agreement.specs.Making.{CreateAgrees, MergeAgrees};
 ghost use Rattle.pg_agreement.specs.Matching.{MatchAgrees, WalksListFits};
-ghost use Rattle.pg_agreement.specs.Planning.{PlanOfIsPlan};
+ghost use Rattle.pg_agreement.specs.Places.{CreationIsCharged, NamesAreOfPlaces};
+ghost use Rattle.pg_agreement.specs.Planning.{PlanOfIsPlan, PlanOfIsWhole};
 ghost use Rattle.pg_agreement.specs.Projecting.{ReturnAgrees, UnwindAgrees, WithAgrees};
 ghost use Rattle.pg_meaning.specs.Cost.{WalksChargeTheCost};
 
@@ -13,7 +14,8 @@ mod changing;
 mod whole_queries;
 
 pub use changing::{
-    law_of_changes, law_of_changing, law_of_decisions, law_of_deletions, law_of_one_change,
+    instances_of_changes, law_of_changes, law_of_changing, law_of_decisions, law_of_deletions,
+    law_of_one_change,
 };
 pub use whole_queries::{
     law_of_answers, law_of_graphs, law_of_leaving, law_of_queries, law_of_rows,
@@ -39,9 +41,18 @@ pub fn law_of_cost()
     ensures { WalksChargeTheCost }
 {}
 
-/// The plan that is made of a query, over whatever indexes, is a plan of it.
+/// The plan that is made of a query, over whatever indexes, is a plan of it, and names none but these.
 pub fn law_of_plans()
-    ensures { PlanOfIsPlan }
+    ensures plan { PlanOfIsPlan }
+    ensures whole { PlanOfIsWhole }
+{}
+
+/// A row of CREATE is charged one step for each element that it makes; the variables with their nodes are those of the
+/// node places.
+#[tactic(auto, using(crate::proofs::PlacesCounted::creation_is_charged, crate::proofs::PlacesCounted::names_are_of_places))]
+pub fn law_of_places()
+    ensures charged { CreationIsCharged }
+    ensures named { NamesAreOfPlaces }
 {}
 
 /// CREATE answers rows, graphs and faults that its meaning gives.

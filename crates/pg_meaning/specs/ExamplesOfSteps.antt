@@ -218,7 +218,7 @@ instances_of_create = (
     created_graph,
     [] ∷ [],
     [],
-    record { tested = record { live = (refl, tt); evaluated = tt; not_null = tt }; one = inr (record { none = nothing_fits; made = created_graph; creation = create_row; items_run = refl }) },
+    record { tested = record { live = (refl, tt); evaluated = tt; not_null = tt }; one = inr (record { none = nothing_fits; made = created_graph; creation = create_row; items_run = (created_graph, refl, refl) }) },
     (refl, refl),
     refl,
   ),
@@ -232,49 +232,6 @@ instances_of_create = (
     merged_none : (after : Graph) (first : List Row) → MergeMatched (within []) unnamed [] empty_graph [] after first ⊎ MergeMade (within []) unnamed [] empty_graph [] after first → first ≡ [] → ⊥
     merged_none after first (inl m) e = none_found m.found m.some (sym e ∙ m.rows)
     merged_none after first (inr m) e = no_row_made m.made first m.creation e
-
--- ---- SET a.k = 2, REMOVE a.k and DELETE a
-
-abbrev pub with_k : ℕ → Graph
-with_k n = record pair_graph { nodes = (0, record { labels = codes "L" ∷ []; properties = entry (codes "k") (integer (pos n)) no_entries }) ∷ (1, bare_node) ∷ [] }
-
-abbrev pub without_k : Graph
-without_k = record pair_graph { nodes = (0, record { labels = codes "L" ∷ []; properties = no_entries }) ∷ (1, bare_node) ∷ [] }
-
-abbrev pub second_alone : Graph
-second_alone = record pair_graph { nodes = (1, bare_node) ∷ []; relationships = [] }
-
-abbrev pub set_k : Clause
-set_k = set_items (set_property (named "a") (named "k") (number 2) ∷ [])
-
-abbrev pub remove_k : Clause
-remove_k = remove_items (remove_property (named "a") (named "k") ∷ [])
-
--- a node that keeps a relationship is not deleted without DETACH
-abbrev pub InstancesOfChanges : Type 0
-InstancesOfChanges =
-    Step (within (codes "a" ∷ [])) set_k pair_graph (row_a (node 0) ∷ []) (with_k 2) (row_a (node 0) ∷ [])
-    × (Step (within (codes "a" ∷ [])) set_k pair_graph (row_a (node 0) ∷ []) pair_graph (row_a (node 0) ∷ []) → ⊥)
-    × Step (within (codes "a" ∷ [])) remove_k pair_graph (row_a (node 0) ∷ []) without_k (row_a (node 0) ∷ [])
-    × (Step (within (codes "a" ∷ [])) remove_k pair_graph (row_a (node 0) ∷ []) pair_graph (row_a (node 0) ∷ []) → ⊥)
-    × Step (within (codes "a" ∷ [])) (delete true (var "a" ∷ [])) pair_graph (row_a (node 0) ∷ []) second_alone (row_a (node 0) ∷ [])
-    × (Step (within (codes "a" ∷ [])) (delete false (var "a" ∷ [])) pair_graph (row_a (node 0) ∷ []) second_alone (row_a (node 0) ∷ []) → ⊥)
-
-abbrev k_is_one : Graph → Bool
-k_is_one g = elim (node_at g 0) [ Some e ↦ is_equivalent (value_at (codes "k") e.properties) one | None ↦ false ]
-
-pub instances_of_changes : InstancesOfChanges
-instances_of_changes = (
-  (refl, refl),
-  (λ s. not_true (ap k_is_one (same_ok (with_k 2) pair_graph s.0))),
-  (refl, refl),
-  (λ s. not_true (ap k_is_one (same_ok without_k pair_graph s.0))),
-  record { doomed = (0 ∷ [], []); named = refl; connected = refl; removed = refl; kept = refl },
-  (λ d. still_connected (subst (λ x. test_unconnected (remove_elements [] (doomed_relationships false pair_graph x) pair_graph) (doomed_nodes pair_graph x) ≡ Ok tt) (sym (same_ok (0 ∷ [], []) d.doomed d.named)) d.connected)),
-)
-  where
-    still_connected : ◌≡◌ {A = Result (Unit {0}) Fault} (Err NodeStillConnected) (Ok tt) → ⊥
-    still_connected e = cc
 
 -- ---- faults of CREATE and MERGE
 

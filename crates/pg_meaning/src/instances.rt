@@ -1,7 +1,7 @@
 //! Small instances of the relations, of each one that holds and one that doesn't. A function without a body says so.
 
 ghost use Rattle.pg_meaning.specs.ExamplesOfFits.{InstancesOfGraphs, InstancesOfPlans, InstancesOfPatterns};
-ghost use Rattle.pg_meaning.specs.ExamplesOfSteps.{InstancesOfMatch, InstancesOfUnwind, InstancesOfReturn, InstancesOfCreate, InstancesOfChanges, InstancesOfFaults, InstancesOfQueries};
+ghost use Rattle.pg_meaning.specs.ExamplesOfSteps.{InstancesOfMatch, InstancesOfUnwind, InstancesOfReturn, InstancesOfCreate, InstancesOfFaults, InstancesOfQueries};
 
 /// What is a graph, and what is a plan of a query.
 pub fn instances_of_graphs()
@@ -20,7 +20,6 @@ pub fn instances_of_clauses()
     ensures unwinds { InstancesOfUnwind }
     ensures projects { InstancesOfReturn }
     ensures creates { InstancesOfCreate }
-    ensures changes { InstancesOfChanges }
     ensures faults { InstancesOfFaults }
 {}
 

@@ -1,5 +1,5 @@
 -- What the query of a text answers, where it is answered so far.
-use Rattle.std.proofs.Common.{◌≡◌, ℕ, Bool, Result, Ok, Err, Option, Some, None, refl, sym, ap, subst, ◌∙◌}
+use Rattle.std.proofs.Common.{◌≡◌, ℕ, Bool, [], Result, Ok, Err, Option, Some, None, refl, sym, ap, subst, ◌∙◌}
 use Rattle.pg_meaning.specs.Agreement.{OutcomeAgrees}
 use Rattle.pg_meaning.specs.Graph.{Graph}
 use Rattle.pg_meaning.specs.Queries.{ordered}

@@ -10,14 +10,13 @@ use Rattle.pg_meaning.specs.Graph.{Graph}
 use Rattle.pg_meaning.specs.Meters.{Setting, State}
 use Rattle.pg_meaning.specs.Patterns.{texts_of, add_path_names}
 use Rattle.pg_meaning.specs.Plans.{Anchor, anchors_over, anchor_of, is_indexed, is_labelled, serving, fixed_keys}
-use Rattle.pg_meaning.specs.ProjectionLaws.{AreSingle}
 use Rattle.pg_meaning.specs.Queries.{Outcome, clause_step}
 use Rattle.pg_meaning.specs.Scopes.{column_names, return_column}
 use Rattle.pg_meaning.specs.Tree.{Name, Expression, Properties, NodePattern, Item, create, match_paths, return_rows}
 use Rattle.pg_meaning.specs.Tree as tree
 use Rattle.pg_meaning.specs.Value.{Entries}
 use Rattle.pg_meaning.specs.declared.fault.Fault.{Fault}
-use Rattle.pg_run.specs.Answers.{begin, answer_in, returned, first_setting, at_the_node, OneNodeAnswers}
+use Rattle.pg_run.specs.Answers.{AreSingle, begin, answer_in, returned, first_setting, at_the_node, OneNodeAnswers}
 use Rattle.pg_run.specs.OneNode.{returns, creates, creates_and_returns, matches, IsSimpleExpression, AreSimpleItems, AreSimpleProperties, IsWritten, items_alone, node_alone}
 use Rattle.pg_run.proofs.AnswerLemmas.{regrouped, alike_after, fused}
 use Rattle.pg_run.proofs.CreateLemmas.{create_makes}

@@ -62,6 +62,7 @@ pub mod ListingWalks
 pub mod ChargingSums
 pub mod ChargingPlaces
 pub mod ChargingWalks
+pub mod AggregatedValues
 pub mod PlacesCounted
 pub mod PlanningPlans
 pub mod FaultsValues

@@ -1,3 +1,4 @@
+pub mod Aggregating
 pub mod Changing
 pub mod InstancesOfChanges
 pub mod WholeQueries

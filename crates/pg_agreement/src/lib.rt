@@ -1,6 +1,7 @@
 //! The one answer and the meaning agree, clause by clause and for whole queries.
 #![tactic(auto)]
 
+ghost use Rattle.pg_agreement.specs.Aggregating.{TakesAllThere, LeastIsFirst, GreatestIsLast};
 ghost use Rattle.pg_agreement.specs.Faults.{FaultsOfExpressions, FaultsOfQueries};
 ghost use Rattle.pg_agreement.specs.Listing.{WalksAreTheListing};
 ghost use Rattle.pg_agreement.specs.Making.{CreateAgrees, MergeAgrees};
@@ -49,7 +50,6 @@ pub fn law_of_plans()
 
 /// A row of CREATE is charged one step for each element that it makes; the variables with their nodes are those of the
 /// node places.
-#[tactic(auto, using(crate::proofs::PlacesCounted::creation_is_charged, crate::proofs::PlacesCounted::names_are_of_places))]
 pub fn law_of_places()
     ensures charged { CreationIsCharged }
     ensures named { NamesAreOfPlaces }
@@ -70,6 +70,14 @@ pub fn law_of_projecting()
     ensures with { WithAgrees }
     ensures returns { ReturnAgrees }
     ensures unwinds { UnwindAgrees }
+{}
+
+/// An aggregate takes in all values but null in their order, where it has no DISTINCT; min is one of them that none goes
+/// before, and max one that goes before none.
+pub fn law_of_aggregates()
+    ensures taken { TakesAllThere }
+    ensures least { LeastIsFirst }
+    ensures greatest { GreatestIsLast }
 {}
 
 /// A well-formed expression without static faults, with its parameters given, has a value or one of the faults 16 to 27.

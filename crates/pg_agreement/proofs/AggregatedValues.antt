@@ -40,7 +40,7 @@ extended_is summing vs (relationship r) kept e = cc
 extended_is summing vs (path ids) kept e = cc
 
 module _ (a : Aggregate) (all : a.distinct ≡ false) where
-  with_one : (vs : List Value) (v : Value) (kept : List Value) → elim (a.distinct && list_any (is_equivalent v) vs) [ true ↦ Ok vs | false ↦ extended a.summary vs v ] ≡ Ok kept → kept ≡ vs ++ v ∷ []
+  with_one : (vs : List Value) (v : Value) (kept : List Value) → elim (a.distinct && list_any (is_equivalent v) vs) as (λ b. Result (List Value) Fault) [ true ↦ Ok vs | false ↦ extended a.summary vs v ] ≡ Ok kept → kept ≡ vs ++ v ∷ []
   with_one vs v kept e =
       extended_is a.summary vs v kept
       (sym (ap (λ b. elim (b && list_any (is_equivalent v) vs) as (λ b. Result (List Value) Fault) [ true ↦ Ok vs | false ↦ extended a.summary vs v ]) all) ∙ e)

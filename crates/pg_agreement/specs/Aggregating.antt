@@ -1,6 +1,7 @@
 -- What an aggregate takes in of a group's values, and what min and max are of them. Their count is a length, their sum a total, and collect is the list itself.
-use Rattle.std.specs.Prelude.{◌≡◌, ◌≢◌, Bool, true, false, List, [], ◌∷◌, filter, Ok, Less, Greater}
+use Rattle.std.specs.Prelude.{◌≡◌, ◌≢◌, Bool, true, false, List, [], ◌∷◌, filter, Ok}
 use Rattle.std.specs.List.{AllByRecursion}
+use Rattle.std.specs.declared.cmp.Ordering.TheVariants.{Less, Greater}
 use Rattle.pg_meaning.specs.Aggregates.{Aggregate, least, greatest, take_in, summarized}
 use Rattle.pg_meaning.specs.Answer.{each_step}
 use Rattle.pg_meaning.specs.Lists.{IsIn}

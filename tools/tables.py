@@ -1,11 +1,12 @@
 """Values and tables as a terminal shows them: no control character of a name or a text gets through."""
 import json
 import re
+import shutil
 import unicodedata
 
 from graphd import Node, Path, Relationship
 
-SHORT = 60  # columns of a terminal that a shortened value takes at most
+SHORT = 12  # columns of a terminal that a shortened value may always take
 NAME = re.compile(r"[^\W\d]\w*\Z")
 
 
@@ -80,7 +81,7 @@ def width(text):
     )
 
 
-def shortened(text, room=SHORT):
+def shortened(text, room):
     """The text, cut with an ellipsis where it takes more room."""
     if width(text) <= room:
         return text
@@ -99,7 +100,9 @@ def _padded(text, room):
 
 def lines(columns, rows, whole):
     """The lines of a table with aligned columns; values are cut where not all of them is wanted."""
-    cut = (lambda text: text) if whole else shortened
+    free = shutil.get_terminal_size().columns - 3 * (len(columns) - 1)
+    room = max(SHORT, free // len(columns))
+    cut = (lambda text: text) if whole else (lambda text: shortened(text, room))
     cells = [[cut(safe(column)) for column in columns]]
     cells += [[cut(shown(value)) for value in row] for row in rows]
     rooms = [max(width(line[place]) for line in cells) for place in range(len(columns))]

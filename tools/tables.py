@@ -1,0 +1,110 @@
+"""Values and tables as a terminal shows them: no control character of a name or a text gets through."""
+import json
+import re
+import shutil
+import unicodedata
+
+from graphd import Node, Path, Relationship
+
+SHORT = 12  # columns of a terminal that a shortened value may always take
+NAME = re.compile(r"[^\W\d]\w*\Z")
+
+
+def safe(text):
+    """The text with control characters, line ends and what turns the direction of writing escaped."""
+    return "".join(
+        character if character == " " or unicodedata.category(character)[0] not in "CZ" else _escaped(character)
+        for character in text
+    )
+
+
+def _escaped(character):
+    return json.dumps(character)[1:-1] if ord(character) < 128 else f"\\u{{{ord(character):x}}}"
+
+
+def name(text):
+    """A label, type or key as a query would write it."""
+    return text if NAME.match(text) else "`" + safe(text).replace("`", "``") + "`"
+
+
+def _text(value):
+    return safe(json.dumps(value, ensure_ascii=False))
+
+
+def _entries(entries):
+    return ", ".join(f"{name(key)}: {shown(value)}" for key, value in entries.items())
+
+
+def _properties(entries):
+    return f" {{{_entries(entries)}}}" if entries else ""
+
+
+def _node(node):
+    labels = "".join(f":{name(label)}" for label in node.labels)
+    return f"({node.id}{labels}{_properties(node.properties)})"
+
+
+def _relationship(relationship):
+    return f"[{relationship.id}:{name(relationship.type)}{_properties(relationship.properties)}]"
+
+
+def _path(path):
+    told = _node(path.nodes[0])
+    for link, after in zip(path.relationships, path.nodes[1:]):
+        left, right = ("-", "->") if link.end == after.id else ("<-", "-")
+        told += left + _relationship(link) + right + _node(after)
+    return told
+
+
+def shown(value):
+    """A value as a query or a pattern would write it."""
+    if isinstance(value, Node):
+        return _node(value)
+    if isinstance(value, Relationship):
+        return f"({value.start})-{_relationship(value)}->({value.end})"
+    if isinstance(value, Path):
+        return _path(value)
+    if isinstance(value, list):
+        return "[" + ", ".join(shown(item) for item in value) + "]"
+    if isinstance(value, dict):
+        return "{" + _entries(value) + "}"
+    if isinstance(value, str):
+        return _text(value)
+    return json.dumps(value)
+
+
+def width(text):
+    """How many columns of a terminal the text takes: wide letters two, marks none."""
+    return sum(
+        0 if unicodedata.combining(character) else 2 if unicodedata.east_asian_width(character) in "WF" else 1
+        for character in text
+    )
+
+
+def shortened(text, room):
+    """The text, cut with an ellipsis where it takes more room."""
+    if width(text) <= room:
+        return text
+    kept, taken = [], 1
+    for character in text:
+        taken += width(character)
+        if taken > room:
+            break
+        kept.append(character)
+    return "".join(kept) + "…"
+
+
+def _padded(text, room):
+    return text + " " * (room - width(text))
+
+
+def lines(columns, rows, whole):
+    """The lines of a table with aligned columns; values are cut where not all of them is wanted."""
+    free = shutil.get_terminal_size().columns - 3 * (len(columns) - 1)
+    room = max(SHORT, free // len(columns))
+    cut = (lambda text: text) if whole else (lambda text: shortened(text, room))
+    cells = [[cut(safe(column)) for column in columns]]
+    cells += [[cut(shown(value)) for value in row] for row in rows]
+    rooms = [max(width(line[place]) for line in cells) for place in range(len(columns))]
+    told = [" | ".join(_padded(cell, room) for cell, room in zip(line, rooms)).rstrip() for line in cells]
+    return [told[0], "-+-".join("-" * room for room in rooms), *told[1:]]

@@ -34,6 +34,15 @@ impl Numbered for NameId {
     }
 }
 
+impl NameId {
+    /// The number alone.
+    pub fn place(self) -> u64
+        ensures { result ≡ self }
+    {
+        self.0
+    }
+}
+
 /// Texts by their numbers, from 0 on. It only grows.
 #[derive(Drop)]
 pub struct Names {

@@ -68,6 +68,9 @@ impl<T: Tables> Store<T> {
         ensures keeps { Keeps T.seen self.old.tables shared.old self.new.tables shared.new }
     {
         self.journal.reserve(1)?;
+        let was = self.tables.node(shared, id).unwrap();
+        self.sets.cover_node(&was.labels, id.0)?;
+        self.sets.cover_node(&node.labels, id.0)?;
         let before = self.tables.change(shared, id, node);
         self.journal.push_reserved(Entry::NodeChanged(id, before));
         Ok(())

@@ -58,6 +58,7 @@ impl<T: Tables> Store<T> {
     {
         self.journal.reserve(1)?;
         let id = NodeId(self.next.node);
+        self.sets.cover_node(&node.labels, id.0)?;
         self.tables.add_node(shared, id, node)?;
         self.next.node += 1;
         self.elements += 1;

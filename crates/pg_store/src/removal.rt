@@ -41,6 +41,8 @@ impl<T: Tables> Store<T> {
         ensures keeps { Keeps T.seen self.old.tables shared.now self.new.tables shared.now }
     {
         self.journal.reserve(1)?;
+        let was = self.tables.node(shared, id).unwrap();
+        self.sets.cover_node(&was.labels, id.0)?;
         self.gone_nodes.insert(id.0, ())?;
         self.elements -= 1;
         self.journal.push_reserved(Entry::NodeRemoved(id));

@@ -142,14 +142,14 @@ impl<'a, T: Tables> Snapshot<'a, T> {
     pub fn node_ids(&self, alloc: Global) -> Result<Vec<NodeId>, AllocError>
         ensures { IfOk result (λ ids. map_list (λ id. id.0) ids.items ≡ ids_of self.now.nodes) }
     {
-        self.store.node_ids(alloc, self.shared)
+        self.nodes().collect(alloc)
     }
 
     /// The ids of the nodes with a label, rising.
     pub fn nodes_with_label(&self, alloc: Global, label: &str) -> Result<Vec<NodeId>, AllocError>
         ensures { IfOk result (λ ids. map_list (λ id. id.0) ids.items ≡ nodes_with_label self.now label.now) }
     {
-        self.store.nodes_with_label(alloc, self.shared, label)
+        self.nodes_labelled(label).collect(alloc)
     }
 
     /// The nodes, ids rising.

@@ -2,8 +2,10 @@ use Rattle.std.proofs.Common.{◌++◌, ◌∷◌, [], refl, ap, ◌∙◌}
 use Rattle.pg_graph.specs.Removed.{Ids}
 use Rattle.pg_store.proofs.ChangeLemmas.{changed_fit, changed_marks}
 use Rattle.pg_store.proofs.Stores.{rel_held}
+use Rattle.pg_store.proofs.CoverLemmas.{covers_now}
 use Rattle.pg_store.proofs.States.{with_rel_removed, rel_removed, rel_removal_undone, a_rel}
 use Rattle.pg_store.proofs.store.Store.remove_rel.Goals as goal
+use Rattle.pg_store.specs.Covers.{has_in}
 use Rattle.pg_store.specs.Journal.{live, graph_in}
 use Rattle.pg_store.specs.Stores.{state_of}
 use Rattle.pg_store.specs.declared.journal.Entry.TheVariants.{RelRemoved}
@@ -47,4 +49,6 @@ returns-clause-fit g c =
     refl
     (ap (λ (gone : Ids). record removed { gone_rels = gone }) c.in_ok-insert.ensures.ok)
     (c.push_reserved.ensures.items ∙ ap (λ es. es ++ RelRemoved c.args.id ∷ []) c.in_ok-reserve.ensures.items)
+    (λ k i h. h)
+    (covers_now (has_in store.sets) store.journal.items s c.requires.fit.covered)
     c.requires.fit.fits

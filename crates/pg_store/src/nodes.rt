@@ -5,7 +5,8 @@ ghost use Rattle.pg_store.specs.Stores.{graph_of_store, IsFit};
 
 use crate::reads::is_wanted;
 use crate::store::Store;
-use pg_graph::{NameId, Tables};
+use pg_graph::Tables;
+use pg_names::NameId;
 use pg_value_core::NodeId;
 use std::alloc::{AllocError, Global};
 use std::collections::btree_map::Keys;

@@ -8,7 +8,8 @@ ghost use Rattle.pg_store.specs.Journal.{live};
 ghost use Rattle.pg_store.specs.Stores.{graph_of_store, state_of, IsFit};
 
 use crate::store::Store;
-use pg_graph::{NameId, NodeRecord, RelRecord, Tables};
+use pg_graph::{NodeRecord, RelRecord, Tables};
+use pg_names::NameId;
 use pg_value_core::{NodeId, RelId};
 
 impl<T: Tables> Store<T> {

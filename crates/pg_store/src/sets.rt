@@ -5,8 +5,9 @@ ghost use Rattle.pg_graph.specs.Stored.{has_number};
 ghost use Rattle.pg_graph.specs.declared.records.NodeRecord.{NodeRecord};
 ghost use Rattle.pg_store.specs.Covers.{has_in};
 
-use pg_graph::{ById, Labels, NameId};
+use pg_graph::{ById, Labels};
 use pg_index::Index;
+use pg_names::NameId;
 use std::alloc::{AllocError, Global};
 
 /// Sets that have each node under its labels, and perhaps some that are no longer there.
@@ -31,7 +32,7 @@ impl Sets {
         ensures { (i : ℕ) → has_id result.now i ≡ has_in self.now key.now i }
     {
         match key {
-            Some(label) => self.labels.get(&label.place()),
+            Some(label) => self.labels.get(&label.as_u64()),
             None => &self.all,
         }
     }
@@ -43,7 +44,7 @@ impl Sets {
     {
         self.dust.push((*key, id))?;
         match key {
-            Some(label) => self.labels.cover(label.place(), id),
+            Some(label) => self.labels.cover(label.as_u64(), id),
             None => self.all.insert(id, ()),
         }
     }
@@ -66,7 +67,7 @@ impl Sets {
         ensures dust { self.new.dust ≡ self.old.dust }
     {
         match key {
-            Some(label) => self.labels.forget(&label.place(), id),
+            Some(label) => self.labels.forget(&label.as_u64(), id),
             None => self.all.forget(id),
         }
     }

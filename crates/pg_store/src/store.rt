@@ -5,8 +5,10 @@ ghost use Rattle.pg_store.specs.Stores.{graph_of_store, IsFit};
 
 use crate::journal::Entry;
 use crate::sets::Sets;
-use pg_graph::{ById, Names, NextIds, Tables};
+use pg_graph::{ById, NextIds, Tables};
+use pg_names::Names;
 use std::alloc::Global;
+use std::hash::BuildHasherDefault;
 
 /// One tenant's graph over its tables: its names, the ids that come next, how many elements there
 /// are, and what was done since it was last committed. Each call is lent the same shared part.
@@ -30,7 +32,7 @@ impl<T: Tables> Store<T> {
         ensures empty { (shared : T.Shared) → T.seen.is_unused owner shared → graph_of_store T.seen result shared ≡ empty_graph }
     {
         Store {
-            names: Names::new(alloc),
+            names: Names::new(alloc, BuildHasherDefault::new()),
             tables: T::new(alloc, owner),
             next: NextIds { node: 0, rel: 0 },
             elements: 0,

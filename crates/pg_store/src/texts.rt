@@ -4,7 +4,8 @@ ghost use Rattle.std.specs.FinMap as map;
 ghost use Rattle.pg_graph.specs.Refinement.{AreNamed, label_texts, node_of, relationship_of};
 ghost use Rattle.pg_store.specs.Stores.{node_texts_view, rel_texts_view};
 
-use pg_graph::{Labels, Names, NodeRecord, RelRecord};
+use pg_graph::{Labels, NodeRecord, RelRecord};
+use pg_names::Names;
 use pg_value_core::{NodeId, Value};
 use std::alloc::{AllocError, Global};
 use std::collections::BTreeMap;

@@ -9,7 +9,8 @@ ghost use Rattle.pg_value_core.specs.View.{view};
 
 use crate::store::Store;
 use crate::texts::{NodeTexts, RelTexts, texts_of_node, texts_of_rel};
-use pg_graph::{Names, NodeRecord, RelRecord, Tables};
+use pg_graph::{NodeRecord, RelRecord, Tables};
+use pg_names::Names;
 use pg_value_core::{NodeId, RelId, Value};
 use std::alloc::{AllocError, Global};
 use std::marker::Model;

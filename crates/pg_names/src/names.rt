@@ -1,12 +1,12 @@
 //! The texts of labels, types and keys, each kept once and known by a number.
-ghost use Rattle.std.specs.Prelude.{◌≡◌, ◌<◌, [], length, OnOk, IfOk, OnErr, slice_get, Some};
+ghost use Rattle.std.specs.Prelude.{◌≡◌, ◌<◌, [], length, take, OnOk, IfOk, OnErr, slice_get, Some};
 ghost use Rattle.std.specs.List.{position};
 ghost use Rattle.std.specs.Str.{bytes_eq};
-ghost use Rattle.pg_graph.specs.Names.{AreDistinct, AreNumbered, KeepsNames, with_name};
+ghost use Rattle.pg_names.specs.Names.{AreDistinct, AreNumbered, KeepsNames, NamesAreTakenBack, with_name};
 
-use crate::sorted::Numbered;
 use indexmap::IndexSet;
 use std::alloc::{AllocError, Global};
+use std::hash::{BuildHasher, BuildHasherDefault, FoldHasher};
 use std::marker::Model;
 
 /// A name's number in its table.
@@ -26,35 +26,26 @@ impl Model for NameId {
     ghost inverse = { λ n. record { 0 = n } };
 }
 
-impl Numbered for NameId {
-    ghost number = { λ n. n };
-
-    fn number(&self) -> u64 {
-        self.0
-    }
-}
-
 impl NameId {
-    /// The number alone.
-    pub fn place(self) -> u64
-        ensures { result ≡ self }
+    pub fn as_u64(&self) -> u64
+        ensures { result ≡ self.now }
     {
         self.0
     }
 }
 
-/// Texts by their numbers, from 0 on. It only grows.
+/// Texts by their numbers, from 0 on. New ones go to the end, and only the last ones can be cut off.
 #[derive(Drop)]
-pub struct Names {
+pub struct Names<S: BuildHasher = BuildHasherDefault<FoldHasher>> {
     alloc: Global,
-    texts: IndexSet<String>,
+    texts: IndexSet<String, S>,
 }
 
-impl Model for Names {
+impl<S: BuildHasher> Model for Names<S> {
     ghost use Rattle.std.specs.Prelude.{ℕ, List, map};
     ghost use Rattle.std.specs.Coded.{coded_list, coded_ℕ};
     ghost use Rattle.std.specs.String.{string_bytes};
-    ghost use Rattle.pg_graph.specs.Names.{AreDistinct};
+    ghost use Rattle.pg_names.specs.Names.{AreDistinct};
 
     ghost Value = { List (List ℕ) };
 
@@ -65,13 +56,13 @@ impl Model for Names {
     ghost invariant = { λ n. AreDistinct (map string_bytes n.texts.keys) };
 }
 
-impl Names {
-    pub fn new(alloc: Global) -> Self
+impl<S: BuildHasher> Names<S> {
+    pub fn new(alloc: Global, hasher: S) -> Self
         ensures { result ≡ [] }
     {
         Names {
             alloc,
-            texts: IndexSet::new(alloc),
+            texts: IndexSet::with_hasher(alloc, hasher),
         }
     }
 
@@ -110,6 +101,14 @@ impl Names {
         self.texts.get_index(name.0 as usize).unwrap().as_str()
     }
 
+    /// Keeps the first so many names.
+    pub fn truncate(&mut self, len: usize)
+        ensures kept { self.new ≡ take len self.old }
+        ensures distinct { AreDistinct self.new }
+    {
+        self.texts.truncate(len);
+    }
+
     /// How many names there are.
     pub fn len(&self) -> usize
         ensures len { result ≡ length self.now }
@@ -119,3 +118,8 @@ impl Names {
         self.texts.len()
     }
 }
+
+/// Names that were added are taken back by cutting the table to its earlier length.
+pub fn law_of_names()
+    ensures { NamesAreTakenBack }
+{}

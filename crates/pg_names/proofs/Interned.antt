@@ -1,12 +1,12 @@
 -- Names by their texts: where a text is found, and what stays when one is added.
-use Rattle.std.proofs.Common.{◌≡◌, ℕ, zero, suc, ◌+◌, ◌||◌, Bool, true, false, not, cond, nat_lt, List, [], ◌∷◌, ◌++◌, map, length, slice_get, Option, Some, None, arith, refl, sym, ap, subst, ◌∙◌}
+use Rattle.std.proofs.Common.{◌≡◌, ℕ, zero, suc, ◌+◌, ◌||◌, Bool, true, false, not, cond, nat_lt, List, [], ◌∷◌, ◌++◌, map, length, take, slice_get, Option, Some, None, arith, refl, sym, ap, subst, ◌∙◌}
 use Rattle.std.proofs.lemmas.Bool.Decides.{nat_tests}
 use Rattle.std.proofs.lemmas.List.{length-map}
 use Rattle.std.proofs.lemmas.Slice.Eq.{bytes_eq-Decides}
 use Rattle.std.specs.List.{position, position_or_len, list_any, IsDistinct, AllByRecursion}
 use Rattle.std.specs.Option.{option_map}
 use Rattle.std.specs.Str.{bytes_eq}
-use Rattle.pg_graph.specs.Names.{AreDistinct, with_name, KeepsNames, AreNumbered}
+use Rattle.pg_names.specs.Names.{AreDistinct, with_name, KeepsNames, AreNumbered, NamesAreTakenBack}
 
 module _ {A B : Type 0} (f : A → B) where
   position_or_len_map : (p : B → Bool) (xs : List A) → position_or_len p (map f xs) ≡ position_or_len (λ x. p (f x)) xs
@@ -132,3 +132,10 @@ with_name_keeps names text n t h =
       | true ↦ h
       | false ↦ kept_before names (text ∷ []) n t h
     ]
+
+pub taken_back : NamesAreTakenBack
+taken_back [] new kept = refl
+taken_back (x ∷ xs) [] kept = cc (kept 0 x refl)
+taken_back (x ∷ xs) (y ∷ ys) kept =
+    let same : y ≡ x = cc (kept 0 x refl) in
+    ap (λ z. z ∷ take (length xs) ys) same ∙ ap (λ zs. x ∷ zs) (taken_back xs ys (λ n t h. kept (suc n) t h))

@@ -1,10 +1,9 @@
 //! A store lent with the part that all tenants share, to read: seen as its graph.
 ghost use Rattle.std.specs.Option.{option_map};
 ghost use Rattle.std.specs.Prelude.{◌≡◌, ◌<◌, ◌^◌, true, map as map_list, IfOk};
-ghost use Rattle.pg_graph.specs.Stored.{has_label, property_at};
+ghost use Rattle.pg_graph.specs.Stored.{has_label, property_at, rel_property_at};
 ghost use Rattle.pg_meaning.specs.Graph.{both, element_count, has_node, has_relationship, ids_of, incident, incoming, node_at, nodes_with_label, outgoing, relationship_at};
 ghost use Rattle.pg_store.specs.Stores.{graph_of_store, IsFit, node_texts_view, rel_texts_view};
-ghost use Rattle.pg_store.specs.Views.{rel_property_at};
 ghost use Rattle.pg_value_core.specs.View.{view};
 
 use crate::incident::Incident;

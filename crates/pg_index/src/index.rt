@@ -1,7 +1,8 @@
 //! A set of ids for each key that has any.
-ghost use Rattle.std.specs.Prelude.{◌≡◌, OnOk, OnErr, if◌then◌else◌};
+ghost use Rattle.std.specs.Prelude.{◌≡◌, OnOk, OnErr, option_copied, if◌then◌else◌};
 ghost use Rattle.std.specs.BTreeMap.{is_at};
 ghost use Rattle.std.specs.FinMap as map;
+ghost use Rattle.pg_index.specs.Index.{ids_at, the_ids};
 
 use pg_graph::ById;
 use std::alloc::{AllocError, Global};
@@ -13,38 +14,23 @@ use std::collections::BTreeMap;
 pub struct Index<K: Ord> {
     alloc: Global,
     sets: BTreeMap<K, ById<()>>,
-    none: ById<()>,
-    ghost empty: { none ≡ map.empty },
 }
 
 impl<K: Ord + Drop> Index<K> {
-    ghost use Rattle.pg_index.specs.Index.{ids_at};
-
     pub fn new(alloc: Global) -> Self
         ensures { (key : K) → ids_at K.cmp result key ≡ map.empty }
     {
         Index {
             alloc,
             sets: BTreeMap::new(alloc),
-            none: ById::new(alloc),
         }
     }
 
-    /// The ids under a key.
-    pub fn get(&self, key: &K) -> &ById<()>
-        ensures { result.now ≡ ids_at K.cmp self.now key.now }
+    /// The ids under a key, if there are any.
+    pub fn get(&self, key: &K) -> Option<&ById<()>>
+        ensures { the_ids (option_copied result) ≡ ids_at K.cmp self.now key.now }
     {
-        match self.sets.get(key) {
-            Some(ids) => ids,
-            None => &self.none,
-        }
-    }
-
-    /// No ids.
-    pub fn none(&self) -> &ById<()>
-        ensures { result.now ≡ map.empty }
-    {
-        &self.none
+        self.sets.get(key)
     }
 
     /// Puts an id under a key, or changes nothing.

@@ -45,7 +45,7 @@ impl<T: Tables> Store<T> {
         ensures keeps { Keeps T.seen self.old.tables shared.old self.new.tables shared.new }
     {
         self.go_back(shared, mark);
-        if !self.journal.is_empty() {
+        if self.journal.len() > 0 {
             return;
         }
         self.sweep(shared);

@@ -91,7 +91,7 @@ impl<T: Tables> Store<T> {
                 store: self,
                 shared,
                 label: None,
-                ids: self.sets.labels.none().ids(),
+                ids: self.sets.none().ids(),
             },
         }
     }

@@ -3,7 +3,7 @@ ghost use Rattle.std.specs.Prelude.{◌≡◌, ℕ, Option, true, false, OnOk};
 ghost use Rattle.pg_graph.specs.Removed.{has_id};
 ghost use Rattle.pg_graph.specs.Stored.{has_number};
 ghost use Rattle.pg_graph.specs.declared.records.NodeRecord.{NodeRecord};
-ghost use Rattle.pg_store.specs.Covers.{has_in};
+ghost use Rattle.std.specs.FinMap as map;
 
 use pg_graph::{ById, Labels};
 use pg_index::Index;
@@ -16,14 +16,21 @@ pub struct Sets {
     pub(crate) all: ById<()>,
     pub(crate) labels: Index<u64>,
     pub(crate) dust: Vec<(Option<NameId>, u64)>,
+    none: ById<()>,
+    ghost none_is_empty: { none ≡ map.empty },
 }
 
 impl Sets {
+    ghost use Rattle.std.specs.Ordering.{nat_cmp};
+    ghost use Rattle.pg_index.specs.Index.{ids_at};
+    ghost use Rattle.pg_store.specs.Covers.{has_in};
+
     pub(crate) fn new(alloc: Global) -> Self {
         Sets {
             all: ById::new(alloc),
             labels: Index::new(alloc),
             dust: Vec::new(alloc),
+            none: ById::new(alloc),
         }
     }
 
@@ -32,9 +39,25 @@ impl Sets {
         ensures { (i : ℕ) → has_id result.now i ≡ has_in self.now key.now i }
     {
         match key {
-            Some(label) => self.labels.get(&label.as_u64()),
+            Some(label) => self.labelled(*label),
             None => &self.all,
         }
+    }
+
+    fn labelled(&self, label: NameId) -> &ById<()>
+        ensures { result.now ≡ ids_at nat_cmp self.now.labels label }
+    {
+        match self.labels.get(&label.as_u64()) {
+            Some(ids) => ids,
+            None => &self.none,
+        }
+    }
+
+    // No ids.
+    pub(crate) fn none(&self) -> &ById<()>
+        ensures { result.now ≡ map.empty }
+    {
+        &self.none
     }
 
     // Puts an id into a set, from which it is to be swept if it does not belong there.

@@ -1,6 +1,7 @@
 use Rattle.std.proofs.Common.{ap, ◌∙◌}
 use Rattle.std.proofs.lemmas.Result.{on_ok_weaker, on_err_weaker}
 use Rattle.std.specs.FinMap as map
+use Rattle.pg_graph.proofs.Others.{keeps_refl}
 use Rattle.pg_graph.proofs.Held.{more_named}
 use Rattle.pg_graph.specs.Refinement.{node_of}
 use Rattle.pg_meaning.specs.Graph.{Node, change_node}
@@ -16,7 +17,7 @@ returns-in_err-labels-clause-changes g c = record {
       says = search rules;
       same = (at_err c.from_residual-in_err-labels.result (renamed_graph g.T.Tables.seen c.args.self.now c.args.shared.now c.more_labels.new.names c.more_labels.ensures.keeps c.requires.fit));
       fit = (renamed_fit g.T.Tables.seen c.args.self.now c.args.shared.now c.more_labels.new.names c.more_labels.ensures.keeps c.requires.fit c.more_labels.ensures.distinct);
-      keeps = search rules;
+      keeps = keeps_refl c.args.self.now.tables c.args.shared.now c.requires.fit.fits;
     }
 
 pub returns-in_err-labels-clause-marks : goal.returns-in_err-labels-clause-marks
@@ -44,8 +45,8 @@ returns-clause-changes g c = record {
     c.change_node.ensures.ok);
       same = (on_err_weaker c.change_node.result (λ e. e ∙ renamed_graph g.T.Tables.seen c.args.self.now c.args.shared.now c.more_labels.new.names c.more_labels.ensures.keeps c.requires.fit)
     c.change_node.ensures.err);
-      fit = search rules;
-      keeps = search rules;
+      fit = c.change_node.ensures.fit;
+      keeps = c.change_node.ensures.keeps;
     }
 
 pub returns-clause-marks : goal.returns-clause-marks

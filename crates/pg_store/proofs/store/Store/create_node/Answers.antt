@@ -1,5 +1,6 @@
 use Rattle.std.proofs.Common.{sym, ◌∙◌}
 use Rattle.std.proofs.lemmas.Result.{on_ok_weaker, on_err_weaker}
+use Rattle.pg_graph.proofs.Others.{keeps_refl}
 use Rattle.pg_graph.proofs.Held.{more_named}
 use Rattle.pg_graph.proofs.NamedChanges.{label_texts_kept}
 use Rattle.pg_meaning.specs.Graph.{add_node}
@@ -12,7 +13,7 @@ returns-in_err-labels-clause-changes g c = record {
       says = search rules;
       same = (at_err c.from_residual.result (renamed_graph g.T.Tables.seen c.args.self.now c.args.shared.now c.labels_of.new.names c.labels_of.ensures.keeps c.requires.fit));
       fit = (renamed_fit g.T.Tables.seen c.args.self.now c.args.shared.now c.labels_of.new.names c.labels_of.ensures.keeps c.requires.fit c.labels_of.ensures.distinct);
-      keeps = search rules;
+      keeps = keeps_refl c.args.self.now.tables c.args.shared.now c.requires.fit.fits;
     }
 
 pub returns-in_err-labels-clause-marks : goal.returns-in_err-labels-clause-marks
@@ -25,7 +26,7 @@ returns-in_err-properties-clause-changes g c = record {
     (keeps_both c.args.self.now.names c.labels_of.new.names c.properties_of.new.names c.labels_of.ensures.keeps c.properties_of.ensures.keeps) c.requires.fit));
       fit = (renamed_fit g.T.Tables.seen c.args.self.now c.args.shared.now c.properties_of.new.names
     (keeps_both c.args.self.now.names c.labels_of.new.names c.properties_of.new.names c.labels_of.ensures.keeps c.properties_of.ensures.keeps) c.requires.fit c.properties_of.ensures.distinct);
-      keeps = search rules;
+      keeps = keeps_refl c.args.self.now.tables c.args.shared.now c.requires.fit.fits;
     }
 
 pub returns-in_err-properties-clause-marks : goal.returns-in_err-properties-clause-marks
@@ -53,8 +54,8 @@ returns-clause-changes g c = record {
       same = (on_err_weaker c.add_node.result (λ e. e ∙ renamed_graph g.T.Tables.seen c.args.self.now c.args.shared.now c.properties_of.new.names
     (keeps_both c.args.self.now.names c.labels_of.new.names c.properties_of.new.names c.labels_of.ensures.keeps c.properties_of.ensures.keeps) c.requires.fit)
     c.add_node.ensures.err);
-      fit = search rules;
-      keeps = search rules;
+      fit = c.add_node.ensures.fit;
+      keeps = c.add_node.ensures.keeps;
     }
 
 pub returns-clause-marks : goal.returns-clause-marks

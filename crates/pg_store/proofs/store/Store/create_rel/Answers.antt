@@ -1,6 +1,7 @@
 use Rattle.std.proofs.Common.{◌∙◌}
 use Rattle.std.proofs.lemmas.Option.{slice_get_within}
 use Rattle.std.proofs.lemmas.Result.{on_ok_weaker, on_err_weaker}
+use Rattle.pg_graph.proofs.Others.{keeps_refl}
 use Rattle.pg_graph.proofs.NamedChanges.{text_is}
 use Rattle.pg_meaning.specs.Graph.{add_relationship}
 use Rattle.pg_store.proofs.ChangeLemmas.{at_err, keeps_both, marks_then, renamed_graph, renamed_fit, renamed_marks}
@@ -16,7 +17,7 @@ returns-in_err-properties-clause-changes g c = record {
     (keeps_both c.args.self.now.names c.intern.new.self c.properties_of.new.names c.intern.ensures.keeps c.properties_of.ensures.keeps) c.requires.fit));
       fit = (renamed_fit g.T.Tables.seen c.args.self.now c.args.shared.now c.properties_of.new.names
     (keeps_both c.args.self.now.names c.intern.new.self c.properties_of.new.names c.intern.ensures.keeps c.properties_of.ensures.keeps) c.requires.fit c.properties_of.ensures.distinct);
-      keeps = search rules;
+      keeps = keeps_refl c.args.self.now.tables c.args.shared.now c.requires.fit.fits;
     }
 
 pub returns-in_err-properties-clause-marks : goal.returns-in_err-properties-clause-marks
@@ -51,8 +52,8 @@ returns-clause-changes g c = record {
       same = (on_err_weaker c.add_rel.result (λ e. e ∙ renamed_graph g.T.Tables.seen c.args.self.now c.args.shared.now c.properties_of.new.names
     (keeps_both c.args.self.now.names c.intern.new.self c.properties_of.new.names c.intern.ensures.keeps c.properties_of.ensures.keeps) c.requires.fit)
     c.add_rel.ensures.err);
-      fit = search rules;
-      keeps = search rules;
+      fit = c.add_rel.ensures.fit;
+      keeps = c.add_rel.ensures.keeps;
     }
 
 pub returns-clause-marks : goal.returns-clause-marks

@@ -19,7 +19,7 @@ returns-clause-changes g c = record {
     (λ e. record e { labels = filter (λ l. not (is_among (texts_of c.args.labels.now.items) l)) e.labels }) c.in_ok-before.ensures.copy
     (λ t. record { labels = (c.less_labels-labels.ensures.labels ∙ without_is (texts_of c.args.labels.now.items) (label_texts store.names n.labels)) t; properties = property_entries store.names n.properties }))
     c.change_node.ensures.ok);
-      same = search rules;
-      fit = search rules;
-      keeps = search rules;
+      same = c.change_node.ensures.err;
+      fit = c.change_node.ensures.fit;
+      keeps = c.change_node.ensures.keeps;
     }

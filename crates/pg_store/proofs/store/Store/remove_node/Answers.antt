@@ -1,4 +1,5 @@
 use Rattle.std.proofs.Common.{◌++◌, ◌∷◌, [], IsSome, refl, sym, ap, subst, ◌∙◌}
+use Rattle.pg_graph.proofs.Others.{keeps_refl}
 use Rattle.pg_graph.proofs.Refined.{outgoing_are_read, incoming_are_read}
 use Rattle.pg_graph.proofs.Removed.{is_live}
 use Rattle.pg_graph.specs.Removed.{Ids}
@@ -31,7 +32,7 @@ returns-clause-changes g c = record {
     let removed = with_node_removed store.names s c.args.id c.requires.fit.well there out into in
     ap (λ (gone : Ids). graph_in store.names (record removed { gone_nodes = gone })) c.in_ok-insert.ensures.ok
     ∙ node_removed store.names s c.args.id c.requires.fit.well there out into);
-      same = search rules;
+      same = tt;
       fit = (let store = c.args.self.now in
     let s = state_of g.T.Tables.seen store c.args.shared.now in
     let there = node_held store.names (live s) store.next.node store.next.rel c.args.id.0 c.requires.there in
@@ -46,7 +47,7 @@ returns-clause-changes g c = record {
     c.cover_node.ensures.grown
     (grown_covers (has_in store.sets) (has_in c.cover_node.new.self) c.cover_node.ensures.grown s (covers_now (has_in store.sets) store.journal.items s c.requires.fit.covered))
     c.requires.fit.fits);
-      keeps = search rules;
+      keeps = keeps_refl c.args.self.now.tables c.args.shared.now c.requires.fit.fits;
     }
 
 pub returns-clause-marks : goal.returns-clause-marks
@@ -70,7 +71,7 @@ returns-in_err-cover_node-clause-changes g c = record {
       fit = (let store = c.args.self.now in
     let s = state_of g.T.Tables.seen store c.args.shared.now in
     refused_fit g.T.Tables.seen store (record store { journal = c.reserve.new.self; sets = c.cover_node.new.self }) c.args.shared.now c.args.shared.now c.requires.fit refl refl c.in_ok-reserve.ensures.items c.cover_node.ensures.grown c.requires.fit.fits);
-      keeps = search rules;
+      keeps = keeps_refl c.args.self.now.tables c.args.shared.now c.requires.fit.fits;
     }
 
 pub returns-in_err-insert-clause-changes : goal.returns-in_err-insert-clause-changes
@@ -80,7 +81,7 @@ returns-in_err-insert-clause-changes g c = record {
       fit = (let store = c.args.self.now in
     let s = state_of g.T.Tables.seen store c.args.shared.now in
     refused_fit g.T.Tables.seen store (record store { gone_nodes = c.insert.new.self; journal = c.reserve.new.self; sets = c.cover_node.new.self }) c.args.shared.now c.args.shared.now c.requires.fit refl (λ t. record s { gone_nodes = c.in_err-insert.ensures.err t }) c.in_ok-reserve.ensures.items c.cover_node.ensures.grown c.requires.fit.fits);
-      keeps = search rules;
+      keeps = keeps_refl c.args.self.now.tables c.args.shared.now c.requires.fit.fits;
     }
 
 pub unwrap-was-requires : goal.unwrap-was-requires

@@ -1,4 +1,5 @@
 use Rattle.std.proofs.Common.{◌++◌, ◌∷◌, [], refl, ap, ◌∙◌}
+use Rattle.pg_graph.proofs.Others.{keeps_refl}
 use Rattle.pg_graph.specs.Removed.{Ids}
 use Rattle.pg_store.proofs.ChangeLemmas.{changed_fit, changed_marks}
 use Rattle.pg_store.proofs.Stores.{rel_held}
@@ -25,7 +26,7 @@ returns-clause-changes g c = record {
     let removed = with_rel_removed store.names s c.args.id c.requires.fit.well there in
     ap (λ (gone : Ids). graph_in store.names (record removed { gone_rels = gone })) c.in_ok-insert.ensures.ok
     ∙ rel_removed store.names s c.args.id c.requires.fit.well there);
-      same = search rules;
+      same = tt;
       fit = (let store = c.args.self.now in
     let s = state_of g.T.Tables.seen store c.args.shared.now in
     let there = rel_held store.names (live s) store.next.node store.next.rel c.args.id.0 c.requires.there in
@@ -38,7 +39,7 @@ returns-clause-changes g c = record {
     (λ k i h. h)
     (covers_now (has_in store.sets) store.journal.items s c.requires.fit.covered)
     c.requires.fit.fits);
-      keeps = search rules;
+      keeps = keeps_refl c.args.self.now.tables c.args.shared.now c.requires.fit.fits;
     }
 
 pub returns-clause-marks : goal.returns-clause-marks

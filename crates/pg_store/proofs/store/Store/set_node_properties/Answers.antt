@@ -1,5 +1,6 @@
 use Rattle.std.proofs.Common.{ap, ◌∙◌}
 use Rattle.std.proofs.lemmas.Result.{on_ok_weaker, on_err_weaker}
+use Rattle.pg_graph.proofs.Others.{keeps_refl}
 use Rattle.pg_graph.proofs.Held.{more_named}
 use Rattle.pg_graph.specs.Refinement.{node_of}
 use Rattle.pg_meaning.specs.Entries.{set_keys}
@@ -15,7 +16,7 @@ returns-in_err-properties-clause-changes g c = record {
       says = search rules;
       same = (at_err c.from_residual-in_err-properties.result (renamed_graph g.T.Tables.seen c.args.self.now c.args.shared.now c.more_properties.new.names c.more_properties.ensures.keeps c.requires.fit));
       fit = (renamed_fit g.T.Tables.seen c.args.self.now c.args.shared.now c.more_properties.new.names c.more_properties.ensures.keeps c.requires.fit c.more_properties.ensures.distinct);
-      keeps = search rules;
+      keeps = keeps_refl c.args.self.now.tables c.args.shared.now c.requires.fit.fits;
     }
 
 pub returns-in_err-properties-clause-marks : goal.returns-in_err-properties-clause-marks
@@ -43,8 +44,8 @@ returns-clause-changes g c = record {
     c.change_node.ensures.ok);
       same = (on_err_weaker c.change_node.result (λ e. e ∙ renamed_graph g.T.Tables.seen c.args.self.now c.args.shared.now c.more_properties.new.names c.more_properties.ensures.keeps c.requires.fit)
     c.change_node.ensures.err);
-      fit = search rules;
-      keeps = search rules;
+      fit = c.change_node.ensures.fit;
+      keeps = c.change_node.ensures.keeps;
     }
 
 pub returns-clause-marks : goal.returns-clause-marks

@@ -4,6 +4,7 @@
 //! work on tables, done so many times, and before and after elements are added what the system tells
 //! of the process' memory. `bench_tables COUNT store` tells the same of a store.
 #![tactic(auto)]
+
 ghost use Rattle.pg_store.specs.Stores.{IsFit};
 
 mod stores;

@@ -10,6 +10,7 @@ use std::alloc::{AllocError, Global};
 const TEXT: &str = "a name of some forty letters, plain ones";
 // Far apart, and no divisor of a power of ten.
 const JUMP: u64 = 7919;
+
 const MOST: u64 = 1_000_000_000;
 
 // Whether one more node and one more relationship may come.

@@ -85,7 +85,6 @@ module _ {X : Type 0} (p : X → Bool) (m : FinMap nat_cmp X) where
   pub covered_ids : (ids : Ids) → ((i : ℕ) (a : X) → map.get m i ≡ Some a → p a ≡ true → has_id ids i ≡ true) → filter passing (map.keys ids) ≡ ids_where p m
   covered_ids ids covers = numbers_where passing (map.entries ids) ∙ ap (map_list number_of) same ∙ numbers_marked (filter (λ e. passing e.0) (map.entries m)) ∙ same_where
     where
-
       by_test : (q : ℕ) (b : Bool) → passing q ≡ b → cond b (map.get ids q) None ≡ option_map (λ _. tt) (cond b (map.get m q) None)
       by_test q true is = let at = passed (map.get m q) is in unit_of (map.get ids q) (covers q at.0 at.1 at.2) ∙ sym (ap (option_map (λ _. tt)) at.1)
       by_test q false is = refl

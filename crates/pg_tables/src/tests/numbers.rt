@@ -7,7 +7,9 @@ use std::collections::BTreeMap;
 
 // Ends a text, a map and a list; no byte and no small id is one of them.
 const TEXT_END: u64 = 1001;
+
 const MAP_END: u64 = 1002;
+
 const LIST_END: u64 = 1003;
 
 fn push_text(numbers: &mut Vec<u64>, text: &str) -> Result<(), AllocError> {

@@ -86,7 +86,8 @@ fn change_of_node<T: Tables>(
 {
     let id = NodeId(step % 2);
     let labels = vec![in alloc; "C", "A"]?;
-    let properties = vec![in alloc; ("x", Value::Null), ("z", Value::Int(3))]?;
+    let z = if step == 5 { 3 } else { 4 };
+    let properties = vec![in alloc; ("x", Value::Null), ("z", Value::Int(z))]?;
     assert!(rt; store.graph(shared).has_node(id));
     match step {
         3 => store.add_labels(alloc, shared, id, &labels),

@@ -12,13 +12,13 @@ use Rattle.pg_store.specs.Stores.{state_of}
 
 pub returns-in_err-properties-clause-changes : goal.returns-in_err-properties-clause-changes
 returns-in_err-properties-clause-changes g c = record {
-      says = search rules;
-      same = (at_err c.from_residual-in_err-properties.result (renamed_graph g.T.Tables.seen c.args.self.now c.args.shared.now c.properties_of.new.names
-    (keeps_both c.args.self.now.names c.intern.new.self c.properties_of.new.names c.intern.ensures.keeps c.properties_of.ensures.keeps) c.requires.fit));
-      fit = (renamed_fit g.T.Tables.seen c.args.self.now c.args.shared.now c.properties_of.new.names
-    (keeps_both c.args.self.now.names c.intern.new.self c.properties_of.new.names c.intern.ensures.keeps c.properties_of.ensures.keeps) c.requires.fit c.properties_of.ensures.distinct);
-      keeps = keeps_refl c.args.self.now.tables c.args.shared.now c.requires.fit.fits;
-    }
+  says = search rules;
+  same = (at_err c.from_residual-in_err-properties.result (renamed_graph g.T.Tables.seen c.args.self.now c.args.shared.now c.properties_of.new.names
+      (keeps_both c.args.self.now.names c.intern.new.self c.properties_of.new.names c.intern.ensures.keeps c.properties_of.ensures.keeps) c.requires.fit));
+  fit = (renamed_fit g.T.Tables.seen c.args.self.now c.args.shared.now c.properties_of.new.names
+      (keeps_both c.args.self.now.names c.intern.new.self c.properties_of.new.names c.intern.ensures.keeps c.properties_of.ensures.keeps) c.requires.fit c.properties_of.ensures.distinct);
+  keeps = keeps_refl c.args.self.now.tables c.args.shared.now c.requires.fit.fits;
+}
 
 pub returns-in_err-properties-clause-marks : goal.returns-in_err-properties-clause-marks
 returns-in_err-properties-clause-marks g c =
@@ -45,16 +45,16 @@ add_rel-requires-clause-target g c =
 
 pub returns-clause-changes : goal.returns-clause-changes
 returns-clause-changes g c = record {
-      says = (let same = renamed_graph g.T.Tables.seen c.args.self.now c.args.shared.now c.properties_of.new.names
-    (keeps_both c.args.self.now.names c.intern.new.self c.properties_of.new.names c.intern.ensures.keeps c.properties_of.ensures.keeps) c.requires.fit in
-    let text = text_is c.properties_of.new.names c.in_ok-kind.kind c.args.kind.now (c.properties_of.ensures.keeps c.in_ok-kind.kind c.args.kind.now c.in_ok-kind.ensures.number) in
-    on_ok_weaker c.add_rel.result (λ h. h ∙ (λ i. add_relationship (text i) c.args.source.0 c.args.target.0 (c.in_ok-properties.ensures.properties i) (same i))) c.add_rel.ensures.ok);
-      same = (on_err_weaker c.add_rel.result (λ e. e ∙ renamed_graph g.T.Tables.seen c.args.self.now c.args.shared.now c.properties_of.new.names
-    (keeps_both c.args.self.now.names c.intern.new.self c.properties_of.new.names c.intern.ensures.keeps c.properties_of.ensures.keeps) c.requires.fit)
-    c.add_rel.ensures.err);
-      fit = c.add_rel.ensures.fit;
-      keeps = c.add_rel.ensures.keeps;
-    }
+  says = (let same = renamed_graph g.T.Tables.seen c.args.self.now c.args.shared.now c.properties_of.new.names
+      (keeps_both c.args.self.now.names c.intern.new.self c.properties_of.new.names c.intern.ensures.keeps c.properties_of.ensures.keeps) c.requires.fit in
+      let text = text_is c.properties_of.new.names c.in_ok-kind.kind c.args.kind.now (c.properties_of.ensures.keeps c.in_ok-kind.kind c.args.kind.now c.in_ok-kind.ensures.number) in
+      on_ok_weaker c.add_rel.result (λ h. h ∙ (λ i. add_relationship (text i) c.args.source.0 c.args.target.0 (c.in_ok-properties.ensures.properties i) (same i))) c.add_rel.ensures.ok);
+  same = (on_err_weaker c.add_rel.result (λ e. e ∙ renamed_graph g.T.Tables.seen c.args.self.now c.args.shared.now c.properties_of.new.names
+      (keeps_both c.args.self.now.names c.intern.new.self c.properties_of.new.names c.intern.ensures.keeps c.properties_of.ensures.keeps) c.requires.fit)
+      c.add_rel.ensures.err);
+  fit = c.add_rel.ensures.fit;
+  keeps = c.add_rel.ensures.keeps;
+}
 
 pub returns-clause-marks : goal.returns-clause-marks
 returns-clause-marks g c =

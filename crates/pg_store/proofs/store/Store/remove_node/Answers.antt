@@ -24,31 +24,31 @@ overflow_sub-self g c =
 
 pub returns-clause-changes : goal.returns-clause-changes
 returns-clause-changes g c = record {
-      says = (let store = c.args.self.now in
-    let s = state_of g.T.Tables.seen store c.args.shared.now in
-    let there = node_held store.names (live s) store.next.node store.next.rel c.args.id.0 c.requires.there in
-    let out = sym (outgoing_are_read store.names (live s) store.next.node store.next.rel c.args.id.0) ∙ c.requires.no_outgoing in
-    let into = sym (incoming_are_read store.names (live s) store.next.node store.next.rel c.args.id.0) ∙ c.requires.no_incoming in
-    let removed = with_node_removed store.names s c.args.id c.requires.fit.well there out into in
-    ap (λ (gone : Ids). graph_in store.names (record removed { gone_nodes = gone })) c.in_ok-insert.ensures.ok
-    ∙ node_removed store.names s c.args.id c.requires.fit.well there out into);
-      same = tt;
-      fit = (let store = c.args.self.now in
-    let s = state_of g.T.Tables.seen store c.args.shared.now in
-    let there = node_held store.names (live s) store.next.node store.next.rel c.args.id.0 c.requires.there in
-    let out = sym (outgoing_are_read store.names (live s) store.next.node store.next.rel c.args.id.0) ∙ c.requires.no_outgoing in
-    let into = sym (incoming_are_read store.names (live s) store.next.node store.next.rel c.args.id.0) ∙ c.requires.no_incoming in
-    let removed = with_node_removed store.names s c.args.id c.requires.fit.well there out into in
-    changed_fit g.T.Tables.seen store _ c.args.shared.now _ c.requires.fit (NodeRemoved c.args.id) removed
-    (node_removal_undone store.names s c.args.id c.requires.fit.well there out into)
-    refl
-    (ap (λ (gone : Ids). record removed { gone_nodes = gone }) c.in_ok-insert.ensures.ok)
-    (c.push_reserved.ensures.items ∙ ap (λ es. es ++ NodeRemoved c.args.id ∷ []) c.in_ok-reserve.ensures.items)
-    c.cover_node.ensures.grown
-    (grown_covers (has_in store.sets) (has_in c.cover_node.new.self) c.cover_node.ensures.grown s (covers_now (has_in store.sets) store.journal.items s c.requires.fit.covered))
-    c.requires.fit.fits);
-      keeps = keeps_refl c.args.self.now.tables c.args.shared.now c.requires.fit.fits;
-    }
+  says = (let store = c.args.self.now in
+      let s = state_of g.T.Tables.seen store c.args.shared.now in
+      let there = node_held store.names (live s) store.next.node store.next.rel c.args.id.0 c.requires.there in
+      let out = sym (outgoing_are_read store.names (live s) store.next.node store.next.rel c.args.id.0) ∙ c.requires.no_outgoing in
+      let into = sym (incoming_are_read store.names (live s) store.next.node store.next.rel c.args.id.0) ∙ c.requires.no_incoming in
+      let removed = with_node_removed store.names s c.args.id c.requires.fit.well there out into in
+      ap (λ (gone : Ids). graph_in store.names (record removed { gone_nodes = gone })) c.in_ok-insert.ensures.ok
+      ∙ node_removed store.names s c.args.id c.requires.fit.well there out into);
+  same = tt;
+  fit = (let store = c.args.self.now in
+      let s = state_of g.T.Tables.seen store c.args.shared.now in
+      let there = node_held store.names (live s) store.next.node store.next.rel c.args.id.0 c.requires.there in
+      let out = sym (outgoing_are_read store.names (live s) store.next.node store.next.rel c.args.id.0) ∙ c.requires.no_outgoing in
+      let into = sym (incoming_are_read store.names (live s) store.next.node store.next.rel c.args.id.0) ∙ c.requires.no_incoming in
+      let removed = with_node_removed store.names s c.args.id c.requires.fit.well there out into in
+      changed_fit g.T.Tables.seen store _ c.args.shared.now _ c.requires.fit (NodeRemoved c.args.id) removed
+      (node_removal_undone store.names s c.args.id c.requires.fit.well there out into)
+      refl
+      (ap (λ (gone : Ids). record removed { gone_nodes = gone }) c.in_ok-insert.ensures.ok)
+      (c.push_reserved.ensures.items ∙ ap (λ es. es ++ NodeRemoved c.args.id ∷ []) c.in_ok-reserve.ensures.items)
+      c.cover_node.ensures.grown
+      (grown_covers (has_in store.sets) (has_in c.cover_node.new.self) c.cover_node.ensures.grown s (covers_now (has_in store.sets) store.journal.items s c.requires.fit.covered))
+      c.requires.fit.fits);
+  keeps = keeps_refl c.args.self.now.tables c.args.shared.now c.requires.fit.fits;
+}
 
 pub returns-clause-marks : goal.returns-clause-marks
 returns-clause-marks g c =
@@ -66,23 +66,23 @@ returns-clause-marks g c =
 
 pub returns-in_err-cover_node-clause-changes : goal.returns-in_err-cover_node-clause-changes
 returns-in_err-cover_node-clause-changes g c = record {
-      says = search rules;
-      same = search rules;
-      fit = (let store = c.args.self.now in
-    let s = state_of g.T.Tables.seen store c.args.shared.now in
-    refused_fit g.T.Tables.seen store (record store { journal = c.reserve.new.self; sets = c.cover_node.new.self }) c.args.shared.now c.args.shared.now c.requires.fit refl refl c.in_ok-reserve.ensures.items c.cover_node.ensures.grown c.requires.fit.fits);
-      keeps = keeps_refl c.args.self.now.tables c.args.shared.now c.requires.fit.fits;
-    }
+  says = search rules;
+  same = search rules;
+  fit = (let store = c.args.self.now in
+      let s = state_of g.T.Tables.seen store c.args.shared.now in
+      refused_fit g.T.Tables.seen store (record store { journal = c.reserve.new.self; sets = c.cover_node.new.self }) c.args.shared.now c.args.shared.now c.requires.fit refl refl c.in_ok-reserve.ensures.items c.cover_node.ensures.grown c.requires.fit.fits);
+  keeps = keeps_refl c.args.self.now.tables c.args.shared.now c.requires.fit.fits;
+}
 
 pub returns-in_err-insert-clause-changes : goal.returns-in_err-insert-clause-changes
 returns-in_err-insert-clause-changes g c = record {
-      says = search rules;
-      same = search rules;
-      fit = (let store = c.args.self.now in
-    let s = state_of g.T.Tables.seen store c.args.shared.now in
-    refused_fit g.T.Tables.seen store (record store { gone_nodes = c.insert.new.self; journal = c.reserve.new.self; sets = c.cover_node.new.self }) c.args.shared.now c.args.shared.now c.requires.fit refl (λ t. record s { gone_nodes = c.in_err-insert.ensures.err t }) c.in_ok-reserve.ensures.items c.cover_node.ensures.grown c.requires.fit.fits);
-      keeps = keeps_refl c.args.self.now.tables c.args.shared.now c.requires.fit.fits;
-    }
+  says = search rules;
+  same = search rules;
+  fit = (let store = c.args.self.now in
+      let s = state_of g.T.Tables.seen store c.args.shared.now in
+      refused_fit g.T.Tables.seen store (record store { gone_nodes = c.insert.new.self; journal = c.reserve.new.self; sets = c.cover_node.new.self }) c.args.shared.now c.args.shared.now c.requires.fit refl (λ t. record s { gone_nodes = c.in_err-insert.ensures.err t }) c.in_ok-reserve.ensures.items c.cover_node.ensures.grown c.requires.fit.fits);
+  keeps = keeps_refl c.args.self.now.tables c.args.shared.now c.requires.fit.fits;
+}
 
 pub unwrap-was-requires : goal.unwrap-was-requires
 unwrap-was-requires g c =

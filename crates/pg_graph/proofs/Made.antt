@@ -1,25 +1,21 @@
 -- A node that is made, and what is read and listed of nodes, as the graph tells it.
-use Rattle.std.proofs.Common.{◌≡◌, ◌==◌, ◌+◌, ℕ, false, cond, List, [], ◌∷◌, map as map_list, length, Option, Some, None, is_some, arith, refl, sym, ap, ◌∙◌}
-use Rattle.std.proofs.lemmas.List.{length-map}
-use Rattle.std.specs.Cmp.{nat_cmp_total}
+use Rattle.std.proofs.Common.{◌≡◌, ◌==◌, ◌+◌, ℕ, false, List, [], ◌∷◌, map as map_list, Option, Some, None, arith, refl, sym, ap, ◌∙◌}
 use Rattle.std.specs.FinMap as map
-use Rattle.std.specs.FinMap.Entries.{put as put_entry, length-put}
+use Rattle.std.specs.FinMap.Entries.{put as put_entry}
 use Rattle.std.specs.List.{list_any, position}
-use Rattle.std.specs.Option.{option_map, option_map_or}
+use Rattle.std.specs.Option.{option_map_or}
 use Rattle.std.specs.Ordering.{nat_cmp}
 use Rattle.std.specs.Str.{bytes_eq}
 use Rattle.pg_graph.proofs.Ids.{ids_in}
 use Rattle.pg_graph.proofs.Listed.{same_ids}
 use Rattle.pg_graph.proofs.Named.{label_is_read}
-use Rattle.pg_graph.proofs.Refined.{node_is_added, node_is_read, ids_mapped}
+use Rattle.pg_graph.proofs.Refined.{node_is_added, ids_mapped}
 use Rattle.pg_graph.specs.Content.{Content, with_node, ids_where}
 use Rattle.pg_graph.specs.Refinement.{label_texts, property_entries, node_of, elements, graph_of, Holds}
-use Rattle.pg_graph.specs.Stored.{has_label, property_at, has_number}
+use Rattle.pg_graph.specs.Stored.{has_number}
 use Rattle.pg_graph.specs.declared.records.NodeRecord.{NodeRecord}
-use Rattle.pg_meaning.specs.Entries.{at_key}
-use Rattle.pg_meaning.specs.Graph.{Node, add_node, element_count, ids_of, nodes_with_label}
+use Rattle.pg_meaning.specs.Graph.{Node, add_node, ids_of, nodes_with_label}
 use Rattle.pg_meaning.specs.Names.{is_among, in_byte_order}
-use Rattle.pg_meaning.specs.Value.{Value}
 
 module _ (names : List (List ℕ)) (c : Content) (i j : ℕ) where
   -- the next id has no node yet
@@ -36,36 +32,6 @@ module _ (names : List (List ℕ)) (c : Content) (i j : ℕ) where
       let g = graph_of names c i j in
       node_is_added names c i j n
       ∙ ap (λ (ls : List (List ℕ)). let new : Node = record { labels = ls; properties = property_entries names n.properties } in record g { nodes = put_entry nat_cmp g.next_node new g.nodes; next_node = g.next_node + 1 }) (sym h)
-
-  pub node_counted : (n : NodeRecord) → map.get c.nodes i ≡ None → element_count (graph_of names (with_node c i n) (i + 1) j) ≡ element_count (graph_of names c i j) + 1
-  node_counted n absent =
-      let es = map.entries c.nodes in
-      let grown : length (map.entries (map.insert c.nodes i n)) ≡ length es + 1 =
-      ap length (map.entries-insert nat_cmp_total c.nodes i n)
-      ∙ length-put nat_cmp nat_cmp_total i n es (map.entries_sorted c.nodes)
-      ∙ ap (λ o. cond (is_some o) (length es) (length es + 1)) (sym (map.get-entries c.nodes i) ∙ absent) in
-      let now : length (elements (node_of names) (map.insert c.nodes i n)) ≡ length es + 1 = length-map (map.entries (map.insert c.nodes i n)) (λ e. (e.0, node_of names e.1)) ∙ grown in
-      let was : length (elements (node_of names) c.nodes) ≡ length es = length-map es (λ e. (e.0, node_of names e.1)) in
-      omega (arith, now, was)
-
-  -- ---- reads
-
-  pub label_at : (id : ℕ) (o : Option NodeRecord) (t : List ℕ) → map.get c.nodes id ≡ o → has_label (graph_of names c i j) id t ≡ option_map_or (λ n. is_among (label_texts names n.labels) t) o false
-  label_at id o t is = ap (λ o. option_map_or (λ n. is_among n.labels t) o false) (node_is_read names c i j id ∙ ap (option_map (node_of names)) is) ∙ by_case o
-    where
-      by_case : (o : Option NodeRecord) → option_map_or (λ n. is_among n.labels t) (option_map (node_of names) o) false ≡ option_map_or (λ n. is_among (label_texts names n.labels) t) o false
-      by_case None = refl
-      by_case (Some n) = refl
-
-  pub value_at_key : (id : ℕ) (o : Option NodeRecord) (t : List ℕ) → map.get c.nodes id ≡ o → property_at (graph_of names c i j) id t ≡ option_map_or (λ n. at_key t (property_entries names n.properties)) o None
-  value_at_key id o t is = ap (λ o. option_map_or (λ n. at_key t n.properties) o None) (node_is_read names c i j id ∙ ap (option_map (node_of names)) is) ∙ by_case o
-    where
-      none : Option Value
-      none = None
-
-      by_case : (o : Option NodeRecord) → option_map_or (λ n. at_key t n.properties) (option_map (node_of names) o) None ≡ option_map_or (λ n. at_key t (property_entries names n.properties)) o None
-      by_case None = refl
-      by_case (Some n) = refl
 
   -- ---- lists of ids
 

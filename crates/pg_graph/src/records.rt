@@ -47,11 +47,3 @@ impl RelRecord {
         }
     }
 }
-
-/// Which way a relationship goes, seen from one of its ends.
-#[derive(Clone, Copy, Debug, PartialEq, Eq)]
-pub enum Direction {
-    Outgoing,
-    Incoming,
-    Either,
-}

@@ -12,7 +12,8 @@ use Rattle.pg_server.specs.Settings.{all_tokens, token_texts}
 use Rattle.pg_server.specs.State.{State, no_state, tokens_of}
 use Rattle.pg_server.specs.Tenants.{state_of, states_of, AllFit, AreTenants}
 use Rattle.pg_server.specs.declared.tenant.Tenant.{Tenant}
-use Rattle.pg_store.specs.Journal.{CanUndo, IsWell, graph_in}
+use Rattle.pg_store.specs.Journal.{graph_in}
+use Rattle.pg_store.proofs.Stores.{fit_over}
 use Rattle.pg_store.specs.Stores as stores
 use Rattle.pg_store.specs.Stores.{graph_of_store, IsFit}
 use Rattle.pg_store.specs.declared.store.Store.{Store}
@@ -47,11 +48,7 @@ module _ {T S : Type 0} (seen : Seen T S) (store : Store T) (old new : S) (same 
   graph_stays = ap (graph_in store.names) stays
 
   fit_stays : seen.fits store.tables new → IsFit seen store old → IsFit seen store new
-  fit_stays fits was = record {
-    fits = fits;
-    well = subst (IsWell store.names) (sym stays) was.well;
-    journal = subst (CanUndo store.names store.journal.items) (sym stays) was.journal;
-  }
+  fit_stays = fit_over seen store old new same
 
 module _ {T S : Type 0} (seen : Seen T S) (tenants : List (Tenant T)) (old new : S) (all : AllFit seen tenants old) (t : ℕ) (was now : Tenant T) (lt : t < length tenants)
     (at : was ≡ get_or tenants t was) (keeps : Keeps seen was.store.tables old now.store.tables new) (settings : now.settings ≡ was.settings) where

@@ -3,11 +3,14 @@ use Rattle.std.proofs.Common.{◌≡◌, ◌≤◌, ℕ, List, [], ◌∷◌, �
 use Rattle.std.proofs.lemmas.List.{length-append}
 use Rattle.pg_graph.specs.Content.{Seen}
 use Rattle.pg_names.specs.Names.{AreDistinct, KeepsNames}
+use Rattle.pg_store.proofs.CoverLemmas.{Grows, grown_covered, covered_pushed}
 use Rattle.pg_store.proofs.JournalLemmas.{pushed, marked_before, same_graph, still_well, can_still_undo, well_then, can_undo_drop}
 use Rattle.pg_store.proofs.States.{Undoes}
+use Rattle.pg_store.specs.Covers.{Covers, HasCovered, has_in}
 use Rattle.pg_store.specs.Journal.{State, IsWell, CanUndo, graph_in, undone}
 use Rattle.pg_store.specs.Stores.{state_of, graph_of_store, IsFit, KeepsMarks}
 use Rattle.pg_store.specs.declared.journal.Entry.{Entry}
+use Rattle.pg_store.specs.declared.sets.Sets.{Sets}
 use Rattle.pg_store.specs.declared.store.Store.{Store}
 
 pub at_err : {V E P : Type 0} (r : Result V E) → P → OnErr r P
@@ -32,12 +35,14 @@ module _ {T S : Type 0} (seen : Seen T S) where
     now : Undoes old.names e (state_of seen old before) (state_of seen new after)
     now = subst (Undoes old.names e (state_of seen old before)) (sym is) undoes
 
-    pub changed_fit : seen.fits new.tables after → IsFit seen new after
-    changed_fit fits = record {
+    pub changed_fit : Grows (has_in old.sets) (has_in new.sets) → Covers (has_in new.sets) s → seen.fits new.tables after → IsFit seen new after
+    changed_fit grows covers fits = record {
       fits = fits;
       well = subst (λ (ns : List (List ℕ)). IsWell ns (state_of seen new after)) (sym names) now.well;
       journal = subst (λ (ns : List (List ℕ)). CanUndo ns new.journal.items (state_of seen new after)) (sym names)
           (pushed old.names old.journal.items new.journal.items e (state_of seen old before) (state_of seen new after) journal now.back now.can fit.well fit.journal);
+      covered = covered_pushed (has_in new.sets) old.journal.items new.journal.items e (state_of seen old before) (state_of seen new after) journal now.back
+          (grown_covered (has_in old.sets) (has_in new.sets) grows old.journal.items (state_of seen old before) fit.covered) (subst (Covers (has_in new.sets)) (sym is) covers);
     }
 
     pub changed_marks : KeepsMarks seen old before new after
@@ -47,6 +52,29 @@ module _ {T S : Type 0} (seen : Seen T S) where
           ap (λ (ns : List (List ℕ)). graph_in ns (undone (drop mark.0 new.journal.items) (state_of seen new after))) names
           ∙ ap (graph_in old.names) (marked_before mark.0 old.journal.items new.journal.items e (state_of seen old before) (state_of seen new after) journal now.back h);
     }
+
+  -- a change that was refused: the state stays, and sets may have grown
+  pub refused_fit : (old new : Store T) (before after : S) → IsFit seen old before → new.names ≡ old.names → state_of seen new after ≡ state_of seen old before → new.journal.items ≡ old.journal.items
+      → Grows (has_in old.sets) (has_in new.sets) → seen.fits new.tables after → IsFit seen new after
+  refused_fit old new before after fit names is journal grows fits = record {
+    fits = fits;
+    well = subst (λ (ns : List (List ℕ)). IsWell ns (state_of seen new after)) (sym names) (subst (IsWell old.names) (sym is) fit.well);
+    journal = subst (λ (ns : List (List ℕ)). CanUndo ns new.journal.items (state_of seen new after)) (sym names)
+        (subst (λ (es : List Entry). CanUndo old.names es (state_of seen new after)) (sym journal) (subst (CanUndo old.names old.journal.items) (sym is) fit.journal));
+    covered = subst (λ (es : List Entry). HasCovered (has_in new.sets) es (state_of seen new after)) (sym journal)
+        (subst (HasCovered (has_in new.sets) old.journal.items) (sym is) (grown_covered (has_in old.sets) (has_in new.sets) grows old.journal.items (state_of seen old before) fit.covered));
+  }
+
+  -- sets that grew
+  module _ (store : Store T) (shared : S) (sets : Sets) (fit : IsFit seen store shared) where
+    abbrev pub with_sets : Store T
+    with_sets = record store { sets = sets }
+
+    pub grown_fit : Grows (has_in store.sets) (has_in sets) → IsFit seen with_sets shared
+    grown_fit grows = record { fits = fit.fits; well = fit.well; journal = fit.journal; covered = grown_covered (has_in store.sets) (has_in sets) grows store.journal.items (state_of seen store shared) fit.covered }
+
+    pub grown_marks : KeepsMarks seen store shared with_sets shared
+    grown_marks = record { there = λ mark h. h; same = λ mark h. refl }
 
   -- names that grew
   module _ (store : Store T) (shared : S) (names : List (List ℕ)) (keeps : KeepsNames store.names names) (fit : IsFit seen store shared) where
@@ -69,4 +97,5 @@ module _ {T S : Type 0} (seen : Seen T S) where
       fits = fit.fits;
       well = still_well store.names names keeps distinct (state_of seen store shared) fit.well;
       journal = can_still_undo store.names names keeps distinct store.journal.items (state_of seen store shared) fit.journal;
+      covered = fit.covered;
     }

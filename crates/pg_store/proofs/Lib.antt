@@ -1,4 +1,7 @@
 pub mod JournalLemmas
+pub mod CoverLemmas
+pub mod SetLemmas
+pub mod Covering
 pub mod MergedLemmas
 pub mod States
 pub mod Stores

@@ -14,8 +14,9 @@ use Rattle.pg_graph.specs.Removed.{Ids, has_id}
 use Rattle.pg_graph.specs.declared.records.RelRecord.{RelRecord}
 use Rattle.pg_meaning.specs.Graph.{element_count}
 use Rattle.pg_store.proofs.States.{none_out, none_in}
+use Rattle.pg_store.specs.Covers.{Covers, HasCovered, has_in}
 use Rattle.pg_store.specs.Journal.{State, IsWell, CanUndo, live, graph_in}
-use Rattle.pg_store.specs.Stores.{state_of, graph_of_store, IsFit}
+use Rattle.pg_store.specs.Stores.{state_of, graph_of_store, IsFit, Settles}
 use Rattle.pg_store.specs.declared.journal.Entry.{Entry}
 use Rattle.pg_store.specs.declared.store.Store.{Store}
 
@@ -84,27 +85,21 @@ module _ (names : List (List ℕ)) (s : State) (id : ℕ) (well : IsWell names s
       few = well.few;
     }
 
--- the store `now` is `old` with some of its removed elements gone, and nothing left to undo
-pub record Settles {T S : Type 0} (seen : Seen T S) (old : Store T) (before : S) (now : Store T) (shared : S) : Type 0 where
-  pub fit : IsFit seen now shared
-  pub journal : now.journal.items ≡ []
-  pub graph : graph_of_store seen now shared ≡ graph_of_store seen old before
-  pub keeps : Keeps seen old.tables before now.tables shared
-
 module _ {T S : Type 0} (seen : Seen T S) where
   pub settles_first : (old : Store T) (before : S) → IsFit seen old before → old.journal.items ≡ [] → Settles seen old before old before
   settles_first old before fit journal = record { fit = fit; journal = journal; graph = refl; keeps = keeps_refl old.tables before fit.fits }
 
   pub settles_on : (old now new : Store T) (before shared after : S) (s : State) → Settles seen old before now shared
-      → state_of seen new after ≡ s → IsWell now.names s → graph_in now.names s ≡ graph_of_store seen now shared → new.names ≡ now.names → new.journal.items ≡ now.journal.items → Keeps seen now.tables shared new.tables after
+      → state_of seen new after ≡ s → IsWell now.names s → Covers (has_in new.sets) s → graph_in now.names s ≡ graph_of_store seen now shared → new.names ≡ now.names → new.journal.items ≡ now.journal.items → Keeps seen now.tables shared new.tables after
       → Settles seen old before new after
-  settles_on old now new before shared after s was is well same names journal keeps =
+  settles_on old now new before shared after s was is well covers same names journal keeps =
       let done : new.journal.items ≡ [] = journal ∙ was.journal in
       record {
         fit = record {
           fits = keeps.fits;
           well = subst (λ (ns : List (List ℕ)). IsWell ns (state_of seen new after)) (sym names) (subst (IsWell now.names) (sym is) well);
           journal = subst (λ (es : List Entry). CanUndo new.names es (state_of seen new after)) (sym done) tt;
+          covered = subst (λ (es : List Entry). HasCovered (has_in new.sets) es (state_of seen new after)) (sym done) (subst (Covers (has_in new.sets)) (sym is) covers);
         };
         journal = done;
         graph = ap (λ (ns : List (List ℕ)). graph_in ns (state_of seen new after)) names ∙ ap (graph_in now.names) is ∙ same ∙ was.graph;

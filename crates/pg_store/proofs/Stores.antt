@@ -16,9 +16,11 @@ use Rattle.pg_graph.specs.Removed.{Ids, has_id, live_content}
 use Rattle.pg_graph.specs.declared.records.NodeRecord.{NodeRecord}
 use Rattle.pg_graph.specs.declared.records.RelRecord.{RelRecord}
 use Rattle.pg_meaning.specs.Graph.{Graph, IsGraph, empty_graph, element_count, has_node, has_relationship}
-use Rattle.pg_store.specs.Journal.{CanUndo, live}
+use Rattle.pg_store.specs.Covers.{HasCovered, has_in}
+use Rattle.pg_store.specs.Journal.{State, IsWell, CanUndo, live}
 use Rattle.pg_store.specs.Stores.{graph_of_store, state_of, IsFit}
 use Rattle.pg_store.specs.declared.journal.Entry.{Entry}
+use Rattle.pg_store.specs.declared.sets.Sets.{Sets}
 use Rattle.pg_store.specs.declared.store.Store.{Store}
 
 pub nothing_held : (X : Type 0) → map.entries (map.empty {X = X} {R = nat_cmp}) ≡ []
@@ -34,9 +36,9 @@ made ns rs = record { nodes = map_list (λ e. (e.0, node_of [] e.1)) ns; relatio
 no_elements : (c : Content) → c ≡ empty_content → graph_of [] c 0 0 ≡ empty_graph
 no_elements c h = ap (λ (c : Content). graph_of [] c 0 0) h ∙ (λ i. made (nothing_held NodeRecord i) (nothing_held RelRecord i))
 
-module _ {T S : Type 0} (seen : Seen T S) (tables : T) (shared : S) (names : List (List ℕ)) (gone_nodes gone_rels : Ids) (journal : Vec Entry) (none : names ≡ []) (empty : seen.content tables shared ≡ empty_content) (no_nodes : gone_nodes ≡ map.empty) (no_rels : gone_rels ≡ map.empty) (nothing_done : journal.items ≡ []) where
+module _ {T S : Type 0} (seen : Seen T S) (tables : T) (shared : S) (names : List (List ℕ)) (gone_nodes gone_rels : Ids) (journal : Vec Entry) (sets : Sets) (none : names ≡ []) (empty : seen.content tables shared ≡ empty_content) (no_nodes : gone_nodes ≡ map.empty) (no_rels : gone_rels ≡ map.empty) (nothing_done : journal.items ≡ []) where
   abbrev new_store : Store T
-  new_store = record { names = names; tables = tables; next = record { node = 0; rel = 0 }; elements = 0; gone_nodes = gone_nodes; gone_rels = gone_rels; journal = journal }
+  new_store = record { names = names; tables = tables; next = record { node = 0; rel = 0 }; elements = 0; gone_nodes = gone_nodes; gone_rels = gone_rels; journal = journal; sets = sets }
 
   live_empty : live (state_of seen new_store shared) ≡ empty_content
   live_empty =
@@ -64,6 +66,8 @@ module _ {T S : Type 0} (seen : Seen T S) (tables : T) (shared : S) (names : Lis
       few = omega arith;
     };
     journal = subst (λ (es : List Entry). CanUndo names es (state_of seen new_store shared)) (sym nothing_done) tt;
+    covered = subst (λ (es : List Entry). HasCovered (has_in sets) es (state_of seen new_store shared)) (sym nothing_done)
+        (λ k i n is number. absurd (cc (is, ap (λ (c : Content). map.get c.nodes i) empty, map.get-empty {X = NodeRecord} nat_cmp i)));
   }
 
 pub copied_is_there : {X : Type 0} (o : Option (Bor X)) → is_some (option_copied o) ≡ is_some o
@@ -113,6 +117,18 @@ node_is_below seen store shared id fit is = by_case (map.get (live (state_of see
     by_case : (o : Option NodeRecord) → map.get (live (state_of seen store shared)).nodes id ≡ o → IsSome o → id < 2 ^ 63
     by_case None none h = absurd (cc)
     by_case (Some n) there h = let below = (fit.well.holds.nodes id n there).below in let ids = fit.well.node_ids in omega (arith, below, ids)
+
+-- a store fits another shared part in which it has the same content
+pub fit_over : {T S : Type 0} (seen : Seen T S) (store : Store T) (old new : S) → seen.content store.tables new ≡ seen.content store.tables old → seen.fits store.tables new → IsFit seen store old → IsFit seen store new
+fit_over seen store old new same fits was =
+    let s = state_of seen store old in
+    let is : state_of seen store new ≡ s = ap (λ (c : Content). record s { content = c }) same in
+    record {
+      fits = fits;
+      well = subst (IsWell store.names) (sym is) was.well;
+      journal = subst (CanUndo store.names store.journal.items) (sym is) was.journal;
+      covered = subst (HasCovered (has_in store.sets) store.journal.items) (sym is) was.covered;
+    }
 
 pub rel_is_below : {T S : Type 0} (seen : Seen T S) (store : Store T) (shared : S) (id : ℕ) → IsFit seen store shared → has_relationship (graph_of_store seen store shared) id ≡ true → id < 2 ^ 63
 rel_is_below seen store shared id fit is = by_case (map.get (live (state_of seen store shared)).rels id) refl (rel_held store.names (live (state_of seen store shared)) store.next.node store.next.rel id is)

@@ -3,7 +3,9 @@ use Rattle.std.proofs.Common.{◌≡◌, ◌≤◌, ◌<◌, ℕ, List, [], ◌�
 use Rattle.std.proofs.lemmas.List.{drop-append-le, drop_all, length-append}
 use Rattle.pg_graph.proofs.Others.{keeps_refl, keeps_trans}
 use Rattle.pg_graph.specs.Content.{Seen, Keeps}
+use Rattle.pg_store.proofs.CoverLemmas.{Has, covered_popped}
 use Rattle.pg_store.proofs.JournalLemmas.{undone_last, popped}
+use Rattle.pg_store.specs.Covers.{HasCovered, has_in}
 use Rattle.pg_store.specs.Journal.{IsWell, CanUndo, CanUndoOne, graph_in, undo_one, undone}
 use Rattle.pg_store.specs.Stores.{state_of, graph_of_store, graph_at, IsFit}
 use Rattle.pg_store.specs.declared.journal.Entry.{Entry}
@@ -29,9 +31,9 @@ module _ {T S : Type 0} (seen : Seen T S) (mark : ℕ) where
   longer m xs es e is h = let longer = ap length is ∙ length-append es (e ∷ []) in omega (arith, longer)
 
   pub goes_on : (old now new : Store T) (before shared after : S) (e : Entry) → GoesBack seen mark old before now shared → mark < length now.journal.items
-      → now.journal.items ≡ new.journal.items ++ e ∷ [] → state_of seen new after ≡ undo_one e (state_of seen now shared) → new.names ≡ now.names → Keeps seen now.tables shared new.tables after
+      → now.journal.items ≡ new.journal.items ++ e ∷ [] → state_of seen new after ≡ undo_one e (state_of seen now shared) → new.names ≡ now.names → has_in new.sets ≡ has_in now.sets → Keeps seen now.tables shared new.tables after
       → GoesBack seen mark old before new after
-  goes_on old now new before shared after e was more items is names keeps =
+  goes_on old now new before shared after e was more items is names sets keeps =
       let es = new.journal.items in
       let s = state_of seen now shared in
       let pop = popped now.names es now.journal.items e s items was.fit.journal in
@@ -41,6 +43,8 @@ module _ {T S : Type 0} (seen : Seen T S) (mark : ℕ) where
           fits = keeps.fits;
           well = subst (λ (ns : List (List ℕ)). IsWell ns (state_of seen new after)) (sym names) (subst (IsWell now.names) (sym is) pop.1);
           journal = subst (λ (ns : List (List ℕ)). CanUndo ns es (state_of seen new after)) (sym names) (subst (CanUndo now.names es) (sym is) pop.2);
+          covered = subst (λ (has : Has). HasCovered has es (state_of seen new after)) (sym sets)
+              (subst (HasCovered (has_in now.sets) es) (sym is) (covered_popped (has_in now.sets) es now.journal.items e s items was.fit.covered));
         };
         names = names ∙ was.names;
         same = λ n h.

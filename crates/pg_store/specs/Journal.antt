@@ -4,7 +4,7 @@ use Rattle.std.specs.FinMap as map
 use Rattle.pg_graph.specs.Content.{Content, with_node, without_node, with_rel_properties, without_rel, outgoing_of, incoming_of}
 use Rattle.pg_graph.specs.Refinement.{graph_of, Holds}
 use Rattle.pg_graph.specs.Removed.{Ids, has_id, live_content}
-use Rattle.pg_graph.specs.declared.nodes.NextIds.{NextIds}
+use Rattle.pg_graph.specs.declared.next_ids.NextIds.{NextIds}
 use Rattle.pg_meaning.specs.Graph.{Graph, element_count}
 use Rattle.pg_store.specs.declared.journal.Entry.{Entry}
 use Rattle.pg_store.specs.declared.journal.Entry.TheVariants.{NodeAdded, RelAdded, NodeChanged, RelChanged, NodeRemoved, RelRemoved}

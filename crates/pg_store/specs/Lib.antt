@@ -1,4 +1,5 @@
 pub mod Changes
+pub mod Covers
 pub mod GraphCode
 pub mod Journal
 pub mod Merged

@@ -1,9 +1,10 @@
 -- One tenant's store as a graph, and what its calls are given and give in the graph's words.
-use Rattle.std.specs.Prelude.{◌≡◌, ◌≤◌, ℕ, List, not, filter, fold, length, drop, map as map_list, bytes_eq, string_bytes}
+use Rattle.std.specs.Prelude.{◌≡◌, ◌≤◌, ℕ, List, [], not, filter, fold, length, drop, map as map_list, bytes_eq, string_bytes}
 use Rattle.std.specs.Borrow.{Bor}
-use Rattle.pg_graph.specs.Content.{Seen}
+use Rattle.pg_graph.specs.Content.{Seen, Keeps}
 use Rattle.pg_meaning.specs.Graph.{Graph, Node, Relationship}
 use Rattle.pg_meaning.specs.Value.{Value}
+use Rattle.pg_store.specs.Covers.{has_in, HasCovered}
 use Rattle.pg_store.specs.Journal.{State, IsWell, CanUndo, graph_in, undone}
 use Rattle.pg_store.specs.declared.journal.Mark.{Mark}
 use Rattle.pg_store.specs.declared.store.Store.{Store}
@@ -34,6 +35,14 @@ module _ {T S : Type 0} (seen : Seen T S) (store : Store T) (shared : S) where
     pub fits : seen.fits store.tables shared
     pub well : IsWell store.names state_of
     pub journal : CanUndo store.names store.journal.items state_of
+    pub covered : HasCovered (has_in store.sets) store.journal.items state_of
+
+-- the store `now` is `old` with some of its removed elements gone, and nothing left to undo
+pub record Settles {T S : Type 0} (seen : Seen T S) (old : Store T) (before : S) (now : Store T) (shared : S) : Type 0 where
+  pub fit : IsFit seen now shared
+  pub journal : now.journal.items ≡ []
+  pub graph : graph_of_store seen now shared ≡ graph_of_store seen old before
+  pub keeps : Keeps seen old.tables before now.tables shared
 
 -- the mark is of a moment that the store can go back to
 abbrev pub HasMark : {T : Type 0} → Store T → Mark → Type 0

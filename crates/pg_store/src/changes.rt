@@ -8,6 +8,7 @@ ghost use Rattle.pg_meaning.specs.Entries.{set_keys};
 ghost use Rattle.pg_meaning.specs.Graph.{change_node, change_relationship, has_node, has_relationship};
 ghost use Rattle.pg_meaning.specs.Names.{is_among, put_texts};
 ghost use Rattle.pg_meaning.specs.Value.{no_entries};
+ghost use Rattle.pg_store.specs.Changes.{Changes};
 ghost use Rattle.pg_store.specs.Journal.{live};
 ghost use Rattle.pg_store.specs.Stores.{graph_of_store, state_of, IsFit, KeepsMarks, texts_of, pairs_of};
 
@@ -68,6 +69,9 @@ impl<T: Tables> Store<T> {
         ensures keeps { Keeps T.seen self.old.tables shared.old self.new.tables shared.new }
     {
         self.journal.reserve(1)?;
+        let was = self.tables.node(shared, id).unwrap();
+        self.sets.cover_node(&was.labels, id.0)?;
+        self.sets.cover_node(&node.labels, id.0)?;
         let before = self.tables.change(shared, id, node);
         self.journal.push_reserved(Entry::NodeChanged(id, before));
         Ok(())
@@ -105,11 +109,8 @@ impl<T: Tables> Store<T> {
     ) -> Result<(), AllocError>
         requires fit { IsFit T.seen self.old shared.old }
         requires there { has_node (graph_of_store T.seen self.old shared.old) id.0 ≡ true }
-        ensures ok { OnOk result (graph_of_store T.seen self.new shared.new ≡ change_node (λ e. record e { properties = set_keys (pairs_of properties.entry.items) e.properties }) id.0 (graph_of_store T.seen self.old shared.old)) }
-        ensures err { OnErr result (graph_of_store T.seen self.new shared.new ≡ graph_of_store T.seen self.old shared.old) }
+        ensures changes { Changes T.seen self.old shared.old self.new shared.new result (λ start end. OnOk result (end ≡ change_node (λ e. record e { properties = set_keys (pairs_of properties.entry.items) e.properties }) id.0 start)) }
         ensures marks { KeepsMarks T.seen self.old shared.old self.new shared.new }
-        ensures fit { IsFit T.seen self.new shared.new }
-        ensures keeps { Keeps T.seen self.old.tables shared.old self.new.tables shared.new }
     {
         let NodeRecord {
             labels,
@@ -129,11 +130,8 @@ impl<T: Tables> Store<T> {
     ) -> Result<(), AllocError>
         requires fit { IsFit T.seen self.old shared.old }
         requires there { has_node (graph_of_store T.seen self.old shared.old) id.0 ≡ true }
-        ensures ok { OnOk result (graph_of_store T.seen self.new shared.new ≡ change_node (λ e. record e { properties = set_keys (pairs_of properties.entry.items) no_entries }) id.0 (graph_of_store T.seen self.old shared.old)) }
-        ensures err { OnErr result (graph_of_store T.seen self.new shared.new ≡ graph_of_store T.seen self.old shared.old) }
+        ensures changes { Changes T.seen self.old shared.old self.new shared.new result (λ start end. OnOk result (end ≡ change_node (λ e. record e { properties = set_keys (pairs_of properties.entry.items) no_entries }) id.0 start)) }
         ensures marks { KeepsMarks T.seen self.old shared.old self.new shared.new }
-        ensures fit { IsFit T.seen self.new shared.new }
-        ensures keeps { Keeps T.seen self.old.tables shared.old self.new.tables shared.new }
     {
         let NodeRecord { labels, .. } = self.node_copy(alloc, shared, id)?;
         let properties = properties_of(alloc, &mut self.names, properties)?;
@@ -150,11 +148,8 @@ impl<T: Tables> Store<T> {
     ) -> Result<(), AllocError>
         requires fit { IsFit T.seen self.old shared.old }
         requires there { has_node (graph_of_store T.seen self.old shared.old) id.0 ≡ true }
-        ensures ok { OnOk result (graph_of_store T.seen self.new shared.new ≡ change_node (λ e. record e { labels = put_texts (texts_of labels.now.items) e.labels }) id.0 (graph_of_store T.seen self.old shared.old)) }
-        ensures err { OnErr result (graph_of_store T.seen self.new shared.new ≡ graph_of_store T.seen self.old shared.old) }
+        ensures changes { Changes T.seen self.old shared.old self.new shared.new result (λ start end. OnOk result (end ≡ change_node (λ e. record e { labels = put_texts (texts_of labels.now.items) e.labels }) id.0 start)) }
         ensures marks { KeepsMarks T.seen self.old shared.old self.new shared.new }
-        ensures fit { IsFit T.seen self.new shared.new }
-        ensures keeps { Keeps T.seen self.old.tables shared.old self.new.tables shared.new }
     {
         let NodeRecord {
             labels: before,
@@ -174,11 +169,8 @@ impl<T: Tables> Store<T> {
     ) -> Result<(), AllocError>
         requires fit { IsFit T.seen self.old shared.old }
         requires there { has_node (graph_of_store T.seen self.old shared.old) id.0 ≡ true }
-        ensures ok { OnOk result (graph_of_store T.seen self.new shared.new ≡ change_node (λ e. record e { labels = filter (λ l. not (is_among (texts_of labels.now.items) l)) e.labels }) id.0 (graph_of_store T.seen self.old shared.old)) }
-        ensures err { OnErr result (graph_of_store T.seen self.new shared.new ≡ graph_of_store T.seen self.old shared.old) }
+        ensures changes { Changes T.seen self.old shared.old self.new shared.new result (λ start end. OnOk result (end ≡ change_node (λ e. record e { labels = filter (λ l. not (is_among (texts_of labels.now.items) l)) e.labels }) id.0 start)) }
         ensures marks { KeepsMarks T.seen self.old shared.old self.new shared.new }
-        ensures fit { IsFit T.seen self.new shared.new }
-        ensures keeps { Keeps T.seen self.old.tables shared.old self.new.tables shared.new }
     {
         let NodeRecord {
             labels: before,
@@ -198,11 +190,8 @@ impl<T: Tables> Store<T> {
     ) -> Result<(), AllocError>
         requires fit { IsFit T.seen self.old shared.old }
         requires there { has_relationship (graph_of_store T.seen self.old shared.old) id.0 ≡ true }
-        ensures ok { OnOk result (graph_of_store T.seen self.new shared.new ≡ change_relationship (λ e. record e { properties = set_keys (pairs_of properties.entry.items) e.properties }) id.0 (graph_of_store T.seen self.old shared.old)) }
-        ensures err { OnErr result (graph_of_store T.seen self.new shared.new ≡ graph_of_store T.seen self.old shared.old) }
+        ensures changes { Changes T.seen self.old shared.old self.new shared.new result (λ start end. OnOk result (end ≡ change_relationship (λ e. record e { properties = set_keys (pairs_of properties.entry.items) e.properties }) id.0 start)) }
         ensures marks { KeepsMarks T.seen self.old shared.old self.new shared.new }
-        ensures fit { IsFit T.seen self.new shared.new }
-        ensures keeps { Keeps T.seen self.old.tables shared.old self.new.tables shared.new }
     {
         let before = self.rel_copy(alloc, shared, id)?;
         let properties = more_properties(&mut self.names, before, properties)?;
@@ -219,11 +208,8 @@ impl<T: Tables> Store<T> {
     ) -> Result<(), AllocError>
         requires fit { IsFit T.seen self.old shared.old }
         requires there { has_relationship (graph_of_store T.seen self.old shared.old) id.0 ≡ true }
-        ensures ok { OnOk result (graph_of_store T.seen self.new shared.new ≡ change_relationship (λ e. record e { properties = set_keys (pairs_of properties.entry.items) no_entries }) id.0 (graph_of_store T.seen self.old shared.old)) }
-        ensures err { OnErr result (graph_of_store T.seen self.new shared.new ≡ graph_of_store T.seen self.old shared.old) }
+        ensures changes { Changes T.seen self.old shared.old self.new shared.new result (λ start end. OnOk result (end ≡ change_relationship (λ e. record e { properties = set_keys (pairs_of properties.entry.items) no_entries }) id.0 start)) }
         ensures marks { KeepsMarks T.seen self.old shared.old self.new shared.new }
-        ensures fit { IsFit T.seen self.new shared.new }
-        ensures keeps { Keeps T.seen self.old.tables shared.old self.new.tables shared.new }
     {
         let properties = properties_of(alloc, &mut self.names, properties)?;
         self.change_rel(shared, id, properties)

@@ -7,6 +7,7 @@ ghost use Rattle.pg_meaning.specs.Entries.{set_keys};
 ghost use Rattle.pg_meaning.specs.Graph.{add_node, add_relationship, has_node};
 ghost use Rattle.pg_meaning.specs.Names.{in_byte_order};
 ghost use Rattle.pg_meaning.specs.Value.{no_entries};
+ghost use Rattle.pg_store.specs.Changes.{Changes};
 ghost use Rattle.pg_store.specs.Journal.{live};
 ghost use Rattle.pg_store.specs.Stores.{graph_of_store, state_of, IsFit, KeepsMarks, texts_of, pairs_of};
 
@@ -31,11 +32,8 @@ impl<T: Tables> Store<T> {
         requires room { self.old.next.node < 2 ^ 63 }
         requires count { self.old.elements < 2 ^ 63 }
         ensures id { IfOk result (λ id. id.0 ≡ (graph_of_store T.seen self.old shared.old).next_node) }
-        ensures ok { OnOk result (graph_of_store T.seen self.new shared.new ≡ add_node (texts_of labels.now.items) (set_keys (pairs_of properties.entry.items) no_entries) (graph_of_store T.seen self.old shared.old)) }
-        ensures err { OnErr result (graph_of_store T.seen self.new shared.new ≡ graph_of_store T.seen self.old shared.old) }
+        ensures changes { Changes T.seen self.old shared.old self.new shared.new result (λ start end. OnOk result (end ≡ add_node (texts_of labels.now.items) (set_keys (pairs_of properties.entry.items) no_entries) start)) }
         ensures marks { KeepsMarks T.seen self.old shared.old self.new shared.new }
-        ensures fit { IsFit T.seen self.new shared.new }
-        ensures keeps { Keeps T.seen self.old.tables shared.old self.new.tables shared.new }
     {
         let labels = labels_of(alloc, &mut self.names, labels)?;
         let properties = properties_of(alloc, &mut self.names, properties)?;
@@ -58,6 +56,7 @@ impl<T: Tables> Store<T> {
     {
         self.journal.reserve(1)?;
         let id = NodeId(self.next.node);
+        self.sets.cover_node(&node.labels, id.0)?;
         self.tables.add_node(shared, id, node)?;
         self.next.node += 1;
         self.elements += 1;
@@ -82,11 +81,8 @@ impl<T: Tables> Store<T> {
         requires source { has_node (graph_of_store T.seen self.old shared.old) source.0 ≡ true }
         requires target { has_node (graph_of_store T.seen self.old shared.old) target.0 ≡ true }
         ensures id { IfOk result (λ id. id.0 ≡ (graph_of_store T.seen self.old shared.old).next_relationship) }
-        ensures ok { OnOk result (graph_of_store T.seen self.new shared.new ≡ add_relationship kind.now source.0 target.0 (set_keys (pairs_of properties.entry.items) no_entries) (graph_of_store T.seen self.old shared.old)) }
-        ensures err { OnErr result (graph_of_store T.seen self.new shared.new ≡ graph_of_store T.seen self.old shared.old) }
+        ensures changes { Changes T.seen self.old shared.old self.new shared.new result (λ start end. OnOk result (end ≡ add_relationship kind.now source.0 target.0 (set_keys (pairs_of properties.entry.items) no_entries) start)) }
         ensures marks { KeepsMarks T.seen self.old shared.old self.new shared.new }
-        ensures fit { IsFit T.seen self.new shared.new }
-        ensures keeps { Keeps T.seen self.old.tables shared.old self.new.tables shared.new }
     {
         let kind = self.names.intern(kind)?;
         let properties = properties_of(alloc, &mut self.names, properties)?;

@@ -3,8 +3,9 @@ ghost use Rattle.std.specs.Prelude.{◌≡◌, [], ◌≤◌};
 ghost use Rattle.std.specs.FinMap as map;
 ghost use Rattle.pg_graph.specs.Content.{Keeps};
 ghost use Rattle.pg_store.specs.Journal.{CanUndoOne, undo_one};
-ghost use Rattle.pg_store.specs.Stores.{graph_of_store, graph_at, state_of, IsFit, HasMark};
+ghost use Rattle.pg_store.specs.Stores.{graph_of_store, graph_at, state_of, IsFit, HasMark, Settles};
 
+use crate::reads::is_wanted;
 use crate::store::Store;
 use pg_graph::{NodeRecord, Properties, Tables};
 use pg_value_core::{NodeId, RelId};
@@ -43,6 +44,23 @@ impl<T: Tables> Store<T> {
         ensures fit { IsFit T.seen self.new shared.new }
         ensures keeps { Keeps T.seen self.old.tables shared.old self.new.tables shared.new }
     {
+        self.go_back(shared, mark);
+        if self.journal.len() > 0 {
+            return;
+        }
+        self.sweep(shared);
+    }
+
+    // Takes back all that was done since the mark, and leaves the sets of ids as they are.
+    fn go_back(&mut self, shared: &mut T::Shared, mark: Mark)
+        requires fit { IsFit T.seen self.old shared.old }
+        requires mark { HasMark self.old mark }
+        ensures graph { graph_of_store T.seen self.new shared.new ≡ graph_at T.seen self.old shared.old mark }
+        ensures marks { (earlier : Mark) → earlier.0 ≤ mark.0 → graph_at T.seen self.new shared.new earlier ≡ graph_at T.seen self.old shared.old earlier }
+        ensures there { HasMark self.new mark }
+        ensures fit { IsFit T.seen self.new shared.new }
+        ensures keeps { Keeps T.seen self.old.tables shared.old self.new.tables shared.new }
+    {
         while self.journal.len() > mark.0 {
             let entry = self.journal.pop().unwrap();
             self.take_back(shared, entry);
@@ -56,6 +74,7 @@ impl<T: Tables> Store<T> {
         ensures state { state_of T.seen self.new shared.new ≡ undo_one entry (state_of T.seen self.old shared.old) }
         ensures names { self.new.names ≡ self.old.names }
         ensures journal { self.new.journal ≡ self.old.journal }
+        ensures sets { self.new.sets ≡ self.old.sets }
         ensures keeps { Keeps T.seen self.old.tables shared.old self.new.tables shared.new }
     {
         match entry {
@@ -96,6 +115,22 @@ impl<T: Tables> Store<T> {
         self.journal.clear();
         self.settle_rels(shared);
         self.settle_nodes(shared);
+        self.sweep(shared);
+    }
+
+    // Takes ids out of the sets where they no longer belong.
+    fn sweep(&mut self, shared: &T::Shared)
+        requires fit { IsFit T.seen self.old shared.now }
+        requires journal { self.old.journal.items ≡ [] }
+        ensures swept { Settles T.seen self.old shared.now self.new shared.now }
+        ensures state { state_of T.seen self.new shared.now ≡ state_of T.seen self.old shared.now }
+        ensures names { self.new.names ≡ self.old.names }
+    {
+        while let Some((key, id)) = self.sets.dust.pop() {
+            if !is_wanted(self.tables.node(shared, NodeId(id)), &key) {
+                self.sets.forget(&key, id);
+            }
+        }
     }
 
     // Lets the removed relationships go.
@@ -120,6 +155,7 @@ impl<T: Tables> Store<T> {
         requires none { self.old.gone_rels ≡ map.empty }
         ensures graph { graph_of_store T.seen self.new shared.new ≡ graph_of_store T.seen self.old shared.old }
         ensures fit { IsFit T.seen self.new shared.new }
+        ensures journal { self.new.journal.items ≡ [] }
         ensures keeps { Keeps T.seen self.old.tables shared.old self.new.tables shared.new }
     {
         while let Some((id, _)) = self.gone_nodes.pop_first() {

@@ -1,5 +1,5 @@
 //! The nodes of a graph, one after the other.
-ghost use Rattle.std.specs.Prelude.{◌≡◌, ◌∷◌, [], IfSome, IfNone};
+ghost use Rattle.std.specs.Prelude.{◌≡◌, ◌∷◌, [], map as map_list, IfSome, IfNone, IfOk};
 ghost use Rattle.pg_meaning.specs.Graph.{ids_of, nodes_with_label};
 ghost use Rattle.pg_store.specs.Stores.{graph_of_store, IsFit};
 
@@ -8,6 +8,8 @@ use crate::store::Store;
 use pg_graph::Tables;
 use pg_names::NameId;
 use pg_value_core::NodeId;
+use std::alloc::{AllocError, Global};
+use std::collections::btree_map::Keys;
 use std::marker::Model;
 
 /// Ids of nodes, rising, seen as the list of those that are still to come.
@@ -16,22 +18,21 @@ pub struct Nodes<'a, T: Tables> {
     store: &'a Store<T>,
     shared: &'a T::Shared,
     label: Option<NameId>,
-    next: u64,
+    ids: Keys<'a, u64, ()>,
 }
 
 impl<'a, T: Tables> Model for Nodes<'a, T> {
-    ghost use Rattle.std.specs.Prelude.{ℕ, List};
-    ghost use Rattle.std.specs.FinMap as map;
-    ghost use Rattle.pg_graph.proofs.Listed.{ids_from};
+    ghost use Rattle.std.specs.Prelude.{ℕ, List, filter};
     ghost use Rattle.pg_graph.specs.Stored.{has_number};
+    ghost use Rattle.pg_store.specs.Covers.{passes};
     ghost use Rattle.pg_store.specs.Journal.{live};
-    ghost use Rattle.pg_store.specs.Stores.{state_of, IsFit};
+    ghost use Rattle.pg_store.specs.Stores.{state_of};
 
     ghost Value = { List ℕ };
 
-    ghost view = { λ n. ids_from (has_number n.label) n.next (map.entries (live (state_of T.seen n.store.now n.shared.now)).nodes) };
+    ghost view = { λ n. filter (passes (has_number n.label) (live (state_of T.seen n.store.now n.shared.now)).nodes) n.ids };
 
-    ghost invariant = { λ n. IsFit T.seen n.store.now n.shared.now };
+    ghost invariant = { λ n. T.seen.fits n.store.now.tables n.shared.now };
 }
 
 impl<'a, T: Tables> Nodes<'a, T> {
@@ -40,14 +41,23 @@ impl<'a, T: Tables> Nodes<'a, T> {
         ensures some { IfSome result (λ id. self.old ≡ id.0 ∷ self.new) }
         ensures none { IfNone result (self.old ≡ []) }
     {
-        while self.next < self.store.next.node {
-            let id = NodeId(self.next);
-            self.next += 1;
-            if is_wanted(self.store.node(self.shared, id), &self.label) {
-                return Some(id);
+        while let Some(id) = self.ids.next() {
+            if is_wanted(self.store.node(self.shared, NodeId(*id)), &self.label) {
+                return Some(NodeId(*id));
             }
         }
         None
+    }
+
+    /// All ids that are still to come.
+    pub fn collect(mut self, alloc: Global) -> Result<Vec<NodeId>, AllocError>
+        ensures { IfOk result (λ ids. map_list (λ id. id.0) ids.items ≡ self.entry) }
+    {
+        let mut ids = Vec::new(alloc);
+        while let Some(id) = self.next() {
+            ids.push(id)?;
+        }
+        Ok(ids)
     }
 }
 
@@ -61,7 +71,7 @@ impl<T: Tables> Store<T> {
             store: self,
             shared,
             label: None,
-            next: 0,
+            ids: self.sets.get(&None).ids(),
         }
     }
 
@@ -75,13 +85,13 @@ impl<T: Tables> Store<T> {
                 store: self,
                 shared,
                 label: Some(name),
-                next: 0,
+                ids: self.sets.get(&Some(name)).ids(),
             },
             None => Nodes {
                 store: self,
                 shared,
                 label: None,
-                next: self.next.node,
+                ids: self.sets.none().ids(),
             },
         }
     }

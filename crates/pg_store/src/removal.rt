@@ -1,7 +1,7 @@
 //! Nodes and relationships taken out of a tenant's graph.
-ghost use Rattle.std.specs.Prelude.{◌≡◌, ◌∷◌, [], true, OnOk, OnErr};
-ghost use Rattle.pg_graph.specs.Content.{Keeps};
+ghost use Rattle.std.specs.Prelude.{◌≡◌, ◌∷◌, [], true, OnOk};
 ghost use Rattle.pg_meaning.specs.Graph.{has_node, has_relationship, incident, incoming, outgoing, remove_elements};
+ghost use Rattle.pg_store.specs.Changes.{Changes};
 ghost use Rattle.pg_store.specs.Stores.{graph_of_store, IsFit, KeepsMarks};
 
 use crate::journal::Entry;
@@ -15,11 +15,8 @@ impl<T: Tables> Store<T> {
     pub fn remove_rel(&mut self, shared: &T::Shared, id: RelId) -> Result<(), AllocError>
         requires fit { IsFit T.seen self.old shared.now }
         requires there { has_relationship (graph_of_store T.seen self.old shared.now) id.0 ≡ true }
-        ensures ok { OnOk result (graph_of_store T.seen self.new shared.now ≡ remove_elements [] (id.0 ∷ []) (graph_of_store T.seen self.old shared.now)) }
-        ensures err { OnErr result (graph_of_store T.seen self.new shared.now ≡ graph_of_store T.seen self.old shared.now) }
+        ensures changes { Changes T.seen self.old shared.now self.new shared.now result (λ start end. OnOk result (end ≡ remove_elements [] (id.0 ∷ []) start)) }
         ensures marks { KeepsMarks T.seen self.old shared.now self.new shared.now }
-        ensures fit { IsFit T.seen self.new shared.now }
-        ensures keeps { Keeps T.seen self.old.tables shared.now self.new.tables shared.now }
     {
         self.journal.reserve(1)?;
         self.gone_rels.insert(id.0, ())?;
@@ -34,13 +31,12 @@ impl<T: Tables> Store<T> {
         requires there { has_node (graph_of_store T.seen self.old shared.now) id.0 ≡ true }
         requires no_outgoing { incident outgoing id.0 (graph_of_store T.seen self.old shared.now) ≡ [] }
         requires no_incoming { incident incoming id.0 (graph_of_store T.seen self.old shared.now) ≡ [] }
-        ensures ok { OnOk result (graph_of_store T.seen self.new shared.now ≡ remove_elements (id.0 ∷ []) [] (graph_of_store T.seen self.old shared.now)) }
-        ensures err { OnErr result (graph_of_store T.seen self.new shared.now ≡ graph_of_store T.seen self.old shared.now) }
+        ensures changes { Changes T.seen self.old shared.now self.new shared.now result (λ start end. OnOk result (end ≡ remove_elements (id.0 ∷ []) [] start)) }
         ensures marks { KeepsMarks T.seen self.old shared.now self.new shared.now }
-        ensures fit { IsFit T.seen self.new shared.now }
-        ensures keeps { Keeps T.seen self.old.tables shared.now self.new.tables shared.now }
     {
         self.journal.reserve(1)?;
+        let was = self.tables.node(shared, id).unwrap();
+        self.sets.cover_node(&was.labels, id.0)?;
         self.gone_nodes.insert(id.0, ())?;
         self.elements -= 1;
         self.journal.push_reserved(Entry::NodeRemoved(id));

@@ -1,10 +1,9 @@
 //! A store lent with the part that all tenants share, to read: seen as its graph.
 ghost use Rattle.std.specs.Option.{option_map};
 ghost use Rattle.std.specs.Prelude.{◌≡◌, ◌<◌, ◌^◌, true, map as map_list, IfOk};
-ghost use Rattle.pg_graph.specs.Stored.{has_label, property_at};
+ghost use Rattle.pg_graph.specs.Stored.{has_label, property_at, rel_property_at};
 ghost use Rattle.pg_meaning.specs.Graph.{both, element_count, has_node, has_relationship, ids_of, incident, incoming, node_at, nodes_with_label, outgoing, relationship_at};
 ghost use Rattle.pg_store.specs.Stores.{graph_of_store, IsFit, node_texts_view, rel_texts_view};
-ghost use Rattle.pg_store.specs.Views.{rel_property_at};
 ghost use Rattle.pg_value_core.specs.View.{view};
 
 use crate::incident::Incident;
@@ -143,14 +142,14 @@ impl<'a, T: Tables> Snapshot<'a, T> {
     pub fn node_ids(&self, alloc: Global) -> Result<Vec<NodeId>, AllocError>
         ensures { IfOk result (λ ids. map_list (λ id. id.0) ids.items ≡ ids_of self.now.nodes) }
     {
-        self.store.node_ids(alloc, self.shared)
+        self.nodes().collect(alloc)
     }
 
     /// The ids of the nodes with a label, rising.
     pub fn nodes_with_label(&self, alloc: Global, label: &str) -> Result<Vec<NodeId>, AllocError>
         ensures { IfOk result (λ ids. map_list (λ id. id.0) ids.items ≡ nodes_with_label self.now label.now) }
     {
-        self.store.nodes_with_label(alloc, self.shared, label)
+        self.nodes_labelled(label).collect(alloc)
     }
 
     /// The nodes, ids rising.

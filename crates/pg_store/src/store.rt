@@ -4,6 +4,7 @@ ghost use Rattle.pg_meaning.specs.Graph.{IsGraph, empty_graph, element_count};
 ghost use Rattle.pg_store.specs.Stores.{graph_of_store, IsFit};
 
 use crate::journal::Entry;
+use crate::sets::Sets;
 use pg_graph::{ById, NextIds, Tables};
 use pg_names::Names;
 use std::alloc::Global;
@@ -20,6 +21,7 @@ pub struct Store<T> {
     pub(crate) gone_nodes: ById<()>,
     pub(crate) gone_rels: ById<()>,
     pub(crate) journal: Vec<Entry>,
+    pub(crate) sets: Sets,
 }
 
 impl<T: Tables> Store<T> {
@@ -37,6 +39,7 @@ impl<T: Tables> Store<T> {
             gone_nodes: ById::new(alloc),
             gone_rels: ById::new(alloc),
             journal: Vec::new(alloc),
+            sets: Sets::new(alloc),
         }
     }
 

@@ -136,9 +136,9 @@ impl<T: Tables> Store<T> {
         ensures { result ≡ node_at (graph_of_store T.seen self.now shared.now) id.0 }
     {
         match self.node(shared, id) {
-            Some(record) => Some(NodeView {
+            Some(node) => Some(NodeView {
                 names: &self.names,
-                record,
+                record: node,
             }),
             None => None,
         }
@@ -150,9 +150,9 @@ impl<T: Tables> Store<T> {
         ensures { result ≡ relationship_at (graph_of_store T.seen self.now shared.now) id.0 }
     {
         match self.rel(shared, id) {
-            Some(record) => Some(RelView {
+            Some(rel) => Some(RelView {
                 names: &self.names,
-                record,
+                record: rel,
             }),
             None => None,
         }

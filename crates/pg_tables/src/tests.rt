@@ -1,4 +1,6 @@
+mod numbers;
 mod stores;
+mod undone;
 
 use super::*;
 use pg_graph::Labels;

@@ -1,16 +1,16 @@
 //! A store over tables.
 ghost use Rattle.std.specs.Prelude.{◌<◌};
-ghost use Rattle.pg_store.specs.Stores.{IsFit, KeepsMarks};
+ghost use Rattle.pg_store.specs.Stores.{IsFit};
 
 use crate::PlainTables;
 use pg_graph::Tables;
 use pg_store::{Snapshot, Store};
-use pg_value_core::{NodeId, RelId, Value};
+use pg_value_core::{NodeId, Value};
 use std::alloc::{AllocError, Global};
 use std::process::Abort;
 use std::test::Fail;
 
-fn assert_room<T: Tables>(rt: &impl Abort, store: &Store<T>, shared: &T::Shared)
+pub fn assert_room<T: Tables>(rt: &impl Abort, store: &Store<T>, shared: &T::Shared)
     requires fit { IsFit T.seen store.now shared.now }
     ensures room { store.now.next.node < 1000 }
     ensures count { store.now.elements < 1000 }
@@ -76,117 +76,6 @@ fn makes_and_undoes<T: Tables>(
     Ok(())
 }
 
-fn rel_number<T: Tables>(
-    alloc: Global,
-    graph: &Snapshot<'_, T>,
-    id: u64,
-    key: &str,
-) -> Result<Option<i64>, AllocError> {
-    if let Some(texts) = graph.rel_texts(alloc, RelId(id))? {
-        if let Some(Value::Int(n)) = texts.properties.get(key) {
-            return Ok(Some(*n));
-        }
-    }
-    Ok(None)
-}
-
-// Each kind of change, one after the other: two relationships, of which one goes again, other
-// properties and labels, and a node that goes.
-fn changes<T: Tables>(
-    rt: &impl Abort,
-    alloc: Global,
-    store: &mut Store<T>,
-    shared: &mut T::Shared,
-) -> Result<(), AllocError>
-    requires fit { IsFit T.seen store.old shared.old }
-    ensures fit { IsFit T.seen store.new shared.new }
-    ensures marks { KeepsMarks T.seen store.old shared.old store.new shared.new }
-{
-    let first = vec![in alloc; ("since", Value::Int(7))]?;
-    connect(rt, alloc, store, shared, "K", first)?;
-    connect(rt, alloc, store, shared, "L", Vec::new(alloc))?;
-    let more = vec![in alloc; ("x", Value::Null), ("z", Value::Int(3))]?;
-    assert!(rt; store.graph(shared).has_node(NodeId(0)));
-    store.set_node_properties(alloc, shared, NodeId(0), more)?;
-    let labels = vec![in alloc; "C", "A"]?;
-    assert!(rt; store.graph(shared).has_node(NodeId(1)));
-    store.add_labels(alloc, shared, NodeId(1), &labels)?;
-    let later = vec![in alloc; ("since", Value::Int(8))]?;
-    assert!(rt; store.graph(shared).has_rel(RelId(0)));
-    store.set_rel_properties(alloc, shared, RelId(0), later)?;
-    assert!(rt; store.graph(shared).has_rel(RelId(1)));
-    store.remove_rel(shared, RelId(1))
-}
-
-fn connect<T: Tables>(
-    rt: &impl Abort,
-    alloc: Global,
-    store: &mut Store<T>,
-    shared: &mut T::Shared,
-    kind: &str,
-    properties: Vec<(&str, Value)>,
-) -> Result<(), AllocError>
-    requires fit { IsFit T.seen store.old shared.old }
-    ensures fit { IsFit T.seen store.new shared.new }
-    ensures marks { KeepsMarks T.seen store.old shared.old store.new shared.new }
-{
-    assert_room(rt, store, shared);
-    assert!(rt; store.next_ids().rel < 1000);
-    assert!(rt; store.graph(shared).has_node(NodeId(0)));
-    assert!(rt; store.graph(shared).has_node(NodeId(1)));
-    store.create_rel(alloc, shared, kind, NodeId(0), NodeId(1), properties)?;
-    Ok(())
-}
-
-// What the changes left.
-fn reads_changed<T: Tables>(
-    rt: &impl Abort,
-    alloc: Global,
-    store: &Store<T>,
-    shared: &T::Shared,
-) -> Result<(), AllocError>
-    requires fit { IsFit T.seen store.now shared.now }
-{
-    assert_eq!(rt; store.elements(), 3);
-    assert_eq!(rt; store.next_ids().rel, 2);
-    assert!(rt; !store.graph(shared).has_rel(RelId(1)));
-    assert_eq!(rt; number_at(&store.graph(shared), 0, "x"), None);
-    assert_eq!(rt; number_at(&store.graph(shared), 0, "z"), Some(3));
-    assert!(rt; store.graph(shared).has_label(NodeId(1), "C"));
-    assert_eq!(rt;
-        rel_number(alloc, &store.graph(shared), 0, "since")?,
-        Some(8)
-    );
-    let mut from = store.graph(shared).outgoing(NodeId(0));
-    assert_eq!(rt; from.next(), Some(RelId(0)));
-    assert_eq!(rt; from.next(), None);
-    let mut to = store.graph(shared).incoming(NodeId(1));
-    assert_eq!(rt; to.next(), Some(RelId(0)));
-    assert_eq!(rt; to.next(), None);
-    Ok(())
-}
-
-// The changes undone, and then done again and kept.
-fn changes_and_goes_back<T: Tables>(
-    rt: &impl Abort,
-    alloc: Global,
-    store: &mut Store<T>,
-    shared: &mut T::Shared,
-) -> Result<(), AllocError>
-    requires fit { IsFit T.seen store.old shared.old }
-    ensures fit { IsFit T.seen store.new shared.new }
-{
-    let mark = store.mark();
-    changes(rt, alloc, store, shared)?;
-    reads_changed(rt, alloc, store, shared)?;
-    store.undo(shared, mark);
-    assert_eq!(rt; store.next_ids().rel, 0);
-    reads(rt, alloc, store, shared)?;
-    changes(rt, alloc, store, shared)?;
-    store.commit(shared);
-    reads_changed(rt, alloc, store, shared)
-}
-
 fn reads<T: Tables>(
     rt: &impl Abort,
     alloc: Global,
@@ -237,8 +126,7 @@ where
     reads(rt, alloc, &store, &shared)?;
     makes_and_undoes(rt, alloc, &mut store, &mut shared)?;
     reads(rt, alloc, &store, &shared)?;
-    reads_texts(rt, alloc, &store, &shared)?;
-    changes_and_goes_back(rt, alloc, &mut store, &mut shared)
+    reads_texts(rt, alloc, &store, &shared)
 }
 
 #[test]

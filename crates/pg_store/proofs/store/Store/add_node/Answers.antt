@@ -1,9 +1,11 @@
 use Rattle.std.proofs.Common.{◌++◌, ◌∷◌, [], refl, ap, ◌∙◌}
 use Rattle.pg_graph.proofs.Made.{next_is_absent}
 use Rattle.pg_graph.specs.Content.{Content}
-use Rattle.pg_store.proofs.ChangeLemmas.{changed_fit, changed_marks}
+use Rattle.pg_store.proofs.ChangeLemmas.{changed_fit, refused_fit, changed_marks}
+use Rattle.pg_store.proofs.CoverLemmas.{covers_now, grown_covers, covers_with}
 use Rattle.pg_store.proofs.States.{with_new_node, new_node_made, new_node_undone}
 use Rattle.pg_store.proofs.store.Store.add_node.Goals as goal
+use Rattle.pg_store.specs.Covers.{has_in}
 use Rattle.pg_store.specs.Journal.{graph_in}
 use Rattle.pg_store.specs.Stores.{state_of}
 use Rattle.pg_store.specs.declared.journal.Entry.TheVariants.{NodeAdded}
@@ -42,4 +44,18 @@ returns-clause-fit g c =
     refl
     (ap (λ (content : Content). record made { content = content }) c.in_ok-add_node.ensures.ok)
     (c.push_reserved.ensures.items ∙ ap (λ es. es ++ NodeAdded ∷ []) c.in_ok-reserve.ensures.items)
+    c.cover_node.ensures.grown
+    (covers_with (has_in c.cover_node.new.self) s store.next.node c.args.node (grown_covers (has_in store.sets) (has_in c.cover_node.new.self) c.cover_node.ensures.grown s (covers_now (has_in store.sets) store.journal.items s c.requires.fit.covered)) (λ k number. c.in_ok-cover_node.ensures.ok c.args.node k refl number))
     c.add_node.ensures.keeps.fits
+
+pub returns-in_err-cover_node-clause-fit : goal.returns-in_err-cover_node-clause-fit
+returns-in_err-cover_node-clause-fit g c =
+    let store = c.args.self.now in
+    let s = state_of g.T.Tables.seen store c.args.shared.now in
+    refused_fit g.T.Tables.seen store (record store { journal = c.reserve.new.self; sets = c.cover_node.new.self }) c.args.shared.now c.args.shared.now c.requires.fit refl refl c.in_ok-reserve.ensures.items c.cover_node.ensures.grown c.requires.fit.fits
+
+pub returns-in_err-add_node-clause-fit : goal.returns-in_err-add_node-clause-fit
+returns-in_err-add_node-clause-fit g c =
+    let store = c.args.self.now in
+    let s = state_of g.T.Tables.seen store c.args.shared.now in
+    refused_fit g.T.Tables.seen store (record store { tables = c.add_node.new.self; journal = c.reserve.new.self; sets = c.cover_node.new.self }) c.args.shared.now c.add_node.new.shared c.requires.fit refl (λ t. record s { content = c.in_err-add_node.ensures.err t }) c.in_ok-reserve.ensures.items c.cover_node.ensures.grown c.add_node.ensures.keeps.fits

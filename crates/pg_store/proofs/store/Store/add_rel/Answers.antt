@@ -2,8 +2,10 @@ use Rattle.std.proofs.Common.{◌++◌, ◌∷◌, [], refl, ap, ◌∙◌}
 use Rattle.pg_graph.proofs.Removed.{is_live}
 use Rattle.pg_graph.specs.Content.{Content}
 use Rattle.pg_store.proofs.ChangeLemmas.{changed_fit, changed_marks}
+use Rattle.pg_store.proofs.CoverLemmas.{covers_now}
 use Rattle.pg_store.proofs.States.{next_rel_is_absent, with_new_rel, new_rel_made, new_rel_undone}
 use Rattle.pg_store.proofs.store.Store.add_rel.Goals as goal
+use Rattle.pg_store.specs.Covers.{has_in}
 use Rattle.pg_store.specs.Journal.{graph_in}
 use Rattle.pg_store.specs.Stores.{state_of}
 use Rattle.pg_store.specs.declared.journal.Entry.TheVariants.{RelAdded}
@@ -55,4 +57,6 @@ returns-clause-fit g c =
     refl
     (ap (λ (content : Content). record made { content = content }) c.in_ok-add_rel.ensures.ok)
     (c.push_reserved.ensures.items ∙ ap (λ es. es ++ RelAdded ∷ []) c.in_ok-reserve.ensures.items)
+    (λ k i h. h)
+    (covers_now (has_in store.sets) store.journal.items s c.requires.fit.covered)
     c.add_rel.ensures.keeps.fits

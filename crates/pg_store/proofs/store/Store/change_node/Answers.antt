@@ -1,9 +1,12 @@
-use Rattle.std.proofs.Common.{◌++◌, ◌∷◌, [], refl, ap, ◌∙◌}
+use Rattle.std.proofs.Common.{◌++◌, ◌∷◌, [], IsSome, refl, sym, ap, subst, ◌∙◌}
 use Rattle.pg_graph.proofs.Removed.{is_live}
 use Rattle.pg_graph.specs.Content.{Content}
-use Rattle.pg_store.proofs.ChangeLemmas.{changed_fit, changed_marks}
+use Rattle.pg_store.proofs.ChangeLemmas.{changed_fit, refused_fit, changed_marks}
+use Rattle.pg_store.proofs.CoverLemmas.{covers_now, grown_covers, grows_on, covers_with}
+use Rattle.pg_store.proofs.Stores.{copied_some}
 use Rattle.pg_store.proofs.States.{with_node_changed, node_changed, node_change_undone}
 use Rattle.pg_store.proofs.store.Store.change_node.Goals as goal
+use Rattle.pg_store.specs.Covers.{has_in}
 use Rattle.pg_store.specs.Journal.{graph_in}
 use Rattle.pg_store.specs.Stores.{state_of}
 use Rattle.pg_store.specs.declared.journal.Entry.TheVariants.{NodeChanged}
@@ -48,4 +51,24 @@ returns-clause-fit g c =
     refl
     (ap (λ (content : Content). record changed { content = content }) c.change-before.ensures.changed)
     (c.push_reserved.ensures.items ∙ ap (λ es. es ++ NodeChanged c.args.id was ∷ []) c.in_ok-reserve.ensures.items)
+    (grows_on (has_in store.sets) (has_in c.cover_node.new.self) (has_in c.cover_node-2.new.self) c.cover_node.ensures.grown c.cover_node-2.ensures.grown)
+    (covers_with (has_in c.cover_node-2.new.self) s c.args.id.0 c.args.node (grown_covers (has_in store.sets) (has_in c.cover_node-2.new.self) (grows_on (has_in store.sets) (has_in c.cover_node.new.self) (has_in c.cover_node-2.new.self) c.cover_node.ensures.grown c.cover_node-2.ensures.grown) s (covers_now (has_in store.sets) store.journal.items s c.requires.fit.covered)) (λ k number. c.in_ok-cover_node-2.ensures.ok c.args.node k refl number))
     c.change-before.ensures.keeps.fits
+
+pub returns-in_err-cover_node-clause-fit : goal.returns-in_err-cover_node-clause-fit
+returns-in_err-cover_node-clause-fit g c =
+    let store = c.args.self.now in
+    let s = state_of g.T.Tables.seen store c.args.shared.now in
+    refused_fit g.T.Tables.seen store (record store { journal = c.reserve.new.self; sets = c.cover_node.new.self }) c.args.shared.now c.args.shared.now c.requires.fit refl refl c.in_ok-reserve.ensures.items c.cover_node.ensures.grown c.requires.fit.fits
+
+pub returns-in_err-cover_node-2-clause-fit : goal.returns-in_err-cover_node-2-clause-fit
+returns-in_err-cover_node-2-clause-fit g c =
+    let store = c.args.self.now in
+    let s = state_of g.T.Tables.seen store c.args.shared.now in
+    refused_fit g.T.Tables.seen store (record store { journal = c.reserve.new.self; sets = c.cover_node-2.new.self }) c.args.shared.now c.args.shared.now c.requires.fit refl refl c.in_ok-reserve.ensures.items (grows_on (has_in store.sets) (has_in c.cover_node.new.self) (has_in c.cover_node-2.new.self) c.cover_node.ensures.grown c.cover_node-2.ensures.grown) c.requires.fit.fits
+
+pub unwrap-was-requires : goal.unwrap-was-requires
+unwrap-was-requires g c =
+    let store = c.args.self.now in
+    let s = state_of g.T.Tables.seen store c.args.shared.now in
+    copied_some c.node-2.result (subst IsSome (sym c.node-2.ensures) (is_live s.content.nodes store.gone_nodes c.args.id.0 c.requires.there).1)

@@ -2,8 +2,10 @@ use Rattle.std.proofs.Common.{◌++◌, ◌∷◌, [], refl, ap, ◌∙◌}
 use Rattle.pg_graph.proofs.Removed.{is_live}
 use Rattle.pg_graph.specs.Content.{Content}
 use Rattle.pg_store.proofs.ChangeLemmas.{changed_fit, changed_marks}
+use Rattle.pg_store.proofs.CoverLemmas.{covers_now, covers_other_properties}
 use Rattle.pg_store.proofs.States.{with_rel_changed, rel_changed, rel_change_undone}
 use Rattle.pg_store.proofs.store.Store.change_rel.Goals as goal
+use Rattle.pg_store.specs.Covers.{has_in}
 use Rattle.pg_store.specs.Journal.{graph_in}
 use Rattle.pg_store.specs.Stores.{state_of}
 use Rattle.pg_store.specs.declared.journal.Entry.TheVariants.{RelChanged}
@@ -48,4 +50,6 @@ returns-clause-fit g c =
     refl
     (ap (λ (content : Content). record changed { content = content }) c.change_rel-before.ensures.changed)
     (c.push_reserved.ensures.items ∙ ap (λ es. es ++ RelChanged c.args.id was ∷ []) c.in_ok-reserve.ensures.items)
+    (λ k i h. h)
+    (covers_other_properties (has_in store.sets) s c.args.id.0 c.args.properties (covers_now (has_in store.sets) store.journal.items s c.requires.fit.covered))
     c.change_rel-before.ensures.keeps.fits

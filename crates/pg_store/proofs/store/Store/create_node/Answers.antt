@@ -1,5 +1,6 @@
 use Rattle.std.proofs.Common.{sym, ◌∙◌}
 use Rattle.std.proofs.lemmas.Result.{on_ok_weaker, on_err_weaker}
+use Rattle.pg_graph.proofs.Others.{keeps_refl}
 use Rattle.pg_graph.proofs.Held.{more_named}
 use Rattle.pg_graph.proofs.NamedChanges.{label_texts_kept}
 use Rattle.pg_meaning.specs.Graph.{add_node}
@@ -7,29 +8,31 @@ use Rattle.pg_store.proofs.ChangeLemmas.{at_err, keeps_both, marks_then, renamed
 use Rattle.pg_store.proofs.store.Store.create_node.Goals as goal
 use Rattle.pg_store.specs.Stores.{texts_of}
 
-pub returns-in_err-labels-clause-err : goal.returns-in_err-labels-clause-err
-returns-in_err-labels-clause-err g c = at_err c.from_residual.result (renamed_graph g.T.Tables.seen c.args.self.now c.args.shared.now c.labels_of.new.names c.labels_of.ensures.keeps c.requires.fit)
+pub returns-in_err-labels-clause-changes : goal.returns-in_err-labels-clause-changes
+returns-in_err-labels-clause-changes g c = record {
+  says = search rules;
+  same = (at_err c.from_residual.result (renamed_graph g.T.Tables.seen c.args.self.now c.args.shared.now c.labels_of.new.names c.labels_of.ensures.keeps c.requires.fit));
+  fit = (renamed_fit g.T.Tables.seen c.args.self.now c.args.shared.now c.labels_of.new.names c.labels_of.ensures.keeps c.requires.fit c.labels_of.ensures.distinct);
+  keeps = keeps_refl c.args.self.now.tables c.args.shared.now c.requires.fit.fits;
+}
 
 pub returns-in_err-labels-clause-marks : goal.returns-in_err-labels-clause-marks
 returns-in_err-labels-clause-marks g c = renamed_marks g.T.Tables.seen c.args.self.now c.args.shared.now c.labels_of.new.names c.labels_of.ensures.keeps c.requires.fit
 
-pub returns-in_err-labels-clause-fit : goal.returns-in_err-labels-clause-fit
-returns-in_err-labels-clause-fit g c = renamed_fit g.T.Tables.seen c.args.self.now c.args.shared.now c.labels_of.new.names c.labels_of.ensures.keeps c.requires.fit c.labels_of.ensures.distinct
-
-pub returns-in_err-properties-clause-err : goal.returns-in_err-properties-clause-err
-returns-in_err-properties-clause-err g c =
-    at_err c.from_residual-in_err-properties.result (renamed_graph g.T.Tables.seen c.args.self.now c.args.shared.now c.properties_of.new.names
-    (keeps_both c.args.self.now.names c.labels_of.new.names c.properties_of.new.names c.labels_of.ensures.keeps c.properties_of.ensures.keeps) c.requires.fit)
+pub returns-in_err-properties-clause-changes : goal.returns-in_err-properties-clause-changes
+returns-in_err-properties-clause-changes g c = record {
+  says = search rules;
+  same = (at_err c.from_residual-in_err-properties.result (renamed_graph g.T.Tables.seen c.args.self.now c.args.shared.now c.properties_of.new.names
+      (keeps_both c.args.self.now.names c.labels_of.new.names c.properties_of.new.names c.labels_of.ensures.keeps c.properties_of.ensures.keeps) c.requires.fit));
+  fit = (renamed_fit g.T.Tables.seen c.args.self.now c.args.shared.now c.properties_of.new.names
+      (keeps_both c.args.self.now.names c.labels_of.new.names c.properties_of.new.names c.labels_of.ensures.keeps c.properties_of.ensures.keeps) c.requires.fit c.properties_of.ensures.distinct);
+  keeps = keeps_refl c.args.self.now.tables c.args.shared.now c.requires.fit.fits;
+}
 
 pub returns-in_err-properties-clause-marks : goal.returns-in_err-properties-clause-marks
 returns-in_err-properties-clause-marks g c =
     renamed_marks g.T.Tables.seen c.args.self.now c.args.shared.now c.properties_of.new.names
     (keeps_both c.args.self.now.names c.labels_of.new.names c.properties_of.new.names c.labels_of.ensures.keeps c.properties_of.ensures.keeps) c.requires.fit
-
-pub returns-in_err-properties-clause-fit : goal.returns-in_err-properties-clause-fit
-returns-in_err-properties-clause-fit g c =
-    renamed_fit g.T.Tables.seen c.args.self.now c.args.shared.now c.properties_of.new.names
-    (keeps_both c.args.self.now.names c.labels_of.new.names c.properties_of.new.names c.labels_of.ensures.keeps c.properties_of.ensures.keeps) c.requires.fit c.properties_of.ensures.distinct
 
 pub add_node-requires-clause-fit : goal.add_node-requires-clause-fit
 add_node-requires-clause-fit g c =
@@ -39,21 +42,21 @@ add_node-requires-clause-fit g c =
 pub add_node-requires-clause-labels : goal.add_node-requires-clause-labels
 add_node-requires-clause-labels g c = more_named c.labels_of.new.names c.properties_of.new.names c.properties_of.ensures.keeps c.in_ok-labels.labels c.in_ok-labels.ensures.named
 
-pub returns-clause-ok : goal.returns-clause-ok
-returns-clause-ok g c =
-    let same = renamed_graph g.T.Tables.seen c.args.self.now c.args.shared.now c.properties_of.new.names
-    (keeps_both c.args.self.now.names c.labels_of.new.names c.properties_of.new.names c.labels_of.ensures.keeps c.properties_of.ensures.keeps) c.requires.fit in
-    let texts = texts_of c.args.labels.now.items in
-    on_ok_weaker c.add_node.result (λ h.
-    h texts (sym (label_texts_kept c.labels_of.new.names c.properties_of.new.names c.properties_of.ensures.keeps c.in_ok-labels.labels c.in_ok-labels.ensures.named ∙ c.in_ok-labels.ensures.labels))
-    ∙ (λ i. add_node texts (c.in_ok-properties.ensures.properties i) (same i)))
-    c.add_node.ensures.ok
-
-pub returns-clause-err : goal.returns-clause-err
-returns-clause-err g c =
-    on_err_weaker c.add_node.result (λ e. e ∙ renamed_graph g.T.Tables.seen c.args.self.now c.args.shared.now c.properties_of.new.names
-    (keeps_both c.args.self.now.names c.labels_of.new.names c.properties_of.new.names c.labels_of.ensures.keeps c.properties_of.ensures.keeps) c.requires.fit)
-    c.add_node.ensures.err
+pub returns-clause-changes : goal.returns-clause-changes
+returns-clause-changes g c = record {
+  says = (let same = renamed_graph g.T.Tables.seen c.args.self.now c.args.shared.now c.properties_of.new.names
+      (keeps_both c.args.self.now.names c.labels_of.new.names c.properties_of.new.names c.labels_of.ensures.keeps c.properties_of.ensures.keeps) c.requires.fit in
+      let texts = texts_of c.args.labels.now.items in
+      on_ok_weaker c.add_node.result (λ h.
+      h texts (sym (label_texts_kept c.labels_of.new.names c.properties_of.new.names c.properties_of.ensures.keeps c.in_ok-labels.labels c.in_ok-labels.ensures.named ∙ c.in_ok-labels.ensures.labels))
+      ∙ (λ i. add_node texts (c.in_ok-properties.ensures.properties i) (same i)))
+      c.add_node.ensures.ok);
+  same = (on_err_weaker c.add_node.result (λ e. e ∙ renamed_graph g.T.Tables.seen c.args.self.now c.args.shared.now c.properties_of.new.names
+      (keeps_both c.args.self.now.names c.labels_of.new.names c.properties_of.new.names c.labels_of.ensures.keeps c.properties_of.ensures.keeps) c.requires.fit)
+      c.add_node.ensures.err);
+  fit = c.add_node.ensures.fit;
+  keeps = c.add_node.ensures.keeps;
+}
 
 pub returns-clause-marks : goal.returns-clause-marks
 returns-clause-marks g c =

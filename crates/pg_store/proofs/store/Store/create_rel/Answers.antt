@@ -1,6 +1,7 @@
 use Rattle.std.proofs.Common.{◌∙◌}
 use Rattle.std.proofs.lemmas.Option.{slice_get_within}
 use Rattle.std.proofs.lemmas.Result.{on_ok_weaker, on_err_weaker}
+use Rattle.pg_graph.proofs.Others.{keeps_refl}
 use Rattle.pg_graph.proofs.NamedChanges.{text_is}
 use Rattle.pg_meaning.specs.Graph.{add_relationship}
 use Rattle.pg_store.proofs.ChangeLemmas.{at_err, keeps_both, marks_then, renamed_graph, renamed_fit, renamed_marks}
@@ -9,20 +10,20 @@ use Rattle.pg_store.proofs.store.Store.create_rel.Goals as goal
 use Rattle.pg_store.specs.Journal.{live}
 use Rattle.pg_store.specs.Stores.{state_of}
 
-pub returns-in_err-properties-clause-err : goal.returns-in_err-properties-clause-err
-returns-in_err-properties-clause-err g c =
-    at_err c.from_residual-in_err-properties.result (renamed_graph g.T.Tables.seen c.args.self.now c.args.shared.now c.properties_of.new.names
-    (keeps_both c.args.self.now.names c.intern.new.self c.properties_of.new.names c.intern.ensures.keeps c.properties_of.ensures.keeps) c.requires.fit)
+pub returns-in_err-properties-clause-changes : goal.returns-in_err-properties-clause-changes
+returns-in_err-properties-clause-changes g c = record {
+  says = search rules;
+  same = (at_err c.from_residual-in_err-properties.result (renamed_graph g.T.Tables.seen c.args.self.now c.args.shared.now c.properties_of.new.names
+      (keeps_both c.args.self.now.names c.intern.new.self c.properties_of.new.names c.intern.ensures.keeps c.properties_of.ensures.keeps) c.requires.fit));
+  fit = (renamed_fit g.T.Tables.seen c.args.self.now c.args.shared.now c.properties_of.new.names
+      (keeps_both c.args.self.now.names c.intern.new.self c.properties_of.new.names c.intern.ensures.keeps c.properties_of.ensures.keeps) c.requires.fit c.properties_of.ensures.distinct);
+  keeps = keeps_refl c.args.self.now.tables c.args.shared.now c.requires.fit.fits;
+}
 
 pub returns-in_err-properties-clause-marks : goal.returns-in_err-properties-clause-marks
 returns-in_err-properties-clause-marks g c =
     renamed_marks g.T.Tables.seen c.args.self.now c.args.shared.now c.properties_of.new.names
     (keeps_both c.args.self.now.names c.intern.new.self c.properties_of.new.names c.intern.ensures.keeps c.properties_of.ensures.keeps) c.requires.fit
-
-pub returns-in_err-properties-clause-fit : goal.returns-in_err-properties-clause-fit
-returns-in_err-properties-clause-fit g c =
-    renamed_fit g.T.Tables.seen c.args.self.now c.args.shared.now c.properties_of.new.names
-    (keeps_both c.args.self.now.names c.intern.new.self c.properties_of.new.names c.intern.ensures.keeps c.properties_of.ensures.keeps) c.requires.fit c.properties_of.ensures.distinct
 
 pub add_rel-requires-clause-fit : goal.add_rel-requires-clause-fit
 add_rel-requires-clause-fit g c =
@@ -42,18 +43,18 @@ add_rel-requires-clause-target g c =
     let store = c.args.self.now in
     node_held store.names (live (state_of g.T.Tables.seen store c.args.shared.now)) store.next.node store.next.rel c.args.target.0 c.requires.target
 
-pub returns-clause-ok : goal.returns-clause-ok
-returns-clause-ok g c =
-    let same = renamed_graph g.T.Tables.seen c.args.self.now c.args.shared.now c.properties_of.new.names
-    (keeps_both c.args.self.now.names c.intern.new.self c.properties_of.new.names c.intern.ensures.keeps c.properties_of.ensures.keeps) c.requires.fit in
-    let text = text_is c.properties_of.new.names c.in_ok-kind.kind c.args.kind.now (c.properties_of.ensures.keeps c.in_ok-kind.kind c.args.kind.now c.in_ok-kind.ensures.number) in
-    on_ok_weaker c.add_rel.result (λ h. h ∙ (λ i. add_relationship (text i) c.args.source.0 c.args.target.0 (c.in_ok-properties.ensures.properties i) (same i))) c.add_rel.ensures.ok
-
-pub returns-clause-err : goal.returns-clause-err
-returns-clause-err g c =
-    on_err_weaker c.add_rel.result (λ e. e ∙ renamed_graph g.T.Tables.seen c.args.self.now c.args.shared.now c.properties_of.new.names
-    (keeps_both c.args.self.now.names c.intern.new.self c.properties_of.new.names c.intern.ensures.keeps c.properties_of.ensures.keeps) c.requires.fit)
-    c.add_rel.ensures.err
+pub returns-clause-changes : goal.returns-clause-changes
+returns-clause-changes g c = record {
+  says = (let same = renamed_graph g.T.Tables.seen c.args.self.now c.args.shared.now c.properties_of.new.names
+      (keeps_both c.args.self.now.names c.intern.new.self c.properties_of.new.names c.intern.ensures.keeps c.properties_of.ensures.keeps) c.requires.fit in
+      let text = text_is c.properties_of.new.names c.in_ok-kind.kind c.args.kind.now (c.properties_of.ensures.keeps c.in_ok-kind.kind c.args.kind.now c.in_ok-kind.ensures.number) in
+      on_ok_weaker c.add_rel.result (λ h. h ∙ (λ i. add_relationship (text i) c.args.source.0 c.args.target.0 (c.in_ok-properties.ensures.properties i) (same i))) c.add_rel.ensures.ok);
+  same = (on_err_weaker c.add_rel.result (λ e. e ∙ renamed_graph g.T.Tables.seen c.args.self.now c.args.shared.now c.properties_of.new.names
+      (keeps_both c.args.self.now.names c.intern.new.self c.properties_of.new.names c.intern.ensures.keeps c.properties_of.ensures.keeps) c.requires.fit)
+      c.add_rel.ensures.err);
+  fit = c.add_rel.ensures.fit;
+  keeps = c.add_rel.ensures.keeps;
+}
 
 pub returns-clause-marks : goal.returns-clause-marks
 returns-clause-marks g c =

@@ -8,7 +8,7 @@ use Rattle.pg_store.specs.Stores.{state_of}
 
 pub invariant_of-result : goal.invariant_of-result
 invariant_of-result g c =
-    let node = c.requires.fit.well.holds.nodes c.args.id.0 c.in-Some.record.now (sym c.in-Some.ensures) in
+    let node = c.requires.fit.well.holds.nodes c.args.id.0 c.in-Some.node.now (sym c.in-Some.ensures) in
     record { labels = node.labels; keys = node.keys }
 
 pub returns-in-Some : goal.returns-in-Some

@@ -1,13 +1,16 @@
-use Rattle.std.proofs.Common.{None, sym, ◌∙◌}
-use Rattle.pg_graph.proofs.Listed.{listed_all}
+use Rattle.std.proofs.Common.{None, filter, sym, ap, ◌∙◌}
 use Rattle.pg_graph.proofs.Made.{all_listed}
 use Rattle.pg_graph.specs.Stored.{has_number}
+use Rattle.pg_store.proofs.Covering.{all_read}
 use Rattle.pg_store.proofs.store.Store.nodes.Goals as goal
+use Rattle.pg_store.specs.Covers.{has_in, passes}
 use Rattle.pg_store.specs.Journal.{live}
 use Rattle.pg_store.specs.Stores.{state_of}
 
 pub returns : goal.returns
 returns g c =
     let store = c.args.self.now in
-    let content = live (state_of g.T.Tables.seen store c.args.shared.now) in
-    listed_all (has_number None) content.nodes ∙ sym (all_listed store.names content store.next.node store.next.rel)
+    let s = state_of g.T.Tables.seen store c.args.shared.now in
+    ap (filter (passes (has_number None) (live s).nodes)) c.ids.ensures.ids
+    ∙ all_read (has_in store.sets) store.journal.items s c.requires.fit.covered None c.get.result.now c.get.ensures
+    ∙ sym (all_listed store.names (live s) store.next.node store.next.rel)

@@ -8,7 +8,7 @@ use Rattle.pg_store.specs.Stores.{state_of}
 
 pub invariant_of-result : goal.invariant_of-result
 invariant_of-result g c =
-    let rel = c.requires.fit.well.holds.rels c.args.id.0 c.in-Some.record.now (sym c.in-Some.ensures) in
+    let rel = c.requires.fit.well.holds.rels c.args.id.0 c.in-Some.rel.now (sym c.in-Some.ensures) in
     record { kind = rel.kind; keys = rel.keys }
 
 pub returns-in-Some : goal.returns-in-Some

@@ -8,14 +8,18 @@ use Rattle.pg_store.proofs.store.Store.remove_labels.Goals as goal
 use Rattle.pg_store.specs.Journal.{live}
 use Rattle.pg_store.specs.Stores.{state_of, texts_of}
 
-pub returns-clause-ok : goal.returns-clause-ok
-returns-clause-ok g c =
-    let store = c.args.self.now in
-    let n = c.in_ok-before.field-0 in
-    let new : Node = node_of store.names (record { labels = c.less_labels-labels.result; properties = n.properties }) in
-    on_ok_weaker c.change_node.result (λ h.
-    h
-    ∙ node_changed_alike store.names (live (state_of g.T.Tables.seen store c.args.shared.now)) store.next.node store.next.rel c.args.id.0 n (λ _. new)
-    (λ e. record e { labels = filter (λ l. not (is_among (texts_of c.args.labels.now.items) l)) e.labels }) c.in_ok-before.ensures.copy
-    (λ t. record { labels = (c.less_labels-labels.ensures.labels ∙ without_is (texts_of c.args.labels.now.items) (label_texts store.names n.labels)) t; properties = property_entries store.names n.properties }))
-    c.change_node.ensures.ok
+pub returns-clause-changes : goal.returns-clause-changes
+returns-clause-changes g c = record {
+  says = (let store = c.args.self.now in
+      let n = c.in_ok-before.field-0 in
+      let new : Node = node_of store.names (record { labels = c.less_labels-labels.result; properties = n.properties }) in
+      on_ok_weaker c.change_node.result (λ h.
+      h
+      ∙ node_changed_alike store.names (live (state_of g.T.Tables.seen store c.args.shared.now)) store.next.node store.next.rel c.args.id.0 n (λ _. new)
+      (λ e. record e { labels = filter (λ l. not (is_among (texts_of c.args.labels.now.items) l)) e.labels }) c.in_ok-before.ensures.copy
+      (λ t. record { labels = (c.less_labels-labels.ensures.labels ∙ without_is (texts_of c.args.labels.now.items) (label_texts store.names n.labels)) t; properties = property_entries store.names n.properties }))
+      c.change_node.ensures.ok);
+  same = c.change_node.ensures.err;
+  fit = c.change_node.ensures.fit;
+  keeps = c.change_node.ensures.keeps;
+}

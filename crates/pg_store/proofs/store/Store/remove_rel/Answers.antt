@@ -1,9 +1,12 @@
 use Rattle.std.proofs.Common.{◌++◌, ◌∷◌, [], refl, ap, ◌∙◌}
+use Rattle.pg_graph.proofs.Others.{keeps_refl}
 use Rattle.pg_graph.specs.Removed.{Ids}
 use Rattle.pg_store.proofs.ChangeLemmas.{changed_fit, changed_marks}
 use Rattle.pg_store.proofs.Stores.{rel_held}
+use Rattle.pg_store.proofs.CoverLemmas.{covers_now}
 use Rattle.pg_store.proofs.States.{with_rel_removed, rel_removed, rel_removal_undone, a_rel}
 use Rattle.pg_store.proofs.store.Store.remove_rel.Goals as goal
+use Rattle.pg_store.specs.Covers.{has_in}
 use Rattle.pg_store.specs.Journal.{live, graph_in}
 use Rattle.pg_store.specs.Stores.{state_of}
 use Rattle.pg_store.specs.declared.journal.Entry.TheVariants.{RelRemoved}
@@ -15,14 +18,29 @@ overflow_sub-self g c =
     let there = rel_held store.names (live s) store.next.node store.next.rel c.args.id.0 c.requires.there in
     a_rel store.names s c.args.id c.requires.fit.well there
 
-pub returns-clause-ok : goal.returns-clause-ok
-returns-clause-ok g c =
-    let store = c.args.self.now in
-    let s = state_of g.T.Tables.seen store c.args.shared.now in
-    let there = rel_held store.names (live s) store.next.node store.next.rel c.args.id.0 c.requires.there in
-    let removed = with_rel_removed store.names s c.args.id c.requires.fit.well there in
-    ap (λ (gone : Ids). graph_in store.names (record removed { gone_rels = gone })) c.in_ok-insert.ensures.ok
-    ∙ rel_removed store.names s c.args.id c.requires.fit.well there
+pub returns-clause-changes : goal.returns-clause-changes
+returns-clause-changes g c = record {
+  says = (let store = c.args.self.now in
+      let s = state_of g.T.Tables.seen store c.args.shared.now in
+      let there = rel_held store.names (live s) store.next.node store.next.rel c.args.id.0 c.requires.there in
+      let removed = with_rel_removed store.names s c.args.id c.requires.fit.well there in
+      ap (λ (gone : Ids). graph_in store.names (record removed { gone_rels = gone })) c.in_ok-insert.ensures.ok
+      ∙ rel_removed store.names s c.args.id c.requires.fit.well there);
+  same = tt;
+  fit = (let store = c.args.self.now in
+      let s = state_of g.T.Tables.seen store c.args.shared.now in
+      let there = rel_held store.names (live s) store.next.node store.next.rel c.args.id.0 c.requires.there in
+      let removed = with_rel_removed store.names s c.args.id c.requires.fit.well there in
+      changed_fit g.T.Tables.seen store _ c.args.shared.now _ c.requires.fit (RelRemoved c.args.id) removed
+      (rel_removal_undone store.names s c.args.id c.requires.fit.well there)
+      refl
+      (ap (λ (gone : Ids). record removed { gone_rels = gone }) c.in_ok-insert.ensures.ok)
+      (c.push_reserved.ensures.items ∙ ap (λ es. es ++ RelRemoved c.args.id ∷ []) c.in_ok-reserve.ensures.items)
+      (λ k i h. h)
+      (covers_now (has_in store.sets) store.journal.items s c.requires.fit.covered)
+      c.requires.fit.fits);
+  keeps = keeps_refl c.args.self.now.tables c.args.shared.now c.requires.fit.fits;
+}
 
 pub returns-clause-marks : goal.returns-clause-marks
 returns-clause-marks g c =
@@ -35,16 +53,3 @@ returns-clause-marks g c =
     refl
     (ap (λ (gone : Ids). record removed { gone_rels = gone }) c.in_ok-insert.ensures.ok)
     (c.push_reserved.ensures.items ∙ ap (λ es. es ++ RelRemoved c.args.id ∷ []) c.in_ok-reserve.ensures.items)
-
-pub returns-clause-fit : goal.returns-clause-fit
-returns-clause-fit g c =
-    let store = c.args.self.now in
-    let s = state_of g.T.Tables.seen store c.args.shared.now in
-    let there = rel_held store.names (live s) store.next.node store.next.rel c.args.id.0 c.requires.there in
-    let removed = with_rel_removed store.names s c.args.id c.requires.fit.well there in
-    changed_fit g.T.Tables.seen store _ c.args.shared.now _ c.requires.fit (RelRemoved c.args.id) removed
-    (rel_removal_undone store.names s c.args.id c.requires.fit.well there)
-    refl
-    (ap (λ (gone : Ids). record removed { gone_rels = gone }) c.in_ok-insert.ensures.ok)
-    (c.push_reserved.ensures.items ∙ ap (λ es. es ++ RelRemoved c.args.id ∷ []) c.in_ok-reserve.ensures.items)
-    c.requires.fit.fits

@@ -1,5 +1,6 @@
 use Rattle.std.proofs.Common.{ap, ◌∙◌}
 use Rattle.std.proofs.lemmas.Result.{on_ok_weaker, on_err_weaker}
+use Rattle.pg_graph.proofs.Others.{keeps_refl}
 use Rattle.pg_graph.proofs.Held.{more_named}
 use Rattle.pg_graph.specs.Refinement.{node_of}
 use Rattle.pg_meaning.specs.Entries.{set_keys}
@@ -11,16 +12,16 @@ use Rattle.pg_store.proofs.store.Store.replace_node_properties.Goals as goal
 use Rattle.pg_store.specs.Journal.{live}
 use Rattle.pg_store.specs.Stores.{state_of, pairs_of}
 
-pub returns-in_err-properties-clause-err : goal.returns-in_err-properties-clause-err
-returns-in_err-properties-clause-err g c =
-    at_err c.from_residual-in_err-properties.result (renamed_graph g.T.Tables.seen c.args.self.now c.args.shared.now c.properties_of.new.names c.properties_of.ensures.keeps c.requires.fit)
+pub returns-in_err-properties-clause-changes : goal.returns-in_err-properties-clause-changes
+returns-in_err-properties-clause-changes g c = record {
+  says = search rules;
+  same = (at_err c.from_residual-in_err-properties.result (renamed_graph g.T.Tables.seen c.args.self.now c.args.shared.now c.properties_of.new.names c.properties_of.ensures.keeps c.requires.fit));
+  fit = (renamed_fit g.T.Tables.seen c.args.self.now c.args.shared.now c.properties_of.new.names c.properties_of.ensures.keeps c.requires.fit c.properties_of.ensures.distinct);
+  keeps = keeps_refl c.args.self.now.tables c.args.shared.now c.requires.fit.fits;
+}
 
 pub returns-in_err-properties-clause-marks : goal.returns-in_err-properties-clause-marks
 returns-in_err-properties-clause-marks g c = renamed_marks g.T.Tables.seen c.args.self.now c.args.shared.now c.properties_of.new.names c.properties_of.ensures.keeps c.requires.fit
-
-pub returns-in_err-properties-clause-fit : goal.returns-in_err-properties-clause-fit
-returns-in_err-properties-clause-fit g c =
-    renamed_fit g.T.Tables.seen c.args.self.now c.args.shared.now c.properties_of.new.names c.properties_of.ensures.keeps c.requires.fit c.properties_of.ensures.distinct
 
 pub change_node-requires-clause-fit : goal.change_node-requires-clause-fit
 change_node-requires-clause-fit g c =
@@ -29,24 +30,24 @@ change_node-requires-clause-fit g c =
 pub change_node-requires-clause-labels : goal.change_node-requires-clause-labels
 change_node-requires-clause-labels g c = more_named c.args.self.now.names c.properties_of.new.names c.properties_of.ensures.keeps c.in_ok-labels.field-0.labels c.in_ok-labels.ensures.labels
 
-pub returns-clause-ok : goal.returns-clause-ok
-returns-clause-ok g c =
-    let store = c.args.self.now in
-    let n = c.in_ok-labels.field-0 in
-    let same = renamed_graph g.T.Tables.seen store c.args.shared.now c.properties_of.new.names c.properties_of.ensures.keeps c.requires.fit in
-    let new : Node = node_of c.properties_of.new.names (record { labels = n.labels; properties = c.in_ok-properties.properties }) in
-    on_ok_weaker c.change_node.result (λ h.
-    h
-    ∙ ap (change_node (λ _. new) c.args.id.0) same
-    ∙ node_changed_alike store.names (live (state_of g.T.Tables.seen store c.args.shared.now)) store.next.node store.next.rel c.args.id.0 n (λ _. new)
-    (λ e. record e { properties = set_keys (pairs_of c.args.properties.items) no_entries }) c.in_ok-labels.ensures.copy
-    (with_properties store.names c.properties_of.new.names n c.in_ok-properties.properties _ c.properties_of.ensures.keeps c.in_ok-labels.ensures.labels c.in_ok-properties.ensures.properties))
-    c.change_node.ensures.ok
-
-pub returns-clause-err : goal.returns-clause-err
-returns-clause-err g c =
-    on_err_weaker c.change_node.result (λ e. e ∙ renamed_graph g.T.Tables.seen c.args.self.now c.args.shared.now c.properties_of.new.names c.properties_of.ensures.keeps c.requires.fit)
-    c.change_node.ensures.err
+pub returns-clause-changes : goal.returns-clause-changes
+returns-clause-changes g c = record {
+  says = (let store = c.args.self.now in
+      let n = c.in_ok-labels.field-0 in
+      let same = renamed_graph g.T.Tables.seen store c.args.shared.now c.properties_of.new.names c.properties_of.ensures.keeps c.requires.fit in
+      let new : Node = node_of c.properties_of.new.names (record { labels = n.labels; properties = c.in_ok-properties.properties }) in
+      on_ok_weaker c.change_node.result (λ h.
+      h
+      ∙ ap (change_node (λ _. new) c.args.id.0) same
+      ∙ node_changed_alike store.names (live (state_of g.T.Tables.seen store c.args.shared.now)) store.next.node store.next.rel c.args.id.0 n (λ _. new)
+      (λ e. record e { properties = set_keys (pairs_of c.args.properties.items) no_entries }) c.in_ok-labels.ensures.copy
+      (with_properties store.names c.properties_of.new.names n c.in_ok-properties.properties _ c.properties_of.ensures.keeps c.in_ok-labels.ensures.labels c.in_ok-properties.ensures.properties))
+      c.change_node.ensures.ok);
+  same = (on_err_weaker c.change_node.result (λ e. e ∙ renamed_graph g.T.Tables.seen c.args.self.now c.args.shared.now c.properties_of.new.names c.properties_of.ensures.keeps c.requires.fit)
+      c.change_node.ensures.err);
+  fit = c.change_node.ensures.fit;
+  keeps = c.change_node.ensures.keeps;
+}
 
 pub returns-clause-marks : goal.returns-clause-marks
 returns-clause-marks g c =

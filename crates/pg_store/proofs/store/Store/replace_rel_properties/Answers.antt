@@ -1,5 +1,6 @@
 use Rattle.std.proofs.Common.{ap, ◌∙◌}
 use Rattle.std.proofs.lemmas.Result.{on_ok_weaker, on_err_weaker}
+use Rattle.pg_graph.proofs.Others.{keeps_refl}
 use Rattle.pg_graph.specs.Refinement.{property_entries}
 use Rattle.pg_meaning.specs.Graph.{change_relationship}
 use Rattle.pg_store.proofs.ChangeLemmas.{at_err, marks_then, renamed_graph, renamed_fit, renamed_marks}
@@ -8,16 +9,16 @@ use Rattle.pg_store.proofs.store.Store.replace_rel_properties.Goals as goal
 use Rattle.pg_store.specs.Journal.{live}
 use Rattle.pg_store.specs.Stores.{state_of, graph_of_store}
 
-pub returns-in_err-properties-clause-err : goal.returns-in_err-properties-clause-err
-returns-in_err-properties-clause-err g c =
-    at_err c.from_residual.result (renamed_graph g.T.Tables.seen c.args.self.now c.args.shared.now c.properties_of.new.names c.properties_of.ensures.keeps c.requires.fit)
+pub returns-in_err-properties-clause-changes : goal.returns-in_err-properties-clause-changes
+returns-in_err-properties-clause-changes g c = record {
+  says = search rules;
+  same = (at_err c.from_residual.result (renamed_graph g.T.Tables.seen c.args.self.now c.args.shared.now c.properties_of.new.names c.properties_of.ensures.keeps c.requires.fit));
+  fit = (renamed_fit g.T.Tables.seen c.args.self.now c.args.shared.now c.properties_of.new.names c.properties_of.ensures.keeps c.requires.fit c.properties_of.ensures.distinct);
+  keeps = keeps_refl c.args.self.now.tables c.args.shared.now c.requires.fit.fits;
+}
 
 pub returns-in_err-properties-clause-marks : goal.returns-in_err-properties-clause-marks
 returns-in_err-properties-clause-marks g c = renamed_marks g.T.Tables.seen c.args.self.now c.args.shared.now c.properties_of.new.names c.properties_of.ensures.keeps c.requires.fit
-
-pub returns-in_err-properties-clause-fit : goal.returns-in_err-properties-clause-fit
-returns-in_err-properties-clause-fit g c =
-    renamed_fit g.T.Tables.seen c.args.self.now c.args.shared.now c.properties_of.new.names c.properties_of.ensures.keeps c.requires.fit c.properties_of.ensures.distinct
 
 pub change_rel-requires-clause-fit : goal.change_rel-requires-clause-fit
 change_rel-requires-clause-fit g c =
@@ -28,20 +29,20 @@ change_rel-requires-clause-there g c =
     let store = c.args.self.now in
     rel_held store.names (live (state_of g.T.Tables.seen store c.args.shared.now)) store.next.node store.next.rel c.args.id.0 c.requires.there
 
-pub returns-clause-ok : goal.returns-clause-ok
-returns-clause-ok g c =
-    let store = c.args.self.now in
-    let same = renamed_graph g.T.Tables.seen store c.args.shared.now c.properties_of.new.names c.properties_of.ensures.keeps c.requires.fit in
-    on_ok_weaker c.change_rel.result (λ h.
-    h
-    ∙ ap (change_relationship (λ r. record r { properties = property_entries c.properties_of.new.names c.in_ok-properties.properties }) c.args.id.0) same
-    ∙ ap (λ es. change_relationship (λ r. record r { properties = es }) c.args.id.0 (graph_of_store g.T.Tables.seen store c.args.shared.now)) c.in_ok-properties.ensures.properties)
-    c.change_rel.ensures.ok
-
-pub returns-clause-err : goal.returns-clause-err
-returns-clause-err g c =
-    on_err_weaker c.change_rel.result (λ e. e ∙ renamed_graph g.T.Tables.seen c.args.self.now c.args.shared.now c.properties_of.new.names c.properties_of.ensures.keeps c.requires.fit)
-    c.change_rel.ensures.err
+pub returns-clause-changes : goal.returns-clause-changes
+returns-clause-changes g c = record {
+  says = (let store = c.args.self.now in
+      let same = renamed_graph g.T.Tables.seen store c.args.shared.now c.properties_of.new.names c.properties_of.ensures.keeps c.requires.fit in
+      on_ok_weaker c.change_rel.result (λ h.
+      h
+      ∙ ap (change_relationship (λ r. record r { properties = property_entries c.properties_of.new.names c.in_ok-properties.properties }) c.args.id.0) same
+      ∙ ap (λ es. change_relationship (λ r. record r { properties = es }) c.args.id.0 (graph_of_store g.T.Tables.seen store c.args.shared.now)) c.in_ok-properties.ensures.properties)
+      c.change_rel.ensures.ok);
+  same = (on_err_weaker c.change_rel.result (λ e. e ∙ renamed_graph g.T.Tables.seen c.args.self.now c.args.shared.now c.properties_of.new.names c.properties_of.ensures.keeps c.requires.fit)
+      c.change_rel.ensures.err);
+  fit = c.change_rel.ensures.fit;
+  keeps = c.change_rel.ensures.keeps;
+}
 
 pub returns-clause-marks : goal.returns-clause-marks
 returns-clause-marks g c =

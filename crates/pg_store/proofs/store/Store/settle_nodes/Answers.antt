@@ -1,8 +1,10 @@
 use Rattle.std.proofs.Common.{subst, sym, refl, ◌<◌}
 use Rattle.std.specs.FinMap as map
 use Rattle.pg_graph.specs.Removed.{Ids}
+use Rattle.pg_store.proofs.CoverLemmas.{covers_now, covers_without}
 use Rattle.pg_store.proofs.Settled.{among, settles_on, fewer, graph_without_node, well_without_node, without_gone_node, nothing_out, nothing_in}
 use Rattle.pg_store.proofs.store.Store.settle_nodes.Goals as goal
+use Rattle.pg_store.specs.Covers.{has_in}
 use Rattle.pg_store.specs.Stores.{state_of}
 
 pub drop_node-requires-clause-no_outgoing : goal.drop_node-requires-clause-no_outgoing
@@ -32,6 +34,7 @@ loop-id-preserved g c =
       settles = settles_on g.T.Tables.seen c.args.self.now now _ c.args.shared.now c.loop-id.shared _ (without_gone_node now.names s c.in-Some.id was.settles.fit.well gone was.no_rels) was.settles
           (λ t. record s { content = c.drop_node.ensures.dropped t; gone_nodes = c.in-Some.ensures.removed t })
           (well_without_node now.names s c.in-Some.id was.settles.fit.well gone was.no_rels)
+          (covers_without (has_in now.sets) s c.in-Some.id (covers_now (has_in now.sets) now.journal.items s was.settles.fit.covered))
           (graph_without_node now.names s c.in-Some.id was.settles.fit.well gone was.no_rels)
           refl refl c.drop_node.ensures.keeps;
       no_rels = was.no_rels;

@@ -1,7 +1,7 @@
 use Rattle.std.proofs.Common.{◌≡◌}
 use Rattle.std.specs.FinMap as map
-use Rattle.pg_store.proofs.Settled.{Settles}
 use Rattle.pg_store.proofs.store.Store.settle_nodes.Given as goal
+use Rattle.pg_store.specs.Stores.{Settles}
 
 abbrev pub invariant-loop-id : goal.invariant-loop-id
 invariant-loop-id g l = record {

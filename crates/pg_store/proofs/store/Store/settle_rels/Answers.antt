@@ -1,8 +1,10 @@
 use Rattle.std.proofs.Common.{subst, sym, refl, ◌<◌}
 use Rattle.std.specs.FinMap as map
 use Rattle.pg_graph.specs.Removed.{Ids}
+use Rattle.pg_store.proofs.CoverLemmas.{covers_now}
 use Rattle.pg_store.proofs.Settled.{among, settles_on, fewer, graph_without_rel, well_without_rel, without_gone_rel}
 use Rattle.pg_store.proofs.store.Store.settle_rels.Goals as goal
+use Rattle.pg_store.specs.Covers.{has_in}
 use Rattle.pg_store.specs.Stores.{state_of}
 
 pub loop-id-smaller : goal.loop-id-smaller
@@ -19,5 +21,6 @@ loop-id-preserved g c =
     settles_on g.T.Tables.seen c.args.self.now now _ c.args.shared.now c.loop-id.shared _ (without_gone_rel now.names s c.in-Some.id was.fit.well gone) was
     (λ t. record s { content = c.drop_rel.ensures.dropped t; gone_rels = c.in-Some.ensures.removed t })
     (well_without_rel now.names s c.in-Some.id was.fit.well gone)
+    (covers_now (has_in now.sets) now.journal.items s was.fit.covered)
     (graph_without_rel now.names s c.in-Some.id was.fit.well gone)
     refl refl c.drop_rel.ensures.keeps

@@ -1,6 +1,6 @@
 use Rattle.std.specs.FinMap as map
-use Rattle.pg_store.proofs.Settled.{Settles}
 use Rattle.pg_store.proofs.store.Store.settle_rels.Given as goal
+use Rattle.pg_store.specs.Stores.{Settles}
 
 abbrev pub invariant-loop-id : goal.invariant-loop-id
 invariant-loop-id g l = Settles g.T.Tables.seen l.fn.self l.fn.shared l.self l.shared

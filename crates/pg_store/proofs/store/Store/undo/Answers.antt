@@ -1,50 +1,36 @@
-use Rattle.std.proofs.Common.{◌≡◌, ◌+◌, ◌++◌, ◌∷◌, [], length, arith, refl, sym, ap, ◌∙◌}
-use Rattle.std.proofs.lemmas.List.{length-append}
-use Rattle.std.specs.Global.{Vec}
-use Rattle.std.specs.Option.{option_to_list}
-use Rattle.pg_store.proofs.TakenBack.{at_first, can_go, goes_on, same_mark, is_back}
+use Rattle.std.proofs.Common.{◌≡◌, ◌≤◌, List, [], drop, length, arith, subst, sym, ap, ◌∙◌}
+use Rattle.std.proofs.lemmas.List.{nil_from_length}
+use Rattle.pg_graph.proofs.Others.{keeps_trans}
 use Rattle.pg_store.proofs.store.Store.undo.Goals as goal
+use Rattle.pg_store.specs.Journal.{graph_in, undone}
+use Rattle.pg_store.specs.Stores.{state_of}
 use Rattle.pg_store.specs.declared.journal.Entry.{Entry}
 
-pub loop-mark-init : goal.loop-mark-init
-loop-mark-init g c = at_first g.T.Tables.seen c.args.mark.0 c.args.self.now c.args.shared.now c.requires.fit c.requires.mark
+pub sweep-requires-clause-journal : goal.sweep-requires-clause-journal
+sweep-requires-clause-journal g c = nil_from_length c.go_back.new.self.journal.items (omega (arith, c.len.ensures))
 
-pub take_back-requires-clause-fits : goal.take_back-requires-clause-fits
-take_back-requires-clause-fits g c = c.loop-mark.invariant.fit.fits
-
-pub take_back-requires-clause-can : goal.take_back-requires-clause-can
-take_back-requires-clause-can g c =
-    can_go g.T.Tables.seen c.args.mark.0 c.loop-mark.self c.loop-mark.shared c.pop.new.self.items c.unwrap-entry.result
-    (c.pop.ensures.items ∙ ap (λ o. c.pop.new.self.items ++ option_to_list o) c.unwrap-entry.ensures)
-    c.loop-mark.invariant.fit
-
-pub loop-mark-smaller : goal.loop-mark-smaller
-loop-mark-smaller g c =
-    let fewer : length c.loop-mark.self.journal.items ≡ length c.pop.new.self.items + 1 =
-    ap length (c.pop.ensures.items ∙ ap (λ o. c.pop.new.self.items ++ option_to_list o) c.unwrap-entry.ensures) ∙ length-append c.pop.new.self.items (c.unwrap-entry.result ∷ []) in
-    let same : length c.take_back.new.self.journal.items ≡ length c.pop.new.self.items = ap (λ (v : Vec Entry). length v.items) c.take_back.ensures.journal in
-    omega (arith, fewer, same)
-
-pub loop-mark-preserved : goal.loop-mark-preserved
-loop-mark-preserved g c =
-    goes_on g.T.Tables.seen c.args.mark.0 c.args.self.now c.loop-mark.self c.take_back.new.self c.args.shared.now c.loop-mark.shared c.take_back.new.shared c.unwrap-entry.result
-    c.loop-mark.invariant
-    (omega (arith, c.loop-mark-test.true, c.len.ensures))
-    (c.pop.ensures.items ∙ ap (λ o. c.pop.new.self.items ++ option_to_list o) c.unwrap-entry.ensures ∙ ap (λ es. es ++ c.unwrap-entry.result ∷ []) (ap (λ (v : Vec Entry). v.items) (sym c.take_back.ensures.journal)))
-    c.take_back.ensures.state c.take_back.ensures.names c.take_back.ensures.keeps
-
+-- sweeping leaves the empty journal, and the state
 pub returns-clause-graph : goal.returns-clause-graph
-returns-clause-graph g c =
-    is_back g.T.Tables.seen c.args.mark.0 c.args.self.now c.loop-mark.self c.args.shared.now c.loop-mark.shared c.loop-mark.invariant (omega (arith, c.loop-mark-test.false, c.len.ensures)) c.args.mark refl
+returns-clause-graph g c = c.sweep.ensures.swept.graph ∙ c.go_back.ensures.graph
 
 pub returns-clause-marks : goal.returns-clause-marks
-returns-clause-marks g c = same_mark g.T.Tables.seen c.args.mark.0 c.args.self.now c.loop-mark.self c.args.shared.now c.loop-mark.shared c.loop-mark.invariant
+returns-clause-marks g c = λ earlier h.
+    let mid = c.go_back.new.self in
+    let s = state_of g.T.Tables.seen mid c.go_back.new.shared in
+    let none : mid.journal.items ≡ [] = nil_from_length mid.journal.items (omega (arith, c.len.ensures)) in
+    ap (λ names. graph_in names (undone (drop earlier.0 c.sweep.new.self.journal.items) (state_of g.T.Tables.seen c.sweep.new.self c.go_back.new.shared))) c.sweep.ensures.names
+    ∙ (λ i. graph_in mid.names (undone (drop earlier.0 (c.sweep.ensures.swept.journal i)) (c.sweep.ensures.state i)))
+    ∙ ap (λ (es : List Entry). graph_in mid.names (undone (drop earlier.0 es) s)) (sym none)
+    ∙ c.go_back.ensures.marks earlier h
 
 pub returns-clause-there : goal.returns-clause-there
-returns-clause-there g c = c.loop-mark.invariant.there
+returns-clause-there g c =
+    let none : c.go_back.new.self.journal.items ≡ [] = nil_from_length c.go_back.new.self.journal.items (omega (arith, c.len.ensures)) in
+    subst (λ (es : List Entry). c.args.mark.0 ≤ length es) (none ∙ sym c.sweep.ensures.swept.journal) c.go_back.ensures.there
 
 pub returns-clause-fit : goal.returns-clause-fit
-returns-clause-fit g c = c.loop-mark.invariant.fit
+returns-clause-fit g c = c.sweep.ensures.swept.fit
 
 pub returns-clause-keeps : goal.returns-clause-keeps
-returns-clause-keeps g c = c.loop-mark.invariant.keeps
+returns-clause-keeps g c =
+    keeps_trans c.args.self.now.tables c.go_back.new.self.tables c.sweep.new.self.tables c.args.shared.now c.go_back.new.shared c.go_back.new.shared c.go_back.ensures.keeps c.sweep.ensures.swept.keeps

@@ -1,0 +1,15 @@
+-- An index as a finite map from keys to finite sets of ids.
+use Rattle.std.specs.Prelude.{ℕ, Option}
+use Rattle.std.specs.BTreeMap.{get}
+use Rattle.std.specs.FinMap as map
+use Rattle.std.specs.Option.{option_map_or}
+use Rattle.std.specs.declared.cmp.Ordering.{Ordering}
+use Rattle.pg_graph.specs.Removed.{Ids}
+use Rattle.pg_index.specs.declared.index.Index.{Index}
+
+-- where there is no set, there are no ids
+abbrev pub the_ids : Option Ids → Ids
+the_ids found = option_map_or (λ ids. ids) found map.empty
+
+abbrev pub ids_at : {K : Type 0} → (K → K → Ordering) → Index K → K → Ids
+ids_at cmp index key = the_ids (get cmp index.sets key)

@@ -2,6 +2,10 @@
 #![tactic(auto)]
 
 #[cfg(test)]
+mod depths;
+#[cfg(test)]
+mod expressions;
+#[cfg(test)]
 mod lexemes;
 #[cfg(test)]
 mod queries;

@@ -3,9 +3,11 @@ ghost use Rattle.std.specs.Prelude.{◌≡◌, ◌<◌, ◌≤◌, ℕ, None, Is
 ghost use Rattle.std.specs.FinMap as map;
 ghost use Rattle.pg_graph.specs.Content.{empty_content};
 
-use pg_graph::{Labels, NameId, Names, NodeRecord, Properties, Tables};
+use pg_graph::{Labels, NodeRecord, Properties, Tables};
+use pg_names::{NameId, Names};
 use pg_value_core::{NodeId, Value};
 use std::alloc::{AllocError, Global};
+use std::hash::BuildHasherDefault;
 
 const TEXT: &str = "a name of some forty letters, plain ones";
 
@@ -19,7 +21,7 @@ pub struct Schema {
 
 impl Schema {
     pub fn new(alloc: Global) -> Result<Schema, AllocError> {
-        let mut names = Names::new(alloc);
+        let mut names = Names::new(alloc, BuildHasherDefault::new());
         Ok(Schema {
             label: names.intern("Person")?,
             name: names.intern("name")?,

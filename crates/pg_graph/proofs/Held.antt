@@ -15,7 +15,7 @@ use Rattle.pg_graph.proofs.Ids.{ids_in}
 use Rattle.pg_graph.proofs.Maps.{get_inserted, get_inserted_other, get_removed, get_removed_other}
 use Rattle.pg_graph.proofs.Refined.{all_entries, element_read, text_stays}
 use Rattle.pg_graph.specs.Content.{with_rel, ids_where}
-use Rattle.pg_graph.specs.Names.{KeepsNames}
+use Rattle.pg_names.specs.Names.{KeepsNames}
 use Rattle.pg_graph.specs.Refinement.{text_of, named_entries, node_of, relationship_of, elements, AreNamed, IsNodeOf, IsRelOf, Holds, HeldIsGraph, EmptyHolds, HoldsWithMoreNames, HoldsWithNode, HoldsWithRelationship, HoldsWithChangedNode, HoldsWithChangedRelationship, HoldsWithoutNode, HoldsWithoutRelationship}
 use Rattle.pg_graph.specs.declared.records.NodeRecord.{NodeRecord}
 use Rattle.pg_graph.specs.declared.records.RelRecord.{RelRecord}

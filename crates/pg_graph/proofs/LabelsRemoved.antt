@@ -4,11 +4,11 @@ use Rattle.std.proofs.lemmas.Bool.Decides.{nat_tests}
 use Rattle.std.proofs.lemmas.List.Kept.{IsStrictlySortedBy-filter}
 use Rattle.std.specs.List.{AllByRecursion, list_any, position}
 use Rattle.std.specs.Str.{bytes_eq}
-use Rattle.pg_graph.proofs.Interned.{same_bytes, equal_bytes, place_of_text}
+use Rattle.pg_names.proofs.Interned.{same_bytes, equal_bytes, place_of_text}
 use Rattle.pg_graph.proofs.Named.{by_number, by_no_number}
 use Rattle.pg_graph.proofs.NamedChanges.{same_texts, among}
 use Rattle.pg_graph.proofs.SortedLists.{all_without}
-use Rattle.pg_graph.specs.Names.{AreDistinct}
+use Rattle.pg_names.specs.Names.{AreDistinct}
 use Rattle.pg_graph.specs.Records.{AreLabels, without_label}
 use Rattle.pg_graph.specs.Refinement.{text_of, label_texts, AreNamed}
 use Rattle.pg_meaning.specs.Names.{is_among, in_byte_order}

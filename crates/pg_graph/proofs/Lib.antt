@@ -1,4 +1,3 @@
-pub mod Interned
 pub mod SortedLists
 pub mod Entries
 pub mod Maps

@@ -11,9 +11,9 @@ use Rattle.std.specs.Option.{option_map_or}
 use Rattle.std.specs.Ordering.{nat_cmp, eq_by_cmp, match_ordering}
 use Rattle.std.specs.Str.{bytes_eq}
 use Rattle.pg_graph.proofs.Ids.{eq_flip}
-use Rattle.pg_graph.proofs.Interned.{found_text, place_of_text, same_bytes}
+use Rattle.pg_names.proofs.Interned.{found_text, place_of_text, same_bytes}
 use Rattle.pg_graph.proofs.Refined.{text_stays}
-use Rattle.pg_graph.specs.Names.{AreDistinct}
+use Rattle.pg_names.specs.Names.{AreDistinct}
 use Rattle.pg_graph.specs.Refinement.{text_of, named_entries, AreNamed, LabelIsRead, PropertyIsRead}
 use Rattle.pg_meaning.specs.Entries.{at_key, value_at}
 use Rattle.pg_meaning.specs.EntriesLaws.{put_is_read}

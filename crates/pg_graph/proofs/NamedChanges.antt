@@ -12,11 +12,11 @@ use Rattle.std.specs.Option.{option_map_or}
 use Rattle.std.specs.Ordering.{nat_cmp, eq_by_cmp, is_eq, is_lt, match_ordering, ordering_reverse}
 use Rattle.std.specs.Str.{bytes_eq}
 use Rattle.pg_graph.proofs.Held.{entries_rise, inserted, removed, more_named}
-use Rattle.pg_graph.proofs.Interned.{same_bytes, equal_bytes}
+use Rattle.pg_names.proofs.Interned.{same_bytes, equal_bytes}
 use Rattle.pg_graph.proofs.Named.{text_equal, any_put, any_inserted, either_false, either_same, either_swap, by_number, by_no_number, entry_found, no_entry, same_test}
 use Rattle.pg_graph.proofs.Refined.{all_entries, labels_kept, entries_kept}
 use Rattle.pg_graph.proofs.SortedLists.{equal}
-use Rattle.pg_graph.specs.Names.{AreDistinct, KeepsNames}
+use Rattle.pg_names.specs.Names.{AreDistinct, KeepsNames}
 use Rattle.pg_graph.specs.Records.{Properties, with_label, with_property}
 use Rattle.pg_graph.specs.Refinement.{text_of, label_texts, property_entries, AreNamed}
 use Rattle.pg_meaning.specs.Entries.{is_before_first, are_rising, at_key, put, without_key, set_key}

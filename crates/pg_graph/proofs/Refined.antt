@@ -12,7 +12,7 @@ use Rattle.pg_graph.proofs.Entries.{entries_removed}
 use Rattle.pg_graph.proofs.Ids.{ids_in}
 use Rattle.pg_graph.proofs.SortedLists.{less}
 use Rattle.pg_graph.specs.Content.{with_rel}
-use Rattle.pg_graph.specs.Names.{KeepsNames}
+use Rattle.pg_names.specs.Names.{KeepsNames}
 use Rattle.pg_graph.specs.Refinement.{text_of, named_entries, property_entries, node_of, relationship_of, elements, graph_of, AreNamed, IsNodeOf, IsRelOf, NodeIsRead, RelationshipIsRead, OutgoingAreRead, IncomingAreRead, NamesMayGrow, NodeIsAdded, RelationshipIsAdded, NodeIsChanged, RelationshipIsChanged, NodeIsDropped, RelationshipIsDropped}
 use Rattle.pg_graph.specs.declared.records.NodeRecord.{NodeRecord}
 use Rattle.pg_graph.specs.declared.records.RelRecord.{RelRecord}

@@ -1,4 +1,3 @@
-pub mod Names
 pub mod Sorted
 pub mod Records
 pub mod ValueCode

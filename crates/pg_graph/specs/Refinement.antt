@@ -11,7 +11,7 @@ use Rattle.pg_meaning.specs.Graph.{Graph, Node, Relationship, node_at, relations
 use Rattle.pg_meaning.specs.Names.{in_byte_order, is_among}
 use Rattle.pg_meaning.specs.Value.{Value, null, Entries, no_entries}
 use Rattle.pg_graph.specs.Content.{Content, empty_content, with_node, without_node, with_rel, with_rel_properties, without_rel, outgoing_of, incoming_of}
-use Rattle.pg_graph.specs.Names.{AreDistinct, KeepsNames}
+use Rattle.pg_names.specs.Names.{AreDistinct, KeepsNames}
 use Rattle.pg_graph.specs.Records.{Properties}
 use Rattle.pg_graph.specs.declared.records.NodeRecord.{NodeRecord}
 use Rattle.pg_graph.specs.declared.records.RelRecord.{RelRecord}

@@ -3,15 +3,15 @@ ghost use Rattle.std.specs.Prelude.{◌≡◌, ◌∷◌, [], map as map_list, f
 ghost use Rattle.std.specs.FinMap as map;
 ghost use Rattle.std.specs.Option.{option_map};
 ghost use Rattle.std.specs.Str.{bytes_eq};
-ghost use Rattle.pg_graph.specs.Names.{AreDistinct, KeepsNames};
+ghost use Rattle.pg_names.specs.Names.{AreDistinct, KeepsNames};
 ghost use Rattle.pg_graph.specs.Refinement.{AreNamed, label_texts, property_entries};
 ghost use Rattle.pg_meaning.specs.Entries.{at_key, set_key};
 ghost use Rattle.pg_meaning.specs.Names.{is_among, put_texts};
 ghost use Rattle.pg_value_core.specs.View.{view, entries_view};
 
 use crate::labels::Labels;
-use crate::names::Names;
 use crate::properties::Properties;
+use pg_names::Names;
 use pg_value_core::Value;
 use std::alloc::{AllocError, Global};
 use std::collections::{BTreeMap, BTreeSet};

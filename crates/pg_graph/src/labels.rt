@@ -3,9 +3,9 @@ ghost use Rattle.std.specs.Prelude.{◌≡◌, ◌==◌, [], OnOk, OnErr, IfOk};
 ghost use Rattle.std.specs.List.{list_any};
 ghost use Rattle.pg_graph.specs.Records.{with_label, without_label, AreLabels};
 
-use crate::names::NameId;
 use crate::sorted;
 use crate::sorted::Numbered;
+use pg_names::NameId;
 use smallvec::SmallVec;
 use std::alloc::{AllocError, Global};
 use std::marker::Model;

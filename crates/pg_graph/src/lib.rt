@@ -1,4 +1,4 @@
-//! Nodes and relationships as tables hold them: names as numbers, records, and the trait of tables.
+//! Nodes and relationships as tables hold them: records with names as numbers, and the trait of tables.
 #![tactic(auto)]
 
 mod by_id;
@@ -6,7 +6,6 @@ mod by_text;
 mod labels;
 mod laws;
 mod links;
-mod names;
 mod nodes;
 mod properties;
 mod records;
@@ -17,7 +16,6 @@ pub use by_id::ById;
 pub use labels::Labels;
 pub use laws::{law_of_changes, law_of_graphs, law_of_reads};
 pub use links::{Incidence, Links};
-pub use names::{NameId, Names};
 pub use nodes::{NextIds, create_node, node_has_label, node_ids, node_property, nodes_with_label};
 pub use properties::Properties;
 pub use records::{Direction, NodeRecord, RelRecord};

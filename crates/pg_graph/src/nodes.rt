@@ -10,9 +10,9 @@ ghost use Rattle.pg_meaning.specs.Graph.{add_node, element_count, ids_of, nodes_
 ghost use Rattle.pg_meaning.specs.Names.{in_byte_order};
 ghost use Rattle.pg_value_core.specs.View.{view};
 
-use crate::names::{NameId, Names};
 use crate::records::NodeRecord;
 use crate::tables::Tables;
+use pg_names::{NameId, Names};
 use pg_value_core::{NodeId, Value};
 use std::alloc::{AllocError, Global};
 

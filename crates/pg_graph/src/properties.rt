@@ -7,9 +7,9 @@ ghost use Rattle.pg_graph.specs.Records.{is_null, with_property, seen_entries, A
 ghost use Rattle.pg_graph.specs.Sorted.{put, without};
 ghost use Rattle.pg_value_core.specs.View.{view};
 
-use crate::names::NameId;
 use crate::sorted;
 use crate::sorted::Numbered;
+use pg_names::NameId;
 use pg_value_core::Value;
 use std::alloc::{AllocError, Global};
 use std::marker::Model;

@@ -2,8 +2,8 @@
 ghost use Rattle.std.specs.Prelude.{◌≡◌, IfOk};
 
 use crate::labels::Labels;
-use crate::names::NameId;
 use crate::properties::Properties;
+use pg_names::NameId;
 use pg_value_core::NodeId;
 use std::alloc::{AllocError, Global};
 

@@ -2,6 +2,7 @@
 ghost use Rattle.std.specs.Prelude.{◌≡◌, ℕ, OnOk, OnErr};
 ghost use Rattle.pg_graph.specs.Sorted.{Rises, IsPlace, put as put_in, without};
 
+use pg_names::NameId;
 use pg_value_core::RelId;
 use smallvec::SmallVec;
 use std::alloc::AllocError;
@@ -12,6 +13,14 @@ pub trait Numbered {
 
     fn number(&self) -> u64
         ensures { result ≡ number self.now };
+}
+
+impl Numbered for NameId {
+    ghost number = { λ n. n };
+
+    fn number(&self) -> u64 {
+        self.as_u64()
+    }
 }
 
 impl Numbered for RelId {

@@ -4,7 +4,7 @@ use Rattle.std.specs.Prelude.{nat_eq, position}
 use Rattle.std.proofs.Math.Seq.{map-set_same}
 use Rattle.std.proofs.lemmas.Bool.Decides.{Decides-eqb, not_from_Decides}
 use Rattle.std.proofs.lemmas.List.{get_or-set_same, get_or-set_other, length-set}
-use Rattle.pg_graph.proofs.Interned.{position_map}
+use Rattle.pg_names.proofs.Interned.{position_map}
 use Rattle.pg_graph.specs.Content.{Content, Seen, Keeps}
 use Rattle.pg_meaning.specs.Graph.{Graph, IsGraph}
 use Rattle.pg_meaning.specs.Names.{is_among}

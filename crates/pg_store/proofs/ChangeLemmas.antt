@@ -2,7 +2,7 @@
 use Rattle.std.proofs.Common.{◌≡◌, ◌≤◌, ℕ, List, [], ◌∷◌, ◌++◌, length, drop, Result, Ok, Err, OnErr, arith, refl, sym, ap, subst, ◌∙◌}
 use Rattle.std.proofs.lemmas.List.{length-append}
 use Rattle.pg_graph.specs.Content.{Seen}
-use Rattle.pg_graph.specs.Names.{AreDistinct, KeepsNames}
+use Rattle.pg_names.specs.Names.{AreDistinct, KeepsNames}
 use Rattle.pg_store.proofs.JournalLemmas.{pushed, marked_before, same_graph, still_well, can_still_undo, well_then, can_undo_drop}
 use Rattle.pg_store.proofs.States.{Undoes}
 use Rattle.pg_store.specs.Journal.{State, IsWell, CanUndo, graph_in, undone}

@@ -7,7 +7,7 @@ use Rattle.std.specs.Ordering.{nat_cmp}
 use Rattle.pg_graph.proofs.NamedChanges.{label_texts_kept, property_entries_kept}
 use Rattle.pg_graph.proofs.Refined.{node_is_read, relationship_is_read}
 use Rattle.pg_graph.specs.Content.{Content}
-use Rattle.pg_graph.specs.Names.{KeepsNames}
+use Rattle.pg_names.specs.Names.{KeepsNames}
 use Rattle.pg_graph.specs.Records.{Properties}
 use Rattle.pg_graph.specs.Refinement.{AreNamed, graph_of, node_of, relationship_of, label_texts, property_entries}
 use Rattle.pg_graph.specs.declared.records.NodeRecord.{NodeRecord}

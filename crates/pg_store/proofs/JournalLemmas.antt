@@ -3,7 +3,7 @@ use Rattle.std.proofs.Common.{◌≡◌, ◌≤◌, ℕ, zero, suc, List, [], �
 use Rattle.std.proofs.lemmas.List.{drop-append-le}
 use Rattle.pg_graph.proofs.Held.{holds_with_more_names}
 use Rattle.pg_graph.proofs.Refined.{names_may_grow}
-use Rattle.pg_graph.specs.Names.{AreDistinct, KeepsNames}
+use Rattle.pg_names.specs.Names.{AreDistinct, KeepsNames}
 use Rattle.pg_meaning.specs.Graph.{element_count}
 use Rattle.pg_store.specs.Journal.{State, IsWell, CanUndoOne, CanUndo, live, graph_in, undo_one, undone}
 use Rattle.pg_store.specs.declared.journal.Entry.{Entry}

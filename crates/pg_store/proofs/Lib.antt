@@ -1,4 +1,5 @@
 pub mod JournalLemmas
+pub mod MergedLemmas
 pub mod States
 pub mod Stores
 pub mod ChangeLemmas

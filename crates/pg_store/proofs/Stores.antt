@@ -10,7 +10,7 @@ use Rattle.pg_graph.proofs.Held.{empty_holds, held_is_graph}
 use Rattle.pg_graph.proofs.Refined.{node_is_read, relationship_is_read}
 use Rattle.pg_graph.proofs.Removed.{without_none, has_none}
 use Rattle.pg_graph.specs.Content.{Content, Seen, empty_content}
-use Rattle.pg_graph.specs.Names.{AreDistinct}
+use Rattle.pg_names.specs.Names.{AreDistinct}
 use Rattle.pg_graph.specs.Refinement.{graph_of, node_of, relationship_of, Holds}
 use Rattle.pg_graph.specs.Removed.{Ids, has_id, live_content}
 use Rattle.pg_graph.specs.declared.records.NodeRecord.{NodeRecord}

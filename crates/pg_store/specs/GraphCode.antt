@@ -5,19 +5,19 @@ use Rattle.pg_graph.specs.ValueCode.{value_code}
 use Rattle.pg_meaning.specs.Graph.{Graph, Node, Relationship}
 use Rattle.pg_meaning.specs.Value.{Value, mapping, Entries, no_entries}
 
-abbrev entries_in : Value → Entries
+abbrev pub entries_in : Value → Entries
 entries_in (mapping es) = es
 entries_in v = no_entries
 
-abbrev entries_code : Coded Entries
+abbrev pub entries_code : Coded Entries
 entries_code = code_by Value value_code mapping entries_in (λ _. refl)
 
-abbrev node_code : Coded Node
+abbrev pub node_code : Coded Node
 node_code =
     code_by (List (List ℕ) × Entries) (coded× (coded_list (coded_list coded_ℕ)) entries_code)
     (λ n. (n.labels, n.properties)) (λ p. record { labels = p.0; properties = p.1 }) (λ _. refl)
 
-abbrev relationship_code : Coded Relationship
+abbrev pub relationship_code : Coded Relationship
 relationship_code =
     code_by (List ℕ × (ℕ × (ℕ × Entries))) (coded× (coded_list coded_ℕ) (coded× coded_ℕ (coded× coded_ℕ entries_code)))
     (λ r. (r.type, (r.source, (r.target, r.properties)))) (λ p. record { type = p.0; source = p.1.0; target = p.1.1.0; properties = p.1.1.1 }) (λ _. refl)

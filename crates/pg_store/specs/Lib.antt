@@ -1,4 +1,6 @@
 pub mod Changes
 pub mod GraphCode
 pub mod Journal
+pub mod Merged
 pub mod Stores
+pub mod Views

@@ -2,29 +2,81 @@
 ghost use Rattle.std.specs.Prelude.{◌≡◌, ◌∷◌, [], IfSome, IfNone};
 ghost use Rattle.pg_graph.specs.Links.{numbers};
 ghost use Rattle.pg_graph.specs.Removed.{live_ids};
-ghost use Rattle.pg_meaning.specs.Graph.{incident, incoming, outgoing};
+ghost use Rattle.pg_meaning.specs.Graph.{both, incident, incoming, outgoing};
 ghost use Rattle.pg_store.specs.Stores.{graph_of_store, IsFit};
 
 use crate::store::Store;
 use pg_graph::{ById, Tables};
 use pg_value_core::{NodeId, RelId};
+use std::cmp::Ordering;
 use std::marker::Model;
+
+// Ids from two rising lists, seen as what is still to come of both.
+#[derive(Drop)]
+struct Merged<'a> {
+    outgoing: &'a [RelId],
+    incoming: &'a [RelId],
+}
+
+impl<'a> Model for Merged<'a> {
+    ghost use Rattle.std.specs.Prelude.{ℕ, List};
+    ghost use Rattle.pg_graph.specs.Links.{numbers};
+    ghost use Rattle.pg_store.specs.Merged.{merged};
+
+    ghost Value = { List ℕ };
+
+    ghost view = { λ m. merged (numbers m.outgoing.now) (numbers m.incoming.now) };
+}
+
+impl<'a> Merged<'a> {
+    // The next id, if there is one more.
+    fn next(&mut self) -> Option<RelId>
+        ensures some { IfSome result (λ id. self.old ≡ id.0 ∷ self.new) }
+        ensures none { IfNone result (self.old ≡ []) }
+    {
+        match (self.outgoing.split_first(), self.incoming.split_first()) {
+            (Some((out, others)), Some((into, rest))) => match out.0.cmp(&into.0) {
+                Ordering::Less => {
+                    self.outgoing = others;
+                    Some(*out)
+                }
+                Ordering::Equal => {
+                    self.outgoing = others;
+                    self.incoming = rest;
+                    Some(*out)
+                }
+                Ordering::Greater => {
+                    self.incoming = rest;
+                    Some(*into)
+                }
+            },
+            (Some((out, others)), None) => {
+                self.outgoing = others;
+                Some(*out)
+            }
+            (None, Some((into, rest))) => {
+                self.incoming = rest;
+                Some(*into)
+            }
+            (None, None) => None,
+        }
+    }
+}
 
 /// Ids of relationships, seen as the list of those that are still to come.
 #[derive(Drop)]
 pub struct Incident<'a> {
-    ids: &'a [RelId],
+    ids: Merged<'a>,
     gone: &'a ById<()>,
 }
 
 impl<'a> Model for Incident<'a> {
     ghost use Rattle.std.specs.Prelude.{ℕ, List};
-    ghost use Rattle.pg_graph.specs.Links.{numbers};
     ghost use Rattle.pg_graph.specs.Removed.{live_ids};
 
     ghost Value = { List ℕ };
 
-    ghost view = { λ i. live_ids i.gone.now (numbers i.ids.now) };
+    ghost view = { λ i. live_ids i.gone.now i.ids };
 }
 
 impl<'a> Incident<'a> {
@@ -33,10 +85,9 @@ impl<'a> Incident<'a> {
         ensures some { IfSome result (λ id. self.old ≡ id.0 ∷ self.new) }
         ensures none { IfNone result (self.old ≡ []) }
     {
-        while let Some((id, rest)) = self.ids.split_first() {
-            self.ids = rest;
+        while let Some(id) = self.ids.next() {
             if self.gone.get(id.0).is_none() {
-                return Some(*id);
+                return Some(id);
             }
         }
         None
@@ -50,7 +101,10 @@ impl<T: Tables> Store<T> {
         ensures { result ≡ incident outgoing node.0 (graph_of_store T.seen self.now shared.now) }
     {
         Incident {
-            ids: self.tables.outgoing(shared, node),
+            ids: Merged {
+                outgoing: self.tables.outgoing(shared, node),
+                incoming: &[],
+            },
             gone: &self.gone_rels,
         }
     }
@@ -61,7 +115,24 @@ impl<T: Tables> Store<T> {
         ensures { result ≡ incident incoming node.0 (graph_of_store T.seen self.now shared.now) }
     {
         Incident {
-            ids: self.tables.incoming(shared, node),
+            ids: Merged {
+                outgoing: &[],
+                incoming: self.tables.incoming(shared, node),
+            },
+            gone: &self.gone_rels,
+        }
+    }
+
+    /// The relationships at a node, rising, each once.
+    pub(crate) fn incident<'a>(&'a self, shared: &'a T::Shared, node: NodeId) -> Incident<'a>
+        requires fit { IsFit T.seen self.now shared.now }
+        ensures { result ≡ incident both node.0 (graph_of_store T.seen self.now shared.now) }
+    {
+        Incident {
+            ids: Merged {
+                outgoing: self.tables.outgoing(shared, node),
+                incoming: self.tables.incoming(shared, node),
+            },
             gone: &self.gone_rels,
         }
     }

@@ -1,14 +1,15 @@
 //! Labels and properties made of texts, whose names a table then has.
 ghost use Rattle.std.specs.Prelude.{◌≡◌, IfOk};
 ghost use Rattle.std.specs.FinMap as map;
-ghost use Rattle.pg_graph.specs.Names.{AreDistinct, KeepsNames};
+ghost use Rattle.pg_names.specs.Names.{AreDistinct, KeepsNames};
 ghost use Rattle.pg_graph.specs.Refinement.{AreNamed, label_texts, property_entries};
 ghost use Rattle.pg_meaning.specs.Entries.{set_keys};
 ghost use Rattle.pg_meaning.specs.Names.{in_byte_order, put_texts};
 ghost use Rattle.pg_meaning.specs.Value.{no_entries};
 ghost use Rattle.pg_store.specs.Stores.{texts_of, pairs_of, without_texts};
 
-use pg_graph::{Labels, Names, Properties};
+use pg_graph::{Labels, Properties};
+use pg_names::Names;
 use pg_value_core::Value;
 use std::alloc::{AllocError, Global};
 

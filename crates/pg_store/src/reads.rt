@@ -1,17 +1,17 @@
 //! What is read of a tenant's graph.
 ghost use Rattle.std.specs.Prelude.{◌≡◌, map as map_list, false, IfOk, option_copied};
 ghost use Rattle.std.specs.FinMap as map;
-ghost use Rattle.std.specs.Option.{option_map, option_map_or};
+ghost use Rattle.std.specs.Option.{option_map_or};
 ghost use Rattle.pg_graph.specs.Content.{ids_where};
-ghost use Rattle.pg_graph.specs.Stored.{has_label, has_number, property_at};
+ghost use Rattle.pg_graph.specs.Stored.{has_number};
 ghost use Rattle.pg_meaning.specs.Graph.{has_node, has_relationship, ids_of, nodes_with_label};
 ghost use Rattle.pg_store.specs.Journal.{live};
 ghost use Rattle.pg_store.specs.Stores.{graph_of_store, state_of, IsFit};
-ghost use Rattle.pg_value_core.specs.View.{view};
 
 use crate::store::Store;
-use pg_graph::{NameId, NodeRecord, RelRecord, Tables};
-use pg_value_core::{NodeId, RelId, Value};
+use pg_graph::{NodeRecord, RelRecord, Tables};
+use pg_names::NameId;
+use pg_value_core::{NodeId, RelId};
 use std::alloc::{AllocError, Global};
 
 impl<T: Tables> Store<T> {
@@ -51,30 +51,12 @@ impl<T: Tables> Store<T> {
         self.rel(shared, id).is_some()
     }
 
-    /// What a node has under a key, if there is such a node.
-    pub(crate) fn property<'a>(&'a self, shared: &'a T::Shared, id: NodeId, key: &str) -> Option<&'a Value>
-        requires fit { IsFit T.seen self.now shared.now }
-        ensures { option_map (λ v. view v.now) result ≡ property_at (graph_of_store T.seen self.now shared.now) id.0 key.now }
-    {
-        match self.node(shared, id) {
-            Some(node) => node.properties.get_text(&self.names, key),
-            None => None,
-        }
-    }
-
-    /// Whether there is a node of this id with the label.
-    pub(crate) fn has_label(&self, shared: &T::Shared, id: NodeId, label: &str) -> bool
-        requires fit { IsFit T.seen self.now shared.now }
-        ensures { result ≡ has_label (graph_of_store T.seen self.now shared.now) id.0 label.now }
-    {
-        match self.node(shared, id) {
-            Some(node) => node.labels.contains_text(&self.names, label),
-            None => false,
-        }
-    }
-
     /// The ids of all nodes, rising.
-    pub(crate) fn node_ids(&self, alloc: Global, shared: &T::Shared) -> Result<Vec<NodeId>, AllocError>
+    pub(crate) fn node_ids(
+        &self,
+        alloc: Global,
+        shared: &T::Shared,
+    ) -> Result<Vec<NodeId>, AllocError>
         requires fit { IsFit T.seen self.now shared.now }
         ensures { IfOk result (λ ids. map_list (λ id. id.0) ids.items ≡ ids_of (graph_of_store T.seen self.now shared.now).nodes) }
     {
@@ -117,7 +99,7 @@ impl<T: Tables> Store<T> {
     }
 }
 
-fn is_wanted(node: Option<&NodeRecord>, label: &Option<NameId>) -> bool
+pub(crate) fn is_wanted(node: Option<&NodeRecord>, label: &Option<NameId>) -> bool
     ensures { result ≡ option_map_or (has_number label.now) (option_copied node.entry) false }
 {
     match (node, label) {

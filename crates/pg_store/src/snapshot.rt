@@ -2,13 +2,16 @@
 ghost use Rattle.std.specs.Option.{option_map};
 ghost use Rattle.std.specs.Prelude.{◌≡◌, ◌<◌, ◌^◌, true, map as map_list, IfOk};
 ghost use Rattle.pg_graph.specs.Stored.{has_label, property_at};
-ghost use Rattle.pg_meaning.specs.Graph.{element_count, has_node, has_relationship, ids_of, incident, incoming, node_at, nodes_with_label, outgoing, relationship_at};
+ghost use Rattle.pg_meaning.specs.Graph.{both, element_count, has_node, has_relationship, ids_of, incident, incoming, node_at, nodes_with_label, outgoing, relationship_at};
 ghost use Rattle.pg_store.specs.Stores.{graph_of_store, IsFit, node_texts_view, rel_texts_view};
+ghost use Rattle.pg_store.specs.Views.{rel_property_at};
 ghost use Rattle.pg_value_core.specs.View.{view};
 
 use crate::incident::Incident;
+use crate::nodes::Nodes;
 use crate::store::Store;
 use crate::texts::{NodeTexts, RelTexts};
+use crate::views::{NodeView, RelView};
 use pg_graph::{NextIds, Tables};
 use pg_value_core::{NodeId, RelId, Value};
 use std::alloc::{AllocError, Global};
@@ -77,32 +80,62 @@ impl<'a, T: Tables> Snapshot<'a, T> {
         self.store.has_rel(self.shared, id)
     }
 
+    /// A node, if it is there.
+    pub fn node(&self, id: NodeId) -> Option<NodeView<'a>>
+        ensures { result ≡ node_at self.now id.0 }
+    {
+        self.store.node_view(self.shared, id)
+    }
+
+    /// A relationship, if it is there.
+    pub fn rel(&self, id: RelId) -> Option<RelView<'a>>
+        ensures { result ≡ relationship_at self.now id.0 }
+    {
+        self.store.rel_view(self.shared, id)
+    }
+
     /// Whether there is a node of this id with the label.
     pub fn has_label(&self, id: NodeId, label: &str) -> bool
         ensures { result ≡ has_label self.now id.0 label.now }
     {
-        self.store.has_label(self.shared, id, label)
+        match self.node(id) {
+            Some(node) => node.has_label(label),
+            None => false,
+        }
     }
 
     /// What a node has under a key, if there is such a node.
     pub fn property(&self, id: NodeId, key: &str) -> Option<&'a Value>
         ensures { option_map (λ v. view v.now) result ≡ property_at self.now id.0 key.now }
     {
-        self.store.property(self.shared, id, key)
+        self.node(id)?.property(key)
+    }
+
+    /// What a relationship has under a key, if there is such a relationship.
+    pub fn rel_property(&self, id: RelId, key: &str) -> Option<&'a Value>
+        ensures { option_map (λ v. view v.now) result ≡ rel_property_at self.now id.0 key.now }
+    {
+        self.rel(id)?.property(key)
     }
 
     /// What a node holds, if there is such a node.
     pub fn node_texts(&self, alloc: Global, id: NodeId) -> Result<Option<NodeTexts>, AllocError>
         ensures { IfOk result (λ found. option_map node_texts_view found ≡ node_at self.now id.0) }
     {
-        self.store.node_texts(alloc, self.shared, id)
+        match self.node(id) {
+            Some(node) => Ok(Some(node.texts(alloc)?)),
+            None => Ok(None),
+        }
     }
 
     /// What a relationship holds, if there is such a relationship.
     pub fn rel_texts(&self, alloc: Global, id: RelId) -> Result<Option<RelTexts>, AllocError>
         ensures { IfOk result (λ found. option_map rel_texts_view found ≡ relationship_at self.now id.0) }
     {
-        self.store.rel_texts(alloc, self.shared, id)
+        match self.rel(id) {
+            Some(rel) => Ok(Some(rel.texts(alloc)?)),
+            None => Ok(None),
+        }
     }
 
     /// The ids of all nodes, rising.
@@ -119,6 +152,20 @@ impl<'a, T: Tables> Snapshot<'a, T> {
         self.store.nodes_with_label(alloc, self.shared, label)
     }
 
+    /// The nodes, ids rising.
+    pub fn nodes(&self) -> Nodes<'a, T>
+        ensures { result ≡ ids_of self.now.nodes }
+    {
+        self.store.nodes(self.shared)
+    }
+
+    /// The nodes with a label, ids rising.
+    pub fn nodes_labelled(&self, label: &str) -> Nodes<'a, T>
+        ensures { result ≡ nodes_with_label self.now label.now }
+    {
+        self.store.nodes_labelled(self.shared, label)
+    }
+
     /// The relationships from a node, rising.
     pub fn outgoing(&self, node: NodeId) -> Incident<'a>
         ensures { result ≡ incident outgoing node.0 self.now }
@@ -131,5 +178,12 @@ impl<'a, T: Tables> Snapshot<'a, T> {
         ensures { result ≡ incident incoming node.0 self.now }
     {
         self.store.incoming(self.shared, node)
+    }
+
+    /// The relationships at a node, whichever way they go, rising, a self-loop once.
+    pub fn incident(&self, node: NodeId) -> Incident<'a>
+        ensures { result ≡ incident both node.0 self.now }
+    {
+        self.store.incident(self.shared, node)
     }
 }

@@ -4,8 +4,10 @@ ghost use Rattle.pg_meaning.specs.Graph.{IsGraph, empty_graph, element_count};
 ghost use Rattle.pg_store.specs.Stores.{graph_of_store, IsFit};
 
 use crate::journal::Entry;
-use pg_graph::{ById, Names, NextIds, Tables};
+use pg_graph::{ById, NextIds, Tables};
+use pg_names::Names;
 use std::alloc::Global;
+use std::hash::BuildHasherDefault;
 
 /// One tenant's graph over its tables: its names, the ids that come next, how many elements there
 /// are, and what was done since it was last committed. Each call is lent the same shared part.
@@ -28,7 +30,7 @@ impl<T: Tables> Store<T> {
         ensures empty { (shared : T.Shared) → T.seen.is_unused owner shared → graph_of_store T.seen result shared ≡ empty_graph }
     {
         Store {
-            names: Names::new(alloc),
+            names: Names::new(alloc, BuildHasherDefault::new()),
             tables: T::new(alloc, owner),
             next: NextIds { node: 0, rel: 0 },
             elements: 0,

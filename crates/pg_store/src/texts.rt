@@ -1,14 +1,12 @@
 //! What a node and a relationship hold, in texts.
 ghost use Rattle.std.specs.Prelude.{◌≡◌, ◌<◌, IfOk, length, map as map_list, string_bytes};
 ghost use Rattle.std.specs.FinMap as map;
-ghost use Rattle.std.specs.Option.{option_map};
 ghost use Rattle.pg_graph.specs.Refinement.{AreNamed, label_texts, node_of, relationship_of};
-ghost use Rattle.pg_meaning.specs.Graph.{node_at, relationship_at};
-ghost use Rattle.pg_store.specs.Stores.{graph_of_store, IsFit, node_texts_view, rel_texts_view};
+ghost use Rattle.pg_store.specs.Stores.{node_texts_view, rel_texts_view};
 
-use crate::store::Store;
-use pg_graph::{Labels, Names, NodeRecord, RelRecord, Tables};
-use pg_value_core::{NodeId, RelId, Value};
+use pg_graph::{Labels, NodeRecord, RelRecord};
+use pg_names::Names;
+use pg_value_core::{NodeId, Value};
 use std::alloc::{AllocError, Global};
 use std::collections::BTreeMap;
 
@@ -28,41 +26,11 @@ pub struct RelTexts {
     pub properties: BTreeMap<String, Value>,
 }
 
-impl<T: Tables> Store<T> {
-    /// What a node holds, if there is such a node.
-    pub(crate) fn node_texts(
-        &self,
-        alloc: Global,
-        shared: &T::Shared,
-        id: NodeId,
-    ) -> Result<Option<NodeTexts>, AllocError>
-        requires fit { IsFit T.seen self.now shared.now }
-        ensures { IfOk result (λ found. option_map node_texts_view found ≡ node_at (graph_of_store T.seen self.now shared.now) id.0) }
-    {
-        match self.node(shared, id) {
-            Some(node) => Ok(Some(texts_of_node(alloc, &self.names, node)?)),
-            None => Ok(None),
-        }
-    }
-
-    /// What a relationship holds, if there is such a relationship.
-    pub(crate) fn rel_texts(
-        &self,
-        alloc: Global,
-        shared: &T::Shared,
-        id: RelId,
-    ) -> Result<Option<RelTexts>, AllocError>
-        requires fit { IsFit T.seen self.now shared.now }
-        ensures { IfOk result (λ found. option_map rel_texts_view found ≡ relationship_at (graph_of_store T.seen self.now shared.now) id.0) }
-    {
-        match self.rel(shared, id) {
-            Some(rel) => Ok(Some(texts_of_rel(alloc, &self.names, rel)?)),
-            None => Ok(None),
-        }
-    }
-}
-
-fn texts_of_node(alloc: Global, names: &Names, node: &NodeRecord) -> Result<NodeTexts, AllocError>
+pub(crate) fn texts_of_node(
+    alloc: Global,
+    names: &Names,
+    node: &NodeRecord,
+) -> Result<NodeTexts, AllocError>
     requires labels { AreNamed names.now node.now.labels }
     requires keys { AreNamed names.now (map.keys node.now.properties) }
     ensures { IfOk result (λ texts. node_texts_view texts ≡ node_of names.now node.now) }
@@ -72,7 +40,11 @@ fn texts_of_node(alloc: Global, names: &Names, node: &NodeRecord) -> Result<Node
     Ok(NodeTexts { labels, properties })
 }
 
-fn texts_of_rel(alloc: Global, names: &Names, rel: &RelRecord) -> Result<RelTexts, AllocError>
+pub(crate) fn texts_of_rel(
+    alloc: Global,
+    names: &Names,
+    rel: &RelRecord,
+) -> Result<RelTexts, AllocError>
     requires kind { rel.now.kind < length names.now }
     requires keys { AreNamed names.now (map.keys rel.now.properties) }
     ensures { IfOk result (λ texts. rel_texts_view texts ≡ relationship_of names.now rel.now) }

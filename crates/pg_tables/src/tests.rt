@@ -1,8 +1,10 @@
 mod stores;
 
 use super::*;
-use pg_graph::{Labels, NameId, Names};
+use pg_graph::Labels;
+use pg_names::{NameId, Names};
 use pg_value_core::Value;
+use std::hash::BuildHasherDefault;
 use std::process::Abort;
 use std::test::Fail;
 
@@ -230,7 +232,7 @@ fn each_call<T: Tables>(rt: &impl Abort, alloc: Global) -> Result<(), AllocError
 where
     T::Shared: Drop,
 {
-    let mut names = Names::new(alloc);
+    let mut names = Names::new(alloc, BuildHasherDefault::new());
     let label = names.intern("P")?;
     let key = names.intern("x")?;
     let mut shared = T::new_shared(alloc);

@@ -1,5 +1,5 @@
 use Rattle.std.proofs.Common.{◌≡◌, drop}
-use Rattle.pg_graph.specs.Names.{AreDistinct, KeepsNames}
+use Rattle.pg_names.specs.Names.{AreDistinct, KeepsNames}
 use Rattle.pg_graph.specs.Refinement.{AreNamed, label_texts}
 use Rattle.pg_meaning.specs.Names.{put_texts, in_byte_order}
 use Rattle.pg_store.proofs.names.labels_of.Given as goal

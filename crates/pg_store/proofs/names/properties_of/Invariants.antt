@@ -1,7 +1,7 @@
 use Rattle.std.proofs.Common.{◌≡◌}
 use Rattle.std.specs.FinMap as map
 use Rattle.std.specs.Vec.Iter.{into_iter_items}
-use Rattle.pg_graph.specs.Names.{AreDistinct, KeepsNames}
+use Rattle.pg_names.specs.Names.{AreDistinct, KeepsNames}
 use Rattle.pg_graph.specs.Refinement.{AreNamed, property_entries}
 use Rattle.pg_meaning.specs.Entries.{set_keys}
 use Rattle.pg_meaning.specs.Value.{no_entries}

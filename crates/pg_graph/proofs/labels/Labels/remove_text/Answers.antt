@@ -1,5 +1,5 @@
 use Rattle.std.proofs.Common.{sym, ap, subst, ◌∙◌}
-use Rattle.pg_graph.proofs.Interned.{found_text}
+use Rattle.pg_names.proofs.Interned.{found_text}
 use Rattle.pg_graph.proofs.LabelsRemoved.{label_removed, label_removed_named, no_label_removed}
 use Rattle.pg_graph.proofs.labels.Labels.remove_text.Goals as goal
 use Rattle.pg_graph.specs.Refinement.{AreNamed, label_texts}

@@ -1,7 +1,9 @@
 use Rattle.std.proofs.Common.{◌==◌, sym, ap, ◌∙◌}
 use Rattle.pg_graph.proofs.Refined.{outgoing_are_read}
 use Rattle.pg_graph.proofs.Removed.{ids_live}
+use Rattle.pg_graph.specs.Links.{numbers}
 use Rattle.pg_graph.specs.Removed.{live_ids}
+use Rattle.pg_store.proofs.MergedLemmas.{merged_none}
 use Rattle.pg_store.proofs.store.Store.outgoing.Goals as goal
 use Rattle.pg_store.specs.Journal.{live}
 use Rattle.pg_store.specs.Stores.{state_of}
@@ -10,6 +12,6 @@ pub returns : goal.returns
 returns g c =
     let store = c.args.self.now in
     let content = g.T.Tables.seen.content store.tables c.args.shared.now in
-    ap (live_ids store.gone_rels) c.outgoing.ensures
+    ap (live_ids store.gone_rels) (merged_none (numbers c.outgoing.result.now) ∙ c.outgoing.ensures)
     ∙ sym (outgoing_are_read store.names (live (state_of g.T.Tables.seen store c.args.shared.now)) store.next.node store.next.rel c.args.node.0
     ∙ ids_live (λ r. r.source.0 == c.args.node.0) content.rels store.gone_rels)

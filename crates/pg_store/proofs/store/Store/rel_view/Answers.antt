@@ -1,0 +1,24 @@
+use Rattle.std.proofs.Common.{sym, ap, ◌∙◌}
+use Rattle.std.specs.Option.{option_map}
+use Rattle.pg_graph.proofs.Refined.{relationship_is_read}
+use Rattle.pg_graph.specs.Refinement.{relationship_of}
+use Rattle.pg_store.proofs.store.Store.rel_view.Goals as goal
+use Rattle.pg_store.specs.Journal.{live}
+use Rattle.pg_store.specs.Stores.{state_of}
+
+pub invariant_of-result : goal.invariant_of-result
+invariant_of-result g c =
+    let rel = c.requires.fit.well.holds.rels c.args.id.0 c.in-Some.record.now (sym c.in-Some.ensures) in
+    record { kind = rel.kind; keys = rel.keys }
+
+pub returns-in-Some : goal.returns-in-Some
+returns-in-Some g c =
+    let store = c.args.self.now in
+    let content = live (state_of g.T.Tables.seen store c.args.shared.now) in
+    sym (relationship_is_read store.names content store.next.node store.next.rel c.args.id.0 ∙ ap (option_map (relationship_of store.names)) (sym c.in-Some.ensures))
+
+pub returns-in-None : goal.returns-in-None
+returns-in-None g c =
+    let store = c.args.self.now in
+    let content = live (state_of g.T.Tables.seen store c.args.shared.now) in
+    sym (relationship_is_read store.names content store.next.node store.next.rel c.args.id.0 ∙ ap (option_map (relationship_of store.names)) (sym c.in-None.ensures))

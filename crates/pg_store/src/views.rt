@@ -1,0 +1,160 @@
+//! One node and one relationship, lent to read.
+ghost use Rattle.std.specs.Prelude.{◌≡◌, map as map_list, bytes_eq, IfOk};
+ghost use Rattle.std.specs.Option.{option_map};
+ghost use Rattle.pg_meaning.specs.Entries.{at_key};
+ghost use Rattle.pg_meaning.specs.Graph.{node_at, relationship_at};
+ghost use Rattle.pg_meaning.specs.Names.{is_among};
+ghost use Rattle.pg_store.specs.Stores.{graph_of_store, IsFit, node_texts_view, rel_texts_view};
+ghost use Rattle.pg_value_core.specs.View.{view};
+
+use crate::store::Store;
+use crate::texts::{NodeTexts, RelTexts, texts_of_node, texts_of_rel};
+use pg_graph::{NodeRecord, RelRecord, Tables};
+use pg_names::Names;
+use pg_value_core::{NodeId, RelId, Value};
+use std::alloc::{AllocError, Global};
+use std::marker::Model;
+
+/// A node, to read.
+#[derive(Drop)]
+pub struct NodeView<'a> {
+    names: &'a Names,
+    record: &'a NodeRecord,
+}
+
+impl<'a> Model for NodeView<'a> {
+    ghost use Rattle.pg_graph.specs.Refinement.{node_of};
+    ghost use Rattle.pg_meaning.specs.Graph.{Node};
+    ghost use Rattle.pg_store.specs.GraphCode.{node_code};
+    ghost use Rattle.pg_store.specs.Views.{IsNamedNode};
+
+    ghost Value = { Node };
+
+    ghost coded = { node_code };
+
+    ghost view = { λ n. node_of n.names.now n.record.now };
+
+    ghost invariant = { λ n. IsNamedNode n.names.now n.record.now };
+}
+
+impl<'a> NodeView<'a> {
+    pub fn has_label(&self, label: &str) -> bool
+        ensures { result ≡ is_among self.now.labels label.now }
+    {
+        self.record.labels.contains_text(self.names, label)
+    }
+
+    /// What the node has under a key.
+    pub fn property(&self, key: &str) -> Option<&'a Value>
+        ensures { option_map (λ v. view v.now) result ≡ at_key key.now self.now.properties }
+    {
+        self.record.properties.get_text(self.names, key)
+    }
+
+    /// The labels, in byte order.
+    pub fn labels(&self, alloc: Global) -> Result<Vec<&'a str>, AllocError>
+        ensures { IfOk result (λ texts. map_list (λ t. t.now) texts.items ≡ self.now.labels) }
+    {
+        self.record.labels.texts(alloc, self.names)
+    }
+
+    /// What the node holds, in memory of its own.
+    pub fn texts(&self, alloc: Global) -> Result<NodeTexts, AllocError>
+        ensures { IfOk result (λ texts. node_texts_view texts ≡ self.now) }
+    {
+        texts_of_node(alloc, self.names, self.record)
+    }
+}
+
+/// A relationship, to read.
+#[derive(Drop)]
+pub struct RelView<'a> {
+    names: &'a Names,
+    record: &'a RelRecord,
+}
+
+impl<'a> Model for RelView<'a> {
+    ghost use Rattle.pg_graph.specs.Refinement.{relationship_of};
+    ghost use Rattle.pg_meaning.specs.Graph.{Relationship};
+    ghost use Rattle.pg_store.specs.GraphCode.{relationship_code};
+    ghost use Rattle.pg_store.specs.Views.{IsNamedRel};
+
+    ghost Value = { Relationship };
+
+    ghost coded = { relationship_code };
+
+    ghost view = { λ r. relationship_of r.names.now r.record.now };
+
+    ghost invariant = { λ r. IsNamedRel r.names.now r.record.now };
+}
+
+impl<'a> RelView<'a> {
+    /// The text of the type.
+    pub fn kind(&self) -> &'a str
+        ensures { result.now ≡ self.now.type }
+    {
+        self.names.text(self.record.kind)
+    }
+
+    pub fn has_type(&self, kind: &str) -> bool
+        ensures { result ≡ bytes_eq self.now.type kind.now }
+    {
+        self.kind() == kind
+    }
+
+    pub fn source(&self) -> NodeId
+        ensures { result.0 ≡ self.now.source }
+    {
+        self.record.source
+    }
+
+    pub fn target(&self) -> NodeId
+        ensures { result.0 ≡ self.now.target }
+    {
+        self.record.target
+    }
+
+    /// What the relationship has under a key.
+    pub fn property(&self, key: &str) -> Option<&'a Value>
+        ensures { option_map (λ v. view v.now) result ≡ at_key key.now self.now.properties }
+    {
+        self.record.properties.get_text(self.names, key)
+    }
+
+    /// What the relationship holds, in memory of its own.
+    pub fn texts(&self, alloc: Global) -> Result<RelTexts, AllocError>
+        ensures { IfOk result (λ texts. rel_texts_view texts ≡ self.now) }
+    {
+        texts_of_rel(alloc, self.names, self.record)
+    }
+}
+
+impl<T: Tables> Store<T> {
+    /// A node, if it is there.
+    pub(crate) fn node_view<'a>(&'a self, shared: &'a T::Shared, id: NodeId) -> Option<NodeView<'a>>
+        requires fit { IsFit T.seen self.now shared.now }
+        ensures { result ≡ node_at (graph_of_store T.seen self.now shared.now) id.0 }
+    {
+        match self.node(shared, id) {
+            Some(record) => Some(NodeView {
+                names: &self.names,
+                record,
+            }),
+            None => None,
+        }
+    }
+
+    /// A relationship, if it is there.
+    pub(crate) fn rel_view<'a>(&'a self, shared: &'a T::Shared, id: RelId) -> Option<RelView<'a>>
+        requires fit { IsFit T.seen self.now shared.now }
+        ensures { result ≡ relationship_at (graph_of_store T.seen self.now shared.now) id.0 }
+    {
+        match self.rel(shared, id) {
+            Some(record) => Some(RelView {
+                names: &self.names,
+                record,
+            }),
+            None => None,
+        }
+    }
+}

@@ -55,7 +55,10 @@ fn the_deepest_texts_are_read(rt: HostRuntime) -> Result<(), Fail> {
     ];
     for (open, middle, close, count) in rows {
         let text = nested(rt.alloc(), open, middle, close, count)?;
-        assert!(rt; read(rt.alloc(), text.as_str()).is_ok(), "{open}{middle}{close} {count}");
+        assert!(rt;
+            read(rt.alloc(), text.as_str()).is_ok(),
+            "{open}{middle}{close} {count}"
+        );
     }
     Ok(())
 }
@@ -74,7 +77,10 @@ fn deeper_texts_are_refused(rt: HostRuntime) -> Result<(), Fail> {
     ];
     for (open, middle, close, count) in rows {
         let text = nested(rt.alloc(), open, middle, close, count)?;
-        assert!(rt; read(rt.alloc(), text.as_str()) == Err(Fault::TooDeep), "{open}{middle}{close} {count}");
+        assert!(rt;
+            read(rt.alloc(), text.as_str()) == Err(Fault::TooDeep),
+            "{open}{middle}{close} {count}"
+        );
     }
     Ok(())
 }

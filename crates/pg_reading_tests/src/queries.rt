@@ -1,8 +1,8 @@
 //! Texts and the queries that they have.
 
-use pg_syntax::parse;
 use pg_lex::tokens;
 use pg_meaning::Fault;
+use pg_syntax::parse;
 use pg_syntax_tree::Query;
 use std::alloc::Global;
 use std::test::Fail;

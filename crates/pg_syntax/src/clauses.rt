@@ -14,9 +14,9 @@ ghost use Rattle.pg_syntax_tree.specs.View.{name_view, expression_view, set_item
 
 use crate::patterns::{Paths, path};
 use pg_meaning::{Keyword, Symbol};
-use pg_syntax_tree::{Clause, Expression, Name, On, RemoveItem, SetItem};
 use pg_syntax_expressions::{Whole, expression};
 use pg_syntax_tokens::{ParseError, Row, Rule, Tokens, labels, pieces, separated};
+use pg_syntax_tree::{Clause, Expression, Name, On, RemoveItem, SetItem};
 use std::alloc::Global;
 
 /// The keyword and its expression, if it stands next.

@@ -13,11 +13,13 @@ ghost use Rattle.pg_syntax.specs.ShrinksPatterns.{other_type_eats, hop_eats, pat
 ghost use Rattle.pg_syntax_tree.specs.View.{name_view, properties_view, node_view, type_view, range_view, detail_view, relationship_view, hop_view, path_view};
 
 use pg_meaning::Symbol;
+use pg_syntax_expressions::{Whole, map_pairs};
+use pg_syntax_tokens::{
+    ParseError, Row, Rule, Tokens, labels_if_any, many, pieces, start_of, variable,
+};
 use pg_syntax_tree::{
     Detail, Name, NodePattern, PathPattern, Properties, Range, RelationshipPattern, TypeName,
 };
-use pg_syntax_expressions::{Whole, map_pairs};
-use pg_syntax_tokens::{ParseError, Row, Rule, Tokens, labels_if_any, many, pieces, start_of, variable};
 use std::alloc::Global;
 
 #[tactic(auto, unfolding(pg_meaning::specs::Parse::properties))]

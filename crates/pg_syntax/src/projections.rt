@@ -14,9 +14,9 @@ ghost use Rattle.pg_syntax_tree.specs.View.{name_view, expression_view, item_vie
 use crate::clauses::expression_behind;
 use pg_lex::{Lexeme, Token};
 use pg_meaning::{Keyword, Sort, Symbol};
-use pg_syntax_tree::{Clause, Expression, Item, Name, Projection, SortItem};
 use pg_syntax_expressions::expression;
 use pg_syntax_tokens::{ParseError, Rule, Tokens, further, separated, start_of};
+use pg_syntax_tree::{Clause, Expression, Item, Name, Projection, SortItem};
 use std::alloc::Global;
 
 /// Where the last token ends that was taken between the two.

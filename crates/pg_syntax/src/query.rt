@@ -18,8 +18,8 @@ use crate::clauses::{ReadingClauses, UpdatingClauses};
 use crate::projections::{return_clause, with_clause};
 use pg_lex::Token;
 use pg_meaning::{Fault, Keyword, Symbol};
-use pg_syntax_tree::{Clause, Query};
 use pg_syntax_tokens::{ParseError, Tokens, is_too_deep, many};
+use pg_syntax_tree::{Clause, Query};
 use std::alloc::Global;
 
 /// The clauses up to WITH, behind those that were found, and whether some of them write.

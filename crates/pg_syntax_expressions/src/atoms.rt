@@ -14,8 +14,10 @@ ghost use Rattle.pg_syntax_tree.specs.View.{expression_view, literal_view, name_
 
 use pg_lex::Lexeme;
 use pg_meaning::{Keyword, Symbol};
+use pg_syntax_tokens::{
+    Each, Expressions, ParseError, Row, Rule, Tokens, labels_if_any, many, pieces, separated,
+};
 use pg_syntax_tree::{Expression, Literal, Name, Suffix};
-use pg_syntax_tokens::{Each, Expressions, ParseError, Row, Rule, Tokens, labels_if_any, many, pieces, separated};
 use std::alloc::{AllocError, Global};
 
 /// Expressions and the closing sign.

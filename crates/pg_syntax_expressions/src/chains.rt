@@ -13,8 +13,8 @@ ghost use Rattle.pg_syntax_tree.specs.View.{expression_view, operand_view};
 
 use pg_lex::Lexeme;
 use pg_meaning::{Keyword, Operator, Symbol};
-use pg_syntax_tree::Expression;
 use pg_syntax_tokens::{Expressions, ParseError, Row, Rule, Tokens, pieces};
+use pg_syntax_tree::Expression;
 use std::alloc::{AllocError, Global};
 
 fn level_of(operator: Operator) -> u8

@@ -15,8 +15,8 @@ ghost use Rattle.pg_syntax_tree.specs.View.{expression_view};
 use crate::atoms::post;
 use crate::chains::chain;
 use pg_meaning::{Keyword, Symbol, TextTest};
-use pg_syntax_tree::{Expression, Test};
 use pg_syntax_tokens::{Expressions, ParseError, Row, Rule, Tokens, pieces};
+use pg_syntax_tree::{Expression, Test};
 use std::alloc::{AllocError, Global};
 
 /// A sign, true for a minus.

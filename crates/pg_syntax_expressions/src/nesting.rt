@@ -9,8 +9,8 @@ ghost use Rattle.pg_syntax_expressions.specs.ShrinksExpressions.{expr_shrinks};
 ghost use Rattle.pg_syntax_tree.specs.View.{expression_view};
 
 use crate::levels::Disjunction;
-use pg_syntax_tree::Expression;
 use pg_syntax_tokens::{Expressions, ParseError, Rule, Tokens};
+use pg_syntax_tree::Expression;
 use std::alloc::Global;
 
 /// A function that reads expressions, at a depth.

@@ -1,15 +1,9 @@
 -- No parser of single tokens, and none of a row, takes a token back.
-use Rattle.std.proofs.Common.{◌≡◌, ℕ, zero, suc, ◌<◌, ◌≤◌, Bool, true, false, List, [], ◌∷◌, ◌++◌, length, Option, Some, None, sym, ap, inl, inr, arith}
+use Rattle.std.proofs.Common.{◌≡◌, ℕ, zero, suc, ◌<◌, Bool, true, false, List, [], ◌∷◌, ◌++◌, length, Option, Some, None, sym, ap, inl, inr, arith}
 use Rattle.pg_meaning.specs.declared.lexemes.Keyword.{Keyword}
 use Rattle.pg_meaning.specs.declared.lexemes.Symbol.{Symbol}
 use Rattle.pg_meaning.specs.declared.lexemes.Symbol.TheVariants as s
-use Rattle.pg_meaning.specs.declared.lexemes.Keyword.TheVariants as k
-use Rattle.pg_meaning.specs.declared.operators.TextTest.{TextTest}
-use Rattle.pg_meaning.specs.declared.operators.TextTest.TheVariants as test
 use Rattle.pg_meaning.specs.Tokens.{Token, Lexeme}
-use Rattle.pg_meaning.specs.Tokens as lexeme
-use Rattle.pg_meaning.specs.Tree.{Name, Expression, Pairs}
-use Rattle.pg_meaning.specs.Tree as tree
 use Rattle.pg_meaning.specs.Parse as parse
 use Rattle.pg_meaning.specs.Parse.{Parser, Outcome, Test, and_then, ◌>>=◌, ◌>>◌, ◌<$>◌, pure, refuse, branch, sees, rest, eat, expect, token, with_rest, many_from, many, maybe, comma_and, separated, sees_symbol}
 use Rattle.pg_grammar.proofs.Generic.{some, same_some, chosen, bind_some}

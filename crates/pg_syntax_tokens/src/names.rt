@@ -16,10 +16,7 @@ use pg_meaning::Symbol;
 use pg_syntax_tree::Name;
 use std::alloc::Global;
 
-pub fn variable(
-    alloc: Global,
-    tokens: &mut Tokens<'_, '_>,
-) -> Result<Option<Name>, ParseError>
+pub fn variable(alloc: Global, tokens: &mut Tokens<'_, '_>) -> Result<Option<Name>, ParseError>
     ensures { Gives (option_map name_view) (parse.maybe parse.begins_var parse.var (tokens_view tokens.old.rest.now)) result tokens.new.rest.now }
 {
     if !tokens.sees_var() {
@@ -74,10 +71,7 @@ pub fn labels(alloc: Global, tokens: &mut Tokens<'_, '_>) -> Result<Vec<Name>, P
     many(&label, tokens, found)
 }
 
-pub fn labels_if_any(
-    alloc: Global,
-    tokens: &mut Tokens<'_, '_>,
-) -> Result<Vec<Name>, ParseError>
+pub fn labels_if_any(alloc: Global, tokens: &mut Tokens<'_, '_>) -> Result<Vec<Name>, ParseError>
     ensures { Gives (λ v. names_view v.items) (parse.labels_if_any (tokens_view tokens.old.rest.now)) result tokens.new.rest.now }
 {
     if !tokens.sees(Symbol::Colon) {

@@ -50,7 +50,7 @@ fn the_deepest_texts_are_read(rt: HostRuntime) -> Result<(), Fail> {
         ("1 OR ", "1", "", 13105),
         ("1=-", "1", "", 21842),
         ("NOT 1 AND ", "1", "", 6552),
-        ("1", "", "[1]", 16382),
+        ("", "1", "[1]", 16382),
         ("[1],", "1", "", 16382),
     ];
     for (open, middle, close, count) in rows {

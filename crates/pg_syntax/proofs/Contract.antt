@@ -10,7 +10,7 @@ use Rattle.pg_meaning.specs.Tree as tree
 use Rattle.pg_meaning.specs.declared.fault.Fault.{Fault}
 use Rattle.pg_meaning.specs.declared.fault.Fault.TheVariants.{TooDeep, BadSyntax, OutOfMemory}
 use Rattle.pg_grammar.proofs.Joined.{reads_exactly, one_reading}
-use Rattle.pg_syntax.specs.Gives.{Answers}
+use Rattle.pg_syntax.specs.Answers.{Answers}
 use Rattle.pg_syntax_tree.specs.View.{query_view}
 use Rattle.pg_syntax_tree.specs.declared.clauses.Query.{Query}
 

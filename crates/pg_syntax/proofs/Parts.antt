@@ -10,8 +10,8 @@ use Rattle.pg_meaning.specs.Parse as parse
 use Rattle.pg_meaning.specs.Parse.{Parser, Outcome, Test, and_then, pure, refuse, many, many_from, sees_keyword, with_clause, return_clause, parts, begins_reading, reading, begins_updating, updating}
 use Rattle.pg_grammar.proofs.Generic.{some, pick}
 use Rattle.pg_syntax.specs.Pieces.{part, last}
-use Rattle.pg_syntax.specs.Shrinks.{Shrinks}
-use Rattle.pg_syntax.specs.ShrinksLaws.{bind_shrinks, eats_shrinks, pure_shrinks, many_shrinks}
+use Rattle.pg_syntax_tokens.specs.Shrinks.{Shrinks}
+use Rattle.pg_syntax_tokens.specs.ShrinksLaws.{bind_shrinks, eats_shrinks, pure_shrinks, many_shrinks}
 use Rattle.pg_syntax.specs.ShrinksClauses.{reading_eats, updating_eats, with_eats}
 
 -- ---- a row behind what was found

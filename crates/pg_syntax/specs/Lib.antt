@@ -1,9 +1,4 @@
-pub mod Gives
-pub mod Nests
-pub mod Parts
+pub mod Answers
 pub mod Pieces
-pub mod Shrinks
 pub mod ShrinksClauses
-pub mod ShrinksLaws
 pub mod ShrinksPatterns
-pub mod Turns

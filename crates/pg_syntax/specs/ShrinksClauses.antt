@@ -9,8 +9,8 @@ use Rattle.pg_meaning.specs.Tree as tree
 use Rattle.pg_meaning.specs.Parse as parse
 use Rattle.pg_meaning.specs.Parse.{Parser, pure, refuse, sees, sees_symbol, sees_keyword}
 use Rattle.pg_syntax.specs.Pieces.{set_target, remove_target, behind, item, items}
-use Rattle.pg_syntax.specs.Shrinks.{Shrinks, Eats}
-use Rattle.pg_syntax.specs.ShrinksLaws.{eats_shrinks, pure_shrinks, bind_shrinks, bind_eats, then_eats, branch_shrinks, branch_eats, mapped_shrinks, eat_keyword_shrinks, var_eats, name_eats, many_shrinks, maybe_shrinks, comma_eats, separated_shrinks, labels_shrinks, refuse_shrinks, left_shrinks, given_shrinks, token_eats, here_shrinks, eat_symbol_shrinks, after_symbol, after_keyword}
+use Rattle.pg_syntax_tokens.specs.Shrinks.{Shrinks, Eats}
+use Rattle.pg_syntax_tokens.specs.ShrinksLaws.{eats_shrinks, pure_shrinks, bind_shrinks, bind_eats, then_eats, branch_shrinks, branch_eats, mapped_shrinks, eat_keyword_shrinks, var_eats, name_eats, many_shrinks, maybe_shrinks, comma_eats, separated_shrinks, labels_shrinks, refuse_shrinks, left_shrinks, given_shrinks, token_eats, here_shrinks, eat_symbol_shrinks, after_symbol, after_keyword}
 use Rattle.pg_syntax.specs.ShrinksPatterns.{path_shrinks}
 
 behind_shrinks : {p : Parser Expression} (x : Keyword) → Shrinks p → Shrinks (behind x p)

@@ -6,8 +6,9 @@ use Rattle.pg_meaning.specs.Tree as tree
 use Rattle.pg_meaning.specs.Parse as parse
 use Rattle.pg_meaning.specs.Parse.{Parser, sees_symbol, pure, maybe}
 use Rattle.pg_syntax.specs.Pieces.{upper_end}
-use Rattle.pg_syntax.specs.Shrinks.{Shrinks, Eats}
-use Rattle.pg_syntax.specs.ShrinksLaws.{eats_shrinks, pure_shrinks, bind_shrinks, bind_eats, then_eats, branch_shrinks, mapped_shrinks, symbol_eats, eat_symbol_shrinks, var_eats, name_eats, parameter_eats, integer_eats, here_shrinks, many_shrinks, maybe_shrinks, labels_if_any_shrinks, map_pairs_shrinks, after_symbol}
+use Rattle.pg_syntax_tokens.specs.Shrinks.{Shrinks, Eats}
+use Rattle.pg_syntax_tokens.specs.ShrinksLaws.{eats_shrinks, pure_shrinks, bind_shrinks, bind_eats, then_eats, branch_shrinks, mapped_shrinks, symbol_eats, eat_symbol_shrinks, var_eats, name_eats, parameter_eats, integer_eats, here_shrinks, many_shrinks, maybe_shrinks, labels_if_any_shrinks, after_symbol}
+use Rattle.pg_syntax_expressions.specs.ShrinksExpressions.{map_pairs_shrinks}
 
 pub properties_shrinks : {p : Parser Expression} → Shrinks p → Shrinks (parse.properties p)
 unfolding parse.properties

@@ -5,19 +5,17 @@ ghost use Rattle.pg_lex.specs.View.{tokens_view};
 ghost use Rattle.pg_meaning.specs.Parse as parse;
 ghost use Rattle.pg_meaning.specs.declared.lexemes.Keyword.TheVariants as k;
 ghost use Rattle.pg_meaning.specs.Tree as tree;
-ghost use Rattle.pg_syntax.specs.Gives.{Gives, same};
+ghost use Rattle.pg_syntax_tokens.specs.Gives.{Gives, same};
 ghost use Rattle.pg_syntax.specs.Pieces as pieces;
-ghost use Rattle.pg_syntax.specs.ShrinksLaws.{eats_shrinks, expr_shrinks};
+ghost use Rattle.pg_syntax_tokens.specs.ShrinksLaws.{eats_shrinks};
+ghost use Rattle.pg_syntax_expressions.specs.ShrinksExpressions.{expr_shrinks};
 ghost use Rattle.pg_syntax.specs.ShrinksClauses.{reading_eats, set_item_eats, remove_item_eats, on_items_eats, updating_eats};
 ghost use Rattle.pg_syntax_tree.specs.View.{name_view, expression_view, set_item_view, remove_item_view, on_view, clause_view};
 
-use crate::cursor::Tokens;
-use crate::error::ParseError;
-use crate::expression::{Whole, expression};
-use crate::names::labels;
 use crate::patterns::{Paths, path};
-use crate::rules::{Row, Rule, pieces, separated};
 use pg_meaning::{Keyword, Symbol};
+use pg_syntax_expressions::{Whole, expression};
+use pg_syntax_tokens::{ParseError, Row, Rule, Tokens, labels, pieces, separated};
 use pg_syntax_tree::{Clause, Expression, Name, On, RemoveItem, SetItem};
 use std::alloc::Global;
 
@@ -79,7 +77,7 @@ fn reading(alloc: Global, tokens: &mut Tokens<'_, '_>, depth: usize) -> Result<C
     match_clause(alloc, tokens, depth)
 }
 
-#[derive(Clone, Copy)]
+#[derive(Drop)]
 pub(crate) struct ReadingClauses {
     pub alloc: Global,
     pub depth: usize,
@@ -164,7 +162,7 @@ fn set_item(alloc: Global, tokens: &mut Tokens<'_, '_>, depth: usize) -> Result<
     set_target(alloc, tokens, depth, target)
 }
 
-#[derive(Clone, Copy)]
+#[derive(Drop)]
 struct SetItems {
     alloc: Global,
     depth: usize,
@@ -209,7 +207,7 @@ fn remove_item(alloc: Global, tokens: &mut Tokens<'_, '_>) -> Result<RemoveItem,
     remove_target(alloc, tokens, target)
 }
 
-#[derive(Clone, Copy)]
+#[derive(Drop)]
 struct RemoveItems {
     alloc: Global,
 }
@@ -243,7 +241,7 @@ fn event(tokens: &mut Tokens<'_, '_>) -> Result<bool, ParseError>
 }
 
 /// ON CREATE or ON MATCH, with what is set.
-#[derive(Clone, Copy)]
+#[derive(Drop)]
 struct Events {
     alloc: Global,
     depth: usize,
@@ -360,7 +358,7 @@ fn updating(alloc: Global, tokens: &mut Tokens<'_, '_>, depth: usize) -> Result<
     delete_clause(alloc, tokens, depth)
 }
 
-#[derive(Clone, Copy)]
+#[derive(Drop)]
 pub(crate) struct UpdatingClauses {
     pub alloc: Global,
     pub depth: usize,

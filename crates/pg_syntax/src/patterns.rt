@@ -5,19 +5,18 @@ ghost use Rattle.pg_lex.specs.View.{tokens_view};
 ghost use Rattle.pg_meaning.specs.Parse as parse;
 ghost use Rattle.pg_meaning.specs.declared.lexemes.Symbol.TheVariants as s;
 ghost use Rattle.pg_meaning.specs.Tree as tree;
-ghost use Rattle.pg_syntax.specs.Gives.{Gives, same};
+ghost use Rattle.pg_syntax_tokens.specs.Gives.{Gives, same};
 ghost use Rattle.pg_syntax.specs.Pieces as pieces;
-ghost use Rattle.pg_syntax.specs.ShrinksLaws.{eats_shrinks, expr_shrinks};
+ghost use Rattle.pg_syntax_tokens.specs.ShrinksLaws.{eats_shrinks};
+ghost use Rattle.pg_syntax_expressions.specs.ShrinksExpressions.{expr_shrinks};
 ghost use Rattle.pg_syntax.specs.ShrinksPatterns.{other_type_eats, hop_eats, path_shrinks};
 ghost use Rattle.pg_syntax_tree.specs.View.{name_view, properties_view, node_view, type_view, range_view, detail_view, relationship_view, hop_view, path_view};
 
-use crate::atoms::map_pairs;
-use crate::cursor::{Tokens, start_of};
-use crate::error::ParseError;
-use crate::expression::Whole;
-use crate::names::{labels_if_any, variable};
-use crate::rules::{Row, Rule, many, pieces};
 use pg_meaning::Symbol;
+use pg_syntax_expressions::{Whole, map_pairs};
+use pg_syntax_tokens::{
+    ParseError, Row, Rule, Tokens, labels_if_any, many, pieces, start_of, variable,
+};
 use pg_syntax_tree::{
     Detail, Name, NodePattern, PathPattern, Properties, Range, RelationshipPattern, TypeName,
 };
@@ -59,7 +58,7 @@ fn node(alloc: Global, tokens: &mut Tokens<'_, '_>, depth: usize) -> Result<Node
 }
 
 /// A type behind a bar.
-#[derive(Clone, Copy)]
+#[derive(Drop)]
 struct OtherType {
     alloc: Global,
 }
@@ -208,7 +207,7 @@ fn relationship(
 }
 
 /// A relationship and the node behind it.
-#[derive(Clone, Copy)]
+#[derive(Drop)]
 struct Hop {
     alloc: Global,
     depth: usize,
@@ -277,7 +276,7 @@ pub(crate) fn path(
 }
 
 /// Paths, as pieces of a row.
-#[derive(Clone, Copy)]
+#[derive(Drop)]
 pub(crate) struct Paths {
     pub alloc: Global,
     pub depth: usize,

@@ -5,19 +5,17 @@ ghost use Rattle.pg_lex.specs.View.{lexeme_view, tokens_view};
 ghost use Rattle.pg_meaning.specs.Parse as parse;
 ghost use Rattle.pg_meaning.specs.declared.lexemes.Keyword.TheVariants as k;
 ghost use Rattle.pg_meaning.specs.Tree as tree;
-ghost use Rattle.pg_syntax.specs.Gives.{Gives, GivesValue};
+ghost use Rattle.pg_syntax_tokens.specs.Gives.{Gives, GivesValue};
 ghost use Rattle.pg_syntax.specs.Pieces as pieces;
-ghost use Rattle.pg_syntax.specs.ShrinksLaws.{expr_shrinks};
+ghost use Rattle.pg_syntax_expressions.specs.ShrinksExpressions.{expr_shrinks};
 ghost use Rattle.pg_syntax.specs.ShrinksClauses.{item_shrinks, sort_item_shrinks};
 ghost use Rattle.pg_syntax_tree.specs.View.{name_view, expression_view, item_view, sort_item_view, projection_view, clause_view};
 
 use crate::clauses::expression_behind;
-use crate::cursor::{Tokens, start_of};
-use crate::error::ParseError;
-use crate::expression::expression;
-use crate::rules::{Rule, further, separated};
 use pg_lex::{Lexeme, Token};
 use pg_meaning::{Keyword, Sort, Symbol};
+use pg_syntax_expressions::expression;
+use pg_syntax_tokens::{ParseError, Rule, Tokens, further, separated, start_of};
 use pg_syntax_tree::{Clause, Expression, Item, Name, Projection, SortItem};
 use std::alloc::Global;
 
@@ -105,7 +103,7 @@ fn with_item(
 }
 
 /// Items of WITH, or of RETURN.
-#[derive(Clone, Copy)]
+#[derive(Drop)]
 struct Items<'t> {
     alloc: Global,
     text: &'t str,
@@ -183,7 +181,7 @@ fn sort_item(
     Ok(SortItem { key, direction })
 }
 
-#[derive(Clone, Copy)]
+#[derive(Drop)]
 struct SortItems {
     alloc: Global,
     depth: usize,

@@ -1,6 +1,6 @@
 //! Queries.
 
-ghost use Rattle.std.specs.Prelude.{◌≡◌, ◌≢◌, ◌↔◌, ◌⊎◌, true, Some, Ok, Err, IfOk, IfErr, IsErrOf, length, map};
+ghost use Rattle.std.specs.Prelude.{◌≡◌, ◌≢◌, ◌↔◌, ◌⊎◌, true, false, Some, Ok, Err, IfOk, IfErr, IsErrOf, length, map};
 ghost use Rattle.pg_lex.specs.View.{tokens_view};
 ghost use Rattle.pg_meaning.specs.Depth.{is_too_deep};
 ghost use Rattle.pg_meaning.specs.Grammar.{Reads};
@@ -9,18 +9,16 @@ ghost use Rattle.pg_meaning.specs.Parse.{OneReading};
 ghost use Rattle.pg_meaning.specs.Texts.{read_tokens};
 ghost use Rattle.pg_meaning.specs.Tokens.{Lexes};
 ghost use Rattle.pg_meaning.specs.Tree as tree;
-ghost use Rattle.pg_syntax.specs.Gives.{Gives, GivesValue, Answers};
+ghost use Rattle.pg_syntax_tokens.specs.Gives.{Gives, GivesValue};
+ghost use Rattle.pg_syntax.specs.Answers.{Answers};
 ghost use Rattle.pg_syntax.specs.Pieces as pieces;
 ghost use Rattle.pg_syntax_tree.specs.View.{clause_view, query_view};
 
 use crate::clauses::{ReadingClauses, UpdatingClauses};
-use crate::cursor::Tokens;
-use crate::depth::is_too_deep;
-use crate::error::ParseError;
 use crate::projections::{return_clause, with_clause};
-use crate::rules::many;
 use pg_lex::Token;
 use pg_meaning::{Fault, Keyword, Symbol};
+use pg_syntax_tokens::{ParseError, Tokens, is_too_deep, many};
 use pg_syntax_tree::{Clause, Query};
 use std::alloc::Global;
 
@@ -61,12 +59,15 @@ fn last(
     Ok(found)
 }
 
+/// The clauses of all parts. What recurses begins here, so the tokens must have passed the test of
+/// their depth.
 fn parts(
     alloc: Global,
     text: &str,
     tokens: &mut Tokens<'_, '_>,
     depth: usize,
 ) -> Result<Vec<Clause>, ParseError>
+    requires { is_too_deep (tokens_view tokens.old.rest.now) ≡ false }
     ensures { Gives (λ v. map clause_view v.items) (parse.parts text.now (parse.expr depth) (length tokens.old.rest.now) (tokens_view tokens.old.rest.now)) result tokens.new.rest.now }
 {
     let (mut found, mut updates) = part(alloc, tokens, depth, Vec::new(alloc))?;
@@ -86,6 +87,7 @@ fn query(
     tokens: &mut Tokens<'_, '_>,
     depth: usize,
 ) -> Result<Query, ParseError>
+    requires { is_too_deep (tokens_view tokens.old.rest.now) ≡ false }
     ensures { Gives query_view (parse.query text.now (parse.expr depth) (length tokens.old.rest.now) (tokens_view tokens.old.rest.now)) result tokens.new.rest.now }
 {
     let clauses = parts(alloc, text, tokens, depth)?;
@@ -99,6 +101,7 @@ fn query(
 /// The tree of all the tokens.
 #[tactic(auto, unfolding(pg_meaning::specs::Parse::query_of))]
 fn read(alloc: Global, text: &str, tokens: &[Token<'_>]) -> Result<Query, ParseError>
+    requires { is_too_deep (tokens_view tokens.now) ≡ false }
     ensures { GivesValue query_view (parse.query_of text.now (tokens_view tokens.now)) result }
 {
     let mut left = Tokens { rest: tokens };

@@ -4,10 +4,10 @@ use Rattle.std.proofs.lemmas.Result.{err_from_is_err_and}
 use Rattle.pg_lex.specs.View.{token_view, tokens_view}
 use Rattle.pg_meaning.specs.Parse.{expr}
 use Rattle.pg_syntax.specs.Pieces.{part}
-use Rattle.pg_syntax.specs.ShrinksLaws.{expr_shrinks}
+use Rattle.pg_syntax_expressions.specs.ShrinksExpressions.{expr_shrinks}
 use Rattle.pg_syntax_tree.specs.View.{clause_view}
 use Rattle.pg_syntax.proofs.Parts.{first_read, first_fails, next_read, next_fails, part_less}
-use Rattle.pg_syntax.proofs.Rows.{passed, map_more}
+use Rattle.pg_syntax_tokens.proofs.Rows.{passed, map_more}
 use Rattle.pg_syntax.proofs.query.parts.Goals as goal
 
 pub returns-in_err-found : goal.returns-in_err-found

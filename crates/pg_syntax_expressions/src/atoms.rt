@@ -1,0 +1,382 @@
+//! Atoms, and what stands behind them.
+
+ghost use Rattle.std.specs.Prelude.{◌≡◌, IfOk, map, option_map, refl};
+ghost use Rattle.pg_lex.specs.View.{lexeme_view, tokens_view};
+ghost use Rattle.pg_meaning.specs.declared.lexemes.Keyword.TheVariants as k;
+ghost use Rattle.pg_meaning.specs.Parse as parse;
+ghost use Rattle.pg_meaning.specs.Parse.{pairs_of};
+ghost use Rattle.pg_meaning.specs.Tree as tree;
+ghost use Rattle.pg_syntax_tokens.specs.Gives.{Gives};
+ghost use Rattle.pg_syntax_expressions.specs.Parts.{suffix_view, perhaps_view, else_of, literal_by, list_behind, parentheses_behind};
+ghost use Rattle.pg_syntax_tokens.specs.ShrinksLaws.{eats_shrinks};
+ghost use Rattle.pg_syntax_expressions.specs.ShrinksExpressions.{map_pair_eats, suffix_eats, when_eats};
+ghost use Rattle.pg_syntax_tree.specs.View.{expression_view, literal_view, name_view, names_view, pair_view, when_view};
+
+use pg_lex::Lexeme;
+use pg_meaning::{Keyword, Symbol};
+use pg_syntax_tokens::{
+    Each, Expressions, ParseError, Row, Rule, Tokens, labels_if_any, many, pieces, separated,
+};
+use pg_syntax_tree::{Expression, Literal, Name, Suffix};
+use std::alloc::{AllocError, Global};
+
+/// Expressions and the closing sign.
+#[tactic(auto, unfolding(pg_meaning::specs::Parse::listed))]
+fn listed<W: Expressions>(
+    close: Symbol,
+    whole: &W,
+    tokens: &mut Tokens<'_, '_>,
+) -> Result<Vec<Expression>, ParseError>
+    requires { W.ready whole.now }
+    ensures { Gives (λ v. map expression_view v.items) (parse.listed close (W.parser whole.now) (tokens_view tokens.old.rest.now)) result tokens.new.rest.now }
+{
+    if tokens.eat(close) {
+        return Ok(Vec::new(whole.alloc()));
+    }
+    let found = separated(whole.alloc(), &Each(whole), tokens)?;
+    tokens.expect(close)?;
+    Ok(found)
+}
+
+/// A key of a map and its value.
+#[derive(Drop)]
+struct MapPair<'w, W>(&'w W);
+
+impl<'w, W: Expressions> Rule for MapPair<'w, W> {
+    type Tree = (Name, Expression);
+
+    ghost Datum = { tree.Name × tree.Expression };
+
+    ghost view = { pair_view };
+
+    ghost parser = { λ p. parse.map_pair (W.parser p.0.now) };
+
+    ghost ready = { λ p. W.ready p.0.now };
+
+    ghost shrinks = { λ p. eats_shrinks (map_pair_eats (W.shrinks p.0.now)) };
+
+    fn read(&self, tokens: &mut Tokens<'_, '_>) -> Result<(Name, Expression), ParseError> {
+        let key = tokens.name(self.0.alloc())?;
+        tokens.expect(Symbol::Colon)?;
+        let value = self.0.expression(tokens)?;
+        Ok((key, value))
+    }
+}
+
+/// The pairs of a map, in braces.
+#[tactic(auto, unfolding(pg_meaning::specs::Parse::map_pairs))]
+pub fn map_pairs<W: Expressions>(
+    whole: &W,
+    tokens: &mut Tokens<'_, '_>,
+) -> Result<Vec<(Name, Expression)>, ParseError>
+    requires { W.ready whole.now }
+    ensures { Gives (λ v. pairs_of (map pair_view v.items)) (parse.map_pairs (W.parser whole.now) (tokens_view tokens.old.rest.now)) result tokens.new.rest.now }
+{
+    tokens.expect(Symbol::OpenBrace)?;
+    if tokens.eat(Symbol::CloseBrace) {
+        return Ok(Vec::new(whole.alloc()));
+    }
+    let found = separated(whole.alloc(), &MapPair(whole), tokens)?;
+    tokens.expect(Symbol::CloseBrace)?;
+    Ok(found)
+}
+
+/// What stands behind the opening sign of a call.
+#[tactic(auto, using(pg_syntax_tree::proofs::Views::call_is), unfolding(pg_meaning::specs::Parse::call))]
+fn call<W: Expressions>(
+    function: Name,
+    whole: &W,
+    tokens: &mut Tokens<'_, '_>,
+) -> Result<Expression, ParseError>
+    requires { W.ready whole.now }
+    ensures { Gives expression_view (parse.call (W.parser whole.now) (name_view function) (tokens_view tokens.old.rest.now)) result tokens.new.rest.now }
+{
+    if tokens.sees(Symbol::Star) {
+        tokens.expect(Symbol::Star)?;
+        tokens.expect(Symbol::CloseParenthesis)?;
+        return Ok(Expression::Call(function, true, false, Vec::new(whole.alloc())));
+    }
+    if tokens.sees(Symbol::CloseParenthesis) {
+        tokens.expect(Symbol::CloseParenthesis)?;
+        return Ok(Expression::Call(function, false, false, Vec::new(whole.alloc())));
+    }
+    let distinct = tokens.eat_keyword(Keyword::Distinct);
+    let arguments = separated(whole.alloc(), &Each(whole), tokens)?;
+    tokens.expect(Symbol::CloseParenthesis)?;
+    Ok(Expression::Call(function, false, distinct, arguments))
+}
+
+/// WHEN with its condition, and THEN with its result.
+#[derive(Drop)]
+struct When<'w, W>(&'w W);
+
+impl<'w, W: Expressions> Rule for When<'w, W> {
+    type Tree = (Expression, Expression);
+
+    ghost Datum = { tree.Expression × tree.Expression };
+
+    ghost view = { when_view };
+
+    ghost parser = { λ w. parse.one_when (W.parser w.0.now) };
+
+    ghost ready = { λ w. W.ready w.0.now };
+
+    ghost shrinks = { λ w. eats_shrinks (when_eats (W.shrinks w.0.now)) };
+
+    #[tactic(auto, unfolding(pg_meaning::specs::Parse::one_when))]
+    fn read(&self, tokens: &mut Tokens<'_, '_>) -> Result<(Expression, Expression), ParseError> {
+        tokens.expect_keyword(Keyword::When)?;
+        let condition = self.0.expression(tokens)?;
+        tokens.expect_keyword(Keyword::Then)?;
+        let result = self.0.expression(tokens)?;
+        Ok((condition, result))
+    }
+}
+
+impl<'w, W: Expressions> Row for When<'w, W> {
+    ghost begins = { λ _. parse.sees_keyword k.When };
+
+    ghost none = { λ _. refl };
+
+    ghost takes = { λ w. when_eats (W.shrinks w.0.now) };
+
+    fn begins(&self, tokens: &Tokens<'_, '_>) -> bool {
+        tokens.sees_keyword(Keyword::When)
+    }
+}
+
+/// What stands between CASE and WHEN, if something does.
+fn subject<W: Expressions>(
+    whole: &W,
+    tokens: &mut Tokens<'_, '_>,
+) -> Result<Option<Box<Expression>>, ParseError>
+    requires { W.ready whole.now }
+    ensures { Gives perhaps_view (parse.maybe (parse.not_yet k.When) (W.parser whole.now) (tokens_view tokens.old.rest.now)) result tokens.new.rest.now }
+{
+    if tokens.sees_keyword(Keyword::When) {
+        return Ok(None);
+    }
+    let found = whole.expression(tokens)?;
+    Ok(Some(Box::new(whole.alloc(), found)?))
+}
+
+/// ELSE with its result, if it is there.
+fn otherwise<W: Expressions>(
+    whole: &W,
+    tokens: &mut Tokens<'_, '_>,
+) -> Result<Option<Box<Expression>>, ParseError>
+    requires { W.ready whole.now }
+    ensures { Gives perhaps_view (parse.maybe (parse.sees_keyword k.Else) (else_of (W.parser whole.now)) (tokens_view tokens.old.rest.now)) result tokens.new.rest.now }
+{
+    if !tokens.sees_keyword(Keyword::Else) {
+        return Ok(None);
+    }
+    tokens.expect_keyword(Keyword::Else)?;
+    let found = whole.expression(tokens)?;
+    Ok(Some(Box::new(whole.alloc(), found)?))
+}
+
+/// What stands behind CASE.
+#[tactic(auto, using(pg_syntax_tree::proofs::Views::case_is), unfolding(pg_meaning::specs::Parse::case))]
+fn case<W: Expressions>(whole: &W, tokens: &mut Tokens<'_, '_>) -> Result<Expression, ParseError>
+    requires { W.ready whole.now }
+    ensures { Gives expression_view (parse.case (W.parser whole.now) (tokens_view tokens.old.rest.now)) result tokens.new.rest.now }
+{
+    let subject = subject(whole, tokens)?;
+    let when = When(whole);
+    let mut whens = Vec::new(whole.alloc());
+    whens.push(when.read(tokens)?)?;
+    let whens = many(&when, tokens, whens)?;
+    let otherwise = otherwise(whole, tokens)?;
+    tokens.expect_keyword(Keyword::End)?;
+    Ok(Expression::Case(subject, whens, otherwise))
+}
+
+/// A property's key, or an index.
+#[derive(Drop)]
+struct OneSuffix<'w, W>(&'w W);
+
+impl<'w, W: Expressions> Rule for OneSuffix<'w, W> {
+    type Tree = Suffix<Expression>;
+
+    ghost Datum = { tree.Suffixes → tree.Suffixes };
+
+    ghost view = { suffix_view };
+
+    ghost parser = { λ s. parse.suffix (W.parser s.0.now) };
+
+    ghost ready = { λ s. W.ready s.0.now };
+
+    ghost shrinks = { λ s. eats_shrinks (suffix_eats (W.shrinks s.0.now)) };
+
+    #[tactic(auto, unfolding(pg_meaning::specs::Parse::suffix))]
+    fn read(&self, tokens: &mut Tokens<'_, '_>) -> Result<Suffix<Expression>, ParseError> {
+        if tokens.sees(Symbol::Dot) {
+            tokens.expect(Symbol::Dot)?;
+            return Ok(Suffix::Property(tokens.name(self.0.alloc())?));
+        }
+        tokens.expect(Symbol::OpenBracket)?;
+        let index = self.0.expression(tokens)?;
+        tokens.expect(Symbol::CloseBracket)?;
+        Ok(Suffix::Index(index))
+    }
+}
+
+impl<'w, W: Expressions> Row for OneSuffix<'w, W> {
+    ghost begins = { λ _. parse.begins_suffix };
+
+    ghost none = { λ _. refl };
+
+    ghost takes = { λ s. suffix_eats (W.shrinks s.0.now) };
+
+    fn begins(&self, tokens: &Tokens<'_, '_>) -> bool {
+        tokens.sees(Symbol::Dot) || tokens.sees(Symbol::OpenBracket)
+    }
+}
+
+fn suffixed(
+    alloc: Global,
+    first: Expression,
+    suffixes: Vec<Suffix<Expression>>,
+    labels: Vec<Name>,
+) -> Result<Expression, AllocError>
+    ensures { IfOk result (λ x. expression_view x ≡ parse.suffixed (expression_view first) (map suffix_view suffixes.items) (names_view labels.items)) }
+{
+    if suffixes.is_empty() && labels.is_empty() {
+        return Ok(first);
+    }
+    Ok(Expression::Suffixes(Box::new(alloc, first)?, suffixes, labels))
+}
+
+/// A literal, unless the lexeme is none.
+fn literal_of(alloc: Global, lexeme: &Lexeme<'_>) -> Result<Option<Literal>, AllocError>
+    ensures { IfOk result (λ o. option_map literal_view o ≡ literal_by (lexeme_view lexeme.now)) }
+{
+    Ok(match lexeme {
+        Lexeme::Integer(number) => Some(Literal::Integer(number.value as i64)),
+        Lexeme::Text(text) => Some(Literal::Text(String::from_str(alloc, text.as_str())?)),
+        Lexeme::Keyword(Keyword::True, _) => Some(Literal::Boolean(true)),
+        Lexeme::Keyword(Keyword::False, _) => Some(Literal::Boolean(false)),
+        Lexeme::Keyword(Keyword::Null, _) => Some(Literal::Null),
+        _ => None,
+    })
+}
+
+/// A variable, or a call.
+fn word_atom<W: Expressions>(
+    name: Name,
+    whole: &W,
+    tokens: &mut Tokens<'_, '_>,
+) -> Result<Expression, ParseError>
+    requires { W.ready whole.now }
+    ensures { Gives expression_view (parse.word_atom (W.parser whole.now) (name_view name) (tokens_view tokens.old.rest.now)) result tokens.new.rest.now }
+{
+    if tokens.sees(Symbol::OpenParenthesis) {
+        tokens.expect(Symbol::OpenParenthesis)?;
+        return call(name, whole, tokens);
+    }
+    Ok(Expression::Variable(name))
+}
+
+fn list<W: Expressions>(whole: &W, tokens: &mut Tokens<'_, '_>) -> Result<Expression, ParseError>
+    requires { W.ready whole.now }
+    ensures { Gives expression_view (list_behind (W.parser whole.now) (tokens_view tokens.old.rest.now)) result tokens.new.rest.now }
+{
+    Ok(Expression::ListLiteral(listed(Symbol::CloseBracket, whole, tokens)?))
+}
+
+fn parentheses<W: Expressions>(
+    whole: &W,
+    tokens: &mut Tokens<'_, '_>,
+) -> Result<Expression, ParseError>
+    requires { W.ready whole.now }
+    ensures { Gives expression_view (parentheses_behind (W.parser whole.now) (tokens_view tokens.old.rest.now)) result tokens.new.rest.now }
+{
+    let inner = whole.expression(tokens)?;
+    tokens.expect(Symbol::CloseParenthesis)?;
+    Ok(Expression::Parentheses(Box::new(whole.alloc(), inner)?))
+}
+
+/// The atom that the lexeme begins, behind it.
+fn atom_by<W: Expressions>(
+    place: usize,
+    lexeme: &Lexeme<'_>,
+    whole: &W,
+    tokens: &mut Tokens<'_, '_>,
+) -> Result<Expression, ParseError>
+    requires { W.ready whole.now }
+    ensures { Gives expression_view (parse.atom_by (W.parser whole.now) place (lexeme_view lexeme.now) (tokens_view tokens.old.rest.now)) result tokens.new.rest.now }
+{
+    if let Some(literal) = literal_of(whole.alloc(), lexeme)? {
+        return Ok(Expression::Literal(literal));
+    }
+    match lexeme {
+        Lexeme::Keyword(Keyword::Case, _) => case(whole, tokens),
+        Lexeme::Symbol(Symbol::OpenBracket) => list(whole, tokens),
+        Lexeme::Symbol(Symbol::OpenParenthesis) => parentheses(whole, tokens),
+        Lexeme::Parameter(name) => Ok(Expression::Parameter(Name {
+            text: String::from_str(whole.alloc(), *name)?,
+            quoted: false,
+            place,
+        })),
+        Lexeme::QuotedParameter(name) => Ok(Expression::Parameter(Name {
+            text: String::from_str(whole.alloc(), name.as_str())?,
+            quoted: true,
+            place,
+        })),
+        Lexeme::QuotedName(name) => Ok(Expression::Variable(Name {
+            text: String::from_str(whole.alloc(), name.as_str())?,
+            quoted: true,
+            place,
+        })),
+        Lexeme::Word(name) => {
+            let name = Name {
+                text: String::from_str(whole.alloc(), *name)?,
+                quoted: false,
+                place,
+            };
+            word_atom(name, whole, tokens)
+        }
+        _ => Err(ParseError::BadSyntax),
+    }
+}
+
+fn plain_atom<W: Expressions>(
+    whole: &W,
+    tokens: &mut Tokens<'_, '_>,
+) -> Result<Expression, ParseError>
+    requires { W.ready whole.now }
+    ensures { Gives expression_view (parse.plain_atom (W.parser whole.now) (tokens_view tokens.old.rest.now)) result tokens.new.rest.now }
+{
+    let Some(token) = tokens.take() else {
+        return Err(ParseError::BadSyntax);
+    };
+    atom_by(token.start, &token.lexeme, whole, tokens)
+}
+
+#[tactic(auto, using(pg_syntax_tree::proofs::Views::map_is), unfolding(pg_meaning::specs::Parse::atom))]
+fn atom<W: Expressions>(whole: &W, tokens: &mut Tokens<'_, '_>) -> Result<Expression, ParseError>
+    requires { W.ready whole.now }
+    ensures { Gives expression_view (parse.atom (W.parser whole.now) (tokens_view tokens.old.rest.now)) result tokens.new.rest.now }
+{
+    if tokens.sees(Symbol::OpenBrace) {
+        return Ok(Expression::MapLiteral(map_pairs(whole, tokens)?));
+    }
+    plain_atom(whole, tokens)
+}
+
+/// An atom with properties, indexes and labels behind it.
+#[tactic(auto, unfolding(pg_meaning::specs::Parse::post))]
+pub(crate) fn post<W: Expressions>(
+    whole: &W,
+    tokens: &mut Tokens<'_, '_>,
+) -> Result<Expression, ParseError>
+    requires { W.ready whole.now }
+    ensures { Gives expression_view (parse.post (W.parser whole.now) (tokens_view tokens.old.rest.now)) result tokens.new.rest.now }
+{
+    let alloc = whole.alloc();
+    let first = atom(whole, tokens)?;
+    let suffixes = pieces(alloc, &OneSuffix(whole), tokens)?;
+    let labels = labels_if_any(alloc, tokens)?;
+    Ok(suffixed(alloc, first, suffixes, labels)?)
+}

@@ -1,0 +1,10 @@
+//! From tokens to the trees of expressions.
+#![tactic(auto)]
+
+mod atoms;
+mod chains;
+mod levels;
+mod nesting;
+
+pub use atoms::map_pairs;
+pub use nesting::{Whole, expression};

@@ -1,0 +1,4 @@
+pub mod Gives
+pub mod Shrinks
+pub mod ShrinksLaws
+pub mod Turns

@@ -1,0 +1,5 @@
+pub mod Applied
+pub mod Comparisons
+pub mod Conjuncts
+pub mod Presence
+pub mod Walks

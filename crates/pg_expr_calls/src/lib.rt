@@ -16,7 +16,7 @@ pub use arithmetic::{divide, minus, modulo, negative, positive, times};
 pub use chains::{compared, conjunction, disjunction, exclusive};
 pub use functions::{absolute, head, last, length, size, to_integer, to_text};
 pub use joined::plus;
-pub use limits::made;
+pub use limits::{is_within_limits, made};
 pub use parts::{keys, nodes, relationships};
 pub use ranges::integers_from;
 pub use texts::{begins_with, contains, finishes_with, is_not_null, is_null};

@@ -2,4 +2,5 @@ pub mod Applied
 pub mod Comparisons
 pub mod Conjuncts
 pub mod Presence
+pub mod RowReads
 pub mod Walks

@@ -1,14 +1,15 @@
 //! What functions give: deleted elements among the arguments first, then null, then the function, then the limits.
-ghost use Rattle.std.specs.Prelude.{◌≡◌, ◌≢◌, IfOk, IfErr, IfSome, IfNone, Ok, Err, false};
+ghost use Rattle.std.specs.Prelude.{◌≡◌, ◌≢◌, IfOk, IfErr, IfSome, IfNone, Ok, Err, false, ◌-◌};
 ghost use Rattle.pg_expr.specs.Calls.{is_range, IsNotOne};
 ghost use Rattle.pg_expr.specs.Sites.{found_view, founds_view};
 ghost use Rattle.pg_meaning.specs.Expressions.{fault_of_name};
 ghost use Rattle.pg_meaning.specs.Expressions as meaning;
 ghost use Rattle.pg_meaning.specs.Functions.{applied, function_at, has_deleted, has_null, is_deleted, is_null, head_of, last_of, string_of};
+ghost use Rattle.pg_meaning.specs.Functions as functions;
 ghost use Rattle.pg_meaning.specs.Value.{item, no_items};
 ghost use Rattle.pg_meaning.specs.declared.fault.Fault.TheVariants.{OutOfMemory};
 ghost use Rattle.pg_scope.specs.Calls.{function_view};
-ghost use Rattle.pg_value_core.specs.View.{view};
+ghost use Rattle.pg_value_core.specs.View.{view, values_view};
 
 use crate::elements::{keys, kind, labels, number, properties, source, target};
 use crate::made::made;
@@ -52,8 +53,8 @@ pub(crate) fn applied<'a, T: Tables>(
     function: Function,
     arguments: Vec<Found<'a>>,
 ) -> Result<Found<'a>, Fault>
-    ensures ok { IfOk result (λ f. applied graph.now (function_view function) (founds_view arguments.items) ≡ Ok (found_view f)) }
-    ensures err { IfErr result (λ e. e ≢ OutOfMemory → applied graph.now (function_view function) (founds_view arguments.items) ≡ Err e) }
+    ensures ok { IfOk result (λ f. applied graph.now (function_view function) (founds_view arguments.entry.items) ≡ Ok (found_view f)) }
+    ensures err { IfErr result (λ e. e ≢ OutOfMemory → applied graph.now (function_view function) (founds_view arguments.entry.items) ≡ Err e) }
 {
     if has_deleted(graph, &arguments) {
         return Err(Fault::DeletedEntity);
@@ -98,6 +99,7 @@ fn has_null(arguments: &Vec<Found<'_>>) -> bool
 }
 
 /// What a function gives at arguments that are neither deleted nor null.
+#[tactic(auto, using(crate::proofs::Applied::not_one))]
 fn at_all<'a, T: Tables>(
     alloc: Global,
     graph: &Snapshot<'a, T>,
@@ -105,8 +107,8 @@ fn at_all<'a, T: Tables>(
     arguments: Vec<Found<'a>>,
 ) -> Result<Found<'a>, Fault>
     requires { has_deleted graph.now (founds_view arguments.items) ≡ false }
-    ensures ok { IfOk result (λ f. function_at graph.now (function_view function) (founds_view arguments.items) ≡ Ok (found_view f)) }
-    ensures err { IfErr result (λ e. e ≢ OutOfMemory → function_at graph.now (function_view function) (founds_view arguments.items) ≡ Err e) }
+    ensures ok { IfOk result (λ f. function_at graph.now (function_view function) (founds_view arguments.entry.items) ≡ Ok (found_view f)) }
+    ensures err { IfErr result (λ e. e ≢ OutOfMemory → function_at graph.now (function_view function) (founds_view arguments.entry.items) ≡ Err e) }
 {
     if matches!(function, Function::Range) {
         return Err(Fault::OutOfMemory);
@@ -118,9 +120,10 @@ fn at_all<'a, T: Tables>(
 }
 
 /// The one argument, where it is one.
+#[tactic(auto, using(crate::proofs::Applied::other_count, crate::proofs::Applied::one_left))]
 fn only(arguments: Vec<Found<'_>>) -> Option<Found<'_>>
-    ensures one { IfSome result (λ f. founds_view arguments.items ≡ item (found_view f) no_items) }
-    ensures none { IfNone result (IsNotOne (founds_view arguments.items)) }
+    ensures one { IfSome result (λ f. founds_view arguments.entry.items ≡ item (found_view f) no_items) }
+    ensures none { IfNone result (IsNotOne (founds_view arguments.entry.items)) }
 {
     let mut left = arguments;
     if left.len() != 1 {
@@ -138,8 +141,8 @@ fn at_one<'a, T: Tables>(
 ) -> Result<Found<'a>, Fault>
     requires there { is_deleted graph.now (found_view argument) ≡ false }
     requires one { is_range (function_view function) ≡ false }
-    ensures ok { IfOk result (λ f. function_at graph.now (function_view function) (item (found_view argument) no_items) ≡ Ok (found_view f)) }
-    ensures err { IfErr result (λ e. e ≢ OutOfMemory → function_at graph.now (function_view function) (item (found_view argument) no_items) ≡ Err e) }
+    ensures ok { IfOk result (λ f. function_at graph.now (function_view function) (item (found_view argument.entry) no_items) ≡ Ok (found_view f)) }
+    ensures err { IfErr result (λ e. e ≢ OutOfMemory → function_at graph.now (function_view function) (item (found_view argument.entry) no_items) ≡ Err e) }
 {
     match function {
         Function::Id => Ok(Found::Made(number(graph, argument.look())?)),
@@ -166,16 +169,16 @@ fn at_one<'a, T: Tables>(
 }
 
 fn to_text<'a>(alloc: Global, argument: Found<'a>) -> Result<Found<'a>, Fault>
-    ensures ok { IfOk result (λ f. string_of (found_view argument) ≡ Ok (found_view f)) }
-    ensures err { IfErr result (λ e. e ≢ OutOfMemory → string_of (found_view argument) ≡ Err e) }
+    ensures ok { IfOk result (λ f. string_of (found_view argument.entry) ≡ Ok (found_view f)) }
+    ensures err { IfErr result (λ e. e ≢ OutOfMemory → string_of (found_view argument.entry) ≡ Err e) }
 {
     let value = argument.take(alloc)?;
     Ok(Found::Made(values::to_text(alloc, value)?))
 }
 
 fn head<'a>(argument: Found<'a>) -> Result<Found<'a>, Fault>
-    ensures ok { IfOk result (λ f. head_of (found_view argument) ≡ Ok (found_view f)) }
-    ensures err { IfErr result (λ e. head_of (found_view argument) ≡ Err e) }
+    ensures ok { IfOk result (λ f. head_of (found_view argument.entry) ≡ Ok (found_view f)) }
+    ensures err { IfErr result (λ e. head_of (found_view argument.entry) ≡ Err e) }
 {
     match argument {
         Found::Lent(value) => head_lent(value),
@@ -194,8 +197,8 @@ fn head_lent<'a>(value: &'a Value) -> Result<Found<'a>, Fault>
 }
 
 fn last<'a>(argument: Found<'a>) -> Result<Found<'a>, Fault>
-    ensures ok { IfOk result (λ f. last_of (found_view argument) ≡ Ok (found_view f)) }
-    ensures err { IfErr result (λ e. last_of (found_view argument) ≡ Err e) }
+    ensures ok { IfOk result (λ f. last_of (found_view argument.entry) ≡ Ok (found_view f)) }
+    ensures err { IfErr result (λ e. last_of (found_view argument.entry) ≡ Err e) }
 {
     match argument {
         Found::Lent(value) => last_lent(value),
@@ -203,13 +206,20 @@ fn last<'a>(argument: Found<'a>) -> Result<Found<'a>, Fault>
     }
 }
 
-#[tactic(auto, using(pg_expr_calls::proofs::Counts::counts))]
 fn last_lent<'a>(value: &'a Value) -> Result<Found<'a>, Fault>
     ensures ok { IfOk result (λ f. last_of (view value.now) ≡ Ok (found_view f)) }
     ensures err { IfErr result (λ e. last_of (view value.now) ≡ Err e) }
 {
     match value {
-        Value::List(items) => Ok(item_at(items, items.len().saturating_sub(1))),
+        Value::List(items) => Ok(last_item(items)),
         _ => Err(Fault::TypeFault),
     }
+}
+
+#[tactic(auto, using(pg_expr_calls::proofs::Counts::counts))]
+fn last_item<'a>(items: &'a Vec<Value>) -> Found<'a>
+    ensures { found_view result ≡ functions.item_at (functions.count_of (values_view items.now.items) - 1) (values_view items.now.items) }
+{
+    let place = items.len().saturating_sub(1);
+    item_at(items, place)
 }

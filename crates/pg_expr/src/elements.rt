@@ -160,8 +160,8 @@ pub(crate) fn properties<'a, T: Tables>(
     graph: &Snapshot<'a, T>,
     found: Found<'a>,
 ) -> Result<Found<'a>, Fault>
-    ensures ok { IfOk result (λ f. properties_given graph.now (found_view found) ≡ Ok (found_view f)) }
-    ensures err { IfErr result (λ e. e ≢ OutOfMemory → properties_given graph.now (found_view found) ≡ Err e) }
+    ensures ok { IfOk result (λ f. properties_given graph.now (found_view found.entry) ≡ Ok (found_view f)) }
+    ensures err { IfErr result (λ e. e ≢ OutOfMemory → properties_given graph.now (found_view found.entry) ≡ Err e) }
 {
     match found.look() {
         Value::Map(_) => Ok(found),
@@ -216,11 +216,7 @@ pub(crate) fn keys<T: Tables>(
     }
 }
 
-fn node_keys<T: Tables>(
-    alloc: Global,
-    graph: &Snapshot<'_, T>,
-    id: NodeId,
-) -> Result<Value, Fault>
+fn node_keys<T: Tables>(alloc: Global, graph: &Snapshot<'_, T>, id: NodeId) -> Result<Value, Fault>
     ensures ok { IfOk result (λ u. keys_given graph.now (node id.0) ≡ Ok (view u)) }
     ensures err { IfErr result (λ e. e ≢ OutOfMemory → keys_given graph.now (node id.0) ≡ Err e) }
 {

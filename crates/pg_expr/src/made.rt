@@ -18,8 +18,8 @@ const GREATEST_DEPTH: u64 = 64;
 
 /// A value that an expression makes, where it is within the limits.
 pub(crate) fn made<'a>(found: Found<'a>) -> Result<Found<'a>, Fault>
-    ensures ok { IfOk result (λ f. made (found_view found) ≡ Ok (found_view f)) }
-    ensures err { IfErr result (λ e. made (found_view found) ≡ Err e) }
+    ensures ok { IfOk result (λ f. made (found_view found.entry) ≡ Ok (found_view f)) }
+    ensures err { IfErr result (λ e. made (found_view found.entry) ≡ Err e) }
 {
     if is_within_limits(found.look()) {
         Ok(found)
@@ -30,8 +30,8 @@ pub(crate) fn made<'a>(found: Found<'a>) -> Result<Found<'a>, Fault>
 
 /// A list of what was found, where it is within the limits; only then is it copied.
 pub(crate) fn list_of<'a>(alloc: Global, found: Vec<Found<'a>>) -> Result<Found<'a>, Fault>
-    ensures ok { IfOk result (λ f. made (list (founds_view found.items)) ≡ Ok (found_view f)) }
-    ensures err { IfErr result (λ e. e ≢ OutOfMemory → made (list (founds_view found.items)) ≡ Err e) }
+    ensures ok { IfOk result (λ f. made (list (founds_view found.entry.items)) ≡ Ok (found_view f)) }
+    ensures err { IfErr result (λ e. e ≢ OutOfMemory → made (list (founds_view found.entry.items)) ≡ Err e) }
 {
     if !are_within_limits(&found) {
         return Err(Fault::ValueTooLarge);
@@ -69,7 +69,7 @@ fn depth_of_all(found: &Vec<Found<'_>>) -> u64
 }
 
 fn take_all(alloc: Global, found: Vec<Found<'_>>) -> Result<Vec<Value>, AllocError>
-    ensures { IfOk result (λ vs. values_view vs.items ≡ founds_view found.items) }
+    ensures { IfOk result (λ vs. values_view vs.items ≡ founds_view found.entry.items) }
 {
     let mut values = Vec::with_capacity(alloc, found.len())?;
     for item in found {

@@ -2,7 +2,7 @@
 ghost use Rattle.std.specs.Prelude.{◌≡◌, ◌≢◌, IfOk, IfErr, Ok, Err, map, option_map};
 ghost use Rattle.pg_expr.specs.Sites.{found_view, pairs_view};
 ghost use Rattle.pg_meaning.specs.Arithmetic.{plus, signed};
-ghost use Rattle.pg_meaning.specs.Expressions.{is_in as membership, combined, all_compared, all_signed, begins_comparison, condition_of, is_comparison, tested, null_tested};
+ghost use Rattle.pg_meaning.specs.Expressions.{is_in as membership, combined, all_compared, begins_comparison, condition_of, is_comparison, tested, null_tested};
 ghost use Rattle.pg_meaning.specs.Logic.{is_true, negated};
 ghost use Rattle.pg_meaning.specs.declared.fault.Fault.TheVariants.{OutOfMemory};
 ghost use Rattle.pg_meaning.specs.Parse.{operands_of};
@@ -24,8 +24,8 @@ pub(crate) fn combined<'a>(
     v: Found<'a>,
     w: Found<'a>,
 ) -> Result<Found<'a>, Fault>
-    ensures ok { IfOk result (λ f. combined operator (found_view v) (found_view w) ≡ Ok (found_view f)) }
-    ensures err { IfErr result (λ e. e ≢ OutOfMemory → combined operator (found_view v) (found_view w) ≡ Err e) }
+    ensures ok { IfOk result (λ f. combined operator (found_view v.entry) (found_view w.entry) ≡ Ok (found_view f)) }
+    ensures err { IfErr result (λ e. e ≢ OutOfMemory → combined operator (found_view v.entry) (found_view w.entry) ≡ Err e) }
 {
     match operator {
         Operator::Or => Ok(Found::Made(values::disjunction(v.look(), w.look())?)),
@@ -41,8 +41,8 @@ pub(crate) fn combined<'a>(
 }
 
 fn sum<'a>(alloc: Global, v: Found<'a>, w: Found<'a>) -> Result<Found<'a>, Fault>
-    ensures ok { IfOk result (λ f. plus (found_view v) (found_view w) ≡ Ok (found_view f)) }
-    ensures err { IfErr result (λ e. e ≢ OutOfMemory → plus (found_view v) (found_view w) ≡ Err e) }
+    ensures ok { IfOk result (λ f. plus (found_view v.entry) (found_view w.entry) ≡ Ok (found_view f)) }
+    ensures err { IfErr result (λ e. e ≢ OutOfMemory → plus (found_view v.entry) (found_view w.entry) ≡ Err e) }
 {
     let left = v.take(alloc)?;
     let right = w.take(alloc)?;
@@ -50,6 +50,7 @@ fn sum<'a>(alloc: Global, v: Found<'a>, w: Found<'a>) -> Result<Found<'a>, Fault
 }
 
 /// Each neighbour with the next, where all were evaluated before.
+#[tactic(auto, using(crate::proofs::Comparisons::comparisons))]
 pub(crate) fn all_compared(
     first: &Found<'_>,
     others: &Vec<(Operator, Found<'_>)>,
@@ -78,11 +79,7 @@ pub(crate) fn condition_of(subject: &Option<Found<'_>>, v: &Found<'_>) -> Result
 }
 
 /// `v STARTS WITH w` and its like.
-pub(crate) fn tested<'a>(
-    test: TextTest,
-    v: &Found<'_>,
-    w: &Found<'_>,
-) -> Result<Found<'a>, Fault>
+pub(crate) fn tested<'a>(test: TextTest, v: &Found<'_>, w: &Found<'_>) -> Result<Found<'a>, Fault>
     ensures ok { IfOk result (λ f. tested test (found_view v.now) (found_view w.now) ≡ Ok (found_view f)) }
     ensures err { IfErr result (λ e. tested test (found_view v.now) (found_view w.now) ≡ Err e) }
 {
@@ -126,21 +123,8 @@ pub(crate) fn negated(count: usize, t: Tri) -> Tri
     turned
 }
 
-/// The signs before a value, the last one first.
-pub(crate) fn all_signed<'a>(signs: &Vec<bool>, v: Found<'a>) -> Result<Found<'a>, Fault>
-    ensures ok { IfOk result (λ f. all_signed signs.now.items (found_view v) ≡ Ok (found_view f)) }
-    ensures err { IfErr result (λ e. all_signed signs.now.items (found_view v) ≡ Err e) }
-{
-    let mut signed = v;
-    let mut left = signs.len();
-    while left > 0 {
-        left -= 1;
-        signed = Found::Made(with_sign(signs[left], signed.look())?);
-    }
-    Ok(signed)
-}
-
-fn with_sign(is_minus: bool, v: &Value) -> Result<Value, Fault>
+/// One sign before a value; true is a minus.
+pub(crate) fn with_sign(is_minus: bool, v: &Value) -> Result<Value, Fault>
     ensures ok { IfOk result (λ u. signed is_minus (view v.now) ≡ Ok (view u)) }
     ensures err { IfErr result (λ e. signed is_minus (view v.now) ≡ Err e) }
 {

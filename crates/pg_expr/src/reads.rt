@@ -4,18 +4,20 @@ ghost use Rattle.pg_expr.specs.Reads.{labels_tested};
 ghost use Rattle.pg_expr.specs.Sites.{found_view};
 ghost use Rattle.std.specs.List.{list_all};
 ghost use Rattle.pg_meaning.specs.Names.{is_among};
+ghost use Rattle.pg_meaning.specs.Entries.{value_at};
 ghost use Rattle.pg_meaning.specs.Expressions.{property_of, indexed, item_of, labelled};
 ghost use Rattle.pg_meaning.specs.Functions.{item_at};
 ghost use Rattle.pg_meaning.specs.Value.{node, relationship};
 ghost use Rattle.pg_syntax_tree.specs.View.{names_view};
-ghost use Rattle.pg_value_core.specs.View.{view, values_view};
+ghost use Rattle.pg_value_core.specs.View.{view, values_view, entries_view};
 
 use crate::site::{Found, lent_or_null, null};
-use pg_expr_calls::{item_of, value_at};
+use pg_expr_calls::{item_of, value_at, value_at_text};
 use pg_graph::Tables;
 use pg_store::{NodeView, Snapshot};
 use pg_syntax_tree::Name;
 use pg_value_core::{Fault, NodeId, RelId, Value};
+use std::collections::BTreeMap;
 
 fn node_property<'a, T: Tables>(
     graph: &Snapshot<'a, T>,
@@ -45,14 +47,27 @@ fn relationship_property<'a, T: Tables>(
     }
 }
 
+/// What stands under a key, and null where nothing does.
+fn entry<'a>(entries: &'a BTreeMap<String, Value>, key: &str) -> Found<'a>
+    ensures { found_view result ≡ value_at key.now (entries_view entries.now.entries) }
+{
+    lent_or_null(entries.get(key))
+}
+
+fn entry_of_text<'a>(entries: &'a BTreeMap<String, Value>, key: &String) -> Found<'a>
+    ensures { found_view result ≡ value_at (string_bytes key.now) (entries_view entries.now.entries) }
+{
+    entry(entries, key.as_str())
+}
+
 /// `v.key`.
 pub(crate) fn property<'a, T: Tables>(
     graph: &Snapshot<'a, T>,
     value: Found<'a>,
     key: &str,
 ) -> Result<Found<'a>, Fault>
-    ensures ok { IfOk result (λ f. property_of graph.now (found_view value) key.now ≡ Ok (found_view f)) }
-    ensures err { IfErr result (λ e. property_of graph.now (found_view value) key.now ≡ Err e) }
+    ensures ok { IfOk result (λ f. property_of graph.now (found_view value.entry) key.now ≡ Ok (found_view f)) }
+    ensures err { IfErr result (λ e. property_of graph.now (found_view value.entry) key.now ≡ Err e) }
 {
     match value {
         Found::Lent(value) => property_lent(graph, value, key),
@@ -70,7 +85,7 @@ fn property_lent<'a, T: Tables>(
 {
     match value {
         Value::Null => Ok(null()),
-        Value::Map(entries) => Ok(lent_or_null(entries.get(key))),
+        Value::Map(entries) => Ok(entry(entries, key)),
         Value::Node(id) => node_property(graph, *id, key),
         Value::Rel(id) => relationship_property(graph, *id, key),
         _ => Err(Fault::TypeFault),
@@ -101,8 +116,8 @@ pub(crate) fn index<'a, T: Tables>(
     value: Found<'a>,
     place: &Value,
 ) -> Result<Found<'a>, Fault>
-    ensures ok { IfOk result (λ f. indexed graph.now (found_view value) (view place.now) ≡ Ok (found_view f)) }
-    ensures err { IfErr result (λ e. indexed graph.now (found_view value) (view place.now) ≡ Err e) }
+    ensures ok { IfOk result (λ f. indexed graph.now (found_view value.entry) (view place.now) ≡ Ok (found_view f)) }
+    ensures err { IfErr result (λ e. indexed graph.now (found_view value.entry) (view place.now) ≡ Err e) }
 {
     match value {
         Found::Lent(value) => index_lent(graph, value, place),
@@ -121,17 +136,22 @@ fn index_lent<'a, T: Tables>(
     match (value, place) {
         (Value::Null, _) | (_, Value::Null) => Ok(null()),
         (Value::List(items), Value::Int(at)) => Ok(item_lent(items, *at)),
-        (Value::Map(entries), Value::Text(key)) => Ok(lent_or_null(entries.get(key.as_str()))),
+        (Value::Map(entries), Value::Text(key)) => Ok(entry_of_text(entries, key)),
         (Value::Node(id), Value::Text(key)) => node_property(graph, *id, key.as_str()),
         (Value::Rel(id), Value::Text(key)) => relationship_property(graph, *id, key.as_str()),
         _ => Err(Fault::TypeFault),
     }
 }
 
+#[tactic(auto, using(pg_expr_calls::proofs::Counts::reads))]
 pub(crate) fn item_at<'a>(items: &'a Vec<Value>, place: usize) -> Found<'a>
     ensures { found_view result ≡ item_at place (values_view items.now.items) }
 {
-    lent_or_null(items.get(place))
+    if place < items.len() {
+        Found::Lent(&items[place])
+    } else {
+        null()
+    }
 }
 
 /// The item at a place, counted from the end where it is negative.
@@ -160,9 +180,7 @@ fn index_made<'a, T: Tables>(
     match (value, place) {
         (Value::Null, _) | (_, Value::Null) => Ok(null()),
         (Value::List(items), Value::Int(at)) => Ok(Found::Made(item_of(items, *at))),
-        (Value::Map(entries), Value::Text(key)) => {
-            Ok(Found::Made(value_at(entries, key.as_str())))
-        }
+        (Value::Map(entries), Value::Text(key)) => { Ok(Found::Made(value_at_text(entries, key))) }
         (Value::Node(id), Value::Text(key)) => node_property(graph, id, key.as_str()),
         (Value::Rel(id), Value::Text(key)) => relationship_property(graph, id, key.as_str()),
         _ => Err(Fault::TypeFault),
@@ -175,8 +193,8 @@ pub(crate) fn labels<'a, T: Tables>(
     value: Found<'a>,
     labels: &Vec<Name>,
 ) -> Result<Found<'a>, Fault>
-    ensures ok { IfOk result (λ f. labelled graph.now (found_view value) (names_view labels.now.items) ≡ Ok (found_view f)) }
-    ensures err { IfErr result (λ e. labelled graph.now (found_view value) (names_view labels.now.items) ≡ Err e) }
+    ensures ok { IfOk result (λ f. labelled graph.now (found_view value.entry) (names_view labels.now.items) ≡ Ok (found_view f)) }
+    ensures err { IfErr result (λ e. labelled graph.now (found_view value.entry) (names_view labels.now.items) ≡ Err e) }
 {
     if labels.is_empty() {
         return Ok(value);

@@ -36,7 +36,7 @@ impl<'a> Found<'a> {
 
     /// The value, which is copied where it is lent.
     pub(crate) fn take(self, alloc: Global) -> Result<Value, AllocError>
-        ensures { IfOk result (λ v. view v ≡ found_view self) }
+        ensures { IfOk result (λ v. view v ≡ found_view self.entry) }
     {
         match self {
             Found::Lent(value) => value.copy(alloc),
@@ -53,7 +53,7 @@ pub(crate) fn null<'a>() -> Found<'a>
 
 /// A value that may be absent, which reads as null.
 pub(crate) fn lent_or_null<'a>(value: Option<&'a Value>) -> Found<'a>
-    ensures { found_view result ≡ unwrap_or (option_map (λ v. view v.now) value) null }
+    ensures { found_view result ≡ unwrap_or (option_map (λ v. view v.now) value.entry) null }
 {
     match value {
         Some(value) => Found::Lent(value),
@@ -62,7 +62,7 @@ pub(crate) fn lent_or_null<'a>(value: Option<&'a Value>) -> Found<'a>
 }
 
 pub(crate) fn or_null<'a>(found: Option<Found<'a>>) -> Found<'a>
-    ensures { found_view result ≡ unwrap_or (option_map found_view found) null }
+    ensures { found_view result ≡ unwrap_or (option_map found_view found.entry) null }
 {
     match found {
         Some(found) => found,

@@ -1,5 +1,5 @@
 -- The parts of an expression one after the other: what is found so far, and what is left.
-use Rattle.std.proofs.Common.{◌≡◌, ℕ, ◌+◌, ◌≤◌, true, false, List, [], ◌∷◌, ◌++◌, map, length, drop, Option, Some, None, Result, Ok, Err, refl, sym, ap, ◌∙◌}
+use Rattle.std.proofs.Common.{◌≡◌, ℕ, ◌≤◌, Bool, true, false, List, [], ◌∷◌, ◌++◌, map, length, drop, Option, Some, None, Result, Ok, Err, refl, sym, ap, subst, ◌∙◌}
 use Rattle.std.proofs.lemmas.List.{drop_all}
 use Rattle.std.specs.Prelude.{string_bytes}
 use Rattle.pg_expr.specs.Sites.{found_view, founds_view, pairs_view, given, given_each, given_pairs, given_first, given_true, given_chain, given_operands, given_tests, given_suffixes}
@@ -95,22 +95,36 @@ module _ (s : Site) (g : Graph) where
   next_pair found p ps v h = ap (λ r. r >>= λ u. pairs_given (put (string_bytes p.0.text) u found) ps) h
 
   pub next_null : (x : Expression) (xs : List Expression) (v : Datum) → given s g (expression_view x) ≡ Ok v → is_null v ≡ true → first_of (x ∷ xs) ≡ first_of xs
-  next_null x xs v h k = rw (h, k) refl
+  next_null x xs v h k =
+      ap (λ r. r >>= λ u. elim (is_null u) [ true ↦ first_of xs | false ↦ Ok u ]) h
+      ∙ (let P : Bool → Type 0 = λ b. ◌≡◌ {A = Answer} (elim b [ true ↦ first_of xs | false ↦ Ok v ]) (first_of xs) in subst P (sym k) refl)
 
   pub next_given : (x : Expression) (xs : List Expression) (v : Datum) → given s g (expression_view x) ≡ Ok v → is_null v ≡ false → first_of (x ∷ xs) ≡ Ok v
-  next_given x xs v h k = rw (h, k) refl
+  next_given x xs v h k =
+      ap (λ r. r >>= λ u. elim (is_null u) [ true ↦ first_of xs | false ↦ Ok u ]) h
+      ∙ (let P : Bool → Type 0 = λ b. ◌≡◌ {A = Answer} (elim b [ true ↦ first_of xs | false ↦ Ok v ]) (Ok v) in subst P (sym k) refl)
+
+  abbrev result_of : Expression → Result (Option Datum) Fault
+  result_of x = given s g (expression_view x) >>= λ u. Ok (Some u)
+
+  abbrev picked : Option Datum → Expression → List (Expression × Expression) → Result Tri Fault → Result (Option Datum) Fault
+  picked subject x ws q = q >>= λ t. elim (is_true t) [ true ↦ result_of x | false ↦ true_of subject ws ]
 
   pub next_false : (subject : Option Datum) (w : Expression × Expression) (ws : List (Expression × Expression)) (v : Datum) (t : Tri)
       → given s g (expression_view w.0) ≡ Ok v → condition_of subject v ≡ Ok t → is_true t ≡ false → true_of subject (w ∷ ws) ≡ true_of subject ws
-  next_false subject w ws v t h k b = rw (h, k, b) refl
+  next_false subject w ws v t h k b =
+      ap (λ r. r >>= λ u. picked subject w.1 ws (condition_of subject u)) h ∙ ap (picked subject w.1 ws) k
+      ∙ (let P : Bool → Type 0 = λ c. ◌≡◌ {A = Result (Option Datum) Fault} (elim c [ true ↦ result_of w.1 | false ↦ true_of subject ws ]) (true_of subject ws) in subst P (sym b) refl)
 
   pub next_true : (subject : Option Datum) (w : Expression × Expression) (ws : List (Expression × Expression)) (v : Datum) (t : Tri)
-      → given s g (expression_view w.0) ≡ Ok v → condition_of subject v ≡ Ok t → is_true t ≡ true → true_of subject (w ∷ ws) ≡ (given s g (expression_view w.1) >>= λ u. Ok (Some u))
-  next_true subject w ws v t h k b = rw (h, k, b) refl
+      → given s g (expression_view w.0) ≡ Ok v → condition_of subject v ≡ Ok t → is_true t ≡ true → true_of subject (w ∷ ws) ≡ result_of w.1
+  next_true subject w ws v t h k b =
+      ap (λ r. r >>= λ u. picked subject w.1 ws (condition_of subject u)) h ∙ ap (picked subject w.1 ws) k
+      ∙ (let P : Bool → Type 0 = λ c. ◌≡◌ {A = Result (Option Datum) Fault} (elim c [ true ↦ result_of w.1 | false ↦ true_of subject ws ]) (result_of w.1) in subst P (sym b) refl)
 
   pub next_unknown : (subject : Option Datum) (w : Expression × Expression) (ws : List (Expression × Expression)) (v : Datum) (e : Fault)
       → given s g (expression_view w.0) ≡ Ok v → condition_of subject v ≡ Err e → true_of subject (w ∷ ws) ≡ Err e
-  next_unknown subject w ws v e h k = rw (h, k) refl
+  next_unknown subject w ws v e h k = ap (λ r. r >>= λ u. picked subject w.1 ws (condition_of subject u)) h ∙ ap (picked subject w.1 ws) k
 
   pub next_combined : (v : Datum) (o : Operator) (x : Expression) (os : List (Operator × Expression)) (w : Datum) → given s g (expression_view x) ≡ Ok w
       → chain_of v ((o, x) ∷ os) ≡ (combined o v w >>= λ u. chain_of u os)

@@ -3,7 +3,7 @@ ghost use Rattle.std.specs.Prelude.{◌≡◌, ◌≢◌, IfOk, IfErr, Ok, Err, 
 ghost use Rattle.pg_expr.specs.Sites.{found_view, pairs_view};
 ghost use Rattle.pg_meaning.specs.Arithmetic.{plus, signed};
 ghost use Rattle.pg_meaning.specs.Expressions.{is_in as membership, combined, all_compared, begins_comparison, condition_of, is_comparison, tested, null_tested};
-ghost use Rattle.pg_meaning.specs.Logic.{is_true, negated};
+ghost use Rattle.pg_meaning.specs.Logic.{is_true};
 ghost use Rattle.pg_meaning.specs.declared.fault.Fault.TheVariants.{OutOfMemory};
 ghost use Rattle.pg_meaning.specs.Parse.{operands_of};
 ghost use Rattle.pg_syntax_tree.specs.View.{operand_view};
@@ -13,7 +13,7 @@ use crate::site::Found;
 use pg_expr_calls as values;
 use pg_meaning::{Operator, TextTest};
 use pg_syntax_tree::Expression;
-use pg_value::{and, eq3, is_in, not, truth_of, value_of};
+use pg_value::{and, eq3, is_in, truth_of, value_of};
 use pg_value_core::{Fault, Tri, Value};
 use std::alloc::Global;
 
@@ -110,17 +110,6 @@ pub(crate) fn null_tested<'a>(is_negated: bool, v: &Found<'_>) -> Found<'a>
     } else {
         Found::Made(values::is_null(v.look()))
     }
-}
-
-/// So many NOTs.
-pub(crate) fn negated(count: usize, t: Tri) -> Tri
-    ensures { result ≡ negated count t }
-{
-    let mut turned = t;
-    for _k in 0..count {
-        turned = not(turned);
-    }
-    turned
 }
 
 /// One sign before a value; true is a minus.

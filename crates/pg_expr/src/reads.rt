@@ -1,5 +1,5 @@
 //! What is read of a value: a property, an item, labels.
-ghost use Rattle.std.specs.Prelude.{◌≡◌, IfOk, IfErr, Ok, Err, map, string_bytes};
+ghost use Rattle.std.specs.Prelude.{◌≡◌, ◌≢◌, IfOk, IfErr, Ok, Err, map, string_bytes};
 ghost use Rattle.pg_expr.specs.Reads.{labels_tested};
 ghost use Rattle.pg_expr.specs.Sites.{found_view};
 ghost use Rattle.std.specs.List.{list_all};
@@ -8,15 +8,17 @@ ghost use Rattle.pg_meaning.specs.Entries.{value_at};
 ghost use Rattle.pg_meaning.specs.Expressions.{property_of, indexed, item_of, labelled};
 ghost use Rattle.pg_meaning.specs.Functions.{item_at};
 ghost use Rattle.pg_meaning.specs.Value.{node, relationship};
+ghost use Rattle.pg_meaning.specs.declared.fault.Fault.TheVariants.{OutOfMemory};
 ghost use Rattle.pg_syntax_tree.specs.View.{names_view};
 ghost use Rattle.pg_value_core.specs.View.{view, values_view, entries_view};
 
 use crate::site::{Found, lent_or_null, null};
-use pg_expr_calls::{item_of, value_at, value_at_text};
+use pg_expr_calls::value_at;
 use pg_graph::Tables;
 use pg_store::{NodeView, Snapshot};
 use pg_syntax_tree::Name;
 use pg_value_core::{Fault, NodeId, RelId, Value};
+use std::alloc::Global;
 use std::collections::BTreeMap;
 
 fn node_property<'a, T: Tables>(
@@ -112,16 +114,17 @@ fn property_made<'a, T: Tables>(
 
 /// `v[i]`.
 pub(crate) fn index<'a, T: Tables>(
+    alloc: Global,
     graph: &Snapshot<'a, T>,
     value: Found<'a>,
     place: &Value,
 ) -> Result<Found<'a>, Fault>
     ensures ok { IfOk result (λ f. indexed graph.now (found_view value.entry) (view place.now) ≡ Ok (found_view f)) }
-    ensures err { IfErr result (λ e. indexed graph.now (found_view value.entry) (view place.now) ≡ Err e) }
+    ensures err { IfErr result (λ e. e ≢ OutOfMemory → indexed graph.now (found_view value.entry) (view place.now) ≡ Err e) }
 {
     match value {
         Found::Lent(value) => index_lent(graph, value, place),
-        Found::Made(value) => index_made(graph, value, place),
+        Found::Made(value) => index_made(alloc, graph, value, place),
     }
 }
 
@@ -169,22 +172,18 @@ fn item_lent<'a>(items: &'a Vec<Value>, place: i64) -> Found<'a>
     item_at(items, items.len() - back)
 }
 
+/// What stands in a value that was made is copied out of it.
 fn index_made<'a, T: Tables>(
+    alloc: Global,
     graph: &Snapshot<'a, T>,
     value: Value,
     place: &Value,
 ) -> Result<Found<'a>, Fault>
     ensures ok { IfOk result (λ f. indexed graph.now (view value) (view place.now) ≡ Ok (found_view f)) }
-    ensures err { IfErr result (λ e. indexed graph.now (view value) (view place.now) ≡ Err e) }
+    ensures err { IfErr result (λ e. e ≢ OutOfMemory → indexed graph.now (view value) (view place.now) ≡ Err e) }
 {
-    match (value, place) {
-        (Value::Null, _) | (_, Value::Null) => Ok(null()),
-        (Value::List(items), Value::Int(at)) => Ok(Found::Made(item_of(items, *at))),
-        (Value::Map(entries), Value::Text(key)) => { Ok(Found::Made(value_at_text(entries, key))) }
-        (Value::Node(id), Value::Text(key)) => node_property(graph, id, key.as_str()),
-        (Value::Rel(id), Value::Text(key)) => relationship_property(graph, id, key.as_str()),
-        _ => Err(Fault::TypeFault),
-    }
+    let found = index_lent(graph, &value, place)?;
+    Ok(Found::Made(found.take(alloc)?))
 }
 
 /// Whether there are all the labels.

@@ -1,6 +1,0 @@
-use Rattle.std.proofs.Common.{◌≡◌}
-use Rattle.pg_meaning.specs.Logic.{negated}
-use Rattle.pg_expr.proofs.operators.negated.Given as goal
-
-abbrev pub invariant-loop-k : goal.invariant-loop-k
-invariant-loop-k l = l.turned ≡ negated l._k l.t

@@ -2,7 +2,7 @@
 ghost use Rattle.std.specs.Prelude.{◌≡◌, ◌≢◌, ◌<◌, ◌≤◌, ◌^◌, ◌∷◌, [], IfOk, IfErr, OnOk, Ok, Err, true};
 ghost use Rattle.pg_clauses.specs.Creation.{storable_values, room_for_one};
 ghost use Rattle.pg_clauses.specs.Fits.{label_texts};
-ghost use Rattle.pg_clauses.specs.Gives.{Gives};
+ghost use Rattle.pg_value_core.specs.Gives.{Gives};
 ghost use Rattle.pg_clauses.specs.Rows.{state_of};
 ghost use Rattle.pg_meaning.specs.Graph.{element_count};
 ghost use Rattle.pg_meaning.specs.Meters.{greatest_id};

@@ -3,7 +3,6 @@ pub mod Joins
 pub mod TextTests
 pub mod Counts
 pub mod Spelling
-pub mod Keyed
 pub mod Numerals
 pub mod Paths
 pub mod RangeSteps

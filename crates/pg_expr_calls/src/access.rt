@@ -69,7 +69,7 @@ pub fn property(v: Value, key: &str) -> Result<Value, Fault>
 
 /// The item at a place, counted from the end where it is negative.
 #[tactic(auto, using(crate::proofs::Counts::places))]
-fn item_of(items: Vec<Value>, place: i64) -> Value
+pub fn item_of(items: Vec<Value>, place: i64) -> Value
     ensures { view result ≡ item_of (values_view items.items) place }
 {
     if place >= 0 {
@@ -84,7 +84,7 @@ fn item_of(items: Vec<Value>, place: i64) -> Value
 }
 
 /// The value under a key, which moves out, and null where there is none.
-fn value_at(mut entries: BTreeMap<String, Value>, key: &str) -> Value
+pub fn value_at(mut entries: BTreeMap<String, Value>, key: &str) -> Value
     ensures { view result ≡ value_at key.now (entries_view entries.entries) }
 {
     match entries.remove(key) {

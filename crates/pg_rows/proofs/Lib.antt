@@ -1,6 +1,7 @@
 pub mod Apart
 pub mod FirstRows
 pub mod Moved
+pub mod NamedRows
 pub mod Occurrences
 pub mod Grouped
 pub mod Keyed

@@ -1,4 +1,5 @@
 pub mod Groups
 pub mod Laws
+pub mod Named
 pub mod Sorts
 pub mod Tables

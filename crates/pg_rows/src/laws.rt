@@ -1,4 +1,5 @@
 //! What places of rows are in the definitions.
+ghost use Rattle.pg_rows.specs.Named.{ValuesStandInColumns, NewColumnsBind, OldColumnsStay, ValuesAreTheRow};
 ghost use Rattle.pg_rows.specs.Laws.{SortsByKeys, FirstsAreAtPlaces, MovesKeepRows, FirstPlacesAreApart, SortedPlacesAreApart};
 
 /// The definition's sort is by the order of keys.
@@ -19,4 +20,13 @@ pub fn law_of_places()
     ensures moves { MovesKeepRows }
     ensures firsts { FirstPlacesAreApart }
     ensures sorted { SortedPlacesAreApart }
+{}
+
+/// Columns beside the values of a row are the definitions' row.
+#[tactic(auto, using(crate::proofs::NamedRows::values_stand, crate::proofs::NamedRows::new_columns, crate::proofs::NamedRows::old_columns, crate::proofs::NamedRows::values_are))]
+pub fn law_of_columns()
+    ensures found { ValuesStandInColumns }
+    ensures bound { NewColumnsBind }
+    ensures stay { OldColumnsStay }
+    ensures values { ValuesAreTheRow }
 {}

@@ -1,6 +1,7 @@
 //! The rows on which clauses work: which are equal, how they group, and how they sort.
 #![tactic(auto)]
 
+mod columns;
 mod firsts;
 mod groups;
 mod laws;
@@ -8,6 +9,7 @@ mod moves;
 mod sorts;
 mod table;
 
+pub use columns::Columns;
 pub use firsts::distinct;
 pub use groups::Groups;
 pub use sorts::sort;

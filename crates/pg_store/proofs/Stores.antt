@@ -113,3 +113,10 @@ node_is_below seen store shared id fit is = by_case (map.get (live (state_of see
     by_case : (o : Option NodeRecord) → map.get (live (state_of seen store shared)).nodes id ≡ o → IsSome o → id < 2 ^ 63
     by_case None none h = absurd (cc)
     by_case (Some n) there h = let below = (fit.well.holds.nodes id n there).below in let ids = fit.well.node_ids in omega (arith, below, ids)
+
+pub rel_is_below : {T S : Type 0} (seen : Seen T S) (store : Store T) (shared : S) (id : ℕ) → IsFit seen store shared → has_relationship (graph_of_store seen store shared) id ≡ true → id < 2 ^ 63
+rel_is_below seen store shared id fit is = by_case (map.get (live (state_of seen store shared)).rels id) refl (rel_held store.names (live (state_of seen store shared)) store.next.node store.next.rel id is)
+  where
+    by_case : (o : Option RelRecord) → map.get (live (state_of seen store shared)).rels id ≡ o → IsSome o → id < 2 ^ 63
+    by_case None none h = absurd (cc)
+    by_case (Some r) there h = let below = (fit.well.holds.rels id r there).below in let ids = fit.well.rel_ids in omega (arith, below, ids)

@@ -75,7 +75,8 @@ impl<'a, T: Tables> Snapshot<'a, T> {
     }
 
     pub fn has_rel(&self, id: RelId) -> bool
-        ensures { result ≡ has_relationship self.now id.0 }
+        ensures is { result ≡ has_relationship self.now id.0 }
+        ensures below { result ≡ true → id.0 < 2 ^ 63 }
     {
         self.store.has_rel(self.shared, id)
     }

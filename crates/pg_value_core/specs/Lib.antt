@@ -1,2 +1,4 @@
+pub mod Given
+pub mod Gives
 pub mod Hashed
 pub mod View

@@ -6,10 +6,12 @@ mod hashes;
 mod ids;
 mod ordering;
 mod out;
+mod parameters;
 mod value;
 
 pub use ids::{NodeId, Path, RelId};
 pub use ordering::{equivalent, order};
 pub use out::Out;
+pub use parameters::Parameters;
 pub use pg_meaning::{Fault, Tri};
 pub use value::Value;

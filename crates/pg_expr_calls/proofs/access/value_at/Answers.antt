@@ -1,5 +1,5 @@
 use Rattle.std.proofs.Common.{sym, ◌∙◌}
-use Rattle.pg_expr_calls.proofs.Keyed.{value_under, nothing_under}
+use Rattle.pg_value_core.proofs.Keyed.{value_under, nothing_under}
 use Rattle.pg_expr_calls.proofs.access.value_at.Goals as goal
 
 pub returns-in-Some : goal.returns-in-Some

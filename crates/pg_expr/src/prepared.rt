@@ -1,0 +1,44 @@
+//! Expressions made ready, once a clause, to be evaluated at its rows.
+ghost use Rattle.std.specs.Prelude.{◌≡◌, IfOk, option_map};
+ghost use Rattle.pg_expr.specs.Prepared.{tree_of, condition_of};
+ghost use Rattle.pg_syntax_tree.specs.View.{expression_view};
+
+use pg_rows::Columns;
+use pg_syntax_tree::Expression;
+use std::alloc::{AllocError, Global};
+
+/// An expression that was made ready for rows of given columns.
+#[derive(Clone, Copy)]
+pub struct Prepared<'a> {
+    pub(crate) tree: &'a Expression,
+}
+
+/// A condition that was made ready for rows of given columns; where there is none, each row meets it.
+#[derive(Clone, Copy)]
+pub struct PreparedCondition<'a> {
+    pub(crate) whole: Option<&'a Expression>,
+}
+
+pub fn prepare<'a>(
+    _alloc: Global,
+    expression: &'a Expression,
+    _names: &Columns,
+) -> Result<Prepared<'a>, AllocError>
+    ensures { IfOk result (λ p. tree_of _names.now p ≡ expression_view expression.now) }
+{
+    Ok(Prepared { tree: expression })
+}
+
+pub fn prepare_condition<'a>(
+    _alloc: Global,
+    condition: &'a Option<Expression>,
+    _names: &Columns,
+) -> Result<PreparedCondition<'a>, AllocError>
+    ensures { IfOk result (λ p. condition_of _names.now p ≡ option_map expression_view condition.now) }
+{
+    let whole = match condition {
+        Some(expression) => Some(expression),
+        None => None,
+    };
+    Ok(PreparedCondition { whole })
+}

@@ -1,9 +1,9 @@
 //! Why the program ends with an error.
 ghost use Rattle.std.specs.Prelude.{◌≡◌};
 ghost use Rattle.graphd.specs.Lines.{program_line, program_status};
-ghost use Rattle.graphd.specs.declared.fault.ProgramFault.TheVariants.{OutOfMemory, Config};
+ghost use Rattle.graphd.specs.declared.fault.ProgramFault.TheVariants.{OutOfMemory, Config, Serving};
 
-use pg_server::{ConfigFault, End};
+use pg_server::{ConfigFault, ServeFault};
 use std::alloc::AllocError;
 use std::io;
 
@@ -14,7 +14,8 @@ pub(crate) enum ProgramFault {
     /// The file of the configuration can't be read.
     Unreadable,
     Config(ConfigFault),
-    Ended(End),
+    /// The port can't be listened on, or a connection not be accepted.
+    Serving(ServeFault),
     /// The system gives no random numbers for the keys of hashes.
     NoRandomNumbers,
     OutOfMemory,
@@ -25,6 +26,14 @@ impl From<ConfigFault> for ProgramFault {
 
     fn from(fault: ConfigFault) -> Self {
         ProgramFault::Config(fault)
+    }
+}
+
+impl From<ServeFault> for ProgramFault {
+    ghost from_gives = { λ e f. f ≡ Serving e };
+
+    fn from(fault: ServeFault) -> Self {
+        ProgramFault::Serving(fault)
     }
 }
 
@@ -55,7 +64,7 @@ impl ProgramFault {
             ProgramFault::Usage => { "usage: graphd run CONFIG | graphd serve CONFIG PORT COUNT" }
             ProgramFault::Unreadable => "cannot read the configuration",
             ProgramFault::Config(fault) => fault.line(),
-            ProgramFault::Ended(end) => end.line(),
+            ProgramFault::Serving(fault) => fault.line(),
             ProgramFault::NoRandomNumbers => "no random numbers",
             ProgramFault::OutOfMemory => "out of memory",
         }
@@ -68,7 +77,7 @@ impl ProgramFault {
         match self {
             ProgramFault::Usage | ProgramFault::Unreadable => 2,
             ProgramFault::Config(fault) => fault.status(),
-            ProgramFault::Ended(end) => end.status(),
+            ProgramFault::Serving(fault) => fault.status(),
             ProgramFault::NoRandomNumbers | ProgramFault::OutOfMemory => 1,
         }
     }

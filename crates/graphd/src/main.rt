@@ -1,48 +1,60 @@
-//! The graph server as a program: frames from standard input, reply frames to standard output.
+//! The graph server as a program: frames in, reply frames out, over standard input and output or connections.
 #![tactic(auto)]
 
+mod command;
 mod fault;
+mod outcome;
 #[cfg(test)]
 mod tests;
 
+use command::{Command, command_of};
 use fault::ProgramFault;
-use pg_server::{Config, Counted, End, Server};
+use outcome::{line_of, status_of};
+use pg_server::{Config, Counted, End, ServeFault, Server, serve_on};
 use pg_tables::PlainTables;
 use std::hash::RandomState;
 use std::io::BufReader;
+use std::net::{Ipv4Addr, TcpListener};
 use std::process::ExitCode;
 use std::{env, fs, io};
 
 fn main(rt: HostRuntime) -> ExitCode {
-    match run_words(&rt) {
-        Ok(()) => ExitCode::SUCCESS,
-        Err(fault) => {
-            // Where even standard error fails, the status is all that can be told.
-            let _ = eprintln!(rt; "graphd: {}", fault.line());
-            ExitCode::from(fault.status())
-        }
+    let outcome = run_words(&rt);
+    let line = line_of(&outcome);
+    if !line.is_empty() {
+        // Where even standard error fails, the status is all that can be told.
+        let _ = eprintln!(rt; "graphd: {line}");
     }
+    ExitCode::from(status_of(&outcome))
 }
 
 /// Does what the words of the command line ask for.
-fn run_words(rt: &HostRuntime) -> Result<(), ProgramFault> {
-    let path = config_path(rt)?;
-    let bytes = read_file(rt, path.as_str())?;
-    let config = Config::read(rt.alloc(), &bytes)?;
-    serve_standard(rt, config)
+fn run_words(rt: &HostRuntime) -> Result<End, ProgramFault> {
+    let words: Vec<String> = env::args(rt)?.skip(1).collect(rt.alloc())?;
+    match command_of(&words) {
+        Some(Command::Run { config }) => serve_standard(rt, new_server(rt, config)?),
+        Some(
+            Command::Serve {
+                config,
+                port,
+                count,
+            },
+        ) => serve_port(rt, new_server(rt, config)?, port, count),
+        None => Err(ProgramFault::Usage),
+    }
 }
 
-/// The CONFIG of `graphd run CONFIG`.
-fn config_path(rt: &HostRuntime) -> Result<String, ProgramFault> {
-    let mut words = env::args(rt)?;
-    words.next();
-    let (Some(verb), Some(path), None) = (words.next(), words.next(), words.next()) else {
-        return Err(ProgramFault::Usage);
+/// A server of the configuration at a path.
+fn new_server(
+    rt: &HostRuntime,
+    path: &str,
+) -> Result<Server<RandomState, PlainTables>, ProgramFault> {
+    let bytes = read_file(rt, path)?;
+    let config = Config::read(rt.alloc(), &bytes)?;
+    let Ok(hasher) = RandomState::new(rt) else {
+        return Err(ProgramFault::NoRandomNumbers);
     };
-    if verb.as_str() != "run" {
-        return Err(ProgramFault::Usage);
-    }
-    Ok(path)
+    Ok(Server::new(rt.alloc(), config, hasher)?)
 }
 
 fn read_file(rt: &HostRuntime, path: &str) -> Result<Vec<u8>, ProgramFault> {
@@ -54,15 +66,25 @@ fn read_file(rt: &HostRuntime, path: &str) -> Result<Vec<u8>, ProgramFault> {
 }
 
 /// Serves standard input to standard output, until its end.
-fn serve_standard(rt: &HostRuntime, config: Config) -> Result<(), ProgramFault> {
-    let Ok(hasher) = RandomState::new(rt) else {
-        return Err(ProgramFault::NoRandomNumbers);
-    };
-    let mut server: Server<RandomState, PlainTables> = Server::new(rt.alloc(), config, hasher)?;
+fn serve_standard(
+    rt: &HostRuntime,
+    mut server: Server<RandomState, PlainTables>,
+) -> Result<End, ProgramFault> {
     let mut reader = Counted::new(BufReader::new(rt.alloc(), rt.reader())?);
     let mut writer = Counted::new(io::writer(rt));
-    match server.run(&mut reader, &mut writer, u64::MAX) {
-        End::Done => Ok(()),
-        end => Err(ProgramFault::Ended(end)),
-    }
+    Ok(server.run(&mut reader, &mut writer, u64::MAX))
+}
+
+/// Serves so many connections at a port of this machine.
+fn serve_port(
+    rt: &HostRuntime,
+    mut server: Server<RandomState, PlainTables>,
+    port: u16,
+    count: u64,
+) -> Result<End, ProgramFault> {
+    let Ok(listener) = TcpListener::bind(rt, (Ipv4Addr::LOCALHOST, port)) else {
+        return Err(ServeFault::Accept.into());
+    };
+    serve_on(&listener, &mut server, count)?;
+    Ok(End::Done)
 }

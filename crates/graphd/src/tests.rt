@@ -1,4 +1,6 @@
+mod commands;
 mod configurations;
+mod connections;
 mod devices;
 mod queries;
 mod runs;

@@ -1,6 +1,6 @@
 //! Configurations, whole and faulty.
 use crate::fault::ProgramFault;
-use pg_server::{Config, ConfigFault, End};
+use pg_server::{Config, ConfigFault, ServeFault};
 use std::alloc::Global;
 use std::test::Fail;
 
@@ -203,8 +203,8 @@ fn faults_are_told(rt: HostRuntime) {
             1,
         ),
         (
-            ProgramFault::Ended(End::Cut),
-            "input ended inside a frame",
+            ProgramFault::Serving(ServeFault::Accept),
+            "cannot listen",
             1,
         ),
         (ProgramFault::NoRandomNumbers, "no random numbers", 1),

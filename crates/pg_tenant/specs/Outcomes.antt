@@ -10,7 +10,8 @@ use Rattle.pg_meaning.specs.declared.fault.Fault.{Fault}
 use Rattle.pg_meaning.specs.declared.fault.Fault.TheVariants.{ReadOnly, MissingParameter, NotYet}
 use Rattle.pg_plan.specs.Parameters.{has_parameters}
 use Rattle.pg_plan.specs.Plans.{IsPlanOfText, plan_query}
-use Rattle.pg_plan.specs.Reading.{greatest_text, tested_length, text_checked}
+use Rattle.pg_meaning.specs.Texts.{text_checked}
+use Rattle.pg_plan.specs.Reading.{greatest_text, tested_length}
 use Rattle.pg_plan.specs.Updates.{updates}
 use Rattle.pg_plan.specs.declared.statement.Plan.{Plan}
 use Rattle.pg_run.specs.Plain.{answered_statement}

@@ -28,6 +28,10 @@ are_given q = unless (not (has_parameters q)) MissingParameter
 abbrev pub is_built : Query → Result (Unit {0}) Fault
 is_built q = unless (is_some (answered_statement q)) NotYet
 
+-- the tests of a query that come before any clause
+abbrev pub early_tests : Bool → Query → Result (Unit {0}) Fault
+early_tests may_write q = unless (may_write || not (updates q)) ReadOnly >> (are_given q >> is_built q)
+
 module _ (may_write : Bool) (max_steps max_elements : ℕ) where
   abbrev pub permitted : Query → Result (Unit {0}) Fault
   permitted q = unless (may_write || not (updates q)) ReadOnly

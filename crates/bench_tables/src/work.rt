@@ -7,7 +7,7 @@ use pg_graph::{Labels, NodeRecord, Properties, Tables};
 use pg_names::{NameId, Names};
 use pg_value_core::{NodeId, Value};
 use std::alloc::{AllocError, Global};
-use std::hash::BuildHasherDefault;
+use std::hash::{BuildHasherDefault, FoldHasher};
 
 const TEXT: &str = "a name of some forty letters, plain ones";
 
@@ -21,7 +21,10 @@ pub struct Schema {
 
 impl Schema {
     pub fn new(alloc: Global) -> Result<Schema, AllocError> {
-        let mut names = Names::new(alloc, BuildHasherDefault::new());
+        let mut names: Names<BuildHasherDefault<FoldHasher>> = Names::new(
+            alloc,
+            BuildHasherDefault::new(),
+        );
         Ok(Schema {
             label: names.intern("Person")?,
             name: names.intern("name")?,

@@ -1,0 +1,6 @@
+pub mod Applied
+pub mod Comparisons
+pub mod Conjuncts
+pub mod Presence
+pub mod RowReads
+pub mod Walks

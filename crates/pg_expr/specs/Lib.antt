@@ -1,1 +1,6 @@
+pub mod Calls
+pub mod Conditions
+pub mod Elements
 pub mod Prepared
+pub mod Reads
+pub mod Sites

@@ -1,9 +1,16 @@
 //! The value or the fault of an expression of the query language at a row.
 #![tactic(auto)]
 
+mod atoms;
+mod calls;
 mod conditions;
+mod elements;
 mod evaluation;
+mod made;
+mod operators;
 mod prepared;
+mod reads;
+mod site;
 
 pub use conditions::condition;
 pub use evaluation::evaluate;

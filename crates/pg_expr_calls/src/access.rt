@@ -36,7 +36,8 @@ pub fn index_map(entries: BTreeMap<String, Value>, i: &Value) -> Result<Value, F
     }
 }
 
-fn value_at_text(entries: BTreeMap<String, Value>, key: &String) -> Value
+/// The value under a key, which moves out, and null where there is none.
+pub fn value_at_text(entries: BTreeMap<String, Value>, key: &String) -> Value
     ensures { view result ≡ value_at (string_bytes key.now) (entries_view entries.entries) }
 {
     value_at(entries, key.as_str())

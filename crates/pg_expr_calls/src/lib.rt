@@ -11,12 +11,12 @@ mod parts;
 mod ranges;
 mod texts;
 
-pub use access::{index_list, index_map, index_other, item_of, property, value_at};
+pub use access::{index_list, index_map, index_other, item_of, property, value_at, value_at_text};
 pub use arithmetic::{divide, minus, modulo, negative, positive, times};
 pub use chains::{compared, conjunction, disjunction, exclusive};
 pub use functions::{absolute, head, last, length, size, to_integer, to_text};
 pub use joined::plus;
-pub use limits::made;
+pub use limits::{is_within_limits, made};
 pub use parts::{keys, nodes, relationships};
 pub use ranges::integers_from;
 pub use texts::{begins_with, contains, finishes_with, is_not_null, is_null};

@@ -1,0 +1,146 @@
+-- The parts of an expression one after the other: what is found so far, and what is left.
+use Rattle.std.proofs.Common.{◌≡◌, ℕ, ◌≤◌, Bool, true, false, List, [], ◌∷◌, ◌++◌, map, length, drop, Option, Some, None, Result, Ok, Err, refl, sym, ap, subst, ◌∙◌}
+use Rattle.std.proofs.lemmas.List.{drop_all}
+use Rattle.std.specs.Prelude.{string_bytes}
+use Rattle.pg_expr.specs.Sites.{found_view, founds_view, pairs_view, given, given_each, given_pairs, given_first, given_true, given_chain, given_operands, given_tests, given_suffixes}
+use Rattle.pg_expr.specs.declared.site.Found.{Found}
+use Rattle.pg_expr.specs.declared.site.Site.{Site}
+use Rattle.pg_meaning.specs.Answer.{Answer, ◌>>=◌}
+use Rattle.pg_meaning.specs.Arithmetic.{appended}
+use Rattle.pg_meaning.specs.Entries.{put}
+use Rattle.pg_meaning.specs.Expressions.{combined, condition_of, tested, null_tested, property_of, indexed}
+use Rattle.pg_meaning.specs.Functions.{is_null}
+use Rattle.pg_meaning.specs.Graph.{Graph}
+use Rattle.pg_meaning.specs.Logic.{is_true}
+use Rattle.pg_meaning.specs.Parse.{expressions_of, operands_of, pairs_of, whens_of}
+use Rattle.pg_meaning.specs.Value.{Value as Datum, Values, no_items, item, Entries}
+use Rattle.pg_meaning.specs.declared.fault.Fault.{Fault}
+use Rattle.pg_meaning.specs.declared.logic.Tri.{Tri}
+use Rattle.pg_meaning.specs.declared.operators.Operator.{Operator}
+use Rattle.pg_meaning.specs.declared.operators.TextTest.{TextTest}
+use Rattle.pg_syntax_tree.specs.View.{expression_view, pair_view, when_view, operand_view, test_view, tests_of, suffix_view, suffixes_of, name_view}
+use Rattle.pg_syntax_tree.specs.declared.expression.Expression.{Expression}
+use Rattle.pg_syntax_tree.specs.declared.expression.Name.{Name}
+use Rattle.pg_syntax_tree.specs.declared.expression.Suffix.{Suffix}
+use Rattle.pg_syntax_tree.specs.declared.expression.Suffix.TheVariants as suffix
+use Rattle.pg_syntax_tree.specs.declared.expression.Test.{Test}
+use Rattle.pg_syntax_tree.specs.declared.expression.Test.TheVariants as test
+
+-- the values that are there, and those that are left
+abbrev pub joined : Values → Result Values Fault → Result Values Fault
+joined found rest = rest >>= λ ws. Ok (appended found ws)
+
+abbrev pub joined_pairs : List (Operator × Datum) → Result (List (Operator × Datum)) Fault → Result (List (Operator × Datum)) Fault
+joined_pairs found rest = rest >>= λ ps. Ok (found ++ ps)
+
+pub appended_nothing : (vs : Values) → appended vs no_items ≡ vs
+appended_nothing no_items = refl
+appended_nothing (item v vs) = ap (item v) (appended_nothing vs)
+
+pushed : (fs : List Found) (f : Found) (ws : Values) → appended (founds_view (fs ++ f ∷ [])) ws ≡ appended (founds_view fs) (item (found_view f) ws)
+pushed [] f ws = refl
+pushed (g ∷ fs) f ws = ap (item (found_view g)) (pushed fs f ws)
+
+moved : (fs : List Found) (f : Found) (r : Result Values Fault) → joined (founds_view fs) (r >>= λ ws. Ok (item (found_view f) ws)) ≡ joined (founds_view (fs ++ f ∷ [])) r
+moved fs f (Ok ws) = ap Ok (sym (pushed fs f ws))
+moved fs f (Err e) = refl
+
+pairs_pushed : (fs : List (Operator × Found)) (o : Operator) (f : Found) (ps : List (Operator × Datum)) → pairs_view (fs ++ (o, f) ∷ []) ++ ps ≡ pairs_view fs ++ (o, found_view f) ∷ ps
+pairs_pushed [] o f ps = refl
+pairs_pushed (g ∷ fs) o f ps = ap (λ qs. (g.0, found_view g.1) ∷ qs) (pairs_pushed fs o f ps)
+
+pairs_moved : (fs : List (Operator × Found)) (o : Operator) (f : Found) (r : Result (List (Operator × Datum)) Fault)
+    → joined_pairs (pairs_view fs) (r >>= λ ps. Ok ((o, found_view f) ∷ ps)) ≡ joined_pairs (pairs_view (fs ++ (o, f) ∷ [])) r
+pairs_moved fs o f (Ok ps) = ap Ok (sym (pairs_pushed fs o f ps))
+pairs_moved fs o f (Err e) = refl
+
+append_nothing : (ps : List (Operator × Datum)) → ps ++ [] ≡ ps
+append_nothing [] = refl
+append_nothing (p ∷ ps) = ap (λ qs. p ∷ qs) (append_nothing ps)
+
+module _ (s : Site) (g : Graph) where
+  abbrev pub each_of : List Expression → Result Values Fault
+  each_of xs = given_each s g (expressions_of (map expression_view xs))
+
+  abbrev pub pairs_given : Entries → List (Name × Expression) → Result Entries Fault
+  pairs_given found ps = given_pairs s g found (pairs_of (map pair_view ps))
+
+  abbrev pub first_of : List Expression → Answer
+  first_of xs = given_first s g (expressions_of (map expression_view xs))
+
+  abbrev pub true_of : Option Datum → List (Expression × Expression) → Result (Option Datum) Fault
+  true_of subject ws = given_true s g subject (whens_of (map when_view ws))
+
+  abbrev pub chain_of : Datum → List (Operator × Expression) → Answer
+  chain_of v os = given_chain s g v (operands_of (map operand_view os))
+
+  abbrev pub operands_given : List (Operator × Expression) → Result (List (Operator × Datum)) Fault
+  operands_given os = given_operands s g (operands_of (map operand_view os))
+
+  abbrev pub tests_given : Datum → List (Test Expression) → Answer
+  tests_given v ts = given_tests s g v (tests_of (map test_view ts))
+
+  abbrev pub suffixes_given : Datum → List (Suffix Expression) → Answer
+  suffixes_given v ss = given_suffixes s g v (suffixes_of (map suffix_view ss))
+
+  pub next_item : (fs : List Found) (x : Expression) (xs : List Expression) (f : Found) → given s g (expression_view x) ≡ Ok (found_view f)
+      → joined (founds_view fs) (each_of (x ∷ xs)) ≡ joined (founds_view (fs ++ f ∷ [])) (each_of xs)
+  next_item fs x xs f h = ap (λ r. joined (founds_view fs) (r >>= λ u. each_of xs >>= λ us. Ok (item u us))) h ∙ moved fs f (each_of xs)
+
+  pub no_more_items : (fs : List Found) (i : ℕ) (xs : List Expression) → length xs ≤ i → joined (founds_view fs) (each_of (drop i xs)) ≡ Ok (founds_view fs)
+  no_more_items fs i xs h = ap (λ ys. joined (founds_view fs) (each_of ys)) (drop_all i xs h) ∙ ap Ok (appended_nothing (founds_view fs))
+
+  pub next_pair : (found : Entries) (p : Name × Expression) (ps : List (Name × Expression)) (v : Datum) → given s g (expression_view p.1) ≡ Ok v
+      → pairs_given found (p ∷ ps) ≡ pairs_given (put (string_bytes p.0.text) v found) ps
+  next_pair found p ps v h = ap (λ r. r >>= λ u. pairs_given (put (string_bytes p.0.text) u found) ps) h
+
+  pub next_null : (x : Expression) (xs : List Expression) (v : Datum) → given s g (expression_view x) ≡ Ok v → is_null v ≡ true → first_of (x ∷ xs) ≡ first_of xs
+  next_null x xs v h k =
+      ap (λ r. r >>= λ u. elim (is_null u) [ true ↦ first_of xs | false ↦ Ok u ]) h
+      ∙ (let P : Bool → Type 0 = λ b. ◌≡◌ {A = Answer} (elim b [ true ↦ first_of xs | false ↦ Ok v ]) (first_of xs) in subst P (sym k) refl)
+
+  pub next_given : (x : Expression) (xs : List Expression) (v : Datum) → given s g (expression_view x) ≡ Ok v → is_null v ≡ false → first_of (x ∷ xs) ≡ Ok v
+  next_given x xs v h k =
+      ap (λ r. r >>= λ u. elim (is_null u) [ true ↦ first_of xs | false ↦ Ok u ]) h
+      ∙ (let P : Bool → Type 0 = λ b. ◌≡◌ {A = Answer} (elim b [ true ↦ first_of xs | false ↦ Ok v ]) (Ok v) in subst P (sym k) refl)
+
+  abbrev result_of : Expression → Result (Option Datum) Fault
+  result_of x = given s g (expression_view x) >>= λ u. Ok (Some u)
+
+  abbrev picked : Option Datum → Expression → List (Expression × Expression) → Result Tri Fault → Result (Option Datum) Fault
+  picked subject x ws q = q >>= λ t. elim (is_true t) [ true ↦ result_of x | false ↦ true_of subject ws ]
+
+  pub next_false : (subject : Option Datum) (w : Expression × Expression) (ws : List (Expression × Expression)) (v : Datum) (t : Tri)
+      → given s g (expression_view w.0) ≡ Ok v → condition_of subject v ≡ Ok t → is_true t ≡ false → true_of subject (w ∷ ws) ≡ true_of subject ws
+  next_false subject w ws v t h k b =
+      ap (λ r. r >>= λ u. picked subject w.1 ws (condition_of subject u)) h ∙ ap (picked subject w.1 ws) k
+      ∙ (let P : Bool → Type 0 = λ c. ◌≡◌ {A = Result (Option Datum) Fault} (elim c [ true ↦ result_of w.1 | false ↦ true_of subject ws ]) (true_of subject ws) in subst P (sym b) refl)
+
+  pub next_true : (subject : Option Datum) (w : Expression × Expression) (ws : List (Expression × Expression)) (v : Datum) (t : Tri)
+      → given s g (expression_view w.0) ≡ Ok v → condition_of subject v ≡ Ok t → is_true t ≡ true → true_of subject (w ∷ ws) ≡ result_of w.1
+  next_true subject w ws v t h k b =
+      ap (λ r. r >>= λ u. picked subject w.1 ws (condition_of subject u)) h ∙ ap (picked subject w.1 ws) k
+      ∙ (let P : Bool → Type 0 = λ c. ◌≡◌ {A = Result (Option Datum) Fault} (elim c [ true ↦ result_of w.1 | false ↦ true_of subject ws ]) (result_of w.1) in subst P (sym b) refl)
+
+  pub next_unknown : (subject : Option Datum) (w : Expression × Expression) (ws : List (Expression × Expression)) (v : Datum) (e : Fault)
+      → given s g (expression_view w.0) ≡ Ok v → condition_of subject v ≡ Err e → true_of subject (w ∷ ws) ≡ Err e
+  next_unknown subject w ws v e h k = ap (λ r. r >>= λ u. picked subject w.1 ws (condition_of subject u)) h ∙ ap (picked subject w.1 ws) k
+
+  pub next_combined : (v : Datum) (o : Operator) (x : Expression) (os : List (Operator × Expression)) (w : Datum) → given s g (expression_view x) ≡ Ok w
+      → chain_of v ((o, x) ∷ os) ≡ (combined o v w >>= λ u. chain_of u os)
+  next_combined v o x os w h = ap (λ r. r >>= λ u. combined o v u >>= λ z. chain_of z os) h
+
+  pub next_operand : (fs : List (Operator × Found)) (o : Operator) (x : Expression) (os : List (Operator × Expression)) (f : Found) → given s g (expression_view x) ≡ Ok (found_view f)
+      → joined_pairs (pairs_view fs) (operands_given ((o, x) ∷ os)) ≡ joined_pairs (pairs_view (fs ++ (o, f) ∷ [])) (operands_given os)
+  next_operand fs o x os f h = ap (λ r. joined_pairs (pairs_view fs) (r >>= λ u. operands_given os >>= λ ps. Ok ((o, u) ∷ ps))) h ∙ pairs_moved fs o f (operands_given os)
+
+  pub no_more_operands : (fs : List (Operator × Found)) (i : ℕ) (os : List (Operator × Expression)) → length os ≤ i → joined_pairs (pairs_view fs) (operands_given (drop i os)) ≡ Ok (pairs_view fs)
+  no_more_operands fs i os h = ap (λ ps. joined_pairs (pairs_view fs) (operands_given ps)) (drop_all i os h) ∙ ap Ok (append_nothing (pairs_view fs))
+
+  pub next_text_test : (v : Datum) (t : TextTest) (y : Expression) (ts : List (Test Expression)) (w : Datum) → given s g (expression_view y) ≡ Ok w
+      → tests_given v (test.Text t y ∷ ts) ≡ (tested t v w >>= λ u. tests_given u ts)
+  next_text_test v t y ts w h = ap (λ r. r >>= λ u. tested t v u >>= λ z. tests_given z ts) h
+
+  pub next_index : (v : Datum) (y : Expression) (ss : List (Suffix Expression)) (w : Datum) → given s g (expression_view y) ≡ Ok w
+      → suffixes_given v (suffix.Index y ∷ ss) ≡ (indexed g v w >>= λ u. suffixes_given u ss)
+  next_index v y ss w h = ap (λ r. r >>= λ u. indexed g v u >>= λ z. suffixes_given z ss) h

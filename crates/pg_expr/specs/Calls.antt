@@ -1,0 +1,28 @@
+-- The parts of calls.
+use Rattle.std.specs.Prelude.{◌≡◌, ℕ, Bool, true, false, List, Option, Some, None, Result, Ok, Err}
+use Rattle.pg_expr.specs.Sites.{given_each, given_first}
+use Rattle.pg_expr.specs.declared.site.Site.{Site}
+use Rattle.pg_meaning.specs.Answer.{Answer, ◌>>=◌}
+use Rattle.pg_meaning.specs.Expressions.{is_coalesce, fault_of_name}
+use Rattle.pg_meaning.specs.Functions.{Function, function_named, applied, of_one}
+use Rattle.pg_meaning.specs.Functions as function
+use Rattle.pg_meaning.specs.Graph.{Graph}
+use Rattle.pg_meaning.specs.Tree as tree
+use Rattle.pg_meaning.specs.Value.{Value, Values}
+use Rattle.pg_meaning.specs.declared.fault.Fault.{Fault}
+use Rattle.pg_meaning.specs.declared.fault.Fault.TheVariants.{UnknownFunction}
+
+-- a call of what stands under a name
+abbrev pub given_call : Site → Graph → List ℕ → tree.Expressions → Answer
+given_call s g name es = elim (function_named name) [
+  | Some f ↦ elim (is_coalesce f) [ true ↦ given_first s g es | false ↦ given_each s g es >>= applied g f ]
+  | None ↦ Err (fault_of_name name)
+]
+
+abbrev pub is_range : Function → Bool
+is_range function.range = true
+is_range f = false
+
+-- no function of one value takes so many
+abbrev pub IsNotOne : Values → Type 0
+IsNotOne vs = (f : Value → Answer) → of_one f vs ≡ Err UnknownFunction

@@ -1,0 +1,22 @@
+-- The conjuncts of a condition one after the other.
+use Rattle.std.specs.Prelude.{Bool, true, false, List, Result, Ok}
+use Rattle.pg_expr.specs.Sites.{given, row_at, parameters_at}
+use Rattle.pg_expr.specs.declared.site.Site.{Site}
+use Rattle.pg_meaning.specs.Answer.{◌>>=◌}
+use Rattle.pg_meaning.specs.Conditions.{all_true}
+use Rattle.pg_meaning.specs.Graph.{Graph}
+use Rattle.pg_meaning.specs.Logic.{truth_of, is_true}
+use Rattle.pg_meaning.specs.Tree as tree
+use Rattle.pg_meaning.specs.declared.fault.Fault.{Fault}
+use Rattle.pg_meaning.specs.declared.operators.Operator.TheVariants.{And}
+
+-- whether one conjunct is true
+abbrev pub is_met_by : Site → Graph → tree.Expression → Result Bool Fault
+is_met_by s g e = given s g e >>= λ v. truth_of v >>= λ t. Ok (is_true t)
+
+abbrev pub all_met_by : Site → Graph → List tree.Expression → Result Bool Fault
+all_met_by s g es = all_true (row_at s) (parameters_at s) g es
+
+abbrev pub begins_conjunction : tree.Operands → Bool
+begins_conjunction (tree.operand And e os) = true
+begins_conjunction os = false

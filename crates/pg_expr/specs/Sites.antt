@@ -1,0 +1,64 @@
+-- What expressions give at a site: a row under names, with the parameters of the request.
+use Rattle.std.specs.Prelude.{List, map, Option, Result}
+use Rattle.pg_expr.specs.declared.site.Found.{Found}
+use Rattle.pg_expr.specs.declared.site.Found.TheVariants.{Lent, Made}
+use Rattle.pg_expr.specs.declared.site.Site.{Site}
+use Rattle.pg_meaning.specs.Answer.{Answer}
+use Rattle.pg_meaning.specs.Expressions as meaning
+use Rattle.pg_meaning.specs.Graph.{Graph}
+use Rattle.pg_meaning.specs.Rows.{Row}
+use Rattle.pg_meaning.specs.Tree as tree
+use Rattle.pg_meaning.specs.Value.{Value as Datum, Values, values_of, Entries}
+use Rattle.pg_meaning.specs.declared.fault.Fault.{Fault}
+use Rattle.pg_meaning.specs.declared.operators.Operator.{Operator}
+use Rattle.pg_rows.specs.Named.{row_of}
+use Rattle.pg_value_core.specs.Given.{parameters_view}
+use Rattle.pg_value_core.specs.View.{view}
+
+abbrev pub found_view : Found → Datum
+found_view (Lent v) = view v.now
+found_view (Made v) = view v
+
+abbrev pub founds_view : List Found → Values
+founds_view fs = values_of (map found_view fs)
+
+abbrev pub row_at : Site → Row
+row_at s = row_of s.names.now (map view s.row.now)
+
+abbrev pub parameters_at : Site → Entries
+parameters_at s = parameters_view s.parameters.now
+
+abbrev pub given : Site → Graph → tree.Expression → Answer
+given s g e = meaning.evaluate (row_at s) (parameters_at s) g e
+
+abbrev pub pairs_view : List (Operator × Found) → List (Operator × Datum)
+pairs_view ps = map (λ p. (p.0, found_view p.1)) ps
+
+-- ---- what parts of expressions give
+
+abbrev pub given_each : Site → Graph → tree.Expressions → Result Values Fault
+given_each s g es = meaning.evaluate_each (row_at s) (parameters_at s) g es
+
+abbrev pub given_pairs : Site → Graph → Entries → tree.Pairs → Result Entries Fault
+given_pairs s g found ps = meaning.evaluate_pairs (row_at s) (parameters_at s) g found ps
+
+abbrev pub given_first : Site → Graph → tree.Expressions → Answer
+given_first s g es = meaning.first_given (row_at s) (parameters_at s) g es
+
+abbrev pub given_perhaps : Site → Graph → tree.Perhaps → Result (Option Datum) Fault
+given_perhaps s g e = meaning.evaluate_perhaps (row_at s) (parameters_at s) g e
+
+abbrev pub given_true : Site → Graph → Option Datum → tree.Whens → Result (Option Datum) Fault
+given_true s g subject ws = meaning.first_true (row_at s) (parameters_at s) g subject ws
+
+abbrev pub given_chain : Site → Graph → Datum → tree.Operands → Answer
+given_chain s g v os = meaning.evaluate_chain (row_at s) (parameters_at s) g v os
+
+abbrev pub given_operands : Site → Graph → tree.Operands → Result (List (Operator × Datum)) Fault
+given_operands s g os = meaning.evaluate_operands (row_at s) (parameters_at s) g os
+
+abbrev pub given_tests : Site → Graph → Datum → tree.Tests → Answer
+given_tests s g v ts = meaning.evaluate_tests (row_at s) (parameters_at s) g v ts
+
+abbrev pub given_suffixes : Site → Graph → Datum → tree.Suffixes → Answer
+given_suffixes s g v ss = meaning.evaluate_suffixes (row_at s) (parameters_at s) g v ss

@@ -1,0 +1,225 @@
+//! What functions give: deleted elements among the arguments first, then null, then the function, then the limits.
+ghost use Rattle.std.specs.Prelude.{◌≡◌, ◌≢◌, IfOk, IfErr, IfSome, IfNone, Ok, Err, false, ◌-◌};
+ghost use Rattle.pg_expr.specs.Calls.{is_range, IsNotOne};
+ghost use Rattle.pg_expr.specs.Sites.{found_view, founds_view};
+ghost use Rattle.pg_meaning.specs.Expressions.{fault_of_name};
+ghost use Rattle.pg_meaning.specs.Expressions as meaning;
+ghost use Rattle.pg_meaning.specs.Functions.{applied, function_at, has_deleted, has_null, is_deleted, is_null, head_of, last_of, string_of};
+ghost use Rattle.pg_meaning.specs.Functions as functions;
+ghost use Rattle.pg_meaning.specs.Value.{item, no_items};
+ghost use Rattle.pg_meaning.specs.declared.fault.Fault.TheVariants.{OutOfMemory};
+ghost use Rattle.pg_scope.specs.Calls.{function_view};
+ghost use Rattle.pg_value_core.specs.View.{view, values_view};
+
+use crate::elements::{keys, kind, labels, number, properties, source, target};
+use crate::made::made;
+use crate::reads::item_at;
+use crate::site::{Found, null};
+use pg_expr_calls as values;
+use pg_graph::Tables;
+use pg_scope::{Function, summary_named};
+use pg_store::Snapshot;
+use pg_value_core::{Fault, Value};
+use std::alloc::Global;
+
+/// What a call of no function is.
+pub(crate) fn call_fault(name: &str) -> Fault
+    ensures { result ≡ fault_of_name name.now }
+{
+    if summary_named(name).is_some() {
+        Fault::BadAggregate
+    } else {
+        Fault::UnknownFunction
+    }
+}
+
+pub(crate) fn is_coalesce(function: Function) -> bool
+    ensures { result ≡ meaning.is_coalesce (function_view function) }
+{
+    matches!(function, Function::Coalesce)
+}
+
+pub(crate) fn is_null(v: &Found<'_>) -> bool
+    ensures { result ≡ is_null (found_view v.now) }
+{
+    matches!(v.look(), Value::Null)
+}
+
+/// What a function gives at its arguments.
+#[tactic(auto, using(crate::proofs::Applied::steps))]
+pub(crate) fn applied<'a, T: Tables>(
+    alloc: Global,
+    graph: &Snapshot<'a, T>,
+    function: Function,
+    arguments: Vec<Found<'a>>,
+) -> Result<Found<'a>, Fault>
+    ensures ok { IfOk result (λ f. applied graph.now (function_view function) (founds_view arguments.entry.items) ≡ Ok (found_view f)) }
+    ensures err { IfErr result (λ e. e ≢ OutOfMemory → applied graph.now (function_view function) (founds_view arguments.entry.items) ≡ Err e) }
+{
+    if has_deleted(graph, &arguments) {
+        return Err(Fault::DeletedEntity);
+    }
+    if has_null(&arguments) {
+        return Ok(null());
+    }
+    let value = at_all(alloc, graph, function, arguments)?;
+    made(value)
+}
+
+fn is_deleted<T: Tables>(graph: &Snapshot<'_, T>, v: &Value) -> bool
+    ensures { result ≡ is_deleted graph.now (view v.now) }
+{
+    match v {
+        Value::Node(id) => !graph.has_node(*id),
+        Value::Rel(id) => !graph.has_rel(*id),
+        _ => false,
+    }
+}
+
+fn has_deleted<T: Tables>(graph: &Snapshot<'_, T>, arguments: &Vec<Found<'_>>) -> bool
+    ensures { result ≡ has_deleted graph.now (founds_view arguments.now.items) }
+{
+    for argument in arguments {
+        if is_deleted(graph, argument.look()) {
+            return true;
+        }
+    }
+    false
+}
+
+fn has_null(arguments: &Vec<Found<'_>>) -> bool
+    ensures { result ≡ has_null (founds_view arguments.now.items) }
+{
+    for argument in arguments {
+        if is_null(argument) {
+            return true;
+        }
+    }
+    false
+}
+
+/// What a function gives at arguments that are neither deleted nor null.
+#[tactic(auto, using(crate::proofs::Applied::not_one))]
+fn at_all<'a, T: Tables>(
+    alloc: Global,
+    graph: &Snapshot<'a, T>,
+    function: Function,
+    arguments: Vec<Found<'a>>,
+) -> Result<Found<'a>, Fault>
+    requires { has_deleted graph.now (founds_view arguments.items) ≡ false }
+    ensures ok { IfOk result (λ f. function_at graph.now (function_view function) (founds_view arguments.entry.items) ≡ Ok (found_view f)) }
+    ensures err { IfErr result (λ e. e ≢ OutOfMemory → function_at graph.now (function_view function) (founds_view arguments.entry.items) ≡ Err e) }
+{
+    if matches!(function, Function::Range) {
+        return Err(Fault::OutOfMemory);
+    }
+    match only(arguments) {
+        Some(argument) => at_one(alloc, graph, function, argument),
+        None => Err(Fault::UnknownFunction),
+    }
+}
+
+/// The one argument, where it is one.
+#[tactic(auto, using(crate::proofs::Applied::other_count, crate::proofs::Applied::one_left))]
+fn only(arguments: Vec<Found<'_>>) -> Option<Found<'_>>
+    ensures one { IfSome result (λ f. founds_view arguments.entry.items ≡ item (found_view f) no_items) }
+    ensures none { IfNone result (IsNotOne (founds_view arguments.entry.items)) }
+{
+    let mut left = arguments;
+    if left.len() != 1 {
+        return None;
+    }
+    left.pop()
+}
+
+/// What a function of one argument gives.
+fn at_one<'a, T: Tables>(
+    alloc: Global,
+    graph: &Snapshot<'a, T>,
+    function: Function,
+    argument: Found<'a>,
+) -> Result<Found<'a>, Fault>
+    requires there { is_deleted graph.now (found_view argument) ≡ false }
+    requires one { is_range (function_view function) ≡ false }
+    ensures ok { IfOk result (λ f. function_at graph.now (function_view function) (item (found_view argument.entry) no_items) ≡ Ok (found_view f)) }
+    ensures err { IfErr result (λ e. e ≢ OutOfMemory → function_at graph.now (function_view function) (item (found_view argument.entry) no_items) ≡ Err e) }
+{
+    match function {
+        Function::Id => Ok(Found::Made(number(graph, argument.look())?)),
+        Function::Labels => Ok(Found::Made(labels(alloc, graph, argument.look())?)),
+        Function::Type => Ok(Found::Made(kind(alloc, graph, argument.look())?)),
+        Function::Keys => Ok(Found::Made(keys(alloc, graph, argument.look())?)),
+        Function::Properties => properties(alloc, graph, argument),
+        Function::Size => Ok(Found::Made(values::size(argument.look())?)),
+        Function::Length => Ok(Found::Made(values::length(argument.look())?)),
+        Function::Nodes => Ok(Found::Made(values::nodes(alloc, argument.look())?)),
+        Function::Relationships => {
+            Ok(Found::Made(values::relationships(alloc, argument.look())?))
+        }
+        Function::Head => head(argument),
+        Function::Last => last(argument),
+        Function::Coalesce => Ok(argument),
+        Function::Range => Err(Fault::OutOfMemory),
+        Function::ToString => to_text(alloc, argument),
+        Function::ToInteger => Ok(Found::Made(values::to_integer(argument.look())?)),
+        Function::Abs => Ok(Found::Made(values::absolute(argument.look())?)),
+        Function::StartNode => Ok(Found::Made(source(graph, argument.look())?)),
+        Function::EndNode => Ok(Found::Made(target(graph, argument.look())?)),
+    }
+}
+
+fn to_text<'a>(alloc: Global, argument: Found<'a>) -> Result<Found<'a>, Fault>
+    ensures ok { IfOk result (λ f. string_of (found_view argument.entry) ≡ Ok (found_view f)) }
+    ensures err { IfErr result (λ e. e ≢ OutOfMemory → string_of (found_view argument.entry) ≡ Err e) }
+{
+    let value = argument.take(alloc)?;
+    Ok(Found::Made(values::to_text(alloc, value)?))
+}
+
+fn head<'a>(argument: Found<'a>) -> Result<Found<'a>, Fault>
+    ensures ok { IfOk result (λ f. head_of (found_view argument.entry) ≡ Ok (found_view f)) }
+    ensures err { IfErr result (λ e. head_of (found_view argument.entry) ≡ Err e) }
+{
+    match argument {
+        Found::Lent(value) => head_lent(value),
+        Found::Made(value) => Ok(Found::Made(values::head(value)?)),
+    }
+}
+
+fn head_lent<'a>(value: &'a Value) -> Result<Found<'a>, Fault>
+    ensures ok { IfOk result (λ f. head_of (view value.now) ≡ Ok (found_view f)) }
+    ensures err { IfErr result (λ e. head_of (view value.now) ≡ Err e) }
+{
+    match value {
+        Value::List(items) => Ok(item_at(items, 0)),
+        _ => Err(Fault::TypeFault),
+    }
+}
+
+fn last<'a>(argument: Found<'a>) -> Result<Found<'a>, Fault>
+    ensures ok { IfOk result (λ f. last_of (found_view argument.entry) ≡ Ok (found_view f)) }
+    ensures err { IfErr result (λ e. last_of (found_view argument.entry) ≡ Err e) }
+{
+    match argument {
+        Found::Lent(value) => last_lent(value),
+        Found::Made(value) => Ok(Found::Made(values::last(value)?)),
+    }
+}
+
+fn last_lent<'a>(value: &'a Value) -> Result<Found<'a>, Fault>
+    ensures ok { IfOk result (λ f. last_of (view value.now) ≡ Ok (found_view f)) }
+    ensures err { IfErr result (λ e. last_of (view value.now) ≡ Err e) }
+{
+    match value {
+        Value::List(items) => Ok(last_item(items)),
+        _ => Err(Fault::TypeFault),
+    }
+}
+
+#[tactic(auto, using(pg_expr_calls::proofs::Counts::counts))]
+fn last_item<'a>(items: &'a Vec<Value>) -> Found<'a>
+    ensures { found_view result ≡ functions.item_at (functions.count_of (values_view items.now.items) - 1) (values_view items.now.items) }
+{
+    let place = items.len().saturating_sub(1);
+    item_at(items, place)
+}

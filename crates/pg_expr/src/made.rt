@@ -1,0 +1,79 @@
+//! What an expression makes, within the limits of weight and depth.
+ghost use Rattle.std.specs.Prelude.{◌≡◌, ◌≢◌, ◌^◌, ◌-◌, min, IfOk, IfErr, Ok, Err};
+ghost use Rattle.pg_expr.specs.Sites.{found_view, founds_view};
+ghost use Rattle.pg_meaning.specs.Measure.{made, is_within_limits, items_weight, items_depth};
+ghost use Rattle.pg_meaning.specs.Value.{list};
+ghost use Rattle.pg_meaning.specs.declared.fault.Fault.TheVariants.{OutOfMemory};
+ghost use Rattle.pg_value_core.specs.View.{values_view};
+
+use crate::site::Found;
+use pg_expr_calls::is_within_limits;
+use pg_value::{depth, weight};
+use pg_value_core::{Fault, Value};
+use std::alloc::{AllocError, Global};
+
+const GREATEST_WEIGHT: u64 = 1_048_576;
+
+const GREATEST_DEPTH: u64 = 64;
+
+/// A value that an expression makes, where it is within the limits.
+pub(crate) fn made<'a>(found: Found<'a>) -> Result<Found<'a>, Fault>
+    ensures ok { IfOk result (λ f. made (found_view found.entry) ≡ Ok (found_view f)) }
+    ensures err { IfErr result (λ e. made (found_view found.entry) ≡ Err e) }
+{
+    if is_within_limits(found.look()) {
+        Ok(found)
+    } else {
+        Err(Fault::ValueTooLarge)
+    }
+}
+
+/// A list of what was found, where it is within the limits; only then is it copied.
+pub(crate) fn list_of<'a>(alloc: Global, found: Vec<Found<'a>>) -> Result<Found<'a>, Fault>
+    ensures ok { IfOk result (λ f. made (list (founds_view found.entry.items)) ≡ Ok (found_view f)) }
+    ensures err { IfErr result (λ e. e ≢ OutOfMemory → made (list (founds_view found.entry.items)) ≡ Err e) }
+{
+    if !are_within_limits(&found) {
+        return Err(Fault::ValueTooLarge);
+    }
+    let items = take_all(alloc, found)?;
+    Ok(Found::Made(Value::List(items)))
+}
+
+fn are_within_limits(found: &Vec<Found<'_>>) -> bool
+    ensures { result ≡ is_within_limits (list (founds_view found.now.items)) }
+{
+    let weight = weight_of_all(found);
+    let depth = depth_of_all(found);
+    weight < GREATEST_WEIGHT && depth < GREATEST_DEPTH
+}
+
+fn weight_of_all(found: &Vec<Found<'_>>) -> u64
+    ensures { result ≡ min (items_weight (founds_view found.now.items)) (2 ^ 64 - 1) }
+{
+    let mut total = 0u64;
+    for item in found {
+        total = total.saturating_add(weight(item.look()));
+    }
+    total
+}
+
+fn depth_of_all(found: &Vec<Found<'_>>) -> u64
+    ensures { result ≡ min (items_depth (founds_view found.now.items)) (2 ^ 64 - 1) }
+{
+    let mut most = 0u64;
+    for item in found {
+        most = most.max(depth(item.look()));
+    }
+    most
+}
+
+fn take_all(alloc: Global, found: Vec<Found<'_>>) -> Result<Vec<Value>, AllocError>
+    ensures { IfOk result (λ vs. values_view vs.items ≡ founds_view found.entry.items) }
+{
+    let mut values = Vec::with_capacity(alloc, found.len())?;
+    for item in found {
+        values.push(item.take(alloc)?)?;
+    }
+    Ok(values)
+}

@@ -1,0 +1,154 @@
+//! What operators, signs and tests give at values that were found.
+ghost use Rattle.std.specs.Prelude.{◌≡◌, ◌≢◌, IfOk, IfErr, Ok, Err, map, option_map};
+ghost use Rattle.pg_expr.specs.Sites.{found_view, pairs_view};
+ghost use Rattle.pg_meaning.specs.Arithmetic.{plus, signed};
+ghost use Rattle.pg_meaning.specs.Expressions.{is_in as membership, combined, all_compared, begins_comparison, condition_of, is_comparison, tested, null_tested};
+ghost use Rattle.pg_meaning.specs.Logic.{is_true};
+ghost use Rattle.pg_meaning.specs.declared.fault.Fault.TheVariants.{OutOfMemory};
+ghost use Rattle.pg_meaning.specs.Parse.{operands_of};
+ghost use Rattle.pg_syntax_tree.specs.View.{operand_view};
+ghost use Rattle.pg_value_core.specs.View.{view};
+
+use crate::site::Found;
+use pg_expr_calls as values;
+use pg_meaning::{Operator, TextTest};
+use pg_syntax_tree::Expression;
+use pg_value::{and, eq3, is_in, truth_of, value_of};
+use pg_value_core::{Fault, Tri, Value};
+use std::alloc::Global;
+
+/// Logic and arithmetic; a comparison is neither.
+pub(crate) fn combined<'a>(
+    alloc: Global,
+    operator: Operator,
+    v: Found<'a>,
+    w: Found<'a>,
+) -> Result<Found<'a>, Fault>
+    ensures ok { IfOk result (λ f. combined operator (found_view v.entry) (found_view w.entry) ≡ Ok (found_view f)) }
+    ensures err { IfErr result (λ e. e ≢ OutOfMemory → combined operator (found_view v.entry) (found_view w.entry) ≡ Err e) }
+{
+    match operator {
+        Operator::Or => Ok(Found::Made(values::disjunction(v.look(), w.look())?)),
+        Operator::Xor => Ok(Found::Made(values::exclusive(v.look(), w.look())?)),
+        Operator::And => Ok(Found::Made(values::conjunction(v.look(), w.look())?)),
+        Operator::Plus => sum(alloc, v, w),
+        Operator::Minus => Ok(Found::Made(values::minus(v.look(), w.look())?)),
+        Operator::Times => Ok(Found::Made(values::times(v.look(), w.look())?)),
+        Operator::Divide => Ok(Found::Made(values::divide(v.look(), w.look())?)),
+        Operator::Modulo => Ok(Found::Made(values::modulo(v.look(), w.look())?)),
+        _ => Err(Fault::BadSyntax),
+    }
+}
+
+fn sum<'a>(alloc: Global, v: Found<'a>, w: Found<'a>) -> Result<Found<'a>, Fault>
+    ensures ok { IfOk result (λ f. plus (found_view v.entry) (found_view w.entry) ≡ Ok (found_view f)) }
+    ensures err { IfErr result (λ e. e ≢ OutOfMemory → plus (found_view v.entry) (found_view w.entry) ≡ Err e) }
+{
+    let left = v.take(alloc)?;
+    let right = w.take(alloc)?;
+    Ok(Found::Made(values::plus(left, right)?))
+}
+
+/// Each neighbour with the next, where all were evaluated before.
+#[tactic(auto, using(crate::proofs::Comparisons::comparisons))]
+pub(crate) fn all_compared(
+    first: &Found<'_>,
+    others: &Vec<(Operator, Found<'_>)>,
+) -> Result<Tri, Fault>
+    ensures { result ≡ all_compared (found_view first.now) (pairs_view others.now.items) }
+{
+    let mut all = Tri::True;
+    let mut left = first.look();
+    for (operator, found) in others {
+        let right = found.look();
+        let next = values::compared(*operator, left, right)?;
+        all = and(all, next);
+        left = right;
+    }
+    Ok(all)
+}
+
+/// A condition of CASE: equal to the subject where there is one, else true itself.
+pub(crate) fn condition_of(subject: &Option<Found<'_>>, v: &Found<'_>) -> Result<Tri, Fault>
+    ensures { result ≡ condition_of (option_map found_view subject.now) (found_view v.now) }
+{
+    match subject {
+        Some(subject) => Ok(eq3(subject.look(), v.look())),
+        None => truth_of(v.look()),
+    }
+}
+
+/// `v STARTS WITH w` and its like.
+pub(crate) fn tested<'a>(test: TextTest, v: &Found<'_>, w: &Found<'_>) -> Result<Found<'a>, Fault>
+    ensures ok { IfOk result (λ f. tested test (found_view v.now) (found_view w.now) ≡ Ok (found_view f)) }
+    ensures err { IfErr result (λ e. tested test (found_view v.now) (found_view w.now) ≡ Err e) }
+{
+    match test {
+        TextTest::StartsWith => Ok(Found::Made(values::begins_with(v.look(), w.look()))),
+        TextTest::EndsWith => Ok(Found::Made(values::finishes_with(v.look(), w.look()))),
+        TextTest::Contains => Ok(Found::Made(values::contains(v.look(), w.look()))),
+        TextTest::In => Ok(Found::Made(member(v.look(), w.look())?)),
+    }
+}
+
+fn member(v: &Value, w: &Value) -> Result<Value, Fault>
+    ensures ok { IfOk result (λ u. membership (view v.now) (view w.now) ≡ Ok (view u)) }
+    ensures err { IfErr result (λ e. membership (view v.now) (view w.now) ≡ Err e) }
+{
+    match is_in(v, w) {
+        Ok(t) => Ok(value_of(t)),
+        Err(fault) => Err(fault),
+    }
+}
+
+/// IS NULL, and IS NOT NULL where it is negated.
+pub(crate) fn null_tested<'a>(is_negated: bool, v: &Found<'_>) -> Found<'a>
+    ensures { found_view result ≡ null_tested is_negated (found_view v.now) }
+{
+    if is_negated {
+        Found::Made(values::is_not_null(v.look()))
+    } else {
+        Found::Made(values::is_null(v.look()))
+    }
+}
+
+/// One sign before a value; true is a minus.
+pub(crate) fn with_sign(is_minus: bool, v: &Value) -> Result<Value, Fault>
+    ensures ok { IfOk result (λ u. signed is_minus (view v.now) ≡ Ok (view u)) }
+    ensures err { IfErr result (λ e. signed is_minus (view v.now) ≡ Err e) }
+{
+    if is_minus {
+        values::negative(v)
+    } else {
+        values::positive(v)
+    }
+}
+
+pub(crate) fn is_true(t: Tri) -> bool
+    ensures { result ≡ is_true t }
+{
+    matches!(t, Tri::True)
+}
+
+fn is_comparison(operator: Operator) -> bool
+    ensures { result ≡ is_comparison operator }
+{
+    match operator {
+        Operator::Equal
+        | Operator::NotEqual
+        | Operator::Less
+        | Operator::LessOrEqual
+        | Operator::Greater
+        | Operator::GreaterOrEqual => true,
+        _ => false,
+    }
+}
+
+pub(crate) fn begins_comparison(operands: &Vec<(Operator, Expression)>) -> bool
+    ensures { result ≡ begins_comparison (operands_of (map operand_view operands.now.items)) }
+{
+    match operands.first() {
+        Some((operator, _)) => is_comparison(*operator),
+        None => false,
+    }
+}

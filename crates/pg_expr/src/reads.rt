@@ -1,0 +1,231 @@
+//! What is read of a value: a property, an item, labels.
+ghost use Rattle.std.specs.Prelude.{◌≡◌, ◌≢◌, IfOk, IfErr, Ok, Err, map, string_bytes};
+ghost use Rattle.pg_expr.specs.Reads.{labels_tested};
+ghost use Rattle.pg_expr.specs.Sites.{found_view};
+ghost use Rattle.std.specs.List.{list_all};
+ghost use Rattle.pg_meaning.specs.Names.{is_among};
+ghost use Rattle.pg_meaning.specs.Entries.{value_at};
+ghost use Rattle.pg_meaning.specs.Expressions.{property_of, indexed, item_of, labelled};
+ghost use Rattle.pg_meaning.specs.Functions.{item_at};
+ghost use Rattle.pg_meaning.specs.Value.{node, relationship};
+ghost use Rattle.pg_meaning.specs.declared.fault.Fault.TheVariants.{OutOfMemory};
+ghost use Rattle.pg_syntax_tree.specs.View.{names_view};
+ghost use Rattle.pg_value_core.specs.View.{view, values_view, entries_view};
+
+use crate::site::{Found, lent_or_null, null};
+use pg_expr_calls::value_at;
+use pg_graph::Tables;
+use pg_store::{NodeView, Snapshot};
+use pg_syntax_tree::Name;
+use pg_value_core::{Fault, NodeId, RelId, Value};
+use std::alloc::Global;
+use std::collections::BTreeMap;
+
+fn node_property<'a, T: Tables>(
+    graph: &Snapshot<'a, T>,
+    id: NodeId,
+    key: &str,
+) -> Result<Found<'a>, Fault>
+    ensures ok { IfOk result (λ f. property_of graph.now (node id.0) key.now ≡ Ok (found_view f)) }
+    ensures err { IfErr result (λ e. property_of graph.now (node id.0) key.now ≡ Err e) }
+{
+    match graph.node(id) {
+        Some(node) => Ok(lent_or_null(node.property(key))),
+        None => Err(Fault::DeletedEntity),
+    }
+}
+
+fn relationship_property<'a, T: Tables>(
+    graph: &Snapshot<'a, T>,
+    id: RelId,
+    key: &str,
+) -> Result<Found<'a>, Fault>
+    ensures ok { IfOk result (λ f. property_of graph.now (relationship id.0) key.now ≡ Ok (found_view f)) }
+    ensures err { IfErr result (λ e. property_of graph.now (relationship id.0) key.now ≡ Err e) }
+{
+    match graph.rel(id) {
+        Some(relationship) => Ok(lent_or_null(relationship.property(key))),
+        None => Err(Fault::DeletedEntity),
+    }
+}
+
+/// What stands under a key, and null where nothing does.
+fn entry<'a>(entries: &'a BTreeMap<String, Value>, key: &str) -> Found<'a>
+    ensures { found_view result ≡ value_at key.now (entries_view entries.now.entries) }
+{
+    lent_or_null(entries.get(key))
+}
+
+fn entry_of_text<'a>(entries: &'a BTreeMap<String, Value>, key: &String) -> Found<'a>
+    ensures { found_view result ≡ value_at (string_bytes key.now) (entries_view entries.now.entries) }
+{
+    entry(entries, key.as_str())
+}
+
+/// `v.key`.
+pub(crate) fn property<'a, T: Tables>(
+    graph: &Snapshot<'a, T>,
+    value: Found<'a>,
+    key: &str,
+) -> Result<Found<'a>, Fault>
+    ensures ok { IfOk result (λ f. property_of graph.now (found_view value.entry) key.now ≡ Ok (found_view f)) }
+    ensures err { IfErr result (λ e. property_of graph.now (found_view value.entry) key.now ≡ Err e) }
+{
+    match value {
+        Found::Lent(value) => property_lent(graph, value, key),
+        Found::Made(value) => property_made(graph, value, key),
+    }
+}
+
+fn property_lent<'a, T: Tables>(
+    graph: &Snapshot<'a, T>,
+    value: &'a Value,
+    key: &str,
+) -> Result<Found<'a>, Fault>
+    ensures ok { IfOk result (λ f. property_of graph.now (view value.now) key.now ≡ Ok (found_view f)) }
+    ensures err { IfErr result (λ e. property_of graph.now (view value.now) key.now ≡ Err e) }
+{
+    match value {
+        Value::Null => Ok(null()),
+        Value::Map(entries) => Ok(entry(entries, key)),
+        Value::Node(id) => node_property(graph, *id, key),
+        Value::Rel(id) => relationship_property(graph, *id, key),
+        _ => Err(Fault::TypeFault),
+    }
+}
+
+/// What stands in a map moves out of it.
+fn property_made<'a, T: Tables>(
+    graph: &Snapshot<'a, T>,
+    value: Value,
+    key: &str,
+) -> Result<Found<'a>, Fault>
+    ensures ok { IfOk result (λ f. property_of graph.now (view value) key.now ≡ Ok (found_view f)) }
+    ensures err { IfErr result (λ e. property_of graph.now (view value) key.now ≡ Err e) }
+{
+    match value {
+        Value::Null => Ok(null()),
+        Value::Map(entries) => Ok(Found::Made(value_at(entries, key))),
+        Value::Node(id) => node_property(graph, id, key),
+        Value::Rel(id) => relationship_property(graph, id, key),
+        _ => Err(Fault::TypeFault),
+    }
+}
+
+/// `v[i]`.
+pub(crate) fn index<'a, T: Tables>(
+    alloc: Global,
+    graph: &Snapshot<'a, T>,
+    value: Found<'a>,
+    place: &Value,
+) -> Result<Found<'a>, Fault>
+    ensures ok { IfOk result (λ f. indexed graph.now (found_view value.entry) (view place.now) ≡ Ok (found_view f)) }
+    ensures err { IfErr result (λ e. e ≢ OutOfMemory → indexed graph.now (found_view value.entry) (view place.now) ≡ Err e) }
+{
+    match value {
+        Found::Lent(value) => index_lent(graph, value, place),
+        Found::Made(value) => index_made(alloc, graph, value, place),
+    }
+}
+
+fn index_lent<'a, T: Tables>(
+    graph: &Snapshot<'a, T>,
+    value: &'a Value,
+    place: &Value,
+) -> Result<Found<'a>, Fault>
+    ensures ok { IfOk result (λ f. indexed graph.now (view value.now) (view place.now) ≡ Ok (found_view f)) }
+    ensures err { IfErr result (λ e. indexed graph.now (view value.now) (view place.now) ≡ Err e) }
+{
+    match (value, place) {
+        (Value::Null, _) | (_, Value::Null) => Ok(null()),
+        (Value::List(items), Value::Int(at)) => Ok(item_lent(items, *at)),
+        (Value::Map(entries), Value::Text(key)) => Ok(entry_of_text(entries, key)),
+        (Value::Node(id), Value::Text(key)) => node_property(graph, *id, key.as_str()),
+        (Value::Rel(id), Value::Text(key)) => relationship_property(graph, *id, key.as_str()),
+        _ => Err(Fault::TypeFault),
+    }
+}
+
+#[tactic(auto, using(pg_expr_calls::proofs::Counts::reads))]
+pub(crate) fn item_at<'a>(items: &'a Vec<Value>, place: usize) -> Found<'a>
+    ensures { found_view result ≡ item_at place (values_view items.now.items) }
+{
+    if place < items.len() {
+        Found::Lent(&items[place])
+    } else {
+        null()
+    }
+}
+
+/// The item at a place, counted from the end where it is negative.
+#[tactic(auto, using(pg_expr_calls::proofs::Counts::places))]
+fn item_lent<'a>(items: &'a Vec<Value>, place: i64) -> Found<'a>
+    ensures { found_view result ≡ item_of (values_view items.now.items) place }
+{
+    if place >= 0 {
+        return item_at(items, place as usize);
+    }
+    let back = place.unsigned_abs() as usize;
+    if back > items.len() {
+        return null();
+    }
+    item_at(items, items.len() - back)
+}
+
+/// What stands in a value that was made is copied out of it.
+fn index_made<'a, T: Tables>(
+    alloc: Global,
+    graph: &Snapshot<'a, T>,
+    value: Value,
+    place: &Value,
+) -> Result<Found<'a>, Fault>
+    ensures ok { IfOk result (λ f. indexed graph.now (view value) (view place.now) ≡ Ok (found_view f)) }
+    ensures err { IfErr result (λ e. e ≢ OutOfMemory → indexed graph.now (view value) (view place.now) ≡ Err e) }
+{
+    let found = index_lent(graph, &value, place)?;
+    Ok(Found::Made(found.take(alloc)?))
+}
+
+/// Whether there are all the labels.
+pub(crate) fn labels<'a, T: Tables>(
+    graph: &Snapshot<'a, T>,
+    value: Found<'a>,
+    labels: &Vec<Name>,
+) -> Result<Found<'a>, Fault>
+    ensures ok { IfOk result (λ f. labelled graph.now (found_view value.entry) (names_view labels.now.items) ≡ Ok (found_view f)) }
+    ensures err { IfErr result (λ e. labelled graph.now (found_view value.entry) (names_view labels.now.items) ≡ Err e) }
+{
+    if labels.is_empty() {
+        return Ok(value);
+    }
+    match value.look() {
+        Value::Null => Ok(null()),
+        Value::Node(id) => node_labels(graph, *id, labels),
+        _ => Err(Fault::TypeFault),
+    }
+}
+
+fn node_labels<'a, T: Tables>(
+    graph: &Snapshot<'a, T>,
+    id: NodeId,
+    labels: &Vec<Name>,
+) -> Result<Found<'a>, Fault>
+    ensures ok { IfOk result (λ f. labels_tested graph.now id.0 (names_view labels.now.items) ≡ Ok (found_view f)) }
+    ensures err { IfErr result (λ e. labels_tested graph.now id.0 (names_view labels.now.items) ≡ Err e) }
+{
+    match graph.node(id) {
+        Some(node) => Ok(Found::Made(Value::Bool(has_all(&node, labels)))),
+        None => Err(Fault::DeletedEntity),
+    }
+}
+
+fn has_all(node: &NodeView<'_>, labels: &Vec<Name>) -> bool
+    ensures { result ≡ list_all (λ l. is_among node.now.labels l.text) (names_view labels.now.items) }
+{
+    for label in labels {
+        if !node.has_label(label.text.as_str()) {
+            return false;
+        }
+    }
+    true
+}

@@ -1,0 +1,71 @@
+//! Where an expression is evaluated, and what is found there.
+ghost use Rattle.std.specs.Prelude.{◌≡◌, IfOk, option_map, unwrap_or};
+ghost use Rattle.pg_expr.specs.Sites.{found_view};
+ghost use Rattle.pg_meaning.specs.Value.{null};
+ghost use Rattle.pg_value_core.specs.View.{view};
+
+use pg_rows::Columns;
+use pg_value_core::{Parameters, Value};
+use std::alloc::{AllocError, Global};
+
+/// A row under the names of its columns, and the parameters of the request.
+#[derive(Clone, Copy)]
+pub(crate) struct Site<'a> {
+    pub(crate) alloc: Global,
+    pub(crate) names: &'a Columns,
+    pub(crate) row: &'a [Value],
+    pub(crate) parameters: &'a Parameters,
+}
+
+/// A value that is lent from where it stands, or one that was made.
+#[derive(Drop)]
+pub(crate) enum Found<'a> {
+    Lent(&'a Value),
+    Made(Value),
+}
+
+impl<'a> Found<'a> {
+    pub(crate) fn look(&self) -> &Value
+        ensures { view result.now ≡ found_view self.now }
+    {
+        match self {
+            Found::Lent(value) => value,
+            Found::Made(value) => value,
+        }
+    }
+
+    /// The value, which is copied where it is lent.
+    pub(crate) fn take(self, alloc: Global) -> Result<Value, AllocError>
+        ensures { IfOk result (λ v. view v ≡ found_view self.entry) }
+    {
+        match self {
+            Found::Lent(value) => value.copy(alloc),
+            Found::Made(value) => Ok(value),
+        }
+    }
+}
+
+pub(crate) fn null<'a>() -> Found<'a>
+    ensures { found_view result ≡ null }
+{
+    Found::Made(Value::Null)
+}
+
+/// A value that may be absent, which reads as null.
+pub(crate) fn lent_or_null<'a>(value: Option<&'a Value>) -> Found<'a>
+    ensures { found_view result ≡ unwrap_or (option_map (λ v. view v.now) value.entry) null }
+{
+    match value {
+        Some(value) => Found::Lent(value),
+        None => null(),
+    }
+}
+
+pub(crate) fn or_null<'a>(found: Option<Found<'a>>) -> Found<'a>
+    ensures { found_view result ≡ unwrap_or (option_map found_view found.entry) null }
+{
+    match found {
+        Some(found) => found,
+        None => null(),
+    }
+}

@@ -22,5 +22,5 @@ pub returns-in-None : goal.returns-in-None
 returns-in-None g c =
     let store = c.args.self.now in
     let s = state_of g.T.Tables.seen store c.args.shared.now in
-    ap (filter (passes (has_number None) (live s).nodes)) (c.ids.ensures.ids ∙ ap (λ (ids : Ids). map.keys ids) c.none.ensures ∙ ap (map_list (λ (e : ℕ × Unit {0}). e.0)) (nothing_held (Unit {0})))
+    ap (filter (passes (has_number None) (live s).nodes)) (c.ids-in-None.ensures.ids ∙ ap (λ (ids : Ids). map.keys ids) c.none.ensures ∙ ap (map_list (λ (e : ℕ × Unit {0}). e.0)) (nothing_held (Unit {0})))
     ∙ sym (with_no_label_listed store.names (live s) store.next.node store.next.rel c.args.label.now c.requires.fit.well.holds (sym c.in-None.ensures.found))

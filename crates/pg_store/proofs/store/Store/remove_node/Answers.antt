@@ -1,3 +1,4 @@
+use Rattle.std.proofs.Common.{rules}
 use Rattle.std.proofs.Common.{◌++◌, ◌∷◌, [], IsSome, refl, sym, ap, subst, ◌∙◌}
 use Rattle.pg_graph.proofs.Others.{keeps_refl}
 use Rattle.pg_graph.proofs.Refined.{outgoing_are_read, incoming_are_read}

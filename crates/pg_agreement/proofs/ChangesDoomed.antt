@@ -2,12 +2,12 @@
 use Rattle.std.proofs.Common.{◌≡◌, ℕ, ◌⊎◌, inl, inr, List, [], ◌∷◌, Result, Ok, Err, refl, sym, ap, subst, ◌∙◌}
 use Rattle.std.specs.Bool.{⊤}
 use Rattle.std.specs.List.{AllByRecursion}
+use Rattle.pg_meaning.specs.Turns.{AtSomeRow}
 use Rattle.pg_meaning.specs.Answer.{◌>>=◌, each_step}
 use Rattle.pg_meaning.specs.AnswerLaws.{went_well, went_wrong, same_ok}
 use Rattle.pg_meaning.specs.Expressions.{evaluate}
 use Rattle.pg_meaning.specs.Graph.{Graph}
 use Rattle.pg_meaning.specs.Lists.{IsIn}
-use Rattle.pg_meaning.specs.Meaning.{AtSomeRow}
 use Rattle.pg_meaning.specs.Meters.{Setting}
 use Rattle.pg_meaning.specs.Rows.{Row}
 use Rattle.pg_meaning.specs.Tree.{Expression}
@@ -15,7 +15,7 @@ use Rattle.pg_meaning.specs.Updates.{Doomed, add_path, doom, doom_row}
 use Rattle.pg_meaning.specs.Value.{Value, null, boolean, integer, text, list, mapping, node, relationship, path}
 use Rattle.pg_meaning.specs.declared.fault.Fault.{Fault}
 use Rattle.pg_meaning.specs.declared.fault.Fault.TheVariants.{TypeFault}
-use Rattle.pg_agreement.specs.Changes.{path_nodes, path_relationships, HasNode, HasRelationship, IsDeletable, HasDeletable, AllHaveDeletable, ExpressionFaults, FirstFault}
+use Rattle.pg_meaning.specs.Changes.{path_nodes, path_relationships, HasNode, HasRelationship, IsDeletable, HasDeletable, AllHaveDeletable, ExpressionFaults, FirstFault}
 use Rattle.pg_agreement.proofs.ChangesOptions.{same_err}
 
 -- ---- ids are gathered

@@ -20,7 +20,7 @@ use Rattle.pg_meaning.specs.Updates.{may_be_set, test_storable, mapping_pairs, T
 use Rattle.pg_meaning.specs.Value.{Value, null, boolean, integer, text, list, mapping, node, relationship, path, Entries, no_entries, entries_of}
 use Rattle.pg_meaning.specs.declared.fault.Fault.{Fault}
 use Rattle.pg_meaning.specs.declared.fault.Fault.TheVariants.{TypeFault, NotStorable, DeletedEntity}
-use Rattle.pg_agreement.specs.Changes.{NodeChanges, RelationshipChanges, ElementChanges, PropertiesChange, LabelsChange, KeysAreSet, KeyIsGone, AreSettable, MapIsSet, IsMap, TargetFaults, IsTarget, ValueFaults, MapFaults, LabelFaults, SetsItem, SetItemFaults, RemovesItem, RemoveItemFaults}
+use Rattle.pg_meaning.specs.Changes.{NodeChanges, RelationshipChanges, ElementChanges, PropertiesChange, LabelsChange, KeysAreSet, KeyIsGone, AreSettable, MapIsSet, IsMap, TargetFaults, IsTarget, ValueFaults, MapFaults, LabelFaults, SetsItem, SetItemFaults, RemovesItem, RemoveItemFaults}
 use Rattle.pg_agreement.proofs.ChangesOptions.{found, missing, same_err}
 use Rattle.pg_agreement.proofs.ChangesProperties.{keys_are_set, key_is_gone, labels_are_added, labels_are_gone}
 

@@ -11,7 +11,7 @@ use Rattle.pg_meaning.specs.Names.{Names, is_among, put_texts}
 use Rattle.pg_meaning.specs.NamesLaws.{put_texts_rise}
 use Rattle.pg_meaning.specs.Order.{text_order}
 use Rattle.pg_meaning.specs.Value.{Value, null, boolean, integer, text, list, mapping, node, relationship, path, Entries}
-use Rattle.pg_agreement.specs.Changes.{stored, given_to, KeysAreSet, KeyIsGone, LabelsAreAdded, LabelsAreGone}
+use Rattle.pg_meaning.specs.Changes.{stored, given_to, KeysAreSet, KeyIsGone, LabelsAreAdded, LabelsAreGone}
 
 -- ---- keys
 

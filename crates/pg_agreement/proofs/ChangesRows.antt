@@ -1,5 +1,6 @@
 -- Items and rows one after the other: SET and REMOVE give what they say, or end in a fault that they may.
 use Rattle.std.proofs.Common.{inl, inr, List, [], ◌∷◌, Option, Some, None, Result, Ok, Err, refl, sym, subst}
+use Rattle.pg_meaning.specs.Turns.{InTurn, FaultInTurn}
 use Rattle.pg_meaning.specs.Answer.{◌>>=◌, each_step}
 use Rattle.pg_meaning.specs.Graph.{Graph, Node, Relationship, IsGraph}
 use Rattle.pg_meaning.specs.Meters.{Setting}
@@ -8,7 +9,7 @@ use Rattle.pg_meaning.specs.Tree.{SetItem, set_property, set_all, set_more, set_
 use Rattle.pg_meaning.specs.Updates.{set_item, set_row, remove_item, remove_row}
 use Rattle.pg_meaning.specs.Value.{Value, null, boolean, integer, text, list, mapping, node, relationship, path}
 use Rattle.pg_meaning.specs.declared.fault.Fault.{Fault}
-use Rattle.pg_agreement.specs.Changes.{ElementChanges, SetsItem, RemovesItem, InTurn, FaultInTurn, SetItemFaults, RemoveItemFaults, Sets, SetFaults, Removes, RemoveFaults}
+use Rattle.pg_meaning.specs.Changes.{ElementChanges, SetsItem, RemovesItem, SetItemFaults, RemoveItemFaults, Sets, SetFaults, Removes, RemoveFaults}
 use Rattle.pg_agreement.proofs.ChangesItems.{Verdict, set_item_stands, remove_item_stands}
 
 -- ---- a graph stays a graph

@@ -6,7 +6,7 @@ use Rattle.std.specs.List.{AllByRecursion, list_any}
 use Rattle.pg_meaning.specs.Agreement.{AreGiven, AreRowsOf}
 use Rattle.pg_meaning.specs.AgreementLaws.{named_in, given_split}
 use Rattle.pg_meaning.specs.Answer.{◌>>=◌, ◌>>◌, each_step}
-use Rattle.pg_meaning.specs.CreationLaws.{BindsOnly}
+use Rattle.pg_agreement.proofs.RowNames.{BindsOnly}
 use Rattle.pg_meaning.specs.Grammar.{key, commas, path_marks, set_marks, on_marks, event_mark, AreSetItems}
 use Rattle.pg_meaning.specs.Graph.{Graph}
 use Rattle.pg_meaning.specs.ListsLaws.{all_joined, all_mapped}

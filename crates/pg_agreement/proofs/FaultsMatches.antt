@@ -7,7 +7,7 @@ use Rattle.pg_meaning.specs.Agreement.{AreGiven, AreRowsOf}
 use Rattle.pg_meaning.specs.AgreementLaws.{named_in, given_split}
 use Rattle.pg_meaning.specs.Answer.{◌>>=◌, each_answer}
 use Rattle.pg_meaning.specs.Conditions.{condition}
-use Rattle.pg_meaning.specs.CreationLaws.{BindsOnly, binds_if_named}
+use Rattle.pg_agreement.proofs.RowNames.{BindsOnly, binds_if_named}
 use Rattle.pg_meaning.specs.Grammar.{key, flag, commas, path_marks, optional_marks, keyed}
 use Rattle.pg_meaning.specs.Graph.{Graph}
 use Rattle.pg_meaning.specs.ListsLaws.{all_joined, all_mapped, all_trivial, all_weaker}

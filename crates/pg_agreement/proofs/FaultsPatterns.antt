@@ -5,7 +5,7 @@ use Rattle.std.specs.List.{AllByRecursion}
 use Rattle.pg_meaning.specs.Agreement.{AreGiven}
 use Rattle.pg_meaning.specs.AgreementLaws.{named_in, given_split}
 use Rattle.pg_meaning.specs.Answer.{◌>>=◌, each_answer}
-use Rattle.pg_meaning.specs.CreationLaws.{BindsOnly}
+use Rattle.pg_agreement.proofs.RowNames.{BindsOnly}
 use Rattle.pg_meaning.specs.Expressions.{evaluate}
 use Rattle.pg_meaning.specs.Grammar.{Mark, sign, flag, commas, begun, optional_marks, var_marks, label_marks, types_marks, range_marks, pair_marks, properties_marks, node_marks, detail_marks, relationship_marks, hop_marks, path_variable_marks, path_marks, ArePairs, AreProperties, Each, IsDetail, IsHop, IsPath}
 use Rattle.pg_meaning.specs.Graph.{Graph, has_node}

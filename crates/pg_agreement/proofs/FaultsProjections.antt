@@ -9,7 +9,7 @@ use Rattle.pg_meaning.specs.Agreement.{AreRowsOf}
 use Rattle.pg_meaning.specs.Answer.{◌>>=◌, each_answer, each_step}
 use Rattle.pg_meaning.specs.Arithmetic.{is_in_range}
 use Rattle.pg_meaning.specs.Conditions.{condition}
-use Rattle.pg_meaning.specs.CreationLaws.{BindsOnly}
+use Rattle.pg_agreement.proofs.RowNames.{BindsOnly}
 use Rattle.pg_meaning.specs.Expressions.{evaluate}
 use Rattle.pg_meaning.specs.Graph.{Graph}
 use Rattle.pg_meaning.specs.ListsLaws.{all_mapped}

@@ -5,7 +5,7 @@ use Rattle.std.specs.List.{AllByRecursion, list_any}
 use Rattle.pg_meaning.specs.Agreement.{AreGiven, AreRowsOf}
 use Rattle.pg_meaning.specs.AgreementLaws.{named_in, given_split}
 use Rattle.pg_meaning.specs.Answer.{◌>>=◌, each_answer, each_step}
-use Rattle.pg_meaning.specs.CreationLaws.{BindsOnly, binds_new}
+use Rattle.pg_agreement.proofs.RowNames.{BindsOnly, binds_new}
 use Rattle.pg_meaning.specs.Entries.{set_keys}
 use Rattle.pg_meaning.specs.Expressions.{evaluate}
 use Rattle.pg_meaning.specs.Grammar.{Mark, key, var, flag, further, commas, marks, set_marks, IsWellFormed, IsSetItem}

@@ -3,17 +3,17 @@ use Rattle.std.proofs.Common.{◌≡◌, ℕ, Bool, true, false, List, [], ◌�
 use Rattle.std.specs.Bool.{⊤}
 use Rattle.std.specs.List.{AllByRecursion}
 use Rattle.pg_meaning.specs.Agreement.{AreGiven, AreRowsOf}
-use Rattle.pg_meaning.specs.AgreementLaws.{named_in, given_split}
+use Rattle.pg_meaning.specs.AgreementLaws.{named_in, given_split, planned_over}
 use Rattle.pg_meaning.specs.Answer.{◌>>=◌, ◌>>◌, unless, each_answer, each_step}
 use Rattle.pg_meaning.specs.Conditions.{conjuncts, operands_of, all_true, condition}
-use Rattle.pg_meaning.specs.CreationLaws.{BindsOnly}
+use Rattle.pg_agreement.proofs.RowNames.{BindsOnly}
 use Rattle.pg_meaning.specs.Expressions.{evaluate}
 use Rattle.pg_meaning.specs.Grammar.{mark, flag, sign, joined, marks, operand_marks, operator_what, optional_marks, keyed, clause_marks, clause_parameters, IsWellFormed, AreOperands, Each, IsClause}
 use Rattle.pg_meaning.specs.Graph.{Graph, has_node, has_relationship}
 use Rattle.pg_meaning.specs.Logic.{truth_of, is_true}
 use Rattle.pg_meaning.specs.Meters.{Setting, State, Quota, spend}
 use Rattle.pg_meaning.specs.Names.{Names}
-use Rattle.pg_meaning.specs.Plans.{Plan, IsPlanFrom}
+use Rattle.pg_meaning.specs.Plans.{Plan, plan_over, IsPlanFrom}
 use Rattle.pg_meaning.specs.Queries.{clause_step, clauses_run, output_rows, returns, test_output, test_present, test_ids, test_items, test_entries, ordered}
 use Rattle.pg_meaning.specs.Rows.{Row}
 use Rattle.pg_meaning.specs.Scopes.{scope_after}
@@ -174,10 +174,10 @@ fine_run parameters quota scope (anchors ∷ plan) (c ∷ cs) state each are e g
 
 pub clauses_end_queries : ClausesEndQueries
 unfolding static_faults
-clauses_end_queries q each plan parameters graph max_steps max_elements are e given planned f is =
-    fine_fault (ordered plan q parameters graph max_steps max_elements) f
-    (fine_all (clauses_run parameters quota [] plan q.clauses begin) _
-    (fine_run parameters quota [] plan q.clauses begin each are e (given_each parameters q.clauses (given_split parameters (joined (map clause_marks q.clauses)) (flag q.semicolon (sign s.Semicolon)) given).0) planned ((λ name. refl), tt))
+clauses_end_queries q each plan catalogue parameters graph max_steps max_elements are e given planned f is =
+    fine_fault (ordered plan catalogue q parameters graph max_steps max_elements) f
+    (fine_all (clauses_run parameters quota [] (plan_over catalogue plan) q.clauses begin) _
+    (fine_run parameters quota [] (plan_over catalogue plan) q.clauses begin each are e (given_each parameters q.clauses (given_split parameters (joined (map clause_marks q.clauses)) (flag q.semicolon (sign s.Semicolon)) given).0) (planned_over catalogue [] q.clauses plan planned) ((λ name. refl), tt))
     (λ last. fine_after (each_step (λ done v. test_output last.graph v) tt (flat_map (λ r. r) (output_rows (returns q.clauses) last.rows))) (Ok _)
     (fine_steps (λ x. ⊤) (λ done v. test_output last.graph v) (λ done v t. fine_output last.graph v) tt (flat_map (λ r. r) (output_rows (returns q.clauses) last.rows)) (all_given _)) tt)) is
   where

@@ -10,7 +10,7 @@ use Rattle.pg_meaning.specs.ListsLaws.{all_weaker, all_joined}
 use Rattle.pg_meaning.specs.Meaning.{AreGroups}
 use Rattle.pg_meaning.specs.Order.{value_order}
 use Rattle.pg_meaning.specs.OrderLaws.{order_exact}
-use Rattle.pg_meaning.specs.ProjectionLaws.{same_itself, same_turned}
+use Rattle.pg_agreement.proofs.ProjectedParts.{same_itself, same_turned}
 use Rattle.pg_meaning.specs.Projections.{same_values, grouping_columns}
 use Rattle.pg_meaning.specs.Rows.{Row}
 use Rattle.pg_meaning.specs.Scopes.{Column}

@@ -2,6 +2,7 @@
 use Rattle.std.proofs.Common.{◌≡◌, Bool, true, false, cond, ◌||◌, ◌⊎◌, inl, inr, List, [], ◌∷◌, ◌++◌, map, filter, Some, Result, Ok, Err, refl, sym, ap, subst, ◌∙◌, append_assoc}
 use Rattle.std.proofs.lemmas.List.{append-nil}
 use Rattle.std.specs.List.{AllByRecursion, AllZip, list_any}
+use Rattle.pg_meaning.specs.Turns.{AtSomeRow}
 use Rattle.pg_meaning.specs.Aggregates.{Aggregate, aggregate_of, take_in}
 use Rattle.pg_meaning.specs.Agreement.{given}
 use Rattle.pg_meaning.specs.Answer.{◌>>=◌, each_answer, each_step}
@@ -10,9 +11,9 @@ use Rattle.pg_meaning.specs.Expressions.{evaluate}
 use Rattle.pg_meaning.specs.Graph.{Graph}
 use Rattle.pg_meaning.specs.Lists.{IsIn}
 use Rattle.pg_meaning.specs.ListsLaws.{all_weaker}
-use Rattle.pg_meaning.specs.Meaning.{taken_in, group_value, key_of, rows_with_key, keyed_rows, Groups, AtSomeRow, ItemFaults, AggregateFaults}
+use Rattle.pg_meaning.specs.Meaning.{taken_in, group_value, key_of, rows_with_key, keyed_rows, Groups, ItemFaults, AggregateFaults}
 use Rattle.pg_meaning.specs.Meters.{Setting}
-use Rattle.pg_meaning.specs.ProjectionLaws.{Binds, same_itself, same_turned}
+use Rattle.pg_agreement.proofs.ProjectedParts.{Binds, same_itself, same_turned}
 use Rattle.pg_meaning.specs.Projections.{Projected, Group, same_values, argument_value, fold_cells, grouping_columns, into_groups, group_row, first_groups, group_columns, grouped}
 use Rattle.pg_meaning.specs.Rows.{Row}
 use Rattle.pg_meaning.specs.Scopes.{Column}

@@ -12,7 +12,7 @@ use Rattle.pg_meaning.specs.Listings.{HasFixed, AnchorsHold}
 use Rattle.pg_meaning.specs.Lists.{IsIn}
 use Rattle.pg_meaning.specs.ListsLaws.{in_mapped}
 use Rattle.pg_meaning.specs.Logic.{is_true}
-use Rattle.pg_meaning.specs.MatchLaws.{Evaluated, value_of_pair, having_fit, looked_up, among_all, entries_apart, found_in, id_in, same_some, is_the_truth}
+use Rattle.pg_agreement.proofs.MatchParts.{Evaluated, value_of_pair, having_fit, looked_up, among_all, entries_apart, found_in, id_in, same_some, is_the_truth}
 use Rattle.pg_meaning.specs.Names.{Names, is_among}
 use Rattle.pg_meaning.specs.Patterns.{NodeFits, node_name, nodes_of, texts_of, property_pairs, add_path_names}
 use Rattle.pg_meaning.specs.Plans.{Anchor, Fixed, IndexSuits, fixed_for, is_bound_by}

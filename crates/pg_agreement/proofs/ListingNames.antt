@@ -3,7 +3,7 @@ use Rattle.std.proofs.Common.{◌≡◌, ℕ, Bool, true, false, cond, ◌||◌,
 use Rattle.pg_meaning.specs.EntriesLaws.{same_text}
 use Rattle.pg_meaning.specs.Graph.{Graph}
 use Rattle.pg_meaning.specs.Lists.{IsIn}
-use Rattle.pg_meaning.specs.MatchLaws.{same_some}
+use Rattle.pg_agreement.proofs.MatchParts.{same_some}
 use Rattle.pg_meaning.specs.Names.{Names, is_among}
 use Rattle.pg_meaning.specs.Patterns.{PathFits, named_nodes, node_name, nodes_of, text_of, relationship_name, add_path_names}
 use Rattle.pg_meaning.specs.Plans.{Fixed}

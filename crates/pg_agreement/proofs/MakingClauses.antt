@@ -9,7 +9,8 @@ use Rattle.pg_agreement.proofs.MakingRows.{HasShape, binds_match}
 use Rattle.pg_agreement.specs.Making.{CreateAgrees}
 use Rattle.pg_meaning.specs.Agreement.{given}
 use Rattle.pg_meaning.specs.Answer.{◌>>=◌, ◌>>◌}
-use Rattle.pg_meaning.specs.CreationLaws.{BindsOnly, RowAgrees, rows_make_create}
+use Rattle.pg_agreement.proofs.MakingTurns.{RowAgrees, rows_make_create}
+use Rattle.pg_agreement.proofs.RowNames.{BindsOnly}
 use Rattle.pg_meaning.specs.Graph.{Graph, IsGraph}
 use Rattle.pg_meaning.specs.Lists.{IsIn}
 use Rattle.pg_meaning.specs.ListsLaws.{all_both, all_in_themselves}

@@ -7,11 +7,11 @@ use Rattle.pg_agreement.proofs.MakingProgress.{Progress, newness, bound_is_live,
 use Rattle.pg_meaning.specs.Agreement.{given}
 use Rattle.pg_meaning.specs.Answer.{◌>>=◌, ◌>>◌, unless}
 use Rattle.pg_meaning.specs.AnswerLaws.{by_answer}
-use Rattle.pg_meaning.specs.CreationLaws.{by_unless, not_below}
+use Rattle.pg_agreement.proofs.MakingTurns.{by_unless, not_below}
 use Rattle.pg_meaning.specs.Graph.{Graph, IsGraph, Way, outgoing, incoming, both, has_node, element_count, add_node}
 use Rattle.pg_meaning.specs.Lists.{IsIn}
 use Rattle.pg_meaning.specs.ListsLaws.{all_weaker}
-use Rattle.pg_meaning.specs.Meaning.{Made, CreateFaults, placed, new_places, made_hops, new_nodes, new_relationships}
+use Rattle.pg_meaning.specs.Meaning.{Made, LacksRoom, CreateFaults, placed, new_places, made_hops, new_nodes, new_relationships}
 use Rattle.pg_meaning.specs.Meters.{Setting, greatest_id}
 use Rattle.pg_meaning.specs.Patterns.{node_name, texts_of, types_of, way_of, relationship_properties, Bond, single}
 use Rattle.pg_meaning.specs.Reading.{test_bound}
@@ -23,14 +23,14 @@ use Rattle.pg_meaning.specs.Walks.{bound_value}
 use Rattle.pg_meaning.specs.declared.fault.Fault.{Fault}
 use Rattle.pg_meaning.specs.declared.fault.Fault.TheVariants.{TypeFault, ElementQuota, IdsExhausted}
 
-no_room_for_node : (most count start made left total hops others : ℕ) → most ≤ count → count ≤ start + made + others → made + (1 + left) ≡ total → others ≤ hops → most < start + total + hops
-no_room_for_node most count start made left total hops others a b c d = omega arith
+no_room_for_node : (most count start made left total hops others : ℕ) → most ≤ count → count ≤ start + made + others → made + (1 + left) ≡ total → others ≤ hops → LacksRoom most start (total + hops)
+no_room_for_node most count start made left total hops others a b c d = (omega arith, omega arith)
 
-no_room_for_hop : (most count start made total hops others left : ℕ) → most ≤ count → count ≤ start + made + others → made ≤ total → others + (1 + left) ≡ hops → most < start + total + hops
-no_room_for_hop most count start made total hops others left a b c d = omega arith
+no_room_for_hop : (most count start made total hops others left : ℕ) → most ≤ count → count ≤ start + made + others → made ≤ total → others + (1 + left) ≡ hops → LacksRoom most start (total + hops)
+no_room_for_hop most count start made total hops others left a b c d = (omega arith, omega arith)
 
-no_id_left : (greatest next start made left total : ℕ) → greatest ≤ next → next ≡ start + made → made + (1 + left) ≡ total → greatest < start + total
-no_id_left greatest next start made left total a b c = omega arith
+no_id_left : (greatest next start made left total : ℕ) → greatest ≤ next → next ≡ start + made → made + (1 + left) ≡ total → LacksRoom greatest start total
+no_id_left greatest next start made left total a b c = (omega arith, omega arith)
 
 -- all properties that the paths give
 abbrev pub all_properties : List PathPattern → List Properties

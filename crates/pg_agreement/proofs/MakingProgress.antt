@@ -7,7 +7,8 @@ use Rattle.pg_agreement.proofs.MakingPlaces.{is_new, known_with, known, new_plac
 use Rattle.pg_agreement.proofs.MakingRows.{binds_known, still_bound, value_still_bound, now_bound, bound_before}
 use Rattle.pg_meaning.specs.Agreement.{given}
 use Rattle.pg_meaning.specs.Answer.{unless}
-use Rattle.pg_meaning.specs.CreationLaws.{BindsOnly, below, given_rises, put_is_longer, next_below}
+use Rattle.pg_agreement.proofs.MakingTurns.{below, given_rises, put_is_longer, next_below}
+use Rattle.pg_agreement.proofs.RowNames.{BindsOnly}
 use Rattle.pg_meaning.specs.Graph.{Graph, Node, Relationship, IsGraph, Way, outgoing, incoming, both, node_at, relationship_at, has_node, element_count, add_node, add_relationship}
 use Rattle.pg_meaning.specs.GraphLaws.{add_node_keeps_graph, add_node_adds, add_relationship_keeps_graph, add_relationship_adds, still_there, found_among}
 use Rattle.pg_meaning.specs.Lists.{AllPairsByRecursion}

@@ -3,7 +3,7 @@ use Rattle.std.proofs.Common.{◌≡◌, ℕ, Bool, true, false, cond, ◌||◌,
 use Rattle.std.proofs.lemmas.Slice.Eq.{bytes_eq-Decides}
 use Rattle.std.specs.List.{AllZip}
 use Rattle.pg_agreement.proofs.MakingPlaces.{known_with}
-use Rattle.pg_meaning.specs.CreationLaws.{BindsOnly, among_behind, binds_if_named}
+use Rattle.pg_agreement.proofs.RowNames.{BindsOnly, among_behind, binds_if_named}
 use Rattle.pg_meaning.specs.Graph.{Graph}
 use Rattle.pg_meaning.specs.Names.{Names, is_among}
 use Rattle.pg_meaning.specs.Patterns.{nodes_of, node_name, relationship_name, text_of, path_value, bond_value, Bond, Trail, Assignment, bind_hops, bind_path, bind_match, add_if_named, add_hop_names, add_path_names}

@@ -5,7 +5,7 @@ use Rattle.std.specs.Map.{lookup}
 use Rattle.pg_meaning.specs.Agreement.{AreGiven}
 use Rattle.pg_meaning.specs.AgreementLaws.{named_in}
 use Rattle.pg_meaning.specs.Conditions.{conjuncts_of, condition}
-use Rattle.pg_meaning.specs.CreationLaws.{BindsOnly}
+use Rattle.pg_agreement.proofs.RowNames.{BindsOnly}
 use Rattle.pg_meaning.specs.Entries.{value_at}
 use Rattle.pg_meaning.specs.EntriesLaws.{both, joined, same_text}
 use Rattle.pg_meaning.specs.Equality.{eq3}
@@ -14,7 +14,7 @@ use Rattle.pg_meaning.specs.Graph.{Graph, Node, node_at}
 use Rattle.pg_meaning.specs.Lists.{IsIn}
 use Rattle.pg_meaning.specs.ListsLaws.{in_mapped}
 use Rattle.pg_meaning.specs.Logic.{is_true}
-use Rattle.pg_meaning.specs.MatchLaws.{having_fit, looked_up, among_all, found_in, id_in, same_some}
+use Rattle.pg_agreement.proofs.MatchParts.{having_fit, looked_up, among_all, found_in, id_in, same_some}
 use Rattle.pg_meaning.specs.Names.{Names, is_among}
 use Rattle.pg_meaning.specs.Patterns.{NodeFits, HopsFit, PathFits, Fits, named_nodes, all_named, nodes_of, node_name, texts_of, property_pairs, bind_match, Bond, Trail, Assignment}
 use Rattle.pg_meaning.specs.Plans.{Anchor, Fixed, IndexSuits, leading_of, unbound_names, node_names, fixed_for}

@@ -12,7 +12,7 @@ use Rattle.pg_meaning.specs.Grammar.{mark, operator_what, marks, operand_marks, 
 use Rattle.pg_meaning.specs.Graph.{Graph, Node, node_at}
 use Rattle.pg_meaning.specs.Lists.{IsIn}
 use Rattle.pg_meaning.specs.Logic.{and3, is_true, value_of, truth_of}
-use Rattle.pg_meaning.specs.MatchLaws.{same_some}
+use Rattle.pg_agreement.proofs.MatchParts.{same_some}
 use Rattle.pg_meaning.specs.Names.{Names, is_among}
 use Rattle.pg_meaning.specs.Plans.{Fixed, is_constant, fixed_by, leading}
 use Rattle.pg_meaning.specs.Rows.{Row, value_in}

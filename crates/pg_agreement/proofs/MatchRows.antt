@@ -6,12 +6,12 @@ use Rattle.pg_meaning.specs.AgreementLaws.{named_in}
 use Rattle.pg_meaning.specs.Answer.{◌>>=◌, ◌>>◌}
 use Rattle.pg_meaning.specs.AnswerLaws.{went_well, went_wrong, same_ok}
 use Rattle.pg_meaning.specs.Conditions.{conjuncts_of, condition}
-use Rattle.pg_meaning.specs.CreationLaws.{BindsOnly}
+use Rattle.pg_agreement.proofs.RowNames.{BindsOnly}
 use Rattle.pg_meaning.specs.Grammar.{marks}
 use Rattle.pg_meaning.specs.Graph.{Graph, IsGraph}
 use Rattle.pg_meaning.specs.Lists.{IsIn, IsListOf}
 use Rattle.pg_meaning.specs.ListsLaws.{all_at, all_filtered, in_filtered, pairs_filtered, all_both, all_weaker}
-use Rattle.pg_meaning.specs.MatchLaws.{same_fault}
+use Rattle.pg_agreement.proofs.MatchParts.{same_fault}
 use Rattle.pg_meaning.specs.Meaning.{MatchRow, MatchFaults}
 use Rattle.pg_meaning.specs.Meters.{Setting}
 use Rattle.pg_meaning.specs.Patterns.{nodes_of, Fits, Matches, Assignment, bind_match, add_path_names}

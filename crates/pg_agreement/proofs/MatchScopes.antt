@@ -2,7 +2,7 @@
 use Rattle.std.proofs.Common.{◌≡◌, ℕ, Bool, true, false, ◌||◌, inl, inr, List, [], ◌∷◌, ◌++◌, map, flat_map, Option, Some, None, bytes_eq, refl, sym, ap, subst, ◌∙◌, true≢false}
 use Rattle.pg_meaning.specs.EntriesLaws.{same_text}
 use Rattle.pg_meaning.specs.Lists.{IsIn}
-use Rattle.pg_meaning.specs.MatchLaws.{same_some}
+use Rattle.pg_agreement.proofs.MatchParts.{same_some}
 use Rattle.pg_meaning.specs.Names.{Names, is_among}
 use Rattle.pg_meaning.specs.Patterns.{node_name, nodes_of, text_of}
 use Rattle.pg_meaning.specs.StaticFaults.{found_if, matching, Part, path_part, node_part, relationship_part, hop_parts, path_variable_part, path_parts, Used, with_variable, relationship_variable, used_with, is_used, new_faults, node_variable_faults, properties_faults, relationship_faults, part_faults, parts_faults}

@@ -1,6 +1,7 @@
 -- MATCH agrees with its meaning, row after row.
 use Rattle.std.proofs.Common.{◌≡◌, ℕ, Bool, inl, inr, List, [], ◌∷◌, map, sum, Option, Result, Ok, Err, refl, subst}
 use Rattle.std.specs.List.{AllByRecursion, AllZip}
+use Rattle.pg_meaning.specs.Turns.{RowAfterRow, AtSomeRow}
 use Rattle.pg_meaning.specs.Agreement.{given, AreGiven, AreRowsOf, AnswerAgrees}
 use Rattle.pg_meaning.specs.AgreementLaws.{named_in}
 use Rattle.pg_meaning.specs.Answer.{◌>>=◌, each_answer}
@@ -10,11 +11,11 @@ use Rattle.pg_meaning.specs.Grammar.{marks}
 use Rattle.pg_meaning.specs.Graph.{Graph, IsGraph}
 use Rattle.pg_meaning.specs.Lists.{IsIn}
 use Rattle.pg_meaning.specs.ListsLaws.{all_joined}
-use Rattle.pg_meaning.specs.Meaning.{RowAfterRow, MatchRow, MatchFaults, AtSomeRow}
+use Rattle.pg_meaning.specs.Meaning.{MatchRow, MatchFaults}
 use Rattle.pg_meaning.specs.Meters.{Setting, State, spend}
 use Rattle.pg_meaning.specs.Patterns.{Assignment, add_path_names}
 use Rattle.pg_meaning.specs.Plans.{Fixed, IsAnchorOf, leading_of}
-use Rattle.pg_meaning.specs.ProjectionLaws.{spend_fault}
+use Rattle.pg_agreement.proofs.ProjectedParts.{spend_fault}
 use Rattle.pg_meaning.specs.Reading.{prepared, matched, joined_rows}
 use Rattle.pg_meaning.specs.Rows.{Row}
 use Rattle.pg_meaning.specs.StaticFaults.{matching, paths_faults}

@@ -4,20 +4,22 @@ use Rattle.std.specs.List.{AllByRecursion, AllZip}
 use Rattle.pg_agreement.proofs.MatchFound.{walks_list_fits}
 use Rattle.pg_agreement.proofs.MakingClauses.{BoundTested, bound_tested, MakeAgrees, made}
 use Rattle.pg_agreement.proofs.MakingRows.{as_many_nodes, HasShape, binds_match}
+use Rattle.pg_agreement.proofs.ChangesComputed.{set_is_computed, set_fault_is_computed}
 use Rattle.pg_agreement.proofs.MergingItems.{Keeps, rows_keep, ItemsRun, items_run}
 use Rattle.pg_agreement.proofs.MergingProperties.{NullTested, WantedAgrees, wanted_agrees}
 use Rattle.pg_agreement.specs.Making.{MergeAgrees}
+use Rattle.pg_meaning.specs.Turns.{RowByRow, AtSomeTurn}
 use Rattle.pg_meaning.specs.Agreement.{given, AreRowsOf, AnswerAgrees}
 use Rattle.pg_meaning.specs.Answer.{◌>>=◌, ◌>>◌, each_step}
-use Rattle.pg_meaning.specs.CreationLaws.{BindsOnly}
+use Rattle.pg_agreement.proofs.RowNames.{BindsOnly}
 use Rattle.pg_meaning.specs.Graph.{Graph, IsGraph}
 use Rattle.pg_meaning.specs.Lists.{IsListOf}
 use Rattle.pg_meaning.specs.ListsLaws.{all_joined, all_mapped}
-use Rattle.pg_meaning.specs.Meaning.{RowByRow, AtSomeTurn, BoundNodesLive, PropertiesEvaluate, NotNull, MergeRow, MergeFaults}
+use Rattle.pg_meaning.specs.Meaning.{BoundNodesLive, PropertiesEvaluate, MergeTests, MergeRow, MergeFaults}
 use Rattle.pg_meaning.specs.Meters.{Setting, State, spend}
 use Rattle.pg_meaning.specs.Patterns.{Fits, PathFits, HopsFit, Bond, Trail, Assignment, bind_match, add_path_names}
 use Rattle.pg_meaning.specs.Plans.{IsAnchorOf}
-use Rattle.pg_meaning.specs.ProjectionLaws.{spend_fault}
+use Rattle.pg_agreement.proofs.ProjectedParts.{spend_fault}
 use Rattle.pg_meaning.specs.Reading.{test_paths}
 use Rattle.pg_meaning.specs.Rows.{Row}
 use Rattle.pg_meaning.specs.Tree.{NodePattern, RelationshipPattern, PathPattern, SetItem, merge}
@@ -69,7 +71,7 @@ kept : (r : Result Graph Fault) (after : Graph) → Keeps r → r ≡ Ok after �
 kept r after h e = subst Keeps e h
 
 module _ (s : Setting) (p : PathPattern) (parts : List (Bool × List SetItem)) (state : State) (row : Row) (g : IsGraph state.graph) (h : BindsOnly s.scope row)
-    (live : BoundNodesLive false state.graph row (p ∷ [])) (evaluated : PropertiesEvaluate (given s) state.graph (p ∷ []) row) (not_null : NotNull (given s) state.graph (p ∷ []) row) where
+    (tested : MergeTests (given s) p state.graph row) where
   abbrev Merges : Result State Fault → Type 0
   Merges = RowMerges s p parts state row
 
@@ -85,11 +87,12 @@ module _ (s : Setting) (p : PathPattern) (parts : List (Bool × List SetItem)) (
     where
       by_run : (r : Result State Fault) → ItemsRun s (items_on false parts) (charged steps state.graph) (map (λ a. bind_match state.graph (p ∷ []) a row) found) r → Merges r
       by_run (Err f) (inl e) = inl e
-      by_run (Err f) (inr e) = inr (inr (inr (inr (inr (inl (found, matches, e))))))
+      by_run (Err f) (inr e) =
+          inr (inr (inr (inr (inr (tested, inl (found, matches, (set_fault_is_computed (given s) (items_on false parts) state.graph (map (λ a. bind_match state.graph (p ∷ []) a row) found) f g).0 e))))))
       by_run (Ok next) k = (
         map (λ a. bind_match state.graph (p ∷ []) a row) found,
         k.1,
-        record { live = live; evaluated = evaluated; not_null = not_null; one = inl (record { found = found; matches = matches; some = some; rows = refl; items_run = k.0 }) },
+        record { tested = tested; one = inl (record { found = found; matches = matches; some = some; rows = refl; items_run = (set_is_computed (given s) (items_on false parts) state.graph next.graph (map (λ a. bind_match state.graph (p ∷ []) a row) found) g).0 k.0 }) },
         kept (each_step (set_row s (items_on false parts)) state.graph (map (λ a. bind_match state.graph (p ∷ []) a row) found)) next.graph
             (rows_keep s (items_on false parts) (map (λ a. bind_match state.graph (p ∷ []) a row) found) state.graph g) k.0,
         rows_of_fits s.parameters state.graph row (p ∷ []) s.scope found h matches.each,
@@ -102,17 +105,18 @@ module _ (s : Setting) (p : PathPattern) (parts : List (Bool × List SetItem)) (
     where
       by_run : (after : Graph × Row) → MakeAgrees s (p ∷ []) state.graph row (Ok after) → (more : ℕ) (r : Result State Fault) → ItemsRun s (items_on true parts) (charged more after.0) (after.1 ∷ []) r → Merges r
       by_run after k more (Err f) (inl e) = inl e
-      by_run after k more (Err f) (inr e) = inr (inr (inr (inr (inr (inr (after.0, after.1 ∷ [], none, k.0, e))))))
+      by_run after k more (Err f) (inr e) =
+          inr (inr (inr (inr (inr (tested, inr (after.0, after.1 ∷ [], none, k.0, (set_fault_is_computed (given s) (items_on true parts) after.0 (after.1 ∷ []) f k.0.graph_again).0 e))))))
       by_run after k more (Ok next) run = (
         after.1 ∷ [],
         run.1,
-        record { live = live; evaluated = evaluated; not_null = not_null; one = inr (record { none = none; made = after.0; creation = k.0; items_run = run.0 }) },
+        record { tested = tested; one = inr (record { none = none; made = after.0; creation = k.0; items_run = (set_is_computed (given s) (items_on true parts) after.0 next.graph (after.1 ∷ []) k.0.graph_again).0 run.0 }) },
         kept (each_step (set_row s (items_on true parts)) after.0 (after.1 ∷ [])) next.graph (rows_keep s (items_on true parts) (after.1 ∷ []) after.0 k.0.graph_again) run.0,
         (k.1, tt),
       )
 
       by_made : (more : ℕ) (r : Result (Graph × Row) Fault) → MakeAgrees s (p ∷ []) state.graph row r → Merges (r >>= λ made. merged_row s (items_on true parts) (charged more made.0) made.1)
-      by_made more (Err f) k = inr (inr (inr (inr (inl (none, k)))))
+      by_made more (Err f) k = inr (inr (inr (inr (inl (tested, none, k)))))
       by_made more (Ok after) k =
           subst Merges (same_answer (merged_row s (items_on true parts) (charged more after.0) after.1))
           (by_run after k more (each_step (merged_row s (items_on true parts)) (charged more after.0) (after.1 ∷ [])) (items_run s (items_on true parts) (after.1 ∷ []) (charged more after.0)))
@@ -120,7 +124,7 @@ module _ (s : Setting) (p : PathPattern) (parts : List (Bool × List SetItem)) (
       by_steps : (r : Result ℕ Fault) → ((f : Fault) → r ≡ Err f → f ≡ StepQuota)
           → Merges (r >>= λ more. make s (p ∷ []) state.graph row >>= λ made. merged_row s (items_on true parts) (charged more made.0) made.1)
       by_steps (Err f) is = inl (is f refl)
-      by_steps (Ok more) is = by_made more (make s (p ∷ []) state.graph row) (made s (p ∷ []) state.graph row g h live)
+      by_steps (Ok more) is = by_made more (make s (p ∷ []) state.graph row) (made s (p ∷ []) state.graph row g h tested.live)
 
   listed_merges : (steps : ℕ) (found : Listing Assignment) → IsListOf (Fits (p ∷ []) s.parameters state.graph row) found.0 → Merges (merge_found s p parts (charged steps state.graph) row found)
   listed_merges steps found matches = by_found found.0 matches
@@ -133,12 +137,11 @@ row_merges : (s : Setting) (p : PathPattern) (parts : List (Bool × List SetItem
     → IsGraph state.graph → BindsOnly s.scope row → RowMerges s p parts state row (merge_row s p parts state row)
 row_merges s p parts state row planned g h = by_live (test_paths false state.graph row (p ∷ [])) (bound_tested false state.graph row (p ∷ []))
   where
-    by_steps : (wanted : List PathWanted) → paths_wanted row s.parameters state.graph (p ∷ []) ≡ Ok wanted → BoundNodesLive false state.graph row (p ∷ []) → PropertiesEvaluate (given s) state.graph (p ∷ []) row
-        → NotNull (given s) state.graph (p ∷ []) row → (r : Result ℕ Fault) → ((f : Fault) → r ≡ Err f → f ≡ StepQuota)
+    by_steps : (wanted : List PathWanted) → paths_wanted row s.parameters state.graph (p ∷ []) ≡ Ok wanted → MergeTests (given s) p state.graph row → (r : Result ℕ Fault) → ((f : Fault) → r ≡ Err f → f ≡ StepQuota)
         → RowMerges s p parts state row (r >>= λ steps. merge_found s p parts (record { graph = state.graph; rows = state.rows; steps = steps }) row (walks state.graph s.parameters [] wanted s.anchors row))
-    by_steps wanted is live evaluated not_null (Err f) quota = inl (quota f refl)
-    by_steps wanted is live evaluated not_null (Ok steps) quota =
-        listed_merges s p parts state row g h live evaluated not_null steps (walks state.graph s.parameters [] wanted s.anchors row) (walks_list_fits s.parameters state.graph row (p ∷ []) wanted s.anchors g is planned)
+    by_steps wanted is tested (Err f) quota = inl (quota f refl)
+    by_steps wanted is tested (Ok steps) quota =
+        listed_merges s p parts state row g h tested steps (walks state.graph s.parameters [] wanted s.anchors row) (walks_list_fits s.parameters state.graph row (p ∷ []) wanted s.anchors g is planned)
 
     by_null : (wanted : List PathWanted) → paths_wanted row s.parameters state.graph (p ∷ []) ≡ Ok wanted → BoundNodesLive false state.graph row (p ∷ []) → PropertiesEvaluate (given s) state.graph (p ∷ []) row
         → (t : Result (Unit {0}) Fault) → NullTested row s.parameters state.graph p t
@@ -146,7 +149,7 @@ row_merges s p parts state row planned g h = by_live (test_paths false state.gra
         >>= λ steps. merge_found s p parts (record { graph = state.graph; rows = state.rows; steps = steps }) row (walks state.graph s.parameters [] wanted s.anchors row)))
     by_null wanted is live evaluated (Err f) k = inr (inr (inr (inl k)))
     by_null wanted is live evaluated (Ok x) k =
-        by_steps wanted is live evaluated k (spend s state.steps (walks state.graph s.parameters [] wanted s.anchors row).1)
+        by_steps wanted is (record { live = live; evaluated = evaluated; not_null = k }) (spend s state.steps (walks state.graph s.parameters [] wanted s.anchors row).1)
         (λ f e. spend_fault s state.steps (walks state.graph s.parameters [] wanted s.anchors row).1 f e)
 
     by_wanted : BoundNodesLive false state.graph row (p ∷ []) → (r : Result (List PathWanted) Fault) → paths_wanted row s.parameters state.graph (p ∷ []) ≡ r → WantedAgrees row s.parameters state.graph p r

@@ -13,7 +13,7 @@ use Rattle.pg_meaning.specs.Names.{put_texts}
 use Rattle.pg_meaning.specs.NamesLaws.{put_texts_rise}
 use Rattle.pg_meaning.specs.Order.{text_order}
 use Rattle.pg_meaning.specs.Patterns.{texts_of}
-use Rattle.pg_meaning.specs.ProjectionLaws.{spend_fault}
+use Rattle.pg_agreement.proofs.ProjectedParts.{spend_fault}
 use Rattle.pg_meaning.specs.Rows.{Row}
 use Rattle.pg_meaning.specs.Tree.{Name, SetItem, set_property, set_all, set_more, set_labels}
 use Rattle.pg_meaning.specs.Updates.{Target, nothing, at_node, at_relationship, target_of, is_nothing, change_properties, change_labels, set_pairs, mapping_pairs, test_storable, on_target, set_item, set_row, merged_row}

@@ -1,11 +1,11 @@
 -- The plan that is made of a query is a plan of it.
-use Rattle.std.proofs.Common.{◌≡◌, ℕ, Bool, true, ◌||◌, inl, inr, List, [], ◌∷◌, map, flat_map, Option, Some, None, is_some, unwrap_or, bytes_eq, slice_get, position, refl, sym, ap, subst}
+use Rattle.std.proofs.Common.{◌≡◌, ℕ, Bool, true, cond, ◌||◌, inl, inr, List, [], ◌∷◌, map, flat_map, Option, Some, None, is_some, unwrap_or, bytes_eq, slice_get, position, refl, sym, ap, subst}
 use Rattle.std.proofs.lemmas.List.Quantifiers.{position-Some}
 use Rattle.std.specs.List.{AllZip}
 use Rattle.pg_meaning.specs.Lists.{IsIn}
 use Rattle.pg_meaning.specs.Names.{Names, is_among}
 use Rattle.pg_meaning.specs.Patterns.{nodes_of, texts_of, add_path_names}
-use Rattle.pg_meaning.specs.Plans.{Catalogue, Anchor, Fixed, leading_of, fixed_keys, is_indexed, serving, is_bound_by, is_labelled, anchor_of, anchors_of, clause_plan, plan_from, IndexSuits, IsAnchorOf, ArePlanned, IsPlanFrom}
+use Rattle.pg_meaning.specs.Plans.{Catalogue, Anchor, Fixed, index_over, anchors_over, plan_over, leading_of, fixed_keys, is_indexed, serving, is_bound_by, is_labelled, anchor_of, anchors_of, clause_plan, plan_from, IndexSuits, IsAnchorOf, ArePlanned, IsPlanFrom}
 use Rattle.pg_meaning.specs.Scopes.{scope_after}
 use Rattle.pg_meaning.specs.Tree.{NodePattern, PathPattern, Clause, match_paths, unwind, create, merge, set_items, remove_items, delete, with_rows, return_rows}
 use Rattle.pg_agreement.proofs.ChargingWalks.{got_below}
@@ -13,7 +13,7 @@ use Rattle.pg_agreement.proofs.MatchAnchors.{find_is}
 use Rattle.pg_agreement.proofs.MatchBindings.{or_both}
 use Rattle.pg_agreement.proofs.MatchLists.{in_either}
 use Rattle.pg_agreement.proofs.MatchStates.{text_itself}
-use Rattle.pg_agreement.specs.Planning.{PlanOfIsPlan}
+use Rattle.pg_agreement.specs.Planning.{PlanOfIsPlan, PlanOfIsWhole}
 
 -- ---- the index that serves a node
 
@@ -111,3 +111,53 @@ plan_is_from catalogue scope (c ∷ cs) = (clause_planned catalogue scope c, pla
 
 pub plan_of_is_plan : PlanOfIsPlan
 plan_of_is_plan catalogue q = plan_is_from catalogue [] q.clauses
+
+-- ---- its indexes are there
+
+module _ (catalogue : Catalogue) (leads : List Fixed) where
+  abbrev IsThere : Option Index → Type 0
+  IsThere o = index_over catalogue o ≡ o
+
+  serving_is_there : (n : NodePattern) → IsThere (serving catalogue leads n)
+  serving_is_there n = by_found (serving catalogue leads n) refl
+    where
+      by_found : (o : Option Index) → serving catalogue leads n ≡ o → IsThere o
+      by_found None e = refl
+      by_found (Some i) e = ap (λ b. cond b (Some i) None) (find_is (is_indexed catalogue) (flat_map (λ l. map (λ k. (l, k)) (fixed_keys leads n)) (texts_of n.labels)) i e).1
+
+  module _ (p : PathPattern) where
+    index_is_there : (o : Option NodePattern) → IsThere (index_of catalogue leads o)
+    index_is_there None = refl
+    index_is_there (Some n) = serving_is_there n
+
+    served_is_there : (o : Option ℕ) → IsThere (by_index catalogue leads p o).index
+    served_is_there None = refl
+    served_is_there (Some i) = index_is_there (slice_get (nodes_of p) i)
+
+    anchor_is_there : (o : Option ℕ) → IsThere (by_bound catalogue leads p o).index
+    anchor_is_there None = served_is_there (position (is_served catalogue leads p) (nodes_of p))
+    anchor_is_there (Some i) = refl
+
+  anchors_are_there : (bound : Names) (ps : List PathPattern) → anchors_over catalogue (anchors_of leads catalogue bound ps) ≡ anchors_of leads catalogue bound ps
+  anchors_are_there bound [] = refl
+  anchors_are_there bound (p ∷ ps) =
+      let same = anchor_is_there p (position (is_bound_by bound) (nodes_of p)) in
+      λ i. record { place = (anchor_of p leads bound catalogue).place; index = same i } ∷ anchors_are_there (add_path_names (p ∷ []) bound) ps i
+
+clause_is_whole : (catalogue : Catalogue) (scope : Names) (c : Clause) → anchors_over catalogue (clause_plan catalogue scope c) ≡ clause_plan catalogue scope c
+clause_is_whole catalogue scope (match_paths is_optional paths where_) = anchors_are_there catalogue (leading_of scope paths where_) scope paths
+clause_is_whole catalogue scope (merge path items) = anchors_are_there catalogue [] scope (path ∷ [])
+clause_is_whole catalogue scope (unwind e n) = refl
+clause_is_whole catalogue scope (create paths) = refl
+clause_is_whole catalogue scope (set_items items) = refl
+clause_is_whole catalogue scope (remove_items items) = refl
+clause_is_whole catalogue scope (delete is_detach es) = refl
+clause_is_whole catalogue scope (with_rows p where_) = refl
+clause_is_whole catalogue scope (return_rows p) = refl
+
+whole_from : (catalogue : Catalogue) (scope : Names) (cs : List Clause) → plan_over catalogue (plan_from catalogue scope cs) ≡ plan_from catalogue scope cs
+whole_from catalogue scope [] = refl
+whole_from catalogue scope (c ∷ cs) = λ i. clause_is_whole catalogue scope c i ∷ whole_from catalogue (scope_after scope c) cs i
+
+pub plan_of_is_whole : PlanOfIsWhole
+plan_of_is_whole catalogue q = whole_from catalogue [] q.clauses

@@ -1,15 +1,16 @@
 -- WITH and RETURN: items, DISTINCT, ORDER BY, SKIP, LIMIT and WHERE, one after the other.
 use Rattle.std.proofs.Common.{◌≡◌, ℕ, Bool, true, false, ◌⊎◌, inl, inr, List, map, length, Option, None, Result, Ok, Err, refl, sym, subst}
 use Rattle.std.specs.List.{AllByRecursion, AllZip, list_any}
+use Rattle.pg_meaning.specs.Turns.{AtSomeRow}
 use Rattle.pg_meaning.specs.Agreement.{given, AnswerAgrees}
 use Rattle.pg_meaning.specs.Answer.{◌>>=◌, each_answer}
 use Rattle.pg_meaning.specs.AnswerLaws.{by_answer, answers_zip, answers_fault}
 use Rattle.pg_meaning.specs.Conditions.{condition}
 use Rattle.pg_meaning.specs.Graph.{Graph, IsGraph}
 use Rattle.pg_meaning.specs.Lists.{IsIn}
-use Rattle.pg_meaning.specs.Meaning.{Groups, Items, AtSomeRow, ItemFaults, AggregateFaults, SortFaults, PassingFaults, keys_at}
+use Rattle.pg_meaning.specs.Meaning.{Groups, Items, ItemFaults, AggregateFaults, SortFaults, PassingFaults, keys_at}
 use Rattle.pg_meaning.specs.Meters.{Setting, State, spend}
-use Rattle.pg_meaning.specs.ProjectionLaws.{spend_fault, Binds, all_bind, row_fault, distinct_agrees, all_distinct, passing_agrees, passing_fault, all_cut, all_passing, rows_bind, ProjectionAgrees}
+use Rattle.pg_agreement.proofs.ProjectedParts.{spend_fault, Binds, all_bind, row_fault, distinct_agrees, all_distinct, passing_agrees, passing_fault, all_cut, all_passing, rows_bind, ProjectionAgrees}
 use Rattle.pg_meaning.specs.Projections.{Projected, visible, projected, grouped, item_rows, count_given, skipped, limited, distinct_rows, ordered_rows, passing_rows, project_clause}
 use Rattle.pg_meaning.specs.Rows.{Row}
 use Rattle.pg_meaning.specs.Scopes.{Column, is_aggregate, with_columns, return_columns}

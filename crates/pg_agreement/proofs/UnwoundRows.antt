@@ -1,16 +1,17 @@
 -- UNWIND: the items of each row's list in order, and the names that they bind.
 use Rattle.std.proofs.Common.{◌≡◌, ℕ, inl, inr, List, [], ◌∷◌, map, flat_map, sum, length, Result, Ok, Err, refl, sym, ap, subst}
+use Rattle.pg_meaning.specs.Turns.{RowAfterRow}
 use Rattle.pg_meaning.specs.Agreement.{given, AreRowsOf, AnswerAgrees}
 use Rattle.pg_meaning.specs.Answer.{◌>>=◌, each_answer}
 use Rattle.pg_meaning.specs.AnswerLaws.{by_answer, went_well, same_ok, answers_fault}
-use Rattle.pg_meaning.specs.CreationLaws.{BindsOnly, binds_new}
+use Rattle.pg_agreement.proofs.RowNames.{BindsOnly, binds_new}
 use Rattle.pg_meaning.specs.Expressions.{evaluate}
 use Rattle.pg_meaning.specs.Graph.{Graph}
 use Rattle.pg_meaning.specs.ListsLaws.{all_joined}
-use Rattle.pg_meaning.specs.Meaning.{RowAfterRow, UnwindRow, items_at}
+use Rattle.pg_meaning.specs.Meaning.{UnwindRow, items_at}
 use Rattle.pg_meaning.specs.Meters.{Setting, State, spend}
 use Rattle.pg_meaning.specs.Names.{add_name}
-use Rattle.pg_meaning.specs.ProjectionLaws.{spend_fault}
+use Rattle.pg_agreement.proofs.ProjectedParts.{spend_fault}
 use Rattle.pg_meaning.specs.Reading.{unwound, unwound_at}
 use Rattle.pg_meaning.specs.Rows.{Row, bind_new}
 use Rattle.pg_meaning.specs.Tree.{Expression, Name, unwind}

@@ -8,7 +8,7 @@ use Rattle.pg_meaning.specs.Grammar.{parameters_of}
 use Rattle.pg_meaning.specs.Graph.{Graph, IsGraph}
 use Rattle.pg_meaning.specs.Meaning.{Means}
 use Rattle.pg_meaning.specs.Names.{Names}
-use Rattle.pg_meaning.specs.Plans.{Plan, plan_of, IsPlanOf}
+use Rattle.pg_meaning.specs.Plans.{Catalogue, Plan, plan_of, IsPlanOf}
 use Rattle.pg_meaning.specs.Queries.{Outcome, ordered, output_rows, returns}
 use Rattle.pg_meaning.specs.Scopes.{scope_after, columns_from}
 use Rattle.pg_meaning.specs.StaticFaults.{static_faults}
@@ -48,7 +48,7 @@ meaning_of_queries q = clauses_make_queries q (all_agree q.clauses)
     all_agree (c ∷ cs) = (each_agrees c, all_agree cs)
 
 pub answers_are_meant : AnswersAreMeant
-answers_are_meant catalogue q parameters graph max_steps max_elements faults given g = meaning_of_queries q (plan_of catalogue q) parameters graph max_steps max_elements faults given (plan_of_is_plan catalogue q) g
+answers_are_meant catalogue q parameters graph max_steps max_elements faults given g = meaning_of_queries q (plan_of catalogue q) catalogue parameters graph max_steps max_elements faults given (plan_of_is_plan catalogue q) g
 
 -- ---- which clauses there are
 
@@ -167,20 +167,20 @@ no_return_no_rows q parameters most graph columns rows after none h = (h.named �
 -- ---- the answer
 
 -- what is meant of a query is so of its answer
-answer_means : (q : Query) (plan : Plan) (parameters : Entries) (graph : Graph) (max_steps max_elements : ℕ) (answer : Outcome) → static_faults q ≡ [] → AreGiven (parameters_of q) parameters → IsPlanOf plan q → IsGraph graph
-    → ordered plan q parameters graph max_steps max_elements ≡ Ok answer → Means q parameters max_elements graph answer.columns answer.rows answer.graph × IsGraph answer.graph
-answer_means q plan parameters graph max_steps max_elements answer faults given_here planned g is =
-    subst (OutcomeAgrees q parameters max_elements graph) is (meaning_of_queries q plan parameters graph max_steps max_elements faults given_here planned g)
+answer_means : (q : Query) (plan : Plan) (catalogue : Catalogue) (parameters : Entries) (graph : Graph) (max_steps max_elements : ℕ) (answer : Outcome) → static_faults q ≡ [] → AreGiven (parameters_of q) parameters → IsPlanOf plan q → IsGraph graph
+    → ordered plan catalogue q parameters graph max_steps max_elements ≡ Ok answer → Means q parameters max_elements graph answer.columns answer.rows answer.graph × IsGraph answer.graph
+answer_means q plan catalogue parameters graph max_steps max_elements answer faults given_here planned g is =
+    subst (OutcomeAgrees q parameters max_elements graph) is (meaning_of_queries q plan catalogue parameters graph max_steps max_elements faults given_here planned g)
 
 pub answers_continue : AnswersContinue
-answers_continue q plan parameters graph max_steps max_elements answer any faults given_here planned g is =
-    let means = answer_means q plan parameters graph max_steps max_elements answer faults given_here planned g is in
+answers_continue q plan catalogue parameters graph max_steps max_elements answer any faults given_here planned g is =
+    let means = answer_means q plan catalogue parameters graph max_steps max_elements answer faults given_here planned g is in
     (means.1, ids_are_given_once q parameters max_elements graph answer.columns answer.rows answer.graph tt g means.0, room_is_kept q parameters max_elements graph answer.columns answer.rows answer.graph tt g means.0)
 
 pub reading_answers_leave_the_graph : ReadingAnswersLeaveTheGraph
-reading_answers_leave_the_graph q plan parameters graph max_steps max_elements answer none faults given_here planned g is =
-    reading_leaves_the_graph q parameters max_elements graph answer.columns answer.rows answer.graph none g (answer_means q plan parameters graph max_steps max_elements answer faults given_here planned g is).0
+reading_answers_leave_the_graph q plan catalogue parameters graph max_steps max_elements answer none faults given_here planned g is =
+    reading_leaves_the_graph q parameters max_elements graph answer.columns answer.rows answer.graph none g (answer_means q plan catalogue parameters graph max_steps max_elements answer faults given_here planned g is).0
 
 pub answers_fit_columns : AnswersFitColumns
-answers_fit_columns q plan parameters graph max_steps max_elements answer ends faults given_here planned g is =
-    rows_fit_columns q parameters max_elements graph answer.columns answer.rows answer.graph ends (answer_means q plan parameters graph max_steps max_elements answer faults given_here planned g is).0
+answers_fit_columns q plan catalogue parameters graph max_steps max_elements answer ends faults given_here planned g is =
+    rows_fit_columns q parameters max_elements graph answer.columns answer.rows answer.graph ends (answer_means q plan catalogue parameters graph max_steps max_elements answer faults given_here planned g is).0

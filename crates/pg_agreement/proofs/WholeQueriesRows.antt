@@ -4,12 +4,13 @@ use Rattle.std.proofs.lemmas.List.{length-map}
 use Rattle.std.proofs.lemmas.List.Elements.{All-from_recursion, recursion_from_All}
 use Rattle.std.proofs.lemmas.List.Sorted.{All-permutation}
 use Rattle.std.specs.List.{AllByRecursion, AllZip, list_any}
+use Rattle.pg_meaning.specs.Turns.{Given}
 use Rattle.pg_meaning.specs.Answer.{◌>>=◌, ◌>>◌, each_answer}
 use Rattle.pg_meaning.specs.AnswerLaws.{went_well, same_ok}
 use Rattle.pg_meaning.specs.Graph.{Graph, has_node, has_relationship}
 use Rattle.pg_meaning.specs.Lists.{IsIn}
 use Rattle.pg_meaning.specs.ListsLaws.{all_weaker, all_at}
-use Rattle.pg_meaning.specs.Meaning.{Given, given_of, group_value, rows_with_key, Items, Groups, Distinct, Sorted, Passing, Projects, Steps, output_of}
+use Rattle.pg_meaning.specs.Meaning.{given_of, group_value, rows_with_key, Items, Groups, Distinct, Sorted, Passing, Projects, Steps, output_of}
 use Rattle.pg_meaning.specs.Names.{Names}
 use Rattle.pg_meaning.specs.Projections.{Projected, column_value, projected, skipped, limited}
 use Rattle.pg_meaning.specs.Queries.{returns, output_rows, test_output, test_present, test_ids, test_items, test_entries}
@@ -18,7 +19,7 @@ use Rattle.pg_meaning.specs.Scopes.{Column, is_aggregate, return_columns, column
 use Rattle.pg_meaning.specs.Tree.{Expression, SortItem, Projection, Clause, match_paths, unwind, create, merge, set_items, remove_items, delete, with_rows, return_rows}
 use Rattle.pg_meaning.specs.Value.{Value, null, boolean, integer, text, list, mapping, node, relationship, path, Values, no_items, item, Entries, no_entries, entry}
 use Rattle.pg_meaning.specs.declared.fault.Fault.{Fault}
-use Rattle.pg_agreement.specs.Changes.{path_nodes, path_relationships}
+use Rattle.pg_meaning.specs.Changes.{path_nodes, path_relationships}
 use Rattle.pg_agreement.specs.WholeQueries.{RowsFitColumns, ShowsNode, ItemsShowNode, EntriesShowNode, ShowsRelationship, ItemsShowRelationship, EntriesShowRelationship, RowsShowWhatIsThere}
 
 -- ---- a projected row names its columns

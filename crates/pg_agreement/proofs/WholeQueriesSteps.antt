@@ -2,22 +2,20 @@
 use Rattle.std.proofs.Common.{◌≡◌, ℕ, Bool, true, false, ◌⊎◌, inl, inr, List, [], ◌∷◌, Option, Some, None, Ok, refl, sym, subst}
 use Rattle.std.specs.Bool.{⊤}
 use Rattle.std.specs.List.{AllByRecursion}
-use Rattle.pg_meaning.specs.Answer.{each_step}
+use Rattle.pg_meaning.specs.Turns.{Given, RowByRow, InTurn}
 use Rattle.pg_meaning.specs.Graph.{Graph, Node, Relationship, IsGraph, remove_elements}
 use Rattle.pg_meaning.specs.Lists.{IsIn}
-use Rattle.pg_meaning.specs.Meaning.{Given, given_of, RowByRow, CreateRow, MergeRow, MergeMatched, MergeMade, Step, Steps, Means}
+use Rattle.pg_meaning.specs.Meaning.{given_of, CreateRow, MergeRow, MergeMatched, MergeMade, Step, Steps, Means}
 use Rattle.pg_meaning.specs.Names.{Names}
 use Rattle.pg_meaning.specs.Rows.{Row, value_in}
 use Rattle.pg_meaning.specs.Scopes.{scope_after}
 use Rattle.pg_meaning.specs.Tree.{PathPattern, SetItem, set_property, set_all, set_more, set_labels, RemoveItem, remove_property, remove_labels, Clause, match_paths, unwind, create, merge, set_items, remove_items, delete, with_rows, return_rows, Query}
-use Rattle.pg_meaning.specs.Updates.{set_row, items_on, doomed_nodes, doomed_relationships}
+use Rattle.pg_meaning.specs.Updates.{items_on, doomed_nodes, doomed_relationships}
 use Rattle.pg_meaning.specs.Value.{Value, null, boolean, integer, text, list, mapping, node, relationship, path, Entries}
-use Rattle.pg_agreement.specs.Changes.{NodeChanges, RelationshipChanges, ElementChanges, PropertiesChange, LabelsChange, SetsItem, RemovesItem, InTurn, Sets, SetFaults, Removes}
+use Rattle.pg_meaning.specs.Changes.{NodeChanges, RelationshipChanges, ElementChanges, PropertiesChange, LabelsChange, SetsItem, RemovesItem, Sets, Removes}
 use Rattle.pg_agreement.specs.WholeQueries.{makes, changes, removes}
-use Rattle.pg_agreement.proofs.ChangesItems.{Verdict}
-use Rattle.pg_agreement.proofs.ChangesRows.{set_keeps, remove_keeps, set_row_keeps, remove_row_keeps, sets_keep, removes_keep, sets_stand}
-use Rattle.pg_agreement.proofs.ChangesTold.{remove_is_told}
-use Rattle.pg_agreement.proofs.DeletesTold.{delete_is_told}
+use Rattle.pg_agreement.proofs.ChangesRows.{set_keeps, remove_keeps, set_row_keeps, remove_row_keeps, sets_keep, removes_keep}
+use Rattle.pg_agreement.proofs.DeletesComputed.{delete_is_computed}
 
 -- ---- one element changes, and it keeps its type and its ends
 
@@ -122,10 +120,8 @@ module _ (most : ℕ) (P : Graph → Graph → Type 0) (M C D : Type 0)
   abbrev Holds : Graph → Graph → Type 0
   Holds graph after = P graph after × IsGraph after
 
-  set_rows_law : (g : Given) (items : List SetItem) → ((i : SetItem) → IsIn i items → C) → (graph : Graph) (rows : List Row) (after : Graph) → IsGraph graph → each_step (set_row g items) graph rows ≡ Ok after → Holds graph after
-  set_rows_law g items may graph rows after is e =
-      let sets = subst (Verdict (Sets g items graph rows) (SetFaults g items graph rows)) e (sets_stand g items rows graph is) in
-      (sets_law g items may graph rows after is sets, sets_keep g items graph rows after is sets)
+  set_rows_law : (g : Given) (items : List SetItem) → ((i : SetItem) → IsIn i items → C) → (graph : Graph) (rows : List Row) (after : Graph) → IsGraph graph → Sets g items graph rows after → Holds graph after
+  set_rows_law g items may graph rows after is sets = (sets_law g items may graph rows after is sets, sets_keep g items graph rows after is sets)
 
   rows_law : (R : Graph → Row → Graph → List Row → Type 0) → ((graph : Graph) (row : Row) (after : Graph) (results : List Row) → IsGraph graph → R graph row after results → Holds graph after)
       → (rows : List Row) (graph after : Graph) (results : List Row) → IsGraph graph → RowByRow R graph rows after results → Holds graph after
@@ -165,11 +161,10 @@ module _ (most : ℕ) (P : Graph → Graph → Type 0) (M C D : Type 0)
   step_law parameters scope (merge p parts) may graph rows after results g h =
       rows_law (MergeRow (given_of parameters most scope) p parts) (merge_law parameters scope p parts (may.0 refl) may.1) rows graph after results g h
   step_law parameters scope (set_items items) may graph rows after results g h = set_rows_law (given_of parameters most scope) items (λ i x. may.1 refl) graph rows after g h.0
-  step_law parameters scope (remove_items items) may graph rows after results g h =
-      let told = ((remove_is_told (given_of parameters most scope) items graph after rows results g).0 h).0 in
-      (removes_law (may.1 refl) items graph rows after g told, removes_keep items graph rows after g told)
+  step_law parameters scope (remove_items items) may graph rows after results g h = (removes_law (may.1 refl) items graph rows after g h.0, removes_keep items graph rows after g h.0)
   step_law parameters scope (delete is_detach es) may graph rows after results g h =
-      (subst (P graph) (sym h.removed) (removed (may.2 refl) (doomed_nodes graph h.doomed) (doomed_relationships is_detach graph h.doomed) graph g), ((delete_is_told (given_of parameters most scope) is_detach es graph after rows results g).0 h).0.graph_again)
+      let made = (delete_is_computed (given_of parameters most scope) is_detach es graph after rows g).1 h.0 in
+      (subst (P graph) (sym made.removed) (removed (may.2 refl) (doomed_nodes graph made.doomed) (doomed_relationships is_detach graph made.doomed) graph g), (h.0).graph_again)
 
   -- ---- queries
 

@@ -1,12 +1,15 @@
--- SET, REMOVE and DELETE agree with their meaning, and their meaning is what is told of them by what is read before and after.
-use Rattle.std.specs.Prelude.{◌≡◌, Bool, ◌⊎◌, List}
+-- SET, REMOVE and DELETE agree with their meaning, which their functions compute.
+use Rattle.std.specs.Prelude.{◌≡◌, Bool, ◌⊎◌, List, [], Ok, Err}
+use Rattle.pg_meaning.specs.Turns.{Given, AtSomeRow}
 use Rattle.pg_meaning.specs.Agreement.{ClauseAgrees}
-use Rattle.pg_meaning.specs.Graph.{Graph, IsGraph}
-use Rattle.pg_meaning.specs.Meaning.{Given, Step, StepFaults}
+use Rattle.pg_meaning.specs.Answer.{each_step}
+use Rattle.pg_meaning.specs.Graph.{Graph, IsGraph, remove_elements}
+use Rattle.pg_meaning.specs.Meaning.{Step, StepFaults}
 use Rattle.pg_meaning.specs.Rows.{Row}
 use Rattle.pg_meaning.specs.Tree.{Expression, SetItem, RemoveItem, Clause, set_items, remove_items, delete}
+use Rattle.pg_meaning.specs.Updates.{set_row, remove_row, Doomed, doom_row, doomed_nodes, doomed_relationships, test_unconnected}
 use Rattle.pg_meaning.specs.declared.fault.Fault.{Fault}
-use Rattle.pg_agreement.specs.Changes.{Sets, SetFaults, Removes, RemoveFaults, ElementsGo, GoFaults}
+use Rattle.pg_meaning.specs.Changes.{Sets, SetFaults, Removes, RemoveFaults, ElementsGo, GoFaults}
 
 -- ---- the one answer
 
@@ -19,38 +22,42 @@ RemoveAgrees = (items : List RemoveItem) → ClauseAgrees (remove_items items)
 abbrev pub DeleteAgrees : Type 0
 DeleteAgrees = (is_detach : Bool) (es : List Expression) → ClauseAgrees (delete is_detach es)
 
--- ---- the meaning
+-- ---- the functions compute the meaning
 
 abbrev pub Both : Type 0 → Type 0 → Type 0
 Both A B = (A → B) × (B → A)
 
-abbrev pub SetIsTold : Type 0
-SetIsTold =
-    (g : Given) (items : List SetItem) (graph after : Graph) (rows results : List Row) → IsGraph graph
-    → Both (Step g (set_items items) graph rows after results) (Sets g items graph rows after × (results ≡ rows))
+abbrev pub SetIsComputed : Type 0
+SetIsComputed = (g : Given) (items : List SetItem) (graph after : Graph) (rows : List Row) → IsGraph graph → Both (each_step (set_row g items) graph rows ≡ Ok after) (Sets g items graph rows after)
 
-abbrev pub SetFaultIsTold : Type 0
-SetFaultIsTold = (g : Given) (items : List SetItem) (graph : Graph) (rows : List Row) (f : Fault) → IsGraph graph → Both (StepFaults g (set_items items) graph rows f) (SetFaults g items graph rows f)
+abbrev pub SetFaultIsComputed : Type 0
+SetFaultIsComputed = (g : Given) (items : List SetItem) (graph : Graph) (rows : List Row) (f : Fault) → IsGraph graph → Both (each_step (set_row g items) graph rows ≡ Err f) (SetFaults g items graph rows f)
 
-abbrev pub RemoveIsTold : Type 0
-RemoveIsTold =
-    (g : Given) (items : List RemoveItem) (graph after : Graph) (rows results : List Row) → IsGraph graph
-    → Both (Step g (remove_items items) graph rows after results) (Removes items graph rows after × (results ≡ rows))
+abbrev pub RemoveIsComputed : Type 0
+RemoveIsComputed = (items : List RemoveItem) (graph after : Graph) (rows : List Row) → IsGraph graph → Both (each_step (remove_row items) graph rows ≡ Ok after) (Removes items graph rows after)
 
-abbrev pub RemoveFaultIsTold : Type 0
-RemoveFaultIsTold = (g : Given) (items : List RemoveItem) (graph : Graph) (rows : List Row) (f : Fault) → IsGraph graph → Both (StepFaults g (remove_items items) graph rows f) (RemoveFaults items graph rows f)
+abbrev pub RemoveFaultIsComputed : Type 0
+RemoveFaultIsComputed = (items : List RemoveItem) (graph : Graph) (rows : List Row) (f : Fault) → IsGraph graph → Both (each_step (remove_row items) graph rows ≡ Err f) (RemoveFaults items graph rows f)
 
-abbrev pub DeleteIsTold : Type 0
-DeleteIsTold =
-    (g : Given) (is_detach : Bool) (es : List Expression) (graph after : Graph) (rows results : List Row) → IsGraph graph
-    → Both (Step g (delete is_detach es) graph rows after results) (ElementsGo g is_detach es graph rows after × (results ≡ rows))
+-- what DELETE computes: the ids that are named, that none of them stays connected, and the graph without them
+pub record Removal (g : Given) (is_detach : Bool) (es : List Expression) (graph : Graph) (rows : List Row) (after : Graph) : Type 0 where
+  pub doomed : Doomed
+  pub named : each_step (doom_row g graph es) ([], []) rows ≡ Ok doomed
+  pub connected : test_unconnected (remove_elements [] (doomed_relationships is_detach graph doomed) graph) (doomed_nodes graph doomed) ≡ Ok tt
+  pub removed : after ≡ remove_elements (doomed_nodes graph doomed) (doomed_relationships is_detach graph doomed) graph
 
-abbrev pub DeleteFaultIsTold : Type 0
-DeleteFaultIsTold =
-    (g : Given) (is_detach : Bool) (es : List Expression) (graph : Graph) (rows : List Row) (f : Fault) → IsGraph graph
-    → Both (StepFaults g (delete is_detach es) graph rows f) (GoFaults g is_detach es graph rows f)
+abbrev pub RemovalFaults : Given → (is_detach : Bool) → List Expression → Graph → List Row → Fault → Type 0
+RemovalFaults g is_detach es graph rows f =
+    AtSomeRow (λ row e. doom_row g graph es ([], []) row ≡ Err e) rows f
+    ⊎ ((d : Doomed) × (each_step (doom_row g graph es) ([], []) rows ≡ Ok d) × (test_unconnected (remove_elements [] (doomed_relationships is_detach graph d) graph) (doomed_nodes graph d) ≡ Err f))
 
--- what is told leaves one graph at most
+abbrev pub DeleteIsComputed : Type 0
+DeleteIsComputed = (g : Given) (is_detach : Bool) (es : List Expression) (graph after : Graph) (rows : List Row) → IsGraph graph → Both (Removal g is_detach es graph rows after) (ElementsGo g is_detach es graph rows after)
+
+abbrev pub DeleteFaultIsComputed : Type 0
+DeleteFaultIsComputed = (g : Given) (is_detach : Bool) (es : List Expression) (graph : Graph) (rows : List Row) (f : Fault) → IsGraph graph → Both (RemovalFaults g is_detach es graph rows f) (GoFaults g is_detach es graph rows f)
+
+-- the meaning leaves one graph at most
 abbrev pub OneChange : Type 0
 OneChange = (g : Given) (items : List SetItem) (graph after other : Graph) (rows : List Row) → IsGraph graph → Sets g items graph rows after → Sets g items graph rows other → after ≡ other
 

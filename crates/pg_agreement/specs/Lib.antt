@@ -1,9 +1,11 @@
-pub mod Changes
+pub mod Aggregating
 pub mod Changing
+pub mod InstancesOfChanges
 pub mod WholeQueries
 pub mod Listing
 pub mod Matching
 pub mod Making
 pub mod Projecting
+pub mod Places
 pub mod Planning
 pub mod Faults

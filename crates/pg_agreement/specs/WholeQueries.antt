@@ -12,7 +12,7 @@ use Rattle.pg_meaning.specs.Queries.{Outcome, ordered, answer_of, returns}
 use Rattle.pg_meaning.specs.StaticFaults.{static_faults}
 use Rattle.pg_meaning.specs.Tree.{Projection, Clause, create, merge, set_items, remove_items, delete, return_rows, Query}
 use Rattle.pg_meaning.specs.Value.{Value, list, mapping, node, relationship, path, Values, no_items, item, Entries, no_entries, entry}
-use Rattle.pg_agreement.specs.Changes.{path_nodes, path_relationships}
+use Rattle.pg_meaning.specs.Changes.{path_nodes, path_relationships}
 
 -- ---- the one answer stands in the meaning
 
@@ -195,10 +195,10 @@ RowsShowWhatIsThere =
 -- under a condition on the query
 abbrev pub OfAnswers : (Query → Type 0) → (ℕ → Graph → Outcome → Type 0) → Type 0
 OfAnswers If Then =
-    (q : Query) (plan : Plan) (parameters : Entries) (graph : Graph) (max_steps max_elements : ℕ) (answer : Outcome) → If q → static_faults q ≡ [] → AreGiven (parameters_of q) parameters → IsPlanOf plan q → IsGraph graph
-    → ordered plan q parameters graph max_steps max_elements ≡ Ok answer → Then max_elements graph answer
+    (q : Query) (plan : Plan) (catalogue : Catalogue) (parameters : Entries) (graph : Graph) (max_steps max_elements : ℕ) (answer : Outcome) → If q → static_faults q ≡ [] → AreGiven (parameters_of q) parameters → IsPlanOf plan q → IsGraph graph
+    → ordered plan catalogue q parameters graph max_steps max_elements ≡ Ok answer → Then max_elements graph answer
 
--- under the plan that a catalogue fixes
+-- under the plan that a catalogue fixes, where it is the tenant's own
 abbrev pub AnswersAreMeant : Type 0
 AnswersAreMeant =
     (catalogue : Catalogue) (q : Query) (parameters : Entries) (graph : Graph) (max_steps max_elements : ℕ) → static_faults q ≡ [] → AreGiven (parameters_of q) parameters → IsGraph graph

@@ -1,6 +1,7 @@
 //! SET, REMOVE and DELETE.
 
-ghost use Rattle.pg_agreement.specs.Changing.{SetAgrees, RemoveAgrees, DeleteAgrees, SetIsTold, SetFaultIsTold, RemoveIsTold, RemoveFaultIsTold, DeleteIsTold, DeleteFaultIsTold, OneChange, OneRemoval, OneDeletion, SetIsDecided, RemoveIsDecided, DeleteIsDecided};
+ghost use Rattle.pg_agreement.specs.InstancesOfChanges.{InstancesOfChanges};
+ghost use Rattle.pg_agreement.specs.Changing.{SetAgrees, RemoveAgrees, DeleteAgrees, SetIsComputed, SetFaultIsComputed, RemoveIsComputed, RemoveFaultIsComputed, DeleteIsComputed, DeleteFaultIsComputed, OneChange, OneRemoval, OneDeletion, SetIsDecided, RemoveIsDecided, DeleteIsDecided};
 
 /// SET, REMOVE and DELETE agree with their meaning.
 pub fn law_of_changing()
@@ -9,21 +10,21 @@ pub fn law_of_changing()
     ensures deletes { DeleteAgrees }
 {}
 
-/// The meaning of SET is that each item changes its target as told, and of its faults likewise; so it is of REMOVE.
+/// The functions of SET and REMOVE compute their meaning: that graph, or that fault, and no other.
 pub fn law_of_changes()
-    ensures sets { SetIsTold }
-    ensures set_faults { SetFaultIsTold }
-    ensures removes { RemoveIsTold }
-    ensures remove_faults { RemoveFaultIsTold }
+    ensures sets { SetIsComputed }
+    ensures set_faults { SetFaultIsComputed }
+    ensures removes { RemoveIsComputed }
+    ensures remove_faults { RemoveFaultIsComputed }
 {}
 
-/// The meaning of DELETE is that the elements named go and no other, and that it is refused where one of them stays connected.
+/// So does the function of DELETE: the ids that are named, the test that none of them stays connected, and the removal.
 pub fn law_of_deletions()
-    ensures deletes { DeleteIsTold }
-    ensures faults { DeleteFaultIsTold }
+    ensures deletes { DeleteIsComputed }
+    ensures faults { DeleteFaultIsComputed }
 {}
 
-/// What is told of a clause leaves one graph at most.
+/// The meaning of such a clause leaves one graph at most.
 pub fn law_of_one_change()
     ensures sets { OneChange }
     ensures removes { OneRemoval }
@@ -35,4 +36,10 @@ pub fn law_of_decisions()
     ensures sets { SetIsDecided }
     ensures removes { RemoveIsDecided }
     ensures deletes { DeleteIsDecided }
+{}
+
+/// Instances of SET, REMOVE and DELETE, of each one that holds and one that doesn't.
+#[tactic(auto, using(crate::proofs::InstancesOfChanges::instances_of_changes))]
+pub fn instances_of_changes()
+    ensures { InstancesOfChanges }
 {}

@@ -1,11 +1,13 @@
 //! The one answer and the meaning agree, clause by clause and for whole queries.
 #![tactic(auto)]
 
+ghost use Rattle.pg_agreement.specs.Aggregating.{TakesAllThere, LeastIsFirst, GreatestIsLast};
 ghost use Rattle.pg_agreement.specs.Faults.{FaultsOfExpressions, FaultsOfQueries};
 ghost use Rattle.pg_agreement.specs.Listing.{WalksAreTheListing};
 ghost use Rattle.pg_agreement.specs.Making.{CreateAgrees, MergeAgrees};
 ghost use Rattle.pg_agreement.specs.Matching.{MatchAgrees, WalksListFits};
-ghost use Rattle.pg_agreement.specs.Planning.{PlanOfIsPlan};
+ghost use Rattle.pg_agreement.specs.Places.{CreationIsCharged, NamesAreOfPlaces};
+ghost use Rattle.pg_agreement.specs.Planning.{PlanOfIsPlan, PlanOfIsWhole};
 ghost use Rattle.pg_agreement.specs.Projecting.{ReturnAgrees, UnwindAgrees, WithAgrees};
 ghost use Rattle.pg_meaning.specs.Cost.{WalksChargeTheCost};
 
@@ -13,7 +15,8 @@ mod changing;
 mod whole_queries;
 
 pub use changing::{
-    law_of_changes, law_of_changing, law_of_decisions, law_of_deletions, law_of_one_change,
+    instances_of_changes, law_of_changes, law_of_changing, law_of_decisions, law_of_deletions,
+    law_of_one_change,
 };
 pub use whole_queries::{
     law_of_answers, law_of_graphs, law_of_leaving, law_of_queries, law_of_rows,
@@ -39,9 +42,17 @@ pub fn law_of_cost()
     ensures { WalksChargeTheCost }
 {}
 
-/// The plan that is made of a query, over whatever indexes, is a plan of it.
+/// The plan that is made of a query, over whatever indexes, is a plan of it, and names none but these.
 pub fn law_of_plans()
-    ensures { PlanOfIsPlan }
+    ensures plan { PlanOfIsPlan }
+    ensures whole { PlanOfIsWhole }
+{}
+
+/// A row of CREATE is charged one step for each element that it makes; the variables with their nodes are those of the
+/// node places.
+pub fn law_of_places()
+    ensures charged { CreationIsCharged }
+    ensures named { NamesAreOfPlaces }
 {}
 
 /// CREATE answers rows, graphs and faults that its meaning gives.
@@ -59,6 +70,14 @@ pub fn law_of_projecting()
     ensures with { WithAgrees }
     ensures returns { ReturnAgrees }
     ensures unwinds { UnwindAgrees }
+{}
+
+/// An aggregate takes in all values but null in their order, where it has no DISTINCT; min is one of them that none goes
+/// before, and max one that goes before none.
+pub fn law_of_aggregates()
+    ensures taken { TakesAllThere }
+    ensures least { LeastIsFirst }
+    ensures greatest { GreatestIsLast }
 {}
 
 /// A well-formed expression without static faults, with its parameters given, has a value or one of the faults 16 to 27.

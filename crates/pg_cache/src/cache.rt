@@ -4,7 +4,7 @@ ghost use Rattle.std.specs.NonZero.{non_zero_usize_get};
 ghost use Rattle.pg_cache.specs.Cache.{empty_cache, kept, IsHit, IsMiss, MayKeep};
 ghost use Rattle.pg_meaning.specs.declared.fault.Fault.TheVariants.{OutOfMemory};
 ghost use Rattle.pg_plan.specs.Plans.{IsPlanOfText};
-ghost use Rattle.pg_plan.specs.Reading.{text_checked};
+ghost use Rattle.pg_meaning.specs.Texts.{text_checked};
 
 use lru::LruCache;
 use pg_plan::{Plan, plan_text};

@@ -7,7 +7,7 @@ use Rattle.pg_meaning.specs.Graph.{Graph, IsGraph}
 use Rattle.pg_meaning.specs.Meaning.{given_of, Step, StepFaults, Means, MayFault}
 use Rattle.pg_meaning.specs.Meters.{Setting, State}
 use Rattle.pg_meaning.specs.Names.{Names, is_among}
-use Rattle.pg_meaning.specs.Plans.{Plan, ArePlanned, IsPlanOf}
+use Rattle.pg_meaning.specs.Plans.{Catalogue, Plan, ArePlanned, IsPlanOf}
 use Rattle.pg_meaning.specs.Queries.{Outcome, clause_step, ordered}
 use Rattle.pg_meaning.specs.Rows.{Row, value_in}
 use Rattle.pg_meaning.specs.Scopes.{scope_after}
@@ -44,11 +44,11 @@ abbrev pub OutcomeAgrees : Query → (parameters : Entries) → (max_elements : 
 OutcomeAgrees q parameters max_elements graph (Ok o) = Means q parameters max_elements graph o.columns o.rows o.graph × IsGraph o.graph
 OutcomeAgrees q parameters max_elements graph (Err f) = (f ≡ StepQuota) ⊎ MayFault q parameters max_elements graph f
 
--- for every plan of the query
+-- for every plan of the query, whatever indexes there are
 abbrev pub QueryAgrees : Query → Type 0
 QueryAgrees q =
-    (plan : Plan) (parameters : Entries) (graph : Graph) (max_steps max_elements : ℕ) → static_faults q ≡ [] → AreGiven (parameters_of q) parameters → IsPlanOf plan q → IsGraph graph
-    → OutcomeAgrees q parameters max_elements graph (ordered plan q parameters graph max_steps max_elements)
+    (plan : Plan) (catalogue : Catalogue) (parameters : Entries) (graph : Graph) (max_steps max_elements : ℕ) → static_faults q ≡ [] → AreGiven (parameters_of q) parameters → IsPlanOf plan q → IsGraph graph
+    → OutcomeAgrees q parameters max_elements graph (ordered plan catalogue q parameters graph max_steps max_elements)
 
 -- a query agrees whose clauses do
 abbrev pub ClausesMakeQueries : Type 0

@@ -1,6 +1,6 @@
 -- A query agrees with its meaning where its clauses do: the chain of answers is a chain of steps.
-use Rattle.std.proofs.Common.{◌≡◌, ℕ, is_some, Bool, true, false, ◌⊎◌, inl, inr, List, [], ◌∷◌, ◌++◌, map, flat_map, Result, Ok, Err, refl, subst}
-use Rattle.std.specs.List.{AllByRecursion}
+use Rattle.std.proofs.Common.{◌≡◌, ℕ, is_some, Bool, true, false, ◌⊎◌, inl, inr, List, [], ◌∷◌, ◌++◌, map, flat_map, Result, Ok, Err, Option, Some, None, cond, refl, subst}
+use Rattle.std.specs.List.{AllByRecursion, AllZip}
 use Rattle.pg_meaning.specs.Agreement.{AreGiven, AreRowsOf, AnswerAgrees, ClauseAgrees, OutcomeAgrees, ClausesMakeQueries}
 use Rattle.pg_meaning.specs.Answer.{◌>>=◌, ◌>>◌, unless, each_step}
 use Rattle.pg_meaning.specs.Entries.{at_key}
@@ -11,12 +11,12 @@ use Rattle.pg_meaning.specs.ListsLaws.{all_joined}
 use Rattle.pg_meaning.specs.Meaning.{Steps, StepsFault, output_of}
 use Rattle.pg_meaning.specs.Meters.{Setting, State, Quota}
 use Rattle.pg_meaning.specs.Names.{Names}
-use Rattle.pg_meaning.specs.Plans.{Plan, Anchor, IsPlanFrom}
+use Rattle.pg_meaning.specs.Plans.{Catalogue, Plan, Anchor, Fixed, index_over, anchors_over, plan_over, leading_of, is_indexed, IndexSuits, IsAnchorOf, ArePlanned, IsPlanFrom}
 use Rattle.pg_meaning.specs.Queries.{Outcome, clause_step, clauses_run, output_rows, returns, test_output, test_present, test_ids, test_items, test_entries}
 use Rattle.pg_meaning.specs.Rows.{Row}
 use Rattle.pg_meaning.specs.Scopes.{scope_after, columns}
 use Rattle.pg_meaning.specs.StaticFaults.{clause_faults, clauses_faults, static_faults}
-use Rattle.pg_meaning.specs.Tree.{Clause, Query}
+use Rattle.pg_meaning.specs.Tree.{NodePattern, PathPattern, Clause, match_paths, unwind, create, merge, set_items, remove_items, delete, with_rows, return_rows, Query}
 use Rattle.pg_meaning.specs.Value.{Value, null, boolean, integer, text, list, mapping, node, relationship, path, Values, no_items, item, Entries, no_entries, entry}
 use Rattle.pg_meaning.specs.declared.fault.Fault.{Fault}
 use Rattle.pg_meaning.specs.declared.fault.Fault.TheVariants.{StepQuota, DeletedEntity}
@@ -49,6 +49,40 @@ given_split parameters (m ∷ ms) more h =
 given_each : (parameters : Entries) (cs : List Clause) → AreGiven (named_in (joined_marks (map clause_marks cs))) parameters → AllByRecursion (λ c. AreGiven (clause_parameters c) parameters) cs
 given_each parameters [] h = tt
 given_each parameters (c ∷ cs) h = let both = given_split parameters (clause_marks c) (joined_marks (map clause_marks cs)) h in (both.0, given_each parameters cs both.1)
+
+-- ---- plans over the indexes that there are
+
+index_suits_over : (catalogue : Catalogue) (leads : List Fixed) (n : NodePattern) (index : Option (List ℕ × List ℕ)) → IndexSuits leads n index → IndexSuits leads n (index_over catalogue index)
+index_suits_over catalogue leads n None h = tt
+index_suits_over catalogue leads n (Some i) h = elim (is_indexed catalogue i) as (λ b. IndexSuits leads n (cond b (Some i) None)) [ true ↦ h | false ↦ tt ]
+
+anchors_planned_over : (catalogue : Catalogue) (leads : List Fixed) (ps : List PathPattern) (anchors : List Anchor) → AllZip (IsAnchorOf leads) ps anchors → AllZip (IsAnchorOf leads) ps (anchors_over catalogue anchors)
+anchors_planned_over catalogue leads [] [] h = tt
+anchors_planned_over catalogue leads [] (a ∷ anchors) h = absurd h
+anchors_planned_over catalogue leads (p ∷ ps) [] h = absurd h
+anchors_planned_over catalogue leads (p ∷ ps) (a ∷ anchors) h = ((h.0.0, h.0.1, index_suits_over catalogue leads h.0.0 a.index h.0.2), anchors_planned_over catalogue leads ps anchors h.1)
+
+none_over : (catalogue : Catalogue) (anchors : List Anchor) → anchors ≡ [] → anchors_over catalogue anchors ≡ []
+none_over catalogue [] e = refl
+none_over catalogue (a ∷ anchors) e = cc
+
+clause_planned_over : (catalogue : Catalogue) (scope : Names) (c : Clause) (anchors : List Anchor) → ArePlanned scope c anchors → ArePlanned scope c (anchors_over catalogue anchors)
+clause_planned_over catalogue scope (match_paths is_optional paths where_) anchors h = anchors_planned_over catalogue (leading_of scope paths where_) paths anchors h
+clause_planned_over catalogue scope (merge p items) anchors h = anchors_planned_over catalogue [] (p ∷ []) anchors h
+clause_planned_over catalogue scope (unwind e n) anchors h = none_over catalogue anchors h
+clause_planned_over catalogue scope (create paths) anchors h = none_over catalogue anchors h
+clause_planned_over catalogue scope (set_items items) anchors h = none_over catalogue anchors h
+clause_planned_over catalogue scope (remove_items items) anchors h = none_over catalogue anchors h
+clause_planned_over catalogue scope (delete is_detach es) anchors h = none_over catalogue anchors h
+clause_planned_over catalogue scope (with_rows p where_) anchors h = none_over catalogue anchors h
+clause_planned_over catalogue scope (return_rows p) anchors h = none_over catalogue anchors h
+
+-- without the indexes that are lacking a plan is a plan
+pub planned_over : (catalogue : Catalogue) (scope : Names) (cs : List Clause) (plan : Plan) → IsPlanFrom scope cs plan → IsPlanFrom scope cs (plan_over catalogue plan)
+planned_over catalogue scope [] [] h = tt
+planned_over catalogue scope [] (anchors ∷ plan) h = absurd h
+planned_over catalogue scope (c ∷ cs) [] h = absurd h
+planned_over catalogue scope (c ∷ cs) (anchors ∷ plan) h = (clause_planned_over catalogue scope c anchors h.0, planned_over catalogue (scope_after scope c) cs plan h.1)
 
 -- ---- clauses
 
@@ -175,7 +209,7 @@ outcome_agrees q parameters quota graph (Ok last) h =
 
 pub clauses_make_queries : ClausesMakeQueries
 unfolding static_faults
-clauses_make_queries q agrees plan parameters graph max_steps max_elements faults given planned g =
+clauses_make_queries q agrees plan catalogue parameters graph max_steps max_elements faults given planned g =
     let quota : Quota = record { max_steps = max_steps; max_elements = max_elements } in
-    outcome_agrees q parameters quota graph (clauses_run parameters quota [] plan q.clauses (record { graph = graph; rows = [] ∷ []; steps = 0 }))
-    (rest_agrees parameters quota q [] q.clauses plan (record { graph = graph; rows = [] ∷ []; steps = 0 }) agrees faults (given_each parameters q.clauses (given_split parameters (joined_marks (map clause_marks q.clauses)) _ given).0) planned g ((λ name. refl), tt))
+    outcome_agrees q parameters quota graph (clauses_run parameters quota [] (plan_over catalogue plan) q.clauses (record { graph = graph; rows = [] ∷ []; steps = 0 }))
+    (rest_agrees parameters quota q [] q.clauses (plan_over catalogue plan) (record { graph = graph; rows = [] ∷ []; steps = 0 }) agrees faults (given_each parameters q.clauses (given_split parameters (joined_marks (map clause_marks q.clauses)) _ given).0) (planned_over catalogue [] q.clauses plan planned) g ((λ name. refl), tt))

@@ -1,8 +1,13 @@
 -- Worked examples of anchors over indexes: one order and one cost.
-use Rattle.std.specs.Prelude.{true, false, [], ◌∷◌, Some, None, codes, pos, ◌≡◌}
+use Rattle.std.specs.Prelude.{ℕ, true, false, [], ◌∷◌, Result, Ok, Some, None, codes, pos, ◌≡◌}
+use Rattle.pg_meaning.specs.Answer.{◌>>=◌}
 use Rattle.pg_meaning.specs.ExampleTrees.{named, var, number, string, dot, node_place, detail, hop, path_of, column, project, query_of, ask, told, answered, refused}
+use Rattle.pg_meaning.specs.Graph.{Graph}
+use Rattle.pg_meaning.specs.Plans.{Catalogue, plan_of}
+use Rattle.pg_meaning.specs.Queries.{ordered}
 use Rattle.pg_meaning.specs.Tree.{parameter, call, chain, no_expressions, expression, no_pairs, pair, no_operands, operand, no_properties, given, set_property, match_paths, create, set_items, with_rows, return_rows, Query}
 use Rattle.pg_meaning.specs.Value.{integer, text, no_entries, entry}
+use Rattle.pg_meaning.specs.declared.fault.Fault.{Fault}
 use Rattle.pg_meaning.specs.declared.fault.Fault.TheVariants.{DivisionByZero, StepQuota}
 use Rattle.pg_meaning.specs.declared.operators.Operator.TheVariants.{Equal, Divide, And}
 
@@ -136,5 +141,31 @@ Example_11 =
     told (ask [] 1000 query_1 no_entries ∷ ask (((codes "P"), (codes "name")) ∷ []) 1000 query_16 no_entries ∷ [])
     ≡ (answered ((codes "id(a)") ∷ (codes "id(r)") ∷ (codes "id(b)") ∷ []) (((integer (pos 0)) ∷ (integer (pos 0)) ∷ (integer (pos 1)) ∷ []) ∷ []) 4 ∷ refused DivisionByZero ∷ [])
 
+-- (0:P {name: 'x'}), (1:P {name: 'y'})
+abbrev pub two_named : Graph
+two_named = record {
+  nodes = (0, record { labels = codes "P" ∷ []; properties = entry (codes "name") (text (codes "x")) no_entries }) ∷ (1, record { labels = codes "P" ∷ []; properties = entry (codes "name") (text (codes "y")) no_entries }) ∷ [];
+  relationships = [];
+  next_node = 2;
+  next_relationship = 0;
+}
+
+-- the steps under the plan that is made over some indexes, where there are others
+abbrev pub steps_under : (planned there : Catalogue) → Query → Result ℕ Fault
+steps_under planned there q = ordered (plan_of planned q) there q no_entries two_named 1000 10 >>= λ o. Ok o.steps
+
+abbrev pub on_name : Catalogue
+on_name = (codes "P", codes "name") ∷ []
+
+-- a plan's index that is lacking is charged as the label; one that is there serves only where the plan names it
+abbrev pub Example_12 : Type 0
+Example_12 =
+    (steps_under on_name on_name query_2 ≡ Ok 3)
+    × (steps_under on_name [] query_2 ≡ Ok 4)
+    × (steps_under on_name ((codes "P", codes "k") ∷ (codes "Q", codes "name") ∷ []) query_2 ≡ Ok 4)
+    × (steps_under [] on_name query_2 ≡ Ok 4)
+    × (steps_under on_name on_name query_10 ≡ Ok 3)
+    × (steps_under on_name [] query_10 ≡ Ok 5)
+
 abbrev pub ExamplesOfIndexes : Type 0
-ExamplesOfIndexes = Example_1 × Example_2 × Example_3 × Example_4 × Example_5 × Example_6 × Example_7 × Example_8 × Example_9 × Example_10 × Example_11
+ExamplesOfIndexes = Example_1 × Example_2 × Example_3 × Example_4 × Example_5 × Example_6 × Example_7 × Example_8 × Example_9 × Example_10 × Example_11 × Example_12

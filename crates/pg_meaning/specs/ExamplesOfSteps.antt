@@ -3,12 +3,13 @@ use Rattle.std.proofs.Common.{◌≡◌, ◌≢◌, ℕ, length, bytes_eq, ◌<�
 use Rattle.std.specs.List.{AllZip}
 use Rattle.pg_meaning.specs.AnswerLaws.{same_ok}
 use Rattle.pg_meaning.specs.Entries.{value_at}
-use Rattle.pg_meaning.specs.ExampleTrees.{named, var, number, node_place, path_of, column, project, query_of}
+use Rattle.pg_meaning.specs.Expressions.{evaluate}
+use Rattle.pg_meaning.specs.ExampleTrees.{named, var, number, node_place, detail, hop, path_of, column, project, query_of}
 use Rattle.pg_meaning.specs.ExamplesOfFits.{not_true, bare_node, pair_graph, alone, at_zero, alone_fits, only_zero}
 use Rattle.pg_meaning.specs.Graph.{Graph, Node, empty_graph, add_node, node_at, remove_elements}
 use Rattle.pg_meaning.specs.GraphLaws.{empty_is_graph, add_node_keeps_graph}
 use Rattle.pg_meaning.specs.Lists.{IsIn}
-use Rattle.pg_meaning.specs.Meaning.{given_of, Step, MatchRow, UnwindRow, Passing, Projects, CreateRow, CreateFaults, MergeMatched, MergeMade, IsTrailOf, new_places, all_placed, Means, MayFault, Ordered}
+use Rattle.pg_meaning.specs.Meaning.{given_of, Step, MatchRow, UnwindRow, Passing, Projects, CreateRow, CreateFaults, MergeMatched, MergeMade, MergeFaults, IsTrailOf, new_places, all_placed, Means, MayFault, Ordered}
 use Rattle.pg_meaning.specs.Meters.{Setting}
 use Rattle.pg_meaning.specs.Names.{Names}
 use Rattle.pg_meaning.specs.Order.{is_equivalent}
@@ -18,12 +19,12 @@ use Rattle.pg_meaning.specs.Queries.{Outcome}
 use Rattle.pg_meaning.specs.Reading.{test_bound}
 use Rattle.pg_meaning.specs.Rows.{Row}
 use Rattle.pg_meaning.specs.Scopes.{Column}
-use Rattle.pg_meaning.specs.Tree.{Expression, list_literal, chain, operand, no_operands, no_expressions, expression, PathPattern, no_properties, Clause, match_paths, unwind, create, merge, set_items, set_property, remove_items, remove_property, delete, with_rows, return_rows, Query}
+use Rattle.pg_meaning.specs.Tree.{Expression, literal, list_literal, chain, operand, no_operands, no_expressions, expression, PathPattern, Properties, no_properties, given, pair, no_pairs, SetItem, Clause, match_paths, unwind, create, merge, set_items, set_property, remove_items, remove_property, delete, with_rows, return_rows, Query}
 use Rattle.pg_meaning.specs.Updates.{given_properties, doomed_nodes, doomed_relationships, test_unconnected}
-use Rattle.pg_meaning.specs.Value.{Entries, Value, integer, node, no_entries, entry}
+use Rattle.pg_meaning.specs.Value.{Entries, Value, null, integer, node, no_entries, entry}
 use Rattle.pg_meaning.specs.Walks.{bound_value}
 use Rattle.pg_meaning.specs.declared.fault.Fault.{Fault}
-use Rattle.pg_meaning.specs.declared.fault.Fault.TheVariants.{NodeStillConnected, DivisionByZero}
+use Rattle.pg_meaning.specs.declared.fault.Fault.TheVariants.{NodeStillConnected, DivisionByZero, ElementQuota, IdsExhausted, MergeNull}
 use Rattle.pg_meaning.specs.declared.operators.Operator.TheVariants.{Divide}
 
 abbrev pub within : Names → Setting
@@ -217,7 +218,7 @@ instances_of_create = (
     created_graph,
     [] ∷ [],
     [],
-    record { live = (refl, tt); evaluated = tt; not_null = tt; one = inr (record { none = nothing_fits; made = created_graph; creation = create_row; items_run = refl }) },
+    record { tested = record { live = (refl, tt); evaluated = tt; not_null = tt }; one = inr (record { none = nothing_fits; made = created_graph; creation = create_row; items_run = (created_graph, refl, refl) }) },
     (refl, refl),
     refl,
   ),
@@ -232,48 +233,87 @@ instances_of_create = (
     merged_none after first (inl m) e = none_found m.found m.some (sym e ∙ m.rows)
     merged_none after first (inr m) e = no_row_made m.made first m.creation e
 
--- ---- SET a.k = 2, REMOVE a.k and DELETE a
+-- ---- faults of CREATE and MERGE
 
-abbrev pub with_k : ℕ → Graph
-with_k n = record pair_graph { nodes = (0, record { labels = codes "L" ∷ []; properties = entry (codes "k") (integer (pos n)) no_entries }) ∷ (1, bare_node) ∷ [] }
+-- (a)-[:K]->(b)
+abbrev pub between_both : PathPattern
+between_both = path_of None (node_place (Some (named "a")) [] no_properties) ((hop false (detail None ((true, named "K") ∷ []) None no_properties) true, node_place (Some (named "b")) [] no_properties) ∷ [])
 
-abbrev pub without_k : Graph
-without_k = record pair_graph { nodes = (0, record { labels = codes "L" ∷ []; properties = no_entries }) ∷ (1, bare_node) ∷ [] }
+-- no id is left for a node
+abbrev pub spent_graph : Graph
+spent_graph = record pair_graph { next_node = 2 ^ 63 }
 
-abbrev pub second_alone : Graph
-second_alone = record pair_graph { nodes = (1, bare_node) ∷ []; relationships = [] }
+abbrev pub both_rows : Row
+both_rows = (codes "b", node 1) ∷ (codes "a", node 0) ∷ []
 
-abbrev pub set_k : Clause
-set_k = set_items (set_property (named "a") (named "k") (number 2) ∷ [])
+-- (n {k: null})
+abbrev pub with_null : PathPattern
+with_null = path_of None (node_place (Some (named "n")) [] (given (pair (named "k") (literal null) no_pairs))) []
 
-abbrev pub remove_k : Clause
-remove_k = remove_items (remove_property (named "a") (named "k") ∷ [])
+-- ON CREATE SET n.x = 1 / 0
+abbrev pub faulty_part : List (Bool × List SetItem)
+faulty_part = (true, set_property (named "n") (named "x") (chain (number 1) (operand Divide (number 0) no_operands)) ∷ []) ∷ []
 
--- a node that keeps a relationship is not deleted without DETACH
-abbrev pub InstancesOfChanges : Type 0
-InstancesOfChanges =
-    Step (within (codes "a" ∷ [])) set_k pair_graph (row_a (node 0) ∷ []) (with_k 2) (row_a (node 0) ∷ [])
-    × (Step (within (codes "a" ∷ [])) set_k pair_graph (row_a (node 0) ∷ []) pair_graph (row_a (node 0) ∷ []) → ⊥)
-    × Step (within (codes "a" ∷ [])) remove_k pair_graph (row_a (node 0) ∷ []) without_k (row_a (node 0) ∷ [])
-    × (Step (within (codes "a" ∷ [])) remove_k pair_graph (row_a (node 0) ∷ []) pair_graph (row_a (node 0) ∷ []) → ⊥)
-    × Step (within (codes "a" ∷ [])) (delete true (var "a" ∷ [])) pair_graph (row_a (node 0) ∷ []) second_alone (row_a (node 0) ∷ [])
-    × (Step (within (codes "a" ∷ [])) (delete false (var "a" ∷ [])) pair_graph (row_a (node 0) ∷ []) second_alone (row_a (node 0) ∷ []) → ⊥)
+-- ids of nodes are wanted only where a node is made; where a property is null nothing is made
+abbrev pub InstancesOfFaults : Type 0
+InstancesOfFaults =
+    (CreateFaults (within (codes "b" ∷ codes "a" ∷ [])) (between_both ∷ []) spent_graph both_rows IdsExhausted → ⊥)
+    × MergeFaults (within []) with_null faulty_part empty_graph [] MergeNull
+    × (MergeFaults (within []) with_null faulty_part empty_graph [] DivisionByZero → ⊥)
 
-abbrev k_is_one : Graph → Bool
-k_is_one g = elim (node_at g 0) [ Some e ↦ is_equivalent (value_at (codes "k") e.properties) one | None ↦ false ]
-
-pub instances_of_changes : InstancesOfChanges
-instances_of_changes = (
-  (refl, refl),
-  (λ s. not_true (ap k_is_one (same_ok (with_k 2) pair_graph s.0))),
-  (refl, refl),
-  (λ s. not_true (ap k_is_one (same_ok without_k pair_graph s.0))),
-  record { doomed = (0 ∷ [], []); named = refl; connected = refl; removed = refl; kept = refl },
-  (λ d. still_connected (subst (λ x. test_unconnected (remove_elements [] (doomed_relationships false pair_graph x) pair_graph) (doomed_nodes pair_graph x) ≡ Ok tt) (sym (same_ok (0 ∷ [], []) d.doomed d.named)) d.connected)),
-)
+no_id_is_wanted : CreateFaults (within (codes "b" ∷ codes "a" ∷ [])) (between_both ∷ []) spent_graph both_rows IdsExhausted → ⊥
+no_id_is_wanted (inl (n, inl e, h)) = fine (subst (λ m. test_bound false spent_graph (bound_value (node_name m) both_rows) ≡ Err IdsExhausted) e h)
   where
-    still_connected : ◌≡◌ {A = Result (Unit {0}) Fault} (Err NodeStillConnected) (Ok tt) → ⊥
-    still_connected e = cc
+    fine : ◌≡◌ {A = Result (Unit {0}) Fault} (Ok tt) (Err IdsExhausted) → ⊥
+    fine e = cc
+no_id_is_wanted (inl (n, inr (inl e), h)) = fine (subst (λ m. test_bound false spent_graph (bound_value (node_name m) both_rows) ≡ Err IdsExhausted) e h)
+  where
+    fine : ◌≡◌ {A = Result (Unit {0}) Fault} (Ok tt) (Err IdsExhausted) → ⊥
+    fine e = cc
+no_id_is_wanted (inl (n, inr (inr i), h)) = absurd i
+no_id_is_wanted (inr (inl (ps, i, h))) = fine (subst (λ p. given_properties (within (codes "b" ∷ codes "a" ∷ [])) spent_graph both_rows p ≡ Err IdsExhausted) (bare ps i) h)
+  where
+    bare : (ps : Properties) → IsIn ps (no_properties ∷ no_properties ∷ no_properties ∷ []) → ps ≡ no_properties
+    bare ps (inl e) = e
+    bare ps (inr (inl e)) = e
+    bare ps (inr (inr (inl e))) = e
+    bare ps (inr (inr (inr i))) = absurd i
+
+    fine : ◌≡◌ {A = Result Entries Fault} (Ok no_entries) (Err IdsExhausted) → ⊥
+    fine e = cc
+no_id_is_wanted (inr (inr (inl h))) = other h.0
+  where
+    other : IdsExhausted ≡ ElementQuota → ⊥
+    other e = cc
+no_id_is_wanted (inr (inr (inr (inl h)))) = none h.1.0
+  where
+    none : 0 < 0 → ⊥
+    none h = omega arith
+no_id_is_wanted (inr (inr (inr (inr h)))) = past h.1.1
+  where
+    past : 2 ^ 63 - 1 < 1 + 1 → ⊥
+    past h = omega arith
+
+only_null : MergeFaults (within []) with_null faulty_part empty_graph [] DivisionByZero → ⊥
+only_null (inl (n, inl e, h)) = fine (subst (λ m. test_bound false empty_graph (bound_value (node_name m) []) ≡ Err DivisionByZero) e h)
+  where
+    fine : ◌≡◌ {A = Result (Unit {0}) Fault} (Ok tt) (Err DivisionByZero) → ⊥
+    fine e = cc
+only_null (inl (n, inr i, h)) = absurd i
+only_null (inr (inl (p, inl e, h))) = fine (subst (λ q. evaluate [] no_entries empty_graph q.1 ≡ Err DivisionByZero) e h)
+  where
+    fine : ◌≡◌ {A = Result Value Fault} (Ok null) (Err DivisionByZero) → ⊥
+    fine e = cc
+only_null (inr (inl (p, inr i, h))) = absurd i
+only_null (inr (inr (inl h))) = other h.0
+  where
+    other : DivisionByZero ≡ MergeNull → ⊥
+    other e = cc
+only_null (inr (inr (inr (inl h)))) = h.0.not_null.0 refl
+only_null (inr (inr (inr (inr h)))) = h.0.not_null.0 refl
+
+pub instances_of_faults : InstancesOfFaults
+instances_of_faults = (no_id_is_wanted, inr (inr (inl (refl, (codes "k", literal null), inl refl, refl))), only_null)
 
 -- ---- queries
 
@@ -310,15 +350,15 @@ creates_without_fault f (inr (inl (ps, inl e, h))) = fine (subst (λ p. given_pr
     fine : ◌≡◌ {A = Result Entries Fault} (Ok no_entries) (Err f) → ⊥
     fine e = cc
 creates_without_fault f (inr (inl (ps, inr i, h))) = absurd i
-creates_without_fault f (inr (inr (inl h))) = too_many h.1
+creates_without_fault f (inr (inr (inl h))) = too_many h.1.1
   where
     too_many : 10 < 1 → ⊥
     too_many h = omega arith
-creates_without_fault f (inr (inr (inr (inl h)))) = past h.1
+creates_without_fault f (inr (inr (inr (inl h)))) = past h.1.1
   where
     past : 2 ^ 63 - 1 < 1 → ⊥
     past h = omega arith
-creates_without_fault f (inr (inr (inr (inr h)))) = past h.1
+creates_without_fault f (inr (inr (inr (inr h)))) = past h.1.1
   where
     past : 2 ^ 63 - 1 < 0 → ⊥
     past h = omega arith

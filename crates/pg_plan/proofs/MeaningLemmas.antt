@@ -1,5 +1,5 @@
 -- What the query of a text answers, where it is answered so far.
-use Rattle.std.proofs.Common.{◌≡◌, ℕ, Bool, Result, Ok, Err, Option, Some, None, refl, sym, ap, subst, ◌∙◌}
+use Rattle.std.proofs.Common.{◌≡◌, ℕ, Bool, [], Result, Ok, Err, Option, Some, None, refl, sym, ap, subst, ◌∙◌}
 use Rattle.pg_meaning.specs.Agreement.{OutcomeAgrees}
 use Rattle.pg_meaning.specs.Graph.{Graph}
 use Rattle.pg_meaning.specs.Queries.{ordered}
@@ -31,7 +31,7 @@ module _ (x : OneNode) (semicolon : Bool) (simple : IsSimple x) (none : static_f
       let same = one_node_answers x semicolon parameters graph max_steps max_elements simple in
       record {
         query = same;
-        planned = ap (λ p. ordered p (query_of x semicolon) parameters graph max_steps max_elements) (sym (one_node_plans x semicolon).chosen) ∙ same;
+        planned = ap (λ p. ordered p [] (query_of x semicolon) parameters graph max_steps max_elements) (sym (one_node_plans x semicolon).chosen) ∙ same;
         means = λ given is. one_node_means x semicolon parameters graph max_steps max_elements simple (sym (one_node_faults x semicolon simple) ∙ none) given is;
       }
 

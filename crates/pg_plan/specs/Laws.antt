@@ -9,7 +9,7 @@ use Rattle.pg_meaning.specs.StaticFaults.{static_fault}
 use Rattle.pg_meaning.specs.Tree.{Query}
 use Rattle.pg_meaning.specs.Value.{Entries}
 use Rattle.pg_plan.specs.Plans.{plan_query, IsPlanOfText}
-use Rattle.pg_plan.specs.Reading.{text_checked}
+use Rattle.pg_meaning.specs.Texts.{text_checked}
 use Rattle.pg_plan.specs.declared.statement.Plan.{Plan}
 use Rattle.pg_run.specs.Agreement.{one_node_plan}
 use Rattle.pg_run.specs.Answers.{one_node_answer}
@@ -19,7 +19,7 @@ use Rattle.pg_run.specs.Plain.{answered_statement}
 -- the query answers what the statement does: without indexes, under the statement's plan, and as the query means
 pub record PlanAnswers (q : Query) (x : OneNode) (parameters : Entries) (graph : Graph) (max_steps max_elements : ℕ) : Type 0 where
   pub query : answer_of [] q parameters graph max_steps max_elements ≡ one_node_answer x parameters graph max_steps max_elements
-  pub planned : ordered (one_node_plan x) q parameters graph max_steps max_elements ≡ one_node_answer x parameters graph max_steps max_elements
+  pub planned : ordered (one_node_plan x) [] q parameters graph max_steps max_elements ≡ one_node_answer x parameters graph max_steps max_elements
   pub means : AreGiven (parameters_of q) parameters → IsGraph graph → OutcomeAgrees q parameters max_elements graph (one_node_answer x parameters graph max_steps max_elements)
 
 pub record IsGoodPlan (q : Query) (x : OneNode) : Type 0 where

@@ -1,7 +1,7 @@
 -- A plan as the program keeps it: the query that it is of, and what is answered of it so far.
 use Rattle.std.specs.Prelude.{◌≡◌, ℕ, List, map, Ok}
 use Rattle.pg_meaning.specs.Tree.{Query}
-use Rattle.pg_plan.specs.Reading.{text_checked}
+use Rattle.pg_meaning.specs.Texts.{text_checked}
 use Rattle.pg_plan.specs.declared.statement.Plan.{Plan}
 use Rattle.pg_plan.specs.declared.statement.Statement.{Statement}
 use Rattle.pg_plan.specs.declared.statement.Statement.TheVariants.{Return, Create, CreateAndReturn, Match}

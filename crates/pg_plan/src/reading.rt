@@ -5,7 +5,8 @@ ghost use Rattle.pg_meaning.specs.Texts as spec;
 ghost use Rattle.pg_meaning.specs.declared.fault.Fault.TheVariants.{OutOfMemory};
 ghost use Rattle.pg_plan.specs.Parameters.{any_parameter, has_parameters};
 ghost use Rattle.pg_plan.specs.Plans.{IsPlanOfText};
-ghost use Rattle.pg_plan.specs.Reading.{tested_length, text_checked};
+ghost use Rattle.pg_meaning.specs.Texts.{text_checked};
+ghost use Rattle.pg_plan.specs.Reading.{tested_length};
 ghost use Rattle.pg_syntax_tree.specs.View.{query_view};
 
 use crate::statement::Plan;

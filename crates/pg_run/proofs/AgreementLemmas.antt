@@ -82,4 +82,4 @@ one_node_means x semicolon parameters graph max_steps max_elements simple none g
     let q = query_of x semicolon in
     let plan = one_node_plans x semicolon in
     subst (OutcomeAgrees q parameters max_elements graph) (one_node_answers x semicolon parameters graph max_steps max_elements simple)
-    (meaning_of_queries q (plan_of [] q) parameters graph max_steps max_elements (no_static_faults x semicolon simple none) given (subst (λ p. IsPlanOf p q) (sym plan.chosen) plan.begins) is_graph)
+    (meaning_of_queries q (plan_of [] q) [] parameters graph max_steps max_elements (no_static_faults x semicolon simple none) given (subst (λ p. IsPlanOf p q) (sym plan.chosen) plan.begins) is_graph)

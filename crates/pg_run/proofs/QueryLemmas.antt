@@ -9,15 +9,14 @@ use Rattle.pg_meaning.specs.Answer.{◌>>=◌}
 use Rattle.pg_meaning.specs.Graph.{Graph}
 use Rattle.pg_meaning.specs.Meters.{Setting, State}
 use Rattle.pg_meaning.specs.Patterns.{texts_of, add_path_names}
-use Rattle.pg_meaning.specs.Plans.{Anchor, anchor_of, is_indexed, is_labelled, serving, fixed_keys}
-use Rattle.pg_meaning.specs.ProjectionLaws.{AreSingle}
+use Rattle.pg_meaning.specs.Plans.{Anchor, anchors_over, anchor_of, is_indexed, is_labelled, serving, fixed_keys}
 use Rattle.pg_meaning.specs.Queries.{Outcome, clause_step}
 use Rattle.pg_meaning.specs.Scopes.{column_names, return_column}
 use Rattle.pg_meaning.specs.Tree.{Name, Expression, Properties, NodePattern, Item, create, match_paths, return_rows}
 use Rattle.pg_meaning.specs.Tree as tree
 use Rattle.pg_meaning.specs.Value.{Entries}
 use Rattle.pg_meaning.specs.declared.fault.Fault.{Fault}
-use Rattle.pg_run.specs.Answers.{begin, answer_in, returned, first_setting, at_the_node, OneNodeAnswers}
+use Rattle.pg_run.specs.Answers.{AreSingle, begin, answer_in, returned, first_setting, at_the_node, OneNodeAnswers}
 use Rattle.pg_run.specs.OneNode.{returns, creates, creates_and_returns, matches, IsSimpleExpression, AreSimpleItems, AreSimpleProperties, IsWritten, items_alone, node_alone}
 use Rattle.pg_run.proofs.AnswerLemmas.{regrouped, alike_after, fused}
 use Rattle.pg_run.proofs.CreateLemmas.{create_makes}
@@ -107,7 +106,7 @@ module _ (parameters : Entries) (graph : Graph) (max_steps max_elements : ℕ) w
 
   abbrev matched_from : NodePattern → List Item → Anchor → Result Outcome Fault
   matched_from n items anchor =
-      (clause_step (first_setting parameters max_steps max_elements (anchor ∷ [])) (match_paths false (node_alone n ∷ []) None) (begin graph)
+      (clause_step (first_setting parameters max_steps max_elements (anchors_over [] (anchor ∷ []))) (match_paths false (node_alone n ∷ []) None) (begin graph)
       >>= λ next. clause_step (behind n) (return_rows (items_alone items)) next >>= λ last. Ok last) >>= answer_in (column_names (map return_column items))
 
 pub one_node_answers : OneNodeAnswers

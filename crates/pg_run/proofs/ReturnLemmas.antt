@@ -6,7 +6,6 @@ use Rattle.pg_meaning.specs.Answer.{◌>>=◌, ◌>>◌, unless, each_answer, ea
 use Rattle.pg_meaning.specs.Expressions.{evaluate}
 use Rattle.pg_meaning.specs.Graph.{Graph}
 use Rattle.pg_meaning.specs.Meters.{Setting, State, spend}
-use Rattle.pg_meaning.specs.ProjectionLaws.{AreSingle}
 use Rattle.pg_meaning.specs.Projections.{Projected, column_value, projected, item_rows, grouped, passing_rows}
 use Rattle.pg_meaning.specs.Queries.{Outcome, test_output, test_items}
 use Rattle.pg_meaning.specs.Rows.{Row, values_in}
@@ -15,7 +14,7 @@ use Rattle.pg_meaning.specs.Tree.{Item}
 use Rattle.pg_meaning.specs.Value.{Value, values_of}
 use Rattle.pg_meaning.specs.declared.fault.Fault.{Fault}
 use Rattle.pg_meaning.specs.declared.fault.Fault.TheVariants.{StepQuota}
-use Rattle.pg_run.specs.Answers.{item_names, item_values, test_rows, answer_in, ReturnAnswers}
+use Rattle.pg_run.specs.Answers.{AreSingle, item_names, item_values, test_rows, answer_in, ReturnAnswers}
 use Rattle.pg_run.proofs.AnswerLemmas.{regrouped, alike_behind, each_mapped, each_of_map, fused}
 
 chosen : {X : Type 0} (b : Bool) (x y : X) → b ≡ false → elim b [ true ↦ x | false ↦ y ] ≡ y

@@ -1,6 +1,7 @@
 -- What a query of one node at most answers, step by step.
 use Rattle.std.specs.Prelude.{◌≡◌, ℕ, ◌+◌, Bool, true, false, ◌&&◌, nat_le, nat_lt, List, [], ◌∷◌, map, flat_map, filter, length, Result, Ok, Option, Some, None}
-use Rattle.std.specs.List.{list_all}
+use Rattle.std.specs.List.{AllByRecursion, list_all}
+use Rattle.pg_meaning.specs.Aggregates.{aggregate_of}
 use Rattle.pg_meaning.specs.Answer.{◌>>=◌, ◌>>◌, unless, each_answer, each_step}
 use Rattle.pg_meaning.specs.Entries.{set_keys}
 use Rattle.pg_meaning.specs.Expressions.{evaluate}
@@ -9,7 +10,6 @@ use Rattle.pg_meaning.specs.Meters.{Setting, State, greatest_id}
 use Rattle.pg_meaning.specs.Names.{Names, is_among}
 use Rattle.pg_meaning.specs.Patterns.{node_name, texts_of}
 use Rattle.pg_meaning.specs.Plans.{Anchor}
-use Rattle.pg_meaning.specs.ProjectionLaws.{AreSingle}
 use Rattle.pg_meaning.specs.Queries.{Outcome, clause_step, answer_of, output_rows, test_output, test_items}
 use Rattle.pg_meaning.specs.Rows.{Row, bind_if_named}
 use Rattle.pg_meaning.specs.Scopes.{return_column}
@@ -98,6 +98,10 @@ abbrev pub answer_in : Names → State → Result Outcome Fault
 answer_in names last =
     each_step (λ done v. test_output last.graph v) tt (flat_map (λ vs. vs) (output_rows true last.rows))
     >> Ok (record { columns = names; rows = output_rows true last.rows; graph = last.graph; steps = last.steps })
+
+-- no item is an aggregate
+abbrev pub AreSingle : List Item → Type 0
+AreSingle items = AllByRecursion (λ i. aggregate_of i.value ≡ None) items
 
 abbrev pub ReturnAnswers : Type 0
 ReturnAnswers =

@@ -3,13 +3,13 @@ use Rattle.std.specs.Prelude.{◌≡◌, ℕ, List, [], ◌∷◌, Result, Ok, E
 use Rattle.pg_meaning.specs.Answer.{◌>>=◌}
 use Rattle.pg_meaning.specs.Graph.{Graph, Node, empty_graph}
 use Rattle.pg_meaning.specs.Queries.{Outcome, answer_of}
-use Rattle.pg_meaning.specs.Texts.{checked}
+use Rattle.pg_meaning.specs.Texts.{text_checked}
 use Rattle.pg_meaning.specs.Value.{Value, null, integer, node, no_entries, entry}
 use Rattle.pg_meaning.specs.declared.fault.Fault.{Fault}
 use Rattle.pg_meaning.specs.declared.fault.Fault.TheVariants.{UndefinedVariable, BadPattern, DuplicateColumn, NotStorable, StepQuota, ElementQuota}
 
 abbrev pub answered : (text : List ℕ) → Graph → (max_steps max_elements : ℕ) → Result Outcome Fault
-answered text graph max_steps max_elements = checked text >>= λ q. answer_of [] q no_entries graph max_steps max_elements
+answered text graph max_steps max_elements = text_checked text >>= λ q. answer_of [] q no_entries graph max_steps max_elements
 
 abbrev pub number : ℕ → Value
 number n = integer (pos n)

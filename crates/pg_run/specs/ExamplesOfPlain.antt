@@ -1,13 +1,13 @@
 -- Worked examples: which texts are answered so far.
 use Rattle.std.specs.Prelude.{◌≡◌, ℕ, Bool, true, false, List, Result, Ok, Err, codes, is_some}
 use Rattle.pg_meaning.specs.Answer.{◌>>=◌}
-use Rattle.pg_meaning.specs.Texts.{checked}
+use Rattle.pg_meaning.specs.Texts.{text_checked}
 use Rattle.pg_meaning.specs.declared.fault.Fault.{Fault}
 use Rattle.pg_meaning.specs.declared.fault.Fault.TheVariants.{BadSyntax, UndefinedVariable}
 use Rattle.pg_run.specs.Plain.{answered_statement}
 
 abbrev pub is_answered : (text : List ℕ) → Result Bool Fault
-is_answered text = checked text >>= λ q. Ok (is_some (answered_statement q))
+is_answered text = text_checked text >>= λ q. Ok (is_some (answered_statement q))
 
 abbrev pub ExamplesOfPlain : Type 0
 ExamplesOfPlain =

@@ -2,12 +2,15 @@ pub mod ConfigLemmas
 pub mod DistinctLemmas
 pub mod FillLemmas
 pub mod FrameLemmas
+pub mod InstanceLemmas
 pub mod OpeningLemmas
 pub mod PlanLemmas
 pub mod ReadingLemmas
+pub mod RefusalLemmas
 pub mod ReplyLemmas
 pub mod RunLemmas
 pub mod ServeLemmas
 pub mod SoloLemmas
 pub mod StepLemmas
 pub mod TenantLemmas
+pub mod TokenLemmas

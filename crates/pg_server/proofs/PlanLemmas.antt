@@ -10,7 +10,8 @@ use Rattle.pg_meaning.specs.Graph.{Graph}
 use Rattle.pg_meaning.specs.declared.fault.Fault.{Fault}
 use Rattle.pg_meaning.specs.declared.fault.Fault.TheVariants.{TextTooLong, OutOfMemory}
 use Rattle.pg_plan.specs.Plans.{IsPlanOfText}
-use Rattle.pg_plan.specs.Reading.{greatest_text, tested_length, text_checked}
+use Rattle.pg_meaning.specs.Texts.{text_checked}
+use Rattle.pg_plan.specs.Reading.{greatest_text, tested_length}
 use Rattle.pg_plan.specs.declared.statement.Plan.{Plan}
 use Rattle.pg_server.specs.Solo.{may_write, with_graph, query_answered}
 use Rattle.pg_server.specs.State.{State, ServerState, state_at, no_state}

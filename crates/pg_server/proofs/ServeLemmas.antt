@@ -83,7 +83,7 @@ module _ (S : Type 0) (answers : S → List ℕ → List ℕ → S → Type 0) (
           wrote = so_far.wrote;
           short = so_far.short;
           count = omega (arith, so_far.count);
-          ends = ((r.incoming.0, r.incoming.1), refl, r.incoming.2);
+          ends = ((r.incoming.0, r.incoming.1), refl, r.incoming.2, omega (arith, so_far.count));
           chain = so_far.chain;
         }
 
@@ -97,7 +97,7 @@ module _ (S : Type 0) (answers : S → List ℕ → List ℕ → S → Type 0) (
           wrote = so_far.wrote;
           short = so_far.short;
           count = omega (arith, so_far.count);
-          ends = (r.incoming.0, refl);
+          ends = (r.incoming.0, refl, omega (arith, so_far.count));
           chain = so_far.chain;
         }
 
@@ -113,7 +113,7 @@ module _ (S : Type 0) (answers : S → List ℕ → List ℕ → S → Type 0) (
             wrote = Appends-trans c d d' _ _ so_far.wrote s.wrote;
             short = so_far.short;
             count = omega (arith, so_far.count);
-            ends = (r.incoming.0, ap (λ l. frames (replies_of es) ++ l) all ∙ sym (frames-push (replies_of es) too_long_reply));
+            ends = (r.incoming.0, ap (λ l. frames (replies_of es) ++ l) all ∙ sym (frames-push (replies_of es) too_long_reply), omega (arith, so_far.count));
             chain = so_far.chain;
           }
 
@@ -127,7 +127,7 @@ module _ (S : Type 0) (answers : S → List ℕ → List ℕ → S → Type 0) (
             wrote = Appends-trans c d d' _ _ so_far.wrote s.wrote;
             short = so_far.short;
             count = omega (arith, so_far.count);
-            ends = inr (r.incoming.0, record { before = replies_of es; last = too_long_reply; sent = s.sent; lacking = s.lacking; bodies_are = refl; output_is = refl; last_is = ap frame (sym is) ∙ s.parts; some = s.err.0 });
+            ends = inr (r.incoming.0, record { before = replies_of es; last = too_long_reply; sent = s.sent; lacking = s.lacking; bodies_are = refl; output_is = refl; last_is = ap frame (sym is) ∙ s.parts; some = s.err.0 }, omega (arith, so_far.count));
             chain = so_far.chain;
           }
 

@@ -8,10 +8,12 @@ use Rattle.pg_names.proofs.Interned.{position_map}
 use Rattle.pg_graph.specs.Content.{Content, Seen, Keeps}
 use Rattle.pg_meaning.specs.Graph.{Graph, IsGraph}
 use Rattle.pg_meaning.specs.Names.{is_among}
-use Rattle.pg_server.specs.Settings.{all_tokens, token_texts}
+use Rattle.pg_server.specs.Settings.{TenantSettings, all_tokens, token_texts}
 use Rattle.pg_server.specs.State.{State, no_state, tokens_of}
 use Rattle.pg_server.specs.Tenants.{state_of, states_of, AllFit, AreTenants}
+use Rattle.pg_server.specs.Tokens.{TellsTenants, tenant_of}
 use Rattle.pg_server.specs.declared.tenant.Tenant.{Tenant}
+use Rattle.pg_server.specs.declared.tokens.TokenPlaces.{TokenPlaces}
 use Rattle.pg_store.specs.Journal.{CanUndo, IsWell, graph_in}
 use Rattle.pg_store.specs.Stores as stores
 use Rattle.pg_store.specs.Stores.{graph_of_store, IsFit}
@@ -102,8 +104,14 @@ module _ {T S : Type 0} (seen : Seen T S) (tenants : List (Tenant T)) (old new :
           own = λ k d below. own_at k d (omega (arith, below, length-set tenants t now)) (nat_eq k t) refl;
         }
 
-    pub still_tenants : comes_again [] (all_tokens (map (λ (x : Tenant T). x.settings) tenants)) ≡ false → AreTenants seen (set tenants t now) new
-    still_tenants distinct = record { distinct = ap (λ ss. comes_again [] (all_tokens ss)) settings_kept ∙ distinct; fit = all_fit }
+    pub still_tenants : (tokens : TokenPlaces) → comes_again [] (all_tokens (map (λ (x : Tenant T). x.settings) tenants)) ≡ false
+        → TellsTenants tokens (map (λ (x : Tenant T). x.settings) tenants) → AreTenants seen tokens (set tenants t now) new
+    still_tenants tokens distinct told =
+        record {
+          distinct = ap (λ ss. comes_again [] (all_tokens ss)) settings_kept ∙ distinct;
+          told = subst (TellsTenants tokens) (sym settings_kept) told;
+          fit = all_fit;
+        }
 
 -- each tenant's graph is one
 module _ {T S : Type 0} (seen : Seen T S) (shared : S) (law : (store : Store T) → IsFit seen store shared → IsGraph (graph_of_store seen store shared)) (empty : IsGraph no_state.graph) where
@@ -119,5 +127,7 @@ settings_seen seen (x ∷ xs) shared = ap (λ ss. x.settings ∷ ss) (settings_s
 
 -- a tenant stands where its state does
 pub place_seen : {T S : Type 0} (seen : Seen T S) (shared : S) (token : List ℕ) (tenants : List (Tenant T))
-    → position (λ (s : State). is_among (tokens_of s) token) (states_of seen tenants shared) ≡ position (λ (x : Tenant T). is_among (token_texts x.settings) token) tenants
-place_seen seen shared token tenants = position_map (λ x. state_of seen x shared) (λ (s : State). is_among (tokens_of s) token) tenants
+    → position (λ (s : State). is_among (tokens_of s) token) (states_of seen tenants shared) ≡ tenant_of (map (λ (x : Tenant T). x.settings) tenants) token
+place_seen {T = T} seen shared token tenants =
+    position_map (λ x. state_of seen x shared) (λ (s : State). is_among (tokens_of s) token) tenants
+    ∙ sym (position_map (λ (x : Tenant T). x.settings) (λ (s : TenantSettings). is_among (token_texts s) token) tenants)

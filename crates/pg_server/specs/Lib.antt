@@ -1,10 +1,12 @@
 pub mod ConfigLines
 pub mod Configuration
+pub mod Connections
 pub mod Counts
 pub mod Draft
 pub mod Ends
 pub mod Exchange
 pub mod Frames
+pub mod InstancesOfRuns
 pub mod Runs
 pub mod Served
 pub mod Serves
@@ -14,4 +16,5 @@ pub mod State
 pub mod StateCode
 pub mod Step
 pub mod Tenants
+pub mod Tokens
 pub mod Wire

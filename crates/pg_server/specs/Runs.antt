@@ -90,6 +90,10 @@ pub record Runs (old : ServerState) (es : List Exchange) (new : ServerState) : T
 abbrev pub handles : ServerState → List ℕ → List ℕ → ServerState → Type 0
 handles old body reply new = Runs old (record { body = body; reply = reply } ∷ []) new
 
+-- a reply that is the text of a refusal, whichever it is, leaves the whole server as it was
+abbrev pub RefusalsKeepAll : Type 0
+RefusalsKeepAll = (old new : ServerState) (body : List ℕ) (fault : Fault) → handles old body (refusal_text fault) new → new ≡ old
+
 -- calls of `handle`, one after another, are runs of each tenant alone
 abbrev pub CallsAreRuns : Type 0
 CallsAreRuns = (old new : ServerState) (es : List Exchange) → Chain handles old es new → Runs old es new

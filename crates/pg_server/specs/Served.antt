@@ -34,16 +34,16 @@ pub record IsCutShort (output : List ℕ) (bodies : List (List ℕ)) : Type 0 wh
   pub last_is : frame last ≡ sent ++ lacking
   pub some : 0 < length lacking
 
--- How a run may end: what was read behind the whole frames, and what was written.
+-- How a run may end: what was read behind the whole frames, and what was written. Nothing is read once so many frames were served as were asked for.
 abbrev pub Ends : End → ℕ → Type 0 → List Exchange → List ℕ → List ℕ → Type 0
 -- the input ended between frames, or so many were served as were asked for
 Ends Done most at_end es rest output = (rest ≡ []) × (output ≡ frames (replies_of es)) × (at_end ⊎ (length es ≡ most))
 -- it ended inside a frame
-Ends Cut most at_end es rest output = (IsPartial rest × (0 < length rest)) × (output ≡ frames (replies_of es)) × at_end
-Ends TooLong most at_end es rest output = IsTooLong rest × (output ≡ frames (replies_of es ++ too_long_reply ∷ []))
-Ends ReadFailed most at_end es rest output = IsPartial rest × (output ≡ frames (replies_of es))
+Ends Cut most at_end es rest output = (IsPartial rest × (0 < length rest)) × (output ≡ frames (replies_of es)) × at_end × (length es < most)
+Ends TooLong most at_end es rest output = IsTooLong rest × (output ≡ frames (replies_of es ++ too_long_reply ∷ [])) × (length es < most)
+Ends ReadFailed most at_end es rest output = IsPartial rest × (output ≡ frames (replies_of es)) × (length es < most)
 Ends WriteFailed most at_end es rest output =
-    ((rest ≡ []) × IsCutShort output (replies_of es)) ⊎ (IsTooLong rest × IsCutShort output (replies_of es ++ too_long_reply ∷ []))
+    ((rest ≡ []) × IsCutShort output (replies_of es)) ⊎ (IsTooLong rest × IsCutShort output (replies_of es ++ too_long_reply ∷ []) × (length es < most))
 Ends NoMemory most at_end es rest output = (rest ≡ []) × (es ≡ []) × (output ≡ [])
 
 pub record Served {S : Type 0} (answers : S → List ℕ → List ℕ → S → Type 0) (remaining remaining' contents contents' : Option (List ℕ)) (old new : S) (most : ℕ) (end : End) : Type 0 where

@@ -1,16 +1,14 @@
 //! The server: tenants, and the requests that reach them.
-ghost use Rattle.std.specs.Prelude.{◌≡◌, ◌≢◌, ◌<◌, ◌≤◌, ℕ, List, length, Some, IfOk, IfErr, position};
+ghost use Rattle.std.specs.Prelude.{◌≡◌, ◌≢◌, ◌<◌, ◌≤◌, ℕ, List, length, Some, IfOk, IfErr};
 ghost use Rattle.pg_json.specs.Bodies.{request_view};
 ghost use Rattle.pg_json.specs.Refusals.{refusal_text};
 ghost use Rattle.pg_json.specs.Requests.{query};
-ghost use Rattle.pg_meaning.specs.Names.{is_among};
 ghost use Rattle.pg_meaning.specs.declared.fault.Fault.TheVariants.{OutOfMemory};
 ghost use Rattle.pg_server.specs.Configuration.{max_tenants};
 ghost use Rattle.pg_server.specs.Counts.{inner_of, faults_of};
-ghost use Rattle.pg_server.specs.Runs.{CallsAreRuns, RefusalsKeep, TwoWorlds, handles, token_of as token_shown};
+ghost use Rattle.pg_server.specs.Runs.{CallsAreRuns, RefusalsKeep, RefusalsKeepAll, TwoWorlds, handles, token_of as token_shown};
 ghost use Rattle.pg_server.specs.Served.{OneReading, read_faults, write_faults};
 ghost use Rattle.pg_server.specs.Serves.{Serves};
-ghost use Rattle.pg_server.specs.Settings.{token_texts};
 ghost use Rattle.pg_server.specs.Solo.{limited, status_text};
 ghost use Rattle.pg_server.specs.State.{opening_server, state_at};
 ghost use Rattle.pg_server.specs.Step.{Answers, StepAt, RepliesAt, RunsPlan};
@@ -22,6 +20,7 @@ use crate::end::End;
 use crate::service::{Service, serve};
 use crate::settings::TenantSettings;
 use crate::tenant::Tenant;
+use crate::tokens::TokenPlaces;
 use crate::wire::MAX_BODY;
 use pg_cache::PlanCache;
 use pg_graph::Tables;
@@ -41,6 +40,7 @@ pub struct Server<S: BuildHasher + Drop, T: Tables> {
     scratch: RequestScratch,
     plans: PlanCache<S>,
     shared: T::Shared,
+    tokens: TokenPlaces,
     tenants: Vec<Tenant<T>>,
 }
 
@@ -55,7 +55,7 @@ impl<S: BuildHasher + Drop, T: Tables> Model for Server<S, T> {
 
     ghost view = { λ s. record { cache = s.plans.capacity; tenants = states_of T.seen s.tenants.items s.shared } };
 
-    ghost invariant = { λ s. AreTenants T.seen s.tenants.items s.shared };
+    ghost invariant = { λ s. AreTenants T.seen s.tokens s.tenants.items s.shared };
 }
 
 impl<S: BuildHasher + Drop, T: Tables> Server<S, T> {
@@ -65,12 +65,14 @@ impl<S: BuildHasher + Drop, T: Tables> Server<S, T> {
     {
         let (cache, settings) = config.into_parts();
         let plans = PlanCache::new(alloc, cache, hasher)?;
+        let tokens = TokenPlaces::of(alloc, &settings)?;
         let tenants = opening_tenants(alloc, settings)?;
         Ok(Server {
             alloc,
             scratch: RequestScratch::new(alloc),
             plans,
             shared: T::new_shared(alloc),
+            tokens,
             tenants,
         })
     }
@@ -91,7 +93,7 @@ impl<S: BuildHasher + Drop, T: Tables> Server<S, T> {
     fn answer_request(&mut self, request: &RequestBody) -> ReplyBytes
         ensures { Answers self.old (request_view request.now) result self.new }
     {
-        match place_of(&self.tenants, token_of(request)) {
+        match self.tokens.place(token_of(request)) {
             Some(place) => self.answer_at(place, request),
             None => refusal(Fault::UnknownToken),
         }
@@ -182,13 +184,6 @@ fn token_of(request: &RequestBody) -> &str
     }
 }
 
-/// Where the tenant with this token stands.
-fn place_of<T: Tables>(tenants: &[Tenant<T>], token: &str) -> Option<usize>
-    ensures { result ≡ position (λ t. is_among (token_texts t.settings) token.now) tenants.now }
-{
-    tenants.iter().position(|tenant| tenant.has_token(token))
-}
-
 /// Each tenant with the empty graph. Its place is the number by which the shared part knows it.
 fn opening_tenants<T: Tables>(
     alloc: Global,
@@ -231,7 +226,8 @@ pub fn law_calls()
     ensures { CallsAreRuns }
 {}
 
-/// A request that is refused leaves its tenant as it was, whatever the refusal.
+/// A request that is refused leaves its tenant as it was, and the whole server, whatever the refusal.
 pub fn law_of_refusals()
-    ensures { RefusalsKeep }
+    ensures tenant { RefusalsKeep }
+    ensures server { RefusalsKeepAll }
 {}

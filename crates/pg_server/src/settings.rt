@@ -1,8 +1,7 @@
 //! What a configuration sets for each tenant.
 ghost use Rattle.std.specs.Prelude.{◌≡◌, ◌≤◌, ◌&&◌, string_bytes};
 ghost use Rattle.std.specs.Str.{bytes_eq};
-ghost use Rattle.pg_meaning.specs.Names.{is_among};
-ghost use Rattle.pg_server.specs.Settings.{token_texts, max_quota};
+ghost use Rattle.pg_server.specs.Settings.{max_quota};
 ghost use Rattle.pg_server.specs.Solo.{is_write, may_write};
 
 use pg_tenant::Quota;
@@ -81,17 +80,6 @@ impl TenantSettings {
             max_steps: self.max_steps,
             max_elements: self.max_elements,
         }
-    }
-
-    pub(crate) fn has_token(&self, text: &str) -> bool
-        ensures { result ≡ is_among (token_texts self.now) text.now }
-    {
-        for token in &self.tokens {
-            if text == token.text() {
-                return true;
-            }
-        }
-        false
     }
 
     /// Whether requests with this token may change the graph.

@@ -1,8 +1,6 @@
 //! A tenant: what it may use, and its graph.
 ghost use Rattle.std.specs.Prelude.{◌≡◌};
 ghost use Rattle.pg_json.specs.Replies.{reply_text};
-ghost use Rattle.pg_meaning.specs.Names.{is_among};
-ghost use Rattle.pg_server.specs.Settings.{token_texts};
 ghost use Rattle.pg_server.specs.Solo.{may_write, status_text};
 ghost use Rattle.pg_server.specs.Tenants.{state_of};
 ghost use Rattle.pg_store.specs.Changes.{Changes};
@@ -26,12 +24,6 @@ pub(crate) struct Tenant<T> {
 }
 
 impl<T: Tables> Tenant<T> {
-    pub(crate) fn has_token(&self, token: &str) -> bool
-        ensures { result ≡ is_among (token_texts self.now.settings) token.now }
-    {
-        self.settings.has_token(token)
-    }
-
     /// The reply to the query of a plan. What it changes is kept only once the reply's bytes are made.
     pub(crate) fn answer_plan(
         &mut self,

@@ -14,7 +14,8 @@ use Rattle.pg_meaning.specs.declared.fault.Fault.{Fault}
 use Rattle.pg_meaning.specs.declared.fault.Fault.TheVariants.{TextTooLong, ReadOnly, MissingParameter, NotYet}
 use Rattle.pg_plan.proofs.MeaningLemmas.{texts_mean}
 use Rattle.pg_plan.specs.Parameters.{has_parameters}
-use Rattle.pg_plan.specs.Reading.{greatest_text, tested_length, text_checked}
+use Rattle.pg_meaning.specs.Texts.{text_checked}
+use Rattle.pg_plan.specs.Reading.{greatest_text, tested_length}
 use Rattle.pg_plan.specs.Updates.{updates}
 use Rattle.pg_run.proofs.PlainLemmas.{answered_simple, answered_query}
 use Rattle.pg_run.proofs.QueryLemmas.{one_node_answers}

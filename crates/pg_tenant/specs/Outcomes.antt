@@ -10,7 +10,8 @@ use Rattle.pg_meaning.specs.declared.fault.Fault.{Fault}
 use Rattle.pg_meaning.specs.declared.fault.Fault.TheVariants.{ReadOnly, MissingParameter, NotYet}
 use Rattle.pg_plan.specs.Parameters.{has_parameters}
 use Rattle.pg_plan.specs.Plans.{IsPlanOfText, plan_query}
-use Rattle.pg_plan.specs.Reading.{greatest_text, tested_length, text_checked}
+use Rattle.pg_meaning.specs.Texts.{text_checked}
+use Rattle.pg_plan.specs.Reading.{greatest_text, tested_length}
 use Rattle.pg_plan.specs.Updates.{updates}
 use Rattle.pg_plan.specs.declared.statement.Plan.{Plan}
 use Rattle.pg_run.specs.Plain.{answered_statement}
@@ -26,6 +27,10 @@ are_given q = unless (not (has_parameters q)) MissingParameter
 -- the whole language is read, and a part of it is answered so far
 abbrev pub is_built : Query → Result (Unit {0}) Fault
 is_built q = unless (is_some (answered_statement q)) NotYet
+
+-- the tests of a query that come before any clause
+abbrev pub early_tests : Bool → Query → Result (Unit {0}) Fault
+early_tests may_write q = unless (may_write || not (updates q)) ReadOnly >> (are_given q >> is_built q)
 
 module _ (may_write : Bool) (max_steps max_elements : ℕ) where
   abbrev pub permitted : Query → Result (Unit {0}) Fault

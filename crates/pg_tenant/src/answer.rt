@@ -1,10 +1,11 @@
 //! What a query answers.
-ghost use Rattle.std.specs.Prelude.{◌≡◌, ◌≤◌, ◌^◌, ◌||◌, not, Bool};
+ghost use Rattle.std.specs.Prelude.{◌≡◌, ◌≤◌, ◌^◌, ◌||◌, not, Err};
+ghost use Rattle.pg_meaning.specs.declared.fault.Fault.{Fault};
 ghost use Rattle.pg_plan.specs.Plans.{plan_query};
 ghost use Rattle.pg_plan.specs.Updates.{updates};
 ghost use Rattle.pg_store.specs.Changes.{Changes};
 ghost use Rattle.pg_store.specs.Stores.{IsFit};
-ghost use Rattle.pg_tenant.specs.Outcomes.{plan_outcome};
+ghost use Rattle.pg_tenant.specs.Outcomes.{early_tests, plan_outcome};
 ghost use Rattle.pg_tenant.specs.Replies.{IsAnswer};
 
 use crate::statement::answer_statement;
@@ -40,7 +41,9 @@ pub fn answer_plan<T: Tables>(
 ) -> Result<ReplyBytes, Fault>
     requires fit { IsFit T.seen store.old shared.old }
     requires quota { quota.max_elements ≤ 2 ^ 63 }
-    ensures { Changes T.seen store.old shared.old store.new shared.new result (λ start end. IsAnswer result (plan_outcome may_write quota.max_steps quota.max_elements start plan.now) start end) }
+    ensures changes { Changes T.seen store.old shared.old store.new shared.new result (λ start end. IsAnswer result (plan_outcome may_write quota.max_steps quota.max_elements start plan.now) start end) }
+    // no memory is asked for before these tests are passed
+    ensures early { (fault : Fault) → early_tests may_write (plan_query plan.now) ≡ Err fault → result ≡ Err fault }
 {
     if !is_permitted(may_write, plan) {
         return Err(Fault::ReadOnly);

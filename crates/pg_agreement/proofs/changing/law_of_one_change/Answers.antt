@@ -1,5 +1,5 @@
-use Rattle.pg_agreement.proofs.ChangesTold.{one_change, one_removal}
-use Rattle.pg_agreement.proofs.DeletesTold.{one_deletion}
+use Rattle.pg_agreement.proofs.ChangesComputed.{one_change, one_removal}
+use Rattle.pg_agreement.proofs.DeletesComputed.{one_deletion}
 use Rattle.pg_agreement.proofs.changing.law_of_one_change.Goals as goal
 
 pub returns-clause-sets : goal.returns-clause-sets

@@ -1,4 +1,4 @@
-use Rattle.pg_meaning.specs.ExamplesOfSteps.{instances_of_match, instances_of_unwind, instances_of_return, instances_of_create, instances_of_changes}
+use Rattle.pg_meaning.specs.ExamplesOfSteps.{instances_of_match, instances_of_unwind, instances_of_return, instances_of_create, instances_of_faults}
 use Rattle.pg_meaning.proofs.instances.instances_of_clauses.Goals as goal
 
 pub returns-clause-matches : goal.returns-clause-matches
@@ -13,5 +13,5 @@ returns-clause-projects c = instances_of_return
 pub returns-clause-creates : goal.returns-clause-creates
 returns-clause-creates c = instances_of_create
 
-pub returns-clause-changes : goal.returns-clause-changes
-returns-clause-changes c = instances_of_changes
+pub returns-clause-faults : goal.returns-clause-faults
+returns-clause-faults c = instances_of_faults

@@ -30,8 +30,8 @@ module _ (g : Over) (c : goal.After-answer_statement g) where
 pub answer_statement-requires-clause-plain : goal.answer_statement-requires-clause-plain
 answer_statement-requires-clause-plain g c = answered_plain (plan_query c.args.plan.now) (statement_view c.in-Some.statement) (sym c.in-Some.ensures)
 
-pub returns-in-Some : goal.returns-in-Some
-returns-in-Some g c =
+pub returns-in-Some-clause-changes : goal.returns-in-Some-clause-changes
+returns-in-Some-clause-changes g c =
     let said = c.answer_statement.ensures in
     record {
       says = subst (λ (o : Result Outcome Fault). IsAnswer c.answer_statement.result o (graph g c) (left g c)) (sym (same g c)) said.says;

@@ -1,8 +1,9 @@
-use Rattle.std.proofs.Common.{◌≡◌, [], map, ap, ◌∙◌}
+use Rattle.std.proofs.Common.{◌≡◌, [], map, ap, sym, subst, ◌∙◌}
 use Rattle.std.proofs.Common.{rules}
 use Rattle.pg_server.specs.Settings.{all_tokens}
 use Rattle.pg_server.specs.State.{ServerState, opening}
 use Rattle.pg_server.specs.Tenants.{states_of}
+use Rattle.pg_server.specs.Tokens.{TellsTenants}
 use Rattle.pg_server.proofs.server.Server.new.Goals as goal
 use Rattle.pg_value.specs.Texts.{comes_again}
 
@@ -10,6 +11,7 @@ pub invariant_of-result : goal.invariant_of-result
 invariant_of-result g c =
     record {
       distinct = ap (λ ss. comes_again [] (all_tokens ss)) c.in_ok-tenants.ensures.same ∙ c.into_parts-settings.ensures.distinct;
+      told = subst (TellsTenants c.in_ok-tokens.tokens) (sym c.in_ok-tenants.ensures.same) (subst (TellsTenants c.in_ok-tokens.tokens) c.deref.ensures.value c.in_ok-tokens.ensures);
       fit = c.in_ok-tenants.ensures.fit c.new_shared.result c.new_shared.ensures.unused;
     }
 

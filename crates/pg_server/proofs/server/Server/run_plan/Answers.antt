@@ -12,7 +12,7 @@ invariant_of-self g c =
     let tenants = c.self.inside.tenants.items in
     let lt : c.args.place < length tenants = omega (arith, c.requires, ap (λ (s : ServerState). length s.tenants) c.self.view_is, length_mapped (λ x. state_of seen x c.self.inside.shared) tenants) in
     still_tenants seen tenants c.self.inside.shared c.answer_plan.new.shared c.self.invariant.fit c.args.place c.index_mut.result.now c.answer_plan.new.self lt c.index_mut.ensures.value c.answer_plan.ensures.changes.keeps
-    c.answer_plan.ensures.settings c.answer_plan.ensures.changes.fit c.self.invariant.distinct
+    c.answer_plan.ensures.settings c.answer_plan.ensures.changes.fit c.self.inside.tokens c.self.invariant.distinct c.self.invariant.told
 
 pub returns : goal.returns
 returns g c =

@@ -1,4 +1,4 @@
--- WITH and RETURN agree with their meaning: items without aggregates, DISTINCT, SKIP, LIMIT and WHERE.
+-- Parts of WITH and RETURN: steps, items without aggregates, DISTINCT, SKIP, LIMIT and WHERE.
 use Rattle.std.proofs.Common.{◌≡◌, ℕ, ◌+◌, zero, suc, Bool, true, false, cond, ◌||◌, ◌&&◌, ◌⊎◌, inl, inr, List, [], ◌∷◌, map, take, drop, Option, Some, None, is_some, bytes_eq, Result, Ok, Err, refl, sym, ap, subst, ◌∙◌}
 use Rattle.std.specs.Cmp.{eq_by_cmp_equiv}
 use Rattle.std.specs.List.{AllByRecursion, AllZip, list_any}
@@ -265,9 +265,3 @@ rows_bind columns (p ∷ ps) h = (h.0, rows_bind columns ps h.1)
 abbrev pub ProjectionAgrees : Setting → List Column → Projection → Option Expression → State → Result State Fault → Type 0
 ProjectionAgrees s columns p where_ state (Ok next) = (next.graph ≡ state.graph) × Projects (given s) state.graph columns p where_ state.rows next.rows × AreRowsOf (column_names columns) next.rows
 ProjectionAgrees s columns p where_ state (Err f) = (f ≡ StepQuota) ⊎ ProjectFaults (given s) state.graph columns p where_ state.rows f
-
--- ---- the laws
-
--- no item is an aggregate
-abbrev pub AreSingle : List Item → Type 0
-AreSingle items = AllByRecursion (λ i. aggregate_of i.value ≡ None) items

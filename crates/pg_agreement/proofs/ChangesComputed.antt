@@ -1,5 +1,6 @@
--- What is told of SET and REMOVE leaves one graph or one fault, so it is their meaning.
+-- The meaning of SET and REMOVE leaves one graph or one fault, and their functions compute it.
 use Rattle.std.proofs.Common.{◌≡◌, ℕ, true, ◌⊎◌, inl, inr, List, [], ◌∷◌, Option, Some, None, Result, Ok, Err, refl, sym, ap, subst, ◌∙◌, true≢false}
+use Rattle.pg_meaning.specs.Turns.{InTurn, FaultInTurn}
 use Rattle.pg_meaning.specs.Answer.{each_step}
 use Rattle.pg_meaning.specs.AnswerLaws.{same_ok}
 use Rattle.pg_meaning.specs.Expressions.{evaluate}
@@ -12,8 +13,8 @@ use Rattle.pg_meaning.specs.Tree.{Expression, SetItem, set_property, set_all, se
 use Rattle.pg_meaning.specs.Updates.{may_be_set, set_row, remove_row}
 use Rattle.pg_meaning.specs.Value.{Value, null, boolean, integer, text, list, mapping, node, relationship, path, Entries, no_entries, entries_of}
 use Rattle.pg_meaning.specs.declared.fault.Fault.{Fault}
-use Rattle.pg_agreement.specs.Changes.{KeysAreSet, KeyIsGone, LabelsAreAdded, LabelsAreGone, NodeChanges, RelationshipChanges, ElementChanges, PropertiesChange, LabelsChange, AreSettable, MapIsSet, IsMap, TargetFaults, IsTarget, ValueFaults, MapFaults, LabelFaults, SetsItem, SetItemFaults, RemovesItem, RemoveItemFaults, InTurn, FaultInTurn, Sets, SetFaults, Removes, RemoveFaults}
-use Rattle.pg_agreement.specs.Changing.{Both, SetIsTold, SetFaultIsTold, RemoveIsTold, RemoveFaultIsTold, OneChange, OneRemoval}
+use Rattle.pg_meaning.specs.Changes.{KeysAreSet, KeyIsGone, LabelsAreAdded, LabelsAreGone, NodeChanges, RelationshipChanges, ElementChanges, PropertiesChange, LabelsChange, AreSettable, MapIsSet, IsMap, TargetFaults, IsTarget, ValueFaults, MapFaults, LabelFaults, SetsItem, SetItemFaults, RemovesItem, RemoveItemFaults, Sets, SetFaults, Removes, RemoveFaults}
+use Rattle.pg_agreement.specs.Changing.{Both, SetIsComputed, SetFaultIsComputed, RemoveIsComputed, RemoveFaultIsComputed, OneChange, OneRemoval}
 use Rattle.pg_agreement.proofs.ChangesItems.{Verdict}
 use Rattle.pg_agreement.proofs.ChangesOnce.{by_id, same_graph, same_properties, same_labels}
 use Rattle.pg_agreement.proofs.ChangesOptions.{some_is, none_or_some, ok_or_err, same_err}
@@ -250,16 +251,16 @@ module _ {X : Type 0} (R : Graph → X → Graph → Type 0) (F : Graph → X �
   one_fault_in_turn never same (x ∷ xs) graph f y (inr g) (inl h) = absurd (never graph x g.0 y g.1 h)
   one_fault_in_turn never same (x ∷ xs) graph f y (inr g) (inr h) = one_fault_in_turn never same xs g.0 f y g.2 (subst (λ m. FaultInTurn R F m xs y) (one graph x h.0 g.0 h.1 g.1) h.2)
 
--- ---- what is told is the answer, and the answer is what is told
+-- ---- the answer is what is meant
 
 module _ (C : Graph → Type 0) (F : Fault → Type 0) (one : (a b : Graph) → C a → C b → a ≡ b) (never : (a : Graph) (f : Fault) → C a → F f → ⊥) (one_fault : (f x : Fault) → F f → F x → f ≡ x) where
-  result_is_told : (r : Result Graph Fault) → Verdict C F r → (after : Graph) → Both (r ≡ Ok after) (C after)
-  result_is_told (Ok a) h after = ((λ e. subst C (same_ok a after e) h), (λ c. ap Ok (one a after h c)))
-  result_is_told (Err f) h after = ((λ e. absurd (ok_or_err {X = Graph} (Ok after) after f refl (sym e))), (λ c. absurd (never after f c h)))
+  result_is_computed : (r : Result Graph Fault) → Verdict C F r → (after : Graph) → Both (r ≡ Ok after) (C after)
+  result_is_computed (Ok a) h after = ((λ e. subst C (same_ok a after e) h), (λ c. ap Ok (one a after h c)))
+  result_is_computed (Err f) h after = ((λ e. absurd (ok_or_err {X = Graph} (Ok after) after f refl (sym e))), (λ c. absurd (never after f c h)))
 
-  fault_is_told : (r : Result Graph Fault) → Verdict C F r → (f : Fault) → Both (r ≡ Err f) (F f)
-  fault_is_told (Ok a) h f = ((λ e. absurd (ok_or_err {X = Graph} (Ok a) a f refl e)), (λ g. absurd (never a f h g)))
-  fault_is_told (Err x) h f = ((λ e. subst F (same_err x f e) h), (λ g. ap Err (one_fault x f h g)))
+  fault_is_computed : (r : Result Graph Fault) → Verdict C F r → (f : Fault) → Both (r ≡ Err f) (F f)
+  fault_is_computed (Ok a) h f = ((λ e. absurd (ok_or_err {X = Graph} (Ok a) a f refl e)), (λ g. absurd (never a f h g)))
+  fault_is_computed (Err x) h f = ((λ e. subst F (same_err x f e) h), (λ g. ap Err (one_fault x f h g)))
 
 module _ (g : Setting) (items : List SetItem) where
   abbrev RowSets : Graph → Row → Graph → Type 0
@@ -280,7 +281,7 @@ module _ (g : Setting) (items : List SetItem) where
   one_sets : (graph : Graph) (rows : List Row) (a b : Graph) → Sets g items graph rows a → Sets g items graph rows b → a ≡ b
   one_sets graph rows a b = one_turn RowSets RowSetFaults one_row_sets rows graph a b
 
-  no_sets_fault : (graph : Graph) (rows : List Row) (after : Graph) (f : Fault) → Sets g items graph rows after → SetFaults g items graph rows f → ⊥
+  pub no_sets_fault : (graph : Graph) (rows : List Row) (after : Graph) (f : Fault) → Sets g items graph rows after → SetFaults g items graph rows f → ⊥
   no_sets_fault graph rows after f = no_fault_in_turn RowSets RowSetFaults one_row_sets no_row_fault rows graph after f
 
   one_sets_fault : (graph : Graph) (rows : List Row) (f x : Fault) → SetFaults g items graph rows f → SetFaults g items graph rows x → f ≡ x
@@ -289,14 +290,13 @@ module _ (g : Setting) (items : List SetItem) where
 pub one_change : OneChange
 one_change g items graph after other rows is = one_sets g items graph rows after other
 
-pub set_is_told : SetIsTold
-set_is_told g items graph after rows results is =
-    let both = result_is_told (Sets g items graph rows) (SetFaults g items graph rows) (one_sets g items graph rows) (no_sets_fault g items graph rows) (one_sets_fault g items graph rows) (each_step (set_row g items) graph rows) (sets_stand g items rows graph is) after in
-    ((λ s. (both.0 s.0, s.1)), (λ s. (both.1 s.0, s.1)))
+pub set_is_computed : SetIsComputed
+set_is_computed g items graph after rows is =
+    result_is_computed (Sets g items graph rows) (SetFaults g items graph rows) (one_sets g items graph rows) (no_sets_fault g items graph rows) (one_sets_fault g items graph rows) (each_step (set_row g items) graph rows) (sets_stand g items rows graph is) after
 
-pub set_fault_is_told : SetFaultIsTold
-set_fault_is_told g items graph rows f is =
-    fault_is_told (Sets g items graph rows) (SetFaults g items graph rows) (one_sets g items graph rows) (no_sets_fault g items graph rows) (one_sets_fault g items graph rows) (each_step (set_row g items) graph rows) (sets_stand g items rows graph is) f
+pub set_fault_is_computed : SetFaultIsComputed
+set_fault_is_computed g items graph rows f is =
+    fault_is_computed (Sets g items graph rows) (SetFaults g items graph rows) (one_sets g items graph rows) (no_sets_fault g items graph rows) (one_sets_fault g items graph rows) (each_step (set_row g items) graph rows) (sets_stand g items rows graph is) f
 
 module _ (items : List RemoveItem) where
   abbrev RowRemoves : Graph → Row → Graph → Type 0
@@ -317,7 +317,7 @@ module _ (items : List RemoveItem) where
   one_removes : (graph : Graph) (rows : List Row) (a b : Graph) → Removes items graph rows a → Removes items graph rows b → a ≡ b
   one_removes graph rows a b = one_turn RowRemoves RowRemoveFaults one_row_removes rows graph a b
 
-  no_removes_fault : (graph : Graph) (rows : List Row) (after : Graph) (f : Fault) → Removes items graph rows after → RemoveFaults items graph rows f → ⊥
+  pub no_removes_fault : (graph : Graph) (rows : List Row) (after : Graph) (f : Fault) → Removes items graph rows after → RemoveFaults items graph rows f → ⊥
   no_removes_fault graph rows after f = no_fault_in_turn RowRemoves RowRemoveFaults one_row_removes no_row_remove_fault rows graph after f
 
   one_removes_fault : (graph : Graph) (rows : List Row) (f x : Fault) → RemoveFaults items graph rows f → RemoveFaults items graph rows x → f ≡ x
@@ -326,11 +326,10 @@ module _ (items : List RemoveItem) where
 pub one_removal : OneRemoval
 one_removal items graph after other rows is = one_removes items graph rows after other
 
-pub remove_is_told : RemoveIsTold
-remove_is_told g items graph after rows results is =
-    let both = result_is_told (Removes items graph rows) (RemoveFaults items graph rows) (one_removes items graph rows) (no_removes_fault items graph rows) (one_removes_fault items graph rows) (each_step (remove_row items) graph rows) (removes_stand items rows graph is) after in
-    ((λ s. (both.0 s.0, s.1)), (λ s. (both.1 s.0, s.1)))
+pub remove_is_computed : RemoveIsComputed
+remove_is_computed items graph after rows is =
+    result_is_computed (Removes items graph rows) (RemoveFaults items graph rows) (one_removes items graph rows) (no_removes_fault items graph rows) (one_removes_fault items graph rows) (each_step (remove_row items) graph rows) (removes_stand items rows graph is) after
 
-pub remove_fault_is_told : RemoveFaultIsTold
-remove_fault_is_told g items graph rows f is =
-    fault_is_told (Removes items graph rows) (RemoveFaults items graph rows) (one_removes items graph rows) (no_removes_fault items graph rows) (one_removes_fault items graph rows) (each_step (remove_row items) graph rows) (removes_stand items rows graph is) f
+pub remove_fault_is_computed : RemoveFaultIsComputed
+remove_fault_is_computed items graph rows f is =
+    fault_is_computed (Removes items graph rows) (RemoveFaults items graph rows) (one_removes items graph rows) (no_removes_fault items graph rows) (one_removes_fault items graph rows) (each_step (remove_row items) graph rows) (removes_stand items rows graph is) f

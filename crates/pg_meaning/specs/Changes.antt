@@ -6,12 +6,12 @@ use Rattle.pg_meaning.specs.Entries.{are_rising, at_key}
 use Rattle.pg_meaning.specs.Expressions.{evaluate}
 use Rattle.pg_meaning.specs.Graph.{Graph, Node, Relationship, IsGraph, node_at, relationship_at}
 use Rattle.pg_meaning.specs.Lists.{IsIn}
-use Rattle.pg_meaning.specs.Meaning.{Given, AtSomeRow}
 use Rattle.pg_meaning.specs.Names.{Names, is_among}
 use Rattle.pg_meaning.specs.Order.{text_order}
 use Rattle.pg_meaning.specs.Patterns.{texts_of}
 use Rattle.pg_meaning.specs.Rows.{Row, value_in}
 use Rattle.pg_meaning.specs.Tree.{Expression, SetItem, set_property, set_all, set_more, set_labels, RemoveItem, remove_property, remove_labels}
+use Rattle.pg_meaning.specs.Turns.{Given, AtSomeRow, InTurn, FaultInTurn}
 use Rattle.pg_meaning.specs.Updates.{may_be_set}
 use Rattle.pg_meaning.specs.Value.{Value, null, mapping, node, relationship, path, Entries, no_entries, entries_of}
 use Rattle.pg_meaning.specs.declared.fault.Fault.{Fault}
@@ -117,11 +117,6 @@ abbrev pub RemovesItem : Row → (graph : Graph) → RemoveItem → (after : Gra
 RemovesItem row graph (remove_property t k) after = PropertiesChange (KeyIsGone k.text) (value_in t.text row) graph after
 RemovesItem row graph (remove_labels t ls) after = LabelsChange (LabelsAreGone (texts_of ls)) (value_in t.text row) graph after
 
--- one after the other, each in the graph that the one before it left
-abbrev pub InTurn : {X : Type 0} → (Graph → X → Graph → Type 0) → Graph → List X → Graph → Type 0
-InTurn R graph [] after = after ≡ graph
-InTurn R graph (x ∷ xs) after = (middle : Graph) × R graph x middle × InTurn R middle xs after
-
 abbrev pub Sets : Given → List SetItem → (graph : Graph) → List Row → (after : Graph) → Type 0
 Sets g items graph rows after = InTurn (λ before row next. InTurn (SetsItem g row) before items next) graph rows after
 
@@ -170,11 +165,6 @@ SetItemFaults g row graph (set_labels t ls) f = TargetFaults graph (value_in t.t
 abbrev pub RemoveItemFaults : Row → Graph → RemoveItem → Fault → Type 0
 RemoveItemFaults row graph (remove_property t k) f = TargetFaults graph (value_in t.text row) f
 RemoveItemFaults row graph (remove_labels t ls) f = TargetFaults graph (value_in t.text row) f ⊎ (IsTarget graph (value_in t.text row) × LabelFaults (value_in t.text row) f)
-
--- a fault at one of them, in the graph that those before it left
-abbrev pub FaultInTurn : {X : Type 0} → (Graph → X → Graph → Type 0) → (Graph → X → Fault → Type 0) → Graph → List X → Fault → Type 0
-FaultInTurn R F graph [] f = ⊥
-FaultInTurn R F graph (x ∷ xs) f = F graph x f ⊎ ((middle : Graph) × R graph x middle × FaultInTurn R F middle xs f)
 
 abbrev pub SetFaults : Given → List SetItem → Graph → List Row → Fault → Type 0
 SetFaults g items graph rows f =

@@ -1,4 +1,4 @@
--- What is told of DELETE leaves one graph, and is its meaning.
+-- The meaning of DELETE leaves one graph, and its function computes it.
 use Rattle.std.proofs.Common.{◌≡◌, ℕ, Bool, true, false, ◌&&◌, ◌||◌, not, ◌⊎◌, inl, inr, List, [], Option, Some, None, is_some, Result, Ok, Err, IsTrue, refl, sym, ap, subst, ◌∙◌, true≢false}
 use Rattle.std.specs.List.{list_any}
 use Rattle.pg_meaning.specs.Answer.{unless, each_step}
@@ -6,7 +6,6 @@ use Rattle.pg_meaning.specs.Expressions.{evaluate}
 use Rattle.pg_meaning.specs.Graph.{Graph, Relationship, IsGraph, node_at, relationship_at, has_node, contains_id}
 use Rattle.pg_meaning.specs.GraphLaws.{found_among}
 use Rattle.pg_meaning.specs.Lists.{IsIn}
-use Rattle.pg_meaning.specs.Meaning.{Deletes, DeleteFaults}
 use Rattle.pg_meaning.specs.Meters.{Setting}
 use Rattle.pg_meaning.specs.Rows.{Row}
 use Rattle.pg_meaning.specs.Tree.{Expression}
@@ -14,8 +13,8 @@ use Rattle.pg_meaning.specs.Updates.{Doomed, is_doomed, doom_row, is_connected}
 use Rattle.pg_meaning.specs.Value.{Value}
 use Rattle.pg_meaning.specs.declared.fault.Fault.{Fault}
 use Rattle.pg_meaning.specs.declared.fault.Fault.TheVariants.{NodeStillConnected}
-use Rattle.pg_agreement.specs.Changes.{HasNode, HasRelationship, NodeGoes, RelationshipGoes, AllHaveDeletable, ElementsGo, StillConnected, GoFaults}
-use Rattle.pg_agreement.specs.Changing.{DeleteIsTold, DeleteFaultIsTold, OneDeletion}
+use Rattle.pg_meaning.specs.Changes.{HasNode, HasRelationship, NodeGoes, RelationshipGoes, AllHaveDeletable, ElementsGo, StillConnected, GoFaults}
+use Rattle.pg_agreement.specs.Changing.{Removal, RemovalFaults, DeleteIsComputed, DeleteFaultIsComputed, OneDeletion}
 use Rattle.pg_agreement.proofs.ChangesDoomed.{Gathers, ValueHas, rows_gather, first_fault, fault_is_first, rows_go}
 use Rattle.pg_agreement.proofs.ChangesIds.{id_is_in, is_in_id}
 use Rattle.pg_agreement.proofs.ChangesOnce.{same_graph}
@@ -151,7 +150,7 @@ module _ (g : Setting) (is_detach : Bool) (es : List Expression) (graph : Graph)
 
   -- ---- a connection that stays is refused
 
-  no_connection : (after : Graph) → ElementsGo g is_detach es graph rows after → StillConnected g is_detach es graph rows → ⊥
+  pub no_connection : (after : Graph) → ElementsGo g is_detach es graph rows after → StillConnected g is_detach es graph rows → ⊥
   no_connection after h c = by_end c.at_end
     where
       stays : relationship_at after c.id ≡ Some c.relationship
@@ -168,20 +167,20 @@ module _ (g : Setting) (is_detach : Bool) (es : List Expression) (graph : Graph)
   passed true e = cc
   passed false e = refl
 
-  meant_goes : (after : Graph) (results : List Row) → Deletes g is_detach es graph rows after results → ElementsGo g is_detach es graph rows after × (results ≡ rows)
-  meant_goes after results h =
-      (subst (ElementsGo g is_detach es graph rows) (sym h.removed) (left_goes h.doomed h.named (passed (list_any (is_connected (cut_off is_detach graph h.doomed is)) (gone_nodes is_detach graph h.doomed is)) h.connected)), h.kept)
+  removed_goes : (after : Graph) → Removal g is_detach es graph rows after → ElementsGo g is_detach es graph rows after
+  removed_goes after h =
+      subst (ElementsGo g is_detach es graph rows) (sym h.removed) (left_goes h.doomed h.named (passed (list_any (is_connected (cut_off is_detach graph h.doomed is)) (gone_nodes is_detach graph h.doomed is)) h.connected))
 
-  goes_meant : (after : Graph) (results : List Row) → ElementsGo g is_detach es graph rows after × (results ≡ rows) → Deletes g is_detach es graph rows after results
-  goes_meant after results h = let made = rows_go g graph es rows ([], []) h.0.evaluated in by_test made.0 made.1 (list_any (is_connected (cut_off is_detach graph made.0 is)) (gone_nodes is_detach graph made.0 is)) refl
+  goes_removed : (after : Graph) → ElementsGo g is_detach es graph rows after → Removal g is_detach es graph rows after
+  goes_removed after h = let made = rows_go g graph es rows ([], []) h.evaluated in by_test made.0 made.1 (list_any (is_connected (cut_off is_detach graph made.0 is)) (gone_nodes is_detach graph made.0 is)) refl
     where
-      by_test : (d : Doomed) → each_step (doom_row g graph es) ([], []) rows ≡ Ok d → (b : Bool) → list_any (is_connected (cut_off is_detach graph d is)) (gone_nodes is_detach graph d is) ≡ b → Deletes g is_detach es graph rows after results
-      by_test d named true e = absurd (no_connection after h.0 (still_connected d named e))
-      by_test d named false e = record { doomed = d; named = named; connected = ap (λ b. unless (not b) NodeStillConnected) e; removed = one_left after (left_over is_detach graph d is) h.0 (left_goes d named e); kept = h.1 }
+      by_test : (d : Doomed) → each_step (doom_row g graph es) ([], []) rows ≡ Ok d → (b : Bool) → list_any (is_connected (cut_off is_detach graph d is)) (gone_nodes is_detach graph d is) ≡ b → Removal g is_detach es graph rows after
+      by_test d named true e = absurd (no_connection after h (still_connected d named e))
+      by_test d named false e = record { doomed = d; named = named; connected = ap (λ b. unless (not b) NodeStillConnected) e; removed = one_left after (left_over is_detach graph d is) h (left_goes d named e) }
 
-  meant_fault : (f : Fault) → DeleteFaults g is_detach es graph rows f → GoFaults g is_detach es graph rows f
-  meant_fault f (inl h) = inl (h.0, h.1, first_fault g graph h.0 es ([], []) f h.2)
-  meant_fault f (inr h) = by_test (list_any (is_connected (cut_off is_detach graph h.0 is)) (gone_nodes is_detach graph h.0 is)) refl h.2
+  removed_fault : (f : Fault) → RemovalFaults g is_detach es graph rows f → GoFaults g is_detach es graph rows f
+  removed_fault f (inl h) = inl (h.0, h.1, first_fault g graph h.0 es ([], []) f h.2)
+  removed_fault f (inr h) = by_test (list_any (is_connected (cut_off is_detach graph h.0 is)) (gone_nodes is_detach graph h.0 is)) refl h.2
     where
       by_test : (b : Bool) → list_any (is_connected (cut_off is_detach graph h.0 is)) (gone_nodes is_detach graph h.0 is) ≡ b → unless (not b) NodeStillConnected ≡ Err f → GoFaults g is_detach es graph rows f
       by_test true e x = inr ((gathered h.0 h.1).1, still_connected h.0 h.1 e, same_fault x)
@@ -190,19 +189,19 @@ module _ (g : Setting) (is_detach : Bool) (es : List Expression) (graph : Graph)
           same_fault x = cc
       by_test false e x = cc
 
-  fault_meant : (f : Fault) → GoFaults g is_detach es graph rows f → DeleteFaults g is_detach es graph rows f
-  fault_meant f (inl h) = inl (h.0, h.1, fault_is_first g graph h.0 es ([], []) f h.2)
-  fault_meant f (inr h) = let made = rows_go g graph es rows ([], []) h.0 in by_test made.0 made.1 (list_any (is_connected (cut_off is_detach graph made.0 is)) (gone_nodes is_detach graph made.0 is)) refl
+  fault_removed : (f : Fault) → GoFaults g is_detach es graph rows f → RemovalFaults g is_detach es graph rows f
+  fault_removed f (inl h) = inl (h.0, h.1, fault_is_first g graph h.0 es ([], []) f h.2)
+  fault_removed f (inr h) = let made = rows_go g graph es rows ([], []) h.0 in by_test made.0 made.1 (list_any (is_connected (cut_off is_detach graph made.0 is)) (gone_nodes is_detach graph made.0 is)) refl
     where
-      by_test : (d : Doomed) → each_step (doom_row g graph es) ([], []) rows ≡ Ok d → (b : Bool) → list_any (is_connected (cut_off is_detach graph d is)) (gone_nodes is_detach graph d is) ≡ b → DeleteFaults g is_detach es graph rows f
+      by_test : (d : Doomed) → each_step (doom_row g graph es) ([], []) rows ≡ Ok d → (b : Bool) → list_any (is_connected (cut_off is_detach graph d is)) (gone_nodes is_detach graph d is) ≡ b → RemovalFaults g is_detach es graph rows f
       by_test d named true e = inr (d, named, ap (λ b. unless (not b) NodeStillConnected) e ∙ ap Err (sym h.2))
       by_test d named false e = absurd (no_connection (left_over is_detach graph d is) (left_goes d named e) h.1)
 
 pub one_deletion : OneDeletion
 one_deletion g is_detach es graph after other rows is = one_left g is_detach es graph rows is after other
 
-pub delete_is_told : DeleteIsTold
-delete_is_told g is_detach es graph after rows results is = (meant_goes g is_detach es graph rows is after results, goes_meant g is_detach es graph rows is after results)
+pub delete_is_computed : DeleteIsComputed
+delete_is_computed g is_detach es graph after rows is = (removed_goes g is_detach es graph rows is after, goes_removed g is_detach es graph rows is after)
 
-pub delete_fault_is_told : DeleteFaultIsTold
-delete_fault_is_told g is_detach es graph rows f is = (meant_fault g is_detach es graph rows is f, fault_meant g is_detach es graph rows is f)
+pub delete_fault_is_computed : DeleteFaultIsComputed
+delete_fault_is_computed g is_detach es graph rows f is = (removed_fault g is_detach es graph rows is f, fault_removed g is_detach es graph rows is f)

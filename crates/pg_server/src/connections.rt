@@ -1,0 +1,44 @@
+//! Serving the connections of a listener, one after the other.
+ghost use Rattle.std.specs.Prelude.{◌≡◌, ◌<◌, ℕ, None, OnOk, OnErr};
+ghost use Rattle.pg_server.specs.Connections.{ServesInTurn, endless};
+ghost use Rattle.pg_server.specs.Serves.{Serves};
+
+use crate::counted::Counted;
+use crate::end::End;
+use crate::serve_fault::ServeFault;
+use crate::server::Server;
+use pg_graph::Tables;
+use std::hash::BuildHasher;
+use std::net::{TcpListener, TcpStream};
+
+/// Serves so many connections over the same tenants, each until its end, whatever that is.
+pub fn serve_on<S: BuildHasher + Drop, T: Tables>(
+    listener: &TcpListener,
+    server: &mut Server<S, T>,
+    count: u64,
+) -> Result<(), ServeFault>
+    ensures ok { OnOk result (ServesInTurn count server.old server.new) }
+    ensures err { OnErr result ((served : ℕ) × (served < count) × ServesInTurn served server.old server.new) }
+{
+    for _served in 0..count {
+        let Ok((stream, _)) = listener.accept() else {
+            return Err(ServeFault::Accept);
+        };
+        serve_connection(&stream, server);
+    }
+    Ok(())
+}
+
+/// Serves one connection, by one run of the server.
+fn serve_connection<S: BuildHasher + Drop, T: Tables>(
+    stream: &TcpStream,
+    server: &mut Server<S, T>,
+) -> End
+    ensures { Serves None None None None server.old server.new endless result }
+{
+    // A socket that can't be told to send at once serves all the same.
+    let _ = stream.set_nodelay(true);
+    let mut reader = Counted::new(stream);
+    let mut writer = Counted::new(stream);
+    server.run(&mut reader, &mut writer, u64::MAX)
+}

@@ -43,7 +43,7 @@ pub(crate) enum Next<'a> {
 }
 
 /// What the first character of a lexeme tells of it.
-#[derive(Clone, Copy)]
+#[derive(Drop)]
 pub(crate) enum Class {
     Letter,
     Digit,

@@ -4,4 +4,10 @@
 #[cfg(test)]
 mod cache;
 #[cfg(test)]
+mod depths;
+#[cfg(test)]
+mod expressions;
+#[cfg(test)]
 mod plans;
+#[cfg(test)]
+mod queries;

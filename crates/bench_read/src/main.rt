@@ -12,10 +12,13 @@ fn refused(fault: Fault) -> anyhow::Error {
 
 fn body(kind: u32) -> &'static str {
     match kind {
-        0 => "{\"op\":\"query\",\"token\":\"a1\",\"text\":\"CREATE (n:Service {name:'mail', port:25}) RETURN n\"}",
+        0 =>
+            "{\"op\":\"query\",\"token\":\"a1\",\"text\":\"CREATE (n:Service {name:'mail', port:25}) RETURN n\"}",
         1 => "{\"op\":\"status\",\"token\":\"a1\"}",
-        2 => "{\"op\":\"query\",\"token\":\"a1\",\"text\":\"MATCH (n:Service {name:\\\"mail\\\"})\\nRETURN n\"}",
-        3 => "{\"op\":\"query\",\"token\":\"a1\",\"text\":1,\"text\":\"CREATE (n:Service) RETURN n\"}",
+        2 =>
+            "{\"op\":\"query\",\"token\":\"a1\",\"text\":\"MATCH (n:Service {name:\\\"mail\\\"})\\nRETURN n\"}",
+        3 =>
+            "{\"op\":\"query\",\"token\":\"a1\",\"text\":1,\"text\":\"CREATE (n:Service) RETURN n\"}",
         _ => "{\"op\":\"query\",\"token\":\"a1\",\"text\":[1,2}",
     }
 }

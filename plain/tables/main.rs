@@ -1,18 +1,15 @@
 //! The same work in plain Rust, with nothing proved: what `bench_tables` is compared with.
-mod store;
-
 use std::collections::BTreeMap;
 use std::time::Instant;
 use std::{env, fs};
 
-pub const TEXT: &str = "a name of some forty letters, plain ones";
-pub const JUMP: u64 = 7919;
+const TEXT: &str = "a name of some forty letters, plain ones";
+const JUMP: u64 = 7919;
 const LABEL: u64 = 0;
 const NAME: u64 = 1;
 const NUMBER: u64 = 2;
 
 #[allow(dead_code)]
-#[derive(Clone)]
 enum Value {
     Null,
     Bool(bool),
@@ -59,15 +56,12 @@ fn sum(nodes: &BTreeMap<u64, Node>, count: u64, step: u64) -> u64 {
     total
 }
 
-pub fn print_memory() {
+fn print_memory() {
     print!("memory {}", fs::read_to_string("/proc/self/statm").unwrap());
 }
 
 fn main() {
     let count: u64 = env::args().nth(1).unwrap().parse().unwrap();
-    if env::args().nth(2).is_some() {
-        return store::measure(count);
-    }
     let mut nodes = BTreeMap::new();
     print_memory();
     let start = Instant::now();

@@ -1,4 +1,4 @@
-use Rattle.std.proofs.Common.{◌≡◌, ℕ, [], ◌∷◌, length, arith, false, rules, sym, subst, ap, ◌∙◌}
+use Rattle.std.proofs.Common.{◌≡◌, ℕ, [], ◌∷◌, length, arith, false, sym, subst, ap, ◌∙◌}
 use Rattle.std.proofs.lemmas.Bool.{le-leb}
 use Rattle.pg_json.specs.Bodies.{request_view}
 use Rattle.pg_meaning.specs.Graph.{IsGraph}
@@ -28,4 +28,4 @@ returns-in-Ok g c =
 pub returns-in-Err : goal.returns-in-Err
 returns-in-Err g c =
     subst (λ s. Runs c.args.self.now (record { body = c.args.body.now; reply = c.refusal-in-Err.result } ∷ []) s) (sym c.self.view_is)
-    (unread c.args.self.now c.args.body.now c.refusal-in-Err.result c.in-Err.fault (search rules) c.refusal-in-Err.ensures c.in-Err.ensures.kind c.in-Err.ensures.refused)
+    (unread c.args.self.now c.args.body.now c.refusal-in-Err.result c.in-Err.fault (le-leb (length c.args.body.now) body_limit (omega (arith, c.if-body-gt-MAX_BODY.false))) c.refusal-in-Err.ensures c.in-Err.ensures.kind c.in-Err.ensures.refused)

@@ -1,12 +1,8 @@
-mod numbers;
-mod stores;
-mod undone;
-
 use super::*;
 use pg_graph::Labels;
 use pg_names::{NameId, Names};
 use pg_value_core::Value;
-use std::hash::BuildHasherDefault;
+use std::hash::{BuildHasherDefault, FoldHasher};
 use std::process::Abort;
 use std::test::Fail;
 
@@ -234,7 +230,10 @@ fn each_call<T: Tables>(rt: &impl Abort, alloc: Global) -> Result<(), AllocError
 where
     T::Shared: Drop,
 {
-    let mut names = Names::new(alloc, BuildHasherDefault::new());
+    let mut names: Names<BuildHasherDefault<FoldHasher>> = Names::new(
+        alloc,
+        BuildHasherDefault::new(),
+    );
     let label = names.intern("P")?;
     let key = names.intern("x")?;
     let mut shared = T::new_shared(alloc);

@@ -1,5 +1,0 @@
-use Rattle.std.proofs.Common.{length}
-use Rattle.pg_tables.proofs.tests.numbers.push_nodes.Given as goal
-
-abbrev pub decreases-loop-id : goal.decreases-loop-id
-decreases-loop-id g l = length l.nodes

@@ -1,6 +1,4 @@
-mod commands;
 mod configurations;
-mod connections;
 mod devices;
 mod queries;
 mod runs;

@@ -2,4 +2,5 @@ pub mod Groups
 pub mod Laws
 pub mod Named
 pub mod Sorts
+pub mod States
 pub mod Tables

@@ -6,11 +6,13 @@ mod firsts;
 mod groups;
 mod laws;
 mod moves;
+mod named;
 mod sorts;
 mod table;
 
 pub use columns::Columns;
 pub use firsts::distinct;
 pub use groups::Groups;
+pub use named::Table;
 pub use sorts::sort;
 pub use table::Rows;

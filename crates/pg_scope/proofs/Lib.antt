@@ -5,4 +5,3 @@ pub mod ProjectionLemmas
 pub mod SameLemmas
 pub mod ScopeLemmas
 pub mod StepLemmas
-pub mod TreeLemmas

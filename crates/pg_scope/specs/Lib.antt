@@ -6,5 +6,4 @@ pub mod Names
 pub mod Roles
 pub mod Scoped
 pub mod Steps
-pub mod Trees
 pub mod Used

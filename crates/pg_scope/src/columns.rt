@@ -3,13 +3,11 @@ ghost use Rattle.std.specs.Prelude.{◌≡◌, is_some, map};
 ghost use Rattle.std.specs.List.{list_any};
 ghost use Rattle.pg_meaning.specs.Aggregates.{aggregate_of};
 ghost use Rattle.pg_meaning.specs.Scopes.{variable_text};
-ghost use Rattle.pg_meaning.specs.Trees.{same_expression};
 ghost use Rattle.pg_scope.specs.Columns.{column_of};
 ghost use Rattle.pg_syntax_tree.specs.View.{expression_view, item_view};
 
 use crate::calls::is_aggregate;
-use crate::trees::same_expression;
-use pg_syntax_tree::{Expression, Item, Projection};
+use pg_syntax_tree::{Expression, Item};
 
 /// How a clause names a column that has no alias.
 #[derive(Clone, Copy)]
@@ -59,18 +57,6 @@ pub(crate) fn have_aggregate(items: &Vec<Item>) -> bool
 {
     for item in items {
         if has_aggregate(item) {
-            return true;
-        }
-    }
-    false
-}
-
-/// Whether a sort is the expression of an item.
-pub(crate) fn is_column(key: &Expression, items: &Vec<Item>) -> bool
-    ensures { result ≡ list_any (λ x. same_expression x.value (expression_view key.now)) (map item_view items.now.items) }
-{
-    for item in items {
-        if same_expression(&item.value, key) {
             return true;
         }
     }

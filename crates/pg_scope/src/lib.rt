@@ -18,10 +18,8 @@ mod relationships;
 mod scoped;
 mod scopes;
 mod steps;
-mod trees;
 mod used;
 
 pub use calls::{Function, Summary, function_named, summary_named};
 pub use query::check;
 pub use scoped::Scoped;
-pub use trees::same_expression;

@@ -1,5 +1,6 @@
 //! The static faults of WITH and RETURN.
 ghost use Rattle.std.specs.Prelude.{◌≡◌, map, flat_map, IfOk, option_map};
+ghost use Rattle.pg_item_index.specs.Index.{IsIndex};
 ghost use Rattle.pg_meaning.specs.Scopes.{column_names, projection_columns};
 ghost use Rattle.pg_meaning.specs.StaticFaults as spec;
 ghost use Rattle.pg_scope.specs.Columns.{column_of, narrow, sorts, IsTail};
@@ -8,11 +9,12 @@ ghost use Rattle.pg_scope.specs.Roles.{seen};
 ghost use Rattle.pg_scope.specs.Names.{names_in, HasSame};
 ghost use Rattle.pg_syntax_tree.specs.View.{expression_view, item_view, projection_view, sort_item_view};
 
-use crate::columns::{Naming, have_aggregate, is_column};
+use crate::columns::{Naming, have_aggregate};
 use crate::expressions::{Role, fault_in_expression};
 use crate::found::Found;
 use crate::items::{add_columns, fault_in_items};
 use crate::names::Names;
+use pg_item_index::{ItemIndex, index_of, is_item};
 use pg_syntax_tree::{Expression, Item, Projection, SortItem};
 use std::alloc::{AllocError, Global};
 use std::collections::BTreeSet;
@@ -47,33 +49,54 @@ fn fault_if_seen<'a>(
 
 /// The first fault, with those of a sort that stands for no item.
 fn fault_in_sort<'a>(
+    alloc: Global,
     visible: &Names<'a>,
     items: &'a Vec<Item>,
+    index: &ItemIndex<'a>,
     sort: &'a SortItem,
     first: Option<Found>,
-) -> Option<Found>
-    ensures { IsFirst first (sorts (map item_view items.now.items) (names_in visible.now) (sort_item_view sort.now)) result }
+) -> Result<Option<Found>, AllocError>
+    requires { IsIndex index.now (map item_view items.now.items) }
+    ensures { IfOk result (λ found. IsFirst first (sorts (map item_view items.now.items) (names_in visible.now) (sort_item_view sort.now)) found) }
 {
-    if is_column(&sort.key, items) {
-        first
+    if is_item(alloc, index, items, &sort.key)? {
+        Ok(first)
     } else {
-        fault_in_expression(visible, Role::Elsewhere, &sort.key, first)
+        Ok(fault_in_expression(visible, Role::Elsewhere, &sort.key, first))
     }
 }
 
 fn fault_in_sorts<'a>(
+    alloc: Global,
     visible: &Names<'a>,
     items: &'a Vec<Item>,
     order: &'a Vec<SortItem>,
     first: Option<Found>,
-) -> Option<Found>
-    ensures { IsFirst first (flat_map (sorts (map item_view items.now.items) (names_in visible.now)) (map sort_item_view order.now.items)) result }
+) -> Result<Option<Found>, AllocError>
+    ensures { IfOk result (λ found. IsFirst first (flat_map (sorts (map item_view items.now.items) (names_in visible.now)) (map sort_item_view order.now.items)) found) }
 {
+    let index = index_of(alloc, items)?;
     let mut first = first;
     for sort in order {
-        first = fault_in_sort(visible, items, sort, first);
+        first = fault_in_sort(alloc, visible, items, &index, sort, first)?;
     }
-    first
+    Ok(first)
+}
+
+/// The first fault, with those of the sorts, if there are some.
+fn fault_in_order<'a>(
+    alloc: Global,
+    visible: &Names<'a>,
+    items: &'a Vec<Item>,
+    order: &'a Vec<SortItem>,
+    first: Option<Found>,
+) -> Result<Option<Found>, AllocError>
+    ensures { IfOk result (λ found. IsFirst first (flat_map (sorts (map item_view items.now.items) (names_in visible.now)) (map sort_item_view order.now.items)) found) }
+{
+    match order.as_slice() {
+        [] => Ok(first),
+        _ => fault_in_sorts(alloc, visible, items, order, first),
+    }
 }
 
 /// The first fault, with those of what stands behind the items, where some names are visible.
@@ -83,14 +106,14 @@ fn fault_in_tail<'a>(
     projection: &'a Projection,
     condition: Option<&'a Expression>,
     first: Option<Found>,
-) -> Option<Found>
-    ensures { IsTail (projection_view projection.now) (seen condition.entry) (names_in visible.now) first result }
+) -> Result<Option<Found>, AllocError>
+    ensures { IfOk result (λ found. IsTail (projection_view projection.now) (seen condition.entry) (names_in visible.now) first found) }
 {
     let nothing = BTreeSet::new(alloc);
-    let first = fault_in_sorts(visible, &projection.items, &projection.order, first);
+    let first = fault_in_order(alloc, visible, &projection.items, &projection.order, first)?;
     let first = fault_if_any(&nothing, &projection.skip, first);
     let first = fault_if_any(&nothing, &projection.limit, first);
-    fault_if_seen(visible, condition, first)
+    Ok(fault_if_seen(visible, condition, first))
 }
 
 /// Whether what stands behind the items sees the columns alone.
@@ -115,15 +138,15 @@ pub(crate) fn fault_in_projection<'a>(
     let items = &projection.items;
     let (first, columns) = fault_in_items(alloc, naming, &scope, star, items, first)?;
     if is_narrow(projection) {
-        let first = fault_in_tail(alloc, &columns, projection, condition, first);
-        return Ok((first, columns));
+        let found = fault_in_tail(alloc, &columns, projection, condition, first)?;
+        return Ok((found, columns));
     }
     let mut visible = scope;
     add_columns(naming, &mut visible, items)?;
-    let first = fault_in_tail(alloc, &visible, projection, condition, first);
+    let found = fault_in_tail(alloc, &visible, projection, condition, first)?;
     if star {
-        Ok((first, visible))
+        Ok((found, visible))
     } else {
-        Ok((first, columns))
+        Ok((found, columns))
     }
 }

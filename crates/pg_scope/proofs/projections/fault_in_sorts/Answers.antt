@@ -8,4 +8,4 @@ use Rattle.pg_scope.proofs.projections.fault_in_sorts.Goals as goal
 
 pub loop-sort-preserved : goal.loop-sort-preserved
 loop-sort-preserved c = let each = sorts (map item_view c.args.items.now.items) (names_in c.args.visible.now) in
-    c.loop-sort.invariant ∙ walk_item (λ ys. flat_map each (map sort_item_view ys)) (λ y. each (sort_item_view y)) (λ y ys. refl) c.loop-sort-test.true c.sort-item.is c.deref-sort-items.ensures.value c.fault_in_sort-first.ensures
+    c.loop-sort.invariant ∙ walk_item (λ ys. flat_map each (map sort_item_view ys)) (λ y. each (sort_item_view y)) (λ y ys. refl) c.loop-sort-test.true c.sort-item.is c.deref-sort-items.ensures.value c.in_ok-first.ensures

@@ -2,7 +2,7 @@ use Rattle.std.proofs.Common.{◌≡◌, drop, map}
 use Rattle.pg_meaning.specs.Parse.{expressions_of, operands_of, pairs_of, whens_of}
 use Rattle.pg_meaning.specs.Trees.{same_expressions, same_pairs, same_whens, same_operands, same_tests, same_suffixes}
 use Rattle.pg_syntax_tree.specs.View.{expression_view, pair_view, suffixes_of, tests_of, when_view, operand_view, test_view, suffix_view}
-use Rattle.pg_scope.proofs.trees.+trees.Given as goal
+use Rattle.pg_item_index.proofs.trees.+trees.Given as goal
 
 abbrev pub invariant-same_all-loop-i : goal.invariant-same_all-loop-i
 invariant-same_all-loop-i l = same_expressions (expressions_of (map expression_view l.a.items)) (expressions_of (map expression_view l.b.items)) ≡ same_expressions (expressions_of (map expression_view (drop l.i l.a.items))) (expressions_of (map expression_view (drop l.i l.b.items)))

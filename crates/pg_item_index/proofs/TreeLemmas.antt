@@ -5,7 +5,7 @@ use Rattle.std.specs.Bool.{beq}
 use Rattle.pg_meaning.specs.Parse.{expressions_of, operands_of, pairs_of, whens_of}
 use Rattle.pg_meaning.specs.Trees.{same_name, same_names, same_flags, same_operator, same_expression, same_expressions, same_pairs, same_whens, same_operands, same_tests, same_suffixes}
 use Rattle.pg_meaning.specs.declared.operators.Operator.{Operator}
-use Rattle.pg_scope.specs.Trees.{is_same_test, is_same_suffix}
+use Rattle.pg_item_index.specs.Trees.{is_same_test, is_same_suffix}
 use Rattle.pg_syntax_tree.specs.View.{expression_view, name_view, names_view, pair_view, suffixes_of, tests_of, when_view, operand_view, test_view, suffix_view}
 use Rattle.pg_syntax_tree.specs.declared.expression.Expression.{Expression}
 use Rattle.pg_syntax_tree.specs.declared.expression.Name.{Name}

@@ -5,7 +5,7 @@ ghost use Rattle.std.specs.Str.{str_eq_ignore_ascii_case};
 ghost use Rattle.pg_meaning.specs.Parse.{expressions_of, operands_of, pairs_of, whens_of};
 ghost use Rattle.pg_meaning.specs.Trees as spec;
 ghost use Rattle.pg_meaning.specs.Value as value;
-ghost use Rattle.pg_scope.specs.Trees.{is_same_test, is_same_suffix};
+ghost use Rattle.pg_item_index.specs.Trees.{is_same_test, is_same_suffix};
 ghost use Rattle.pg_syntax_tree.specs.View.{expression_view, literal_view, name_view, names_view, pair_view, suffixes_of, tests_of, when_view, operand_view, test_view, suffix_view, perhaps_view};
 
 use pg_meaning::Operator;

@@ -1,6 +1,6 @@
 use Rattle.std.proofs.Common.{arith}
 use Rattle.pg_syntax_tree.proofs.Views.{case_is, suffixes_is}
-use Rattle.pg_scope.proofs.trees.+trees.Goals as goal
+use Rattle.pg_item_index.proofs.trees.+trees.Goals as goal
 
 pub same_expression-returns-then-same_whens : goal.same_expression-returns-then-same_whens
 same_expression-returns-then-same_whens t c = let x = c.in-Case in let y = c.in-Case-b in rw x.is (rw y.is (rw (case_is x.a x.whens x.x) (rw (case_is y.b y.others y.y) (elim c.if-same_perhaps.branch [

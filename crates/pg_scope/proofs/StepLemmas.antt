@@ -77,7 +77,7 @@ clause_same ns ms s (tree.delete is_detach xs) = each_same (faults_of ns) (fault
 clause_same ns ms s (tree.with_rows p condition) = projection_same Variable ns ms s p condition
 clause_same ns ms s (tree.return_rows p) = both (star_same ns ms s p.star) (projection_same Source ns ms s p None)
 
-after_same : (ns ms : Names) → HasSame ns ms → (c : Clause) → HasSame (scope_after ns c) (scope_after ms c)
+pub after_same : (ns ms : Names) → HasSame ns ms → (c : Clause) → HasSame (scope_after ns c) (scope_after ms c)
 after_same ns ms s (tree.match_paths is_optional ps condition) = paths_same ps s
 after_same ns ms s (tree.unwind x n) = record { is = λ m. among_added ns n.text m ∙ ap (λ b. bytes_eq m n.text || b) (s.is m) ∙ sym (among_added ms n.text m) }
 after_same ns ms s (tree.create ps) = paths_same ps s

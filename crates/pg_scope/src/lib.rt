@@ -1,6 +1,7 @@
 //! The static faults of a query.
 #![tactic(auto)]
 
+mod behind;
 mod calls;
 mod clauses;
 mod columns;
@@ -20,6 +21,10 @@ mod scopes;
 mod steps;
 mod used;
 
+pub use behind::names_behind;
 pub use calls::{Function, Summary, function_named, summary_named};
+pub use names::{Names, add, is_among};
 pub use query::check;
 pub use scoped::Scoped;
+pub use scopes::add_path;
+pub use used::add_variable;

@@ -6,17 +6,18 @@ ghost use Rattle.pg_scope.specs.Names.{names_in, HasSame};
 use std::alloc::AllocError;
 use std::collections::BTreeSet;
 
-/// The names of a text.
-pub(crate) type Names<'a> = BTreeSet<&'a str>;
+/// Names, borrowed from a text or a tree.
+pub type Names<'a> = BTreeSet<&'a str>;
 
-pub(crate) fn is_among<'a>(names: &Names<'a>, name: &'a str) -> bool
+/// Whether a name stands among the names.
+pub fn is_among<'a>(names: &Names<'a>, name: &'a str) -> bool
     ensures { result ≡ is_among (names_in names.now) name.now }
 {
     names.contains(&name)
 }
 
 /// Puts a name among the names; whether it is new there.
-pub(crate) fn add<'a>(names: &mut Names<'a>, name: &'a str) -> Result<bool, AllocError>
+pub fn add<'a>(names: &mut Names<'a>, name: &'a str) -> Result<bool, AllocError>
     ensures added { IfOk result (λ added. added ≡ not (is_among (names_in names.old) name.now)) }
     ensures names { OnOk result (HasSame (names_in names.new) (name.now ∷ names_in names.old)) }
 {

@@ -24,7 +24,7 @@ fn add_hops<'a>(
 }
 
 /// Brings in the variables of a path.
-pub(crate) fn add_path<'a>(names: &mut Names<'a>, path: &'a PathPattern) -> Result<(), AllocError>
+pub fn add_path<'a>(names: &mut Names<'a>, path: &'a PathPattern) -> Result<(), AllocError>
     ensures { OnOk result (HasSame (names_in names.new) (meaning.add_path_names (path_view path.now ∷ []) (names_in names.old))) }
 {
     add_variable(names, &path.variable)?;

@@ -29,10 +29,7 @@ impl<'a> Used<'a> {
 }
 
 /// Puts a variable among the names, where there is one.
-pub(crate) fn add_variable<'a>(
-    names: &mut Names<'a>,
-    variable: &'a Option<Name>,
-) -> Result<(), AllocError>
+pub fn add_variable<'a>(names: &mut Names<'a>, variable: &'a Option<Name>) -> Result<(), AllocError>
     ensures { OnOk result (HasSame (names_in names.new) (spec.with_variable (option_map name_view variable.now) (names_in names.old))) }
 {
     if let Some(name) = variable {

@@ -1,0 +1,82 @@
+//! The names behind a clause.
+ghost use Rattle.std.specs.Prelude.{[], ◌∷◌, map, IfOk};
+ghost use Rattle.pg_meaning.specs.Names.{add_name};
+ghost use Rattle.pg_meaning.specs.Patterns.{add_path_names};
+ghost use Rattle.pg_meaning.specs.Scopes.{column_names, projection_columns, scope_after};
+ghost use Rattle.pg_scope.specs.Columns.{column_of};
+ghost use Rattle.pg_scope.specs.Names.{names_in, HasSame};
+ghost use Rattle.pg_syntax_tree.specs.View.{clause_view, name_view, path_view, projection_view};
+
+use crate::columns::Naming;
+use crate::items::add_columns;
+use crate::names::{Names, add};
+use crate::scopes::{add_path, add_paths};
+use pg_syntax_tree::{Clause, Name, PathPattern, Projection};
+use std::alloc::{AllocError, Global};
+use std::collections::BTreeSet;
+
+/// The names of the columns.
+fn behind_projection<'a>(
+    alloc: Global,
+    naming: Naming,
+    scope: Names<'a>,
+    projection: &'a Projection,
+) -> Result<Names<'a>, AllocError>
+    ensures { IfOk result (λ names. HasSame (names_in names) (column_names (projection_columns (column_of naming) (names_in scope.entry) (projection_view projection.now)))) }
+{
+    if projection.star.is_some() {
+        let mut starred = scope;
+        add_columns(naming, &mut starred, &projection.items)?;
+        return Ok(starred);
+    }
+    let mut names = BTreeSet::new(alloc);
+    add_columns(naming, &mut names, &projection.items)?;
+    Ok(names)
+}
+
+fn behind_unwind<'a>(scope: Names<'a>, name: &'a Name) -> Result<Names<'a>, AllocError>
+    ensures { IfOk result (λ names. HasSame (names_in names) (add_name (names_in scope.entry) (name_view name.now).text)) }
+{
+    let mut names = scope;
+    add(&mut names, name.text.as_str())?;
+    Ok(names)
+}
+
+fn behind_paths<'a>(scope: Names<'a>, paths: &'a Vec<PathPattern>) -> Result<Names<'a>, AllocError>
+    ensures { IfOk result (λ names. HasSame (names_in names) (add_path_names (map path_view paths.now.items) (names_in scope.entry))) }
+{
+    let mut names = scope;
+    add_paths(&mut names, paths)?;
+    Ok(names)
+}
+
+fn behind_merge<'a>(scope: Names<'a>, path: &'a PathPattern) -> Result<Names<'a>, AllocError>
+    ensures { IfOk result (λ names. HasSame (names_in names) (add_path_names (path_view path.now ∷ []) (names_in scope.entry))) }
+{
+    let mut names = scope;
+    add_path(&mut names, path)?;
+    Ok(names)
+}
+
+/// The names in scope behind a clause, from those before it.
+pub fn names_behind<'a>(
+    alloc: Global,
+    scope: Names<'a>,
+    clause: &'a Clause,
+) -> Result<Names<'a>, AllocError>
+    ensures { IfOk result (λ names. HasSame (names_in names) (scope_after (names_in scope.entry) (clause_view clause.now))) }
+{
+    match clause {
+        Clause::Match(_, paths, _) | Clause::Create(paths) => behind_paths(scope, paths),
+        Clause::Unwind(_, name) => behind_unwind(scope, name),
+        Clause::Merge(path, _) => behind_merge(scope, path),
+        Clause::With(projection, _) => behind_projection(
+            alloc,
+            Naming::Variable,
+            scope,
+            projection,
+        ),
+        Clause::Return(projection) => behind_projection(alloc, Naming::Source, scope, projection),
+        Clause::Set(_) | Clause::Remove(_) | Clause::Delete(_, _) => Ok(scope),
+    }
+}

@@ -1,0 +1,3 @@
+pub mod LeadLemmas
+pub mod SameLemmas
+pub mod PlaceLemmas

@@ -1,0 +1,4 @@
+pub mod Catalogue
+pub mod Leads
+pub mod Places
+pub mod Plans

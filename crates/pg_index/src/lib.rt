@@ -2,5 +2,7 @@
 #![tactic(auto)]
 
 mod index;
+mod properties;
 
 pub use index::Index;
+pub use properties::{PropertyIndex, cover_each, index_of};

@@ -1,0 +1,123 @@
+//! The nodes of a label by what they have under a key.
+ghost use Rattle.std.specs.Prelude.{◌≡◌, ℕ, true, false, OnOk, IfSome, is_some, option_copied};
+ghost use Rattle.std.specs.Option.{option_map_or};
+ghost use Rattle.pg_graph.specs.Removed.{has_id};
+ghost use Rattle.pg_index.specs.Index.{the_ids};
+ghost use Rattle.pg_index.specs.Properties.{finds, is_found_by, is_equal, is_for, all_find, pairs_of, has_pair};
+ghost use Rattle.pg_value_core.specs.View.{view};
+ghost use Rattle.pg_value_core.specs.declared.value.Value as code;
+
+use crate::index::Index;
+use pg_graph::{ById, NodeRecord};
+use pg_names::NameId;
+use pg_value_core::Value;
+use std::alloc::{AllocError, Global};
+
+/// The ids of nodes with a label, by their values under a key. It may have some more.
+#[derive(Drop)]
+pub struct PropertyIndex {
+    alloc: Global,
+    pub label: NameId,
+    pub key: NameId,
+    ids: Index<Value>,
+}
+
+impl PropertyIndex {
+    /// An index that has nothing yet.
+    pub fn new(alloc: Global, label: NameId, key: NameId) -> Self
+        ensures label { result.label ≡ label }
+        ensures key { result.key ≡ key }
+    {
+        PropertyIndex {
+            alloc,
+            label,
+            key,
+            ids: Index::new(alloc),
+        }
+    }
+
+    /// The ids under a value, if there are any.
+    pub fn get(&self, value: &Value) -> Option<&ById<()>>
+        ensures { (i : ℕ) → has_id (the_ids (option_copied result)) i ≡ finds self.now value.now i }
+    {
+        self.ids.get(value)
+    }
+
+    /// The value by which a node is found here, if it is.
+    fn value_of<'a>(&self, node: &'a NodeRecord) -> Option<&'a Value>
+        ensures { (v : code.Value) → is_found_by self.now.label self.now.key v node.now ≡ option_map_or (λ w. is_equal (view w.now) v) result false }
+    {
+        if node.labels.contains(self.label) {
+            node.properties.get(self.key)
+        } else {
+            None
+        }
+    }
+
+    fn put(&mut self, value: &Value, id: u64) -> Result<(), AllocError>
+        ensures label { self.new.label ≡ self.old.label }
+        ensures key { self.new.key ≡ self.old.key }
+        ensures grown { (v : code.Value) (i : ℕ) → finds self.old v i ≡ true → finds self.new v i ≡ true }
+        ensures ok { OnOk result ((v : code.Value) → is_equal (view value.now) v ≡ true → finds self.new v id ≡ true) }
+    {
+        let value = value.copy(self.alloc)?;
+        self.ids.cover(value, id)
+    }
+
+    /// Puts a node's id under its value, if it has the label and the key.
+    pub fn cover(&mut self, node: &NodeRecord, id: u64) -> Result<(), AllocError>
+        ensures label { self.new.label ≡ self.old.label }
+        ensures key { self.new.key ≡ self.old.key }
+        ensures grown { (v : code.Value) (i : ℕ) → finds self.old v i ≡ true → finds self.new v i ≡ true }
+        ensures ok { OnOk result ((v : code.Value) → is_found_by self.old.label self.old.key v node.now ≡ true → finds self.new v id ≡ true) }
+    {
+        match self.value_of(node) {
+            Some(value) => self.put(value, id),
+            None => Ok(()),
+        }
+    }
+
+    /// Takes an id from under a value, if it is there. It takes no memory.
+    pub fn forget(&mut self, value: &Value, id: u64)
+        ensures label { self.new.label ≡ self.old.label }
+        ensures key { self.new.key ≡ self.old.key }
+        ensures lost { (v : code.Value) (i : ℕ) → finds self.old v i ≡ true → finds self.new v i ≡ false → (view v ≡ view value.now) × (i ≡ id) }
+    {
+        self.ids.forget(value, id);
+    }
+}
+
+/// Puts a node's id into each index where it belongs. After an error it is in some of them.
+pub fn cover_each(
+    indexes: &mut [PropertyIndex],
+    node: &NodeRecord,
+    id: u64,
+) -> Result<(), AllocError>
+    ensures pairs { pairs_of indexes.new ≡ pairs_of indexes.old }
+    ensures grown { (label key : ℕ) (v : code.Value) (i : ℕ) → all_find indexes.old label key v i ≡ true → all_find indexes.new label key v i ≡ true }
+    ensures ok { OnOk result ((label key : ℕ) (v : code.Value) → is_found_by label key v node.now ≡ true → all_find indexes.new label key v id ≡ true) }
+{
+    for property in indexes.iter_mut() {
+        property.cover(node, id)?;
+    }
+    Ok(())
+}
+
+fn is_for(index: &PropertyIndex, label: NameId, key: NameId) -> bool
+    ensures { result ≡ is_for index.now label key }
+{
+    index.label.as_u64() == label.as_u64() && index.key.as_u64() == key.as_u64()
+}
+
+/// The index of a label and a key, if there is one.
+pub fn index_of(indexes: &[PropertyIndex], label: NameId, key: NameId) -> Option<&PropertyIndex>
+    ensures some { IfSome result (λ x. (v : code.Value) (i : ℕ) → all_find indexes.now label key v i ≡ true → finds x.now v i ≡ true) }
+    ensures there { is_some result ≡ has_pair (label, key) (pairs_of indexes.now) }
+{
+    for property in indexes {
+        if is_for(property, label, key) {
+            return Some(property);
+        }
+    }
+    None
+}

@@ -1,8 +1,11 @@
 -- The parts of an expression one after the other: what is found so far, and what is left.
 use Rattle.std.proofs.Common.{◌≡◌, ℕ, ◌≤◌, Bool, true, false, List, [], ◌∷◌, ◌++◌, map, length, drop, Option, Some, None, Result, Ok, Err, refl, sym, ap, subst, ◌∙◌}
 use Rattle.std.proofs.lemmas.List.{drop_all}
-use Rattle.std.specs.Prelude.{string_bytes}
-use Rattle.pg_expr.specs.Sites.{found_view, founds_view, pairs_view, given, given_each, given_pairs, given_first, given_true, given_chain, given_operands, given_tests, given_suffixes}
+use Rattle.std.specs.Prelude.{◌≢◌, Box, Vec, IfOk, IfErr, string_bytes}
+use Rattle.std.specs.declared.alloc.Global.{Global}
+use Rattle.pg_expr.specs.Calls.{given_call}
+use Rattle.pg_expr.specs.Operators.{is_chosen}
+use Rattle.pg_expr.specs.Sites.{found_view, founds_view, pairs_view, given, given_each, given_pairs, given_first, given_true, given_chain, given_chained, given_operands, given_text_test, given_tests, given_index, given_suffixes, given_reads, given_perhaps, given_otherwise}
 use Rattle.pg_expr.specs.declared.site.Found.{Found}
 use Rattle.pg_expr.specs.declared.site.Site.{Site}
 use Rattle.pg_meaning.specs.Answer.{Answer, ◌>>=◌}
@@ -15,11 +18,15 @@ use Rattle.pg_meaning.specs.Logic.{is_true}
 use Rattle.pg_meaning.specs.Parse.{expressions_of, operands_of, pairs_of, whens_of}
 use Rattle.pg_meaning.specs.Value.{Value as Datum, Values, no_items, item, Entries}
 use Rattle.pg_meaning.specs.declared.fault.Fault.{Fault}
+use Rattle.pg_meaning.specs.declared.fault.Fault.TheVariants.{OutOfMemory}
 use Rattle.pg_meaning.specs.declared.logic.Tri.{Tri}
+use Rattle.pg_meaning.specs.declared.logic.Tri.TheVariants.{True, False, Null}
 use Rattle.pg_meaning.specs.declared.operators.Operator.{Operator}
 use Rattle.pg_meaning.specs.declared.operators.TextTest.{TextTest}
-use Rattle.pg_syntax_tree.specs.View.{expression_view, pair_view, when_view, operand_view, test_view, tests_of, suffix_view, suffixes_of, name_view}
+use Rattle.pg_syntax_tree.specs.View.{expression_view, pair_view, when_view, operand_view, test_view, tests_of, suffix_view, suffixes_of, name_view, names_view, perhaps_view}
+use Rattle.pg_syntax_tree.proofs.Views.{call_is, case_is, chain_is, suffixes_is}
 use Rattle.pg_syntax_tree.specs.declared.expression.Expression.{Expression}
+use Rattle.pg_syntax_tree.specs.declared.expression.Expression.TheVariants as expression
 use Rattle.pg_syntax_tree.specs.declared.expression.Name.{Name}
 use Rattle.pg_syntax_tree.specs.declared.expression.Suffix.{Suffix}
 use Rattle.pg_syntax_tree.specs.declared.expression.Suffix.TheVariants as suffix
@@ -57,6 +64,16 @@ pairs_moved fs o f (Err e) = refl
 append_nothing : (ps : List (Operator × Datum)) → ps ++ [] ≡ ps
 append_nothing [] = refl
 append_nothing (p ∷ ps) = ap (λ qs. p ∷ qs) (append_nothing ps)
+
+in_turn : (a : Answer) (f h : Datum → Answer) → (a >>= f >>= h) ≡ (a >>= λ v. f v >>= h)
+in_turn (Ok v) f h = refl
+in_turn (Err e) f h = refl
+
+by_truth : (q : Result Tri Fault) (x y : Result (Option Datum) Fault) → (q >>= λ t. elim (is_true t) [ true ↦ x | false ↦ y ]) ≡ ((q >>= λ t. Ok (is_true t)) >>= λ b. elim b [ true ↦ x | false ↦ y ])
+by_truth (Ok True) x y = refl
+by_truth (Ok False) x y = refl
+by_truth (Ok Null) x y = refl
+by_truth (Err e) x y = refl
 
 module _ (s : Site) (g : Graph) where
   abbrev pub each_of : List Expression → Result Values Fault
@@ -107,24 +124,34 @@ module _ (s : Site) (g : Graph) where
   abbrev result_of : Expression → Result (Option Datum) Fault
   result_of x = given s g (expression_view x) >>= λ u. Ok (Some u)
 
-  abbrev picked : Option Datum → Expression → List (Expression × Expression) → Result Tri Fault → Result (Option Datum) Fault
-  picked subject x ws q = q >>= λ t. elim (is_true t) [ true ↦ result_of x | false ↦ true_of subject ws ]
+  abbrev picked : Option Datum → Expression → List (Expression × Expression) → Result Bool Fault → Result (Option Datum) Fault
+  picked subject x ws q = q >>= λ b. elim b [ true ↦ result_of x | false ↦ true_of subject ws ]
 
-  pub next_false : (subject : Option Datum) (w : Expression × Expression) (ws : List (Expression × Expression)) (v : Datum) (t : Tri)
-      → given s g (expression_view w.0) ≡ Ok v → condition_of subject v ≡ Ok t → is_true t ≡ false → true_of subject (w ∷ ws) ≡ true_of subject ws
-  next_false subject w ws v t h k b =
-      ap (λ r. r >>= λ u. picked subject w.1 ws (condition_of subject u)) h ∙ ap (picked subject w.1 ws) k
-      ∙ (let P : Bool → Type 0 = λ c. ◌≡◌ {A = Result (Option Datum) Fault} (elim c [ true ↦ result_of w.1 | false ↦ true_of subject ws ]) (true_of subject ws) in subst P (sym b) refl)
+  one_when : (subject : Option Datum) (w : Expression × Expression) (ws : List (Expression × Expression)) (v : Datum) → given s g (expression_view w.0) ≡ Ok v
+      → true_of subject (w ∷ ws) ≡ picked subject w.1 ws (is_chosen subject v)
+  one_when subject w ws v h =
+      ap (λ r. r >>= λ u. condition_of subject u >>= λ t. elim (is_true t) [ true ↦ result_of w.1 | false ↦ true_of subject ws ]) h
+      ∙ by_truth (condition_of subject v) (result_of w.1) (true_of subject ws)
 
-  pub next_true : (subject : Option Datum) (w : Expression × Expression) (ws : List (Expression × Expression)) (v : Datum) (t : Tri)
-      → given s g (expression_view w.0) ≡ Ok v → condition_of subject v ≡ Ok t → is_true t ≡ true → true_of subject (w ∷ ws) ≡ result_of w.1
-  next_true subject w ws v t h k b =
-      ap (λ r. r >>= λ u. picked subject w.1 ws (condition_of subject u)) h ∙ ap (picked subject w.1 ws) k
-      ∙ (let P : Bool → Type 0 = λ c. ◌≡◌ {A = Result (Option Datum) Fault} (elim c [ true ↦ result_of w.1 | false ↦ true_of subject ws ]) (result_of w.1) in subst P (sym b) refl)
+  pub next_unmet : (subject : Option Datum) (w : Expression × Expression) (ws : List (Expression × Expression)) (v : Datum)
+      → given s g (expression_view w.0) ≡ Ok v → is_chosen subject v ≡ Ok false → true_of subject (w ∷ ws) ≡ true_of subject ws
+  next_unmet subject w ws v h k = one_when subject w ws v h ∙ ap (picked subject w.1 ws) k
+
+  pub failed_when : (subject : Option Datum) (w : Expression × Expression) (ws : List (Expression × Expression)) (e : Fault)
+      → given s g (expression_view w.0) ≡ Err e → true_of subject (w ∷ ws) ≡ Err e
+  failed_when subject w ws e h = ap (λ r. r >>= λ u. condition_of subject u >>= λ t. elim (is_true t) [ true ↦ result_of w.1 | false ↦ true_of subject ws ]) h
+
+  pub met_value : (subject : Option Datum) (w : Expression × Expression) (ws : List (Expression × Expression)) (v u : Datum)
+      → given s g (expression_view w.0) ≡ Ok v → is_chosen subject v ≡ Ok true → given s g (expression_view w.1) ≡ Ok u → true_of subject (w ∷ ws) ≡ Ok (Some u)
+  met_value subject w ws v u h k m = one_when subject w ws v h ∙ ap (picked subject w.1 ws) k ∙ ap (λ r. r >>= λ z. Ok (Some z)) m
+
+  pub met_fault : (subject : Option Datum) (w : Expression × Expression) (ws : List (Expression × Expression)) (v : Datum) (e : Fault)
+      → given s g (expression_view w.0) ≡ Ok v → is_chosen subject v ≡ Ok true → given s g (expression_view w.1) ≡ Err e → true_of subject (w ∷ ws) ≡ Err e
+  met_fault subject w ws v e h k m = one_when subject w ws v h ∙ ap (picked subject w.1 ws) k ∙ ap (λ r. r >>= λ z. Ok (Some z)) m
 
   pub next_unknown : (subject : Option Datum) (w : Expression × Expression) (ws : List (Expression × Expression)) (v : Datum) (e : Fault)
-      → given s g (expression_view w.0) ≡ Ok v → condition_of subject v ≡ Err e → true_of subject (w ∷ ws) ≡ Err e
-  next_unknown subject w ws v e h k = ap (λ r. r >>= λ u. picked subject w.1 ws (condition_of subject u)) h ∙ ap (picked subject w.1 ws) k
+      → given s g (expression_view w.0) ≡ Ok v → is_chosen subject v ≡ Err e → true_of subject (w ∷ ws) ≡ Err e
+  next_unknown subject w ws v e h k = one_when subject w ws v h ∙ ap (picked subject w.1 ws) k
 
   pub next_combined : (v : Datum) (o : Operator) (x : Expression) (os : List (Operator × Expression)) (w : Datum) → given s g (expression_view x) ≡ Ok w
       → chain_of v ((o, x) ∷ os) ≡ (combined o v w >>= λ u. chain_of u os)
@@ -137,10 +164,55 @@ module _ (s : Site) (g : Graph) where
   pub no_more_operands : (fs : List (Operator × Found)) (i : ℕ) (os : List (Operator × Expression)) → length os ≤ i → joined_pairs (pairs_view fs) (operands_given (drop i os)) ≡ Ok (pairs_view fs)
   no_more_operands fs i os h = ap (λ ps. joined_pairs (pairs_view fs) (operands_given ps)) (drop_all i os h) ∙ ap Ok (append_nothing (pairs_view fs))
 
-  pub next_text_test : (v : Datum) (t : TextTest) (y : Expression) (ts : List (Test Expression)) (w : Datum) → given s g (expression_view y) ≡ Ok w
-      → tests_given v (test.Text t y ∷ ts) ≡ (tested t v w >>= λ u. tests_given u ts)
-  next_text_test v t y ts w h = ap (λ r. r >>= λ u. tested t v u >>= λ z. tests_given z ts) h
+  pub next_text_test : (v : Datum) (t : TextTest) (y : Expression) (ts : List (Test Expression)) (u : Datum) → given_text_test s g v t (expression_view y) ≡ Ok u
+      → tests_given v (test.Text t y ∷ ts) ≡ tests_given u ts
+  next_text_test v t y ts u h = sym (in_turn (given s g (expression_view y)) (λ w. tested t v w) (λ z. tests_given z ts)) ∙ ap (λ r. r >>= λ z. tests_given z ts) h
 
-  pub next_index : (v : Datum) (y : Expression) (ss : List (Suffix Expression)) (w : Datum) → given s g (expression_view y) ≡ Ok w
-      → suffixes_given v (suffix.Index y ∷ ss) ≡ (indexed g v w >>= λ u. suffixes_given u ss)
-  next_index v y ss w h = ap (λ r. r >>= λ u. indexed g v u >>= λ z. suffixes_given z ss) h
+  pub failed_text_test : (v : Datum) (t : TextTest) (y : Expression) (ts : List (Test Expression)) (e : Fault) → given_text_test s g v t (expression_view y) ≡ Err e
+      → tests_given v (test.Text t y ∷ ts) ≡ Err e
+  failed_text_test v t y ts e h = sym (in_turn (given s g (expression_view y)) (λ w. tested t v w) (λ z. tests_given z ts)) ∙ ap (λ r. r >>= λ z. tests_given z ts) h
+
+  pub next_index : (v : Datum) (y : Expression) (ss : List (Suffix Expression)) (u : Datum) → given_index s g v (expression_view y) ≡ Ok u
+      → suffixes_given v (suffix.Index y ∷ ss) ≡ suffixes_given u ss
+  next_index v y ss u h = sym (in_turn (given s g (expression_view y)) (λ w. indexed g v w) (λ z. suffixes_given z ss)) ∙ ap (λ r. r >>= λ z. suffixes_given z ss) h
+
+  pub failed_index : (v : Datum) (y : Expression) (ss : List (Suffix Expression)) (e : Fault) → given_index s g v (expression_view y) ≡ Err e
+      → suffixes_given v (suffix.Index y ∷ ss) ≡ Err e
+  failed_index v y ss e h = sym (in_turn (given s g (expression_view y)) (λ w. indexed g v w) (λ z. suffixes_given z ss)) ∙ ap (λ r. r >>= λ z. suffixes_given z ss) h
+
+  -- what the expressions that are made of others give, behind their first part
+  pub of_call : (n : Name) (star distinct : Bool) (xs : Vec Expression Global) → given s g (expression_view (expression.Call n star distinct xs)) ≡ given_call s g (string_bytes n.text) (expressions_of (map expression_view xs.items))
+  of_call n star distinct xs = ap (λ e. given s g e) (call_is n star distinct xs)
+
+  pub of_chain : (x : Box Expression Global) (os : Vec (Operator × Expression) Global) (v : Datum) → given s g (expression_view x.value) ≡ Ok v
+      → given s g (expression_view (expression.Chain x os)) ≡ given_chained s g v (operands_of (map operand_view os.items))
+  of_chain x os v h = ap (λ e. given s g e) (chain_is x os) ∙ ap (λ r. r >>= λ u. given_chained s g u (operands_of (map operand_view os.items))) h
+
+  pub of_suffixes : (x : Box Expression Global) (ss : Vec (Suffix Expression) Global) (ls : Vec Name Global) (v : Datum) → given s g (expression_view x.value) ≡ Ok v
+      → given s g (expression_view (expression.Suffixes x ss ls)) ≡ given_reads s g v (suffixes_of (map suffix_view ss.items)) (names_view ls.items)
+  of_suffixes x ss ls v h = ap (λ e. given s g e) (suffixes_is x ss ls) ∙ ap (λ r. r >>= λ u. given_reads s g u (suffixes_of (map suffix_view ss.items)) (names_view ls.items)) h
+
+  module _ (subject : Option (Box Expression Global)) (ws : Vec (Expression × Expression) Global) (otherwise : Option (Box Expression Global)) (v : Option Datum) (h : given_perhaps s g (perhaps_view subject) ≡ Ok v) where
+    in_case : given s g (expression_view (expression.Case subject ws otherwise)) ≡ (true_of v ws.items >>= λ o. given_otherwise s g o (perhaps_view otherwise))
+    in_case = ap (λ e. given s g e) (case_is subject ws otherwise) ∙ ap (λ r. r >>= λ u. true_of u ws.items >>= λ o. given_otherwise s g o (perhaps_view otherwise)) h
+
+    pub of_case : (o : Option Datum) → true_of v ws.items ≡ Ok o → given s g (expression_view (expression.Case subject ws otherwise)) ≡ given_otherwise s g o (perhaps_view otherwise)
+    of_case o k = in_case ∙ ap (λ r. r >>= λ z. given_otherwise s g z (perhaps_view otherwise)) k
+
+    pub failed_case : (e : Fault) → true_of v ws.items ≡ Err e → given s g (expression_view (expression.Case subject ws otherwise)) ≡ Err e
+    failed_case e k = in_case ∙ ap (λ r. r >>= λ z. given_otherwise s g z (perhaps_view otherwise)) k
+
+-- one answer in the place of an equal one
+pub ok_by : {X : Type 0} (result : Result X Fault) (seen : X → Datum) {a b : Answer} → a ≡ b → IfOk result (λ x. b ≡ Ok (seen x)) → IfOk result (λ x. a ≡ Ok (seen x))
+ok_by result seen same h = subst (λ (r : Answer). IfOk result (λ x. r ≡ Ok (seen x))) (sym same) h
+
+pub err_by : {X : Type 0} (result : Result X Fault) {a b : Answer} → a ≡ b → IfErr result (λ e. e ≢ OutOfMemory → b ≡ Err e) → IfErr result (λ e. e ≢ OutOfMemory → a ≡ Err e)
+err_by result same h = subst (λ (r : Answer). IfErr result (λ e. e ≢ OutOfMemory → r ≡ Err e)) (sym same) h
+
+pub ruleset coalescing = (next_null, next_given)
+
+pub ruleset choosing = (next_unmet, failed_when, met_value, met_fault, next_unknown)
+
+pub ruleset testing = (next_text_test, failed_text_test)
+
+pub ruleset reading = (next_index, failed_index)

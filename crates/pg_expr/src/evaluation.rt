@@ -1,29 +1,422 @@
-//! What an expression gives at a row.
-ghost use Rattle.std.specs.Prelude.{map};
+//! What an expression gives at a row: operands left to right, and the first fault decides.
+ghost use Rattle.std.specs.Prelude.{◌≡◌, ◌≢◌, IfOk, IfErr, Ok, Err, map, option_map, string_bytes};
+ghost use Rattle.pg_expr.specs.Calls.{given_call};
 ghost use Rattle.pg_expr.specs.Prepared.{tree_of};
+ghost use Rattle.pg_expr.specs.Sites.{found_view, founds_view, pairs_view, given, given_each, given_map, given_first, given_perhaps, given_otherwise, given_true, given_chain, given_chained, given_compared, given_operands, given_text_test, given_tests, given_index, given_reads};
 ghost use Rattle.pg_meaning.specs.Expressions.{evaluate};
+ghost use Rattle.pg_meaning.specs.Parse.{expressions_of, operands_of, pairs_of, whens_of};
+ghost use Rattle.pg_meaning.specs.Tree as tree;
+ghost use Rattle.pg_meaning.specs.declared.fault.Fault.TheVariants.{OutOfMemory};
 ghost use Rattle.pg_rows.specs.Named.{row_of};
+ghost use Rattle.pg_syntax_tree.specs.View.{expression_view, pair_view, when_view, operand_view, test_view, tests_of, suffix_view, suffixes_of, perhaps_view, names_view};
 ghost use Rattle.pg_value_core.specs.Given.{parameters_view};
 ghost use Rattle.pg_value_core.specs.Gives.{Gives};
 ghost use Rattle.pg_value_core.specs.View.{view};
 
+use crate::atoms::{literal_value, parameter, variable};
+use crate::calls::{applied, call_fault, is_coalesce, is_null};
+use crate::made::{list_of, map_of, put};
+use crate::operators::{
+    all_compared, all_signed, begins_comparison, combined, is_chosen, negated, null_tested, tested,
+};
 use crate::prepared::Prepared;
+use crate::reads::{index, labels, property};
+use crate::site::{Found, Site, null, or_null};
 use pg_graph::Tables;
+use pg_meaning::{Operator, TextTest};
 use pg_rows::Columns;
+use pg_scope::function_named;
 use pg_store::Snapshot;
+use pg_syntax_tree::{Expression, Name, Suffix, Test};
+use pg_value::value_of;
 use pg_value_core::{Fault, Parameters, Value};
 use std::alloc::Global;
+use std::collections::BTreeMap;
 
 /// The value of an expression at a row of a graph, or its first fault.
 pub fn evaluate<T: Tables>(
-    _alloc: Global,
-    _prepared: &Prepared<'_>,
-    _names: &Columns,
-    _row: &[Value],
-    _parameters: &Parameters,
-    _graph: &Snapshot<'_, T>,
+    alloc: Global,
+    prepared: &Prepared<'_>,
+    names: &Columns,
+    row: &[Value],
+    parameters: &Parameters,
+    graph: &Snapshot<'_, T>,
 ) -> Result<Value, Fault>
-    ensures { Gives result (evaluate (row_of _names.now (map view _row.now)) (parameters_view _parameters.now) _graph.now (tree_of _names.now _prepared.now)) view }
+    ensures { Gives result (evaluate (row_of names.now (map view row.now)) (parameters_view parameters.now) graph.now (tree_of names.now prepared.now)) view }
 {
-    Err(Fault::OutOfMemory)
+    let site = Site {
+        alloc,
+        names,
+        row,
+        parameters,
+    };
+    let found = find(&site, graph, prepared.tree)?;
+    Ok(found.take(alloc)?)
+}
+
+/// What an expression gives, which is lent where it stands somewhere.
+#[cycle(find)]
+#[tactic(auto, using(pg_syntax_tree::proofs::Views::map_is, pg_syntax_tree::proofs::Views::call_is, pg_syntax_tree::proofs::Views::case_is, pg_syntax_tree::proofs::Views::chain_is, pg_syntax_tree::proofs::Views::negation_is, pg_syntax_tree::proofs::Views::signs_is, pg_syntax_tree::proofs::Views::tests_is, pg_syntax_tree::proofs::Views::suffixes_is))]
+pub(crate) fn find<'a, T: Tables>(
+    site: &Site<'a>,
+    graph: &Snapshot<'a, T>,
+    expression: &Expression,
+) -> Result<Found<'a>, Fault>
+    ensures ok { IfOk result (λ f. given site.now graph.now (expression_view expression.now) ≡ Ok (found_view f)) }
+    ensures err { IfErr result (λ e. e ≢ OutOfMemory → given site.now graph.now (expression_view expression.now) ≡ Err e) }
+{
+    match expression {
+        Expression::Literal(literal) => Ok(Found::Made(literal_value(site.alloc, literal)?)),
+        Expression::Parameter(name) => parameter(site, name.text.as_str()),
+        Expression::Variable(name) => variable(site, name.text.as_str()),
+        Expression::ListLiteral(items) => list(site, graph, items),
+        Expression::MapLiteral(pairs) => mapping(site, graph, pairs),
+        Expression::Parentheses(inner) => find(site, graph, inner),
+        Expression::Call(name, _, _, arguments) => call(site, graph, name, arguments),
+        Expression::Case(subject, whens, otherwise) => {
+            let subject = perhaps(site, graph, subject)?;
+            let chosen = choose(site, graph, subject, whens)?;
+            or_otherwise(site, graph, chosen, otherwise)
+        }
+        Expression::Chain(first, operands) => {
+            let found = find(site, graph, first)?;
+            chain(site, graph, found, operands)
+        }
+        Expression::Negation(count, inner) => negation(site, graph, *count, inner),
+        Expression::Signs(signs, inner) => signed(site, graph, signs, inner),
+        Expression::Tests(inner, tests) => {
+            let found = find(site, graph, inner)?;
+            pass_tests(site, graph, found, tests)
+        }
+        Expression::Suffixes(inner, suffixes, names) => {
+            let found = find(site, graph, inner)?;
+            read(site, graph, found, suffixes, names)
+        }
+    }
+}
+
+#[cycle(find)]
+fn list<'a, T: Tables>(
+    site: &Site<'a>,
+    graph: &Snapshot<'a, T>,
+    items: &Vec<Expression>,
+) -> Result<Found<'a>, Fault>
+    ensures ok { IfOk result (λ f. given site.now graph.now (tree.list_literal (expressions_of (map expression_view items.now.items))) ≡ Ok (found_view f)) }
+    ensures err { IfErr result (λ e. e ≢ OutOfMemory → given site.now graph.now (tree.list_literal (expressions_of (map expression_view items.now.items))) ≡ Err e) }
+{
+    let found = each(site, graph, items)?;
+    list_of(site.alloc, found)
+}
+
+#[cycle(find)]
+fn each<'a, T: Tables>(
+    site: &Site<'a>,
+    graph: &Snapshot<'a, T>,
+    items: &Vec<Expression>,
+) -> Result<Vec<Found<'a>>, Fault>
+    ensures ok { IfOk result (λ fs. given_each site.now graph.now (expressions_of (map expression_view items.now.items)) ≡ Ok (founds_view fs.items)) }
+    ensures err { IfErr result (λ e. e ≢ OutOfMemory → given_each site.now graph.now (expressions_of (map expression_view items.now.items)) ≡ Err e) }
+{
+    let mut found = Vec::with_capacity(site.alloc, items.len())?;
+    for item in items {
+        let next = find(site, graph, item)?;
+        found.push(next)?;
+    }
+    Ok(found)
+}
+
+/// Of a key twice the later value stays.
+#[cycle(find)]
+#[tactic(auto, using(crate::proofs::Walks::next_pair))]
+fn mapping<'a, T: Tables>(
+    site: &Site<'a>,
+    graph: &Snapshot<'a, T>,
+    pairs: &Vec<(Name, Expression)>,
+) -> Result<Found<'a>, Fault>
+    ensures ok { IfOk result (λ f. given_map site.now graph.now (pairs_of (map pair_view pairs.now.items)) ≡ Ok (found_view f)) }
+    ensures err { IfErr result (λ e. e ≢ OutOfMemory → given_map site.now graph.now (pairs_of (map pair_view pairs.now.items)) ≡ Err e) }
+{
+    let mut entries = BTreeMap::new(site.alloc);
+    for (key, value) in pairs {
+        let next = find(site, graph, value)?;
+        entries = put(site.alloc, entries, key, next)?;
+    }
+    map_of(entries)
+}
+
+#[cycle(find)]
+fn call<'a, T: Tables>(
+    site: &Site<'a>,
+    graph: &Snapshot<'a, T>,
+    name: &Name,
+    arguments: &Vec<Expression>,
+) -> Result<Found<'a>, Fault>
+    ensures ok { IfOk result (λ f. given_call site.now graph.now (string_bytes name.now.text) (expressions_of (map expression_view arguments.now.items)) ≡ Ok (found_view f)) }
+    ensures err { IfErr result (λ e. e ≢ OutOfMemory → given_call site.now graph.now (string_bytes name.now.text) (expressions_of (map expression_view arguments.now.items)) ≡ Err e) }
+{
+    let Some(function) = function_named(name.text.as_str()) else {
+        return Err(call_fault(name.text.as_str()));
+    };
+    if is_coalesce(function) {
+        return first_given(site, graph, arguments);
+    }
+    let found = each(site, graph, arguments)?;
+    applied(site.alloc, graph, function, found)
+}
+
+/// The first that isn't null, and the rest isn't evaluated.
+#[cycle(find)]
+#[tactic(auto, using(crate::proofs::Walks::coalescing))]
+fn first_given<'a, T: Tables>(
+    site: &Site<'a>,
+    graph: &Snapshot<'a, T>,
+    items: &Vec<Expression>,
+) -> Result<Found<'a>, Fault>
+    ensures ok { IfOk result (λ f. given_first site.now graph.now (expressions_of (map expression_view items.now.items)) ≡ Ok (found_view f)) }
+    ensures err { IfErr result (λ e. e ≢ OutOfMemory → given_first site.now graph.now (expressions_of (map expression_view items.now.items)) ≡ Err e) }
+{
+    for item in items {
+        let next = find(site, graph, item)?;
+        if !is_null(&next) {
+            return Ok(next);
+        }
+    }
+    Ok(null())
+}
+
+#[cycle(find)]
+fn perhaps<'a, T: Tables>(
+    site: &Site<'a>,
+    graph: &Snapshot<'a, T>,
+    expression: &Option<Box<Expression>>,
+) -> Result<Option<Found<'a>>, Fault>
+    ensures ok { IfOk result (λ o. given_perhaps site.now graph.now (perhaps_view expression.now) ≡ Ok (option_map found_view o)) }
+    ensures err { IfErr result (λ e. e ≢ OutOfMemory → given_perhaps site.now graph.now (perhaps_view expression.now) ≡ Err e) }
+{
+    match expression {
+        Some(inner) => Ok(Some(find(site, graph, inner)?)),
+        None => Ok(None),
+    }
+}
+
+#[cycle(find)]
+fn choose<'a, T: Tables>(
+    site: &Site<'a>,
+    graph: &Snapshot<'a, T>,
+    subject: Option<Found<'a>>,
+    whens: &Vec<(Expression, Expression)>,
+) -> Result<Option<Found<'a>>, Fault>
+    ensures ok { IfOk result (λ o. given_true site.now graph.now (option_map found_view subject.entry) (whens_of (map when_view whens.now.items)) ≡ Ok (option_map found_view o)) }
+    ensures err { IfErr result (λ e. e ≢ OutOfMemory → given_true site.now graph.now (option_map found_view subject.entry) (whens_of (map when_view whens.now.items)) ≡ Err e) }
+{
+    first_true(site, graph, &subject, whens)
+}
+
+/// The result behind the first true condition alone.
+#[cycle(find)]
+#[tactic(auto, using(crate::proofs::Walks::choosing))]
+fn first_true<'a, T: Tables>(
+    site: &Site<'a>,
+    graph: &Snapshot<'a, T>,
+    subject: &Option<Found<'a>>,
+    whens: &Vec<(Expression, Expression)>,
+) -> Result<Option<Found<'a>>, Fault>
+    ensures ok { IfOk result (λ o. given_true site.now graph.now (option_map found_view subject.now) (whens_of (map when_view whens.now.items)) ≡ Ok (option_map found_view o)) }
+    ensures err { IfErr result (λ e. e ≢ OutOfMemory → given_true site.now graph.now (option_map found_view subject.now) (whens_of (map when_view whens.now.items)) ≡ Err e) }
+{
+    for (condition, value) in whens {
+        let tested = find(site, graph, condition)?;
+        if is_chosen(subject, tested)? {
+            return Ok(Some(find(site, graph, value)?));
+        }
+    }
+    Ok(None)
+}
+
+/// What was chosen, else what ELSE gives, else null.
+#[cycle(find)]
+fn or_otherwise<'a, T: Tables>(
+    site: &Site<'a>,
+    graph: &Snapshot<'a, T>,
+    chosen: Option<Found<'a>>,
+    otherwise: &Option<Box<Expression>>,
+) -> Result<Found<'a>, Fault>
+    ensures ok { IfOk result (λ f. given_otherwise site.now graph.now (option_map found_view chosen.entry) (perhaps_view otherwise.now) ≡ Ok (found_view f)) }
+    ensures err { IfErr result (λ e. e ≢ OutOfMemory → given_otherwise site.now graph.now (option_map found_view chosen.entry) (perhaps_view otherwise.now) ≡ Err e) }
+{
+    if let Some(found) = chosen {
+        return Ok(found);
+    }
+    let found = perhaps(site, graph, otherwise)?;
+    Ok(or_null(found))
+}
+
+#[cycle(find)]
+fn chain<'a, T: Tables>(
+    site: &Site<'a>,
+    graph: &Snapshot<'a, T>,
+    first: Found<'a>,
+    operands: &Vec<(Operator, Expression)>,
+) -> Result<Found<'a>, Fault>
+    ensures ok { IfOk result (λ f. given_chained site.now graph.now (found_view first.entry) (operands_of (map operand_view operands.now.items)) ≡ Ok (found_view f)) }
+    ensures err { IfErr result (λ e. e ≢ OutOfMemory → given_chained site.now graph.now (found_view first.entry) (operands_of (map operand_view operands.now.items)) ≡ Err e) }
+{
+    if begins_comparison(operands) {
+        compared(site, graph, first, operands)
+    } else {
+        joined(site, graph, first, operands)
+    }
+}
+
+/// A chain of logic or arithmetic groups to the left.
+#[cycle(find)]
+fn joined<'a, T: Tables>(
+    site: &Site<'a>,
+    graph: &Snapshot<'a, T>,
+    first: Found<'a>,
+    operands: &Vec<(Operator, Expression)>,
+) -> Result<Found<'a>, Fault>
+    ensures ok { IfOk result (λ f. given_chain site.now graph.now (found_view first.entry) (operands_of (map operand_view operands.now.items)) ≡ Ok (found_view f)) }
+    ensures err { IfErr result (λ e. e ≢ OutOfMemory → given_chain site.now graph.now (found_view first.entry) (operands_of (map operand_view operands.now.items)) ≡ Err e) }
+{
+    let mut left = first;
+    for (operator, operand) in operands {
+        let right = find(site, graph, operand)?;
+        left = combined(site.alloc, *operator, left, right)?;
+    }
+    Ok(left)
+}
+
+/// A chain of comparisons evaluates all its operands first.
+#[cycle(find)]
+fn compared<'a, T: Tables>(
+    site: &Site<'a>,
+    graph: &Snapshot<'a, T>,
+    first: Found<'a>,
+    operands: &Vec<(Operator, Expression)>,
+) -> Result<Found<'a>, Fault>
+    ensures ok { IfOk result (λ f. given_compared site.now graph.now (found_view first.entry) (operands_of (map operand_view operands.now.items)) ≡ Ok (found_view f)) }
+    ensures err { IfErr result (λ e. e ≢ OutOfMemory → given_compared site.now graph.now (found_view first.entry) (operands_of (map operand_view operands.now.items)) ≡ Err e) }
+{
+    let others = each_operand(site, graph, operands)?;
+    let truth = all_compared(&first, &others)?;
+    Ok(Found::Made(value_of(truth)))
+}
+
+#[cycle(find)]
+fn each_operand<'a, T: Tables>(
+    site: &Site<'a>,
+    graph: &Snapshot<'a, T>,
+    operands: &Vec<(Operator, Expression)>,
+) -> Result<Vec<(Operator, Found<'a>)>, Fault>
+    ensures ok { IfOk result (λ ps. given_operands site.now graph.now (operands_of (map operand_view operands.now.items)) ≡ Ok (pairs_view ps.items)) }
+    ensures err { IfErr result (λ e. e ≢ OutOfMemory → given_operands site.now graph.now (operands_of (map operand_view operands.now.items)) ≡ Err e) }
+{
+    let mut found = Vec::with_capacity(site.alloc, operands.len())?;
+    for (operator, operand) in operands {
+        let next = find(site, graph, operand)?;
+        found.push((*operator, next))?;
+    }
+    Ok(found)
+}
+
+#[cycle(find)]
+fn negation<'a, T: Tables>(
+    site: &Site<'a>,
+    graph: &Snapshot<'a, T>,
+    count: usize,
+    inner: &Expression,
+) -> Result<Found<'a>, Fault>
+    ensures ok { IfOk result (λ f. given site.now graph.now (tree.negation count (expression_view inner.now)) ≡ Ok (found_view f)) }
+    ensures err { IfErr result (λ e. e ≢ OutOfMemory → given site.now graph.now (tree.negation count (expression_view inner.now)) ≡ Err e) }
+{
+    let found = find(site, graph, inner)?;
+    negated(count, found)
+}
+
+#[cycle(find)]
+fn signed<'a, T: Tables>(
+    site: &Site<'a>,
+    graph: &Snapshot<'a, T>,
+    signs: &Vec<bool>,
+    inner: &Expression,
+) -> Result<Found<'a>, Fault>
+    ensures ok { IfOk result (λ f. given site.now graph.now (tree.signs signs.now.items (expression_view inner.now)) ≡ Ok (found_view f)) }
+    ensures err { IfErr result (λ e. e ≢ OutOfMemory → given site.now graph.now (tree.signs signs.now.items (expression_view inner.now)) ≡ Err e) }
+{
+    let found = find(site, graph, inner)?;
+    all_signed(signs, found)
+}
+
+#[cycle(find)]
+#[tactic(auto, using(crate::proofs::Walks::testing))]
+fn pass_tests<'a, T: Tables>(
+    site: &Site<'a>,
+    graph: &Snapshot<'a, T>,
+    first: Found<'a>,
+    tests: &Vec<Test<Expression>>,
+) -> Result<Found<'a>, Fault>
+    ensures ok { IfOk result (λ f. given_tests site.now graph.now (found_view first.entry) (tests_of (map test_view tests.now.items)) ≡ Ok (found_view f)) }
+    ensures err { IfErr result (λ e. e ≢ OutOfMemory → given_tests site.now graph.now (found_view first.entry) (tests_of (map test_view tests.now.items)) ≡ Err e) }
+{
+    let mut found = first;
+    for test in tests {
+        found = match test {
+            Test::Text(test, operand) => text_tested(site, graph, found, *test, operand)?,
+            Test::IsNull(is_negated) => null_tested(*is_negated, found),
+        };
+    }
+    Ok(found)
+}
+
+#[cycle(find)]
+fn text_tested<'a, T: Tables>(
+    site: &Site<'a>,
+    graph: &Snapshot<'a, T>,
+    found: Found<'a>,
+    test: TextTest,
+    operand: &Expression,
+) -> Result<Found<'a>, Fault>
+    ensures ok { IfOk result (λ f. given_text_test site.now graph.now (found_view found.entry) test (expression_view operand.now) ≡ Ok (found_view f)) }
+    ensures err { IfErr result (λ e. e ≢ OutOfMemory → given_text_test site.now graph.now (found_view found.entry) test (expression_view operand.now) ≡ Err e) }
+{
+    let right = find(site, graph, operand)?;
+    tested(test, &found, &right)
+}
+
+/// Properties and indexes one behind the other, then labels.
+#[cycle(find)]
+#[tactic(auto, using(crate::proofs::Walks::reading))]
+fn read<'a, T: Tables>(
+    site: &Site<'a>,
+    graph: &Snapshot<'a, T>,
+    first: Found<'a>,
+    suffixes: &Vec<Suffix<Expression>>,
+    names: &Vec<Name>,
+) -> Result<Found<'a>, Fault>
+    ensures ok { IfOk result (λ f. given_reads site.now graph.now (found_view first.entry) (suffixes_of (map suffix_view suffixes.now.items)) (names_view names.now.items) ≡ Ok (found_view f)) }
+    ensures err { IfErr result (λ e. e ≢ OutOfMemory → given_reads site.now graph.now (found_view first.entry) (suffixes_of (map suffix_view suffixes.now.items)) (names_view names.now.items) ≡ Err e) }
+{
+    let mut found = first;
+    for suffix in suffixes {
+        found = match suffix {
+            Suffix::Property(key) => property(graph, found, key.text.as_str())?,
+            Suffix::Index(place) => indexed(site, graph, found, place)?,
+        };
+    }
+    labels(graph, found, names)
+}
+
+#[cycle(find)]
+fn indexed<'a, T: Tables>(
+    site: &Site<'a>,
+    graph: &Snapshot<'a, T>,
+    found: Found<'a>,
+    place: &Expression,
+) -> Result<Found<'a>, Fault>
+    ensures ok { IfOk result (λ f. given_index site.now graph.now (found_view found.entry) (expression_view place.now) ≡ Ok (found_view f)) }
+    ensures err { IfErr result (λ e. e ≢ OutOfMemory → given_index site.now graph.now (found_view found.entry) (expression_view place.now) ≡ Err e) }
+{
+    let at = find(site, graph, place)?;
+    index(site.alloc, graph, found, at.look())
 }

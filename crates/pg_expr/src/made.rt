@@ -1,16 +1,19 @@
 //! What an expression makes, within the limits of weight and depth.
-ghost use Rattle.std.specs.Prelude.{◌≡◌, ◌≢◌, ◌^◌, ◌-◌, min, IfOk, IfErr, Ok, Err};
+ghost use Rattle.std.specs.Prelude.{◌≡◌, ◌≢◌, ◌^◌, ◌-◌, min, IfOk, IfErr, Ok, Err, string_bytes};
 ghost use Rattle.pg_expr.specs.Sites.{found_view, founds_view};
+ghost use Rattle.pg_meaning.specs.Entries.{put};
 ghost use Rattle.pg_meaning.specs.Measure.{made, is_within_limits, items_weight, items_depth};
-ghost use Rattle.pg_meaning.specs.Value.{list};
+ghost use Rattle.pg_meaning.specs.Value.{list, mapping};
 ghost use Rattle.pg_meaning.specs.declared.fault.Fault.TheVariants.{OutOfMemory};
-ghost use Rattle.pg_value_core.specs.View.{values_view};
+ghost use Rattle.pg_value_core.specs.View.{values_view, entries_view};
 
 use crate::site::Found;
 use pg_expr_calls::is_within_limits;
+use pg_syntax_tree::Name;
 use pg_value::{depth, weight};
 use pg_value_core::{Fault, Value};
 use std::alloc::{AllocError, Global};
+use std::collections::BTreeMap;
 
 const GREATEST_WEIGHT: u64 = 1_048_576;
 
@@ -76,4 +79,28 @@ fn take_all(alloc: Global, found: Vec<Found<'_>>) -> Result<Vec<Value>, AllocErr
         values.push(item.take(alloc)?)?;
     }
     Ok(values)
+}
+
+/// The entries with one more; of a key twice the later value stays.
+pub(crate) fn put(
+    alloc: Global,
+    entries: BTreeMap<String, Value>,
+    key: &Name,
+    found: Found<'_>,
+) -> Result<BTreeMap<String, Value>, AllocError>
+    ensures { IfOk result (λ m. entries_view m.entries ≡ put (string_bytes key.now.text) (found_view found.entry) (entries_view entries.entries)) }
+{
+    let mut entries = entries;
+    let value = found.take(alloc)?;
+    let name = String::from_str(alloc, key.text.as_str())?;
+    drop(entries.insert(name, value)?);
+    Ok(entries)
+}
+
+/// A map of what was found, where it is within the limits.
+pub(crate) fn map_of<'a>(entries: BTreeMap<String, Value>) -> Result<Found<'a>, Fault>
+    ensures ok { IfOk result (λ f. made (mapping (entries_view entries.entries)) ≡ Ok (found_view f)) }
+    ensures err { IfErr result (λ e. made (mapping (entries_view entries.entries)) ≡ Err e) }
+{
+    made(Found::Made(Value::Map(entries)))
 }

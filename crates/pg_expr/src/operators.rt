@@ -1,9 +1,10 @@
 //! What operators, signs and tests give at values that were found.
 ghost use Rattle.std.specs.Prelude.{◌≡◌, ◌≢◌, IfOk, IfErr, Ok, Err, map, option_map};
+ghost use Rattle.pg_expr.specs.Operators.{all_negated, is_chosen};
 ghost use Rattle.pg_expr.specs.Sites.{found_view, pairs_view};
 ghost use Rattle.pg_meaning.specs.Arithmetic.{plus, signed};
-ghost use Rattle.pg_meaning.specs.Expressions.{is_in as membership, combined, all_compared, begins_comparison, condition_of, is_comparison, tested, null_tested};
-ghost use Rattle.pg_meaning.specs.Logic.{is_true};
+ghost use Rattle.pg_meaning.specs.Expressions.{is_in as membership, combined, all_compared, all_signed, begins_comparison, condition_of, is_comparison, tested, null_tested};
+ghost use Rattle.pg_meaning.specs.Logic.{is_true, negated};
 ghost use Rattle.pg_meaning.specs.declared.fault.Fault.TheVariants.{OutOfMemory};
 ghost use Rattle.pg_meaning.specs.Parse.{operands_of};
 ghost use Rattle.pg_syntax_tree.specs.View.{operand_view};
@@ -13,7 +14,7 @@ use crate::site::Found;
 use pg_expr_calls as values;
 use pg_meaning::{Operator, TextTest};
 use pg_syntax_tree::Expression;
-use pg_value::{and, eq3, is_in, truth_of, value_of};
+use pg_value::{and, eq3, is_in, not, truth_of, value_of};
 use pg_value_core::{Fault, Tri, Value};
 use std::alloc::Global;
 
@@ -68,8 +69,15 @@ pub(crate) fn all_compared(
     Ok(all)
 }
 
-/// A condition of CASE: equal to the subject where there is one, else true itself.
-pub(crate) fn condition_of(subject: &Option<Found<'_>>, v: &Found<'_>) -> Result<Tri, Fault>
+/// Whether a condition of CASE is true: equal to the subject where there is one, else true itself.
+pub(crate) fn is_chosen(subject: &Option<Found<'_>>, v: Found<'_>) -> Result<bool, Fault>
+    ensures ok { IfOk result (λ b. is_chosen (option_map found_view subject.now) (found_view v.entry) ≡ Ok b) }
+    ensures err { IfErr result (λ e. is_chosen (option_map found_view subject.now) (found_view v.entry) ≡ Err e) }
+{
+    Ok(is_true(condition_of(subject, &v)?))
+}
+
+fn condition_of(subject: &Option<Found<'_>>, v: &Found<'_>) -> Result<Tri, Fault>
     ensures { result ≡ condition_of (option_map found_view subject.now) (found_view v.now) }
 {
     match subject {
@@ -102,8 +110,8 @@ fn member(v: &Value, w: &Value) -> Result<Value, Fault>
 }
 
 /// IS NULL, and IS NOT NULL where it is negated.
-pub(crate) fn null_tested<'a>(is_negated: bool, v: &Found<'_>) -> Found<'a>
-    ensures { found_view result ≡ null_tested is_negated (found_view v.now) }
+pub(crate) fn null_tested<'a>(is_negated: bool, v: Found<'_>) -> Found<'a>
+    ensures { found_view result ≡ null_tested is_negated (found_view v.entry) }
 {
     if is_negated {
         Found::Made(values::is_not_null(v.look()))
@@ -112,8 +120,41 @@ pub(crate) fn null_tested<'a>(is_negated: bool, v: &Found<'_>) -> Found<'a>
     }
 }
 
-/// One sign before a value; true is a minus.
-pub(crate) fn with_sign(is_minus: bool, v: &Value) -> Result<Value, Fault>
+/// NOT, so many times.
+pub(crate) fn negated<'a>(count: usize, v: Found<'_>) -> Result<Found<'a>, Fault>
+    ensures ok { IfOk result (λ f. all_negated count (found_view v.entry) ≡ Ok (found_view f)) }
+    ensures err { IfErr result (λ e. all_negated count (found_view v.entry) ≡ Err e) }
+{
+    let truth = truth_of(v.look())?;
+    Ok(Found::Made(value_of(turned(count, truth))))
+}
+
+fn turned(count: usize, t: Tri) -> Tri
+    ensures { result ≡ negated count t }
+{
+    let mut turned = t;
+    for _k in 0..count {
+        turned = not(turned);
+    }
+    turned
+}
+
+/// The signs before a value, the last one first.
+#[tactic(auto, using(crate::proofs::Comparisons::last_sign))]
+pub(crate) fn all_signed<'a>(signs: &Vec<bool>, v: Found<'a>) -> Result<Found<'a>, Fault>
+    ensures ok { IfOk result (λ f. all_signed signs.now.items (found_view v.entry) ≡ Ok (found_view f)) }
+    ensures err { IfErr result (λ e. all_signed signs.now.items (found_view v.entry) ≡ Err e) }
+{
+    let mut signed = v;
+    let mut left = signs.as_slice();
+    while let Some((sign, before)) = left.split_last() {
+        signed = Found::Made(with_sign(*sign, signed.look())?);
+        left = before;
+    }
+    Ok(signed)
+}
+
+fn with_sign(is_minus: bool, v: &Value) -> Result<Value, Fault>
     ensures ok { IfOk result (λ u. signed is_minus (view v.now) ≡ Ok (view u)) }
     ensures err { IfErr result (λ e. signed is_minus (view v.now) ≡ Err e) }
 {

@@ -1,5 +1,6 @@
 mod configurations;
 mod devices;
+mod parameters;
 mod queries;
 mod runs;
 mod servers;

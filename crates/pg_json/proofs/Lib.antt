@@ -1,6 +1,8 @@
 pub mod Codes
+pub mod Converting
 pub mod Digits
 pub mod Elements
+pub mod Given
 pub mod Members
 pub mod Reading
 pub mod Strangers

@@ -1,37 +1,63 @@
--- Members that are texts at the keys of a request.
+-- Members that are texts and parameters at the keys of a request.
 use Rattle.std.proofs.Common.{◌≡◌, ℕ, List, Bool, true, false, cond, Option, Some, None, option_map, refl}
 use Rattle.std.proofs.lemmas.Slice.Eq.{bytes_eq-Decides}
 use Rattle.std.specs.Prelude.{codes}
 use Rattle.std.specs.Str.{bytes_eq}
 use Rattle.serde_json.specs.Data.{object, string, put}
-use Rattle.pg_json.specs.Fields.{members_of_texts, members_with, asked, asked_with}
+use Rattle.pg_meaning.specs.Value.{Entries}
+use Rattle.pg_json.proofs.Given.{parameters_back}
+use Rattle.pg_json.specs.Fields.{members_of_fields, members_with, object_giving, parameters_of, HaveDepth, asked, asked_with}
 use Rattle.pg_json.specs.declared.fields.Fields.{Fields}
 use Rattle.pg_json.specs.Requests.{request_of}
 
-pub put_op : (s : List ℕ) (op text token : Option (List ℕ)) → put (codes "op") (string s) (members_of_texts op text token) ≡ members_of_texts (Some s) text token
-put_op s None None None = refl
-put_op s None None (Some c) = refl
-put_op s None (Some b) None = refl
-put_op s None (Some b) (Some c) = refl
-put_op s (Some a) text token = refl
+pub put_op : (s : List ℕ) (op : Option (List ℕ)) (ps : Option Entries) (text token : Option (List ℕ)) → put (codes "op") (string s) (members_of_fields op ps text token) ≡ members_of_fields (Some s) ps text token
+put_op s None None None None = refl
+put_op s None None None (Some c) = refl
+put_op s None None (Some b) token = refl
+put_op s None (Some p) text token = refl
+put_op s (Some a) ps text token = refl
 
-pub put_text : (s : List ℕ) (op text token : Option (List ℕ)) → put (codes "text") (string s) (members_of_texts op text token) ≡ members_of_texts op (Some s) token
-put_text s None None None = refl
-put_text s None None (Some c) = refl
-put_text s None (Some b) token = refl
-put_text s (Some a) None None = refl
-put_text s (Some a) None (Some c) = refl
-put_text s (Some a) (Some b) token = refl
+pub put_params : (es : Entries) (op : Option (List ℕ)) (ps : Option Entries) (text token : Option (List ℕ)) → put (codes "params") (object_giving es) (members_of_fields op ps text token) ≡ members_of_fields op (Some es) text token
+put_params es None None None None = refl
+put_params es None None None (Some c) = refl
+put_params es None None (Some b) token = refl
+put_params es None (Some p) text token = refl
+put_params es (Some a) None None None = refl
+put_params es (Some a) None None (Some c) = refl
+put_params es (Some a) None (Some b) token = refl
+put_params es (Some a) (Some p) text token = refl
 
-pub put_token : (s : List ℕ) (op text token : Option (List ℕ)) → put (codes "token") (string s) (members_of_texts op text token) ≡ members_of_texts op text (Some s)
-put_token s None None None = refl
-put_token s None None (Some c) = refl
-put_token s None (Some b) None = refl
-put_token s None (Some b) (Some c) = refl
-put_token s (Some a) None None = refl
-put_token s (Some a) None (Some c) = refl
-put_token s (Some a) (Some b) None = refl
-put_token s (Some a) (Some b) (Some c) = refl
+pub put_text : (s : List ℕ) (op : Option (List ℕ)) (ps : Option Entries) (text token : Option (List ℕ)) → put (codes "text") (string s) (members_of_fields op ps text token) ≡ members_of_fields op ps (Some s) token
+put_text s None None None None = refl
+put_text s None None None (Some c) = refl
+put_text s None None (Some b) token = refl
+put_text s None (Some p) None None = refl
+put_text s None (Some p) None (Some c) = refl
+put_text s None (Some p) (Some b) token = refl
+put_text s (Some a) None None None = refl
+put_text s (Some a) None None (Some c) = refl
+put_text s (Some a) None (Some b) token = refl
+put_text s (Some a) (Some p) None None = refl
+put_text s (Some a) (Some p) None (Some c) = refl
+put_text s (Some a) (Some p) (Some b) token = refl
+
+pub put_token : (s : List ℕ) (op : Option (List ℕ)) (ps : Option Entries) (text token : Option (List ℕ)) → put (codes "token") (string s) (members_of_fields op ps text token) ≡ members_of_fields op ps text (Some s)
+put_token s None None None None = refl
+put_token s None None None (Some c) = refl
+put_token s None None (Some b) None = refl
+put_token s None None (Some b) (Some c) = refl
+put_token s None (Some p) None None = refl
+put_token s None (Some p) None (Some c) = refl
+put_token s None (Some p) (Some b) None = refl
+put_token s None (Some p) (Some b) (Some c) = refl
+put_token s (Some a) None None None = refl
+put_token s (Some a) None None (Some c) = refl
+put_token s (Some a) None (Some b) None = refl
+put_token s (Some a) None (Some b) (Some c) = refl
+put_token s (Some a) (Some p) None None = refl
+put_token s (Some a) (Some p) None (Some c) = refl
+put_token s (Some a) (Some p) (Some b) None = refl
+put_token s (Some a) (Some p) (Some b) (Some c) = refl
 
 abbrev pub either : {A : Type 0} → Bool → Bool → Option A → Option A
 either a b x = cond a x (cond b x x)
@@ -50,15 +76,23 @@ query_without_text : {A : Type 0} (op : List ℕ) (b : Bool) → bytes_eq op (co
 query_without_text op true is x = rw ((bytes_eq-Decides op (codes "query")).0 is) refl
 query_without_text op false is x = refl
 
-pub request_asked : (op text token : Option (List ℕ)) → request_of (object (members_of_texts op text token)) ≡ asked op text token
-request_asked None None None = refl
-request_asked None None (Some c) = refl
-request_asked None (Some b) None = refl
-request_asked None (Some b) (Some c) = refl
-request_asked (Some a) None None = same_either (bytes_eq a (codes "query")) (bytes_eq a (codes "status")) None
-request_asked (Some a) (Some b) None = same_either (bytes_eq a (codes "query")) (bytes_eq a (codes "status")) None
-request_asked (Some a) None (Some c) = query_without_text a (bytes_eq a (codes "query")) refl _
-request_asked (Some a) (Some b) (Some c) = same_refused (bytes_eq a (codes "query")) (bytes_eq a (codes "status")) _
+pub request_asked : (op : Option (List ℕ)) (ps : Option Entries) (text token : Option (List ℕ)) → HaveDepth ps → request_of (object (members_of_fields op ps text token)) ≡ asked op ps text token
+request_asked None None None None h = refl
+request_asked None None None (Some c) h = refl
+request_asked None None (Some b) None h = refl
+request_asked None None (Some b) (Some c) h = refl
+request_asked None (Some p) None None h = refl
+request_asked None (Some p) None (Some c) h = refl
+request_asked None (Some p) (Some b) None h = refl
+request_asked None (Some p) (Some b) (Some c) h = refl
+request_asked (Some a) None None None h = same_either (bytes_eq a (codes "query")) (bytes_eq a (codes "status")) None
+request_asked (Some a) None (Some b) None h = same_either (bytes_eq a (codes "query")) (bytes_eq a (codes "status")) None
+request_asked (Some a) (Some p) None None h = same_either (bytes_eq a (codes "query")) (bytes_eq a (codes "status")) None
+request_asked (Some a) (Some p) (Some b) None h = same_either (bytes_eq a (codes "query")) (bytes_eq a (codes "status")) None
+request_asked (Some a) (Some p) None (Some c) h = same_either (bytes_eq a (codes "query")) (bytes_eq a (codes "status")) None
+request_asked (Some a) None None (Some c) h = query_without_text a (bytes_eq a (codes "query")) refl _
+request_asked (Some a) None (Some b) (Some c) h = same_refused (bytes_eq a (codes "query")) (bytes_eq a (codes "status")) _
+request_asked (Some a) (Some p) (Some b) (Some c) h = rw (parameters_back p h) (same_refused (bytes_eq a (codes "query")) (bytes_eq a (codes "status")) _)
 
-pub request_asked_with : (f : Fields) → request_of (object (members_with f)) ≡ asked_with f
-request_asked_with f = request_asked (option_map (λ s. s.now) f.op) (option_map (λ s. s.now) f.text) (option_map (λ s. s.now) f.token)
+pub request_asked_with : (f : Fields) → HaveDepth (parameters_of f) → request_of (object (members_with f)) ≡ asked_with f
+request_asked_with f h = request_asked (option_map (λ s. s.now) f.op) (parameters_of f) (option_map (λ s. s.now) f.text) (option_map (λ s. s.now) f.token) h

@@ -1,11 +1,14 @@
--- The members of an object, one after another, as serde_json takes them from the tokens.
-use Rattle.std.proofs.Common.{◌≡◌, ℕ, zero, suc, ◌-◌, ◌<◌, ◌≤◌, List, [], ◌∷◌, length, Option, Some, None, option_map, option_and_then, refl, ap, ◌∙◌}
+-- The items of an array and the members of an object, one after another, as serde_json takes them from the tokens.
+use Rattle.std.proofs.Common.{◌≡◌, ℕ, zero, suc, ◌-◌, ◌<◌, ◌≤◌, List, [], ◌∷◌, ◌++◌, length, Option, Some, None, option_map, option_and_then, refl, ap, ◌∙◌}
 use Rattle.json.specs.Token.{Token}
 use Rattle.json.specs.Json as json
-use Rattle.json.specs.Json.{Parse, parse_map, read_key, members, if_last}
-use Rattle.json.proofs.Grammar.{members_end, members_no_key, members_more}
-use Rattle.serde_json.specs.Data.{Data, object, Members, no_members, put}
-use Rattle.serde_json.specs.Read.{of_json, of_members, converted}
+use Rattle.json.specs.Json.{Parse, parse_map, after_end_array, read_key, items, members, if_last}
+use Rattle.json.proofs.Grammar.{items_end, items_more, members_end, members_no_key, members_more}
+use Rattle.serde_json.specs.Data.{Data, array, object, Items, no_items, item, Members, no_members, put}
+use Rattle.serde_json.specs.Read.{of_json, of_items, of_members, converted}
+use Rattle.pg_json.specs.Given.{data_giving, items_giving, AreGiven, IsGiven}
+use Rattle.pg_value_core.specs.View.{view, values_view}
+use Rattle.pg_value_core.specs.declared.value.Value.{Value}
 use Rattle.pg_json.specs.Fields.{AsksNothing}
 use Rattle.pg_json.specs.Requests.{request_of}
 
@@ -29,9 +32,17 @@ twice : {A B : Type 0} (g : A → B) (r : List Token) (x : Option A) → option_
 twice g r None = refl
 twice g r (Some a) = refl
 
+pub converted-array : (o : Option (json.Items × List Token)) → converted of_json (parse_map json.array o) ≡ parse_map array (converted of_items o)
+converted-array None = refl
+converted-array (Some p) = twice array p.1 (of_items p.0)
+
 pub converted-object : (o : Option (json.Members × List Token)) → converted of_json (parse_map json.object o) ≡ parse_map object (converted (λ ms. of_members ms no_members) o)
 converted-object None = refl
 converted-object (Some p) = twice object p.1 (of_members p.0 no_members)
+
+with_item : (j : json.Json) (d : Data) → of_json j ≡ Some d → (o : Option (json.Items × List Token)) → converted of_items (parse_map (json.item j) o) ≡ parse_map (item d) (converted of_items o)
+with_item j d e None = refl
+with_item j d e (Some p) = rw e (twice (item d) p.1 (of_items p.0))
 
 with_member : (k : List ℕ) (j : json.Json) (d : Data) (old : Members) → of_json j ≡ Some d → (o : Option (json.Members × List Token))
     → converted (λ ms. of_members ms old) (parse_map (json.member k j) o) ≡ converted (λ ms. of_members ms (put k d old)) o
@@ -41,6 +52,14 @@ with_member k j d old e (Some p) = rw e
 without_member : (k : List ℕ) (j : json.Json) (old : Members) → of_json j ≡ None → (o : Option (json.Members × List Token)) → converted (λ ms. of_members ms old) (parse_map (json.member k j) o) ≡ None
 without_member k j old e None = refl
 without_member k j old e (Some p) = rw e
+
+module _ (p : Parse json.Json) where
+  pub item_read : (n : ℕ) (ts r : List Token) (d : Data) → 0 < n → after_end_array ts ≡ None → converted of_json (p ts) ≡ Some (d, r)
+      → converted of_items (items p n ts) ≡ parse_map (item d) (converted of_items (items p (n - 1) r))
+  item_read n ts r d some going e = let j = converted_some of_json (p ts) d r e in ap (converted of_items) (items_more p n ts r j.0 some going j.1) ∙ with_item j.0 d j.2 _
+
+  pub items_over : (n : ℕ) (ts r : List Token) → length ts ≤ n → after_end_array ts ≡ Some r → converted of_items (items p n ts) ≡ Some (no_items, r)
+  items_over n ts r enough e = ap (converted of_items) (items_end p n ts r enough e)
 
 module _ (p : Parse json.Json) (old : Members) where
   pub member_read : (n : ℕ) (k : List ℕ) (ts s r : List Token) (d : Data) → 0 < n → read_key ts ≡ Some (Some k, s) → converted of_json (p s) ≡ Some (d, r)
@@ -64,6 +83,34 @@ module _ (p : Parse json.Json) (old : Members) where
 
   pub members_over : (n : ℕ) (ts r : List Token) → length ts ≤ n → read_key ts ≡ Some (None, r) → converted (λ ms. of_members ms old) (members p n ts) ≡ Some (old, r)
   members_over n ts r enough e = ap (converted (λ ms. of_members ms old)) (members_end p n ts r enough e)
+
+-- ---- a list that grows at its end
+
+abbrev pub items_before : List Value → Items → Items
+items_before [] rest = rest
+items_before (v ∷ vs) rest = item (data_giving (view v)) (items_before vs rest)
+
+pub items_before-no_items : (vs : List Value) → items_before vs no_items ≡ items_giving (values_view vs)
+items_before-no_items [] = refl
+items_before-no_items (v ∷ vs) = ap (item (data_giving (view v))) (items_before-no_items vs)
+
+items_push : (vs : List Value) (v : Value) (rest : Items) → items_before vs (item (data_giving (view v)) rest) ≡ items_before (vs ++ v ∷ []) rest
+items_push [] v rest = refl
+items_push (w ∷ vs) v rest = ap (item (data_giving (view w))) (items_push vs v rest)
+
+pub one_more_item : (vs : List Value) (v : Value) (r : Option (Items × List Token)) → parse_map (items_before vs) (parse_map (item (data_giving (view v))) r) ≡ parse_map (items_before (vs ++ v ∷ [])) r
+one_more_item vs v None = refl
+one_more_item vs v (Some p) = ap (λ ds. Some (ds, p.1)) (items_push vs v p.0)
+
+pub none_before : (r : Option (Items × List Token)) → r ≡ parse_map (λ a. a) r
+none_before None = refl
+none_before (Some p) = refl
+
+pub given_push : (n : ℕ) (vs : List Value) (v : Value) → AreGiven n (values_view vs) → IsGiven n (view v) → AreGiven n (values_view (vs ++ v ∷ []))
+given_push n [] v h g = (g, tt)
+given_push n (w ∷ vs) v h g = (h.0, given_push n vs v h.1 g)
+
+-- ---- the whole text
 
 abbrev pub whole : Option (json.Json × List Token) → Option Data
 whole o = option_and_then of_json (option_and_then (λ p. if_last p.0 p.1) o)

@@ -1,5 +1,5 @@
 -- A key that no request has stays, whatever members follow, and makes the object no request.
-use Rattle.std.proofs.Common.{◌≡◌, ℕ, zero, suc, List, Bool, true, false, ◌&&◌, ◌||◌, is_eq, Option, Some, None, option_map, option_and_then, Ordering, Less, Equal, Greater, nat_cmp, bytes_eq, MatchOption, refl, sym, ap, ◌∙◌}
+use Rattle.std.proofs.Common.{◌≡◌, ℕ, zero, suc, List, [], ◌∷◌, Bool, true, false, ◌&&◌, ◌||◌, is_eq, Option, Some, None, option_map, option_and_then, Ordering, Less, Equal, Greater, nat_cmp, bytes_eq, MatchOption, refl, sym, ap, ◌∙◌}
 use Rattle.std.proofs.lemmas.Map.Text.{is_eq-slice_cmp}
 use Rattle.std.proofs.lemmas.Slice.Eq.{bytes_eq-Decides}
 use Rattle.std.specs.Prelude.{⊤, codes}
@@ -10,7 +10,7 @@ use Rattle.json.specs.Json as json
 use Rattle.json.specs.Json.{Parse, parse_map, read_key, members}
 use Rattle.serde_json.specs.Data.{Data, Members, no_members, member, put}
 use Rattle.serde_json.specs.Read.{of_json, of_members, converted}
-use Rattle.pg_json.specs.Fields.{AsksNothing}
+use Rattle.pg_json.specs.Fields.{AsksNothing, text_keys}
 use Rattle.pg_json.specs.Requests.{has_only, is_one_of, query_keys, status_keys, object_request, by_op, text_at}
 use Rattle.pg_json.proofs.Members.{same_either}
 
@@ -68,12 +68,23 @@ with_rest r None h = tt
 with_rest r (Some ms) h = h
 
 few_keys : (k : List ℕ) → is_one_of query_keys k ≡ false → is_one_of status_keys k ≡ false
-few_keys k h = by_first (bytes_eq k (codes "op")) (bytes_eq k (codes "token")) (bytes_eq k (codes "text")) h
+few_keys k h = by_first (bytes_eq k (codes "op")) (bytes_eq k (codes "token")) (is_one_of (codes "text" ∷ codes "params" ∷ []) k) h
   where
-    by_first : (a b c : Bool) → (a || (b || (c || false))) ≡ false → (a || (b || false)) ≡ false
+    by_first : (a b c : Bool) → (a || (b || c)) ≡ false → (a || (b || false)) ≡ false
     by_first true b c e = absurd (cc)
     by_first false true c e = absurd (cc)
     by_first false false c e = refl
+
+-- a key that is neither a text's nor that of parameters
+pub no_query_key : (k : List ℕ) → is_one_of text_keys k ≡ false → bytes_eq k (codes "params") ≡ false → is_one_of query_keys k ≡ false
+no_query_key k h e = by_first (bytes_eq k (codes "op")) (bytes_eq k (codes "token")) (bytes_eq k (codes "text")) (bytes_eq k (codes "params")) h e
+  where
+    by_first : (a b c d : Bool) → (a || (b || (c || false))) ≡ false → d ≡ false → (a || (b || (c || (d || false)))) ≡ false
+    by_first true b c d h e = absurd (cc)
+    by_first false true c d h e = absurd (cc)
+    by_first false false true d h e = absurd (cc)
+    by_first false false false true h e = absurd (cc)
+    by_first false false false false h e = refl
 
 pub strange_member : (p : Parse json.Json) (old : Members) (n : ℕ) (k : List ℕ) (ts s : List Token) → read_key ts ≡ Some (Some k, s) → is_one_of query_keys k ≡ false
     → AsksNothing (converted (λ ms. of_members ms old) (members p n ts))

@@ -3,7 +3,8 @@ use Rattle.std.specs.Prelude.{string_bytes}
 use Rattle.pg_json.specs.Requests.{Request, query, status}
 use Rattle.pg_json.specs.declared.request.RequestBody.{RequestBody}
 use Rattle.pg_json.specs.declared.request.RequestBody.TheVariants.{Query, Status}
+use Rattle.pg_value_core.specs.Given.{parameters_view}
 
 abbrev pub request_view : RequestBody → Request
-request_view (Query token text) = query (string_bytes token) (string_bytes text)
+request_view (Query token text parameters) = query (string_bytes token) (string_bytes text) (parameters_view parameters)
 request_view (Status token) = status (string_bytes token)

@@ -1,38 +1,60 @@
--- The members of an object that has only texts, at the keys of a request. For private clauses.
-use Rattle.std.specs.Prelude.{◌≡◌, ℕ, ⊤, MatchOption, option_and_then, List, Option, None, Some, option_map, if◌then◌else◌, codes}
+-- The members of an object that has texts and parameters at the keys of a request. For private clauses.
+use Rattle.std.specs.Prelude.{◌≡◌, ℕ, ⊤, MatchOption, option_and_then, unwrap_or, List, [], ◌∷◌, Option, None, Some, option_map, if◌then◌else◌, codes}
 use Rattle.std.specs.Str.{bytes_eq}
 use Rattle.serde_json.specs.Data.{Data, Members, no_members, member, string, object}
+use Rattle.pg_meaning.specs.Measure.{greatest_depth}
+use Rattle.pg_meaning.specs.Value.{Entries, no_entries}
+use Rattle.pg_value_core.specs.View.{entries_view}
+use Rattle.pg_json.specs.Given.{EntriesAreGiven, members_giving}
 use Rattle.pg_json.specs.Requests.{Request, query, status, request_of, object_request}
 use Rattle.pg_json.specs.declared.fields.Fields.{Fields}
 use Rattle.pg_json.specs.declared.fields.Glance.{Glance}
-use Rattle.pg_json.specs.declared.fields.Glance.TheVariants.{Texts, NoRequest, Unclear}
+use Rattle.pg_json.specs.declared.fields.Glance.TheVariants.{Fitting, NoRequest}
 use Rattle.json.specs.Token.{Token}
 
-abbrev pub with_text : List ℕ → Option (List ℕ) → Members → Members
-with_text k None ms = ms
-with_text k (Some s) ms = member k (string s) ms
+-- the keys at which a request has texts
+abbrev pub text_keys : List (List ℕ)
+text_keys = codes "op" ∷ codes "token" ∷ codes "text" ∷ []
 
-abbrev pub members_of_texts : Option (List ℕ) → Option (List ℕ) → Option (List ℕ) → Members
-members_of_texts op text token = with_text (codes "op") op (with_text (codes "text") text (with_text (codes "token") token no_members))
+abbrev pub with_data : List ℕ → Option Data → Members → Members
+with_data k None ms = ms
+with_data k (Some d) ms = member k d ms
+
+abbrev pub with_text : List ℕ → Option (List ℕ) → Members → Members
+with_text k s ms = with_data k (option_map string s) ms
+
+abbrev pub object_giving : Entries → Data
+object_giving es = object (members_giving es)
+
+abbrev pub members_of_fields : (op : Option (List ℕ)) (parameters : Option Entries) (text token : Option (List ℕ)) → Members
+members_of_fields op parameters text token =
+    with_text (codes "op") op (with_data (codes "params") (option_map object_giving parameters) (with_text (codes "text") text (with_text (codes "token") token no_members)))
+
+abbrev pub parameters_of : Fields → Option Entries
+parameters_of f = option_map (λ m. entries_view m.entries) f.parameters
 
 abbrev pub members_with : Fields → Members
-members_with f = members_of_texts (option_map (λ s. s.now) f.op) (option_map (λ s. s.now) f.text) (option_map (λ s. s.now) f.token)
+members_with f = members_of_fields (option_map (λ s. s.now) f.op) (parameters_of f) (option_map (λ s. s.now) f.text) (option_map (λ s. s.now) f.token)
 
--- the request at such texts
-abbrev pub asked : Option (List ℕ) → Option (List ℕ) → Option (List ℕ) → Option Request
-asked None text token = None
-asked (Some op) text None = None
-asked (Some op) None (Some token) = if bytes_eq op (codes "status") then Some (status token) else None
-asked (Some op) (Some text) (Some token) = if bytes_eq op (codes "query") then Some (query token text) else None
+-- the parameters, where there are any, are such as an object gives
+abbrev pub HaveDepth : Option Entries → Type 0
+HaveDepth parameters = MatchOption parameters ⊤ (EntriesAreGiven greatest_depth)
+
+-- the request at such texts and parameters
+abbrev pub asked : (op : Option (List ℕ)) (parameters : Option Entries) (text token : Option (List ℕ)) → Option Request
+asked None parameters text token = None
+asked (Some op) parameters text None = None
+asked (Some op) (Some es) None (Some token) = None
+asked (Some op) None None (Some token) = if bytes_eq op (codes "status") then Some (status token) else None
+asked (Some op) parameters (Some text) (Some token) = if bytes_eq op (codes "query") then Some (query token text (unwrap_or parameters no_entries)) else None
 
 abbrev pub asked_with : Fields → Option Request
-asked_with f = asked (option_map (λ s. s.now) f.op) (option_map (λ s. s.now) f.text) (option_map (λ s. s.now) f.token)
+asked_with f = asked (option_map (λ s. s.now) f.op) (parameters_of f) (option_map (λ s. s.now) f.text) (option_map (λ s. s.now) f.token)
 
 -- what a glance tells of the data that a text is
 abbrev pub IsGlance : Option Data → Glance → Type 0
-IsGlance d (Texts f) = d ≡ Some (object (members_with f))
+IsGlance d (Fitting f) = (d ≡ Some (object (members_with f))) × HaveDepth (parameters_of f)
 IsGlance d NoRequest = option_and_then request_of d ≡ None
-IsGlance d Unclear = ⊤
 
 -- whatever members there are, they are no request
 abbrev pub AsksNothing : Option (Members × List Token) → Type 0
@@ -40,6 +62,5 @@ AsksNothing o = MatchOption o ⊤ (λ p. object_request p.0 ≡ None)
 
 -- the same of the members behind an opening brace, with the tokens that are left
 abbrev pub IsGlanceOfMembers : Option (Members × List Token) → List Token → Glance → Type 0
-IsGlanceOfMembers o rest (Texts f) = o ≡ Some (members_with f, rest)
+IsGlanceOfMembers o rest (Fitting f) = (o ≡ Some (members_with f, rest)) × HaveDepth (parameters_of f)
 IsGlanceOfMembers o rest NoRequest = AsksNothing o
-IsGlanceOfMembers o rest Unclear = ⊤

@@ -1,8 +1,10 @@
 pub mod Requests
+pub mod Parameters
 pub mod Bodies
 pub mod Replies
 pub mod Refusals
 pub mod Bytes
 pub mod Room
+pub mod Given
 pub mod Fields
 pub mod Laws

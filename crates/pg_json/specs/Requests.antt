@@ -1,14 +1,16 @@
--- The request that a body is: one object with exactly the keys of its operation.
-use Rattle.std.specs.Prelude.{ℕ, List, [], ◌∷◌, Bool, true, false, ◌&&◌, ◌||◌, Option, None, option_map, option_and_then, if◌then◌else◌, codes}
+-- The request that a body is: one object with exactly the keys of its operation, of which a query may leave `params` out.
+use Rattle.std.specs.Prelude.{ℕ, List, [], ◌∷◌, Bool, true, false, ◌&&◌, ◌||◌, Option, Some, None, option_map, option_and_then, if◌then◌else◌, codes}
 use Rattle.std.specs.Str.{bytes_eq, is_utf8}
 use Rattle.serde_json.specs.Data.{Data, Members, no_members, member}
 use Rattle.serde_json.specs.Find.{get_member, as_str, as_object}
 use Rattle.serde_json.specs.Read.{read}
+use Rattle.pg_meaning.specs.Value.{Entries, no_entries}
+use Rattle.pg_json.specs.Parameters.{parameters_in}
 
 -- what is asked for; a text is its bytes
 pub data Request : Type 0 where
-  query : List ℕ → List ℕ → Request
-  status : List ℕ → Request
+  query : (token text : List ℕ) → (parameters : Entries) → Request
+  status : (token : List ℕ) → Request
 
 -- the text at a key
 abbrev pub text_at : List ℕ → Members → Option (List ℕ)
@@ -24,10 +26,17 @@ has_only names no_members = true
 has_only names (member k d ms) = is_one_of names k && has_only names ms
 
 abbrev pub query_keys : List (List ℕ)
-query_keys = codes "op" ∷ codes "token" ∷ codes "text" ∷ []
+query_keys = codes "op" ∷ codes "token" ∷ codes "text" ∷ codes "params" ∷ []
+
+-- what is given at `params`: an object, or nothing where the key is absent
+abbrev pub parameters_given : Option Data → Option Entries
+parameters_given None = Some no_entries
+parameters_given (Some d) = option_and_then parameters_in (as_object d)
 
 abbrev pub query_of : Members → Option Request
-query_of ms = option_and_then (λ token. option_map (λ text. query token text) (text_at (codes "text") ms)) (text_at (codes "token") ms)
+query_of ms =
+    option_and_then (λ token. option_and_then (λ text. option_map (λ parameters. query token text parameters) (parameters_given (get_member (codes "params") ms)))
+    (text_at (codes "text") ms)) (text_at (codes "token") ms)
 
 abbrev pub status_keys : List (List ℕ)
 status_keys = codes "op" ∷ codes "token" ∷ []

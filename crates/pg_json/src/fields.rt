@@ -1,88 +1,110 @@
-//! The texts at a request's keys, read token by token.
-ghost use Rattle.std.specs.Prelude.{◌≡◌, ◌≢◌, length, true, None, Some, IfOk, IfErr};
+//! What stands at a request's keys, read token by token.
+ghost use Rattle.std.specs.Prelude.{◌≡◌, ◌≢◌, length, true, None, Some, IfOk, IfErr, bytes_eq, codes};
 ghost use Rattle.json.specs.Json.{members, value};
 ghost use Rattle.serde_json.specs.Data.{string, no_members, put};
 ghost use Rattle.serde_json.specs.Read.{read, of_members, converted};
 ghost use Rattle.pg_json.specs.Bodies.{request_view};
-ghost use Rattle.pg_json.specs.Fields.{members_with, asked_with, IsGlance, IsGlanceOfMembers};
-ghost use Rattle.pg_json.specs.Requests.{is_one_of, query_keys};
+ghost use Rattle.pg_json.specs.Fields.{members_with, object_giving, parameters_of, asked_with, text_keys, IsGlance, IsGlanceOfMembers};
+ghost use Rattle.pg_json.specs.Requests.{is_one_of};
+ghost use Rattle.pg_value_core.specs.View.{entries_view};
 ghost use Rattle.pg_meaning.specs.declared.fault.Fault.TheVariants.{BadRequest, OutOfMemory};
 
+use crate::parameters::read_parameters;
 use crate::request::RequestBody;
+use crate::unread::Unread;
 use json::{Reader, Scratch, Token};
 use pg_meaning::Fault;
-use std::alloc::{AllocError, Global};
+use pg_value_core::{Parameters, Value};
+use std::alloc::Global;
+use std::collections::BTreeMap;
 
-/// The last text at each key.
-#[derive(Clone, Copy, Drop)]
+/// The last text at each key, and the last parameters.
+#[derive(Drop)]
 pub(crate) struct Fields<'a> {
     pub(crate) op: Option<&'a str>,
+    pub(crate) parameters: Option<BTreeMap<String, Value>>,
     pub(crate) text: Option<&'a str>,
     pub(crate) token: Option<&'a str>,
 }
 
 /// What is seen of a body at a glance.
-#[derive(Clone, Copy, Drop)]
+#[derive(Drop)]
 pub(crate) enum Glance<'a> {
-    /// One object with texts alone, at no other keys than a request's.
-    Texts(Fields<'a>),
+    /// One object that has at a request's keys what they may have, and no other key.
+    Fitting(Fields<'a>),
     NoRequest,
-    Unclear,
 }
 
-/// Tells what a text is, unless a value at a request's key is no text.
-pub(crate) fn look<'a>(text: &'a str, scratch: &'a mut Scratch) -> Result<Glance<'a>, AllocError>
+/// Tells what a text is, unless a value at a request's key needs a second look.
+pub(crate) fn look<'a>(
+    alloc: Global,
+    text: &'a str,
+    scratch: &'a mut Scratch,
+) -> Result<Glance<'a>, Unread>
     ensures { IfOk result (λ g. IsGlance (read text.now) g) }
 {
     let mut reader = Reader::new(text, scratch)?;
     let Some(Token::BeginObject) = reader.next() else {
-        return Ok(Glance::Unclear);
+        return Err(Unread::Unclear);
     };
-    match texts_by_key(&mut reader) {
-        Glance::Texts(found) => match reader.next() {
-            None => Ok(Glance::Texts(found)),
+    match fields_by_key(alloc, &mut reader) {
+        Ok(Glance::Fitting(found)) => match reader.next() {
+            None => Ok(Glance::Fitting(found)),
             Some(_) => Ok(Glance::NoRequest),
         },
-        Glance::NoRequest => Ok(Glance::NoRequest),
-        Glance::Unclear => Ok(Glance::Unclear),
+        Ok(Glance::NoRequest) => Ok(Glance::NoRequest),
+        Err(unread) => Err(unread),
     }
 }
 
-fn texts_by_key<'a>(reader: &mut Reader<'a>) -> Glance<'a>
-    ensures { IsGlanceOfMembers (converted (λ ms. of_members ms no_members) (members (value 126) (length reader.old) reader.old)) reader.new result }
+fn fields_by_key<'a>(alloc: Global, reader: &mut Reader<'a>) -> Result<Glance<'a>, Unread>
+    ensures { IfOk result (IsGlanceOfMembers (converted (λ ms. of_members ms no_members) (members (value 126) (length reader.old) reader.old)) reader.new) }
 {
     let mut found = Fields {
         op: None,
+        parameters: None,
         text: None,
         token: None,
     };
     'members: loop {
         let key = match reader.next_key() {
             Ok(Some(key)) => key,
-            Ok(None) => return Glance::Texts(found),
-            Err(_) => return Glance::NoRequest,
+            Ok(None) => return Ok(Glance::Fitting(found)),
+            Err(_) => return Ok(Glance::NoRequest),
         };
-        if !is_known(key) {
-            return Glance::NoRequest;
+        if is_parameters_key(key) {
+            let parameters = read_parameters(alloc, reader)?;
+            found = with_parameters(found, parameters);
+            continue 'members;
+        }
+        if !is_text_key(key) {
+            return Ok(Glance::NoRequest);
         }
         match reader.next() {
             Some(Token::String(text)) => found = with(found, key, text),
-            Some(Token::Bad) => return Glance::NoRequest,
-            _ => return Glance::Unclear,
+            Some(Token::Bad) => return Ok(Glance::NoRequest),
+            _ => return Err(Unread::Unclear),
         }
     }
 }
 
-fn is_known(key: &str) -> bool
-    ensures { result ≡ is_one_of query_keys key.now }
+fn is_parameters_key(key: &str) -> bool
+    ensures { result ≡ bytes_eq key.now (codes "params") }
+{
+    key == "params"
+}
+
+fn is_text_key(key: &str) -> bool
+    ensures { result ≡ is_one_of text_keys key.now }
 {
     key == "op" || key == "token" || key == "text"
 }
 
 /// With this text at this key.
 fn with<'a>(found: Fields<'a>, key: &str, text: &'a str) -> Fields<'a>
-    requires { is_one_of query_keys key.now ≡ true }
-    ensures { members_with result ≡ put key.now (string text.now) (members_with found.entry) }
+    requires { is_one_of text_keys key.now ≡ true }
+    ensures texts { members_with result ≡ put key.now (string text.now) (members_with found.entry) }
+    ensures parameters { parameters_of result ≡ parameters_of found.entry }
 {
     if key == "op" {
         Fields {
@@ -102,7 +124,18 @@ fn with<'a>(found: Fields<'a>, key: &str, text: &'a str) -> Fields<'a>
     }
 }
 
-/// The request at these texts.
+/// With these parameters.
+fn with_parameters<'a>(found: Fields<'a>, parameters: BTreeMap<String, Value>) -> Fields<'a>
+    ensures members { members_with result ≡ put (codes "params") (object_giving (entries_view parameters.entries)) (members_with found.entry) }
+    ensures parameters { parameters_of result ≡ Some (entries_view parameters.entries) }
+{
+    Fields {
+        parameters: Some(parameters),
+        ..found
+    }
+}
+
+/// The request that has these fields.
 pub(crate) fn request_with(alloc: Global, found: Fields<'_>) -> Result<RequestBody, Fault>
     ensures ok { IfOk result (λ r. asked_with found.entry ≡ Some (request_view r)) }
     ensures kind { IfErr result (λ e. e ≢ OutOfMemory → e ≡ BadRequest) }
@@ -119,11 +152,12 @@ pub(crate) fn request_with(alloc: Global, found: Fields<'_>) -> Result<RequestBo
             Ok(RequestBody::Query {
                 token: String::from_str(alloc, token)?,
                 text: String::from_str(alloc, text)?,
+                parameters: Parameters::from_map(found.parameters.unwrap_or(BTreeMap::new(alloc))),
             })
         } else {
             Err(Fault::BadRequest)
         },
-        None => if op == "status" {
+        None => if op == "status" && found.parameters.is_none() {
             Ok(RequestBody::Status {
                 token: String::from_str(alloc, token)?,
             })

@@ -4,6 +4,8 @@
 mod bytes;
 mod fields;
 mod laws;
+mod number;
+mod parameters;
 mod read;
 mod reply;
 mod request;
@@ -12,7 +14,9 @@ mod scratch;
 mod status;
 #[cfg(test)]
 mod tests;
+mod unread;
 mod value;
+mod values;
 mod write;
 
 pub use bytes::{ReplyBytes, done, refusal};

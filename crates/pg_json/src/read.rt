@@ -2,17 +2,24 @@
 ghost use Rattle.std.specs.Prelude.{◌≡◌, ◌≢◌, IfOk, IfErr, None, Some, List, ℕ, option_map, option_and_then, string_bytes, map};
 ghost use Rattle.serde_json.specs.Read.{read};
 ghost use Rattle.serde_json.specs.View.{view, members_view};
-ghost use Rattle.serde_json.specs.Find.{as_str, get_member};
-ghost use Rattle.pg_json.specs.Requests.{meaning, request_of, object_request, query_of, status_of, text_at as spec_text_at, has_only as spec_has_only, is_one_of as spec_is_one_of};
+ghost use Rattle.serde_json.specs.Find.{as_object, as_str, get_member};
+ghost use Rattle.pg_json.specs.Parameters.{parameters_in as spec_parameters_in};
+ghost use Rattle.pg_json.specs.Requests.{meaning, request_of, object_request, parameters_given, query_of, status_of, text_at as spec_text_at, has_only as spec_has_only, is_one_of as spec_is_one_of};
 ghost use Rattle.pg_json.specs.Bodies.{request_view};
+ghost use Rattle.pg_value_core.specs.View.{entries_view};
 ghost use Rattle.pg_meaning.specs.declared.fault.Fault.TheVariants.{BadRequest, OutOfMemory};
 
 use crate::fields::{Glance, look, request_with};
+use crate::parameters::MAX_DEPTH;
 use crate::request::RequestBody;
 use crate::scratch::RequestScratch;
+use crate::unread::Unread;
+use crate::values::entries_from;
 use pg_meaning::Fault;
+use pg_value_core::{Parameters, Value as Parameter};
 use serde_json::{Map, Value};
 use std::alloc::Global;
+use std::collections::BTreeMap;
 
 /// The request that a frame's body is.
 #[tactic(auto, unfolding(crate::specs::Requests::meaning))]
@@ -28,11 +35,11 @@ pub fn read_request(
     let Ok(text) = simdutf8::basic::from_utf8(body) else {
         return Err(Fault::BadRequest);
     };
-    match look(text, &mut scratch.places) {
-        Ok(Glance::Texts(found)) => request_with(alloc, found),
+    match look(alloc, text, &mut scratch.places) {
+        Ok(Glance::Fitting(found)) => request_with(alloc, found),
         Ok(Glance::NoRequest) => Err(Fault::BadRequest),
-        Ok(Glance::Unclear) => read_slowly(alloc, text),
-        Err(_) => Err(Fault::OutOfMemory),
+        Err(Unread::Unclear) => read_slowly(alloc, text),
+        Err(Unread::OutOfMemory) => Err(Fault::OutOfMemory),
     }
 }
 
@@ -43,51 +50,93 @@ fn read_slowly(alloc: Global, text: &str) -> Result<RequestBody, Fault>
     ensures refused { IfErr result (λ e. e ≢ OutOfMemory → option_and_then request_of (read text.now) ≡ None) }
 {
     match Value::from_str(alloc, text) {
-        Ok(value) => request_from(value).ok_or(Fault::BadRequest),
+        Ok(value) => request_from(alloc, value),
         Err(e) if e.is_memory() => Err(Fault::OutOfMemory),
         Err(_) => Err(Fault::BadRequest),
     }
 }
 
-fn request_from(value: Value) -> Option<RequestBody>
-    ensures { option_map request_view result ≡ request_of (view value) }
+fn request_from(alloc: Global, value: Value) -> Result<RequestBody, Fault>
+    ensures ok { IfOk result (λ r. request_of (view value) ≡ Some (request_view r)) }
+    ensures kind { IfErr result (λ e. e ≢ OutOfMemory → e ≡ BadRequest) }
+    ensures refused { IfErr result (λ e. e ≢ OutOfMemory → request_of (view value) ≡ None) }
 {
     match value {
-        Value::Object(members) => object_from(members),
-        _ => None,
+        Value::Object(members) => object_from(alloc, members),
+        _other => Err(Fault::BadRequest),
     }
 }
 
-fn object_from(members: Map<String, Value>) -> Option<RequestBody>
-    ensures { option_map request_view result ≡ object_request (members_view members.entries) }
+fn object_from(alloc: Global, members: Map<String, Value>) -> Result<RequestBody, Fault>
+    ensures ok { IfOk result (λ r. object_request (members_view members.entries) ≡ Some (request_view r)) }
+    ensures kind { IfErr result (λ e. e ≢ OutOfMemory → e ≡ BadRequest) }
+    ensures refused { IfErr result (λ e. e ≢ OutOfMemory → object_request (members_view members.entries) ≡ None) }
 {
-    let op = text_at(&members, "op")?;
+    let Some(op) = text_at(&members, "op") else {
+        return Err(Fault::BadRequest);
+    };
     if op == "query" {
-        return if has_only(&members, &["op", "token", "text"]) {
-            query_from(members)
+        return if has_only(&members, &["op", "token", "text", "params"]) {
+            query_from(alloc, members)
         } else {
-            None
+            Err(Fault::BadRequest)
         };
     }
     if op == "status" && has_only(&members, &["op", "token"]) {
         return status_from(members);
     }
-    None
+    Err(Fault::BadRequest)
 }
 
-fn query_from(mut members: Map<String, Value>) -> Option<RequestBody>
-    ensures { option_map request_view result ≡ query_of (members_view members.entries) }
+fn query_from(alloc: Global, mut members: Map<String, Value>) -> Result<RequestBody, Fault>
+    ensures ok { IfOk result (λ r. query_of (members_view members.entries) ≡ Some (request_view r)) }
+    ensures kind { IfErr result (λ e. e ≢ OutOfMemory → e ≡ BadRequest) }
+    ensures refused { IfErr result (λ e. e ≢ OutOfMemory → query_of (members_view members.entries) ≡ None) }
 {
-    let token = take_text(&mut members, "token")?;
-    let text = take_text(&mut members, "text")?;
-    Some(RequestBody::Query { token, text })
+    let token = take_text(&mut members, "token").ok_or(Fault::BadRequest)?;
+    let text = take_text(&mut members, "text").ok_or(Fault::BadRequest)?;
+    let parameters = parameters_from(alloc, find(&members, "params"))?;
+    Ok(RequestBody::Query {
+        token,
+        text,
+        parameters: Parameters::from_map(parameters),
+    })
 }
 
-fn status_from(mut members: Map<String, Value>) -> Option<RequestBody>
-    ensures { option_map request_view result ≡ status_of (members_view members.entries) }
+/// The parameters at their key, which may be absent.
+fn parameters_from(
+    alloc: Global,
+    given: Option<&Value>,
+) -> Result<BTreeMap<String, Parameter>, Fault>
+    ensures ok { IfOk result (λ m. parameters_given (option_map (λ v. view v.now) given.entry) ≡ Some (entries_view m.entries)) }
+    ensures kind { IfErr result (λ e. e ≢ OutOfMemory → e ≡ BadRequest) }
+    ensures refused { IfErr result (λ e. e ≢ OutOfMemory → parameters_given (option_map (λ v. view v.now) given.entry) ≡ None) }
 {
-    let token = take_text(&mut members, "token")?;
-    Some(RequestBody::Status { token })
+    match given {
+        None => Ok(BTreeMap::new(alloc)),
+        Some(value) => parameters_in(alloc, value),
+    }
+}
+
+/// The parameters that an object's members give.
+fn parameters_in(alloc: Global, given: &Value) -> Result<BTreeMap<String, Parameter>, Fault>
+    ensures ok { IfOk result (λ m. option_and_then spec_parameters_in (as_object (view given.now)) ≡ Some (entries_view m.entries)) }
+    ensures kind { IfErr result (λ e. e ≢ OutOfMemory → e ≡ BadRequest) }
+    ensures refused { IfErr result (λ e. e ≢ OutOfMemory → option_and_then spec_parameters_in (as_object (view given.now)) ≡ None) }
+{
+    match given {
+        Value::Object(members) => entries_from(alloc, members, MAX_DEPTH),
+        _ => Err(Fault::BadRequest),
+    }
+}
+
+fn status_from(mut members: Map<String, Value>) -> Result<RequestBody, Fault>
+    ensures ok { IfOk result (λ r. status_of (members_view members.entries) ≡ Some (request_view r)) }
+    ensures kind { IfErr result (λ e. e ≡ BadRequest) }
+    ensures refused { IfErr result (λ e. status_of (members_view members.entries) ≡ None) }
+{
+    let token = take_text(&mut members, "token").ok_or(Fault::BadRequest)?;
+    Ok(RequestBody::Status { token })
 }
 
 fn text_at<'a>(members: &'a Map<String, Value>, name: &str) -> Option<&'a str>

@@ -1,8 +1,16 @@
 //! What a client asks for.
 
-/// A request with its texts.
+use pg_value_core::Parameters;
+
+/// A request with its texts, and the parameters of a query by their names.
 #[derive(Drop)]
 pub enum RequestBody {
-    Query { token: String, text: String },
-    Status { token: String },
+    Query {
+        token: String,
+        text: String,
+        parameters: Parameters,
+    },
+    Status {
+        token: String,
+    },
 }

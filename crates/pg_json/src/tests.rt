@@ -3,16 +3,18 @@ use crate::{
     ReplyBody, RequestBody, RequestScratch, TenantStatus, done, read_request, refusal, write_reply,
 };
 use pg_meaning::Fault;
-use pg_value_core::{NodeId, Out, RelId};
+use pg_value_core::{NodeId, Out, RelId, Value};
 use std::alloc::{AllocError, Global};
 use std::collections::BTreeMap;
 use std::test::Fail;
 
 fn is_query(request: &RequestBody, wanted_token: &str, wanted_text: &str) -> bool {
     match request {
-        RequestBody::Query { token, text } => {
-            token.as_str() == wanted_token && text.as_str() == wanted_text
-        }
+        RequestBody::Query {
+            token,
+            text,
+            parameters: _,
+        } => token.as_str() == wanted_token && text.as_str() == wanted_text,
         RequestBody::Status { .. } => false,
     }
 }
@@ -87,7 +89,6 @@ null
 {"op":"query","token":"a"}
 {"op":"query","token":"a","text":"t","x":1}
 {"op":"query","token":"a","text":"t","":""}
-{"op":"query","token":"a","text":"t","params":{}}
 {"Op":"query","token":"a","text":"t"}
 {"op":"Query","token":"a","text":"t"}
 {"op":"","token":"a","text":"t"}
@@ -214,6 +215,133 @@ fn reads_with_a_kept_scratch(rt: HostRuntime) -> Result<(), Fail> {
         }
         let read = read_request(alloc, &mut scratch, long.as_bytes());
         assert!(rt; matches!(read, Err(Fault::BadRequest)));
+    }
+    Ok(())
+}
+
+/// What stands behind a query's text, with the whole number that it gives the parameter `a`, if it gives one.
+const PARAMETERS: [(&str, Option<i64>); 20] = [
+    ("", None),
+    (r#","params":{}"#, None),
+    (r#","params":{"b":1,"":null}"#, None),
+    (r#","params":{"a":null}"#, None),
+    (r#","params":{"a":true,"b":[1,[],{"c":"d"}]}"#, None),
+    (r#","params":{"a":7}"#, Some(7)),
+    (r#","params":{"a":0}"#, Some(0)),
+    (r#","params":{"\u0061":-1}"#, Some(-1)),
+    (
+        r#","params":{"a":9223372036854775807}"#,
+        Some(9_223_372_036_854_775_807),
+    ),
+    (r#","params":{"a":-9223372036854775808}"#, Some(i64::MIN)),
+    (r#","params":{"a":1,"a":2}"#, Some(2)),
+    (r#","params":{"a":1.5,"a":2}"#, Some(2)),
+    (r#","params":{"b":[1],"a":2,"b":{}}"#, Some(2)),
+    (r#","params":{"b":[1e2],"a":2,"b":{}}"#, Some(2)),
+    (r#","params":{"a":1},"params":{"a":2}"#, Some(2)),
+    (r#","params":{"a":1},"params":{}"#, None),
+    (r#","params":1,"params":{"a":2}"#, Some(2)),
+    (r#","params":null,"params":{"a":[-0],"a":2}"#, Some(2)),
+    (r#","text":1,"params":{"a":3},"text":"t""#, Some(3)),
+    (r#","params":{"a":{"a":4},"b":5}"#, None),
+];
+
+/// What makes a query no request.
+const NO_PARAMETERS: &str = r#","params":null
+,"params":[]
+,"params":7
+,"params":"a"
+,"params":true
+,"params":{"a":1.0}
+,"params":{"a":1.5}
+,"params":{"a":1e2}
+,"params":{"a":-0}
+,"params":{"a":9223372036854775808}
+,"params":{"a":-9223372036854775809}
+,"params":{"a":18446744073709551616}
+,"params":{"a":[1,[2,{"b":-0}]]}
+,"params":{"a":1e999,"a":1}
+,"params":{"a":1,"a":1.5}
+,"params":{"a":1,}
+,"params":{"a":01}
+,"params":{"a"}
+,"params":{"a":}
+,"params":{a:1}
+,"params":{"a":1},"params":null
+,"params":{"a":1},"params":{"a":0.5}
+,"params":{"a":1}},"a":{
+,"parameters":{}"#;
+
+fn query_with(alloc: Global, rest: &str) -> Result<String, AllocError> {
+    format!(in alloc; "{{\"op\":\"query\",\"token\":\"a\",\"text\":\"t\"{rest}}}")
+}
+
+/// The whole number that a request gives its parameter `a`; the error is that it is no query.
+fn given(request: &RequestBody) -> Result<Option<i64>, ()> {
+    match request {
+        RequestBody::Query {
+            token: _,
+            text: _,
+            parameters,
+        } => match parameters.get("a") {
+            Some(Value::Int(number)) => Ok(Some(*number)),
+            _ => Ok(None),
+        },
+        RequestBody::Status { .. } => Err(()),
+    }
+}
+
+#[test]
+fn reads_parameters(rt: HostRuntime) -> Result<(), Fail> {
+    let alloc = rt.alloc();
+    let mut scratch = RequestScratch::new(alloc);
+    for (rest, wanted) in PARAMETERS {
+        let body = query_with(alloc, rest)?;
+        let number = match read_request(alloc, &mut scratch, body.as_bytes()) {
+            Ok(request) => given(&request),
+            Err(_) => Err(()),
+        };
+        assert!(rt; number == Ok(wanted), "{rest}");
+    }
+    for rest in NO_PARAMETERS.lines() {
+        let body = query_with(alloc, rest)?;
+        assert!(rt; is_refused(alloc, body.as_bytes()), "{rest}");
+    }
+    Ok(())
+}
+
+/// So many lists round a text, as the value of a parameter.
+fn lists_round(alloc: Global, depth: usize, inner: &str) -> Result<String, AllocError> {
+    let mut body = String::from_str(
+        alloc,
+        r#"{"op":"query","token":"a","text":"t","params":{"a":"#,
+    )?;
+    for _ in 0..depth {
+        body.push('[')?;
+    }
+    body.push_str(inner)?;
+    for _ in 0..depth {
+        body.push(']')?;
+    }
+    body.push_str("}}")?;
+    Ok(body)
+}
+
+#[test]
+fn refuses_parameters_that_are_too_deep(rt: HostRuntime) -> Result<(), Fail> {
+    let alloc = rt.alloc();
+    for (depth, inner, reads) in [
+        (64, "", true),
+        (65, "", false),
+        (63, "1", true),
+        (64, "1", false),
+        (63, "{}", true),
+        (64, "{}", false),
+        (200, "", false),
+    ] {
+        let body = lists_round(alloc, depth, inner)?;
+        let asked = asks(alloc, body.as_bytes(), "a", "t");
+        assert!(rt; asked == reads, "{depth} {inner}");
     }
     Ok(())
 }

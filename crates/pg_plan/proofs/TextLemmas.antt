@@ -1,30 +1,30 @@
--- The tokens of a text have a parameter just where its query names one.
-use Rattle.std.proofs.Common.{◌≡◌, ℕ, Bool, true, false, not, List, [], ◌∷◌, ◌++◌, refl, ap, ◌∙◌, inl, inr}
-use Rattle.std.specs.Prelude.{flat_map, ◌||◌}
-use Rattle.pg_meaning.specs.Grammar.{What, keyword, function_name, variable_name, any_name, integer, string, parameter, symbol, Mark, parameter_name, IsSpelled, Fit, Reads, query_marks}
-use Rattle.pg_meaning.specs.Tokens.{Lexeme, Token, is_empty}
+-- The parameters among the tokens of a text are those that its query names.
+use Rattle.std.proofs.Common.{◌≡◌, ℕ, List, [], ◌∷◌, ◌++◌, true, false, refl, sym, ap, ◌∙◌, inl, inr}
+use Rattle.std.specs.Prelude.{flat_map}
+use Rattle.pg_meaning.specs.Grammar.{What, keyword, function_name, variable_name, any_name, integer, string, parameter, symbol, Mark, parameter_name, parameters_of, IsSpelled, Fit, Reads, query_marks}
+use Rattle.pg_meaning.specs.Tokens.{Lexeme, Token}
 use Rattle.pg_meaning.specs.Tree.{Query}
-use Rattle.pg_plan.specs.Parameters.{has_parameters, is_parameter, any_parameter}
+use Rattle.pg_plan.specs.Parameters.{lexeme_parameter, named_in_tokens}
 
-named : (m : What) (l : Lexeme) (rest : List (List ℕ)) (more : Bool) → IsSpelled m l → more ≡ not (is_empty rest) → (is_parameter l || more) ≡ not (is_empty (parameter_name m ++ rest))
-named (parameter b w) l rest more is h = ap (λ x. is_parameter x || more) is
-named (keyword x) l rest more (w, is) h = ap (λ x. is_parameter x || more) is ∙ h
-named (function_name w) l rest more is h = ap (λ x. is_parameter x || more) is ∙ h
-named (variable_name true w) l rest more is h = ap (λ x. is_parameter x || more) is ∙ h
-named (variable_name false w) l rest more is h = ap (λ x. is_parameter x || more) is ∙ h
-named (any_name true w) l rest more is h = ap (λ x. is_parameter x || more) is ∙ h
-named (any_name false w) l rest more (inl is) h = ap (λ x. is_parameter x || more) is ∙ h
-named (any_name false w) l rest more (inr (x, is)) h = ap (λ y. is_parameter y || more) is ∙ h
-named (integer n) l rest more is h = ap (λ x. is_parameter x || more) is ∙ h
-named (string t) l rest more is h = ap (λ x. is_parameter x || more) is ∙ h
-named (symbol x) l rest more is h = ap (λ y. is_parameter y || more) is ∙ h
+named : (m : What) (l : Lexeme) → IsSpelled m l → lexeme_parameter l ≡ parameter_name m
+named (parameter b w) l is = ap lexeme_parameter is
+named (keyword x) l (w, is) = ap lexeme_parameter is
+named (function_name w) l is = ap lexeme_parameter is
+named (variable_name true w) l is = ap lexeme_parameter is
+named (variable_name false w) l is = ap lexeme_parameter is
+named (any_name true w) l is = ap lexeme_parameter is
+named (any_name false w) l (inl is) = ap lexeme_parameter is
+named (any_name false w) l (inr (x, is)) = ap lexeme_parameter is
+named (integer n) l is = ap lexeme_parameter is
+named (string t) l is = ap lexeme_parameter is
+named (symbol x) l is = ap lexeme_parameter is
 
-fitting : (ts : List Token) (ms : List Mark) → Fit ts ms → any_parameter ts ≡ not (is_empty (flat_map (λ m. parameter_name m.what) ms))
+fitting : (ts : List Token) (ms : List Mark) → Fit ts ms → named_in_tokens ts ≡ flat_map (λ m. parameter_name m.what) ms
 fitting [] [] h = refl
 fitting [] (m ∷ ms) h = absurd h
 fitting (t ∷ ts) [] h = absurd h
-fitting (t ∷ ts) (m ∷ ms) h = named m.what t.lexeme (flat_map (λ n. parameter_name n.what) ms) (any_parameter ts) h.0.spelled (fitting ts ms h.1)
+fitting (t ∷ ts) (m ∷ ms) h = rw (named m.what t.lexeme h.0.spelled, fitting ts ms h.1) refl
 
 -- a token is a parameter just where the query names one
-pub tokens_name_parameters : (text : List ℕ) (ts : List Token) (q : Query) → Reads text ts q → any_parameter ts ≡ has_parameters q
+pub tokens_name_parameters : (text : List ℕ) (ts : List Token) (q : Query) → Reads text ts q → named_in_tokens ts ≡ parameters_of q
 tokens_name_parameters text ts q h = fitting ts (query_marks q) h.fit

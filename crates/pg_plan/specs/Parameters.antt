@@ -1,16 +1,12 @@
--- Which texts name a parameter.
-use Rattle.std.specs.Prelude.{Bool, true, false, not, List}
-use Rattle.std.specs.List.{list_any}
-use Rattle.pg_meaning.specs.Grammar.{parameters_of}
-use Rattle.pg_meaning.specs.Tokens.{Lexeme, Token, parameter, is_empty}
-use Rattle.pg_meaning.specs.Tree.{Query}
+-- The parameters that a text names.
+use Rattle.std.specs.Prelude.{List, [], ◌∷◌, flat_map, Option, None, Some}
+use Rattle.pg_meaning.specs.Names.{Names}
+use Rattle.pg_meaning.specs.Tokens.{Lexeme, Token, parameter}
 
-abbrev pub has_parameters : Query → Bool
-has_parameters q = not (is_empty (parameters_of q))
+abbrev pub lexeme_parameter : Lexeme → Names
+lexeme_parameter (parameter is_quoted w) = w ∷ []
+lexeme_parameter l = []
 
-abbrev pub is_parameter : Lexeme → Bool
-is_parameter (parameter is_quoted w) = true
-is_parameter l = false
-
-abbrev pub any_parameter : List Token → Bool
-any_parameter ts = list_any (λ t. is_parameter t.lexeme) ts
+-- in text order, each as often as it stands there
+abbrev pub named_in_tokens : List Token → Names
+named_in_tokens ts = flat_map (λ t. lexeme_parameter t.lexeme) ts

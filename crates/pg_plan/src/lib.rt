@@ -4,6 +4,7 @@
 ghost use Rattle.pg_plan.specs.Laws.{PlansAnswer, TextsMean};
 
 mod columns;
+mod parameters;
 mod plain;
 mod reading;
 mod shapes;

@@ -1,16 +1,16 @@
 //! From a query text to its plan.
-ghost use Rattle.std.specs.Prelude.{◌≡◌, ◌≢◌, IfOk, IfErr, Ok, Err};
-ghost use Rattle.pg_lex.specs.View.{tokens_view};
+ghost use Rattle.std.specs.Prelude.{◌≡◌, ◌≢◌, IfOk, IfErr, Ok, Err, map, string_bytes};
+ghost use Rattle.pg_meaning.specs.Grammar.{parameters_of};
 ghost use Rattle.pg_meaning.specs.Texts as spec;
 ghost use Rattle.pg_meaning.specs.declared.fault.Fault.TheVariants.{OutOfMemory};
-ghost use Rattle.pg_plan.specs.Parameters.{any_parameter, has_parameters};
 ghost use Rattle.pg_plan.specs.Plans.{IsPlanOfText};
 ghost use Rattle.pg_meaning.specs.Texts.{text_checked};
 ghost use Rattle.pg_plan.specs.Reading.{tested_length};
 ghost use Rattle.pg_syntax_tree.specs.View.{query_view};
 
+use crate::parameters::parameter_names;
 use crate::statement::Plan;
-use pg_lex::{Lexeme, Token, tokens};
+use pg_lex::tokens;
 use pg_meaning::Fault;
 use pg_scope::check;
 use pg_syntax::parse;
@@ -35,32 +35,19 @@ pub fn plan_text(alloc: Global, text: &str) -> Result<Plan, Fault>
     ensures ok { IfOk result (IsPlanOfText text.now) }
     ensures err { IfErr result (λ e. e ≢ OutOfMemory → text_checked text.now ≡ Err e) }
 {
-    let (query, names_parameter) = read(alloc, text)?;
+    let (query, parameters) = read(alloc, text)?;
     let scoped = check(alloc, query)?;
-    Ok(Plan::new(scoped.into_query(), names_parameter))
+    Ok(Plan::new(scoped.into_query(), parameters))
 }
 
-/// The tree of a text, and whether it names a parameter.
-fn read(alloc: Global, text: &str) -> Result<(Query, bool), Fault>
+/// The tree of a text, and the parameters that it names.
+fn read(alloc: Global, text: &str) -> Result<(Query, Vec<String>), Fault>
     ensures ok { IfOk result (λ r. spec.read text.now ≡ Ok (query_view r.0)) }
-    ensures parameter { IfOk result (λ r. r.1 ≡ has_parameters (query_view r.0)) }
+    ensures parameters { IfOk result (λ r. map string_bytes r.1.items ≡ parameters_of (query_view r.0)) }
     ensures err { IfErr result (λ e. e ≢ OutOfMemory → spec.read text.now ≡ Err e) }
 {
     let tokens = tokens(alloc, text)?;
     let query = parse(alloc, text, &tokens)?;
-    Ok((query, any_parameter(&tokens)))
-}
-
-fn any_parameter(tokens: &Vec<Token<'_>>) -> bool
-    ensures { result ≡ any_parameter (tokens_view tokens.now.items) }
-{
-    for token in tokens {
-        if matches!(
-            token.lexeme,
-            Lexeme::Parameter(_) | Lexeme::QuotedParameter(_)
-        ) {
-            return true;
-        }
-    }
-    false
+    let parameters = parameter_names(alloc, &tokens)?;
+    Ok((query, parameters))
 }

@@ -1,6 +1,6 @@
 //! What is kept of a query text.
-ghost use Rattle.std.specs.Prelude.{◌≡◌, is_some};
-ghost use Rattle.pg_plan.specs.Parameters.{has_parameters};
+ghost use Rattle.std.specs.Prelude.{◌≡◌, is_some, map, string_bytes};
+ghost use Rattle.pg_meaning.specs.Grammar.{parameters_of};
 ghost use Rattle.pg_plan.specs.Updates.{updates};
 ghost use Rattle.pg_run.specs.Plain.{answered_statement};
 ghost use Rattle.pg_syntax_tree.specs.View.{query_view};
@@ -23,10 +23,10 @@ pub enum Statement<'a> {
 pub struct Plan {
     pub(crate) query: Query,
     writes: bool,
-    names_parameter: bool,
+    parameters: Vec<String>,
     is_answered: bool,
     ghost writing: { writes ≡ updates (query_view query) },
-    ghost naming: { names_parameter ≡ has_parameters (query_view query) },
+    ghost naming: { map string_bytes parameters.items ≡ parameters_of (query_view query) },
     ghost answering: { is_answered ≡ is_some (answered_statement (query_view query)) },
 }
 
@@ -34,8 +34,8 @@ impl Plan {
     ghost use Rattle.std.specs.Prelude.{option_map};
     ghost use Rattle.pg_plan.specs.Plans.{statement_view, plan_query};
 
-    pub(crate) fn new(query: Query, names_parameter: bool) -> Self
-        requires { names_parameter ≡ has_parameters (query_view query) }
+    pub(crate) fn new(query: Query, parameters: Vec<String>) -> Self
+        requires { map string_bytes parameters.items ≡ parameters_of (query_view query) }
         ensures { plan_query result ≡ query_view query }
     {
         let writes = any_updates(&query.clauses);
@@ -43,7 +43,7 @@ impl Plan {
         Plan {
             query,
             writes,
-            names_parameter,
+            parameters,
             is_answered,
         }
     }
@@ -55,10 +55,11 @@ impl Plan {
         self.writes
     }
 
-    pub fn names_parameter(&self) -> bool
-        ensures { result ≡ has_parameters (plan_query self.now) }
+    /// The parameters that its text names, in text order, each as often as it stands there.
+    pub fn parameters(&self) -> &Vec<String>
+        ensures { map string_bytes result.now.items ≡ parameters_of (plan_query self.now) }
     {
-        self.names_parameter
+        &self.parameters
     }
 
     /// Its statement, where it is answered so far.

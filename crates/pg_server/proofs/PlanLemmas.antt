@@ -5,6 +5,7 @@ use Rattle.std.proofs.lemmas.Bool.Decides.{leb_tells}
 use Rattle.std.proofs.lemmas.List.{set-get_or}
 use Rattle.pg_graph.specs.Content.{Seen, Keeps}
 use Rattle.pg_json.specs.Requests.{query}
+use Rattle.pg_meaning.specs.Value.{Entries}
 use Rattle.pg_meaning.specs.Answer.{◌>>=◌, ◌>>◌, unless}
 use Rattle.pg_meaning.specs.Graph.{Graph}
 use Rattle.pg_meaning.specs.declared.fault.Fault.{Fault}
@@ -30,7 +31,7 @@ server_of cache tenants = record { cache = cache; tenants = tenants }
 -- ---- one tenant's answer
 
 module _ {T S : Type 0} (seen : Seen T S) (tenants : List (Tenant T)) (old new : S) (all : AllFit seen tenants old) (t : ℕ) (was now : Tenant T) (lt : t < length tenants)
-    (at : was ≡ get_or tenants t was) (keeps : Keeps seen was.store.tables old now.store.tables new) (settings : now.settings ≡ was.settings) (cache : ℕ) (token : List ℕ) (plan : Plan) where
+    (at : was ≡ get_or tenants t was) (keeps : Keeps seen was.store.tables old now.store.tables new) (settings : now.settings ≡ was.settings) (cache : ℕ) (token : List ℕ) (plan : Plan) (parameters : Entries) where
   abbrev before : State
   before = state_of seen was old
 
@@ -47,7 +48,7 @@ module _ {T S : Type 0} (seen : Seen T S) (tenants : List (Tenant T)) (old new :
   others = others_stay seen tenants old new all t was now lt at keeps settings
 
   abbrev told : Answered
-  told = plan_answered before token plan
+  told = plan_answered before token plan parameters
 
   abbrev with_new : (graph : Graph) → State
   with_new graph = record before { graph = graph }
@@ -72,8 +73,8 @@ module _ {T S : Type 0} (seen : Seen T S) (tenants : List (Tenant T)) (old new :
   )
 
   pub runs_plan : (r : Result (List ℕ) Fault) → IfOk r (λ bytes. told ≡ record { reply = bytes; graph = graph_of_store seen now.store new })
-      → IfErr r (λ e. e ≢ OutOfMemory → told ≡ refused before.graph e) → OnErr r (graph_of_store seen now.store new ≡ before.graph) → RunsPlan t token plan old_server r new_server
-  runs_plan r ok err same = subst (λ s. Gives old_server t (with_graph s (plan_answered s token plan)) r new_server) (sym here) (by_result r ok err same)
+      → IfErr r (λ e. e ≢ OutOfMemory → told ≡ refused before.graph e) → OnErr r (graph_of_store seen now.store new ≡ before.graph) → RunsPlan t token plan parameters old_server r new_server
+  runs_plan r ok err same = subst (λ s. Gives old_server t (with_graph s (plan_answered s token plan parameters)) r new_server) (sym here) (by_result r ok err same)
 
 -- ---- from the plan to the text
 
@@ -84,23 +85,23 @@ short_enough text h =
       | inr w ↦ (let other : Err TextTooLong ≡ Ok tt = sym (ap (λ b. unless b TextTooLong) w.0) ∙ h in absurd cc)
     ]
 
-module _ (t : ℕ) (token text : List ℕ) where
-  answers_alike : (s : State) (plan : Plan) → length text ≤ greatest_text → IsPlanOfText text plan → plan_answered s token plan ≡ query_answered s token text
+module _ (t : ℕ) (token text : List ℕ) (parameters : Entries) where
+  answers_alike : (s : State) (plan : Plan) → length text ≤ greatest_text → IsPlanOfText text plan → plan_answered s token plan parameters ≡ query_answered s token text parameters
   answers_alike s plan short is =
-      ap (answered s.graph) (sym (any_plan_answers (may_write s.settings token) s.settings.max_steps s.settings.max_elements s.graph text plan short is))
+      ap (answered s.graph) (sym (any_plan_answers (may_write s.settings token) s.settings.max_steps s.settings.max_elements parameters s.graph text plan short is))
 
   pub replies : (old mid new : ServerState) (plan : Plan) (r : Result (List ℕ) Fault) → mid ≡ old → tested_length text ≡ Ok tt → IsPlanOfText text plan
-      → RunsPlan t token plan mid r new → RepliesAt t old (query token text) r new
+      → RunsPlan t token plan parameters mid r new → RepliesAt t old (query token text parameters) r new
   replies old mid new plan r same short is runs =
-      subst (λ a. Gives old t (with_graph (state_at old t) a) r new) (answers_alike (state_at old t) plan (short_enough text short) is) (subst (λ s. RunsPlan t token plan s r new) same runs)
+      subst (λ a. Gives old t (with_graph (state_at old t) a) r new) (answers_alike (state_at old t) plan (short_enough text short) is) (subst (λ s. RunsPlan t token plan parameters s r new) same runs)
 
   -- a text that is refused before it has a plan
-  refused_outcome : (s : State) (e : Fault) → tested_length text ≡ Ok tt → text_checked text ≡ Err e → query_answered s token text ≡ refused s.graph e
+  refused_outcome : (s : State) (e : Fault) → tested_length text ≡ Ok tt → text_checked text ≡ Err e → query_answered s token text parameters ≡ refused s.graph e
   refused_outcome s e short is =
-      ap (λ r. answered s.graph ((r >> text_checked text) >>= query_outcome (may_write s.settings token) s.settings.max_steps s.settings.max_elements s.graph)) short
-      ∙ ap (λ r. answered s.graph (r >>= query_outcome (may_write s.settings token) s.settings.max_steps s.settings.max_elements s.graph)) is
+      ap (λ r. answered s.graph ((r >> text_checked text) >>= query_outcome (may_write s.settings token) s.settings.max_steps s.settings.max_elements parameters s.graph)) short
+      ∙ ap (λ r. answered s.graph (r >>= query_outcome (may_write s.settings token) s.settings.max_steps s.settings.max_elements parameters s.graph)) is
 
-  pub refuses : (old new : ServerState) (e : Fault) → new ≡ old → tested_length text ≡ Ok tt → (e ≢ OutOfMemory → text_checked text ≡ Err e) → RepliesAt t old (query token text) (Err e) new
+  pub refuses : (old new : ServerState) (e : Fault) → new ≡ old → tested_length text ≡ Ok tt → (e ≢ OutOfMemory → text_checked text ≡ Err e) → RepliesAt t old (query token text parameters) (Err e) new
   refuses old new e same short is = (
     same,
     λ other. (

@@ -20,8 +20,8 @@ use Rattle.pg_tenant.proofs.AnswerLemmas.{refusal_leaves}
 use Rattle.pg_tenant.specs.Outcomes.{text_outcome}
 
 pub refusals_keep : RefusalsKeep
-refusals_keep state (query token text) f is =
-    let outcome = text_outcome (may_write state.settings token) state.settings.max_steps state.settings.max_elements state.graph text in
+refusals_keep state (query token text parameters) f is =
+    let outcome = text_outcome (may_write state.settings token) state.settings.max_steps state.settings.max_elements parameters state.graph text in
     ap (λ (g : Graph). let s : State = record state { graph = g } in s) (refusal_leaves state.graph outcome f is)
 refusals_keep state (status token) f is = refl
 
@@ -29,7 +29,7 @@ pub refused_keeps : (state : State) (request : Request) → is_want_of_memory (s
 refused_keeps state request h = refusals_keep state request OutOfMemory ((bytes_eq-Decides (solo state request).reply (refusal_text OutOfMemory)).0 h)
 
 pub settings_stay : (state : State) (request : Request) → (solo state request).state.settings ≡ state.settings
-settings_stay state (query token text) = refl
+settings_stay state (query token text parameters) = refl
 settings_stay state (status token) = refl
 
 -- ---- a reply that may be too long

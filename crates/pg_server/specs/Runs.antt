@@ -5,7 +5,6 @@ use Rattle.pg_json.specs.Requests.{Request, query, status, meaning}
 use Rattle.pg_meaning.specs.Agreement.{OutcomeAgrees}
 use Rattle.pg_meaning.specs.Queries.{answer_of}
 use Rattle.pg_meaning.specs.Tree.{Query}
-use Rattle.pg_meaning.specs.Value.{no_entries}
 use Rattle.pg_meaning.specs.declared.fault.Fault.{Fault}
 use Rattle.pg_meaning.specs.declared.fault.Fault.TheVariants.{FrameTooLong, BadRequest, UnknownToken, OutOfMemory}
 use Rattle.pg_server.specs.Exchange.{Exchange, replies_of, Chain}
@@ -25,7 +24,7 @@ abbrev pub asked : List ℕ → Option Request
 asked body = if is_short body then meaning body else None
 
 abbrev pub token_of : Request → List ℕ
-token_of (query token text) = token
+token_of (query token text parameters) = token
 token_of (status token) = token
 
 -- the request has one of these tokens
@@ -42,9 +41,9 @@ own tokens es = filter (λ e. shows_one_of tokens (asked e.body) && not (is_want
 
 -- what a query that reads, has its parameters and is answered so far answers is one that its meaning gives: columns, rows and the new graph, or a fault in which it may end
 abbrev pub Means : State → Request → Type 0
-Means old (query token text) =
-    (q : Query) → text_query text ≡ Ok q → are_given q ≡ Ok tt → is_built q ≡ Ok tt
-    → OutcomeAgrees q no_entries old.settings.max_elements old.graph (answer_of [] q no_entries old.graph old.settings.max_steps old.settings.max_elements)
+Means old (query token text parameters) =
+    (q : Query) → text_query text ≡ Ok q → are_given parameters q ≡ Ok tt → is_built q ≡ Ok tt
+    → OutcomeAgrees q parameters old.settings.max_elements old.graph (answer_of [] q parameters old.graph old.settings.max_steps old.settings.max_elements)
 Means old (status token) = Unit {0}
 
 -- the tenant alone answers these requests with these replies, which their meaning gives, and ends in this state

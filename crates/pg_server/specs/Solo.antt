@@ -8,6 +8,7 @@ use Rattle.pg_json.specs.Refusals.{refusal_text}
 use Rattle.pg_json.specs.Replies.{status_data, max_reply}
 use Rattle.pg_json.specs.Requests.{Request, query, status}
 use Rattle.pg_meaning.specs.Graph.{element_count}
+use Rattle.pg_meaning.specs.Value.{Entries}
 use Rattle.pg_meaning.specs.declared.fault.Fault.TheVariants.{ReplyTooLong}
 use Rattle.pg_server.specs.Settings.{TenantSettings}
 use Rattle.pg_server.specs.State.{State}
@@ -25,8 +26,8 @@ abbrev pub may_write : TenantSettings → (token : List ℕ) → Bool
 may_write settings token = list_any (λ t. bytes_eq t.text token && is_write t.rights) settings.tokens
 
 -- the reply to a query, and the graph that it leaves
-abbrev pub query_answered : State → (token text : List ℕ) → Answered
-query_answered s token text = answered s.graph (text_outcome (may_write s.settings token) s.settings.max_steps s.settings.max_elements s.graph text)
+abbrev pub query_answered : State → (token text : List ℕ) → (parameters : Entries) → Answered
+query_answered s token text parameters = answered s.graph (text_outcome (may_write s.settings token) s.settings.max_steps s.settings.max_elements parameters s.graph text)
 
 -- {"code":0,"elements":n,"indexes":[],"max_elements":n,"max_steps":n,"next_node":n,"next_rel":n}: no index can be made yet
 unfoldable pub status_text : State → List ℕ
@@ -45,5 +46,5 @@ abbrev pub with_graph : State → Answered → Replied
 with_graph s a = record { reply = a.reply; state = record s { graph = a.graph } }
 
 abbrev pub solo : State → Request → Replied
-solo s (query token text) = with_graph s (query_answered s token text)
+solo s (query token text parameters) = with_graph s (query_answered s token text parameters)
 solo s (status token) = record { reply = limited (status_text s); state = s }

@@ -2,6 +2,7 @@
 use Rattle.std.specs.Prelude.{◌≡◌, ◌≢◌, ℕ, ◌⊎◌, List, Option, Some, None, Result, Ok, Err, position, slice_set}
 use Rattle.pg_json.specs.Refusals.{refusal_text}
 use Rattle.pg_json.specs.Requests.{Request}
+use Rattle.pg_meaning.specs.Value.{Entries}
 use Rattle.pg_meaning.specs.declared.fault.Fault.{Fault}
 use Rattle.pg_meaning.specs.declared.fault.Fault.TheVariants.{UnknownToken, OutOfMemory}
 use Rattle.pg_plan.specs.declared.statement.Plan.{Plan}
@@ -38,8 +39,8 @@ Gives old t replied (Err e) new = (new ≡ old) × (e ≢ OutOfMemory → (refus
 abbrev pub RepliesAt : ℕ → ServerState → Request → Result (List ℕ) Fault → ServerState → Type 0
 RepliesAt t old request result new = Gives old t (solo (state_at old t) request) result new
 
-abbrev pub plan_answered : State → (token : List ℕ) → Plan → Answered
-plan_answered s token plan = answered s.graph (plan_outcome (may_write s.settings token) s.settings.max_steps s.settings.max_elements s.graph plan)
+abbrev pub plan_answered : State → (token : List ℕ) → Plan → (parameters : Entries) → Answered
+plan_answered s token plan parameters = answered s.graph (plan_outcome (may_write s.settings token) s.settings.max_steps s.settings.max_elements parameters s.graph plan)
 
-abbrev pub RunsPlan : ℕ → (token : List ℕ) → Plan → ServerState → Result (List ℕ) Fault → ServerState → Type 0
-RunsPlan t token plan old result new = Gives old t (with_graph (state_at old t) (plan_answered (state_at old t) token plan)) result new
+abbrev pub RunsPlan : ℕ → (token : List ℕ) → Plan → (parameters : Entries) → ServerState → Result (List ℕ) Fault → ServerState → Type 0
+RunsPlan t token plan parameters old result new = Gives old t (with_graph (state_at old t) (plan_answered (state_at old t) token plan parameters)) result new

@@ -13,6 +13,7 @@ ghost use Rattle.pg_server.specs.Solo.{limited, status_text};
 ghost use Rattle.pg_server.specs.State.{opening_server, state_at};
 ghost use Rattle.pg_server.specs.Step.{Answers, StepAt, RepliesAt, RunsPlan};
 ghost use Rattle.pg_server.specs.Tenants.{AreOpening};
+ghost use Rattle.pg_value_core.specs.Given.{parameters_view};
 
 use crate::config::Config;
 use crate::counted::Counted;
@@ -28,6 +29,7 @@ use pg_json::{ReplyBytes, RequestBody, RequestScratch, read_request, refusal, wr
 use pg_meaning::Fault;
 use pg_plan::{Plan, check_length};
 use pg_store::Store;
+use pg_value_core::Parameters;
 use std::alloc::{AllocError, Global};
 use std::hash::BuildHasher;
 use std::io::{Read, Write};
@@ -114,28 +116,44 @@ impl<S: BuildHasher + Drop, T: Tables> Server<S, T> {
         ensures { RepliesAt place self.old (request_view request.now) result self.new }
     {
         match request {
-            RequestBody::Query { token, text } => self.query(place, token.as_str(), text.as_str()),
+            RequestBody::Query {
+                token,
+                text,
+                parameters,
+            } => self.query(place, token.as_str(), text.as_str(), parameters),
             RequestBody::Status { token: _ } => self.status(place),
         }
     }
 
     /// The reply to a query of a tenant.
-    fn query(&mut self, place: usize, token: &str, text: &str) -> Result<ReplyBytes, Fault>
+    fn query(
+        &mut self,
+        place: usize,
+        token: &str,
+        text: &str,
+        parameters: &Parameters,
+    ) -> Result<ReplyBytes, Fault>
         requires { place < length self.old.tenants }
-        ensures { RepliesAt place self.old (query token.now text.now) result self.new }
+        ensures { RepliesAt place self.old (query token.now text.now (parameters_view parameters.now)) result self.new }
     {
         check_length(text)?;
         match self.plans.plan_for(self.alloc, text) {
-            Ok(plan) => self.run_plan(place, token, &plan),
+            Ok(plan) => self.run_plan(place, token, &plan, parameters),
             Err(fault) => Err(fault),
         }
     }
 
-    fn run_plan(&mut self, place: usize, token: &str, plan: &Plan) -> Result<ReplyBytes, Fault>
+    fn run_plan(
+        &mut self,
+        place: usize,
+        token: &str,
+        plan: &Plan,
+        parameters: &Parameters,
+    ) -> Result<ReplyBytes, Fault>
         requires { place < length self.old.tenants }
-        ensures { RunsPlan place token.now plan.now self.old result self.new }
+        ensures { RunsPlan place token.now plan.now (parameters_view parameters.now) self.old result self.new }
     {
-        self.tenants[place].answer_plan(self.alloc, &mut self.shared, token, plan)
+        self.tenants[place].answer_plan(self.alloc, &mut self.shared, token, plan, parameters)
     }
 
     /// What a tenant has and may have.
@@ -180,7 +198,12 @@ fn token_of(request: &RequestBody) -> &str
     ensures { result.now ≡ token_shown (request_view request.now) }
 {
     match request {
-        RequestBody::Query { token, text: _ } | RequestBody::Status { token } => token.as_str(),
+        RequestBody::Query {
+            token,
+            text: _,
+            parameters: _,
+        }
+        | RequestBody::Status { token } => token.as_str(),
     }
 }
 

@@ -7,6 +7,7 @@ ghost use Rattle.pg_store.specs.Changes.{Changes};
 ghost use Rattle.pg_store.specs.Stores.{IsFit};
 ghost use Rattle.pg_tenant.specs.Outcomes.{plan_outcome};
 ghost use Rattle.pg_tenant.specs.Replies.{IsAnswer};
+ghost use Rattle.pg_value_core.specs.Given.{parameters_view};
 
 use crate::settings::TenantSettings;
 use pg_graph::Tables;
@@ -15,6 +16,7 @@ use pg_meaning::Fault;
 use pg_plan::Plan;
 use pg_store::Store;
 use pg_tenant::answer_plan;
+use pg_value_core::Parameters;
 use std::alloc::Global;
 
 #[derive(Drop)]
@@ -31,14 +33,23 @@ impl<T: Tables> Tenant<T> {
         shared: &mut T::Shared,
         token: &str,
         plan: &Plan,
+        parameters: &Parameters,
     ) -> Result<ReplyBytes, Fault>
         requires fit { IsFit T.seen self.old.store shared.old }
         ensures settings { self.new.settings ≡ self.old.settings }
-        ensures changes { Changes T.seen self.old.store shared.old self.new.store shared.new result (λ start end. IsAnswer result (plan_outcome (may_write self.old.settings token.now) self.old.settings.max_steps self.old.settings.max_elements start plan.now) start end) }
+        ensures changes { Changes T.seen self.old.store shared.old self.new.store shared.new result (λ start end. IsAnswer result (plan_outcome (may_write self.old.settings token.now) self.old.settings.max_steps self.old.settings.max_elements (parameters_view parameters.now) start plan.now) start end) }
     {
         let may_write = self.settings.may_write(token);
         let quota = self.settings.quota();
-        answer_plan(alloc, &mut self.store, shared, quota, may_write, plan)
+        answer_plan(
+            alloc,
+            &mut self.store,
+            shared,
+            quota,
+            may_write,
+            plan,
+            parameters,
+        )
     }
 
     /// What the tenant has and may have.

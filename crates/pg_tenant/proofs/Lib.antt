@@ -1,3 +1,4 @@
 pub mod AnswerLemmas
 pub mod OutcomeLemmas
+mod ParameterLemmas
 pub mod ReplyLemmas

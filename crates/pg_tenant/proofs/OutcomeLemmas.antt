@@ -1,28 +1,28 @@
 -- A text that reads answers as its query means, and as any plan of it does.
 use Rattle.std.proofs.Common.{◌≡◌, ℕ, ◌≤◌, Bool, true, false, not, ◌||◌, List, [], ◌∷◌, length, Option, Some, None, is_some, Result, Ok, Err, refl, sym, ap, ◌∙◌}
-use Rattle.std.proofs.lemmas.Bool.{le-leb}
+use Rattle.std.proofs.lemmas.Bool.{and_parts, le-leb}
 use Rattle.pg_meaning.specs.Agreement.{AreGiven}
 use Rattle.pg_meaning.specs.Answer.{◌>>=◌, ◌>>◌, unless}
+use Rattle.pg_meaning.specs.Entries.{at_key}
 use Rattle.pg_meaning.specs.Grammar.{parameters_of}
 use Rattle.pg_meaning.specs.Graph.{Graph}
 use Rattle.pg_meaning.specs.Names.{Names}
 use Rattle.pg_meaning.specs.Queries.{Outcome, answer_of}
-use Rattle.pg_meaning.specs.Tokens.{is_empty}
+use Rattle.pg_meaning.specs.Texts.{text_checked}
 use Rattle.pg_meaning.specs.Tree.{Query}
-use Rattle.pg_meaning.specs.Value.{no_entries}
+use Rattle.pg_meaning.specs.Value.{Entries, no_entries}
 use Rattle.pg_meaning.specs.declared.fault.Fault.{Fault}
 use Rattle.pg_meaning.specs.declared.fault.Fault.TheVariants.{TextTooLong, ReadOnly, MissingParameter, NotYet}
 use Rattle.pg_plan.proofs.MeaningLemmas.{texts_mean}
-use Rattle.pg_plan.specs.Parameters.{has_parameters}
-use Rattle.pg_meaning.specs.Texts.{text_checked}
 use Rattle.pg_plan.specs.Reading.{greatest_text, tested_length}
 use Rattle.pg_plan.specs.Updates.{updates}
-use Rattle.pg_run.proofs.PlainLemmas.{answered_simple, answered_query}
+use Rattle.pg_run.proofs.PlainLemmas.{answered_plain, answered_simple, answered_query}
 use Rattle.pg_run.proofs.QueryLemmas.{one_node_answers}
 use Rattle.pg_run.specs.Answers.{one_node_answer}
 use Rattle.pg_run.specs.OneNode.{OneNode}
 use Rattle.pg_run.specs.Plain.{answered_statement}
-use Rattle.pg_tenant.specs.Outcomes.{query_outcome, AnyPlanAnswers, TextMeans}
+use Rattle.pg_tenant.proofs.ParameterLemmas.{same_answer}
+use Rattle.pg_tenant.specs.Outcomes.{all_given, query_outcome, AnyPlanAnswers, TextMeans}
 
 -- ---- any plan of the text
 
@@ -30,9 +30,9 @@ short : (text : List ℕ) → length text ≤ greatest_text → tested_length te
 short text h = ap (λ b. unless b TextTooLong) (le-leb (length text) greatest_text h)
 
 pub any_plan_answers : AnyPlanAnswers
-any_plan_answers may_write max_steps max_elements graph text plan fits h =
-    ap (λ r. (r >> text_checked text) >>= query_outcome may_write max_steps max_elements graph) (short text fits)
-    ∙ ap (λ r. r >>= query_outcome may_write max_steps max_elements graph) h.is
+any_plan_answers may_write max_steps max_elements parameters graph text plan fits h =
+    ap (λ r. (r >> text_checked text) >>= query_outcome may_write max_steps max_elements parameters graph) (short text fits)
+    ∙ ap (λ r. r >>= query_outcome may_write max_steps max_elements parameters graph) h.is
 
 -- ---- its meaning
 
@@ -44,41 +44,52 @@ built_by : (o : Option OneNode) → unless (is_some o) NotYet ≡ Ok tt → (x :
 built_by None h = absurd cc
 built_by (Some x) h = (x, refl)
 
-none_named : (names : Names) → unless (not (not (is_empty names))) MissingParameter ≡ Ok tt → AreGiven names no_entries
-none_named [] h = tt
-none_named (n ∷ names) h = absurd cc
+passed : (b : Bool) → unless b MissingParameter ≡ Ok tt → b ≡ true
+passed true h = refl
+passed false h = absurd cc
+
+each_given : (names : Names) (parameters : Entries) → all_given names parameters ≡ true → AreGiven names parameters
+each_given [] parameters h = tt
+each_given (n ∷ names) parameters h = let parts = and_parts (is_some (at_key n parameters)) (all_given names parameters) h in (parts.0, each_given names parameters parts.1)
 
 pub text_means : TextMeans
-text_means max_steps max_elements graph text q is h given built =
+text_means max_steps max_elements parameters graph text q is h given built =
     let x = built_by (answered_statement q) built in
-    texts_mean text q x.0 no_entries graph max_steps max_elements (behind (tested_length text) (text_checked text) q h) x.1 (none_named (parameters_of q) given) is
+    texts_mean text q x.0 parameters graph max_steps max_elements (behind (tested_length text) (text_checked text) q h) x.1
+    (each_given (parameters_of q) parameters (passed (all_given (parameters_of q) parameters) given)) is
 
 -- ---- the tests before any clause
 
-module _ (may_write : Bool) (max_steps max_elements : ℕ) (graph : Graph) (q : Query) where
+module _ (may_write : Bool) (max_steps max_elements : ℕ) (parameters : Entries) (graph : Graph) (q : Query) where
   abbrev outcome : Result Outcome Fault
-  outcome = query_outcome may_write max_steps max_elements graph q
+  outcome = query_outcome may_write max_steps max_elements parameters graph q
+
+  abbrev answer : Result Outcome Fault
+  answer = answer_of [] q parameters graph max_steps max_elements
+
+  abbrev given : Bool
+  given = all_given (parameters_of q) parameters
 
   abbrev behind_tests : Bool → Bool → Bool → Result Outcome Fault → Result Outcome Fault
-  behind_tests may given built answer = unless may ReadOnly >> (unless given MissingParameter >> (unless built NotYet >> answer))
+  behind_tests may all built rest = unless may ReadOnly >> (unless all MissingParameter >> (unless built NotYet >> rest))
 
   pub read_only : (may_write || not (updates q)) ≡ false → outcome ≡ Err ReadOnly
-  read_only h = ap (λ b. behind_tests b (not (has_parameters q)) (is_some (answered_statement q)) (answer_of [] q no_entries graph max_steps max_elements)) h
+  read_only h = ap (λ b. behind_tests b given (is_some (answered_statement q)) answer) h
 
-  pub missing : (may_write || not (updates q)) ≡ true → has_parameters q ≡ true → outcome ≡ Err MissingParameter
-  missing h g = ap (λ b. behind_tests b (not (has_parameters q)) (is_some (answered_statement q)) (answer_of [] q no_entries graph max_steps max_elements)) h
-      ∙ ap (λ b. behind_tests true (not b) (is_some (answered_statement q)) (answer_of [] q no_entries graph max_steps max_elements)) g
+  pub missing : (may_write || not (updates q)) ≡ true → given ≡ false → outcome ≡ Err MissingParameter
+  missing h g = ap (λ b. behind_tests b given (is_some (answered_statement q)) answer) h ∙ ap (λ b. behind_tests true b (is_some (answered_statement q)) answer) g
 
-  behind_given : (may_write || not (updates q)) ≡ true → has_parameters q ≡ false → outcome ≡ behind_tests true true (is_some (answered_statement q)) (answer_of [] q no_entries graph max_steps max_elements)
-  behind_given h g = ap (λ b. behind_tests b (not (has_parameters q)) (is_some (answered_statement q)) (answer_of [] q no_entries graph max_steps max_elements)) h
-      ∙ ap (λ b. behind_tests true (not b) (is_some (answered_statement q)) (answer_of [] q no_entries graph max_steps max_elements)) g
+  behind_given : (may_write || not (updates q)) ≡ true → given ≡ true → outcome ≡ behind_tests true true (is_some (answered_statement q)) answer
+  behind_given h g = ap (λ b. behind_tests b given (is_some (answered_statement q)) answer) h ∙ ap (λ b. behind_tests true b (is_some (answered_statement q)) answer) g
 
-  pub not_built : (may_write || not (updates q)) ≡ true → has_parameters q ≡ false → answered_statement q ≡ None → outcome ≡ Err NotYet
-  not_built h g none = behind_given h g ∙ ap (λ (o : Option OneNode). behind_tests true true (is_some o) (answer_of [] q no_entries graph max_steps max_elements)) none
+  pub not_built : (may_write || not (updates q)) ≡ true → given ≡ true → answered_statement q ≡ None → outcome ≡ Err NotYet
+  not_built h g none = behind_given h g ∙ ap (λ (o : Option OneNode). behind_tests true true (is_some o) answer) none
 
-  pub answered_by : (may_write || not (updates q)) ≡ true → has_parameters q ≡ false → (x : OneNode) → answered_statement q ≡ Some x → outcome ≡ one_node_answer x no_entries graph max_steps max_elements
+  -- no plain statement reads a parameter
+  pub answered_by : (may_write || not (updates q)) ≡ true → given ≡ true → (x : OneNode) → answered_statement q ≡ Some x → outcome ≡ one_node_answer x no_entries graph max_steps max_elements
   answered_by h g x some =
       behind_given h g
-      ∙ ap (λ (o : Option OneNode). behind_tests true true (is_some o) (answer_of [] q no_entries graph max_steps max_elements)) some
-      ∙ ap (λ (p : Query). answer_of [] p no_entries graph max_steps max_elements) (sym (answered_query q x some))
-      ∙ one_node_answers x q.semicolon no_entries graph max_steps max_elements (answered_simple q x some)
+      ∙ ap (λ (o : Option OneNode). behind_tests true true (is_some o) answer) some
+      ∙ ap (λ (p : Query). answer_of [] p parameters graph max_steps max_elements) (sym (answered_query q x some))
+      ∙ one_node_answers x q.semicolon parameters graph max_steps max_elements (answered_simple q x some)
+      ∙ same_answer parameters graph max_steps max_elements x (answered_plain q x some)

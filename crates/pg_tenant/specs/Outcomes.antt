@@ -1,14 +1,17 @@
 -- What a query text gives over a tenant's graph: the text's own tests, whether its token may write, whether its parameters are given, whether it is answered so far, then its clauses.
 use Rattle.std.specs.Prelude.{◌≡◌, ℕ, ◌≤◌, Bool, ◌||◌, not, List, [], length, Result, Ok, is_some}
+use Rattle.std.specs.List.{list_all}
 use Rattle.pg_meaning.specs.Agreement.{OutcomeAgrees}
 use Rattle.pg_meaning.specs.Answer.{◌>>=◌, ◌>>◌, unless}
+use Rattle.pg_meaning.specs.Entries.{at_key}
+use Rattle.pg_meaning.specs.Grammar.{parameters_of}
 use Rattle.pg_meaning.specs.Graph.{Graph, IsGraph}
+use Rattle.pg_meaning.specs.Names.{Names}
 use Rattle.pg_meaning.specs.Queries.{Outcome, answer_of}
 use Rattle.pg_meaning.specs.Tree.{Query}
-use Rattle.pg_meaning.specs.Value.{no_entries}
+use Rattle.pg_meaning.specs.Value.{Entries}
 use Rattle.pg_meaning.specs.declared.fault.Fault.{Fault}
 use Rattle.pg_meaning.specs.declared.fault.Fault.TheVariants.{ReadOnly, MissingParameter, NotYet}
-use Rattle.pg_plan.specs.Parameters.{has_parameters}
 use Rattle.pg_plan.specs.Plans.{IsPlanOfText, plan_query}
 use Rattle.pg_meaning.specs.Texts.{text_checked}
 use Rattle.pg_plan.specs.Reading.{greatest_text, tested_length}
@@ -20,25 +23,29 @@ use Rattle.pg_run.specs.Plain.{answered_statement}
 abbrev pub text_query : List ℕ → Result Query Fault
 text_query text = tested_length text >> text_checked text
 
--- no request carries a parameter yet
-abbrev pub are_given : Query → Result (Unit {0}) Fault
-are_given q = unless (not (has_parameters q)) MissingParameter
+-- the request gives each of these parameters
+abbrev pub all_given : Names → (parameters : Entries) → Bool
+all_given names parameters = list_all (λ name. is_some (at_key name parameters)) names
+
+-- each parameter that the query names, also where nothing is evaluated
+abbrev pub are_given : (parameters : Entries) → Query → Result (Unit {0}) Fault
+are_given parameters q = unless (all_given (parameters_of q) parameters) MissingParameter
 
 -- the whole language is read, and a part of it is answered so far
 abbrev pub is_built : Query → Result (Unit {0}) Fault
 is_built q = unless (is_some (answered_statement q)) NotYet
 
 -- the tests of a query that come before any clause
-abbrev pub early_tests : Bool → Query → Result (Unit {0}) Fault
-early_tests may_write q = unless (may_write || not (updates q)) ReadOnly >> (are_given q >> is_built q)
+abbrev pub early_tests : Bool → (parameters : Entries) → Query → Result (Unit {0}) Fault
+early_tests may_write parameters q = unless (may_write || not (updates q)) ReadOnly >> (are_given parameters q >> is_built q)
 
-module _ (may_write : Bool) (max_steps max_elements : ℕ) where
+module _ (may_write : Bool) (max_steps max_elements : ℕ) (parameters : Entries) where
   abbrev pub permitted : Query → Result (Unit {0}) Fault
   permitted q = unless (may_write || not (updates q)) ReadOnly
 
   -- the tests before any clause, then the clauses
   abbrev pub query_outcome : Graph → Query → Result Outcome Fault
-  query_outcome graph q = permitted q >> (are_given q >> (is_built q >> answer_of [] q no_entries graph max_steps max_elements))
+  query_outcome graph q = permitted q >> (are_given parameters q >> (is_built q >> answer_of [] q parameters graph max_steps max_elements))
 
   abbrev pub text_outcome : Graph → List ℕ → Result Outcome Fault
   text_outcome graph text = text_query text >>= query_outcome graph
@@ -50,11 +57,11 @@ module _ (may_write : Bool) (max_steps max_elements : ℕ) where
 -- whatever plan of a text is at hand, the text's answer is the one under it
 abbrev pub AnyPlanAnswers : Type 0
 AnyPlanAnswers =
-    (may_write : Bool) (max_steps max_elements : ℕ) (graph : Graph) (text : List ℕ) (plan : Plan) → length text ≤ greatest_text → IsPlanOfText text plan
-    → text_outcome may_write max_steps max_elements graph text ≡ plan_outcome may_write max_steps max_elements graph plan
+    (may_write : Bool) (max_steps max_elements : ℕ) (parameters : Entries) (graph : Graph) (text : List ℕ) (plan : Plan) → length text ≤ greatest_text → IsPlanOfText text plan
+    → text_outcome may_write max_steps max_elements parameters graph text ≡ plan_outcome may_write max_steps max_elements parameters graph plan
 
 -- what a text that reads, has its parameters and is answered so far answers is one that the meaning of its query gives
 abbrev pub TextMeans : Type 0
 TextMeans =
-    (max_steps max_elements : ℕ) (graph : Graph) (text : List ℕ) (q : Query) → IsGraph graph → text_query text ≡ Ok q → are_given q ≡ Ok tt → is_built q ≡ Ok tt
-    → OutcomeAgrees q no_entries max_elements graph (answer_of [] q no_entries graph max_steps max_elements)
+    (max_steps max_elements : ℕ) (parameters : Entries) (graph : Graph) (text : List ℕ) (q : Query) → IsGraph graph → text_query text ≡ Ok q → are_given parameters q ≡ Ok tt → is_built q ≡ Ok tt
+    → OutcomeAgrees q parameters max_elements graph (answer_of [] q parameters graph max_steps max_elements)

@@ -1,19 +1,20 @@
 //! What a query answers.
-ghost use Rattle.std.specs.Prelude.{◌≡◌, ◌≤◌, ◌^◌, ◌||◌, not, Err};
+ghost use Rattle.std.specs.Prelude.{◌≡◌, ◌≤◌, ◌^◌, ◌||◌, not, Err, map, string_bytes};
 ghost use Rattle.pg_meaning.specs.declared.fault.Fault.{Fault};
 ghost use Rattle.pg_plan.specs.Plans.{plan_query};
 ghost use Rattle.pg_plan.specs.Updates.{updates};
 ghost use Rattle.pg_store.specs.Changes.{Changes};
 ghost use Rattle.pg_store.specs.Stores.{IsFit};
-ghost use Rattle.pg_tenant.specs.Outcomes.{early_tests, plan_outcome};
+ghost use Rattle.pg_tenant.specs.Outcomes.{all_given, early_tests, plan_outcome};
 ghost use Rattle.pg_tenant.specs.Replies.{IsAnswer};
+ghost use Rattle.pg_value_core.specs.Given.{parameters_view};
 
 use crate::statement::answer_statement;
 use pg_graph::Tables;
 use pg_json::ReplyBytes;
 use pg_plan::Plan;
 use pg_store::Store;
-use pg_value_core::Fault;
+use pg_value_core::{Fault, Parameters};
 use std::alloc::Global;
 
 /// How much a request may cost, and how many elements a tenant may keep.
@@ -30,7 +31,19 @@ fn is_permitted(may_write: bool, plan: &Plan) -> bool
     may_write || !plan.writes()
 }
 
-/// The reply to the query of a plan. What it changes is kept only once the reply's bytes are made.
+/// Whether each of these parameters is given.
+fn are_given(names: &Vec<String>, parameters: &Parameters) -> bool
+    ensures { result ≡ all_given (map string_bytes names.now.items) (parameters_view parameters.now) }
+{
+    for name in names {
+        if parameters.get(name.as_str()).is_none() {
+            return false;
+        }
+    }
+    true
+}
+
+/// The reply to the query of a plan, with these parameters. What it changes is kept only once the reply's bytes are made.
 pub fn answer_plan<T: Tables>(
     alloc: Global,
     store: &mut Store<T>,
@@ -38,17 +51,18 @@ pub fn answer_plan<T: Tables>(
     quota: Quota,
     may_write: bool,
     plan: &Plan,
+    parameters: &Parameters,
 ) -> Result<ReplyBytes, Fault>
     requires fit { IsFit T.seen store.old shared.old }
     requires quota { quota.max_elements ≤ 2 ^ 63 }
-    ensures changes { Changes T.seen store.old shared.old store.new shared.new result (λ start end. IsAnswer result (plan_outcome may_write quota.max_steps quota.max_elements start plan.now) start end) }
+    ensures changes { Changes T.seen store.old shared.old store.new shared.new result (λ start end. IsAnswer result (plan_outcome may_write quota.max_steps quota.max_elements (parameters_view parameters.now) start plan.now) start end) }
     // no memory is asked for before these tests are passed
-    ensures early { (fault : Fault) → early_tests may_write (plan_query plan.now) ≡ Err fault → result ≡ Err fault }
+    ensures early { (fault : Fault) → early_tests may_write (parameters_view parameters.now) (plan_query plan.now) ≡ Err fault → result ≡ Err fault }
 {
     if !is_permitted(may_write, plan) {
         return Err(Fault::ReadOnly);
     }
-    if plan.names_parameter() {
+    if !are_given(plan.parameters(), parameters) {
         return Err(Fault::MissingParameter);
     }
     match plan.statement() {

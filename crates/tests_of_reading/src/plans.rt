@@ -5,7 +5,7 @@ use pg_plan::{Plan, Statement, check_length, column_names, plan_text};
 use std::alloc::{AllocError, Global};
 use std::test::Fail;
 
-/// The kind of the statement, whether it writes, whether it names a parameter, and its columns.
+/// The kind of the statement, whether it writes, the parameters that it names, and its columns.
 fn kept(alloc: Global, plan: &Plan) -> Result<String, AllocError> {
     let none = Vec::new(alloc);
     let (kind, items) = match plan.statement() {
@@ -17,9 +17,9 @@ fn kept(alloc: Global, plan: &Plan) -> Result<String, AllocError> {
     };
     let names = column_names(alloc, items)?;
     format!(in alloc;
-        "{kind} {} {} {names:?}",
+        "{kind} {} {:?} {names:?}",
         plan.writes(),
-        plan.names_parameter()
+        plan.parameters()
     )
 }
 
@@ -35,26 +35,26 @@ fn texts_have_their_plans(rt: HostRuntime) -> Result<(), Fail> {
     let rows = [
         (
             "RETURN [1, 'a'] = [] AS x, 1;",
-            "return false false [\"x\", \"1\"]",
+            "return false [] [\"x\", \"1\"]",
         ),
         (
             "RETURN 1 = 2 IN [3]",
-            "return false false [\"1 = 2 IN [3]\"]",
+            "return false [] [\"1 = 2 IN [3]\"]",
         ),
-        ("CREATE (n:P:P {x: 1, y: NULL})", "create true false []"),
+        ("CREATE (n:P:P {x: 1, y: NULL})", "create true [] []"),
         (
             "CREATE (n:P {x:1}) RETURN id(n), n.x",
-            "create and return true false [\"id(n)\", \"n.x\"]",
+            "create and return true [] [\"id(n)\", \"n.x\"]",
         ),
         (
             "CREATE () RETURN 1 AS n;",
-            "create and return true false [\"n\"]",
+            "create and return true [] [\"n\"]",
         ),
         (
             "MATCH (n:P {x: 'a'}) RETURN n.x AS a, [n, ID(n)]",
-            "match false false [\"a\", \"[n, ID(n)]\"]",
+            "match false [] [\"a\", \"[n, ID(n)]\"]",
         ),
-        ("MATCH (`n`) RETURN '\\n' AS x", "match false false [\"x\"]"),
+        ("MATCH (`n`) RETURN '\\n' AS x", "match false [] [\"x\"]"),
     ];
     for (text, want) in rows {
         let told = shown(rt.alloc(), text)?;
@@ -66,36 +66,36 @@ fn texts_have_their_plans(rt: HostRuntime) -> Result<(), Fail> {
 #[test]
 fn more_texts_read_than_are_answered(rt: HostRuntime) -> Result<(), Fail> {
     let rows = [
-        ("RETURN $p", "unanswered false true []"),
-        ("CREATE (n $`p`)", "unanswered true true []"),
-        ("RETURN 1 + 2", "unanswered false false []"),
-        ("RETURN (1)", "unanswered false false []"),
-        ("RETURN 1 = 1 = 1", "unanswered false false []"),
-        ("RETURN 1 IN [1] IN [TRUE]", "unanswered false false []"),
-        ("RETURN DISTINCT 1", "unanswered false false []"),
-        ("RETURN 1 AS x ORDER BY x", "unanswered false false []"),
-        ("RETURN 1 SKIP 1", "unanswered false false []"),
-        ("RETURN 1 LIMIT 1", "unanswered false false []"),
-        ("MATCH (n) RETURN *", "unanswered false false []"),
-        ("MATCH (n) RETURN n.x.y", "unanswered false false []"),
-        ("MATCH (n) RETURN n.x:P", "unanswered false false []"),
-        ("MATCH (n) RETURN labels(n)", "unanswered false false []"),
-        ("MATCH (n), (m) RETURN n", "unanswered false false []"),
-        ("MATCH p = (n) RETURN n", "unanswered false false []"),
+        ("RETURN $p", "unanswered false [\"p\"] []"),
+        ("CREATE (n $`p`)", "unanswered true [\"p\"] []"),
+        ("RETURN 1 + 2", "unanswered false [] []"),
+        ("RETURN (1)", "unanswered false [] []"),
+        ("RETURN 1 = 1 = 1", "unanswered false [] []"),
+        ("RETURN 1 IN [1] IN [TRUE]", "unanswered false [] []"),
+        ("RETURN DISTINCT 1", "unanswered false [] []"),
+        ("RETURN 1 AS x ORDER BY x", "unanswered false [] []"),
+        ("RETURN 1 SKIP 1", "unanswered false [] []"),
+        ("RETURN 1 LIMIT 1", "unanswered false [] []"),
+        ("MATCH (n) RETURN *", "unanswered false [] []"),
+        ("MATCH (n) RETURN n.x.y", "unanswered false [] []"),
+        ("MATCH (n) RETURN n.x:P", "unanswered false [] []"),
+        ("MATCH (n) RETURN labels(n)", "unanswered false [] []"),
+        ("MATCH (n), (m) RETURN n", "unanswered false [] []"),
+        ("MATCH p = (n) RETURN n", "unanswered false [] []"),
         (
             "MATCH (n) WHERE n.x = 1 RETURN n",
-            "unanswered false false []",
+            "unanswered false [] []",
         ),
-        ("OPTIONAL MATCH (n) RETURN n", "unanswered false false []"),
-        ("MATCH (a)-[r]->(b) RETURN a", "unanswered false false []"),
-        ("UNWIND [1] AS x RETURN x", "unanswered false false []"),
-        ("MATCH (n) WITH n RETURN n", "unanswered false false []"),
-        ("CREATE (a)-[:R]->(b)", "unanswered true false []"),
-        ("CREATE (n {x: 1 + 2}) RETURN n", "unanswered true false []"),
-        ("MERGE (n)", "unanswered true false []"),
-        ("MATCH (n) SET n.x = 1", "unanswered true false []"),
-        ("MATCH (n) REMOVE n.x", "unanswered true false []"),
-        ("MATCH (n) DETACH DELETE n", "unanswered true false []"),
+        ("OPTIONAL MATCH (n) RETURN n", "unanswered false [] []"),
+        ("MATCH (a)-[r]->(b) RETURN a", "unanswered false [] []"),
+        ("UNWIND [1] AS x RETURN x", "unanswered false [] []"),
+        ("MATCH (n) WITH n RETURN n", "unanswered false [] []"),
+        ("CREATE (a)-[:R]->(b)", "unanswered true [] []"),
+        ("CREATE (n {x: 1 + 2}) RETURN n", "unanswered true [] []"),
+        ("MERGE (n)", "unanswered true [] []"),
+        ("MATCH (n) SET n.x = 1", "unanswered true [] []"),
+        ("MATCH (n) REMOVE n.x", "unanswered true [] []"),
+        ("MATCH (n) DETACH DELETE n", "unanswered true [] []"),
     ];
     for (text, want) in rows {
         let told = shown(rt.alloc(), text)?;

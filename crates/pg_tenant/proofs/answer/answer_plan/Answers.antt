@@ -1,4 +1,5 @@
-use Rattle.std.proofs.Common.{◌≡◌, true, not, ◌||◌, Result, sym, subst, arith}
+use Rattle.std.proofs.Common.{◌≡◌, true, not, ◌||◌, Result, sym, ap, subst, ◌∙◌, arith}
+use Rattle.pg_meaning.specs.Grammar.{parameters_of}
 use Rattle.pg_meaning.specs.Graph.{Graph}
 use Rattle.pg_meaning.specs.Queries.{Outcome}
 use Rattle.pg_meaning.specs.Value.{no_entries}
@@ -8,11 +9,12 @@ use Rattle.pg_plan.specs.Updates.{updates}
 use Rattle.pg_run.proofs.PlainLemmas.{answered_plain}
 use Rattle.pg_run.specs.Answers.{one_node_answer}
 use Rattle.pg_store.specs.Stores.{graph_of_store}
-use Rattle.pg_tenant.specs.Outcomes.{plan_outcome}
+use Rattle.pg_tenant.specs.Outcomes.{all_given, plan_outcome}
 use Rattle.pg_tenant.specs.Replies.{IsAnswer}
 use Rattle.pg_tenant.proofs.OutcomeLemmas.{answered_by}
 use Rattle.pg_tenant.proofs.answer.answer_plan.Given.{Over}
 use Rattle.pg_tenant.proofs.answer.answer_plan.Goals as goal
+use Rattle.pg_value_core.specs.Given.{parameters_view}
 
 module _ (g : Over) (c : goal.After-answer_statement g) where
   abbrev graph : Graph
@@ -24,8 +26,11 @@ module _ (g : Over) (c : goal.After-answer_statement g) where
   permitted : (c.args.may_write || not (updates (plan_query c.args.plan.now))) ≡ true
   permitted = grind (arith, c.is_permitted.ensures, c.if-not-is_permitted)
 
-  same : plan_outcome c.args.may_write c.args.quota.max_steps c.args.quota.max_elements graph c.args.plan.now ≡ one_node_answer (statement_view c.in-Some.statement) no_entries graph c.args.quota.max_steps c.args.quota.max_elements
-  same = answered_by c.args.may_write c.args.quota.max_steps c.args.quota.max_elements graph (plan_query c.args.plan.now) permitted (grind (arith, c.names_parameter.ensures, c.if-names_parameter)) (statement_view c.in-Some.statement) (sym c.in-Some.ensures)
+  given : all_given (parameters_of (plan_query c.args.plan.now)) (parameters_view c.args.parameters.now) ≡ true
+  given = ap (λ names. all_given names (parameters_view c.args.parameters.now)) (sym c.parameters.ensures) ∙ grind (arith, c.are_given.ensures, c.if-not-are_given)
+
+  same : plan_outcome c.args.may_write c.args.quota.max_steps c.args.quota.max_elements (parameters_view c.args.parameters.now) graph c.args.plan.now ≡ one_node_answer (statement_view c.in-Some.statement) no_entries graph c.args.quota.max_steps c.args.quota.max_elements
+  same = answered_by c.args.may_write c.args.quota.max_steps c.args.quota.max_elements (parameters_view c.args.parameters.now) graph (plan_query c.args.plan.now) permitted given (statement_view c.in-Some.statement) (sym c.in-Some.ensures)
 
 pub answer_statement-requires-clause-plain : goal.answer_statement-requires-clause-plain
 answer_statement-requires-clause-plain g c = answered_plain (plan_query c.args.plan.now) (statement_view c.in-Some.statement) (sym c.in-Some.ensures)

@@ -4,6 +4,7 @@ use Rattle.pg_server.specs.Step.{RunsPlan}
 use Rattle.pg_server.specs.Tenants.{state_of, states_of}
 use Rattle.pg_server.proofs.PlanLemmas.{runs_plan}
 use Rattle.pg_server.proofs.TenantLemmas.{length_mapped, still_tenants}
+use Rattle.pg_value_core.specs.Given.{parameters_view}
 use Rattle.pg_server.proofs.server.Server.run_plan.Goals as goal
 
 pub invariant_of-self : goal.invariant_of-self
@@ -20,6 +21,6 @@ returns g c =
     let tenants = c.self.inside.tenants.items in
     let lt : c.args.place < length tenants = omega (arith, c.requires, ap (λ (s : ServerState). length s.tenants) c.self.view_is, length_mapped (λ x. state_of seen x c.self.inside.shared) tenants) in
     let after : ServerState = record { cache = c.self.inside.plans.capacity; tenants = states_of seen (set tenants c.args.place c.answer_plan.new.self) c.answer_plan.new.shared } in
-    subst (λ (s : ServerState). RunsPlan c.args.place c.args.token.now c.args.plan.now s c.answer_plan.result after) c.self.view_is
+    subst (λ (s : ServerState). RunsPlan c.args.place c.args.token.now c.args.plan.now (parameters_view c.args.parameters.now) s c.answer_plan.result after) c.self.view_is
     (runs_plan seen tenants c.self.inside.shared c.answer_plan.new.shared c.self.invariant.fit c.args.place c.index_mut.result.now c.answer_plan.new.self lt c.index_mut.ensures.value c.answer_plan.ensures.changes.keeps
-    c.answer_plan.ensures.settings c.self.inside.plans.capacity c.args.token.now c.args.plan.now c.answer_plan.result c.answer_plan.ensures.changes.says.ok c.answer_plan.ensures.changes.says.err c.answer_plan.ensures.changes.same)
+    c.answer_plan.ensures.settings c.self.inside.plans.capacity c.args.token.now c.args.plan.now (parameters_view c.args.parameters.now) c.answer_plan.result c.answer_plan.ensures.changes.says.ok c.answer_plan.ensures.changes.says.err c.answer_plan.ensures.changes.same)

@@ -1,0 +1,92 @@
+-- The values of lists and members, as far as they are converted.
+use Rattle.std.proofs.Common.{◌≡◌, ◌≤◌, ℕ, drop, length, List, [], ◌∷◌, ◌++◌, Option, Some, None, option_map, option_and_then, String, Global, Ordering, Less, Equal, Greater, string_bytes, string_cmp, refl, sym, ap, ◌∙◌}
+use Rattle.std.proofs.lemmas.Cmp.{nat_list_cmp_total}
+use Rattle.std.proofs.lemmas.List.{drop_all}
+use Rattle.std.specs.List.{AllByRecursion}
+use Rattle.std.specs.List.Sorted.{IsStrictlySortedBy}
+use Rattle.std.specs.Map.{keys_of}
+use Rattle.std.specs.Ordering.{ordering_reverse}
+use Rattle.serde_json.specs.View.{view as data_view, items_view, members_view}
+use Rattle.serde_json.specs.declared.value.Value.{Value as Data}
+use Rattle.serde_json.proofs.Views.{Entry}
+use Rattle.pg_meaning.specs.Entries.{put}
+use Rattle.pg_meaning.specs.Order.{text_order}
+use Rattle.pg_meaning.specs.Value.{Value as Datum, Values, no_items, item, Entries, no_entries, entry}
+use Rattle.pg_json.specs.Given.{value_within, values_within, entries_within}
+use Rattle.pg_value_core.specs.View.{view, values_view}
+use Rattle.pg_value_core.specs.declared.value.Value.{Value}
+
+-- ---- lists
+
+-- the values behind those that are converted
+abbrev pub after : List Value → Option Values → Option Values
+after [] rest = rest
+after (v ∷ vs) rest = option_map (item (view v)) (after vs rest)
+
+after_push : (vs : List Value) (v : Value) (rest : Option Values) → after vs (option_map (item (view v)) rest) ≡ after (vs ++ v ∷ []) rest
+after_push [] v rest = refl
+after_push (w ∷ vs) v rest = ap (option_map (item (view w))) (after_push vs v rest)
+
+after_all : (vs : List Value) → after vs (Some no_items) ≡ Some (values_view vs)
+after_all [] = refl
+after_all (v ∷ vs) = ap (option_map (item (view v))) (after_all vs)
+
+after_none : (vs : List Value) → after vs None ≡ None
+after_none [] = refl
+after_none (v ∷ vs) = ap (option_map (item (view v))) (after_none vs)
+
+module _ (n : ℕ) where
+  pub one_more_value : (vs : List Value) (d : Data) (left rest : List Data) (v : Value) → left ≡ d ∷ rest → value_within n (data_view d) ≡ Some (view v)
+      → after vs (values_within n (items_view left)) ≡ after (vs ++ v ∷ []) (values_within n (items_view rest))
+  one_more_value vs d left rest v is h =
+      ap (λ ds. after vs (values_within n (items_view ds))) is
+      ∙ ap (λ o. after vs (option_and_then (λ u. option_map (item u) (values_within n (items_view rest))) o)) h
+      ∙ after_push vs v (values_within n (items_view rest))
+
+  pub no_value : (vs : List Value) (d : Data) (left rest : List Data) → left ≡ d ∷ rest → value_within n (data_view d) ≡ None → after vs (values_within n (items_view left)) ≡ None
+  no_value vs d left rest is h =
+      ap (λ ds. after vs (values_within n (items_view ds))) is
+      ∙ ap (λ o. after vs (option_and_then (λ u. option_map (item u) (values_within n (items_view rest))) o)) h
+      ∙ after_none vs
+
+  pub all_values : (vs : List Value) (i : ℕ) (ds : List Data) → length ds ≤ i → after vs (values_within n (items_view (drop i ds))) ≡ Some (values_view vs)
+  all_values vs i ds h = ap (λ xs. after vs (values_within n (items_view xs))) (drop_all i ds h) ∙ after_all vs
+
+-- ---- members
+
+none_then : (k : List ℕ) (o : Option Datum) → option_and_then (λ v. option_map (entry k v) None) o ≡ None
+none_then k None = refl
+none_then k (Some v) = refl
+
+-- one member that gives no value refuses all
+pub refused_entries : (n : ℕ) (done : List Entry) (e : Entry) (more : List Entry) → value_within n (data_view e.1) ≡ None → entries_within n (members_view (done ++ e ∷ more)) ≡ None
+refused_entries n [] e more h = rw h refl
+refused_entries n (x ∷ done) e more h = rw (refused_entries n done e more h) (none_then (string_bytes x.0) (value_within n (data_view x.1)))
+
+abbrev pick : Entries → Option Entries → Entries
+pick d None = d
+pick d (Some es) = es
+
+parted : (k : List ℕ) (o : Option Datum) (p : Option Entries) (es : Entries) → option_and_then (λ v. option_map (entry k v) p) o ≡ Some es
+    → (w : Datum) × (o ≡ Some w) × (fs : Entries) × (p ≡ Some fs) × (entry k w fs ≡ es)
+parted k None p es h = absurd (cc)
+parted k (Some w) None es h = absurd (cc)
+parted k (Some w) (Some fs) es h = (w, refl, fs, refl, ap (pick es) h)
+
+below_middle : (first : Entry) (es : List Entry) (e : Entry) (more : List Entry) → AllByRecursion (λ y. string_cmp first.0 y ≡ Less) (keys_of (es ++ e ∷ more)) → string_cmp first.0 e.0 ≡ Less
+below_middle first [] e more h = h.0
+below_middle first (x ∷ es) e more h = below_middle first es e more h.1
+
+-- a key that is above those before it goes last
+pub one_more_entry : (n : ℕ) (done : List Entry) (e : Entry) (more : List Entry) (es : Entries) (v : Datum) → IsStrictlySortedBy string_cmp (keys_of (done ++ e ∷ more))
+    → entries_within n (members_view done) ≡ Some es → value_within n (data_view e.1) ≡ Some v
+    → entries_within n (members_view (done ++ e ∷ [])) ≡ Some (put (string_bytes e.0) v es)
+unfolding IsStrictlySortedBy
+one_more_entry n [] e more es v sorted h g = rw g (ap (λ fs. Some (put (string_bytes e.0) v fs)) (ap (pick es) h))
+one_more_entry n (first ∷ done) e more es v sorted h g =
+    let parts = parted (string_bytes first.0) (value_within n (data_view first.1)) (entries_within n (members_view done)) es h in
+    let later = one_more_entry n done e more parts.2 v sorted.1 parts.3 g in
+    let above : text_order (string_bytes e.0) (string_bytes first.0) ≡ Greater =
+    nat_list_cmp_total.antisymm (string_bytes e.0) (string_bytes first.0) ∙ ap ordering_reverse (below_middle first done e more sorted.0) in
+    let placed : put (string_bytes e.0) v (entry (string_bytes first.0) parts.0 parts.2) ≡ entry (string_bytes first.0) parts.0 (put (string_bytes e.0) v parts.2) = rw above refl in
+    rw (parts.1, later) (ap Some (sym placed ∙ ap (put (string_bytes e.0) v) parts.4))

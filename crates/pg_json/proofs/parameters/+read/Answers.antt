@@ -1,0 +1,132 @@
+use Rattle.std.proofs.Common.{◌≡◌, ◌+◌, ◌-◌, ◌<◌, [], ◌∷◌, length, Some, None, string_bytes, sym, ap, subst, ◌∙◌, arith, rules, to_z, of_z, w64, option_map}
+use Rattle.json.specs.Token.{Token}
+use Rattle.json.specs.Json.{parse_map, after_end_array, read_key, items, members, value}
+use Rattle.json.proofs.Grammar.{value_is, value-begin_array, value-begin_object, read_key-shorter}
+use Rattle.serde_json.specs.Data.{Data, null, boolean, number, string, array, object, put, no_members}
+use Rattle.serde_json.specs.Find.{of_integer}
+use Rattle.serde_json.specs.Read.{of_json, of_items, of_members, converted}
+use Rattle.pg_json.specs.Given.{data_giving, members_giving, AreGiven, EntriesAreGiven}
+use Rattle.pg_json.proofs.Given.{members_giving-put, given_put}
+use Rattle.pg_json.proofs.Reading.{converted-array, converted-object, item_read, items_over, member_read, members_over, items_before, items_before-no_items, one_more_item, given_push}
+use Rattle.pg_value_core.proofs.Maps.{entries_view-insert_entry}
+use Rattle.pg_value_core.specs.View.{view, values_view, entries_view}
+use Rattle.pg_value_core.specs.declared.value.Value.{Null, Bool, Int, Text, List, Map, the_lemmas}
+use Rattle.pg_json.proofs.parameters.+read.Goals as goal
+
+pub read-returns-in-Some-Null-clause-ok : goal.read-returns-in-Some-Null-clause-ok
+read-returns-in-Some-Null-clause-ok t c =
+    let d = c.args.room + 61 in
+    let is : c.args.reader.now ≡ Token.null ∷ c.next.new.self = grind arith in
+    let seen : data_giving (view Null) ≡ null = search (rules, the_lemmas) in
+    ap (converted of_json) (ap (value d) is ∙ value_is d _) ∙ ap (λ j. Some (j, c.next.new.self)) (sym seen)
+
+pub read-returns-in-Some-Bool-clause-ok : goal.read-returns-in-Some-Bool-clause-ok
+read-returns-in-Some-Bool-clause-ok t c =
+    let d = c.args.room + 61 in
+    let is : c.args.reader.now ≡ Token.boolean c.in-Some-Bool.b ∷ c.next.new.self = grind arith in
+    let seen : data_giving (view (Bool c.in-Some-Bool.b)) ≡ boolean c.in-Some-Bool.b = search (rules, the_lemmas) in
+    ap (converted of_json) (ap (value d) is ∙ value_is d _) ∙ ap (λ j. Some (j, c.next.new.self)) (sym seen)
+
+pub read-returns-in-Some-clause-ok : goal.read-returns-in-Some-clause-ok
+read-returns-in-Some-clause-ok t c =
+    let d = c.args.room + 61 in
+    let is : c.args.reader.now ≡ Token.number c.in-Some-Number.text.now ∷ c.next.new.self = grind arith in
+    let rest = c.next.new.self in
+    let same : to_z w64 (of_z w64 c.in-Some.number) ≡ c.in-Some.number = search rules in
+    let seen : data_giving (view (Int (to_z w64 (of_z w64 c.in-Some.number)))) ≡ number (of_integer (to_z w64 (of_z w64 c.in-Some.number))) = search (rules, the_lemmas) in
+    ap (converted of_json) (ap (value d) is ∙ value_is d _)
+    ∙ ap (λ m. option_map {U = Data × _} (λ b. (b, rest)) (option_map number m)) c.in-Some.ensures.read
+    ∙ ap (λ z. Some (number (of_integer z), rest)) (sym same) ∙ ap (λ j. Some (j, rest)) (sym seen)
+
+pub read-returns-in_ok-from_str-in-Some-String-clause-ok : goal.read-returns-in_ok-from_str-in-Some-String-clause-ok
+read-returns-in_ok-from_str-in-Some-String-clause-ok t c =
+    let d = c.args.room + 61 in
+    let is : c.args.reader.now ≡ Token.string c.in-Some-String.text.now ∷ c.next.new.self = grind arith in
+    let seen : data_giving (view (Text c.in_ok-from_str-in-Some-String.field-0)) ≡ string c.in-Some-String.text.now = search (rules, the_lemmas) in
+    ap (converted of_json) (ap (value d) is ∙ value_is d _) ∙ ap (λ j. Some (j, c.next.new.self)) (sym seen)
+
+pub read-returns-in_ok-read_items-in-Some-BeginArray-clause-ok : goal.read-returns-in_ok-read_items-in-Some-BeginArray-clause-ok
+read-returns-in_ok-read_items-in-Some-BeginArray-clause-ok t c =
+    let d = c.args.room + 61 in
+    let rest = c.next.new.self in
+    let is : c.args.reader.now ≡ Token.begin_array ∷ rest = grind arith in
+    let lower : d - 1 ≡ c.args.room - 1 + 61 = omega arith in
+    let opened = ap (converted of_json) (ap (value d) is ∙ value-begin_array d rest (omega arith)) ∙ converted-array (items (value (d - 1)) (length rest) rest) in
+    let found = c.in_ok-read_items-in-Some-BeginArray in
+    let seen : data_giving (view (List found.field-0)) ≡ array _ = search (rules, the_lemmas) in
+    opened ∙ ap (λ n. parse_map array (converted of_items (items (value n) (length rest) rest))) lower ∙ ap (parse_map array) found.ensures.ok ∙ ap (λ j. Some (j, c.read_items.new.reader)) (sym seen)
+
+pub read-returns-in_ok-read_members-in-Some-BeginObject-clause-ok : goal.read-returns-in_ok-read_members-in-Some-BeginObject-clause-ok
+read-returns-in_ok-read_members-in-Some-BeginObject-clause-ok t c =
+    let d = c.args.room + 61 in
+    let rest = c.next.new.self in
+    let is : c.args.reader.now ≡ Token.begin_object ∷ rest = grind arith in
+    let lower : d - 1 ≡ c.args.room - 1 + 61 = omega arith in
+    let opened = ap (converted of_json) (ap (value d) is ∙ value-begin_object d rest (omega arith)) ∙ converted-object (members (value (d - 1)) (length rest) rest) in
+    let found = c.in_ok-read_members-in-Some-BeginObject in
+    let seen : data_giving (view (Map found.field-0)) ≡ object _ = search (rules, the_lemmas) in
+    opened ∙ ap (λ n. parse_map object (converted (λ ms. of_members ms no_members) (members (value n) (length rest) rest))) lower ∙ ap (parse_map object) found.ensures.ok ∙ ap (λ j. Some (j, c.read_members.new.reader)) (sym seen)
+
+pub read_items-items-preserved : goal.read_items-items-preserved
+read_items-items-preserved t c =
+    let room = c.args.room in
+    let p = value (room + 61) in
+    let l = c.items in
+    let n = l.invariant.0 in
+    let going : (after_end_array l.reader ≡ None) × (c.take_end_array.new.self ≡ l.reader) = grind arith in
+    let done = c.in_ok-item.ensures in
+    let v = c.in_ok-item.item in
+    let r = c.read.new.reader in
+    let less : length r < length l.reader = rw (← going.1) done.shorter in
+    let turn = item_read p n l.reader r (data_giving (view v)) (omega (arith, l.invariant.1)) going.0 (rw (← going.1) done.ok) in (
+      n - 1,
+      omega (arith, l.invariant.1),
+      l.invariant.2 ∙ ap (parse_map (items_before l.found.items)) turn ∙ one_more_item l.found.items v _
+          ∙ ap (λ vs. parse_map (items_before vs) (converted of_items (items p (n - 1) r))) (sym c.in_ok-push.ensures.items),
+      omega (arith, l.invariant.3),
+      subst (λ vs. AreGiven room (values_view vs)) (sym c.in_ok-push.ensures.items) (given_push room l.found.items v l.invariant.4 done.given),
+    )
+
+pub read_items-returns-clause-ok : goal.read_items-returns-clause-ok
+read_items-returns-clause-ok t c =
+    let p = value (c.args.room + 61) in
+    let l = c.items in
+    let n = l.invariant.0 in
+    let r = c.take_end_array.new.self in
+    l.invariant.2 ∙ ap (parse_map (items_before l.found.items)) (items_over p n l.reader r l.invariant.1 (grind arith)) ∙ ap (λ ds. Some (ds, r)) (items_before-no_items l.found.items)
+
+pub read_members-returns-in-Ok-None-clause-ok : goal.read_members-returns-in-Ok-None-clause-ok
+read_members-returns-in-Ok-None-clause-ok t c =
+    let p = value (c.args.room + 61) in
+    let l = c.members in
+    let n = l.invariant.0 in
+    let old = members_giving (entries_view l.found.entries) in
+    l.invariant.2 ∙ members_over p old n l.reader c.next_key.new.self l.invariant.1 (grind arith)
+
+pub read_members-members-preserved : goal.read_members-members-preserved
+read_members-members-preserved t c =
+    let room = c.args.room in
+    let p = value (room + 61) in
+    let l = c.members in
+    let n = l.invariant.0 in
+    let es = entries_view l.found.entries in
+    let old = members_giving es in
+    let k = c.in-Ok-Some.name.now in
+    let s = c.next_key.new.self in
+    let named : read_key l.reader ≡ Some (Some k, s) = grind arith in
+    let done = c.in_ok-value.ensures in
+    let v = c.in_ok-value.value in
+    let r = c.read.new.reader in
+    let less = read_key-shorter l.reader (Some k) s named in
+    let lesser = done.shorter in
+    let copied : string_bytes c.in_ok-key.key ≡ k = search rules in
+    let entered = ap entries_view c.in_ok-insert.ensures.entries ∙ entries_view-insert_entry l.found.entries c.in_ok-key.key v in
+    let inserted : members_giving (entries_view c.insert.new.self.entries) ≡ put k (data_giving (view v)) old =
+    ap members_giving entered ∙ members_giving-put (string_bytes c.in_ok-key.key) (view v) es ∙ ap (λ name. put name (data_giving (view v)) old) copied in (
+      n - 1,
+      omega (arith, l.invariant.1),
+      l.invariant.2 ∙ member_read p old n k l.reader s r (data_giving (view v)) (omega (arith, l.invariant.1)) named done.ok
+          ∙ ap (λ found. converted (λ ms. of_members ms found) (members p (n - 1) r)) (sym inserted),
+      omega (arith, l.invariant.3),
+      subst (EntriesAreGiven room) (sym entered) (given_put room (string_bytes c.in_ok-key.key) (view v) es done.given l.invariant.4),
+    )

@@ -1,0 +1,42 @@
+//! Whole numbers as JSON writes them.
+ghost use Rattle.std.specs.Prelude.{◌≡◌, ◌==◌, ◌<◌, IsTrue, IfSome, Some, length, slice_index, true, false};
+ghost use Rattle.fast_float.specs.Text.{minus};
+ghost use Rattle.serde_json.specs.Find.{as_i64, of_integer};
+ghost use Rattle.serde_json.specs.Read.{number_of, number_from};
+
+use fast_float::Numeral;
+
+/// The whole number of 64 bits that a number's text writes, if it is one. The negative zero is none.
+pub(crate) fn whole_number(text: &str) -> Option<i64>
+    ensures read { IfSome result (λ z. number_of text.now ≡ Some (of_integer z)) }
+    ensures fits { IfSome result (λ z. as_i64 (of_integer z) ≡ Some z) }
+{
+    let bytes = text.as_bytes();
+    if has_minus(bytes) {
+        below_zero(&Numeral::scan(&bytes[1..]))
+    } else {
+        from_zero(&Numeral::scan(bytes))
+    }
+}
+
+fn has_minus(bytes: &[u8]) -> bool
+    ensures value { result ≡ (slice_index bytes.now 0 == minus) }
+    ensures length { IsTrue result → 0 < length bytes.now }
+{
+    !bytes.is_empty() && bytes[0] == b'-'
+}
+
+fn from_zero(numeral: &Numeral<'_>) -> Option<i64>
+    ensures read { IfSome result (λ z. number_from false numeral.now ≡ Some (of_integer z)) }
+    ensures fits { IfSome result (λ z. as_i64 (of_integer z) ≡ Some z) }
+{
+    numeral.to_i64(false)
+}
+
+fn below_zero(numeral: &Numeral<'_>) -> Option<i64>
+    ensures read { IfSome result (λ z. number_from true numeral.now ≡ Some (of_integer z)) }
+    ensures fits { IfSome result (λ z. as_i64 (of_integer z) ≡ Some z) }
+{
+    let number = numeral.to_i64(true)?;
+    if number < 0 { Some(number) } else { None }
+}

@@ -1,0 +1,96 @@
+//! The parameters of a query, read token by token.
+ghost use Rattle.std.specs.Prelude.{◌≡◌, ◌<◌, ◌+◌, length, Some, IfOk, OnOk, map};
+ghost use Rattle.json.specs.Json.{value, items, members};
+ghost use Rattle.serde_json.specs.Data.{no_members};
+ghost use Rattle.serde_json.specs.Read.{of_json, of_items, of_members, converted};
+ghost use Rattle.pg_meaning.specs.Measure.{greatest_depth};
+ghost use Rattle.pg_json.specs.Fields.{object_giving};
+ghost use Rattle.pg_json.specs.Given.{data_giving, items_giving, members_giving, IsGiven, AreGiven, EntriesAreGiven};
+ghost use Rattle.pg_value_core.specs.View.{view, values_view, entries_view};
+
+use crate::number::whole_number;
+use crate::unread::Unread;
+use json::{Reader, Token};
+use pg_value_core::Value;
+use std::alloc::Global;
+use std::collections::BTreeMap;
+
+/// No value is deeper.
+pub(crate) const MAX_DEPTH: usize = 64;
+
+/// The object that comes next, if all its values may be those of parameters.
+pub(crate) fn read_parameters(
+    alloc: Global,
+    reader: &mut Reader<'_>,
+) -> Result<BTreeMap<String, Value>, Unread>
+    ensures ok { IfOk result (λ m. converted of_json (value 126 reader.old) ≡ Some (object_giving (entries_view m.entries), reader.new)) }
+    ensures given { IfOk result (λ m. EntriesAreGiven greatest_depth (entries_view m.entries)) }
+    ensures shorter { OnOk result (length reader.new < length reader.old) }
+{
+    let Some(Token::BeginObject) = reader.next() else {
+        return Err(Unread::Unclear);
+    };
+    let members = read_members(alloc, reader, MAX_DEPTH)?;
+    Ok(members)
+}
+
+/// The value that comes next, if it may be a parameter's and is at most so deep.
+#[cycle(read)]
+fn read(alloc: Global, reader: &mut Reader<'_>, room: usize) -> Result<Value, Unread>
+    ensures ok { IfOk result (λ v. converted of_json (value (room + 61) reader.old) ≡ Some (data_giving (view v), reader.new)) }
+    ensures given { IfOk result (λ v. IsGiven room (view v)) }
+    ensures shorter { OnOk result (length reader.new < length reader.old) }
+{
+    if room == 0 {
+        return Err(Unread::Unclear);
+    }
+    match reader.next() {
+        Some(Token::Null) => Ok(Value::Null),
+        Some(Token::Bool(b)) => Ok(Value::Bool(b)),
+        Some(Token::Number(text)) => match whole_number(text) {
+            Some(number) => Ok(Value::Int(number)),
+            None => Err(Unread::Unclear),
+        },
+        Some(Token::String(text)) => Ok(Value::Text(String::from_str(alloc, text)?)),
+        Some(Token::BeginArray) => Ok(Value::List(read_items(alloc, reader, room - 1)?)),
+        Some(Token::BeginObject) => Ok(Value::Map(read_members(alloc, reader, room - 1)?)),
+        _ => Err(Unread::Unclear),
+    }
+}
+
+#[cycle(read)]
+fn read_items(alloc: Global, reader: &mut Reader<'_>, room: usize) -> Result<Vec<Value>, Unread>
+    ensures ok { IfOk result (λ v. converted of_items (items (value (room + 61)) (length reader.old) reader.old) ≡ Some (items_giving (values_view v.items), reader.new)) }
+    ensures given { IfOk result (λ v. AreGiven room (values_view v.items)) }
+    ensures shorter { OnOk result (length reader.new < length reader.old) }
+{
+    let mut found = Vec::new(alloc);
+    'items: while !reader.take_end_array() {
+        let item = read(alloc, reader, room)?;
+        found.push(item)?;
+    }
+    Ok(found)
+}
+
+#[cycle(read)]
+fn read_members(
+    alloc: Global,
+    reader: &mut Reader<'_>,
+    room: usize,
+) -> Result<BTreeMap<String, Value>, Unread>
+    ensures ok { IfOk result (λ m. converted (λ ms. of_members ms no_members) (members (value (room + 61)) (length reader.old) reader.old) ≡ Some (members_giving (entries_view m.entries), reader.new)) }
+    ensures given { IfOk result (λ m. EntriesAreGiven room (entries_view m.entries)) }
+    ensures shorter { OnOk result (length reader.new < length reader.old) }
+{
+    let mut found = BTreeMap::new(alloc);
+    'members: loop {
+        let name = match reader.next_key() {
+            Ok(Some(name)) => name,
+            Ok(None) => return Ok(found),
+            Err(_) => return Err(Unread::Unclear),
+        };
+        let key = String::from_str(alloc, name)?;
+        let value = read(alloc, reader, room)?;
+        drop(found.insert(key, value)?);
+    }
+}

@@ -1,0 +1,69 @@
+//! From JSON data to the values of parameters.
+ghost use Rattle.std.specs.Prelude.{◌≡◌, ◌≢◌, None, Some, IfOk, IfErr};
+ghost use Rattle.serde_json.specs.View.{view as data_view, items_view, members_view};
+ghost use Rattle.pg_json.specs.Given.{value_within, values_within, entries_within};
+ghost use Rattle.pg_meaning.specs.declared.fault.Fault.TheVariants.{BadRequest, OutOfMemory};
+ghost use Rattle.pg_value_core.specs.View.{view, values_view, entries_view};
+
+use pg_meaning::Fault;
+use pg_value_core::Value;
+use serde_json::{Map, Value as Data};
+use std::alloc::Global;
+use std::collections::BTreeMap;
+
+/// The value that data gives, if it gives one that is at most so deep.
+#[cycle(convert)]
+fn value_from(alloc: Global, given: &Data, room: usize) -> Result<Value, Fault>
+    ensures ok { IfOk result (λ v. value_within room (data_view given.now) ≡ Some (view v)) }
+    ensures kind { IfErr result (λ e. e ≢ OutOfMemory → e ≡ BadRequest) }
+    ensures refused { IfErr result (λ e. e ≢ OutOfMemory → value_within room (data_view given.now) ≡ None) }
+{
+    if room == 0 {
+        return Err(Fault::BadRequest);
+    }
+    match given {
+        Data::Null => Ok(Value::Null),
+        Data::Bool(b) => Ok(Value::Bool(*b)),
+        Data::Number(number) => match number.as_i64() {
+            Some(whole) => Ok(Value::Int(whole)),
+            None => Err(Fault::BadRequest),
+        },
+        Data::String(text) => Ok(Value::Text(String::from_str(alloc, text.as_str())?)),
+        Data::Array(items) => Ok(Value::List(items_from(alloc, items, room - 1)?)),
+        Data::Object(members) => Ok(Value::Map(entries_from(alloc, members, room - 1)?)),
+    }
+}
+
+#[cycle(convert)]
+fn items_from(alloc: Global, items: &Vec<Data>, room: usize) -> Result<Vec<Value>, Fault>
+    ensures ok { IfOk result (λ v. values_within room (items_view items.now.items) ≡ Some (values_view v.items)) }
+    ensures kind { IfErr result (λ e. e ≢ OutOfMemory → e ≡ BadRequest) }
+    ensures refused { IfErr result (λ e. e ≢ OutOfMemory → values_within room (items_view items.now.items) ≡ None) }
+{
+    let mut values = Vec::with_capacity(alloc, items.len())?;
+    for item in items {
+        let value = value_from(alloc, item, room)?;
+        values.push(value)?;
+    }
+    Ok(values)
+}
+
+/// The values at these members' names.
+#[cycle(convert)]
+pub(crate) fn entries_from(
+    alloc: Global,
+    members: &Map<String, Data>,
+    room: usize,
+) -> Result<BTreeMap<String, Value>, Fault>
+    ensures ok { IfOk result (λ m. entries_within room (members_view members.now.entries) ≡ Some (entries_view m.entries)) }
+    ensures kind { IfErr result (λ e. e ≢ OutOfMemory → e ≡ BadRequest) }
+    ensures refused { IfErr result (λ e. e ≢ OutOfMemory → entries_within room (members_view members.now.entries) ≡ None) }
+{
+    let mut entries = BTreeMap::new(alloc);
+    for (key, given) in members.iter() {
+        let value = value_from(alloc, given, room)?;
+        let name = String::from_str(alloc, key.as_str())?;
+        drop(entries.insert(name, value)?);
+    }
+    Ok(entries)
+}

@@ -20,6 +20,3 @@ pub use limits::{is_within_limits, made};
 pub use parts::{keys, nodes, relationships};
 pub use ranges::integers_from;
 pub use texts::{begins_with, contains, finishes_with, is_not_null, is_null};
-
-#[cfg(test)]
-mod tests;

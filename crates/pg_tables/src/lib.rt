@@ -5,9 +5,6 @@ ghost use Rattle.std.specs.FinMap as map;
 ghost use Rattle.pg_graph.specs.Content.{Content};
 ghost use Rattle.pg_graph.specs.Links.{IsIncidence};
 
-#[cfg(test)]
-mod tests;
-
 use pg_graph::{ById, Incidence, NodeRecord, Properties, RelRecord, Tables};
 use pg_value_core::{NodeId, RelId};
 use std::alloc::{AllocError, Global};

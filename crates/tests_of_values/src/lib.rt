@@ -1,5 +1,9 @@
-//! Tests of values and of what is asked of them.
+//! Tests of values, of what is computed of them, and of tables that hold them.
 #![tactic(auto)]
 
+#[cfg(test)]
+mod calls;
+#[cfg(test)]
+mod tables;
 #[cfg(test)]
 mod values;

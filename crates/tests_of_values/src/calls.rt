@@ -1,4 +1,6 @@
-use crate::{
+//! What operators and functions give at values.
+
+use pg_expr_calls::{
     absolute, begins_with, compared, contains, divide, finishes_with, head, index_list, last,
     minus, modulo, negative, nodes, plus, relationships, size, times, to_integer, to_text,
 };

@@ -1,7 +1,10 @@
-use super::*;
-use pg_graph::Labels;
+//! Each call of tables, at those that share nothing.
+
+use pg_graph::{Labels, NodeRecord, Properties, RelRecord, Tables};
 use pg_names::{NameId, Names};
-use pg_value_core::Value;
+use pg_tables::PlainTables;
+use pg_value_core::{NodeId, RelId, Value};
+use std::alloc::{AllocError, Global};
 use std::hash::{BuildHasherDefault, FoldHasher};
 use std::process::Abort;
 use std::test::Fail;

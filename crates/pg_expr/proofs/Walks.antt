@@ -11,7 +11,7 @@ use Rattle.pg_expr.specs.declared.site.Site.{Site}
 use Rattle.pg_meaning.specs.Answer.{Answer, ◌>>=◌}
 use Rattle.pg_meaning.specs.Arithmetic.{appended}
 use Rattle.pg_meaning.specs.Entries.{put}
-use Rattle.pg_meaning.specs.Expressions.{combined, condition_of, tested, null_tested, property_of, indexed}
+use Rattle.pg_meaning.specs.Expressions.{condition_of, tested, null_tested, property_of, indexed}
 use Rattle.pg_meaning.specs.Functions.{is_null}
 use Rattle.pg_meaning.specs.Graph.{Graph}
 use Rattle.pg_meaning.specs.Logic.{is_true}
@@ -152,10 +152,6 @@ module _ (s : Site) (g : Graph) where
   pub next_unknown : (subject : Option Datum) (w : Expression × Expression) (ws : List (Expression × Expression)) (v : Datum) (e : Fault)
       → given s g (expression_view w.0) ≡ Ok v → is_chosen subject v ≡ Err e → true_of subject (w ∷ ws) ≡ Err e
   next_unknown subject w ws v e h k = one_when subject w ws v h ∙ ap (picked subject w.1 ws) k
-
-  pub next_combined : (v : Datum) (o : Operator) (x : Expression) (os : List (Operator × Expression)) (w : Datum) → given s g (expression_view x) ≡ Ok w
-      → chain_of v ((o, x) ∷ os) ≡ (combined o v w >>= λ u. chain_of u os)
-  next_combined v o x os w h = ap (λ r. r >>= λ u. combined o v u >>= λ z. chain_of z os) h
 
   pub next_operand : (fs : List (Operator × Found)) (o : Operator) (x : Expression) (os : List (Operator × Expression)) (f : Found) → given s g (expression_view x) ≡ Ok (found_view f)
       → joined_pairs (pairs_view fs) (operands_given ((o, x) ∷ os)) ≡ joined_pairs (pairs_view (fs ++ (o, f) ∷ [])) (operands_given os)

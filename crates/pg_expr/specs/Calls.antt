@@ -4,7 +4,7 @@ use Rattle.pg_expr.specs.Sites.{given_each, given_first}
 use Rattle.pg_expr.specs.declared.site.Site.{Site}
 use Rattle.pg_meaning.specs.Answer.{Answer, ◌>>=◌}
 use Rattle.pg_meaning.specs.Expressions.{is_coalesce, fault_of_name}
-use Rattle.pg_meaning.specs.Functions.{Function, function_named, applied, of_one}
+use Rattle.pg_meaning.specs.Functions.{Function, function_named, applied, of_one, integers_of, range_over}
 use Rattle.pg_meaning.specs.Functions as function
 use Rattle.pg_meaning.specs.Graph.{Graph}
 use Rattle.pg_meaning.specs.Tree as tree
@@ -18,6 +18,10 @@ given_call s g name es = elim (function_named name) [
   | Some f ↦ elim (is_coalesce f) [ true ↦ given_first s g es | false ↦ given_each s g es >>= applied g f ]
   | None ↦ Err (fault_of_name name)
 ]
+
+-- what `range` gives at its arguments
+abbrev pub given_range : Values → Answer
+given_range vs = integers_of vs >>= range_over
 
 abbrev pub is_range : Function → Bool
 is_range function.range = true

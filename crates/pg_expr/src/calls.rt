@@ -13,6 +13,7 @@ ghost use Rattle.pg_value_core.specs.View.{view, values_view};
 
 use crate::elements::{keys, kind, labels, number, properties, source, target};
 use crate::made::made;
+use crate::ranges::range_of;
 use crate::reads::item_at;
 use crate::site::{Found, null};
 use pg_expr_calls as values;
@@ -111,7 +112,7 @@ fn at_all<'a, T: Tables>(
     ensures err { IfErr result (λ e. e ≢ OutOfMemory → function_at graph.now (function_view function) (founds_view arguments.entry.items) ≡ Err e) }
 {
     if matches!(function, Function::Range) {
-        return Err(Fault::OutOfMemory);
+        return range_of(alloc, &arguments);
     }
     match only(arguments) {
         Some(argument) => at_one(alloc, graph, function, argument),

@@ -9,6 +9,7 @@ mod evaluation;
 mod made;
 mod operators;
 mod prepared;
+mod ranges;
 mod reads;
 mod site;
 

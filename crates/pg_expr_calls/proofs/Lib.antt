@@ -5,4 +5,5 @@ pub mod Counts
 pub mod Spelling
 pub mod Numerals
 pub mod Paths
+pub mod RangeCounts
 pub mod RangeSteps

@@ -1,14 +1,16 @@
 //! Lists of integers by steps.
 
-ghost use Rattle.std.specs.Prelude.{◌≡◌, ◌-◌, ◌^◌, IfOk, OnOk};
+ghost use Rattle.std.specs.Prelude.{◌≡◌, ◌≢◌, ◌-◌, ◌-ℤ◌, ◌^◌, pos, min, IfOk, IfErr, OnOk, Ok, Err};
 ghost use Rattle.pg_expr_calls.specs.Ranges.{AllFit};
 ghost use Rattle.pg_meaning.specs.Arithmetic.{appended};
-ghost use Rattle.pg_meaning.specs.Functions.{integers_from};
+ghost use Rattle.pg_meaning.specs.Functions.{integers_from, range_by, steps_within};
 ghost use Rattle.pg_meaning.specs.Value.{item, integer, Values};
+ghost use Rattle.pg_meaning.specs.declared.fault.Fault.TheVariants.{OutOfMemory};
 ghost use Rattle.pg_value_core.specs.View.{view, values_view};
 
+use crate::limits::GREATEST_WEIGHT;
 use crate::parts::push;
-use pg_value_core::Value;
+use pg_value_core::{Fault, Value};
 use std::alloc::{AllocError, Global};
 
 /// So many integers from a first one by a step, all of which fit.
@@ -37,4 +39,38 @@ fn push_integer(values: &mut Vec<Value>, i: i64) -> Result<(), AllocError>
     ensures { OnOk result ((ws : Values) → appended (values_view values.new.items) ws ≡ appended (values_view values.old.items) (item (integer i) ws)) }
 {
     push(values, Value::Int(i))
+}
+
+/// What `range` gives from a first integer to a last one by a step; a list that would be too heavy isn't made.
+#[tactic(auto, using(crate::proofs::RangeCounts::ranges))]
+pub fn range(alloc: Global, start: i64, end: i64, step: i64) -> Result<Value, Fault>
+    ensures ok { IfOk result (λ v. range_by start end step ≡ Ok (view v)) }
+    ensures err { IfErr result (λ e. e ≢ OutOfMemory → range_by start end step ≡ Err e) }
+{
+    if step == 0 {
+        return Err(Fault::TypeFault);
+    }
+    let count = steps_within(start, end, step);
+    if count >= GREATEST_WEIGHT {
+        return Err(Fault::ValueTooLarge);
+    }
+    let items = integers_from(alloc, count, start, step)?;
+    Ok(Value::List(items))
+}
+
+#[tactic(auto, using(crate::proofs::RangeCounts::counted))]
+fn steps_within(start: i64, end: i64, step: i64) -> u64
+    requires { step ≢ pos 0 }
+    ensures { result ≡ min (steps_within (end -ℤ start) step) (2 ^ 64 - 1) }
+{
+    if step > 0 {
+        if end < start {
+            return 0;
+        }
+    } else {
+        if start < end {
+            return 0;
+        }
+    }
+    (end.abs_diff(start) / step.unsigned_abs()).saturating_add(1)
 }

@@ -1,0 +1,48 @@
+//! What `range` gives at its arguments.
+ghost use Rattle.std.specs.Prelude.{◌≡◌, ◌≢◌, IfOk, IfErr, Ok, Err};
+ghost use Rattle.pg_expr.specs.Calls.{given_range};
+ghost use Rattle.pg_expr.specs.Sites.{found_view, founds_view};
+ghost use Rattle.pg_meaning.specs.Functions.{integers_of, range_over};
+ghost use Rattle.pg_meaning.specs.declared.fault.Fault.TheVariants.{OutOfMemory};
+ghost use Rattle.pg_value_core.specs.View.{view};
+
+use crate::site::Found;
+use pg_expr_calls::range;
+use pg_value_core::{Fault, Value};
+use std::alloc::Global;
+
+pub(crate) fn range_of<'a>(alloc: Global, arguments: &Vec<Found<'a>>) -> Result<Found<'a>, Fault>
+    ensures ok { IfOk result (λ f. given_range (founds_view arguments.now.items) ≡ Ok (found_view f)) }
+    ensures err { IfErr result (λ e. e ≢ OutOfMemory → given_range (founds_view arguments.now.items) ≡ Err e) }
+{
+    let integers = integers(alloc, arguments)?;
+    Ok(Found::Made(range_over(alloc, &integers)?))
+}
+
+/// The integers that all arguments are.
+#[tactic(auto, using(crate::proofs::Integers::integers))]
+fn integers(alloc: Global, arguments: &Vec<Found<'_>>) -> Result<Vec<i64>, Fault>
+    ensures ok { IfOk result (λ is. integers_of (founds_view arguments.now.items) ≡ Ok is.items) }
+    ensures err { IfErr result (λ e. e ≢ OutOfMemory → integers_of (founds_view arguments.now.items) ≡ Err e) }
+{
+    let mut integers = Vec::with_capacity(alloc, arguments.len())?;
+    for argument in arguments {
+        let Value::Int(i) = argument.look() else {
+            return Err(Fault::TypeFault);
+        };
+        integers.push(*i)?;
+    }
+    Ok(integers)
+}
+
+#[tactic(auto, using(crate::proofs::Integers::other_count))]
+fn range_over(alloc: Global, integers: &Vec<i64>) -> Result<Value, Fault>
+    ensures ok { IfOk result (λ v. range_over integers.now.items ≡ Ok (view v)) }
+    ensures err { IfErr result (λ e. e ≢ OutOfMemory → range_over integers.now.items ≡ Err e) }
+{
+    match integers.as_slice() {
+        [start, end] => range(alloc, *start, *end, 1),
+        [start, end, step] => range(alloc, *start, *end, *step),
+        _ => Err(Fault::UnknownFunction),
+    }
+}

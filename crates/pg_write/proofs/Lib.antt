@@ -1,0 +1,4 @@
+pub mod ClauseLemmas
+pub mod MapLemmas
+pub mod PartLemmas
+pub mod RemoveLemmas

@@ -1,0 +1,258 @@
+//! SET: row by row, item by item, each in the graph of those before.
+ghost use Rattle.std.specs.Prelude.{◌≡◌, ◌≢◌, ◌<◌, OnOk, IfOk, IfErr, Ok, Err, map, string_bytes, length};
+ghost use Rattle.pg_meaning.specs.Answer.{each_step};
+ghost use Rattle.pg_meaning.specs.Entries.{set_keys};
+ghost use Rattle.pg_meaning.specs.Meters.{Setting};
+ghost use Rattle.pg_meaning.specs.Updates.{mapping_pairs, test_storable, set_pairs, set_item, set_row, set_clause};
+ghost use Rattle.pg_meaning.specs.Value.{no_entries};
+ghost use Rattle.pg_meaning.specs.declared.fault.Fault.TheVariants.{OutOfMemory};
+ghost use Rattle.pg_rows.specs.Named.{rows_named};
+ghost use Rattle.pg_rows.specs.Tables.{table};
+ghost use Rattle.pg_rows.specs.States.{Suits, seen, state_of};
+ghost use Rattle.pg_store.specs.Stores.{graph_of_store, pairs_of, IsFit};
+ghost use Rattle.pg_syntax_tree.specs.View.{set_item_view};
+ghost use Rattle.pg_value_core.specs.Given.{parameters_view};
+ghost use Rattle.pg_value_core.specs.Gives.{Gives};
+ghost use Rattle.pg_write.specs.Items.{item_of, changed_by};
+ghost use Rattle.pg_write.specs.Maps.{joined};
+ghost use Rattle.pg_write.specs.Parts.{map_pairs, one_pair, storable_pairs};
+ghost use Rattle.pg_write.specs.Targets.{target_view, IsThere};
+ghost use Rattle.pg_write_make.specs.Changed.{Changed};
+ghost use Rattle.pg_write_make.specs.Scenes.{given, row_in, parameters_in, reading};
+
+use crate::changes::{put_labels, put_properties, replace_properties};
+use crate::items::{ReadyChange, ReadySet, ready_sets};
+use crate::maps::{join, map_parts};
+use crate::targets::{Target, target_of};
+use pg_expr::Prepared;
+use pg_graph::Tables;
+use pg_meter::Meter;
+use pg_rows::{Rows, Table};
+use pg_store::{Snapshot, Store};
+use pg_syntax_tree::{Name, SetItem};
+use pg_value_core::{Fault, Parameters, Value};
+use pg_write_make::{Scene, spend_for_rows, test_storable};
+use std::alloc::Global;
+
+// The value for one key, which may be stored.
+fn key_value<'a, T: Tables>(
+    scene: &Scene<'_>,
+    graph: &Snapshot<'_, T>,
+    row: &[Value],
+    key: &'a Name,
+    value: &Prepared<'_>,
+) -> Result<Vec<(&'a str, Value)>, Fault>
+    ensures ok { IfOk result (λ pairs. storable_pairs (one_pair (string_bytes key.now.text)) (given scene.now graph.now row.now value.now) ≡ Ok (pairs_of pairs.items)) }
+    ensures err { IfErr result (λ e. e ≢ OutOfMemory → storable_pairs (one_pair (string_bytes key.now.text)) (given scene.now graph.now row.now value.now) ≡ Err e) }
+{
+    let value = scene.evaluate(graph, row, value)?;
+    let mut pairs = Vec::with_capacity(scene.alloc, 1)?;
+    pairs.push((key.text.as_str(), value))?;
+    test_storable(&pairs)?;
+    Ok(pairs)
+}
+
+// The entries of a map that an expression gives.
+fn map_value<T: Tables>(
+    scene: &Scene<'_>,
+    graph: &Snapshot<'_, T>,
+    row: &[Value],
+    value: &Prepared<'_>,
+) -> Result<(Vec<String>, Vec<Value>), Fault>
+    ensures ok { IfOk result (λ parts. map_pairs (given scene.now graph.now row.now value.now) ≡ Ok (joined parts.0.items parts.1.items)) }
+    ensures err { IfErr result (λ e. e ≢ OutOfMemory → map_pairs (given scene.now graph.now row.now value.now) ≡ Err e) }
+{
+    let value = scene.evaluate(graph, row, value)?;
+    map_parts(scene.alloc, value)
+}
+
+// The entries of a map, where all may be stored.
+fn storable_entries<'a>(
+    alloc: Global,
+    keys: &'a Vec<String>,
+    values: Vec<Value>,
+) -> Result<Vec<(&'a str, Value)>, Fault>
+    ensures pairs { IfOk result (λ pairs. pairs_of pairs.items ≡ joined keys.now.items values.items) }
+    ensures ok { OnOk result (test_storable (joined keys.now.items values.items) ≡ Ok tt) }
+    ensures err { IfErr result (λ e. e ≢ OutOfMemory → test_storable (joined keys.now.items values.items) ≡ Err e) }
+{
+    let pairs = join(alloc, keys, values)?;
+    test_storable(&pairs)?;
+    Ok(pairs)
+}
+
+// Gives a target a value under one key.
+#[tactic(auto, using(pg_write_make::proofs::ChangedLemmas::unchanged, crate::proofs::PartLemmas::pairs_set, crate::proofs::PartLemmas::pairs_refused))]
+fn set_key<T: Tables>(
+    scene: &Scene<'_>,
+    store: &mut Store<T>,
+    shared: &mut T::Shared,
+    row: &[Value],
+    key: &Name,
+    value: &Prepared<'_>,
+    target: Target,
+) -> Result<(), Fault>
+    requires fit { IsFit T.seen store.old shared.old }
+    requires there { IsThere (graph_of_store T.seen store.old shared.old) (target_view target) }
+    ensures ok { OnOk result (set_pairs (graph_of_store T.seen store.old shared.old) (one_pair (string_bytes key.now.text)) set_keys (given scene.now (graph_of_store T.seen store.old shared.old) row.now value.now) (target_view target) ≡ Ok (graph_of_store T.seen store.new shared.new)) }
+    ensures err { IfErr result (λ e. e ≢ OutOfMemory → set_pairs (graph_of_store T.seen store.old shared.old) (one_pair (string_bytes key.now.text)) set_keys (given scene.now (graph_of_store T.seen store.old shared.old) row.now value.now) (target_view target) ≡ Err e) }
+    ensures changed { Changed T.seen store.old shared.old store.new shared.new }
+{
+    let pairs = key_value(scene, &store.graph(shared), row, key, value)?;
+    put_properties(scene.alloc, store, shared, target, pairs)?;
+    Ok(())
+}
+
+// Gives a target the entries of a map in the place of its own properties.
+#[tactic(auto, using(pg_write_make::proofs::ChangedLemmas::unchanged, crate::proofs::PartLemmas::map_set, crate::proofs::PartLemmas::map_refused, crate::proofs::PartLemmas::entries_refused))]
+fn set_all<T: Tables>(
+    scene: &Scene<'_>,
+    store: &mut Store<T>,
+    shared: &mut T::Shared,
+    row: &[Value],
+    value: &Prepared<'_>,
+    target: Target,
+) -> Result<(), Fault>
+    requires fit { IsFit T.seen store.old shared.old }
+    requires there { IsThere (graph_of_store T.seen store.old shared.old) (target_view target) }
+    ensures ok { OnOk result (set_pairs (graph_of_store T.seen store.old shared.old) mapping_pairs (λ ps es. set_keys ps no_entries) (given scene.now (graph_of_store T.seen store.old shared.old) row.now value.now) (target_view target) ≡ Ok (graph_of_store T.seen store.new shared.new)) }
+    ensures err { IfErr result (λ e. e ≢ OutOfMemory → set_pairs (graph_of_store T.seen store.old shared.old) mapping_pairs (λ ps es. set_keys ps no_entries) (given scene.now (graph_of_store T.seen store.old shared.old) row.now value.now) (target_view target) ≡ Err e) }
+    ensures changed { Changed T.seen store.old shared.old store.new shared.new }
+{
+    let (keys, values) = map_value(scene, &store.graph(shared), row, value)?;
+    let pairs = storable_entries(scene.alloc, &keys, values)?;
+    replace_properties(scene.alloc, store, shared, target, pairs)?;
+    Ok(())
+}
+
+// Gives a target the entries of a map beside its own properties.
+#[tactic(auto, using(pg_write_make::proofs::ChangedLemmas::unchanged, crate::proofs::PartLemmas::map_set, crate::proofs::PartLemmas::map_refused, crate::proofs::PartLemmas::entries_refused))]
+fn set_more<T: Tables>(
+    scene: &Scene<'_>,
+    store: &mut Store<T>,
+    shared: &mut T::Shared,
+    row: &[Value],
+    value: &Prepared<'_>,
+    target: Target,
+) -> Result<(), Fault>
+    requires fit { IsFit T.seen store.old shared.old }
+    requires there { IsThere (graph_of_store T.seen store.old shared.old) (target_view target) }
+    ensures ok { OnOk result (set_pairs (graph_of_store T.seen store.old shared.old) mapping_pairs set_keys (given scene.now (graph_of_store T.seen store.old shared.old) row.now value.now) (target_view target) ≡ Ok (graph_of_store T.seen store.new shared.new)) }
+    ensures err { IfErr result (λ e. e ≢ OutOfMemory → set_pairs (graph_of_store T.seen store.old shared.old) mapping_pairs set_keys (given scene.now (graph_of_store T.seen store.old shared.old) row.now value.now) (target_view target) ≡ Err e) }
+    ensures changed { Changed T.seen store.old shared.old store.new shared.new }
+{
+    let (keys, values) = map_value(scene, &store.graph(shared), row, value)?;
+    let pairs = storable_entries(scene.alloc, &keys, values)?;
+    put_properties(scene.alloc, store, shared, target, pairs)?;
+    Ok(())
+}
+
+// Changes a target that is there.
+fn change<T: Tables>(
+    scene: &Scene<'_>,
+    store: &mut Store<T>,
+    shared: &mut T::Shared,
+    row: &[Value],
+    change: &ReadyChange<'_>,
+    target: Target,
+) -> Result<(), Fault>
+    requires fit { IsFit T.seen store.old shared.old }
+    requires there { IsThere (graph_of_store T.seen store.old shared.old) (target_view target) }
+    ensures ok { OnOk result (changed_by scene.now.names.now (parameters_in scene.now) (row_in scene.now row.now) (graph_of_store T.seen store.old shared.old) change.now (target_view target) ≡ Ok (graph_of_store T.seen store.new shared.new)) }
+    ensures err { IfErr result (λ e. e ≢ OutOfMemory → changed_by scene.now.names.now (parameters_in scene.now) (row_in scene.now row.now) (graph_of_store T.seen store.old shared.old) change.now (target_view target) ≡ Err e) }
+    ensures changed { Changed T.seen store.old shared.old store.new shared.new }
+{
+    match change {
+        ReadyChange::Key(key, value) => set_key(scene, store, shared, row, key, value, target),
+        ReadyChange::All(value) => set_all(scene, store, shared, row, value, target),
+        ReadyChange::More(value) => set_more(scene, store, shared, row, value, target),
+        ReadyChange::Labels(labels) => put_labels(scene.alloc, store, shared, target, labels),
+    }
+}
+
+// One item at one row. On null nothing is evaluated.
+#[tactic(auto, using(pg_write_make::proofs::ChangedLemmas::unchanged, crate::proofs::PartLemmas::nothing_set, crate::proofs::PartLemmas::target_set, crate::proofs::PartLemmas::target_refused))]
+fn set_item<T: Tables>(
+    scene: &Scene<'_>,
+    store: &mut Store<T>,
+    shared: &mut T::Shared,
+    row: &[Value],
+    item: &ReadySet<'_>,
+) -> Result<(), Fault>
+    requires fit { IsFit T.seen store.old shared.old }
+    ensures ok { OnOk result (set_item (reading (parameters_in scene.now)) (row_in scene.now row.now) (graph_of_store T.seen store.old shared.old) (item_of scene.now.names.now item.now) ≡ Ok (graph_of_store T.seen store.new shared.new)) }
+    ensures err { IfErr result (λ e. e ≢ OutOfMemory → set_item (reading (parameters_in scene.now)) (row_in scene.now row.now) (graph_of_store T.seen store.old shared.old) (item_of scene.now.names.now item.now) ≡ Err e) }
+    ensures changed { Changed T.seen store.old shared.old store.new shared.new }
+{
+    match target_of(&store.graph(shared), scene, row, item.target)? {
+        Target::Nothing => Ok(()),
+        target => change(scene, store, shared, row, &item.change, target),
+    }
+}
+
+// All items at one row.
+#[tactic(auto, using(pg_write_make::proofs::ChangedLemmas::unchanged, pg_write_make::proofs::ChangedLemmas::changed_then, pg_write_make::proofs::RowLemmas::item_on))]
+fn set_row<T: Tables>(
+    scene: &Scene<'_>,
+    store: &mut Store<T>,
+    shared: &mut T::Shared,
+    row: &[Value],
+    items: &Vec<ReadySet<'_>>,
+) -> Result<(), Fault>
+    requires fit { IsFit T.seen store.old shared.old }
+    ensures ok { OnOk result (set_row (reading (parameters_in scene.now)) (map (item_of scene.now.names.now) items.now.items) (graph_of_store T.seen store.old shared.old) (row_in scene.now row.now) ≡ Ok (graph_of_store T.seen store.new shared.new)) }
+    ensures err { IfErr result (λ e. e ≢ OutOfMemory → set_row (reading (parameters_in scene.now)) (map (item_of scene.now.names.now) items.now.items) (graph_of_store T.seen store.old shared.old) (row_in scene.now row.now) ≡ Err e) }
+    ensures changed { Changed T.seen store.old shared.old store.new shared.new }
+{
+    for item in items {
+        set_item(scene, store, shared, row, item)?;
+    }
+    Ok(())
+}
+
+// All items at all rows.
+#[tactic(auto, using(pg_write_make::proofs::ChangedLemmas::unchanged, pg_write_make::proofs::ChangedLemmas::changed_then, pg_write_make::proofs::RowLemmas::step_on, pg_write_make::proofs::RowLemmas::step_fault, pg_write_make::proofs::RowLemmas::steps_done))]
+fn set_rows<T: Tables>(
+    scene: &Scene<'_>,
+    store: &mut Store<T>,
+    shared: &mut T::Shared,
+    rows: &Rows,
+    items: &Vec<ReadySet<'_>>,
+) -> Result<(), Fault>
+    requires fit { IsFit T.seen store.old shared.old }
+    ensures ok { OnOk result (each_step (set_row (reading (parameters_in scene.now)) (map (item_of scene.now.names.now) items.now.items)) (graph_of_store T.seen store.old shared.old) (rows_named scene.now.names.now (table rows.now)) ≡ Ok (graph_of_store T.seen store.new shared.new)) }
+    ensures err { IfErr result (λ e. e ≢ OutOfMemory → each_step (set_row (reading (parameters_in scene.now)) (map (item_of scene.now.names.now) items.now.items)) (graph_of_store T.seen store.old shared.old) (rows_named scene.now.names.now (table rows.now)) ≡ Err e) }
+    ensures changed { Changed T.seen store.old shared.old store.new shared.new }
+{
+    for at in 0..rows.len() {
+        set_row(scene, store, shared, rows.row(at), items)?;
+    }
+    Ok(())
+}
+
+/// Sets what the items say, row by row, at the steps of all rows. An error leaves a part of it
+/// done, and the caller takes that back.
+#[tactic(auto, using(pg_write_make::proofs::ChangedLemmas::unchanged, crate::proofs::ClauseLemmas::set_done, crate::proofs::ClauseLemmas::set_fault, crate::proofs::ClauseLemmas::set_refused))]
+pub fn set_items<T: Tables>(
+    alloc: Global,
+    items: &Vec<SetItem>,
+    parameters: &Parameters,
+    store: &mut Store<T>,
+    shared: &mut T::Shared,
+    table: &Table,
+    meter: &mut Meter,
+) -> Result<(), Fault>
+    requires fit { IsFit T.seen store.old shared.old }
+    ensures answer { (s : Setting) → Suits s (parameters_view parameters.now) meter.old.limit (seen table.now).names → Gives result (set_clause s (map set_item_view items.now.items) (state_of (graph_of_store T.seen store.old shared.old) (seen table.now) meter.old.used)) (λ _. state_of (graph_of_store T.seen store.new shared.new) (seen table.now) meter.new.used) }
+    ensures changed { Changed T.seen store.old shared.old store.new shared.new }
+    ensures limit { meter.new.limit ≡ meter.old.limit }
+{
+    spend_for_rows(meter, table.rows().len(), items.len())?;
+    let ready = ready_sets(alloc, table.names(), items)?;
+    let scene = Scene {
+        alloc,
+        names: table.names(),
+        parameters,
+    };
+    set_rows(&scene, store, shared, table.rows(), &ready)
+}

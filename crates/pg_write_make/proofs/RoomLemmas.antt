@@ -1,0 +1,32 @@
+-- Room for one more element.
+use Rattle.std.proofs.Common.{◌≡◌, ◌<◌, ◌≤◌, ◌^◌, ℕ, [], Bool, true, false, Ok, Err, Result, refl, sym, ap, subst, ◌∙◌, arith}
+use Rattle.std.specs.Prelude.{nat_lt, OnOk}
+use Rattle.std.proofs.lemmas.Bool.{ltb-true}
+use Rattle.pg_graph.specs.Content.{Seen}
+use Rattle.pg_meaning.specs.Answer.{unless}
+use Rattle.pg_meaning.specs.Graph.{Graph, element_count}
+use Rattle.pg_meaning.specs.Meters.{Setting}
+use Rattle.pg_meaning.specs.declared.fault.Fault.{Fault}
+use Rattle.pg_meaning.specs.Value.{no_entries}
+use Rattle.pg_meaning.specs.declared.fault.Fault.TheVariants.{ElementQuota}
+use Rattle.pg_store.specs.Stores.{graph_of_store, IsFit}
+use Rattle.pg_store.specs.declared.store.Store.{Store}
+use Rattle.pg_write_make.specs.Outcomes.{room_for}
+
+-- the setting of which the quota of elements alone is read
+abbrev pub making_up_to : ℕ → Setting
+making_up_to max_elements = record { parameters = no_entries; quota = record { max_steps = 0; max_elements = max_elements }; scope = []; anchors = [] }
+
+pub when_ok : {P : Type 0} (r : Result (Unit {0}) Fault) → (r ≡ Ok tt → P) → OnOk r P
+when_ok (Ok u) f = f refl
+when_ok (Err e) f = tt
+
+room_below : (b : Bool) → unless b ElementQuota ≡ Ok tt → b ≡ true
+room_below true h = refl
+room_below false h = absurd cc
+
+pub room_left : {T S : Type 0} (seen : Seen T S) (store : Store T) (shared : S) (max_elements : ℕ) → IsFit seen store shared → max_elements ≤ 2 ^ 63 → room_for max_elements (graph_of_store seen store shared) ≡ Ok tt → store.elements < 2 ^ 63
+room_left seen store shared max_elements fit few room =
+    let below = ltb-true (element_count (graph_of_store seen store shared)) max_elements (room_below (nat_lt (element_count (graph_of_store seen store shared)) max_elements) room) in
+    let counted = fit.well.counted in
+    omega (arith, below, counted, few)

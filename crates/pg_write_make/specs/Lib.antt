@@ -1,0 +1,4 @@
+pub mod Changed
+pub mod Outcomes
+pub mod Scenes
+pub mod Values

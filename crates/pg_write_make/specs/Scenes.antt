@@ -1,0 +1,33 @@
+-- What expressions give at the rows of a clause, which share their names and the parameters.
+use Rattle.std.specs.Prelude.{List, [], map}
+use Rattle.pg_expr.specs.Prepared.{tree_of}
+use Rattle.pg_expr.specs.declared.prepared.Prepared.{Prepared}
+use Rattle.pg_meaning.specs.Answer.{Answer}
+use Rattle.pg_meaning.specs.Expressions.{evaluate}
+use Rattle.pg_meaning.specs.Graph.{Graph}
+use Rattle.pg_meaning.specs.Meters.{Setting}
+use Rattle.pg_meaning.specs.Rows.{Row}
+use Rattle.pg_meaning.specs.Tree.{Expression}
+use Rattle.pg_meaning.specs.Value.{Entries}
+use Rattle.pg_rows.specs.Named.{row_of}
+use Rattle.pg_value_core.specs.Given.{parameters_view}
+use Rattle.pg_value_core.specs.View.{view}
+use Rattle.pg_value_core.specs.declared.value.Value.{Value}
+use Rattle.pg_write_make.specs.declared.scene.Scene.{Scene}
+
+abbrev pub parameters_in : Scene → Entries
+parameters_in s = parameters_view s.parameters.now
+
+abbrev pub row_in : Scene → List Value → Row
+row_in s values = row_of s.names.now (map view values)
+
+abbrev pub given : Scene → Graph → List Value → Prepared → Answer
+given s graph values p = evaluate (row_in s values) (parameters_in s) graph (tree_of s.names.now p)
+
+-- what the tree of an expression gives
+abbrev pub value_given : Scene → Graph → List Value → Expression → Answer
+value_given s graph values e = evaluate (row_in s values) (parameters_in s) graph e
+
+-- a setting of which the parameters alone are read
+abbrev pub reading : Entries → Setting
+reading parameters = record { parameters = parameters; quota = record { max_steps = 0; max_elements = 0 }; scope = []; anchors = [] }

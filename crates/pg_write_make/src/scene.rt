@@ -1,0 +1,65 @@
+//! What the rows of a clause share.
+ghost use Rattle.std.specs.Option.{option_and_then};
+ghost use Rattle.std.specs.Prelude.{◌≡◌, map, option_map, slice_get};
+ghost use Rattle.pg_meaning.specs.Rows.{value_in};
+ghost use Rattle.pg_syntax_tree.specs.View.{expression_view};
+ghost use Rattle.pg_value_core.specs.Gives.{Gives};
+ghost use Rattle.pg_value_core.specs.View.{view};
+ghost use Rattle.pg_write_make.specs.Scenes.{given, row_in, value_given};
+
+use pg_expr::{Prepared, evaluate, prepare};
+use pg_graph::Tables;
+use pg_rows::Columns;
+use pg_store::Snapshot;
+use pg_syntax_tree::Expression;
+use pg_value_core::{Fault, Parameters, Value};
+use std::alloc::Global;
+
+/// The names of the columns, and the parameters of the request.
+#[derive(Clone, Copy)]
+pub struct Scene<'a> {
+    pub alloc: Global,
+    pub names: &'a Columns,
+    pub parameters: &'a Parameters,
+}
+
+fn value_at(row: &[Value], column: Option<usize>) -> Option<&Value>
+    ensures { option_map (λ v. view v.now) result ≡ option_and_then (slice_get (map view row.now)) column }
+{
+    row.get(column?)
+}
+
+impl<'a> Scene<'a> {
+    /// The value of a variable of the row.
+    #[tactic(auto, using(pg_rows::proofs::NamedRows::values_stand))]
+    pub fn find<'r>(&self, row: &'r [Value], name: &str) -> Option<&'r Value>
+        ensures { option_map (λ v. view v.now) result ≡ value_in name.now (row_in self.now row.now) }
+    {
+        value_at(row, self.names.find(name))
+    }
+
+    /// What an expression that was made ready gives at a row.
+    pub fn evaluate<T: Tables>(
+        &self,
+        graph: &Snapshot<'_, T>,
+        row: &[Value],
+        value: &Prepared<'_>,
+    ) -> Result<Value, Fault>
+        ensures { Gives result (given self.now graph.now row.now value.now) view }
+    {
+        evaluate(self.alloc, value, self.names, row, self.parameters, graph)
+    }
+
+    /// What an expression gives at a row.
+    pub fn value<T: Tables>(
+        &self,
+        graph: &Snapshot<'_, T>,
+        row: &[Value],
+        expression: &Expression,
+    ) -> Result<Value, Fault>
+        ensures { Gives result (value_given self.now graph.now row.now (expression_view expression.now)) view }
+    {
+        let ready = prepare(self.alloc, expression, self.names)?;
+        self.evaluate(graph, row, &ready)
+    }
+}

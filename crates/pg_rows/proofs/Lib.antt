@@ -9,3 +9,4 @@ pub mod Orders
 pub mod Places
 pub mod Stable
 pub mod Tabled
+pub mod Taken

@@ -6,9 +6,9 @@ use Rattle.std.specs.Map.{lookup}
 use Rattle.std.specs.Option.{option_and_then}
 use Rattle.std.specs.declared.alloc.Global.{Global}
 use Rattle.std.specs.Prelude.{String, string_bytes, cond, is_some, option_map, zip, position, bytes_eq, slice_get}
-use Rattle.pg_meaning.specs.Rows.{Row, value_in, values_in, bind_new}
+use Rattle.pg_meaning.specs.Rows.{value_in}
 use Rattle.pg_meaning.specs.Value.{Value}
-use Rattle.pg_rows.specs.Named.{row_of, with_name, ValuesStandInColumns, NewColumnsBind, OldColumnsStay, ValuesAreTheRow}
+use Rattle.pg_rows.specs.Named.{row_of, ValuesStandInColumns, NewColumnsBind, OldColumnsStay, ValuesAreTheRow}
 
 shift_chosen : (b : Bool) (i : ℕ) (o p : Option ℕ) → o ≡ option_map suc p → cond b (Some (i + 1)) o ≡ option_map suc (cond b (Some i) p)
 shift_chosen true i o p e = ap Some (add-one i)

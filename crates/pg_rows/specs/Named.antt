@@ -1,5 +1,5 @@
 -- Rows whose columns have names: the definitions' rows, of names and values that stand apart.
-use Rattle.std.specs.Prelude.{◌≡◌, ◌≤◌, ℕ, Bool, true, false, cond, is_some, List, [], ◌∷◌, ◌++◌, map, length, zip, position, bytes_eq, slice_get, Option}
+use Rattle.std.specs.Prelude.{◌≡◌, ℕ, true, false, cond, is_some, List, [], ◌∷◌, ◌++◌, map, length, zip, position, bytes_eq, slice_get}
 use Rattle.std.specs.Option.{option_and_then}
 use Rattle.pg_meaning.specs.Rows.{Row, value_in, values_in, bind_new}
 use Rattle.pg_meaning.specs.Value.{Value}

@@ -1,5 +1,5 @@
 //! The names of the columns of rows.
-ghost use Rattle.std.specs.Prelude.{◌≡◌, ◌<◌, List, ℕ, [], Some, length, map, position, bytes_eq, string_bytes, slice_get, OnOk, OnErr};
+ghost use Rattle.std.specs.Prelude.{◌≡◌, ◌<◌, ◌++◌, ◌∷◌, List, ℕ, [], Some, length, map, position, bytes_eq, string_bytes, slice_get, OnOk, OnErr};
 ghost use Rattle.pg_rows.specs.Named.{with_name};
 
 use std::alloc::{AllocError, Global};
@@ -61,6 +61,14 @@ impl Columns {
         if self.find(name).is_some() {
             return Ok(());
         }
+        self.push(alloc, name)
+    }
+
+    /// Takes a name in behind the others, also where it is there.
+    pub fn push(&mut self, alloc: Global, name: &str) -> Result<(), AllocError>
+        ensures pushed { OnOk result (self.new ≡ self.old ++ name.now ∷ []) }
+        ensures err { OnErr result (self.new ≡ self.old) }
+    {
         self.names.push(String::from_str(alloc, name)?)?;
         Ok(())
     }

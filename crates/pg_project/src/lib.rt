@@ -1,0 +1,7 @@
+//! UNWIND.
+#![tactic(auto)]
+
+mod lists;
+mod unwind;
+
+pub use unwind::unwind_rows;

@@ -1,0 +1,173 @@
+//! The lists that UNWIND goes over, and the rows that it makes of them.
+ghost use Rattle.std.specs.Prelude.{◌≡◌, ◌≢◌, ◌∷◌, [], ◌++◌, length, map, sum, IfOk, IfErr, OnOk, Ok, Err};
+ghost use Rattle.pg_expr.specs.Prepared.{tree_of};
+ghost use Rattle.pg_meaning.specs.Reading.{unwound};
+ghost use Rattle.pg_meaning.specs.Value.{list};
+ghost use Rattle.pg_meaning.specs.declared.fault.Fault.TheVariants.{OutOfMemory};
+ghost use Rattle.pg_project.specs.Unwound.{list_given, lists_given, lists_view, rows_unwound, with_column, with_item, with_items};
+ghost use Rattle.pg_rows.specs.Tables.{table};
+ghost use Rattle.pg_value_core.specs.Given.{parameters_view};
+ghost use Rattle.pg_value_core.specs.View.{view, values_view};
+
+use pg_expr::{Prepared, evaluate};
+use pg_graph::Tables;
+use pg_rows::{Columns, Rows};
+use pg_store::Snapshot;
+use pg_value_core::{Fault, Parameters, Value};
+use std::alloc::{AllocError, Global};
+
+/// The list at each row.
+#[tactic(auto, using(crate::proofs::InTurn::no_more))]
+pub(crate) fn lists_at<T: Tables>(
+    alloc: Global,
+    prepared: &Prepared<'_>,
+    names: &Columns,
+    rows: &Rows,
+    parameters: &Parameters,
+    graph: &Snapshot<'_, T>,
+) -> Result<Vec<Vec<Value>>, Fault>
+    ensures ok { IfOk result (λ lists. lists_given (parameters_view parameters.now) graph.now (tree_of names.now prepared.now) names.now (table rows.now) ≡ Ok (lists_view lists.items)) }
+    ensures len { IfOk result (λ lists. length lists.items ≡ length (table rows.now)) }
+    ensures err { IfErr result (λ e. e ≢ OutOfMemory → lists_given (parameters_view parameters.now) graph.now (tree_of names.now prepared.now) names.now (table rows.now) ≡ Err e) }
+{
+    let mut lists = Vec::with_capacity(alloc, rows.len())?;
+    for at in 0..rows.len() {
+        lists.push(list_at(alloc, prepared, names, rows.row(at), parameters, graph)?)?;
+    }
+    Ok(lists)
+}
+
+/// The items of the list that the expression gives at a row; none where it gives null.
+fn list_at<T: Tables>(
+    alloc: Global,
+    prepared: &Prepared<'_>,
+    names: &Columns,
+    row: &[Value],
+    parameters: &Parameters,
+    graph: &Snapshot<'_, T>,
+) -> Result<Vec<Value>, Fault>
+    ensures ok { IfOk result (λ items. list_given (parameters_view parameters.now) graph.now (tree_of names.now prepared.now) names.now (map view row.now) ≡ Ok (map view items.items)) }
+    ensures err { IfErr result (λ e. e ≢ OutOfMemory → list_given (parameters_view parameters.now) graph.now (tree_of names.now prepared.now) names.now (map view row.now) ≡ Err e) }
+{
+    let value = evaluate(alloc, prepared, names, row, parameters, graph)?;
+    items_in(alloc, value)
+}
+
+fn items_in(alloc: Global, value: Value) -> Result<Vec<Value>, Fault>
+    ensures ok { IfOk result (λ items. unwound (view value) ≡ Ok (map view items.items)) }
+    ensures err { IfErr result (λ e. unwound (view value) ≡ Err e) }
+{
+    match value {
+        Value::Null => Ok(Vec::new(alloc)),
+        Value::List(items) => Ok(items_of(items)),
+        _ => Err(Fault::TypeFault),
+    }
+}
+
+fn items_of(items: Vec<Value>) -> Vec<Value>
+    ensures { unwound (list (values_view items.items)) ≡ Ok (map view result.items) }
+{
+    items
+}
+
+/// How many items the lists have together.
+pub(crate) fn total_length(lists: &Vec<Vec<Value>>) -> Result<u64, AllocError>
+    ensures { IfOk result (λ n. n ≡ sum (map length (lists_view lists.now.items))) }
+{
+    let mut total = 0u64;
+    for list in lists {
+        let Some(more) = total.checked_add(list.len() as u64) else {
+            return Err(AllocError);
+        };
+        total = more;
+    }
+    Ok(total)
+}
+
+/// Each row with each item of its list behind it, where the items have a column of their own.
+pub(crate) fn unwound(
+    alloc: Global,
+    rows: Rows,
+    lists: Vec<Vec<Value>>,
+    has_column: bool,
+    width: usize,
+) -> Result<Rows, AllocError>
+    requires { width ≡ with_column has_column rows.width }
+    ensures rows { IfOk result (λ found. table found ≡ rows_unwound has_column (table rows) (lists_view lists.items)) }
+    ensures width { IfOk result (λ found. found.width ≡ width) }
+{
+    let mut found = Rows::new(alloc, width);
+    let mut left = rows.into_left();
+    for items in lists {
+        let Some(row) = left.next_row(alloc)? else {
+            return Ok(found);
+        };
+        push_items(alloc, &mut found, row, items, has_column)?;
+    }
+    Ok(found)
+}
+
+/// Takes in a row for each of the items; the last takes the row itself.
+#[tactic(auto, using(crate::proofs::Unwinding::items_more))]
+fn push_items(
+    alloc: Global,
+    found: &mut Rows,
+    row: Vec<Value>,
+    mut items: Vec<Value>,
+    has_column: bool,
+) -> Result<(), AllocError>
+    requires { found.old.width ≡ with_column has_column (length row.items) }
+    ensures rows { OnOk result (table found.new ≡ table found.old ++ with_items has_column (map view row.items) (map view items.items)) }
+    ensures width { found.new.width ≡ found.old.width }
+{
+    let Some(last) = items.pop() else {
+        return Ok(());
+    };
+    push_copies(alloc, found, &row, items, has_column)?;
+    push_item(found, row, last, has_column)
+}
+
+/// Takes in a row for each of the items, each a copy.
+fn push_copies(
+    alloc: Global,
+    found: &mut Rows,
+    row: &Vec<Value>,
+    items: Vec<Value>,
+    has_column: bool,
+) -> Result<(), AllocError>
+    requires { found.old.width ≡ with_column has_column (length row.now.items) }
+    ensures rows { OnOk result (table found.new ≡ table found.old ++ with_items has_column (map view row.now.items) (map view items.items)) }
+    ensures width { found.new.width ≡ found.old.width }
+{
+    for item in items {
+        push_item(found, copy_row(alloc, row)?, item, has_column)?;
+    }
+    Ok(())
+}
+
+fn push_item(
+    found: &mut Rows,
+    mut row: Vec<Value>,
+    item: Value,
+    has_column: bool,
+) -> Result<(), AllocError>
+    requires { found.old.width ≡ with_column has_column (length row.items) }
+    ensures rows { OnOk result (table found.new ≡ table found.old ++ with_item has_column (map view row.items) (view item) ∷ []) }
+    ensures width { found.new.width ≡ found.old.width }
+{
+    if has_column {
+        row.push(item)?;
+    }
+    found.push(row)
+}
+
+fn copy_row(alloc: Global, row: &Vec<Value>) -> Result<Vec<Value>, AllocError>
+    ensures values { IfOk result (λ copy. map view copy.items ≡ map view row.now.items) }
+    ensures len { IfOk result (λ copy. length copy.items ≡ length row.now.items) }
+{
+    let mut copy = Vec::with_capacity(alloc, row.len())?;
+    for value in row {
+        copy.push(value.copy(alloc)?)?;
+    }
+    Ok(copy)
+}

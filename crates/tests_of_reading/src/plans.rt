@@ -37,10 +37,7 @@ fn texts_have_their_plans(rt: HostRuntime) -> Result<(), Fail> {
             "RETURN [1, 'a'] = [] AS x, 1;",
             "return false [] [\"x\", \"1\"]",
         ),
-        (
-            "RETURN 1 = 2 IN [3]",
-            "return false [] [\"1 = 2 IN [3]\"]",
-        ),
+        ("RETURN 1 = 2 IN [3]", "return false [] [\"1 = 2 IN [3]\"]"),
         ("CREATE (n:P:P {x: 1, y: NULL})", "create true [] []"),
         (
             "CREATE (n:P {x:1}) RETURN id(n), n.x",
@@ -82,10 +79,7 @@ fn more_texts_read_than_are_answered(rt: HostRuntime) -> Result<(), Fail> {
         ("MATCH (n) RETURN labels(n)", "unanswered false [] []"),
         ("MATCH (n), (m) RETURN n", "unanswered false [] []"),
         ("MATCH p = (n) RETURN n", "unanswered false [] []"),
-        (
-            "MATCH (n) WHERE n.x = 1 RETURN n",
-            "unanswered false [] []",
-        ),
+        ("MATCH (n) WHERE n.x = 1 RETURN n", "unanswered false [] []"),
         ("OPTIONAL MATCH (n) RETURN n", "unanswered false [] []"),
         ("MATCH (a)-[r]->(b) RETURN a", "unanswered false [] []"),
         ("UNWIND [1] AS x RETURN x", "unanswered false [] []"),

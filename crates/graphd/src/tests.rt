@@ -1,6 +1,5 @@
 mod configurations;
 mod devices;
-mod parameters;
 mod queries;
 mod runs;
 mod servers;

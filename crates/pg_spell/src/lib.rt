@@ -4,5 +4,7 @@
 mod elements;
 mod spelling;
 mod stored;
+mod tables;
 
 pub use spelling::{spell, spell_rows};
+pub use tables::spell_table;

@@ -36,7 +36,7 @@ pub fn spell<T: Tables>(alloc: Global, graph: &Snapshot<'_, T>, value: Value) ->
 }
 
 #[cycle(spell)]
-fn spell_items<T: Tables>(
+pub(crate) fn spell_items<T: Tables>(
     alloc: Global,
     graph: &Snapshot<'_, T>,
     items: Vec<Value>,

@@ -1,4 +1,4 @@
-"""Values and tables as a terminal shows them: no control character of a name or a text gets through."""
+"""Values and answers as a terminal shows them: no control character of a name or a text gets through."""
 import json
 import re
 import shutil
@@ -108,3 +108,24 @@ def lines(columns, rows, whole):
     rooms = [max(width(line[place]) for line in cells) for place in range(len(columns))]
     told = [" | ".join(_padded(cell, room) for cell, room in zip(line, rooms)).rstrip() for line in cells]
     return [told[0], "-+-".join("-" * room for room in rooms), *told[1:]]
+
+
+def counted(count, word):
+    return f"{count} {word}" if count == 1 else f"{count} {word}s"
+
+
+def result(told, whole):
+    """The lines of what a query answers: its rows, if it has columns, and what they cost."""
+    table = lines(told.columns, told.rows, whole) if told.columns else []
+    return [*table, f"{counted(len(told.rows), 'row')}, {counted(told.steps, 'step')}"]
+
+
+def status(told):
+    """The lines of what a tenant has and may have."""
+    indexes = ", ".join(f":{name(label)}({name(key)})" for label, key in told.indexes)
+    return [
+        f"{counted(told.elements, 'element')} of at most {told.max_elements}",
+        f"at most {counted(told.max_steps, 'step')} a request",
+        f"next node id {told.next_node}, next relationship id {told.next_rel}",
+        f"indexes: {indexes or 'none'}",
+    ]

@@ -2,6 +2,8 @@
 
 `answer` gives the number of the first refusal that the text meets before any of it runs, or READS.
 """
+from __future__ import annotations
+
 import sys
 from typing import NamedTuple
 
@@ -61,13 +63,14 @@ class Rel(NamedTuple):
     # the lower and the upper bound, where a range is written
     range: tuple | None
     properties: object
-    heads: int
+    # whether there is an arrow head on the left, and on the right
+    heads: tuple
 
 
 class Properties(NamedTuple):
     """Keys with their values, or a parameter, which has neither."""
 
-    is_parameter: bool
+    parameter: str | None
     keys: list
     values: list
 
@@ -81,6 +84,21 @@ class Item(NamedTuple):
     place: int
     column: str
     expr: Expr
+
+
+class Sort(NamedTuple):
+    expr: Expr
+    is_descending: bool
+
+
+class Change(NamedTuple):
+    """An item of SET or REMOVE: of a key, of labels, of all properties (=) or of some (+=)."""
+
+    target: Variable
+    kind: str
+    key: str | None
+    labels: list
+    expr: Expr | None
 
 
 class Clause(NamedTuple):
@@ -181,9 +199,10 @@ class Reader:
         return found
 
     def reading(self):
-        if self.takes("MATCH") or self.takes("OPTIONAL", "MATCH"):
+        is_optional = self.takes("OPTIONAL", "MATCH")
+        if is_optional or self.takes("MATCH"):
             paths = self.listed(self.path)
-            return Clause("MATCH", {"paths": paths, "where": self.after("WHERE")})
+            return Clause("MATCH", {"is_optional": is_optional, "paths": paths, "where": self.after("WHERE")})
         if self.takes("UNWIND"):
             expr = self.expression()
             self.needs("AS")
@@ -198,44 +217,48 @@ class Reader:
         if self.takes("CREATE"):
             return Clause("CREATE", {"paths": self.listed(self.path)})
         if self.takes("MERGE"):
-            return Clause("MERGE", {"paths": [self.path()], "items": self.merge_items()})
+            return self.merge()
         if self.takes("SET"):
             return Clause("SET", {"items": self.listed(self.set_item)})
         if self.takes("REMOVE"):
             return Clause("REMOVE", {"items": self.listed(self.remove_item)})
-        if self.takes("DELETE") or self.takes("DETACH", "DELETE"):
-            return Clause("DELETE", {"exprs": self.listed(self.expression)})
+        detaches = self.takes("DETACH", "DELETE")
+        if detaches or self.takes("DELETE"):
+            return Clause("DELETE", {"detaches": detaches, "exprs": self.listed(self.expression)})
         return None
 
-    def merge_items(self):
-        items = []
+    def merge(self):
+        path = self.path()
+        items = {"CREATE": [], "MATCH": []}
         while self.takes("ON"):
-            if not self.one_of(["CREATE", "MATCH"]):
+            when = self.one_of(items)
+            if not when:
                 raise Refused(BAD_SYNTAX)
             self.needs("SET")
-            items += self.listed(self.set_item)
-        return items
+            items[when] += self.listed(self.set_item)
+        return Clause("MERGE", {"paths": [path], "items": items})
 
     def set_item(self):
-        """The target, and the expression unless labels are set."""
         target = self.variable()
         if self.sees(":"):
-            self.labels()
-            return target, None
+            return Change(target, "labels", None, self.labels(), None)
         if self.takes("."):
-            self.name()
+            key = self.name().name
             self.needs("=")
-        elif not self.one_of(["=", "+="]):
+            return Change(target, "key", key, [], self.expression())
+        kind = self.one_of(["=", "+="])
+        if not kind:
             raise Refused(BAD_SYNTAX)
-        return target, self.expression()
+        return Change(target, kind, None, [], self.expression())
 
     def remove_item(self):
         target = self.variable()
         if self.takes("."):
-            self.name()
-        elif not self.labels():
+            return Change(target, "key", self.name().name, [], None)
+        labels = self.labels()
+        if not labels:
             raise Refused(BAD_SYNTAX)
-        return target, None
+        return Change(target, "labels", None, labels, None)
 
     def projection(self, kind):
         is_distinct = self.takes("DISTINCT")
@@ -247,7 +270,7 @@ class Reader:
             self.needs("*")
             items = self.listed(read) if self.takes(",") else []
         sorts = self.listed(self.sort) if self.takes("ORDER", "BY") else []
-        limits = [self.after("SKIP"), self.after("LIMIT")]
+        skip, limit = self.after("SKIP"), self.after("LIMIT")
         where = self.after("WHERE") if kind == "WITH" else None
         return Clause(
             kind,
@@ -256,7 +279,8 @@ class Reader:
                 "star": star,
                 "items": items,
                 "sorts": sorts,
-                "limits": [limit for limit in limits if limit],
+                "skip": skip,
+                "limit": limit,
                 "where": where,
             },
         )
@@ -279,8 +303,7 @@ class Reader:
 
     def sort(self):
         expr = self.expression()
-        self.one_of(["ASC", "ASCENDING", "DESC", "DESCENDING"])
-        return expr
+        return Sort(expr, self.one_of(["ASC", "ASCENDING", "DESC", "DESCENDING"]) in ("DESC", "DESCENDING"))
 
     # patterns
 
@@ -305,7 +328,7 @@ class Reader:
 
     def relationship(self):
         place = self.now().place
-        heads = int(self.takes("<"))
+        left = self.takes("<")
         self.needs("-")
         inside = None, [], None, None
         if self.takes("["):
@@ -313,8 +336,7 @@ class Reader:
             inside = variable, self.types(), self.range(), self.properties()
             self.needs("]")
         self.needs("-")
-        heads += self.takes(">")
-        return Rel(place, *inside, heads)
+        return Rel(place, *inside, (left, self.takes(">")))
 
     def types(self):
         found = []
@@ -338,10 +360,9 @@ class Reader:
 
     def properties(self):
         if self.now().kind == "parameter":
-            self.at += 1
-            return Properties(True, [], [])
+            return Properties(self.take("parameter").value, [], [])
         if self.sees("{"):
-            return Properties(False, *self.entries())
+            return Properties(None, *self.entries())
         return None
 
     def labels(self):
@@ -559,11 +580,11 @@ class Checker:
         self.scope = self.scope | {clause.variable.name}
 
     def set_items(self, items):
-        for target, expr in items:
-            if target.name not in self.scope:
-                self.fault(target.place, UNDEFINED)
-            if expr:
-                self.expression(expr, self.scope)
+        for item in items:
+            if item.target.name not in self.scope:
+                self.fault(item.target.place, UNDEFINED)
+            if item.expr:
+                self.expression(item.expr, self.scope)
 
     # patterns
 
@@ -582,7 +603,7 @@ class Checker:
         if clause.kind == "MATCH" and clause.where:
             self.expression(clause.where, self.scope)
         if clause.kind == "MERGE":
-            self.set_items(clause.items)
+            self.set_items(clause.items["CREATE"] + clause.items["MATCH"])
 
     def bind_once(self, variable, nodes, others):
         """Binds the variable of a relationship or a path."""
@@ -608,14 +629,14 @@ class Checker:
             self.fault(rel.place, BAD_PATTERN)
         if kind != "MATCH" and (rel.range or len(rel.types) != 1):
             self.fault(rel.place, BAD_PATTERN)
-        if kind == "CREATE" and rel.heads != 1:
+        if kind == "CREATE" and sum(rel.heads) != 1:
             self.fault(rel.place, BAD_PATTERN)
 
     def properties(self, element, kind):
         properties = element.properties
         if properties is None:
             return
-        if properties.is_parameter and kind != "CREATE":
+        if properties.parameter is not None and kind != "CREATE":
             self.fault(element.place, BAD_PATTERN)
         seen = set()
         for key in properties.keys:
@@ -633,9 +654,9 @@ class Checker:
         seen = columns if narrows else columns | self.scope
         trees = [item.expr.tree() for item in clause.items]
         for sort in clause.sorts:
-            if sort.tree() not in trees:
-                self.expression(sort, seen)
-        for limit in clause.limits:
+            if sort.expr.tree() not in trees:
+                self.expression(sort.expr, seen)
+        for limit in filter(None, [clause.skip, clause.limit]):
             self.expression(limit, set())
         if clause.where:
             self.expression(clause.where, seen)

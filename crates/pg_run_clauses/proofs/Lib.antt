@@ -1,0 +1,3 @@
+mod NextClause
+mod Planned
+mod Settings

@@ -1,0 +1,4 @@
+pub mod IdLemmas
+pub mod GatherLemmas
+pub mod RemovalLemmas
+pub mod ClauseLemmas

@@ -1,7 +1,8 @@
 //! All clauses of a query.
-ghost use Rattle.std.specs.Prelude.{◌≡◌, ◌≤◌, ◌^◌, ◌∷◌, [], map, IfOk};
+ghost use Rattle.std.specs.Prelude.{◌≡◌, ◌≤◌, ◌^◌, ◌∷◌, [], fold, map, IfOk};
 ghost use Rattle.pg_meaning.specs.Plans.{IsPlanFrom};
 ghost use Rattle.pg_meaning.specs.Queries.{clauses_run, first_anchors, other_anchors};
+ghost use Rattle.pg_meaning.specs.Scopes.{scope_after};
 ghost use Rattle.pg_rows.specs.States.{seen, state_of};
 ghost use Rattle.pg_run_clauses.specs.Runs.{anchors_view, plan_view, quota_of};
 ghost use Rattle.pg_store.specs.Stores.{graph_of_store, IsFit};
@@ -32,6 +33,7 @@ pub fn run_clauses<T: Tables>(
     requires quota { given.now.max_elements ≤ 2 ^ 63 }
     requires planned { IsPlanFrom [] (map clause_view clauses.now) (plan_view plan.now) }
     ensures gives { Gives result (clauses_run (parameters_view given.now.parameters.now) (quota_of meter.old.limit given.now.max_elements) [] (plan_view plan.now) (map clause_view clauses.now) (state_of (graph_of_store T.seen store.old shared.old) (record { names = []; rows = [] ∷ [] }) meter.old.used)) (λ t. state_of (graph_of_store T.seen store.new shared.new) (seen t) meter.new.used) }
+    ensures names { IfOk result (λ t. (seen t).names ≡ fold scope_after [] (map clause_view clauses.now)) }
     ensures changed { Changed T.seen store.old shared.old store.new shared.new }
 {
     let table = Table::begin(given.alloc)?;
@@ -53,6 +55,7 @@ fn run_from<T: Tables>(
     requires quota { given.now.max_elements ≤ 2 ^ 63 }
     requires planned { IsPlanFrom (seen table).names (map clause_view clauses.now) (plan_view plan.now) }
     ensures gives { Gives result (clauses_run (parameters_view given.now.parameters.now) (quota_of meter.old.limit given.now.max_elements) (seen table).names (plan_view plan.now) (map clause_view clauses.now) (state_of (graph_of_store T.seen store.old shared.old) (seen table) meter.old.used)) (λ t. state_of (graph_of_store T.seen store.new shared.new) (seen t) meter.new.used) }
+    ensures names { IfOk result (λ t. (seen t).names ≡ fold scope_after (seen table).names (map clause_view clauses.now)) }
     ensures changed { Changed T.seen store.old shared.old store.new shared.new }
 {
     let mut left = plan;

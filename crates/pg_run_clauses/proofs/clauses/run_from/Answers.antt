@@ -1,5 +1,6 @@
 use Rattle.std.proofs.Common.{rules, ◌≡◌, ◌∷◌, map, drop, ◌+◌, Ok, sym, subst, ap, ◌∙◌}
 use Rattle.std.proofs.lemmas.List.{drop_more}
+use Rattle.std.specs.Prelude.{fold}
 use Rattle.pg_meaning.specs.Plans.{ArePlanned, IsPlanFrom}
 use Rattle.pg_meaning.specs.Queries.{clause_step, clauses_run, first_anchors}
 use Rattle.pg_meaning.specs.Scopes.{scope_after}
@@ -50,6 +51,10 @@ loop-clause-preserved g c =
           ∙ sym step
           ∙ sym (ap (λ xs. clauses_run parameters (quota_of limit elements) names plan (map clause_view xs) before) split)
           ∙ c.loop-clause.invariant.left;
+      names =
+          ap (λ ns. fold scope_after ns later) c.in_ok-table.ensures.names
+          ∙ sym (ap (λ xs. fold scope_after names (map clause_view xs)) split)
+          ∙ c.loop-clause.invariant.names;
       limit = search rules;
       planned =
           subst (λ ns. IsPlanFrom ns later (plan_view c.anchors_first.result.1.now)) (sym c.in_ok-table.ensures.names)

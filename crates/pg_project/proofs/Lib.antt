@@ -1,3 +1,12 @@
+pub mod Arranged
+pub mod ColumnViews
+pub mod Conditions
+pub mod EachAnswer
 pub mod InTurn
+pub mod Kept
+pub mod Moves
+pub mod Projecting
+pub mod SortPlaces
+pub mod Standing
 pub mod Unwinding
 pub mod Wide

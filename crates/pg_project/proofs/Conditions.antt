@@ -1,0 +1,59 @@
+-- Rows that meet a condition, one after the other.
+use Rattle.std.proofs.Common.{◌≡◌, ℕ, zero, suc, ◌-◌, ◌<◌, ◌≤◌, Bool, true, false, List, [], ◌∷◌, ◌++◌, length, take, drop, Result, Ok, Err, Option, Some, None, refl, sym, ap, ◌∙◌, arith}
+use Rattle.std.proofs.lemmas.List.{length-drop}
+use Rattle.std.specs.Prelude.{unwrap_or}
+use Rattle.pg_meaning.specs.Answer.{◌>>=◌}
+use Rattle.pg_meaning.specs.Conditions.{condition}
+use Rattle.pg_meaning.specs.Graph.{Graph}
+use Rattle.pg_meaning.specs.Projections.{limited}
+use Rattle.pg_meaning.specs.Tree.{Expression}
+use Rattle.pg_meaning.specs.Value.{Value, Entries}
+use Rattle.pg_meaning.specs.declared.fault.Fault.{Fault}
+use Rattle.pg_rows.proofs.Tabled.{all_taken}
+use Rattle.pg_rows.specs.Named.{row_of}
+use Rattle.pg_project.proofs.InTurn.{after, after_one, nothing_behind}
+use Rattle.pg_project.specs.Given.{passing_given}
+
+same_others : (rest : Result (List (List Value)) Fault) → (rest >>= λ others. Ok others) ≡ rest
+same_others (Ok others) = refl
+same_others (Err f) = refl
+
+module _ (parameters : Entries) (graph : Graph) (names : List (List ℕ)) (where_ : Option Expression) (width : ℕ) (whole : Result (List (List Value)) Fault) (done : List (List Value)) where
+  next_row : (more : ℕ) (rows rest : List (List Value)) (r : List Value) (a : Result Bool Fault) → 0 < more → rows ≡ r ∷ rest → condition where_ (row_of names r) parameters graph ≡ a
+      → whole ≡ after done (passing_given parameters graph names where_ width (take more rows))
+      → whole ≡ after done (a >>= λ b. passing_given parameters graph names where_ width (take (more - 1) rest) >>= λ others. Ok (elim b [ true ↦ take width r ∷ others | false ↦ others ]))
+  next_row zero rows rest r a p e c h = absurd (omega (arith, p))
+  next_row (suc m) rows rest r a p e c h =
+      let less : suc m - 1 ≡ m = omega arith in
+      h
+      ∙ ap (λ xs. after done (passing_given parameters graph names where_ width (take (suc m) xs))) e
+      ∙ ap (λ b. after done (b >>= λ b. passing_given parameters graph names where_ width (take m rest) >>= λ others. Ok (elim b [ true ↦ take width r ∷ others | false ↦ others ]))) c
+      ∙ sym (ap (λ k. after done (a >>= λ b. passing_given parameters graph names where_ width (take k rest) >>= λ others. Ok (elim b [ true ↦ take width r ∷ others | false ↦ others ]))) less)
+
+  pub one_passes : (more : ℕ) (rows rest : List (List Value)) (r : List Value) → 0 < more → rows ≡ r ∷ rest → condition where_ (row_of names r) parameters graph ≡ Ok true
+      → whole ≡ after done (passing_given parameters graph names where_ width (take more rows))
+      → whole ≡ after (done ++ take width r ∷ []) (passing_given parameters graph names where_ width (take (more - 1) rest))
+  one_passes more rows rest r p e c h = next_row more rows rest r (Ok true) p e c h ∙ after_one done (take width r) (passing_given parameters graph names where_ width (take (more - 1) rest))
+
+  pub one_stays_out : (more : ℕ) (rows rest : List (List Value)) (r : List Value) → 0 < more → rows ≡ r ∷ rest → condition where_ (row_of names r) parameters graph ≡ Ok false
+      → whole ≡ after done (passing_given parameters graph names where_ width (take more rows))
+      → whole ≡ after done (passing_given parameters graph names where_ width (take (more - 1) rest))
+  one_stays_out more rows rest r p e c h = next_row more rows rest r (Ok false) p e c h ∙ ap (after done) (same_others (passing_given parameters graph names where_ width (take (more - 1) rest)))
+
+  pub one_ends : (more : ℕ) (rows rest : List (List Value)) (r : List Value) (f : Fault) → 0 < more → rows ≡ r ∷ rest → condition where_ (row_of names r) parameters graph ≡ Err f
+      → whole ≡ after done (passing_given parameters graph names where_ width (take more rows)) → whole ≡ Err f
+  one_ends more rows rest r f p e c h = next_row more rows rest r (Err f) p e c h
+
+  none_taken : {X : Type 0} (n : ℕ) → take {A = X} n [] ≡ []
+  none_taken zero = refl
+  none_taken (suc n) = refl
+
+  pub no_rows : (more : ℕ) (rows : List (List Value)) → rows ≡ [] → whole ≡ after done (passing_given parameters graph names where_ width (take more rows)) → whole ≡ Ok done
+  no_rows more rows e h = h ∙ ap (λ xs. after done (passing_given parameters graph names where_ width xs)) (ap (take more) e ∙ none_taken more) ∙ ap Ok (nothing_behind done)
+
+  pub no_more : (more : ℕ) (rows : List (List Value)) → more ≡ 0 → whole ≡ after done (passing_given parameters graph names where_ width (take more rows)) → whole ≡ Ok done
+  no_more more rows e h = h ∙ ap (λ n. after done (passing_given parameters graph names where_ width (take n rows))) e ∙ ap Ok (nothing_behind done)
+
+pub cut_is : (limit : Option ℕ) (skip n : ℕ) (rows : List (List Value)) → n ≡ length rows → take (unwrap_or limit n) (drop skip rows) ≡ limited limit (drop skip rows)
+cut_is (Some m) skip n rows h = refl
+cut_is None skip n rows h = sym (all_taken n (drop skip rows) (let e = length-drop skip rows in omega arith))

@@ -1,0 +1,244 @@
+-- The parts of a projection are the definition's clause.
+use Rattle.std.proofs.Common.{◌≡◌, ◌≢◌, ℕ, suc, ◌+◌, Bool, true, false, not, cond, List, [], ◌∷◌, ◌++◌, map, length, take, drop, Result, Ok, Err, IfOk, IfErr, Option, Some, None, refl, sym, ap, subst, ◌∙◌, arith}
+use Rattle.std.specs.List.{AllByRecursion, list_any}
+use Rattle.std.specs.Prelude.{unwrap_or, is_some, ◌||◌}
+use Rattle.pg_meaning.specs.Aggregates.{aggregate_of}
+use Rattle.pg_meaning.specs.Answer.{◌>>=◌, each_answer}
+use Rattle.pg_meaning.specs.Graph.{Graph}
+use Rattle.pg_meaning.specs.Meters.{Setting, State, spend}
+use Rattle.pg_meaning.specs.Projections.{Projected, count_given, distinct_rows, grouped, item_rows, limited, ordered_rows, passing_rows, project_clause, projected, skipped}
+use Rattle.pg_meaning.specs.Rows.{Row}
+use Rattle.pg_meaning.specs.Scopes.{Column, is_aggregate}
+use Rattle.pg_meaning.specs.Tree.{Expression, Projection}
+use Rattle.pg_meaning.specs.Value.{Value, Entries}
+use Rattle.pg_meaning.specs.declared.fault.Fault.{Fault}
+use Rattle.pg_meaning.specs.declared.fault.Fault.TheVariants.{OutOfMemory}
+use Rattle.pg_rows.specs.Named.{row_of, rows_named}
+use Rattle.pg_rows.specs.States.{Named, seen, named_rows, state_of}
+use Rattle.pg_rows.specs.Tables.{table}
+use Rattle.pg_rows.specs.declared.named.Table.{Table}
+use Rattle.pg_rows.specs.declared.table.Rows.{Rows}
+use Rattle.pg_value_core.specs.Gives.{Gives}
+use Rattle.pg_project.proofs.Arranged.{distinct_stand, ordered_stand}
+use Rattle.pg_project.proofs.InTurn.{bound_twice, nothing_behind}
+use Rattle.pg_project.proofs.Kept.{limited_map, passing_stand}
+use Rattle.pg_project.proofs.Standing.{all_rows}
+use Rattle.pg_project.proofs.Wide.{table_wide}
+use Rattle.std.proofs.lemmas.List.{drop-map}
+use Rattle.pg_project.specs.Given.{Cut, columns_of, count_at, cut_given, cut_of, distinct_given, earlier_names, has_aggregate, ordered_given, passing_given, tail_given, wide_rows_given}
+use Rattle.pg_project.specs.Parts.{of_columns, rows_ended, rows_projected, stands}
+
+-- ---- the clause by its parts
+
+count_is : (s : Setting) (graph : Graph) (e : Option Expression) → count_given s graph e ≡ count_at s.parameters graph e
+count_is s graph None = refl
+count_is s graph (Some e) = refl
+
+skip_is : {X : Type 0} (n : Option ℕ) (xs : List X) → skipped n xs ≡ drop (unwrap_or n 0) xs
+skip_is None xs = refl
+skip_is (Some n) xs = refl
+
+-- both counts as one
+counted : {X : Type 0} (a b : Result (Option ℕ) Fault) (next : Option ℕ → Option ℕ → Result X Fault) (to : Cut → Result X Fault) → ((n m : Option ℕ) → next n m ≡ to (record { skip = unwrap_or n 0; limit = m }))
+    → (a >>= λ n. b >>= λ m. next n m) ≡ ((a >>= λ n. b >>= λ m. Ok (record { skip = unwrap_or n 0; limit = m })) >>= to)
+counted (Ok n) (Ok m) next to h = h n m
+counted (Ok n) (Err f) next to h = refl
+counted (Err f) b next to h = refl
+
+module _ (s : Setting) (graph : Graph) (columns : List Column) (p : Projection) (where_ : Option Expression) (rows : List Row) (steps : ℕ) where
+  abbrev after_rows : List Row → Result State Fault
+  after_rows rs = Ok (record { graph = graph; rows = rs; steps = steps })
+
+  abbrev own_columns : List Projected → Result (List Row) Fault
+  own_columns kept = Ok (map (λ r. r.columns) kept)
+
+  abbrev after_kept : List Projected → Result State Fault
+  after_kept kept = after_rows (map (λ r. r.columns) kept)
+
+  abbrev cut_at : Option ℕ → Option ℕ → Cut
+  cut_at n m = record { skip = unwrap_or n 0; limit = m }
+
+  abbrev passed : Cut → List Projected → Result (List Row) Fault
+  passed c sorted = passing_rows s graph where_ (limited c.limit (drop c.skip sorted)) >>= own_columns
+
+  one_passed : (n m : Option ℕ) (sorted : List Projected) → (passing_rows s graph where_ (limited m (skipped n sorted)) >>= after_kept) ≡ (passed (cut_at n m) sorted >>= after_rows)
+  one_passed n m sorted =
+      ap (λ xs. passing_rows s graph where_ (limited m xs) >>= after_kept) (skip_is n sorted)
+      ∙ sym (bound_twice (passing_rows s graph where_ (limited m (drop (unwrap_or n 0) sorted))) own_columns after_rows)
+
+  all_ended : (n m : Option ℕ) (items : List Projected)
+      → (ordered_rows s graph columns p.order (distinct_rows p.distinct items) >>= λ sorted. passing_rows s graph where_ (limited m (skipped n sorted)) >>= after_kept) ≡ (rows_ended s graph columns p where_ (cut_at n m) items >>= after_rows)
+  all_ended n m items =
+      (λ i. ordered_rows s graph columns p.order (distinct_rows p.distinct items) >>= λ sorted. one_passed n m sorted i)
+      ∙ sym (bound_twice (ordered_rows s graph columns p.order (distinct_rows p.distinct items)) (passed (cut_at n m)) after_rows)
+
+  abbrev all_items : Result (List Projected) Fault
+  all_items = item_rows s graph p.distinct columns rows
+
+  all_cut : (n m : Option ℕ)
+      → (all_items >>= λ items. ordered_rows s graph columns p.order (distinct_rows p.distinct items) >>= λ sorted. passing_rows s graph where_ (limited m (skipped n sorted)) >>= after_kept)
+      ≡ ((all_items >>= rows_ended s graph columns p where_ (cut_at n m)) >>= after_rows)
+  all_cut n m = (λ i. all_items >>= λ items. all_ended n m items i) ∙ sym (bound_twice all_items (rows_ended s graph columns p where_ (cut_at n m)) after_rows)
+
+  abbrev behind_steps : Result State Fault
+  behind_steps = do
+    skip ← count_given s graph p.skip
+    limit ← count_given s graph p.limit
+    items ← item_rows s graph p.distinct columns rows
+    sorted ← ordered_rows s graph columns p.order (distinct_rows p.distinct items)
+    kept ← passing_rows s graph where_ (limited limit (skipped skip sorted))
+    Ok (record { graph = graph; rows = map (λ r. r.columns) kept; steps = steps })
+
+  all_behind : behind_steps ≡ (rows_projected s graph columns p where_ rows >>= after_rows)
+  all_behind =
+      (λ i. count_is s graph p.skip i >>= λ n. count_is s graph p.limit i >>= λ m. all_cut n m i)
+      ∙ counted (count_at s.parameters graph p.skip) (count_at s.parameters graph p.limit) (λ n m. (all_items >>= rows_ended s graph columns p where_ (cut_at n m)) >>= after_rows) (λ c. (all_items >>= rows_ended s graph columns p where_ c) >>= after_rows) (λ n m. refl)
+      ∙ sym (bound_twice (cut_given s.parameters graph p.skip p.limit) (λ c. all_items >>= rows_ended s graph columns p where_ c) after_rows)
+
+same_long : {X Y : Type 0} (f : X → Y) (xs : List X) → length (map f xs) ≡ length xs
+same_long f [] = refl
+same_long f (x ∷ xs) = ap suc (same_long f xs)
+
+-- over a table
+module _ (s : Setting) (graph : Graph) (columns : List Column) (p : Projection) (where_ : Option Expression) (t : Named) (used : ℕ) where
+  clause_is : (a : Result ℕ Fault) → spend s used (length t.rows) ≡ a
+      → project_clause s columns p where_ (state_of graph t used) ≡ (a >>= λ steps. rows_projected s graph columns p where_ (named_rows t) >>= λ rs. Ok (record { graph = graph; rows = rs; steps = steps }))
+  clause_is a h =
+      (λ i. spend s used (same_long (row_of t.names) t.rows i) >>= λ steps. all_behind s graph columns p where_ (named_rows t) steps i)
+      ∙ ap (λ b. b >>= λ steps. rows_projected s graph columns p where_ (named_rows t) >>= λ rs. Ok (record { graph = graph; rows = rs; steps = steps })) h
+
+  pub steps_fail : (f : Fault) → spend s used (length t.rows) ≡ Err f → project_clause s columns p where_ (state_of graph t used) ≡ Err f
+  steps_fail f h = clause_is (Err f) h
+
+  module _ (steps : ℕ) (spent : spend s used (length t.rows) ≡ Ok steps) where
+    pub rows_fail : (f : Fault) → rows_projected s graph columns p where_ (named_rows t) ≡ Err f → project_clause s columns p where_ (state_of graph t used) ≡ Err f
+    rows_fail f h = clause_is (Ok steps) spent ∙ ap (λ a. a >>= λ rs. Ok (record { graph = graph; rows = rs; steps = steps })) h
+
+    pub all_projected : (found : Named) → rows_projected s graph columns p where_ (named_rows t) ≡ Ok (named_rows found) → project_clause s columns p where_ (state_of graph t used) ≡ Ok (state_of graph found steps)
+    all_projected found h = clause_is (Ok steps) spent ∙ ap (λ a. a >>= λ rs. Ok (record { graph = graph; rows = rs; steps = steps })) h
+
+-- ---- items
+
+pub aggregates_are : (ns : List (List ℕ)) (es : List Expression) → length ns ≡ length es → list_any is_aggregate (columns_of ns es) ≡ has_aggregate es
+aggregates_are [] [] h = refl
+aggregates_are [] (e ∷ es) h = absurd (omega arith)
+aggregates_are (n ∷ ns) [] h = absurd (omega arith)
+aggregates_are (n ∷ ns) (e ∷ es) h = ap (λ b. is_some (aggregate_of e) || b) (aggregates_are ns es (omega arith))
+
+taken_row : (ns : List (List ℕ)) (vs : List Value) → row_of ns (take (length ns) vs) ≡ row_of ns vs
+taken_row [] vs = refl
+taken_row (n ∷ ns) [] = refl
+taken_row (n ∷ ns) (v ∷ vs) = ap (λ row. (n, v) ∷ row) (taken_row ns vs)
+
+pub of_columns_stand : (ns : List (List ℕ)) (ws : List (List Value)) → map (of_columns ns) ws ≡ map (stands ns []) ws
+of_columns_stand ns [] = refl
+of_columns_stand ns (w ∷ ws) = λ i. (let p : Projected = record { columns = sym (taken_row ns w) i; earlier = [] } in p) ∷ of_columns_stand ns ws i
+
+module _ (s : Setting) (graph : Graph) (columns names : List (List ℕ)) (es : List Expression) (distinct : Bool) (rows : List (List Value)) (same : length columns ≡ length es) where
+  abbrev items_by : Bool → Result (List Projected) Fault
+  items_by b = elim b [ true ↦ grouped s graph (columns_of columns es) (rows_named names rows) | false ↦ each_answer (projected s graph distinct (columns_of columns es)) (rows_named names rows) ]
+
+  abbrev seen_by : Bool → Table → List Projected
+  seen_by b t = map (stands columns (earlier_names (b || distinct) names)) (seen t).rows
+
+  by_aggregate : (result : Result Table Fault) (b : Bool) → has_aggregate es ≡ b → Gives result (items_by b) (seen_by b) → Gives result (item_rows s graph distinct (columns_of columns es) (rows_named names rows)) (seen_by (has_aggregate es))
+  by_aggregate result b h given =
+      subst (λ a. Gives result (items_by a) (seen_by (has_aggregate es))) (sym (aggregates_are columns es same)) (subst (λ a. Gives result (items_by a) (seen_by a)) (sym h) given)
+
+  pub groups_give : (result : Result Table Fault) → has_aggregate es ≡ true → Gives result (grouped s graph (columns_of columns es) (rows_named names rows)) (λ t. map (stands columns []) (seen t).rows)
+      → Gives result (item_rows s graph distinct (columns_of columns es) (rows_named names rows)) (seen_by (has_aggregate es))
+  groups_give result h given = by_aggregate result true h given
+
+  module _ (parameters : Entries) (given : s.parameters ≡ parameters) where
+    abbrev wide : Result (List (List Value)) Fault
+    wide = wide_rows_given parameters graph names es (not distinct) rows
+
+    plain_is : items_by false ≡ (wide >>= λ ws. Ok (map (stands columns (earlier_names distinct names)) ws))
+    plain_is = all_rows s graph columns names es distinct same rows ∙ ap (λ ps. wide_rows_given ps graph names es (not distinct) rows >>= λ ws. Ok (map (stands columns (earlier_names distinct names)) ws)) given
+
+    plain_gives : (result : Result Table Fault) → IfOk result (λ t. wide ≡ Ok (seen t).rows) → IfErr result (λ e. e ≢ OutOfMemory → wide ≡ Err e) → Gives result (items_by false) (seen_by false)
+    plain_gives (Ok t) ok err = record {
+      ok = plain_is ∙ ap (λ a. a >>= λ ws. Ok (map (stands columns (earlier_names distinct names)) ws)) ok;
+      err = tt;
+    }
+    plain_gives (Err e) ok err = record {
+      ok = tt;
+      err = λ other. plain_is ∙ ap (λ a. a >>= λ ws. Ok (map (stands columns (earlier_names distinct names)) ws)) (err other);
+    }
+
+    pub rows_give : (result : Result Table Fault) → has_aggregate es ≡ false → IfOk result (λ t. wide ≡ Ok (seen t).rows) → IfErr result (λ e. e ≢ OutOfMemory → wide ≡ Err e)
+        → Gives result (item_rows s graph distinct (columns_of columns es) (rows_named names rows)) (seen_by (has_aggregate es))
+    rows_give result h ok err = by_aggregate result false h (plain_gives result ok err)
+
+-- ---- behind the items
+
+module _ (s : Setting) (graph : Graph) (columns earlier : List (List ℕ)) (es : List Expression) (same : length columns ≡ length es) (p : Projection) (where_ : Option Expression) (c : Cut) where
+  abbrev ended : List Projected → Result (List Row) Fault
+  ended sorted = passing_rows s graph where_ (limited c.limit (drop c.skip sorted)) >>= λ kept. Ok (map (λ (r : Projected). r.columns) kept)
+
+  sorted_ends : (a : Result (List (List Value)) Fault)
+      → ((a >>= λ us. Ok (map (stands columns earlier) us)) >>= ended)
+      ≡ ((a >>= λ us. passing_given s.parameters graph (columns ++ earlier) where_ (length columns) (cut_of c us)) >>= λ found. Ok (rows_named columns found))
+  sorted_ends (Err f) = refl
+  sorted_ends (Ok us) =
+      ap (λ xs. passing_rows s graph where_ xs >>= λ kept. Ok (map (λ (r : Projected). r.columns) kept)) (ap (limited c.limit) (drop-map (stands columns earlier) c.skip us) ∙ limited_map (stands columns earlier) c.limit (drop c.skip us))
+      ∙ passing_stand s graph where_ columns earlier (cut_of c us)
+
+  distinct_is : (d : Bool) (ws : List (List Value)) → (d ≡ true → AllByRecursion (λ w. length w ≡ length columns) ws) → distinct_rows d (map (stands columns earlier) ws) ≡ map (stands columns earlier) (distinct_given d ws)
+  distinct_is false ws h = refl
+  distinct_is true ws h = distinct_stand columns earlier ws (h refl)
+
+  pub ended_stand : (ws : List (List Value)) → (p.distinct ≡ true → AllByRecursion (λ w. length w ≡ length columns) ws)
+      → rows_ended s graph (columns_of columns es) p where_ c (map (stands columns earlier) ws) ≡ (tail_given s.parameters graph (columns ++ earlier) es p.distinct p.order c where_ (length columns) ws >>= λ found. Ok (rows_named columns found))
+  ended_stand ws wide =
+      ap (λ xs. ordered_rows s graph (columns_of columns es) p.order xs >>= ended) (distinct_is p.distinct ws wide)
+      ∙ ap (λ a. a >>= ended) (ordered_stand s graph columns earlier es same p.order (distinct_given p.distinct ws))
+      ∙ sorted_ends (ordered_given s.parameters graph (columns ++ earlier) es p.order (distinct_given p.distinct ws))
+
+-- ---- as the program gives it
+
+own_width : (columns names : List (List ℕ)) (aggregated distinct : Bool) → distinct ≡ true → length (columns ++ earlier_names (aggregated || distinct) names) ≡ length columns
+own_width columns names true d h = ap length (nothing_behind columns)
+own_width columns names false true h = ap length (nothing_behind columns)
+own_width columns names false false h = cc
+
+module _ (s : Setting) (graph : Graph) (parameters : Entries) (given : s.parameters ≡ parameters) (all : List Column) (p : Projection) (where_ : Option Expression) (rows : List Row) where
+  cut_is : (a : Result Cut Fault) → cut_given parameters graph p.skip p.limit ≡ a → rows_projected s graph all p where_ rows ≡ (a >>= λ c. item_rows s graph p.distinct all rows >>= rows_ended s graph all p where_ c)
+  cut_is a h = ap (λ b. b >>= λ c. item_rows s graph p.distinct all rows >>= rows_ended s graph all p where_ c) (ap (λ ps. cut_given ps graph p.skip p.limit) given ∙ h)
+
+  pub cut_fails : (f : Fault) → cut_given parameters graph p.skip p.limit ≡ Err f → rows_projected s graph all p where_ rows ≡ Err f
+  cut_fails f h = cut_is (Err f) h
+
+  module _ (columns names : List (List ℕ)) (es : List Expression) (are : all ≡ columns_of columns es) (c : Cut) (cut : cut_given parameters graph p.skip p.limit ≡ Ok c) where
+    items_are : (a : Result (List Projected) Fault) → item_rows s graph p.distinct (columns_of columns es) rows ≡ a → rows_projected s graph all p where_ rows ≡ (a >>= rows_ended s graph (columns_of columns es) p where_ c)
+    items_are a h =
+        cut_is (Ok c) cut
+        ∙ ap (λ cs. item_rows s graph p.distinct cs rows >>= rows_ended s graph cs p where_ c) are
+        ∙ ap (λ b. b >>= rows_ended s graph (columns_of columns es) p where_ c) h
+
+    pub items_fail : (f : Fault) → item_rows s graph p.distinct (columns_of columns es) rows ≡ Err f → rows_projected s graph all p where_ rows ≡ Err f
+    items_fail f h = items_are (Err f) h
+
+    module _ (t : Table) (width : ℕ) (same : length columns ≡ length es) (long : width ≡ length columns) (named : (seen t).names ≡ columns ++ earlier_names (has_aggregate es || p.distinct) names)
+        (items : item_rows s graph p.distinct (columns_of columns es) rows ≡ Ok (map (stands columns (earlier_names (has_aggregate es || p.distinct) names)) (seen t).rows)) where
+      abbrev behind_items : Result (List (List Value)) Fault
+      behind_items = tail_given parameters graph (seen t).names es p.distinct p.order c where_ width (seen t).rows
+
+      as_wide : p.distinct ≡ true → AllByRecursion (λ w. length w ≡ length columns) (table t.rows)
+      as_wide h = subst (λ n. AllByRecursion (λ w. length w ≡ n) (table t.rows)) (t.fits ∙ ap length named ∙ own_width columns names (has_aggregate es) p.distinct h) (table_wide t.rows)
+
+      ended_is : rows_projected s graph all p where_ rows ≡ (behind_items >>= λ found. Ok (rows_named columns found))
+      ended_is =
+          items_are (Ok (map (stands columns (earlier_names (has_aggregate es || p.distinct) names)) (seen t).rows)) items
+          ∙ ended_stand s graph columns (earlier_names (has_aggregate es || p.distinct) names) es same p where_ c (seen t).rows as_wide
+          ∙ (λ i. tail_given (given i) graph (sym named i) es p.distinct p.order c where_ (sym long i) (seen t).rows >>= λ found. Ok (rows_named columns found))
+
+      pub ended_gives : (result : Result Rows Fault) → IfOk result (λ found. behind_items ≡ Ok (table found)) → IfErr result (λ e. e ≢ OutOfMemory → behind_items ≡ Err e) → Gives result (rows_projected s graph all p where_ rows) (λ found. rows_named columns (table found))
+      ended_gives (Ok found) ok err = record {
+        ok = ended_is ∙ ap (λ a. a >>= λ us. Ok (rows_named columns us)) ok;
+        err = tt;
+      }
+      ended_gives (Err e) ok err = record {
+        ok = tt;
+        err = λ other. ended_is ∙ ap (λ a. a >>= λ us. Ok (rows_named columns us)) (err other);
+      }

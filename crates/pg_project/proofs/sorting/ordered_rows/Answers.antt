@@ -1,0 +1,17 @@
+use Rattle.std.proofs.Common.{rules, ◌≡◌, map, Err, sym, ap, ◌∙◌}
+use Rattle.pg_meaning.specs.declared.fault.Fault.{Fault}
+use Rattle.pg_project.proofs.SortPlaces.{ordered_fails}
+use Rattle.pg_project.specs.Given.{all_keys_given, expressions_view, ordered_given}
+use Rattle.pg_project.specs.Sources.{sources_view}
+use Rattle.pg_rows.specs.Tables.{table}
+use Rattle.pg_syntax_tree.specs.View.{sort_item_view}
+use Rattle.pg_value_core.specs.Given.{parameters_view}
+use Rattle.pg_project.proofs.sorting.ordered_rows.Goals as goal
+
+pub returns-in_err-keys-clause-err : goal.returns-in_err-keys-clause-err
+returns-in_err-keys-clause-err g c =
+    let refused : (e : Fault) → all_keys_given (parameters_view c.args.parameters.now) c.args.graph.now c.args.names.now (sources_view c.args.names.now c.in_ok-sources.sources.items) (table c.args.rows) ≡ Err e
+    → ordered_given (parameters_view c.args.parameters.now) c.args.graph.now c.args.names.now (expressions_view c.args.items.now.items) (map sort_item_view c.args.order.now.items) (table c.args.rows) ≡ Err e =
+    λ e h. ordered_fails (parameters_view c.args.parameters.now) c.args.graph.now c.args.names.now (expressions_view c.args.items.now.items) (map sort_item_view c.args.order.now.items) (table c.args.rows) e (search rules)
+    (ap (λ ks. all_keys_given (parameters_view c.args.parameters.now) c.args.graph.now c.args.names.now ks (table c.args.rows)) (sym c.in_ok-sources.ensures.sources) ∙ h) in
+    search (rules, refused)

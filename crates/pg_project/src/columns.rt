@@ -1,0 +1,231 @@
+//! The columns of WITH and RETURN.
+ghost use Rattle.std.specs.Prelude.{◌≡◌, ◌++◌, ◌+◌, ◌∷◌, [], cond, is_some, length, map, IfOk, OnOk};
+ghost use Rattle.std.specs.BTreeSet.{insert_key};
+ghost use Rattle.pg_meaning.specs.Aggregates.{aggregate_of};
+ghost use Rattle.pg_meaning.specs.Names.{in_byte_order};
+ghost use Rattle.pg_meaning.specs.Order.{text_order};
+ghost use Rattle.pg_meaning.specs.Scopes.{column_names, variable_text};
+ghost use Rattle.pg_project.specs.Columns.{column_of, columns_view, naming_columns, star_names, texts_of, trees_in, variable_trees};
+ghost use Rattle.pg_project.specs.Given.{columns_of, earlier_names, expressions_view, has_aggregate};
+ghost use Rattle.pg_syntax_tree.specs.View.{expression_view, item_view, projection_view};
+
+use crate::projection_columns::ProjectionColumns;
+use pg_rows::Columns;
+use pg_scope::summary_named;
+use pg_syntax_tree::{Expression, Item, Name, Projection};
+use std::alloc::{AllocError, Global};
+use std::cmp::Ordering;
+
+/// How a clause names a column that has no alias.
+#[derive(Clone, Copy)]
+pub(crate) enum Naming {
+    /// WITH names it by the variable that it is.
+    Variable,
+    /// RETURN names it by its text as written.
+    Source,
+}
+
+/// The columns of a projection, where the variables in scope have these names.
+#[tactic(auto, using(crate::proofs::ColumnViews::whole))]
+pub(crate) fn make_columns<'a>(
+    alloc: Global,
+    naming: Naming,
+    scope: &Columns,
+    projection: &'a Projection,
+) -> Result<ProjectionColumns<'a>, AllocError>
+    ensures { IfOk result (λ c. columns_view c ≡ naming_columns naming scope.now (projection_view projection.now)) }
+{
+    let mut names = star_names(alloc, scope, projection.star)?;
+    let starred = variables(alloc, &names)?;
+    push_names(alloc, naming, &mut names, &projection.items)?;
+    Ok(ProjectionColumns {
+        names,
+        starred,
+        items: &projection.items,
+    })
+}
+
+/// The names that `*` stands for, in byte order.
+fn star_names(alloc: Global, scope: &Columns, star: Option<usize>) -> Result<Columns, AllocError>
+    ensures { IfOk result (λ c. c ≡ star_names scope.now star) }
+{
+    let mut names = Columns::new(alloc);
+    if star.is_none() {
+        return Ok(names);
+    }
+    for text in &in_byte_order(alloc, scope)? {
+        names.push(alloc, text)?;
+    }
+    Ok(names)
+}
+
+fn in_byte_order<'a>(alloc: Global, scope: &'a Columns) -> Result<Vec<&'a str>, AllocError>
+    ensures { IfOk result (λ texts. texts_of texts.items ≡ in_byte_order scope.now) }
+{
+    let mut texts = Vec::with_capacity(alloc, scope.len())?;
+    for at in 0..scope.len() {
+        put_text(&mut texts, scope.name(at))?;
+    }
+    Ok(texts)
+}
+
+/// Takes a text in among texts in byte order, unless it is there.
+fn put_text<'a>(texts: &mut Vec<&'a str>, text: &'a str) -> Result<(), AllocError>
+    ensures { OnOk result (texts_of texts.new.items ≡ insert_key text_order (texts_of texts.old.items) text.now) }
+{
+    for at in 0..texts.len() {
+        match text.cmp(texts[at]) {
+            Ordering::Less => {
+                texts.insert(at, text)?;
+                return Ok(());
+            }
+            Ordering::Equal => return Ok(()),
+            Ordering::Greater => {}
+        }
+    }
+    texts.push(text)?;
+    Ok(())
+}
+
+/// The variables of these names.
+fn variables(alloc: Global, names: &Columns) -> Result<Vec<Expression>, AllocError>
+    ensures { IfOk result (λ found. trees_in found.items ≡ variable_trees names.now) }
+{
+    let mut found = Vec::with_capacity(alloc, names.len())?;
+    for at in 0..names.len() {
+        found.push(Expression::Variable(Name {
+            text: String::from_str(alloc, names.name(at))?,
+            quoted: false,
+            place: 0,
+        }))?;
+    }
+    Ok(found)
+}
+
+fn push_names(
+    alloc: Global,
+    naming: Naming,
+    names: &mut Columns,
+    items: &Vec<Item>,
+) -> Result<(), AllocError>
+    ensures { OnOk result (names.new ≡ names.old ++ column_names (map (column_of naming) (map item_view items.now.items))) }
+{
+    for item in items {
+        names.push(alloc, column_name(naming, item))?;
+    }
+    Ok(())
+}
+
+/// The name of an item's column.
+fn column_name(naming: Naming, item: &Item) -> &str
+    ensures { result.now ≡ (column_of naming (item_view item.now)).name }
+{
+    match &item.alias {
+        Some(name) => name.text.as_str(),
+        None => match naming {
+            Naming::Variable => variable_text(&item.value),
+            Naming::Source => item.source.as_str(),
+        },
+    }
+}
+
+/// The text of a variable, and nothing for another expression.
+fn variable_text(expression: &Expression) -> &str
+    ensures { result.now ≡ variable_text (expression_view expression.now) }
+{
+    match expression {
+        Expression::Variable(name) => name.text.as_str(),
+        _ => "",
+    }
+}
+
+/// Whether an item is an aggregate.
+pub(crate) fn is_aggregate(expression: &Expression) -> bool
+    ensures { result ≡ is_some (aggregate_of (expression_view expression.now)) }
+{
+    match expression {
+        Expression::Call(name, _, _, _) => summary_named(name.text.as_str()).is_some(),
+        _ => false,
+    }
+}
+
+/// Whether any of the expressions is an aggregate.
+pub(crate) fn have_aggregate(expressions: &Vec<&Expression>) -> bool
+    ensures { result ≡ has_aggregate (expressions_view expressions.now.items) }
+{
+    for expression in expressions {
+        if is_aggregate(expression) {
+            return true;
+        }
+    }
+    false
+}
+
+impl<'a> ProjectionColumns<'a> {
+    /// The names of the columns.
+    pub(crate) fn into_names(self) -> Columns
+        ensures { result ≡ self.names }
+    {
+        self.names
+    }
+
+    /// What the columns hold, in turn.
+    pub(crate) fn expressions(&self, alloc: Global) -> Result<Vec<&Expression>, AllocError>
+        ensures trees { IfOk result (λ found. columns_view self.now ≡ columns_of self.now.names (expressions_view found.items)) }
+        ensures len { IfOk result (λ found. length found.items ≡ length self.now.names) }
+    {
+        let mut found = Vec::with_capacity(alloc, self.names.len())?;
+        push_starred(&mut found, &self.starred)?;
+        push_values(&mut found, self.items)?;
+        Ok(found)
+    }
+}
+
+fn push_starred<'a>(
+    found: &mut Vec<&'a Expression>,
+    starred: &'a Vec<Expression>,
+) -> Result<(), AllocError>
+    ensures { OnOk result (expressions_view found.new.items ≡ expressions_view found.old.items ++ trees_in starred.now.items) }
+{
+    for expression in starred {
+        found.push(expression)?;
+    }
+    Ok(())
+}
+
+fn push_values<'a>(found: &mut Vec<&'a Expression>, items: &'a Vec<Item>) -> Result<(), AllocError>
+    ensures { OnOk result (expressions_view found.new.items ≡ expressions_view found.old.items ++ map (λ i. i.value) (map item_view items.now.items)) }
+{
+    for item in items {
+        found.push(&item.value)?;
+    }
+    Ok(())
+}
+
+/// The names of the columns, and behind them those of the earlier variables unless they are hidden.
+pub(crate) fn visible_names(
+    alloc: Global,
+    columns: &Columns,
+    names: &Columns,
+    hidden: bool,
+) -> Result<Columns, AllocError>
+    ensures { IfOk result (λ c. c ≡ columns.now ++ earlier_names hidden names.now) }
+{
+    let mut found = Columns::new(alloc);
+    push_all(alloc, &mut found, columns)?;
+    if !hidden {
+        push_all(alloc, &mut found, names)?;
+    }
+    Ok(found)
+}
+
+/// Takes the names in behind the others.
+#[tactic(auto, using(crate::proofs::ColumnViews::name_pushed, crate::proofs::ColumnViews::all_pushed))]
+fn push_all(alloc: Global, found: &mut Columns, names: &Columns) -> Result<(), AllocError>
+    ensures { OnOk result (found.new ≡ found.old ++ names.now) }
+{
+    for at in 0..names.len() {
+        found.push(alloc, names.name(at))?;
+    }
+    Ok(())
+}

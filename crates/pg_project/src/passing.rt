@@ -1,0 +1,89 @@
+//! SKIP, LIMIT and WHERE behind the other parts of a projection.
+ghost use Rattle.std.specs.Prelude.{◌≡◌, ◌≢◌, ◌≤◌, take, unwrap_or, IfOk, IfErr, Ok, Err};
+ghost use Rattle.pg_expr.specs.Prepared.{condition_of};
+ghost use Rattle.pg_meaning.specs.Conditions.{condition};
+ghost use Rattle.pg_meaning.specs.declared.fault.Fault.TheVariants.{OutOfMemory};
+ghost use Rattle.pg_project.specs.Cuts.{cut_view};
+ghost use Rattle.pg_project.specs.Given.{cut_of, passing_given};
+ghost use Rattle.pg_rows.specs.Left.{rows_left};
+ghost use Rattle.pg_rows.specs.Named.{row_of};
+ghost use Rattle.pg_rows.specs.Tables.{table};
+ghost use Rattle.pg_value_core.specs.Given.{parameters_view};
+ghost use Rattle.pg_value_core.specs.View.{view};
+
+use pg_expr::{PreparedCondition, condition};
+use pg_graph::Tables;
+use pg_rows::{Columns, Rows, RowsLeft};
+use pg_store::Snapshot;
+use pg_value_core::{Fault, Parameters};
+use std::alloc::Global;
+
+/// How many rows SKIP leaves out, and how many LIMIT lets in.
+#[derive(Clone, Copy)]
+pub(crate) struct Cut {
+    pub(crate) skip: u64,
+    pub(crate) limit: Option<u64>,
+}
+
+/// The first values of those rows that are let in and meet the condition.
+pub(crate) fn passing_rows<T: Tables>(
+    alloc: Global,
+    cut: Cut,
+    wanted: &PreparedCondition<'_>,
+    names: &Columns,
+    rows: Rows,
+    width: usize,
+    parameters: &Parameters,
+    graph: &Snapshot<'_, T>,
+) -> Result<Rows, Fault>
+    requires { width ≤ rows.width }
+    ensures ok { IfOk result (λ found. passing_given (parameters_view parameters.now) graph.now names.now (condition_of names.now wanted.now) width (cut_of (cut_view cut) (table rows)) ≡ Ok (table found)) }
+    ensures width { IfOk result (λ found. found.width ≡ width) }
+    ensures err { IfErr result (λ e. e ≢ OutOfMemory → passing_given (parameters_view parameters.now) graph.now names.now (condition_of names.now wanted.now) width (cut_of (cut_view cut) (table rows)) ≡ Err e) }
+{
+    let most = most_rows(cut.limit, rows.len() as u64);
+    let mut left = rows.into_left();
+    left.skip(cut.skip);
+    first_rows(alloc, most, wanted, names, left, width, parameters, graph)
+}
+
+/// As many rows as LIMIT lets in, and all where there is none.
+fn most_rows(limit: Option<u64>, all: u64) -> u64
+    ensures { result ≡ unwrap_or limit all }
+{
+    match limit {
+        Some(most) => most,
+        None => all,
+    }
+}
+
+/// The first values of those of the next rows, at most so many, that meet the condition.
+fn first_rows<T: Tables>(
+    alloc: Global,
+    most: u64,
+    wanted: &PreparedCondition<'_>,
+    names: &Columns,
+    mut left: RowsLeft,
+    width: usize,
+    parameters: &Parameters,
+    graph: &Snapshot<'_, T>,
+) -> Result<Rows, Fault>
+    requires { width ≤ left.rows.width }
+    ensures ok { IfOk result (λ found. passing_given (parameters_view parameters.now) graph.now names.now (condition_of names.now wanted.now) width (take most (rows_left left)) ≡ Ok (table found)) }
+    ensures width { IfOk result (λ found. found.width ≡ width) }
+    ensures err { IfErr result (λ e. e ≢ OutOfMemory → passing_given (parameters_view parameters.now) graph.now names.now (condition_of names.now wanted.now) width (take most (rows_left left)) ≡ Err e) }
+{
+    let mut found = Rows::new(alloc, width);
+    let mut more = most;
+    while more > 0 {
+        let Some(mut row) = left.next_row(alloc)? else {
+            return Ok(found);
+        };
+        more -= 1;
+        if condition(alloc, wanted, names, row.as_slice(), parameters, graph)? {
+            row.truncate(width);
+            found.push(row)?;
+        }
+    }
+    Ok(found)
+}

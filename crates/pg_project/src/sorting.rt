@@ -1,0 +1,222 @@
+//! DISTINCT and ORDER BY.
+ghost use Rattle.std.specs.Prelude.{◌≡◌, ◌≢◌, length, map, position, slice_index_or, IfOk, IfErr, Ok, Err};
+ghost use Rattle.pg_meaning.specs.Projections.{is_descending};
+ghost use Rattle.pg_meaning.specs.Trees.{same_expression};
+ghost use Rattle.pg_meaning.specs.Value.{null};
+ghost use Rattle.pg_meaning.specs.declared.fault.Fault.TheVariants.{OutOfMemory};
+ghost use Rattle.pg_project.specs.Given.{all_keys_given, distinct_given, expressions_view, key_given, key_of, keys_given, ordered_given};
+ghost use Rattle.pg_project.specs.Sources.{source_view, sources_view};
+ghost use Rattle.pg_rows.specs.Sorts.{directions, sorted_places};
+ghost use Rattle.pg_rows.specs.Tables.{rows_at_places, table};
+ghost use Rattle.pg_syntax_tree.specs.View.{expression_view, sort_item_view};
+ghost use Rattle.pg_value_core.specs.Given.{parameters_view};
+ghost use Rattle.pg_value_core.specs.View.{view};
+
+use pg_expr::{Prepared, evaluate, prepare};
+use pg_graph::Tables;
+use pg_item_index::same_expression;
+use pg_meaning::Sort;
+use pg_rows::{Columns, Rows, distinct, sort};
+use pg_store::Snapshot;
+use pg_syntax_tree::{Expression, SortItem};
+use pg_value_core::{Fault, Parameters, Value};
+use std::alloc::{AllocError, Global};
+
+/// What a sort goes by: the value of an item, or that of an expression.
+#[derive(Clone, Copy)]
+pub(crate) enum SortKey<'a> {
+    Item(usize),
+    Other(Prepared<'a>),
+}
+
+/// The rows, of equivalent ones the first alone where DISTINCT is written.
+#[tactic(auto, using(crate::proofs::Moves::firsts_moved))]
+pub(crate) fn distinct_rows(
+    alloc: Global,
+    is_distinct: bool,
+    mut rows: Rows,
+) -> Result<Rows, AllocError>
+    ensures rows { IfOk result (λ found. table found ≡ distinct_given is_distinct (table rows)) }
+    ensures width { IfOk result (λ found. found.width ≡ rows.width) }
+{
+    if !is_distinct {
+        return Ok(rows);
+    }
+    let places = distinct(&rows, alloc)?;
+    rows.pick(&places, alloc)
+}
+
+/// The rows, sorted by the keys where ORDER BY is written.
+pub(crate) fn ordered_rows<T: Tables>(
+    alloc: Global,
+    items: &Vec<&Expression>,
+    order: &Vec<SortItem>,
+    names: &Columns,
+    rows: Rows,
+    parameters: &Parameters,
+    graph: &Snapshot<'_, T>,
+) -> Result<Rows, Fault>
+    ensures ok { IfOk result (λ found. ordered_given (parameters_view parameters.now) graph.now names.now (expressions_view items.now.items) (map sort_item_view order.now.items) (table rows) ≡ Ok (table found)) }
+    ensures width { IfOk result (λ found. found.width ≡ rows.width) }
+    ensures err { IfErr result (λ e. e ≢ OutOfMemory → ordered_given (parameters_view parameters.now) graph.now names.now (expressions_view items.now.items) (map sort_item_view order.now.items) (table rows) ≡ Err e) }
+{
+    if order.is_empty() {
+        return Ok(rows);
+    }
+    let sources = sources(alloc, items, order, names)?;
+    let keys = keys(alloc, &sources, names, &rows, parameters, graph)?;
+    let descending = descending(alloc, order)?;
+    Ok(sorted_rows(alloc, &keys, &descending, rows)?)
+}
+
+/// The rows in the order of their keys.
+#[tactic(auto, using(crate::proofs::Moves::sorted_moved))]
+fn sorted_rows(
+    alloc: Global,
+    keys: &Rows,
+    descending: &Vec<bool>,
+    mut rows: Rows,
+) -> Result<Rows, AllocError>
+    requires { length (table keys.now) ≡ length (table rows) }
+    ensures rows { IfOk result (λ found. table found ≡ rows_at_places (table rows) (sorted_places descending.now.items (table keys.now))) }
+    ensures width { IfOk result (λ found. found.width ≡ rows.width) }
+{
+    let places = sort(keys, descending.as_slice(), alloc)?;
+    rows.pick(&places, alloc)
+}
+
+/// Which sorts turn the order.
+fn descending(alloc: Global, order: &Vec<SortItem>) -> Result<Vec<bool>, AllocError>
+    ensures { IfOk result (λ found. found.items ≡ directions (map sort_item_view order.now.items)) }
+{
+    let mut found = Vec::with_capacity(alloc, order.len())?;
+    for item in order {
+        found.push(is_descending(item.direction))?;
+    }
+    Ok(found)
+}
+
+fn is_descending(direction: Option<Sort>) -> bool
+    ensures { result ≡ is_descending direction }
+{
+    match direction {
+        Some(Sort::Desc) | Some(Sort::Descending) => true,
+        Some(Sort::Asc) | Some(Sort::Ascending) | None => false,
+    }
+}
+
+/// What each sort goes by.
+fn sources<'a>(
+    alloc: Global,
+    items: &Vec<&'a Expression>,
+    order: &'a Vec<SortItem>,
+    names: &Columns,
+) -> Result<Vec<SortKey<'a>>, AllocError>
+    ensures sources { IfOk result (λ found. sources_view names.now found.items ≡ map (λ o. key_of (expressions_view items.now.items) o.key) (map sort_item_view order.now.items)) }
+    ensures len { IfOk result (λ found. length found.items ≡ length order.now.items) }
+{
+    let mut found = Vec::with_capacity(alloc, order.len())?;
+    for item in order {
+        found.push(sort_key(alloc, items, &item.key, names)?)?;
+    }
+    Ok(found)
+}
+
+/// A sort whose tree equals an item's stands for that item.
+fn sort_key<'a>(
+    alloc: Global,
+    items: &Vec<&'a Expression>,
+    key: &'a Expression,
+    names: &Columns,
+) -> Result<SortKey<'a>, AllocError>
+    ensures { IfOk result (λ s. source_view names.now s ≡ key_of (expressions_view items.now.items) (expression_view key.now)) }
+{
+    match item_place(items, key) {
+        Some(at) => Ok(SortKey::Item(at)),
+        None => Ok(SortKey::Other(prepare(alloc, key, names)?)),
+    }
+}
+
+/// The place of the first item of this tree.
+#[tactic(auto, using(crate::proofs::SortPlaces::from_zero))]
+fn item_place(items: &Vec<&Expression>, key: &Expression) -> Option<usize>
+    ensures { result ≡ position (λ x. same_expression x (expression_view key.now)) (expressions_view items.now.items) }
+{
+    let mut at = 0usize;
+    for item in items {
+        if same_expression(item, key) {
+            return Some(at);
+        }
+        at += 1;
+    }
+    None
+}
+
+/// The keys of all rows, row by row.
+#[tactic(auto, using(crate::proofs::InTurn::no_more))]
+fn keys<T: Tables>(
+    alloc: Global,
+    sources: &Vec<SortKey<'_>>,
+    names: &Columns,
+    rows: &Rows,
+    parameters: &Parameters,
+    graph: &Snapshot<'_, T>,
+) -> Result<Rows, Fault>
+    ensures ok { IfOk result (λ found. all_keys_given (parameters_view parameters.now) graph.now names.now (sources_view names.now sources.now.items) (table rows.now) ≡ Ok (table found)) }
+    ensures len { IfOk result (λ found. length (table found) ≡ length (table rows.now)) }
+    ensures err { IfErr result (λ e. e ≢ OutOfMemory → all_keys_given (parameters_view parameters.now) graph.now names.now (sources_view names.now sources.now.items) (table rows.now) ≡ Err e) }
+{
+    let mut found = Rows::new(alloc, sources.len());
+    for at in 0..rows.len() {
+        found.push(row_keys(alloc, sources, names, rows.row(at), parameters, graph)?)?;
+    }
+    Ok(found)
+}
+
+fn row_keys<T: Tables>(
+    alloc: Global,
+    sources: &Vec<SortKey<'_>>,
+    names: &Columns,
+    row: &[Value],
+    parameters: &Parameters,
+    graph: &Snapshot<'_, T>,
+) -> Result<Vec<Value>, Fault>
+    ensures ok { IfOk result (λ found. keys_given (parameters_view parameters.now) graph.now names.now (sources_view names.now sources.now.items) (map view row.now) ≡ Ok (map view found.items)) }
+    ensures len { IfOk result (λ found. length found.items ≡ length sources.now.items) }
+    ensures err { IfErr result (λ e. e ≢ OutOfMemory → keys_given (parameters_view parameters.now) graph.now names.now (sources_view names.now sources.now.items) (map view row.now) ≡ Err e) }
+{
+    let mut found = Vec::with_capacity(alloc, sources.len())?;
+    for source in sources {
+        found.push(key(alloc, source, names, row, parameters, graph)?)?;
+    }
+    Ok(found)
+}
+
+fn key<T: Tables>(
+    alloc: Global,
+    source: &SortKey<'_>,
+    names: &Columns,
+    row: &[Value],
+    parameters: &Parameters,
+    graph: &Snapshot<'_, T>,
+) -> Result<Value, Fault>
+    ensures ok { IfOk result (λ v. key_given (parameters_view parameters.now) graph.now names.now (map view row.now) (source_view names.now source.now) ≡ Ok (view v)) }
+    ensures err { IfErr result (λ e. e ≢ OutOfMemory → key_given (parameters_view parameters.now) graph.now names.now (map view row.now) (source_view names.now source.now) ≡ Err e) }
+{
+    match source {
+        SortKey::Item(at) => Ok(item_value(alloc, row, *at)?),
+        SortKey::Other(prepared) => evaluate(alloc, prepared, names, row, parameters, graph),
+    }
+}
+
+/// The value of an item, and null where the row has none.
+#[tactic(auto, using(crate::proofs::SortPlaces::value_there, crate::proofs::SortPlaces::no_value_there))]
+fn item_value(alloc: Global, row: &[Value], at: usize) -> Result<Value, AllocError>
+    ensures { IfOk result (λ v. view v ≡ slice_index_or (map view row.now) at null) }
+{
+    if at < row.len() {
+        row[at].copy(alloc)
+    } else {
+        Ok(Value::Null)
+    }
+}

@@ -1,21 +1,27 @@
 -- Places in lists, as the program looks for them.
-use Rattle.std.proofs.Common.{◌≡◌, ℕ, zero, suc, ◌<◌, ◌≤◌, Bool, List, [], ◌∷◌, map, length, get_or, ◌≢◌, Err, Ok, refl, ap, arith}
+use Rattle.std.proofs.Common.{◌≡◌, ℕ, zero, suc, ◌+◌, ◌<◌, ◌≤◌, Bool, true, cond, List, [], ◌∷◌, map, length, get_or, Err, Ok, Some, refl, ap, ◌∙◌, arith}
 use Rattle.std.proofs.lemmas.Iterator.Adapters.{position_from-zero}
 use Rattle.std.specs.List.{position_from}
 use Rattle.std.specs.Prelude.{position, slice_index_or}
 use Rattle.pg_meaning.specs.Answer.{◌>>=◌}
 use Rattle.pg_meaning.specs.Graph.{Graph}
-use Rattle.pg_meaning.specs.Tree.{Expression, SortItem}
+use Rattle.pg_meaning.specs.Tree.{Expression}
 use Rattle.pg_meaning.specs.Value.{Value as Datum, null, Entries}
 use Rattle.pg_meaning.specs.declared.fault.Fault.{Fault}
 use Rattle.pg_rows.specs.Sorts.{directions, sorted_places}
 use Rattle.pg_rows.specs.Tables.{rows_at_places}
 use Rattle.pg_project.specs.Given.{all_keys_given, key_of, ordered_given}
+use Rattle.pg_syntax_tree.specs.View.{sort_item_view}
+use Rattle.pg_syntax_tree.specs.declared.clauses.SortItem.{SortItem}
 use Rattle.pg_value_core.specs.View.{view}
 use Rattle.pg_value_core.specs.declared.value.Value.{Value}
 
 pub from_zero : {X : Type 0} (t : X → Bool) (xs : List X) → position t xs ≡ position_from t 0 xs
 from_zero t xs = position_from-zero t xs
+
+-- the first place that is left, and none where nothing is left
+pub place_here : {X : Type 0} (t : X → Bool) (i : ℕ) (xs : List X) (x : X) (rest : List X) → xs ≡ x ∷ rest → t x ≡ true → position_from t i xs ≡ Some i
+place_here t i xs x rest here passes = ap (position_from t i) here ∙ ap (λ b. cond b (Some i) (position_from t (i + 1) rest)) passes
 
 pub value_there : (vs : List Value) (i : ℕ) (d : Value) → i < length vs → slice_index_or (map view vs) i null ≡ view (get_or vs i d)
 value_there [] i d h = absurd (omega (arith, h))
@@ -28,7 +34,7 @@ no_value_there [] (suc i) h = refl
 no_value_there (v ∷ vs) zero h = absurd (omega (arith, h))
 no_value_there (v ∷ vs) (suc i) h = no_value_there vs i (omega arith)
 
-pub ordered_fails : (parameters : Entries) (graph : Graph) (names : List (List ℕ)) (es : List Expression) (order : List SortItem) (rows : List (List Datum)) (f : Fault) → order ≢ [] → all_keys_given parameters graph names (map (λ x. key_of es x.key) order) rows ≡ Err f
-    → ordered_given parameters graph names es order rows ≡ Err f
-ordered_fails parameters graph names es [] rows f some h = absurd (some refl)
-ordered_fails parameters graph names es (o ∷ os) rows f some h = ap (λ a. a >>= λ keys. Ok (rows_at_places rows (sorted_places (directions (o ∷ os)) keys))) h
+pub ordered_fails : (parameters : Entries) (graph : Graph) (names : List (List ℕ)) (es : List Expression) (order : List SortItem) (rows : List (List Datum)) (f : Fault) → 0 < length order
+    → all_keys_given parameters graph names (map (λ x. key_of es x.key) (map sort_item_view order)) rows ≡ Err f → ordered_given parameters graph names es (map sort_item_view order) rows ≡ Err f
+ordered_fails parameters graph names es [] rows f some h = absurd (omega (arith, some))
+ordered_fails parameters graph names es (o ∷ os) rows f some h = ap (λ a. a >>= λ keys. Ok (rows_at_places rows (sorted_places (directions (map sort_item_view (o ∷ os))) keys))) h

@@ -1,9 +1,7 @@
 //! The columns of WITH and RETURN.
 ghost use Rattle.std.specs.Prelude.{◌≡◌, ◌++◌, ◌+◌, ◌∷◌, [], cond, is_some, length, map, IfOk, OnOk};
-ghost use Rattle.std.specs.BTreeSet.{insert_key};
 ghost use Rattle.pg_meaning.specs.Aggregates.{aggregate_of};
 ghost use Rattle.pg_meaning.specs.Names.{in_byte_order};
-ghost use Rattle.pg_meaning.specs.Order.{text_order};
 ghost use Rattle.pg_meaning.specs.Scopes.{column_names, variable_text};
 ghost use Rattle.pg_project.specs.Columns.{column_of, columns_view, naming_columns, star_names, texts_of, trees_in, variable_trees};
 ghost use Rattle.pg_project.specs.Given.{columns_of, earlier_names, expressions_view, has_aggregate};
@@ -14,7 +12,7 @@ use pg_rows::Columns;
 use pg_scope::summary_named;
 use pg_syntax_tree::{Expression, Item, Name, Projection};
 use std::alloc::{AllocError, Global};
-use std::cmp::Ordering;
+use std::collections::BTreeSet;
 
 /// How a clause names a column that has no alias.
 #[derive(Clone, Copy)]
@@ -26,7 +24,6 @@ pub(crate) enum Naming {
 }
 
 /// The columns of a projection, where the variables in scope have these names.
-#[tactic(auto, using(crate::proofs::ColumnViews::whole))]
 pub(crate) fn make_columns<'a>(
     alloc: Global,
     naming: Naming,
@@ -62,29 +59,11 @@ fn star_names(alloc: Global, scope: &Columns, star: Option<usize>) -> Result<Col
 fn in_byte_order<'a>(alloc: Global, scope: &'a Columns) -> Result<Vec<&'a str>, AllocError>
     ensures { IfOk result (λ texts. texts_of texts.items ≡ in_byte_order scope.now) }
 {
-    let mut texts = Vec::with_capacity(alloc, scope.len())?;
+    let mut texts = BTreeSet::new(alloc);
     for at in 0..scope.len() {
-        put_text(&mut texts, scope.name(at))?;
+        texts.insert(scope.name(at))?;
     }
-    Ok(texts)
-}
-
-/// Takes a text in among texts in byte order, unless it is there.
-fn put_text<'a>(texts: &mut Vec<&'a str>, text: &'a str) -> Result<(), AllocError>
-    ensures { OnOk result (texts_of texts.new.items ≡ insert_key text_order (texts_of texts.old.items) text.now) }
-{
-    for at in 0..texts.len() {
-        match text.cmp(texts[at]) {
-            Ordering::Less => {
-                texts.insert(at, text)?;
-                return Ok(());
-            }
-            Ordering::Equal => return Ok(()),
-            Ordering::Greater => {}
-        }
-    }
-    texts.push(text)?;
-    Ok(())
+    texts.into_iter().collect(alloc)
 }
 
 /// The variables of these names.
@@ -164,7 +143,7 @@ pub(crate) fn have_aggregate(expressions: &Vec<&Expression>) -> bool
 impl<'a> ProjectionColumns<'a> {
     /// The names of the columns.
     pub(crate) fn into_names(self) -> Columns
-        ensures { result ≡ self.names }
+        ensures { result ≡ self.entry.names }
     {
         self.names
     }

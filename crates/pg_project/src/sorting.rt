@@ -138,16 +138,13 @@ fn sort_key<'a>(
 }
 
 /// The place of the first item of this tree.
-#[tactic(auto, using(crate::proofs::SortPlaces::from_zero))]
 fn item_place(items: &Vec<&Expression>, key: &Expression) -> Option<usize>
     ensures { result ≡ position (λ x. same_expression x (expression_view key.now)) (expressions_view items.now.items) }
 {
-    let mut at = 0usize;
-    for item in items {
+    for (at, item) in items.iter().enumerate() {
         if same_expression(item, key) {
             return Some(at);
         }
-        at += 1;
     }
     None
 }

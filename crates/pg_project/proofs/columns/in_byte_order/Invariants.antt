@@ -4,4 +4,4 @@ use Rattle.pg_project.specs.Columns.{texts_of}
 use Rattle.pg_project.proofs.columns.in_byte_order.Given as goal
 
 abbrev pub invariant-loop-at : goal.invariant-loop-at
-invariant-loop-at l = put_texts (drop l.at l.scope) (texts_of l.texts.items) ≡ in_byte_order l.scope
+invariant-loop-at l = put_texts (drop l.at l.scope) (texts_of l.texts.keys) ≡ in_byte_order l.scope

@@ -3,4 +3,4 @@ use Rattle.pg_project.specs.Columns.{texts_of}
 use Rattle.pg_project.proofs.columns.star_names.Given as goal
 
 abbrev pub invariant-loop-text : goal.invariant-loop-text
-invariant-loop-text l = l.names ≡ texts_of (take l.text-index l.in_byte_order)
+invariant-loop-text l = l.names ≡ texts_of (take l.text-index l.text-items)

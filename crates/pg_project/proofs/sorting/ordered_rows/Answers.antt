@@ -1,4 +1,5 @@
-use Rattle.std.proofs.Common.{rules, ◌≡◌, map, Err, sym, ap, ◌∙◌}
+use Rattle.std.proofs.Common.{rules, ◌≡◌, ◌<◌, length, map, Err, sym, ap, ◌∙◌, arith}
+use Rattle.std.proofs.lemmas.Bool.Decides.{nat_tests}
 use Rattle.pg_meaning.specs.declared.fault.Fault.{Fault}
 use Rattle.pg_project.proofs.SortPlaces.{ordered_fails}
 use Rattle.pg_project.specs.Given.{all_keys_given, expressions_view, ordered_given}
@@ -10,8 +11,9 @@ use Rattle.pg_project.proofs.sorting.ordered_rows.Goals as goal
 
 pub returns-in_err-keys-clause-err : goal.returns-in_err-keys-clause-err
 returns-in_err-keys-clause-err g c =
+    let some : 0 < length c.args.order.now.items = grind (arith, nat_tests, c.if-is_empty.ensures) in
     let refused : (e : Fault) → all_keys_given (parameters_view c.args.parameters.now) c.args.graph.now c.args.names.now (sources_view c.args.names.now c.in_ok-sources.sources.items) (table c.args.rows) ≡ Err e
     → ordered_given (parameters_view c.args.parameters.now) c.args.graph.now c.args.names.now (expressions_view c.args.items.now.items) (map sort_item_view c.args.order.now.items) (table c.args.rows) ≡ Err e =
-    λ e h. ordered_fails (parameters_view c.args.parameters.now) c.args.graph.now c.args.names.now (expressions_view c.args.items.now.items) (map sort_item_view c.args.order.now.items) (table c.args.rows) e (search rules)
+    λ e h. ordered_fails (parameters_view c.args.parameters.now) c.args.graph.now c.args.names.now (expressions_view c.args.items.now.items) c.args.order.now.items (table c.args.rows) e some
     (ap (λ ks. all_keys_given (parameters_view c.args.parameters.now) c.args.graph.now c.args.names.now ks (table c.args.rows)) (sym c.in_ok-sources.ensures.sources) ∙ h) in
     search (rules, refused)

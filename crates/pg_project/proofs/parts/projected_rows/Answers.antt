@@ -1,0 +1,50 @@
+use Rattle.std.proofs.Common.{rules, ◌≡◌, length, map, option_map, Err, sym, ap, ◌∙◌}
+use Rattle.std.proofs.lemmas.List.{length-map}
+use Rattle.pg_meaning.specs.Projections.{item_rows}
+use Rattle.pg_meaning.specs.declared.fault.Fault.{Fault}
+use Rattle.pg_project.proofs.Projecting.{items_fail, ended_gives}
+use Rattle.pg_project.specs.Columns.{columns_view}
+use Rattle.pg_project.specs.Cuts.{cut_view}
+use Rattle.pg_project.specs.Given.{columns_of, expressions_view}
+use Rattle.pg_project.specs.Parts.{rows_projected}
+use Rattle.pg_rows.specs.Named.{rows_named}
+use Rattle.pg_rows.specs.Tables.{table}
+use Rattle.pg_syntax_tree.specs.View.{expression_view, projection_view}
+use Rattle.pg_value_core.specs.Given.{parameters_view}
+use Rattle.pg_project.proofs.parts.projected_rows.Goals as goal
+
+pub returns-in_err-wide-clause-gives : goal.returns-in_err-wide-clause-gives
+returns-in_err-wide-clause-gives g c = λ s given.
+    let ps = parameters_view c.args.parameters.now in
+    let graph = c.args.graph.now in
+    let all = columns_view c.args.columns.now in
+    let p = projection_view c.args.projection.now in
+    let where_ = option_map expression_view c.args.condition.now in
+    let rows = rows_named c.args.names.now (table c.args.rows) in
+    let columns = c.args.columns.now.names in
+    let es = expressions_view c.in_ok-items.items.items in
+    let said = c.in_err-wide.ensures.gives s given in
+    let refused : (f : Fault) → item_rows s graph p.distinct (columns_of columns es) rows ≡ Err f → rows_projected s graph all p where_ rows ≡ Err f =
+    items_fail s graph ps given all p where_ rows columns c.args.names.now es c.in_ok-items.ensures.trees (cut_view c.in_ok-cut.cut) c.in_ok-cut.ensures.ok in
+    record {
+      ok = search rules;
+      err = search (rules, refused, said);
+    }
+
+pub returns-clause-gives : goal.returns-clause-gives
+returns-clause-gives g c = λ s given.
+    let ps = parameters_view c.args.parameters.now in
+    let graph = c.args.graph.now in
+    let all = columns_view c.args.columns.now in
+    let p = projection_view c.args.projection.now in
+    let where_ = option_map expression_view c.args.condition.now in
+    let rows = rows_named c.args.names.now (table c.args.rows) in
+    let columns = c.args.columns.now.names in
+    let items = c.in_ok-items.items.items in
+    let es = expressions_view items in
+    let long : length items ≡ length columns = c.in_ok-items.ensures.len in
+    let same : length columns ≡ length es = sym long ∙ sym (length-map items (λ e. expression_view e.now)) in
+    let wide = c.in_ok-wide in
+    ended_gives s graph ps given all p where_ rows columns c.args.names.now es c.in_ok-items.ensures.trees (cut_view c.in_ok-cut.cut) c.in_ok-cut.ensures.ok
+    wide.wide (length items) same long wide.ensures.names (wide.ensures.gives s given).ok
+    c.ended_rows.result c.ended_rows.ensures.ok c.ended_rows.ensures.err

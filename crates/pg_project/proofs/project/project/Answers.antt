@@ -1,0 +1,67 @@
+use Rattle.std.proofs.Common.{rules, ◌≡◌, Ok, Err, length, option_map, sym, ap, ◌∙◌}
+use Rattle.pg_meaning.specs.Meters.{Setting, spend}
+use Rattle.pg_meaning.specs.Projections.{project_clause}
+use Rattle.pg_meaning.specs.Scopes.{Column, column_names}
+use Rattle.pg_meaning.specs.declared.fault.Fault.{Fault}
+use Rattle.pg_project.proofs.ColumnViews.{view_names}
+use Rattle.pg_project.proofs.Projecting.{rows_fail, all_projected}
+use Rattle.pg_project.specs.Columns.{columns_view, naming_columns}
+use Rattle.pg_project.specs.Parts.{rows_projected}
+use Rattle.pg_rows.specs.Named.{rows_named}
+use Rattle.pg_rows.specs.States.{seen, named_rows, state_of}
+use Rattle.pg_rows.specs.Tables.{table}
+use Rattle.pg_syntax_tree.specs.View.{expression_view, projection_view}
+use Rattle.pg_value_core.specs.Given.{parameters_view}
+use Rattle.pg_project.proofs.project.project.Goals as goal
+
+pub returns-in_err-found-clause-gives : goal.returns-in_err-found-clause-gives
+returns-in_err-found-clause-gives g c = λ s suits.
+    let graph = c.args.graph.now in
+    let p = projection_view c.args.projection.now in
+    let where_ = option_map expression_view c.args.condition.now in
+    let t = seen c.args.table in
+    let used = c.args.meter.now.used in
+    let wanted = naming_columns c.args.naming s.scope p in
+    let made = columns_view c.in_ok-columns.columns in
+    let names = c.split-names.result.0 in
+    let rows = c.split-names.result.1 in
+    let are : made ≡ wanted = c.in_ok-columns.ensures ∙ ap (λ ns. naming_columns c.args.naming ns p) (c.split-names.ensures.names ∙ sym suits.scope_is) in
+    let spent : spend s used (length t.rows) ≡ Ok c.spend.new.self.used =
+    ap (spend s used) (sym (c.len.ensures ∙ ap length c.split-names.ensures.rows)) ∙ c.in_ok-spend.ensures.spends s suits.steps_are in
+    let refused : (f : Fault) → rows_projected s graph made p where_ (rows_named names (table rows)) ≡ Err f → project_clause s wanted p where_ (state_of graph t used) ≡ Err f =
+    λ f h. rows_fail s graph wanted p where_ t used c.spend.new.self.used spent f
+    ((λ i. rows_projected s graph (sym are i) p where_ (rows_named (sym c.split-names.ensures.names i) (sym c.split-names.ensures.rows i))) ∙ h) in
+    let said = c.in_err-found.ensures.gives s suits.parameters_are in
+    record {
+      ok = search rules;
+      err = search (rules, refused, said);
+    }
+
+pub returns-clause-gives : goal.returns-clause-gives
+returns-clause-gives g c = λ s suits.
+    let graph = c.args.graph.now in
+    let p = projection_view c.args.projection.now in
+    let where_ = option_map expression_view c.args.condition.now in
+    let t = seen c.args.table in
+    let used = c.args.meter.now.used in
+    let wanted = naming_columns c.args.naming s.scope p in
+    let are : columns_view c.in_ok-columns.columns ≡ wanted = c.in_ok-columns.ensures ∙ ap (λ ns. naming_columns c.args.naming ns p) (c.split-names.ensures.names ∙ sym suits.scope_is) in
+    let spent : spend s used (length t.rows) ≡ Ok c.spend.new.self.used =
+    ap (spend s used) (sym (c.len.ensures ∙ ap length c.split-names.ensures.rows)) ∙ c.in_ok-spend.ensures.spends s suits.steps_are in
+    let made : named_rows (seen c.new.result) ≡ rows_named c.in_ok-columns.columns.names (table c.in_ok-found.found) = ap named_rows c.new.ensures ∙ ap (λ ns. rows_named ns (table c.in_ok-found.found)) c.into_names.ensures in
+    record {
+      ok =
+          all_projected s graph wanted p where_ t used c.spend.new.self.used spent (seen c.new.result)
+          ((λ i. rows_projected s graph (sym are i) p where_ (rows_named (sym c.split-names.ensures.names i) (sym c.split-names.ensures.rows i)))
+          ∙ (c.in_ok-found.ensures.gives s suits.parameters_are).ok
+          ∙ ap Ok (sym made));
+      err = tt;
+    }
+
+pub returns-clause-names : goal.returns-clause-names
+returns-clause-names g c =
+    let p = projection_view c.args.projection.now in
+    ap (λ t. t.names) c.new.ensures
+    ∙ c.into_names.ensures
+    ∙ sym (view_names c.in_ok-columns.columns)
+    ∙ ap column_names (c.in_ok-columns.ensures ∙ ap (λ ns. naming_columns c.args.naming ns p) c.split-names.ensures.names)

@@ -1,12 +1,12 @@
 -- The columns of the program are those of the definitions.
-use Rattle.std.proofs.Common.{◌≡◌, ℕ, suc, ◌+◌, ◌≤◌, List, [], ◌∷◌, ◌++◌, Bor, Ordering, Less, Equal, Greater, map, length, drop, slice_get, Option, Some, None, refl, sym, ap, ◌∙◌, arith}
+use Rattle.std.proofs.Common.{◌≡◌, ℕ, ◌+◌, ◌≤◌, List, [], ◌∷◌, ◌++◌, Bor, Ordering, Less, Equal, Greater, map, length, drop, slice_get, Option, Some, None, refl, sym, ap, ◌∙◌, arith}
 use Rattle.std.proofs.lemmas.List.{length-append, length-map}
 use Rattle.std.specs.BTreeSet.{insert_key}
 use Rattle.std.specs.Cmp.Lexicographic.{slice_cmp}
 use Rattle.std.specs.Ordering.{nat_cmp, match_ordering}
 use Rattle.pg_meaning.specs.Names.{Names}
 use Rattle.pg_meaning.specs.Order.{text_order}
-use Rattle.pg_meaning.specs.Scopes.{Column, column_names, star_columns, variable_column}
+use Rattle.pg_meaning.specs.Scopes.{column_names, star_columns, variable_column}
 use Rattle.pg_meaning.specs.Tree.{Expression, variable, Item, Projection}
 use Rattle.pg_project.proofs.InTurn.{drop_here, drop_none, joined, nothing_behind}
 use Rattle.pg_project.specs.Columns.{column_of, columns_view, naming_columns, star_names, texts_of, trees_in, values_in_items, variable_tree, variable_trees}

@@ -1,7 +1,6 @@
 -- Wide rows of values stand for the projected rows of the definitions: items.
-use Rattle.std.proofs.Common.{◌≡◌, ℕ, zero, suc, ◌+◌, ◌<◌, Bool, true, false, not, cond, List, [], ◌∷◌, ◌++◌, map, length, take, drop, Result, Ok, Err, Option, Some, None, refl, sym, ap, subst, ◌∙◌, arith}
+use Rattle.std.proofs.Common.{◌≡◌, ℕ, zero, suc, ◌<◌, Bool, true, false, not, cond, List, [], ◌∷◌, ◌++◌, map, length, take, drop, Result, Ok, Err, Some, None, refl, sym, ap, ◌∙◌, arith}
 use Rattle.std.proofs.Math.Seq.{take-append_seam, drop-append_seam}
-use Rattle.std.specs.List.{AllByRecursion}
 use Rattle.std.specs.Prelude.{zip, slice_get, slice_index_or}
 use Rattle.pg_meaning.specs.Answer.{◌>>=◌, each_answer}
 use Rattle.pg_meaning.specs.Expressions.{evaluate}
@@ -9,7 +8,6 @@ use Rattle.pg_meaning.specs.Graph.{Graph}
 use Rattle.pg_meaning.specs.Meters.{Setting}
 use Rattle.pg_meaning.specs.Projections.{Projected, projected, column_value, visible}
 use Rattle.pg_meaning.specs.Rows.{Row}
-use Rattle.pg_meaning.specs.Scopes.{Column}
 use Rattle.pg_meaning.specs.Tree.{Expression}
 use Rattle.pg_meaning.specs.Value.{Value, null}
 use Rattle.pg_meaning.specs.declared.fault.Fault.{Fault}

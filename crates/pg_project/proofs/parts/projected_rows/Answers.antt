@@ -1,4 +1,4 @@
-use Rattle.std.proofs.Common.{rules, ◌≡◌, length, map, option_map, Err, sym, ap, ◌∙◌}
+use Rattle.std.proofs.Common.{rules, ◌≡◌, length, option_map, Err, sym, ◌∙◌}
 use Rattle.std.proofs.lemmas.List.{length-map}
 use Rattle.pg_meaning.specs.Projections.{item_rows}
 use Rattle.pg_meaning.specs.declared.fault.Fault.{Fault}

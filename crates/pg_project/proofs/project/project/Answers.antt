@@ -1,7 +1,7 @@
 use Rattle.std.proofs.Common.{rules, ◌≡◌, Ok, Err, length, option_map, sym, ap, ◌∙◌}
-use Rattle.pg_meaning.specs.Meters.{Setting, spend}
+use Rattle.pg_meaning.specs.Meters.{spend}
 use Rattle.pg_meaning.specs.Projections.{project_clause}
-use Rattle.pg_meaning.specs.Scopes.{Column, column_names}
+use Rattle.pg_meaning.specs.Scopes.{column_names}
 use Rattle.pg_meaning.specs.declared.fault.Fault.{Fault}
 use Rattle.pg_project.proofs.ColumnViews.{view_names}
 use Rattle.pg_project.proofs.Projecting.{rows_fail, all_projected}
@@ -11,7 +11,6 @@ use Rattle.pg_rows.specs.Named.{rows_named}
 use Rattle.pg_rows.specs.States.{seen, named_rows, state_of}
 use Rattle.pg_rows.specs.Tables.{table}
 use Rattle.pg_syntax_tree.specs.View.{expression_view, projection_view}
-use Rattle.pg_value_core.specs.Given.{parameters_view}
 use Rattle.pg_project.proofs.project.project.Goals as goal
 
 pub returns-in_err-found-clause-gives : goal.returns-in_err-found-clause-gives

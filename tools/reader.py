@@ -27,7 +27,7 @@ OF_ONE = (
     " startnode endnode".split()
 )
 # the least and the greatest number of arguments
-ARGUMENTS = {name: (1, 1) for name in OF_ONE} | {"coalesce": (1, None), "range": (2, 3)}
+ARGUMENTS = {**{name: (1, 1) for name in OF_ONE}, "coalesce": (1, None), "range": (2, 3)}
 
 
 # Grammar

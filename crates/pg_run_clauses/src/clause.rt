@@ -11,9 +11,7 @@ ghost use Rattle.pg_value_core.specs.Given.{parameters_view};
 ghost use Rattle.pg_value_core.specs.Gives.{Gives};
 ghost use Rattle.pg_write_make.specs.Changed.{Changed};
 
-use crate::stand_ins::{
-    create_paths, delete_elements, match_rows, merge_path, project_return, project_with,
-};
+use crate::stand_ins::{create_paths, match_rows, merge_path, project_return, project_with};
 use crate::updates::{remove_rows, set_rows};
 use pg_graph::Tables;
 use pg_match_stages::Anchor;
@@ -23,6 +21,7 @@ use pg_rows::Table;
 use pg_store::Store;
 use pg_syntax_tree::Clause;
 use pg_value_core::{Fault, Parameters};
+use pg_write_delete::delete_elements;
 use std::alloc::Global;
 
 /// What a query runs with beside its graph and its steps.
@@ -88,8 +87,15 @@ pub(crate) fn run_clause<T: Tables>(
         }
         Clause::Set(items) => set_rows(given, items, store, shared, table, meter),
         Clause::Remove(items) => remove_rows(given, items, store, shared, table, meter),
-        Clause::Delete(is_detach, elements) => {
-            delete_elements(given, *is_detach, elements, store, shared, table, meter)
-        }
+        Clause::Delete(is_detach, elements) => delete_elements(
+            given.alloc,
+            *is_detach,
+            elements,
+            given.parameters,
+            store,
+            shared,
+            table,
+            meter,
+        ),
     }
 }

@@ -5,7 +5,7 @@ ghost use Rattle.pg_meaning.specs.Patterns.{add_path_names};
 ghost use Rattle.pg_meaning.specs.Projections.{project_clause};
 ghost use Rattle.pg_meaning.specs.Reading.{match_clause};
 ghost use Rattle.pg_meaning.specs.Scopes.{column_names, return_columns, with_columns};
-ghost use Rattle.pg_meaning.specs.Updates.{create_clause, delete_clause, merge_clause};
+ghost use Rattle.pg_meaning.specs.Updates.{create_clause, merge_clause};
 ghost use Rattle.pg_rows.specs.States.{seen, state_of, Suits};
 ghost use Rattle.pg_run_clauses.specs.Runs.{anchors_view};
 ghost use Rattle.pg_store.specs.Stores.{graph_of_store, IsFit};
@@ -103,24 +103,6 @@ pub(crate) fn merge_path<T: Tables>(
     requires anchor { length anchors.now ≡ 1 }
     ensures gives { (s : Setting) → Suits s (parameters_view given.now.parameters.now) meter.old.limit (seen table).names → s.quota.max_elements ≡ given.now.max_elements → s.anchors ≡ anchors_view anchors.now → Gives result (merge_clause s (path_view path.now) (map on_view parts.now.items) (state_of (graph_of_store T.seen store.old shared.old) (seen table) meter.old.used)) (λ t. state_of (graph_of_store T.seen store.new shared.new) (seen t) meter.new.used) }
     ensures names { IfOk result (λ t. (seen t).names ≡ add_path_names (path_view path.now ∷ []) (seen table).names) }
-    ensures limit { meter.new.limit ≡ meter.old.limit }
-    ensures changed { Changed T.seen store.old shared.old store.new shared.new }
-{
-    Err(Fault::OutOfMemory)
-}
-
-pub(crate) fn delete_elements<T: Tables>(
-    given: &Given<'_>,
-    is_detach: bool,
-    elements: &Vec<Expression>,
-    store: &mut Store<T>,
-    shared: &mut T::Shared,
-    table: Table,
-    meter: &mut Meter,
-) -> Result<Table, Fault>
-    requires fit { IsFit T.seen store.old shared.old }
-    ensures gives { (s : Setting) → Suits s (parameters_view given.now.parameters.now) meter.old.limit (seen table).names → Gives result (delete_clause s is_detach (map expression_view elements.now.items) (state_of (graph_of_store T.seen store.old shared.old) (seen table) meter.old.used)) (λ t. state_of (graph_of_store T.seen store.new shared.new) (seen t) meter.new.used) }
-    ensures names { IfOk result (λ t. (seen t).names ≡ (seen table).names) }
     ensures limit { meter.new.limit ≡ meter.old.limit }
     ensures changed { Changed T.seen store.old shared.old store.new shared.new }
 {

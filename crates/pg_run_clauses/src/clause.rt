@@ -11,12 +11,13 @@ ghost use Rattle.pg_value_core.specs.Given.{parameters_view};
 ghost use Rattle.pg_value_core.specs.Gives.{Gives};
 ghost use Rattle.pg_write_make.specs.Changed.{Changed};
 
-use crate::stand_ins::{create_paths, match_rows, merge_path, project_return, project_with};
+use crate::stand_ins::{create_paths, merge_path};
 use crate::updates::{remove_rows, set_rows};
 use pg_graph::Tables;
+use pg_match::match_rows;
 use pg_match_stages::Anchor;
 use pg_meter::Meter;
-use pg_project::unwind_rows;
+use pg_project::{project_return, project_with, unwind_rows};
 use pg_rows::Table;
 use pg_store::Store;
 use pg_syntax_tree::Clause;
@@ -52,11 +53,12 @@ pub(crate) fn run_clause<T: Tables>(
 {
     match clause {
         Clause::Match(is_optional, paths, condition) => match_rows(
-            given,
+            given.alloc,
             *is_optional,
             paths,
             condition,
             anchors,
+            given.parameters,
             &store.graph(shared),
             table,
             meter,
@@ -71,16 +73,22 @@ pub(crate) fn run_clause<T: Tables>(
             meter,
         ),
         Clause::With(projection, condition) => project_with(
-            given,
+            given.alloc,
             projection,
             condition,
+            given.parameters,
             &store.graph(shared),
             table,
             meter,
         ),
-        Clause::Return(projection) => {
-            project_return(given, projection, &store.graph(shared), table, meter)
-        }
+        Clause::Return(projection) => project_return(
+            given.alloc,
+            projection,
+            given.parameters,
+            &store.graph(shared),
+            table,
+            meter,
+        ),
         Clause::Create(paths) => create_paths(given, paths, store, shared, table, meter),
         Clause::Merge(path, parts) => {
             merge_path(given, path, parts, anchors, store, shared, table, meter)

@@ -1,15 +1,12 @@
 //! Stand-ins for the clauses that are not there yet. Each answers want of memory, which its contract allows.
-ghost use Rattle.std.specs.Prelude.{IfOk, ◌≡◌, ◌≤◌, ◌^◌, ◌∷◌, [], length, map, option_map, None};
+ghost use Rattle.std.specs.Prelude.{IfOk, ◌≡◌, ◌≤◌, ◌^◌, ◌∷◌, [], length, map};
 ghost use Rattle.pg_meaning.specs.Meters.{Setting};
 ghost use Rattle.pg_meaning.specs.Patterns.{add_path_names};
-ghost use Rattle.pg_meaning.specs.Projections.{project_clause};
-ghost use Rattle.pg_meaning.specs.Reading.{match_clause};
-ghost use Rattle.pg_meaning.specs.Scopes.{column_names, return_columns, with_columns};
 ghost use Rattle.pg_meaning.specs.Updates.{create_clause, merge_clause};
 ghost use Rattle.pg_rows.specs.States.{seen, state_of, Suits};
 ghost use Rattle.pg_run_clauses.specs.Runs.{anchors_view};
 ghost use Rattle.pg_store.specs.Stores.{graph_of_store, IsFit};
-ghost use Rattle.pg_syntax_tree.specs.View.{expression_view, on_view, path_view, projection_view};
+ghost use Rattle.pg_syntax_tree.specs.View.{on_view, path_view};
 ghost use Rattle.pg_value_core.specs.Given.{parameters_view};
 ghost use Rattle.pg_value_core.specs.Gives.{Gives};
 ghost use Rattle.pg_write_make.specs.Changed.{Changed};
@@ -19,56 +16,9 @@ use pg_graph::Tables;
 use pg_match_stages::Anchor;
 use pg_meter::Meter;
 use pg_rows::Table;
-use pg_store::{Snapshot, Store};
-use pg_syntax_tree::{Expression, On, PathPattern, Projection};
+use pg_store::Store;
+use pg_syntax_tree::{On, PathPattern};
 use pg_value_core::Fault;
-
-pub(crate) fn match_rows<T: Tables>(
-    given: &Given<'_>,
-    is_optional: bool,
-    paths: &Vec<PathPattern>,
-    condition: &Option<Expression>,
-    anchors: &[Anchor],
-    graph: &Snapshot<'_, T>,
-    table: Table,
-    meter: &mut Meter,
-) -> Result<Table, Fault>
-    requires { length anchors.now ≡ length paths.now.items }
-    ensures gives { (s : Setting) → Suits s (parameters_view given.now.parameters.now) meter.old.limit (seen table).names → s.anchors ≡ anchors_view anchors.now → Gives result (match_clause s is_optional (map path_view paths.now.items) (option_map expression_view condition.now) (state_of graph.now (seen table) meter.old.used)) (λ t. state_of graph.now (seen t) meter.new.used) }
-    ensures names { IfOk result (λ t. (seen t).names ≡ add_path_names (map path_view paths.now.items) (seen table).names) }
-    ensures limit { meter.new.limit ≡ meter.old.limit }
-{
-    Err(Fault::OutOfMemory)
-}
-
-pub(crate) fn project_with<T: Tables>(
-    given: &Given<'_>,
-    projection: &Projection,
-    condition: &Option<Expression>,
-    graph: &Snapshot<'_, T>,
-    table: Table,
-    meter: &mut Meter,
-) -> Result<Table, Fault>
-    ensures gives { (s : Setting) → Suits s (parameters_view given.now.parameters.now) meter.old.limit (seen table).names → Gives result (project_clause s (with_columns s.scope (projection_view projection.now)) (projection_view projection.now) (option_map expression_view condition.now) (state_of graph.now (seen table) meter.old.used)) (λ t. state_of graph.now (seen t) meter.new.used) }
-    ensures names { IfOk result (λ t. (seen t).names ≡ column_names (with_columns (seen table).names (projection_view projection.now))) }
-    ensures limit { meter.new.limit ≡ meter.old.limit }
-{
-    Err(Fault::OutOfMemory)
-}
-
-pub(crate) fn project_return<T: Tables>(
-    given: &Given<'_>,
-    projection: &Projection,
-    graph: &Snapshot<'_, T>,
-    table: Table,
-    meter: &mut Meter,
-) -> Result<Table, Fault>
-    ensures gives { (s : Setting) → Suits s (parameters_view given.now.parameters.now) meter.old.limit (seen table).names → Gives result (project_clause s (return_columns s.scope (projection_view projection.now)) (projection_view projection.now) None (state_of graph.now (seen table) meter.old.used)) (λ t. state_of graph.now (seen t) meter.new.used) }
-    ensures names { IfOk result (λ t. (seen t).names ≡ column_names (return_columns (seen table).names (projection_view projection.now))) }
-    ensures limit { meter.new.limit ≡ meter.old.limit }
-{
-    Err(Fault::OutOfMemory)
-}
 
 pub(crate) fn create_paths<T: Tables>(
     given: &Given<'_>,

@@ -1,19 +1,13 @@
-use Rattle.std.proofs.Common.{rules, option_map, refl, sym, subst}
+use Rattle.std.proofs.Common.{rules, refl, sym, subst}
 use Rattle.pg_meaning.specs.Queries.{clause_step}
 use Rattle.pg_rows.specs.States.{seen, state_of}
-use Rattle.pg_match_stages.specs.View.{anchor_view}
-use Rattle.pg_run_clauses.proofs.Planned.{one_for_each}
 use Rattle.pg_run_clauses.proofs.Settings.{suits_own}
 use Rattle.pg_run_clauses.specs.Runs.{anchors_view, setting_of}
 use Rattle.pg_store.specs.Stores.{graph_of_store}
-use Rattle.pg_syntax_tree.specs.View.{clause_view, expression_view, path_view}
+use Rattle.pg_syntax_tree.specs.View.{clause_view}
 use Rattle.pg_value_core.specs.Given.{parameters_view}
 use Rattle.pg_value_core.specs.Gives.{Gives}
 use Rattle.pg_run_clauses.proofs.clause.run_clause.Goals as goal
-
-pub match_rows-requires : goal.match_rows-requires
-match_rows-requires g c =
-    one_for_each c.args.table.names anchor_view path_view c.args.anchors.now c.in-Match.is_optional c.in-Match.paths.items (option_map expression_view c.in-Match.condition) (rw c.in-Match.is at c.requires.planned)
 
 pub returns-in-Match-clause-gives : goal.returns-in-Match-clause-gives
 returns-in-Match-clause-gives g c =

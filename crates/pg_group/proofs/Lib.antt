@@ -1,0 +1,9 @@
+pub mod Cells
+pub mod Different
+pub mod Folding
+pub mod Grouping
+pub mod Lifts
+pub mod Measures
+pub mod Numbered
+pub mod Ranges
+pub mod Turns

@@ -1,15 +1,17 @@
 -- The parts of a projection are the definition's clause.
-use Rattle.std.proofs.Common.{◌≡◌, ◌≢◌, ℕ, suc, Bool, true, false, not, List, [], ◌∷◌, ◌++◌, map, length, take, drop, Result, Ok, Err, IfOk, IfErr, Option, Some, None, refl, sym, ap, subst, ◌∙◌, arith}
+use Rattle.std.proofs.Common.{◌≡◌, ◌≢◌, ℕ, suc, ◌==◌, Bool, true, false, cond, not, List, [], ◌∷◌, ◌++◌, map, length, take, drop, Result, Ok, Err, IfOk, IfErr, Option, Some, None, refl, sym, ap, subst, ◌∙◌, arith}
+use Rattle.std.proofs.lemmas.Bool.Decides.{nat_tests}
+use Rattle.std.proofs.lemmas.List.{drop-map}
 use Rattle.std.specs.List.{AllByRecursion, list_any}
-use Rattle.std.specs.Prelude.{unwrap_or, is_some, ◌||◌}
+use Rattle.std.specs.Prelude.{unwrap_or, is_some, is_none, ◌||◌, ◌&&◌}
 use Rattle.pg_meaning.specs.Aggregates.{aggregate_of}
 use Rattle.pg_meaning.specs.Answer.{◌>>=◌, each_answer}
 use Rattle.pg_meaning.specs.Graph.{Graph}
 use Rattle.pg_meaning.specs.Meters.{Setting, State, spend}
-use Rattle.pg_meaning.specs.Projections.{Projected, count_given, distinct_rows, grouped, item_rows, limited, ordered_rows, passing_rows, project_clause, projected, skipped}
+use Rattle.pg_meaning.specs.Projections.{Projected, column_value, count_given, distinct_rows, grouped, item_rows, limited, ordered_rows, passing_rows, project_clause, projected, skipped}
 use Rattle.pg_meaning.specs.Rows.{Row}
 use Rattle.pg_meaning.specs.Scopes.{Column, is_aggregate}
-use Rattle.pg_meaning.specs.Tree.{Expression, Projection}
+use Rattle.pg_meaning.specs.Tree.{Expression, SortItem, Projection}
 use Rattle.pg_meaning.specs.Value.{Value, Entries}
 use Rattle.pg_meaning.specs.declared.fault.Fault.{Fault}
 use Rattle.pg_meaning.specs.declared.fault.Fault.TheVariants.{OutOfMemory}
@@ -18,14 +20,15 @@ use Rattle.pg_rows.specs.States.{Named, seen, named_rows, state_of}
 use Rattle.pg_rows.specs.Tables.{table}
 use Rattle.pg_rows.specs.declared.named.Table.{Table}
 use Rattle.pg_rows.specs.declared.table.Rows.{Rows}
+use Rattle.pg_syntax_tree.specs.View.{sort_item_view}
+use Rattle.pg_syntax_tree.specs.declared.clauses.SortItem.{SortItem as Sort}
 use Rattle.pg_value_core.specs.Gives.{Gives}
 use Rattle.pg_project.proofs.Arranged.{distinct_stand, ordered_stand}
 use Rattle.pg_project.proofs.InTurn.{bound_twice, nothing_behind}
 use Rattle.pg_project.proofs.Kept.{limited_map, passing_stand}
 use Rattle.pg_project.proofs.Standing.{all_rows}
 use Rattle.pg_project.proofs.Wide.{table_wide}
-use Rattle.std.proofs.lemmas.List.{drop-map}
-use Rattle.pg_project.specs.Given.{Cut, columns_of, count_at, cut_given, cut_of, distinct_given, earlier_names, has_aggregate, ordered_given, passing_given, tail_given, wide_rows_given}
+use Rattle.pg_project.specs.Given.{Cut, columns_of, count_at, cut_given, cut_of, distinct_given, earlier_names, has_aggregate, has_none, hides_earlier, ordered_given, passing_given, tail_given, wide_rows_given}
 use Rattle.pg_project.specs.Parts.{of_columns, rows_ended, rows_projected, stands}
 
 -- ---- the clause by its parts
@@ -195,12 +198,86 @@ module _ (s : Setting) (graph : Graph) (columns earlier : List (List ℕ)) (es :
       ∙ ap (λ a. a >>= ended) (ordered_stand s graph columns earlier es same p.order (distinct_given p.distinct ws))
       ∙ sorted_ends (ordered_given s.parameters graph (columns ++ earlier) es p.order (distinct_given p.distinct ws))
 
+-- ---- earlier variables that nothing looks at
+
+module _ (s : Setting) (graph : Graph) (columns : List Column) where
+  abbrev in_columns : List Projected → Result (List Row) Fault
+  in_columns items = Ok (map (λ (r : Projected). r.columns) items)
+
+  abbrev column_rows : List Row → Result (List Row) Fault
+  column_rows rows = each_answer (λ row. each_answer (column_value s graph row) columns) rows
+
+  columns_only : (hidden : Bool) (rows : List Row) → (each_answer (projected s graph hidden columns) rows >>= in_columns) ≡ column_rows rows
+  columns_only hidden [] = refl
+  columns_only hidden (row ∷ rows) = by (each_answer (column_value s graph row) columns) (each_answer (projected s graph hidden columns) rows) (columns_only hidden rows)
+    where
+      by_rest : (vs : Row) (rest : Result (List Projected) Fault)
+          → ((rest >>= λ ys. Ok ((let p : Projected = record { columns = vs; earlier = cond hidden [] row } in p) ∷ ys)) >>= in_columns) ≡ ((rest >>= in_columns) >>= λ ys. Ok (vs ∷ ys))
+      by_rest vs (Ok ys) = refl
+      by_rest vs (Err f) = refl
+
+      by : (a : Result Row Fault) (rest : Result (List Projected) Fault) → (rest >>= in_columns) ≡ column_rows rows
+          → (((a >>= λ vs. Ok (let p : Projected = record { columns = vs; earlier = cond hidden [] row } in p)) >>= λ y. rest >>= λ ys. Ok (y ∷ ys)) >>= in_columns) ≡ (a >>= λ y. column_rows rows >>= λ ys. Ok (y ∷ ys))
+      by (Ok vs) rest h = by_rest vs rest ∙ ap (λ b. b >>= λ ys. Ok (vs ∷ ys)) h
+      by (Err f) rest h = refl
+
+  no_condition : (items : List Projected) → passing_rows s graph None items ≡ Ok items
+  no_condition [] = refl
+  no_condition (p ∷ ps) = ap (λ a. a >>= λ others. Ok (p ∷ others)) (no_condition ps)
+
+  module _ (c : Cut) (rows : List Row) where
+    abbrev cut_rows : List Row → Result (List Row) Fault
+    cut_rows rs = Ok (limited c.limit (drop c.skip rs))
+
+    abbrev behind : List SortItem → Bool → Option Expression → List Projected → Result (List Row) Fault
+    behind order distinct where_ items = ordered_rows s graph columns order (distinct_rows distinct items) >>= λ sorted. passing_rows s graph where_ (limited c.limit (drop c.skip sorted)) >>= in_columns
+
+    cut_later : (a : Result (List Projected) Fault) → (a >>= behind [] false None) ≡ ((a >>= in_columns) >>= cut_rows)
+    cut_later (Ok items) =
+        ap (λ a. a >>= in_columns) (no_condition (limited c.limit (drop c.skip items)))
+        ∙ ap Ok (sym (ap (limited c.limit) (drop-map (λ (r : Projected). r.columns) c.skip items) ∙ limited_map (λ (r : Projected). r.columns) c.limit (drop c.skip items)))
+    cut_later (Err f) = refl
+
+    abbrev items_by_kind : (hidden aggregated : Bool) → Result (List Projected) Fault
+    items_by_kind hidden aggregated = elim aggregated [ true ↦ grouped s graph columns rows | false ↦ each_answer (projected s graph hidden columns) rows ]
+
+    hidden_alike : (aggregated : Bool) → (items_by_kind false aggregated >>= behind [] false None) ≡ (items_by_kind true aggregated >>= behind [] false None)
+    hidden_alike true = refl
+    hidden_alike false =
+        cut_later (each_answer (projected s graph false columns) rows)
+        ∙ ap (λ a. a >>= cut_rows) (columns_only false rows ∙ sym (columns_only true rows))
+        ∙ sym (cut_later (each_answer (projected s graph true columns) rows))
+
+    hidden_by : (distinct : Bool) (order : List SortItem) (where_ : Option Expression)
+        → (item_rows s graph distinct columns rows >>= behind order distinct where_) ≡ (item_rows s graph (distinct || (has_none order && is_none where_)) columns rows >>= behind order distinct where_)
+    hidden_by true order where_ = refl
+    hidden_by false [] None = hidden_alike (list_any is_aggregate columns)
+    hidden_by false [] (Some e) = refl
+    hidden_by false (o ∷ os) where_ = refl
+
+    hidden_is : (p : Projection) (where_ : Option Expression) → (item_rows s graph p.distinct columns rows >>= rows_ended s graph columns p where_ c) ≡ (item_rows s graph (hides_earlier p where_) columns rows >>= rows_ended s graph columns p where_ c)
+    hidden_is p where_ = hidden_by p.distinct p.order where_
+
+zero_only : (n : ℕ) → (n == 0) ≡ true → n ≡ 0
+zero_only n h = grind (arith, nat_tests)
+
+more_than_none : (n : ℕ) → (suc n == 0) ≡ false
+more_than_none n = by (suc n == 0) refl
+  where
+    by : (b : Bool) → (suc n == 0) ≡ b → b ≡ false
+    by true h = absurd (omega (arith, zero_only (suc n) h))
+    by false h = refl
+
+pub none_viewed : (order : List Sort) → (length order == 0) ≡ has_none (map sort_item_view order)
+none_viewed [] = refl
+none_viewed (o ∷ os) = more_than_none (length os)
+
 -- ---- as the program gives it
 
-own_width : (columns names : List (List ℕ)) (aggregated distinct : Bool) → distinct ≡ true → length (columns ++ earlier_names (aggregated || distinct) names) ≡ length columns
-own_width columns names true d h = ap length (nothing_behind columns)
-own_width columns names false true h = ap length (nothing_behind columns)
-own_width columns names false false h = cc
+own_width : (columns names : List (List ℕ)) (aggregated distinct unseen : Bool) → distinct ≡ true → length (columns ++ earlier_names (aggregated || (distinct || unseen)) names) ≡ length columns
+own_width columns names true d u h = ap length (nothing_behind columns)
+own_width columns names false true u h = ap length (nothing_behind columns)
+own_width columns names false false u h = cc
 
 module _ (s : Setting) (graph : Graph) (parameters : Entries) (given : s.parameters ≡ parameters) (all : List Column) (p : Projection) (where_ : Option Expression) (rows : List Row) where
   cut_is : (a : Result Cut Fault) → cut_given parameters graph p.skip p.limit ≡ a → rows_projected s graph all p where_ rows ≡ (a >>= λ c. item_rows s graph p.distinct all rows >>= rows_ended s graph all p where_ c)
@@ -210,27 +287,28 @@ module _ (s : Setting) (graph : Graph) (parameters : Entries) (given : s.paramet
   cut_fails f h = cut_is (Err f) h
 
   module _ (columns names : List (List ℕ)) (es : List Expression) (are : all ≡ columns_of columns es) (c : Cut) (cut : cut_given parameters graph p.skip p.limit ≡ Ok c) where
-    items_are : (a : Result (List Projected) Fault) → item_rows s graph p.distinct (columns_of columns es) rows ≡ a → rows_projected s graph all p where_ rows ≡ (a >>= rows_ended s graph (columns_of columns es) p where_ c)
+    items_are : (a : Result (List Projected) Fault) → item_rows s graph (hides_earlier p where_) (columns_of columns es) rows ≡ a → rows_projected s graph all p where_ rows ≡ (a >>= rows_ended s graph (columns_of columns es) p where_ c)
     items_are a h =
         cut_is (Ok c) cut
         ∙ ap (λ cs. item_rows s graph p.distinct cs rows >>= rows_ended s graph cs p where_ c) are
+        ∙ hidden_is s graph (columns_of columns es) c rows p where_
         ∙ ap (λ b. b >>= rows_ended s graph (columns_of columns es) p where_ c) h
 
-    pub items_fail : (f : Fault) → item_rows s graph p.distinct (columns_of columns es) rows ≡ Err f → rows_projected s graph all p where_ rows ≡ Err f
+    pub items_fail : (f : Fault) → item_rows s graph (hides_earlier p where_) (columns_of columns es) rows ≡ Err f → rows_projected s graph all p where_ rows ≡ Err f
     items_fail f h = items_are (Err f) h
 
-    module _ (t : Table) (width : ℕ) (same : length columns ≡ length es) (long : width ≡ length columns) (named : (seen t).names ≡ columns ++ earlier_names (has_aggregate es || p.distinct) names)
-        (items : item_rows s graph p.distinct (columns_of columns es) rows ≡ Ok (map (stands columns (earlier_names (has_aggregate es || p.distinct) names)) (seen t).rows)) where
+    module _ (t : Table) (width : ℕ) (same : length columns ≡ length es) (long : width ≡ length columns) (named : (seen t).names ≡ columns ++ earlier_names (has_aggregate es || hides_earlier p where_) names)
+        (items : item_rows s graph (hides_earlier p where_) (columns_of columns es) rows ≡ Ok (map (stands columns (earlier_names (has_aggregate es || hides_earlier p where_) names)) (seen t).rows)) where
       abbrev behind_items : Result (List (List Value)) Fault
       behind_items = tail_given parameters graph (seen t).names es p.distinct p.order c where_ width (seen t).rows
 
       as_wide : p.distinct ≡ true → AllByRecursion (λ w. length w ≡ length columns) (table t.rows)
-      as_wide h = subst (λ n. AllByRecursion (λ w. length w ≡ n) (table t.rows)) (t.fits ∙ ap length named ∙ own_width columns names (has_aggregate es) p.distinct h) (table_wide t.rows)
+      as_wide h = subst (λ n. AllByRecursion (λ w. length w ≡ n) (table t.rows)) (t.fits ∙ ap length named ∙ own_width columns names (has_aggregate es) p.distinct (has_none p.order && is_none where_) h) (table_wide t.rows)
 
       ended_is : rows_projected s graph all p where_ rows ≡ (behind_items >>= λ found. Ok (rows_named columns found))
       ended_is =
-          items_are (Ok (map (stands columns (earlier_names (has_aggregate es || p.distinct) names)) (seen t).rows)) items
-          ∙ ended_stand s graph columns (earlier_names (has_aggregate es || p.distinct) names) es same p where_ c (seen t).rows as_wide
+          items_are (Ok (map (stands columns (earlier_names (has_aggregate es || hides_earlier p where_) names)) (seen t).rows)) items
+          ∙ ended_stand s graph columns (earlier_names (has_aggregate es || hides_earlier p where_) names) es same p where_ c (seen t).rows as_wide
           ∙ (λ i. tail_given (given i) graph (sym named i) es p.distinct p.order c where_ (sym long i) (seen t).rows >>= λ found. Ok (rows_named columns found))
 
       pub ended_gives : (result : Result Rows Fault) → IfOk result (λ found. behind_items ≡ Ok (table found)) → IfErr result (λ e. e ≢ OutOfMemory → behind_items ≡ Err e) → Gives result (rows_projected s graph all p where_ rows) (λ found. rows_named columns (table found))

@@ -1,7 +1,7 @@
 -- What the parts of a projection give at rows of values, whose names stand apart.
 use Rattle.std.specs.Borrow.{Bor}
 use Rattle.std.specs.List.{list_any}
-use Rattle.std.specs.Prelude.{ℕ, Bool, true, false, cond, List, [], ◌∷◌, ◌++◌, map, take, drop, Result, Ok, Option, Some, None, is_some, position, slice_index_or, unwrap_or, not}
+use Rattle.std.specs.Prelude.{ℕ, Bool, true, false, cond, List, [], ◌∷◌, ◌++◌, map, take, drop, Result, Ok, Option, Some, None, is_some, is_none, ◌||◌, ◌&&◌, position, slice_index_or, unwrap_or, not}
 use Rattle.pg_expr.specs.Prepared.{tree_of}
 use Rattle.pg_expr.specs.declared.prepared.Prepared.{Prepared}
 use Rattle.pg_meaning.specs.Aggregates.{aggregate_of}
@@ -11,7 +11,7 @@ use Rattle.pg_meaning.specs.Expressions.{evaluate}
 use Rattle.pg_meaning.specs.Graph.{Graph}
 use Rattle.pg_meaning.specs.Projections.{count_of, limited}
 use Rattle.pg_meaning.specs.Scopes.{Column}
-use Rattle.pg_meaning.specs.Tree.{Expression, SortItem}
+use Rattle.pg_meaning.specs.Tree.{Expression, SortItem, Projection}
 use Rattle.pg_meaning.specs.Trees.{same_expression}
 use Rattle.pg_meaning.specs.Value.{Value as Datum, null, Entries}
 use Rattle.pg_meaning.specs.declared.fault.Fault.{Fault}
@@ -123,3 +123,11 @@ has_aggregate es = list_any (λ e. is_some (aggregate_of e)) es
 -- behind DISTINCT, and behind groups, the columns alone are seen
 abbrev pub earlier_names : (hidden : Bool) → List (List ℕ) → List (List ℕ)
 earlier_names hidden names = cond (not hidden) names []
+
+abbrev pub has_none : {X : Type 0} → List X → Bool
+has_none [] = true
+has_none (x ∷ xs) = false
+
+-- where neither a sort nor a condition can look at the earlier variables
+abbrev pub hides_earlier : Projection → Option Expression → Bool
+hides_earlier p where_ = p.distinct || (has_none p.order && is_none where_)

@@ -11,12 +11,12 @@ pub returns-then-have_aggregate-clause-gives : goal.returns-then-have_aggregate-
 returns-then-have_aggregate-clause-gives g c = λ s given.
     let es = expressions_view c.args.items.now.items in
     let same : length c.args.columns.now ≡ length es = sym c.requires.items ∙ sym (length-map c.args.items.now.items (λ e. expression_view e.now)) in
-    groups_give s c.args.graph.now c.args.columns.now c.args.names.now es c.args.distinct (table c.args.rows) same c.grouped_rows.result
+    groups_give s c.args.graph.now c.args.columns.now c.args.names.now es c.args.hidden (table c.args.rows) same c.grouped_rows.result
     (sym c.have_aggregate.ensures ∙ c.if-have_aggregate.true) (c.grouped_rows.ensures.gives s given)
 
 pub returns-else-have_aggregate-clause-gives : goal.returns-else-have_aggregate-clause-gives
 returns-else-have_aggregate-clause-gives g c = λ s given.
     let es = expressions_view c.args.items.now.items in
     let same : length c.args.columns.now ≡ length es = sym c.requires.items ∙ sym (length-map c.args.items.now.items (λ e. expression_view e.now)) in
-    rows_give s c.args.graph.now c.args.columns.now c.args.names.now es c.args.distinct (table c.args.rows) same (parameters_view c.args.parameters.now) given c.plain_rows.result
+    rows_give s c.args.graph.now c.args.columns.now c.args.names.now es c.args.hidden (table c.args.rows) same (parameters_view c.args.parameters.now) given c.plain_rows.result
     (sym c.have_aggregate.ensures ∙ c.if-have_aggregate.false) c.plain_rows.ensures.ok c.plain_rows.ensures.err

@@ -1,13 +1,14 @@
-use Rattle.std.proofs.Common.{rules, ◌≡◌, length, option_map, Err, sym, ◌∙◌}
+use Rattle.std.proofs.Common.{rules, ◌≡◌, ◌||◌, ◌++◌, length, map, option_map, Ok, Err, sym, ap, subst, ◌∙◌}
 use Rattle.std.proofs.lemmas.List.{length-map}
 use Rattle.pg_meaning.specs.Projections.{item_rows}
 use Rattle.pg_meaning.specs.declared.fault.Fault.{Fault}
 use Rattle.pg_project.proofs.Projecting.{items_fail, ended_gives}
 use Rattle.pg_project.specs.Columns.{columns_view}
 use Rattle.pg_project.specs.Cuts.{cut_view}
-use Rattle.pg_project.specs.Given.{columns_of, expressions_view}
-use Rattle.pg_project.specs.Parts.{rows_projected}
+use Rattle.pg_project.specs.Given.{columns_of, earlier_names, expressions_view, has_aggregate, hides_earlier}
+use Rattle.pg_project.specs.Parts.{rows_projected, stands}
 use Rattle.pg_rows.specs.Named.{rows_named}
+use Rattle.pg_rows.specs.States.{seen}
 use Rattle.pg_rows.specs.Tables.{table}
 use Rattle.pg_syntax_tree.specs.View.{expression_view, projection_view}
 use Rattle.pg_value_core.specs.Given.{parameters_view}
@@ -24,7 +25,7 @@ returns-in_err-wide-clause-gives g c = λ s given.
     let columns = c.args.columns.now.names in
     let es = expressions_view c.in_ok-items.items.items in
     let said = c.in_err-wide.ensures.gives s given in
-    let refused : (f : Fault) → item_rows s graph p.distinct (columns_of columns es) rows ≡ Err f → rows_projected s graph all p where_ rows ≡ Err f =
+    let refused : (f : Fault) → item_rows s graph (hides_earlier p where_) (columns_of columns es) rows ≡ Err f → rows_projected s graph all p where_ rows ≡ Err f =
     items_fail s graph ps given all p where_ rows columns c.args.names.now es c.in_ok-items.ensures.trees (cut_view c.in_ok-cut.cut) c.in_ok-cut.ensures.ok in
     record {
       ok = search rules;
@@ -45,6 +46,11 @@ returns-clause-gives g c = λ s given.
     let long : length items ≡ length columns = c.in_ok-items.ensures.len in
     let same : length columns ≡ length es = sym long ∙ sym (length-map items (λ e. expression_view e.now)) in
     let wide = c.in_ok-wide in
+    let hidden = c.hides_earlier.ensures in
+    let named : (seen wide.wide).names ≡ columns ++ earlier_names (has_aggregate es || hides_earlier p where_) c.args.names.now =
+    wide.ensures.names ∙ ap (λ b. columns ++ earlier_names (has_aggregate es || b) c.args.names.now) hidden in
+    let made : item_rows s graph (hides_earlier p where_) (columns_of columns es) rows ≡ Ok (map (stands columns (earlier_names (has_aggregate es || hides_earlier p where_) c.args.names.now)) (seen wide.wide).rows) =
+    subst (λ b. item_rows s graph b (columns_of columns es) rows ≡ Ok (map (stands columns (earlier_names (has_aggregate es || b) c.args.names.now)) (seen wide.wide).rows)) hidden (wide.ensures.gives s given).ok in
     ended_gives s graph ps given all p where_ rows columns c.args.names.now es c.in_ok-items.ensures.trees (cut_view c.in_ok-cut.cut) c.in_ok-cut.ensures.ok
-    wide.wide (length items) same long wide.ensures.names (wide.ensures.gives s given).ok
+    wide.wide (length items) same long named made
     c.ended_rows.result c.ended_rows.ensures.ok c.ended_rows.ensures.err

@@ -1,6 +1,7 @@
 -- Rows that meet a condition, one after the other.
-use Rattle.std.proofs.Common.{◌≡◌, ℕ, zero, suc, ◌-◌, ◌<◌, Bool, true, false, List, [], ◌∷◌, ◌++◌, length, take, drop, Result, Ok, Err, Option, Some, None, refl, sym, ap, ◌∙◌, arith}
+use Rattle.std.proofs.Common.{◌≡◌, ℕ, zero, suc, ◌-◌, ◌<◌, ◌≤◌, Bool, true, false, List, [], ◌∷◌, ◌++◌, length, take, drop, Result, Ok, Err, Option, Some, None, refl, sym, ap, ◌∙◌, arith}
 use Rattle.std.proofs.lemmas.List.{length-drop}
+use Rattle.std.specs.List.{AllByRecursion}
 use Rattle.std.specs.Prelude.{unwrap_or}
 use Rattle.pg_meaning.specs.Answer.{◌>>=◌}
 use Rattle.pg_meaning.specs.Conditions.{condition}
@@ -12,7 +13,7 @@ use Rattle.pg_meaning.specs.declared.fault.Fault.{Fault}
 use Rattle.pg_rows.proofs.Tabled.{all_taken}
 use Rattle.pg_rows.specs.Named.{row_of}
 use Rattle.pg_project.proofs.InTurn.{after, after_one, nothing_behind}
-use Rattle.pg_project.specs.Given.{passing_given}
+use Rattle.pg_project.specs.Given.{Cut, cut_of, passing_given}
 
 same_others : (rest : Result (List (List Value)) Fault) → (rest >>= λ others. Ok others) ≡ rest
 same_others (Ok others) = refl
@@ -57,3 +58,14 @@ module _ (parameters : Entries) (graph : Graph) (names : List (List ℕ)) (where
 pub cut_is : (limit : Option ℕ) (skip n : ℕ) (rows : List (List Value)) → n ≡ length rows → take (unwrap_or limit n) (drop skip rows) ≡ limited limit (drop skip rows)
 cut_is (Some m) skip n rows h = refl
 cut_is None skip n rows h = sym (all_taken n (drop skip rows) (let e = length-drop skip rows in omega arith))
+
+-- all rows of the width pass where nothing is cut and nothing is asked
+all_pass : (parameters : Entries) (graph : Graph) (names : List (List ℕ)) (width : ℕ) (rows : List (List Value)) → AllByRecursion (λ r. length r ≡ width) rows → passing_given parameters graph names None width rows ≡ Ok rows
+all_pass parameters graph names width [] wide = refl
+all_pass parameters graph names width (r ∷ rs) wide =
+    (λ i. all_pass parameters graph names width rs wide.1 i >>= λ others. Ok (take width r ∷ others))
+    ∙ ap (λ w. Ok (w ∷ rs)) (sym (all_taken width r (let e : length r ≤ width = omega (arith, wide.0) in e)))
+
+pub whole_passes : (parameters : Entries) (graph : Graph) (names : List (List ℕ)) (where_ : Option Expression) (width : ℕ) (c : Cut) (rows : List (List Value)) → c ≡ record { skip = 0; limit = None } → where_ ≡ None → AllByRecursion (λ r. length r ≡ width) rows
+    → passing_given parameters graph names where_ width (cut_of c rows) ≡ Ok rows
+whole_passes parameters graph names where_ width c rows cut none wide = (λ i. passing_given parameters graph names (none i) width (cut_of (cut i) rows)) ∙ all_pass parameters graph names width rows wide

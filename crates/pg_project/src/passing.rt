@@ -1,5 +1,5 @@
 //! SKIP, LIMIT and WHERE behind the other parts of a projection.
-ghost use Rattle.std.specs.Prelude.{◌≡◌, ◌≢◌, ◌≤◌, take, unwrap_or, IfOk, IfErr, Ok, Err};
+ghost use Rattle.std.specs.Prelude.{◌≡◌, ◌≢◌, ◌≤◌, true, None, take, option_map, unwrap_or, IfOk, IfErr, Ok, Err};
 ghost use Rattle.pg_expr.specs.Prepared.{condition_of};
 ghost use Rattle.pg_meaning.specs.Conditions.{condition};
 ghost use Rattle.pg_meaning.specs.declared.fault.Fault.TheVariants.{OutOfMemory};
@@ -8,6 +8,7 @@ ghost use Rattle.pg_project.specs.Given.{cut_of, passing_given};
 ghost use Rattle.pg_rows.specs.Left.{rows_left};
 ghost use Rattle.pg_rows.specs.Named.{row_of};
 ghost use Rattle.pg_rows.specs.Tables.{table};
+ghost use Rattle.pg_syntax_tree.specs.View.{expression_view};
 ghost use Rattle.pg_value_core.specs.Given.{parameters_view};
 ghost use Rattle.pg_value_core.specs.View.{view};
 
@@ -15,6 +16,7 @@ use pg_expr::{PreparedCondition, condition};
 use pg_graph::Tables;
 use pg_rows::{Columns, Rows, RowsLeft};
 use pg_store::Snapshot;
+use pg_syntax_tree::Expression;
 use pg_value_core::{Fault, Parameters};
 use std::alloc::Global;
 
@@ -23,6 +25,13 @@ use std::alloc::Global;
 pub(crate) struct Cut {
     pub(crate) skip: u64,
     pub(crate) limit: Option<u64>,
+}
+
+/// Whether all rows are let in, under no condition.
+pub(crate) fn lets_all_pass(cut: Cut, condition: &Option<Expression>) -> bool
+    ensures { result ≡ true → (cut_view cut ≡ record { skip = 0; limit = None }) × (option_map expression_view condition.now ≡ None) }
+{
+    cut.skip == 0 && cut.limit.is_none() && condition.is_none()
 }
 
 /// The first values of those rows that are let in and meet the condition.

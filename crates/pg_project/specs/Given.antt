@@ -1,5 +1,4 @@
 -- What the parts of a projection give at rows of values, whose names stand apart.
-use Rattle.std.specs.Borrow.{Bor}
 use Rattle.std.specs.List.{list_any}
 use Rattle.std.specs.Prelude.{ℕ, Bool, true, false, cond, List, [], ◌∷◌, ◌++◌, map, take, drop, Result, Ok, Option, Some, None, is_some, is_none, ◌||◌, ◌&&◌, position, slice_index_or, unwrap_or, not}
 use Rattle.pg_expr.specs.Prepared.{tree_of}
@@ -10,7 +9,6 @@ use Rattle.pg_meaning.specs.Conditions.{condition}
 use Rattle.pg_meaning.specs.Expressions.{evaluate}
 use Rattle.pg_meaning.specs.Graph.{Graph}
 use Rattle.pg_meaning.specs.Projections.{count_of, limited}
-use Rattle.pg_meaning.specs.Scopes.{Column}
 use Rattle.pg_meaning.specs.Tree.{Expression, SortItem, Projection}
 use Rattle.pg_meaning.specs.Trees.{same_expression}
 use Rattle.pg_meaning.specs.Value.{Value as Datum, null, Entries}
@@ -18,21 +16,11 @@ use Rattle.pg_meaning.specs.declared.fault.Fault.{Fault}
 use Rattle.pg_rows.specs.Named.{row_of}
 use Rattle.pg_rows.specs.Sorts.{directions, sorted_places}
 use Rattle.pg_rows.specs.Tables.{first_places, rows_at_places}
-use Rattle.pg_syntax_tree.specs.View.{expression_view}
-use Rattle.pg_syntax_tree.specs.declared.expression.Expression.{Expression as Code}
-
-abbrev pub expressions_view : List (Bor Code) → List Expression
-expressions_view es = map (λ e. expression_view e.now) es
 
 abbrev pub trees_of : (names : List (List ℕ)) → List Prepared → List Expression
 trees_of names ready = map (tree_of names) ready
 
 -- ---- items
-
-abbrev pub columns_of : (names : List (List ℕ)) → List Expression → List Column
-columns_of [] es = []
-columns_of (n ∷ ns) [] = []
-columns_of (n ∷ ns) (e ∷ es) = record { name = n; value = e } ∷ columns_of ns es
 
 abbrev pub value_given : Entries → Graph → (names : List (List ℕ)) → List Datum → Expression → Answer
 value_given parameters graph names values e = evaluate (row_of names values) parameters graph e

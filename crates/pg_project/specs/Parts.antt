@@ -1,5 +1,5 @@
 -- The parts of a projection that the program gives one after the other.
-use Rattle.std.specs.Prelude.{ℕ, List, [], map, length, take, drop, Result, Ok, Option}
+use Rattle.std.specs.Prelude.{ℕ, List, map, length, take, drop, Result, Ok, Option}
 use Rattle.pg_meaning.specs.Answer.{◌>>=◌}
 use Rattle.pg_meaning.specs.Graph.{Graph}
 use Rattle.pg_meaning.specs.Meters.{Setting}
@@ -11,10 +11,6 @@ use Rattle.pg_meaning.specs.Value.{Value}
 use Rattle.pg_meaning.specs.declared.fault.Fault.{Fault}
 use Rattle.pg_rows.specs.Named.{row_of}
 use Rattle.pg_project.specs.Given.{Cut, cut_given}
-
--- a row of columns alone
-abbrev pub of_columns : (columns : List (List ℕ)) → List Value → Projected
-of_columns columns values = record { columns = row_of columns values; earlier = [] }
 
 -- a row of columns, and behind them the earlier variables
 abbrev pub stands : (columns earlier : List (List ℕ)) → List Value → Projected

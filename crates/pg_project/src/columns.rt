@@ -1,15 +1,14 @@
 //! The columns of WITH and RETURN.
-ghost use Rattle.std.specs.Prelude.{◌≡◌, ◌++◌, ◌+◌, ◌∷◌, [], cond, is_some, length, map, IfOk, OnOk};
-ghost use Rattle.pg_meaning.specs.Aggregates.{aggregate_of};
+ghost use Rattle.std.specs.Prelude.{◌≡◌, ◌++◌, ◌+◌, ◌∷◌, [], cond, length, map, IfOk, OnOk};
+ghost use Rattle.pg_group.specs.Items.{columns_of, expressions_view};
 ghost use Rattle.pg_meaning.specs.Names.{in_byte_order};
 ghost use Rattle.pg_meaning.specs.Scopes.{column_names, variable_text};
 ghost use Rattle.pg_project.specs.Columns.{column_of, columns_view, naming_columns, star_names, texts_of, trees_in, variable_trees};
-ghost use Rattle.pg_project.specs.Given.{columns_of, earlier_names, expressions_view, has_aggregate};
+ghost use Rattle.pg_project.specs.Given.{earlier_names};
 ghost use Rattle.pg_syntax_tree.specs.View.{expression_view, item_view, projection_view};
 
 use crate::projection_columns::ProjectionColumns;
 use pg_rows::Columns;
-use pg_scope::summary_named;
 use pg_syntax_tree::{Expression, Item, Name, Projection};
 use std::alloc::{AllocError, Global};
 use std::collections::BTreeSet;
@@ -116,28 +115,6 @@ fn variable_text(expression: &Expression) -> &str
         Expression::Variable(name) => name.text.as_str(),
         _ => "",
     }
-}
-
-/// Whether an item is an aggregate.
-pub(crate) fn is_aggregate(expression: &Expression) -> bool
-    ensures { result ≡ is_some (aggregate_of (expression_view expression.now)) }
-{
-    match expression {
-        Expression::Call(name, _, _, _) => summary_named(name.text.as_str()).is_some(),
-        _ => false,
-    }
-}
-
-/// Whether any of the expressions is an aggregate.
-pub(crate) fn have_aggregate(expressions: &Vec<&Expression>) -> bool
-    ensures { result ≡ has_aggregate (expressions_view expressions.now.items) }
-{
-    for expression in expressions {
-        if is_aggregate(expression) {
-            return true;
-        }
-    }
-    false
 }
 
 impl<'a> ProjectionColumns<'a> {

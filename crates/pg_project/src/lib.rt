@@ -9,7 +9,6 @@ mod passing;
 mod project;
 mod projection_columns;
 mod sorting;
-mod stand_ins;
 mod unwind;
 mod values;
 

@@ -4,7 +4,8 @@ use Rattle.pg_meaning.specs.Answer.{◌>>=◌}
 use Rattle.pg_project.proofs.Conditions.{whole_passes}
 use Rattle.pg_project.proofs.Wide.{table_wide}
 use Rattle.pg_project.specs.Cuts.{cut_view}
-use Rattle.pg_project.specs.Given.{cut_of, distinct_given, expressions_view, ordered_given, passing_given}
+use Rattle.pg_group.specs.Items.{expressions_view}
+use Rattle.pg_project.specs.Given.{cut_of, distinct_given, ordered_given, passing_given}
 use Rattle.pg_rows.specs.States.{seen}
 use Rattle.pg_rows.specs.Tables.{table}
 use Rattle.pg_syntax_tree.specs.View.{expression_view, projection_view}

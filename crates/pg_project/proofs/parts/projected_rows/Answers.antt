@@ -5,7 +5,8 @@ use Rattle.pg_meaning.specs.declared.fault.Fault.{Fault}
 use Rattle.pg_project.proofs.Projecting.{items_fail, ended_gives}
 use Rattle.pg_project.specs.Columns.{columns_view}
 use Rattle.pg_project.specs.Cuts.{cut_view}
-use Rattle.pg_project.specs.Given.{columns_of, earlier_names, expressions_view, has_aggregate, hides_earlier}
+use Rattle.pg_group.specs.Items.{columns_of, expressions_view}
+use Rattle.pg_project.specs.Given.{earlier_names, has_aggregate, hides_earlier}
 use Rattle.pg_project.specs.Parts.{rows_projected, stands}
 use Rattle.pg_rows.specs.Named.{rows_named}
 use Rattle.pg_rows.specs.States.{seen}

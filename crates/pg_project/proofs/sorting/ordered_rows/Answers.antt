@@ -2,7 +2,8 @@ use Rattle.std.proofs.Common.{rules, ◌≡◌, ◌<◌, length, map, Err, sym, 
 use Rattle.std.proofs.lemmas.Bool.Decides.{nat_tests}
 use Rattle.pg_meaning.specs.declared.fault.Fault.{Fault}
 use Rattle.pg_project.proofs.SortPlaces.{ordered_fails}
-use Rattle.pg_project.specs.Given.{all_keys_given, expressions_view, ordered_given}
+use Rattle.pg_group.specs.Items.{expressions_view}
+use Rattle.pg_project.specs.Given.{all_keys_given, ordered_given}
 use Rattle.pg_project.specs.Sources.{sources_view}
 use Rattle.pg_rows.specs.Tables.{table}
 use Rattle.pg_syntax_tree.specs.View.{sort_item_view}

@@ -1,0 +1,11 @@
+pub mod BindingLemmas
+pub mod BoundLemmas
+pub mod ClauseLemmas
+pub mod CountLemmas
+pub mod CreationLemmas
+pub mod GrowthLemmas
+pub mod NameLemmas
+pub mod ShapeLemmas
+pub mod StepLemmas
+pub mod TrailLemmas
+pub mod WholeLemmas

@@ -1,0 +1,4 @@
+pub mod Bindings
+pub mod Creations
+pub mod Lent
+pub mod Makings

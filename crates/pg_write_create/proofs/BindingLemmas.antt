@@ -1,11 +1,11 @@
 -- A match binds its variables one after the other.
-use Rattle.std.proofs.Common.{◌≡◌, ℕ, List, [], ◌∷◌, ◌++◌, map, refl, sym, ap, ◌∙◌}
+use Rattle.std.proofs.Common.{◌≡◌, ℕ, List, [], ◌∷◌, ◌++◌, refl, sym, ap, ◌∙◌}
 use Rattle.pg_meaning.specs.Graph.{Graph}
 use Rattle.pg_meaning.specs.Patterns.{bind_hops, bind_path, bind_match, Bond, Trail, Assignment, text_of, node_name, path_value}
 use Rattle.pg_meaning.specs.Rows.{Row, bind_if_named}
 use Rattle.pg_meaning.specs.Tree.{NodePattern, RelationshipPattern, PathPattern}
 use Rattle.pg_meaning.specs.Value.{node}
-use Rattle.pg_write_create.specs.Bindings.{Binding, bind_each, hop_bindings, node_bindings, path_bindings, match_bindings}
+use Rattle.pg_write_create.specs.Bindings.{Binding, bind_each, hop_bindings, path_bindings, match_bindings}
 
 bind_both : (as_ bs : List Binding) (row : Row) → bind_each (as_ ++ bs) row ≡ bind_each bs (bind_each as_ row)
 bind_both [] bs row = refl

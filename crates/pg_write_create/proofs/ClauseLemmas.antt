@@ -1,7 +1,7 @@
 -- CREATE of all rows, from the parts of the code.
-use Rattle.std.proofs.Common.{◌≡◌, ◌≤◌, ◌*◌, ℕ, List, map, length, Result, Ok, Err, sym, ap, ◌∙◌, arith}
+use Rattle.std.proofs.Common.{◌≡◌, ◌*◌, ℕ, List, map, length, Result, Ok, Err, sym, ap, ◌∙◌, arith}
 use Rattle.pg_meaning.specs.Graph.{Graph}
-use Rattle.pg_meaning.specs.Meters.{Setting, State, spend}
+use Rattle.pg_meaning.specs.Meters.{Setting, spend}
 use Rattle.pg_meaning.specs.Patterns.{add_path_names}
 use Rattle.pg_meaning.specs.Rows.{Row}
 use Rattle.pg_meaning.specs.Tree.{PathPattern}

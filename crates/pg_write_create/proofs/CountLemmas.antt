@@ -1,5 +1,5 @@
 -- Names that are seen, in whatever order.
-use Rattle.std.proofs.Common.{◌≡◌, ◌≤◌, ◌+◌, ◌-◌, ◌||◌, ℕ, Bool, true, false, List, [], ◌∷◌, ◌++◌, map, flat_map, length, Option, Some, None, refl, sym, ap, ◌∙◌, arith}
+use Rattle.std.proofs.Common.{◌≡◌, ◌+◌, ◌||◌, ℕ, Bool, true, false, List, [], ◌∷◌, ◌++◌, flat_map, length, Option, Some, None, refl, sym, ap, ◌∙◌, arith}
 use Rattle.std.proofs.lemmas.List.{length-append, length-map}
 use Rattle.std.specs.Borrow.{Bor}
 use Rattle.std.specs.Prelude.{bytes_eq}
@@ -7,7 +7,6 @@ use Rattle.pg_meaning.specs.Names.{Names, is_among}
 use Rattle.pg_meaning.specs.Patterns.{nodes_of, node_name}
 use Rattle.pg_meaning.specs.Tree.{NodePattern, PathPattern}
 use Rattle.pg_meaning.specs.Updates.{count_nodes}
-use Rattle.pg_store.specs.Stores.{texts_of}
 use Rattle.pg_syntax_tree.specs.View.{node_view, path_view}
 use Rattle.pg_syntax_tree.specs.declared.patterns.NodePattern.{NodePattern as NodeCode}
 use Rattle.pg_syntax_tree.specs.declared.patterns.PathPattern.{PathPattern as PathCode}

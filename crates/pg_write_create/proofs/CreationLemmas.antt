@@ -1,7 +1,6 @@
 -- CREATE of all rows, from its cost and what is made at the rows.
-use Rattle.std.proofs.Common.{◌≡◌, ◌≤◌, ◌+◌, ◌*◌, ℕ, zero, suc, false, List, [], ◌∷◌, ◌++◌, map, length, take, drop, Option, Some, None, Result, Ok, Err, refl, sym, ap, ◌∙◌, append_assoc, arith}
-use Rattle.std.proofs.lemmas.List.{length-map, length-drop, length-take, length-take-le}
-use Rattle.std.specs.Prelude.{slice_get}
+use Rattle.std.proofs.Common.{◌≡◌, ◌≤◌, ◌*◌, ℕ, zero, suc, false, List, [], ◌∷◌, ◌++◌, map, length, take, drop, Result, Ok, Err, refl, ap, ◌∙◌, append_assoc, arith}
+use Rattle.std.proofs.lemmas.List.{length-map, length-take}
 use Rattle.pg_meaning.specs.Answer.{◌>>=◌, ◌>>◌, each_answer, each_step}
 use Rattle.pg_meaning.specs.Entries.{set_keys, value_at}
 use Rattle.pg_meaning.specs.Expressions.{evaluate}
@@ -14,14 +13,12 @@ use Rattle.pg_meaning.specs.Tree.{Properties, no_properties, given, from_paramet
 use Rattle.pg_meaning.specs.Updates.{count_new, create_clause, create_row, given_properties, make, mapping_pairs, test_storable}
 use Rattle.pg_meaning.specs.Value.{Value, Entries, no_entries}
 use Rattle.pg_meaning.specs.declared.fault.Fault.{Fault}
-use Rattle.pg_rows.proofs.Tabled.{more_rows}
 use Rattle.pg_rows.specs.Named.{row_of, rows_named}
 use Rattle.pg_rows.specs.States.{Named, named_rows, state_of}
 use Rattle.pg_rows.specs.Tables.{rows_of}
-use Rattle.pg_write_create.specs.Bindings.{names_in}
 use Rattle.pg_write_create.specs.Creations.{row_created, row_made, rows_created}
 use Rattle.pg_write_make.proofs.MakingLemmas.{paths_are}
-use Rattle.pg_write_make.specs.Outcomes.{Outcomes, path_outcomes, paths_made, relationships_of, node_outcome, relationship_outcome}
+use Rattle.pg_write_make.specs.Outcomes.{path_outcomes, paths_made, relationships_of, node_outcome, relationship_outcome}
 use Rattle.pg_write_make.specs.Scenes.{reading}
 
 map_same : {X Y : Type 0} (f h : X → Y) → ((x : X) → f x ≡ h x) → (xs : List X) → map f xs ≡ map h xs

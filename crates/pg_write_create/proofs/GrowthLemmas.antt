@@ -1,10 +1,10 @@
 -- Making keeps the nodes that there are.
-use Rattle.std.proofs.Common.{◌≡◌, ℕ, Bool, true, false, cond, List, [], ◌∷◌, ◌++◌, map, flat_map, Option, Some, None, is_some, Result, Ok, Err, refl, sym, ap, subst, ◌∙◌}
+use Rattle.std.proofs.Common.{◌≡◌, ℕ, Bool, true, false, cond, List, [], ◌∷◌, ◌++◌, flat_map, Option, Some, None, is_some, Result, Ok, Err, refl, sym, ap, subst, ◌∙◌}
 use Rattle.std.specs.FinMap.Entries as by_id
 use Rattle.std.specs.Option.{IsSome}
 use Rattle.std.specs.Ordering.{nat_cmp, eq_by_cmp}
 use Rattle.std.proofs.lemmas.Cmp.{nat_cmp_total, eq_by_cmp_equiv}
-use Rattle.pg_meaning.specs.Answer.{◌>>=◌, ◌>>◌, unless}
+use Rattle.pg_meaning.specs.Answer.{◌>>◌, unless}
 use Rattle.pg_meaning.specs.Graph.{Graph, Node, Way, outgoing, incoming, both, add_node, has_node, node_at}
 use Rattle.pg_meaning.specs.Meters.{test_counter}
 use Rattle.pg_meaning.specs.Names.{in_byte_order}
@@ -16,7 +16,7 @@ use Rattle.pg_meaning.specs.Updates.{add_between, first_text}
 use Rattle.pg_meaning.specs.Value.{Value, null, boolean, integer, text, list, mapping, node, relationship, path, Entries}
 use Rattle.pg_meaning.specs.Walks.{bound_value}
 use Rattle.pg_meaning.specs.declared.fault.Fault.{Fault}
-use Rattle.pg_meaning.specs.declared.fault.Fault.TheVariants.{DeletedEntity, TypeFault}
+use Rattle.pg_meaning.specs.declared.fault.Fault.TheVariants.{DeletedEntity}
 use Rattle.pg_write_create.specs.Makings.{AreThere, Grows}
 use Rattle.pg_write_make.specs.Outcomes.{Outcome, room_for, node_added, relationship_of}
 

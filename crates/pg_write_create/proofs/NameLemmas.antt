@@ -1,10 +1,9 @@
 -- Values under the first of names, and one more.
-use Rattle.std.proofs.Common.{◌≡◌, ◌≤◌, ◌+◌, ℕ, suc, Bool, true, false, cond, List, [], ◌∷◌, ◌++◌, map, length, zip, Option, Some, None, is_some, refl, sym, ap, subst, ◌∙◌, arith, append_assoc}
+use Rattle.std.proofs.Common.{◌≡◌, ◌≤◌, ℕ, suc, Bool, true, false, cond, List, [], ◌∷◌, ◌++◌, map, length, Option, Some, None, is_some, refl, sym, ap, subst, ◌∙◌, arith, append_assoc}
 use Rattle.std.proofs.lemmas.List.{length-append}
 use Rattle.std.proofs.lemmas.Map.Made.{is_some-lookup}
 use Rattle.std.specs.Prelude.{bytes_eq}
 use Rattle.pg_meaning.specs.Names.{is_among}
-use Rattle.pg_meaning.specs.Patterns.{add_if_named}
 use Rattle.pg_meaning.specs.Rows.{Row, value_in, bind_if_named}
 use Rattle.pg_meaning.specs.Value.{Value}
 use Rattle.pg_rows.specs.Named.{row_of}
@@ -111,8 +110,7 @@ module _ (names : Texts) (vs : List Value) (n : List ℕ) (v : Value) (bs : List
 pub binds_one : (names : Texts) (vs ws : List Value) (n : List ℕ) (v : Value) (bs cs : List Binding) (whole : Row) → bs ≡ (Some n, v) ∷ cs → ws ≡ vs ++ v ∷ [] → is_some (value_in n (row_of names vs)) ≡ false → whole ≡ bind_each bs (row_of names vs) → EndsWith names vs bs
     → (whole ≡ bind_each cs (row_of names ws)) × EndsWith names ws cs
 binds_one names vs ws n v bs cs whole first pushed is rest e =
-    let one = bound_now names vs n v cs is (subst (λ (xs : List Binding). EndsWith names vs xs) first e) in
-    (
+    let one = bound_now names vs n v cs is (subst (λ (xs : List Binding). EndsWith names vs xs) first e) in (
       rest ∙ ap (λ xs. bind_each xs (row_of names vs)) first ∙ ap (bind_each cs) (one.1 ∙ ap (row_of names) (sym pushed)),
       subst (λ (xs : List Value). EndsWith names xs cs) (sym pushed) one.0,
     )

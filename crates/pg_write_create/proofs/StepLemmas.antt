@@ -4,7 +4,7 @@ use Rattle.std.proofs.lemmas.List.{map-append}
 use Rattle.std.proofs.lemmas.Option.{slice_get_read}
 use Rattle.std.specs.Borrow.{Bor}
 use Rattle.std.specs.Global.{Vec}
-use Rattle.pg_meaning.specs.Answer.{◌>>=◌, ◌>>◌}
+use Rattle.pg_meaning.specs.Answer.{◌>>=◌}
 use Rattle.pg_meaning.specs.Graph.{Graph}
 use Rattle.pg_meaning.specs.Patterns.{Assignment, Trail, node_name, nodes_of}
 use Rattle.pg_meaning.specs.Reading.{test_bound, test_nodes, test_paths}

@@ -142,15 +142,7 @@ fn place_node<'a, T: Tables>(
 {
     match find_bound(scene, row, named, &pattern.variable)? {
         Some(id) => Ok(id),
-        None => make_new_node(
-            scene,
-            store,
-            shared,
-            max_elements,
-            pattern,
-            outcome,
-            named,
-        ),
+        None => make_new_node(scene, store, shared, max_elements, pattern, outcome, named),
     }
 }
 

@@ -65,12 +65,7 @@ fn path_value<T: Tables>(
     ensures { IfOk result (λ v. view v ≡ path_value graph.now (trail_view trail.now)) }
 {
     match trail.nodes.split_first() {
-        Some((first, _)) => Ok(path_of(walk(
-            alloc,
-            graph,
-            *first,
-            &trail.relationships,
-        )?)),
+        Some((first, _)) => Ok(path_of(walk(alloc, graph, *first, &trail.relationships)?)),
         None => Ok(path_of(Vec::new(alloc))),
     }
 }

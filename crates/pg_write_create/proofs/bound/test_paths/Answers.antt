@@ -1,5 +1,4 @@
 use Rattle.std.proofs.Common.{rules, ◌≡◌, ◌<◌, false, Err, get_or, length, sym, ◌∙◌}
-use Rattle.std.proofs.lemmas.Result.{err_from_is_err_and}
 use Rattle.pg_meaning.specs.Reading.{test_paths}
 use Rattle.pg_write_create.proofs.BoundLemmas.{path_refused}
 use Rattle.pg_write_create.specs.Lent.{paths_view}

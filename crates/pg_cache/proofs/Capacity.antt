@@ -4,7 +4,7 @@ use Rattle.std.specs.declared.alloc.Global.{Global}
 use Rattle.std.specs.declared.rc.Rc.{Rc}
 use Rattle.pg_cache.specs.Cache.{Cache, kept, IsHit, IsMiss}
 use Rattle.pg_meaning.specs.declared.fault.Fault.{Fault}
-use Rattle.pg_plan.specs.declared.statement.Plan.{Plan}
+use Rattle.pg_plan.specs.declared.plan.Plan.{Plan}
 
 module _ (old new : Cache) (text : List ℕ) where
   after_a_miss : (answer : Result (Rc Plan Global) Fault) → IsMiss old new text answer → new.capacity ≡ old.capacity

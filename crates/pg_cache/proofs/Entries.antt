@@ -9,7 +9,7 @@ use Rattle.std.specs.String.{string_eq}
 use Rattle.std.specs.declared.rc.Rc.{Rc}
 use Rattle.lru.specs.LruCache.{LruCache, promoted, put_entries}
 use Rattle.pg_cache.specs.Cache.{entry_view}
-use Rattle.pg_plan.specs.declared.statement.Plan.{Plan}
+use Rattle.pg_plan.specs.declared.plan.Plan.{Plan}
 
 abbrev pub Pair : Type 0
 Pair = String Global × Rc Plan Global

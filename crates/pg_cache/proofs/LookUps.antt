@@ -14,7 +14,7 @@ use Rattle.pg_cache.proofs.Planned.{planned_under, promoted_are_planned, put_are
 use Rattle.pg_meaning.specs.declared.fault.Fault.{Fault}
 use Rattle.pg_meaning.specs.declared.fault.Fault.TheVariants.{OutOfMemory}
 use Rattle.pg_plan.specs.Plans.{IsPlanOfText}
-use Rattle.pg_plan.specs.declared.statement.Plan.{Plan}
+use Rattle.pg_plan.specs.declared.plan.Plan.{Plan}
 
 abbrev pub Plans : Type 0
 Plans = LruCache (String Global) (Rc Plan Global)

@@ -1,5 +1,5 @@
 -- Each kept plan stays a plan of its text.
-use Rattle.std.proofs.Common.{◌≡◌, ℕ, zero, suc, true, false, cond, List, [], ◌∷◌, take, Option, Some, None, refl, sym, subst}
+use Rattle.std.proofs.Common.{◌≡◌, ℕ, zero, suc, true, false, cond, List, [], ◌∷◌, take, Option, Some, None, refl, sym, ap, subst}
 use Rattle.std.proofs.lemmas.Slice.Eq.{bytes_eq-Decides}
 use Rattle.std.specs.Map.{lookup, lookup_entry, remove_entry}
 use Rattle.std.specs.Option.{option_map_or}
@@ -7,10 +7,13 @@ use Rattle.std.specs.Str.{bytes_eq}
 use Rattle.lru.specs.LruCache.{promoted}
 use Rattle.pg_cache.specs.Cache.{ArePlanned}
 use Rattle.pg_plan.specs.Plans.{IsPlanOfText}
-use Rattle.pg_plan.specs.declared.statement.Plan.{Plan}
+use Rattle.pg_plan.specs.declared.plan.Plan.{Plan}
 
 abbrev Entry : Type 0
 Entry = List ℕ × Plan
+
+inside : {X : Type 0} (x y : X) → Some x ≡ Some y → x ≡ y
+inside x y h = ap (λ o. option_map_or (λ z. z) o x) h
 
 module _ (text : List ℕ) where
   pub planned_under : (es : List Entry) (plan : Plan) → ArePlanned es → lookup (bytes_eq text) es ≡ Some plan → IsPlanOfText text plan
@@ -19,7 +22,7 @@ module _ (text : List ℕ) where
       (elim (bytes_eq text e.0) as (λ b. bytes_eq text e.0 ≡ b → cond b (Some e.1) (lookup (bytes_eq text) es) ≡ Some plan → IsPlanOfText text plan) [
         | true ↦ λ same is.
             let texts : e.0 ≡ text = sym ((bytes_eq-Decides text e.0).0 same) in
-            let plans : e.1 ≡ plan = cc in
+            let plans = inside e.1 plan is in
             subst (λ t. IsPlanOfText t plan) texts (subst (λ p. IsPlanOfText e.0 p) plans all.0)
         | false ↦ λ other is. planned_under es plan all.1 is
       ]) refl h
@@ -32,7 +35,7 @@ module _ (text : List ℕ) where
   found [] e all h = absurd cc
   found (f ∷ es) e all h =
       (elim (bytes_eq text f.0) as (λ b. cond b (Some f) (lookup_entry (bytes_eq text) es) ≡ Some e → IsPlanOfText e.0 e.1) [
-        | true ↦ λ is. let same : f ≡ e = cc in subst (λ (g : Entry). IsPlanOfText g.0 g.1) same all.0
+        | true ↦ λ is. subst (λ (g : Entry). IsPlanOfText g.0 g.1) (inside f e is) all.0
         | false ↦ λ is. found es e all.1 is
       ]) h
 

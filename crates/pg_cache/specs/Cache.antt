@@ -9,7 +9,7 @@ use Rattle.lru.specs.LruCache.{promoted}
 use Rattle.pg_meaning.specs.declared.fault.Fault.{Fault}
 use Rattle.pg_meaning.specs.declared.fault.Fault.TheVariants.{OutOfMemory}
 use Rattle.pg_plan.specs.Plans.{IsPlanOfText}
-use Rattle.pg_plan.specs.declared.statement.Plan.{Plan}
+use Rattle.pg_plan.specs.declared.plan.Plan.{Plan}
 
 pub record Cache : Type 0 where
   pub entries : List (List ℕ × Plan)

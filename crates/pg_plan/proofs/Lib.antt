@@ -1,3 +1,3 @@
 pub mod MeaningLemmas
-pub mod PlainLemmas
-pub mod TextLemmas
+mod ReturnLemmas
+mod TextLemmas

@@ -1,6 +1,7 @@
+pub mod Answered
 pub mod Laws
 pub mod Parameters
-pub mod Plain
 pub mod Plans
 pub mod Reading
+pub mod Returns
 pub mod Updates

@@ -1,27 +1,24 @@
 //! From a query text to its plan.
 #![tactic(auto)]
 
-ghost use Rattle.pg_plan.specs.Laws.{PlansAnswer, TextsMean};
+ghost use Rattle.pg_plan.specs.Laws.{PlansAreGood, TextsMean};
 
-mod columns;
+mod answered;
 mod parameters;
-mod plain;
+mod plan;
 mod reading;
-mod shapes;
-mod statement;
+mod returning;
 mod updates;
 
-pub use columns::column_names;
+pub use plan::Plan;
 pub use reading::{check_length, plan_text};
-pub use statement::{Plan, Statement};
 
-/// What a plan of a text is good for, where its query is answered so far: it has no static fault, and answers as its
-/// statement does.
+/// What a plan of a text is good for: its query has no static fault, and the walks begin where they may.
 pub fn law_of_plans()
-    ensures { PlansAnswer }
+    ensures { PlansAreGood }
 {}
 
-/// What such a query of a text answers is what it means, or a fault in which it may end.
+/// What the query of a text answers is what it means, or a fault in which it may end.
 pub fn law_of_texts()
     ensures { TextsMean }
 {}

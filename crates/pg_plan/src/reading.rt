@@ -6,10 +6,12 @@ ghost use Rattle.pg_meaning.specs.declared.fault.Fault.TheVariants.{OutOfMemory}
 ghost use Rattle.pg_plan.specs.Plans.{IsPlanOfText};
 ghost use Rattle.pg_meaning.specs.Texts.{text_checked};
 ghost use Rattle.pg_plan.specs.Reading.{tested_length};
+ghost use Rattle.pg_plan.specs.Returns.{ReturnsLast};
 ghost use Rattle.pg_syntax_tree.specs.View.{query_view};
 
 use crate::parameters::parameter_names;
-use crate::statement::Plan;
+use crate::plan::Plan;
+use pg_anchors::plan_anchors;
 use pg_lex::tokens;
 use pg_meaning::Fault;
 use pg_scope::check;
@@ -37,13 +39,16 @@ pub fn plan_text(alloc: Global, text: &str) -> Result<Plan, Fault>
 {
     let (query, parameters) = read(alloc, text)?;
     let scoped = check(alloc, query)?;
-    Ok(Plan::new(scoped.into_query(), parameters))
+    let query = scoped.into_query();
+    let anchors = plan_anchors(alloc, &query, &Vec::new(alloc))?;
+    Ok(Plan::new(query, parameters, anchors))
 }
 
 /// The tree of a text, and the parameters that it names.
 fn read(alloc: Global, text: &str) -> Result<(Query, Vec<String>), Fault>
     ensures ok { IfOk result (λ r. spec.read text.now ≡ Ok (query_view r.0)) }
     ensures parameters { IfOk result (λ r. map string_bytes r.1.items ≡ parameters_of (query_view r.0)) }
+    ensures ends { IfOk result (λ r. ReturnsLast (query_view r.0)) }
     ensures err { IfErr result (λ e. e ≢ OutOfMemory → spec.read text.now ≡ Err e) }
 {
     let tokens = tokens(alloc, text)?;

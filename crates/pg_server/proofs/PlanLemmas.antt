@@ -13,7 +13,7 @@ use Rattle.pg_meaning.specs.declared.fault.Fault.TheVariants.{TextTooLong, OutOf
 use Rattle.pg_plan.specs.Plans.{IsPlanOfText}
 use Rattle.pg_meaning.specs.Texts.{text_checked}
 use Rattle.pg_plan.specs.Reading.{greatest_text, tested_length}
-use Rattle.pg_plan.specs.declared.statement.Plan.{Plan}
+use Rattle.pg_plan.specs.declared.plan.Plan.{Plan}
 use Rattle.pg_server.specs.Solo.{may_write, with_graph, query_answered}
 use Rattle.pg_server.specs.State.{State, ServerState, state_at, no_state}
 use Rattle.pg_server.specs.Step.{Gives, RepliesAt, RunsPlan, plan_answered}

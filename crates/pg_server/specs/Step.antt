@@ -5,7 +5,7 @@ use Rattle.pg_json.specs.Requests.{Request}
 use Rattle.pg_meaning.specs.Value.{Entries}
 use Rattle.pg_meaning.specs.declared.fault.Fault.{Fault}
 use Rattle.pg_meaning.specs.declared.fault.Fault.TheVariants.{UnknownToken, OutOfMemory}
-use Rattle.pg_plan.specs.declared.statement.Plan.{Plan}
+use Rattle.pg_plan.specs.declared.plan.Plan.{Plan}
 use Rattle.pg_server.specs.Runs.{token_of}
 use Rattle.pg_meaning.specs.Names.{is_among}
 use Rattle.pg_server.specs.Solo.{Replied, solo, may_write, with_graph}

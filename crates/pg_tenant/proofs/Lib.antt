@@ -1,4 +1,5 @@
 pub mod AnswerLemmas
+mod ColumnLemmas
+mod FinishedLemmas
 pub mod OutcomeLemmas
-mod ParameterLemmas
 pub mod ReplyLemmas

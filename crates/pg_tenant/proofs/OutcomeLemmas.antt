@@ -1,5 +1,5 @@
 -- A text that reads answers as its query means, and as any plan of it does.
-use Rattle.std.proofs.Common.{◌≡◌, ℕ, ◌≤◌, Bool, true, false, not, ◌||◌, List, [], ◌∷◌, length, Option, Some, None, is_some, Result, Ok, Err, refl, sym, ap, ◌∙◌}
+use Rattle.std.proofs.Common.{◌≡◌, ℕ, ◌≤◌, Bool, true, false, not, ◌||◌, List, [], ◌∷◌, length, is_some, Result, Ok, Err, refl, ap, ◌∙◌}
 use Rattle.std.proofs.lemmas.Bool.{and_parts, le-leb}
 use Rattle.pg_meaning.specs.Agreement.{AreGiven}
 use Rattle.pg_meaning.specs.Answer.{◌>>=◌, ◌>>◌, unless}
@@ -10,18 +10,13 @@ use Rattle.pg_meaning.specs.Names.{Names}
 use Rattle.pg_meaning.specs.Queries.{Outcome, answer_of}
 use Rattle.pg_meaning.specs.Texts.{text_checked}
 use Rattle.pg_meaning.specs.Tree.{Query}
-use Rattle.pg_meaning.specs.Value.{Entries, no_entries}
+use Rattle.pg_meaning.specs.Value.{Entries}
 use Rattle.pg_meaning.specs.declared.fault.Fault.{Fault}
 use Rattle.pg_meaning.specs.declared.fault.Fault.TheVariants.{TextTooLong, ReadOnly, MissingParameter, NotYet}
 use Rattle.pg_plan.proofs.MeaningLemmas.{texts_mean}
+use Rattle.pg_plan.specs.Answered.{is_answered}
 use Rattle.pg_plan.specs.Reading.{greatest_text, tested_length}
 use Rattle.pg_plan.specs.Updates.{updates}
-use Rattle.pg_run.proofs.PlainLemmas.{answered_plain, answered_simple, answered_query}
-use Rattle.pg_run.proofs.QueryLemmas.{one_node_answers}
-use Rattle.pg_run.specs.Answers.{one_node_answer}
-use Rattle.pg_run.specs.OneNode.{OneNode}
-use Rattle.pg_run.specs.Plain.{answered_statement}
-use Rattle.pg_tenant.proofs.ParameterLemmas.{same_answer}
 use Rattle.pg_tenant.specs.Outcomes.{all_given, query_outcome, AnyPlanAnswers, TextMeans}
 
 -- ---- any plan of the text
@@ -40,10 +35,6 @@ behind : (r : Result (Unit {0}) Fault) (s : Result Query Fault) (q : Query) → 
 behind (Ok t) s q h = h
 behind (Err e) s q h = absurd cc
 
-built_by : (o : Option OneNode) → unless (is_some o) NotYet ≡ Ok tt → (x : OneNode) × (o ≡ Some x)
-built_by None h = absurd cc
-built_by (Some x) h = (x, refl)
-
 passed : (b : Bool) → unless b MissingParameter ≡ Ok tt → b ≡ true
 passed true h = refl
 passed false h = absurd cc
@@ -53,9 +44,8 @@ each_given [] parameters h = tt
 each_given (n ∷ names) parameters h = let parts = and_parts (is_some (at_key n parameters)) (all_given names parameters) h in (parts.0, each_given names parameters parts.1)
 
 pub text_means : TextMeans
-text_means max_steps max_elements parameters graph text q is h given built =
-    let x = built_by (answered_statement q) built in
-    texts_mean text q x.0 parameters graph max_steps max_elements (behind (tested_length text) (text_checked text) q h) x.1
+text_means max_steps max_elements parameters graph text q is h given =
+    texts_mean text q parameters graph max_steps max_elements (behind (tested_length text) (text_checked text) q h)
     (each_given (parameters_of q) parameters (passed (all_given (parameters_of q) parameters) given)) is
 
 -- ---- the tests before any clause
@@ -70,26 +60,20 @@ module _ (may_write : Bool) (max_steps max_elements : ℕ) (parameters : Entries
   abbrev given : Bool
   given = all_given (parameters_of q) parameters
 
-  abbrev behind_tests : Bool → Bool → Bool → Result Outcome Fault → Result Outcome Fault
-  behind_tests may all built rest = unless may ReadOnly >> (unless all MissingParameter >> (unless built NotYet >> rest))
+  abbrev behind_tests : Bool → Bool → Bool → Result Outcome Fault
+  behind_tests may all built = unless may ReadOnly >> (unless all MissingParameter >> (unless built NotYet >> answer))
 
   pub read_only : (may_write || not (updates q)) ≡ false → outcome ≡ Err ReadOnly
-  read_only h = ap (λ b. behind_tests b given (is_some (answered_statement q)) answer) h
+  read_only h = ap (λ b. behind_tests b given (is_answered q)) h
 
   pub missing : (may_write || not (updates q)) ≡ true → given ≡ false → outcome ≡ Err MissingParameter
-  missing h g = ap (λ b. behind_tests b given (is_some (answered_statement q)) answer) h ∙ ap (λ b. behind_tests true b (is_some (answered_statement q)) answer) g
+  missing h g = ap (λ b. behind_tests b given (is_answered q)) h ∙ ap (λ b. behind_tests true b (is_answered q)) g
 
-  behind_given : (may_write || not (updates q)) ≡ true → given ≡ true → outcome ≡ behind_tests true true (is_some (answered_statement q)) answer
-  behind_given h g = ap (λ b. behind_tests b given (is_some (answered_statement q)) answer) h ∙ ap (λ b. behind_tests true b (is_some (answered_statement q)) answer) g
+  behind_given : (may_write || not (updates q)) ≡ true → given ≡ true → outcome ≡ behind_tests true true (is_answered q)
+  behind_given h g = ap (λ b. behind_tests b given (is_answered q)) h ∙ ap (λ b. behind_tests true b (is_answered q)) g
 
-  pub not_built : (may_write || not (updates q)) ≡ true → given ≡ true → answered_statement q ≡ None → outcome ≡ Err NotYet
-  not_built h g none = behind_given h g ∙ ap (λ (o : Option OneNode). behind_tests true true (is_some o) answer) none
+  pub not_built : (may_write || not (updates q)) ≡ true → given ≡ true → is_answered q ≡ false → outcome ≡ Err NotYet
+  not_built h g none = behind_given h g ∙ ap (λ b. behind_tests true true b) none
 
-  -- no plain statement reads a parameter
-  pub answered_by : (may_write || not (updates q)) ≡ true → given ≡ true → (x : OneNode) → answered_statement q ≡ Some x → outcome ≡ one_node_answer x no_entries graph max_steps max_elements
-  answered_by h g x some =
-      behind_given h g
-      ∙ ap (λ (o : Option OneNode). behind_tests true true (is_some o) answer) some
-      ∙ ap (λ (p : Query). answer_of [] p parameters graph max_steps max_elements) (sym (answered_query q x some))
-      ∙ one_node_answers x q.semicolon parameters graph max_steps max_elements (answered_simple q x some)
-      ∙ same_answer parameters graph max_steps max_elements x (answered_plain q x some)
+  pub answered_by : (may_write || not (updates q)) ≡ true → given ≡ true → is_answered q ≡ true → outcome ≡ answer
+  answered_by h g built = behind_given h g ∙ ap (λ b. behind_tests true true b) built

@@ -1,4 +1,4 @@
--- A text that shows an outcome is its reply, or too long for one; and equal outcomes have equal replies.
+-- A text that shows an outcome is its reply, or too long for one; and what an answer keeps of what was made.
 use Rattle.std.proofs.Common.{◌≡◌, ◌≢◌, ℕ, ◌+◌, ◌<◌, ◌≤◌, Bool, true, false, List, [], ◌∷◌, map, length, String, Global, Vec, string_bytes, Result, Ok, Err, IfOk, IfErr, OnOk, inl, inr, arith, refl, sym, ap, subst, ◌∙◌}
 use Rattle.std.proofs.lemmas.Bool.{le-leb}
 use Rattle.std.proofs.lemmas.Bool.Decides.{leb_tells}
@@ -7,18 +7,14 @@ use Rattle.serde_json.specs.Data.{Items, array, string}
 use Rattle.serde_json.specs.Written.{compact_text}
 use Rattle.pg_json.specs.Replies.{items_of, outs, query_data, reply_text, max_reply}
 use Rattle.pg_json.specs.declared.reply.ReplyBody.TheVariants.{Query}
-use Rattle.pg_meaning.specs.Answer.{◌>>=◌, ◌>>◌, each_answer, unless}
 use Rattle.pg_meaning.specs.Graph.{Graph}
-use Rattle.pg_meaning.specs.Meters.{State}
 use Rattle.pg_meaning.specs.Queries.{Outcome}
-use Rattle.pg_meaning.specs.Tree.{Item}
-use Rattle.pg_meaning.specs.Value.{Value, no_entries, values_of}
+use Rattle.pg_meaning.specs.Value.{values_of}
 use Rattle.pg_meaning.specs.declared.fault.Fault.{Fault}
-use Rattle.pg_meaning.specs.declared.fault.Fault.TheVariants.{ReplyTooLong, OutOfMemory, StepQuota}
-use Rattle.pg_run.specs.Answers.{returned, test_rows, item_names, item_values}
+use Rattle.pg_meaning.specs.declared.fault.Fault.TheVariants.{ReplyTooLong, OutOfMemory}
 use Rattle.pg_spell.specs.Printed.{printed_items}
 use Rattle.pg_tenant.specs.Answers.{Answered, row_data, outcome_text, refused, answered}
-use Rattle.pg_tenant.specs.Replies.{IsReply, IsRefusal, Shows}
+use Rattle.pg_tenant.specs.Replies.{IsAnswer, IsReply, IsRefusal, Shows}
 use Rattle.pg_value_core.specs.declared.out.Out.{Out}
 
 -- ---- the text
@@ -70,47 +66,21 @@ module _ (columns : Vec (String Global) Global) (rows : Vec (Vec Out Global) Glo
       let over = long other in
       beyond graph o (omega (arith, over, ap length (same_text o shows))) ∙ ap (refused graph) (sym (kind other))
 
--- ---- equal outcomes
+-- ---- what is kept
 
-module _ (graph : Graph) (x y : Result Outcome Fault) (same : x ≡ y) (r : Result (List ℕ) Fault) where
-  pub reply_of_same : (left : Graph) → IfOk r (λ bytes. (g : Graph) → IsReply g y bytes left) → IfOk r (λ bytes. IsReply graph x bytes left)
-  reply_of_same left h = by_case r h
-    where
-      by_case : (r : Result (List ℕ) Fault) → IfOk r (λ bytes. (g : Graph) → IsReply g y bytes left) → IfOk r (λ bytes. IsReply graph x bytes left)
-      by_case (Ok bytes) h = ap (answered graph) same ∙ h graph
-      by_case (Err e) h = tt
+-- the answer leaves what was made, and its refusal what was before
+pub answer_stays : (r s : Result (List ℕ) Fault) → s ≡ r → (x : Result Outcome Fault) (start made left : Graph) → IsAnswer r x start made → OnOk s (left ≡ made) → IsAnswer s x start left
+answer_stays r s same x start made left h stays = kept s (subst (λ t. IsAnswer t x start made) (sym same) h) stays
+  where
+    kept : (s : Result (List ℕ) Fault) → IsAnswer s x start made → OnOk s (left ≡ made) → IsAnswer s x start left
+    kept (Ok bytes) h is = record { ok = h.ok ∙ ap (leaves bytes) (sym is); err = tt }
+    kept (Err e) h is = record { ok = tt; err = h.err }
 
-  pub refusal_of_same : IfErr r (λ e. (g : Graph) → IsRefusal g y e) → IfErr r (λ e. IsRefusal graph x e)
-  refusal_of_same h = by_case r h
-    where
-      by_case : (r : Result (List ℕ) Fault) → IfErr r (λ e. (g : Graph) → IsRefusal g y e) → IfErr r (λ e. IsRefusal graph x e)
-      by_case (Ok bytes) h = tt
-      by_case (Err e) h = λ other. ap (answered graph) same ∙ h graph other
+-- ---- an answer that is another's
 
--- a reply that keeps what was made
-kept : (graph made left : Graph) (x : Result Outcome Fault) (r : Result (List ℕ) Fault) → IfOk r (λ bytes. IsReply graph x bytes made) → OnOk r (left ≡ made) → IfOk r (λ bytes. IsReply graph x bytes left)
-kept graph made left x (Ok bytes) h is = h ∙ ap (leaves bytes) (sym is)
-kept graph made left x (Err e) h is = tt
+pub answer_of_same : (r : Result (List ℕ) Fault) (x y : Result Outcome Fault) → x ≡ y → (start left : Graph) → IfOk r (λ bytes. (g : Graph) → IsReply g y bytes left) → IfErr r (λ e. (g : Graph) → IsRefusal g y e) → IsAnswer r x start left
+answer_of_same (Ok bytes) x y same start left ok err = record { ok = ap (answered start) same ∙ ok start; err = tt }
+answer_of_same (Err e) x y same start left ok err = record { ok = tt; err = λ other. ap (answered start) same ∙ err start other }
 
-module _ (graph : Graph) (x y : Result Outcome Fault) (same : x ≡ y) (reply r : Result (List ℕ) Fault) (is : r ≡ reply) where
-  pub settled_ok : (made left : Graph) → IfOk reply (λ bytes. (g : Graph) → IsReply g y bytes made) → OnOk r (left ≡ made) → IfOk r (λ bytes. IsReply graph x bytes left)
-  settled_ok made left h stays = kept graph made left x r (reply_of_same graph x y same r made (subst (λ s. IfOk s (λ bytes. (g : Graph) → IsReply g y bytes made)) (sym is) h)) stays
-
-  pub settled_err : IfErr reply (λ e. (g : Graph) → IsRefusal g y e) → IfErr r (λ e. IsRefusal graph x e)
-  settled_err h = refusal_of_same graph x y same r (subst (λ s. IfErr s (λ e. (g : Graph) → IsRefusal g y e)) (sym is) h)
-
--- ---- what a RETURN gives, from its tests in turn
-
-module _ (max_steps : ℕ) (items : List Item) (state : State) (rows : List (List Value)) where
-  abbrev shown_with : List (List Value) → Result Outcome Fault
-  shown_with rows = Ok (record { columns = item_names items; rows = rows; graph = state.graph; steps = state.steps + length state.rows })
-
-  abbrev tested_with : List (List Value) → Result Outcome Fault
-  tested_with rows = test_rows state.graph rows >> shown_with rows
-
-  pub returned_is : nat_le (state.steps + length state.rows) max_steps ≡ true → each_answer (item_values no_entries state.graph items) state.rows ≡ Ok rows → test_rows state.graph rows ≡ Ok tt
-      → returned no_entries max_steps items state ≡ shown_with rows
-  returned_is few given live =
-      ap (λ b. unless b StepQuota >> (each_answer (item_values no_entries state.graph items) state.rows >>= tested_with)) few
-      ∙ ap (λ r. r >>= tested_with) given
-      ∙ ap (λ r. r >> shown_with rows) live
+pub refusal_of_fault : (e : Fault) (x : Result Outcome Fault) → (e ≢ OutOfMemory → x ≡ Err e) → (start left : Graph) → IsAnswer (Err e) x start left
+refusal_of_fault e x same start left = record { ok = tt; err = λ other. ap (answered start) (same other) }

@@ -12,12 +12,12 @@ use Rattle.pg_meaning.specs.Tree.{Query}
 use Rattle.pg_meaning.specs.Value.{Entries}
 use Rattle.pg_meaning.specs.declared.fault.Fault.{Fault}
 use Rattle.pg_meaning.specs.declared.fault.Fault.TheVariants.{ReadOnly, MissingParameter, NotYet}
+use Rattle.pg_plan.specs.Answered.{is_answered}
 use Rattle.pg_plan.specs.Plans.{IsPlanOfText, plan_query}
 use Rattle.pg_meaning.specs.Texts.{text_checked}
 use Rattle.pg_plan.specs.Reading.{greatest_text, tested_length}
 use Rattle.pg_plan.specs.Updates.{updates}
-use Rattle.pg_plan.specs.declared.statement.Plan.{Plan}
-use Rattle.pg_run.specs.Plain.{answered_statement}
+use Rattle.pg_plan.specs.declared.plan.Plan.{Plan}
 
 -- the query that a text is, behind the test of its length
 abbrev pub text_query : List ℕ → Result Query Fault
@@ -33,7 +33,7 @@ are_given parameters q = unless (all_given (parameters_of q) parameters) Missing
 
 -- the whole language is read, and a part of it is answered so far
 abbrev pub is_built : Query → Result (Unit {0}) Fault
-is_built q = unless (is_some (answered_statement q)) NotYet
+is_built q = unless (is_answered q) NotYet
 
 -- the tests of a query that come before any clause
 abbrev pub early_tests : Bool → (parameters : Entries) → Query → Result (Unit {0}) Fault
@@ -60,8 +60,8 @@ AnyPlanAnswers =
     (may_write : Bool) (max_steps max_elements : ℕ) (parameters : Entries) (graph : Graph) (text : List ℕ) (plan : Plan) → length text ≤ greatest_text → IsPlanOfText text plan
     → text_outcome may_write max_steps max_elements parameters graph text ≡ plan_outcome may_write max_steps max_elements parameters graph plan
 
--- what a text that reads, has its parameters and is answered so far answers is one that the meaning of its query gives
+-- what a text that reads and has its parameters answers is one that the meaning of its query gives
 abbrev pub TextMeans : Type 0
 TextMeans =
-    (max_steps max_elements : ℕ) (parameters : Entries) (graph : Graph) (text : List ℕ) (q : Query) → IsGraph graph → text_query text ≡ Ok q → are_given parameters q ≡ Ok tt → is_built q ≡ Ok tt
+    (max_steps max_elements : ℕ) (parameters : Entries) (graph : Graph) (text : List ℕ) (q : Query) → IsGraph graph → text_query text ≡ Ok q → are_given parameters q ≡ Ok tt
     → OutcomeAgrees q parameters max_elements graph (answer_of [] q parameters graph max_steps max_elements)

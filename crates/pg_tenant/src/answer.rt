@@ -9,7 +9,7 @@ ghost use Rattle.pg_tenant.specs.Outcomes.{all_given, early_tests, plan_outcome}
 ghost use Rattle.pg_tenant.specs.Replies.{IsAnswer};
 ghost use Rattle.pg_value_core.specs.Given.{parameters_view};
 
-use crate::statement::answer_statement;
+use crate::query::answer_query;
 use pg_graph::Tables;
 use pg_json::ReplyBytes;
 use pg_plan::Plan;
@@ -65,8 +65,8 @@ pub fn answer_plan<T: Tables>(
     if !are_given(plan.parameters(), parameters) {
         return Err(Fault::MissingParameter);
     }
-    match plan.statement() {
-        Some(statement) => answer_statement(alloc, store, shared, quota, statement),
-        None => Err(Fault::NotYet),
+    if !plan.is_answered() {
+        return Err(Fault::NotYet);
     }
+    answer_query(alloc, store, shared, quota, plan, parameters)
 }

@@ -4,8 +4,9 @@
 ghost use Rattle.pg_tenant.specs.Outcomes.{AnyPlanAnswers, TextMeans};
 
 mod answer;
+mod query;
 mod reply;
-mod statement;
+mod stand_ins;
 
 pub use answer::{Quota, answer_plan};
 

@@ -1,48 +1,67 @@
 //! The replies to queries.
-ghost use Rattle.std.specs.Prelude.{◌≡◌, IfOk, IfErr, Ok, [], map, true};
-ghost use Rattle.pg_clauses.specs.Rows.{state_of};
+ghost use Rattle.std.specs.Prelude.{◌≡◌, IfOk, IfErr, Ok, map, string_bytes, true, false};
 ghost use Rattle.pg_meaning.specs.Graph.{Graph};
 ghost use Rattle.pg_meaning.specs.Queries.{Outcome};
-ghost use Rattle.pg_meaning.specs.Value.{no_entries};
-ghost use Rattle.pg_run.specs.Answers.{returned};
-ghost use Rattle.pg_run.specs.Plain.{are_plain_items};
-ghost use Rattle.pg_syntax_tree.specs.View.{item_view};
+ghost use Rattle.pg_rows.specs.States.{Named, seen};
+ghost use Rattle.pg_tenant.specs.Finished.{finished};
 ghost use Rattle.pg_tenant.specs.Replies.{IsReply, IsRefusal, Shows};
 
-use pg_clauses::{Table, return_values};
+use crate::stand_ins::spell_table;
 use pg_graph::Tables;
 use pg_json::{ReplyBody, ReplyBytes, write_reply};
-use pg_plan::column_names;
-use pg_spell::spell_rows;
+use pg_rows::{Columns, Table};
 use pg_store::Snapshot;
-use pg_syntax_tree::Item;
 use pg_value_core::{Fault, Out};
-use std::alloc::Global;
+use std::alloc::{AllocError, Global};
 
-/// The reply to a RETURN of these items at each row of a table.
-pub(crate) fn reply_of_rows<T: Tables>(
+/// The reply to a query whose clauses leave these rows, after so many steps.
+pub(crate) fn reply_of<T: Tables>(
     alloc: Global,
     graph: &Snapshot<'_, T>,
-    max_steps: u64,
-    items: &Vec<Item>,
-    table: &Table<'_>,
+    returns: bool,
+    table: Table,
+    steps: u64,
 ) -> Result<ReplyBytes, Fault>
-    requires plain { are_plain_items (map item_view items.now.items) ≡ true }
-    ensures ok { IfOk result (λ bytes. (start : Graph) → IsReply start (returned no_entries max_steps (map item_view items.now.items) (state_of graph.now table.now)) bytes graph.now) }
-    ensures err { IfErr result (λ e. (start : Graph) → IsRefusal start (returned no_entries max_steps (map item_view items.now.items) (state_of graph.now table.now)) e) }
+    ensures ok { IfOk result (λ bytes. (start : Graph) → IsReply start (finished returns graph.now (seen table) steps) bytes graph.now) }
+    ensures err { IfErr result (λ e. (start : Graph) → IsRefusal start (finished returns graph.now (seen table) steps) e) }
 {
-    let (rows, steps) = return_values(alloc, graph, max_steps, items, table)?;
-    let rows = spell_rows(alloc, graph, rows)?;
-    let columns = column_names(alloc, items)?;
+    if returns {
+        reply_of_rows(alloc, graph, table, steps)
+    } else {
+        reply_without_rows(alloc, steps)
+    }
+}
+
+fn reply_of_rows<T: Tables>(
+    alloc: Global,
+    graph: &Snapshot<'_, T>,
+    table: Table,
+    steps: u64,
+) -> Result<ReplyBytes, Fault>
+    ensures ok { IfOk result (λ bytes. (start : Graph) → IsReply start (finished true graph.now (seen table) steps) bytes graph.now) }
+    ensures err { IfErr result (λ e. (start : Graph) → IsRefusal start (finished true graph.now (seen table) steps) e) }
+{
+    let columns = column_names(alloc, table.names())?;
+    let rows = spell_table(alloc, graph, table)?;
     written(alloc, columns, rows, steps)
 }
 
-/// The reply to a query that returns nothing, after the steps of a table.
-pub(crate) fn reply_without_rows(alloc: Global, table: &Table<'_>) -> Result<ReplyBytes, Fault>
-    ensures ok { IfOk result (λ bytes. (graph left : Graph) → IsReply graph (Ok (record { columns = []; rows = []; graph = left; steps = table.now.steps })) bytes left) }
-    ensures err { IfErr result (λ e. (graph left : Graph) → IsRefusal graph (Ok (record { columns = []; rows = []; graph = left; steps = table.now.steps })) e) }
+fn reply_without_rows(alloc: Global, steps: u64) -> Result<ReplyBytes, Fault>
+    ensures ok { IfOk result (λ bytes. (start left : Graph) (t : Named) → IsReply start (finished false left t steps) bytes left) }
+    ensures err { IfErr result (λ e. (start left : Graph) (t : Named) → IsRefusal start (finished false left t steps) e) }
 {
-    written(alloc, Vec::new(alloc), Vec::new(alloc), table.steps)
+    written(alloc, Vec::new(alloc), Vec::new(alloc), steps)
+}
+
+#[tactic(auto, using(crate::proofs::ColumnLemmas::one_more))]
+fn column_names(alloc: Global, columns: &Columns) -> Result<Vec<String>, AllocError>
+    ensures { IfOk result (λ names. map string_bytes names.items ≡ columns.now) }
+{
+    let mut names = Vec::with_capacity(alloc, columns.len())?;
+    for at in 0..columns.len() {
+        names.push(String::from_str(alloc, columns.name(at))?)?;
+    }
+    Ok(names)
 }
 
 fn written(

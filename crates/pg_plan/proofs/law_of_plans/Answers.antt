@@ -1,5 +1,5 @@
-use Rattle.pg_plan.proofs.MeaningLemmas.{plans_answer}
+use Rattle.pg_plan.proofs.MeaningLemmas.{plans_are_good}
 use Rattle.pg_plan.proofs.law_of_plans.Goals as goal
 
 pub returns : goal.returns
-returns c = plans_answer
+returns c = plans_are_good

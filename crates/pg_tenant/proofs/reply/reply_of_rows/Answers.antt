@@ -1,18 +1,18 @@
-use Rattle.std.proofs.Common.{sym, subst, map, Result}
+use Rattle.std.proofs.Common.{◌≡◌, Result, Ok, refl, sym, ap, subst, ◌∙◌, true}
 use Rattle.std.proofs.lemmas.Result.{IfErr-weaker}
-use Rattle.pg_clauses.specs.Items.{values_seen}
-use Rattle.pg_clauses.specs.Rows.{state_of}
+use Rattle.pg_meaning.specs.Answer.{◌>>◌}
 use Rattle.pg_meaning.specs.Queries.{Outcome}
 use Rattle.pg_meaning.specs.declared.fault.Fault.{Fault}
-use Rattle.pg_syntax_tree.specs.View.{item_view}
+use Rattle.pg_rows.specs.States.{seen}
+use Rattle.pg_tenant.specs.Finished.{finished}
 use Rattle.pg_tenant.specs.Replies.{IsRefusal}
-use Rattle.pg_tenant.proofs.ReplyLemmas.{returned_is}
+use Rattle.pg_tenant.specs.StandIns.{rows_told}
 use Rattle.pg_tenant.proofs.reply.reply_of_rows.Goals as goal
 
 pub returns-clause-err : goal.returns-clause-err
 returns-clause-err g c =
-    let given = c.in_ok-rows.ensures in
-    let is = returned_is c.args.max_steps (map item_view c.args.items.now.items) (state_of c.args.graph.now c.args.table.now) (values_seen c.in_ok-rows.rows.items) given.quota given.rows c.in_ok-rows-2.ensures.live in
+    let o : Outcome = record { columns = c.args.table.names; rows = rows_told (seen c.args.table); graph = c.args.graph.now; steps = c.args.steps } in
+    let is : finished true c.args.graph.now (seen c.args.table) c.args.steps ≡ Ok o = ap (λ r. r >> Ok o) c.in_ok-rows.ensures.live in
     IfErr-weaker c.written.result _ _
-    (λ e h. λ start. subst (λ (r : Result Outcome Fault). IsRefusal start r e) (sym is) (h start _ (record { named = c.in_ok-columns.ensures; spelt = c.in_ok-rows-2.ensures.data; counted = given.steps })))
+    (λ e h. λ start. subst (λ (r : Result Outcome Fault). IsRefusal start r e) (sym is) (h start o (record { named = c.in_ok-columns.ensures ∙ c.names.ensures; spelt = c.in_ok-rows.ensures.data; counted = refl })))
     c.written.ensures.err

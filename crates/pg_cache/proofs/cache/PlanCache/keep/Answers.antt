@@ -2,7 +2,7 @@ use Rattle.std.proofs.Common.{string_bytes, sym, subst}
 use Rattle.pg_cache.proofs.LookUps.{either_way, put_or_not, put_leaves_planned}
 use Rattle.pg_cache.proofs.cache.PlanCache.keep.Goals as goal
 use Rattle.pg_plan.specs.Plans.{IsPlanOfText}
-use Rattle.pg_plan.specs.declared.statement.Plan.{Plan}
+use Rattle.pg_plan.specs.declared.plan.Plan.{Plan}
 
 pub invariant_of-self : goal.invariant_of-self
 invariant_of-self g c =

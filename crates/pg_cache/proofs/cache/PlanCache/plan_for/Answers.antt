@@ -3,7 +3,7 @@ use Rattle.pg_cache.specs.Cache.{Cache, kept, IsMiss}
 use Rattle.pg_cache.proofs.LookUps.{told, is_hit, no_miss, no_hit, not_kept, stays, hit_is_planned, hit_leaves_planned}
 use Rattle.pg_cache.proofs.cache.PlanCache.plan_for.Goals as goal
 use Rattle.pg_plan.specs.Plans.{IsPlanOfText}
-use Rattle.pg_plan.specs.declared.statement.Plan.{Plan}
+use Rattle.pg_plan.specs.declared.plan.Plan.{Plan}
 
 pub invariant_of-self : goal.invariant_of-self
 invariant_of-self g c =

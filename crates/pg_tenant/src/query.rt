@@ -1,0 +1,94 @@
+//! A query over a tenant's store, all or nothing.
+ghost use Rattle.std.specs.Prelude.{◌≡◌, ◌≤◌, ◌^◌, [], OnOk, OnErr};
+ghost use Rattle.pg_graph.specs.Content.{Keeps};
+ghost use Rattle.pg_meaning.specs.Queries.{answer_of};
+ghost use Rattle.pg_plan.specs.Plans.{plan_query};
+ghost use Rattle.pg_store.specs.Changes.{Changes};
+ghost use Rattle.pg_store.specs.Stores.{graph_of_store, graph_at, HasMark, IsFit};
+ghost use Rattle.pg_tenant.specs.Replies.{IsAnswer};
+ghost use Rattle.pg_tenant.specs.StandIns.{Changed};
+ghost use Rattle.pg_value_core.specs.Given.{parameters_view};
+
+use crate::answer::Quota;
+use crate::reply::reply_of;
+use crate::stand_ins::{Given, run_clauses};
+use pg_graph::Tables;
+use pg_json::ReplyBytes;
+use pg_meter::Meter;
+use pg_plan::Plan;
+use pg_store::{Mark, Store};
+use pg_value_core::{Fault, Parameters};
+use std::alloc::Global;
+
+/// The reply to a query. What it changes is kept only once the reply's bytes are made.
+pub(crate) fn answer_query<T: Tables>(
+    alloc: Global,
+    store: &mut Store<T>,
+    shared: &mut T::Shared,
+    quota: Quota,
+    plan: &Plan,
+    parameters: &Parameters,
+) -> Result<ReplyBytes, Fault>
+    requires fit { IsFit T.seen store.old shared.old }
+    requires quota { quota.max_elements ≤ 2 ^ 63 }
+    ensures { Changes T.seen store.old shared.old store.new shared.new result (λ start end. IsAnswer result (answer_of [] (plan_query plan.now) (parameters_view parameters.now) start quota.max_steps quota.max_elements) start end) }
+{
+    let mark = store.mark();
+    let reply = run_query(alloc, store, shared, quota, plan, parameters);
+    settled(store, shared, mark, reply)
+}
+
+/// The reply to a query whose changes are in the store. After an error the store is to be taken back.
+fn run_query<T: Tables>(
+    alloc: Global,
+    store: &mut Store<T>,
+    shared: &mut T::Shared,
+    quota: Quota,
+    plan: &Plan,
+    parameters: &Parameters,
+) -> Result<ReplyBytes, Fault>
+    requires fit { IsFit T.seen store.old shared.old }
+    requires quota { quota.max_elements ≤ 2 ^ 63 }
+    ensures answers { IsAnswer result (answer_of [] (plan_query plan.now) (parameters_view parameters.now) (graph_of_store T.seen store.old shared.old) quota.max_steps quota.max_elements) (graph_of_store T.seen store.old shared.old) (graph_of_store T.seen store.new shared.new) }
+    ensures changed { Changed T.seen store.old shared.old store.new shared.new }
+{
+    let given = Given {
+        alloc,
+        parameters,
+        max_elements: quota.max_elements,
+    };
+    let mut meter = Meter::new(quota.max_steps);
+    let clauses = plan.query().clauses.as_slice();
+    let anchors = plan.anchors().as_slice();
+    let table = run_clauses(&given, clauses, anchors, store, shared, &mut meter)?;
+    reply_of(
+        alloc,
+        &store.graph(shared),
+        plan.returns(),
+        table,
+        meter.used(),
+    )
+}
+
+/// The reply as it is. What was done since the mark stays only where there is one.
+fn settled<T: Tables>(
+    store: &mut Store<T>,
+    shared: &mut T::Shared,
+    mark: Mark,
+    reply: Result<ReplyBytes, Fault>,
+) -> Result<ReplyBytes, Fault>
+    requires fit { IsFit T.seen store.old shared.old }
+    requires mark { HasMark store.old mark }
+    ensures reply { result ≡ reply }
+    ensures kept { OnOk result (graph_of_store T.seen store.new shared.new ≡ graph_of_store T.seen store.old shared.old) }
+    ensures undone { OnErr result (graph_of_store T.seen store.new shared.new ≡ graph_at T.seen store.old shared.old mark) }
+    ensures fit { IsFit T.seen store.new shared.new }
+    ensures keeps { Keeps T.seen store.old.tables shared.old store.new.tables shared.new }
+{
+    if reply.is_err() {
+        store.undo(shared, mark);
+    } else {
+        store.commit(shared);
+    }
+    reply
+}

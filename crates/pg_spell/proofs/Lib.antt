@@ -1,6 +1,5 @@
 pub mod Ways
 pub mod Items
 pub mod Members
-pub mod Rows
 pub mod Places
 pub mod Told

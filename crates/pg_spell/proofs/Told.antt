@@ -13,12 +13,12 @@ use Rattle.pg_rows.specs.Named.{rows_named}
 use Rattle.pg_rows.specs.States.{seen}
 use Rattle.pg_rows.specs.Tables.{rows_of}
 use Rattle.pg_rows.specs.declared.named.Table.{Table}
-use Rattle.pg_spell.proofs.Rows.{outs_of_rows}
 use Rattle.pg_spell.specs.Printed.{printed_items}
 use Rattle.pg_spell.specs.Told.{printed_rows, rows_told, test_told}
 use Rattle.pg_json.specs.Replies.{outs}
 use Rattle.pg_value_core.specs.View.{view}
 use Rattle.pg_value_core.specs.declared.out.Out.{Out}
+use Rattle.serde_json.specs.Data.{Items}
 
 values_again : (names : List (List ℕ)) (n : ℕ) (vs : List Value) → length vs ≡ n * length names → map values_in (rows_named names (rows_of (length names) n vs)) ≡ rows_of (length names) n vs
 values_again names zero vs h = refl
@@ -32,6 +32,9 @@ told_is_table t =
     (λ i. map values_in (rows_named t.names (rows_of (t.fits i) t.rows.count (map view t.rows.values.items))))
     ∙ values_again t.names t.rows.count (map view t.rows.values.items) (length-map t.rows.values.items view ∙ t.rows.sized ∙ ap (λ w. t.rows.count * w) t.fits)
     ∙ sym (λ i. rows_of (t.fits i) t.rows.count (map view t.rows.values.items))
+
+abbrev pub outs_of_rows : List (Vec Out Global) → List Items
+outs_of_rows rows = map (λ row. outs row.items) rows
 
 module _ (graph : Graph) where
   tests_joined : (vs ws : List Value) → each_step (λ done v. test_output graph v) tt (vs ++ ws) ≡ (test_items graph (values_of vs) >> each_step (λ done v. test_output graph v) tt ws)

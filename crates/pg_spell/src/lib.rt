@@ -6,5 +6,5 @@ mod spelling;
 mod stored;
 mod tables;
 
-pub use spelling::{spell, spell_rows};
+pub use spelling::spell;
 pub use tables::spell_table;

@@ -1,10 +1,8 @@
 //! Values over a store, spelt out.
-ghost use Rattle.std.specs.Prelude.{◌≡◌, ◌≢◌, IfOk, IfErr, Ok, Err, map};
+ghost use Rattle.std.specs.Prelude.{◌≡◌, ◌≢◌, IfOk, IfErr, Ok, Err};
 ghost use Rattle.pg_json.specs.Replies.{data_of, outs, named_outs};
 ghost use Rattle.pg_meaning.specs.Queries.{test_output, test_items, test_entries};
-ghost use Rattle.pg_meaning.specs.Value.{values_of};
 ghost use Rattle.pg_meaning.specs.declared.fault.Fault.TheVariants.{OutOfMemory};
-ghost use Rattle.pg_run.specs.Answers.{test_rows};
 ghost use Rattle.pg_spell.specs.Printed.{printed, printed_items, printed_members};
 ghost use Rattle.pg_value_core.specs.View.{view, values_view, entries_view};
 
@@ -66,23 +64,6 @@ fn spell_entries<T: Tables>(
     for (key, value) in entries {
         let out = spell(alloc, graph, value)?;
         drop(found.insert(key, out)?);
-    }
-    Ok(found)
-}
-
-/// Rows of values with their elements spelt out. `DeletedEntity` where one is not in the store's graph.
-pub fn spell_rows<T: Tables>(
-    alloc: Global,
-    graph: &Snapshot<'_, T>,
-    rows: Vec<Vec<Value>>,
-) -> Result<Vec<Vec<Out>>, Fault>
-    ensures live { IfOk result (λ found. test_rows graph.now (map (λ r. map view r.items) rows.items) ≡ Ok tt) }
-    ensures data { IfOk result (λ found. map (λ row. outs row.items) found.items ≡ map (λ row. printed_items graph.now (values_of row)) (map (λ r. map view r.items) rows.items)) }
-    ensures err { IfErr result (λ e. e ≢ OutOfMemory → test_rows graph.now (map (λ r. map view r.items) rows.items) ≡ Err e) }
-{
-    let mut found = Vec::with_capacity(alloc, rows.len())?;
-    for row in rows {
-        found.push(spell_items(alloc, graph, row)?)?;
     }
     Ok(found)
 }

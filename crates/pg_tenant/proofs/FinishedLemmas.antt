@@ -52,7 +52,7 @@ module _ (q : Query) (parameters : Entries) (graph : Graph) (max_steps max_eleme
         answer_run
         ∙ ap (λ r. r >>= output (returns q.clauses) (columns q)) h
         ∙ output_is (returns q.clauses) (columns q) after t steps
-          (last ∙ ap (λ ds. cond (returns q.clauses) (fold scope_after [] ds) []) (sym clauses_are) ∙ ap (λ (ns : Names). cond (returns q.clauses) ns []) (sym names))
+        (last ∙ ap (λ ds. cond (returns q.clauses) (fold scope_after [] ds) []) (sym clauses_are) ∙ ap (λ (ns : Names). cond (returns q.clauses) ns []) (sym names))
 
     pub answer_faulted : (e : Fault) → run p cs m ≡ Err e → answer ≡ Err e
     answer_faulted e h = answer_run ∙ ap (λ r. r >>= output (returns q.clauses) (columns q)) h

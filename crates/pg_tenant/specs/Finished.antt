@@ -5,7 +5,7 @@ use Rattle.pg_meaning.specs.Graph.{Graph}
 use Rattle.pg_meaning.specs.Queries.{Outcome}
 use Rattle.pg_meaning.specs.declared.fault.Fault.{Fault}
 use Rattle.pg_rows.specs.States.{Named}
-use Rattle.pg_tenant.specs.StandIns.{rows_told, test_told}
+use Rattle.pg_spell.specs.Told.{rows_told, test_told}
 
 -- where it ends in RETURN, these rows, unless they show a deleted element
 abbrev pub finished : (returns : Bool) → Graph → Named → (steps : ℕ) → Result Outcome Fault

@@ -6,10 +6,10 @@ ghost use Rattle.pg_rows.specs.States.{Named, seen};
 ghost use Rattle.pg_tenant.specs.Finished.{finished};
 ghost use Rattle.pg_tenant.specs.Replies.{IsReply, IsRefusal, Shows};
 
-use crate::stand_ins::spell_table;
 use pg_graph::Tables;
 use pg_json::{ReplyBody, ReplyBytes, write_reply};
 use pg_rows::{Columns, Table};
+use pg_spell::spell_table;
 use pg_store::Snapshot;
 use pg_value_core::{Fault, Out};
 use std::alloc::{AllocError, Global};

@@ -1,15 +1,13 @@
 //! Stand-ins.
-ghost use Rattle.std.specs.Prelude.{◌≡◌, ◌≢◌, ◌≤◌, ◌^◌, ◌∷◌, [], fold, map, IfOk, IfErr, Ok, Err};
-ghost use Rattle.pg_json.specs.Replies.{outs};
+ghost use Rattle.std.specs.Prelude.{◌≡◌, ◌≤◌, ◌^◌, ◌∷◌, [], fold, map, IfOk};
 ghost use Rattle.pg_anchors.specs.Plans.{plan_view};
 ghost use Rattle.pg_meaning.specs.Plans.{IsPlanFrom};
 ghost use Rattle.pg_meaning.specs.Queries.{clauses_run};
 ghost use Rattle.pg_meaning.specs.Scopes.{scope_after};
-ghost use Rattle.pg_meaning.specs.declared.fault.Fault.TheVariants.{OutOfMemory};
 ghost use Rattle.pg_rows.specs.States.{seen, state_of};
 ghost use Rattle.pg_store.specs.Stores.{graph_of_store, IsFit};
 ghost use Rattle.pg_syntax_tree.specs.View.{clause_view};
-ghost use Rattle.pg_tenant.specs.StandIns.{Changed, quota_of, printed_rows, rows_told, test_told};
+ghost use Rattle.pg_tenant.specs.StandIns.{Changed, quota_of};
 ghost use Rattle.pg_value_core.specs.Given.{parameters_view};
 ghost use Rattle.pg_value_core.specs.Gives.{Gives};
 
@@ -17,9 +15,9 @@ use pg_graph::Tables;
 use pg_match_stages::Anchor;
 use pg_meter::Meter;
 use pg_rows::Table;
-use pg_store::{Snapshot, Store};
+use pg_store::Store;
 use pg_syntax_tree::Clause;
-use pg_value_core::{Fault, Out, Parameters};
+use pg_value_core::{Fault, Parameters};
 use std::alloc::Global;
 
 #[derive(Clone, Copy)]
@@ -43,18 +41,6 @@ pub(crate) fn run_clauses<T: Tables>(
     ensures gives { Gives result (clauses_run (parameters_view given.now.parameters.now) (quota_of meter.old.limit given.now.max_elements) [] (plan_view plan.now) (map clause_view clauses.now) (state_of (graph_of_store T.seen store.old shared.old) (record { names = []; rows = [] ∷ [] }) meter.old.used)) (λ t. state_of (graph_of_store T.seen store.new shared.new) (seen t) meter.new.used) }
     ensures names { IfOk result (λ t. (seen t).names ≡ fold scope_after [] (map clause_view clauses.now)) }
     ensures changed { Changed T.seen store.old shared.old store.new shared.new }
-{
-    Err(Fault::OutOfMemory)
-}
-
-pub(crate) fn spell_table<T: Tables>(
-    alloc: Global,
-    graph: &Snapshot<'_, T>,
-    table: Table,
-) -> Result<Vec<Vec<Out>>, Fault>
-    ensures live { IfOk result (λ found. test_told graph.now (rows_told (seen table)) ≡ Ok tt) }
-    ensures data { IfOk result (λ found. map (λ row. outs row.items) found.items ≡ printed_rows graph.now (rows_told (seen table))) }
-    ensures err { IfErr result (λ e. e ≢ OutOfMemory → test_told graph.now (rows_told (seen table)) ≡ Err e) }
 {
     Err(Fault::OutOfMemory)
 }

@@ -41,8 +41,8 @@ returns-clause-answers g c =
     let before = graph_of_store g.T.Tables.seen c.args.store.now c.args.shared.now in
     let after = graph_of_store g.T.Tables.seen c.run_clauses.new.store c.run_clauses.new.shared in
     let same = answer_finished (plan_query c.args.plan.now) (parameters_view c.args.parameters.now) before c.args.quota.max_steps c.args.quota.max_elements
-        _ _ c.new-meter.result clauses_are plan_is c.new-meter.ensures (seen c.in_ok-table.table) after c.run_clauses.new.meter.used c.returns.ensures.last c.in_ok-table.ensures.names c.in_ok-table.ensures.gives.ok in
+    _ _ c.new-meter.result clauses_are plan_is c.new-meter.ensures (seen c.in_ok-table.table) after c.run_clauses.new.meter.used c.returns.ensures.last c.in_ok-table.ensures.names c.in_ok-table.ensures.gives.ok in
     let told = same ∙ ap (λ b. finished b after (seen c.in_ok-table.table) c.run_clauses.new.meter.used) (sym c.returns.ensures.returns)
-        ∙ ap (λ n. finished c.returns.result after (seen c.in_ok-table.table) n) (sym c.used.ensures)
-        ∙ ap (λ (h : Graph). finished c.returns.result h (seen c.in_ok-table.table) c.used.result) (sym c.graph.ensures) in
+    ∙ ap (λ n. finished c.returns.result after (seen c.in_ok-table.table) n) (sym c.used.ensures)
+    ∙ ap (λ (h : Graph). finished c.returns.result h (seen c.in_ok-table.table) c.used.result) (sym c.graph.ensures) in
     answer_of_same c.reply_of.result _ _ told before after (rw (← c.graph.ensures) c.reply_of.ensures.ok) c.reply_of.ensures.err

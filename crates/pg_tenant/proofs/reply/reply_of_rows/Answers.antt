@@ -6,7 +6,7 @@ use Rattle.pg_meaning.specs.declared.fault.Fault.{Fault}
 use Rattle.pg_rows.specs.States.{seen}
 use Rattle.pg_tenant.specs.Finished.{finished}
 use Rattle.pg_tenant.specs.Replies.{IsRefusal}
-use Rattle.pg_tenant.specs.StandIns.{rows_told}
+use Rattle.pg_spell.specs.Told.{rows_told}
 use Rattle.pg_tenant.proofs.reply.reply_of_rows.Goals as goal
 
 pub returns-clause-err : goal.returns-clause-err

@@ -1,4 +1,0 @@
-pub mod AnswersInTurn
-pub mod EvaluationLemmas
-pub mod PlainForms
-pub mod PropertyLemmas

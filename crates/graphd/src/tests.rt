@@ -3,4 +3,3 @@ mod devices;
 mod queries;
 mod runs;
 mod servers;
-mod texts;

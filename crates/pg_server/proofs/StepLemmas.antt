@@ -135,7 +135,7 @@ answered old new body reply request distinct all_mean short means step = by_plac
 
 -- what a tenant's query answers is what it means, since its graph is one
 pub means_of : (s : State) (request : Request) → IsGraph s.graph → Means s request
-means_of s (query token text parameters) is = λ q h given built. text_means s.settings.max_steps s.settings.max_elements parameters s.graph text q is h given built
+means_of s (query token text parameters) is = λ q h given. text_means s.settings.max_steps s.settings.max_elements parameters s.graph text q is h given
 means_of s (status token) is = tt
 
 -- a body that isn't read

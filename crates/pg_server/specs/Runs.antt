@@ -11,7 +11,7 @@ use Rattle.pg_server.specs.Exchange.{Exchange, replies_of, Chain}
 use Rattle.pg_server.specs.Frames.{body_limit}
 use Rattle.pg_meaning.specs.Names.{is_among}
 use Rattle.pg_server.specs.Solo.{solo}
-use Rattle.pg_tenant.specs.Outcomes.{text_query, are_given, is_built}
+use Rattle.pg_tenant.specs.Outcomes.{text_query, are_given}
 use Rattle.pg_server.specs.State.{State, ServerState, state_at, tokens_of, settings_of}
 
 -- ---- one tenant alone
@@ -39,10 +39,10 @@ is_want_of_memory reply = bytes_eq reply (refusal_text OutOfMemory)
 abbrev pub own : List (List ℕ) → List Exchange → List Exchange
 own tokens es = filter (λ e. shows_one_of tokens (asked e.body) && not (is_want_of_memory e.reply)) es
 
--- what a query that reads, has its parameters and is answered so far answers is one that its meaning gives: columns, rows and the new graph, or a fault in which it may end
+-- what a query that reads and has its parameters answers is one that its meaning gives: columns, rows and the new graph, or a fault in which it may end
 abbrev pub Means : State → Request → Type 0
 Means old (query token text parameters) =
-    (q : Query) → text_query text ≡ Ok q → are_given parameters q ≡ Ok tt → is_built q ≡ Ok tt
+    (q : Query) → text_query text ≡ Ok q → are_given parameters q ≡ Ok tt
     → OutcomeAgrees q parameters old.settings.max_elements old.graph (answer_of [] q parameters old.graph old.settings.max_steps old.settings.max_elements)
 Means old (status token) = Unit {0}
 

@@ -1,30 +1,22 @@
 //! Query texts, and what is kept of them.
 
 use pg_meaning::Fault;
-use pg_plan::{Plan, Statement, check_length, column_names, plan_text};
+use pg_plan::{Plan, check_length, plan_text};
 use std::alloc::{AllocError, Global};
 use std::test::Fail;
 
-/// The kind of the statement, whether it writes, the parameters that it names, and its columns.
+/// Whether the query writes, whether it returns, and the parameters that it names.
 fn kept(alloc: Global, plan: &Plan) -> Result<String, AllocError> {
-    let none = Vec::new(alloc);
-    let (kind, items) = match plan.statement() {
-        Some(Statement::Return(items)) => ("return", items),
-        Some(Statement::Create(_)) => ("create", &none),
-        Some(Statement::CreateAndReturn(_, items)) => ("create and return", items),
-        Some(Statement::Match(_, items)) => ("match", items),
-        None => ("unanswered", &none),
-    };
-    let names = column_names(alloc, items)?;
     format!(in alloc;
-        "{kind} {} {:?} {names:?}",
+        "{} {} {:?}",
         plan.writes(),
+        plan.returns(),
         plan.parameters()
     )
 }
 
 fn shown(alloc: Global, text: &str) -> Result<String, AllocError> {
-    match plan_text(alloc, text, Vec::new(alloc)) {
+    match plan_text(alloc, text) {
         Ok(plan) => kept(alloc, &plan),
         Err(fault) => format!(in alloc; "{fault:?}"),
     }
@@ -33,63 +25,19 @@ fn shown(alloc: Global, text: &str) -> Result<String, AllocError> {
 #[test]
 fn texts_have_their_plans(rt: HostRuntime) -> Result<(), Fail> {
     let rows = [
+        ("RETURN [1, 'a'] = [] AS x, 1;", "false true []"),
+        ("CREATE (n:P:P {x: 1, y: NULL})", "true false []"),
+        ("CREATE (n:P {x:1}) RETURN id(n), n.x", "true true []"),
         (
-            "RETURN [1, 'a'] = [] AS x, 1;",
-            "return false [] [\"x\", \"1\"]",
+            "MATCH (n:P {x: $q}) RETURN n.x AS a, $p",
+            "false true [\"q\", \"p\"]",
         ),
-        ("RETURN 1 = 2 IN [3]", "return false [] [\"1 = 2 IN [3]\"]"),
-        ("CREATE (n:P:P {x: 1, y: NULL})", "create true [] []"),
-        (
-            "CREATE (n:P {x:1}) RETURN id(n), n.x",
-            "create and return true [] [\"id(n)\", \"n.x\"]",
-        ),
-        (
-            "CREATE () RETURN 1 AS n;",
-            "create and return true [] [\"n\"]",
-        ),
-        (
-            "MATCH (n:P {x: 'a'}) RETURN n.x AS a, [n, ID(n)]",
-            "match false [] [\"a\", \"[n, ID(n)]\"]",
-        ),
-        ("MATCH (`n`) RETURN '\\n' AS x", "match false [] [\"x\"]"),
-    ];
-    for (text, want) in rows {
-        let told = shown(rt.alloc(), text)?;
-        assert!(rt; told.as_str() == want, "{text}: {told}");
-    }
-    Ok(())
-}
-
-#[test]
-fn more_texts_read_than_are_answered(rt: HostRuntime) -> Result<(), Fail> {
-    let rows = [
-        ("RETURN $p", "unanswered false [\"p\"] []"),
-        ("CREATE (n $`p`)", "unanswered true [\"p\"] []"),
-        ("RETURN 1 + 2", "unanswered false [] []"),
-        ("RETURN (1)", "unanswered false [] []"),
-        ("RETURN 1 = 1 = 1", "unanswered false [] []"),
-        ("RETURN 1 IN [1] IN [TRUE]", "unanswered false [] []"),
-        ("RETURN DISTINCT 1", "unanswered false [] []"),
-        ("RETURN 1 AS x ORDER BY x", "unanswered false [] []"),
-        ("RETURN 1 SKIP 1", "unanswered false [] []"),
-        ("RETURN 1 LIMIT 1", "unanswered false [] []"),
-        ("MATCH (n) RETURN *", "unanswered false [] []"),
-        ("MATCH (n) RETURN n.x.y", "unanswered false [] []"),
-        ("MATCH (n) RETURN n.x:P", "unanswered false [] []"),
-        ("MATCH (n) RETURN labels(n)", "unanswered false [] []"),
-        ("MATCH (n), (m) RETURN n", "unanswered false [] []"),
-        ("MATCH p = (n) RETURN n", "unanswered false [] []"),
-        ("MATCH (n) WHERE n.x = 1 RETURN n", "unanswered false [] []"),
-        ("OPTIONAL MATCH (n) RETURN n", "unanswered false [] []"),
-        ("MATCH (a)-[r]->(b) RETURN a", "unanswered false [] []"),
-        ("UNWIND [1] AS x RETURN x", "unanswered false [] []"),
-        ("MATCH (n) WITH n RETURN n", "unanswered false [] []"),
-        ("CREATE (a)-[:R]->(b)", "unanswered true [] []"),
-        ("CREATE (n {x: 1 + 2}) RETURN n", "unanswered true [] []"),
-        ("MERGE (n)", "unanswered true [] []"),
-        ("MATCH (n) SET n.x = 1", "unanswered true [] []"),
-        ("MATCH (n) REMOVE n.x", "unanswered true [] []"),
-        ("MATCH (n) DETACH DELETE n", "unanswered true [] []"),
+        ("RETURN $p + $`p`", "false true [\"p\", \"p\"]"),
+        ("MERGE (n)", "true false []"),
+        ("MATCH (n) SET n.x = $p", "true false [\"p\"]"),
+        ("MATCH (n) REMOVE n.x", "true false []"),
+        ("MATCH (n) DETACH DELETE n", "true false []"),
+        ("UNWIND [1] AS x WITH x RETURN *", "false true []"),
     ];
     for (text, want) in rows {
         let told = shown(rt.alloc(), text)?;

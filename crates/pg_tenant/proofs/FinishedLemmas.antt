@@ -15,8 +15,8 @@ use Rattle.pg_meaning.specs.declared.fault.Fault.{Fault}
 use Rattle.pg_meter.specs.Quotas.{Steps}
 use Rattle.pg_plan.specs.Returns.{ReturnsLast}
 use Rattle.pg_rows.specs.States.{Named, state_of}
+use Rattle.pg_run_clauses.specs.Runs.{quota_of}
 use Rattle.pg_tenant.specs.Finished.{finished}
-use Rattle.pg_tenant.specs.StandIns.{quota_of}
 
 -- the output of the last rows under these columns
 abbrev output : Bool → Names → State → Result Outcome Fault

@@ -6,7 +6,6 @@ ghost use Rattle.pg_tenant.specs.Outcomes.{AnyPlanAnswers, TextMeans};
 mod answer;
 mod query;
 mod reply;
-mod stand_ins;
 
 pub use answer::{Quota, answer_plan};
 

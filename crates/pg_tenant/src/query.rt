@@ -6,16 +6,16 @@ ghost use Rattle.pg_plan.specs.Plans.{plan_query};
 ghost use Rattle.pg_store.specs.Changes.{Changes};
 ghost use Rattle.pg_store.specs.Stores.{graph_of_store, graph_at, HasMark, IsFit};
 ghost use Rattle.pg_tenant.specs.Replies.{IsAnswer};
-ghost use Rattle.pg_tenant.specs.StandIns.{Changed};
 ghost use Rattle.pg_value_core.specs.Given.{parameters_view};
+ghost use Rattle.pg_write_make.specs.Changed.{Changed};
 
 use crate::answer::Quota;
 use crate::reply::reply_of;
-use crate::stand_ins::{Given, run_clauses};
 use pg_graph::Tables;
 use pg_json::ReplyBytes;
 use pg_meter::Meter;
 use pg_plan::Plan;
+use pg_run_clauses::{Given, run_clauses};
 use pg_store::{Mark, Store};
 use pg_value_core::{Fault, Parameters};
 use std::alloc::Global;

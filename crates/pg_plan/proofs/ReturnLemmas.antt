@@ -1,7 +1,7 @@
 -- The columns of a query whose RETURN stands last.
 use Rattle.std.proofs.Common.{◌≡◌, ℕ, Bool, true, false, cond, List, [], ◌∷◌, map, refl}
 use Rattle.std.specs.Prelude.{fold}
-use Rattle.pg_meaning.specs.Grammar.{Kind, reading, updating, passing, returning, kind_of, AreParts, IsWellFormedQuery, Reads}
+use Rattle.pg_meaning.specs.Grammar.{kind_of, AreParts, Reads}
 use Rattle.pg_meaning.specs.Names.{Names}
 use Rattle.pg_meaning.specs.Queries.{returns}
 use Rattle.pg_meaning.specs.Scopes.{scope_after, columns_from}

@@ -1,5 +1,5 @@
 -- The parameters among the tokens of a text are those that its query names.
-use Rattle.std.proofs.Common.{◌≡◌, ℕ, List, [], ◌∷◌, ◌++◌, true, false, refl, sym, ap, ◌∙◌, inl, inr}
+use Rattle.std.proofs.Common.{◌≡◌, ℕ, List, [], ◌∷◌, true, false, refl, ap, inl, inr}
 use Rattle.std.specs.Prelude.{flat_map}
 use Rattle.pg_meaning.specs.Grammar.{What, keyword, function_name, variable_name, any_name, integer, string, parameter, symbol, Mark, parameter_name, parameters_of, IsSpelled, Fit, Reads, query_marks}
 use Rattle.pg_meaning.specs.Tokens.{Lexeme, Token}

@@ -1,5 +1,5 @@
 -- The parameters that a text names.
-use Rattle.std.specs.Prelude.{List, [], ◌∷◌, flat_map, Option, None, Some}
+use Rattle.std.specs.Prelude.{List, [], ◌∷◌, flat_map}
 use Rattle.pg_meaning.specs.Names.{Names}
 use Rattle.pg_meaning.specs.Tokens.{Lexeme, Token, parameter}
 

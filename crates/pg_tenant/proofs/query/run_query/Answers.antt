@@ -1,8 +1,7 @@
-use Rattle.std.proofs.Common.{◌≡◌, [], map, sym, ap, subst, ◌∙◌}
+use Rattle.std.proofs.Common.{[], map, sym, ap, ◌∙◌}
 use Rattle.std.proofs.lemmas.Result.{err_from_is_err_and}
 use Rattle.pg_run_clauses.specs.Runs.{plan_view}
 use Rattle.pg_meaning.specs.Graph.{Graph}
-use Rattle.pg_meaning.specs.Plans.{plan_of}
 use Rattle.pg_meaning.specs.Queries.{answer_of}
 use Rattle.pg_meaning.specs.Tree.{Query}
 use Rattle.pg_plan.specs.Plans.{plan_query}

@@ -44,3 +44,18 @@ fn two_tenants_in_turn(rt: HostRuntime) -> Result<(), Fail> {
     assert!(rt; reply.as_slice() == want.as_bytes());
     Ok(())
 }
+
+/// A reply that would be too long undoes its query.
+#[test]
+fn reply_that_is_too_long(rt: HostRuntime) -> Result<(), Fail> {
+    let alloc = rt.alloc();
+    let mut server = new_server(&rt)?;
+    let text = "CREATE (:P) WITH range(1, 60000) AS xs UNWIND range(1, 60) AS x RETURN xs";
+    let reply = server.handle(body_of(alloc, "a1", text)?.as_bytes());
+    let refused = "{\"code\":31,\"error\":\"ReplyTooLong\"}";
+    assert!(rt; reply.as_slice() == refused.as_bytes());
+    let want =
+        "{\"code\":0,\"elements\":0,\"indexes\":[],\"max_elements\":10,\"max_steps\":1000,\"next_node\":0,\"next_rel\":0}";
+    assert!(rt; server.handle(STATUS.as_bytes()).as_slice() == want.as_bytes());
+    Ok(())
+}

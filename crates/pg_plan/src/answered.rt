@@ -31,15 +31,15 @@ fn is_built(clause: &Clause) -> bool
     ensures { result ≡ spec.is_built (clause_view clause.now) }
 {
     match clause {
-        Clause::Merge(_, _) | Clause::Delete(_, _) => false,
+        Clause::Create(_) | Clause::Merge(_, _) => false,
         Clause::With(projection, _) | Clause::Return(projection) => !has_aggregate(
             &projection.items,
         ),
         Clause::Match(_, _, _)
         | Clause::Unwind(_, _)
-        | Clause::Create(_)
         | Clause::Set(_)
-        | Clause::Remove(_) => true,
+        | Clause::Remove(_)
+        | Clause::Delete(_, _) => true,
     }
 }
 

@@ -36,11 +36,7 @@ pub struct Plan {
 impl Plan {
     ghost use Rattle.pg_plan.specs.Plans.{plan_query};
 
-    pub(crate) fn new(
-        query: Query,
-        parameters: Vec<String>,
-        anchors: Vec<Vec<Anchor>>,
-    ) -> Self
+    pub(crate) fn new(query: Query, parameters: Vec<String>, anchors: Vec<Vec<Anchor>>) -> Self
         requires ends { ReturnsLast (query_view query) }
         requires parameters { map string_bytes parameters.items ≡ parameters_of (query_view query) }
         requires anchors { plan_view anchors.items ≡ plan_of [] (query_view query) }

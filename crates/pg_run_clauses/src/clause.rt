@@ -11,7 +11,7 @@ ghost use Rattle.pg_value_core.specs.Given.{parameters_view};
 ghost use Rattle.pg_value_core.specs.Gives.{Gives};
 ghost use Rattle.pg_write_make.specs.Changed.{Changed};
 
-use crate::stand_ins::{create_paths, merge_path};
+use crate::stand_ins::merge_path;
 use crate::updates::{remove_rows, set_rows};
 use pg_graph::Tables;
 use pg_match::match_rows;
@@ -22,6 +22,7 @@ use pg_rows::Table;
 use pg_store::Store;
 use pg_syntax_tree::Clause;
 use pg_value_core::{Fault, Parameters};
+use pg_write_create::create_paths;
 use pg_write_delete::delete_elements;
 use std::alloc::Global;
 
@@ -89,7 +90,16 @@ pub(crate) fn run_clause<T: Tables>(
             table,
             meter,
         ),
-        Clause::Create(paths) => create_paths(given, paths, store, shared, table, meter),
+        Clause::Create(paths) => create_paths(
+            given.alloc,
+            paths,
+            given.parameters,
+            given.max_elements,
+            store,
+            shared,
+            table,
+            meter,
+        ),
         Clause::Merge(path, parts) => {
             merge_path(given, path, parts, anchors, store, shared, table, meter)
         }

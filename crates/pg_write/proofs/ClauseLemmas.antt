@@ -34,7 +34,7 @@ module _ (s : Setting) (parameters : Entries) (is : s.parameters ≡ parameters)
   item_same graph (set_more t e) = ap (λ (p : Entries). on_target graph row t (set_pairs graph mapping_pairs set_keys (evaluate row p graph e))) is
   item_same graph (set_labels t ls) = refl
 
-  row_same : (items : List SetItem) (graph : Graph) → set_row s items graph row ≡ set_row (reading parameters) items graph row
+  pub row_same : (items : List SetItem) (graph : Graph) → set_row s items graph row ≡ set_row (reading parameters) items graph row
   row_same items graph = each_step_same (set_item s row) (set_item (reading parameters) row) item_same graph items
 
 -- a clause that changes the graph alone, row by row

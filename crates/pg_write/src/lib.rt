@@ -8,5 +8,6 @@ mod removing;
 mod setting;
 mod targets;
 
+pub use items::{ReadySet, ready_sets};
 pub use removing::remove_items;
-pub use setting::set_items;
+pub use setting::{set_items, set_row};

@@ -190,9 +190,10 @@ fn set_item<T: Tables>(
     }
 }
 
-// All items at one row.
+/// Sets what the items say at one row. An error leaves a part of it done, and the caller takes that
+/// back.
 #[tactic(auto, using(pg_write_make::proofs::ChangedLemmas::unchanged, pg_write_make::proofs::ChangedLemmas::changed_then, pg_write_make::proofs::RowLemmas::item_on))]
-fn set_row<T: Tables>(
+pub fn set_row<T: Tables>(
     scene: &Scene<'_>,
     store: &mut Store<T>,
     shared: &mut T::Shared,

@@ -1,0 +1,61 @@
+use Rattle.std.proofs.Common.{◌≡◌, ◌∷◌, [], Ok, map, refl, sym, ap, ◌∙◌}
+use Rattle.std.proofs.lemmas.Result.{err_from_is_err_and, IfErr-weaker, IfOk-weaker}
+use Rattle.pg_meaning.specs.Updates.{merged_row}
+use Rattle.pg_rows.specs.Named.{rows_named}
+use Rattle.pg_rows.specs.Tables.{table}
+use Rattle.pg_store.specs.Stores.{graph_of_store}
+use Rattle.pg_write_make.specs.Scenes.{parameters_in, row_in}
+use Rattle.pg_write_merge.proofs.MergeLemmas.{made_then, making_fault, making_refused}
+use Rattle.pg_write_merge.specs.Ready.{created_in, names_in, path_in, setting_in, state_in}
+use Rattle.pg_write_create.specs.Creations.{row_made}
+use Rattle.pg_write_create.specs.Lent.{paths_view}
+use Rattle.pg_write_merge.proofs.rows.make_merged.Goals as goal
+
+pub returns-in_err-spend-clause-err : goal.returns-in_err-spend-clause-err
+returns-in_err-spend-clause-err g c =
+    let p = err_from_is_err_and c.from_residual.result c.from_residual.ensures.1 in
+    let m = c.args.merging.now in
+    let s = setting_in m c.args.meter.now.limit in
+    let graph = graph_of_store g.T.Tables.seen c.args.store.now c.args.shared.now in
+    rw (p.1, p.2)
+    (λ other. making_refused s (path_in m) (created_in m) graph (rows_named (names_in m) (table c.args.merged.now)) c.args.meter.now.used m.count (row_in m.scene c.args.row.items) c.requires.ready.count _ (c.in_err-spend.ensures.spends s refl))
+
+pub returns-in_err-made-clause-err : goal.returns-in_err-made-clause-err
+returns-in_err-made-clause-err g c =
+    let p = err_from_is_err_and c.from_residual-in_err-made.result c.from_residual-in_err-made.ensures.1 in
+    let m = c.args.merging.now in
+    let s = setting_in m c.args.meter.now.limit in
+    let graph = graph_of_store g.T.Tables.seen c.args.store.now c.args.shared.now in
+    let row = row_in m.scene c.args.row.items in
+    rw (p.1, p.2)
+    (λ other.
+    making_fault s (path_in m) (created_in m) graph (rows_named (names_in m) (table c.args.merged.now)) c.args.meter.now.used m.count row c.requires.ready.count _ c.spend.new.self.used (c.in_ok-spend.ensures.spends s refl)
+    (ap (λ ps. row_made (parameters_in m.scene) m.max_elements (paths_view ps) graph row) (sym c.from_ref.ensures.value) ∙ c.in_err-made.ensures.err other))
+
+pub returns-clause-ok : goal.returns-clause-ok
+returns-clause-ok g c =
+    let m = c.args.merging.now in
+    let s = setting_in m c.args.meter.now.limit in
+    let graph = graph_of_store g.T.Tables.seen c.args.store.now c.args.shared.now in
+    let after = graph_of_store g.T.Tables.seen c.make_row.new.store c.make_row.new.shared in
+    let row = row_in m.scene c.args.row.items in
+    let behind = row_in m.scene c.in_ok-made.made.items in
+    let made =
+        made_then s (path_in m) (created_in m) graph (rows_named (names_in m) (table c.args.merged.now)) c.args.meter.now.used m.count row c.requires.ready.count after behind c.spend.new.self.used (c.in_ok-spend.ensures.spends s refl)
+        (ap (λ ps. row_made (parameters_in m.scene) m.max_elements (paths_view ps) graph row) (sym c.from_ref.ensures.value) ∙ c.in_ok-made.ensures.ok)
+        ∙ ap (λ k. merged_row (setting_in m k) (created_in m) (state_in m after c.args.merged.now c.spend.new.self.used) behind) (sym c.in_ok-spend.ensures.limit) in
+    IfOk-weaker c.merged_row.result _ _ (λ u h. made ∙ h) c.merged_row.ensures.ok
+
+pub returns-clause-err : goal.returns-clause-err
+returns-clause-err g c =
+    let m = c.args.merging.now in
+    let s = setting_in m c.args.meter.now.limit in
+    let graph = graph_of_store g.T.Tables.seen c.args.store.now c.args.shared.now in
+    let after = graph_of_store g.T.Tables.seen c.make_row.new.store c.make_row.new.shared in
+    let row = row_in m.scene c.args.row.items in
+    let behind = row_in m.scene c.in_ok-made.made.items in
+    let made =
+        made_then s (path_in m) (created_in m) graph (rows_named (names_in m) (table c.args.merged.now)) c.args.meter.now.used m.count row c.requires.ready.count after behind c.spend.new.self.used (c.in_ok-spend.ensures.spends s refl)
+        (ap (λ ps. row_made (parameters_in m.scene) m.max_elements (paths_view ps) graph row) (sym c.from_ref.ensures.value) ∙ c.in_ok-made.ensures.ok)
+        ∙ ap (λ k. merged_row (setting_in m k) (created_in m) (state_in m after c.args.merged.now c.spend.new.self.used) behind) (sym c.in_ok-spend.ensures.limit) in
+    IfErr-weaker c.merged_row.result _ _ (λ e h. λ other. made ∙ h other) c.merged_row.ensures.err

@@ -1,0 +1,2 @@
+pub mod Mergings
+pub mod Ready

@@ -1,9 +1,8 @@
 -- MERGE of all rows, in the columns of the call.
-use Rattle.std.proofs.Common.{◌≡◌, ◌≢◌, ◌≤◌, ◌+◌, ℕ, Bool, true, false, cond, List, [], ◌∷◌, ◌++◌, map, length, take, Option, Some, None, Result, Ok, Err, refl, sym, ap, ◌∙◌, arith}
+use Rattle.std.proofs.Common.{◌≡◌, ◌≤◌, ◌+◌, ℕ, Bool, true, false, cond, List, [], ◌∷◌, ◌++◌, map, length, take, Option, Some, None, Result, Ok, Err, refl, sym, ap, ◌∙◌, arith}
 use Rattle.std.proofs.lemmas.List.{append_assoc, append-nil, length-append}
 use Rattle.std.proofs.Math.Seq.{take-append_seam}
 use Rattle.std.specs.List.{AllByRecursion}
-use Rattle.pg_match.proofs.Found.{rows_wide}
 use Rattle.pg_meaning.specs.Answer.{◌>>=◌, ◌>>◌, each_step}
 use Rattle.pg_meaning.specs.Graph.{Graph}
 use Rattle.pg_meaning.specs.Meters.{Setting, State, spend}
@@ -13,9 +12,9 @@ use Rattle.pg_meaning.specs.Plans.{Anchor}
 use Rattle.pg_meaning.specs.Reading.{test_paths}
 use Rattle.pg_meaning.specs.Rows.{Row}
 use Rattle.pg_meaning.specs.Tree.{NodePattern, PathPattern, RelationshipPattern, SetItem}
-use Rattle.pg_meaning.specs.Updates.{items_on, merge_clause, merge_found, merge_row, merged_row, test_not_null}
+use Rattle.pg_meaning.specs.Updates.{items_on, merge_clause, merge_found, merge_row, test_not_null}
 use Rattle.pg_meaning.specs.Value.{Value, Entries}
-use Rattle.pg_meaning.specs.Walks.{Listing, PathWanted, paths_wanted}
+use Rattle.pg_meaning.specs.Walks.{paths_wanted}
 use Rattle.pg_meaning.specs.declared.fault.Fault.{Fault}
 use Rattle.pg_rows.specs.Named.{row_of, rows_named}
 use Rattle.pg_rows.specs.States.{Named, state_of}

@@ -1,5 +1,5 @@
 -- The parts of MERGE at a row, and what a match is read as.
-use Rattle.std.specs.Prelude.{ℕ, zero, suc, false, List, [], ◌∷◌, ◌++◌, map, length, Result, Ok}
+use Rattle.std.specs.Prelude.{ℕ, zero, suc, false, List, [], ◌∷◌, ◌++◌, map, Result, Ok}
 use Rattle.pg_match_bind.specs.Readings.{behind_parts, read_values}
 use Rattle.pg_match_bind.specs.declared.part.Part.{Part}
 use Rattle.pg_match_stages.specs.declared.step.Step.{Step}

@@ -41,9 +41,9 @@ returns-in_err-merged-clause-gives g c = λ s suits most at.
     let is : after ≡ add_path_names (p ∷ []) names = c.in_ok-bindings.ensures.names ∙ ap (λ ps. add_path_names (map path_view ps) names) c.from_ref-2.ensures.value in
     let kept : take c.len-bound.result after ≡ names = first_kept p names after c.len-bound.result is c.len-bound.ensures in
     let whole =
-        clause_is s p (map on_view c.args.parts.now.items) graph (seen c.args.table) c.args.meter.now.used (parameters_view c.args.parameters.now) c.args.meter.now.limit c.args.max_elements (map anchor_view c.args.anchors.now) after names (table c.split-names.result.1)
-        suits.parameters_are suits.steps_are most suits.scope_is at c.split-names.ensures.names (ap (λ k. take k after) (sym c.len-bound.ensures) ∙ kept)
-        (rows_wide c.split-names.result.1 (length names) (c.split-names.ensures.width ∙ ap length (sym c.split-names.ensures.names))) c.split-names.ensures.rows (take c.len-bound.result after) kept in
+    clause_is s p (map on_view c.args.parts.now.items) graph (seen c.args.table) c.args.meter.now.used (parameters_view c.args.parameters.now) c.args.meter.now.limit c.args.max_elements (map anchor_view c.args.anchors.now) after names (table c.split-names.result.1)
+    suits.parameters_are suits.steps_are most suits.scope_is at c.split-names.ensures.names (ap (λ k. take k after) (sym c.len-bound.ensures) ∙ kept)
+    (rows_wide c.split-names.result.1 (length names) (c.split-names.ensures.width ∙ ap length (sym c.split-names.ensures.names))) c.split-names.ensures.rows (take c.len-bound.result after) kept in
     rw (e.1, e.2) (record { ok = tt; err = λ other. whole ∙ c.in_err-merged.ensures.err other })
 
 pub returns-clause-gives : goal.returns-clause-gives
@@ -55,9 +55,9 @@ returns-clause-gives g c = λ s suits most at.
     let is : after ≡ add_path_names (p ∷ []) names = c.in_ok-bindings.ensures.names ∙ ap (λ ps. add_path_names (map path_view ps) names) c.from_ref-2.ensures.value in
     let kept : take c.len-bound.result after ≡ names = first_kept p names after c.len-bound.result is c.len-bound.ensures in
     let whole =
-        clause_is s p (map on_view c.args.parts.now.items) graph (seen c.args.table) c.args.meter.now.used (parameters_view c.args.parameters.now) c.args.meter.now.limit c.args.max_elements (map anchor_view c.args.anchors.now) after names (table c.split-names.result.1)
-        suits.parameters_are suits.steps_are most suits.scope_is at c.split-names.ensures.names (ap (λ k. take k after) (sym c.len-bound.ensures) ∙ kept)
-        (rows_wide c.split-names.result.1 (length names) (c.split-names.ensures.width ∙ ap length (sym c.split-names.ensures.names))) c.split-names.ensures.rows (take c.len-bound.result after) kept in
+    clause_is s p (map on_view c.args.parts.now.items) graph (seen c.args.table) c.args.meter.now.used (parameters_view c.args.parameters.now) c.args.meter.now.limit c.args.max_elements (map anchor_view c.args.anchors.now) after names (table c.split-names.result.1)
+    suits.parameters_are suits.steps_are most suits.scope_is at c.split-names.ensures.names (ap (λ k. take k after) (sym c.len-bound.ensures) ∙ kept)
+    (rows_wide c.split-names.result.1 (length names) (c.split-names.ensures.width ∙ ap length (sym c.split-names.ensures.names))) c.split-names.ensures.rows (take c.len-bound.result after) kept in
     record {
       ok = whole ∙ c.in_ok-merged.ensures.ok ∙ ap (λ t. Ok (state_of (graph_of_store g.T.Tables.seen c.merge_columns.new.store c.merge_columns.new.shared) t c.merge_columns.new.meter.used)) (sym c.new.ensures);
       err = tt;

@@ -1,4 +1,4 @@
-use Rattle.std.proofs.Common.{◌≡◌, ◌∷◌, [], Ok, map, refl, sym, ap, ◌∙◌}
+use Rattle.std.proofs.Common.{refl, sym, ap, ◌∙◌}
 use Rattle.std.proofs.lemmas.Result.{err_from_is_err_and, IfErr-weaker, IfOk-weaker}
 use Rattle.pg_meaning.specs.Updates.{merged_row}
 use Rattle.pg_rows.specs.Named.{rows_named}
@@ -41,9 +41,9 @@ returns-clause-ok g c =
     let row = row_in m.scene c.args.row.items in
     let behind = row_in m.scene c.in_ok-made.made.items in
     let made =
-        made_then s (path_in m) (created_in m) graph (rows_named (names_in m) (table c.args.merged.now)) c.args.meter.now.used m.count row c.requires.ready.count after behind c.spend.new.self.used (c.in_ok-spend.ensures.spends s refl)
-        (ap (λ ps. row_made (parameters_in m.scene) m.max_elements (paths_view ps) graph row) (sym c.from_ref.ensures.value) ∙ c.in_ok-made.ensures.ok)
-        ∙ ap (λ k. merged_row (setting_in m k) (created_in m) (state_in m after c.args.merged.now c.spend.new.self.used) behind) (sym c.in_ok-spend.ensures.limit) in
+    made_then s (path_in m) (created_in m) graph (rows_named (names_in m) (table c.args.merged.now)) c.args.meter.now.used m.count row c.requires.ready.count after behind c.spend.new.self.used (c.in_ok-spend.ensures.spends s refl)
+    (ap (λ ps. row_made (parameters_in m.scene) m.max_elements (paths_view ps) graph row) (sym c.from_ref.ensures.value) ∙ c.in_ok-made.ensures.ok)
+    ∙ ap (λ k. merged_row (setting_in m k) (created_in m) (state_in m after c.args.merged.now c.spend.new.self.used) behind) (sym c.in_ok-spend.ensures.limit) in
     IfOk-weaker c.merged_row.result _ _ (λ u h. made ∙ h) c.merged_row.ensures.ok
 
 pub returns-clause-err : goal.returns-clause-err
@@ -55,7 +55,7 @@ returns-clause-err g c =
     let row = row_in m.scene c.args.row.items in
     let behind = row_in m.scene c.in_ok-made.made.items in
     let made =
-        made_then s (path_in m) (created_in m) graph (rows_named (names_in m) (table c.args.merged.now)) c.args.meter.now.used m.count row c.requires.ready.count after behind c.spend.new.self.used (c.in_ok-spend.ensures.spends s refl)
-        (ap (λ ps. row_made (parameters_in m.scene) m.max_elements (paths_view ps) graph row) (sym c.from_ref.ensures.value) ∙ c.in_ok-made.ensures.ok)
-        ∙ ap (λ k. merged_row (setting_in m k) (created_in m) (state_in m after c.args.merged.now c.spend.new.self.used) behind) (sym c.in_ok-spend.ensures.limit) in
+    made_then s (path_in m) (created_in m) graph (rows_named (names_in m) (table c.args.merged.now)) c.args.meter.now.used m.count row c.requires.ready.count after behind c.spend.new.self.used (c.in_ok-spend.ensures.spends s refl)
+    (ap (λ ps. row_made (parameters_in m.scene) m.max_elements (paths_view ps) graph row) (sym c.from_ref.ensures.value) ∙ c.in_ok-made.ensures.ok)
+    ∙ ap (λ k. merged_row (setting_in m k) (created_in m) (state_in m after c.args.merged.now c.spend.new.self.used) behind) (sym c.in_ok-spend.ensures.limit) in
     IfErr-weaker c.merged_row.result _ _ (λ e h. λ other. made ∙ h other) c.merged_row.ensures.err

@@ -73,9 +73,9 @@ def load(graph):
         "UNWIND $rows AS row MATCH (a:Page {path: row[0]}), (b:Page {path: row[1]}) CREATE (a)-[:LINKS_TO]->(b)",
         rows=[list(row) for row in distinct],
     )
+    graph.query("UNWIND $names AS name CREATE (:Tag {name: name})", names=list(TAGS))
     graph.query(
-        "UNWIND $rows AS row MERGE (t:Tag {name: row[0]}) WITH t, row"
-        " MATCH (p:Page) WHERE p.path ENDS WITH row[1] CREATE (p)-[:ABOUT]->(t)",
+        "UNWIND $rows AS row MATCH (t:Tag {name: row[0]}), (p:Page) WHERE p.path ENDS WITH row[1] CREATE (p)-[:ABOUT]->(t)",
         rows=[[tag, f"/{name}"] for tag, names in TAGS.items() for name in names],
     )
 

@@ -1,4 +1,3 @@
-pub mod Answered
 pub mod Laws
 pub mod Parameters
 pub mod Plans

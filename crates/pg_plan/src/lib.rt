@@ -3,7 +3,6 @@
 
 ghost use Rattle.pg_plan.specs.Laws.{PlansAreGood, TextsMean};
 
-mod answered;
 mod parameters;
 mod plan;
 mod reading;

@@ -4,12 +4,10 @@ ghost use Rattle.pg_anchors.specs.Plans.{plan_view};
 ghost use Rattle.pg_meaning.specs.Grammar.{parameters_of};
 ghost use Rattle.pg_meaning.specs.Plans.{plan_of};
 ghost use Rattle.pg_meaning.specs.Queries as queries;
-ghost use Rattle.pg_plan.specs.Answered as answered;
 ghost use Rattle.pg_plan.specs.Returns.{ReturnsLast};
 ghost use Rattle.pg_plan.specs.Updates.{updates};
 ghost use Rattle.pg_syntax_tree.specs.View.{query_view};
 
-use crate::answered::are_built;
 use crate::returning::any_return;
 use crate::updates::any_updates;
 use pg_match_stages::Anchor;
@@ -24,13 +22,11 @@ pub struct Plan {
     writes: bool,
     returns: bool,
     parameters: Vec<String>,
-    is_answered: bool,
     ghost writing: { writes ≡ updates (query_view query) },
     ghost returning: { returns ≡ queries.returns (query_view query).clauses },
     ghost ending: { ReturnsLast (query_view query) },
     ghost naming: { map string_bytes parameters.items ≡ parameters_of (query_view query) },
     ghost anchoring: { plan_view anchors.items ≡ plan_of [] (query_view query) },
-    ghost answering: { is_answered ≡ answered.is_answered (query_view query) },
 }
 
 impl Plan {
@@ -44,14 +40,12 @@ impl Plan {
     {
         let writes = any_updates(&query.clauses);
         let returns = any_return(&query.clauses);
-        let is_answered = are_built(&query.clauses);
         Plan {
             query,
             anchors,
             writes,
             returns,
             parameters,
-            is_answered,
         }
     }
 
@@ -88,12 +82,5 @@ impl Plan {
         ensures { plan_view result.now.items ≡ plan_of [] (plan_query self.now) }
     {
         &self.anchors
-    }
-
-    /// Whether its query is answered so far.
-    pub fn is_answered(&self) -> bool
-        ensures { result ≡ answered.is_answered (plan_query self.now) }
-    {
-        self.is_answered
     }
 }

@@ -11,7 +11,6 @@ ghost use Rattle.pg_value_core.specs.Given.{parameters_view};
 ghost use Rattle.pg_value_core.specs.Gives.{Gives};
 ghost use Rattle.pg_write_make.specs.Changed.{Changed};
 
-use crate::stand_ins::merge_path;
 use crate::updates::{remove_rows, set_rows};
 use pg_graph::Tables;
 use pg_match::match_rows;
@@ -24,6 +23,7 @@ use pg_syntax_tree::Clause;
 use pg_value_core::{Fault, Parameters};
 use pg_write_create::create_paths;
 use pg_write_delete::delete_elements;
+use pg_write_merge::merge_path;
 use std::alloc::Global;
 
 /// What a query runs with beside its graph and its steps.
@@ -100,9 +100,18 @@ pub(crate) fn run_clause<T: Tables>(
             table,
             meter,
         ),
-        Clause::Merge(path, parts) => {
-            merge_path(given, path, parts, anchors, store, shared, table, meter)
-        }
+        Clause::Merge(path, parts) => merge_path(
+            given.alloc,
+            path,
+            parts,
+            anchors,
+            given.parameters,
+            given.max_elements,
+            store,
+            shared,
+            table,
+            meter,
+        ),
         Clause::Set(items) => set_rows(given, items, store, shared, table, meter),
         Clause::Remove(items) => remove_rows(given, items, store, shared, table, meter),
         Clause::Delete(is_detach, elements) => delete_elements(

@@ -3,7 +3,6 @@
 
 mod clause;
 mod clauses;
-mod stand_ins;
 mod updates;
 
 pub use clause::Given;

@@ -12,9 +12,8 @@ use Rattle.pg_meaning.specs.Texts.{text_checked}
 use Rattle.pg_meaning.specs.Tree.{Query}
 use Rattle.pg_meaning.specs.Value.{Entries}
 use Rattle.pg_meaning.specs.declared.fault.Fault.{Fault}
-use Rattle.pg_meaning.specs.declared.fault.Fault.TheVariants.{TextTooLong, ReadOnly, MissingParameter, NotYet}
+use Rattle.pg_meaning.specs.declared.fault.Fault.TheVariants.{TextTooLong, ReadOnly, MissingParameter}
 use Rattle.pg_plan.proofs.MeaningLemmas.{texts_mean}
-use Rattle.pg_plan.specs.Answered.{is_answered}
 use Rattle.pg_plan.specs.Reading.{greatest_text, tested_length}
 use Rattle.pg_plan.specs.Updates.{updates}
 use Rattle.pg_tenant.specs.Outcomes.{all_given, query_outcome, AnyPlanAnswers, TextMeans}
@@ -60,20 +59,14 @@ module _ (may_write : Bool) (max_steps max_elements : ℕ) (parameters : Entries
   abbrev given : Bool
   given = all_given (parameters_of q) parameters
 
-  abbrev behind_tests : Bool → Bool → Bool → Result Outcome Fault
-  behind_tests may all built = unless may ReadOnly >> (unless all MissingParameter >> (unless built NotYet >> answer))
+  abbrev behind_tests : Bool → Bool → Result Outcome Fault
+  behind_tests may all = unless may ReadOnly >> (unless all MissingParameter >> answer)
 
   pub read_only : (may_write || not (updates q)) ≡ false → outcome ≡ Err ReadOnly
-  read_only h = ap (λ b. behind_tests b given (is_answered q)) h
+  read_only h = ap (λ b. behind_tests b given) h
 
   pub missing : (may_write || not (updates q)) ≡ true → given ≡ false → outcome ≡ Err MissingParameter
-  missing h g = ap (λ b. behind_tests b given (is_answered q)) h ∙ ap (λ b. behind_tests true b (is_answered q)) g
+  missing h g = ap (λ b. behind_tests b given) h ∙ ap (behind_tests true) g
 
-  behind_given : (may_write || not (updates q)) ≡ true → given ≡ true → outcome ≡ behind_tests true true (is_answered q)
-  behind_given h g = ap (λ b. behind_tests b given (is_answered q)) h ∙ ap (λ b. behind_tests true b (is_answered q)) g
-
-  pub not_built : (may_write || not (updates q)) ≡ true → given ≡ true → is_answered q ≡ false → outcome ≡ Err NotYet
-  not_built h g none = behind_given h g ∙ ap (λ b. behind_tests true true b) none
-
-  pub answered_by : (may_write || not (updates q)) ≡ true → given ≡ true → is_answered q ≡ true → outcome ≡ answer
-  answered_by h g built = behind_given h g ∙ ap (λ b. behind_tests true true b) built
+  pub answered_by : (may_write || not (updates q)) ≡ true → given ≡ true → outcome ≡ answer
+  answered_by h g = ap (λ b. behind_tests b given) h ∙ ap (behind_tests true) g

@@ -1,4 +1,4 @@
--- What a query text gives over a tenant's graph: the text's own tests, whether its token may write, whether its parameters are given, whether it is answered so far, then its clauses.
+-- What a query text gives over a tenant's graph: the text's own tests, whether its token may write, whether its parameters are given, then its clauses.
 use Rattle.std.specs.Prelude.{◌≡◌, ℕ, ◌≤◌, Bool, ◌||◌, not, List, [], length, Result, Ok, is_some}
 use Rattle.std.specs.List.{list_all}
 use Rattle.pg_meaning.specs.Agreement.{OutcomeAgrees}
@@ -11,8 +11,7 @@ use Rattle.pg_meaning.specs.Queries.{Outcome, answer_of}
 use Rattle.pg_meaning.specs.Tree.{Query}
 use Rattle.pg_meaning.specs.Value.{Entries}
 use Rattle.pg_meaning.specs.declared.fault.Fault.{Fault}
-use Rattle.pg_meaning.specs.declared.fault.Fault.TheVariants.{ReadOnly, MissingParameter, NotYet}
-use Rattle.pg_plan.specs.Answered.{is_answered}
+use Rattle.pg_meaning.specs.declared.fault.Fault.TheVariants.{ReadOnly, MissingParameter}
 use Rattle.pg_plan.specs.Plans.{IsPlanOfText, plan_query}
 use Rattle.pg_meaning.specs.Texts.{text_checked}
 use Rattle.pg_plan.specs.Reading.{greatest_text, tested_length}
@@ -31,13 +30,9 @@ all_given names parameters = list_all (λ name. is_some (at_key name parameters)
 abbrev pub are_given : (parameters : Entries) → Query → Result (Unit {0}) Fault
 are_given parameters q = unless (all_given (parameters_of q) parameters) MissingParameter
 
--- the whole language is read, and a part of it is answered so far
-abbrev pub is_built : Query → Result (Unit {0}) Fault
-is_built q = unless (is_answered q) NotYet
-
 -- the tests of a query that come before any clause
 abbrev pub early_tests : Bool → (parameters : Entries) → Query → Result (Unit {0}) Fault
-early_tests may_write parameters q = unless (may_write || not (updates q)) ReadOnly >> (are_given parameters q >> is_built q)
+early_tests may_write parameters q = unless (may_write || not (updates q)) ReadOnly >> are_given parameters q
 
 module _ (may_write : Bool) (max_steps max_elements : ℕ) (parameters : Entries) where
   abbrev pub permitted : Query → Result (Unit {0}) Fault
@@ -45,7 +40,7 @@ module _ (may_write : Bool) (max_steps max_elements : ℕ) (parameters : Entries
 
   -- the tests before any clause, then the clauses
   abbrev pub query_outcome : Graph → Query → Result Outcome Fault
-  query_outcome graph q = permitted q >> (are_given parameters q >> (is_built q >> answer_of [] q parameters graph max_steps max_elements))
+  query_outcome graph q = permitted q >> (are_given parameters q >> answer_of [] q parameters graph max_steps max_elements)
 
   abbrev pub text_outcome : Graph → List ℕ → Result Outcome Fault
   text_outcome graph text = text_query text >>= query_outcome graph

@@ -65,8 +65,5 @@ pub fn answer_plan<T: Tables>(
     if !are_given(plan.parameters(), parameters) {
         return Err(Fault::MissingParameter);
     }
-    if !plan.is_answered() {
-        return Err(Fault::NotYet);
-    }
     answer_query(alloc, store, shared, quota, plan, parameters)
 }

@@ -1,0 +1,136 @@
+//! A store over tables.
+ghost use Rattle.std.specs.Prelude.{◌<◌};
+ghost use Rattle.pg_store.specs.Stores.{IsFit};
+
+use pg_graph::Tables;
+use pg_store::{Snapshot, Store};
+use pg_tables::PlainTables;
+use pg_value_core::{NodeId, Value};
+use std::alloc::{AllocError, Global};
+use std::process::Abort;
+use std::test::Fail;
+
+pub(crate) fn assert_room<T: Tables>(rt: &impl Abort, store: &Store<T>, shared: &T::Shared)
+    requires fit { IsFit T.seen store.now shared.now }
+    ensures room { store.now.next.node < 1000 }
+    ensures count { store.now.elements < 1000 }
+{
+    let next = store.next_ids();
+    assert!(rt; next.node < 1000);
+    let elements = store.elements();
+    assert!(rt; elements < 1000);
+}
+
+fn number_at<T: Tables>(graph: &Snapshot<'_, T>, id: u64, key: &str) -> Option<i64> {
+    match graph.property(NodeId(id), key) {
+        Some(Value::Int(n)) => Some(*n),
+        _ => None,
+    }
+}
+
+// Two nodes are made; labels may repeat, a later value stays, and null takes a key out.
+fn makes<T: Tables>(
+    rt: &impl Abort,
+    alloc: Global,
+    store: &mut Store<T>,
+    shared: &mut T::Shared,
+) -> Result<(), AllocError>
+    requires fit { IsFit T.seen store.old shared.old }
+    ensures fit { IsFit T.seen store.new shared.new }
+{
+    let labels = vec![in alloc; "B", "A", "B"]?;
+    let properties = vec![in alloc;
+        ("x", Value::Int(1)),
+        ("y", Value::Int(5)),
+        ("y", Value::Null),
+        ("x", Value::Int(2)),
+    ]?;
+    assert_room(rt, store, shared);
+    let first = store.create_node(alloc, shared, &labels, properties)?;
+    assert_eq!(rt; first, NodeId(0));
+    let labels = vec![in alloc; "B"]?;
+    assert_room(rt, store, shared);
+    let second = store.create_node(alloc, shared, &labels, Vec::new(alloc))?;
+    assert_eq!(rt; second, NodeId(1));
+    Ok(())
+}
+
+// A node that is made and taken back.
+fn makes_and_undoes<T: Tables>(
+    rt: &impl Abort,
+    alloc: Global,
+    store: &mut Store<T>,
+    shared: &mut T::Shared,
+) -> Result<(), AllocError>
+    requires fit { IsFit T.seen store.old shared.old }
+    ensures fit { IsFit T.seen store.new shared.new }
+{
+    let mark = store.mark();
+    let labels = vec![in alloc; "A"]?;
+    assert_room(rt, store, shared);
+    store.create_node(alloc, shared, &labels, Vec::new(alloc))?;
+    assert_eq!(rt; store.elements(), 3);
+    store.undo(shared, mark);
+    assert_eq!(rt; store.elements(), 2);
+    assert_eq!(rt; store.next_ids().node, 2);
+    Ok(())
+}
+
+fn reads<T: Tables>(
+    rt: &impl Abort,
+    alloc: Global,
+    store: &Store<T>,
+    shared: &T::Shared,
+) -> Result<(), AllocError>
+    requires fit { IsFit T.seen store.now shared.now }
+{
+    assert!(rt; store.graph(shared).has_node(NodeId(1)));
+    assert!(rt; !store.graph(shared).has_node(NodeId(2)));
+    assert_eq!(rt; number_at(&store.graph(shared), 0, "x"), Some(2));
+    assert_eq!(rt; number_at(&store.graph(shared), 0, "y"), None);
+    assert!(rt; store.graph(shared).has_label(NodeId(0), "A"));
+    assert!(rt; !store.graph(shared).has_label(NodeId(1), "A"));
+    let all = store.graph(shared).node_ids(alloc)?;
+    assert_eq!(rt; all.as_slice(), [NodeId(0), NodeId(1)].as_slice());
+    let named = store.graph(shared).nodes_with_label(alloc, "A")?;
+    assert_eq!(rt; named.as_slice(), [NodeId(0)].as_slice());
+    Ok(())
+}
+
+fn reads_texts<T: Tables>(
+    rt: &impl Abort,
+    alloc: Global,
+    store: &Store<T>,
+    shared: &T::Shared,
+) -> Result<(), AllocError>
+    requires fit { IsFit T.seen store.now shared.now }
+{
+    let missing = store.graph(shared).node_texts(alloc, NodeId(2))?;
+    assert!(rt; missing.is_none());
+    if let Some(texts) = store.graph(shared).node_texts(alloc, NodeId(0))? {
+        assert_eq!(rt; texts.labels.len(), 2);
+        assert_eq!(rt; texts.labels[0].as_str(), "A");
+        assert_eq!(rt; texts.labels[1].as_str(), "B");
+        assert_eq!(rt; texts.properties.len(), 1);
+    }
+    Ok(())
+}
+
+fn each_store_call<T: Tables>(rt: &impl Abort, alloc: Global) -> Result<(), AllocError>
+where
+    T::Shared: Drop,
+{
+    let mut shared = T::new_shared(alloc);
+    let mut store = Store::<T>::new(alloc, 7);
+    makes(rt, alloc, &mut store, &mut shared)?;
+    reads(rt, alloc, &store, &shared)?;
+    makes_and_undoes(rt, alloc, &mut store, &mut shared)?;
+    reads(rt, alloc, &store, &shared)?;
+    reads_texts(rt, alloc, &store, &shared)
+}
+
+#[test]
+fn store_over_plain_tables(rt: HostRuntime) -> Result<(), Fail> {
+    each_store_call::<PlainTables>(&rt, rt.alloc())?;
+    Ok(())
+}

@@ -1,0 +1,4 @@
+pub mod Values
+pub mod Slots
+pub mod Steps
+pub mod Found

@@ -1,0 +1,39 @@
+use Rattle.std.proofs.Common.{IsSome, subst, sym, ap, refl, ◌∙◌}
+use Rattle.std.specs.FinMap as map
+use Rattle.slab.specs.Slab.{get}
+use Rattle.pg_graph.proofs.Incident.{outgoing_rise, incoming_rise}
+use Rattle.pg_graph.proofs.Maps.{get_inserted, removed_inserted}
+use Rattle.pg_pool.proofs.Steps.{rel_added, nothing_changed}
+use Rattle.pg_pool.proofs.Values.{inside_none}
+use Rattle.pg_pool.proofs.pooled_tables.PooledTablesTables.add_rel.Goals as goal
+
+pub add-requires-clause-outgoing : goal.add-requires-clause-outgoing
+add-requires-clause-outgoing c = outgoing_rise _ _ c.requires.fits.incidence
+
+pub add-requires-clause-incoming : goal.add-requires-clause-incoming
+add-requires-clause-incoming c = incoming_rise _ _ c.requires.fits.incidence
+
+pub remove-requires : goal.remove-requires
+remove-requires c = subst IsSome (sym (ap (λ m. map.get m c.args.id.0) c.in_ok-insert.ensures.ok ∙ get_inserted _ c.args.id.0 _)) refl
+
+pub returns-in-Err : goal.returns-in-Err
+returns-in-Err c =
+    let absent = c.requires.absent in
+    let step = nothing_changed c.args.self.now c.args.shared.now (record { records = c.reserve.new.self }) c.remove.new.self c.add.new.self c.requires.fits
+    (λ k. ap (λ s. get s k) c.in_ok-reserve.ensures.rest_kept)
+    (c.remove.ensures.removed ∙ ap (λ m. map.remove m c.args.id.0) c.in_ok-insert.ensures.ok ∙ removed_inserted _ c.args.id.0 _ (inside_none _ _ _ absent))
+    (c.in-Err.ensures.err _ absent c.requires.fits.incidence) in
+    record { ok = tt; err = step.content; keeps = record { fits = step.fits; owner = refl; others = step.others } }
+
+pub returns : goal.returns
+returns c =
+    let inserted = c.insert_reserved.ensures in
+    let key = c.insert_reserved.result in
+    let reserved = c.in_ok-reserve.ensures.rest_kept in
+    let step = rel_added c.args.self.now c.args.shared.now (record { records = c.insert_reserved.new.self }) key c.requires.fits
+    (λ k ne. inserted.updates.others k ne ∙ ap (λ s. get s k) reserved)
+    c.args.id c.args.rel c.insert.new.self c.add.new.self (inside_none _ _ _ c.requires.absent)
+    (sym (ap (λ s. get s key) reserved) ∙ inserted.was_vacant) inserted.updates.changed
+    (c.in_ok-insert.ensures.ok ∙ ap (map.insert c.args.self.now.rels c.args.id.0) (c.vacant_key.ensures.value ∙ sym inserted.key))
+    (c.in_default.ensures.ok _ c.args.rel refl refl c.requires.absent c.requires.fits.incidence) in
+    record { ok = step.content; err = tt; keeps = record { fits = step.fits; owner = refl; others = step.others } }

@@ -1,0 +1,15 @@
+use Rattle.std.proofs.Common.{option_copied, sym, ap, ◌∙◌}
+use Rattle.std.specs.Option.{option_map}
+use Rattle.pg_pool.proofs.Found.{rel_there}
+use Rattle.pg_pool.proofs.Values.{outside_some}
+use Rattle.pg_pool.specs.Records.{rel_at}
+use Rattle.pg_pool.specs.Values.{get-map_values}
+use Rattle.pg_pool.proofs.pooled_tables.PooledTablesTables.rel.Goals as goal
+
+pub returns-in_err-key : goal.returns-in_err-key
+returns-in_err-key c = ap option_copied c.from_residual.ensures ∙ ap (option_map (rel_at c.args.shared.now.records)) c.in_err-key.ensures ∙ sym (get-map_values _ _ _)
+
+pub returns : goal.returns
+returns c =
+    let found = sym c.in_ok-key.ensures in
+    c.rel.ensures ∙ rel_there _ _ _ ((c.requires.rels _ _).0 found) ∙ sym (outside_some _ _ _ _ found)

@@ -1,0 +1,8 @@
+//! Tables whose records are all in one pool, which the tables of all owners share.
+#![tactic(auto)]
+
+mod pool;
+mod pooled_tables;
+
+pub use pool::Pool;
+pub use pooled_tables::PooledTables;

@@ -1,0 +1,136 @@
+//! One owner's tables over a pool.
+ghost use Rattle.std.specs.Prelude.{◌≢◌};
+ghost use Rattle.pg_graph.specs.Content.{OthersStay};
+ghost use Rattle.pg_pool.specs.Tables.{pooled, AreRecords, SlotsStay};
+
+use crate::pool::{Pool, Record};
+use pg_graph::{ById, Incidence, NodeRecord, Properties, RelRecord, Tables};
+use pg_value_core::{NodeId, RelId};
+use std::alloc::{AllocError, Global};
+
+/// One owner's nodes and relationships: the slots of their records, and the relationships at each
+/// node.
+#[derive(Drop)]
+pub struct PooledTables {
+    owner: u32,
+    nodes: ById<usize>,
+    rels: ById<usize>,
+    incidence: Incidence,
+}
+
+impl PooledTables {
+    /// A change of the tables of another owner leaves each record of this one in its slot.
+    pub fn law_of_slots(&self, before: &Pool, after: &Pool, owner: u32)
+        requires fits { ⟦<PooledTables as Tables>⟧.seen.fits self.now before.now }
+        requires apart { self.now.owner ≢ owner }
+        requires others { OthersStay ⟦<PooledTables as Tables>⟧.seen owner before.now after.now }
+        ensures { SlotsStay self.now.owner before.now after.now }
+    {}
+
+    /// What these tables hold is exactly their owner's records in the pool, each element in one slot.
+    pub fn law_of_records(&self, pool: &Pool)
+        requires { ⟦<PooledTables as Tables>⟧.seen.fits self.now pool.now }
+        ensures { AreRecords (⟦<PooledTables as Tables>⟧.seen.content self.now pool.now) self.now.owner pool.now }
+    {}
+}
+
+impl Tables for PooledTables {
+    type Shared = Pool;
+
+    ghost seen = { pooled };
+
+    fn new_shared(alloc: Global) -> Pool {
+        Pool::new(alloc)
+    }
+
+    fn new(alloc: Global, owner: u32) -> Self {
+        PooledTables {
+            owner,
+            nodes: ById::new(alloc),
+            rels: ById::new(alloc),
+            incidence: Incidence::new(alloc),
+        }
+    }
+
+    fn node<'a>(&'a self, shared: &'a Pool, id: NodeId) -> Option<&'a NodeRecord> {
+        let key = self.nodes.get(id.0)?;
+        shared.node(*key)
+    }
+
+    fn rel<'a>(&'a self, shared: &'a Pool, id: RelId) -> Option<&'a RelRecord> {
+        let key = self.rels.get(id.0)?;
+        shared.rel(*key)
+    }
+
+    fn outgoing<'a>(&'a self, _shared: &'a Pool, node: NodeId) -> &'a [RelId] {
+        self.incidence.outgoing(node)
+    }
+
+    fn incoming<'a>(&'a self, _shared: &'a Pool, node: NodeId) -> &'a [RelId] {
+        self.incidence.incoming(node)
+    }
+
+    fn add_node(
+        &mut self,
+        shared: &mut Pool,
+        id: NodeId,
+        node: NodeRecord,
+    ) -> Result<(), AllocError> {
+        shared.records.reserve(1)?;
+        self.nodes.insert(id.0, shared.records.vacant_key())?;
+        let owner = self.owner;
+        shared
+            .records
+            .insert_reserved(Record::Node { owner, id, node });
+        Ok(())
+    }
+
+    fn add_rel(&mut self, shared: &mut Pool, id: RelId, rel: RelRecord) -> Result<(), AllocError> {
+        shared.records.reserve(1)?;
+        self.rels.insert(id.0, shared.records.vacant_key())?;
+        if let Err(e) = self.incidence.add(id, rel.source, rel.target) {
+            self.rels.remove(id.0);
+            return Err(e);
+        }
+        let owner = self.owner;
+        shared
+            .records
+            .insert_reserved(Record::Rel { owner, id, rel });
+        Ok(())
+    }
+
+    fn change(&mut self, shared: &mut Pool, id: NodeId, node: NodeRecord) -> NodeRecord {
+        let key = *self.nodes.get(id.0).unwrap();
+        let owner = self.owner;
+        match shared.replace(key, Record::Node { owner, id, node }) {
+            Record::Node { node: before, .. } => before,
+            Record::Rel { .. } => unreachable!(),
+        }
+    }
+
+    fn change_rel(&mut self, shared: &mut Pool, id: RelId, properties: Properties) -> Properties {
+        let key = *self.rels.get(id.0).unwrap();
+        let rel = shared.rel(key).unwrap().with_properties(properties);
+        let owner = self.owner;
+        match shared.replace(key, Record::Rel { owner, id, rel }) {
+            Record::Rel { rel: before, .. } => {
+                let RelRecord { properties, .. } = before;
+                properties
+            }
+            Record::Node { .. } => unreachable!(),
+        }
+    }
+
+    fn drop_rel(&mut self, shared: &mut Pool, id: RelId) {
+        let key = self.rels.remove(id.0);
+        match shared.records.remove(key) {
+            Record::Rel { rel, .. } => self.incidence.remove(id, rel.source, rel.target),
+            Record::Node { .. } => unreachable!(),
+        }
+    }
+
+    fn drop_node(&mut self, shared: &mut Pool, id: NodeId) {
+        let key = self.nodes.remove(id.0);
+        drop(shared.records.remove(key));
+    }
+}

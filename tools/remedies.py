@@ -37,7 +37,6 @@ REMEDIES = {
     42: "not while a transaction is open",
     43: "this session holds no such page",
     44: "the tenant may hold no more rows: pull or drop pages that are held",
-    90: "this part of the language isn't answered yet",
     99: "the server found no memory; the request changed nothing, and can be sent again",
 }
 

@@ -174,7 +174,7 @@ NAMES = {
     20: "NotStorable", 21: "MergeNull", 22: "NodeStillConnected", 23: "DeletedEntity",
     24: "NegativeCount", 25: "StepQuota", 26: "ElementQuota", 27: "IdsExhausted", 28: "IndexExists",
     29: "NoSuchIndex", 30: "TooManyIndexes", 31: "ReplyTooLong", 40: "TenantBusy", 41: "NoTransaction",
-    42: "TransactionOpen", 43: "NoSuchPage", 44: "HeldRowsQuota", 90: "NotYet", 99: "OutOfMemory",
+    42: "TransactionOpen", 43: "NoSuchPage", 44: "HeldRowsQuota", 99: "OutOfMemory",
 }
 
 # the exception of each refusal, by its number; each is an attribute of this module too

@@ -1,72 +1,54 @@
-//! How long nodes take to add to tables and to look up, and how much memory they hold. Without an
-//! argument it does a little and tells sums alone. `bench_tables COUNT` tells the microseconds of
-//! adding so many nodes, of looking each up in rising order, and of looking each up in jumps, and
-//! before and after they are added what the system tells of the process' memory.
+//! How long tables and a store of nodes and relationships take, and how much memory they hold. With
+//! no argument it does a little of each kind of work and tells sums alone. `bench_tables COUNT PART`
+//! does each so many times and tells the microseconds, sums over what was found, and what the system
+//! tells of the process' memory. PART is `tables` or `store`, and a third word, `pool`, has their
+//! records in a pool.
 #![tactic(auto)]
 
+mod measures;
+mod report;
+mod stores;
 mod work;
 
+use anyhow::anyhow;
+use measures::{measure_store, measure_tables};
 use pg_graph::Tables;
+use pg_pool::PooledTables;
 use pg_tables::PlainTables;
-use std::time::Instant;
-use std::{env, fs};
-use work::{Schema, fill, sum};
-
-// Far apart, and no divisor of a power of ten.
-const JUMP: u64 = 7919;
+use report::Report;
+use std::env;
 
 fn main(rt: HostRuntime) -> anyhow::Result<()> {
     let mut args = env::args(&rt)?;
     drop(args.next());
+    let (Some(count), Some(part)) = (args.next(), args.next()) else {
+        return small(&rt);
+    };
+    let count = count.as_str().parse()?;
     match args.next() {
-        Some(count) => measure::<PlainTables>(&rt, count.as_str().parse()?),
-        None => small::<PlainTables>(&rt),
+        Some(_) => measure::<PooledTables>(&rt, count, part.as_str()),
+        None => measure::<PlainTables>(&rt, count, part.as_str()),
+    }
+}
+
+fn measure<T: Tables>(rt: &HostRuntime, count: u64, part: &str) -> anyhow::Result<()>
+where
+    T::Shared: Drop,
+{
+    let report = Report::new(rt, false);
+    match part {
+        "tables" => measure_tables::<T>(rt.alloc(), &report, count),
+        "store" => measure_store::<T>(rt.alloc(), &report, count),
+        _ => Err(anyhow!("'{part}' is neither tables nor store")),
     }
 }
 
 /// A little of each kind of work.
-fn small<T: Tables>(rt: &HostRuntime) -> anyhow::Result<()>
-where
-    T::Shared: Drop,
-{
+fn small(rt: &HostRuntime) -> anyhow::Result<()> {
     let alloc = rt.alloc();
-    let schema = Schema::new(alloc)?;
-    let mut shared = T::new_shared(alloc);
-    let mut tables = T::new(alloc, 0);
-    fill(alloc, &mut tables, &mut shared, &schema, 1000)?;
-    for step in [1, JUMP] {
-        let total = sum(&tables, &shared, &schema, 1000, step);
-        println!(rt; "read {total}")?;
-    }
-    Ok(())
-}
-
-fn measure<T: Tables>(rt: &HostRuntime, count: u64) -> anyhow::Result<()>
-where
-    T::Shared: Drop,
-{
-    let alloc = rt.alloc();
-    let schema = Schema::new(alloc)?;
-    let mut shared = T::new_shared(alloc);
-    let mut tables = T::new(alloc, 0);
-    print_memory(rt)?;
-    let start = Instant::now(rt)?;
-    fill(alloc, &mut tables, &mut shared, &schema, count)?;
-    let time = start.elapsed(rt)?;
-    println!(rt; "add {}", time.as_micros())?;
-    print_memory(rt)?;
-    for step in [1, JUMP] {
-        let start = Instant::now(rt)?;
-        let total = sum(&tables, &shared, &schema, count, step);
-        let time = start.elapsed(rt)?;
-        println!(rt; "read {} {total}", time.as_micros())?;
-    }
-    Ok(())
-}
-
-/// The process' size and its resident part, in pages, and more.
-fn print_memory(rt: &HostRuntime) -> anyhow::Result<()> {
-    let pages = fs::read_to_string(rt, "/proc/self/statm")?;
-    print!(rt; "memory {pages}")?;
-    Ok(())
+    let report = Report::new(rt, true);
+    measure_tables::<PlainTables>(alloc, &report, 1000)?;
+    measure_tables::<PooledTables>(alloc, &report, 1000)?;
+    measure_store::<PlainTables>(alloc, &report, 1000)?;
+    measure_store::<PooledTables>(alloc, &report, 1000)
 }

@@ -10,8 +10,8 @@ mod tests;
 use command::{Command, command_of};
 use fault::ProgramFault;
 use outcome::{line_of, status_of};
+use pg_pool::PooledTables;
 use pg_server::{Config, Counted, End, ServeFault, Server, serve_on};
-use pg_tables::PlainTables;
 use std::hash::RandomState;
 use std::io::BufReader;
 use std::net::{Ipv4Addr, TcpListener};
@@ -48,7 +48,7 @@ fn run_words(rt: &HostRuntime) -> Result<End, ProgramFault> {
 fn new_server(
     rt: &HostRuntime,
     path: &str,
-) -> Result<Server<RandomState, PlainTables>, ProgramFault> {
+) -> Result<Server<RandomState, PooledTables>, ProgramFault> {
     let bytes = read_file(rt, path)?;
     let config = Config::read(rt.alloc(), &bytes)?;
     let Ok(hasher) = RandomState::new(rt) else {
@@ -68,7 +68,7 @@ fn read_file(rt: &HostRuntime, path: &str) -> Result<Vec<u8>, ProgramFault> {
 /// Serves standard input to standard output, until its end.
 fn serve_standard(
     rt: &HostRuntime,
-    mut server: Server<RandomState, PlainTables>,
+    mut server: Server<RandomState, PooledTables>,
 ) -> Result<End, ProgramFault> {
     let mut reader = Counted::new(BufReader::new(rt.alloc(), rt.reader())?);
     let mut writer = Counted::new(io::writer(rt));
@@ -78,7 +78,7 @@ fn serve_standard(
 /// Serves so many connections at a port of this machine.
 fn serve_port(
     rt: &HostRuntime,
-    mut server: Server<RandomState, PlainTables>,
+    mut server: Server<RandomState, PooledTables>,
     port: u16,
     count: u64,
 ) -> Result<End, ProgramFault> {

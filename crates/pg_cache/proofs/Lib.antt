@@ -1,4 +1,6 @@
+pub mod Keys
 pub mod Entries
 pub mod Planned
 pub mod LookUps
 pub mod Capacity
+pub mod Seen

@@ -1,13 +1,15 @@
-//! A cache of plans under their texts, of which the last used stay.
+//! A cache of plans under their texts and indexes, of which the last used stay.
 ghost use Rattle.std.specs.Prelude.{◌≡◌, ◌≢◌, None, Some, IfOk, IfErr, Err, string_bytes};
 ghost use Rattle.std.specs.NonZero.{non_zero_usize_get};
-ghost use Rattle.pg_cache.specs.Cache.{empty_cache, kept, IsHit, IsMiss, MayKeep};
+ghost use Rattle.pg_anchors.specs.Catalogue.{catalogue_view};
+ghost use Rattle.pg_cache.specs.Cache.{empty_cache, kept, key_of, key_view, IsHit, IsMiss, MayKeep};
 ghost use Rattle.pg_meaning.specs.declared.fault.Fault.TheVariants.{OutOfMemory};
 ghost use Rattle.pg_plan.specs.Plans.{IsPlanOfText};
 ghost use Rattle.pg_meaning.specs.Texts.{text_checked};
 
+use crate::key::Key;
 use lru::LruCache;
-use pg_plan::{Plan, plan_text};
+use pg_plan::{Catalogue, Plan, plan_text};
 use pg_value_core::Fault;
 use std::alloc::{AllocError, Global};
 use std::hash::BuildHasher;
@@ -15,10 +17,10 @@ use std::marker::Model;
 use std::num::NonZeroUsize;
 use std::rc::Rc;
 
-/// Plans under their texts, and how many look-ups found theirs. A refusal isn't kept.
+/// Plans under their texts and indexes, and how many look-ups found theirs. A refusal isn't kept.
 #[derive(Drop)]
 pub struct PlanCache<S: BuildHasher + Drop> {
-    plans: LruCache<String, Rc<Plan>, S>,
+    plans: LruCache<Key, Rc<Plan>, S>,
     hits: u64,
     misses: u64,
 }
@@ -27,11 +29,12 @@ impl<S: BuildHasher + Drop> Model for PlanCache<S> {
     ghost use Rattle.std.specs.Prelude.{map};
     ghost use Rattle.std.specs.Coded.{codes};
     ghost use Rattle.pg_cache.specs.Cache.{Cache, entry_view, ArePlanned};
+    ghost use Rattle.pg_plan.specs.Begins.{plan_from-prop};
     ghost use Rattle.pg_syntax_tree.specs.contracts.expression.Expression as expression;
 
     ghost Value = { Cache };
 
-    ghost coded = { Prim.hlevel (codes, expression.the_row.coded) };
+    ghost coded = { Prim.hlevel (codes, expression.the_row.coded, plan_from-prop) };
 
     ghost view = { λ c. record { entries = map entry_view c.plans.entries; capacity = c.plans.cap; hits = c.hits; misses = c.misses } };
 
@@ -51,46 +54,53 @@ impl<S: BuildHasher + Drop> PlanCache<S> {
         })
     }
 
-    /// Some plan of a text, which is kept from then on if there is memory for that.
-    pub fn plan_for(&mut self, alloc: Global, text: &str) -> Result<Rc<Plan>, Fault>
-        ensures ok { IfOk result (λ p. IsPlanOfText text.now p.value) }
-        ensures err { IfErr result (λ e. e ≢ OutOfMemory → text_checked text.now ≡ Err e) }
-        ensures hit { (plan : _) → kept self.old text.now ≡ Some plan → IsHit self.old self.new text.now plan result }
-        ensures miss { kept self.old text.now ≡ None → IsMiss self.old self.new text.now result }
+    /// The plan of a text where there are these indexes, which is kept from then on if there is memory for that. The
+    /// text and the list become the key, so that nothing is copied.
+    pub fn plan_for(
+        &mut self,
+        alloc: Global,
+        text: String,
+        catalogue: Rc<Catalogue>,
+    ) -> Result<Rc<Plan>, Fault>
+        ensures ok { IfOk result (λ p. IsPlanOfText (string_bytes text) (catalogue_view catalogue.value.items) p.value) }
+        ensures err { IfErr result (λ e. e ≢ OutOfMemory → text_checked (string_bytes text) ≡ Err e) }
+        ensures hit { (plan : _) → kept self.old (key_of text catalogue) ≡ Some plan → IsHit self.old self.new (key_of text catalogue) plan result }
+        ensures miss { kept self.old (key_of text catalogue) ≡ None → IsMiss self.old self.new (key_of text catalogue) result }
     {
-        if let Some(plan) = self.plans.get(text) {
+        let key = Key { text, catalogue };
+        if let Some(plan) = self.plans.get(&key) {
             self.hits = self.hits.saturating_add(1);
             return Ok(plan.clone()?);
         }
-        self.make_plan(alloc, text)
+        self.make_plan(alloc, key)
     }
 
-    /// A plan of a text that has none here.
-    fn make_plan(&mut self, alloc: Global, text: &str) -> Result<Rc<Plan>, Fault>
-        requires { kept self.old text.now ≡ None }
-        ensures ok { IfOk result (λ p. IsPlanOfText text.now p.value) }
-        ensures err { IfErr result (λ e. e ≢ OutOfMemory → text_checked text.now ≡ Err e) }
-        ensures miss { IsMiss self.old self.new text.now result }
+    /// A plan for a key that has none here.
+    fn make_plan(&mut self, alloc: Global, key: Key) -> Result<Rc<Plan>, Fault>
+        requires { kept self.old (key_view key) ≡ None }
+        ensures ok { IfOk result (λ p. IsPlanOfText (key_view key).0 (key_view key).1 p.value) }
+        ensures err { IfErr result (λ e. e ≢ OutOfMemory → text_checked (key_view key).0 ≡ Err e) }
+        ensures miss { IsMiss self.old self.new (key_view key) result }
     {
-        let key = String::from_str(alloc, text)?;
         self.misses = self.misses.saturating_add(1);
-        let plan = Rc::new(alloc, plan_text(alloc, text)?)?;
+        let plan = plan_text(alloc, key.text.as_str(), &key.catalogue)?;
+        let plan = Rc::new(alloc, plan)?;
         self.keep(key, &plan);
         Ok(plan)
     }
 
     /// Puts a plan first, if there is memory for that.
-    fn keep(&mut self, text: String, plan: &Rc<Plan>)
-        requires absent { kept self.old (string_bytes text) ≡ None }
-        requires planned { IsPlanOfText (string_bytes text) plan.now.value }
-        ensures { MayKeep self.old self.new (string_bytes text) plan.now.value }
+    fn keep(&mut self, key: Key, plan: &Rc<Plan>)
+        requires absent { kept self.old (key_view key) ≡ None }
+        requires planned { IsPlanOfText (key_view key).0 (key_view key).1 plan.now.value }
+        ensures { MayKeep self.old self.new (key_view key) plan.now.value }
     {
         if let Ok(plan) = plan.clone() {
-            drop(self.plans.put(text, plan));
+            drop(self.plans.put(key, plan));
         }
     }
 
-    /// How many look-ups found their text, and how many didn't.
+    /// How many look-ups found their plan, and how many didn't.
     pub fn stats(&self) -> (u64, u64)
         ensures { result ≡ (self.now.hits, self.now.misses) }
     {

@@ -2,5 +2,6 @@
 #![tactic(auto)]
 
 mod cache;
+mod key;
 
 pub use cache::PlanCache;

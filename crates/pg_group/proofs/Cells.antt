@@ -1,5 +1,5 @@
 -- The cells of a group and what is kept of it, side by side, as a row is taken in.
-use Rattle.std.proofs.Common.{◌≡◌, ℕ, suc, Bool, true, false, List, [], ◌∷◌, length, map, Result, Ok, Err, Option, Some, None, refl, sym, ap, ◌∙◌, subst, arith}
+use Rattle.std.proofs.Common.{◌≡◌, ℕ, Bool, true, false, List, [], ◌∷◌, length, map, Result, Ok, Err, Option, Some, None, refl, sym, ap, ◌∙◌, subst, arith}
 use Rattle.pg_group.proofs.Folding.{taken_more, told_of}
 use Rattle.pg_group.proofs.Lifts.{Lifted, both, mapped, same, by_map}
 use Rattle.pg_group.specs.Items.{Item, grouping, aggregate, item_by, item_of, before_keys, keys_in, before_aggregates, aggregates_in, is_aggregate, are_aggregates, columns_of}

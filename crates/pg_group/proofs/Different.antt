@@ -6,7 +6,6 @@ use Rattle.indexmap.specs.IndexSet.{insert_key}
 use Rattle.pg_group.specs.Summaries.{Held, Taken, held_with, other_with}
 use Rattle.pg_meaning.specs.Answer.{◌>>=◌}
 use Rattle.pg_meaning.specs.Order.{value_order, is_equivalent}
-use Rattle.pg_meaning.specs.Value.{Value as Datum}
 use Rattle.pg_meaning.specs.declared.fault.Fault.{Fault}
 use Rattle.pg_value_core.specs.View.{view}
 use Rattle.pg_value_core.specs.declared.value.Value.{Value}

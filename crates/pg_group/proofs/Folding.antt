@@ -1,10 +1,11 @@
 -- What is kept of values and one more is what is kept of the values with that one more.
-use Rattle.std.proofs.Common.{◌≡◌, ◌+◌, ℤ, pos, Bool, true, false, cond, List, [], ◌∷◌, ◌++◌, length, fold, Result, Ok, Err, Option, Some, None, refl, sym, ap, ◌∙◌, arith, ◌&&◌, length-append}
+use Rattle.std.proofs.Common.{◌≡◌, ℤ, pos, Bool, true, false, cond, List, [], ◌∷◌, ◌++◌, Result, Ok, Err, Option, Some, None, refl, sym, ap, ◌∙◌, arith, ◌&&◌, length-append}
 use Rattle.std.proofs.lemmas.Int.{ints}
 use Rattle.std.proofs.lemmas.List.Sums.{fold-append}
 use Rattle.std.specs.List.{list_any}
 use Rattle.std.specs.Prelude.{◌+ℤ◌}
-use Rattle.pg_group.specs.Summaries.{Held, count, sum, lowest, highest, values, best_of, held_of, held_with, better, added, collected, told, value_or_null, Taken, different_of, taken_of, taken_with, other_with, is_null}
+use Rattle.pg_group.proofs.Best.{lowest_stays, highest_stays}
+use Rattle.pg_group.specs.Summaries.{Held, count, sum, lowest, highest, values, best_of, held_of, held_with, better, told, value_or_null, Taken, different_of, needs_different, taken_of, taken_with, other_with}
 use Rattle.pg_meaning.specs.Aggregates.{Summary, counting, summing, least, greatest, collecting, Aggregate, total, extended, take_in, lesser, greater, best, summarized}
 use Rattle.pg_meaning.specs.Answer.{◌>>=◌}
 use Rattle.pg_meaning.specs.Arithmetic.{is_in_range}
@@ -12,7 +13,7 @@ use Rattle.pg_meaning.specs.Measure.{is_within_limits}
 use Rattle.pg_meaning.specs.Order.{is_equivalent}
 use Rattle.pg_meaning.specs.Value.{Value, null, boolean, integer, text, list, mapping, node, relationship, path, values_of}
 use Rattle.pg_meaning.specs.declared.fault.Fault.{Fault}
-use Rattle.pg_meaning.specs.declared.fault.Fault.TheVariants.{TypeFault, Overflow, ValueTooLarge}
+use Rattle.pg_meaning.specs.declared.fault.Fault.TheVariants.{Overflow, ValueTooLarge}
 
 rotated : (i j k : ℤ) → (i +ℤ (j +ℤ k)) ≡ ((i +ℤ j) +ℤ k)
 rotated i j k = omega (arith, ints)
@@ -83,22 +84,31 @@ mapped s vs v g =
 -- ---- where a value isn't null
 
 abbrev with_taken : Summary → Bool → List Value → Result Taken Fault
-with_taken s distinct vs = Ok (record { different = different_of distinct vs; held = held_of s vs })
+with_taken s distinct vs = Ok (record { different = different_of (distinct && needs_different s) vs; held = held_of s vs })
 
 abbrev new_different : Option (List Value) → Held → Result Taken Fault
 new_different o h = Ok (record { different = o; held = h })
 
 unless_taken : (s : Summary) (vs : List Value) (v : Value) (b : Bool)
-    → (elim b as (λ c. Result (List Value) Fault) [ true ↦ Ok vs | false ↦ extended s vs v ] >>= with_taken s true)
+    → (elim b as (λ c. Result (List Value) Fault) [ true ↦ Ok vs | false ↦ extended s vs v ] >>= λ ws. new_different (Some ws) (held_of s ws))
     ≡ cond b (new_different (Some vs) (held_of s vs)) (held_with (held_of s vs) v >>= new_different (Some (vs ++ v ∷ [])))
 unless_taken s vs v true = refl
 unless_taken s vs v false = mapped s vs v (λ p. new_different (Some p.0) p.1)
 
+anyway : (s : Summary) (vs : List Value) (v : Value) (b : Bool) → (b ≡ true → new_different None (held_of s vs) ≡ (held_with (held_of s vs) v >>= new_different None))
+    → (elim b as (λ c. Result (List Value) Fault) [ true ↦ Ok vs | false ↦ extended s vs v ] >>= λ ws. new_different None (held_of s ws)) ≡ (held_with (held_of s vs) v >>= new_different None)
+anyway s vs v true stays = stays refl
+anyway s vs v false stays = mapped s vs v (λ p. new_different None p.1)
+
 by_distinct : (s : Summary) (distinct : Bool) (vs : List Value) (v : Value)
     → (elim (distinct && list_any (is_equivalent v) vs) as (λ c. Result (List Value) Fault) [ true ↦ Ok vs | false ↦ extended s vs v ] >>= with_taken s distinct)
-    ≡ other_with (different_of distinct vs) (held_of s vs) v
-by_distinct s true vs v = unless_taken s vs v (list_any (is_equivalent v) vs)
+    ≡ other_with (different_of (distinct && needs_different s) vs) (held_of s vs) v
 by_distinct s false vs v = mapped s vs v (λ p. new_different None p.1)
+by_distinct counting true vs v = unless_taken counting vs v (list_any (is_equivalent v) vs)
+by_distinct summing true vs v = unless_taken summing vs v (list_any (is_equivalent v) vs)
+by_distinct collecting true vs v = unless_taken collecting vs v (list_any (is_equivalent v) vs)
+by_distinct least true vs v = anyway least vs v (list_any (is_equivalent v) vs) (λ h. ap (λ o. new_different None (lowest o)) (lowest_stays vs v h))
+by_distinct greatest true vs v = anyway greatest vs v (list_any (is_equivalent v) vs) (λ h. ap (λ o. new_different None (highest o)) (highest_stays vs v h))
 
 pub taken_more : (a : Aggregate) (vs : List Value) (v : Value) → (take_in a vs v >>= λ ws. Ok (taken_of a ws)) ≡ taken_with (taken_of a vs) v
 taken_more a vs null = refl

@@ -1,10 +1,9 @@
 -- The groups of the definition and those that the program keeps, side by side.
-use Rattle.std.proofs.Common.{◌≡◌, ℕ, suc, Bool, true, false, cond, not, is_some, List, [], ◌∷◌, length, map, filter, Result, Ok, Err, Option, Some, None, refl, sym, ap, ◌∙◌, subst, arith}
+use Rattle.std.proofs.Common.{◌≡◌, ℕ, Bool, true, false, cond, not, is_some, List, [], ◌∷◌, length, map, Result, Ok, Err, Option, Some, None, refl, sym, ap, ◌∙◌, subst, arith}
 use Rattle.pg_group.proofs.Cells.{Cells, begun_cells, old_cells, new_cells, tested, Either, told_cells}
 use Rattle.pg_group.proofs.Lifts.{Lifted, both}
 use Rattle.pg_group.specs.Items.{item_by, before_keys, keys_in, aggregates_in, are_aggregates, columns_of, of_columns}
 use Rattle.pg_group.specs.Kept.{Kept, Answers, answers_at, all_taken_in, begun, into_kept, items_tested, without_group, kept_row, first_kept, kept_rows, kept_values, merged, told_each, rows_given}
-use Rattle.pg_group.specs.Summaries.{Taken}
 use Rattle.pg_meaning.specs.Aggregates.{Aggregate, aggregate_of}
 use Rattle.pg_meaning.specs.Answer.{◌>>=◌, ◌>>◌, each_answer, each_step}
 use Rattle.pg_meaning.specs.Expressions.{evaluate}

@@ -1,3 +1,4 @@
+pub mod Best
 pub mod Cells
 pub mod Different
 pub mod Folding

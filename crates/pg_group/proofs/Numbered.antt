@@ -14,7 +14,7 @@ use Rattle.pg_group.specs.Views.{takens_view}
 use Rattle.pg_group.specs.declared.taken.Taken.{Taken}
 use Rattle.pg_meaning.specs.Aggregates.{Aggregate}
 use Rattle.pg_meaning.specs.Answer.{◌>>=◌}
-use Rattle.pg_meaning.specs.Order.{value_order, is_equivalent}
+use Rattle.pg_meaning.specs.Order.{value_order}
 use Rattle.pg_meaning.specs.OrderLaws.{order_total}
 use Rattle.pg_meaning.specs.Projections.{same_values}
 use Rattle.pg_meaning.specs.Value.{Value as Datum}

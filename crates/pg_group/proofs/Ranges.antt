@@ -1,5 +1,5 @@
 -- A sum within 64 bits is what the definition has in range.
-use Rattle.std.proofs.Common.{◌≡◌, ℤ, pos, negsuc, Bool, true, false, cond, refl, ap, rules}
+use Rattle.std.proofs.Common.{◌≡◌, ℤ, pos, negsuc, true, false, rules}
 use Rattle.std.specs.Int.{w64}
 use Rattle.std.specs.Prelude.{FitsSigned}
 use Rattle.pg_meaning.specs.Arithmetic.{is_in_range}

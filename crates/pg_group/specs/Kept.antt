@@ -1,5 +1,5 @@
 -- Groups with what is kept of them: the values of the items that group, and of each aggregate what it needs of its values.
-use Rattle.std.specs.Prelude.{ℕ, Bool, true, false, List, [], ◌∷◌, map, Result, Ok, Err, Option, Some, None}
+use Rattle.std.specs.Prelude.{ℕ, Bool, true, false, List, [], ◌∷◌, map, Result, Ok, Err, Some, None}
 use Rattle.pg_group.specs.Items.{Item, grouping, aggregate, item_of, keys_in, aggregates_in, are_aggregates}
 use Rattle.pg_group.specs.Summaries.{Taken, taken_of, taken_with, told}
 use Rattle.pg_meaning.specs.Aggregates.{Aggregate}

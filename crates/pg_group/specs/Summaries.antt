@@ -1,5 +1,5 @@
 -- What is kept of the values that an aggregate has taken in.
-use Rattle.std.specs.Prelude.{Bool, true, false, cond, List, [], ◌∷◌, ◌++◌, length, fold, Result, Ok, Err, Option, Some, None, ℤ, pos, ◌+ℤ◌}
+use Rattle.std.specs.Prelude.{Bool, true, false, cond, ◌&&◌, List, [], ◌∷◌, ◌++◌, length, fold, Result, Ok, Err, Option, Some, None, ℤ, pos, ◌+ℤ◌}
 use Rattle.std.specs.List.{list_any}
 use Rattle.pg_meaning.specs.Aggregates.{Summary, counting, summing, least, greatest, collecting, Aggregate, total, lesser, greater}
 use Rattle.pg_meaning.specs.Answer.{◌>>=◌}
@@ -61,7 +61,13 @@ told (lowest o) = value_or_null o
 told (highest o) = value_or_null o
 told (values vs) = list (values_of vs)
 
--- beside it the different values so far, where DISTINCT is written
+-- of the best value DISTINCT changes nothing
+abbrev pub needs_different : Summary → Bool
+needs_different least = false
+needs_different greatest = false
+needs_different s = true
+
+-- beside it the different values so far, where DISTINCT needs them
 pub record Taken : Type 0 where
   pub different : Option (List Value)
   pub held : Held
@@ -71,10 +77,10 @@ different_of true vs = Some vs
 different_of false vs = None
 
 abbrev pub taken_of : Aggregate → List Value → Taken
-taken_of a vs = record { different = different_of a.distinct vs; held = held_of a.summary vs }
+taken_of a vs = record { different = different_of (a.distinct && needs_different a.summary) vs; held = held_of a.summary vs }
 
 abbrev pub begun : Summary → (distinct : Bool) → Taken
-begun s distinct = record { different = different_of distinct []; held = held_of s [] }
+begun s distinct = record { different = different_of (distinct && needs_different s) []; held = held_of s [] }
 
 -- of a value that isn't null
 abbrev pub other_with : Option (List Value) → Held → Value → Result Taken Fault

@@ -1,6 +1,6 @@
 //! What is kept of an aggregate in a group.
 ghost use Rattle.std.specs.Prelude.{◌≡◌, Some, map};
-ghost use Rattle.pg_group.specs.Summaries.{begun, is_null, other_with, taken_with};
+ghost use Rattle.pg_group.specs.Summaries.{begun, is_null, needs_different, other_with, taken_with};
 ghost use Rattle.pg_group.specs.Views.{held_view, taken_view};
 ghost use Rattle.pg_scope.specs.Calls.{summary_view};
 ghost use Rattle.pg_value_core.specs.Gives.{Gives};
@@ -12,11 +12,21 @@ use pg_scope::Summary;
 use pg_value_core::{Fault, Value};
 use std::alloc::Global;
 
-/// What is kept of the values taken in, and where DISTINCT is written the different values so far.
+/// What is kept of the values taken in, and where DISTINCT needs them the different values so far.
 #[derive(Drop)]
 pub(crate) struct Taken {
     pub(crate) different: Option<IndexSet<Value>>,
     pub(crate) held: Held,
+}
+
+/// Whether DISTINCT changes anything of what is told.
+fn needs_different(summary: Summary) -> bool
+    ensures { result ≡ needs_different (summary_view summary) }
+{
+    match summary {
+        Summary::Least | Summary::Greatest => false,
+        Summary::Counting | Summary::Summing | Summary::Collecting => true,
+    }
 }
 
 fn is_null(value: &Value) -> bool
@@ -41,7 +51,7 @@ impl Taken {
     pub(crate) fn new(alloc: Global, summary: Summary, distinct: bool) -> Taken
         ensures { taken_view result ≡ begun (summary_view summary) distinct }
     {
-        let different = if distinct {
+        let different = if distinct && needs_different(summary) {
             Some(IndexSet::new(alloc))
         } else {
             None

@@ -48,13 +48,13 @@ module _ (old new : PropertyIndex) (value : Value) (id : ℕ) where
   same_ids : (q : Value) → is_at (by_value value) q ≡ true → ids_at by_value old.ids q ≡ ids_at by_value old.ids value
   same_ids q h = ap the_ids (tied_alike by_value_total old.ids.sets value q h)
 
-  abbrev Put : Type 0
+  abbrev pub Put : Type 0
   Put = (q : Value) → ids_at by_value new.ids q ≡ cond (is_at (by_value value) q) (map.insert (ids_at by_value old.ids value) id tt) (ids_at by_value old.ids q)
 
-  abbrev Same : Type 0
+  abbrev pub Same : Type 0
   Same = (q : Value) → ids_at by_value new.ids q ≡ ids_at by_value old.ids q
 
-  put_grows : Put → (q : Value) (i : ℕ) → finds old q i ≡ true → finds new q i ≡ true
+  pub put_grows : Put → (q : Value) (i : ℕ) → finds old q i ≡ true → finds new q i ≡ true
   put_grows put q i h = ap (λ (ids : Ids). has_id ids i) (put q) ∙ by_test (is_at (by_value value) q) refl
     where
       by_test : (b : Bool) → is_at (by_value value) q ≡ b → has_id (cond b (map.insert (ids_at by_value old.ids value) id tt) (ids_at by_value old.ids q)) i ≡ true
@@ -65,12 +65,15 @@ module _ (old new : PropertyIndex) (value : Value) (id : ℕ) where
   value_grows (Ok v) put same q i h = put_grows put q i h
   value_grows (Err e) put same q i h = ap (λ (ids : Ids). has_id ids i) (same q) ∙ h
 
-  pub value_there : {V E : Type 0} (r : Result V E) (w : meaning.Value) → view value ≡ w → OnOk r Put → OnOk r ((v : Value) → is_equal w v ≡ true → finds new v id ≡ true)
-  value_there (Err e) w is put = tt
-  value_there (Ok x) w is put = λ v h.
+  pub put_there : (w : meaning.Value) → view value ≡ w → Put → (v : Value) → is_equal w v ≡ true → finds new v id ≡ true
+  put_there w is put = λ v h.
       ap (λ (ids : Ids). has_id ids id) (put v)
       ∙ ap (λ b. has_id (cond b (map.insert (ids_at by_value old.ids value) id tt) (ids_at by_value old.ids v)) id) (equal_at value v (ap (λ (x : meaning.Value). is_true (eq3 x (view v))) is ∙ h))
       ∙ has_inserted (ids_at by_value old.ids value) id
+
+  pub value_there : {V E : Type 0} (r : Result V E) (w : meaning.Value) → view value ≡ w → OnOk r Put → OnOk r ((v : Value) → is_equal w v ≡ true → finds new v id ≡ true)
+  value_there (Err e) w is put = tt
+  value_there (Ok x) w is put = put_there w is put
 
   pub value_loses : ((q : Value) → ids_at by_value new.ids q ≡ cond (is_at (by_value value) q) (map.remove (ids_at by_value old.ids value) id) (ids_at by_value old.ids q))
       → (q : Value) (i : ℕ) → finds old q i ≡ true → finds new q i ≡ false → (view q ≡ view value) × (i ≡ id)
@@ -132,10 +135,13 @@ set_grows (x ∷ xs) zero y d label key v i gains h =
 set_grows (x ∷ xs) (suc at) y d label key v i gains h =
     and_both _ _ (and_left _ (all_find xs label key v i) h) (set_grows xs at y d label key v i gains (and_right (not (is_for x label key) || finds x v i) (all_find xs label key v i) h))
 
+pub set_pairs_of : (xs : List PropertyIndex) (at : ℕ) (y d : PropertyIndex) → y.label ≡ (get_or xs at d).label → y.key ≡ (get_or xs at d).key → pairs_of (set xs at y) ≡ pairs_of xs
+set_pairs_of [] at y d label key = refl
+set_pairs_of (x ∷ xs) zero y d label key = ap (λ l. (l, y.key) ∷ pairs_of xs) label ∙ ap (λ k. (x.label, k) ∷ pairs_of xs) key
+set_pairs_of (x ∷ xs) (suc at) y d label key = ap (λ ps. (x.label, x.key) ∷ ps) (set_pairs_of xs at y d label key)
+
 pub set_pairs : (xs : List PropertyIndex) (at : ℕ) (y d : PropertyIndex) → Gains (get_or xs at d) y → pairs_of (set xs at y) ≡ pairs_of xs
-set_pairs [] at y d gains = refl
-set_pairs (x ∷ xs) zero y d gains = ap (λ l. (l, y.key) ∷ pairs_of xs) gains.label ∙ ap (λ k. (x.label, k) ∷ pairs_of xs) gains.key
-set_pairs (x ∷ xs) (suc at) y d gains = ap (λ ps. (x.label, x.key) ∷ ps) (set_pairs xs at y d gains)
+set_pairs xs at y d gains = set_pairs_of xs at y d gains.label gains.key
 
 -- what the index at a place finds
 abbrev pub One : PropertyIndex → (label key : ℕ) → Value → ℕ → Type 0
@@ -163,3 +169,32 @@ pub member_finds : (xs : List PropertyIndex) (at : ℕ) (d : PropertyIndex) (lab
 member_finds [] at d label key v i within is h = absurd (omega (arith, within))
 member_finds (x ∷ xs) zero d label key v i within is h = ap (λ b. not b || finds x v i) (sym is) ∙ and_left (not (is_for x label key) || finds x v i) (all_find xs label key v i) h
 member_finds (x ∷ xs) (suc at) d label key v i within is h = member_finds xs at d label key v i (omega (arith, within)) is (and_right (not (is_for x label key) || finds x v i) (all_find xs label key v i) h)
+
+-- ---- an index that loses an id
+
+same_number : (a b : ℕ) → (a == b) ≡ true → a ≡ b
+same_number a b h = grind (arith, nat_tests)
+
+pub is_for_both : (x : PropertyIndex) (label key : ℕ) → is_for x label key ≡ true → (x.label ≡ label) × (x.key ≡ key)
+is_for_both x label key h = (same_number x.label label (and_left (x.label == label) (x.key == key) h), same_number x.key key (and_right (x.label == label) (x.key == key) h))
+
+false_right : (a b : Bool) → a ≡ true → (a && b) ≡ false → b ≡ false
+false_right true b is h = h
+false_right false b is h = absurd cc
+
+one_loses : (f a b r : Bool) → ((not f || a) && r) ≡ true → ((not f || b) && r) ≡ false → (f ≡ true) × ((a ≡ true) × (b ≡ false))
+one_loses false a b r was now = absurd (cc (was, now))
+one_loses true false b r was now = absurd (cc (was))
+one_loses true true true r was now = absurd (cc (was, now))
+one_loses true true false r was now = (refl, (refl, refl))
+
+pub set_loses : (xs : List PropertyIndex) (at : ℕ) (y d : PropertyIndex) (label key : ℕ) (v : Value) (i : ℕ) → y.label ≡ (get_or xs at d).label → y.key ≡ (get_or xs at d).key
+    → all_find xs label key v i ≡ true → all_find (set xs at y) label key v i ≡ false
+    → (is_for (get_or xs at d) label key ≡ true) × ((finds (get_or xs at d) v i ≡ true) × (finds y v i ≡ false))
+set_loses [] at y d label key v i l k was now = absurd (cc (was, now))
+set_loses (x ∷ xs) zero y d label key v i l k was now =
+    one_loses (is_for x label key) (finds x v i) (finds y v i) (all_find xs label key v i) was
+    (sym (ap (λ m. (not ((m == label) && (y.key == key)) || finds y v i) && all_find xs label key v i) l ∙ ap (λ m. (not ((x.label == label) && (m == key)) || finds y v i) && all_find xs label key v i) k) ∙ now)
+set_loses (x ∷ xs) (suc at) y d label key v i l k was now =
+    set_loses xs at y d label key v i l k (and_right (not (is_for x label key) || finds x v i) (all_find xs label key v i) was)
+    (false_right (not (is_for x label key) || finds x v i) (all_find (set xs at y) label key v i) (and_left _ (all_find xs label key v i) was) now)

@@ -5,4 +5,4 @@ mod index;
 mod properties;
 
 pub use index::Index;
-pub use properties::{PropertyIndex, cover_each, index_of};
+pub use properties::{PropertyIndex, cover_each, forget_valued, index_of, position_of};

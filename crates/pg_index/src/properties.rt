@@ -1,9 +1,10 @@
 //! The nodes of a label by what they have under a key.
-ghost use Rattle.std.specs.Prelude.{◌≡◌, ℕ, true, false, OnOk, IfSome, is_some, option_copied};
+ghost use Rattle.std.specs.Prelude.{◌≡◌, ◌<◌, ℕ, true, false, length, slice_index_or, OnOk, IfSome, is_some, option_copied};
 ghost use Rattle.std.specs.Option.{option_map_or};
 ghost use Rattle.pg_graph.specs.Removed.{has_id};
 ghost use Rattle.pg_index.specs.Index.{the_ids};
 ghost use Rattle.pg_index.specs.Properties.{finds, is_found_by, is_equal, is_for, all_find, pairs_of, has_pair};
+ghost use Rattle.pg_index.specs.declared.properties.PropertyIndex.{PropertyIndex};
 ghost use Rattle.pg_value_core.specs.View.{view};
 ghost use Rattle.pg_value_core.specs.declared.value.Value as code;
 
@@ -43,8 +44,18 @@ impl PropertyIndex {
         self.ids.get(value)
     }
 
+    /// Whether an id is under a value.
+    pub fn has(&self, value: &Value, id: u64) -> bool
+        ensures { result ≡ finds self.now value.now id }
+    {
+        match self.ids.get(value) {
+            Some(ids) => ids.get(id).is_some(),
+            None => false,
+        }
+    }
+
     /// The value by which a node is found here, if it is.
-    fn value_of<'a>(&self, node: &'a NodeRecord) -> Option<&'a Value>
+    pub fn value_of<'a>(&self, node: &'a NodeRecord) -> Option<&'a Value>
         ensures { (v : code.Value) → is_found_by self.now.label self.now.key v node.now ≡ option_map_or (λ w. is_equal (view w.now) v) result false }
     {
         if node.labels.contains(self.label) {
@@ -60,6 +71,9 @@ impl PropertyIndex {
         ensures grown { (v : code.Value) (i : ℕ) → finds self.old v i ≡ true → finds self.new v i ≡ true }
         ensures ok { OnOk result ((v : code.Value) → is_equal (view value.now) v ≡ true → finds self.new v id ≡ true) }
     {
+        if self.ids.join(value, id)? {
+            return Ok(());
+        }
         let value = value.copy(self.alloc)?;
         self.ids.cover(value, id)
     }
@@ -120,4 +134,35 @@ pub fn index_of(indexes: &[PropertyIndex], label: NameId, key: NameId) -> Option
         }
     }
     None
+}
+
+/// The place of an index of a label and a key, if there is one.
+pub fn position_of(indexes: &[PropertyIndex], label: NameId, key: NameId) -> Option<usize>
+    ensures some { IfSome result (λ i. i < length indexes.now) }
+    ensures is { IfSome result (λ i. (x : PropertyIndex) → is_for (slice_index_or indexes.now i x) label key ≡ true) }
+    ensures there { is_some result ≡ has_pair (label, key) (pairs_of indexes.now) }
+{
+    for position in 0..indexes.len() {
+        if is_for(&indexes[position], label, key) {
+            return Some(position);
+        }
+    }
+    None
+}
+
+/// Takes an id from under a value in an index of the label and the key, if there is one. It takes no
+/// memory.
+pub fn forget_valued(
+    indexes: &mut [PropertyIndex],
+    label: NameId,
+    key: NameId,
+    value: &Value,
+    id: u64,
+)
+    ensures pairs { pairs_of indexes.new ≡ pairs_of indexes.old }
+    ensures lost { (l k : ℕ) (v : code.Value) (i : ℕ) → all_find indexes.old l k v i ≡ true → all_find indexes.new l k v i ≡ false → (l ≡ label) × (k ≡ key) × (view v ≡ view value.now) × (i ≡ id) }
+{
+    if let Some(position) = position_of(indexes, label, key) {
+        indexes[position].forget(value, id);
+    }
 }

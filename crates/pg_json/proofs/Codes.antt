@@ -7,7 +7,7 @@ use Rattle.serde_json.specs.Written.{compact_text}
 use Rattle.serde_json.proofs.OnLiterals.{serde_json_on_literals}
 use Rattle.pg_meaning.specs.Codes.{code_of}
 use Rattle.pg_meaning.specs.declared.fault.Fault.{Fault}
-use Rattle.pg_meaning.specs.declared.fault.Fault.TheVariants.{FrameTooLong, BadRequest, UnknownToken, ReadOnly, TextTooLong, BadLexeme, BadSyntax, TooDeep, UndefinedVariable, VariableAlreadyBound, BadAggregate, BadPattern, UnknownFunction, DuplicateColumn, MissingParameter, TypeFault, Overflow, DivisionByZero, ValueTooLarge, NotStorable, MergeNull, NodeStillConnected, DeletedEntity, NegativeCount, StepQuota, ElementQuota, IdsExhausted, IndexExists, NoSuchIndex, TooManyIndexes, ReplyTooLong, TenantBusy, NoTransaction, TransactionOpen, NoSuchPage, HeldRowsQuota, NotYet, OutOfMemory}
+use Rattle.pg_meaning.specs.declared.fault.Fault.TheVariants.{FrameTooLong, BadRequest, UnknownToken, ReadOnly, TextTooLong, BadLexeme, BadSyntax, TooDeep, UndefinedVariable, VariableAlreadyBound, BadAggregate, BadPattern, UnknownFunction, DuplicateColumn, MissingParameter, TypeFault, Overflow, DivisionByZero, ValueTooLarge, NotStorable, MergeNull, NodeStillConnected, DeletedEntity, NegativeCount, StepQuota, ElementQuota, IdsExhausted, IndexExists, NoSuchIndex, TooManyIndexes, ReplyTooLong, TenantBusy, NoTransaction, TransactionOpen, NoSuchPage, HeldRowsQuota, OutOfMemory}
 use Rattle.pg_json.specs.Laws.{RefusalsDiffer, RepliesAreNoRefusals, DoneIsNoRefusal}
 use Rattle.pg_json.specs.Refusals.{refusal_text, done_text}
 use Rattle.pg_json.specs.Replies.{reply_text, natural}
@@ -23,7 +23,7 @@ with_code n [] = OutOfMemory
 with_code n (f ∷ fs) = cond (code_of f == n) f (with_code n fs)
 
 abbrev faults : List Fault
-faults = FrameTooLong ∷ BadRequest ∷ UnknownToken ∷ ReadOnly ∷ TextTooLong ∷ BadLexeme ∷ BadSyntax ∷ TooDeep ∷ UndefinedVariable ∷ VariableAlreadyBound ∷ BadAggregate ∷ BadPattern ∷ UnknownFunction ∷ DuplicateColumn ∷ MissingParameter ∷ TypeFault ∷ Overflow ∷ DivisionByZero ∷ ValueTooLarge ∷ NotStorable ∷ MergeNull ∷ NodeStillConnected ∷ DeletedEntity ∷ NegativeCount ∷ StepQuota ∷ ElementQuota ∷ IdsExhausted ∷ IndexExists ∷ NoSuchIndex ∷ TooManyIndexes ∷ ReplyTooLong ∷ TenantBusy ∷ NoTransaction ∷ TransactionOpen ∷ NoSuchPage ∷ HeldRowsQuota ∷ NotYet ∷ OutOfMemory ∷ []
+faults = FrameTooLong ∷ BadRequest ∷ UnknownToken ∷ ReadOnly ∷ TextTooLong ∷ BadLexeme ∷ BadSyntax ∷ TooDeep ∷ UndefinedVariable ∷ VariableAlreadyBound ∷ BadAggregate ∷ BadPattern ∷ UnknownFunction ∷ DuplicateColumn ∷ MissingParameter ∷ TypeFault ∷ Overflow ∷ DivisionByZero ∷ ValueTooLarge ∷ NotStorable ∷ MergeNull ∷ NodeStillConnected ∷ DeletedEntity ∷ NegativeCount ∷ StepQuota ∷ ElementQuota ∷ IdsExhausted ∷ IndexExists ∷ NoSuchIndex ∷ TooManyIndexes ∷ ReplyTooLong ∷ TenantBusy ∷ NoTransaction ∷ TransactionOpen ∷ NoSuchPage ∷ HeldRowsQuota ∷ OutOfMemory ∷ []
 
 abbrev fault_in : List ℕ → Fault
 fault_in s = with_code (code_in s) faults
@@ -66,7 +66,6 @@ fault_in-refusal NoTransaction = refl
 fault_in-refusal TransactionOpen = refl
 fault_in-refusal NoSuchPage = refl
 fault_in-refusal HeldRowsQuota = refl
-fault_in-refusal NotYet = refl
 fault_in-refusal OutOfMemory = refl
 
 pub refusals_differ : RefusalsDiffer

@@ -6,6 +6,7 @@ use Rattle.serde_json.specs.Data.{Data, null, boolean, number, string, array, ob
 use Rattle.serde_json.specs.Written.{comma_if, compact_text, items_text, members_text}
 use Rattle.pg_json.specs.Replies.{query_data, reply_data, reply_text}
 use Rattle.pg_json.specs.Room.{least, items_least, members_least}
+use Rattle.pg_json.specs.Rows.{rows_data, rows_text}
 use Rattle.pg_json.specs.declared.reply.ReplyBody.{ReplyBody}
 
 either_some : (b : Bool) (x : ℕ) (xs ys : List ℕ) → 1 ≤ length ys → 1 ≤ length (cond b (x ∷ xs) ys)
@@ -50,3 +51,7 @@ reply_within r = least_within (reply_data r)
 
 pub query_within : (columns rows : Items) (steps : ℕ) → items_least columns + items_least rows ≤ least (query_data columns rows steps)
 query_within columns rows steps = omega arith
+
+pub rows_within : (columns : Items) (rows : List Items) (steps : ℕ) → items_least (rows_data rows) ≤ length (rows_text columns rows steps)
+unfolding rows_text
+rows_within columns rows steps = omega (arith, query_within columns (rows_data rows) steps, least_within (query_data columns (rows_data rows) steps))

@@ -10,3 +10,4 @@ pub mod Lengths
 pub mod Meanings
 pub mod Taking
 pub mod Texts
+pub mod Writing

@@ -1,5 +1,5 @@
 -- Members that are texts and parameters at the keys of a request.
-use Rattle.std.proofs.Common.{◌≡◌, ℕ, List, Bool, true, false, cond, Option, Some, None, option_map, refl}
+use Rattle.std.proofs.Common.{◌≡◌, ℕ, List, Bool, true, false, cond, Option, Some, None, option_map, refl, ◌∙◌}
 use Rattle.std.proofs.lemmas.Slice.Eq.{bytes_eq-Decides}
 use Rattle.std.specs.Prelude.{codes}
 use Rattle.std.specs.Str.{bytes_eq}
@@ -8,7 +8,7 @@ use Rattle.pg_meaning.specs.Value.{Entries}
 use Rattle.pg_json.proofs.Given.{parameters_back}
 use Rattle.pg_json.specs.Fields.{members_of_fields, members_with, object_giving, parameters_of, HaveDepth, asked, asked_with}
 use Rattle.pg_json.specs.declared.fields.Fields.{Fields}
-use Rattle.pg_json.specs.Requests.{request_of}
+use Rattle.pg_json.specs.Requests.{Request, request_of}
 
 pub put_op : (s : List ℕ) (op : Option (List ℕ)) (ps : Option Entries) (text token : Option (List ℕ)) → put (codes "op") (string s) (members_of_fields op ps text token) ≡ members_of_fields (Some s) ps text token
 put_op s None None None None = refl
@@ -59,22 +59,44 @@ put_token s (Some a) (Some p) None (Some c) = refl
 put_token s (Some a) (Some p) (Some b) None = refl
 put_token s (Some a) (Some p) (Some b) (Some c) = refl
 
-abbrev pub either : {A : Type 0} → Bool → Bool → Option A → Option A
-either a b x = cond a x (cond b x x)
+-- what is asked where an index request lacks a key
+abbrev by_name : List ℕ → (query status : Option Request) → Option Request
+by_name op query status =
+    cond (bytes_eq op (codes "query")) query (cond (bytes_eq op (codes "status")) status (cond (bytes_eq op (codes "create_index")) None (cond (bytes_eq op (codes "drop_index")) None None)))
 
-pub same_either : {A : Type 0} (a b : Bool) (x : Option A) → either a b x ≡ x
+first_or_second : (a b c d : Bool) (x y : Option Request) → cond a x (cond b y (cond c None (cond d None None))) ≡ cond a x (cond b y None)
+first_or_second true b c d x y = refl
+first_or_second false true c d x y = refl
+first_or_second false false true d x y = refl
+first_or_second false false false true x y = refl
+first_or_second false false false false x y = refl
+
+same_either : (a b : Bool) (x : Option Request) → cond a x (cond b x x) ≡ x
 same_either true b x = refl
 same_either false true x = refl
 same_either false false x = refl
 
-same_refused : {A : Type 0} (a b : Bool) (x : Option A) → cond a x (cond b None None) ≡ cond a x None
+same_refused : (a b : Bool) (x : Option Request) → cond a x (cond b None None) ≡ cond a x None
 same_refused true b x = refl
 same_refused false true x = refl
 same_refused false false x = refl
 
-query_without_text : {A : Type 0} (op : List ℕ) (b : Bool) → bytes_eq op (codes "query") ≡ b → (x : Option A) → cond b None (cond (bytes_eq op (codes "status")) x None) ≡ cond (bytes_eq op (codes "status")) x None
+query_without_text : (op : List ℕ) (b : Bool) → bytes_eq op (codes "query") ≡ b → (x : Option Request) → cond b None (cond (bytes_eq op (codes "status")) x None) ≡ cond (bytes_eq op (codes "status")) x None
 query_without_text op true is x = rw ((bytes_eq-Decides op (codes "query")).0 is) refl
 query_without_text op false is x = refl
+
+module _ (op : List ℕ) where
+  query_or_status : (x y : Option Request) → by_name op x y ≡ cond (bytes_eq op (codes "query")) x (cond (bytes_eq op (codes "status")) y None)
+  query_or_status x y = first_or_second (bytes_eq op (codes "query")) (bytes_eq op (codes "status")) (bytes_eq op (codes "create_index")) (bytes_eq op (codes "drop_index")) x y
+
+  pub nothing_asked : by_name op None None ≡ None
+  nothing_asked = query_or_status None None ∙ same_either (bytes_eq op (codes "query")) (bytes_eq op (codes "status")) None
+
+  status_asked : (x : Option Request) → by_name op None x ≡ cond (bytes_eq op (codes "status")) x None
+  status_asked x = query_or_status None x ∙ query_without_text op (bytes_eq op (codes "query")) refl x
+
+  query_asked : (x : Option Request) → by_name op x None ≡ cond (bytes_eq op (codes "query")) x None
+  query_asked x = query_or_status x None ∙ same_refused (bytes_eq op (codes "query")) (bytes_eq op (codes "status")) x
 
 pub request_asked : (op : Option (List ℕ)) (ps : Option Entries) (text token : Option (List ℕ)) → HaveDepth ps → request_of (object (members_of_fields op ps text token)) ≡ asked op ps text token
 request_asked None None None None h = refl
@@ -85,14 +107,14 @@ request_asked None (Some p) None None h = refl
 request_asked None (Some p) None (Some c) h = refl
 request_asked None (Some p) (Some b) None h = refl
 request_asked None (Some p) (Some b) (Some c) h = refl
-request_asked (Some a) None None None h = same_either (bytes_eq a (codes "query")) (bytes_eq a (codes "status")) None
-request_asked (Some a) None (Some b) None h = same_either (bytes_eq a (codes "query")) (bytes_eq a (codes "status")) None
-request_asked (Some a) (Some p) None None h = same_either (bytes_eq a (codes "query")) (bytes_eq a (codes "status")) None
-request_asked (Some a) (Some p) (Some b) None h = same_either (bytes_eq a (codes "query")) (bytes_eq a (codes "status")) None
-request_asked (Some a) (Some p) None (Some c) h = same_either (bytes_eq a (codes "query")) (bytes_eq a (codes "status")) None
-request_asked (Some a) None None (Some c) h = query_without_text a (bytes_eq a (codes "query")) refl _
-request_asked (Some a) None (Some b) (Some c) h = same_refused (bytes_eq a (codes "query")) (bytes_eq a (codes "status")) _
-request_asked (Some a) (Some p) (Some b) (Some c) h = rw (parameters_back p h) (same_refused (bytes_eq a (codes "query")) (bytes_eq a (codes "status")) _)
+request_asked (Some a) None None None h = nothing_asked a
+request_asked (Some a) None (Some b) None h = nothing_asked a
+request_asked (Some a) (Some p) None None h = nothing_asked a
+request_asked (Some a) (Some p) (Some b) None h = nothing_asked a
+request_asked (Some a) (Some p) None (Some c) h = nothing_asked a
+request_asked (Some a) None None (Some c) h = status_asked a _
+request_asked (Some a) None (Some b) (Some c) h = query_asked a _
+request_asked (Some a) (Some p) (Some b) (Some c) h = rw (parameters_back p h) (query_asked a _)
 
 pub request_asked_with : (f : Fields) → HaveDepth (parameters_of f) → request_of (object (members_with f)) ≡ asked_with f
 request_asked_with f h = request_asked (option_map (λ s. s.now) f.op) (parameters_of f) (option_map (λ s. s.now) f.text) (option_map (λ s. s.now) f.token) h

@@ -10,9 +10,9 @@ use Rattle.json.specs.Json as json
 use Rattle.json.specs.Json.{Parse, parse_map, read_key, members}
 use Rattle.serde_json.specs.Data.{Data, Members, no_members, member, put}
 use Rattle.serde_json.specs.Read.{of_json, of_members, converted}
-use Rattle.pg_json.specs.Fields.{AsksNothing, text_keys}
-use Rattle.pg_json.specs.Requests.{has_only, is_one_of, query_keys, status_keys, object_request, by_op, text_at}
-use Rattle.pg_json.proofs.Members.{same_either}
+use Rattle.pg_json.specs.Fields.{AsksNothing, name_keys, text_keys}
+use Rattle.pg_json.specs.Requests.{has_only, is_one_of, query_keys, status_keys, index_keys, object_request, by_op, text_at}
+use Rattle.pg_json.proofs.Members.{nothing_asked}
 
 and_false : (a : Bool) → (a && false) ≡ false
 and_false true = refl
@@ -47,9 +47,23 @@ put_strange : (names : List (List ℕ)) (k : List ℕ) (d : Data) (ms : Members)
 put_strange names k d no_members h = rw h
 put_strange names k d (member l e ms) h = either_strange names k l d e ms (put k d ms) h (put_strange names k d ms h) (slice_cmp nat_cmp k l) refl
 
-no_request : (op : Option (List ℕ)) (ms : Members) → has_only query_keys ms ≡ false → has_only status_keys ms ≡ false → option_and_then (λ o. by_op o ms) op ≡ None
-no_request None ms q s = refl
-no_request (Some op) ms q s = rw (q, s) (same_either (bytes_eq op (codes "query")) (bytes_eq op (codes "status")) None)
+-- each operation lacks one of these members' keys
+abbrev Foreign : Members → Type 0
+Foreign ms = (has_only query_keys ms ≡ false) × (has_only status_keys ms ≡ false) × (has_only index_keys ms ≡ false)
+
+-- no operation has this key
+abbrev pub IsStrange : List ℕ → Type 0
+IsStrange k = (is_one_of query_keys k ≡ false) × (is_one_of status_keys k ≡ false) × (is_one_of index_keys k ≡ false)
+
+stays_foreign : (k : List ℕ) (d : Data) (ms : Members) → Foreign ms → Foreign (put k d ms)
+stays_foreign k d ms h = (put_keeps query_keys k d ms h.0, put_keeps status_keys k d ms h.1, put_keeps index_keys k d ms h.2)
+
+made_foreign : (k : List ℕ) (d : Data) (ms : Members) → IsStrange k → Foreign (put k d ms)
+made_foreign k d ms h = (put_strange query_keys k d ms h.0, put_strange status_keys k d ms h.1, put_strange index_keys k d ms h.2)
+
+no_request : (op : Option (List ℕ)) (ms : Members) → Foreign ms → option_and_then (λ o. by_op o ms) op ≡ None
+no_request None ms h = refl
+no_request (Some op) ms h = rw (h.0, h.1, h.2) (nothing_asked op)
 
 abbrev Nothing : Option Members → Type 0
 Nothing o = MatchOption o ⊤ (λ ms. object_request ms ≡ None)
@@ -58,10 +72,9 @@ nothing_then : (f : Data → Option Members) → ((d : Data) → Nothing (f d)) 
 nothing_then f h None = tt
 nothing_then f h (Some d) = h d
 
-strange_stays : (ms : json.Members) (found : Members) → has_only query_keys found ≡ false → has_only status_keys found ≡ false → Nothing (of_members ms found)
-strange_stays json.no_members found q s = no_request (text_at (codes "op") found) found q s
-strange_stays (json.member k j ms) found q s =
-    nothing_then (λ d. of_members ms (put k d found)) (λ d. strange_stays ms (put k d found) (put_keeps query_keys k d found q) (put_keeps status_keys k d found s)) (of_json j)
+strange_stays : (ms : json.Members) (found : Members) → Foreign found → Nothing (of_members ms found)
+strange_stays json.no_members found h = no_request (text_at (codes "op") found) found h
+strange_stays (json.member k j ms) found h = nothing_then (λ d. of_members ms (put k d found)) (λ d. strange_stays ms (put k d found) (stays_foreign k d found h)) (of_json j)
 
 with_rest : (r : List Token) (o : Option Members) → Nothing o → AsksNothing (option_map (λ ms. (ms, r)) o)
 with_rest r None h = tt
@@ -75,8 +88,7 @@ few_keys k h = by_first (bytes_eq k (codes "op")) (bytes_eq k (codes "token")) (
     by_first false true c e = absurd (cc)
     by_first false false c e = refl
 
--- a key that is neither a text's nor that of parameters
-pub no_query_key : (k : List ℕ) → is_one_of text_keys k ≡ false → bytes_eq k (codes "params") ≡ false → is_one_of query_keys k ≡ false
+no_query_key : (k : List ℕ) → is_one_of text_keys k ≡ false → bytes_eq k (codes "params") ≡ false → is_one_of query_keys k ≡ false
 no_query_key k h e = by_first (bytes_eq k (codes "op")) (bytes_eq k (codes "token")) (bytes_eq k (codes "text")) (bytes_eq k (codes "params")) h e
   where
     by_first : (a b c d : Bool) → (a || (b || (c || false))) ≡ false → d ≡ false → (a || (b || (c || (d || false)))) ≡ false
@@ -86,7 +98,19 @@ no_query_key k h e = by_first (bytes_eq k (codes "op")) (bytes_eq k (codes "toke
     by_first false false false true h e = absurd (cc)
     by_first false false false false h e = refl
 
-pub strange_member : (p : Parse json.Json) (old : Members) (n : ℕ) (k : List ℕ) (ts s : List Token) → read_key ts ≡ Some (Some k, s) → is_one_of query_keys k ≡ false
+no_index_key : (k : List ℕ) → is_one_of text_keys k ≡ false → is_one_of name_keys k ≡ false → is_one_of index_keys k ≡ false
+no_index_key k h e = by_first (bytes_eq k (codes "op")) (bytes_eq k (codes "token")) (bytes_eq k (codes "text")) (is_one_of name_keys k) h e
+  where
+    by_first : (a b c d : Bool) → (a || (b || (c || false))) ≡ false → d ≡ false → (a || (b || d)) ≡ false
+    by_first true b c d h e = absurd (cc)
+    by_first false true c d h e = absurd (cc)
+    by_first false false c d h e = e
+
+-- a key that is none of a text, of parameters, of a label or of a property's key
+pub no_key : (k : List ℕ) → is_one_of text_keys k ≡ false → bytes_eq k (codes "params") ≡ false → is_one_of name_keys k ≡ false → IsStrange k
+no_key k texts parameters names = let query = no_query_key k texts parameters in (query, few_keys k query, no_index_key k texts names)
+
+pub strange_member : (p : Parse json.Json) (old : Members) (n : ℕ) (k : List ℕ) (ts s : List Token) → read_key ts ≡ Some (Some k, s) → IsStrange k
     → AsksNothing (converted (λ ms. of_members ms old) (members p n ts))
 unfolding members
 strange_member p old zero k ts s key h = tt
@@ -95,7 +119,7 @@ strange_member p old (suc n) k ts s key h = rw key (first (p s))
     fall : (j : json.Json) (o : Option (json.Members × List Token)) → AsksNothing (converted (λ ms. of_members ms old) (parse_map (json.member k j) o))
     fall j None = tt
     fall j (Some q) =
-        with_rest q.1 _ (nothing_then (λ d. of_members q.0 (put k d old)) (λ d. strange_stays q.0 (put k d old) (put_strange query_keys k d old h) (put_strange status_keys k d old (few_keys k h))) (of_json j))
+        with_rest q.1 _ (nothing_then (λ d. of_members q.0 (put k d old)) (λ d. strange_stays q.0 (put k d old) (made_foreign k d old h)) (of_json j))
 
     first : (o : Option (json.Json × List Token)) → AsksNothing (converted (λ ms. of_members ms old) (option_and_then (λ q. parse_map (json.member k q.0) (members p n q.1)) o))
     first None = tt

@@ -1,4 +1,4 @@
--- The members of an object that has texts and parameters at the keys of a request. For private clauses.
+-- The members of an object that has texts and parameters at the keys of a query or a status. For private clauses.
 use Rattle.std.specs.Prelude.{◌≡◌, ℕ, ⊤, MatchOption, option_and_then, unwrap_or, List, [], ◌∷◌, Option, None, Some, option_map, if◌then◌else◌, codes}
 use Rattle.std.specs.Str.{bytes_eq}
 use Rattle.serde_json.specs.Data.{Data, Members, no_members, member, string, object}
@@ -12,9 +12,13 @@ use Rattle.pg_json.specs.declared.fields.Glance.{Glance}
 use Rattle.pg_json.specs.declared.fields.Glance.TheVariants.{Fitting, NoRequest}
 use Rattle.json.specs.Token.{Token}
 
--- the keys at which a request has texts
+-- the keys at which a query or a status has texts
 abbrev pub text_keys : List (List ℕ)
 text_keys = codes "op" ∷ codes "token" ∷ codes "text" ∷ []
+
+-- the keys that index requests alone have; a body with one is not told at a glance
+abbrev pub name_keys : List (List ℕ)
+name_keys = codes "label" ∷ codes "key" ∷ []
 
 abbrev pub with_data : List ℕ → Option Data → Members → Members
 with_data k None ms = ms

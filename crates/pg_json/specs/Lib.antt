@@ -8,3 +8,4 @@ pub mod Room
 pub mod Given
 pub mod Fields
 pub mod Laws
+pub mod Rows

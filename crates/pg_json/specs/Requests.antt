@@ -11,10 +11,21 @@ use Rattle.pg_json.specs.Parameters.{parameters_in}
 pub data Request : Type 0 where
   query : (token text : List ℕ) → (parameters : Entries) → Request
   status : (token : List ℕ) → Request
+  create_index : (token label key : List ℕ) → Request
+  drop_index : (token label key : List ℕ) → Request
 
 -- the text at a key
 abbrev pub text_at : List ℕ → Members → Option (List ℕ)
 text_at k ms = option_and_then as_str (get_member k ms)
+
+-- a text with at least one byte
+abbrev pub if_any : List ℕ → Option (List ℕ)
+if_any [] = None
+if_any (x ∷ xs) = Some (x ∷ xs)
+
+-- such a text at a key
+abbrev pub name_at : List ℕ → Members → Option (List ℕ)
+name_at k ms = option_and_then if_any (text_at k ms)
 
 abbrev pub is_one_of : List (List ℕ) → List ℕ → Bool
 is_one_of [] k = false
@@ -44,6 +55,15 @@ status_keys = codes "op" ∷ codes "token" ∷ []
 abbrev pub status_of : Members → Option Request
 status_of ms = option_map (λ token. status token) (text_at (codes "token") ms)
 
+abbrev pub index_keys : List (List ℕ)
+index_keys = codes "op" ∷ codes "token" ∷ codes "label" ∷ codes "key" ∷ []
+
+-- a request that names a label and a key
+abbrev pub index_of : (List ℕ → List ℕ → List ℕ → Request) → Members → Option Request
+index_of request ms =
+    option_and_then (λ token. option_and_then (λ label. option_map (λ key. request token label key) (name_at (codes "key") ms))
+    (name_at (codes "label") ms)) (text_at (codes "token") ms)
+
 abbrev pub with_only : List (List ℕ) → Members → Option Request → Option Request
 with_only names ms r = if has_only names ms then r else None
 
@@ -52,6 +72,8 @@ abbrev pub by_op : List ℕ → Members → Option Request
 by_op op ms =
     if bytes_eq op (codes "query") then with_only query_keys ms (query_of ms)
     else if bytes_eq op (codes "status") then with_only status_keys ms (status_of ms)
+    else if bytes_eq op (codes "create_index") then with_only index_keys ms (index_of create_index ms)
+    else if bytes_eq op (codes "drop_index") then with_only index_keys ms (index_of drop_index ms)
     else None
 
 abbrev pub object_request : Members → Option Request

@@ -125,7 +125,6 @@ fn text_of(fault: Fault) -> &'static str
         Fault::TransactionOpen => "{\"code\":42,\"error\":\"TransactionOpen\"}",
         Fault::NoSuchPage => "{\"code\":43,\"error\":\"NoSuchPage\"}",
         Fault::HeldRowsQuota => "{\"code\":44,\"error\":\"HeldRowsQuota\"}",
-        Fault::NotYet => "{\"code\":90,\"error\":\"NotYet\"}",
         Fault::OutOfMemory => "{\"code\":99,\"error\":\"OutOfMemory\"}",
     }
 }

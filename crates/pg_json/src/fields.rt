@@ -4,7 +4,7 @@ ghost use Rattle.json.specs.Json.{members, value};
 ghost use Rattle.serde_json.specs.Data.{string, no_members, put};
 ghost use Rattle.serde_json.specs.Read.{read, of_members, converted};
 ghost use Rattle.pg_json.specs.Bodies.{request_view};
-ghost use Rattle.pg_json.specs.Fields.{members_with, object_giving, parameters_of, asked_with, text_keys, IsGlance, IsGlanceOfMembers};
+ghost use Rattle.pg_json.specs.Fields.{members_with, object_giving, parameters_of, asked_with, name_keys, text_keys, IsGlance, IsGlanceOfMembers};
 ghost use Rattle.pg_json.specs.Requests.{is_one_of};
 ghost use Rattle.pg_value_core.specs.View.{entries_view};
 ghost use Rattle.pg_meaning.specs.declared.fault.Fault.TheVariants.{BadRequest, OutOfMemory};
@@ -30,7 +30,7 @@ pub(crate) struct Fields<'a> {
 /// What is seen of a body at a glance.
 #[derive(Drop)]
 pub(crate) enum Glance<'a> {
-    /// One object that has at a request's keys what they may have, and no other key.
+    /// One object that has at the keys of a query or a status what they may have, and no other key.
     Fitting(Fields<'a>),
     NoRequest,
 }
@@ -77,6 +77,9 @@ fn fields_by_key<'a>(alloc: Global, reader: &mut Reader<'a>) -> Result<Glance<'a
             found = with_parameters(found, parameters);
             continue 'members;
         }
+        if is_index_key(key) {
+            return Err(Unread::Unclear);
+        }
         if !is_text_key(key) {
             return Ok(Glance::NoRequest);
         }
@@ -92,6 +95,12 @@ fn is_parameters_key(key: &str) -> bool
     ensures { result ≡ bytes_eq key.now (codes "params") }
 {
     key == "params"
+}
+
+fn is_index_key(key: &str) -> bool
+    ensures { result ≡ is_one_of name_keys key.now }
+{
+    key == "label" || key == "key"
 }
 
 fn is_text_key(key: &str) -> bool

@@ -4,7 +4,7 @@ ghost use Rattle.serde_json.specs.Read.{read};
 ghost use Rattle.serde_json.specs.View.{view, members_view};
 ghost use Rattle.serde_json.specs.Find.{as_object, as_str, get_member};
 ghost use Rattle.pg_json.specs.Parameters.{parameters_in as spec_parameters_in};
-ghost use Rattle.pg_json.specs.Requests.{meaning, request_of, object_request, parameters_given, query_of, status_of, text_at as spec_text_at, has_only as spec_has_only, is_one_of as spec_is_one_of};
+ghost use Rattle.pg_json.specs.Requests.{meaning, request_of, object_request, parameters_given, create_index, drop_index, query_of, status_of, index_of, query_keys, status_keys, index_keys, with_only, name_at, if_any as spec_if_any, text_at as spec_text_at, has_only as spec_has_only, is_one_of as spec_is_one_of};
 ghost use Rattle.pg_json.specs.Bodies.{request_view};
 ghost use Rattle.pg_value_core.specs.View.{entries_view};
 ghost use Rattle.pg_meaning.specs.declared.fault.Fault.TheVariants.{BadRequest, OutOfMemory};
@@ -76,23 +76,28 @@ fn object_from(alloc: Global, members: Map<String, Value>) -> Result<RequestBody
         return Err(Fault::BadRequest);
     };
     if op == "query" {
-        return if has_only(&members, &["op", "token", "text", "params"]) {
-            query_from(alloc, members)
-        } else {
-            Err(Fault::BadRequest)
-        };
+        return query_from(alloc, members);
     }
-    if op == "status" && has_only(&members, &["op", "token"]) {
+    if op == "status" {
         return status_from(members);
+    }
+    if op == "create_index" {
+        return create_index_from(members);
+    }
+    if op == "drop_index" {
+        return drop_index_from(members);
     }
     Err(Fault::BadRequest)
 }
 
 fn query_from(alloc: Global, mut members: Map<String, Value>) -> Result<RequestBody, Fault>
-    ensures ok { IfOk result (λ r. query_of (members_view members.entries) ≡ Some (request_view r)) }
+    ensures ok { IfOk result (λ r. with_only query_keys (members_view members.entries) (query_of (members_view members.entries)) ≡ Some (request_view r)) }
     ensures kind { IfErr result (λ e. e ≢ OutOfMemory → e ≡ BadRequest) }
-    ensures refused { IfErr result (λ e. e ≢ OutOfMemory → query_of (members_view members.entries) ≡ None) }
+    ensures refused { IfErr result (λ e. e ≢ OutOfMemory → with_only query_keys (members_view members.entries) (query_of (members_view members.entries)) ≡ None) }
 {
+    if !has_only(&members, &["op", "token", "text", "params"]) {
+        return Err(Fault::BadRequest);
+    }
     let token = take_text(&mut members, "token").ok_or(Fault::BadRequest)?;
     let text = take_text(&mut members, "text").ok_or(Fault::BadRequest)?;
     let parameters = parameters_from(alloc, find(&members, "params"))?;
@@ -131,12 +136,43 @@ fn parameters_in(alloc: Global, given: &Value) -> Result<BTreeMap<String, Parame
 }
 
 fn status_from(mut members: Map<String, Value>) -> Result<RequestBody, Fault>
-    ensures ok { IfOk result (λ r. status_of (members_view members.entries) ≡ Some (request_view r)) }
+    ensures ok { IfOk result (λ r. with_only status_keys (members_view members.entries) (status_of (members_view members.entries)) ≡ Some (request_view r)) }
     ensures kind { IfErr result (λ e. e ≡ BadRequest) }
-    ensures refused { IfErr result (λ e. status_of (members_view members.entries) ≡ None) }
+    ensures refused { IfErr result (λ e. with_only status_keys (members_view members.entries) (status_of (members_view members.entries)) ≡ None) }
 {
+    if !has_only(&members, &["op", "token"]) {
+        return Err(Fault::BadRequest);
+    }
     let token = take_text(&mut members, "token").ok_or(Fault::BadRequest)?;
     Ok(RequestBody::Status { token })
+}
+
+fn create_index_from(mut members: Map<String, Value>) -> Result<RequestBody, Fault>
+    ensures ok { IfOk result (λ r. with_only index_keys (members_view members.entries) (index_of create_index (members_view members.entries)) ≡ Some (request_view r)) }
+    ensures kind { IfErr result (λ e. e ≡ BadRequest) }
+    ensures refused { IfErr result (λ e. with_only index_keys (members_view members.entries) (index_of create_index (members_view members.entries)) ≡ None) }
+{
+    if !has_only(&members, &["op", "token", "label", "key"]) {
+        return Err(Fault::BadRequest);
+    }
+    let token = take_text(&mut members, "token").ok_or(Fault::BadRequest)?;
+    let label = take_name(&mut members, "label").ok_or(Fault::BadRequest)?;
+    let key = take_name(&mut members, "key").ok_or(Fault::BadRequest)?;
+    Ok(RequestBody::CreateIndex { token, label, key })
+}
+
+fn drop_index_from(mut members: Map<String, Value>) -> Result<RequestBody, Fault>
+    ensures ok { IfOk result (λ r. with_only index_keys (members_view members.entries) (index_of drop_index (members_view members.entries)) ≡ Some (request_view r)) }
+    ensures kind { IfErr result (λ e. e ≡ BadRequest) }
+    ensures refused { IfErr result (λ e. with_only index_keys (members_view members.entries) (index_of drop_index (members_view members.entries)) ≡ None) }
+{
+    if !has_only(&members, &["op", "token", "label", "key"]) {
+        return Err(Fault::BadRequest);
+    }
+    let token = take_text(&mut members, "token").ok_or(Fault::BadRequest)?;
+    let label = take_name(&mut members, "label").ok_or(Fault::BadRequest)?;
+    let key = take_name(&mut members, "key").ok_or(Fault::BadRequest)?;
+    Ok(RequestBody::DropIndex { token, label, key })
 }
 
 fn text_at<'a>(members: &'a Map<String, Value>, name: &str) -> Option<&'a str>
@@ -149,6 +185,20 @@ fn find<'a>(members: &'a Map<String, Value>, name: &str) -> Option<&'a Value>
     ensures { option_map (λ v. view v.now) result ≡ get_member name.now (members_view members.now.entries) }
 {
     members.get(name)
+}
+
+/// The text at a key, if it has at least one byte.
+fn take_name(members: &mut Map<String, Value>, name: &str) -> Option<String>
+    ensures text { option_map string_bytes result ≡ name_at name.now (members_view members.old.entries) }
+    ensures others { (k : List ℕ) → k ≢ name.now → get_member k (members_view members.new.entries) ≡ get_member k (members_view members.old.entries) }
+{
+    if_any(take_text(members, name)?)
+}
+
+fn if_any(text: String) -> Option<String>
+    ensures { option_map string_bytes result ≡ spec_if_any (string_bytes text) }
+{
+    if text.is_empty() { None } else { Some(text) }
 }
 
 fn take_text(members: &mut Map<String, Value>, name: &str) -> Option<String>

@@ -2,7 +2,8 @@
 
 use pg_value_core::Parameters;
 
-/// A request with its texts, and the parameters of a query by their names.
+/// A request with its texts, and the parameters of a query by their names. A label and a key have at
+/// least one byte.
 #[derive(Drop)]
 pub enum RequestBody {
     Query {
@@ -12,5 +13,15 @@ pub enum RequestBody {
     },
     Status {
         token: String,
+    },
+    CreateIndex {
+        token: String,
+        label: String,
+        key: String,
+    },
+    DropIndex {
+        token: String,
+        label: String,
+        key: String,
     },
 }

@@ -1,11 +1,22 @@
 //! Whether a reply is surely too long, told before it is written. It takes no memory.
-ghost use Rattle.std.specs.Prelude.{◌≡◌, ◌+◌, ◌≤◌, length, decimal};
+ghost use Rattle.std.specs.Prelude.{◌≡◌, ◌+◌, ◌-◌, ◌≤◌, length, decimal};
 ghost use Rattle.std.specs.Fmt.{signed_decimal};
 ghost use Rattle.pg_json.specs.Replies.{data_of, outs, named_outs, text_items, node_data};
 ghost use Rattle.pg_json.specs.Room.{least, items_least, members_least, Leaves};
 
 use pg_value_core::Out;
 use std::collections::BTreeMap;
+
+/// What is left of the room behind the value's text, which is at least as long as counted here; 0 also where
+/// there was too little.
+pub fn room_behind(room: usize, value: &Out) -> usize
+    ensures { result ≡ room - least (data_of value.now) }
+{
+    match room_after(room, value) {
+        Some(left) => left,
+        None => 0,
+    }
+}
 
 /// What is left of the room behind the text of the value, which is at least as long as counted here.
 #[cycle(room)]

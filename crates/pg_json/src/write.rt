@@ -18,7 +18,7 @@ use pg_meaning::Fault;
 use pg_value_core::Out;
 use std::alloc::{AllocError, Global};
 
-const MAX_REPLY: usize = 16_777_216;
+pub(crate) const MAX_REPLY: usize = 16_777_216;
 
 /// The reply's text, which no reply may have longer than 16 MiB. A text that is too long is given up
 /// soon after it has passed that.

@@ -1,3 +1,4 @@
+pub mod Begins
 pub mod Laws
 pub mod Parameters
 pub mod Plans

@@ -9,15 +9,16 @@ mod reading;
 mod returning;
 mod updates;
 
-pub use plan::Plan;
+pub use plan::{Catalogue, Plan};
 pub use reading::{check_length, plan_text};
 
-/// What a plan of a text is good for: its query has no static fault, and the walks begin where they may.
+/// What a plan of a text is good for: its query has no static fault, the walks begin where they may, and no index is
+/// named but those that it was made for.
 pub fn law_of_plans()
     ensures { PlansAreGood }
 {}
 
-/// What the query of a text answers is what it means, or a fault in which it may end.
+/// What the query of a text answers, whatever indexes there are, is what it means, or a fault in which it may end.
 pub fn law_of_texts()
     ensures { TextsMean }
 {}

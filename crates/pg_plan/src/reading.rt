@@ -1,5 +1,6 @@
 //! From a query text to its plan.
 ghost use Rattle.std.specs.Prelude.{◌≡◌, ◌≢◌, IfOk, IfErr, Ok, Err, map, string_bytes};
+ghost use Rattle.pg_anchors.specs.Catalogue.{catalogue_view};
 ghost use Rattle.pg_meaning.specs.Grammar.{parameters_of};
 ghost use Rattle.pg_meaning.specs.Texts as spec;
 ghost use Rattle.pg_meaning.specs.declared.fault.Fault.TheVariants.{OutOfMemory};
@@ -10,7 +11,7 @@ ghost use Rattle.pg_plan.specs.Returns.{ReturnsLast};
 ghost use Rattle.pg_syntax_tree.specs.View.{query_view};
 
 use crate::parameters::parameter_names;
-use crate::plan::Plan;
+use crate::plan::{Catalogue, Plan};
 use pg_anchors::plan_anchors;
 use pg_lex::tokens;
 use pg_meaning::Fault;
@@ -32,15 +33,15 @@ pub fn check_length(text: &str) -> Result<(), Fault>
     Ok(())
 }
 
-/// A plan of a text, where it reads and has no static fault.
-pub fn plan_text(alloc: Global, text: &str) -> Result<Plan, Fault>
-    ensures ok { IfOk result (IsPlanOfText text.now) }
+/// The plan of a text where there are these indexes, if it reads and has no static fault.
+pub fn plan_text(alloc: Global, text: &str, catalogue: &Catalogue) -> Result<Plan, Fault>
+    ensures ok { IfOk result (IsPlanOfText text.now (catalogue_view catalogue.now.items)) }
     ensures err { IfErr result (λ e. e ≢ OutOfMemory → text_checked text.now ≡ Err e) }
 {
     let (query, parameters) = read(alloc, text)?;
     let scoped = check(alloc, query)?;
     let query = scoped.into_query();
-    let anchors = plan_anchors(alloc, &query, &Vec::new(alloc))?;
+    let anchors = plan_anchors(alloc, &query, catalogue)?;
     Ok(Plan::new(query, parameters, anchors))
 }
 

@@ -5,7 +5,7 @@ use Rattle.slab.specs.Slab.{get}
 use Rattle.pg_graph.specs.Content.{OthersStay}
 use Rattle.pg_graph.specs.declared.records.NodeRecord.{NodeRecord}
 use Rattle.pg_graph.specs.declared.records.RelRecord.{RelRecord}
-use Rattle.pg_pool.proofs.Slots.{no_some, same_some, true_not_false}
+use Rattle.pg_pool.proofs.SlotChanges.{no_some, same_some, true_not_false}
 use Rattle.pg_pool.proofs.Values.{inside_value, outside_some}
 use Rattle.pg_pool.specs.Records.{owner_of, label, node_in, rel_in, node_or_none, rel_or_none, node_at, rel_at}
 use Rattle.pg_pool.specs.Tables.{Fits, content_of, pooled, AreRecords, SlotsStay}

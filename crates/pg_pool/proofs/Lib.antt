@@ -1,4 +1,5 @@
 pub mod Values
-pub mod Slots
+pub mod Hashed
+pub mod SlotChanges
 pub mod Steps
 pub mod Found

@@ -11,7 +11,7 @@ use Rattle.pg_graph.specs.declared.records.NodeRecord.{NodeRecord}
 use Rattle.pg_graph.specs.declared.records.RelRecord.{RelRecord}
 use Rattle.pg_value_core.specs.declared.ids.NodeId.{NodeId}
 use Rattle.pg_value_core.specs.declared.ids.RelId.{RelId}
-use Rattle.pg_pool.proofs.Slots.{true_not_false, IsOwn, OnlyOwn, AllBut, own_of_label, own_of_none, none_of_none, none_of_other, only_own, kept_after, others_find, others_hold, finds_untouched, finds_relabelled, finds_added, finds_removed, holds_untouched, holds_added, holds_changed, holds_removed}
+use Rattle.pg_pool.proofs.SlotChanges.{true_not_false, IsOwn, OnlyOwn, AllBut, own_of_label, own_of_none, none_of_none, none_of_other, only_own, kept_after, others_find, others_hold, finds_untouched, finds_relabelled, finds_added, finds_removed, holds_untouched, holds_added, holds_changed, holds_removed}
 use Rattle.pg_pool.proofs.Values.{values_same}
 use Rattle.pg_pool.specs.Records.{label, node_or_none, rel_or_none, node_at, rel_at}
 use Rattle.pg_pool.specs.Tables.{Finds, Fits, content_of, pooled}

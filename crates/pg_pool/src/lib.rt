@@ -3,6 +3,7 @@
 
 mod pool;
 mod pooled_tables;
+mod slots;
 
 pub use pool::Pool;
 pub use pooled_tables::PooledTables;

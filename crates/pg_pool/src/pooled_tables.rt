@@ -4,7 +4,8 @@ ghost use Rattle.pg_graph.specs.Content.{OthersStay};
 ghost use Rattle.pg_pool.specs.Tables.{pooled, AreRecords, SlotsStay};
 
 use crate::pool::{Pool, Record};
-use pg_graph::{ById, Incidence, NodeRecord, Properties, RelRecord, Tables};
+use crate::slots::Slots;
+use pg_graph::{Incidence, NodeRecord, Properties, RelRecord, Tables};
 use pg_value_core::{NodeId, RelId};
 use std::alloc::{AllocError, Global};
 
@@ -13,8 +14,8 @@ use std::alloc::{AllocError, Global};
 #[derive(Drop)]
 pub struct PooledTables {
     owner: u32,
-    nodes: ById<usize>,
-    rels: ById<usize>,
+    nodes: Slots,
+    rels: Slots,
     incidence: Incidence,
 }
 
@@ -46,8 +47,8 @@ impl Tables for PooledTables {
     fn new(alloc: Global, owner: u32) -> Self {
         PooledTables {
             owner,
-            nodes: ById::new(alloc),
-            rels: ById::new(alloc),
+            nodes: Slots::new(alloc),
+            rels: Slots::new(alloc),
             incidence: Incidence::new(alloc),
         }
     }

@@ -15,7 +15,7 @@ use Rattle.pg_rows.specs.Named.{row_of}
 use Rattle.pg_project.proofs.InTurn.{after, after_one, nothing_behind}
 use Rattle.pg_project.specs.Given.{Cut, cut_of, passing_given}
 
-same_others : (rest : Result (List (List Value)) Fault) → (rest >>= λ others. Ok others) ≡ rest
+pub same_others : (rest : Result (List (List Value)) Fault) → (rest >>= λ others. Ok others) ≡ rest
 same_others (Ok others) = refl
 same_others (Err f) = refl
 

@@ -33,7 +33,7 @@ drop_none [] (suc i) h = refl
 drop_none (x ∷ xs) zero h = absurd (omega (arith, h))
 drop_none (x ∷ xs) (suc i) h = drop_none xs i (omega arith)
 
-first_of_rest : {X Y : Type 0} (f : X → Result Y Fault) (x : X) (a : Result Y Fault) (xs : List X) → f x ≡ a → each_answer f (x ∷ xs) ≡ (a >>= λ y. each_answer f xs >>= λ ys. Ok (y ∷ ys))
+pub first_of_rest : {X Y : Type 0} (f : X → Result Y Fault) (x : X) (a : Result Y Fault) (xs : List X) → f x ≡ a → each_answer f (x ∷ xs) ≡ (a >>= λ y. each_answer f xs >>= λ ys. Ok (y ∷ ys))
 first_of_rest f x a xs h = ap (λ b. b >>= λ y. each_answer f xs >>= λ ys. Ok (y ∷ ys)) h
 
 module _ {X Y : Type 0} (f : X → Result Y Fault) (xs : List X) (done : List Y) (i : ℕ) where

@@ -5,8 +5,10 @@ pub mod EachAnswer
 pub mod InTurn
 pub mod Kept
 pub mod Moves
+pub mod OneForOne
 pub mod Projecting
 pub mod SortPlaces
 pub mod Standing
 pub mod Unwinding
 pub mod Wide
+pub mod WideRows

@@ -105,7 +105,7 @@ same_long f (x ∷ xs) = ap suc (same_long f xs)
 
 -- over a table
 module _ (s : Setting) (graph : Graph) (columns : List Column) (p : Projection) (where_ : Option Expression) (t : Named) (used : ℕ) where
-  clause_is : (a : Result ℕ Fault) → spend s used (length t.rows) ≡ a
+  pub clause_is : (a : Result ℕ Fault) → spend s used (length t.rows) ≡ a
       → project_clause s columns p where_ (state_of graph t used) ≡ (a >>= λ steps. rows_projected s graph columns p where_ (named_rows t) >>= λ rs. Ok (record { graph = graph; rows = rs; steps = steps }))
   clause_is a h =
       (λ i. spend s used (same_long (row_of t.names) t.rows i) >>= λ steps. all_behind s graph columns p where_ (named_rows t) steps i)
@@ -202,13 +202,13 @@ module _ (s : Setting) (graph : Graph) (columns earlier : List (List ℕ)) (es :
 -- ---- earlier variables that nothing looks at
 
 module _ (s : Setting) (graph : Graph) (columns : List Column) where
-  abbrev in_columns : List Projected → Result (List Row) Fault
+  abbrev pub in_columns : List Projected → Result (List Row) Fault
   in_columns items = Ok (map (λ (r : Projected). r.columns) items)
 
-  abbrev column_rows : List Row → Result (List Row) Fault
+  abbrev pub column_rows : List Row → Result (List Row) Fault
   column_rows rows = each_answer (λ row. each_answer (column_value s graph row) columns) rows
 
-  columns_only : (hidden : Bool) (rows : List Row) → (each_answer (projected s graph hidden columns) rows >>= in_columns) ≡ column_rows rows
+  pub columns_only : (hidden : Bool) (rows : List Row) → (each_answer (projected s graph hidden columns) rows >>= in_columns) ≡ column_rows rows
   columns_only hidden [] = refl
   columns_only hidden (row ∷ rows) = by (each_answer (column_value s graph row) columns) (each_answer (projected s graph hidden columns) rows) (columns_only hidden rows)
     where
@@ -227,13 +227,13 @@ module _ (s : Setting) (graph : Graph) (columns : List Column) where
   no_condition (p ∷ ps) = ap (λ a. a >>= λ others. Ok (p ∷ others)) (no_condition ps)
 
   module _ (c : Cut) (rows : List Row) where
-    abbrev cut_rows : List Row → Result (List Row) Fault
+    abbrev pub cut_rows : List Row → Result (List Row) Fault
     cut_rows rs = Ok (limited c.limit (drop c.skip rs))
 
-    abbrev behind : List SortItem → Bool → Option Expression → List Projected → Result (List Row) Fault
+    abbrev pub behind : List SortItem → Bool → Option Expression → List Projected → Result (List Row) Fault
     behind order distinct where_ items = ordered_rows s graph columns order (distinct_rows distinct items) >>= λ sorted. passing_rows s graph where_ (limited c.limit (drop c.skip sorted)) >>= in_columns
 
-    cut_later : (a : Result (List Projected) Fault) → (a >>= behind [] false None) ≡ ((a >>= in_columns) >>= cut_rows)
+    pub cut_later : (a : Result (List Projected) Fault) → (a >>= behind [] false None) ≡ ((a >>= in_columns) >>= cut_rows)
     cut_later (Ok items) =
         ap (λ a. a >>= in_columns) (no_condition (limited c.limit (drop c.skip items)))
         ∙ ap Ok (sym (ap (limited c.limit) (drop-map (λ (r : Projected). r.columns) c.skip items) ∙ limited_map (λ (r : Projected). r.columns) c.limit (drop c.skip items)))

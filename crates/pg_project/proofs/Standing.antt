@@ -44,7 +44,7 @@ value_in_first (n ∷ ns) (v ∷ vs) zero h = refl
 value_in_first (n ∷ ns) (v ∷ vs) (suc i) h = value_in_first ns vs i (omega arith)
 
 module _ (s : Setting) (graph : Graph) where
-  pairs_of : (row : Row) (ns : List (List ℕ)) (es : List Expression) → length ns ≡ length es
+  pub pairs_of : (row : Row) (ns : List (List ℕ)) (es : List Expression) → length ns ≡ length es
       → each_answer (column_value s graph row) (columns_of ns es) ≡ (each_answer (λ e. evaluate row s.parameters graph e) es >>= λ vs. Ok (zip ns vs))
   pairs_of row [] [] h = refl
   pairs_of row [] (e ∷ es) h = absurd (omega arith)

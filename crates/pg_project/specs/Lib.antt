@@ -4,3 +4,4 @@ pub mod Given
 pub mod Parts
 pub mod Sources
 pub mod Unwound
+pub mod Returned

@@ -118,6 +118,12 @@ fn variable_text(expression: &Expression) -> &str
 }
 
 impl<'a> ProjectionColumns<'a> {
+    pub fn names(&self) -> &Columns
+        ensures { result.now ≡ self.now.names }
+    {
+        &self.names
+    }
+
     /// The names of the columns.
     pub(crate) fn into_names(self) -> Columns
         ensures { result ≡ self.entry.names }
@@ -126,7 +132,7 @@ impl<'a> ProjectionColumns<'a> {
     }
 
     /// What the columns hold, in turn.
-    pub(crate) fn expressions(&self, alloc: Global) -> Result<Vec<&Expression>, AllocError>
+    pub fn expressions(&self, alloc: Global) -> Result<Vec<&Expression>, AllocError>
         ensures trees { IfOk result (λ found. columns_view self.now ≡ columns_of self.now.names (expressions_view found.items)) }
         ensures len { IfOk result (λ found. length found.items ≡ length self.now.names) }
     {

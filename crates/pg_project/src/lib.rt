@@ -8,9 +8,13 @@ mod parts;
 mod passing;
 mod project;
 mod projection_columns;
+mod returned;
 mod sorting;
 mod unwind;
 mod values;
 
 pub use project::{project_return, project_with};
+pub use projection_columns::ProjectionColumns;
+pub use returned::{come_one_for_one, return_columns};
 pub use unwind::unwind_rows;
+pub use values::prepare_each;

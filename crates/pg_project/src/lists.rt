@@ -112,7 +112,7 @@ pub(crate) fn unwound(
 fn push_items(
     alloc: Global,
     found: &mut Rows,
-    row: Vec<Value>,
+    mut row: Vec<Value>,
     mut items: Vec<Value>,
     has_column: bool,
 ) -> Result<(), AllocError>
@@ -124,7 +124,7 @@ fn push_items(
         return Ok(());
     };
     push_copies(alloc, found, &row, items, has_column)?;
-    push_item(found, row, last, has_column)
+    push_item(found, &mut row, last, has_column)
 }
 
 /// Takes in a row for each of the items, each a copy.
@@ -139,35 +139,40 @@ fn push_copies(
     ensures rows { OnOk result (table found.new ≡ table found.old ++ with_items has_column (map view row.now.items) (map view items.items)) }
     ensures width { found.new.width ≡ found.old.width }
 {
+    let mut copy = Vec::with_capacity(alloc, found.width())?;
     for item in items {
-        push_item(found, copy_row(alloc, row)?, item, has_column)?;
+        copy_row(alloc, row, &mut copy)?;
+        push_item(found, &mut copy, item, has_column)?;
     }
     Ok(())
 }
 
+/// Moves the values out to be the last row, with the item behind them.
 fn push_item(
     found: &mut Rows,
-    mut row: Vec<Value>,
+    row: &mut Vec<Value>,
     item: Value,
     has_column: bool,
 ) -> Result<(), AllocError>
-    requires { found.old.width ≡ with_column has_column (length row.items) }
-    ensures rows { OnOk result (table found.new ≡ table found.old ++ with_item has_column (map view row.items) (view item) ∷ []) }
+    requires { found.old.width ≡ with_column has_column (length row.old.items) }
+    ensures rows { OnOk result (table found.new ≡ table found.old ++ with_item has_column (map view row.old.items) (view item) ∷ []) }
+    ensures emptied { OnOk result (row.new.items ≡ []) }
     ensures width { found.new.width ≡ found.old.width }
 {
     if has_column {
         row.push(item)?;
     }
-    found.push(row)
+    found.push_from(row)
 }
 
-fn copy_row(alloc: Global, row: &Vec<Value>) -> Result<Vec<Value>, AllocError>
-    ensures values { IfOk result (λ copy. map view copy.items ≡ map view row.now.items) }
-    ensures len { IfOk result (λ copy. length copy.items ≡ length row.now.items) }
+/// A copy of the row in a list that is empty.
+fn copy_row(alloc: Global, row: &Vec<Value>, copy: &mut Vec<Value>) -> Result<(), AllocError>
+    requires { copy.old.items ≡ [] }
+    ensures values { OnOk result (map view copy.new.items ≡ map view row.now.items) }
+    ensures len { OnOk result (length copy.new.items ≡ length row.now.items) }
 {
-    let mut copy = Vec::with_capacity(alloc, row.len())?;
     for value in row {
         copy.push(value.copy(alloc)?)?;
     }
-    Ok(copy)
+    Ok(())
 }

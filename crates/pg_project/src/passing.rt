@@ -1,11 +1,11 @@
 //! SKIP, LIMIT and WHERE behind the other parts of a projection.
-ghost use Rattle.std.specs.Prelude.{◌≡◌, ◌≢◌, ◌≤◌, true, None, take, option_map, unwrap_or, IfOk, IfErr, Ok, Err};
+ghost use Rattle.std.specs.Prelude.{◌≡◌, ◌≢◌, ◌<◌, ◌≤◌, [], true, None, drop, length, map, take, option_map, unwrap_or, IfOk, IfErr, OnOk, Ok, Err};
 ghost use Rattle.pg_expr.specs.Prepared.{condition_of};
 ghost use Rattle.pg_meaning.specs.Conditions.{condition};
 ghost use Rattle.pg_meaning.specs.declared.fault.Fault.TheVariants.{OutOfMemory};
 ghost use Rattle.pg_project.specs.Cuts.{cut_view};
 ghost use Rattle.pg_project.specs.Given.{cut_of, passing_given};
-ghost use Rattle.pg_rows.specs.Left.{rows_left};
+ghost use Rattle.pg_rows.specs.Left.{first_row, rows_left};
 ghost use Rattle.pg_rows.specs.Named.{row_of};
 ghost use Rattle.pg_rows.specs.Tables.{table};
 ghost use Rattle.pg_syntax_tree.specs.View.{expression_view};
@@ -17,8 +17,8 @@ use pg_graph::Tables;
 use pg_rows::{Columns, Rows, RowsLeft};
 use pg_store::Snapshot;
 use pg_syntax_tree::Expression;
-use pg_value_core::{Fault, Parameters};
-use std::alloc::Global;
+use pg_value_core::{Fault, Parameters, Value};
+use std::alloc::{AllocError, Global};
 
 /// How many rows SKIP leaves out, and how many LIMIT lets in.
 #[derive(Clone, Copy)]
@@ -83,16 +83,34 @@ fn first_rows<T: Tables>(
     ensures err { IfErr result (λ e. e ≢ OutOfMemory → passing_given (parameters_view parameters.now) graph.now names.now (condition_of names.now wanted.now) width (take most (rows_left left)) ≡ Err e) }
 {
     let mut found = Rows::new(alloc, width);
+    let mut values = Vec::with_capacity(alloc, width)?;
     let mut more = most;
     while more > 0 {
-        let Some(mut row) = left.next_row(alloc)? else {
+        let Some(row) = left.look() else {
             return Ok(found);
         };
         more -= 1;
-        if condition(alloc, wanted, names, row.as_slice(), parameters, graph)? {
-            row.truncate(width);
-            found.push(row)?;
+        if condition(alloc, wanted, names, row, parameters, graph)? {
+            pass_first(&mut left, width, &mut values)?;
+            found.push_from(&mut values)?;
+        } else {
+            left.skip(1);
         }
     }
     Ok(found)
+}
+
+/// Moves the first values of the next row into a list that is empty.
+fn pass_first(left: &mut RowsLeft, width: usize, values: &mut Vec<Value>) -> Result<(), AllocError>
+    requires row { 0 < length (rows_left left.old) }
+    requires wide { width ≤ left.old.rows.width }
+    requires empty { values.old.items ≡ [] }
+    ensures values { OnOk result (map view values.new.items ≡ take width (first_row (rows_left left.old))) }
+    ensures len { OnOk result (length values.new.items ≡ width) }
+    ensures rows { OnOk result (rows_left left.new ≡ drop 1 (rows_left left.old)) }
+    ensures width { left.new.rows.width ≡ left.old.rows.width }
+{
+    left.next_into(values)?;
+    values.truncate(width);
+    Ok(())
 }

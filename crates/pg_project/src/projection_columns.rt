@@ -6,7 +6,7 @@ use pg_syntax_tree::{Expression, Item};
 
 /// The columns of a projection: those of `*`, then those of the items.
 #[derive(Drop)]
-pub(crate) struct ProjectionColumns<'a> {
+pub struct ProjectionColumns<'a> {
     pub(crate) names: Columns,
     pub(crate) starred: Vec<Expression>,
     pub(crate) items: &'a Vec<Item>,

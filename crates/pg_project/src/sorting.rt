@@ -1,5 +1,5 @@
 //! DISTINCT and ORDER BY.
-ghost use Rattle.std.specs.Prelude.{◌≡◌, ◌≢◌, length, map, position, slice_index_or, IfOk, IfErr, Ok, Err};
+ghost use Rattle.std.specs.Prelude.{◌≡◌, ◌≢◌, [], length, map, position, slice_index_or, IfOk, IfErr, OnOk, Ok, Err};
 ghost use Rattle.pg_meaning.specs.Projections.{is_descending};
 ghost use Rattle.pg_meaning.specs.Trees.{same_expression};
 ghost use Rattle.pg_meaning.specs.Value.{null};
@@ -165,29 +165,41 @@ fn keys<T: Tables>(
     ensures err { IfErr result (λ e. e ≢ OutOfMemory → all_keys_given (parameters_view parameters.now) graph.now names.now (sources_view names.now sources.now.items) (table rows.now) ≡ Err e) }
 {
     let mut found = Rows::new(alloc, sources.len());
+    let mut keys = Vec::with_capacity(alloc, sources.len())?;
     for at in 0..rows.len() {
-        found.push(row_keys(alloc, sources, names, rows.row(at), parameters, graph)?)?;
+        push_keys(
+            alloc,
+            sources,
+            names,
+            rows.row(at),
+            parameters,
+            graph,
+            &mut keys,
+        )?;
+        found.push_from(&mut keys)?;
     }
     Ok(found)
 }
 
-fn row_keys<T: Tables>(
+/// The keys of a row, taken into a list that is empty.
+fn push_keys<T: Tables>(
     alloc: Global,
     sources: &Vec<SortKey<'_>>,
     names: &Columns,
     row: &[Value],
     parameters: &Parameters,
     graph: &Snapshot<'_, T>,
-) -> Result<Vec<Value>, Fault>
-    ensures ok { IfOk result (λ found. keys_given (parameters_view parameters.now) graph.now names.now (sources_view names.now sources.now.items) (map view row.now) ≡ Ok (map view found.items)) }
-    ensures len { IfOk result (λ found. length found.items ≡ length sources.now.items) }
+    keys: &mut Vec<Value>,
+) -> Result<(), Fault>
+    requires { keys.old.items ≡ [] }
+    ensures ok { OnOk result (keys_given (parameters_view parameters.now) graph.now names.now (sources_view names.now sources.now.items) (map view row.now) ≡ Ok (map view keys.new.items)) }
+    ensures len { OnOk result (length keys.new.items ≡ length sources.now.items) }
     ensures err { IfErr result (λ e. e ≢ OutOfMemory → keys_given (parameters_view parameters.now) graph.now names.now (sources_view names.now sources.now.items) (map view row.now) ≡ Err e) }
 {
-    let mut found = Vec::with_capacity(alloc, sources.len())?;
     for source in sources {
-        found.push(key(alloc, source, names, row, parameters, graph)?)?;
+        keys.push(key(alloc, source, names, row, parameters, graph)?)?;
     }
-    Ok(found)
+    Ok(())
 }
 
 fn key<T: Tables>(

@@ -1,22 +1,23 @@
 //! What expressions give at rows, one expression after the other.
-ghost use Rattle.std.specs.Prelude.{◌≡◌, ◌≢◌, ◌+◌, cond, length, map, IfOk, IfErr, Ok, Err};
+ghost use Rattle.std.specs.Prelude.{◌≡◌, ◌≢◌, ◌<◌, ◌+◌, ◌++◌, [], cond, drop, length, map, IfOk, IfErr, OnOk, Ok, Err};
 ghost use Rattle.pg_meaning.specs.declared.fault.Fault.TheVariants.{OutOfMemory};
 ghost use Rattle.pg_group.specs.Items.{expressions_view};
-ghost use Rattle.pg_project.specs.Given.{trees_of, values_given, wide_given, wide_rows_given};
+ghost use Rattle.pg_project.specs.Given.{trees_of, values_given, wide_rows_given};
+ghost use Rattle.pg_rows.specs.Left.{first_row, rows_left};
 ghost use Rattle.pg_rows.specs.Tables.{table};
 ghost use Rattle.pg_value_core.specs.Given.{parameters_view};
 ghost use Rattle.pg_value_core.specs.View.{view};
 
 use pg_expr::{Prepared, evaluate, prepare};
 use pg_graph::Tables;
-use pg_rows::{Columns, Rows};
+use pg_rows::{Columns, Rows, RowsLeft};
 use pg_store::Snapshot;
 use pg_syntax_tree::Expression;
 use pg_value_core::{Fault, Parameters, Value};
 use std::alloc::{AllocError, Global};
 
 /// The expressions, made ready for rows under the names.
-pub(crate) fn prepare_each<'a>(
+pub fn prepare_each<'a>(
     alloc: Global,
     expressions: &Vec<&'a Expression>,
     names: &Columns,
@@ -31,48 +32,44 @@ pub(crate) fn prepare_each<'a>(
     Ok(ready)
 }
 
-/// The values of the expressions at a row, left to right.
-pub(crate) fn values_at<T: Tables>(
+/// The values of the expressions at a row, left to right, taken into a list that is empty.
+fn push_values<T: Tables>(
     alloc: Global,
     ready: &Vec<Prepared<'_>>,
     names: &Columns,
     row: &[Value],
     parameters: &Parameters,
     graph: &Snapshot<'_, T>,
-) -> Result<Vec<Value>, Fault>
-    ensures ok { IfOk result (λ values. values_given (parameters_view parameters.now) graph.now names.now (trees_of names.now ready.now.items) (map view row.now) ≡ Ok (map view values.items)) }
-    ensures len { IfOk result (λ values. length values.items ≡ length ready.now.items) }
+    values: &mut Vec<Value>,
+) -> Result<(), Fault>
+    requires { values.old.items ≡ [] }
+    ensures ok { OnOk result (values_given (parameters_view parameters.now) graph.now names.now (trees_of names.now ready.now.items) (map view row.now) ≡ Ok (map view values.new.items)) }
+    ensures len { OnOk result (length values.new.items ≡ length ready.now.items) }
     ensures err { IfErr result (λ e. e ≢ OutOfMemory → values_given (parameters_view parameters.now) graph.now names.now (trees_of names.now ready.now.items) (map view row.now) ≡ Err e) }
 {
-    let mut values = Vec::with_capacity(alloc, ready.len())?;
     for one in ready {
         values.push(evaluate(alloc, one, names, row, parameters, graph)?)?;
     }
-    Ok(values)
+    Ok(())
 }
 
-/// The values of the items at a row, with the row behind them where it is kept.
-fn wide_row<T: Tables>(
-    alloc: Global,
-    ready: &Vec<Prepared<'_>>,
-    names: &Columns,
-    mut row: Vec<Value>,
-    keeps: bool,
-    parameters: &Parameters,
-    graph: &Snapshot<'_, T>,
-) -> Result<Vec<Value>, Fault>
-    ensures ok { IfOk result (λ values. wide_given (parameters_view parameters.now) graph.now names.now (trees_of names.now ready.now.items) keeps (map view row.items) ≡ Ok (map view values.items)) }
-    ensures len { IfOk result (λ values. length values.items ≡ length ready.now.items + cond keeps (length row.items) 0) }
-    ensures err { IfErr result (λ e. e ≢ OutOfMemory → wide_given (parameters_view parameters.now) graph.now names.now (trees_of names.now ready.now.items) keeps (map view row.items) ≡ Err e) }
+/// Goes to the next row; where the row is kept, it moves behind the values.
+fn pass(left: &mut RowsLeft, keeps: bool, values: &mut Vec<Value>) -> Result<(), AllocError>
+    requires { 0 < length (rows_left left.old) }
+    ensures values { OnOk result (map view values.new.items ≡ map view values.old.items ++ cond keeps (first_row (rows_left left.old)) []) }
+    ensures len { OnOk result (length values.new.items ≡ length values.old.items + cond keeps left.old.rows.width 0) }
+    ensures rows { OnOk result (rows_left left.new ≡ drop 1 (rows_left left.old)) }
+    ensures width { left.new.rows.width ≡ left.old.rows.width }
 {
-    let mut values = values_at(alloc, ready, names, row.as_slice(), parameters, graph)?;
     if keeps {
-        values.append(&mut row)?;
+        return left.next_into(values);
     }
-    Ok(values)
+    left.skip(1);
+    Ok(())
 }
 
-/// The wide rows of all rows, row by row.
+/// The wide rows of all rows, row by row: the values of the items, with the row behind them where it is kept.
+#[tactic(auto, using(crate::proofs::WideRows::wide_more, crate::proofs::WideRows::wide_fault))]
 pub(crate) fn wide_rows<T: Tables>(
     alloc: Global,
     ready: &Vec<Prepared<'_>>,
@@ -89,9 +86,12 @@ pub(crate) fn wide_rows<T: Tables>(
     ensures err { IfErr result (λ e. e ≢ OutOfMemory → wide_rows_given (parameters_view parameters.now) graph.now names.now (trees_of names.now ready.now.items) keeps (table rows) ≡ Err e) }
 {
     let mut found = Rows::new(alloc, width);
+    let mut values = Vec::with_capacity(alloc, width)?;
     let mut left = rows.into_left();
-    while let Some(row) = left.next_row(alloc)? {
-        found.push(wide_row(alloc, ready, names, row, keeps, parameters, graph)?)?;
+    while let Some(row) = left.look() {
+        push_values(alloc, ready, names, row, parameters, graph, &mut values)?;
+        pass(&mut left, keeps, &mut values)?;
+        found.push_from(&mut values)?;
     }
     Ok(found)
 }

@@ -1,4 +1,5 @@
 pub mod Apart
+pub mod Copied
 pub mod FirstRows
 pub mod Moved
 pub mod NamedRows

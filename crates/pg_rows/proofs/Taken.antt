@@ -1,14 +1,16 @@
 -- A row moved out of its place.
-use Rattle.std.proofs.Common.{◌≡◌, ℕ, zero, suc, ◌+◌, ◌*◌, ◌<◌, ◌≤◌, List, [], ◌∷◌, ◌++◌, map, length, take, drop, replicate, refl, sym, ap, subst, ◌∙◌, arith}
+use Rattle.std.proofs.Common.{◌≡◌, ℕ, zero, suc, ◌+◌, ◌*◌, ◌<◌, ◌≤◌, List, [], ◌∷◌, ◌++◌, map, length, take, drop, replicate, slice_get, Some, refl, sym, ap, subst, ◌∙◌, arith}
 use Rattle.std.proofs.Math.ListN.{set}
-use Rattle.std.proofs.lemmas.List.{drop_all, length-map}
+use Rattle.std.proofs.lemmas.List.{drop_all, length-drop, length-map}
 use Rattle.pg_meaning.specs.Value.{Value as Datum, null}
 use Rattle.pg_value_core.specs.View.{view}
 use Rattle.pg_value_core.specs.declared.value.Value.{Value}
 use Rattle.pg_value_core.specs.declared.value.Value.TheVariants.{Null}
 use Rattle.pg_rows.proofs.Moved.{drop_at, rows_at, rows_set, length_nulls, seen_left, seen_moved}
 use Rattle.pg_rows.proofs.Tabled.{drop_drop, length_rows, row_within}
+use Rattle.pg_rows.specs.Left.{first_row, rows_left}
 use Rattle.pg_rows.specs.Tables.{rows_of, table}
+use Rattle.pg_rows.specs.declared.left.RowsLeft.{RowsLeft}
 use Rattle.pg_rows.specs.declared.table.Rows.{Rows}
 
 drop_set : {X : Type 0} (p : ℕ) (xs : List X) (z : X) → drop (p + 1) (set xs p z) ≡ drop (p + 1) xs
@@ -44,3 +46,37 @@ skipped r at count = sym (drop_drop at count (table r))
 
 pub all_skipped : (r : Rows) (at count : ℕ) → r.count ≤ at + count → drop r.count (table r) ≡ drop count (drop at (table r))
 all_skipped r at count h = none_left r r.count (omega arith) ∙ sym (none_left r (at + count) h) ∙ skipped r at count
+
+-- the next row and those behind it
+next_here : {X : Type 0} (xs : List X) (i : ℕ) (x : X) → slice_get xs i ≡ Some x → drop i xs ≡ x ∷ drop 1 (drop i xs)
+next_here [] i x h = cc
+next_here (y ∷ ys) zero x h = let e : y ≡ x = cc in ap (λ z. z ∷ ys) e
+next_here (y ∷ ys) (suc i) x h = next_here ys i x h
+
+pub looked : (l : RowsLeft) (r : List Datum) → slice_get (table l.rows) l.at ≡ Some r → rows_left l ≡ r ∷ drop 1 (rows_left l)
+looked l r h = next_here (table l.rows) l.at r h
+
+pub more_left : (l : RowsLeft) → 0 < length (rows_left l) → l.at < l.rows.count
+more_left l h =
+    let n = length-drop l.at (table l.rows) in
+    let k = length_rows l.rows.width l.rows.count (map view l.rows.values.items) in
+    omega arith
+
+-- a row moved behind values
+row_at : (w n p : ℕ) (vs : List Datum) → p < n → first_row (drop p (rows_of w n vs)) ≡ take w (drop (p * w) vs)
+row_at w n p vs h =
+    ap first_row (drop_at p (rows_of w n vs) [] (subst (λ k. p < k) (sym (length_rows w n vs)) h)) ∙ rows_at w n p vs h
+
+pub row_behind : (r : Rows) (p : ℕ) (row start : List Value) → p < r.count → row ≡ start ++ take r.width (drop (p * r.width) r.values.items)
+    → map view row ≡ map view start ++ first_row (drop p (table r))
+row_behind r p row start h e =
+    ap (map view) e
+    ∙ seen_moved (p * r.width) r.width start r.values.items
+    ∙ ap (λ us. map view start ++ us) (sym (row_at r.width r.count p (map view r.values.items) h))
+
+pub others_left : (r : Rows) (p : ℕ) (vs : List Value) → p < r.count → vs ≡ take (p * r.width) r.values.items ++ (replicate r.width Null ++ drop (p * r.width + r.width) r.values.items)
+    → drop (p + 1) (rows_of r.width r.count (map view vs)) ≡ drop (p + 1) (table r)
+others_left r p vs h e =
+    ap (λ us. drop (p + 1) (rows_of r.width r.count us)) (ap (map view) e ∙ seen_left (p * r.width) (p * r.width + r.width) r.width r.values.items)
+    ∙ ap (drop (p + 1)) (rows_set r.width r.count p (map view r.values.items) (replicate r.width null) h (length-map r.values.items view ∙ r.sized) (length_nulls r.width null))
+    ∙ drop_set p (table r) (replicate r.width null)

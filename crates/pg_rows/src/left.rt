@@ -25,9 +25,9 @@ impl Rows {
 }
 
 impl RowsLeft {
-    ghost use Rattle.std.specs.Prelude.{◌≡◌, ◌∷◌, [], drop, map, length, IfOk, IfSome, IfNone};
+    ghost use Rattle.std.specs.Prelude.{◌≡◌, ◌<◌, ◌+◌, ◌∷◌, [], ◌++◌, drop, map, length, IfOk, IfSome, IfNone, OnOk};
     ghost use Rattle.pg_value_core.specs.View.{view};
-    ghost use Rattle.pg_rows.specs.Left.{rows_left};
+    ghost use Rattle.pg_rows.specs.Left.{first_row, rows_left};
 
     /// The next row, if there is one.
     pub fn next_row(&mut self, alloc: Global) -> Result<Option<Vec<Value>>, AllocError>
@@ -42,6 +42,34 @@ impl RowsLeft {
         let row = self.rows.take_row(self.at, alloc)?;
         self.at += 1;
         Ok(Some(row))
+    }
+
+    /// Lends the next row, if there is one.
+    #[tactic(auto, using(crate::proofs::Taken::looked, crate::proofs::Taken::none_left))]
+    pub fn look(&self) -> Option<&[Value]>
+        ensures row { IfSome result (λ row. rows_left self.now ≡ map view row.now ∷ drop 1 (rows_left self.now)) }
+        ensures none { IfNone result (rows_left self.now ≡ []) }
+    {
+        if self.at < self.rows.len() {
+            Some(self.rows.row(self.at))
+        } else {
+            None
+        }
+    }
+
+    /// Moves the next row behind the values.
+    #[tactic(auto, using(crate::proofs::Taken::more_left, crate::proofs::Taken::skipped))]
+    pub fn next_into(&mut self, values: &mut Vec<Value>) -> Result<(), AllocError>
+        requires { 0 < length (rows_left self.old) }
+        ensures values { OnOk result (map view values.new.items ≡ map view values.old.items ++ first_row (rows_left self.old)) }
+        ensures rows { OnOk result (rows_left self.new ≡ drop 1 (rows_left self.old)) }
+        ensures len { OnOk result (length values.new.items ≡ length values.old.items + self.old.rows.width) }
+        ensures width { self.new.rows.width ≡ self.old.rows.width }
+    {
+        let _count = self.rows.count;
+        self.rows.take_into(self.at, values)?;
+        self.at += 1;
+        Ok(())
     }
 
     /// Leaves the next rows out, at most so many.
@@ -60,9 +88,22 @@ impl RowsLeft {
 }
 
 impl Rows {
-    ghost use Rattle.std.specs.Prelude.{◌≡◌, ◌<◌, ◌+◌, ◌∷◌, drop, map, length, IfOk, OnOk};
+    ghost use Rattle.std.specs.Prelude.{◌≡◌, ◌<◌, ◌+◌, ◌∷◌, ◌++◌, drop, map, length, IfOk, OnOk};
     ghost use Rattle.pg_value_core.specs.View.{view};
+    ghost use Rattle.pg_rows.specs.Left.{first_row};
     ghost use Rattle.pg_rows.specs.Tables.{table};
+
+    /// Moves a row behind the values, and leaves nulls.
+    pub(crate) fn take_into(&mut self, at: usize, values: &mut Vec<Value>) -> Result<(), AllocError>
+        requires { at < self.old.count }
+        ensures values { OnOk result (map view values.new.items ≡ map view values.old.items ++ first_row (drop at (table self.old))) }
+        ensures rows { OnOk result (drop (at + 1) (table self.new) ≡ drop (at + 1) (table self.old)) }
+        ensures len { OnOk result (length values.new.items ≡ length values.old.items + self.old.width) }
+        ensures width { self.new.width ≡ self.old.width }
+        ensures count { self.new.count ≡ self.old.count }
+    {
+        move_row(&mut self.values, at * self.width, self.width, values)
+    }
 
     /// Moves a row out, and leaves nulls.
     pub(crate) fn take_row(&mut self, at: usize, alloc: Global) -> Result<Vec<Value>, AllocError>

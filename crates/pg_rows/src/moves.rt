@@ -1,9 +1,10 @@
 //! Values moved from one list to another.
-ghost use Rattle.std.specs.Prelude.{◌≡◌, ◌+◌, ◌≤◌, ◌++◌, length, take, drop, replicate, OnOk};
+ghost use Rattle.std.specs.Prelude.{◌≡◌, ◌+◌, ◌≤◌, ◌++◌, length, map, take, drop, replicate, OnOk};
+ghost use Rattle.pg_value_core.specs.View.{view};
 ghost use Rattle.pg_value_core.specs.declared.value.Value.TheVariants.{Null};
 
 use pg_value_core::Value;
-use std::alloc::AllocError;
+use std::alloc::{AllocError, Global};
 use std::mem;
 
 /// Moves the values behind `start` to the end of `moved`, and leaves nulls.
@@ -21,6 +22,23 @@ pub(crate) fn move_row(
     for offset in 0..width {
         let value = mem::replace(&mut values[start + offset], Value::Null);
         moved.push(value)?;
+    }
+    Ok(())
+}
+
+/// Copies a row to the end of the values; where memory is wanted, a part of it may stand there.
+#[tactic(auto, using(crate::proofs::Copied::still_before))]
+pub(crate) fn copy_row(
+    alloc: Global,
+    row: &[Value],
+    values: &mut Vec<Value>,
+) -> Result<(), AllocError>
+    ensures copied { OnOk result (map view values.new.items ≡ map view values.old.items ++ map view row.now) }
+    ensures before { take (length values.old.items) values.new.items ≡ values.old.items }
+    ensures len { OnOk result (length values.new.items ≡ length values.old.items + length row.now) }
+{
+    for value in row {
+        values.push(value.copy(alloc)?)?;
     }
     Ok(())
 }

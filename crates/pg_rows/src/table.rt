@@ -1,5 +1,5 @@
 //! Rows of one width, in one list of values.
-use crate::moves::move_row;
+use crate::moves::{copy_row, move_row};
 use pg_value_core::Value;
 use std::alloc::{AllocError, Global};
 
@@ -50,10 +50,41 @@ impl Rows {
         ensures err { OnErr result (table self.new ≡ table self.old) }
         ensures width { self.new.width ≡ self.old.width }
     {
+        self.push_from(&mut row)
+    }
+
+    /// Moves the values out to be the last row; their list keeps its memory for the next row.
+    pub fn push_from(&mut self, row: &mut Vec<Value>) -> Result<(), AllocError>
+        requires { length row.old.items ≡ self.old.width }
+        ensures rows { OnOk result (table self.new ≡ table self.old ++ map view row.old.items ∷ []) }
+        ensures emptied { OnOk result (row.new.items ≡ []) }
+        ensures err { OnErr result (table self.new ≡ table self.old) }
+        ensures width { self.new.width ≡ self.old.width }
+    {
         let Some(count) = self.count.checked_add(1) else {
             return Err(AllocError);
         };
-        self.values.append(&mut row)?;
+        self.values.append(row)?;
+        self.count = count;
+        Ok(())
+    }
+
+    /// Takes a copy of the values in as the last row.
+    #[tactic(auto, using(crate::proofs::Copied::row_copied))]
+    pub fn push_copy(&mut self, alloc: Global, row: &[Value]) -> Result<(), AllocError>
+        requires { length row.now ≡ self.old.width }
+        ensures rows { OnOk result (table self.new ≡ table self.old ++ map view row.now ∷ []) }
+        ensures err { OnErr result (table self.new ≡ table self.old) }
+        ensures width { self.new.width ≡ self.old.width }
+    {
+        let Some(count) = self.count.checked_add(1) else {
+            return Err(AllocError);
+        };
+        let before = self.values.len();
+        if copy_row(alloc, row, &mut self.values).is_err() {
+            self.values.truncate(before);
+            return Err(AllocError);
+        }
         self.count = count;
         Ok(())
     }

@@ -18,7 +18,7 @@ use pg_match_stages::Anchor;
 use pg_meter::Meter;
 use pg_project::{project_return, project_with, unwind_rows};
 use pg_rows::Table;
-use pg_store::Store;
+use pg_store::{Shared, Store};
 use pg_syntax_tree::Clause;
 use pg_value_core::{Fault, Parameters};
 use pg_write_create::create_paths;
@@ -40,7 +40,7 @@ pub(crate) fn run_clause<T: Tables>(
     clause: &Clause,
     anchors: &[Anchor],
     store: &mut Store<T>,
-    shared: &mut T::Shared,
+    shared: &mut Shared<T::Shared>,
     table: Table,
     meter: &mut Meter,
 ) -> Result<Table, Fault>

@@ -16,7 +16,7 @@ use pg_graph::Tables;
 use pg_match_stages::Anchor;
 use pg_meter::Meter;
 use pg_rows::Table;
-use pg_store::Store;
+use pg_store::{Shared, Store};
 use pg_syntax_tree::Clause;
 use pg_value_core::Fault;
 
@@ -26,7 +26,7 @@ pub fn run_clauses<T: Tables>(
     clauses: &[Clause],
     plan: &[Vec<Anchor>],
     store: &mut Store<T>,
-    shared: &mut T::Shared,
+    shared: &mut Shared<T::Shared>,
     meter: &mut Meter,
 ) -> Result<Table, Fault>
     requires fit { IsFit T.seen store.old shared.old }
@@ -34,6 +34,7 @@ pub fn run_clauses<T: Tables>(
     requires planned { IsPlanFrom [] (map clause_view clauses.now) (plan_view plan.now) }
     ensures gives { Gives result (clauses_run (parameters_view given.now.parameters.now) (quota_of meter.old.limit given.now.max_elements) [] (plan_view plan.now) (map clause_view clauses.now) (state_of (graph_of_store T.seen store.old shared.old) (record { names = []; rows = [] ∷ [] }) meter.old.used)) (λ t. state_of (graph_of_store T.seen store.new shared.new) (seen t) meter.new.used) }
     ensures names { IfOk result (λ t. (seen t).names ≡ fold scope_after [] (map clause_view clauses.now)) }
+    ensures limit { meter.new.limit ≡ meter.old.limit }
     ensures changed { Changed T.seen store.old shared.old store.new shared.new }
 {
     let table = Table::begin(given.alloc)?;
@@ -47,7 +48,7 @@ fn run_from<T: Tables>(
     clauses: &[Clause],
     plan: &[Vec<Anchor>],
     store: &mut Store<T>,
-    shared: &mut T::Shared,
+    shared: &mut Shared<T::Shared>,
     mut table: Table,
     meter: &mut Meter,
 ) -> Result<Table, Fault>
@@ -56,6 +57,7 @@ fn run_from<T: Tables>(
     requires planned { IsPlanFrom (seen table).names (map clause_view clauses.now) (plan_view plan.now) }
     ensures gives { Gives result (clauses_run (parameters_view given.now.parameters.now) (quota_of meter.old.limit given.now.max_elements) (seen table).names (plan_view plan.now) (map clause_view clauses.now) (state_of (graph_of_store T.seen store.old shared.old) (seen table) meter.old.used)) (λ t. state_of (graph_of_store T.seen store.new shared.new) (seen t) meter.new.used) }
     ensures names { IfOk result (λ t. (seen t).names ≡ fold scope_after (seen table).names (map clause_view clauses.now)) }
+    ensures limit { meter.new.limit ≡ meter.old.limit }
     ensures changed { Changed T.seen store.old shared.old store.new shared.new }
 {
     let mut left = plan;

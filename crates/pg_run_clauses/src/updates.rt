@@ -13,7 +13,7 @@ use crate::clause::Given;
 use pg_graph::Tables;
 use pg_meter::Meter;
 use pg_rows::Table;
-use pg_store::Store;
+use pg_store::{Shared, Store};
 use pg_syntax_tree::{RemoveItem, SetItem};
 use pg_value_core::Fault;
 use pg_write::{remove_items, set_items};
@@ -22,7 +22,7 @@ pub(crate) fn set_rows<T: Tables>(
     given: &Given<'_>,
     items: &Vec<SetItem>,
     store: &mut Store<T>,
-    shared: &mut T::Shared,
+    shared: &mut Shared<T::Shared>,
     table: Table,
     meter: &mut Meter,
 ) -> Result<Table, Fault>
@@ -48,7 +48,7 @@ pub(crate) fn remove_rows<T: Tables>(
     given: &Given<'_>,
     items: &Vec<RemoveItem>,
     store: &mut Store<T>,
-    shared: &mut T::Shared,
+    shared: &mut Shared<T::Shared>,
     table: Table,
     meter: &mut Meter,
 ) -> Result<Table, Fault>

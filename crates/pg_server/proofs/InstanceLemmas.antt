@@ -11,17 +11,18 @@ use Rattle.pg_server.specs.InstancesOfRuns.{EmptyRuns, StatusRuns, Configuration
 use Rattle.pg_server.specs.Runs.{Runs, SoloRun, asked, shows_one_of, is_want_of_memory}
 use Rattle.pg_server.specs.Solo.{solo, limited, status_text}
 use Rattle.pg_server.specs.State.{State, ServerState, state_at, tokens_of, no_state, opening}
-use Rattle.pg_server.proofs.RunLemmas.{Runs-refl}
 use Rattle.pg_server.proofs.TenantLemmas.{length_mapped}
 
-stays : (old new : ServerState) → Runs old [] new → new ≡ old
+stays : (old new : ServerState) → Runs old [] new → new.tenants ≡ old.tenants
 stays old new run =
     let as_many : length new.tenants ≡ length old.tenants = sym (length_mapped (λ (s : State). s.settings) new.tenants) ∙ ap length run.settings ∙ length_mapped (λ (s : State). s.settings) old.tenants in
-    let tenants : new.tenants ≡ old.tenants = ext_get_or no_state new.tenants old.tenants as_many (λ t below. run.solo t) in
-    λ i. let s : ServerState = record { cache = run.cache i; tenants = tenants i } in s
+    ext_get_or no_state new.tenants old.tenants as_many (λ t below. run.solo t)
+
+nothing_ran : (s : ServerState) → Runs s [] s
+nothing_ran s = record { cache = refl; settings = refl; strangers = tt; solo = λ t. refl }
 
 pub empty_runs : EmptyRuns
-empty_runs old new = (λ same. subst (Runs old []) (sym same) (Runs-refl old), stays old new)
+empty_runs old new = (λ same. subst (Runs old []) (sym same) (nothing_ran old), stays old new)
 
 module _ (body : List ℕ) (asks : asked body ≡ Some (status (codes "a"))) where
   abbrev status_reply : List ℕ

@@ -2,18 +2,22 @@
 use Rattle.std.proofs.Common.{◌≡◌, ℕ, zero, suc, ◌+◌, ◌<◌, ◌≤◌, List, [], ◌∷◌, ◌++◌, length, get_or, map, arith, refl, sym, ap, subst, ◌∙◌}
 use Rattle.pg_graph.specs.Content.{Seen}
 use Rattle.pg_meaning.specs.Graph.{empty_graph}
+use Rattle.pg_names.specs.Names.{AreDistinct}
 use Rattle.pg_server.specs.Settings.{TenantSettings}
 use Rattle.pg_server.specs.State.{State, opening}
 use Rattle.pg_server.specs.Tenants.{states_of, AreOpening}
 use Rattle.pg_server.specs.declared.tenant.Tenant.{Tenant}
 use Rattle.pg_store.specs.Stores.{graph_of_store, IsFit}
+use Rattle.pg_store.specs.declared.shared.Shared.{Shared}
+use Rattle.pg_tenant.specs.Indexes.{indexes_of}
 
 module _ {T S : Type 0} (seen : Seen T S) where
   -- a store that was just made
   pub record Opens (tenant : Tenant T) (owner : ℕ) : Type 0 where
     pub own : seen.owner tenant.store.tables ≡ owner
-    pub fit : (shared : S) → seen.is_unused owner shared → IsFit seen tenant.store shared
-    pub empty : (shared : S) → seen.is_unused owner shared → graph_of_store seen tenant.store shared ≡ empty_graph
+    pub fit : (shared : Shared S) → AreDistinct shared.names → seen.is_unused owner shared.tables → IsFit seen tenant.store shared
+    pub empty : (shared : Shared S) → seen.is_unused owner shared.tables → graph_of_store seen tenant.store shared ≡ empty_graph
+    pub indexless : indexes_of tenant.indexes ≡ []
 
   abbrev pub OpenFrom : ℕ → List (Tenant T) → Type 0
   OpenFrom k [] = Unit {0}
@@ -50,11 +54,11 @@ module _ {T S : Type 0} (seen : Seen T S) where
   pub few_begun : (all rest : List TenantSettings) (begun : List (Tenant T)) → BegunSoFar all rest begun → length begun ≤ length all
   few_begun all rest begun so_far = omega (arith, lengths begun rest, ap length so_far.same)
 
-  module _ (shared : S) (unused : (owner : ℕ) → seen.is_unused owner shared) where
-    fit_from : (k : ℕ) (tenants : List (Tenant T)) → OpenFrom k tenants → (i : ℕ) (d : Tenant T) → i < length tenants → IsFit seen (get_or tenants i d).store shared
-    fit_from k [] h i d lt = absurd (omega arith)
-    fit_from k (t ∷ ts) h zero d lt = h.0.fit shared (unused k)
-    fit_from k (t ∷ ts) h (suc i) d lt = fit_from (suc k) ts h.1 i d (omega arith)
+  module _ (shared : Shared S) (unused : (owner : ℕ) → seen.is_unused owner shared.tables) where
+    fit_from : AreDistinct shared.names → (k : ℕ) (tenants : List (Tenant T)) → OpenFrom k tenants → (i : ℕ) (d : Tenant T) → i < length tenants → IsFit seen (get_or tenants i d).store shared
+    fit_from distinct k [] h i d lt = absurd (omega arith)
+    fit_from distinct k (t ∷ ts) h zero d lt = h.0.fit shared distinct (unused k)
+    fit_from distinct k (t ∷ ts) h (suc i) d lt = fit_from distinct (suc k) ts h.1 i d (omega arith)
 
     own_from : (k : ℕ) (tenants : List (Tenant T)) → OpenFrom k tenants → (i : ℕ) (d : Tenant T) → i < length tenants → seen.owner (get_or tenants i d).store.tables ≡ k + i
     own_from k [] h i d lt = absurd (omega arith)
@@ -64,7 +68,7 @@ module _ {T S : Type 0} (seen : Seen T S) where
     empty_from : (k : ℕ) (tenants : List (Tenant T)) → OpenFrom k tenants → states_of seen tenants shared ≡ map opening (map (λ (t : Tenant T). t.settings) tenants)
     empty_from k [] h = refl
     empty_from k (t ∷ ts) h =
-        λ i. (let s : State = record { settings = t.settings; graph = h.0.empty shared (unused k) i } in s) ∷ empty_from (suc k) ts h.1 i
+        λ i. (let s : State = record { settings = t.settings; graph = h.0.empty shared (unused k) i; indexes = h.0.indexless i } in s) ∷ empty_from (suc k) ts h.1 i
 
   nothing_left : (rest : List TenantSettings) → length rest ≡ 0 → rest ≡ []
   nothing_left [] h = refl
@@ -80,8 +84,8 @@ module _ {T S : Type 0} (seen : Seen T S) where
       sym (whole (map (λ (t : Tenant T). t.settings) begun)) ∙ ap (λ ss. map (λ (t : Tenant T). t.settings) begun ++ ss) (sym (nothing_left rest none)) ∙ so_far.same in
       record {
         same = same;
-        fit = λ shared unused. record {
-          fit = λ k d lt. fit_from shared unused 0 begun so_far.opened k d lt;
+        fit = λ shared distinct unused. record {
+          fit = λ k d lt. fit_from shared unused distinct 0 begun so_far.opened k d lt;
           own = λ k d lt. own_from shared unused 0 begun so_far.opened k d lt ∙ omega arith;
         };
         empty = λ shared unused. empty_from shared unused 0 begun so_far.opened ∙ ap (map opening) same;

@@ -1,11 +1,12 @@
--- A refusal leaves the whole server.
+-- A refusal leaves every tenant.
 use Rattle.std.proofs.Common.{◌≡◌, ℕ, List, [], ◌∷◌, Bool, true, false, cond, length, sym, ap, ◌∙◌}
 use Rattle.std.specs.Prelude.{◌&&◌, not}
 use Rattle.std.proofs.lemmas.List.{ext_get_or}
 use Rattle.pg_json.specs.Refusals.{refusal_text}
 use Rattle.pg_meaning.specs.declared.fault.Fault.{Fault}
 use Rattle.pg_server.specs.Exchange.{Exchange}
-use Rattle.pg_server.specs.Runs.{Runs, SoloRun, RefusalsKeepAll, shows_one_of, asked, is_want_of_memory}
+use Rattle.pg_server.specs.Handles.{RefusalsKeepAll}
+use Rattle.pg_server.specs.Runs.{Runs, SoloRun, shows_one_of, asked, is_want_of_memory}
 use Rattle.pg_server.specs.State.{State, ServerState, state_at, tokens_of, no_state}
 use Rattle.pg_server.proofs.ReplyLemmas.{refusals_keep}
 use Rattle.pg_server.proofs.TenantLemmas.{length_mapped}
@@ -22,13 +23,10 @@ module _ (old new : ServerState) (body : List ℕ) (fault : Fault) (run : Runs o
   as_many : length new.tenants ≡ length old.tenants
   as_many = sym (length_mapped (λ (s : State). s.settings) new.tenants) ∙ ap length run.settings ∙ length_mapped (λ (s : State). s.settings) old.tenants
 
-  tenants_stay : new.tenants ≡ old.tenants
+  pub tenants_stay : new.tenants ≡ old.tenants
   tenants_stay =
       ext_get_or no_state new.tenants old.tenants as_many
       (λ t below. state_stays t (shows_one_of (tokens_of (state_at old t)) (asked body) && not (is_want_of_memory (refusal_text fault))) (run.solo t))
 
-  pub server_stays : new ≡ old
-  server_stays = λ i. let s : ServerState = record { cache = run.cache i; tenants = tenants_stay i } in s
-
 pub refusals_keep_all : RefusalsKeepAll
-refusals_keep_all old new body fault run = server_stays old new body fault run
+refusals_keep_all old new body fault one = tenants_stay old new body fault one.run

@@ -3,7 +3,8 @@ use Rattle.std.proofs.Common.{◌≡◌, ℕ, List, [], ◌∷◌, ◌++◌, Boo
 use Rattle.std.proofs.Math.ListN.{get_or-map}
 use Rattle.pg_server.specs.declared.end.End.{End}
 use Rattle.pg_server.specs.Exchange.{Exchange, Chain}
-use Rattle.pg_server.specs.Runs.{handles, SoloRun, Runs, AnswersStrangers, IsStrangers, own, shows_one_of, asked}
+use Rattle.pg_server.specs.Handles.{Handles}
+use Rattle.pg_server.specs.Runs.{SoloRun, Runs, AnswersStrangers, IsStrangers, own, shows_one_of, asked}
 use Rattle.pg_server.specs.Served.{Served}
 use Rattle.pg_server.specs.Serves.{Serves}
 use Rattle.pg_server.specs.Settings.{TenantSettings, token_texts}
@@ -53,11 +54,11 @@ Runs-cons old mid new e es first rest =
     }
 
 -- calls of `handle`, one after another, are each tenant's run alone
-pub Runs-of_chain : (a b : ServerState) (es : List Exchange) → Chain handles a es b → Runs a es b
+pub Runs-of_chain : (a b : ServerState) (es : List Exchange) → Chain Handles a es b → Runs a es b
 Runs-of_chain a b [] chain = subst (Runs a []) (sym chain) (Runs-refl a)
-Runs-of_chain a b (e ∷ es) chain = Runs-cons a chain.0 b e es chain.1 (Runs-of_chain chain.0 b es chain.2)
+Runs-of_chain a b (e ∷ es) chain = Runs-cons a chain.0 b e es chain.1.run (Runs-of_chain chain.0 b es chain.2)
 
-pub alone : (r r' w w' : Option (List ℕ)) (old new : ServerState) (most : ℕ) (end : End) → Served handles r r' w w' old new most end → Serves r r' w w' old new most end
+pub alone : (r r' w w' : Option (List ℕ)) (old new : ServerState) (most : ℕ) (end : End) → Served Handles r r' w w' old new most end → Serves r r' w w' old new most end
 alone r r' w w' old new most end s = (s, Runs-of_chain old new s.exchanges s.chain)
 
 -- the settings that a server began with

@@ -1,6 +1,6 @@
 -- One request is a run of one exchange.
-use Rattle.std.proofs.Common.{◌≡◌, ◌≢◌, ℕ, ◌<◌, List, [], ◌∷◌, Bool, true, false, cond, length, arith, get_or, Option, Some, None, refl, sym, ap, ◌∙◌, subst, inl, inr}
-use Rattle.std.specs.Prelude.{◌&&◌, not, nat_eq, position}
+use Rattle.std.proofs.Common.{◌≡◌, ◌≢◌, ℕ, ◌<◌, List, [], ◌∷◌, Bool, true, false, cond, length, arith, get_or, Option, Some, None, Err, refl, sym, ap, ◌∙◌, subst, inl, inr}
+use Rattle.std.specs.Prelude.{◌&&◌, not, nat_eq, position, slice_set}
 use Rattle.std.proofs.Math.Seq.{map-set_same}
 use Rattle.std.proofs.lemmas.Bool.Decides.{Decides-eqb, not_from_Decides}
 use Rattle.std.proofs.lemmas.List.{get_or-set_same, get_or-set_other, get_or_past, set-get_or}
@@ -10,10 +10,10 @@ use Rattle.std.proofs.lemmas.List.Quantifiers.{position-Some}
 use Rattle.std.proofs.lemmas.List.Sums.{fails_before_first}
 use Rattle.std.proofs.lemmas.Slice.Eq.{bytes_eq-Decides}
 use Rattle.pg_json.specs.Refusals.{refusal_text}
-use Rattle.pg_json.specs.Requests.{Request, query, status, meaning}
+use Rattle.pg_json.specs.Requests.{Request, query, status, create_index, drop_index, meaning}
 use Rattle.pg_meaning.specs.Graph.{IsGraph}
 use Rattle.pg_meaning.specs.declared.fault.Fault.{Fault}
-use Rattle.pg_meaning.specs.declared.fault.Fault.TheVariants.{BadRequest, UnknownToken, OutOfMemory}
+use Rattle.pg_meaning.specs.declared.fault.Fault.TheVariants.{FrameTooLong, BadRequest, UnknownToken, OutOfMemory}
 use Rattle.pg_server.specs.Exchange.{Exchange}
 use Rattle.pg_server.specs.Runs.{Runs, SoloRun, Means, IsStrangers, IsStrangersReply, own, asked, token_of, shows_one_of, is_short, is_want_of_memory, fault_of_request}
 use Rattle.pg_meaning.specs.Names.{is_among}
@@ -21,7 +21,7 @@ use Rattle.pg_value.specs.Texts.{comes_again}
 use Rattle.pg_server.specs.Settings.{all_tokens, token_texts}
 use Rattle.pg_server.specs.Solo.{solo}
 use Rattle.pg_server.specs.State.{State, ServerState, state_at, tokens_of, settings_of, no_state, no_settings}
-use Rattle.pg_server.specs.Step.{Answers, StepAt, with_tenant, place_of}
+use Rattle.pg_server.specs.Step.{Answers, RepliesAt, StepAt, place_of}
 use Rattle.pg_server.proofs.DistinctLemmas.{others_lack}
 use Rattle.pg_server.proofs.ReplyLemmas.{settings_stay, refused_keeps}
 use Rattle.pg_server.proofs.RunLemmas.{settings_at}
@@ -42,7 +42,7 @@ and_true : (a b : Bool) → b ≡ true → a && b ≡ a
 and_true true b h = h
 and_true false b h = refl
 
-asked_is : (body : List ℕ) (request : Request) → is_short body ≡ true → meaning body ≡ Some request → asked body ≡ Some request
+pub asked_is : (body : List ℕ) (request : Request) → is_short body ≡ true → meaning body ≡ Some request → asked body ≡ Some request
 asked_is body request short means = ap (λ b. cond b (meaning body) None) short ∙ means
 
 -- an exchange that is no tenant's own leaves the server as it is
@@ -55,6 +55,16 @@ module _ (server : ServerState) (body reply : List ℕ) (strangers : IsStrangers
         strangers = (strangers, tt);
         solo = λ t. subst (λ b. SoloRun (state_at server t) (cond b (record { body = body; reply = reply } ∷ []) []) (state_at server t)) (sym (none t)) refl;
       }
+
+-- one tenant's state is this now
+abbrev with_tenant : ServerState → ℕ → State → ServerState
+with_tenant server t state = record server { tenants = slice_set server.tenants t state }
+
+-- what else the cache holds changes no tenant's run
+moved : (old new : ServerState) (es : List Exchange) (tenants : List State) → new.cache.capacity ≡ old.cache.capacity → new.tenants ≡ tenants → Runs old es (record old { tenants = tenants }) → Runs old es new
+moved old new es tenants capacity are run =
+    subst (λ ts. Runs old es (let s : ServerState = record { cache = new.cache; tenants = ts } in s)) (sym are)
+    (let r : Runs old es (let s : ServerState = record { cache = new.cache; tenants = tenants } in s) = record { cache = capacity; settings = run.settings; strangers = run.strangers; solo = run.solo } in r)
 
 -- want of memory
 pub out_of_memory : (server : ServerState) (body reply : List ℕ) → is_short body ≡ true → reply ≡ refusal_text OutOfMemory → Runs server (record { body = body; reply = reply } ∷ []) server
@@ -115,28 +125,33 @@ kept_tenant : (old : ServerState) (t : ℕ) (request : Request) → is_want_of_m
 kept_tenant old t request h =
     ap (with_tenant old t) (refused_keeps (state_at old t) request h) ∙ ap (λ ts. let s : ServerState = record { cache = old.cache; tenants = ts } in s) (set-get_or old.tenants t no_state)
 
+abbrev only : (body reply : List ℕ) → List Exchange
+only body reply = record { body = body; reply = reply } ∷ []
+
 -- one request, as the tenant found by its token answers it
 pub answered : (old new : ServerState) (body reply : List ℕ) (request : Request) → comes_again [] (all_tokens (settings_of old)) ≡ false
-    → ((t : ℕ) → Means (state_at old t) request) → is_short body ≡ true → meaning body ≡ Some request → Answers old request reply new → Runs old (record { body = body; reply = reply } ∷ []) new
-answered old new body reply request distinct all_mean short means step = by_place (place_of (token_of request) old.tenants) refl step
+    → ((t : ℕ) → Means (state_at old t) request) → is_short body ≡ true → meaning body ≡ Some request → new.cache.capacity ≡ old.cache.capacity → Answers old.tenants request reply new.tenants
+    → Runs old (record { body = body; reply = reply } ∷ []) new
+answered old new body reply request distinct all_mean short means capacity step = by_place (place_of (token_of request) old.tenants) refl step
   where
     by_reply : (t : ℕ) → place_of (token_of request) old.tenants ≡ Some t → reply ≡ (solo (state_at old t) request).reply → (b : Bool) → is_want_of_memory reply ≡ b
-        → Runs old (record { body = body; reply = reply } ∷ []) (with_tenant old t (solo (state_at old t) request).state)
+        → Runs old (only body reply) (with_tenant old t (solo (state_at old t) request).state)
     by_reply t found told true is =
-        subst (Runs old (record { body = body; reply = reply } ∷ [])) (sym (kept_tenant old t request (sym (ap is_want_of_memory told) ∙ is)))
+        subst (Runs old (only body reply)) (sym (kept_tenant old t request (sym (ap is_want_of_memory told) ∙ is)))
         (out_of_memory old body reply short ((bytes_eq-Decides reply (refusal_text OutOfMemory)).0 is))
     by_reply t found told false is = by_tenant old body request short means t found distinct (all_mean t) reply told is
 
-    by_place : (o : Option ℕ) → place_of (token_of request) old.tenants ≡ o → StepAt o old request reply new → Runs old (record { body = body; reply = reply } ∷ []) new
-    by_place None none step = subst (Runs old (record { body = body; reply = reply } ∷ [])) (sym step.1) (unknown old body request short means reply none step.0)
-    by_place (Some t) found (inl h) = subst (Runs old (record { body = body; reply = reply } ∷ [])) (sym h.1) (out_of_memory old body reply short h.0)
-    by_place (Some t) found (inr h) =
-        subst (Runs old (record { body = body; reply = reply } ∷ [])) (sym h.1) (by_reply t found h.0 (is_want_of_memory reply) refl)
+    by_place : (o : Option ℕ) → place_of (token_of request) old.tenants ≡ o → StepAt o old.tenants request reply new.tenants → Runs old (only body reply) new
+    by_place None none step = moved old new (only body reply) old.tenants capacity step.1 (unknown old body request short means reply none step.0)
+    by_place (Some t) found (inl h) = moved old new (only body reply) old.tenants capacity h.1 (out_of_memory old body reply short h.0)
+    by_place (Some t) found (inr h) = moved old new (only body reply) (slice_set old.tenants t (solo (state_at old t) request).state) capacity h.1 (by_reply t found h.0 (is_want_of_memory reply) refl)
 
 -- what a tenant's query answers is what it means, since its graph is one
 pub means_of : (s : State) (request : Request) → IsGraph s.graph → Means s request
-means_of s (query token text parameters) is = λ q h given. text_means s.settings.max_steps s.settings.max_elements parameters s.graph text q is h given
+means_of s (query token text parameters) is = λ q h given. text_means s.settings.max_steps s.settings.max_elements parameters s.indexes s.graph text q is h given
 means_of s (status token) is = tt
+means_of s (create_index token label key) is = tt
+means_of s (drop_index token label key) is = tt
 
 -- a body that isn't read
 pub unread : (server : ServerState) (body reply : List ℕ) (e : Fault) → is_short body ≡ true → reply ≡ refusal_text e → (e ≢ OutOfMemory → e ≡ BadRequest)
@@ -150,3 +165,25 @@ unread server body reply e short told kind none = by_memory (is_want_of_memory r
         let nothing : asked body ≡ None = ap (λ b. cond b (meaning body) None) short ∙ none other in
         left_alone server body reply (λ _. (λ long. cc, λ _. inl (told ∙ ap refusal_text (kind other) ∙ ap (λ r. refusal_text (fault_of_request r)) (sym (none other)))))
         (λ t. ap (λ r. shows_one_of (tokens_of (state_at server t)) r && not (is_want_of_memory reply)) nothing)
+
+-- a body that is too long
+pub too_long : (server : ServerState) (body reply : List ℕ) → is_short body ≡ false → reply ≡ refusal_text FrameTooLong → Runs server (record { body = body; reply = reply } ∷ []) server
+too_long server body reply long told =
+    let nothing : asked body ≡ None = ap (λ b. cond b (meaning body) None) long in
+    left_alone server body reply (λ _. (λ _. told, λ short. absurd (true≢false (sym short ∙ long))))
+    (λ t. ap (λ r. shows_one_of (tokens_of (state_at server t)) r && not (is_want_of_memory reply)) nothing)
+
+-- a tenant that refuses a request is as it was
+pub refused_step : (t : ℕ) (old new : List State) (request : Request) (e : Fault) → RepliesAt t old request (Err e) new → StepAt (Some t) old request (refusal_text e) new
+refused_step t old new request e step = by_memory (is_want_of_memory (refusal_text e)) refl
+  where
+    by_memory : (b : Bool) → is_want_of_memory (refusal_text e) ≡ b → StepAt (Some t) old request (refusal_text e) new
+    by_memory true is = inl ((bytes_eq-Decides (refusal_text e) (refusal_text OutOfMemory)).0 is, step.0)
+    by_memory false is =
+        let other : e ≢ OutOfMemory = λ same. true≢false (sym ((bytes_eq-Decides (refusal_text e) (refusal_text OutOfMemory)).1 (ap refusal_text same)) ∙ is) in
+        let told = step.1 other in
+        inr (told.0, step.0 ∙ sym (ap (slice_set old t) told.1 ∙ set-get_or old t no_state))
+
+-- a tenant that is found is one of them
+pub place_below : (token : List ℕ) (tenants : List State) (t : ℕ) → place_of token tenants ≡ Some t → t < length tenants
+place_below token tenants t found = (position-Some (λ (s : State). is_among (tokens_of s) token) tenants t no_state found).0

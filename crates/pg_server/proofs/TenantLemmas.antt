@@ -5,20 +5,20 @@ use Rattle.std.proofs.Math.Seq.{map-set_same}
 use Rattle.std.proofs.lemmas.Bool.Decides.{Decides-eqb, not_from_Decides}
 use Rattle.std.proofs.lemmas.List.{get_or-set_same, get_or-set_other, length-set}
 use Rattle.pg_names.proofs.Interned.{position_map}
-use Rattle.pg_graph.specs.Content.{Content, Seen, Keeps}
+use Rattle.pg_graph.specs.Content.{Seen}
 use Rattle.pg_meaning.specs.Graph.{Graph, IsGraph}
 use Rattle.pg_meaning.specs.Names.{is_among}
 use Rattle.pg_server.specs.Settings.{TenantSettings, all_tokens, token_texts}
-use Rattle.pg_server.specs.State.{State, no_state, tokens_of}
+use Rattle.pg_server.specs.State.{State, no_state, state_in, tokens_of}
 use Rattle.pg_server.specs.Tenants.{state_of, states_of, AllFit, AreTenants}
 use Rattle.pg_server.specs.Tokens.{TellsTenants, tenant_of}
 use Rattle.pg_server.specs.declared.tenant.Tenant.{Tenant}
 use Rattle.pg_server.specs.declared.tokens.TokenPlaces.{TokenPlaces}
-use Rattle.pg_store.specs.Journal.{graph_in}
-use Rattle.pg_store.proofs.Stores.{fit_over}
-use Rattle.pg_store.specs.Stores as stores
-use Rattle.pg_store.specs.Stores.{graph_of_store, IsFit}
+use Rattle.pg_store.proofs.Kept.{other_stores_stay}
+use Rattle.pg_store.specs.Stores.{graph_of_store, IsFit, KeepsShared}
+use Rattle.pg_store.specs.declared.shared.Shared.{Shared}
 use Rattle.pg_store.specs.declared.store.Store.{Store}
+use Rattle.pg_tenant.specs.Indexes.{indexes_of}
 use Rattle.pg_value.specs.Texts.{comes_again}
 
 module _ {X Y : Type 0} (f g : X → Y) where
@@ -41,19 +41,23 @@ pub length_mapped : {X Y : Type 0} (f : X → Y) (xs : List X) → length (map f
 length_mapped f [] = refl
 length_mapped f (x ∷ xs) = ap suc (length_mapped f xs)
 
--- a store whose content over the shared part stayed fits, and its graph stayed
-module _ {T S : Type 0} (seen : Seen T S) (store : Store T) (old new : S) (same : seen.content store.tables new ≡ seen.content store.tables old) where
-  stays : stores.state_of seen store new ≡ stores.state_of seen store old
-  stays = ap (λ (c : Content). record (stores.state_of seen store old) { content = c }) same
+-- the state of the tenant at a place
+pub state_found : {T S : Type 0} (seen : Seen T S) (tenants : List (Tenant T)) (shared : Shared S) (t : ℕ) (was : Tenant T) → t < length tenants → was ≡ get_or tenants t was
+    → state_of seen was shared ≡ state_in (states_of seen tenants shared) t
+state_found seen tenants shared t was lt at = ap (λ x. state_of seen x shared) at ∙ sym (get_mapped (λ x. state_of seen x shared) tenants t was no_state lt)
 
-  graph_stays : graph_of_store seen store new ≡ graph_of_store seen store old
-  graph_stays = ap (graph_in store.names) stays
+-- the indexes of the tenant at a place
+pub indexes_at : {T S : Type 0} (seen : Seen T S) (tenants : List (Tenant T)) (shared : Shared S) (t : ℕ) (was : Tenant T) → t < length tenants → was ≡ get_or tenants t was
+    → indexes_of was.indexes ≡ (state_in (states_of seen tenants shared) t).indexes
+indexes_at {T = T} seen tenants shared t was lt at =
+    ap (λ (x : Tenant T). indexes_of x.indexes) at ∙ ap (λ (s : State). s.indexes) (sym (get_mapped (λ x. state_of seen x shared) tenants t was no_state lt))
 
-  fit_stays : seen.fits store.tables new → IsFit seen store old → IsFit seen store new
-  fit_stays = fit_over seen store old new same
+-- the store of the tenant at a place fits
+pub fits_at : {T S : Type 0} (seen : Seen T S) (tenants : List (Tenant T)) (shared : Shared S) → AllFit seen tenants shared → (t : ℕ) (was : Tenant T) → t < length tenants → was ≡ get_or tenants t was → IsFit seen was.store shared
+fits_at {T = T} seen tenants shared all t was lt at = subst (λ (x : Tenant T). IsFit seen x.store shared) (sym at) (all.fit t was lt)
 
-module _ {T S : Type 0} (seen : Seen T S) (tenants : List (Tenant T)) (old new : S) (all : AllFit seen tenants old) (t : ℕ) (was now : Tenant T) (lt : t < length tenants)
-    (at : was ≡ get_or tenants t was) (keeps : Keeps seen was.store.tables old now.store.tables new) (settings : now.settings ≡ was.settings) where
+module _ {T S : Type 0} (seen : Seen T S) (tenants : List (Tenant T)) (old new : Shared S) (all : AllFit seen tenants old) (t : ℕ) (was now : Tenant T) (lt : t < length tenants)
+    (at : was ≡ get_or tenants t was) (keeps : KeepsShared seen was.store old now.store new) (settings : now.settings ≡ was.settings) where
   owner_is : seen.owner was.store.tables ≡ t
   owner_is = ap (λ (x : Tenant T). seen.owner x.store.tables) at ∙ all.own t was lt
 
@@ -61,15 +65,15 @@ module _ {T S : Type 0} (seen : Seen T S) (tenants : List (Tenant T)) (old new :
     another : seen.owner (get_or tenants j d).store.tables ≢ seen.owner was.store.tables
     another e = ne (sym (all.own j d below) ∙ e ∙ owner_is)
 
-    same_there : seen.content (get_or tenants j d).store.tables new ≡ seen.content (get_or tenants j d).store.tables old
-    same_there = keeps.others.same (get_or tenants j d).store.tables another (all.fit j d below).fits
+    stays_there : IsFit seen (get_or tenants j d).store new × (graph_of_store seen (get_or tenants j d).store new ≡ graph_of_store seen (get_or tenants j d).store old)
+    stays_there = other_stores_stay seen was.store now.store (get_or tenants j d).store old new keeps another (all.fit j d below)
 
     fits_there : IsFit seen (get_or tenants j d).store new
-    fits_there = fit_stays seen (get_or tenants j d).store old new same_there (keeps.others.fit (get_or tenants j d).store.tables another (all.fit j d below).fits) (all.fit j d below)
+    fits_there = stays_there.0
 
     state_there : state_of seen (get_or tenants j d) new ≡ state_of seen (get_or tenants j d) old
     state_there =
-        ap (λ (g : Graph). let s : State = record { settings = (get_or tenants j d).settings; graph = g } in s) (graph_stays seen (get_or tenants j d).store old new same_there)
+        ap (λ (g : Graph). let s : State = record { settings = (get_or tenants j d).settings; graph = g; indexes = indexes_of (get_or tenants j d).indexes } in s) stays_there.1
 
   -- the others' states stay
   pub others_stay : states_of seen (set tenants t now) new ≡ set (states_of seen tenants old) t (state_of seen now new)
@@ -89,7 +93,7 @@ module _ {T S : Type 0} (seen : Seen T S) (tenants : List (Tenant T)) (old new :
     own_at : (k : ℕ) (d : Tenant T) → k < length tenants → (b : Bool) → nat_eq k t ≡ b → seen.owner (get_or (set tenants t now) k d).store.tables ≡ k
     own_at k d below true is =
         let same : k ≡ t = (Decides-eqb k t).0 is in
-        ap (λ (x : Tenant T). seen.owner x.store.tables) (ap (λ i. get_or (set tenants t now) i d) same ∙ get_or-set_same tenants t now d lt) ∙ keeps.owner ∙ owner_is ∙ sym same
+        ap (λ (x : Tenant T). seen.owner x.store.tables) (ap (λ i. get_or (set tenants t now) i d) same ∙ get_or-set_same tenants t now d lt) ∙ keeps.tables.owner ∙ owner_is ∙ sym same
     own_at k d below false is =
         let ne : k ≢ t = not_from_Decides (nat_eq k t) (Decides-eqb k t) is in
         ap (λ (x : Tenant T). seen.owner x.store.tables) (get_or-set_other tenants t k now d ne) ∙ all.own k d below
@@ -111,19 +115,19 @@ module _ {T S : Type 0} (seen : Seen T S) (tenants : List (Tenant T)) (old new :
         }
 
 -- each tenant's graph is one
-module _ {T S : Type 0} (seen : Seen T S) (shared : S) (law : (store : Store T) → IsFit seen store shared → IsGraph (graph_of_store seen store shared)) (empty : IsGraph no_state.graph) where
+module _ {T S : Type 0} (seen : Seen T S) (shared : Shared S) (law : (store : Store T) → IsFit seen store shared → IsGraph (graph_of_store seen store shared)) (empty : IsGraph no_state.graph) where
   pub graphs_are : (tenants : List (Tenant T)) → ((k : ℕ) (d : Tenant T) → k < length tenants → IsFit seen (get_or tenants k d).store shared)
       → (t : ℕ) → IsGraph (get_or (states_of seen tenants shared) t no_state).graph
   graphs_are [] fit t = empty
   graphs_are (x ∷ xs) fit zero = law x.store (fit 0 x (omega arith))
   graphs_are (x ∷ xs) fit (suc t) = graphs_are xs (λ k d lt. fit (suc k) d (omega arith)) t
 
-pub settings_seen : {T S : Type 0} (seen : Seen T S) (tenants : List (Tenant T)) (shared : S) → map (λ (s : State). s.settings) (states_of seen tenants shared) ≡ map (λ (x : Tenant T). x.settings) tenants
+pub settings_seen : {T S : Type 0} (seen : Seen T S) (tenants : List (Tenant T)) (shared : Shared S) → map (λ (s : State). s.settings) (states_of seen tenants shared) ≡ map (λ (x : Tenant T). x.settings) tenants
 settings_seen seen [] shared = refl
 settings_seen seen (x ∷ xs) shared = ap (λ ss. x.settings ∷ ss) (settings_seen seen xs shared)
 
 -- a tenant stands where its state does
-pub place_seen : {T S : Type 0} (seen : Seen T S) (shared : S) (token : List ℕ) (tenants : List (Tenant T))
+pub place_seen : {T S : Type 0} (seen : Seen T S) (shared : Shared S) (token : List ℕ) (tenants : List (Tenant T))
     → position (λ (s : State). is_among (tokens_of s) token) (states_of seen tenants shared) ≡ tenant_of (map (λ (x : Tenant T). x.settings) tenants) token
 place_seen {T = T} seen shared token tenants =
     position_map (λ x. state_of seen x shared) (λ (s : State). is_among (tokens_of s) token) tenants

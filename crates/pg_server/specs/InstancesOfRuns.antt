@@ -25,9 +25,9 @@ one_reader = opening_server (record { cache = 1; tenants = reader ∷ [] })
 abbrev pub told : List ℕ → List ℕ → List Exchange
 told body reply = record { body = body; reply = reply } ∷ []
 
--- without exchanges a server stays, and with none does it change
+-- without exchanges a server may stay, and its tenants do
 abbrev pub EmptyRuns : Type 0
-EmptyRuns = (old new : ServerState) → (new ≡ old → Runs old [] new) × (Runs old [] new → new ≡ old)
+EmptyRuns = (old new : ServerState) → (new ≡ old → Runs old [] new) × (Runs old [] new → new.tenants ≡ old.tenants)
 
 -- a request for the status is answered by it or by want of memory, and by no other text
 abbrev pub StatusRuns : Type 0

@@ -6,7 +6,11 @@ pub mod Draft
 pub mod Ends
 pub mod Exchange
 pub mod Frames
+pub mod Handles
+pub mod InstancesOfConfigurations
+pub mod InstancesOfRequests
 pub mod InstancesOfRuns
+pub mod InstancesOfServing
 pub mod Runs
 pub mod Served
 pub mod Serves

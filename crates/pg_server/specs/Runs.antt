@@ -1,13 +1,13 @@
 -- Own, SoloRun and Runs: how exchanges with a server are a run of each tenant alone.
 use Rattle.std.specs.Prelude.{◌≡◌, ℕ, ◌⊎◌, Bool, true, false, ◌&&◌, not, nat_le, List, [], ◌∷◌, length, map, filter, Option, Some, None, Ok, if◌then◌else◌, bytes_eq}
 use Rattle.pg_json.specs.Refusals.{refusal_text}
-use Rattle.pg_json.specs.Requests.{Request, query, status, meaning}
+use Rattle.pg_json.specs.Requests.{Request, query, status, create_index, drop_index, meaning}
 use Rattle.pg_meaning.specs.Agreement.{OutcomeAgrees}
 use Rattle.pg_meaning.specs.Queries.{answer_of}
 use Rattle.pg_meaning.specs.Tree.{Query}
 use Rattle.pg_meaning.specs.declared.fault.Fault.{Fault}
 use Rattle.pg_meaning.specs.declared.fault.Fault.TheVariants.{FrameTooLong, BadRequest, UnknownToken, OutOfMemory}
-use Rattle.pg_server.specs.Exchange.{Exchange, replies_of, Chain}
+use Rattle.pg_server.specs.Exchange.{Exchange, replies_of}
 use Rattle.pg_server.specs.Frames.{body_limit}
 use Rattle.pg_meaning.specs.Names.{is_among}
 use Rattle.pg_server.specs.Solo.{solo}
@@ -26,6 +26,8 @@ asked body = if is_short body then meaning body else None
 abbrev pub token_of : Request → List ℕ
 token_of (query token text parameters) = token
 token_of (status token) = token
+token_of (create_index token label key) = token
+token_of (drop_index token label key) = token
 
 -- the request has one of these tokens
 abbrev pub shows_one_of : List (List ℕ) → Option Request → Bool
@@ -43,8 +45,10 @@ own tokens es = filter (λ e. shows_one_of tokens (asked e.body) && not (is_want
 abbrev pub Means : State → Request → Type 0
 Means old (query token text parameters) =
     (q : Query) → text_query text ≡ Ok q → are_given parameters q ≡ Ok tt
-    → OutcomeAgrees q parameters old.settings.max_elements old.graph (answer_of [] q parameters old.graph old.settings.max_steps old.settings.max_elements)
+    → OutcomeAgrees q parameters old.settings.max_elements old.graph (answer_of old.indexes q parameters old.graph old.settings.max_steps old.settings.max_elements)
 Means old (status token) = Unit {0}
+Means old (create_index token label key) = Unit {0}
+Means old (drop_index token label key) = Unit {0}
 
 -- the tenant alone answers these requests with these replies, which their meaning gives, and ends in this state
 abbrev pub SoloRun : State → List Exchange → State → Type 0
@@ -80,22 +84,10 @@ AnswersStrangers server (e ∷ es) = (IsStrangers server e.body → IsStrangersR
 
 -- the exchanges lead from one state of the server to the other: for each tenant, its own run alone
 pub record Runs (old : ServerState) (es : List Exchange) (new : ServerState) : Type 0 where
-  pub cache : new.cache ≡ old.cache
+  pub cache : new.cache.capacity ≡ old.cache.capacity
   pub settings : settings_of new ≡ settings_of old
   pub strangers : AnswersStrangers old es
   pub solo : (t : ℕ) → SoloRun (state_at old t) (own (tokens_of (state_at old t)) es) (state_at new t)
-
--- one call of `handle`
-abbrev pub handles : ServerState → List ℕ → List ℕ → ServerState → Type 0
-handles old body reply new = Runs old (record { body = body; reply = reply } ∷ []) new
-
--- a reply that is the text of a refusal, whichever it is, leaves the whole server as it was
-abbrev pub RefusalsKeepAll : Type 0
-RefusalsKeepAll = (old new : ServerState) (body : List ℕ) (fault : Fault) → handles old body (refusal_text fault) new → new ≡ old
-
--- calls of `handle`, one after another, are runs of each tenant alone
-abbrev pub CallsAreRuns : Type 0
-CallsAreRuns = (old new : ServerState) (es : List Exchange) → Chain handles old es new → Runs old es new
 
 abbrev pub requests_of : List Exchange → List (Option Request)
 requests_of es = map (λ e. asked e.body) es

@@ -9,38 +9,39 @@ use Rattle.pg_plan.specs.declared.plan.Plan.{Plan}
 use Rattle.pg_server.specs.Runs.{token_of}
 use Rattle.pg_meaning.specs.Names.{is_among}
 use Rattle.pg_server.specs.Solo.{Replied, solo, may_write, with_graph}
-use Rattle.pg_server.specs.State.{State, ServerState, state_at, tokens_of}
+use Rattle.pg_server.specs.State.{State, state_in, tokens_of}
 use Rattle.pg_tenant.specs.Answers.{Answered, answered}
 use Rattle.pg_tenant.specs.Outcomes.{plan_outcome}
 
 abbrev pub place_of : List ℕ → List State → Option ℕ
 place_of token tenants = position (λ s. is_among (tokens_of s) token) tenants
 
--- one tenant's state is this now
-abbrev pub with_tenant : ServerState → ℕ → State → ServerState
-with_tenant server t state = record server { tenants = slice_set server.tenants t state }
-
-abbrev pub StepAt : Option ℕ → ServerState → Request → List ℕ → ServerState → Type 0
+abbrev pub StepAt : Option ℕ → List State → Request → List ℕ → List State → Type 0
 StepAt None old request reply new = (reply ≡ refusal_text UnknownToken) × (new ≡ old)
 StepAt (Some t) old request reply new =
     ((reply ≡ refusal_text OutOfMemory) × (new ≡ old))
-    ⊎ ((reply ≡ (solo (state_at old t) request).reply) × (new ≡ with_tenant old t (solo (state_at old t) request).state))
+    ⊎ ((reply ≡ (solo (state_in old t) request).reply) × (new ≡ slice_set old t (solo (state_in old t) request).state))
 
-abbrev pub Answers : ServerState → Request → List ℕ → ServerState → Type 0
-Answers old request reply new = StepAt (place_of (token_of request) old.tenants) old request reply new
+abbrev pub Answers : List State → Request → List ℕ → List State → Type 0
+Answers old request reply new = StepAt (place_of (token_of request) old) old request reply new
 
 -- ---- the parts of a step
 
--- one tenant replies so; where it is refused, which leaves the server, that is the refusal, unless memory failed
-abbrev pub Gives : ServerState → ℕ → Replied → Result (List ℕ) Fault → ServerState → Type 0
-Gives old t replied (Ok bytes) new = (bytes ≡ replied.reply) × (new ≡ with_tenant old t replied.state)
-Gives old t replied (Err e) new = (new ≡ old) × (e ≢ OutOfMemory → (refusal_text e ≡ replied.reply) × (replied.state ≡ state_at old t))
+-- one tenant replies so; where it is refused, which leaves all tenants, that is the refusal, unless memory failed
+abbrev pub Gives : List State → ℕ → Replied → Result (List ℕ) Fault → List State → Type 0
+Gives old t replied (Ok bytes) new = (bytes ≡ replied.reply) × (new ≡ slice_set old t replied.state)
+Gives old t replied (Err e) new = (new ≡ old) × (e ≢ OutOfMemory → (refusal_text e ≡ replied.reply) × (replied.state ≡ state_in old t))
 
-abbrev pub RepliesAt : ℕ → ServerState → Request → Result (List ℕ) Fault → ServerState → Type 0
-RepliesAt t old request result new = Gives old t (solo (state_at old t) request) result new
+abbrev pub RepliesAt : ℕ → List State → Request → Result (List ℕ) Fault → List State → Type 0
+RepliesAt t old request result new = Gives old t (solo (state_in old t) request) result new
 
 abbrev pub plan_answered : State → (token : List ℕ) → Plan → (parameters : Entries) → Answered
 plan_answered s token plan parameters = answered s.graph (plan_outcome (may_write s.settings token) s.settings.max_steps s.settings.max_elements parameters s.graph plan)
 
-abbrev pub RunsPlan : ℕ → (token : List ℕ) → Plan → (parameters : Entries) → ServerState → Result (List ℕ) Fault → ServerState → Type 0
-RunsPlan t token plan parameters old result new = Gives old t (with_graph (state_at old t) (plan_answered (state_at old t) token plan parameters)) result new
+abbrev pub RunsPlan : ℕ → (token : List ℕ) → Plan → (parameters : Entries) → List State → Result (List ℕ) Fault → List State → Type 0
+RunsPlan t token plan parameters old result new = Gives old t (with_graph (state_in old t) (plan_answered (state_in old t) token plan parameters)) result new
+
+-- the text of what is answered
+abbrev pub reply_of : Result (List ℕ) Fault → List ℕ
+reply_of (Ok bytes) = bytes
+reply_of (Err e) = refusal_text e

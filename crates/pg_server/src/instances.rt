@@ -1,13 +1,32 @@
 //! Small runs and configurations. A function without a body says that the instances hold, or don't, as they are listed.
+ghost use Rattle.pg_server.specs.InstancesOfConfigurations.{FaultsAreInOrder, ShapesAreTested};
+ghost use Rattle.pg_server.specs.InstancesOfRequests.{InstancesOfEarlyTests, InstancesOfIndexes, InstancesOfOpenings, InstancesOfReplies, InstancesOfRequests, InstancesOfRights, InstancesOfTexts, StrangersAreRefused};
 ghost use Rattle.pg_server.specs.InstancesOfRuns.{EmptyRuns, StatusRuns, ConfigurationsAreTested};
+ghost use Rattle.pg_server.specs.InstancesOfServing.{InstancesOfEnds, InstancesOfFailedWrites, InstancesOfFrames, InstancesOfKeys, InstancesOfLookUps, RunsOfNoFrame};
 
-/// What runs lead from one state to another.
+/// What requests are, what runs lead from one state to another, what they write, and how they end.
 pub fn instances_of_runs()
     ensures empty { EmptyRuns }
     ensures status { StatusRuns }
+    ensures strangers { StrangersAreRefused }
+    ensures requests { InstancesOfRequests }
+    ensures rights { InstancesOfRights }
+    ensures indexes { InstancesOfIndexes }
+    ensures early { InstancesOfEarlyTests }
+    ensures texts { InstancesOfTexts }
+    ensures replies { InstancesOfReplies }
+    ensures frames { InstancesOfFrames }
+    ensures ends { InstancesOfEnds }
+    ensures failed { InstancesOfFailedWrites }
+    ensures nothing { RunsOfNoFrame }
+    ensures keys { InstancesOfKeys }
+    ensures look_ups { InstancesOfLookUps }
 {}
 
-/// What drafts of a configuration pass the tests of their numbers and tokens.
+/// What configurations are read, and what drafts pass the tests of their numbers and tokens.
 pub fn instances_of_configurations()
-    ensures { ConfigurationsAreTested }
+    ensures tested { ConfigurationsAreTested }
+    ensures shapes { ShapesAreTested }
+    ensures order { FaultsAreInOrder }
+    ensures openings { InstancesOfOpenings }
 {}

@@ -1,18 +1,21 @@
 //! The server: tenants, and the requests that reach them.
-ghost use Rattle.std.specs.Prelude.{◌≡◌, ◌≢◌, ◌<◌, ◌≤◌, ℕ, List, length, Some, IfOk, IfErr};
+ghost use Rattle.std.specs.Prelude.{◌≡◌, ◌≢◌, ◌<◌, ◌≤◌, ℕ, List, [], length, string_bytes, Some, IfOk, IfErr};
+ghost use Rattle.pg_cache.specs.Cache.{cache_seen};
 ghost use Rattle.pg_json.specs.Bodies.{request_view};
 ghost use Rattle.pg_json.specs.Refusals.{refusal_text};
-ghost use Rattle.pg_json.specs.Requests.{query};
+ghost use Rattle.pg_json.specs.Requests.{query, create_index, drop_index};
 ghost use Rattle.pg_meaning.specs.declared.fault.Fault.TheVariants.{OutOfMemory};
 ghost use Rattle.pg_server.specs.Configuration.{max_tenants};
 ghost use Rattle.pg_server.specs.Counts.{inner_of, faults_of};
-ghost use Rattle.pg_server.specs.Runs.{CallsAreRuns, RefusalsKeep, RefusalsKeepAll, TwoWorlds, handles, token_of as token_shown};
+ghost use Rattle.pg_server.specs.Handles.{CallsAreRuns, Handles, LooksUp, RefusalsKeepAll, key_asked, key_at};
+ghost use Rattle.pg_server.specs.Runs.{RefusalsKeep, TwoWorlds, token_of as token_shown};
 ghost use Rattle.pg_server.specs.Served.{OneReading, read_faults, write_faults};
 ghost use Rattle.pg_server.specs.Serves.{Serves};
 ghost use Rattle.pg_server.specs.Solo.{limited, status_text};
 ghost use Rattle.pg_server.specs.State.{opening_server, state_at};
-ghost use Rattle.pg_server.specs.Step.{Answers, StepAt, RepliesAt, RunsPlan};
+ghost use Rattle.pg_server.specs.Step.{Answers, StepAt, RepliesAt, RunsPlan, reply_of};
 ghost use Rattle.pg_server.specs.Tenants.{AreOpening};
+ghost use Rattle.pg_tenant.specs.Indexes.{indexes_of};
 ghost use Rattle.pg_value_core.specs.Given.{parameters_view};
 
 use crate::config::Config;
@@ -20,6 +23,7 @@ use crate::counted::Counted;
 use crate::end::End;
 use crate::service::{Service, serve};
 use crate::settings::TenantSettings;
+use crate::shared::Shared;
 use crate::tenant::Tenant;
 use crate::tokens::TokenPlaces;
 use crate::wire::MAX_BODY;
@@ -27,26 +31,27 @@ use pg_cache::PlanCache;
 use pg_graph::Tables;
 use pg_json::{ReplyBytes, RequestBody, RequestScratch, read_request, refusal, write_reply};
 use pg_meaning::Fault;
-use pg_plan::{Plan, check_length};
+use pg_plan::{Catalogue, Plan, check_length};
 use pg_store::Store;
 use pg_value_core::Parameters;
 use std::alloc::{AllocError, Global};
 use std::hash::BuildHasher;
 use std::io::{Read, Write};
 use std::marker::Model;
+use std::rc::Rc;
 
-/// The tenants of a configuration over one shared part of their tables, and the plans of all.
+/// The tenants of a configuration, over what they share.
 #[derive(Drop)]
 pub struct Server<S: BuildHasher + Drop, T: Tables> {
     alloc: Global,
     scratch: RequestScratch,
-    plans: PlanCache<S>,
-    shared: T::Shared,
+    shared: Shared<S, T>,
     tokens: TokenPlaces,
     tenants: Vec<Tenant<T>>,
 }
 
 impl<S: BuildHasher + Drop, T: Tables> Model for Server<S, T> {
+    ghost use Rattle.pg_cache.specs.Cache.{cache_seen};
     ghost use Rattle.pg_server.specs.State.{ServerState};
     ghost use Rattle.pg_server.specs.StateCode.{server_code};
     ghost use Rattle.pg_server.specs.Tenants.{states_of, AreTenants};
@@ -55,55 +60,66 @@ impl<S: BuildHasher + Drop, T: Tables> Model for Server<S, T> {
 
     ghost coded = { server_code };
 
-    ghost view = { λ s. record { cache = s.plans.capacity; tenants = states_of T.seen s.tenants.items s.shared } };
+    ghost view = { λ s. record { cache = cache_seen s.shared.cache; tenants = states_of T.seen s.tenants.items s.shared.stores } };
 
-    ghost invariant = { λ s. AreTenants T.seen s.tokens s.tenants.items s.shared };
+    ghost invariant = { λ s. AreTenants T.seen s.tokens s.tenants.items s.shared.stores };
 }
 
 impl<S: BuildHasher + Drop, T: Tables> Server<S, T> {
-    /// A server with the tenants of this configuration, each with the empty graph.
+    /// A server with the tenants of this configuration, each with the empty graph and no index.
     pub fn new(alloc: Global, config: Config, hasher: S) -> Result<Self, AllocError>
         ensures { IfOk result (λ s. s ≡ opening_server config) }
     {
         let (cache, settings) = config.into_parts();
-        let plans = PlanCache::new(alloc, cache, hasher)?;
+        let cache = PlanCache::new(alloc, cache, hasher)?;
         let tokens = TokenPlaces::of(alloc, &settings)?;
         let tenants = opening_tenants(alloc, settings)?;
         Ok(Server {
             alloc,
             scratch: RequestScratch::new(alloc),
-            plans,
-            shared: T::new_shared(alloc),
+            shared: Shared {
+                cache,
+                stores: pg_store::Shared::new(alloc, T::new_shared(alloc)),
+            },
             tokens,
             tenants,
         })
     }
 
+    /// What all tenants share.
+    pub fn shared(&self) -> &Shared<S, T>
+        ensures { cache_seen result.now.cache ≡ self.now.cache }
+    {
+        &self.shared
+    }
+
     /// Answers one request, from a frame's body to a reply's body.
     pub fn handle(&mut self, body: &[u8]) -> ReplyBytes
-        ensures { handles self.old body.now result self.new }
+        ensures { Handles self.old body.now result self.new }
     {
         if body.len() > MAX_BODY {
             return refusal(Fault::FrameTooLong);
         }
         match read_request(self.alloc, &mut self.scratch, body) {
-            Ok(request) => self.answer_request(&request),
+            Ok(request) => self.answer_request(request),
             Err(fault) => refusal(fault),
         }
     }
 
-    fn answer_request(&mut self, request: &RequestBody) -> ReplyBytes
-        ensures { Answers self.old (request_view request.now) result self.new }
+    fn answer_request(&mut self, request: RequestBody) -> ReplyBytes
+        ensures tenants { Answers self.old.tenants (request_view request) result self.new.tenants }
+        ensures cache { LooksUp (key_asked self.old.tenants (request_view request)) result self.old.cache self.new.cache }
     {
-        match self.tokens.place(token_of(request)) {
+        match self.tokens.place(token_of(&request)) {
             Some(place) => self.answer_at(place, request),
             None => refusal(Fault::UnknownToken),
         }
     }
 
-    fn answer_at(&mut self, place: usize, request: &RequestBody) -> ReplyBytes
+    fn answer_at(&mut self, place: usize, request: RequestBody) -> ReplyBytes
         requires { place < length self.old.tenants }
-        ensures { StepAt (Some place) self.old (request_view request.now) result self.new }
+        ensures tenants { StepAt (Some place) self.old.tenants (request_view request) result self.new.tenants }
+        ensures cache { LooksUp (key_at place self.old.tenants (request_view request)) result self.old.cache self.new.cache }
     {
         match self.reply_at(place, request) {
             Ok(bytes) => bytes,
@@ -111,17 +127,30 @@ impl<S: BuildHasher + Drop, T: Tables> Server<S, T> {
         }
     }
 
-    fn reply_at(&mut self, place: usize, request: &RequestBody) -> Result<ReplyBytes, Fault>
+    fn reply_at(&mut self, place: usize, request: RequestBody) -> Result<ReplyBytes, Fault>
         requires { place < length self.old.tenants }
-        ensures { RepliesAt place self.old (request_view request.now) result self.new }
+        ensures tenants { RepliesAt place self.old.tenants (request_view request) result self.new.tenants }
+        ensures cache { LooksUp (key_at place self.old.tenants (request_view request)) (reply_of result) self.old.cache self.new.cache }
     {
         match request {
             RequestBody::Query {
                 token,
                 text,
                 parameters,
-            } => self.query(place, token.as_str(), text.as_str(), parameters),
+            } => self.query(place, token.as_str(), text, &parameters),
             RequestBody::Status { token: _ } => self.status(place),
+            RequestBody::CreateIndex { token, label, key } => self.create_index(
+                place,
+                token.as_str(),
+                label.as_str(),
+                key.as_str(),
+            ),
+            RequestBody::DropIndex { token, label, key } => self.drop_index(
+                place,
+                token.as_str(),
+                label.as_str(),
+                key.as_str(),
+            ),
         }
     }
 
@@ -130,14 +159,16 @@ impl<S: BuildHasher + Drop, T: Tables> Server<S, T> {
         &mut self,
         place: usize,
         token: &str,
-        text: &str,
+        text: String,
         parameters: &Parameters,
     ) -> Result<ReplyBytes, Fault>
         requires { place < length self.old.tenants }
-        ensures { RepliesAt place self.old (query token.now text.now (parameters_view parameters.now)) result self.new }
+        ensures tenants { RepliesAt place self.old.tenants (query token.now (string_bytes text) (parameters_view parameters.now)) result self.new.tenants }
+        ensures cache { LooksUp (key_at place self.old.tenants (query token.now (string_bytes text) (parameters_view parameters.now))) (reply_of result) self.old.cache self.new.cache }
     {
-        check_length(text)?;
-        match self.plans.plan_for(self.alloc, text) {
+        check_length(text.as_str())?;
+        let indexes = self.tenants[place].indexes.clone()?;
+        match self.shared.cache.plan_for(self.alloc, text, indexes) {
             Ok(plan) => self.run_plan(place, token, &plan, parameters),
             Err(fault) => Err(fault),
         }
@@ -151,9 +182,16 @@ impl<S: BuildHasher + Drop, T: Tables> Server<S, T> {
         parameters: &Parameters,
     ) -> Result<ReplyBytes, Fault>
         requires { place < length self.old.tenants }
-        ensures { RunsPlan place token.now plan.now (parameters_view parameters.now) self.old result self.new }
+        ensures tenants { RunsPlan place token.now plan.now (parameters_view parameters.now) self.old.tenants result self.new.tenants }
+        ensures cache { self.new.cache ≡ self.old.cache }
     {
-        self.tenants[place].answer_plan(self.alloc, &mut self.shared, token, plan, parameters)
+        self.tenants[place].answer_plan(
+            self.alloc,
+            &mut self.shared.stores,
+            token,
+            plan,
+            parameters,
+        )
     }
 
     /// What a tenant has and may have.
@@ -162,8 +200,36 @@ impl<S: BuildHasher + Drop, T: Tables> Server<S, T> {
         ensures ok { IfOk result (λ bytes. bytes ≡ limited (status_text (state_at self.now place))) }
         ensures err { IfErr result (λ e. e ≢ OutOfMemory → refusal_text e ≡ limited (status_text (state_at self.now place))) }
     {
-        let body = self.tenants[place].status(self.alloc, &self.shared);
+        let body = self.tenants[place].status(self.alloc, &self.shared.stores)?;
         write_reply(self.alloc, &body)
+    }
+
+    fn create_index(
+        &mut self,
+        place: usize,
+        token: &str,
+        label: &str,
+        key: &str,
+    ) -> Result<ReplyBytes, Fault>
+        requires { place < length self.old.tenants }
+        ensures tenants { RepliesAt place self.old.tenants (create_index token.now label.now key.now) result self.new.tenants }
+        ensures cache { self.new.cache ≡ self.old.cache }
+    {
+        self.tenants[place].create_index(self.alloc, &mut self.shared.stores, token, label, key)
+    }
+
+    fn drop_index(
+        &mut self,
+        place: usize,
+        token: &str,
+        label: &str,
+        key: &str,
+    ) -> Result<ReplyBytes, Fault>
+        requires { place < length self.old.tenants }
+        ensures tenants { RepliesAt place self.old.tenants (drop_index token.now label.now key.now) result self.new.tenants }
+        ensures cache { self.new.cache ≡ self.old.cache }
+    {
+        self.tenants[place].drop_index(self.alloc, &self.shared.stores, token, label, key)
     }
 
     /// Serves at most so many frames, and answers each whole one by `handle`.
@@ -186,7 +252,7 @@ impl<S: BuildHasher + Drop, T: Tables> Server<S, T> {
 }
 
 impl<S: BuildHasher + Drop, T: Tables> Service for Server<S, T> {
-    ghost answers = { handles };
+    ghost answers = { Handles };
 
     fn answer(&mut self, body: &[u8]) -> ReplyBytes {
         self.handle(body)
@@ -203,11 +269,21 @@ fn token_of(request: &RequestBody) -> &str
             text: _,
             parameters: _,
         }
-        | RequestBody::Status { token } => token.as_str(),
+        | RequestBody::Status { token }
+        | RequestBody::CreateIndex {
+            token,
+            label: _,
+            key: _,
+        }
+        | RequestBody::DropIndex {
+            token,
+            label: _,
+            key: _,
+        } => token.as_str(),
     }
 }
 
-/// Each tenant with the empty graph. Its place is the number by which the shared part knows it.
+/// Each tenant with the empty graph and no index. Its place is the number by which the shared part knows it.
 fn opening_tenants<T: Tables>(
     alloc: Global,
     settings: Vec<TenantSettings>,
@@ -218,12 +294,20 @@ fn opening_tenants<T: Tables>(
     let mut tenants = Vec::with_capacity(alloc, settings.len())?;
     for one in settings {
         let owner = tenants.len() as u32;
+        let indexes = no_indexes(alloc)?;
         tenants.push(Tenant {
             settings: one,
             store: Store::new(alloc, owner),
+            indexes,
         })?;
     }
     Ok(tenants)
+}
+
+fn no_indexes(alloc: Global) -> Result<Rc<Catalogue>, AllocError>
+    ensures { IfOk result (λ list. indexes_of list ≡ []) }
+{
+    Ok(Rc::new(alloc, Vec::new(alloc))?)
 }
 
 // The length is a parameter, so that no proof computes a list of a million bytes.
@@ -249,7 +333,7 @@ pub fn law_calls()
     ensures { CallsAreRuns }
 {}
 
-/// A request that is refused leaves its tenant as it was, and the whole server, whatever the refusal.
+/// A request that is refused leaves its tenant as it was, and every other one, whatever the refusal.
 pub fn law_of_refusals()
     ensures tenant { RefusalsKeep }
     ensures server { RefusalsKeepAll }

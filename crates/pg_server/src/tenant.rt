@@ -1,10 +1,12 @@
-//! A tenant: what it may use, and its graph.
-ghost use Rattle.std.specs.Prelude.{◌≡◌};
+//! A tenant: what it may use, its graph and its indexes.
+ghost use Rattle.std.specs.Prelude.{◌≡◌, IfOk};
 ghost use Rattle.pg_json.specs.Replies.{reply_text};
 ghost use Rattle.pg_server.specs.Solo.{may_write, status_text};
 ghost use Rattle.pg_server.specs.Tenants.{state_of};
 ghost use Rattle.pg_store.specs.Changes.{Changes};
 ghost use Rattle.pg_store.specs.Stores.{IsFit};
+ghost use Rattle.pg_store.specs.declared.shared.Shared.{Shared};
+ghost use Rattle.pg_tenant.specs.Indexes.{index_created, index_dropped, indexes_of, IsIndexAnswer};
 ghost use Rattle.pg_tenant.specs.Outcomes.{plan_outcome};
 ghost use Rattle.pg_tenant.specs.Replies.{IsAnswer};
 ghost use Rattle.pg_value_core.specs.Given.{parameters_view};
@@ -13,16 +15,19 @@ use crate::settings::TenantSettings;
 use pg_graph::Tables;
 use pg_json::{ReplyBody, ReplyBytes, TenantStatus};
 use pg_meaning::Fault;
-use pg_plan::Plan;
-use pg_store::Store;
-use pg_tenant::answer_plan;
+use pg_plan::{Catalogue, Plan};
+use pg_store::{Shared, Store};
+use pg_tenant::{answer_plan, copy_indexes, create_index, drop_index};
 use pg_value_core::Parameters;
-use std::alloc::Global;
+use std::alloc::{AllocError, Global};
+use std::rc::Rc;
 
 #[derive(Drop)]
 pub(crate) struct Tenant<T> {
     pub(crate) settings: TenantSettings,
     pub(crate) store: Store<T>,
+    // kept plans share it
+    pub(crate) indexes: Rc<Catalogue>,
 }
 
 impl<T: Tables> Tenant<T> {
@@ -30,13 +35,14 @@ impl<T: Tables> Tenant<T> {
     pub(crate) fn answer_plan(
         &mut self,
         alloc: Global,
-        shared: &mut T::Shared,
+        shared: &mut Shared<T::Shared>,
         token: &str,
         plan: &Plan,
         parameters: &Parameters,
     ) -> Result<ReplyBytes, Fault>
         requires fit { IsFit T.seen self.old.store shared.old }
         ensures settings { self.new.settings ≡ self.old.settings }
+        ensures indexes { self.new.indexes ≡ self.old.indexes }
         ensures changes { Changes T.seen self.old.store shared.old self.new.store shared.new result (λ start end. IsAnswer result (plan_outcome (may_write self.old.settings token.now) self.old.settings.max_steps self.old.settings.max_elements (parameters_view parameters.now) start plan.now) start end) }
     {
         let may_write = self.settings.may_write(token);
@@ -53,19 +59,75 @@ impl<T: Tables> Tenant<T> {
     }
 
     /// What the tenant has and may have.
-    pub(crate) fn status(&self, alloc: Global, shared: &T::Shared) -> ReplyBody
+    pub(crate) fn status(
+        &self,
+        alloc: Global,
+        shared: &Shared<T::Shared>,
+    ) -> Result<ReplyBody, AllocError>
         requires fit { IsFit T.seen self.now.store shared.now }
-        ensures { reply_text result ≡ status_text (state_of T.seen self.now shared.now) }
+        ensures { IfOk result (λ body. reply_text body ≡ status_text (state_of T.seen self.now shared.now)) }
     {
+        let indexes = copy_indexes(alloc, &self.indexes)?;
         let next = self.store.next_ids();
         let quota = self.settings.quota();
-        ReplyBody::Status(TenantStatus {
+        Ok(ReplyBody::Status(TenantStatus {
             elements: self.store.elements(),
-            indexes: Vec::new(alloc),
+            indexes,
             max_elements: quota.max_elements,
             max_steps: quota.max_steps,
             next_node: next.node,
             next_rel: next.rel,
-        })
+        }))
+    }
+
+    /// Makes an index, or leaves everything as it was.
+    pub(crate) fn create_index(
+        &mut self,
+        alloc: Global,
+        shared: &mut Shared<T::Shared>,
+        token: &str,
+        label: &str,
+        key: &str,
+    ) -> Result<ReplyBytes, Fault>
+        requires fit { IsFit T.seen self.old.store shared.old }
+        ensures settings { self.new.settings ≡ self.old.settings }
+        ensures changes { Changes T.seen self.old.store shared.old self.new.store shared.new result (λ start end. end ≡ start) }
+        ensures indexes { IsIndexAnswer result (index_created (may_write self.old.settings token.now) (indexes_of self.old.indexes) label.now key.now) (indexes_of self.old.indexes) (indexes_of self.new.indexes) }
+    {
+        let may_write = self.settings.may_write(token);
+        create_index(
+            alloc,
+            &mut self.store,
+            shared,
+            &mut self.indexes,
+            may_write,
+            label,
+            key,
+        )
+    }
+
+    /// Keeps an index no longer, or leaves everything as it was.
+    pub(crate) fn drop_index(
+        &mut self,
+        alloc: Global,
+        shared: &Shared<T::Shared>,
+        token: &str,
+        label: &str,
+        key: &str,
+    ) -> Result<ReplyBytes, Fault>
+        ensures settings { self.new.settings ≡ self.old.settings }
+        ensures changes { (part : Shared T.Shared) → IsFit T.seen self.old.store part → Changes T.seen self.old.store part self.new.store part result (λ start end. end ≡ start) }
+        ensures indexes { IsIndexAnswer result (index_dropped (may_write self.old.settings token.now) (indexes_of self.old.indexes) label.now key.now) (indexes_of self.old.indexes) (indexes_of self.new.indexes) }
+    {
+        let may_write = self.settings.may_write(token);
+        drop_index(
+            alloc,
+            &mut self.store,
+            shared,
+            &mut self.indexes,
+            may_write,
+            label,
+            key,
+        )
     }
 }

@@ -3,3 +3,4 @@ pub mod Items
 pub mod Members
 pub mod Places
 pub mod Told
+pub mod Tells

@@ -1,5 +1,5 @@
 -- The entries of a map spelt out one after the other.
-use Rattle.std.proofs.Common.{◌≡◌, List, [], ◌∷◌, ◌++◌, Ok, String, Global, Less, Greater, string_bytes, string_cmp, refl, sym, ap, ◌∙◌, subst, append_assoc}
+use Rattle.std.proofs.Common.{◌≡◌, ◌≢◌, ℕ, ◌+◌, ◌-◌, arith, length, List, [], ◌∷◌, ◌++◌, Ok, String, Global, Less, Greater, string_bytes, string_cmp, refl, sym, ap, ◌∙◌, subst, append_assoc}
 use Rattle.std.proofs.lemmas.Cmp.{nat_list_cmp_total}
 use Rattle.std.specs.BTreeMap.{insert_entry}
 use Rattle.std.specs.List.{AllByRecursion}
@@ -8,8 +8,12 @@ use Rattle.std.specs.Map.{keys_of}
 use Rattle.std.specs.Ordering.{match_ordering, ordering_reverse}
 use Rattle.serde_json.specs.Data.{Members, no_members, member}
 use Rattle.pg_json.specs.Replies.{data_of, named_outs}
+use Rattle.pg_json.specs.Room.{least, members_least}
 use Rattle.pg_meaning.specs.Answer.{◌>>◌}
+use Rattle.pg_meaning.specs.Graph.{Graph}
+use Rattle.pg_meaning.specs.Queries.{test_output, test_entries}
 use Rattle.pg_spell.proofs.Ways.{Way}
+use Rattle.pg_spell.specs.Printed.{printed, printed_members}
 use Rattle.pg_value_core.specs.View.{view, entries_view}
 use Rattle.pg_value_core.specs.declared.out.Out.{Out}
 use Rattle.pg_value_core.specs.declared.value.Value.{Value}
@@ -90,4 +94,55 @@ module _ (way : Way) where
   all_members_spelt all found so_far = (
     so_far.tests ∙ way.test_members_end,
     sym (so_far.shown ∙ ap (named_before found) way.members_end ∙ named_before-nothing found),
+  )
+
+-- ---- while there is room
+
+room_then : (room next key n more : ℕ) → next ≡ room - 4 - key - n → room - (key + 4 + n + more) ≡ next - more
+room_then room next key n more h = omega (arith, h)
+
+room_before : (room next key n : ℕ) → next ≡ room - 4 - key - n → next ≢ 0 → room ≢ 0
+room_before room next key n h some = λ none. some (omega (arith, h, none))
+
+-- the same of those that are spelt out while there is room
+pub record MembersWithin (graph : Graph) (start room : ℕ) (all rest : List Pair) (found : List Named) : Type 0 where
+  pub done : List Pair
+  pub parts : all ≡ done ++ rest
+  pub keys : keys_of found ≡ keys_of done
+  pub tests : test_entries graph (entries_view all) ≡ test_entries graph (entries_view rest)
+  pub counted : start - members_least (printed_members graph (entries_view all)) ≡ room - members_least (printed_members graph (entries_view rest))
+  pub shown : room ≢ 0 → printed_members graph (entries_view all) ≡ named_before found (printed_members graph (entries_view rest))
+
+module _ (graph : Graph) (start : ℕ) where
+  pub no_member_within : (all : List Pair) → MembersWithin graph start start all all []
+  no_member_within all = record { done = []; parts = refl; keys = refl; tests = refl; counted = refl; shown = λ some. refl }
+
+  pub one_member_within : (room next : ℕ) (all rest more : List Pair) (found new : List Named) (e : Pair) (out : Out) → IsStrictlySortedBy string_cmp (keys_of all)
+      → MembersWithin graph start room all rest found → rest ≡ e ∷ more → new ≡ insert_entry string_cmp found e.0 out
+      → test_output graph (view e.1) ≡ Ok tt → next ≡ room - 4 - length (string_bytes e.0) - least (printed graph (view e.1))
+      → (next ≢ 0 → data_of out ≡ printed graph (view e.1)) → MembersWithin graph start next all more new
+  one_member_within room next all rest more found new e out sorted so_far is inserted live left same =
+      let whole : all ≡ so_far.done ++ e ∷ more = so_far.parts ∙ ap (λ es. so_far.done ++ es) is in
+      let last : new ≡ found ++ (e.0, out) ∷ [] = inserted ∙ insert_last found so_far.done e more out so_far.keys (subst (λ es. IsStrictlySortedBy string_cmp (keys_of es)) whole sorted) in
+      let others = printed_members graph (entries_view more) in
+      record {
+        done = so_far.done ++ e ∷ [];
+        parts = whole ∙ sym (append_assoc so_far.done (e ∷ []) more);
+        keys = ap keys_of last ∙ keys_of-push found e.0 out ∙ ap (λ ks. ks ++ e.0 ∷ []) so_far.keys ∙ sym (keys_of-push so_far.done e.0 e.1);
+        tests = so_far.tests ∙ ap (λ es. test_entries graph (entries_view es)) is ∙ ap (λ r. r >> test_entries graph (entries_view more)) live;
+        counted = so_far.counted ∙ ap (λ es. room - members_least (printed_members graph (entries_view es))) is
+            ∙ room_then room next (length (string_bytes e.0)) (least (printed graph (view e.1))) (members_least others) left;
+        shown = λ some. so_far.shown (room_before room next (length (string_bytes e.0)) (least (printed graph (view e.1))) left some)
+            ∙ ap (λ es. named_before found (printed_members graph (entries_view es))) is
+            ∙ ap (λ d. named_before found (member (string_bytes e.0) d others)) (sym (same some))
+            ∙ sym (named_before-push found (e.0, out) others)
+            ∙ ap (λ os. named_before os others) (sym last);
+      }
+
+  pub all_members_within : (room : ℕ) (all : List Pair) (found : List Named) → MembersWithin graph start room all [] found
+      → (test_entries graph (entries_view all) ≡ Ok tt) × (room ≡ start - members_least (printed_members graph (entries_view all))) × (room ≢ 0 → named_outs found ≡ printed_members graph (entries_view all))
+  all_members_within room all found so_far = (
+    so_far.tests,
+    omega (arith, so_far.counted),
+    λ some. sym (so_far.shown some ∙ named_before-nothing found),
   )

@@ -1,3 +1,4 @@
 pub mod Printed
 pub mod Places
 pub mod Told
+pub mod Telling

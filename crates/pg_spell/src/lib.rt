@@ -2,9 +2,11 @@
 #![tactic(auto)]
 
 mod elements;
+mod room;
 mod spelling;
 mod stored;
 mod tables;
+mod telling;
 
-pub use spelling::spell;
-pub use tables::spell_table;
+pub use tables::tell_table;
+pub use telling::Telling;

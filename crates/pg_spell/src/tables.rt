@@ -1,46 +1,61 @@
-//! The rows of a table, spelt out.
-ghost use Rattle.std.specs.Prelude.{◌≡◌, ◌≢◌, IfOk, IfErr, Ok, Err, map};
-ghost use Rattle.pg_json.specs.Replies.{outs};
-ghost use Rattle.pg_meaning.specs.declared.fault.Fault.TheVariants.{OutOfMemory};
+//! The rows of a table, told one after the other.
+ghost use Rattle.std.specs.Prelude.{◌≡◌, [], List, IfOk, OnOk, map};
+ghost use Rattle.serde_json.specs.Data.{Items};
+ghost use Rattle.pg_meaning.specs.Value.{Value as Datum};
 ghost use Rattle.pg_rows.specs.States.{seen};
 ghost use Rattle.pg_rows.specs.Tables.{table};
-ghost use Rattle.pg_spell.specs.Told.{printed_rows, rows_told, test_told};
+ghost use Rattle.pg_spell.specs.Telling.{IsTelling};
+ghost use Rattle.pg_spell.specs.Told.{rows_told};
+ghost use Rattle.pg_value_core.specs.View.{view};
 
-use crate::spelling::spell_items;
+use crate::telling::Telling;
 use pg_graph::Tables;
 use pg_rows::{Rows, Table};
 use pg_store::Snapshot;
-use pg_value_core::{Fault, Out};
-use std::alloc::Global;
+use pg_value_core::{Out, Value};
+use std::alloc::{AllocError, Global};
 
-/// The rows of a table with their elements spelt out. `DeletedEntity` where one is not in the store's graph.
+/// Tells all rows of a table.
 #[tactic(auto, using(crate::proofs::Told::told_is_table))]
-pub fn spell_table<T: Tables>(
+pub fn tell_table<T: Tables>(
     alloc: Global,
     graph: &Snapshot<'_, T>,
     table: Table,
-) -> Result<Vec<Vec<Out>>, Fault>
-    ensures live { IfOk result (λ found. test_told graph.now (rows_told (seen table)) ≡ Ok tt) }
-    ensures data { IfOk result (λ found. map (λ row. outs row.items) found.items ≡ printed_rows graph.now (rows_told (seen table))) }
-    ensures err { IfErr result (λ e. e ≢ OutOfMemory → test_told graph.now (rows_told (seen table)) ≡ Err e) }
+    telling: &mut Telling,
+) -> Result<(), AllocError>
+    ensures { (columns : Items) → IsTelling graph.now columns [] [] [] telling.old → OnOk result (IsTelling graph.now columns (rows_told (seen table)) [] [] telling.new) }
 {
     let (_names, rows) = table.split();
-    spell_all(alloc, graph, rows)
+    tell_rows(alloc, graph, rows, telling)
 }
 
-fn spell_all<T: Tables>(
+fn tell_rows<T: Tables>(
     alloc: Global,
     graph: &Snapshot<'_, T>,
     rows: Rows,
-) -> Result<Vec<Vec<Out>>, Fault>
-    ensures live { IfOk result (λ found. test_told graph.now (table rows) ≡ Ok tt) }
-    ensures data { IfOk result (λ found. map (λ row. outs row.items) found.items ≡ printed_rows graph.now (table rows)) }
-    ensures err { IfErr result (λ e. e ≢ OutOfMemory → test_told graph.now (table rows) ≡ Err e) }
+    telling: &mut Telling,
+) -> Result<(), AllocError>
+    ensures { (columns : Items) → IsTelling graph.now columns [] [] [] telling.old → OnOk result (IsTelling graph.now columns (table rows) [] [] telling.new) }
 {
-    let mut found = Vec::with_capacity(alloc, rows.len())?;
     let mut left = rows.into_left();
     while let Some(row) = left.next_row(alloc)? {
-        found.push(spell_items(alloc, graph, row)?)?;
+        let outs = tell_values(alloc, graph, row, telling)?;
+        telling.end_row(outs.as_slice())?;
     }
-    Ok(found)
+    Ok(())
+}
+
+fn tell_values<T: Tables>(
+    alloc: Global,
+    graph: &Snapshot<'_, T>,
+    row: Vec<Value>,
+    telling: &mut Telling,
+) -> Result<Vec<Out>, AllocError>
+    ensures { (columns : Items) (rows : List (List Datum)) → IsTelling graph.now columns rows [] [] telling.old → IfOk result (λ outs. IsTelling graph.now columns rows (map view row.items) outs.items telling.new) }
+{
+    let mut outs = Vec::with_capacity(alloc, row.len())?;
+    for value in row {
+        outs.push(telling.take(alloc, graph, value))?;
+    }
+    Ok(outs)
 }

@@ -1,72 +1,97 @@
 -- A store after a change that its journal can undo, and one whose names have grown.
-use Rattle.std.proofs.Common.{◌≡◌, ◌≤◌, ℕ, List, [], ◌∷◌, ◌++◌, length, drop, Result, Ok, Err, OnErr, arith, refl, sym, ap, subst, ◌∙◌}
-use Rattle.std.proofs.lemmas.List.{length-append}
+use Rattle.std.proofs.Common.{◌≡◌, ◌≤◌, ℕ, List, [], ◌∷◌, ◌++◌, length, take, drop, Result, Ok, Err, OnErr, arith, refl, sym, ap, subst, ◌∙◌}
+use Rattle.std.proofs.lemmas.List.{length-append, take-append-le}
+use Rattle.pg_graph.proofs.Others.{keeps_refl}
 use Rattle.pg_graph.specs.Content.{Seen}
 use Rattle.pg_names.specs.Names.{AreDistinct, KeepsNames}
 use Rattle.pg_store.proofs.CoverLemmas.{Grows, grown_covered, covered_pushed}
-use Rattle.pg_store.proofs.JournalLemmas.{pushed, marked_before, same_graph, still_well, can_still_undo, well_then, can_undo_drop}
+use Rattle.pg_store.proofs.JournalLemmas.{pushed, marked_before, same_graph, still_well, can_still_undo}
+use Rattle.pg_store.proofs.Kept.{first_names_stay, no_fewer_names}
+use Rattle.pg_store.proofs.Marks.{same_moment, still_marked}
 use Rattle.pg_store.proofs.States.{Undoes}
 use Rattle.pg_store.specs.Covers.{Covers, HasCovered, has_in}
-use Rattle.pg_store.specs.Journal.{State, IsWell, CanUndo, graph_in, undone}
-use Rattle.pg_store.specs.Stores.{state_of, graph_of_store, IsFit, KeepsMarks}
+use Rattle.pg_store.specs.Journal.{State, IsWell, CanUndo, undone}
+use Rattle.pg_store.specs.Stores.{state_of, state_at, names_at, graph_of_store, IsFit, KeepsMarks, KeepsShared, HasMark}
 use Rattle.pg_store.specs.declared.journal.Entry.{Entry}
+use Rattle.pg_store.specs.declared.journal.Mark.{Mark}
 use Rattle.pg_store.specs.declared.sets.Sets.{Sets}
+use Rattle.pg_store.specs.declared.shared.Shared.{Shared}
 use Rattle.pg_store.specs.declared.store.Store.{Store}
 
 pub at_err : {V E P : Type 0} (r : Result V E) → P → OnErr r P
 at_err (Ok v) p = tt
 at_err (Err e) p = p
 
-pub keeps_both : (a b c : List (List ℕ)) → KeepsNames a b → KeepsNames b c → KeepsNames a c
-keeps_both a b c p q = λ n t h. q n t (p n t h)
-
 one_longer : (es : List Entry) (e : Entry) (n : ℕ) → n ≤ length es → n ≤ length (es ++ e ∷ [])
 one_longer es e n h = omega (arith, length-append es (e ∷ []))
 
 module _ {T S : Type 0} (seen : Seen T S) where
-  pub marks_stay : (store : Store T) (shared : S) → KeepsMarks seen store shared store shared
+  pub marks_stay : (store : Store T) (shared : Shared S) → KeepsMarks seen store shared store shared
   marks_stay store shared = record { there = λ mark h. h; same = λ mark h. refl }
 
-  pub marks_then : (a b c : Store T) (r s t : S) → KeepsMarks seen a r b s → KeepsMarks seen b s c t → KeepsMarks seen a r c t
+  pub marks_then : (a b c : Store T) (r s t : Shared S) → KeepsMarks seen a r b s → KeepsMarks seen b s c t → KeepsMarks seen a r c t
   marks_then a b c r s t p q = record { there = λ mark h. q.there mark (p.there mark h); same = λ mark h. q.same mark (p.there mark h) ∙ p.same mark h }
 
-  -- a change that joined the journal
-  module _ (old new : Store T) (before after : S) (fit : IsFit seen old before) (e : Entry) (s : State) (undoes : Undoes old.names e (state_of seen old before) s) (names : new.names ≡ old.names) (is : state_of seen new after ≡ s) (journal : new.journal.items ≡ old.journal.items ++ e ∷ []) where
-    now : Undoes old.names e (state_of seen old before) (state_of seen new after)
-    now = subst (Undoes old.names e (state_of seen old before)) (sym is) undoes
+  pub marks_alike : (old new : Store T) (before after : Shared S) → after.names ≡ before.names → new.journal.items ≡ old.journal.items → state_of seen new after ≡ state_of seen old before → KeepsMarks seen old before new after
+  marks_alike old new before after names journal is = record {
+    there = λ mark has.
+        still_marked seen old new before after mark (ap (take mark.names) names) (same_state mark) (ap (take mark.journal) journal)
+        (subst (λ (es : List Entry). mark.journal ≤ length es) (sym journal) has.journal)
+        (subst (λ (ns : List (List ℕ)). mark.names ≤ length ns) (sym names) has.names)
+        has;
+    same = λ mark has. same_moment seen old new before after mark (ap (take mark.names) names) (same_state mark);
+  }
+    where
+      same_state : (mark : Mark) → state_at seen new after mark ≡ state_at seen old before mark
+      same_state mark = λ i. undone (drop mark.journal (journal i)) (is i)
 
-    pub changed_fit : Grows (has_in old.sets) (has_in new.sets) → Covers (has_in new.sets) s → seen.fits new.tables after → IsFit seen new after
+  -- a change that joined the journal
+  module _ (old new : Store T) (before after : Shared S) (fit : IsFit seen old before) (e : Entry) (s : State) (undoes : Undoes before.names e (state_of seen old before) s) (names : after.names ≡ before.names) (is : state_of seen new after ≡ s) (journal : new.journal.items ≡ old.journal.items ++ e ∷ []) where
+    now : Undoes before.names e (state_of seen old before) (state_of seen new after)
+    now = subst (Undoes before.names e (state_of seen old before)) (sym is) undoes
+
+    pub changed_fit : Grows (has_in old.sets) (has_in new.sets) → Covers (has_in new.sets) s → seen.fits new.tables after.tables → IsFit seen new after
     changed_fit grows covers fits = record {
       fits = fits;
       well = subst (λ (ns : List (List ℕ)). IsWell ns (state_of seen new after)) (sym names) now.well;
       journal = subst (λ (ns : List (List ℕ)). CanUndo ns new.journal.items (state_of seen new after)) (sym names)
-          (pushed old.names old.journal.items new.journal.items e (state_of seen old before) (state_of seen new after) journal now.back now.can fit.well fit.journal);
+          (pushed before.names old.journal.items new.journal.items e (state_of seen old before) (state_of seen new after) journal now.back now.can fit.well fit.journal);
       covered = covered_pushed (has_in new.sets) old.journal.items new.journal.items e (state_of seen old before) (state_of seen new after) journal now.back
           (grown_covered (has_in old.sets) (has_in new.sets) grows old.journal.items (state_of seen old before) fit.covered) (subst (Covers (has_in new.sets)) (sym is) covers);
     }
 
+    module _ (mark : Mark) (has : HasMark seen old before mark) where
+      same_names : names_at seen new after mark ≡ names_at seen old before mark
+      same_names = ap (take mark.names) names
+
+      same_state : state_at seen new after mark ≡ state_at seen old before mark
+      same_state = marked_before mark.journal old.journal.items new.journal.items e (state_of seen old before) (state_of seen new after) journal now.back has.journal
+
+      still_there : HasMark seen new after mark
+      still_there =
+          still_marked seen old new before after mark same_names same_state
+          (ap (take mark.journal) journal ∙ take-append-le mark.journal old.journal.items (e ∷ []) has.journal)
+          (subst (λ (es : List Entry). mark.journal ≤ length es) (sym journal) (one_longer old.journal.items e mark.journal has.journal))
+          (subst (λ (ns : List (List ℕ)). mark.names ≤ length ns) (sym names) has.names)
+          has
+
     pub changed_marks : KeepsMarks seen old before new after
-    changed_marks = record {
-      there = λ mark h. subst (λ (es : List Entry). mark.0 ≤ length es) (sym journal) (one_longer old.journal.items e mark.0 h);
-      same = λ mark h.
-          ap (λ (ns : List (List ℕ)). graph_in ns (undone (drop mark.0 new.journal.items) (state_of seen new after))) names
-          ∙ ap (graph_in old.names) (marked_before mark.0 old.journal.items new.journal.items e (state_of seen old before) (state_of seen new after) journal now.back h);
-    }
+    changed_marks = record { there = still_there; same = λ mark has. same_moment seen old new before after mark (same_names mark has) (same_state mark has) }
 
   -- a change that was refused: the state stays, and sets may have grown
-  pub refused_fit : (old new : Store T) (before after : S) → IsFit seen old before → new.names ≡ old.names → state_of seen new after ≡ state_of seen old before → new.journal.items ≡ old.journal.items
-      → Grows (has_in old.sets) (has_in new.sets) → seen.fits new.tables after → IsFit seen new after
+  pub refused_fit : (old new : Store T) (before after : Shared S) → IsFit seen old before → after.names ≡ before.names → state_of seen new after ≡ state_of seen old before → new.journal.items ≡ old.journal.items
+      → Grows (has_in old.sets) (has_in new.sets) → seen.fits new.tables after.tables → IsFit seen new after
   refused_fit old new before after fit names is journal grows fits = record {
     fits = fits;
-    well = subst (λ (ns : List (List ℕ)). IsWell ns (state_of seen new after)) (sym names) (subst (IsWell old.names) (sym is) fit.well);
+    well = subst (λ (ns : List (List ℕ)). IsWell ns (state_of seen new after)) (sym names) (subst (IsWell before.names) (sym is) fit.well);
     journal = subst (λ (ns : List (List ℕ)). CanUndo ns new.journal.items (state_of seen new after)) (sym names)
-        (subst (λ (es : List Entry). CanUndo old.names es (state_of seen new after)) (sym journal) (subst (CanUndo old.names old.journal.items) (sym is) fit.journal));
+        (subst (λ (es : List Entry). CanUndo before.names es (state_of seen new after)) (sym journal) (subst (CanUndo before.names old.journal.items) (sym is) fit.journal));
     covered = subst (λ (es : List Entry). HasCovered (has_in new.sets) es (state_of seen new after)) (sym journal)
         (subst (HasCovered (has_in new.sets) old.journal.items) (sym is) (grown_covered (has_in old.sets) (has_in new.sets) grows old.journal.items (state_of seen old before) fit.covered));
   }
 
   -- sets that grew
-  module _ (store : Store T) (shared : S) (sets : Sets) (fit : IsFit seen store shared) where
+  module _ (store : Store T) (shared : Shared S) (sets : Sets) (fit : IsFit seen store shared) where
     abbrev pub with_sets : Store T
     with_sets = record store { sets = sets }
 
@@ -74,28 +99,32 @@ module _ {T S : Type 0} (seen : Seen T S) where
     grown_fit grows = record { fits = fit.fits; well = fit.well; journal = fit.journal; covered = grown_covered (has_in store.sets) (has_in sets) grows store.journal.items (state_of seen store shared) fit.covered }
 
     pub grown_marks : KeepsMarks seen store shared with_sets shared
-    grown_marks = record { there = λ mark h. h; same = λ mark h. refl }
+    grown_marks = marks_alike store with_sets shared shared refl refl refl
 
   -- names that grew
-  module _ (store : Store T) (shared : S) (names : List (List ℕ)) (keeps : KeepsNames store.names names) (fit : IsFit seen store shared) where
-    abbrev pub renamed : Store T
-    renamed = record store { names = names }
+  module _ (store : Store T) (shared : Shared S) (names : List (List ℕ)) (keeps : KeepsNames shared.names names) (fit : IsFit seen store shared) where
+    abbrev pub renamed : Shared S
+    renamed = record shared { names = names }
 
-    pub renamed_graph : graph_of_store seen renamed shared ≡ graph_of_store seen store shared
-    renamed_graph = same_graph store.names names keeps (state_of seen store shared) fit.well
+    pub renamed_graph : graph_of_store seen store renamed ≡ graph_of_store seen store shared
+    renamed_graph = same_graph shared.names names keeps (state_of seen store shared) fit.well
 
-    pub renamed_marks : KeepsMarks seen store shared renamed shared
+    names_stay : (mark : Mark) → HasMark seen store shared mark → names_at seen store renamed mark ≡ names_at seen store shared mark
+    names_stay mark has = first_names_stay mark.names shared.names names keeps has.names
+
+    pub renamed_marks : KeepsMarks seen store shared store renamed
     renamed_marks = record {
-      there = λ mark h. h;
-      same = λ mark h.
-          same_graph store.names names keeps (undone (drop mark.0 store.journal.items) (state_of seen store shared))
-          (well_then store.names (drop mark.0 store.journal.items) (state_of seen store shared) fit.well (can_undo_drop store.names mark.0 store.journal.items (state_of seen store shared) fit.journal));
+      there = λ mark has. still_marked seen store store shared renamed mark (names_stay mark has) refl refl has.journal (omega (arith, has.names, no_fewer_names shared.names names keeps)) has;
+      same = λ mark has. same_moment seen store store shared renamed mark (names_stay mark has) refl;
     }
 
-    pub renamed_fit : AreDistinct names → IsFit seen renamed shared
+    pub renamed_fit : AreDistinct names → IsFit seen store renamed
     renamed_fit distinct = record {
       fits = fit.fits;
-      well = still_well store.names names keeps distinct (state_of seen store shared) fit.well;
-      journal = can_still_undo store.names names keeps distinct store.journal.items (state_of seen store shared) fit.journal;
+      well = still_well shared.names names keeps distinct (state_of seen store shared) fit.well;
+      journal = can_still_undo shared.names names keeps distinct store.journal.items (state_of seen store shared) fit.journal;
       covered = fit.covered;
     }
+
+    pub renamed_keeps : AreDistinct names → KeepsShared seen store shared store renamed
+    renamed_keeps distinct = record { tables = keeps_refl store.tables shared.tables fit.fits; names = keeps; distinct = distinct }

@@ -12,21 +12,22 @@ use Rattle.pg_graph.specs.Stored.{has_number}
 use Rattle.pg_graph.specs.declared.records.NodeRecord.{NodeRecord}
 use Rattle.pg_graph.specs.declared.records.RelRecord.{RelRecord}
 use Rattle.pg_store.proofs.JournalLemmas.{undone_last}
-use Rattle.pg_store.specs.Covers.{Covers, HasCovered}
+use Rattle.pg_store.specs.Covers.{FindAlike, Key, every, with_label, with_value, key_of, Covers, HasCovered, belongs}
 use Rattle.pg_store.specs.Journal.{State, undo_one, undone}
 use Rattle.pg_store.specs.declared.journal.Entry.{Entry}
+use Rattle.pg_value_core.specs.declared.value.Value.{Value}
 
 abbrev pub Has : Type 0
-Has = Option ℕ → ℕ → Bool
+Has = Key → ℕ → Bool
 
 abbrev pub Grows : Has → Has → Type 0
-Grows a b = (k : Option ℕ) (i : ℕ) → a k i ≡ true → b k i ≡ true
+Grows a b = (k : Key) (i : ℕ) → a k i ≡ true → b k i ≡ true
 
 pub grows_on : (a b c : Has) → Grows a b → Grows b c → Grows a c
 grows_on a b c p q = λ k i h. q k i (p k i h)
 
 pub grown_covers : (a b : Has) → Grows a b → (s : State) → Covers a s → Covers b s
-grown_covers a b grows s c = λ k i n is belongs. grows k i (c k i n is belongs)
+grown_covers a b grows s c = λ k i n is found. grows k i (c k i n is found)
 
 pub grown_covered : (a b : Has) → Grows a b → (es : List Entry) (s : State) → HasCovered a es s → HasCovered b es s
 grown_covered a b grows [] s h = grown_covers a b grows s h
@@ -53,11 +54,11 @@ module _ (has : Has) where
   covered_popped es es' e s is all = covered_pop es e s (subst (λ xs. HasCovered has xs s) is all)
 
   -- a node comes or is changed, and a node goes
-  pub covers_with : (s : State) (id : ℕ) (n : NodeRecord) → Covers has s → ((k : Option ℕ) → has_number k n ≡ true → has k id ≡ true) → Covers has (record s { content = with_node s.content id n })
-  covers_with s id n c belongs = λ k i m is number. elim (cases_eq i id) [
+  pub covers_with : (s : State) (id : ℕ) (n : NodeRecord) → Covers has s → ((k : Key) → belongs k n ≡ true → has k id ≡ true) → Covers has (record s { content = with_node s.content id n })
+  covers_with s id n c mine = λ k i m is number. elim (cases_eq i id) [
     | inl same ↦
         subst (λ q. has k q ≡ true) (sym same)
-        (belongs k (let here : Some n ≡ Some m = sym (get_inserted s.content.nodes id n) ∙ subst (λ q. map.get (map.insert s.content.nodes id n) q ≡ Some m) same is in ap (λ o. option_map_or (has_number k) o false) here ∙ number))
+        (mine k (let here : Some n ≡ Some m = sym (get_inserted s.content.nodes id n) ∙ subst (λ q. map.get (map.insert s.content.nodes id n) q ≡ Some m) same is in ap (λ o. option_map_or (belongs k) o false) here ∙ number))
     | inr ne ↦ c k i m (sym (get_inserted_other s.content.nodes id n i ne) ∙ is) number
   ]
 
@@ -79,12 +80,20 @@ pub covers_other_properties : (has : Has) (s : State) (id : ℕ) (ps : Propertie
 covers_other_properties has s id ps c = λ k i n is number. c k i n (ap (λ (m : FinMap nat_cmp NodeRecord). map.get m i) (sym (same_nodes s.content id ps)) ∙ is) number
 
 -- an id leaves a set where it does not belong
-pub swept_covers : (a b : Has) (key : Option ℕ) (id : ℕ) (s : State) → ((k : Option ℕ) (i : ℕ) → a k i ≡ true → b k i ≡ false → (k ≡ key) × (i ≡ id)) → option_map_or (has_number key) (map.get s.content.nodes id) false ≡ false → Covers a s → Covers b s
-swept_covers a b key id s others belongs c = λ k i n is number. by_test k i n is number (b k i) refl
+pub swept_covers : (a b : Has) (key : Key) (id : ℕ) (s : State) → ((k : Key) (i : ℕ) → a k i ≡ true → b k i ≡ false → FindAlike k key × (i ≡ id)) → option_map_or (belongs key) (map.get s.content.nodes id) false ≡ false → Covers a s → Covers b s
+swept_covers a b key id s others strange c = λ k i n is found. by_test k i n is found (b k i) refl
   where
-    by_test : (k : Option ℕ) (i : ℕ) (n : NodeRecord) → map.get s.content.nodes i ≡ Some n → has_number k n ≡ true → (t : Bool) → b k i ≡ t → t ≡ true
-    by_test k i n is number true h = refl
-    by_test k i n is number false h =
-        let at = others k i (c k i n is number) h in
-        let not_there : has_number k n ≡ false = ap (λ o. option_map_or (has_number k) o false) (sym is) ∙ (λ t. option_map_or (has_number (at.0 t)) (map.get s.content.nodes (at.1 t)) false) ∙ belongs in
-        absurd (cc)
+    by_test : (k : Key) (i : ℕ) (n : NodeRecord) → map.get s.content.nodes i ≡ Some n → belongs k n ≡ true → (t : Bool) → b k i ≡ t → t ≡ true
+    by_test k i n is found true h = refl
+    by_test k i n is found false h =
+        let at = others k i (c k i n is found) h in
+        let not_there : belongs key n ≡ false = ap (λ o. option_map_or (belongs key) o false) (sym is) ∙ ap (λ q. option_map_or (belongs key) (map.get s.content.nodes q) false) at.1 ∙ strange in
+        let alike = at.0 n in
+        absurd (cc (found, alike, not_there))
+
+-- a node that its labels' sets and the property indexes cover
+pub all_covered : (a b : Has) (n : NodeRecord) (id : ℕ) → Grows a b → ((k : Option ℕ) → has_number k n ≡ true → a (key_of k) id ≡ true)
+    → ((label key : ℕ) (v : Value) → belongs (with_value label key v) n ≡ true → b (with_value label key v) id ≡ true) → (k : Key) → belongs k n ≡ true → b k id ≡ true
+all_covered a b n id grows labels values every h = grows every id (labels None refl)
+all_covered a b n id grows labels values (with_label label) h = grows (with_label label) id (labels (Some label) h)
+all_covered a b n id grows labels values (with_value label key v) h = values label key v h

@@ -15,9 +15,10 @@ use Rattle.pg_graph.specs.Removed.{Ids, has_id}
 use Rattle.pg_graph.specs.Stored.{has_number}
 use Rattle.pg_graph.specs.declared.records.NodeRecord.{NodeRecord}
 use Rattle.pg_store.proofs.CoverLemmas.{Has, covers_now}
-use Rattle.pg_store.specs.Covers.{HasCovered, passes}
+use Rattle.pg_store.specs.Covers.{Key, with_label, with_value, HasCovered, belongs, passes}
 use Rattle.pg_store.specs.Journal.{State, live}
 use Rattle.pg_store.specs.declared.journal.Entry.{Entry}
+use Rattle.pg_value_core.specs.declared.value.Value.{Value}
 
 abbrev number_of : {X : Type 0} → ℕ × X → ℕ
 number_of e = e.0
@@ -101,9 +102,21 @@ module _ {X : Type 0} (p : X → Bool) (m : FinMap nat_cmp X) where
 
 -- ---- a store's reads
 
-module _ (has : Has) (es : List Entry) (s : State) (covered : HasCovered has es s) (label : Option ℕ) where
-  live_covered : (i : ℕ) (n : NodeRecord) → map.get (live s).nodes i ≡ Some n → has_number label n ≡ true → has label i ≡ true
-  live_covered i n is number = covers_now has es s covered label i n (is_kept s.content.nodes s.gone_nodes i n is).1 number
+module _ (has : Has) (es : List Entry) (s : State) (covered : HasCovered has es s) (key : Key) where
+  live_covered : (i : ℕ) (n : NodeRecord) → map.get (live s).nodes i ≡ Some n → belongs key n ≡ true → has key i ≡ true
+  live_covered i n is number = covers_now has es s covered key i n (is_kept s.content.nodes s.gone_nodes i n is).1 number
 
-  pub all_read : (ids : Ids) → ((i : ℕ) → has_id ids i ≡ has label i) → filter (passes (has_number label) (live s).nodes) (map.keys ids) ≡ ids_where (has_number label) (live s).nodes
-  all_read ids is = covered_ids (has_number label) (live s).nodes ids (λ i n at number. is i ∙ live_covered i n at number)
+  pub all_read : (ids : Ids) → ((i : ℕ) → has key i ≡ true → has_id ids i ≡ true) → filter (passes (belongs key) (live s).nodes) (map.keys ids) ≡ ids_where (belongs key) (live s).nodes
+  all_read ids is = covered_ids (belongs key) (live s).nodes ids (λ i n at found. is i (live_covered i n at found))
+
+-- by an index, or by the label's set
+pub valued_read : (has : Has) (es : List Entry) (s : State) → HasCovered has es s → (label key : ℕ) (v : Value) (ids : Ids)
+    → ((i : ℕ) → has (with_label label) i ≡ true → has (with_value label key v) i ≡ true → has_id ids i ≡ true)
+    → filter (passes (belongs (with_value label key v)) (live s).nodes) (map.keys ids) ≡ ids_where (belongs (with_value label key v)) (live s).nodes
+valued_read has es s covered label key v ids is =
+    covered_ids (belongs (with_value label key v)) (live s).nodes ids
+    (λ i n at found. is i (live_covered has es s covered (with_label label) i n at (left (has_number (Some label) n) _ found)) (live_covered has es s covered (with_value label key v) i n at found))
+  where
+    left : (a b : Bool) → (a && b) ≡ true → a ≡ true
+    left true b h = refl
+    left false b h = h

@@ -5,7 +5,12 @@ pub mod Covering
 pub mod MergedLemmas
 pub mod States
 pub mod Stores
+pub mod Kept
+pub mod Marks
 pub mod ChangeLemmas
 pub mod Changed
 pub mod TakenBack
 pub mod Settled
+pub mod ValuedLemmas
+pub mod Indexed
+pub mod Filling

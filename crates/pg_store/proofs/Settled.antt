@@ -18,6 +18,7 @@ use Rattle.pg_store.specs.Covers.{Covers, HasCovered, has_in}
 use Rattle.pg_store.specs.Journal.{State, IsWell, CanUndo, live, graph_in}
 use Rattle.pg_store.specs.Stores.{state_of, graph_of_store, IsFit, Settles}
 use Rattle.pg_store.specs.declared.journal.Entry.{Entry}
+use Rattle.pg_store.specs.declared.shared.Shared.{Shared}
 use Rattle.pg_store.specs.declared.store.Store.{Store}
 
 pub among : (ids : Ids) (id : ℕ) (u : Unit {0}) → map.get ids id ≡ Some u → has_id ids id ≡ true
@@ -86,25 +87,29 @@ module _ (names : List (List ℕ)) (s : State) (id : ℕ) (well : IsWell names s
     }
 
 module _ {T S : Type 0} (seen : Seen T S) where
-  pub settles_first : (old : Store T) (before : S) → IsFit seen old before → old.journal.items ≡ [] → Settles seen old before old before
-  settles_first old before fit journal = record { fit = fit; journal = journal; graph = refl; keeps = keeps_refl old.tables before fit.fits }
+  pub settles_first : (old : Store T) (before : Shared S) → IsFit seen old before → old.journal.items ≡ [] → Settles seen old before old before
+  settles_first old before fit journal = record { fit = fit; journal = journal; graph = refl; names = refl; keeps = keeps_refl old.tables before.tables fit.fits }
 
-  pub settles_on : (old now new : Store T) (before shared after : S) (s : State) → Settles seen old before now shared
-      → state_of seen new after ≡ s → IsWell now.names s → Covers (has_in new.sets) s → graph_in now.names s ≡ graph_of_store seen now shared → new.names ≡ now.names → new.journal.items ≡ now.journal.items → Keeps seen now.tables shared new.tables after
+  pub settles_on : (old now new : Store T) (before shared after : Shared S) (s : State) → Settles seen old before now shared
+      → state_of seen new after ≡ s → IsWell shared.names s → Covers (has_in new.sets) s → graph_in shared.names s ≡ graph_of_store seen now shared → after.names ≡ shared.names → new.journal.items ≡ now.journal.items → Keeps seen now.tables shared.tables new.tables after.tables
       → Settles seen old before new after
   settles_on old now new before shared after s was is well covers same names journal keeps =
       let done : new.journal.items ≡ [] = journal ∙ was.journal in
       record {
         fit = record {
           fits = keeps.fits;
-          well = subst (λ (ns : List (List ℕ)). IsWell ns (state_of seen new after)) (sym names) (subst (IsWell now.names) (sym is) well);
-          journal = subst (λ (es : List Entry). CanUndo new.names es (state_of seen new after)) (sym done) tt;
+          well = subst (λ (ns : List (List ℕ)). IsWell ns (state_of seen new after)) (sym names) (subst (IsWell shared.names) (sym is) well);
+          journal = subst (λ (es : List Entry). CanUndo after.names es (state_of seen new after)) (sym done) tt;
           covered = subst (λ (es : List Entry). HasCovered (has_in new.sets) es (state_of seen new after)) (sym done) (subst (Covers (has_in new.sets)) (sym is) covers);
         };
         journal = done;
-        graph = ap (λ (ns : List (List ℕ)). graph_in ns (state_of seen new after)) names ∙ ap (graph_in now.names) is ∙ same ∙ was.graph;
-        keeps = keeps_trans old.tables now.tables new.tables before shared after was.keeps keeps;
+        graph = ap (λ (ns : List (List ℕ)). graph_in ns (state_of seen new after)) names ∙ ap (graph_in shared.names) is ∙ same ∙ was.graph;
+        names = names ∙ was.names;
+        keeps = keeps_trans old.tables now.tables new.tables before.tables shared.tables after.tables was.keeps keeps;
       }
+
+  pub settles_then : (old now new : Store T) (before shared after : Shared S) → Settles seen old before now shared → Settles seen now shared new after → Settles seen old before new after
+  settles_then old now new before shared after p q = record { fit = q.fit; journal = q.journal; graph = q.graph ∙ p.graph; names = q.names ∙ p.names; keeps = keeps_trans old.tables now.tables new.tables before.tables shared.tables after.tables p.keeps q.keeps }
 
 pub fewer : {X : Type 0} (m : FinMap nat_cmp X) (k : ℕ) (v : X) → map.get m k ≡ Some v → map.len (map.remove m k) < map.len m
 fewer m k v is =

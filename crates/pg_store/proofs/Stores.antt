@@ -3,7 +3,6 @@ use Rattle.std.proofs.Common.{◌≡◌, ◌<◌, ◌^◌, ℕ, List, [], map as
 use Rattle.std.proofs.lemmas.List.{nil_from_length}
 use Rattle.std.specs.FinMap as map
 use Rattle.std.specs.Global.{Vec}
-use Rattle.std.specs.List.{IsDistinct}
 use Rattle.std.specs.Ordering.{nat_cmp}
 use Rattle.std.specs.Option.{option_map}
 use Rattle.pg_graph.proofs.Held.{empty_holds, held_is_graph}
@@ -21,43 +20,40 @@ use Rattle.pg_store.specs.Journal.{State, IsWell, CanUndo, live}
 use Rattle.pg_store.specs.Stores.{graph_of_store, state_of, IsFit}
 use Rattle.pg_store.specs.declared.journal.Entry.{Entry}
 use Rattle.pg_store.specs.declared.sets.Sets.{Sets}
+use Rattle.pg_store.specs.declared.shared.Shared.{Shared}
 use Rattle.pg_store.specs.declared.store.Store.{Store}
 
 pub nothing_held : (X : Type 0) → map.entries (map.empty {X = X} {R = nat_cmp}) ≡ []
 nothing_held X = nil_from_length _ (sym (map.len-entries (map.empty {X = X} {R = nat_cmp})) ∙ map.len-empty nat_cmp X)
 
-none_distinct : AreDistinct []
-unfolding IsDistinct
-none_distinct = tt
+abbrev made : List (List ℕ) → List (ℕ × NodeRecord) → List (ℕ × RelRecord) → Graph
+made names ns rs = record { nodes = map_list (λ e. (e.0, node_of names e.1)) ns; relationships = map_list (λ e. (e.0, relationship_of names e.1)) rs; next_node = 0; next_relationship = 0 }
 
-abbrev made : List (ℕ × NodeRecord) → List (ℕ × RelRecord) → Graph
-made ns rs = record { nodes = map_list (λ e. (e.0, node_of [] e.1)) ns; relationships = map_list (λ e. (e.0, relationship_of [] e.1)) rs; next_node = 0; next_relationship = 0 }
+no_elements : (names : List (List ℕ)) (c : Content) → c ≡ empty_content → graph_of names c 0 0 ≡ empty_graph
+no_elements names c h = ap (λ (c : Content). graph_of names c 0 0) h ∙ (λ i. made names (nothing_held NodeRecord i) (nothing_held RelRecord i))
 
-no_elements : (c : Content) → c ≡ empty_content → graph_of [] c 0 0 ≡ empty_graph
-no_elements c h = ap (λ (c : Content). graph_of [] c 0 0) h ∙ (λ i. made (nothing_held NodeRecord i) (nothing_held RelRecord i))
-
-module _ {T S : Type 0} (seen : Seen T S) (tables : T) (shared : S) (names : List (List ℕ)) (gone_nodes gone_rels : Ids) (journal : Vec Entry) (sets : Sets) (none : names ≡ []) (empty : seen.content tables shared ≡ empty_content) (no_nodes : gone_nodes ≡ map.empty) (no_rels : gone_rels ≡ map.empty) (nothing_done : journal.items ≡ []) where
+module _ {T S : Type 0} (seen : Seen T S) (tables : T) (shared : Shared S) (gone_nodes gone_rels : Ids) (journal : Vec Entry) (sets : Sets) (empty : seen.content tables shared.tables ≡ empty_content) (no_nodes : gone_nodes ≡ map.empty) (no_rels : gone_rels ≡ map.empty) (nothing_done : journal.items ≡ []) where
   abbrev new_store : Store T
-  new_store = record { names = names; tables = tables; next = record { node = 0; rel = 0 }; elements = 0; gone_nodes = gone_nodes; gone_rels = gone_rels; journal = journal; sets = sets }
+  new_store = record { tables = tables; next = record { node = 0; rel = 0 }; elements = 0; gone_nodes = gone_nodes; gone_rels = gone_rels; journal = journal; sets = sets }
 
   live_empty : live (state_of seen new_store shared) ≡ empty_content
   live_empty =
-      (λ i. live_content (seen.content tables shared) (no_nodes i) (no_rels i))
-      ∙ (λ i. record { nodes = without_none (seen.content tables shared).nodes i; rels = without_none (seen.content tables shared).rels i })
+      (λ i. live_content (seen.content tables shared.tables) (no_nodes i) (no_rels i))
+      ∙ (λ i. record { nodes = without_none (seen.content tables shared.tables).nodes i; rels = without_none (seen.content tables shared.tables).rels i })
       ∙ empty
 
   pub new_is_empty : graph_of_store seen new_store shared ≡ empty_graph
-  new_is_empty = ap (λ (ns : List (List ℕ)). graph_of ns (live (state_of seen new_store shared)) 0 0) none ∙ no_elements (live (state_of seen new_store shared)) live_empty
+  new_is_empty = no_elements shared.names (live (state_of seen new_store shared)) live_empty
 
-  holds_empty : (c : Content) → c ≡ empty_content → Holds names c 0 0
-  holds_empty c is = subst (λ (c : Content). Holds names c 0 0) (sym is) (subst (λ (ns : List (List ℕ)). Holds ns empty_content 0 0) (sym none) (empty_holds [] 0 0 none_distinct))
+  holds_empty : (c : Content) → c ≡ empty_content → AreDistinct shared.names → Holds shared.names c 0 0
+  holds_empty c is distinct = subst (λ (c : Content). Holds shared.names c 0 0) (sym is) (empty_holds shared.names 0 0 distinct)
 
-  pub new_is_fit : seen.fits tables shared → IsFit seen new_store shared
-  new_is_fit fits = record {
+  pub new_is_fit : AreDistinct shared.names → seen.fits tables shared.tables → IsFit seen new_store shared
+  new_is_fit distinct fits = record {
     fits = fits;
     well = record {
-      held = holds_empty (seen.content tables shared) empty;
-      holds = holds_empty (live (state_of seen new_store shared)) live_empty;
+      held = holds_empty (seen.content tables shared.tables) empty distinct;
+      holds = holds_empty (live (state_of seen new_store shared)) live_empty distinct;
       counted = sym (ap element_count new_is_empty);
       nodes_wait = λ id h. absurd (cc (h, ap (λ (ids : Ids). has_id ids id) no_nodes, has_none id));
       rels_wait = λ id h. absurd (cc (h, ap (λ (ids : Ids). has_id ids id) no_rels, has_none id));
@@ -65,7 +61,7 @@ module _ {T S : Type 0} (seen : Seen T S) (tables : T) (shared : S) (names : Lis
       rel_ids = omega arith;
       few = omega arith;
     };
-    journal = subst (λ (es : List Entry). CanUndo names es (state_of seen new_store shared)) (sym nothing_done) tt;
+    journal = subst (λ (es : List Entry). CanUndo shared.names es (state_of seen new_store shared)) (sym nothing_done) tt;
     covered = subst (λ (es : List Entry). HasCovered (has_in sets) es (state_of seen new_store shared)) (sym nothing_done)
         (λ k i n is number. absurd (cc (is, ap (λ (c : Content). map.get c.nodes i) empty, map.get-empty {X = NodeRecord} nat_cmp i)));
   }
@@ -81,8 +77,8 @@ node_is_there names c i j id o is = ap is_some (node_is_read names c i j id ∙ 
     by_case None = refl
     by_case (Some n) = refl
 
-pub store_is_graph : {T S : Type 0} (seen : Seen T S) (store : Store T) (shared : S) → IsFit seen store shared → IsGraph (graph_of_store seen store shared)
-store_is_graph seen store shared fit = held_is_graph store.names (live (state_of seen store shared)) store.next.node store.next.rel fit.well.holds
+pub store_is_graph : {T S : Type 0} (seen : Seen T S) (store : Store T) (shared : Shared S) → IsFit seen store shared → IsGraph (graph_of_store seen store shared)
+store_is_graph seen store shared fit = held_is_graph shared.names (live (state_of seen store shared)) store.next.node store.next.rel fit.well.holds
 
 pub rel_is_there : (names : List (List ℕ)) (c : Content) (i j id : ℕ) (o : Option RelRecord) → o ≡ map.get c.rels id → has_relationship (graph_of names c i j) id ≡ is_some o
 rel_is_there names c i j id o is = ap is_some (relationship_is_read names c i j id ∙ ap (option_map (relationship_of names)) (sym is)) ∙ by_case o
@@ -111,27 +107,15 @@ copied_some None h = h
 copied_some (Some x) h = refl
 
 -- an integer of 64 bits
-pub node_is_below : {T S : Type 0} (seen : Seen T S) (store : Store T) (shared : S) (id : ℕ) → IsFit seen store shared → has_node (graph_of_store seen store shared) id ≡ true → id < 2 ^ 63
-node_is_below seen store shared id fit is = by_case (map.get (live (state_of seen store shared)).nodes id) refl (node_held store.names (live (state_of seen store shared)) store.next.node store.next.rel id is)
+pub node_is_below : {T S : Type 0} (seen : Seen T S) (store : Store T) (shared : Shared S) (id : ℕ) → IsFit seen store shared → has_node (graph_of_store seen store shared) id ≡ true → id < 2 ^ 63
+node_is_below seen store shared id fit is = by_case (map.get (live (state_of seen store shared)).nodes id) refl (node_held shared.names (live (state_of seen store shared)) store.next.node store.next.rel id is)
   where
     by_case : (o : Option NodeRecord) → map.get (live (state_of seen store shared)).nodes id ≡ o → IsSome o → id < 2 ^ 63
     by_case None none h = absurd (cc)
     by_case (Some n) there h = let below = (fit.well.holds.nodes id n there).below in let ids = fit.well.node_ids in omega (arith, below, ids)
 
--- a store fits another shared part in which it has the same content
-pub fit_over : {T S : Type 0} (seen : Seen T S) (store : Store T) (old new : S) → seen.content store.tables new ≡ seen.content store.tables old → seen.fits store.tables new → IsFit seen store old → IsFit seen store new
-fit_over seen store old new same fits was =
-    let s = state_of seen store old in
-    let is : state_of seen store new ≡ s = ap (λ (c : Content). record s { content = c }) same in
-    record {
-      fits = fits;
-      well = subst (IsWell store.names) (sym is) was.well;
-      journal = subst (CanUndo store.names store.journal.items) (sym is) was.journal;
-      covered = subst (HasCovered (has_in store.sets) store.journal.items) (sym is) was.covered;
-    }
-
-pub rel_is_below : {T S : Type 0} (seen : Seen T S) (store : Store T) (shared : S) (id : ℕ) → IsFit seen store shared → has_relationship (graph_of_store seen store shared) id ≡ true → id < 2 ^ 63
-rel_is_below seen store shared id fit is = by_case (map.get (live (state_of seen store shared)).rels id) refl (rel_held store.names (live (state_of seen store shared)) store.next.node store.next.rel id is)
+pub rel_is_below : {T S : Type 0} (seen : Seen T S) (store : Store T) (shared : Shared S) (id : ℕ) → IsFit seen store shared → has_relationship (graph_of_store seen store shared) id ≡ true → id < 2 ^ 63
+rel_is_below seen store shared id fit is = by_case (map.get (live (state_of seen store shared)).rels id) refl (rel_held shared.names (live (state_of seen store shared)) store.next.node store.next.rel id is)
   where
     by_case : (o : Option RelRecord) → map.get (live (state_of seen store shared)).rels id ≡ o → IsSome o → id < 2 ^ 63
     by_case None none h = absurd (cc)

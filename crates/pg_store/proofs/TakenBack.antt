@@ -1,70 +1,81 @@
 -- A store that goes back to a mark, change by change.
-use Rattle.std.proofs.Common.{◌≡◌, ◌≤◌, ◌<◌, ℕ, List, [], ◌∷◌, ◌++◌, length, drop, arith, refl, sym, ap, subst, ◌∙◌}
-use Rattle.std.proofs.lemmas.List.{drop-append-le, drop_all, length-append}
+use Rattle.std.proofs.Common.{◌≡◌, ◌≤◌, ◌<◌, ℕ, List, [], ◌∷◌, ◌++◌, length, take, drop, arith, refl, sym, ap, subst, ◌∙◌, append_assoc, append-nil}
+use Rattle.std.proofs.lemmas.List.{take_at, drop_at, length-append}
 use Rattle.pg_graph.proofs.Others.{keeps_refl, keeps_trans}
 use Rattle.pg_graph.specs.Content.{Seen, Keeps}
 use Rattle.pg_store.proofs.CoverLemmas.{Has, covered_popped}
-use Rattle.pg_store.proofs.JournalLemmas.{undone_last, popped}
+use Rattle.pg_store.proofs.JournalLemmas.{popped}
 use Rattle.pg_store.specs.Covers.{HasCovered, has_in}
-use Rattle.pg_store.specs.Journal.{IsWell, CanUndo, CanUndoOne, graph_in, undo_one, undone}
-use Rattle.pg_store.specs.Stores.{state_of, graph_of_store, graph_at, IsFit}
+use Rattle.pg_store.specs.Journal.{IsWell, CanUndo, CanUndoOne, undo_one, undone}
+use Rattle.pg_store.specs.Stores.{state_of, IsFit, HasMark, IsBack}
 use Rattle.pg_store.specs.declared.journal.Entry.{Entry}
 use Rattle.pg_store.specs.declared.journal.Mark.{Mark}
+use Rattle.pg_store.specs.declared.shared.Shared.{Shared}
 use Rattle.pg_store.specs.declared.store.Store.{Store}
 
 -- the store `now` is `old` with some of what was done since the mark taken back
-pub record GoesBack {T S : Type 0} (seen : Seen T S) (mark : ℕ) (old : Store T) (before : S) (now : Store T) (shared : S) : Type 0 where
+pub record GoesBack {T S : Type 0} (seen : Seen T S) (mark : ℕ) (old : Store T) (before : Shared S) (now : Store T) (shared : Shared S) : Type 0 where
   pub fit : IsFit seen now shared
-  pub names : now.names ≡ old.names
-  pub same : (n : ℕ) → n ≤ mark → undone (drop n now.journal.items) (state_of seen now shared) ≡ undone (drop n old.journal.items) (state_of seen old before)
+  pub names : shared.names ≡ before.names
+  pub gone : List Entry
+  pub parts : old.journal.items ≡ now.journal.items ++ gone
+  pub state : state_of seen now shared ≡ undone gone (state_of seen old before)
   pub there : mark ≤ length now.journal.items
-  pub keeps : Keeps seen old.tables before now.tables shared
+  pub keeps : Keeps seen old.tables before.tables now.tables shared.tables
 
 module _ {T S : Type 0} (seen : Seen T S) (mark : ℕ) where
-  pub at_first : (old : Store T) (before : S) → IsFit seen old before → mark ≤ length old.journal.items → GoesBack seen mark old before old before
-  at_first old before fit there = record { fit = fit; names = refl; same = λ n h. refl; there = there; keeps = keeps_refl old.tables before fit.fits }
+  pub at_first : (old : Store T) (before : Shared S) → IsFit seen old before → mark ≤ length old.journal.items → GoesBack seen mark old before old before
+  at_first old before fit there = record { fit = fit; names = refl; gone = []; parts = sym (append-nil old.journal.items); state = refl; there = there; keeps = keeps_refl old.tables before.tables fit.fits }
 
-  pub can_go : (now : Store T) (shared : S) (es : List Entry) (e : Entry) → now.journal.items ≡ es ++ e ∷ [] → IsFit seen now shared → CanUndoOne e (state_of seen now shared)
-  can_go now shared es e items fit = (popped now.names es now.journal.items e (state_of seen now shared) items fit.journal).0
+  pub can_go : (now : Store T) (shared : Shared S) (es : List Entry) (e : Entry) → now.journal.items ≡ es ++ e ∷ [] → IsFit seen now shared → CanUndoOne e (state_of seen now shared)
+  can_go now shared es e items fit = (popped shared.names es now.journal.items e (state_of seen now shared) items fit.journal).0
 
   longer : (m : ℕ) (xs es : List Entry) (e : Entry) → xs ≡ es ++ e ∷ [] → m < length xs → m ≤ length es
   longer m xs es e is h = let longer = ap length is ∙ length-append es (e ∷ []) in omega (arith, longer)
 
-  pub goes_on : (old now new : Store T) (before shared after : S) (e : Entry) → GoesBack seen mark old before now shared → mark < length now.journal.items
-      → now.journal.items ≡ new.journal.items ++ e ∷ [] → state_of seen new after ≡ undo_one e (state_of seen now shared) → new.names ≡ now.names → has_in new.sets ≡ has_in now.sets → Keeps seen now.tables shared new.tables after
+  pub goes_on : (old now new : Store T) (before shared after : Shared S) (e : Entry) → GoesBack seen mark old before now shared → mark < length now.journal.items
+      → now.journal.items ≡ new.journal.items ++ e ∷ [] → state_of seen new after ≡ undo_one e (state_of seen now shared) → after.names ≡ shared.names → has_in new.sets ≡ has_in now.sets → Keeps seen now.tables shared.tables new.tables after.tables
       → GoesBack seen mark old before new after
   goes_on old now new before shared after e was more items is names sets keeps =
       let es = new.journal.items in
       let s = state_of seen now shared in
-      let pop = popped now.names es now.journal.items e s items was.fit.journal in
-      let there : mark ≤ length es = longer mark now.journal.items es e items more in
+      let pop = popped shared.names es now.journal.items e s items was.fit.journal in
       record {
         fit = record {
           fits = keeps.fits;
-          well = subst (λ (ns : List (List ℕ)). IsWell ns (state_of seen new after)) (sym names) (subst (IsWell now.names) (sym is) pop.1);
-          journal = subst (λ (ns : List (List ℕ)). CanUndo ns es (state_of seen new after)) (sym names) (subst (CanUndo now.names es) (sym is) pop.2);
+          well = subst (λ (ns : List (List ℕ)). IsWell ns (state_of seen new after)) (sym names) (subst (IsWell shared.names) (sym is) pop.1);
+          journal = subst (λ (ns : List (List ℕ)). CanUndo ns es (state_of seen new after)) (sym names) (subst (CanUndo shared.names es) (sym is) pop.2);
           covered = subst (λ (has : Has). HasCovered has es (state_of seen new after)) (sym sets)
               (subst (HasCovered (has_in now.sets) es) (sym is) (covered_popped (has_in now.sets) es now.journal.items e s items was.fit.covered));
         };
         names = names ∙ was.names;
-        same = λ n h.
-            ap (undone (drop n es)) is
-            ∙ sym (undone_last (drop n es) e s)
-            ∙ ap (λ xs. undone xs s) (sym (drop-append-le n es (e ∷ []) (omega (arith, h, there))))
-            ∙ ap (λ xs. undone (drop n xs) s) (sym items)
-            ∙ was.same n h;
-        there = there;
-        keeps = keeps_trans old.tables now.tables new.tables before shared after was.keeps keeps;
+        gone = e ∷ was.gone;
+        parts = was.parts ∙ ap (λ (fs : List Entry). fs ++ was.gone) items ∙ append_assoc es (e ∷ []) was.gone;
+        state = is ∙ ap (undo_one e) was.state;
+        there = longer mark now.journal.items es e items more;
+        keeps = keeps_trans old.tables now.tables new.tables before.tables shared.tables after.tables was.keeps keeps;
       }
 
-  -- at the mark
-  module _ (old now : Store T) (before shared : S) (was : GoesBack seen mark old before now shared) where
-    pub same_mark : (m : Mark) → m.0 ≤ mark → graph_at seen now shared m ≡ graph_at seen old before m
-    same_mark m h =
-        ap (λ (ns : List (List ℕ)). graph_in ns (undone (drop m.0 now.journal.items) (state_of seen now shared))) was.names
-        ∙ ap (graph_in old.names) (was.same m.0 h)
+-- at the mark
+pub is_back : {T S : Type 0} (seen : Seen T S) (mark : Mark) (old now : Store T) (before shared : Shared S) → GoesBack seen mark.journal old before now shared → length now.journal.items ≤ mark.journal → IsBack seen mark old before now shared
+is_back seen mark old now before shared was h =
+    let long : length now.journal.items ≡ mark.journal = omega (arith, h, was.there) in
+    record {
+      state = was.state ∙ ap (λ (es : List Entry). undone es (state_of seen old before)) (sym (ap (drop mark.journal) was.parts ∙ drop_at now.journal.items was.gone mark.journal long));
+      journal = sym (ap (take mark.journal) was.parts ∙ take_at now.journal.items was.gone mark.journal long);
+    }
 
-    pub is_back : length now.journal.items ≤ mark → (m : Mark) → m.0 ≡ mark → graph_of_store seen now shared ≡ graph_at seen old before m
-    is_back h m is =
-        ap (λ es. graph_in now.names (undone es (state_of seen now shared))) (sym (drop_all m.0 now.journal.items (omega (arith, h, is))))
-        ∙ same_mark m (omega (arith, is))
+-- with the names of then
+pub back_is_fit : {T S : Type 0} (seen : Seen T S) (mark : Mark) (old now : Store T) (before shared after : Shared S) → HasMark seen old before mark → IsBack seen mark old before now shared → IsFit seen now shared
+    → after.names ≡ take mark.names before.names → after.tables ≡ shared.tables → IsFit seen now after
+back_is_fit {S = S} seen mark old now before shared after has back fit cut same =
+    let s = state_of seen now shared in
+    let is : state_of seen now after ≡ s = ap (λ (x : S). record s { content = seen.content now.tables x }) same in
+    record {
+      fits = subst (seen.fits now.tables) (sym same) fit.fits;
+      well = subst (λ (ns : List (List ℕ)). IsWell ns (state_of seen now after)) (sym cut) (subst (IsWell (take mark.names before.names)) (sym (is ∙ back.state)) has.well);
+      journal = subst (λ (ns : List (List ℕ)). CanUndo ns now.journal.items (state_of seen now after)) (sym cut)
+          (subst (λ (es : List Entry). CanUndo (take mark.names before.names) es (state_of seen now after)) (sym back.journal)
+          (subst (CanUndo (take mark.names before.names) (take mark.journal old.journal.items)) (sym (is ∙ back.state)) has.undo));
+      covered = subst (HasCovered (has_in now.sets) now.journal.items) (sym is) fit.covered;
+    }

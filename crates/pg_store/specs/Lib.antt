@@ -1,7 +1,9 @@
 pub mod Changes
 pub mod Covers
 pub mod GraphCode
+pub mod Indexed
 pub mod Journal
 pub mod Merged
 pub mod Stores
 pub mod Views
+pub mod Wanted

@@ -1,22 +1,24 @@
 -- One tenant's store as a graph, and what its calls are given and give in the graph's words.
-use Rattle.std.specs.Prelude.{◌≡◌, ◌≤◌, ℕ, List, [], not, filter, fold, length, drop, map as map_list, bytes_eq, string_bytes}
+use Rattle.std.specs.Prelude.{◌≡◌, ◌≢◌, ◌≤◌, ℕ, List, [], not, filter, fold, length, take, drop, map as map_list, bytes_eq, string_bytes}
 use Rattle.std.specs.Borrow.{Bor}
 use Rattle.pg_graph.specs.Content.{Seen, Keeps}
 use Rattle.pg_meaning.specs.Graph.{Graph, Node, Relationship}
 use Rattle.pg_meaning.specs.Value.{Value}
+use Rattle.pg_names.specs.Names.{AreDistinct, KeepsNames}
 use Rattle.pg_store.specs.Covers.{has_in, HasCovered}
 use Rattle.pg_store.specs.Journal.{State, IsWell, CanUndo, graph_in, undone}
 use Rattle.pg_store.specs.declared.journal.Mark.{Mark}
+use Rattle.pg_store.specs.declared.shared.Shared.{Shared}
 use Rattle.pg_store.specs.declared.store.Store.{Store}
 use Rattle.pg_store.specs.declared.texts.NodeTexts.{NodeTexts}
 use Rattle.pg_store.specs.declared.texts.RelTexts.{RelTexts}
 use Rattle.pg_value_core.specs.View.{view, entries_view}
 use Rattle.pg_value_core.specs.declared.value.Value as code
 
-module _ {T S : Type 0} (seen : Seen T S) (store : Store T) (shared : S) where
+module _ {T S : Type 0} (seen : Seen T S) (store : Store T) (shared : Shared S) where
   abbrev pub state_of : State
   state_of = record {
-    content = seen.content store.tables shared;
+    content = seen.content store.tables shared.tables;
     gone_nodes = store.gone_nodes;
     gone_rels = store.gone_rels;
     next = store.next;
@@ -24,34 +26,62 @@ module _ {T S : Type 0} (seen : Seen T S) (store : Store T) (shared : S) where
   }
 
   abbrev pub graph_of_store : Graph
-  graph_of_store = graph_in store.names state_of
-
-  -- the graph at the moment of a mark
-  abbrev pub graph_at : Mark → Graph
-  graph_at mark = graph_in store.names (undone (drop mark.0 store.journal.items) state_of)
+  graph_of_store = graph_in shared.names state_of
 
   -- the shared part is the store's, what it holds stands for a graph, and all that was done since each mark can be undone
   pub record IsFit : Type 0 where
-    pub fits : seen.fits store.tables shared
-    pub well : IsWell store.names state_of
-    pub journal : CanUndo store.names store.journal.items state_of
+    pub fits : seen.fits store.tables shared.tables
+    pub well : IsWell shared.names state_of
+    pub journal : CanUndo shared.names store.journal.items state_of
     pub covered : HasCovered (has_in store.sets) store.journal.items state_of
 
+  -- the names and the state at the moment of a mark
+  abbrev pub names_at : Mark → List (List ℕ)
+  names_at mark = take mark.names shared.names
+
+  abbrev pub state_at : Mark → State
+  state_at mark = undone (drop mark.journal store.journal.items) state_of
+
+  abbrev pub graph_at : Mark → Graph
+  graph_at mark = graph_in (names_at mark) (state_at mark)
+
+  -- the mark is of a moment that the store can go back to: what it held then it held by the names of then
+  pub record HasMark (mark : Mark) : Type 0 where
+    pub journal : mark.journal ≤ length store.journal.items
+    pub names : mark.names ≤ length shared.names
+    pub well : IsWell (names_at mark) (state_at mark)
+    pub undo : CanUndo (names_at mark) (take mark.journal store.journal.items) (state_at mark)
+
+-- the store `now` is `old` with all taken back that was done since the mark
+pub record IsBack {T S : Type 0} (seen : Seen T S) (mark : Mark) (old : Store T) (before : Shared S) (now : Store T) (after : Shared S) : Type 0 where
+  pub state : state_of seen now after ≡ state_at seen old before mark
+  pub journal : now.journal.items ≡ take mark.journal old.journal.items
+
 -- the store `now` is `old` with some of its removed elements gone, and nothing left to undo
-pub record Settles {T S : Type 0} (seen : Seen T S) (old : Store T) (before : S) (now : Store T) (shared : S) : Type 0 where
+pub record Settles {T S : Type 0} (seen : Seen T S) (old : Store T) (before : Shared S) (now : Store T) (shared : Shared S) : Type 0 where
   pub fit : IsFit seen now shared
   pub journal : now.journal.items ≡ []
   pub graph : graph_of_store seen now shared ≡ graph_of_store seen old before
-  pub keeps : Keeps seen old.tables before now.tables shared
-
--- the mark is of a moment that the store can go back to
-abbrev pub HasMark : {T : Type 0} → Store T → Mark → Type 0
-HasMark store mark = mark.0 ≤ length store.journal.items
+  pub names : shared.names ≡ before.names
+  pub keeps : Keeps seen old.tables before.tables now.tables shared.tables
 
 -- each mark of the old store is one of the new, of the same graph
-pub record KeepsMarks {T S : Type 0} (seen : Seen T S) (old : Store T) (before : S) (new : Store T) (after : S) : Type 0 where
-  pub there : (mark : Mark) → HasMark old mark → HasMark new mark
-  pub same : (mark : Mark) → HasMark old mark → graph_at seen new after mark ≡ graph_at seen old before mark
+pub record KeepsMarks {T S : Type 0} (seen : Seen T S) (old : Store T) (before : Shared S) (new : Store T) (after : Shared S) : Type 0 where
+  pub there : (mark : Mark) → HasMark seen old before mark → HasMark seen new after mark
+  pub same : (mark : Mark) → HasMark seen old before mark → graph_at seen new after mark ≡ graph_at seen old before mark
+
+-- A call on the store `old`, lent the shared part `before`, left the store `new` and the part `after`. Nothing that
+-- others have in the part of the tables changed, and each number has its text still.
+pub record KeepsShared {T S : Type 0} (seen : Seen T S) (old : Store T) (before : Shared S) (new : Store T) (after : Shared S) : Type 0 where
+  pub tables : Keeps seen old.tables before.tables new.tables after.tables
+  pub names : KeepsNames before.names after.names
+  pub distinct : AreDistinct after.names
+
+-- a store of another owner fits again, and its graph is the same
+abbrev pub OtherStoresStay : {T S : Type 0} → Seen T S → Type 0
+OtherStoresStay {T} {S} seen =
+    (old new other : Store T) (before after : Shared S) → KeepsShared seen old before new after → seen.owner other.tables ≢ seen.owner old.tables → IsFit seen other before
+    → IsFit seen other after × (graph_of_store seen other after ≡ graph_of_store seen other before)
 
 abbrev pub texts_of : List (Bor (List ℕ)) → List (List ℕ)
 texts_of texts = map_list (λ t. t.now) texts

@@ -5,6 +5,7 @@ ghost use Rattle.pg_graph.specs.Removed.{live_ids};
 ghost use Rattle.pg_meaning.specs.Graph.{both, incident, incoming, outgoing};
 ghost use Rattle.pg_store.specs.Stores.{graph_of_store, IsFit};
 
+use crate::shared::Shared;
 use crate::store::Store;
 use pg_graph::{ById, Tables};
 use pg_value_core::{NodeId, RelId};
@@ -96,13 +97,17 @@ impl<'a> Incident<'a> {
 
 impl<T: Tables> Store<T> {
     /// The relationships from a node, rising.
-    pub(crate) fn outgoing<'a>(&'a self, shared: &'a T::Shared, node: NodeId) -> Incident<'a>
+    pub(crate) fn outgoing<'a>(
+        &'a self,
+        shared: &'a Shared<T::Shared>,
+        node: NodeId,
+    ) -> Incident<'a>
         requires fit { IsFit T.seen self.now shared.now }
         ensures { result ≡ incident outgoing node.0 (graph_of_store T.seen self.now shared.now) }
     {
         Incident {
             ids: Merged {
-                outgoing: self.tables.outgoing(shared, node),
+                outgoing: self.tables.outgoing(&shared.tables, node),
                 incoming: &[],
             },
             gone: &self.gone_rels,
@@ -110,28 +115,36 @@ impl<T: Tables> Store<T> {
     }
 
     /// The relationships to a node, rising.
-    pub(crate) fn incoming<'a>(&'a self, shared: &'a T::Shared, node: NodeId) -> Incident<'a>
+    pub(crate) fn incoming<'a>(
+        &'a self,
+        shared: &'a Shared<T::Shared>,
+        node: NodeId,
+    ) -> Incident<'a>
         requires fit { IsFit T.seen self.now shared.now }
         ensures { result ≡ incident incoming node.0 (graph_of_store T.seen self.now shared.now) }
     {
         Incident {
             ids: Merged {
                 outgoing: &[],
-                incoming: self.tables.incoming(shared, node),
+                incoming: self.tables.incoming(&shared.tables, node),
             },
             gone: &self.gone_rels,
         }
     }
 
     /// The relationships at a node, rising, each once.
-    pub(crate) fn incident<'a>(&'a self, shared: &'a T::Shared, node: NodeId) -> Incident<'a>
+    pub(crate) fn incident<'a>(
+        &'a self,
+        shared: &'a Shared<T::Shared>,
+        node: NodeId,
+    ) -> Incident<'a>
         requires fit { IsFit T.seen self.now shared.now }
         ensures { result ≡ incident both node.0 (graph_of_store T.seen self.now shared.now) }
     {
         Incident {
             ids: Merged {
-                outgoing: self.tables.outgoing(shared, node),
-                incoming: self.tables.incoming(shared, node),
+                outgoing: self.tables.outgoing(&shared.tables, node),
+                incoming: self.tables.incoming(&shared.tables, node),
             },
             gone: &self.gone_rels,
         }

@@ -1,12 +1,13 @@
 //! The undo journal: marks, and a store taken back to one.
-ghost use Rattle.std.specs.Prelude.{◌≡◌, [], ◌≤◌};
+ghost use Rattle.std.specs.Prelude.{◌≡◌, ◌≤◌, [], length, take};
 ghost use Rattle.std.specs.FinMap as map;
 ghost use Rattle.pg_graph.specs.Content.{Keeps};
 ghost use Rattle.pg_store.specs.Journal.{CanUndoOne, undo_one};
-ghost use Rattle.pg_store.specs.Stores.{graph_of_store, graph_at, state_of, IsFit, HasMark, Settles};
+ghost use Rattle.pg_store.specs.Stores.{graph_of_store, graph_at, state_of, IsFit, HasMark, IsBack, Settles};
 
-use crate::reads::is_wanted;
+use crate::shared::Shared;
 use crate::store::Store;
+use crate::wanted::{Place, is_sought};
 use pg_graph::{NodeRecord, Properties, Tables};
 use pg_value_core::{NodeId, RelId};
 
@@ -23,76 +24,99 @@ pub enum Entry {
 
 /// A moment of a store to which it can be taken back.
 #[derive(Clone, Copy, Debug, PartialEq, Eq)]
-pub struct Mark(usize);
+pub struct Mark {
+    journal: usize,
+    names: usize,
+}
 
 impl<T: Tables> Store<T> {
     /// Marks this moment.
-    pub fn mark(&self) -> Mark
-        ensures there { HasMark self.now result }
-        ensures graph { (shared : T.Shared) → graph_at T.seen self.now shared result ≡ graph_of_store T.seen self.now shared }
+    pub fn mark(&self, shared: &Shared<T::Shared>) -> Mark
+        requires fit { IsFit T.seen self.now shared.now }
+        ensures there { HasMark T.seen self.now shared.now result }
+        ensures graph { graph_at T.seen self.now shared.now result ≡ graph_of_store T.seen self.now shared.now }
+        ensures names { result.names ≡ length shared.now.names }
     {
-        Mark(self.journal.len())
+        Mark {
+            journal: self.journal.len(),
+            names: shared.names.len(),
+        }
     }
 
-    /// Takes back all that was done since the mark. It takes no memory.
-    pub fn undo(&mut self, shared: &mut T::Shared, mark: Mark)
+    /// Takes back all that was done since the mark, and cuts off the names that it brought. It takes no memory.
+    pub fn undo(&mut self, shared: &mut Shared<T::Shared>, mark: Mark)
         requires fit { IsFit T.seen self.old shared.old }
-        requires mark { HasMark self.old mark }
+        requires mark { HasMark T.seen self.old shared.old mark }
         ensures graph { graph_of_store T.seen self.new shared.new ≡ graph_at T.seen self.old shared.old mark }
-        ensures marks { (earlier : Mark) → earlier.0 ≤ mark.0 → graph_at T.seen self.new shared.new earlier ≡ graph_at T.seen self.old shared.old earlier }
-        ensures there { HasMark self.new mark }
+        ensures names { shared.new.names ≡ take mark.names shared.old.names }
+        ensures marks { (earlier : Mark) → earlier.journal ≤ mark.journal → earlier.names ≤ mark.names → graph_at T.seen self.new shared.new earlier ≡ graph_at T.seen self.old shared.old earlier }
+        ensures there { (earlier : Mark) → earlier.journal ≤ mark.journal → earlier.names ≤ mark.names → HasMark T.seen self.old shared.old earlier → HasMark T.seen self.new shared.new earlier }
         ensures fit { IsFit T.seen self.new shared.new }
-        ensures keeps { Keeps T.seen self.old.tables shared.old self.new.tables shared.new }
+        ensures keeps { Keeps T.seen self.old.tables shared.old.tables self.new.tables shared.new.tables }
+    {
+        self.return_to(shared, mark);
+    }
+
+    // Brings the moment of the mark back, with sets of ids that may have more.
+    fn return_to(&mut self, shared: &mut Shared<T::Shared>, mark: Mark)
+        requires fit { IsFit T.seen self.old shared.old }
+        requires mark { HasMark T.seen self.old shared.old mark }
+        ensures back { IsBack T.seen mark self.old shared.old self.new shared.new }
+        ensures names { shared.new.names ≡ take mark.names shared.old.names }
+        ensures fit { IsFit T.seen self.new shared.new }
+        ensures keeps { Keeps T.seen self.old.tables shared.old.tables self.new.tables shared.new.tables }
     {
         self.go_back(shared, mark);
+        shared.names.truncate(mark.names);
         if self.journal.len() > 0 {
             return;
         }
         self.sweep(shared);
     }
 
-    // Takes back all that was done since the mark, and leaves the sets of ids as they are.
-    fn go_back(&mut self, shared: &mut T::Shared, mark: Mark)
+    // Takes back all that was done since the mark, and leaves the names and the sets of ids as they are.
+    fn go_back(&mut self, shared: &mut Shared<T::Shared>, mark: Mark)
         requires fit { IsFit T.seen self.old shared.old }
-        requires mark { HasMark self.old mark }
-        ensures graph { graph_of_store T.seen self.new shared.new ≡ graph_at T.seen self.old shared.old mark }
-        ensures marks { (earlier : Mark) → earlier.0 ≤ mark.0 → graph_at T.seen self.new shared.new earlier ≡ graph_at T.seen self.old shared.old earlier }
-        ensures there { HasMark self.new mark }
+        requires mark { mark.journal ≤ length self.old.journal.items }
+        ensures back { IsBack T.seen mark self.old shared.old self.new shared.new }
+        ensures names { shared.new.names ≡ shared.old.names }
         ensures fit { IsFit T.seen self.new shared.new }
-        ensures keeps { Keeps T.seen self.old.tables shared.old self.new.tables shared.new }
+        ensures keeps { Keeps T.seen self.old.tables shared.old.tables self.new.tables shared.new.tables }
     {
-        while self.journal.len() > mark.0 {
+        while self.journal.len() > mark.journal {
             let entry = self.journal.pop().unwrap();
             self.take_back(shared, entry);
         }
     }
 
     // Takes back one change.
-    fn take_back(&mut self, shared: &mut T::Shared, entry: Entry)
-        requires fits { T.seen.fits self.old.tables shared.old }
+    fn take_back(&mut self, shared: &mut Shared<T::Shared>, entry: Entry)
+        requires fits { T.seen.fits self.old.tables shared.old.tables }
         requires can { CanUndoOne entry (state_of T.seen self.old shared.old) }
         ensures state { state_of T.seen self.new shared.new ≡ undo_one entry (state_of T.seen self.old shared.old) }
-        ensures names { self.new.names ≡ self.old.names }
+        ensures names { shared.new.names ≡ shared.old.names }
         ensures journal { self.new.journal ≡ self.old.journal }
         ensures sets { self.new.sets ≡ self.old.sets }
-        ensures keeps { Keeps T.seen self.old.tables shared.old self.new.tables shared.new }
+        ensures keeps { Keeps T.seen self.old.tables shared.old.tables self.new.tables shared.new.tables }
     {
         match entry {
             Entry::NodeAdded => {
                 self.next.node -= 1;
                 self.elements -= 1;
-                self.tables.drop_node(shared, NodeId(self.next.node));
+                self.tables
+                    .drop_node(&mut shared.tables, NodeId(self.next.node));
             }
             Entry::RelAdded => {
                 self.next.rel -= 1;
                 self.elements -= 1;
-                self.tables.drop_rel(shared, RelId(self.next.rel));
+                self.tables
+                    .drop_rel(&mut shared.tables, RelId(self.next.rel));
             }
             Entry::NodeChanged(id, before) => {
-                self.tables.change(shared, id, before);
+                self.tables.change(&mut shared.tables, id, before);
             }
             Entry::RelChanged(id, before) => {
-                self.tables.change_rel(shared, id, before);
+                self.tables.change_rel(&mut shared.tables, id, before);
             }
             Entry::NodeRemoved(id) => {
                 self.gone_nodes.remove(id.0);
@@ -106,11 +130,13 @@ impl<T: Tables> Store<T> {
     }
 
     /// Forgets all marks, and keeps what was done. It takes no memory.
-    pub fn commit(&mut self, shared: &mut T::Shared)
+    pub fn commit(&mut self, shared: &mut Shared<T::Shared>)
         requires fit { IsFit T.seen self.old shared.old }
         ensures graph { graph_of_store T.seen self.new shared.new ≡ graph_of_store T.seen self.old shared.old }
+        ensures names { shared.new.names ≡ shared.old.names }
         ensures fit { IsFit T.seen self.new shared.new }
-        ensures keeps { Keeps T.seen self.old.tables shared.old self.new.tables shared.new }
+        ensures no_mark { self.new.journal.items ≡ [] }
+        ensures keeps { Keeps T.seen self.old.tables shared.old.tables self.new.tables shared.new.tables }
     {
         self.journal.clear();
         self.settle_rels(shared);
@@ -119,47 +145,62 @@ impl<T: Tables> Store<T> {
     }
 
     // Takes ids out of the sets where they no longer belong.
-    fn sweep(&mut self, shared: &T::Shared)
+    fn sweep(&mut self, shared: &Shared<T::Shared>)
         requires fit { IsFit T.seen self.old shared.now }
         requires journal { self.old.journal.items ≡ [] }
         ensures swept { Settles T.seen self.old shared.now self.new shared.now }
         ensures state { state_of T.seen self.new shared.now ≡ state_of T.seen self.old shared.now }
-        ensures names { self.new.names ≡ self.old.names }
     {
-        while let Some((key, id)) = self.sets.dust.pop() {
-            if !is_wanted(self.tables.node(shared, NodeId(id)), &key) {
-                self.sets.forget(&key, id);
-            }
+        while let Some((place, id)) = self.sets.next_dust() {
+            self.sweep_from(shared, &place, id);
+        }
+    }
+
+    // Takes an id from a place where it no longer belongs.
+    fn sweep_from(&mut self, shared: &Shared<T::Shared>, place: &Place, id: u64)
+        requires fit { IsFit T.seen self.old shared.now }
+        requires journal { self.old.journal.items ≡ [] }
+        ensures swept { Settles T.seen self.old shared.now self.new shared.now }
+        ensures state { state_of T.seen self.new shared.now ≡ state_of T.seen self.old shared.now }
+        ensures dust { self.new.sets.dust ≡ self.old.sets.dust }
+    {
+        if !is_sought(
+            self.tables.node(&shared.tables, NodeId(id)),
+            &place.wanted(),
+        ) {
+            self.sets.forget(place, id);
         }
     }
 
     // Lets the removed relationships go.
-    fn settle_rels(&mut self, shared: &mut T::Shared)
+    fn settle_rels(&mut self, shared: &mut Shared<T::Shared>)
         requires fit { IsFit T.seen self.old shared.old }
         requires journal { self.old.journal.items ≡ [] }
         ensures graph { graph_of_store T.seen self.new shared.new ≡ graph_of_store T.seen self.old shared.old }
+        ensures names { shared.new.names ≡ shared.old.names }
         ensures fit { IsFit T.seen self.new shared.new }
         ensures journal { self.new.journal.items ≡ [] }
         ensures none { self.new.gone_rels ≡ map.empty }
-        ensures keeps { Keeps T.seen self.old.tables shared.old self.new.tables shared.new }
+        ensures keeps { Keeps T.seen self.old.tables shared.old.tables self.new.tables shared.new.tables }
     {
         while let Some((id, _)) = self.gone_rels.pop_first() {
-            self.tables.drop_rel(shared, RelId(id));
+            self.tables.drop_rel(&mut shared.tables, RelId(id));
         }
     }
 
     // Lets the removed nodes go.
-    fn settle_nodes(&mut self, shared: &mut T::Shared)
+    fn settle_nodes(&mut self, shared: &mut Shared<T::Shared>)
         requires fit { IsFit T.seen self.old shared.old }
         requires journal { self.old.journal.items ≡ [] }
         requires none { self.old.gone_rels ≡ map.empty }
         ensures graph { graph_of_store T.seen self.new shared.new ≡ graph_of_store T.seen self.old shared.old }
+        ensures names { shared.new.names ≡ shared.old.names }
         ensures fit { IsFit T.seen self.new shared.new }
         ensures journal { self.new.journal.items ≡ [] }
-        ensures keeps { Keeps T.seen self.old.tables shared.old self.new.tables shared.new }
+        ensures keeps { Keeps T.seen self.old.tables shared.old.tables self.new.tables shared.new.tables }
     {
         while let Some((id, _)) = self.gone_nodes.pop_first() {
-            self.tables.drop_node(shared, NodeId(id));
+            self.tables.drop_node(&mut shared.tables, NodeId(id));
         }
     }
 }

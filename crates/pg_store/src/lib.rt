@@ -1,25 +1,29 @@
-//! One tenant's graph: its names, tables and counters as one value, over a part that all tenants share.
+//! One tenant's graph: its tables and counters as one value, over names and a part of the tables that all tenants share.
 #![tactic(auto)]
 
 mod changes;
 mod creation;
 mod incident;
+mod indexes;
 mod journal;
 mod names;
 mod nodes;
 mod reads;
 mod removal;
 mod sets;
+mod shared;
 mod snapshot;
 mod store;
 mod texts;
 mod views;
+mod wanted;
 
 pub use incident::Incident;
 pub use journal::{Entry, Mark};
 pub use nodes::Nodes;
 pub use sets::Sets;
+pub use shared::Shared;
 pub use snapshot::Snapshot;
-pub use store::{Store, law_of_stores};
+pub use store::{Store, law_of_other_stores, law_of_stores};
 pub use texts::{NodeTexts, RelTexts};
 pub use views::{NodeView, RelView};

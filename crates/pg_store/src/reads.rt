@@ -1,61 +1,57 @@
 //! What is read of a tenant's graph.
-ghost use Rattle.std.specs.Prelude.{◌≡◌, false, option_copied};
+ghost use Rattle.std.specs.Prelude.{◌≡◌, option_copied};
 ghost use Rattle.std.specs.FinMap as map;
-ghost use Rattle.std.specs.Option.{option_map_or};
-ghost use Rattle.pg_graph.specs.Stored.{has_number};
 ghost use Rattle.pg_meaning.specs.Graph.{has_node, has_relationship};
 ghost use Rattle.pg_store.specs.Journal.{live};
 ghost use Rattle.pg_store.specs.Stores.{graph_of_store, state_of, IsFit};
 
+use crate::shared::Shared;
 use crate::store::Store;
 use pg_graph::{NodeRecord, RelRecord, Tables};
-use pg_names::NameId;
 use pg_value_core::{NodeId, RelId};
 
 impl<T: Tables> Store<T> {
     // The record of a node that is there.
-    pub(crate) fn node<'a>(&'a self, shared: &'a T::Shared, id: NodeId) -> Option<&'a NodeRecord>
-        requires { T.seen.fits self.now.tables shared.now }
+    pub(crate) fn node<'a>(
+        &'a self,
+        shared: &'a Shared<T::Shared>,
+        id: NodeId,
+    ) -> Option<&'a NodeRecord>
+        requires { T.seen.fits self.now.tables shared.now.tables }
         ensures { option_copied result ≡ map.get (live (state_of T.seen self.now shared.now)).nodes id.0 }
     {
         if self.gone_nodes.get(id.0).is_some() {
             return None;
         }
-        self.tables.node(shared, id)
+        self.tables.node(&shared.tables, id)
     }
 
     // The record of a relationship that is there.
-    pub(crate) fn rel<'a>(&'a self, shared: &'a T::Shared, id: RelId) -> Option<&'a RelRecord>
-        requires { T.seen.fits self.now.tables shared.now }
+    pub(crate) fn rel<'a>(
+        &'a self,
+        shared: &'a Shared<T::Shared>,
+        id: RelId,
+    ) -> Option<&'a RelRecord>
+        requires { T.seen.fits self.now.tables shared.now.tables }
         ensures { option_copied result ≡ map.get (live (state_of T.seen self.now shared.now)).rels id.0 }
     {
         if self.gone_rels.get(id.0).is_some() {
             return None;
         }
-        self.tables.rel(shared, id)
+        self.tables.rel(&shared.tables, id)
     }
 
-    pub(crate) fn has_node(&self, shared: &T::Shared, id: NodeId) -> bool
+    pub(crate) fn has_node(&self, shared: &Shared<T::Shared>, id: NodeId) -> bool
         requires fit { IsFit T.seen self.now shared.now }
         ensures { result ≡ has_node (graph_of_store T.seen self.now shared.now) id.0 }
     {
         self.node(shared, id).is_some()
     }
 
-    pub(crate) fn has_rel(&self, shared: &T::Shared, id: RelId) -> bool
+    pub(crate) fn has_rel(&self, shared: &Shared<T::Shared>, id: RelId) -> bool
         requires fit { IsFit T.seen self.now shared.now }
         ensures { result ≡ has_relationship (graph_of_store T.seen self.now shared.now) id.0 }
     {
         self.rel(shared, id).is_some()
-    }
-}
-
-pub(crate) fn is_wanted(node: Option<&NodeRecord>, label: &Option<NameId>) -> bool
-    ensures { result ≡ option_map_or (has_number label.now) (option_copied node.entry) false }
-{
-    match (node, label) {
-        (Some(node), Some(label)) => node.labels.contains(*label),
-        (Some(_), None) => true,
-        (None, _) => false,
     }
 }

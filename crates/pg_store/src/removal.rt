@@ -5,6 +5,7 @@ ghost use Rattle.pg_store.specs.Changes.{Changes};
 ghost use Rattle.pg_store.specs.Stores.{graph_of_store, IsFit, KeepsMarks};
 
 use crate::journal::Entry;
+use crate::shared::Shared;
 use crate::store::Store;
 use pg_graph::Tables;
 use pg_value_core::{NodeId, RelId};
@@ -12,7 +13,7 @@ use std::alloc::AllocError;
 
 impl<T: Tables> Store<T> {
     /// Takes a relationship out. Or changes nothing.
-    pub fn remove_rel(&mut self, shared: &T::Shared, id: RelId) -> Result<(), AllocError>
+    pub fn remove_rel(&mut self, shared: &Shared<T::Shared>, id: RelId) -> Result<(), AllocError>
         requires fit { IsFit T.seen self.old shared.now }
         requires there { has_relationship (graph_of_store T.seen self.old shared.now) id.0 ≡ true }
         ensures changes { Changes T.seen self.old shared.now self.new shared.now result (λ start end. OnOk result (end ≡ remove_elements [] (id.0 ∷ []) start)) }
@@ -26,7 +27,7 @@ impl<T: Tables> Store<T> {
     }
 
     /// Takes a node out, which has no relationships. Or changes nothing.
-    pub fn remove_node(&mut self, shared: &T::Shared, id: NodeId) -> Result<(), AllocError>
+    pub fn remove_node(&mut self, shared: &Shared<T::Shared>, id: NodeId) -> Result<(), AllocError>
         requires fit { IsFit T.seen self.old shared.now }
         requires there { has_node (graph_of_store T.seen self.old shared.now) id.0 ≡ true }
         requires no_outgoing { incident outgoing id.0 (graph_of_store T.seen self.old shared.now) ≡ [] }
@@ -35,8 +36,8 @@ impl<T: Tables> Store<T> {
         ensures marks { KeepsMarks T.seen self.old shared.now self.new shared.now }
     {
         self.journal.reserve(1)?;
-        let was = self.tables.node(shared, id).unwrap();
-        self.sets.cover_node(&was.labels, id.0)?;
+        let was = self.tables.node(&shared.tables, id).unwrap();
+        self.sets.note_leaving(was, None, id.0)?;
         self.gone_nodes.insert(id.0, ())?;
         self.elements -= 1;
         self.journal.push_reserved(Entry::NodeRemoved(id));

@@ -1,21 +1,26 @@
-//! The sets of ids by which nodes are found: all of them, and those of each label.
-ghost use Rattle.std.specs.Prelude.{◌≡◌, ℕ, Option, true, false, OnOk};
+//! The sets of ids by which nodes are found: all of them, those of each label, and those of property
+//! indexes.
+ghost use Rattle.std.specs.Prelude.{◌≡◌, ◌<◌, ◌++◌, ◌∷◌, [], ℕ, Option, true, false, length, OnOk, OnErr, IfSome};
 ghost use Rattle.pg_graph.specs.Removed.{has_id};
 ghost use Rattle.pg_graph.specs.Stored.{has_number};
 ghost use Rattle.pg_graph.specs.declared.records.NodeRecord.{NodeRecord};
 ghost use Rattle.std.specs.FinMap as map;
 
-use pg_graph::{ById, Labels};
-use pg_index::Index;
+use crate::wanted::{Place, Wanted, is_sought};
+use pg_graph::{ById, Labels, NodeRecord};
+use pg_index::{Index, PropertyIndex, cover_each, forget_valued, index_of, position_of};
 use pg_names::NameId;
+use pg_value_core::Value;
 use std::alloc::{AllocError, Global};
 
 /// Sets that have each node under its labels, and perhaps some that are no longer there.
 #[derive(Drop)]
 pub struct Sets {
+    alloc: Global,
     pub(crate) all: ById<()>,
     pub(crate) labels: Index<u64>,
-    pub(crate) dust: Vec<(Option<NameId>, u64)>,
+    pub(crate) indexes: Vec<PropertyIndex>,
+    pub(crate) dust: Vec<(Place, u64)>,
     none: ById<()>,
     ghost none_is_empty: { none ≡ map.empty },
 }
@@ -23,12 +28,17 @@ pub struct Sets {
 impl Sets {
     ghost use Rattle.std.specs.Ordering.{nat_cmp};
     ghost use Rattle.pg_index.specs.Index.{ids_at};
-    ghost use Rattle.pg_store.specs.Covers.{has_in};
+    ghost use Rattle.pg_index.specs.Properties.{all_find, has_pair, pairs_of};
+    ghost use Rattle.pg_store.specs.Covers.{FindAlike, Key, key_of, with_label, with_value, belongs, has_in};
+    ghost use Rattle.pg_store.specs.Wanted.{place_key};
+    ghost use Rattle.pg_value_core.specs.declared.value.Value as code;
 
     pub(crate) fn new(alloc: Global) -> Self {
         Sets {
+            alloc,
             all: ById::new(alloc),
             labels: Index::new(alloc),
+            indexes: Vec::new(alloc),
             dust: Vec::new(alloc),
             none: ById::new(alloc),
         }
@@ -36,7 +46,7 @@ impl Sets {
 
     // The ids of all nodes, or of those with a label, and perhaps of others.
     pub(crate) fn get(&self, key: &Option<NameId>) -> &ById<()>
-        ensures { (i : ℕ) → has_id result.now i ≡ has_in self.now key.now i }
+        ensures { (i : ℕ) → has_id result.now i ≡ has_in self.now (key_of key.now) i }
     {
         match key {
             Some(label) => self.labelled(*label),
@@ -62,20 +72,28 @@ impl Sets {
 
     // Puts an id into a set, from which it is to be swept if it does not belong there.
     fn cover(&mut self, key: &Option<NameId>, id: u64) -> Result<(), AllocError>
-        ensures grown { (k : Option ℕ) (i : ℕ) → has_in self.old k i ≡ true → has_in self.new k i ≡ true }
-        ensures ok { OnOk result (has_in self.new key.now id ≡ true) }
+        ensures grown { (k : Key) (i : ℕ) → has_in self.old k i ≡ true → has_in self.new k i ≡ true }
+        ensures ok { OnOk result (has_in self.new (key_of key.now) id ≡ true) }
     {
-        self.dust.push((*key, id))?;
+        if self.get(key).get(id).is_some() {
+            return Ok(());
+        }
         match key {
-            Some(label) => self.labels.cover(label.as_u64(), id),
-            None => self.all.insert(id, ()),
+            Some(label) => {
+                self.dust.push((Place::Labelled(*label), id))?;
+                self.labels.cover(label.as_u64(), id)
+            }
+            None => {
+                self.dust.push((Place::All, id))?;
+                self.all.insert(id, ())
+            }
         }
     }
 
-    // Puts a node's id into each set where it belongs.
-    pub(crate) fn cover_node(&mut self, labels: &Labels, id: u64) -> Result<(), AllocError>
-        ensures grown { (k : Option ℕ) (i : ℕ) → has_in self.old k i ≡ true → has_in self.new k i ≡ true }
-        ensures ok { OnOk result ((n : NodeRecord) (k : Option ℕ) → n.labels ≡ labels.now → has_number k n ≡ true → has_in self.new k id ≡ true) }
+    // Puts a node's id into the set of all nodes and into those of its labels.
+    fn cover_labels(&mut self, labels: &Labels, id: u64) -> Result<(), AllocError>
+        ensures grown { (k : Key) (i : ℕ) → has_in self.old k i ≡ true → has_in self.new k i ≡ true }
+        ensures ok { OnOk result ((n : NodeRecord) (k : Option ℕ) → n.labels ≡ labels.now → has_number k n ≡ true → has_in self.new (key_of k) id ≡ true) }
     {
         self.cover(&None, id)?;
         for label in labels.as_slice() {
@@ -84,14 +102,160 @@ impl Sets {
         Ok(())
     }
 
-    // Takes an id from a set.
-    pub(crate) fn forget(&mut self, key: &Option<NameId>, id: u64)
-        ensures lost { (k : Option ℕ) (i : ℕ) → has_in self.old k i ≡ true → has_in self.new k i ≡ false → (k ≡ key.now) × (i ≡ id) }
-        ensures dust { self.new.dust ≡ self.old.dust }
+    // Puts a node's id into each property index where it belongs.
+    fn cover_values(&mut self, node: &NodeRecord, id: u64) -> Result<(), AllocError>
+        ensures grown { (k : Key) (i : ℕ) → has_in self.old k i ≡ true → has_in self.new k i ≡ true }
+        ensures ok { OnOk result ((label key : ℕ) (v : code.Value) → belongs (with_value label key v) node.now ≡ true → has_in self.new (with_value label key v) id ≡ true) }
     {
-        match key {
-            Some(label) => self.labels.forget(&label.as_u64(), id),
-            None => self.all.forget(id),
+        let indexes = self.indexes.as_slice();
+        note_arrivals(self.alloc, &mut self.dust, indexes, node, id)?;
+        cover_each(self.indexes.as_mut_slice(), node, id)
+    }
+
+    // Puts a node's id into each set and each property index where it belongs.
+    pub(crate) fn cover_node(&mut self, node: &NodeRecord, id: u64) -> Result<(), AllocError>
+        ensures grown { (k : Key) (i : ℕ) → has_in self.old k i ≡ true → has_in self.new k i ≡ true }
+        ensures ok { OnOk result ((k : Key) → belongs k node.now ≡ true → has_in self.new k id ≡ true) }
+    {
+        self.cover_labels(&node.labels, id)?;
+        self.cover_values(node, id)
+    }
+
+    // The ids of an index under a value, where there is such an index, or those of the label; and
+    // perhaps of others.
+    pub(crate) fn valued(&self, label: NameId, key: NameId, value: &Value) -> &ById<()>
+        ensures { (i : ℕ) → has_in self.now (with_label label) i ≡ true → has_in self.now (with_value label key value.now) i ≡ true → has_id result.now i ≡ true }
+    {
+        match index_of(self.indexes.as_slice(), label, key) {
+            Some(index) => match index.get(value) {
+                Some(ids) => ids,
+                None => &self.none,
+            },
+            None => self.labelled(label),
         }
     }
+
+    // Keeps one index more.
+    pub(crate) fn keep(&mut self, index: PropertyIndex) -> Result<(), AllocError>
+        ensures all { self.new.all ≡ self.old.all }
+        ensures labels { self.new.labels ≡ self.old.labels }
+        ensures ok { OnOk result (self.new.indexes.items ≡ self.old.indexes.items ++ index ∷ []) }
+        ensures err { OnErr result (self.new.indexes.items ≡ self.old.indexes.items) }
+    {
+        self.indexes.push(index)?;
+        Ok(())
+    }
+
+    // Keeps no index of the label and the key.
+    pub(crate) fn give_up(&mut self, label: NameId, key: NameId)
+        ensures all { self.new.all ≡ self.old.all }
+        ensures labels { self.new.labels ≡ self.old.labels }
+        ensures fewer { (l k : ℕ) (v : code.Value) (i : ℕ) → all_find self.old.indexes.items l k v i ≡ true → all_find self.new.indexes.items l k v i ≡ true }
+        ensures gone { has_pair (label, key) (pairs_of self.new.indexes.items) ≡ false }
+    {
+        while let Some(position) = position_of(self.indexes.as_slice(), label, key) {
+            self.indexes.remove(position);
+        }
+    }
+
+    // Notes where a node is and will no longer belong when it is another one, or gone, so that its id
+    // is swept from there.
+    pub(crate) fn note_leaving(
+        &mut self,
+        was: &NodeRecord,
+        node: Option<&NodeRecord>,
+        id: u64,
+    ) -> Result<(), AllocError>
+        ensures all { self.new.all ≡ self.old.all }
+        ensures labels { self.new.labels ≡ self.old.labels }
+        ensures indexes { self.new.indexes ≡ self.old.indexes }
+    {
+        if node.is_none() {
+            self.dust.push((Place::All, id))?;
+        }
+        note_labels(&mut self.dust, was, node, id)?;
+        let indexes = self.indexes.as_slice();
+        note_values(self.alloc, &mut self.dust, indexes, was, node, id)
+    }
+
+    // Where an id is that may no longer belong there, if that is still to be seen of one.
+    pub(crate) fn next_dust(&mut self) -> Option<(Place, u64)>
+        ensures all { self.new.all ≡ self.old.all }
+        ensures labels { self.new.labels ≡ self.old.labels }
+        ensures indexes { self.new.indexes ≡ self.old.indexes }
+        ensures fewer { IfSome result (λ _. length self.new.dust.items < length self.old.dust.items) }
+    {
+        self.dust.pop()
+    }
+
+    // Takes an id from where it was kept.
+    pub(crate) fn forget(&mut self, place: &Place, id: u64)
+        ensures lost { (k : Key) (i : ℕ) → has_in self.old k i ≡ true → has_in self.new k i ≡ false → FindAlike k (place_key place.now) × (i ≡ id) }
+        ensures dust { self.new.dust ≡ self.old.dust }
+    {
+        match place {
+            Place::All => self.all.forget(id),
+            Place::Labelled(label) => self.labels.forget(&label.as_u64(), id),
+            Place::Valued(label, key, value) => {
+                forget_valued(self.indexes.as_mut_slice(), *label, *key, value, id);
+            }
+        }
+    }
+}
+
+// Notes the labels that a node has and that it will not have when it is another one, or gone.
+fn note_labels(
+    dust: &mut Vec<(Place, u64)>,
+    was: &NodeRecord,
+    node: Option<&NodeRecord>,
+    id: u64,
+) -> Result<(), AllocError> {
+    for label in was.labels.as_slice() {
+        if !is_sought(node, &Wanted::Labelled(*label)) {
+            dust.push((Place::Labelled(*label), id))?;
+        }
+    }
+    Ok(())
+}
+
+// Notes the values by which indexes find a node, and by which it will not be found when it is
+// another one, or gone.
+fn note_values(
+    alloc: Global,
+    dust: &mut Vec<(Place, u64)>,
+    indexes: &[PropertyIndex],
+    was: &NodeRecord,
+    node: Option<&NodeRecord>,
+    id: u64,
+) -> Result<(), AllocError> {
+    for index in indexes {
+        let Some(value) = index.value_of(was) else {
+            continue;
+        };
+        if !is_sought(node, &Wanted::Valued(index.label, index.key, value)) {
+            let value = value.copy(alloc)?;
+            dust.push((Place::Valued(index.label, index.key, value), id))?;
+        }
+    }
+    Ok(())
+}
+
+// Notes the values by which indexes will find a node and do not find it yet.
+fn note_arrivals(
+    alloc: Global,
+    dust: &mut Vec<(Place, u64)>,
+    indexes: &[PropertyIndex],
+    node: &NodeRecord,
+    id: u64,
+) -> Result<(), AllocError> {
+    for index in indexes {
+        let Some(value) = index.value_of(node) else {
+            continue;
+        };
+        if !index.has(value, id) {
+            let value = value.copy(alloc)?;
+            dust.push((Place::Valued(index.label, index.key, value), id))?;
+        }
+    }
+    Ok(())
 }

@@ -3,11 +3,13 @@ ghost use Rattle.std.specs.Option.{option_map};
 ghost use Rattle.std.specs.Prelude.{◌≡◌, ◌<◌, ◌^◌, true, map as map_list, IfOk};
 ghost use Rattle.pg_graph.specs.Stored.{has_label, property_at, rel_property_at};
 ghost use Rattle.pg_meaning.specs.Graph.{both, element_count, has_node, has_relationship, ids_of, incident, incoming, node_at, nodes_with_label, outgoing, relationship_at};
+ghost use Rattle.pg_meaning.specs.Walks.{with_value};
 ghost use Rattle.pg_store.specs.Stores.{graph_of_store, IsFit, node_texts_view, rel_texts_view};
 ghost use Rattle.pg_value_core.specs.View.{view};
 
 use crate::incident::Incident;
 use crate::nodes::Nodes;
+use crate::shared::Shared;
 use crate::store::Store;
 use crate::texts::{NodeTexts, RelTexts};
 use crate::views::{NodeView, RelView};
@@ -20,7 +22,7 @@ use std::marker::Model;
 #[derive(Drop)]
 pub struct Snapshot<'a, T: Tables> {
     store: &'a Store<T>,
-    shared: &'a T::Shared,
+    shared: &'a Shared<T::Shared>,
 }
 
 impl<'a, T: Tables> Model for Snapshot<'a, T> {
@@ -39,7 +41,7 @@ impl<'a, T: Tables> Model for Snapshot<'a, T> {
 
 impl<T: Tables> Store<T> {
     /// The graph, to read.
-    pub fn graph<'a>(&'a self, shared: &'a T::Shared) -> Snapshot<'a, T>
+    pub fn graph<'a>(&'a self, shared: &'a Shared<T::Shared>) -> Snapshot<'a, T>
         requires fit { IsFit T.seen self.now shared.now }
         ensures { result ≡ graph_of_store T.seen self.now shared.now }
     {
@@ -164,6 +166,14 @@ impl<'a, T: Tables> Snapshot<'a, T> {
         ensures { result ≡ nodes_with_label self.now label.now }
     {
         self.store.nodes_labelled(self.shared, label)
+    }
+
+    /// The nodes with a label that have a value under a key, ids rising. An index serves where there
+    /// is one.
+    pub fn nodes_valued(&self, label: &str, key: &str, value: &'a Value) -> Nodes<'a, T>
+        ensures { result ≡ with_value self.now label.now key.now (view value.now) }
+    {
+        self.store.nodes_valued(self.shared, label, key, value)
     }
 
     /// The relationships from a node, rising.

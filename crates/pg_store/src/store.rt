@@ -1,20 +1,19 @@
 //! A tenant's graph, and what it begins with.
 ghost use Rattle.std.specs.Prelude.{◌≡◌};
 ghost use Rattle.pg_meaning.specs.Graph.{IsGraph, empty_graph, element_count};
-ghost use Rattle.pg_store.specs.Stores.{graph_of_store, IsFit};
+ghost use Rattle.pg_names.specs.Names.{AreDistinct};
+ghost use Rattle.pg_store.specs.Stores.{graph_of_store, IsFit, OtherStoresStay};
+ghost use Rattle.pg_store.specs.declared.shared.Shared.{Shared};
 
 use crate::journal::Entry;
 use crate::sets::Sets;
 use pg_graph::{ById, NextIds, Tables};
-use pg_names::Names;
 use std::alloc::Global;
-use std::hash::BuildHasherDefault;
 
-/// One tenant's graph over its tables: its names, the ids that come next, how many elements there
-/// are, and what was done since it was last committed. Each call is lent the same shared part.
+/// One tenant's graph over its tables: the ids that come next, how many elements there are, and what
+/// was done since it was last committed. Each call is lent the same shared part.
 #[derive(Drop)]
 pub struct Store<T> {
-    pub(crate) names: Names,
     pub(crate) tables: T,
     pub(crate) next: NextIds,
     pub(crate) elements: u64,
@@ -28,11 +27,10 @@ impl<T: Tables> Store<T> {
     /// The empty graph, over any shared part that has none of this owner.
     pub fn new(alloc: Global, owner: u32) -> Self
         ensures owner { T.seen.owner result.tables ≡ owner }
-        ensures fit { (shared : T.Shared) → T.seen.is_unused owner shared → IsFit T.seen result shared }
-        ensures empty { (shared : T.Shared) → T.seen.is_unused owner shared → graph_of_store T.seen result shared ≡ empty_graph }
+        ensures fit { (shared : Shared T.Shared) → AreDistinct shared.names → T.seen.is_unused owner shared.tables → IsFit T.seen result shared }
+        ensures empty { (shared : Shared T.Shared) → T.seen.is_unused owner shared.tables → graph_of_store T.seen result shared ≡ empty_graph }
     {
         Store {
-            names: Names::new(alloc, BuildHasherDefault::new()),
             tables: T::new(alloc, owner),
             next: NextIds { node: 0, rel: 0 },
             elements: 0,
@@ -45,15 +43,16 @@ impl<T: Tables> Store<T> {
 
     /// How many nodes and relationships there are.
     pub fn elements(&self) -> u64
-        ensures { (shared : T.Shared) → IsFit T.seen self.now shared → result ≡ element_count (graph_of_store T.seen self.now shared) }
+        ensures { (shared : Shared T.Shared) → IsFit T.seen self.now shared → result ≡ element_count (graph_of_store T.seen self.now shared) }
     {
         self.elements
     }
 
     /// The ids that the next elements get.
     pub fn next_ids(&self) -> NextIds
-        ensures node { (shared : T.Shared) → result.node ≡ (graph_of_store T.seen self.now shared).next_node }
-        ensures relationship { (shared : T.Shared) → result.rel ≡ (graph_of_store T.seen self.now shared).next_relationship }
+        ensures is { result ≡ self.now.next }
+        ensures node { (shared : Shared T.Shared) → result.node ≡ (graph_of_store T.seen self.now shared).next_node }
+        ensures relationship { (shared : Shared T.Shared) → result.rel ≡ (graph_of_store T.seen self.now shared).next_relationship }
     {
         self.next
     }
@@ -61,5 +60,10 @@ impl<T: Tables> Store<T> {
 
 /// What a store holds is a graph.
 pub fn law_of_stores<T: Tables>()
-    ensures { (store : Store T) (shared : T.Shared) → IsFit T.seen store shared → IsGraph (graph_of_store T.seen store shared) }
+    ensures { (store : Store T) (shared : Shared T.Shared) → IsFit T.seen store shared → IsGraph (graph_of_store T.seen store shared) }
+{}
+
+/// Whatever one owner's calls do with the shared part, the graphs of the others stay.
+pub fn law_of_other_stores<T: Tables>()
+    ensures { OtherStoresStay T.seen }
 {}

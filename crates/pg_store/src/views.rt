@@ -7,6 +7,7 @@ ghost use Rattle.pg_meaning.specs.Names.{is_among};
 ghost use Rattle.pg_store.specs.Stores.{graph_of_store, IsFit, node_texts_view, rel_texts_view};
 ghost use Rattle.pg_value_core.specs.View.{view};
 
+use crate::shared::Shared;
 use crate::store::Store;
 use crate::texts::{NodeTexts, RelTexts, texts_of_node, texts_of_rel};
 use pg_graph::{NodeRecord, RelRecord, Tables};
@@ -131,13 +132,17 @@ impl<'a> RelView<'a> {
 
 impl<T: Tables> Store<T> {
     /// A node, if it is there.
-    pub(crate) fn node_view<'a>(&'a self, shared: &'a T::Shared, id: NodeId) -> Option<NodeView<'a>>
+    pub(crate) fn node_view<'a>(
+        &'a self,
+        shared: &'a Shared<T::Shared>,
+        id: NodeId,
+    ) -> Option<NodeView<'a>>
         requires fit { IsFit T.seen self.now shared.now }
         ensures { result ≡ node_at (graph_of_store T.seen self.now shared.now) id.0 }
     {
         match self.node(shared, id) {
             Some(node) => Some(NodeView {
-                names: &self.names,
+                names: &shared.names,
                 record: node,
             }),
             None => None,
@@ -145,13 +150,17 @@ impl<T: Tables> Store<T> {
     }
 
     /// A relationship, if it is there.
-    pub(crate) fn rel_view<'a>(&'a self, shared: &'a T::Shared, id: RelId) -> Option<RelView<'a>>
+    pub(crate) fn rel_view<'a>(
+        &'a self,
+        shared: &'a Shared<T::Shared>,
+        id: RelId,
+    ) -> Option<RelView<'a>>
         requires fit { IsFit T.seen self.now shared.now }
         ensures { result ≡ relationship_at (graph_of_store T.seen self.now shared.now) id.0 }
     {
         match self.rel(shared, id) {
             Some(rel) => Some(RelView {
-                names: &self.names,
+                names: &shared.names,
                 record: rel,
             }),
             None => None,

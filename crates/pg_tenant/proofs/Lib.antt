@@ -1,5 +1,7 @@
 pub mod AnswerLemmas
-mod ColumnLemmas
 mod FinishedLemmas
+mod IndexLemmas
 pub mod OutcomeLemmas
+mod RepliedLemmas
 pub mod ReplyLemmas
+mod SettledLemmas

@@ -1,18 +1,22 @@
--- What a query text gives over a tenant's graph: the text's own tests, whether its token may write, whether its parameters are given, then its clauses.
-use Rattle.std.specs.Prelude.{◌≡◌, ℕ, ◌≤◌, Bool, ◌||◌, not, List, [], length, Result, Ok, is_some}
+-- What a query text gives over a tenant's graph and indexes: the text's own tests, whether its token may write, whether its parameters are given, then its clauses.
+use Rattle.std.specs.Prelude.{◌≡◌, ℕ, ◌≤◌, Bool, ◌||◌, not, List, [], ◌∷◌, flat_map, length, Result, Ok, is_some}
 use Rattle.std.specs.List.{list_all}
 use Rattle.pg_meaning.specs.Agreement.{OutcomeAgrees}
-use Rattle.pg_meaning.specs.Answer.{◌>>=◌, ◌>>◌, unless}
+use Rattle.pg_meaning.specs.Answer.{◌>>=◌, ◌>>◌, unless, each_step}
 use Rattle.pg_meaning.specs.Entries.{at_key}
 use Rattle.pg_meaning.specs.Grammar.{parameters_of}
 use Rattle.pg_meaning.specs.Graph.{Graph, IsGraph}
+use Rattle.pg_meaning.specs.Meters.{Quota, State}
 use Rattle.pg_meaning.specs.Names.{Names}
-use Rattle.pg_meaning.specs.Queries.{Outcome, answer_of}
+use Rattle.pg_meaning.specs.Plans as plans
+use Rattle.pg_meaning.specs.Plans.{Catalogue}
+use Rattle.pg_meaning.specs.Queries.{Outcome, answer_of, clauses_run, output_rows, returns, test_output}
+use Rattle.pg_meaning.specs.Scopes.{columns}
 use Rattle.pg_meaning.specs.Tree.{Query}
 use Rattle.pg_meaning.specs.Value.{Entries}
 use Rattle.pg_meaning.specs.declared.fault.Fault.{Fault}
 use Rattle.pg_meaning.specs.declared.fault.Fault.TheVariants.{ReadOnly, MissingParameter}
-use Rattle.pg_plan.specs.Plans.{IsPlanOfText, plan_query}
+use Rattle.pg_plan.specs.Plans.{IsPlanOfText, plan_anchors, plan_query}
 use Rattle.pg_meaning.specs.Texts.{text_checked}
 use Rattle.pg_plan.specs.Reading.{greatest_text, tested_length}
 use Rattle.pg_plan.specs.Updates.{updates}
@@ -34,29 +38,41 @@ are_given parameters q = unless (all_given (parameters_of q) parameters) Missing
 abbrev pub early_tests : Bool → (parameters : Entries) → Query → Result (Unit {0}) Fault
 early_tests may_write parameters q = unless (may_write || not (updates q)) ReadOnly >> are_given parameters q
 
+-- the answer under a plan whose indexes are all there
+unfoldable pub under_plan : plans.Plan → Query → (parameters : Entries) → Graph → (max_steps max_elements : ℕ) → Result Outcome Fault
+under_plan plan q parameters graph max_steps max_elements = do
+  let quota : Quota = record { max_steps = max_steps; max_elements = max_elements }
+  let begin : State = record { graph = graph; rows = [] ∷ []; steps = 0 }
+  last ← clauses_run parameters quota [] plan q.clauses begin
+  let rows = output_rows (returns q.clauses) last.rows
+  each_step (λ done v. test_output last.graph v) tt (flat_map (λ r. r) rows)
+  Ok (record { columns = columns q; rows = rows; graph = last.graph; steps = last.steps })
+
 module _ (may_write : Bool) (max_steps max_elements : ℕ) (parameters : Entries) where
   abbrev pub permitted : Query → Result (Unit {0}) Fault
   permitted q = unless (may_write || not (updates q)) ReadOnly
 
   -- the tests before any clause, then the clauses
-  abbrev pub query_outcome : Graph → Query → Result Outcome Fault
-  query_outcome graph q = permitted q >> (are_given parameters q >> answer_of [] q parameters graph max_steps max_elements)
+  abbrev pub query_outcome : Catalogue → Graph → Query → Result Outcome Fault
+  query_outcome indexes graph q = permitted q >> (are_given parameters q >> answer_of indexes q parameters graph max_steps max_elements)
 
-  abbrev pub text_outcome : Graph → List ℕ → Result Outcome Fault
-  text_outcome graph text = text_query text >>= query_outcome graph
+  abbrev pub text_outcome : Catalogue → Graph → List ℕ → Result Outcome Fault
+  text_outcome indexes graph text = text_query text >>= query_outcome indexes graph
 
-  -- the same of a text that was read before
+  -- the same of a text that was read before, under the plan that was made of it
   abbrev pub plan_outcome : Graph → Plan → Result Outcome Fault
-  plan_outcome graph plan = query_outcome graph (plan_query plan)
+  plan_outcome graph plan =
+      let q = plan_query plan in
+      permitted q >> (are_given parameters q >> under_plan (plan_anchors plan) q parameters graph max_steps max_elements)
 
--- whatever plan of a text is at hand, the text's answer is the one under it
-abbrev pub AnyPlanAnswers : Type 0
-AnyPlanAnswers =
-    (may_write : Bool) (max_steps max_elements : ℕ) (parameters : Entries) (graph : Graph) (text : List ℕ) (plan : Plan) → length text ≤ greatest_text → IsPlanOfText text plan
-    → text_outcome may_write max_steps max_elements parameters graph text ≡ plan_outcome may_write max_steps max_elements parameters graph plan
+-- the plan that a text has for some indexes answers as the text does where there are these
+abbrev pub PlansAnswer : Type 0
+PlansAnswer =
+    (may_write : Bool) (max_steps max_elements : ℕ) (parameters : Entries) (indexes : Catalogue) (graph : Graph) (text : List ℕ) (plan : Plan) → length text ≤ greatest_text → IsPlanOfText text indexes plan
+    → text_outcome may_write max_steps max_elements parameters indexes graph text ≡ plan_outcome may_write max_steps max_elements parameters graph plan
 
--- what a text that reads and has its parameters answers is one that the meaning of its query gives
+-- what a text that reads and has its parameters answers, whatever indexes there are, is one that the meaning of its query gives
 abbrev pub TextMeans : Type 0
 TextMeans =
-    (max_steps max_elements : ℕ) (parameters : Entries) (graph : Graph) (text : List ℕ) (q : Query) → IsGraph graph → text_query text ≡ Ok q → are_given parameters q ≡ Ok tt
-    → OutcomeAgrees q parameters max_elements graph (answer_of [] q parameters graph max_steps max_elements)
+    (max_steps max_elements : ℕ) (parameters : Entries) (indexes : Catalogue) (graph : Graph) (text : List ℕ) (q : Query) → IsGraph graph → text_query text ≡ Ok q → are_given parameters q ≡ Ok tt
+    → OutcomeAgrees q parameters max_elements graph (answer_of indexes q parameters graph max_steps max_elements)

@@ -1,5 +1,5 @@
 //! What a query answers.
-ghost use Rattle.std.specs.Prelude.{◌≡◌, ◌≤◌, ◌^◌, ◌||◌, not, Err, map, string_bytes};
+ghost use Rattle.std.specs.Prelude.{◌≡◌, ◌≤◌, ◌^◌, ◌||◌, not, OnErr, Err, map, string_bytes};
 ghost use Rattle.pg_meaning.specs.declared.fault.Fault.{Fault};
 ghost use Rattle.pg_plan.specs.Plans.{plan_query};
 ghost use Rattle.pg_plan.specs.Updates.{updates};
@@ -13,7 +13,7 @@ use crate::query::answer_query;
 use pg_graph::Tables;
 use pg_json::ReplyBytes;
 use pg_plan::Plan;
-use pg_store::Store;
+use pg_store::{Shared, Store};
 use pg_value_core::{Fault, Parameters};
 use std::alloc::Global;
 
@@ -47,7 +47,7 @@ fn are_given(names: &Vec<String>, parameters: &Parameters) -> bool
 pub fn answer_plan<T: Tables>(
     alloc: Global,
     store: &mut Store<T>,
-    shared: &mut T::Shared,
+    shared: &mut Shared<T::Shared>,
     quota: Quota,
     may_write: bool,
     plan: &Plan,
@@ -56,6 +56,8 @@ pub fn answer_plan<T: Tables>(
     requires fit { IsFit T.seen store.old shared.old }
     requires quota { quota.max_elements ≤ 2 ^ 63 }
     ensures changes { Changes T.seen store.old shared.old store.new shared.new result (λ start end. IsAnswer result (plan_outcome may_write quota.max_steps quota.max_elements (parameters_view parameters.now) start plan.now) start end) }
+    // a refused query's names go with it
+    ensures names { OnErr result (shared.new.names ≡ shared.old.names) }
     // no memory is asked for before these tests are passed
     ensures early { (fault : Fault) → early_tests may_write (parameters_view parameters.now) (plan_query plan.now) ≡ Err fault → result ≡ Err fault }
 {

@@ -1,20 +1,29 @@
 //! One request of one tenant.
 #![tactic(auto)]
 
-ghost use Rattle.pg_tenant.specs.Outcomes.{AnyPlanAnswers, TextMeans};
+ghost use Rattle.pg_tenant.specs.Indexes.{IndexesRise};
+ghost use Rattle.pg_tenant.specs.Outcomes.{PlansAnswer, TextMeans};
 
 mod answer;
+mod catalogue;
+mod indexes;
 mod query;
-mod reply;
 
 pub use answer::{Quota, answer_plan};
+pub use catalogue::copy_indexes;
+pub use indexes::{create_index, drop_index};
 
-/// Whatever plan of a text is at hand, the text's answer is the one under it.
-pub fn law_any_plan_answers()
-    ensures { AnyPlanAnswers }
+/// Where there are some indexes, a text's answer is the one under its plan for these.
+pub fn law_of_plans()
+    ensures { PlansAnswer }
 {}
 
-/// What a text that reads answers is what its query means, or a fault in which it may end.
+/// What a text that reads answers, whatever indexes there are, is what its query means, or a fault in which it may end.
 pub fn law_of_meaning()
     ensures { TextMeans }
+{}
+
+/// A tenant's indexes stay in the order of their bytes, each once, whatever is asked.
+pub fn law_of_indexes()
+    ensures { IndexesRise }
 {}

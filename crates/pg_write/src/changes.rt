@@ -13,7 +13,7 @@ ghost use Rattle.pg_write_make.specs.Changed.{Changed};
 
 use crate::targets::Target;
 use pg_graph::Tables;
-use pg_store::Store;
+use pg_store::{Shared, Store};
 use pg_syntax_tree::Name;
 use pg_value_core::{Fault, Value};
 use pg_write_make::label_texts;
@@ -24,7 +24,7 @@ use std::alloc::{AllocError, Global};
 pub(crate) fn put_properties<T: Tables>(
     alloc: Global,
     store: &mut Store<T>,
-    shared: &mut T::Shared,
+    shared: &mut Shared<T::Shared>,
     target: Target,
     pairs: Vec<(&str, Value)>,
 ) -> Result<(), AllocError>
@@ -45,7 +45,7 @@ pub(crate) fn put_properties<T: Tables>(
 pub(crate) fn replace_properties<T: Tables>(
     alloc: Global,
     store: &mut Store<T>,
-    shared: &mut T::Shared,
+    shared: &mut Shared<T::Shared>,
     target: Target,
     pairs: Vec<(&str, Value)>,
 ) -> Result<(), AllocError>
@@ -66,7 +66,7 @@ pub(crate) fn replace_properties<T: Tables>(
 pub(crate) fn put_labels<T: Tables>(
     alloc: Global,
     store: &mut Store<T>,
-    shared: &mut T::Shared,
+    shared: &mut Shared<T::Shared>,
     target: Target,
     labels: &Vec<Name>,
 ) -> Result<(), Fault>
@@ -92,7 +92,7 @@ pub(crate) fn put_labels<T: Tables>(
 pub(crate) fn take_labels<T: Tables>(
     alloc: Global,
     store: &mut Store<T>,
-    shared: &mut T::Shared,
+    shared: &mut Shared<T::Shared>,
     target: Target,
     labels: &Vec<Name>,
 ) -> Result<(), Fault>

@@ -22,7 +22,7 @@ use crate::targets::{Target, target_of};
 use pg_graph::Tables;
 use pg_meter::Meter;
 use pg_rows::{Rows, Table};
-use pg_store::Store;
+use pg_store::{Shared, Store};
 use pg_syntax_tree::{Name, RemoveItem};
 use pg_value_core::{Fault, Parameters, Value};
 use pg_write_make::{Scene, spend_for_rows};
@@ -41,7 +41,7 @@ fn target_name(item: &RemoveItem) -> &Name
 fn remove_from<T: Tables>(
     alloc: Global,
     store: &mut Store<T>,
-    shared: &mut T::Shared,
+    shared: &mut Shared<T::Shared>,
     item: &RemoveItem,
     target: Target,
 ) -> Result<(), Fault>
@@ -62,7 +62,7 @@ fn remove_from<T: Tables>(
 fn take_key<T: Tables>(
     alloc: Global,
     store: &mut Store<T>,
-    shared: &mut T::Shared,
+    shared: &mut Shared<T::Shared>,
     key: &Name,
     target: Target,
 ) -> Result<(), Fault>
@@ -83,7 +83,7 @@ fn take_key<T: Tables>(
 fn remove_item<T: Tables>(
     scene: &Scene<'_>,
     store: &mut Store<T>,
-    shared: &mut T::Shared,
+    shared: &mut Shared<T::Shared>,
     row: &[Value],
     item: &RemoveItem,
 ) -> Result<(), Fault>
@@ -103,7 +103,7 @@ fn remove_item<T: Tables>(
 fn remove_row<T: Tables>(
     scene: &Scene<'_>,
     store: &mut Store<T>,
-    shared: &mut T::Shared,
+    shared: &mut Shared<T::Shared>,
     row: &[Value],
     items: &Vec<RemoveItem>,
 ) -> Result<(), Fault>
@@ -123,7 +123,7 @@ fn remove_row<T: Tables>(
 fn remove_rows<T: Tables>(
     scene: &Scene<'_>,
     store: &mut Store<T>,
-    shared: &mut T::Shared,
+    shared: &mut Shared<T::Shared>,
     rows: &Rows,
     items: &Vec<RemoveItem>,
 ) -> Result<(), Fault>
@@ -146,7 +146,7 @@ pub fn remove_items<T: Tables>(
     items: &Vec<RemoveItem>,
     parameters: &Parameters,
     store: &mut Store<T>,
-    shared: &mut T::Shared,
+    shared: &mut Shared<T::Shared>,
     table: &Table,
     meter: &mut Meter,
 ) -> Result<(), Fault>

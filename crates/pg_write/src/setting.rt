@@ -28,7 +28,7 @@ use pg_expr::Prepared;
 use pg_graph::Tables;
 use pg_meter::Meter;
 use pg_rows::{Rows, Table};
-use pg_store::{Snapshot, Store};
+use pg_store::{Shared, Snapshot, Store};
 use pg_syntax_tree::{Name, SetItem};
 use pg_value_core::{Fault, Parameters, Value};
 use pg_write_make::{Scene, spend_for_rows, test_storable};
@@ -86,7 +86,7 @@ fn storable_entries<'a>(
 fn set_key<T: Tables>(
     scene: &Scene<'_>,
     store: &mut Store<T>,
-    shared: &mut T::Shared,
+    shared: &mut Shared<T::Shared>,
     row: &[Value],
     key: &Name,
     value: &Prepared<'_>,
@@ -108,7 +108,7 @@ fn set_key<T: Tables>(
 fn set_all<T: Tables>(
     scene: &Scene<'_>,
     store: &mut Store<T>,
-    shared: &mut T::Shared,
+    shared: &mut Shared<T::Shared>,
     row: &[Value],
     value: &Prepared<'_>,
     target: Target,
@@ -130,7 +130,7 @@ fn set_all<T: Tables>(
 fn set_more<T: Tables>(
     scene: &Scene<'_>,
     store: &mut Store<T>,
-    shared: &mut T::Shared,
+    shared: &mut Shared<T::Shared>,
     row: &[Value],
     value: &Prepared<'_>,
     target: Target,
@@ -151,7 +151,7 @@ fn set_more<T: Tables>(
 fn change<T: Tables>(
     scene: &Scene<'_>,
     store: &mut Store<T>,
-    shared: &mut T::Shared,
+    shared: &mut Shared<T::Shared>,
     row: &[Value],
     change: &ReadyChange<'_>,
     target: Target,
@@ -175,7 +175,7 @@ fn change<T: Tables>(
 fn set_item<T: Tables>(
     scene: &Scene<'_>,
     store: &mut Store<T>,
-    shared: &mut T::Shared,
+    shared: &mut Shared<T::Shared>,
     row: &[Value],
     item: &ReadySet<'_>,
 ) -> Result<(), Fault>
@@ -196,7 +196,7 @@ fn set_item<T: Tables>(
 pub fn set_row<T: Tables>(
     scene: &Scene<'_>,
     store: &mut Store<T>,
-    shared: &mut T::Shared,
+    shared: &mut Shared<T::Shared>,
     row: &[Value],
     items: &Vec<ReadySet<'_>>,
 ) -> Result<(), Fault>
@@ -216,7 +216,7 @@ pub fn set_row<T: Tables>(
 fn set_rows<T: Tables>(
     scene: &Scene<'_>,
     store: &mut Store<T>,
-    shared: &mut T::Shared,
+    shared: &mut Shared<T::Shared>,
     rows: &Rows,
     items: &Vec<ReadySet<'_>>,
 ) -> Result<(), Fault>
@@ -239,7 +239,7 @@ pub fn set_items<T: Tables>(
     items: &Vec<SetItem>,
     parameters: &Parameters,
     store: &mut Store<T>,
-    shared: &mut T::Shared,
+    shared: &mut Shared<T::Shared>,
     table: &Table,
     meter: &mut Meter,
 ) -> Result<(), Fault>

@@ -1,5 +1,5 @@
 -- What is left to be made, and what it is after the next part.
-use Rattle.std.proofs.Common.{◌≡◌, ◌<◌, ◌+◌, ℕ, false, List, [], ◌∷◌, ◌++◌, map, drop, get_or, length, Result, Ok, Err, refl, sym, ap, ◌∙◌, append_assoc}
+use Rattle.std.proofs.Common.{◌≡◌, ◌<◌, ◌+◌, ℕ, false, List, [], ◌∷◌, ◌++◌, map, drop, get_or, length, Result, Ok, Err, refl, sym, ap, ◌∙◌, append_assoc, append-nil, inl, inr, ◌⊎◌}
 use Rattle.std.proofs.lemmas.List.{map-append}
 use Rattle.std.proofs.lemmas.Option.{slice_get_read}
 use Rattle.std.specs.Borrow.{Bor}
@@ -32,7 +32,7 @@ use Rattle.pg_write_create.specs.Makings.{node_ids, others_view, outcomes_view, 
 use Rattle.pg_write_create.specs.declared.kept.Kept.{Kept}
 use Rattle.pg_write_create.specs.declared.paths.Trail.{Trail as Code}
 use Rattle.pg_write_make.proofs.RowLemmas.{drop_at}
-use Rattle.pg_write_make.specs.Outcomes.{hops_made, node_of, nodes_made, outcome_view, path_made, paths_made, relationship_of}
+use Rattle.pg_write_make.specs.Outcomes.{Outcome, hops_made, node_of, nodes_made, outcome_view, path_made, paths_made, relationship_of}
 
 abbrev Given : Type 0
 Given = Result (Vec (Bor (List ℕ) × Value)) Fault
@@ -45,6 +45,23 @@ one_behind xs x (Ok made) = ap (λ (ys : List _). Ok (made.0, ys)) (sym (append_
 one_behind xs x (Err e) = refl
 
 -- ---- hops
+
+-- where outcomes or nodes have run out, nothing more is made
+hops_past : (max : ℕ) (os : List Outcome) (rs : List tree.RelationshipPattern) (left : ℕ) (ns : List ℕ) (graph : Graph) → (os ≡ []) ⊎ (ns ≡ []) → hops_made max os rs left ns graph ≡ Ok (graph, [])
+hops_past max os [] left ns graph none = refl
+hops_past max os (r ∷ rs) left [] graph none = refl
+hops_past max [] (r ∷ rs) left (n ∷ ns) graph none = refl
+hops_past max (o ∷ os) (r ∷ rs) left (n ∷ ns) graph (inl e) = absurd (cc)
+hops_past max (o ∷ os) (r ∷ rs) left (n ∷ ns) graph (inr e) = absurd (cc)
+
+pub hops_over : (max : ℕ) (os : List Given) (rs : List tree.RelationshipPattern) (left : ℕ) (ns : List NodeId) (graph : Graph) (ids : List ℕ) (whole : Result (Graph × List ℕ) Fault)
+    → whole ≡ behind ids (hops_made max (outcomes_view os) rs left (node_ids ns) graph) → (os ≡ []) ⊎ (ns ≡ []) → whole ≡ Ok (graph, ids)
+hops_over max os rs left ns graph ids whole rest none =
+    rest ∙ ap (behind ids) (hops_past max (outcomes_view os) rs left (node_ids ns) graph (seen_none none)) ∙ ap (λ (xs : List ℕ). Ok (graph, xs)) (append-nil ids)
+  where
+    seen_none : (os ≡ []) ⊎ (ns ≡ []) → (outcomes_view os ≡ []) ⊎ (node_ids ns ≡ [])
+    seen_none (inl e) = inl (ap outcomes_view e)
+    seen_none (inr e) = inr (ap node_ids e)
 
 module _ (max : ℕ) (hs : List (RelationshipPattern × NodePattern)) (i : ℕ) (h : RelationshipPattern × NodePattern) (at : h ≡ get_or hs i h) (within : i < length hs) where
   next_hop : drop i hs ≡ h ∷ drop (i + 1) hs

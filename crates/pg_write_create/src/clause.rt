@@ -16,7 +16,7 @@ use pg_graph::Tables;
 use pg_match_bind::bind_names;
 use pg_meter::Meter;
 use pg_rows::Table;
-use pg_store::Store;
+use pg_store::{Shared, Store};
 use pg_syntax_tree::PathPattern;
 use pg_value_core::{Fault, Parameters};
 use pg_write_make::{Scene, spend_for_rows};
@@ -31,7 +31,7 @@ pub fn create_paths<T: Tables>(
     parameters: &Parameters,
     max_elements: u64,
     store: &mut Store<T>,
-    shared: &mut T::Shared,
+    shared: &mut Shared<T::Shared>,
     table: Table,
     meter: &mut Meter,
 ) -> Result<Table, Fault>

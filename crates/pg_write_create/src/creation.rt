@@ -20,7 +20,7 @@ use crate::paths::{Trail, make_paths};
 use crate::trails::row_bindings;
 use pg_graph::Tables;
 use pg_rows::Rows;
-use pg_store::{Snapshot, Store};
+use pg_store::{Shared, Snapshot, Store};
 use pg_syntax_tree::PathPattern;
 use pg_value_core::{Fault, Value};
 use pg_write_make::Scene;
@@ -50,7 +50,7 @@ fn bound_row<T: Tables>(
 pub fn make_row<T: Tables>(
     scene: &Scene<'_>,
     store: &mut Store<T>,
-    shared: &mut T::Shared,
+    shared: &mut Shared<T::Shared>,
     max_elements: u64,
     row: Vec<Value>,
     paths: &[PathPattern],
@@ -75,7 +75,7 @@ pub fn make_row<T: Tables>(
 fn create_row<T: Tables>(
     scene: &Scene<'_>,
     store: &mut Store<T>,
-    shared: &mut T::Shared,
+    shared: &mut Shared<T::Shared>,
     max_elements: u64,
     row: Vec<Value>,
     paths: &[PathPattern],
@@ -99,7 +99,7 @@ fn create_row<T: Tables>(
 pub(crate) fn create_rows<T: Tables>(
     scene: &Scene<'_>,
     store: &mut Store<T>,
-    shared: &mut T::Shared,
+    shared: &mut Shared<T::Shared>,
     max_elements: u64,
     rows: Rows,
     paths: &[PathPattern],

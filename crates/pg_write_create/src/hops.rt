@@ -8,7 +8,7 @@ ghost use Rattle.pg_write_create.specs.Makings.{node_ids, outcomes_view, relatio
 ghost use Rattle.pg_write_make.specs.Outcomes.{bonds_made, hops_made};
 
 use pg_graph::Tables;
-use pg_store::Store;
+use pg_store::{Shared, Store};
 use pg_syntax_tree::{NodePattern, RelationshipPattern};
 use pg_value_core::{Fault, NodeId, RelId, Value};
 use pg_write_make::add_relationship;
@@ -19,7 +19,7 @@ use std::alloc::Global;
 fn make_hops<T: Tables>(
     alloc: Global,
     store: &mut Store<T>,
-    shared: &mut T::Shared,
+    shared: &mut Shared<T::Shared>,
     max_elements: u64,
     hops: &Vec<(RelationshipPattern, NodePattern)>,
     outcomes: Vec<Result<Vec<(&str, Value)>, Fault>>,
@@ -66,7 +66,7 @@ fn make_hops<T: Tables>(
 pub(crate) fn make_bonds<T: Tables>(
     alloc: Global,
     store: &mut Store<T>,
-    shared: &mut T::Shared,
+    shared: &mut Shared<T::Shared>,
     max_elements: u64,
     hops: &Vec<(RelationshipPattern, NodePattern)>,
     outcomes: Vec<Result<Vec<(&str, Value)>, Fault>>,

@@ -17,7 +17,7 @@ ghost use Rattle.pg_write_make.specs.Outcomes.{node_added, node_after, node_foun
 ghost use Rattle.pg_write_make.specs.Scenes.{row_in};
 
 use pg_graph::Tables;
-use pg_store::Store;
+use pg_store::{Shared, Store};
 use pg_syntax_tree::{Name, NodePattern, PathPattern, RelationshipPattern};
 use pg_value_core::{Fault, NodeId, Value};
 use pg_write_make::{Scene, add_node};
@@ -97,7 +97,7 @@ fn bind_new<'a>(
 fn make_new_node<'a, T: Tables>(
     scene: &Scene<'_>,
     store: &mut Store<T>,
-    shared: &mut T::Shared,
+    shared: &mut Shared<T::Shared>,
     max_elements: u64,
     pattern: &'a NodePattern,
     outcome: Result<Vec<(&str, Value)>, Fault>,
@@ -122,7 +122,7 @@ fn make_new_node<'a, T: Tables>(
 fn place_node<'a, T: Tables>(
     scene: &Scene<'_>,
     store: &mut Store<T>,
-    shared: &mut T::Shared,
+    shared: &mut Shared<T::Shared>,
     max_elements: u64,
     row: &[Value],
     pattern: &'a NodePattern,
@@ -151,7 +151,7 @@ fn place_node<'a, T: Tables>(
 fn make_node<'a, T: Tables>(
     scene: &Scene<'_>,
     store: &mut Store<T>,
-    shared: &mut T::Shared,
+    shared: &mut Shared<T::Shared>,
     max_elements: u64,
     row: &[Value],
     pattern: &'a NodePattern,
@@ -188,7 +188,7 @@ fn make_node<'a, T: Tables>(
 fn make_others<'a, T: Tables>(
     scene: &Scene<'_>,
     store: &mut Store<T>,
-    shared: &mut T::Shared,
+    shared: &mut Shared<T::Shared>,
     max_elements: u64,
     row: &[Value],
     hops: &'a Vec<(RelationshipPattern, NodePattern)>,
@@ -231,7 +231,7 @@ fn make_others<'a, T: Tables>(
 pub(crate) fn make_nodes<'a, T: Tables>(
     scene: &Scene<'_>,
     store: &mut Store<T>,
-    shared: &mut T::Shared,
+    shared: &mut Shared<T::Shared>,
     max_elements: u64,
     row: &[Value],
     path: &'a PathPattern,

@@ -15,7 +15,7 @@ use crate::hops::make_bonds;
 use crate::kept::Kept;
 use crate::making::make_nodes;
 use pg_graph::Tables;
-use pg_store::Store;
+use pg_store::{Shared, Store};
 use pg_syntax_tree::PathPattern;
 use pg_value_core::{Fault, NodeId, RelId, Value};
 use pg_write_make::Scene;
@@ -31,7 +31,7 @@ pub(crate) struct Trail {
 fn make_path<'a, T: Tables>(
     scene: &Scene<'_>,
     store: &mut Store<T>,
-    shared: &mut T::Shared,
+    shared: &mut Shared<T::Shared>,
     max_elements: u64,
     row: &[Value],
     path: &'a PathPattern,
@@ -79,7 +79,7 @@ fn make_path<'a, T: Tables>(
 pub(crate) fn make_paths<'a, T: Tables>(
     scene: &Scene<'_>,
     store: &mut Store<T>,
-    shared: &mut T::Shared,
+    shared: &mut Shared<T::Shared>,
     max_elements: u64,
     row: &[Value],
     paths: &'a [PathPattern],

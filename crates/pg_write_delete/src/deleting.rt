@@ -16,7 +16,7 @@ use crate::removing::take_out;
 use pg_graph::Tables;
 use pg_meter::Meter;
 use pg_rows::Table;
-use pg_store::Store;
+use pg_store::{Shared, Store};
 use pg_syntax_tree::Expression;
 use pg_value_core::{Fault, Parameters};
 use std::alloc::Global;
@@ -38,7 +38,7 @@ fn delete_at_rows<T: Tables>(
     elements: &Vec<Expression>,
     parameters: &Parameters,
     store: &mut Store<T>,
-    shared: &T::Shared,
+    shared: &Shared<T::Shared>,
     table: &Table,
     meter: &mut Meter,
 ) -> Result<(), Fault>
@@ -62,7 +62,7 @@ pub fn delete_elements<T: Tables>(
     elements: &Vec<Expression>,
     parameters: &Parameters,
     store: &mut Store<T>,
-    shared: &T::Shared,
+    shared: &Shared<T::Shared>,
     table: Table,
     meter: &mut Meter,
 ) -> Result<Table, Fault>

@@ -10,7 +10,7 @@ ghost use Rattle.pg_write_make.specs.Changed.{Changed};
 
 use crate::doomed::Doomed;
 use pg_graph::Tables;
-use pg_store::{Snapshot, Store};
+use pg_store::{Shared, Snapshot, Store};
 use pg_value_core::{Fault, NodeId, RelId};
 use std::alloc::AllocError;
 use std::collections::BTreeSet;
@@ -36,7 +36,7 @@ fn test_unconnected<T: Tables>(graph: &Snapshot<'_, T>, nodes: &BTreeSet<u64>) -
 #[tactic(auto, using(pg_write_make::proofs::ChangedLemmas::unchanged))]
 fn remove_rels<T: Tables>(
     store: &mut Store<T>,
-    shared: &T::Shared,
+    shared: &Shared<T::Shared>,
     rels: &BTreeSet<u64>,
 ) -> Result<(), AllocError>
     requires fit { IsFit T.seen store.old shared.now }
@@ -54,7 +54,7 @@ fn remove_rels<T: Tables>(
 #[tactic(auto, using(pg_write_make::proofs::ChangedLemmas::unchanged))]
 fn remove_nodes<T: Tables>(
     store: &mut Store<T>,
-    shared: &T::Shared,
+    shared: &Shared<T::Shared>,
     nodes: &BTreeSet<u64>,
 ) -> Result<(), AllocError>
     requires fit { IsFit T.seen store.old shared.now }
@@ -75,7 +75,7 @@ fn remove_nodes<T: Tables>(
 #[tactic(auto, using(pg_write_make::proofs::ChangedLemmas::unchanged, pg_write_make::proofs::ChangedLemmas::changed_then))]
 pub(crate) fn take_out<T: Tables>(
     store: &mut Store<T>,
-    shared: &T::Shared,
+    shared: &Shared<T::Shared>,
     doomed: &Doomed,
 ) -> Result<(), Fault>
     requires fit { IsFit T.seen store.old shared.now }

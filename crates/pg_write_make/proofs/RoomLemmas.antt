@@ -10,6 +10,7 @@ use Rattle.pg_meaning.specs.declared.fault.Fault.{Fault}
 use Rattle.pg_meaning.specs.Value.{no_entries}
 use Rattle.pg_meaning.specs.declared.fault.Fault.TheVariants.{ElementQuota}
 use Rattle.pg_store.specs.Stores.{graph_of_store, IsFit}
+use Rattle.pg_store.specs.declared.shared.Shared.{Shared}
 use Rattle.pg_store.specs.declared.store.Store.{Store}
 use Rattle.pg_write_make.specs.Outcomes.{room_for}
 
@@ -25,7 +26,7 @@ room_below : (b : Bool) → unless b ElementQuota ≡ Ok tt → b ≡ true
 room_below true h = refl
 room_below false h = absurd cc
 
-pub room_left : {T S : Type 0} (seen : Seen T S) (store : Store T) (shared : S) (max_elements : ℕ) → IsFit seen store shared → max_elements ≤ 2 ^ 63 → room_for max_elements (graph_of_store seen store shared) ≡ Ok tt → store.elements < 2 ^ 63
+pub room_left : {T S : Type 0} (seen : Seen T S) (store : Store T) (shared : Shared S) (max_elements : ℕ) → IsFit seen store shared → max_elements ≤ 2 ^ 63 → room_for max_elements (graph_of_store seen store shared) ≡ Ok tt → store.elements < 2 ^ 63
 room_left seen store shared max_elements fit few room =
     let below = ltb-true (element_count (graph_of_store seen store shared)) max_elements (room_below (nat_lt (element_count (graph_of_store seen store shared)) max_elements) room) in
     let counted = fit.well.counted in

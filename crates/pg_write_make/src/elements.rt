@@ -15,7 +15,7 @@ ghost use Rattle.pg_write_make.specs.Outcomes.{node_added, relationship_of, outc
 use crate::texts::{label_texts, type_text};
 use pg_graph::Tables;
 use pg_meter::Room;
-use pg_store::Store;
+use pg_store::{Shared, Store};
 use pg_syntax_tree::{NodePattern, RelationshipPattern};
 use pg_value_core::{Fault, NodeId, RelId, Value};
 use std::alloc::{AllocError, Global};
@@ -36,7 +36,7 @@ fn test_counter(next: u64) -> Result<(), Fault>
 // Whether there is room for one more element.
 fn test_room<T: Tables>(
     store: &Store<T>,
-    shared: &T::Shared,
+    shared: &Shared<T::Shared>,
     max_elements: u64,
 ) -> Result<(), Fault>
     requires fit { IsFit T.seen store.now shared.now }
@@ -53,7 +53,7 @@ fn test_room<T: Tables>(
 pub fn add_node<T: Tables>(
     alloc: Global,
     store: &mut Store<T>,
-    shared: &mut T::Shared,
+    shared: &mut Shared<T::Shared>,
     max_elements: u64,
     pattern: &NodePattern,
     outcome: Result<Vec<(&str, Value)>, Fault>,
@@ -77,7 +77,7 @@ pub fn add_node<T: Tables>(
 fn add_between<T: Tables>(
     alloc: Global,
     store: &mut Store<T>,
-    shared: &mut T::Shared,
+    shared: &mut Shared<T::Shared>,
     pattern: &RelationshipPattern,
     left: NodeId,
     right: NodeId,
@@ -105,7 +105,7 @@ fn add_between<T: Tables>(
 pub fn add_relationship<T: Tables>(
     alloc: Global,
     store: &mut Store<T>,
-    shared: &mut T::Shared,
+    shared: &mut Shared<T::Shared>,
     max_elements: u64,
     pattern: &RelationshipPattern,
     outcome: Result<Vec<(&str, Value)>, Fault>,

@@ -25,7 +25,7 @@ use pg_match_bind::{Part, bind_names};
 use pg_match_stages::Anchor;
 use pg_meter::Meter;
 use pg_rows::{Columns, Rows, Table};
-use pg_store::Store;
+use pg_store::{Shared, Store};
 use pg_syntax_tree::{On, PathPattern};
 use pg_value_core::{Fault, Parameters};
 use pg_write_create::count_new;
@@ -41,7 +41,7 @@ fn merge_columns<'a, T: Tables>(
     count: usize,
     parts: Vec<Part>,
     store: &mut Store<T>,
-    shared: &mut T::Shared,
+    shared: &mut Shared<T::Shared>,
     rows: Rows,
     meter: &mut Meter,
 ) -> Result<Rows, Fault>
@@ -75,7 +75,7 @@ pub fn merge_path<'a, T: Tables>(
     parameters: &'a Parameters,
     max_elements: u64,
     store: &mut Store<T>,
-    shared: &mut T::Shared,
+    shared: &mut Shared<T::Shared>,
     table: Table,
     meter: &mut Meter,
 ) -> Result<Table, Fault>

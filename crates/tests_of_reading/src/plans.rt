@@ -16,7 +16,7 @@ fn kept(alloc: Global, plan: &Plan) -> Result<String, AllocError> {
 }
 
 fn shown(alloc: Global, text: &str) -> Result<String, AllocError> {
-    match plan_text(alloc, text) {
+    match plan_text(alloc, text, &Vec::new(alloc)) {
         Ok(plan) => kept(alloc, &plan),
         Err(fault) => format!(in alloc; "{fault:?}"),
     }

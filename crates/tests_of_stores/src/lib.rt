@@ -2,6 +2,8 @@
 #![tactic(auto)]
 
 #[cfg(test)]
+mod indexes;
+#[cfg(test)]
 mod numbers;
 #[cfg(test)]
 mod stores;

@@ -3,14 +3,14 @@ ghost use Rattle.std.specs.Prelude.{◌<◌};
 ghost use Rattle.pg_store.specs.Stores.{IsFit};
 
 use pg_graph::Tables;
-use pg_store::{Snapshot, Store};
+use pg_store::{Shared, Snapshot, Store};
 use pg_tables::PlainTables;
 use pg_value_core::{NodeId, Value};
 use std::alloc::{AllocError, Global};
 use std::process::Abort;
 use std::test::Fail;
 
-pub(crate) fn assert_room<T: Tables>(rt: &impl Abort, store: &Store<T>, shared: &T::Shared)
+pub(crate) fn assert_room<T: Tables>(rt: &impl Abort, store: &Store<T>, shared: &Shared<T::Shared>)
     requires fit { IsFit T.seen store.now shared.now }
     ensures room { store.now.next.node < 1000 }
     ensures count { store.now.elements < 1000 }
@@ -33,7 +33,7 @@ fn makes<T: Tables>(
     rt: &impl Abort,
     alloc: Global,
     store: &mut Store<T>,
-    shared: &mut T::Shared,
+    shared: &mut Shared<T::Shared>,
 ) -> Result<(), AllocError>
     requires fit { IsFit T.seen store.old shared.old }
     ensures fit { IsFit T.seen store.new shared.new }
@@ -55,22 +55,25 @@ fn makes<T: Tables>(
     Ok(())
 }
 
-// A node that is made and taken back.
+// A node that is made and taken back, with the name of its label.
 fn makes_and_undoes<T: Tables>(
     rt: &impl Abort,
     alloc: Global,
     store: &mut Store<T>,
-    shared: &mut T::Shared,
+    shared: &mut Shared<T::Shared>,
 ) -> Result<(), AllocError>
     requires fit { IsFit T.seen store.old shared.old }
     ensures fit { IsFit T.seen store.new shared.new }
 {
-    let mark = store.mark();
-    let labels = vec![in alloc; "A"]?;
+    let mark = store.mark(shared);
+    let names = shared.names().len();
+    let labels = vec![in alloc; "New"]?;
     assert_room(rt, store, shared);
     store.create_node(alloc, shared, &labels, Vec::new(alloc))?;
     assert_eq!(rt; store.elements(), 3);
+    assert!(rt; shared.names().len() > names);
     store.undo(shared, mark);
+    assert_eq!(rt; shared.names().len(), names);
     assert_eq!(rt; store.elements(), 2);
     assert_eq!(rt; store.next_ids().node, 2);
     Ok(())
@@ -80,7 +83,7 @@ fn reads<T: Tables>(
     rt: &impl Abort,
     alloc: Global,
     store: &Store<T>,
-    shared: &T::Shared,
+    shared: &Shared<T::Shared>,
 ) -> Result<(), AllocError>
     requires fit { IsFit T.seen store.now shared.now }
 {
@@ -101,7 +104,7 @@ fn reads_texts<T: Tables>(
     rt: &impl Abort,
     alloc: Global,
     store: &Store<T>,
-    shared: &T::Shared,
+    shared: &Shared<T::Shared>,
 ) -> Result<(), AllocError>
     requires fit { IsFit T.seen store.now shared.now }
 {
@@ -120,7 +123,7 @@ fn each_store_call<T: Tables>(rt: &impl Abort, alloc: Global) -> Result<(), Allo
 where
     T::Shared: Drop,
 {
-    let mut shared = T::new_shared(alloc);
+    let mut shared = Shared::new(alloc, T::new_shared(alloc));
     let mut store = Store::<T>::new(alloc, 7);
     makes(rt, alloc, &mut store, &mut shared)?;
     reads(rt, alloc, &store, &shared)?;

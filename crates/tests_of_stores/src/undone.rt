@@ -6,7 +6,7 @@ ghost use Rattle.pg_store.specs.Stores.{graph_of_store, IsFit, KeepsMarks};
 use crate::numbers::numbers_of;
 use crate::stores::assert_room;
 use pg_graph::Tables;
-use pg_store::Store;
+use pg_store::{Shared, Store};
 use pg_tables::PlainTables;
 use pg_value_core::{NodeId, RelId, Value};
 use std::alloc::{AllocError, Global};
@@ -19,7 +19,7 @@ fn add_node<T: Tables>(
     rt: &impl Abort,
     alloc: Global,
     store: &mut Store<T>,
-    shared: &mut T::Shared,
+    shared: &mut Shared<T::Shared>,
     label: &str,
     x: i64,
 ) -> Result<(), AllocError>
@@ -38,7 +38,7 @@ fn connect<T: Tables>(
     rt: &impl Abort,
     alloc: Global,
     store: &mut Store<T>,
-    shared: &mut T::Shared,
+    shared: &mut Shared<T::Shared>,
     source: NodeId,
     target: NodeId,
 ) -> Result<(), AllocError>
@@ -60,7 +60,7 @@ fn begin<T: Tables>(
     rt: &impl Abort,
     alloc: Global,
     store: &mut Store<T>,
-    shared: &mut T::Shared,
+    shared: &mut Shared<T::Shared>,
 ) -> Result<(), AllocError>
     requires fit { IsFit T.seen store.old shared.old }
     ensures fit { IsFit T.seen store.new shared.new }
@@ -77,7 +77,7 @@ fn change_of_node<T: Tables>(
     rt: &impl Abort,
     alloc: Global,
     store: &mut Store<T>,
-    shared: &mut T::Shared,
+    shared: &mut Shared<T::Shared>,
     step: u64,
 ) -> Result<(), AllocError>
     requires fit { IsFit T.seen store.old shared.old }
@@ -101,7 +101,7 @@ fn change_of_rel<T: Tables>(
     rt: &impl Abort,
     alloc: Global,
     store: &mut Store<T>,
-    shared: &mut T::Shared,
+    shared: &mut Shared<T::Shared>,
     step: u64,
 ) -> Result<(), AllocError>
     requires fit { IsFit T.seen store.old shared.old }
@@ -119,7 +119,7 @@ fn change_of_rel<T: Tables>(
 }
 
 // Whether no relationship is at the node.
-fn is_loose<T: Tables>(store: &Store<T>, shared: &T::Shared, id: NodeId) -> bool
+fn is_loose<T: Tables>(store: &Store<T>, shared: &Shared<T::Shared>, id: NodeId) -> bool
     requires fit { IsFit T.seen store.now shared.now }
     ensures from { result ≡ true → incident outgoing id.0 (graph_of_store T.seen store.now shared.now) ≡ [] }
     ensures to { result ≡ true → incident incoming id.0 (graph_of_store T.seen store.now shared.now) ≡ [] }
@@ -133,7 +133,7 @@ fn is_loose<T: Tables>(store: &Store<T>, shared: &T::Shared, id: NodeId) -> bool
 fn remove_node<T: Tables>(
     rt: &impl Abort,
     store: &mut Store<T>,
-    shared: &T::Shared,
+    shared: &Shared<T::Shared>,
     id: NodeId,
 ) -> Result<(), AllocError>
     requires fit { IsFit T.seen store.old shared.now }
@@ -149,7 +149,7 @@ fn change<T: Tables>(
     rt: &impl Abort,
     alloc: Global,
     store: &mut Store<T>,
-    shared: &mut T::Shared,
+    shared: &mut Shared<T::Shared>,
     step: u64,
 ) -> Result<(), AllocError>
     requires fit { IsFit T.seen store.old shared.old }
@@ -171,7 +171,7 @@ fn change_or_leave<T: Tables>(
     rt: &impl Abort,
     alloc: Global,
     store: &mut Store<T>,
-    shared: &mut T::Shared,
+    shared: &mut Shared<T::Shared>,
     step: u64,
 ) -> Result<(), AllocError>
     requires fit { IsFit T.seen store.old shared.old }
@@ -189,7 +189,7 @@ fn change_in_turn<T: Tables>(
     rt: &impl Abort,
     alloc: Global,
     store: &mut Store<T>,
-    shared: &mut T::Shared,
+    shared: &mut Shared<T::Shared>,
     count: u64,
 ) -> Result<(), AllocError>
     requires fit { IsFit T.seen store.old shared.old }
@@ -206,12 +206,12 @@ fn undo_each_beginning<T: Tables>(rt: &impl Abort, alloc: Global) -> Result<(), 
 where
     T::Shared: Drop,
 {
-    let mut shared = T::new_shared(alloc);
+    let mut shared = Shared::new(alloc, T::new_shared(alloc));
     let mut store = Store::<T>::new(alloc, 7);
     begin(rt, alloc, &mut store, &mut shared)?;
     let marked = numbers_of(alloc, &store.graph(&shared))?;
     for count in 0..=CHANGES {
-        let mark = store.mark();
+        let mark = store.mark(&shared);
         let changed = change_in_turn(rt, alloc, &mut store, &mut shared, count);
         store.undo(&mut shared, mark);
         let back = numbers_of(alloc, &store.graph(&shared))?;

@@ -1,7 +1,8 @@
-//! Each call of tables, at those that share nothing.
+//! Each call of tables, at those that share nothing and at those that share a pool.
 
 use pg_graph::{Labels, NodeRecord, Properties, RelRecord, Tables};
 use pg_names::{NameId, Names};
+use pg_pool::PooledTables;
 use pg_tables::PlainTables;
 use pg_value_core::{NodeId, RelId, Value};
 use std::alloc::{AllocError, Global};
@@ -249,5 +250,11 @@ where
 #[test]
 fn plain_tables(rt: HostRuntime) -> Result<(), Fail> {
     each_call::<PlainTables>(&rt, rt.alloc())?;
+    Ok(())
+}
+
+#[test]
+fn pooled_tables(rt: HostRuntime) -> Result<(), Fail> {
+    each_call::<PooledTables>(&rt, rt.alloc())?;
     Ok(())
 }

@@ -4,7 +4,7 @@ use std::alloc::{AllocError, Global};
 use std::test::Fail;
 
 /// A query's body. The text has no quotes and no backslash.
-fn body_of(alloc: Global, token: &str, text: &str) -> Result<String, AllocError> {
+pub(crate) fn body_of(alloc: Global, token: &str, text: &str) -> Result<String, AllocError> {
     format!(in alloc; "{{\"op\":\"query\",\"token\":\"{token}\",\"text\":\"{text}\"}}")
 }
 

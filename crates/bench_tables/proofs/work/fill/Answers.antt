@@ -1,4 +1,4 @@
-use Rattle.std.proofs.Common.{◌≡◌, ◌≢◌, ◌<◌, ◌≤◌, ◌+◌, ℕ, None, IsSome, inl, inr, arith, refl, sym, subst, ◌∙◌}
+use Rattle.std.proofs.Common.{◌≡◌, ◌≢◌, ◌<◌, ◌≤◌, ◌+◌, ℕ, None, IsSome, inl, inr, arith, refl, sym, ap, subst, ◌∙◌}
 use Rattle.std.proofs.lemmas.Bool.{cases_eq}
 use Rattle.std.specs.FinMap as map
 use Rattle.std.specs.FinMap.{FinMap}
@@ -23,6 +23,7 @@ loop-id-init g c = record {
   fits = c.requires.fits;
   filled = λ id less. absurd (omega (arith, less));
   others = λ id _. subst (λ (content : Content). map.get content.nodes id ≡ None) (sym c.requires.empty) (map.get-empty {X = NodeRecord} nat_cmp id);
+  rels = ap (λ content. content.rels) c.requires.empty;
 }
 
 pub loop-id-preserved : goal.loop-id-preserved
@@ -33,4 +34,5 @@ loop-id-preserved g c =
       fits = c.add_node.ensures.keeps.fits;
       filled = subst (λ (content : Content). (q : ℕ) → q < c.loop-id.id + 1 → IsSome (map.get content.nodes q)) (sym ok) (filled old.nodes c.loop-id.id c.in_ok-node.field-0 c.loop-id.invariant.filled);
       others = subst (λ (content : Content). (q : ℕ) → c.loop-id.id + 1 ≤ q → map.get content.nodes q ≡ None) (sym ok) (others old.nodes c.loop-id.id c.in_ok-node.field-0 c.loop-id.invariant.others);
+      rels = ap (λ content. content.rels) ok ∙ c.loop-id.invariant.rels;
     }

@@ -10,4 +10,5 @@ invariant-loop-id g l =
       fits : g.T.Tables.seen.fits l.tables l.shared;
       filled : (id : ℕ) → id < l.id → IsSome (map.get nodes id);
       others : (id : ℕ) → l.id ≤ id → map.get nodes id ≡ None;
+      rels : (g.T.Tables.seen.content l.tables l.shared).rels ≡ map.empty;
     }

@@ -1,7 +1,7 @@
 use Rattle.std.proofs.Common.{rules, ◌≡◌, Err, map, ◌∙◌}
 use Rattle.pg_group.proofs.Turns.{step_on, step_fault}
 use Rattle.pg_group.specs.Items.{aggregates_in, expressions_view, keys_in}
-use Rattle.pg_group.specs.Kept.{Kept, answers_at, first_kept, kept_row, kept_rows}
+use Rattle.pg_group.specs.Kept.{answers_at, first_kept, kept_row, kept_rows}
 use Rattle.pg_group.specs.KeptGroups.{groups_view}
 use Rattle.pg_meaning.specs.declared.fault.Fault.{Fault}
 use Rattle.pg_rows.specs.Tables.{table}

@@ -1,4 +1,4 @@
-use Rattle.std.proofs.Common.{◌<◌, ◌≤◌, length, get_or, set, ap, ◌∙◌, arith, inl, inr, sym}
+use Rattle.std.proofs.Common.{◌<◌, length, get_or, set, ap, ◌∙◌, arith, sym}
 use Rattle.std.proofs.lemmas.List.{length-set}
 use Rattle.pg_group.proofs.Turns.{next_taken, all_taken, at_either}
 use Rattle.pg_group.specs.ReadyItems.{aggregate_view}

@@ -148,10 +148,6 @@ pub returns-in-HeldRowsQuota-clause-text : goal.returns-in-HeldRowsQuota-clause-
 unfolding serde_json_on_literals digits refusal_text
 returns-in-HeldRowsQuota-clause-text c = rw c.in-HeldRowsQuota.is refl
 
-pub returns-in-NotYet-clause-text : goal.returns-in-NotYet-clause-text
-unfolding serde_json_on_literals digits refusal_text
-returns-in-NotYet-clause-text c = rw c.in-NotYet.is refl
-
 pub returns-in-OutOfMemory-clause-text : goal.returns-in-OutOfMemory-clause-text
 unfolding serde_json_on_literals digits refusal_text
 returns-in-OutOfMemory-clause-text c = rw c.in-OutOfMemory.is refl

@@ -1,4 +1,4 @@
-use Rattle.std.proofs.Common.{◌≡◌, ◌≤◌, take}
+use Rattle.std.proofs.Common.{◌≡◌, ◌≤◌, [], take}
 use Rattle.pg_expr.specs.Prepared.{condition_of}
 use Rattle.pg_project.proofs.InTurn.{after}
 use Rattle.pg_project.specs.Given.{passing_given}
@@ -12,6 +12,7 @@ invariant-loop-more g l =
     (passing_given (parameters_view l.parameters) l.graph l.names (condition_of l.names l.wanted) l.width (take l.most (rows_left l.fn.left)) ≡ after (table l.found) (passing_given (parameters_view l.parameters) l.graph l.names (condition_of l.names l.wanted) l.width (take l.more (rows_left l.left))))
     × (l.found.width ≡ l.width)
     × (l.width ≤ l.left.rows.width)
+    × (l.values.items ≡ [])
 
 abbrev pub decreases-loop-more : goal.decreases-loop-more
 decreases-loop-more g l = l.more

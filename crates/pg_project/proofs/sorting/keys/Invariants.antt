@@ -1,4 +1,4 @@
-use Rattle.std.proofs.Common.{◌≡◌, length, drop}
+use Rattle.std.proofs.Common.{◌≡◌, [], length, drop}
 use Rattle.pg_project.proofs.InTurn.{after}
 use Rattle.pg_project.specs.Given.{all_keys_given}
 use Rattle.pg_project.specs.Sources.{sources_view}
@@ -11,3 +11,4 @@ invariant-loop-at g l =
     (all_keys_given (parameters_view l.parameters) l.graph l.names (sources_view l.names l.sources.items) (table l.rows) ≡ after (table l.found) (all_keys_given (parameters_view l.parameters) l.graph l.names (sources_view l.names l.sources.items) (drop l.at (table l.rows))))
     × (length (table l.found) ≡ l.at)
     × (l.found.width ≡ length l.sources.items)
+    × (l.keys.items ≡ [])

@@ -1,4 +1,4 @@
-use Rattle.std.proofs.Common.{◌≡◌, length}
+use Rattle.std.proofs.Common.{◌≡◌, [], length}
 use Rattle.pg_project.proofs.InTurn.{after}
 use Rattle.pg_project.specs.Given.{trees_of, wide_rows_given}
 use Rattle.pg_rows.specs.Left.{rows_left}
@@ -6,11 +6,12 @@ use Rattle.pg_rows.specs.Tables.{table}
 use Rattle.pg_value_core.specs.Given.{parameters_view}
 use Rattle.pg_project.proofs.values.wide_rows.Given as goal
 
-abbrev pub invariant-loop-left : goal.invariant-loop-left
-invariant-loop-left g l =
+abbrev pub invariant-loop-row : goal.invariant-loop-row
+invariant-loop-row g l =
     (wide_rows_given (parameters_view l.parameters) l.graph l.names (trees_of l.names l.ready.items) l.keeps (table l.fn.rows) ≡ after (table l.found) (wide_rows_given (parameters_view l.parameters) l.graph l.names (trees_of l.names l.ready.items) l.keeps (rows_left l.left)))
     × (l.found.width ≡ l.width)
     × (l.left.rows.width ≡ l.fn.rows.width)
+    × (l.values.items ≡ [])
 
-abbrev pub decreases-loop-left : goal.decreases-loop-left
-decreases-loop-left g l = length (rows_left l.left)
+abbrev pub decreases-loop-row : goal.decreases-loop-row
+decreases-loop-row g l = length (rows_left l.left)

@@ -10,8 +10,8 @@ overflow_cast-owner g c = omega (arith, few_begun g.T.Tables.seen _ _ _ c.loop-o
 
 pub loop-one-preserved : goal.loop-one-preserved
 loop-one-preserved g c =
-    let opens : Opens g.T.Tables.seen (record { settings = c.in-Some.one; store = c.new.result }) (length c.loop-one.tenants.items) =
-    subst (Opens g.T.Tables.seen (record { settings = c.in-Some.one; store = c.new.result })) (search rules) (record { own = c.new.ensures.owner; fit = c.new.ensures.fit; empty = c.new.ensures.empty }) in
+    let opens : Opens g.T.Tables.seen (record { settings = c.in-Some.one; store = c.new.result; indexes = c.in_ok-indexes.indexes }) (length c.loop-one.tenants.items) =
+    subst (Opens g.T.Tables.seen (record { settings = c.in-Some.one; store = c.new.result; indexes = c.in_ok-indexes.indexes })) (search rules) (record { own = c.new.ensures.owner; fit = c.new.ensures.fit; empty = c.new.ensures.empty; indexless = c.in_ok-indexes.ensures }) in
     one_begun g.T.Tables.seen _ _ _ _ _ _ _ c.loop-one.invariant c.in-Some.ensures.steps.0 c.in_ok-push.ensures.items refl opens
 
 pub returns : goal.returns

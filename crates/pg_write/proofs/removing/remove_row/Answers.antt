@@ -17,3 +17,6 @@ loop-item-preserved g c =
           ∙ item_on (remove_item (row_in c.args.scene.now c.args.row.now)) remove_item_view items c.loop-item.item-index _ _ x at (omega arith) c.in_ok-remove_item.ensures.ok;
       changed = changed_then g.T.Tables.seen _ _ _ _ _ _ c.loop-item.invariant.changed c.remove_item.ensures.changed;
     }
+
+pub returns-in_err-remove_item-clause-changed : goal.returns-in_err-remove_item-clause-changed
+returns-in_err-remove_item-clause-changed g c = changed_then g.T.Tables.seen _ _ _ _ _ _ c.loop-item.invariant.changed c.remove_item.ensures.changed

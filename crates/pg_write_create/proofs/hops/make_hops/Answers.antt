@@ -1,13 +1,15 @@
-use Rattle.std.proofs.Common.{rules, ◌≡◌, ◌<◌, ◌∷◌, Ok, get_or, length}
+use Rattle.std.proofs.Common.{rules, ◌≡◌, ◌<◌, [], ◌∷◌, Ok, arith, drop, get_or, inl, inr, length}
+use Rattle.std.proofs.lemmas.List.{nil_from_length}
 use Rattle.std.specs.Vec.Iter.{into_iter_items}
 use Rattle.pg_store.specs.Stores.{graph_of_store}
 use Rattle.pg_syntax_tree.specs.View.{relationship_view}
 use Rattle.pg_write_create.proofs.GrowthLemmas.{grows_twice, joined_grows, there_grows}
-use Rattle.pg_write_create.proofs.StepLemmas.{hop_made}
-use Rattle.pg_write_create.specs.Makings.{node_ids, AreThere, Grows}
+use Rattle.pg_write_create.proofs.StepLemmas.{hop_made, hops_over}
+use Rattle.pg_write_create.specs.Makings.{node_ids, relationship_ids, relationships_view, AreThere, Grows}
 use Rattle.pg_write_make.proofs.ChangedLemmas.{changed_then}
 use Rattle.pg_write_make.specs.Outcomes.{outcome_view, relationship_of}
 use Rattle.pg_write_create.proofs.hops.make_hops.Goals as goal
+use Rattle.pg_write_create.proofs.hops.make_hops.Goals.{in_default-via-in-Some+in_default, in_default-via-in_default}
 
 pub loop-hop-preserved : goal.loop-hop-preserved
 loop-hop-preserved g c =
@@ -29,3 +31,18 @@ loop-hop-preserved g c =
       grows = grows_twice before now after c.loop-hop.invariant.grows one;
       changed = search (rules, changed_then);
     }
+
+pub returns-in_err-add_relationship-in-Some-Some-clause-changed : goal.returns-in_err-add_relationship-in-Some-Some-clause-changed
+returns-in_err-add_relationship-in-Some-Some-clause-changed g c = changed_then g.T.Tables.seen _ _ _ _ _ _ c.loop-hop.invariant.changed c.add_relationship.ensures.changed
+
+pub returns-in_err-push-in-Some-Some-clause-changed : goal.returns-in_err-push-in-Some-Some-clause-changed
+returns-in_err-push-in-Some-Some-clause-changed g c = changed_then g.T.Tables.seen _ _ _ _ _ _ c.loop-hop.invariant.changed c.add_relationship.ensures.changed
+
+pub returns-in_default-clause-ok : goal.returns-in_default-clause-ok
+returns-in_default-clause-ok g c =
+    let over = hops_over c.args.max_elements (into_iter_items c.loop-hop.rest) (relationships_view (drop c.loop-hop.hop-index c.args.hops.now.items)) c.loop-hop.left.0 c.loop-hop.ahead.now (graph_of_store g.T.Tables.seen c.loop-hop.store c.loop-hop.shared)
+    (relationship_ids c.loop-hop.made.items) _ c.loop-hop.invariant.rest in
+    elim c.in_default.branch [
+      | in_default-via-in-Some+in_default w ↦ over (inr (nil_from_length c.loop-hop.ahead.now w.in_default.ensures'.cases))
+      | in_default-via-in_default w ↦ over (inl (nil_from_length (into_iter_items c.loop-hop.rest) (let none = w.in_default.ensures.cases in omega (arith, none.0))))
+    ]

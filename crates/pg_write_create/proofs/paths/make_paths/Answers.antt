@@ -27,3 +27,9 @@ loop-path-preserved g c =
       there = search rules;
       changed = search (rules, changed_then);
     }
+
+pub returns-in_err-make_path-in-Some-clause-changed : goal.returns-in_err-make_path-in-Some-clause-changed
+returns-in_err-make_path-in-Some-clause-changed g c = search (rules, changed_then)
+
+pub returns-in_err-push-in-Some-clause-changed : goal.returns-in_err-push-in-Some-clause-changed
+returns-in_err-push-in-Some-clause-changed g c = search (rules, changed_then)

@@ -1,10 +1,21 @@
-use Rattle.std.proofs.Common.{refl}
-use Rattle.pg_index.proofs.PropertyLemmas.{value_grows, value_there}
+use Rattle.std.proofs.Common.{refl, sym, ap, ◌∙◌}
+use Rattle.std.proofs.lemmas.Result.{on_ok_weaker}
+use Rattle.pg_graph.specs.Removed.{Ids, has_id}
+use Rattle.pg_index.proofs.PropertyLemmas.{put_grows, put_there, value_grows, value_there}
 use Rattle.pg_index.proofs.properties.PropertyIndex.put.Goals as goal
 use Rattle.pg_value_core.specs.View.{view}
 
+pub returns-then-branch-clause-grown : goal.returns-then-branch-clause-grown
+returns-then-branch-clause-grown c = put_grows c.args.self.now (record c.args.self.now { ids = c.join.new.self }) c.args.value.now c.args.id (c.in_ok-join.ensures.joined c.if-branch.true)
+
+pub returns-then-branch-clause-ok : goal.returns-then-branch-clause-ok
+returns-then-branch-clause-ok c = put_there c.args.self.now (record c.args.self.now { ids = c.join.new.self }) c.args.value.now c.args.id (view c.args.value.now) refl (c.in_ok-join.ensures.joined c.if-branch.true)
+
 pub returns-clause-grown : goal.returns-clause-grown
-returns-clause-grown c = value_grows c.args.self.now (record c.args.self.now { ids = c.cover.new.self }) c.in_ok-value.value c.args.id c.cover.result c.cover.ensures.ok c.cover.ensures.err
+returns-clause-grown c = λ q i h.
+    let mid = record c.args.self.now { ids = c.join.new.self } in
+    value_grows mid (record c.args.self.now { ids = c.cover.new.self }) c.in_ok-value.value c.args.id c.cover.result c.cover.ensures.ok c.cover.ensures.err q i
+    (ap (λ (ids : Ids). has_id ids i) (c.in_ok-join.ensures.none c.if-branch.false q) ∙ h)
 
 pub returns-clause-ok : goal.returns-clause-ok
-returns-clause-ok c = value_there c.args.self.now (record c.args.self.now { ids = c.cover.new.self }) c.in_ok-value.value c.args.id c.cover.result (view c.args.value.now) c.in_ok-value.ensures c.cover.ensures.ok
+returns-clause-ok c = value_there (record c.args.self.now { ids = c.join.new.self }) (record c.args.self.now { ids = c.cover.new.self }) c.in_ok-value.value c.args.id c.cover.result (view c.args.value.now) c.in_ok-value.ensures c.cover.ensures.ok

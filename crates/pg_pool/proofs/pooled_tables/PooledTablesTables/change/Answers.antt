@@ -1,6 +1,6 @@
 use Rattle.std.proofs.Common.{◌≡◌, Some, option_copied, IsSome, refl, sym, ap, subst, ◌∙◌}
 use Rattle.std.specs.FinMap as map
-use Rattle.pg_pool.proofs.Slots.{labelled_some, read_some, true_not_false, same_some}
+use Rattle.pg_pool.proofs.SlotChanges.{labelled_some, read_some, true_not_false, same_some}
 use Rattle.pg_pool.proofs.Steps.{node_changed}
 use Rattle.pg_pool.proofs.Values.{inside_some, outside_some}
 use Rattle.pg_pool.specs.Records.{label, node_or_none}

@@ -4,7 +4,7 @@ use Rattle.std.specs.Option.{option_map, option_map_or}
 use Rattle.pg_graph.proofs.Incident.{ends_stay}
 use Rattle.pg_graph.specs.Content.{with_rel}
 use Rattle.pg_pool.proofs.Found.{rel_there}
-use Rattle.pg_pool.proofs.Slots.{labelled_some, read_some, true_not_false, same_some}
+use Rattle.pg_pool.proofs.SlotChanges.{labelled_some, read_some, true_not_false, same_some}
 use Rattle.pg_pool.proofs.Steps.{rel_changed}
 use Rattle.pg_pool.proofs.Values.{inside_some, outside_some}
 use Rattle.pg_pool.specs.Records.{label, rel_or_none}

@@ -1,5 +1,5 @@
 use Rattle.std.proofs.Common.{refl}
-use Rattle.pg_pool.proofs.Slots.{labelled_some}
+use Rattle.pg_pool.proofs.SlotChanges.{labelled_some}
 use Rattle.pg_pool.proofs.Steps.{node_dropped}
 use Rattle.pg_pool.proofs.Values.{inside_some}
 use Rattle.pg_pool.proofs.pooled_tables.PooledTablesTables.drop_node.Goals as goal

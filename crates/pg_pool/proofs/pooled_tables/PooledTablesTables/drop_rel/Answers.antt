@@ -1,6 +1,6 @@
 use Rattle.std.proofs.Common.{Some, sym, ap, refl, ◌∙◌}
 use Rattle.pg_graph.proofs.Incident.{outgoing_rise, incoming_rise}
-use Rattle.pg_pool.proofs.Slots.{labelled_some, same_some, true_not_false}
+use Rattle.pg_pool.proofs.SlotChanges.{labelled_some, same_some, true_not_false}
 use Rattle.pg_pool.proofs.Steps.{rel_dropped}
 use Rattle.pg_pool.proofs.Values.{inside_some, outside_some}
 use Rattle.pg_pool.specs.Records.{label, rel_or_none}

@@ -1,5 +1,5 @@
 use Rattle.std.proofs.Common.{sym, ap, ◌∙◌}
-use Rattle.pg_pool.proofs.Slots.{no_some}
+use Rattle.pg_pool.proofs.SlotChanges.{no_some}
 use Rattle.pg_pool.specs.Records.{label}
 use Rattle.pg_pool.proofs.pooled_tables.PooledTablesTables.new_shared.Goals as goal
 

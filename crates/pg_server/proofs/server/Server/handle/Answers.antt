@@ -1,14 +1,17 @@
-use Rattle.std.proofs.Common.{◌≡◌, ℕ, [], ◌∷◌, length, arith, false, sym, subst, ap, ◌∙◌}
+use Rattle.std.proofs.Common.{◌≡◌, ℕ, [], ◌∷◌, length, arith, Some, false, true, sym, subst, ap, ◌∙◌}
+use Rattle.std.specs.Prelude.{option_and_then}
 use Rattle.std.proofs.lemmas.Bool.{le-leb}
 use Rattle.pg_json.specs.Bodies.{request_view}
 use Rattle.pg_meaning.specs.Graph.{IsGraph}
 use Rattle.pg_meaning.specs.GraphLaws.{empty_is_graph}
 use Rattle.pg_server.specs.Frames.{body_limit}
-use Rattle.pg_server.specs.Runs.{Runs}
+use Rattle.pg_server.specs.Handles.{Handles, LooksUp, key_asked}
+use Rattle.pg_server.specs.Runs.{asked, is_short}
 use Rattle.pg_server.specs.Settings.{all_tokens}
 use Rattle.pg_server.specs.State.{ServerState, settings_of, state_at}
 use Rattle.pg_server.specs.Step.{Answers}
-use Rattle.pg_server.proofs.StepLemmas.{answered, means_of, unread}
+use Rattle.pg_server.proofs.HandleLemmas.{handled, handled_unread}
+use Rattle.pg_server.proofs.StepLemmas.{means_of}
 use Rattle.pg_server.proofs.TenantLemmas.{graphs_are, settings_seen}
 use Rattle.pg_server.proofs.server.Server.handle.Goals as goal
 use Rattle.pg_store.proofs.Stores.{store_is_graph}
@@ -18,14 +21,17 @@ pub returns-in-Ok : goal.returns-in-Ok
 returns-in-Ok g c =
     let distinct : comes_again [] (all_tokens (settings_of c.args.self.now)) ≡ false =
     ap (λ (s : ServerState). comes_again [] (all_tokens (settings_of s))) (sym c.self.view_is)
-    ∙ ap (λ ss. comes_again [] (all_tokens ss)) (settings_seen g.T.Tables.seen c.self.inside.tenants.items c.self.inside.shared) ∙ c.self.invariant.distinct in
+    ∙ ap (λ ss. comes_again [] (all_tokens ss)) (settings_seen g.T.Tables.seen c.self.inside.tenants.items c.self.inside.shared.stores) ∙ c.self.invariant.distinct in
     let graphs : (t : ℕ) → IsGraph (state_at c.args.self.now t).graph =
     λ t. subst (λ (s : ServerState). IsGraph (state_at s t).graph) c.self.view_is
-    (graphs_are g.T.Tables.seen c.self.inside.shared (λ store. store_is_graph g.T.Tables.seen store c.self.inside.shared) empty_is_graph c.self.inside.tenants.items c.self.invariant.fit.fit t) in
-    answered c.args.self.now c.answer_request.new.self c.args.body.now c.answer_request.result (request_view c.in-Ok.request) distinct (λ t. means_of (state_at c.args.self.now t) (request_view c.in-Ok.request) (graphs t))
-    (le-leb (length c.args.body.now) body_limit (omega (arith, c.if-body-gt-MAX_BODY.false))) c.in-Ok.ensures.ok (subst (λ s. Answers s (request_view c.in-Ok.request) c.answer_request.result c.answer_request.new.self) c.self.view_is c.answer_request.ensures)
+    (graphs_are g.T.Tables.seen c.self.inside.shared.stores (λ store. store_is_graph g.T.Tables.seen store c.self.inside.shared.stores) empty_is_graph c.self.inside.tenants.items c.self.invariant.fit.fit t) in
+    let request = request_view c.in-Ok.request in
+    handled c.args.self.now c.answer_request.new.self c.args.body.now c.answer_request.result request distinct (λ t. means_of (state_at c.args.self.now t) request (graphs t))
+    (le-leb (length c.args.body.now) body_limit (omega (arith, c.if-body-gt-MAX_BODY.false))) c.in-Ok.ensures.ok
+    (subst (λ (s : ServerState). Answers s.tenants request c.answer_request.result c.answer_request.new.self.tenants) c.self.view_is c.answer_request.ensures.tenants)
+    (subst (λ (s : ServerState). LooksUp (key_asked s.tenants request) c.answer_request.result s.cache c.answer_request.new.self.cache) c.self.view_is c.answer_request.ensures.cache)
 
 pub returns-in-Err : goal.returns-in-Err
 returns-in-Err g c =
-    subst (λ s. Runs c.args.self.now (record { body = c.args.body.now; reply = c.refusal-in-Err.result } ∷ []) s) (sym c.self.view_is)
-    (unread c.args.self.now c.args.body.now c.refusal-in-Err.result c.in-Err.fault (le-leb (length c.args.body.now) body_limit (omega (arith, c.if-body-gt-MAX_BODY.false))) c.refusal-in-Err.ensures c.in-Err.ensures.kind c.in-Err.ensures.refused)
+    subst (Handles c.args.self.now c.args.body.now c.refusal-in-Err.result) (sym c.self.view_is)
+    (handled_unread c.args.self.now c.args.body.now c.refusal-in-Err.result c.in-Err.fault (le-leb (length c.args.body.now) body_limit (omega (arith, c.if-body-gt-MAX_BODY.false))) c.refusal-in-Err.ensures c.in-Err.ensures.kind c.in-Err.ensures.refused)

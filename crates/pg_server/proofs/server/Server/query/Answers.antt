@@ -1,28 +1,77 @@
-use Rattle.std.proofs.Common.{◌≡◌, Ok, rules, ap, subst, sym, ◌∙◌}
-use Rattle.pg_cache.proofs.Capacity.{capacity_stays}
+use Rattle.std.proofs.Common.{◌≡◌, ◌<◌, Ok, Vec, String, Global, arith, length, rules, string_bytes, ap, subst, sym, inl, ◌∙◌}
+use Rattle.pg_anchors.specs.Catalogue.{catalogue_view}
+use Rattle.pg_cache.proofs.Seen.{look_up_is_seen}
+use Rattle.pg_cache.specs.Cache.{CacheSeen, IsLookUp, cache_seen, key_of}
+use Rattle.pg_meaning.specs.Plans.{Catalogue}
 use Rattle.pg_plan.specs.Plans.{IsPlanOfText}
 use Rattle.pg_plan.specs.Reading.{tested_length}
-use Rattle.pg_server.specs.State.{ServerState}
-use Rattle.pg_server.specs.Tenants.{states_of}
+use Rattle.pg_server.specs.State.{ServerState, state_in}
+use Rattle.pg_server.specs.Step.{reply_of}
+use Rattle.pg_server.specs.Tenants.{state_of, states_of}
+use Rattle.pg_server.proofs.LookUpLemmas.{looked_up}
 use Rattle.pg_server.proofs.PlanLemmas.{replies, refuses}
+use Rattle.pg_server.proofs.TenantLemmas.{indexes_at, length_mapped}
+use Rattle.pg_tenant.specs.Indexes.{indexes_of}
 use Rattle.pg_value_core.specs.Given.{parameters_view}
 use Rattle.pg_server.proofs.server.Server.query.Goals as goal
 
-pub returns-in-Err : goal.returns-in-Err
-returns-in-Err g c =
-    let tenants = states_of g.T.Tables.seen c.self.inside.tenants.items c.self.inside.shared in
-    let after : ServerState = record { cache = c.plan_for.new.self.capacity; tenants = tenants } in
-    let same : after ≡ c.args.self.now =
-    ap (λ n. let s : ServerState = record { cache = n; tenants = tenants } in s) (capacity_stays c.self.inside.plans c.plan_for.new.self c.args.text.now c.plan_for.result c.plan_for.ensures.hit c.plan_for.ensures.miss) ∙ c.self.view_is in
-    let short : tested_length c.args.text.now ≡ Ok tt = search rules in
-    refuses c.args.place c.args.token.now c.args.text.now (parameters_view c.args.parameters.now) c.args.self.now after c.in-Err.fault same short c.in-Err.ensures.err
+pub returns-in-Err-clause-tenants : goal.returns-in-Err-clause-tenants
+returns-in-Err-clause-tenants g c =
+    let text = string_bytes c.args.text in
+    let short : tested_length text ≡ Ok tt = search rules in
+    let same : states_of g.T.Tables.seen c.self.inside.tenants.items c.self.inside.shared.stores ≡ c.args.self.now.tenants = ap (λ (s : ServerState). s.tenants) c.self.view_is in
+    refuses c.args.place c.args.token.now text (parameters_view c.args.parameters.now) c.args.self.now.tenants _ c.in-Err.fault same short c.in-Err.ensures.err
 
-pub returns-in-Ok : goal.returns-in-Ok
-returns-in-Ok g c =
-    let tenants = states_of g.T.Tables.seen c.self.inside.tenants.items c.self.inside.shared in
-    let after : ServerState = record { cache = c.plan_for.new.self.capacity; tenants = tenants } in
-    let same : after ≡ c.args.self.now =
-    ap (λ n. let s : ServerState = record { cache = n; tenants = tenants } in s) (capacity_stays c.self.inside.plans c.plan_for.new.self c.args.text.now c.plan_for.result c.plan_for.ensures.hit c.plan_for.ensures.miss) ∙ c.self.view_is in
-    let short : tested_length c.args.text.now ≡ Ok tt = search rules in
+pub returns-in-Err-clause-cache : goal.returns-in-Err-clause-cache
+returns-in-Err-clause-cache g c =
+    let seen = g.T.Tables.seen in
+    let text = string_bytes c.args.text in
+    let tenants = c.self.inside.tenants.items in
+    let short : tested_length text ≡ Ok tt = search rules in
+    let lt : c.args.place < length tenants = omega (arith, c.requires, ap (λ (s : ServerState). length s.tenants) c.self.view_is, length_mapped (λ x. state_of seen x c.self.inside.shared.stores) tenants) in
+    let copied : c.in_ok-indexes.indexes.value ≡ c.index.result.now.indexes.value = search rules in
+    let own : indexes_of c.in_ok-indexes.indexes ≡ (state_in c.args.self.now.tenants c.args.place).indexes =
+    ap (λ (v : Vec (String Global × String Global) Global). catalogue_view v.items) copied
+    ∙ indexes_at seen tenants c.self.inside.shared.stores c.args.place c.index.result.now lt c.index.ensures
+    ∙ ap (λ (s : ServerState). (state_in s.tenants c.args.place).indexes) c.self.view_is in
+    let looks : IsLookUp (cache_seen c.self.inside.shared.cache) (cache_seen c.plan_for.new.self) (key_of c.args.text c.in_ok-indexes.indexes) =
+    look_up_is_seen c.self.inside.shared.cache c.plan_for.new.self (key_of c.args.text c.in_ok-indexes.indexes) c.plan_for.result c.plan_for.ensures.ok c.plan_for.ensures.hit c.plan_for.ensures.miss in
+    looked_up c.args.place c.args.self.now.tenants c.args.token.now text (parameters_view c.args.parameters.now) _ c.args.self.now.cache _ short
+    (inl (subst (λ (old : CacheSeen). IsLookUp old (cache_seen c.plan_for.new.self) (text, (state_in c.args.self.now.tenants c.args.place).indexes)) (ap (λ (s : ServerState). s.cache) c.self.view_is)
+    (subst (λ (is : Catalogue). IsLookUp (cache_seen c.self.inside.shared.cache) (cache_seen c.plan_for.new.self) (text, is)) own looks)))
+
+pub returns-in-Ok-clause-tenants : goal.returns-in-Ok-clause-tenants
+returns-in-Ok-clause-tenants g c =
+    let seen = g.T.Tables.seen in
+    let text = string_bytes c.args.text in
+    let tenants = c.self.inside.tenants.items in
+    let short : tested_length text ≡ Ok tt = search rules in
+    let lt : c.args.place < length tenants = omega (arith, c.requires, ap (λ (s : ServerState). length s.tenants) c.self.view_is, length_mapped (λ x. state_of seen x c.self.inside.shared.stores) tenants) in
+    let copied : c.in_ok-indexes.indexes.value ≡ c.index.result.now.indexes.value = search rules in
+    let own : indexes_of c.in_ok-indexes.indexes ≡ (state_in c.args.self.now.tenants c.args.place).indexes =
+    ap (λ (v : Vec (String Global × String Global) Global). catalogue_view v.items) copied
+    ∙ indexes_at seen tenants c.self.inside.shared.stores c.args.place c.index.result.now lt c.index.ensures
+    ∙ ap (λ (s : ServerState). (state_in s.tenants c.args.place).indexes) c.self.view_is in
+    let same : states_of seen tenants c.self.inside.shared.stores ≡ c.args.self.now.tenants = ap (λ (s : ServerState). s.tenants) c.self.view_is in
     let lent : c.deref.result.now ≡ c.in-Ok.plan.value = search rules in
-    replies c.args.place c.args.token.now c.args.text.now (parameters_view c.args.parameters.now) c.args.self.now after c.run_plan.new.self c.deref.result.now c.run_plan.result same short (subst (IsPlanOfText c.args.text.now) (sym lent) c.in-Ok.ensures.ok) c.run_plan.ensures
+    replies c.args.place c.args.token.now text (parameters_view c.args.parameters.now) c.args.self.now.tenants _ c.run_plan.new.self.tenants c.deref.result.now c.run_plan.result same short
+    (subst (IsPlanOfText text (state_in c.args.self.now.tenants c.args.place).indexes) (sym lent) (subst (λ (is : Catalogue). IsPlanOfText text is c.in-Ok.plan.value) own c.in-Ok.ensures.ok)) c.run_plan.ensures.tenants
+
+pub returns-in-Ok-clause-cache : goal.returns-in-Ok-clause-cache
+returns-in-Ok-clause-cache g c =
+    let seen = g.T.Tables.seen in
+    let text = string_bytes c.args.text in
+    let tenants = c.self.inside.tenants.items in
+    let short : tested_length text ≡ Ok tt = search rules in
+    let lt : c.args.place < length tenants = omega (arith, c.requires, ap (λ (s : ServerState). length s.tenants) c.self.view_is, length_mapped (λ x. state_of seen x c.self.inside.shared.stores) tenants) in
+    let copied : c.in_ok-indexes.indexes.value ≡ c.index.result.now.indexes.value = search rules in
+    let own : indexes_of c.in_ok-indexes.indexes ≡ (state_in c.args.self.now.tenants c.args.place).indexes =
+    ap (λ (v : Vec (String Global × String Global) Global). catalogue_view v.items) copied
+    ∙ indexes_at seen tenants c.self.inside.shared.stores c.args.place c.index.result.now lt c.index.ensures
+    ∙ ap (λ (s : ServerState). (state_in s.tenants c.args.place).indexes) c.self.view_is in
+    let looks : IsLookUp (cache_seen c.self.inside.shared.cache) (cache_seen c.plan_for.new.self) (key_of c.args.text c.in_ok-indexes.indexes) =
+    look_up_is_seen c.self.inside.shared.cache c.plan_for.new.self (key_of c.args.text c.in_ok-indexes.indexes) c.plan_for.result c.plan_for.ensures.ok c.plan_for.ensures.hit c.plan_for.ensures.miss in
+    looked_up c.args.place c.args.self.now.tenants c.args.token.now text (parameters_view c.args.parameters.now) (reply_of c.run_plan.result) c.args.self.now.cache c.run_plan.new.self.cache short
+    (inl (subst (λ (new : CacheSeen). IsLookUp c.args.self.now.cache new (text, (state_in c.args.self.now.tenants c.args.place).indexes)) (sym c.run_plan.ensures.cache)
+    (subst (λ (old : CacheSeen). IsLookUp old (cache_seen c.plan_for.new.self) (text, (state_in c.args.self.now.tenants c.args.place).indexes)) (ap (λ (s : ServerState). s.cache) c.self.view_is)
+    (subst (λ (is : Catalogue). IsLookUp (cache_seen c.self.inside.shared.cache) (cache_seen c.plan_for.new.self) (text, is)) own looks))))

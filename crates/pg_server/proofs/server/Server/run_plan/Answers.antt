@@ -11,16 +11,18 @@ pub invariant_of-self : goal.invariant_of-self
 invariant_of-self g c =
     let seen = g.T.Tables.seen in
     let tenants = c.self.inside.tenants.items in
-    let lt : c.args.place < length tenants = omega (arith, c.requires, ap (λ (s : ServerState). length s.tenants) c.self.view_is, length_mapped (λ x. state_of seen x c.self.inside.shared) tenants) in
-    still_tenants seen tenants c.self.inside.shared c.answer_plan.new.shared c.self.invariant.fit c.args.place c.index_mut.result.now c.answer_plan.new.self lt c.index_mut.ensures.value c.answer_plan.ensures.changes.keeps
+    let lt : c.args.place < length tenants = omega (arith, c.requires, ap (λ (s : ServerState). length s.tenants) c.self.view_is, length_mapped (λ x. state_of seen x c.self.inside.shared.stores) tenants) in
+    still_tenants seen tenants c.self.inside.shared.stores c.answer_plan.new.shared c.self.invariant.fit c.args.place c.index_mut.result.now c.answer_plan.new.self lt c.index_mut.ensures.value c.answer_plan.ensures.changes.keeps
     c.answer_plan.ensures.settings c.answer_plan.ensures.changes.fit c.self.inside.tokens c.self.invariant.distinct c.self.invariant.told
 
-pub returns : goal.returns
-returns g c =
+pub returns-clause-tenants : goal.returns-clause-tenants
+returns-clause-tenants g c =
     let seen = g.T.Tables.seen in
     let tenants = c.self.inside.tenants.items in
-    let lt : c.args.place < length tenants = omega (arith, c.requires, ap (λ (s : ServerState). length s.tenants) c.self.view_is, length_mapped (λ x. state_of seen x c.self.inside.shared) tenants) in
-    let after : ServerState = record { cache = c.self.inside.plans.capacity; tenants = states_of seen (set tenants c.args.place c.answer_plan.new.self) c.answer_plan.new.shared } in
-    subst (λ (s : ServerState). RunsPlan c.args.place c.args.token.now c.args.plan.now (parameters_view c.args.parameters.now) s c.answer_plan.result after) c.self.view_is
-    (runs_plan seen tenants c.self.inside.shared c.answer_plan.new.shared c.self.invariant.fit c.args.place c.index_mut.result.now c.answer_plan.new.self lt c.index_mut.ensures.value c.answer_plan.ensures.changes.keeps
-    c.answer_plan.ensures.settings c.self.inside.plans.capacity c.args.token.now c.args.plan.now (parameters_view c.args.parameters.now) c.answer_plan.result c.answer_plan.ensures.changes.says.ok c.answer_plan.ensures.changes.says.err c.answer_plan.ensures.changes.same)
+    let lt : c.args.place < length tenants = omega (arith, c.requires, ap (λ (s : ServerState). length s.tenants) c.self.view_is, length_mapped (λ x. state_of seen x c.self.inside.shared.stores) tenants) in
+    subst (λ (s : ServerState). RunsPlan c.args.place c.args.token.now c.args.plan.now (parameters_view c.args.parameters.now) s.tenants c.answer_plan.result (states_of seen (set tenants c.args.place c.answer_plan.new.self) c.answer_plan.new.shared)) c.self.view_is
+    (runs_plan seen tenants c.self.inside.shared.stores c.answer_plan.new.shared c.self.invariant.fit c.args.place c.index_mut.result.now c.answer_plan.new.self lt c.index_mut.ensures.value c.answer_plan.ensures.changes.keeps
+    c.answer_plan.ensures.settings c.answer_plan.ensures.indexes c.args.token.now c.args.plan.now (parameters_view c.args.parameters.now) c.answer_plan.result c.answer_plan.ensures.changes.says.ok c.answer_plan.ensures.changes.says.err c.answer_plan.ensures.changes.same)
+
+pub returns-clause-cache : goal.returns-clause-cache
+returns-clause-cache g c = ap (λ (s : ServerState). s.cache) c.self.view_is

@@ -1,22 +1,13 @@
-use Rattle.std.proofs.Common.{◌≡◌, ◌==◌, ◌+◌, ◌∷◌, ℕ, None, drop, sym, ap, ◌∙◌}
-use Rattle.std.proofs.lemmas.List.{at_drop_more}
-use Rattle.std.specs.List.{list_any}
-use Rattle.pg_store.proofs.CoverLemmas.{grows_on}
-use Rattle.pg_store.proofs.SetLemmas.{labels_on}
+use Rattle.std.proofs.Common.{refl}
+use Rattle.std.proofs.lemmas.Result.{on_ok_weaker}
+use Rattle.pg_store.proofs.CoverLemmas.{grows_on, all_covered}
 use Rattle.pg_store.proofs.sets.Sets.cover_node.Goals as goal
 use Rattle.pg_store.specs.Covers.{has_in}
 
-pub loop-label-preserved : goal.loop-label-preserved
-loop-label-preserved c =
-    let was = c.loop-label.invariant in
-    let items = c.as_slice-label-items.result.now in
-    let i = c.loop-label.label-index in
-    let more = drop (i + 1) items in
-    let grows = c.cover-in-loop-label.ensures.grown in
-    record {
-      grown = grows_on (has_in c.args.self.now) (has_in c.loop-label.self) (has_in c.cover-in-loop-label.new.self) was.grown grows;
-      all = grows None c.args.id was.all;
-      labels = labels_on (has_in c.loop-label.self) (has_in c.cover-in-loop-label.new.self) c.args.id c.label-item.result items more grows c.in_ok-cover-2.ensures.ok
-          (λ m among none. was.labels m among (at_drop_more (λ xs. list_any (λ n. n == m) xs) items i c.label-item.result c.loop-label-test.true ∙ sym (ap (λ x. list_any (λ n. n == m) (x ∷ more)) c.label-item.is) ∙ none));
-      items = was.items;
-    }
+pub returns-clause-grown : goal.returns-clause-grown
+returns-clause-grown c = grows_on (has_in c.args.self.now) (has_in c.cover_labels.new.self) (has_in c.cover_values.new.self) c.cover_labels.ensures.grown c.cover_values.ensures.grown
+
+pub returns-clause-ok : goal.returns-clause-ok
+returns-clause-ok c =
+    on_ok_weaker c.cover_values.result (λ values. all_covered (has_in c.cover_labels.new.self) (has_in c.cover_values.new.self) c.args.node.now c.args.id c.cover_values.ensures.grown (λ k number. c.in_ok-cover_labels.ensures.ok c.args.node.now k refl number) values)
+    c.cover_values.ensures.ok

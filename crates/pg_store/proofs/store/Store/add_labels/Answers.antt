@@ -2,12 +2,12 @@ use Rattle.std.proofs.Common.{rules}
 use Rattle.std.proofs.Common.{ap, ◌∙◌}
 use Rattle.std.proofs.lemmas.Result.{on_ok_weaker, on_err_weaker}
 use Rattle.std.specs.FinMap as map
-use Rattle.pg_graph.proofs.Others.{keeps_refl}
 use Rattle.pg_graph.proofs.Held.{more_named}
 use Rattle.pg_graph.specs.Refinement.{node_of}
 use Rattle.pg_meaning.specs.Graph.{Node, change_node}
 use Rattle.pg_meaning.specs.Names.{put_texts}
-use Rattle.pg_store.proofs.ChangeLemmas.{at_err, marks_then, renamed_graph, renamed_fit, renamed_marks}
+use Rattle.pg_store.proofs.ChangeLemmas.{at_err, marks_then, renamed_graph, renamed_fit, renamed_keeps, renamed_marks}
+use Rattle.pg_store.proofs.Kept.{kept_then}
 use Rattle.pg_store.proofs.Changed.{node_changed_alike, with_labels}
 use Rattle.pg_store.proofs.store.Store.add_labels.Goals as goal
 use Rattle.pg_store.specs.Journal.{live}
@@ -18,7 +18,7 @@ returns-in_err-labels-clause-changes g c = record {
   says = search rules;
   same = (at_err c.from_residual-in_err-labels.result (renamed_graph g.T.Tables.seen c.args.self.now c.args.shared.now c.more_labels.new.names c.more_labels.ensures.keeps c.requires.fit));
   fit = (renamed_fit g.T.Tables.seen c.args.self.now c.args.shared.now c.more_labels.new.names c.more_labels.ensures.keeps c.requires.fit c.more_labels.ensures.distinct);
-  keeps = keeps_refl c.args.self.now.tables c.args.shared.now c.requires.fit.fits;
+  keeps = renamed_keeps g.T.Tables.seen c.args.self.now c.args.shared.now c.more_labels.new.names c.more_labels.ensures.keeps c.requires.fit c.more_labels.ensures.distinct;
 }
 
 pub returns-in_err-labels-clause-marks : goal.returns-in_err-labels-clause-marks
@@ -29,7 +29,7 @@ change_node-requires-clause-fit g c =
     renamed_fit g.T.Tables.seen c.args.self.now c.args.shared.now c.more_labels.new.names c.more_labels.ensures.keeps c.requires.fit c.more_labels.ensures.distinct
 
 pub change_node-requires-clause-keys : goal.change_node-requires-clause-keys
-change_node-requires-clause-keys g c = more_named c.args.self.now.names c.more_labels.new.names c.more_labels.ensures.keeps (map.keys c.in_ok-before.field-0.properties) c.in_ok-before.ensures.keys
+change_node-requires-clause-keys g c = more_named c.args.shared.now.names c.more_labels.new.names c.more_labels.ensures.keeps (map.keys c.in_ok-before.field-0.properties) c.in_ok-before.ensures.keys
 
 pub returns-clause-changes : goal.returns-clause-changes
 returns-clause-changes g c = record {
@@ -40,18 +40,18 @@ returns-clause-changes g c = record {
       on_ok_weaker c.change_node.result (λ h.
       h
       ∙ ap (change_node (λ _. new) c.args.id.0) same
-      ∙ node_changed_alike store.names (live (state_of g.T.Tables.seen store c.args.shared.now)) store.next.node store.next.rel c.args.id.0 n (λ _. new)
+      ∙ node_changed_alike c.args.shared.now.names (live (state_of g.T.Tables.seen store c.args.shared.now)) store.next.node store.next.rel c.args.id.0 n (λ _. new)
       (λ e. record e { labels = put_texts (texts_of c.args.labels.now.items) e.labels }) c.in_ok-before.ensures.copy
-      (with_labels store.names c.more_labels.new.names n c.in_ok-labels.labels _ c.more_labels.ensures.keeps c.in_ok-before.ensures.keys c.in_ok-labels.ensures.labels))
+      (with_labels c.args.shared.now.names c.more_labels.new.names n c.in_ok-labels.labels _ c.more_labels.ensures.keeps c.in_ok-before.ensures.keys c.in_ok-labels.ensures.labels))
       c.change_node.ensures.ok);
   same = (on_err_weaker c.change_node.result (λ e. e ∙ renamed_graph g.T.Tables.seen c.args.self.now c.args.shared.now c.more_labels.new.names c.more_labels.ensures.keeps c.requires.fit)
       c.change_node.ensures.err);
   fit = c.change_node.ensures.fit;
-  keeps = c.change_node.ensures.keeps;
+  keeps = kept_then c.args.self.now c.args.self.now c.change_node.new.self c.args.shared.now _ c.change_node.new.shared (renamed_keeps g.T.Tables.seen c.args.self.now c.args.shared.now c.more_labels.new.names c.more_labels.ensures.keeps c.requires.fit c.more_labels.ensures.distinct) c.change_node.ensures.keeps;
 }
 
 pub returns-clause-marks : goal.returns-clause-marks
 returns-clause-marks g c =
-    marks_then g.T.Tables.seen c.args.self.now _ c.change_node.new.self c.args.shared.now c.args.shared.now c.change_node.new.shared
+    marks_then g.T.Tables.seen c.args.self.now c.args.self.now c.change_node.new.self c.args.shared.now _ c.change_node.new.shared
     (renamed_marks g.T.Tables.seen c.args.self.now c.args.shared.now c.more_labels.new.names c.more_labels.ensures.keeps c.requires.fit)
     c.change_node.ensures.marks

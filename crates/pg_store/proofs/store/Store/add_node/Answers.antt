@@ -2,6 +2,7 @@ use Rattle.std.proofs.Common.{◌++◌, ◌∷◌, [], refl, ap, ◌∙◌}
 use Rattle.pg_graph.proofs.Made.{next_is_absent}
 use Rattle.pg_graph.specs.Content.{Content}
 use Rattle.pg_store.proofs.ChangeLemmas.{changed_fit, refused_fit, changed_marks}
+use Rattle.pg_store.proofs.Kept.{tables_kept}
 use Rattle.pg_store.proofs.CoverLemmas.{covers_now, grown_covers, covers_with}
 use Rattle.pg_store.proofs.States.{with_new_node, new_node_made, new_node_undone}
 use Rattle.pg_store.proofs.store.Store.add_node.Goals as goal
@@ -13,23 +14,23 @@ use Rattle.pg_store.specs.declared.journal.Entry.TheVariants.{NodeAdded}
 pub add_node-requires-clause-absent : goal.add_node-requires-clause-absent
 add_node-requires-clause-absent g c =
     let store = c.args.self.now in
-    next_is_absent store.names (g.T.Tables.seen.content store.tables c.args.shared.now) store.next.node store.next.rel c.requires.fit.well.held
+    next_is_absent c.args.shared.now.names (g.T.Tables.seen.content store.tables c.args.shared.now.tables) store.next.node store.next.rel c.requires.fit.well.held
 
 pub returns-clause-ok : goal.returns-clause-ok
 returns-clause-ok g c = λ texts h.
     let store = c.args.self.now in
     let s = state_of g.T.Tables.seen store c.args.shared.now in
-    let made = with_new_node store.names s c.args.node c.requires.fit.well c.requires.labels c.requires.keys c.requires.room c.requires.count in
-    ap (λ (content : Content). graph_in store.names (record made { content = content })) c.in_ok-add_node.ensures.ok
-    ∙ new_node_made store.names s c.args.node c.requires.fit.well c.requires.labels c.requires.keys c.requires.room c.requires.count texts h
+    let made = with_new_node c.args.shared.now.names s c.args.node c.requires.fit.well c.requires.labels c.requires.keys c.requires.room c.requires.count in
+    ap (λ (content : Content). graph_in c.args.shared.now.names (record made { content = content })) c.in_ok-add_node.ensures.ok
+    ∙ new_node_made c.args.shared.now.names s c.args.node c.requires.fit.well c.requires.labels c.requires.keys c.requires.room c.requires.count texts h
 
 pub returns-clause-marks : goal.returns-clause-marks
 returns-clause-marks g c =
     let store = c.args.self.now in
     let s = state_of g.T.Tables.seen store c.args.shared.now in
-    let made = with_new_node store.names s c.args.node c.requires.fit.well c.requires.labels c.requires.keys c.requires.room c.requires.count in
+    let made = with_new_node c.args.shared.now.names s c.args.node c.requires.fit.well c.requires.labels c.requires.keys c.requires.room c.requires.count in
     changed_marks g.T.Tables.seen store _ c.args.shared.now _ c.requires.fit NodeAdded made
-    (new_node_undone store.names s c.args.node c.requires.fit.well c.requires.labels c.requires.keys c.requires.room c.requires.count)
+    (new_node_undone c.args.shared.now.names s c.args.node c.requires.fit.well c.requires.labels c.requires.keys c.requires.room c.requires.count)
     refl
     (ap (λ (content : Content). record made { content = content }) c.in_ok-add_node.ensures.ok)
     (c.push_reserved.ensures.items ∙ ap (λ es. es ++ NodeAdded ∷ []) c.in_ok-reserve.ensures.items)
@@ -38,14 +39,14 @@ pub returns-clause-fit : goal.returns-clause-fit
 returns-clause-fit g c =
     let store = c.args.self.now in
     let s = state_of g.T.Tables.seen store c.args.shared.now in
-    let made = with_new_node store.names s c.args.node c.requires.fit.well c.requires.labels c.requires.keys c.requires.room c.requires.count in
+    let made = with_new_node c.args.shared.now.names s c.args.node c.requires.fit.well c.requires.labels c.requires.keys c.requires.room c.requires.count in
     changed_fit g.T.Tables.seen store _ c.args.shared.now _ c.requires.fit NodeAdded made
-    (new_node_undone store.names s c.args.node c.requires.fit.well c.requires.labels c.requires.keys c.requires.room c.requires.count)
+    (new_node_undone c.args.shared.now.names s c.args.node c.requires.fit.well c.requires.labels c.requires.keys c.requires.room c.requires.count)
     refl
     (ap (λ (content : Content). record made { content = content }) c.in_ok-add_node.ensures.ok)
     (c.push_reserved.ensures.items ∙ ap (λ es. es ++ NodeAdded ∷ []) c.in_ok-reserve.ensures.items)
     c.cover_node.ensures.grown
-    (covers_with (has_in c.cover_node.new.self) s store.next.node c.args.node (grown_covers (has_in store.sets) (has_in c.cover_node.new.self) c.cover_node.ensures.grown s (covers_now (has_in store.sets) store.journal.items s c.requires.fit.covered)) (λ k number. c.in_ok-cover_node.ensures.ok c.args.node k refl number))
+    (covers_with (has_in c.cover_node.new.self) s store.next.node c.args.node (grown_covers (has_in store.sets) (has_in c.cover_node.new.self) c.cover_node.ensures.grown s (covers_now (has_in store.sets) store.journal.items s c.requires.fit.covered)) (λ k found. c.in_ok-cover_node.ensures.ok k found))
     c.add_node.ensures.keeps.fits
 
 pub returns-in_err-cover_node-clause-fit : goal.returns-in_err-cover_node-clause-fit
@@ -58,4 +59,7 @@ pub returns-in_err-add_node-clause-fit : goal.returns-in_err-add_node-clause-fit
 returns-in_err-add_node-clause-fit g c =
     let store = c.args.self.now in
     let s = state_of g.T.Tables.seen store c.args.shared.now in
-    refused_fit g.T.Tables.seen store (record store { tables = c.add_node.new.self; journal = c.reserve.new.self; sets = c.cover_node.new.self }) c.args.shared.now c.add_node.new.shared c.requires.fit refl (λ t. record s { content = c.in_err-add_node.ensures.err t }) c.in_ok-reserve.ensures.items c.cover_node.ensures.grown c.add_node.ensures.keeps.fits
+    refused_fit g.T.Tables.seen store (record store { tables = c.add_node.new.self; journal = c.reserve.new.self; sets = c.cover_node.new.self }) c.args.shared.now (record c.args.shared.now { tables = c.add_node.new.shared }) c.requires.fit refl (λ t. record s { content = c.in_err-add_node.ensures.err t }) c.in_ok-reserve.ensures.items c.cover_node.ensures.grown c.add_node.ensures.keeps.fits
+
+pub returns-clause-keeps : goal.returns-clause-keeps
+returns-clause-keeps g c = tables_kept c.args.self.now _ c.args.shared.now _ c.requires.fit c.add_node.ensures.keeps refl

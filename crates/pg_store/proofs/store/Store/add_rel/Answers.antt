@@ -2,6 +2,7 @@ use Rattle.std.proofs.Common.{◌++◌, ◌∷◌, [], refl, ap, ◌∙◌}
 use Rattle.pg_graph.proofs.Removed.{is_live}
 use Rattle.pg_graph.specs.Content.{Content}
 use Rattle.pg_store.proofs.ChangeLemmas.{changed_fit, changed_marks}
+use Rattle.pg_store.proofs.Kept.{tables_kept}
 use Rattle.pg_store.proofs.CoverLemmas.{covers_now}
 use Rattle.pg_store.proofs.States.{next_rel_is_absent, with_new_rel, new_rel_made, new_rel_undone}
 use Rattle.pg_store.proofs.store.Store.add_rel.Goals as goal
@@ -13,35 +14,35 @@ use Rattle.pg_store.specs.declared.journal.Entry.TheVariants.{RelAdded}
 pub add_rel-requires-clause-absent : goal.add_rel-requires-clause-absent
 add_rel-requires-clause-absent g c =
     let store = c.args.self.now in
-    next_rel_is_absent store.names (g.T.Tables.seen.content store.tables c.args.shared.now) store.next.node store.next.rel c.requires.fit.well.held
+    next_rel_is_absent c.args.shared.now.names (g.T.Tables.seen.content store.tables c.args.shared.now.tables) store.next.node store.next.rel c.requires.fit.well.held
 
 pub add_rel-requires-clause-source : goal.add_rel-requires-clause-source
 add_rel-requires-clause-source g c =
     let store = c.args.self.now in
-    (is_live (g.T.Tables.seen.content store.tables c.args.shared.now).nodes store.gone_nodes c.args.rel.source.0 c.requires.source).1
+    (is_live (g.T.Tables.seen.content store.tables c.args.shared.now.tables).nodes store.gone_nodes c.args.rel.source.0 c.requires.source).1
 
 pub add_rel-requires-clause-target : goal.add_rel-requires-clause-target
 add_rel-requires-clause-target g c =
     let store = c.args.self.now in
-    (is_live (g.T.Tables.seen.content store.tables c.args.shared.now).nodes store.gone_nodes c.args.rel.target.0 c.requires.target).1
+    (is_live (g.T.Tables.seen.content store.tables c.args.shared.now.tables).nodes store.gone_nodes c.args.rel.target.0 c.requires.target).1
 
 pub returns-clause-ok : goal.returns-clause-ok
 returns-clause-ok g c =
     let store = c.args.self.now in
     let r = c.requires in
     let s = state_of g.T.Tables.seen store c.args.shared.now in
-    let made = with_new_rel store.names s c.args.rel r.fit.well r.kind r.keys r.source r.target r.room r.count in
-    ap (λ (content : Content). graph_in store.names (record made { content = content })) c.in_ok-add_rel.ensures.ok
-    ∙ new_rel_made store.names s c.args.rel r.fit.well r.kind r.keys r.source r.target r.room r.count
+    let made = with_new_rel c.args.shared.now.names s c.args.rel r.fit.well r.kind r.keys r.source r.target r.room r.count in
+    ap (λ (content : Content). graph_in c.args.shared.now.names (record made { content = content })) c.in_ok-add_rel.ensures.ok
+    ∙ new_rel_made c.args.shared.now.names s c.args.rel r.fit.well r.kind r.keys r.source r.target r.room r.count
 
 pub returns-clause-marks : goal.returns-clause-marks
 returns-clause-marks g c =
     let store = c.args.self.now in
     let r = c.requires in
     let s = state_of g.T.Tables.seen store c.args.shared.now in
-    let made = with_new_rel store.names s c.args.rel r.fit.well r.kind r.keys r.source r.target r.room r.count in
+    let made = with_new_rel c.args.shared.now.names s c.args.rel r.fit.well r.kind r.keys r.source r.target r.room r.count in
     changed_marks g.T.Tables.seen store _ c.args.shared.now _ r.fit RelAdded made
-    (new_rel_undone store.names s c.args.rel r.fit.well r.kind r.keys r.source r.target r.room r.count)
+    (new_rel_undone c.args.shared.now.names s c.args.rel r.fit.well r.kind r.keys r.source r.target r.room r.count)
     refl
     (ap (λ (content : Content). record made { content = content }) c.in_ok-add_rel.ensures.ok)
     (c.push_reserved.ensures.items ∙ ap (λ es. es ++ RelAdded ∷ []) c.in_ok-reserve.ensures.items)
@@ -51,12 +52,15 @@ returns-clause-fit g c =
     let store = c.args.self.now in
     let r = c.requires in
     let s = state_of g.T.Tables.seen store c.args.shared.now in
-    let made = with_new_rel store.names s c.args.rel r.fit.well r.kind r.keys r.source r.target r.room r.count in
+    let made = with_new_rel c.args.shared.now.names s c.args.rel r.fit.well r.kind r.keys r.source r.target r.room r.count in
     changed_fit g.T.Tables.seen store _ c.args.shared.now _ r.fit RelAdded made
-    (new_rel_undone store.names s c.args.rel r.fit.well r.kind r.keys r.source r.target r.room r.count)
+    (new_rel_undone c.args.shared.now.names s c.args.rel r.fit.well r.kind r.keys r.source r.target r.room r.count)
     refl
     (ap (λ (content : Content). record made { content = content }) c.in_ok-add_rel.ensures.ok)
     (c.push_reserved.ensures.items ∙ ap (λ es. es ++ RelAdded ∷ []) c.in_ok-reserve.ensures.items)
     (λ k i h. h)
     (covers_now (has_in store.sets) store.journal.items s c.requires.fit.covered)
     c.add_rel.ensures.keeps.fits
+
+pub returns-clause-keeps : goal.returns-clause-keeps
+returns-clause-keeps g c = tables_kept c.args.self.now _ c.args.shared.now _ c.requires.fit c.add_rel.ensures.keeps refl

@@ -13,6 +13,6 @@ settle_rels-requires-clause-fit g c =
     record {
       fits = c.requires.fit.fits;
       well = c.requires.fit.well;
-      journal = subst (λ (es : List Entry). CanUndo store.names es s) (sym c.clear.ensures.items) tt;
+      journal = subst (λ (es : List Entry). CanUndo c.args.shared.now.names es s) (sym c.clear.ensures.items) tt;
       covered = subst (λ (es : List Entry). HasCovered (has_in store.sets) es s) (sym c.clear.ensures.items) (covers_now (has_in store.sets) store.journal.items s c.requires.fit.covered);
     }

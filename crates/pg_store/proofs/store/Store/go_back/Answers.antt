@@ -2,20 +2,20 @@ use Rattle.std.proofs.Common.{◌≡◌, ◌+◌, ◌++◌, ◌∷◌, [], lengt
 use Rattle.std.proofs.lemmas.List.{length-append}
 use Rattle.std.specs.Global.{Vec}
 use Rattle.std.specs.Option.{option_to_list}
-use Rattle.pg_store.proofs.TakenBack.{at_first, can_go, goes_on, same_mark, is_back}
+use Rattle.pg_store.proofs.TakenBack.{at_first, can_go, goes_on, is_back}
 use Rattle.pg_store.proofs.store.Store.go_back.Goals as goal
 use Rattle.pg_store.specs.Covers.{has_in}
 use Rattle.pg_store.specs.declared.journal.Entry.{Entry}
 
 pub loop-mark-init : goal.loop-mark-init
-loop-mark-init g c = at_first g.T.Tables.seen c.args.mark.0 c.args.self.now c.args.shared.now c.requires.fit c.requires.mark
+loop-mark-init g c = at_first g.T.Tables.seen c.args.mark.journal c.args.self.now c.args.shared.now c.requires.fit c.requires.mark
 
 pub take_back-requires-clause-fits : goal.take_back-requires-clause-fits
 take_back-requires-clause-fits g c = c.loop-mark.invariant.fit.fits
 
 pub take_back-requires-clause-can : goal.take_back-requires-clause-can
 take_back-requires-clause-can g c =
-    can_go g.T.Tables.seen c.args.mark.0 c.loop-mark.self c.loop-mark.shared c.pop.new.self.items c.unwrap-entry.result
+    can_go g.T.Tables.seen c.args.mark.journal c.loop-mark.self c.loop-mark.shared c.pop.new.self.items c.unwrap-entry.result
     (c.pop.ensures.items ∙ ap (λ o. c.pop.new.self.items ++ option_to_list o) c.unwrap-entry.ensures)
     c.loop-mark.invariant.fit
 
@@ -28,21 +28,18 @@ loop-mark-smaller g c =
 
 pub loop-mark-preserved : goal.loop-mark-preserved
 loop-mark-preserved g c =
-    goes_on g.T.Tables.seen c.args.mark.0 c.args.self.now c.loop-mark.self c.take_back.new.self c.args.shared.now c.loop-mark.shared c.take_back.new.shared c.unwrap-entry.result
+    goes_on g.T.Tables.seen c.args.mark.journal c.args.self.now c.loop-mark.self c.take_back.new.self c.args.shared.now c.loop-mark.shared c.take_back.new.shared c.unwrap-entry.result
     c.loop-mark.invariant
     (omega (arith, c.loop-mark-test.true, c.len.ensures))
     (c.pop.ensures.items ∙ ap (λ o. c.pop.new.self.items ++ option_to_list o) c.unwrap-entry.ensures ∙ ap (λ es. es ++ c.unwrap-entry.result ∷ []) (ap (λ (v : Vec Entry). v.items) (sym c.take_back.ensures.journal)))
     c.take_back.ensures.state c.take_back.ensures.names (ap has_in c.take_back.ensures.sets) c.take_back.ensures.keeps
 
-pub returns-clause-graph : goal.returns-clause-graph
-returns-clause-graph g c =
-    is_back g.T.Tables.seen c.args.mark.0 c.args.self.now c.loop-mark.self c.args.shared.now c.loop-mark.shared c.loop-mark.invariant (omega (arith, c.loop-mark-test.false, c.len.ensures)) c.args.mark refl
+pub returns-clause-back : goal.returns-clause-back
+returns-clause-back g c =
+    is_back g.T.Tables.seen c.args.mark c.args.self.now c.loop-mark.self c.args.shared.now c.loop-mark.shared c.loop-mark.invariant (omega (arith, c.loop-mark-test.false, c.len.ensures))
 
-pub returns-clause-marks : goal.returns-clause-marks
-returns-clause-marks g c = same_mark g.T.Tables.seen c.args.mark.0 c.args.self.now c.loop-mark.self c.args.shared.now c.loop-mark.shared c.loop-mark.invariant
-
-pub returns-clause-there : goal.returns-clause-there
-returns-clause-there g c = c.loop-mark.invariant.there
+pub returns-clause-names : goal.returns-clause-names
+returns-clause-names g c = c.loop-mark.invariant.names
 
 pub returns-clause-fit : goal.returns-clause-fit
 returns-clause-fit g c = c.loop-mark.invariant.fit

@@ -8,4 +8,4 @@ pub returns : goal.returns
 returns g c =
     let store = c.args.self.now in
     c.is_some.ensures ∙ sym (copied_is_there c.rel.result)
-    ∙ sym (rel_is_there store.names (live (state_of g.T.Tables.seen store c.args.shared.now)) store.next.node store.next.rel c.args.id.0 (option_copied c.rel.result) c.rel.ensures)
+    ∙ sym (rel_is_there c.args.shared.now.names (live (state_of g.T.Tables.seen store c.args.shared.now)) store.next.node store.next.rel c.args.id.0 (option_copied c.rel.result) c.rel.ensures)

@@ -14,8 +14,8 @@ pub returns : goal.returns
 returns g c =
     let store = c.args.self.now in
     let n = c.args.node.0 in
-    let content = g.T.Tables.seen.content store.tables c.args.shared.now in
+    let content = g.T.Tables.seen.content store.tables c.args.shared.now.tables in
     (λ i. live_ids store.gone_rels (merged (c.outgoing.ensures i) (c.incoming.ensures i)))
     ∙ ap (live_ids store.gone_rels) (merged_where (λ r. r.source.0 == n) (λ r. r.target.0 == n) content.rels)
-    ∙ sym (ids_mapped (relationship_of store.names) (λ r. (r.source == n) || (r.target == n)) (map.entries (live (state_of g.T.Tables.seen store c.args.shared.now)).rels)
+    ∙ sym (ids_mapped (relationship_of c.args.shared.now.names) (λ r. (r.source == n) || (r.target == n)) (map.entries (live (state_of g.T.Tables.seen store c.args.shared.now)).rels)
     ∙ ids_live (λ r. (r.source.0 == n) || (r.target.0 == n)) content.rels store.gone_rels)

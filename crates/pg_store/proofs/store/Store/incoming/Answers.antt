@@ -9,7 +9,7 @@ use Rattle.pg_store.specs.Stores.{state_of}
 pub returns : goal.returns
 returns g c =
     let store = c.args.self.now in
-    let content = g.T.Tables.seen.content store.tables c.args.shared.now in
+    let content = g.T.Tables.seen.content store.tables c.args.shared.now.tables in
     ap (live_ids store.gone_rels) c.incoming.ensures
-    ∙ sym (incoming_are_read store.names (live (state_of g.T.Tables.seen store c.args.shared.now)) store.next.node store.next.rel c.args.node.0
+    ∙ sym (incoming_are_read c.args.shared.now.names (live (state_of g.T.Tables.seen store c.args.shared.now)) store.next.node store.next.rel c.args.node.0
     ∙ ids_live (λ r. r.target.0 == c.args.node.0) content.rels store.gone_rels)

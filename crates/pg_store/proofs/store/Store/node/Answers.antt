@@ -6,10 +6,10 @@ use Rattle.pg_store.proofs.store.Store.node.Goals as goal
 pub returns-then-is_some : goal.returns-then-is_some
 returns-then-is_some g c =
     let store = c.args.self.now in
-    sym (get_gone (g.T.Tables.seen.content store.tables c.args.shared.now).nodes store.gone_nodes c.args.id.0 (id_is_among store.gone_nodes c.args.id.0 c.get.result c.get.ensures ∙ sym c.is_some.ensures ∙ c.if-is_some.true))
+    sym (get_gone (g.T.Tables.seen.content store.tables c.args.shared.now.tables).nodes store.gone_nodes c.args.id.0 (id_is_among store.gone_nodes c.args.id.0 c.get.result c.get.ensures ∙ sym c.is_some.ensures ∙ c.if-is_some.true))
 
 pub returns : goal.returns
 returns g c =
     let store = c.args.self.now in
     c.node.ensures
-    ∙ sym (get_kept (g.T.Tables.seen.content store.tables c.args.shared.now).nodes store.gone_nodes c.args.id.0 (id_is_among store.gone_nodes c.args.id.0 c.get.result c.get.ensures ∙ sym c.is_some.ensures ∙ c.if-is_some.false))
+    ∙ sym (get_kept (g.T.Tables.seen.content store.tables c.args.shared.now.tables).nodes store.gone_nodes c.args.id.0 (id_is_among store.gone_nodes c.args.id.0 c.get.result c.get.ensures ∙ sym c.is_some.ensures ∙ c.if-is_some.false))

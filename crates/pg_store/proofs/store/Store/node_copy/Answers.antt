@@ -8,7 +8,7 @@ use Rattle.pg_store.specs.Stores.{state_of}
 pub unwrap-requires : goal.unwrap-requires
 unwrap-requires g c =
     let store = c.args.self.now in
-    copied_some c.node.result (subst IsSome (sym c.node.ensures) (node_held store.names (live (state_of g.T.Tables.seen store c.args.shared.now)) store.next.node store.next.rel c.args.id.0 c.requires.there))
+    copied_some c.node.result (subst IsSome (sym c.node.ensures) (node_held c.args.shared.now.names (live (state_of g.T.Tables.seen store c.args.shared.now)) store.next.node store.next.rel c.args.id.0 c.requires.there))
 
 pub returns-clause-copy : goal.returns-clause-copy
 returns-clause-copy g c =

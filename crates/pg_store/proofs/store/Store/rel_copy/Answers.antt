@@ -13,7 +13,7 @@ use Rattle.pg_store.specs.Stores.{state_of}
 pub unwrap-requires : goal.unwrap-requires
 unwrap-requires g c =
     let store = c.args.self.now in
-    copied_some c.rel.result (subst IsSome (sym c.rel.ensures) (rel_held store.names (live (state_of g.T.Tables.seen store c.args.shared.now)) store.next.node store.next.rel c.args.id.0 c.requires.there))
+    copied_some c.rel.result (subst IsSome (sym c.rel.ensures) (rel_held c.args.shared.now.names (live (state_of g.T.Tables.seen store c.args.shared.now)) store.next.node store.next.rel c.args.id.0 c.requires.there))
 
 pub returns-clause-copy : goal.returns-clause-copy
 returns-clause-copy g c =
@@ -21,6 +21,6 @@ returns-clause-copy g c =
 
 pub returns-clause-keys : goal.returns-clause-keys
 returns-clause-keys g c =
-    let names = c.args.self.now.names in
+    let names = c.args.shared.now.names in
     let keys = (c.requires.fit.well.holds.rels c.args.id.0 c.unwrap.result.now (sym c.rel.ensures ∙ ap option_copied c.unwrap.ensures)).keys in
     IfOk-weaker c.copy.result _ _ (λ ps is. subst (λ (ps : Properties). AreNamed names (map.keys ps)) (sym is) keys) c.copy.ensures

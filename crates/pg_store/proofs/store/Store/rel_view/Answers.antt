@@ -15,10 +15,10 @@ pub returns-in-Some : goal.returns-in-Some
 returns-in-Some g c =
     let store = c.args.self.now in
     let content = live (state_of g.T.Tables.seen store c.args.shared.now) in
-    sym (relationship_is_read store.names content store.next.node store.next.rel c.args.id.0 ∙ ap (option_map (relationship_of store.names)) (sym c.in-Some.ensures))
+    sym (relationship_is_read c.args.shared.now.names content store.next.node store.next.rel c.args.id.0 ∙ ap (option_map (relationship_of c.args.shared.now.names)) (sym c.in-Some.ensures))
 
 pub returns-in-None : goal.returns-in-None
 returns-in-None g c =
     let store = c.args.self.now in
     let content = live (state_of g.T.Tables.seen store c.args.shared.now) in
-    sym (relationship_is_read store.names content store.next.node store.next.rel c.args.id.0 ∙ ap (option_map (relationship_of store.names)) (sym c.in-None.ensures))
+    sym (relationship_is_read c.args.shared.now.names content store.next.node store.next.rel c.args.id.0 ∙ ap (option_map (relationship_of c.args.shared.now.names)) (sym c.in-None.ensures))

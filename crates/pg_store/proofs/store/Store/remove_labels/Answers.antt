@@ -12,12 +12,12 @@ pub returns-clause-changes : goal.returns-clause-changes
 returns-clause-changes g c = record {
   says = (let store = c.args.self.now in
       let n = c.in_ok-before.field-0 in
-      let new : Node = node_of store.names (record { labels = c.less_labels-labels.result; properties = n.properties }) in
+      let new : Node = node_of c.args.shared.now.names (record { labels = c.less_labels-labels.result; properties = n.properties }) in
       on_ok_weaker c.change_node.result (λ h.
       h
-      ∙ node_changed_alike store.names (live (state_of g.T.Tables.seen store c.args.shared.now)) store.next.node store.next.rel c.args.id.0 n (λ _. new)
+      ∙ node_changed_alike c.args.shared.now.names (live (state_of g.T.Tables.seen store c.args.shared.now)) store.next.node store.next.rel c.args.id.0 n (λ _. new)
       (λ e. record e { labels = filter (λ l. not (is_among (texts_of c.args.labels.now.items) l)) e.labels }) c.in_ok-before.ensures.copy
-      (λ t. record { labels = (c.less_labels-labels.ensures.labels ∙ without_is (texts_of c.args.labels.now.items) (label_texts store.names n.labels)) t; properties = property_entries store.names n.properties }))
+      (λ t. record { labels = (c.less_labels-labels.ensures.labels ∙ without_is (texts_of c.args.labels.now.items) (label_texts c.args.shared.now.names n.labels)) t; properties = property_entries c.args.shared.now.names n.properties }))
       c.change_node.ensures.ok);
   same = c.change_node.ensures.err;
   fit = c.change_node.ensures.fit;

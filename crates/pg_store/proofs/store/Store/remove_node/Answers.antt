@@ -5,7 +5,9 @@ use Rattle.pg_graph.proofs.Refined.{outgoing_are_read, incoming_are_read}
 use Rattle.pg_graph.proofs.Removed.{is_live}
 use Rattle.pg_graph.specs.Removed.{Ids}
 use Rattle.pg_store.proofs.ChangeLemmas.{changed_fit, refused_fit, changed_marks}
+use Rattle.pg_store.proofs.SetLemmas.{same_grow}
 use Rattle.pg_store.proofs.Stores.{node_held, copied_some}
+use Rattle.pg_store.proofs.Kept.{tables_kept}
 use Rattle.pg_store.proofs.CoverLemmas.{covers_now, grown_covers}
 use Rattle.pg_store.proofs.States.{with_node_removed, node_removed, node_removal_undone, a_node}
 use Rattle.pg_store.proofs.store.Store.remove_node.Goals as goal
@@ -18,61 +20,61 @@ pub overflow_sub-self : goal.overflow_sub-self
 overflow_sub-self g c =
     let store = c.args.self.now in
     let s = state_of g.T.Tables.seen store c.args.shared.now in
-    let there = node_held store.names (live s) store.next.node store.next.rel c.args.id.0 c.requires.there in
-    let out = sym (outgoing_are_read store.names (live s) store.next.node store.next.rel c.args.id.0) ∙ c.requires.no_outgoing in
-    let into = sym (incoming_are_read store.names (live s) store.next.node store.next.rel c.args.id.0) ∙ c.requires.no_incoming in
-    a_node store.names s c.args.id c.requires.fit.well there out into
+    let there = node_held c.args.shared.now.names (live s) store.next.node store.next.rel c.args.id.0 c.requires.there in
+    let out = sym (outgoing_are_read c.args.shared.now.names (live s) store.next.node store.next.rel c.args.id.0) ∙ c.requires.no_outgoing in
+    let into = sym (incoming_are_read c.args.shared.now.names (live s) store.next.node store.next.rel c.args.id.0) ∙ c.requires.no_incoming in
+    a_node c.args.shared.now.names s c.args.id c.requires.fit.well there out into
 
 pub returns-clause-changes : goal.returns-clause-changes
 returns-clause-changes g c = record {
   says = (let store = c.args.self.now in
       let s = state_of g.T.Tables.seen store c.args.shared.now in
-      let there = node_held store.names (live s) store.next.node store.next.rel c.args.id.0 c.requires.there in
-      let out = sym (outgoing_are_read store.names (live s) store.next.node store.next.rel c.args.id.0) ∙ c.requires.no_outgoing in
-      let into = sym (incoming_are_read store.names (live s) store.next.node store.next.rel c.args.id.0) ∙ c.requires.no_incoming in
-      let removed = with_node_removed store.names s c.args.id c.requires.fit.well there out into in
-      ap (λ (gone : Ids). graph_in store.names (record removed { gone_nodes = gone })) c.in_ok-insert.ensures.ok
-      ∙ node_removed store.names s c.args.id c.requires.fit.well there out into);
+      let there = node_held c.args.shared.now.names (live s) store.next.node store.next.rel c.args.id.0 c.requires.there in
+      let out = sym (outgoing_are_read c.args.shared.now.names (live s) store.next.node store.next.rel c.args.id.0) ∙ c.requires.no_outgoing in
+      let into = sym (incoming_are_read c.args.shared.now.names (live s) store.next.node store.next.rel c.args.id.0) ∙ c.requires.no_incoming in
+      let removed = with_node_removed c.args.shared.now.names s c.args.id c.requires.fit.well there out into in
+      ap (λ (gone : Ids). graph_in c.args.shared.now.names (record removed { gone_nodes = gone })) c.in_ok-insert.ensures.ok
+      ∙ node_removed c.args.shared.now.names s c.args.id c.requires.fit.well there out into);
   same = tt;
   fit = (let store = c.args.self.now in
       let s = state_of g.T.Tables.seen store c.args.shared.now in
-      let there = node_held store.names (live s) store.next.node store.next.rel c.args.id.0 c.requires.there in
-      let out = sym (outgoing_are_read store.names (live s) store.next.node store.next.rel c.args.id.0) ∙ c.requires.no_outgoing in
-      let into = sym (incoming_are_read store.names (live s) store.next.node store.next.rel c.args.id.0) ∙ c.requires.no_incoming in
-      let removed = with_node_removed store.names s c.args.id c.requires.fit.well there out into in
+      let there = node_held c.args.shared.now.names (live s) store.next.node store.next.rel c.args.id.0 c.requires.there in
+      let out = sym (outgoing_are_read c.args.shared.now.names (live s) store.next.node store.next.rel c.args.id.0) ∙ c.requires.no_outgoing in
+      let into = sym (incoming_are_read c.args.shared.now.names (live s) store.next.node store.next.rel c.args.id.0) ∙ c.requires.no_incoming in
+      let removed = with_node_removed c.args.shared.now.names s c.args.id c.requires.fit.well there out into in
       changed_fit g.T.Tables.seen store _ c.args.shared.now _ c.requires.fit (NodeRemoved c.args.id) removed
-      (node_removal_undone store.names s c.args.id c.requires.fit.well there out into)
+      (node_removal_undone c.args.shared.now.names s c.args.id c.requires.fit.well there out into)
       refl
       (ap (λ (gone : Ids). record removed { gone_nodes = gone }) c.in_ok-insert.ensures.ok)
       (c.push_reserved.ensures.items ∙ ap (λ es. es ++ NodeRemoved c.args.id ∷ []) c.in_ok-reserve.ensures.items)
-      c.cover_node.ensures.grown
-      (grown_covers (has_in store.sets) (has_in c.cover_node.new.self) c.cover_node.ensures.grown s (covers_now (has_in store.sets) store.journal.items s c.requires.fit.covered))
+      (same_grow store.sets c.note_leaving.new.self c.note_leaving.ensures.all c.note_leaving.ensures.labels c.note_leaving.ensures.indexes)
+      (grown_covers (has_in store.sets) (has_in c.note_leaving.new.self) (same_grow store.sets c.note_leaving.new.self c.note_leaving.ensures.all c.note_leaving.ensures.labels c.note_leaving.ensures.indexes) s (covers_now (has_in store.sets) store.journal.items s c.requires.fit.covered))
       c.requires.fit.fits);
-  keeps = keeps_refl c.args.self.now.tables c.args.shared.now c.requires.fit.fits;
+  keeps = tables_kept c.args.self.now _ c.args.shared.now _ c.requires.fit (keeps_refl c.args.self.now.tables c.args.shared.now.tables c.requires.fit.fits) refl;
 }
 
 pub returns-clause-marks : goal.returns-clause-marks
 returns-clause-marks g c =
     let store = c.args.self.now in
     let s = state_of g.T.Tables.seen store c.args.shared.now in
-    let there = node_held store.names (live s) store.next.node store.next.rel c.args.id.0 c.requires.there in
-    let out = sym (outgoing_are_read store.names (live s) store.next.node store.next.rel c.args.id.0) ∙ c.requires.no_outgoing in
-    let into = sym (incoming_are_read store.names (live s) store.next.node store.next.rel c.args.id.0) ∙ c.requires.no_incoming in
-    let removed = with_node_removed store.names s c.args.id c.requires.fit.well there out into in
+    let there = node_held c.args.shared.now.names (live s) store.next.node store.next.rel c.args.id.0 c.requires.there in
+    let out = sym (outgoing_are_read c.args.shared.now.names (live s) store.next.node store.next.rel c.args.id.0) ∙ c.requires.no_outgoing in
+    let into = sym (incoming_are_read c.args.shared.now.names (live s) store.next.node store.next.rel c.args.id.0) ∙ c.requires.no_incoming in
+    let removed = with_node_removed c.args.shared.now.names s c.args.id c.requires.fit.well there out into in
     changed_marks g.T.Tables.seen store _ c.args.shared.now _ c.requires.fit (NodeRemoved c.args.id) removed
-    (node_removal_undone store.names s c.args.id c.requires.fit.well there out into)
+    (node_removal_undone c.args.shared.now.names s c.args.id c.requires.fit.well there out into)
     refl
     (ap (λ (gone : Ids). record removed { gone_nodes = gone }) c.in_ok-insert.ensures.ok)
     (c.push_reserved.ensures.items ∙ ap (λ es. es ++ NodeRemoved c.args.id ∷ []) c.in_ok-reserve.ensures.items)
 
-pub returns-in_err-cover_node-clause-changes : goal.returns-in_err-cover_node-clause-changes
-returns-in_err-cover_node-clause-changes g c = record {
+pub returns-in_err-note_leaving-clause-changes : goal.returns-in_err-note_leaving-clause-changes
+returns-in_err-note_leaving-clause-changes g c = record {
   says = search rules;
   same = search rules;
   fit = (let store = c.args.self.now in
       let s = state_of g.T.Tables.seen store c.args.shared.now in
-      refused_fit g.T.Tables.seen store (record store { journal = c.reserve.new.self; sets = c.cover_node.new.self }) c.args.shared.now c.args.shared.now c.requires.fit refl refl c.in_ok-reserve.ensures.items c.cover_node.ensures.grown c.requires.fit.fits);
-  keeps = keeps_refl c.args.self.now.tables c.args.shared.now c.requires.fit.fits;
+      refused_fit g.T.Tables.seen store (record store { journal = c.reserve.new.self; sets = c.note_leaving.new.self }) c.args.shared.now c.args.shared.now c.requires.fit refl refl c.in_ok-reserve.ensures.items (same_grow store.sets c.note_leaving.new.self c.note_leaving.ensures.all c.note_leaving.ensures.labels c.note_leaving.ensures.indexes) c.requires.fit.fits);
+  keeps = tables_kept c.args.self.now _ c.args.shared.now _ c.requires.fit (keeps_refl c.args.self.now.tables c.args.shared.now.tables c.requires.fit.fits) refl;
 }
 
 pub returns-in_err-insert-clause-changes : goal.returns-in_err-insert-clause-changes
@@ -81,12 +83,12 @@ returns-in_err-insert-clause-changes g c = record {
   same = search rules;
   fit = (let store = c.args.self.now in
       let s = state_of g.T.Tables.seen store c.args.shared.now in
-      refused_fit g.T.Tables.seen store (record store { gone_nodes = c.insert.new.self; journal = c.reserve.new.self; sets = c.cover_node.new.self }) c.args.shared.now c.args.shared.now c.requires.fit refl (λ t. record s { gone_nodes = c.in_err-insert.ensures.err t }) c.in_ok-reserve.ensures.items c.cover_node.ensures.grown c.requires.fit.fits);
-  keeps = keeps_refl c.args.self.now.tables c.args.shared.now c.requires.fit.fits;
+      refused_fit g.T.Tables.seen store (record store { gone_nodes = c.insert.new.self; journal = c.reserve.new.self; sets = c.note_leaving.new.self }) c.args.shared.now c.args.shared.now c.requires.fit refl (λ t. record s { gone_nodes = c.in_err-insert.ensures.err t }) c.in_ok-reserve.ensures.items (same_grow store.sets c.note_leaving.new.self c.note_leaving.ensures.all c.note_leaving.ensures.labels c.note_leaving.ensures.indexes) c.requires.fit.fits);
+  keeps = tables_kept c.args.self.now _ c.args.shared.now _ c.requires.fit (keeps_refl c.args.self.now.tables c.args.shared.now.tables c.requires.fit.fits) refl;
 }
 
 pub unwrap-was-requires : goal.unwrap-was-requires
 unwrap-was-requires g c =
     let store = c.args.self.now in
     let s = state_of g.T.Tables.seen store c.args.shared.now in
-    copied_some c.node.result (subst IsSome (sym c.node.ensures) (is_live s.content.nodes store.gone_nodes c.args.id.0 (node_held store.names (live s) store.next.node store.next.rel c.args.id.0 c.requires.there)).1)
+    copied_some c.node.result (subst IsSome (sym c.node.ensures) (is_live s.content.nodes store.gone_nodes c.args.id.0 (node_held c.args.shared.now.names (live s) store.next.node store.next.rel c.args.id.0 c.requires.there)).1)

@@ -3,6 +3,7 @@ use Rattle.pg_graph.proofs.Others.{keeps_refl}
 use Rattle.pg_graph.specs.Removed.{Ids}
 use Rattle.pg_store.proofs.ChangeLemmas.{changed_fit, changed_marks}
 use Rattle.pg_store.proofs.Stores.{rel_held}
+use Rattle.pg_store.proofs.Kept.{tables_kept}
 use Rattle.pg_store.proofs.CoverLemmas.{covers_now}
 use Rattle.pg_store.proofs.States.{with_rel_removed, rel_removed, rel_removal_undone, a_rel}
 use Rattle.pg_store.proofs.store.Store.remove_rel.Goals as goal
@@ -15,41 +16,41 @@ pub overflow_sub-self : goal.overflow_sub-self
 overflow_sub-self g c =
     let store = c.args.self.now in
     let s = state_of g.T.Tables.seen store c.args.shared.now in
-    let there = rel_held store.names (live s) store.next.node store.next.rel c.args.id.0 c.requires.there in
-    a_rel store.names s c.args.id c.requires.fit.well there
+    let there = rel_held c.args.shared.now.names (live s) store.next.node store.next.rel c.args.id.0 c.requires.there in
+    a_rel c.args.shared.now.names s c.args.id c.requires.fit.well there
 
 pub returns-clause-changes : goal.returns-clause-changes
 returns-clause-changes g c = record {
   says = (let store = c.args.self.now in
       let s = state_of g.T.Tables.seen store c.args.shared.now in
-      let there = rel_held store.names (live s) store.next.node store.next.rel c.args.id.0 c.requires.there in
-      let removed = with_rel_removed store.names s c.args.id c.requires.fit.well there in
-      ap (λ (gone : Ids). graph_in store.names (record removed { gone_rels = gone })) c.in_ok-insert.ensures.ok
-      ∙ rel_removed store.names s c.args.id c.requires.fit.well there);
+      let there = rel_held c.args.shared.now.names (live s) store.next.node store.next.rel c.args.id.0 c.requires.there in
+      let removed = with_rel_removed c.args.shared.now.names s c.args.id c.requires.fit.well there in
+      ap (λ (gone : Ids). graph_in c.args.shared.now.names (record removed { gone_rels = gone })) c.in_ok-insert.ensures.ok
+      ∙ rel_removed c.args.shared.now.names s c.args.id c.requires.fit.well there);
   same = tt;
   fit = (let store = c.args.self.now in
       let s = state_of g.T.Tables.seen store c.args.shared.now in
-      let there = rel_held store.names (live s) store.next.node store.next.rel c.args.id.0 c.requires.there in
-      let removed = with_rel_removed store.names s c.args.id c.requires.fit.well there in
+      let there = rel_held c.args.shared.now.names (live s) store.next.node store.next.rel c.args.id.0 c.requires.there in
+      let removed = with_rel_removed c.args.shared.now.names s c.args.id c.requires.fit.well there in
       changed_fit g.T.Tables.seen store _ c.args.shared.now _ c.requires.fit (RelRemoved c.args.id) removed
-      (rel_removal_undone store.names s c.args.id c.requires.fit.well there)
+      (rel_removal_undone c.args.shared.now.names s c.args.id c.requires.fit.well there)
       refl
       (ap (λ (gone : Ids). record removed { gone_rels = gone }) c.in_ok-insert.ensures.ok)
       (c.push_reserved.ensures.items ∙ ap (λ es. es ++ RelRemoved c.args.id ∷ []) c.in_ok-reserve.ensures.items)
       (λ k i h. h)
       (covers_now (has_in store.sets) store.journal.items s c.requires.fit.covered)
       c.requires.fit.fits);
-  keeps = keeps_refl c.args.self.now.tables c.args.shared.now c.requires.fit.fits;
+  keeps = tables_kept c.args.self.now _ c.args.shared.now _ c.requires.fit (keeps_refl c.args.self.now.tables c.args.shared.now.tables c.requires.fit.fits) refl;
 }
 
 pub returns-clause-marks : goal.returns-clause-marks
 returns-clause-marks g c =
     let store = c.args.self.now in
     let s = state_of g.T.Tables.seen store c.args.shared.now in
-    let there = rel_held store.names (live s) store.next.node store.next.rel c.args.id.0 c.requires.there in
-    let removed = with_rel_removed store.names s c.args.id c.requires.fit.well there in
+    let there = rel_held c.args.shared.now.names (live s) store.next.node store.next.rel c.args.id.0 c.requires.there in
+    let removed = with_rel_removed c.args.shared.now.names s c.args.id c.requires.fit.well there in
     changed_marks g.T.Tables.seen store _ c.args.shared.now _ c.requires.fit (RelRemoved c.args.id) removed
-    (rel_removal_undone store.names s c.args.id c.requires.fit.well there)
+    (rel_removal_undone c.args.shared.now.names s c.args.id c.requires.fit.well there)
     refl
     (ap (λ (gone : Ids). record removed { gone_rels = gone }) c.in_ok-insert.ensures.ok)
     (c.push_reserved.ensures.items ∙ ap (λ es. es ++ RelRemoved c.args.id ∷ []) c.in_ok-reserve.ensures.items)

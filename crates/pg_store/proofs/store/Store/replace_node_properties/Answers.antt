@@ -1,13 +1,13 @@
 use Rattle.std.proofs.Common.{rules}
 use Rattle.std.proofs.Common.{ap, ◌∙◌}
 use Rattle.std.proofs.lemmas.Result.{on_ok_weaker, on_err_weaker}
-use Rattle.pg_graph.proofs.Others.{keeps_refl}
 use Rattle.pg_graph.proofs.Held.{more_named}
 use Rattle.pg_graph.specs.Refinement.{node_of}
 use Rattle.pg_meaning.specs.Entries.{set_keys}
 use Rattle.pg_meaning.specs.Graph.{Node, change_node}
 use Rattle.pg_meaning.specs.Value.{no_entries}
-use Rattle.pg_store.proofs.ChangeLemmas.{at_err, marks_then, renamed_graph, renamed_fit, renamed_marks}
+use Rattle.pg_store.proofs.ChangeLemmas.{at_err, marks_then, renamed_graph, renamed_fit, renamed_keeps, renamed_marks}
+use Rattle.pg_store.proofs.Kept.{kept_then}
 use Rattle.pg_store.proofs.Changed.{node_changed_alike, with_properties}
 use Rattle.pg_store.proofs.store.Store.replace_node_properties.Goals as goal
 use Rattle.pg_store.specs.Journal.{live}
@@ -18,7 +18,7 @@ returns-in_err-properties-clause-changes g c = record {
   says = search rules;
   same = (at_err c.from_residual-in_err-properties.result (renamed_graph g.T.Tables.seen c.args.self.now c.args.shared.now c.properties_of.new.names c.properties_of.ensures.keeps c.requires.fit));
   fit = (renamed_fit g.T.Tables.seen c.args.self.now c.args.shared.now c.properties_of.new.names c.properties_of.ensures.keeps c.requires.fit c.properties_of.ensures.distinct);
-  keeps = keeps_refl c.args.self.now.tables c.args.shared.now c.requires.fit.fits;
+  keeps = renamed_keeps g.T.Tables.seen c.args.self.now c.args.shared.now c.properties_of.new.names c.properties_of.ensures.keeps c.requires.fit c.properties_of.ensures.distinct;
 }
 
 pub returns-in_err-properties-clause-marks : goal.returns-in_err-properties-clause-marks
@@ -29,7 +29,7 @@ change_node-requires-clause-fit g c =
     renamed_fit g.T.Tables.seen c.args.self.now c.args.shared.now c.properties_of.new.names c.properties_of.ensures.keeps c.requires.fit c.properties_of.ensures.distinct
 
 pub change_node-requires-clause-labels : goal.change_node-requires-clause-labels
-change_node-requires-clause-labels g c = more_named c.args.self.now.names c.properties_of.new.names c.properties_of.ensures.keeps c.in_ok-labels.field-0.labels c.in_ok-labels.ensures.labels
+change_node-requires-clause-labels g c = more_named c.args.shared.now.names c.properties_of.new.names c.properties_of.ensures.keeps c.in_ok-labels.field-0.labels c.in_ok-labels.ensures.labels
 
 pub returns-clause-changes : goal.returns-clause-changes
 returns-clause-changes g c = record {
@@ -40,18 +40,18 @@ returns-clause-changes g c = record {
       on_ok_weaker c.change_node.result (λ h.
       h
       ∙ ap (change_node (λ _. new) c.args.id.0) same
-      ∙ node_changed_alike store.names (live (state_of g.T.Tables.seen store c.args.shared.now)) store.next.node store.next.rel c.args.id.0 n (λ _. new)
+      ∙ node_changed_alike c.args.shared.now.names (live (state_of g.T.Tables.seen store c.args.shared.now)) store.next.node store.next.rel c.args.id.0 n (λ _. new)
       (λ e. record e { properties = set_keys (pairs_of c.args.properties.items) no_entries }) c.in_ok-labels.ensures.copy
-      (with_properties store.names c.properties_of.new.names n c.in_ok-properties.properties _ c.properties_of.ensures.keeps c.in_ok-labels.ensures.labels c.in_ok-properties.ensures.properties))
+      (with_properties c.args.shared.now.names c.properties_of.new.names n c.in_ok-properties.properties _ c.properties_of.ensures.keeps c.in_ok-labels.ensures.labels c.in_ok-properties.ensures.properties))
       c.change_node.ensures.ok);
   same = (on_err_weaker c.change_node.result (λ e. e ∙ renamed_graph g.T.Tables.seen c.args.self.now c.args.shared.now c.properties_of.new.names c.properties_of.ensures.keeps c.requires.fit)
       c.change_node.ensures.err);
   fit = c.change_node.ensures.fit;
-  keeps = c.change_node.ensures.keeps;
+  keeps = kept_then c.args.self.now c.args.self.now c.change_node.new.self c.args.shared.now _ c.change_node.new.shared (renamed_keeps g.T.Tables.seen c.args.self.now c.args.shared.now c.properties_of.new.names c.properties_of.ensures.keeps c.requires.fit c.properties_of.ensures.distinct) c.change_node.ensures.keeps;
 }
 
 pub returns-clause-marks : goal.returns-clause-marks
 returns-clause-marks g c =
-    marks_then g.T.Tables.seen c.args.self.now _ c.change_node.new.self c.args.shared.now c.args.shared.now c.change_node.new.shared
+    marks_then g.T.Tables.seen c.args.self.now c.args.self.now c.change_node.new.self c.args.shared.now _ c.change_node.new.shared
     (renamed_marks g.T.Tables.seen c.args.self.now c.args.shared.now c.properties_of.new.names c.properties_of.ensures.keeps c.requires.fit)
     c.change_node.ensures.marks

@@ -1,10 +1,10 @@
 use Rattle.std.proofs.Common.{rules}
 use Rattle.std.proofs.Common.{ap, ◌∙◌}
 use Rattle.std.proofs.lemmas.Result.{on_ok_weaker, on_err_weaker}
-use Rattle.pg_graph.proofs.Others.{keeps_refl}
 use Rattle.pg_graph.specs.Refinement.{property_entries}
 use Rattle.pg_meaning.specs.Graph.{change_relationship}
-use Rattle.pg_store.proofs.ChangeLemmas.{at_err, marks_then, renamed_graph, renamed_fit, renamed_marks}
+use Rattle.pg_store.proofs.ChangeLemmas.{at_err, marks_then, renamed_graph, renamed_fit, renamed_keeps, renamed_marks}
+use Rattle.pg_store.proofs.Kept.{kept_then}
 use Rattle.pg_store.proofs.Stores.{rel_held}
 use Rattle.pg_store.proofs.store.Store.replace_rel_properties.Goals as goal
 use Rattle.pg_store.specs.Journal.{live}
@@ -15,7 +15,7 @@ returns-in_err-properties-clause-changes g c = record {
   says = search rules;
   same = (at_err c.from_residual.result (renamed_graph g.T.Tables.seen c.args.self.now c.args.shared.now c.properties_of.new.names c.properties_of.ensures.keeps c.requires.fit));
   fit = (renamed_fit g.T.Tables.seen c.args.self.now c.args.shared.now c.properties_of.new.names c.properties_of.ensures.keeps c.requires.fit c.properties_of.ensures.distinct);
-  keeps = keeps_refl c.args.self.now.tables c.args.shared.now c.requires.fit.fits;
+  keeps = renamed_keeps g.T.Tables.seen c.args.self.now c.args.shared.now c.properties_of.new.names c.properties_of.ensures.keeps c.requires.fit c.properties_of.ensures.distinct;
 }
 
 pub returns-in_err-properties-clause-marks : goal.returns-in_err-properties-clause-marks
@@ -28,7 +28,7 @@ change_rel-requires-clause-fit g c =
 pub change_rel-requires-clause-there : goal.change_rel-requires-clause-there
 change_rel-requires-clause-there g c =
     let store = c.args.self.now in
-    rel_held store.names (live (state_of g.T.Tables.seen store c.args.shared.now)) store.next.node store.next.rel c.args.id.0 c.requires.there
+    rel_held c.args.shared.now.names (live (state_of g.T.Tables.seen store c.args.shared.now)) store.next.node store.next.rel c.args.id.0 c.requires.there
 
 pub returns-clause-changes : goal.returns-clause-changes
 returns-clause-changes g c = record {
@@ -42,11 +42,11 @@ returns-clause-changes g c = record {
   same = (on_err_weaker c.change_rel.result (λ e. e ∙ renamed_graph g.T.Tables.seen c.args.self.now c.args.shared.now c.properties_of.new.names c.properties_of.ensures.keeps c.requires.fit)
       c.change_rel.ensures.err);
   fit = c.change_rel.ensures.fit;
-  keeps = c.change_rel.ensures.keeps;
+  keeps = kept_then c.args.self.now c.args.self.now c.change_rel.new.self c.args.shared.now _ c.change_rel.new.shared (renamed_keeps g.T.Tables.seen c.args.self.now c.args.shared.now c.properties_of.new.names c.properties_of.ensures.keeps c.requires.fit c.properties_of.ensures.distinct) c.change_rel.ensures.keeps;
 }
 
 pub returns-clause-marks : goal.returns-clause-marks
 returns-clause-marks g c =
-    marks_then g.T.Tables.seen c.args.self.now _ c.change_rel.new.self c.args.shared.now c.args.shared.now c.change_rel.new.shared
+    marks_then g.T.Tables.seen c.args.self.now c.args.self.now c.change_rel.new.self c.args.shared.now _ c.change_rel.new.shared
     (renamed_marks g.T.Tables.seen c.args.self.now c.args.shared.now c.properties_of.new.names c.properties_of.ensures.keeps c.requires.fit)
     c.change_rel.ensures.marks

@@ -1,11 +1,11 @@
 use Rattle.std.proofs.Common.{rules}
 use Rattle.std.proofs.Common.{ap, ◌∙◌}
 use Rattle.std.proofs.lemmas.Result.{on_ok_weaker, on_err_weaker}
-use Rattle.pg_graph.proofs.Others.{keeps_refl}
 use Rattle.pg_graph.specs.Refinement.{property_entries}
 use Rattle.pg_meaning.specs.Entries.{set_keys}
 use Rattle.pg_meaning.specs.Graph.{change_relationship}
-use Rattle.pg_store.proofs.ChangeLemmas.{at_err, marks_then, renamed_graph, renamed_fit, renamed_marks}
+use Rattle.pg_store.proofs.ChangeLemmas.{at_err, marks_then, renamed_graph, renamed_fit, renamed_keeps, renamed_marks}
+use Rattle.pg_store.proofs.Kept.{kept_then}
 use Rattle.pg_store.proofs.Changed.{rel_properties_alike}
 use Rattle.pg_store.proofs.store.Store.set_rel_properties.Goals as goal
 use Rattle.pg_store.specs.Journal.{live}
@@ -16,7 +16,7 @@ returns-in_err-properties-clause-changes g c = record {
   says = search rules;
   same = (at_err c.from_residual-in_err-properties.result (renamed_graph g.T.Tables.seen c.args.self.now c.args.shared.now c.more_properties.new.names c.more_properties.ensures.keeps c.requires.fit));
   fit = (renamed_fit g.T.Tables.seen c.args.self.now c.args.shared.now c.more_properties.new.names c.more_properties.ensures.keeps c.requires.fit c.more_properties.ensures.distinct);
-  keeps = keeps_refl c.args.self.now.tables c.args.shared.now c.requires.fit.fits;
+  keeps = renamed_keeps g.T.Tables.seen c.args.self.now c.args.shared.now c.more_properties.new.names c.more_properties.ensures.keeps c.requires.fit c.more_properties.ensures.distinct;
 }
 
 pub returns-in_err-properties-clause-marks : goal.returns-in_err-properties-clause-marks
@@ -33,16 +33,16 @@ returns-clause-changes g c = record {
       on_ok_weaker c.change_rel.result (λ h.
       h
       ∙ ap (change_relationship (λ r. record r { properties = property_entries c.more_properties.new.names c.in_ok-properties.properties }) c.args.id.0) same
-      ∙ rel_properties_alike store.names (live (state_of g.T.Tables.seen store c.args.shared.now)) store.next.node store.next.rel c.args.id.0 _ c.in_ok-before.before (set_keys (pairs_of c.args.properties.items)) c.in_ok-before.ensures.copy c.in_ok-properties.ensures.properties)
+      ∙ rel_properties_alike c.args.shared.now.names (live (state_of g.T.Tables.seen store c.args.shared.now)) store.next.node store.next.rel c.args.id.0 _ c.in_ok-before.before (set_keys (pairs_of c.args.properties.items)) c.in_ok-before.ensures.copy c.in_ok-properties.ensures.properties)
       c.change_rel.ensures.ok);
   same = (on_err_weaker c.change_rel.result (λ e. e ∙ renamed_graph g.T.Tables.seen c.args.self.now c.args.shared.now c.more_properties.new.names c.more_properties.ensures.keeps c.requires.fit)
       c.change_rel.ensures.err);
   fit = c.change_rel.ensures.fit;
-  keeps = c.change_rel.ensures.keeps;
+  keeps = kept_then c.args.self.now c.args.self.now c.change_rel.new.self c.args.shared.now _ c.change_rel.new.shared (renamed_keeps g.T.Tables.seen c.args.self.now c.args.shared.now c.more_properties.new.names c.more_properties.ensures.keeps c.requires.fit c.more_properties.ensures.distinct) c.change_rel.ensures.keeps;
 }
 
 pub returns-clause-marks : goal.returns-clause-marks
 returns-clause-marks g c =
-    marks_then g.T.Tables.seen c.args.self.now _ c.change_rel.new.self c.args.shared.now c.args.shared.now c.change_rel.new.shared
+    marks_then g.T.Tables.seen c.args.self.now c.args.self.now c.change_rel.new.self c.args.shared.now _ c.change_rel.new.shared
     (renamed_marks g.T.Tables.seen c.args.self.now c.args.shared.now c.more_properties.new.names c.more_properties.ensures.keeps c.requires.fit)
     c.change_rel.ensures.marks

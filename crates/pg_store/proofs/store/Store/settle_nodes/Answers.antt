@@ -11,13 +11,13 @@ pub drop_node-requires-clause-no_outgoing : goal.drop_node-requires-clause-no_ou
 drop_node-requires-clause-no_outgoing g c =
     let now = c.loop-id.self in
     let was = c.loop-id.invariant in
-    nothing_out now.names (state_of g.T.Tables.seen now c.loop-id.shared) c.in-Some.id was.settles.fit.well (among now.gone_nodes c.in-Some.id _ c.in-Some.ensures.before) was.no_rels
+    nothing_out c.loop-id.shared.names (state_of g.T.Tables.seen now c.loop-id.shared) c.in-Some.id was.settles.fit.well (among now.gone_nodes c.in-Some.id _ c.in-Some.ensures.before) was.no_rels
 
 pub drop_node-requires-clause-no_incoming : goal.drop_node-requires-clause-no_incoming
 drop_node-requires-clause-no_incoming g c =
     let now = c.loop-id.self in
     let was = c.loop-id.invariant in
-    nothing_in now.names (state_of g.T.Tables.seen now c.loop-id.shared) c.in-Some.id was.settles.fit.well (among now.gone_nodes c.in-Some.id _ c.in-Some.ensures.before) was.no_rels
+    nothing_in c.loop-id.shared.names (state_of g.T.Tables.seen now c.loop-id.shared) c.in-Some.id was.settles.fit.well (among now.gone_nodes c.in-Some.id _ c.in-Some.ensures.before) was.no_rels
 
 pub loop-id-smaller : goal.loop-id-smaller
 loop-id-smaller g c =
@@ -31,11 +31,11 @@ loop-id-preserved g c =
     let s = state_of g.T.Tables.seen now c.loop-id.shared in
     let gone = among now.gone_nodes c.in-Some.id _ c.in-Some.ensures.before in
     record {
-      settles = settles_on g.T.Tables.seen c.args.self.now now _ c.args.shared.now c.loop-id.shared _ (without_gone_node now.names s c.in-Some.id was.settles.fit.well gone was.no_rels) was.settles
+      settles = settles_on g.T.Tables.seen c.args.self.now now _ c.args.shared.now c.loop-id.shared _ (without_gone_node c.loop-id.shared.names s c.in-Some.id was.settles.fit.well gone was.no_rels) was.settles
           (λ t. record s { content = c.drop_node.ensures.dropped t; gone_nodes = c.in-Some.ensures.removed t })
-          (well_without_node now.names s c.in-Some.id was.settles.fit.well gone was.no_rels)
+          (well_without_node c.loop-id.shared.names s c.in-Some.id was.settles.fit.well gone was.no_rels)
           (covers_without (has_in now.sets) s c.in-Some.id (covers_now (has_in now.sets) now.journal.items s was.settles.fit.covered))
-          (graph_without_node now.names s c.in-Some.id was.settles.fit.well gone was.no_rels)
+          (graph_without_node c.loop-id.shared.names s c.in-Some.id was.settles.fit.well gone was.no_rels)
           refl refl c.drop_node.ensures.keeps;
       no_rels = was.no_rels;
     }

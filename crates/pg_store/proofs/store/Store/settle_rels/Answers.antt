@@ -18,9 +18,9 @@ loop-id-preserved g c =
     let was = c.loop-id.invariant in
     let s = state_of g.T.Tables.seen now c.loop-id.shared in
     let gone = among now.gone_rels c.in-Some.id _ c.in-Some.ensures.before in
-    settles_on g.T.Tables.seen c.args.self.now now _ c.args.shared.now c.loop-id.shared _ (without_gone_rel now.names s c.in-Some.id was.fit.well gone) was
+    settles_on g.T.Tables.seen c.args.self.now now _ c.args.shared.now c.loop-id.shared _ (without_gone_rel c.loop-id.shared.names s c.in-Some.id was.fit.well gone) was
     (λ t. record s { content = c.drop_rel.ensures.dropped t; gone_rels = c.in-Some.ensures.removed t })
-    (well_without_rel now.names s c.in-Some.id was.fit.well gone)
+    (well_without_rel c.loop-id.shared.names s c.in-Some.id was.fit.well gone)
     (covers_now (has_in now.sets) now.journal.items s was.fit.covered)
-    (graph_without_rel now.names s c.in-Some.id was.fit.well gone)
+    (graph_without_rel c.loop-id.shared.names s c.in-Some.id was.fit.well gone)
     refl refl c.drop_rel.ensures.keeps

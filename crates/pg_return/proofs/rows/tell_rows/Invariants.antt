@@ -1,0 +1,10 @@
+use Rattle.std.proofs.Common.{drop}
+use Rattle.pg_project.specs.Given.{trees_of, values_given}
+use Rattle.pg_return.proofs.Returns.{RowsSoFar}
+use Rattle.pg_rows.specs.Tables.{table}
+use Rattle.pg_value_core.specs.Given.{parameters_view}
+use Rattle.pg_return.proofs.rows.tell_rows.Given as goal
+
+abbrev pub invariant-loop-at : goal.invariant-loop-at
+invariant-loop-at g l =
+    RowsSoFar l.graph (values_given (parameters_view l.parameters) l.graph l.names (trees_of l.names l.ready.items)) (table l.rows) (drop l.at (table l.rows)) l.initial.telling l.telling

@@ -1,0 +1,41 @@
+-- RETURN as the last clause, and what its rows are answered.
+use Rattle.std.specs.Prelude.{◌≡◌, Bool, ℕ, cond, List, [], map, Result, Ok, None}
+use Rattle.serde_json.specs.Data.{Items, string}
+use Rattle.pg_json.specs.Replies.{items_of}
+use Rattle.pg_meaning.specs.Answer.{◌>>=◌}
+use Rattle.pg_meaning.specs.Graph.{Graph}
+use Rattle.pg_meaning.specs.Meters.{Setting, State}
+use Rattle.pg_meaning.specs.Projections.{project_clause}
+use Rattle.pg_meaning.specs.Queries.{output_rows}
+use Rattle.pg_meaning.specs.Rows.{values_in}
+use Rattle.pg_meaning.specs.Scopes.{column_names, return_columns}
+use Rattle.pg_meaning.specs.Tree.{Projection}
+use Rattle.pg_meaning.specs.Value.{Value}
+use Rattle.pg_meaning.specs.declared.fault.Fault.{Fault}
+use Rattle.pg_spell.specs.Telling.{IsTelling, told}
+use Rattle.pg_spell.specs.declared.telling.Telling.{Telling}
+use Rattle.pg_value_core.specs.declared.out.Out.{Out}
+
+abbrev pub named_items : List (List ℕ) → Items
+named_items names = items_of (map string names)
+
+-- the clause, then the reply of its rows
+abbrev pub returned : Setting → Projection → State → Result (List ℕ) Fault
+returned s p state =
+    project_clause s (return_columns s.scope p) p None state >>= λ last. told last.graph (named_items (column_names (return_columns s.scope p))) (map values_in last.rows) last.steps
+
+-- the reply of the rows that all clauses leave
+abbrev pub replied : (returns : Bool) → (names : List (List ℕ)) → State → Result (List ℕ) Fault
+replied returns names last = told last.graph (named_items (cond returns names [])) (output_rows returns last.rows) last.steps
+
+-- the values that the items give at a row are told
+pub record RowTold (graph : Graph) (given : Result (List Value) Fault) (old new : Telling) (found : List Out) : Type 0 where
+  pub values : List Value
+  pub are : given ≡ Ok values
+  pub telling : (columns : Items) (rows : List (List Value)) → IsTelling graph columns rows [] [] old → IsTelling graph columns rows values found new
+
+-- the rows that they give are told
+pub record RowsTold (graph : Graph) (given : Result (List (List Value)) Fault) (old new : Telling) : Type 0 where
+  pub rows : List (List Value)
+  pub are : given ≡ Ok rows
+  pub telling : (columns : Items) → IsTelling graph columns [] [] [] old → IsTelling graph columns rows [] [] new

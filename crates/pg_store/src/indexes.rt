@@ -1,0 +1,143 @@
+//! Property indexes that a tenant's graph has, made and given up.
+ghost use Rattle.std.specs.Prelude.{◌≡◌, ℕ, [], Some, true, false, OnOk, IfOk};
+ghost use Rattle.std.specs.FinMap as map;
+ghost use Rattle.pg_graph.specs.declared.records.NodeRecord.{NodeRecord};
+ghost use Rattle.pg_index.specs.Properties.{finds, has_pair, is_found_by, pairs_of};
+ghost use Rattle.pg_store.specs.Changes.{Changes};
+ghost use Rattle.pg_store.specs.Indexed.{has_index};
+ghost use Rattle.pg_store.specs.Stores.{graph_of_store, state_of, IsFit, KeepsMarks};
+ghost use Rattle.pg_store.specs.declared.shared.Shared.{Shared};
+ghost use Rattle.pg_value_core.specs.declared.value.Value as code;
+
+use crate::shared::Shared;
+use crate::store::Store;
+use pg_graph::Tables;
+use pg_index::{PropertyIndex, index_of};
+use pg_names::NameId;
+use pg_value_core::NodeId;
+use std::alloc::{AllocError, Global};
+
+impl<T: Tables> Store<T> {
+    /// Keeps the nodes of a label by what they have under a key from now on. What was done so far is
+    /// kept for good, as by `commit`. Or makes no index, and leaves the names as they were. An index
+    /// that is there already stays.
+    pub fn add_index(
+        &mut self,
+        alloc: Global,
+        shared: &mut Shared<T::Shared>,
+        label: &str,
+        key: &str,
+    ) -> Result<(), AllocError>
+        requires fit { IsFit T.seen self.old shared.old }
+        ensures changes { Changes T.seen self.old shared.old self.new shared.new result (λ start end. end ≡ start) }
+        ensures there { OnOk result (has_index self.new shared.new.names label.now key.now ≡ true) }
+    {
+        self.commit(shared);
+        let mark = self.mark(shared);
+        match self.index_texts(alloc, shared, label, key) {
+            Ok(()) => Ok(()),
+            Err(refused) => {
+                self.undo(shared, mark);
+                Err(refused)
+            }
+        }
+    }
+
+    // Keeps an index of a label and a key, whose names the table then has.
+    fn index_texts(
+        &mut self,
+        alloc: Global,
+        shared: &mut Shared<T::Shared>,
+        label: &str,
+        key: &str,
+    ) -> Result<(), AllocError>
+        requires fit { IsFit T.seen self.old shared.old }
+        requires no_mark { self.old.journal.items ≡ [] }
+        ensures changes { Changes T.seen self.old shared.old self.new shared.new result (λ start end. end ≡ start) }
+        ensures marks { KeepsMarks T.seen self.old shared.old self.new shared.new }
+        ensures there { OnOk result (has_index self.new shared.new.names label.now key.now ≡ true) }
+    {
+        let label = shared.names.intern(label)?;
+        let key = shared.names.intern(key)?;
+        self.index_by(alloc, shared, label, key)
+    }
+
+    // Keeps an index of a label and a key, if there is none yet.
+    fn index_by(
+        &mut self,
+        alloc: Global,
+        shared: &Shared<T::Shared>,
+        label: NameId,
+        key: NameId,
+    ) -> Result<(), AllocError>
+        requires fit { IsFit T.seen self.old shared.now }
+        requires no_mark { self.old.journal.items ≡ [] }
+        ensures there { OnOk result (has_pair (label, key) (pairs_of self.new.sets.indexes.items) ≡ true) }
+        ensures graph { graph_of_store T.seen self.new shared.now ≡ graph_of_store T.seen self.old shared.now }
+        ensures fit { IsFit T.seen self.new shared.now }
+        ensures state { state_of T.seen self.new shared.now ≡ state_of T.seen self.old shared.now }
+        ensures journal { self.new.journal ≡ self.old.journal }
+        ensures tables { self.new.tables ≡ self.old.tables }
+    {
+        if index_of(self.sets.indexes.as_slice(), label, key).is_some() {
+            return Ok(());
+        }
+        let index = self.filled_index(alloc, shared, label, key)?;
+        self.sets.keep(index)
+    }
+
+    // An index that has the nodes that there are.
+    fn filled_index(
+        &self,
+        alloc: Global,
+        shared: &Shared<T::Shared>,
+        label: NameId,
+        key: NameId,
+    ) -> Result<PropertyIndex, AllocError>
+        requires fit { IsFit T.seen self.now shared.now }
+        ensures label { IfOk result (λ x. x.label ≡ label) }
+        ensures key { IfOk result (λ x. x.key ≡ key) }
+        ensures all { IfOk result (λ x. (i : ℕ) (n : NodeRecord) (v : code.Value) → map.get (state_of T.seen self.now shared.now).content.nodes i ≡ Some n → is_found_by label key v n ≡ true → finds x v i ≡ true) }
+    {
+        let mut index = PropertyIndex::new(alloc, label, key);
+        let mut ids = self.sets.get(&Some(label)).ids();
+        while let Some(id) = ids.next() {
+            self.put_in(shared, &mut index, NodeId(*id))?;
+        }
+        Ok(index)
+    }
+
+    // Puts a node's id into an index, if there is such a node.
+    fn put_in(
+        &self,
+        shared: &Shared<T::Shared>,
+        index: &mut PropertyIndex,
+        id: NodeId,
+    ) -> Result<(), AllocError>
+        requires { T.seen.fits self.now.tables shared.now.tables }
+        ensures label { index.new.label ≡ index.old.label }
+        ensures key { index.new.key ≡ index.old.key }
+        ensures grown { (v : code.Value) (i : ℕ) → finds index.old v i ≡ true → finds index.new v i ≡ true }
+        ensures ok { OnOk result ((n : NodeRecord) (v : code.Value) → map.get (T.seen.content self.now.tables shared.now.tables).nodes id.0 ≡ Some n → is_found_by index.old.label index.old.key v n ≡ true → finds index.new v id.0 ≡ true) }
+    {
+        match self.tables.node(&shared.tables, id) {
+            Some(node) => index.cover(node, id.0),
+            None => Ok(()),
+        }
+    }
+
+    /// Keeps an index no longer. It takes no memory.
+    pub fn drop_index(&mut self, shared: &Shared<T::Shared>, label: &str, key: &str)
+        ensures fit { (part : Shared T.Shared) → IsFit T.seen self.old part → IsFit T.seen self.new part }
+        ensures same { (part : Shared T.Shared) → graph_of_store T.seen self.new part ≡ graph_of_store T.seen self.old part }
+        ensures tables { self.new.tables ≡ self.old.tables }
+        ensures gone { has_index self.new shared.now.names label.now key.now ≡ false }
+    {
+        let Some(label) = shared.names.find(label) else {
+            return;
+        };
+        if let Some(key) = shared.names.find(key) {
+            self.sets.give_up(label, key);
+        }
+    }
+}

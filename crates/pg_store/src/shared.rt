@@ -1,0 +1,38 @@
+//! What the stores of all tenants share.
+ghost use Rattle.std.specs.Prelude.{◌≡◌, []};
+ghost use Rattle.pg_names.specs.Names.{AreDistinct};
+
+use pg_names::Names;
+use std::alloc::Global;
+use std::hash::BuildHasherDefault;
+
+/// What the stores of all tenants share: the texts of names, and the part that their tables share.
+#[derive(Drop)]
+pub struct Shared<X> {
+    pub(crate) names: Names,
+    pub(crate) tables: X,
+}
+
+impl<X> Shared<X> {
+    /// A part for tables, and no names.
+    pub fn new(alloc: Global, tables: X) -> Self
+        ensures names { result.names ≡ [] }
+        ensures distinct { AreDistinct result.names }
+        ensures tables { result.tables ≡ tables }
+    {
+        let names = Names::new(alloc, BuildHasherDefault::new());
+        Shared { names, tables }
+    }
+
+    pub fn names(&self) -> &Names
+        ensures { result.now ≡ self.now.names }
+    {
+        &self.names
+    }
+
+    pub fn tables(&self) -> &X
+        ensures { result.now ≡ self.now.tables }
+    {
+        &self.tables
+    }
+}

@@ -1,0 +1,74 @@
+-- The reply of the rows that the clauses leave is the answer.
+use Rattle.std.proofs.Common.{◌≡◌, ℕ, Bool, true, false, cond, List, [], ◌∷◌, map, length, Result, Ok, Err, OnOk, refl, sym, ap, subst, ◌∙◌}
+use Rattle.std.specs.Prelude.{nat_le}
+use Rattle.serde_json.specs.Data.{array, item, string}
+use Rattle.serde_json.specs.Written.{compact_text}
+use Rattle.pg_json.specs.Replies.{items_of, query_data, max_reply}
+use Rattle.pg_json.specs.Rows.{rows_data, rows_text}
+use Rattle.pg_meaning.specs.Answer.{◌>>=◌, ◌>>◌}
+use Rattle.pg_meaning.specs.Graph.{Graph}
+use Rattle.pg_meaning.specs.Meters.{State}
+use Rattle.pg_meaning.specs.Names.{Names}
+use Rattle.pg_meaning.specs.Queries.{Outcome, output_rows}
+use Rattle.pg_meaning.specs.Value.{Value, values_of}
+use Rattle.pg_meaning.specs.declared.fault.Fault.{Fault}
+use Rattle.pg_meaning.specs.declared.fault.Fault.TheVariants.{ReplyTooLong}
+use Rattle.pg_return.specs.Returning.{named_items, replied}
+use Rattle.pg_spell.specs.Printed.{printed_items}
+use Rattle.pg_spell.specs.Telling.{fitting}
+use Rattle.pg_spell.specs.Told.{printed_rows, test_told}
+use Rattle.pg_tenant.proofs.FinishedLemmas.{output}
+use Rattle.pg_tenant.specs.Answers.{Answered, row_data, outcome_text, refused, answered}
+use Rattle.pg_tenant.specs.Replies.{IsAnswer}
+use Rattle.pg_value_core.specs.Gives.{Gives}
+
+rows_are : (graph : Graph) (rows : List (List Value)) → items_of (map (row_data graph) rows) ≡ rows_data (printed_rows graph rows)
+rows_are graph [] = refl
+rows_are graph (r ∷ rs) = ap (item (array (printed_items graph (values_of r)))) (rows_are graph rs)
+
+module _ (start : Graph) (b : Bool) (named names : Names) (is : named ≡ cond b names []) where
+  -- bytes and the graph that they leave, or a refusal
+  abbrev answers : Graph → Result (List ℕ) Fault → Answered
+  answers graph (Ok bytes) = record { reply = bytes; graph = graph }
+  answers graph (Err e) = refused start e
+
+  by_length : (graph : Graph) (text : List ℕ) (fits : Bool) → (let a : Answered = cond fits (record { reply = text; graph = graph }) (refused start ReplyTooLong) in a) ≡ answers graph (cond fits (Ok text) (Err ReplyTooLong))
+  by_length graph text true = refl
+  by_length graph text false = refl
+
+  module _ (last : State) where
+    abbrev rows : List (List Value)
+    rows = output_rows b last.rows
+
+    abbrev outcome : Outcome
+    outcome = record { columns = named; rows = rows; graph = last.graph; steps = last.steps }
+
+    abbrev text : List ℕ
+    text = rows_text (named_items (cond b names [])) (printed_rows last.graph rows) last.steps
+
+    text_is : outcome_text outcome ≡ text
+    unfolding outcome_text rows_text
+    text_is = λ i. compact_text (query_data (items_of (map string (is i))) (rows_are last.graph rows i) last.steps)
+
+    by_test : (t : Result (Unit {0}) Fault) → answered start (t >> Ok outcome) ≡ answers last.graph (t >> fitting text)
+    by_test (Ok tt) =
+        ap (λ bytes. let a : Answered = cond (nat_le (length bytes) max_reply) (record { reply = bytes; graph = last.graph }) (refused start ReplyTooLong) in a) text_is
+        ∙ by_length last.graph text (nat_le (length text) max_reply)
+    by_test (Err e) = refl
+
+    last_answers : answered start (output b named last) ≡ answers last.graph (replied b names last)
+    last_answers = by_test (test_told last.graph rows)
+
+  by_clauses : (x : Result State Fault) (r : Result (List ℕ) Fault) (left : Graph) → Gives r (x >>= replied b names) (λ bytes. bytes) → OnOk r ((last : State) → x ≡ Ok last → last.graph ≡ left)
+      → IsAnswer r (x >>= output b named) start left
+  by_clauses (Ok last) (Ok bytes) left given keeps = record {
+    ok = last_answers last ∙ ap (answers last.graph) given.ok ∙ ap (λ (g : Graph). answers g (Ok bytes)) (keeps last refl);
+    err = tt;
+  }
+  by_clauses (Ok last) (Err e) left given keeps = record { ok = tt; err = λ other. last_answers last ∙ ap (answers last.graph) (given.err other) }
+  by_clauses (Err f) (Ok bytes) left given keeps = let clash = given.ok in cc
+  by_clauses (Err f) (Err e) left given keeps = record { ok = tt; err = λ other. ap (answers start) (given.err other) }
+
+  pub is_answer : (x : Result State Fault) (r : Result (List ℕ) Fault) (left : Graph) (answer : Result Outcome Fault) → answer ≡ (x >>= output b named) → Gives r (x >>= replied b names) (λ bytes. bytes)
+      → OnOk r ((last : State) → x ≡ Ok last → last.graph ≡ left) → IsAnswer r answer start left
+  is_answer x r left answer same given keeps = subst (λ (a : Result Outcome Fault). IsAnswer r a start left) (sym same) (by_clauses x r left given keeps)

@@ -1,0 +1,78 @@
+-- A tenant's indexes: pairs of a label and a key, each once, in the order of their bytes; and what index requests make of them.
+use Rattle.std.specs.Prelude.{◌≡◌, ◌≢◌, ℕ, nat_lt, Bool, true, false, not, ◌&&◌, List, ◌∷◌, ◌++◌, filter, length, Result, Ok, Err, IfOk, IfErr, Vec, String}
+use Rattle.std.specs.List.Sorted.{IsStrictlySortedBy}
+use Rattle.std.specs.Ordering.{is_lt, ordering_then}
+use Rattle.std.specs.Str.{bytes_eq}
+use Rattle.std.specs.declared.alloc.Global.{Global}
+use Rattle.std.specs.declared.cmp.Ordering.{Ordering}
+use Rattle.std.specs.declared.rc.Rc.{Rc}
+use Rattle.pg_anchors.specs.Catalogue.{catalogue_view}
+use Rattle.pg_json.specs.Refusals.{done_text}
+use Rattle.pg_meaning.specs.Answer.{◌>>◌, unless}
+use Rattle.pg_meaning.specs.Order.{text_order}
+use Rattle.pg_meaning.specs.Plans.{Catalogue, is_indexed}
+use Rattle.pg_meaning.specs.declared.fault.Fault.{Fault}
+use Rattle.pg_meaning.specs.declared.fault.Fault.TheVariants.{ReadOnly, IndexExists, NoSuchIndex, TooManyIndexes, OutOfMemory}
+use Rattle.pg_plan.specs.Reading.{tested_length}
+
+-- a label and a key
+abbrev pub Index : Type 0
+Index = List ℕ × List ℕ
+
+abbrev pub most_indexes : ℕ
+most_indexes = 16
+
+-- by label, then by key
+abbrev pub index_order : Index → Index → Ordering
+index_order i j = ordering_then (text_order i.0 j.0) (text_order i.1 j.1)
+
+abbrev pub stands_before : Index → Index → Bool
+stands_before i j = is_lt (index_order i j)
+
+abbrev pub is_on_side : (before : Bool) → Index → Index → Bool
+is_on_side true i j = stands_before i j
+is_on_side false i j = not (stands_before i j)
+
+-- those before it, itself, then the others
+abbrev pub with_index : Index → Catalogue → Catalogue
+with_index i indexes = filter (λ j. is_on_side true j i) indexes ++ i ∷ filter (λ j. is_on_side false j i) indexes
+
+abbrev pub is_same : Index → Index → Bool
+is_same i j = bytes_eq j.0 i.0 && bytes_eq j.1 i.1
+
+abbrev pub without_index : Index → Catalogue → Catalogue
+without_index i indexes = filter (λ j. not (is_same i j)) indexes
+
+-- ---- requests
+
+-- the right of the token, then the lengths of label and key
+abbrev pub index_tested : (may_write : Bool) → (label key : List ℕ) → Result (Unit {0}) Fault
+index_tested may_write label key = unless may_write ReadOnly >> (tested_length label >> tested_length key)
+
+-- the indexes after a request for one more
+abbrev pub index_created : (may_write : Bool) → Catalogue → (label key : List ℕ) → Result Catalogue Fault
+index_created may_write indexes label key =
+    index_tested may_write label key
+    >> (unless (not (is_indexed indexes (label, key))) IndexExists >> (unless (nat_lt (length indexes) most_indexes) TooManyIndexes >> Ok (with_index (label, key) indexes)))
+
+-- the indexes after a request for one less
+abbrev pub index_dropped : (may_write : Bool) → Catalogue → (label key : List ℕ) → Result Catalogue Fault
+index_dropped may_write indexes label key =
+    index_tested may_write label key >> (unless (is_indexed indexes (label, key)) NoSuchIndex >> Ok (without_index (label, key) indexes))
+
+-- ---- a tenant's list
+
+abbrev pub indexes_of : Rc (Vec (String Global × String Global) Global) Global → Catalogue
+indexes_of list = catalogue_view list.value.items
+
+-- what is answered, from the indexes before and the indexes after
+pub record IsIndexAnswer (result : Result (List ℕ) Fault) (outcome : Result Catalogue Fault) (old new : Catalogue) : Type 0 where
+  pub ok : IfOk result (λ bytes. (bytes ≡ done_text) × (outcome ≡ Ok new))
+  pub err : IfErr result (λ e. (new ≡ old) × (e ≢ OutOfMemory → outcome ≡ Err e))
+
+-- where each index stands before those behind it, they do so after each request
+abbrev pub IndexesRise : Type 0
+IndexesRise =
+    (may_write : Bool) (indexes after : Catalogue) (label key : List ℕ) → IsStrictlySortedBy index_order indexes
+    → (index_created may_write indexes label key ≡ Ok after → IsStrictlySortedBy index_order after)
+    × (index_dropped may_write indexes label key ≡ Ok after → IsStrictlySortedBy index_order after)

@@ -4,6 +4,7 @@
 mod command;
 mod fault;
 mod outcome;
+mod records;
 #[cfg(test)]
 mod tests;
 

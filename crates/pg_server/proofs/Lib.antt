@@ -4,8 +4,10 @@ pub mod DistinctLemmas
 pub mod FillLemmas
 pub mod FrameLemmas
 pub mod HandleLemmas
+pub mod HoldLemmas
 pub mod InstanceLemmas
 pub mod LookUpLemmas
+pub mod NameLemmas
 pub mod OpeningLemmas
 pub mod PlanLemmas
 pub mod ReadingLemmas

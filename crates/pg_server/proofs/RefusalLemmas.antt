@@ -1,5 +1,5 @@
--- A refusal leaves every tenant.
-use Rattle.std.proofs.Common.{◌≡◌, ℕ, List, [], ◌∷◌, Bool, true, false, cond, length, sym, ap, ◌∙◌}
+-- A refusal leaves every tenant, and the names.
+use Rattle.std.proofs.Common.{◌≡◌, ℕ, List, [], ◌∷◌, Bool, true, false, cond, length, refl, sym, ap, ◌∙◌}
 use Rattle.std.specs.Prelude.{◌&&◌, not}
 use Rattle.std.proofs.lemmas.List.{ext_get_or}
 use Rattle.pg_json.specs.Refusals.{refusal_text}
@@ -29,4 +29,4 @@ module _ (old new : ServerState) (body : List ℕ) (fault : Fault) (run : Runs o
       (λ t below. state_stays t (shows_one_of (tokens_of (state_at old t)) (asked body) && not (is_want_of_memory (refusal_text fault))) (run.solo t))
 
 pub refusals_keep_all : RefusalsKeepAll
-refusals_keep_all old new body fault one = tenants_stay old new body fault one.run
+refusals_keep_all old new body fault one = (tenants_stay old new body fault one.run, one.names.refused fault refl)

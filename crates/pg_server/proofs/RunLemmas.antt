@@ -9,7 +9,7 @@ use Rattle.pg_server.specs.Served.{Served}
 use Rattle.pg_server.specs.Serves.{Serves}
 use Rattle.pg_server.specs.Settings.{TenantSettings, token_texts}
 use Rattle.pg_server.specs.Solo.{solo}
-use Rattle.pg_server.specs.State.{State, ServerState, state_at, tokens_of, settings_of, no_settings, no_state, opening}
+use Rattle.pg_server.specs.State.{State, ServerState, ServerSeen, state_at, tokens_of, settings_of, no_settings, no_state, opening}
 
 pub Runs-refl : (s : ServerState) → Runs s [] s
 Runs-refl s = record { cache = refl; settings = refl; strangers = tt; solo = λ t. refl }
@@ -58,8 +58,21 @@ pub Runs-of_chain : (a b : ServerState) (es : List Exchange) → Chain Handles a
 Runs-of_chain a b [] chain = subst (Runs a []) (sym chain) (Runs-refl a)
 Runs-of_chain a b (e ∷ es) chain = Runs-cons a chain.0 b e es chain.1.run (Runs-of_chain chain.0 b es chain.2)
 
-pub alone : (r r' w w' : Option (List ℕ)) (old new : ServerState) (most : ℕ) (end : End) → Served Handles r r' w w' old new most end → Serves r r' w w' old new most end
-alone r r' w w' old new most end s = (s, Runs-of_chain old new s.exchanges s.chain)
+module _ {X : Type 0} where
+  -- what a call of `handle` is to a server, whatever its tables are
+  abbrev pub HandlesSeen : ServerSeen X → (body reply : List ℕ) → ServerSeen X → Type 0
+  HandlesSeen old body reply new = Handles old.state body reply new.state
+
+  chain_of_states : (old new : ServerSeen X) (es : List Exchange) → Chain HandlesSeen old es new → Chain Handles old.state es new.state
+  chain_of_states old new [] chain = ap (λ (s : ServerSeen X). s.state) chain
+  chain_of_states old new (e ∷ es) chain = (chain.0.state, chain.1, chain_of_states chain.0 new es chain.2)
+
+  pub alone : (r r' w w' : Option (List ℕ)) (old new : ServerSeen X) (most : ℕ) (end : End) → Served HandlesSeen r r' w w' old new most end → Serves r r' w w' old.state new.state most end
+  alone r r' w w' old new most end s =
+      let chain : Chain Handles old.state s.exchanges new.state = chain_of_states old new s.exchanges s.chain in (
+        record { exchanges = s.exchanges; rest = s.rest; output = s.output; read = s.read; wrote = s.wrote; short = s.short; count = s.count; ends = s.ends; chain = chain },
+        Runs-of_chain old.state new.state s.exchanges chain,
+      )
 
 -- the settings that a server began with
 pub settings-opening : (tenants : List TenantSettings) → map (λ (s : State). s.settings) (map opening tenants) ≡ tenants

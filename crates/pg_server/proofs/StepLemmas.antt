@@ -63,8 +63,8 @@ with_tenant server t state = record server { tenants = slice_set server.tenants 
 -- what else the cache holds changes no tenant's run
 moved : (old new : ServerState) (es : List Exchange) (tenants : List State) → new.cache.capacity ≡ old.cache.capacity → new.tenants ≡ tenants → Runs old es (record old { tenants = tenants }) → Runs old es new
 moved old new es tenants capacity are run =
-    subst (λ ts. Runs old es (let s : ServerState = record { cache = new.cache; tenants = ts } in s)) (sym are)
-    (let r : Runs old es (let s : ServerState = record { cache = new.cache; tenants = tenants } in s) = record { cache = capacity; settings = run.settings; strangers = run.strangers; solo = run.solo } in r)
+    subst (λ ts. Runs old es (let s : ServerState = record { cache = new.cache; names = new.names; tenants = ts } in s)) (sym are)
+    (let r : Runs old es (let s : ServerState = record { cache = new.cache; names = new.names; tenants = tenants } in s) = record { cache = capacity; settings = run.settings; strangers = run.strangers; solo = run.solo } in r)
 
 -- want of memory
 pub out_of_memory : (server : ServerState) (body reply : List ℕ) → is_short body ≡ true → reply ≡ refusal_text OutOfMemory → Runs server (record { body = body; reply = reply } ∷ []) server
@@ -123,7 +123,7 @@ module _ (old : ServerState) (body : List ℕ) (request : Request) (short : is_s
 -- an answer that says want of memory leaves the server
 kept_tenant : (old : ServerState) (t : ℕ) (request : Request) → is_want_of_memory (solo (state_at old t) request).reply ≡ true → with_tenant old t (solo (state_at old t) request).state ≡ old
 kept_tenant old t request h =
-    ap (with_tenant old t) (refused_keeps (state_at old t) request h) ∙ ap (λ ts. let s : ServerState = record { cache = old.cache; tenants = ts } in s) (set-get_or old.tenants t no_state)
+    ap (with_tenant old t) (refused_keeps (state_at old t) request h) ∙ ap (λ ts. let s : ServerState = record { cache = old.cache; names = old.names; tenants = ts } in s) (set-get_or old.tenants t no_state)
 
 abbrev only : (body reply : List ℕ) → List Exchange
 only body reply = record { body = body; reply = reply } ∷ []

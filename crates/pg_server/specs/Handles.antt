@@ -1,10 +1,11 @@
--- Handles: what one call of `handle` does, to each tenant and to the plans that all tenants share.
+-- Handles: what one call of `handle` does, to each tenant and to the plans and names that all tenants share.
 use Rattle.std.specs.Prelude.{◌≡◌, ℕ, ◌⊎◌, nat_le, List, [], ◌∷◌, length, Option, Some, None, option_and_then, if◌then◌else◌}
 use Rattle.pg_cache.specs.Cache.{CacheSeen, IsLookUp, Key}
 use Rattle.pg_json.specs.Refusals.{refusal_text}
 use Rattle.pg_json.specs.Requests.{Request, query, status, create_index, drop_index}
 use Rattle.pg_meaning.specs.declared.fault.Fault.{Fault}
 use Rattle.pg_meaning.specs.declared.fault.Fault.TheVariants.{OutOfMemory}
+use Rattle.pg_names.specs.Names.{KeepsNames}
 use Rattle.pg_plan.specs.Reading.{greatest_text}
 use Rattle.pg_server.specs.Exchange.{Exchange, Chain}
 use Rattle.pg_server.specs.Runs.{Runs, asked, token_of}
@@ -26,13 +27,19 @@ abbrev pub LooksUp : Option Key → (reply : List ℕ) → (old new : CacheSeen)
 LooksUp None reply old new = new ≡ old
 LooksUp (Some key) reply old new = IsLookUp old new key ⊎ ((reply ≡ refusal_text OutOfMemory) × (new ≡ old))
 
+-- each name keeps its number, and what is refused, whatever the refusal, leaves no name
+pub record AddsNames (reply : List ℕ) (old new : List (List ℕ)) : Type 0 where
+  pub kept : KeepsNames old new
+  pub refused : (fault : Fault) → reply ≡ refusal_text fault → new ≡ old
+
 pub record Handles (old : ServerState) (body reply : List ℕ) (new : ServerState) : Type 0 where
   pub run : Runs old (record { body = body; reply = reply } ∷ []) new
   pub cache : LooksUp (option_and_then (key_asked old.tenants) (asked body)) reply old.cache new.cache
+  pub names : AddsNames reply old.names new.names
 
--- a reply that is the text of a refusal, whichever it is, leaves every tenant as it was
+-- a reply that is the text of a refusal, whichever it is, leaves every tenant and the names as they were
 abbrev pub RefusalsKeepAll : Type 0
-RefusalsKeepAll = (old new : ServerState) (body : List ℕ) (fault : Fault) → Handles old body (refusal_text fault) new → new.tenants ≡ old.tenants
+RefusalsKeepAll = (old new : ServerState) (body : List ℕ) (fault : Fault) → Handles old body (refusal_text fault) new → (new.tenants ≡ old.tenants) × (new.names ≡ old.names)
 
 -- calls of `handle`, one after another, are runs of each tenant alone
 abbrev pub CallsAreRuns : Type 0

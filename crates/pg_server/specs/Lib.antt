@@ -7,6 +7,7 @@ pub mod Ends
 pub mod Exchange
 pub mod Frames
 pub mod Handles
+pub mod Holds
 pub mod InstancesOfConfigurations
 pub mod InstancesOfRequests
 pub mod InstancesOfRuns

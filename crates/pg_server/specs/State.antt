@@ -1,4 +1,4 @@
--- What a server is to its callers: what its plan cache shows, and each tenant's state.
+-- What a server is to its callers: what its plan cache shows, the names and the part of the tables that all tenants share, and each tenant's state.
 use Rattle.std.specs.Prelude.{ℕ, List, [], map, slice_index_or}
 use Rattle.pg_cache.specs.Cache.{CacheSeen}
 use Rattle.pg_meaning.specs.Graph.{Graph, empty_graph}
@@ -11,9 +11,16 @@ pub record State : Type 0 where
   pub graph : Graph
   pub indexes : Catalogue
 
+-- the names are texts, and a name's number is its place
 pub record ServerState : Type 0 where
   pub cache : CacheSeen
+  pub names : List (List ℕ)
   pub tenants : List State
+
+-- a server, with the part X that the tables of all tenants share
+pub record ServerSeen (X : Type 0) : Type 0 where
+  pub state : ServerState
+  pub tables : X
 
 -- the state that a tenant begins with
 abbrev pub opening : TenantSettings → State
@@ -24,7 +31,7 @@ abbrev pub fresh_cache : ℕ → CacheSeen
 fresh_cache capacity = record { capacity = capacity; keys = []; hits = 0; misses = 0 }
 
 abbrev pub opening_server : Settings → ServerState
-opening_server s = record { cache = fresh_cache s.cache; tenants = map opening s.tenants }
+opening_server s = record { cache = fresh_cache s.cache; names = []; tenants = map opening s.tenants }
 
 abbrev pub no_settings : TenantSettings
 no_settings = record { max_steps = 0; max_elements = 0; tokens = [] }

@@ -1,9 +1,10 @@
 -- The tenants of a server over the names and the part of the tables that they share.
 use Rattle.std.specs.Prelude.{◌≡◌, ℕ, ◌<◌, List, [], false, length, map, slice_index_or}
+use Rattle.pg_cache.specs.Cache.{CacheSeen}
 use Rattle.pg_graph.specs.Content.{Seen}
 use Rattle.pg_names.specs.Names.{AreDistinct}
 use Rattle.pg_server.specs.Settings.{TenantSettings, all_tokens}
-use Rattle.pg_server.specs.State.{State, opening}
+use Rattle.pg_server.specs.State.{State, ServerSeen, opening}
 use Rattle.pg_server.specs.Tokens.{TellsTenants}
 use Rattle.pg_server.specs.declared.tenant.Tenant.{Tenant}
 use Rattle.pg_server.specs.declared.tokens.TokenPlaces.{TokenPlaces}
@@ -18,6 +19,9 @@ module _ {T S : Type 0} (seen : Seen T S) where
 
   abbrev pub states_of : List (Tenant T) → Shared S → List State
   states_of tenants shared = map (λ t. state_of t shared) tenants
+
+  abbrev pub server_seen : CacheSeen → List (Tenant T) → Shared S → ServerSeen S
+  server_seen cache tenants shared = record { state = record { cache = cache; names = shared.names; tenants = states_of tenants shared }; tables = shared.tables }
 
   -- each tenant's store fits the shared part, and its place is its owner
   pub record AllFit (tenants : List (Tenant T)) (shared : Shared S) : Type 0 where

@@ -17,8 +17,8 @@ pub fn serve_on<S: BuildHasher + Drop, T: Tables>(
     server: &mut Server<S, T>,
     count: u64,
 ) -> Result<(), ServeFault>
-    ensures ok { OnOk result (ServesInTurn count server.old server.new) }
-    ensures err { OnErr result ((served : ℕ) × (served < count) × ServesInTurn served server.old server.new) }
+    ensures ok { OnOk result (ServesInTurn count server.old.state server.new.state) }
+    ensures err { OnErr result ((served : ℕ) × (served < count) × ServesInTurn served server.old.state server.new.state) }
 {
     for _served in 0..count {
         let Ok((stream, _)) = listener.accept() else {
@@ -34,7 +34,7 @@ fn serve_connection<S: BuildHasher + Drop, T: Tables>(
     stream: &TcpStream,
     server: &mut Server<S, T>,
 ) -> End
-    ensures { Serves None None None None server.old server.new endless result }
+    ensures { Serves None None None None server.old.state server.new.state endless result }
 {
     // A socket that can't be told to send at once serves all the same.
     let _ = stream.set_nodelay(true);

@@ -7,7 +7,8 @@ ghost use Rattle.pg_json.specs.Requests.{query, create_index, drop_index};
 ghost use Rattle.pg_meaning.specs.declared.fault.Fault.TheVariants.{OutOfMemory};
 ghost use Rattle.pg_server.specs.Configuration.{max_tenants};
 ghost use Rattle.pg_server.specs.Counts.{inner_of, faults_of};
-ghost use Rattle.pg_server.specs.Handles.{CallsAreRuns, Handles, LooksUp, RefusalsKeepAll, key_asked, key_at};
+ghost use Rattle.pg_server.specs.Handles.{AddsNames, CallsAreRuns, Handles, LooksUp, RefusalsKeepAll, key_asked, key_at};
+ghost use Rattle.pg_server.specs.Holds.{HoldTenants, shared_of};
 ghost use Rattle.pg_server.specs.Runs.{RefusalsKeep, TwoWorlds, token_of as token_shown};
 ghost use Rattle.pg_server.specs.Served.{OneReading, read_faults, write_faults};
 ghost use Rattle.pg_server.specs.Serves.{Serves};
@@ -52,15 +53,15 @@ pub struct Server<S: BuildHasher + Drop, T: Tables> {
 
 impl<S: BuildHasher + Drop, T: Tables> Model for Server<S, T> {
     ghost use Rattle.pg_cache.specs.Cache.{cache_seen};
-    ghost use Rattle.pg_server.specs.State.{ServerState};
+    ghost use Rattle.pg_server.specs.State.{ServerSeen};
     ghost use Rattle.pg_server.specs.StateCode.{server_code};
-    ghost use Rattle.pg_server.specs.Tenants.{states_of, AreTenants};
+    ghost use Rattle.pg_server.specs.Tenants.{server_seen, AreTenants};
 
-    ghost Value = { ServerState };
+    ghost Value = { ServerSeen T.Shared };
 
-    ghost coded = { server_code };
+    ghost coded = { server_code T.Shared.code };
 
-    ghost view = { λ s. record { cache = cache_seen s.shared.cache; tenants = states_of T.seen s.tenants.items s.shared.stores } };
+    ghost view = { λ s. server_seen T.seen (cache_seen s.shared.cache) s.tenants.items s.shared.stores };
 
     ghost invariant = { λ s. AreTenants T.seen s.tokens s.tenants.items s.shared.stores };
 }
@@ -68,7 +69,9 @@ impl<S: BuildHasher + Drop, T: Tables> Model for Server<S, T> {
 impl<S: BuildHasher + Drop, T: Tables> Server<S, T> {
     /// A server with the tenants of this configuration, each with the empty graph and no index.
     pub fn new(alloc: Global, config: Config, hasher: S) -> Result<Self, AllocError>
-        ensures { IfOk result (λ s. s ≡ opening_server config) }
+        ensures state { IfOk result (λ s. s.state ≡ opening_server config) }
+        ensures unused { IfOk result (λ s. (owner : ℕ) → T.seen.is_unused owner s.tables) }
+        ensures tenants { IfOk result (λ s. HoldTenants T.seen s) }
     {
         let (cache, settings) = config.into_parts();
         let cache = PlanCache::new(alloc, cache, hasher)?;
@@ -86,16 +89,29 @@ impl<S: BuildHasher + Drop, T: Tables> Server<S, T> {
         })
     }
 
-    /// What all tenants share.
+    /// What all tenants share: the plans that are kept, and the names and the part of the tables over which each tenant
+    /// holds its graph.
     pub fn shared(&self) -> &Shared<S, T>
-        ensures { cache_seen result.now.cache ≡ self.now.cache }
+        ensures cache { cache_seen result.now.cache ≡ self.now.state.cache }
+        ensures stores { result.now.stores ≡ shared_of self.now }
+        ensures tenants { HoldTenants T.seen self.now }
     {
         &self.shared
     }
 
     /// Answers one request, from a frame's body to a reply's body.
     pub fn handle(&mut self, body: &[u8]) -> ReplyBytes
-        ensures { Handles self.old body.now result self.new }
+        ensures handles { Handles self.old.state body.now result self.new.state }
+        ensures tenants { HoldTenants T.seen self.new }
+    {
+        let reply = self.answer_body(body);
+        // which ensures of any server what is ensured here of its tenants
+        let _ = self.shared();
+        reply
+    }
+
+    fn answer_body(&mut self, body: &[u8]) -> ReplyBytes
+        ensures { Handles self.old.state body.now result self.new.state }
     {
         if body.len() > MAX_BODY {
             return refusal(Fault::FrameTooLong);
@@ -107,8 +123,9 @@ impl<S: BuildHasher + Drop, T: Tables> Server<S, T> {
     }
 
     fn answer_request(&mut self, request: RequestBody) -> ReplyBytes
-        ensures tenants { Answers self.old.tenants (request_view request) result self.new.tenants }
-        ensures cache { LooksUp (key_asked self.old.tenants (request_view request)) result self.old.cache self.new.cache }
+        ensures tenants { Answers self.old.state.tenants (request_view request) result self.new.state.tenants }
+        ensures cache { LooksUp (key_asked self.old.state.tenants (request_view request)) result self.old.state.cache self.new.state.cache }
+        ensures names { AddsNames result self.old.state.names self.new.state.names }
     {
         match self.tokens.place(token_of(&request)) {
             Some(place) => self.answer_at(place, request),
@@ -117,9 +134,10 @@ impl<S: BuildHasher + Drop, T: Tables> Server<S, T> {
     }
 
     fn answer_at(&mut self, place: usize, request: RequestBody) -> ReplyBytes
-        requires { place < length self.old.tenants }
-        ensures tenants { StepAt (Some place) self.old.tenants (request_view request) result self.new.tenants }
-        ensures cache { LooksUp (key_at place self.old.tenants (request_view request)) result self.old.cache self.new.cache }
+        requires { place < length self.old.state.tenants }
+        ensures tenants { StepAt (Some place) self.old.state.tenants (request_view request) result self.new.state.tenants }
+        ensures cache { LooksUp (key_at place self.old.state.tenants (request_view request)) result self.old.state.cache self.new.state.cache }
+        ensures names { AddsNames result self.old.state.names self.new.state.names }
     {
         match self.reply_at(place, request) {
             Ok(bytes) => bytes,
@@ -128,9 +146,10 @@ impl<S: BuildHasher + Drop, T: Tables> Server<S, T> {
     }
 
     fn reply_at(&mut self, place: usize, request: RequestBody) -> Result<ReplyBytes, Fault>
-        requires { place < length self.old.tenants }
-        ensures tenants { RepliesAt place self.old.tenants (request_view request) result self.new.tenants }
-        ensures cache { LooksUp (key_at place self.old.tenants (request_view request)) (reply_of result) self.old.cache self.new.cache }
+        requires { place < length self.old.state.tenants }
+        ensures tenants { RepliesAt place self.old.state.tenants (request_view request) result self.new.state.tenants }
+        ensures cache { LooksUp (key_at place self.old.state.tenants (request_view request)) (reply_of result) self.old.state.cache self.new.state.cache }
+        ensures names { AddsNames (reply_of result) self.old.state.names self.new.state.names }
     {
         match request {
             RequestBody::Query {
@@ -162,9 +181,10 @@ impl<S: BuildHasher + Drop, T: Tables> Server<S, T> {
         text: String,
         parameters: &Parameters,
     ) -> Result<ReplyBytes, Fault>
-        requires { place < length self.old.tenants }
-        ensures tenants { RepliesAt place self.old.tenants (query token.now (string_bytes text) (parameters_view parameters.now)) result self.new.tenants }
-        ensures cache { LooksUp (key_at place self.old.tenants (query token.now (string_bytes text) (parameters_view parameters.now))) (reply_of result) self.old.cache self.new.cache }
+        requires { place < length self.old.state.tenants }
+        ensures tenants { RepliesAt place self.old.state.tenants (query token.now (string_bytes text) (parameters_view parameters.now)) result self.new.state.tenants }
+        ensures cache { LooksUp (key_at place self.old.state.tenants (query token.now (string_bytes text) (parameters_view parameters.now))) (reply_of result) self.old.state.cache self.new.state.cache }
+        ensures names { AddsNames (reply_of result) self.old.state.names self.new.state.names }
     {
         check_length(text.as_str())?;
         let indexes = self.tenants[place].indexes.clone()?;
@@ -181,9 +201,10 @@ impl<S: BuildHasher + Drop, T: Tables> Server<S, T> {
         plan: &Plan,
         parameters: &Parameters,
     ) -> Result<ReplyBytes, Fault>
-        requires { place < length self.old.tenants }
-        ensures tenants { RunsPlan place token.now plan.now (parameters_view parameters.now) self.old.tenants result self.new.tenants }
-        ensures cache { self.new.cache ≡ self.old.cache }
+        requires { place < length self.old.state.tenants }
+        ensures tenants { RunsPlan place token.now plan.now (parameters_view parameters.now) self.old.state.tenants result self.new.state.tenants }
+        ensures cache { self.new.state.cache ≡ self.old.state.cache }
+        ensures names { AddsNames (reply_of result) self.old.state.names self.new.state.names }
     {
         self.tenants[place].answer_plan(
             self.alloc,
@@ -196,11 +217,13 @@ impl<S: BuildHasher + Drop, T: Tables> Server<S, T> {
 
     /// What a tenant has and may have.
     fn status(&self, place: usize) -> Result<ReplyBytes, Fault>
-        requires { place < length self.now.tenants }
-        ensures ok { IfOk result (λ bytes. bytes ≡ limited (status_text (state_at self.now place))) }
-        ensures err { IfErr result (λ e. e ≢ OutOfMemory → refusal_text e ≡ limited (status_text (state_at self.now place))) }
+        requires { place < length self.now.state.tenants }
+        ensures ok { IfOk result (λ bytes. bytes ≡ limited (status_text (state_at self.now.state place))) }
+        ensures err { IfErr result (λ e. e ≢ OutOfMemory → refusal_text e ≡ limited (status_text (state_at self.now.state place))) }
     {
-        let body = self.tenants[place].status(self.alloc, &self.shared.stores)?;
+        let tenant = &self.tenants[place];
+        let graph = tenant.store.graph(&self.shared.stores);
+        let body = tenant.status(self.alloc, &graph)?;
         write_reply(self.alloc, &body)
     }
 
@@ -211,9 +234,10 @@ impl<S: BuildHasher + Drop, T: Tables> Server<S, T> {
         label: &str,
         key: &str,
     ) -> Result<ReplyBytes, Fault>
-        requires { place < length self.old.tenants }
-        ensures tenants { RepliesAt place self.old.tenants (create_index token.now label.now key.now) result self.new.tenants }
-        ensures cache { self.new.cache ≡ self.old.cache }
+        requires { place < length self.old.state.tenants }
+        ensures tenants { RepliesAt place self.old.state.tenants (create_index token.now label.now key.now) result self.new.state.tenants }
+        ensures cache { self.new.state.cache ≡ self.old.state.cache }
+        ensures names { AddsNames (reply_of result) self.old.state.names self.new.state.names }
     {
         self.tenants[place].create_index(self.alloc, &mut self.shared.stores, token, label, key)
     }
@@ -225,9 +249,10 @@ impl<S: BuildHasher + Drop, T: Tables> Server<S, T> {
         label: &str,
         key: &str,
     ) -> Result<ReplyBytes, Fault>
-        requires { place < length self.old.tenants }
-        ensures tenants { RepliesAt place self.old.tenants (drop_index token.now label.now key.now) result self.new.tenants }
-        ensures cache { self.new.cache ≡ self.old.cache }
+        requires { place < length self.old.state.tenants }
+        ensures tenants { RepliesAt place self.old.state.tenants (drop_index token.now label.now key.now) result self.new.state.tenants }
+        ensures cache { self.new.state.cache ≡ self.old.state.cache }
+        ensures names { AddsNames (reply_of result) self.old.state.names self.new.state.names }
     {
         self.tenants[place].drop_index(self.alloc, &self.shared.stores, token, label, key)
     }
@@ -240,19 +265,23 @@ impl<S: BuildHasher + Drop, T: Tables> Server<S, T> {
         max_frames: u64,
     ) -> End
         ensures serves { Serves (R.remaining (inner_of reader.old)) (R.remaining (inner_of reader.new))
-            (W.contents (inner_of writer.old)) (W.contents (inner_of writer.new)) self.old self.new max_frames result }
+            (W.contents (inner_of writer.old)) (W.contents (inner_of writer.new)) self.old.state self.new.state max_frames result }
+        ensures tenants { HoldTenants T.seen self.new }
         ensures read_faults { faults_of reader.new ≡ read_faults result (faults_of reader.old) }
         ensures write_faults { faults_of writer.new ≡ write_faults result (faults_of writer.old) }
     {
         let Ok(mut buffer) = zeros(self.alloc, MAX_BODY) else {
             return End::NoMemory;
         };
-        serve(self, reader, writer, &mut buffer, max_frames)
+        let end = serve(self, reader, writer, &mut buffer, max_frames);
+        // as in `handle`
+        let _ = self.shared();
+        end
     }
 }
 
 impl<S: BuildHasher + Drop, T: Tables> Service for Server<S, T> {
-    ghost answers = { Handles };
+    ghost answers = { λ old body reply new. Handles old.state body reply new.state };
 
     fn answer(&mut self, body: &[u8]) -> ReplyBytes {
         self.handle(body)
@@ -333,7 +362,7 @@ pub fn law_calls()
     ensures { CallsAreRuns }
 {}
 
-/// A request that is refused leaves its tenant as it was, and every other one, whatever the refusal.
+/// A request that is refused leaves its tenant as it was, and every other one and the names, whatever the refusal.
 pub fn law_of_refusals()
     ensures tenant { RefusalsKeep }
     ensures server { RefusalsKeepAll }

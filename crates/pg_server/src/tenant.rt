@@ -1,8 +1,7 @@
 //! A tenant: what it may use, its graph and its indexes.
-ghost use Rattle.std.specs.Prelude.{◌≡◌, IfOk};
+ghost use Rattle.std.specs.Prelude.{◌≡◌, IfOk, OnErr};
 ghost use Rattle.pg_json.specs.Replies.{reply_text};
 ghost use Rattle.pg_server.specs.Solo.{may_write, status_text};
-ghost use Rattle.pg_server.specs.Tenants.{state_of};
 ghost use Rattle.pg_store.specs.Changes.{Changes};
 ghost use Rattle.pg_store.specs.Stores.{IsFit};
 ghost use Rattle.pg_store.specs.declared.shared.Shared.{Shared};
@@ -16,7 +15,7 @@ use pg_graph::Tables;
 use pg_json::{ReplyBody, ReplyBytes, TenantStatus};
 use pg_meaning::Fault;
 use pg_plan::{Catalogue, Plan};
-use pg_store::{Shared, Store};
+use pg_store::{Shared, Snapshot, Store};
 use pg_tenant::{answer_plan, copy_indexes, create_index, drop_index};
 use pg_value_core::Parameters;
 use std::alloc::{AllocError, Global};
@@ -43,6 +42,7 @@ impl<T: Tables> Tenant<T> {
         requires fit { IsFit T.seen self.old.store shared.old }
         ensures settings { self.new.settings ≡ self.old.settings }
         ensures indexes { self.new.indexes ≡ self.old.indexes }
+        ensures names { OnErr result (shared.new.names ≡ shared.old.names) }
         ensures changes { Changes T.seen self.old.store shared.old self.new.store shared.new result (λ start end. IsAnswer result (plan_outcome (may_write self.old.settings token.now) self.old.settings.max_steps self.old.settings.max_elements (parameters_view parameters.now) start plan.now) start end) }
     {
         let may_write = self.settings.may_write(token);
@@ -62,16 +62,15 @@ impl<T: Tables> Tenant<T> {
     pub(crate) fn status(
         &self,
         alloc: Global,
-        shared: &Shared<T::Shared>,
+        graph: &Snapshot<'_, T>,
     ) -> Result<ReplyBody, AllocError>
-        requires fit { IsFit T.seen self.now.store shared.now }
-        ensures { IfOk result (λ body. reply_text body ≡ status_text (state_of T.seen self.now shared.now)) }
+        ensures { IfOk result (λ body. reply_text body ≡ status_text (record { settings = self.now.settings; graph = graph.now; indexes = indexes_of self.now.indexes })) }
     {
         let indexes = copy_indexes(alloc, &self.indexes)?;
-        let next = self.store.next_ids();
+        let next = graph.next_ids();
         let quota = self.settings.quota();
         Ok(ReplyBody::Status(TenantStatus {
-            elements: self.store.elements(),
+            elements: graph.elements(),
             indexes,
             max_elements: quota.max_elements,
             max_steps: quota.max_steps,
@@ -92,6 +91,7 @@ impl<T: Tables> Tenant<T> {
         requires fit { IsFit T.seen self.old.store shared.old }
         ensures settings { self.new.settings ≡ self.old.settings }
         ensures changes { Changes T.seen self.old.store shared.old self.new.store shared.new result (λ start end. end ≡ start) }
+        ensures names { OnErr result (shared.new.names ≡ shared.old.names) }
         ensures indexes { IsIndexAnswer result (index_created (may_write self.old.settings token.now) (indexes_of self.old.indexes) label.now key.now) (indexes_of self.old.indexes) (indexes_of self.new.indexes) }
     {
         let may_write = self.settings.may_write(token);

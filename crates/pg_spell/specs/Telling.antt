@@ -46,3 +46,7 @@ pub record IsTelling (graph : Graph) (columns : Items) (rows : List (List Value)
   pub counted : t.fault ≡ None → t.room ≡ whole_room - rows_least graph rows - items_least (printed_items graph (values_of row))
   pub shown : t.fault ≡ None → t.room ≢ 0 → outs found ≡ printed_items graph (values_of row)
   pub written : t.fault ≡ None → t.room ≢ 0 → HasWritten t.reply columns (printed_rows graph rows)
+
+-- no reply of rows can come of it any more: a fault was found, or there is no room for what was told
+abbrev pub IsLost : Telling → Type 0
+IsLost t = t.fault ≡ None → t.room ≡ 0

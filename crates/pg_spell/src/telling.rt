@@ -24,10 +24,11 @@ impl Telling {
     ghost use Rattle.pg_json.specs.Replies.{items_of};
     ghost use Rattle.pg_meaning.specs.Graph.{Graph};
     ghost use Rattle.pg_meaning.specs.Value.{Value as Datum};
-    ghost use Rattle.pg_spell.specs.Telling.{IsTelling, told};
+    ghost use Rattle.pg_spell.specs.Telling.{IsLost, IsTelling, told};
     ghost use Rattle.pg_value_core.specs.Gives.{Gives};
     ghost use Rattle.pg_value_core.specs.View.{view};
     ghost use Rattle.pg_value_core.specs.declared.out.Out.{Out as Shown};
+    ghost use Rattle.pg_value_core.specs.declared.out.Out.TheVariants.{Null};
 
     /// The columns, and no row yet.
     pub fn begin(alloc: Global, columns: &Columns) -> Result<Telling, AllocError>
@@ -45,9 +46,11 @@ impl Telling {
         })
     }
 
-    /// One value more of the row that is told; what stands for it goes to the end of that row.
+    /// One value more of the row that is told; what stands for it goes to the end of that row. Nothing of a
+    /// value is kept once the reply is lost.
     pub fn take<T: Tables>(&mut self, alloc: Global, graph: &Snapshot<'_, T>, value: Value) -> Out
-        ensures { (columns : Items) (rows : List (List Datum)) (row : List Datum) (found : List Shown) → IsTelling graph.now columns rows row found self.old → IsTelling graph.now columns rows (row ++ view value ∷ []) (found ++ result ∷ []) self.new }
+        ensures lost { IsLost self.new → result ≡ Null }
+        ensures telling { (columns : Items) (rows : List (List Datum)) (row : List Datum) (found : List Shown) → IsTelling graph.now columns rows row found self.old → IsTelling graph.now columns rows (row ++ view value ∷ []) (found ++ result ∷ []) self.new }
     {
         if self.fault.is_some() {
             return Out::Null;
@@ -56,7 +59,7 @@ impl Telling {
         match spell(alloc, graph, value, &mut room) {
             Ok(out) => {
                 self.room = room;
-                out
+                if room == 0 { Out::Null } else { out }
             }
             Err(fault) => {
                 self.fault = Some(fault);
@@ -65,9 +68,10 @@ impl Telling {
         }
     }
 
-    /// The row that was told is whole.
+    /// The row that was told is whole. Nothing is written once the reply is lost.
     pub fn end_row(&mut self, row: &[Out]) -> Result<(), AllocError>
-        ensures { (graph : Graph) (columns : Items) (rows : List (List Datum)) (values : List Datum) → IsTelling graph columns rows values row.now self.old → OnOk result (IsTelling graph columns (rows ++ values ∷ []) [] [] self.new) }
+        ensures lost { IsLost self.new → self.new.reply ≡ self.old.reply }
+        ensures telling { (graph : Graph) (columns : Items) (rows : List (List Datum)) (values : List Datum) → IsTelling graph columns rows values row.now self.old → OnOk result (IsTelling graph columns (rows ++ values ∷ []) [] [] self.new) }
     {
         self.room = self.room.saturating_sub(2);
         if self.may_fit() {
@@ -79,6 +83,7 @@ impl Telling {
     /// Whether the reply may still be written.
     fn may_fit(&self) -> bool
         ensures fits { result ≡ true → self.now.room ≢ 0 }
+        ensures none { result ≡ true → self.now.fault ≡ None }
         ensures not { result ≡ false → self.now.fault ≡ None → self.now.room ≡ 0 }
     {
         self.fault.is_none() && self.room > 0

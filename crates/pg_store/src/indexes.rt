@@ -1,5 +1,5 @@
 //! Property indexes that a tenant's graph has, made and given up.
-ghost use Rattle.std.specs.Prelude.{◌≡◌, ℕ, [], Some, true, false, OnOk, IfOk};
+ghost use Rattle.std.specs.Prelude.{◌≡◌, ℕ, [], Some, true, false, OnErr, OnOk, IfOk};
 ghost use Rattle.std.specs.FinMap as map;
 ghost use Rattle.pg_graph.specs.declared.records.NodeRecord.{NodeRecord};
 ghost use Rattle.pg_index.specs.Properties.{finds, has_pair, is_found_by, pairs_of};
@@ -30,6 +30,7 @@ impl<T: Tables> Store<T> {
     ) -> Result<(), AllocError>
         requires fit { IsFit T.seen self.old shared.old }
         ensures changes { Changes T.seen self.old shared.old self.new shared.new result (λ start end. end ≡ start) }
+        ensures names { OnErr result (shared.new.names ≡ shared.old.names) }
         ensures there { OnOk result (has_index self.new shared.new.names label.now key.now ≡ true) }
     {
         self.commit(shared);

@@ -11,7 +11,7 @@ use Rattle.pg_meaning.specs.declared.fault.Fault.{Fault}
 use Rattle.pg_meaning.specs.declared.fault.Fault.TheVariants.{ReplyTooLong}
 use Rattle.pg_tenant.specs.Answers.{Answered, outcome_text, row_data, refused, answered}
 
-outcome_is_no_refusal : (o : Outcome) (f : Fault) → outcome_text o ≢ refusal_text f
+pub outcome_is_no_refusal : (o : Outcome) (f : Fault) → outcome_text o ≢ refusal_text f
 unfolding outcome_text
 outcome_is_no_refusal o f =
     answer_is_no_refusal (codes "columns") (array (items_of (map string o.columns)))

@@ -1,8 +1,9 @@
 -- The reply of the rows that the clauses leave is the answer.
-use Rattle.std.proofs.Common.{◌≡◌, ℕ, Bool, true, false, cond, List, [], ◌∷◌, map, length, Result, Ok, Err, OnOk, refl, sym, ap, subst, ◌∙◌}
+use Rattle.std.proofs.Common.{◌≡◌, ◌≢◌, ℕ, Bool, true, false, cond, List, [], ◌∷◌, map, length, Result, Ok, Err, OnOk, refl, sym, ap, subst, ◌∙◌}
 use Rattle.std.specs.Prelude.{nat_le}
 use Rattle.serde_json.specs.Data.{array, item, string}
 use Rattle.serde_json.specs.Written.{compact_text}
+use Rattle.pg_json.specs.Refusals.{refusal_text}
 use Rattle.pg_json.specs.Replies.{items_of, query_data, max_reply}
 use Rattle.pg_json.specs.Rows.{rows_data, rows_text}
 use Rattle.pg_meaning.specs.Answer.{◌>>=◌, ◌>>◌}
@@ -17,6 +18,7 @@ use Rattle.pg_return.specs.Returning.{named_items, replied}
 use Rattle.pg_spell.specs.Printed.{printed_items}
 use Rattle.pg_spell.specs.Telling.{fitting}
 use Rattle.pg_spell.specs.Told.{printed_rows, test_told}
+use Rattle.pg_tenant.proofs.AnswerLemmas.{outcome_is_no_refusal}
 use Rattle.pg_tenant.proofs.FinishedLemmas.{output}
 use Rattle.pg_tenant.specs.Answers.{Answered, row_data, outcome_text, refused, answered}
 use Rattle.pg_tenant.specs.Replies.{IsAnswer}
@@ -59,15 +61,28 @@ module _ (start : Graph) (b : Bool) (named names : Names) (is : named ≡ cond b
     last_answers : answered start (output b named last) ≡ answers last.graph (replied b names last)
     last_answers = by_test (test_told last.graph rows)
 
+    -- what is told is this text
+    fitting_is : (fits : Bool) (bytes : List ℕ) → (let r : Result (List ℕ) Fault = cond fits (Ok text) (Err ReplyTooLong) in r) ≡ Ok bytes → text ≡ bytes
+    fitting_is true bytes h = cc
+    fitting_is false bytes h = cc
+
+    told_is : (t : Result (Unit {0}) Fault) (bytes : List ℕ) → (t >> fitting text) ≡ Ok bytes → text ≡ bytes
+    told_is (Ok tt) bytes h = fitting_is (nat_le (length text) max_reply) bytes h
+    told_is (Err e) bytes h = cc
+
+    last_is_no_refusal : (bytes : List ℕ) → replied b names last ≡ Ok bytes → (f : Fault) → bytes ≢ refusal_text f
+    last_is_no_refusal bytes h f is = outcome_is_no_refusal outcome f (text_is ∙ told_is (test_told last.graph rows) bytes h ∙ is)
+
   by_clauses : (x : Result State Fault) (r : Result (List ℕ) Fault) (left : Graph) → Gives r (x >>= replied b names) (λ bytes. bytes) → OnOk r ((last : State) → x ≡ Ok last → last.graph ≡ left)
       → IsAnswer r (x >>= output b named) start left
   by_clauses (Ok last) (Ok bytes) left given keeps = record {
     ok = last_answers last ∙ ap (answers last.graph) given.ok ∙ ap (λ (g : Graph). answers g (Ok bytes)) (keeps last refl);
+    told = last_is_no_refusal last bytes given.ok;
     err = tt;
   }
-  by_clauses (Ok last) (Err e) left given keeps = record { ok = tt; err = λ other. last_answers last ∙ ap (answers last.graph) (given.err other) }
+  by_clauses (Ok last) (Err e) left given keeps = record { ok = tt; told = tt; err = λ other. last_answers last ∙ ap (answers last.graph) (given.err other) }
   by_clauses (Err f) (Ok bytes) left given keeps = let clash = given.ok in cc
-  by_clauses (Err f) (Err e) left given keeps = record { ok = tt; err = λ other. ap (answers start) (given.err other) }
+  by_clauses (Err f) (Err e) left given keeps = record { ok = tt; told = tt; err = λ other. ap (answers start) (given.err other) }
 
   pub is_answer : (x : Result State Fault) (r : Result (List ℕ) Fault) (left : Graph) (answer : Result Outcome Fault) → answer ≡ (x >>= output b named) → Gives r (x >>= replied b names) (λ bytes. bytes)
       → OnOk r ((last : State) → x ≡ Ok last → last.graph ≡ left) → IsAnswer r answer start left

@@ -14,5 +14,5 @@ pub answer_stays : (r s : Result (List ℕ) Fault) → s ≡ r → (x : Result O
 answer_stays r s same x start made left h stays = kept s (subst (λ t. IsAnswer t x start made) (sym same) h) stays
   where
     kept : (s : Result (List ℕ) Fault) → IsAnswer s x start made → OnOk s (left ≡ made) → IsAnswer s x start left
-    kept (Ok bytes) h is = record { ok = h.ok ∙ ap (leaves bytes) (sym is); err = tt }
-    kept (Err e) h is = record { ok = tt; err = h.err }
+    kept (Ok bytes) h is = record { ok = h.ok ∙ ap (leaves bytes) (sym is); told = h.told; err = tt }
+    kept (Err e) h is = record { ok = tt; told = tt; err = h.err }

@@ -16,8 +16,8 @@ pub answer_settled : (result reply : Result (List ℕ) Fault) (outcome : Result 
 answer_settled result reply outcome start mid end same answer kept = by_result result (subst (λ r. IsAnswer r outcome start mid) (sym same) answer) kept
   where
     by_result : (r : Result (List ℕ) Fault) → IsAnswer r outcome start mid → OnOk r (end ≡ mid) → IsAnswer r outcome start end
-    by_result (Ok bytes) a kept = record { ok = subst (IsReply start outcome bytes) (sym kept) a.ok; err = a.err }
-    by_result (Err e) a kept = record { ok = a.ok; err = a.err }
+    by_result (Ok bytes) a kept = record { ok = subst (IsReply start outcome bytes) (sym kept) a.ok; told = a.told; err = a.err }
+    by_result (Err e) a kept = record { ok = a.ok; told = a.told; err = a.err }
 
 pub same_tables_kept : {T S : Type 0} (seen : Seen T S) (old new : Store T) (shared : Shared S) → IsFit seen old shared → new.tables ≡ old.tables → KeepsShared seen old shared new shared
 same_tables_kept {T = T} seen old new shared fit same =

@@ -1,5 +1,5 @@
 //! Index requests of one tenant.
-ghost use Rattle.std.specs.Prelude.{◌≡◌, ◌≢◌, IfOk, IfErr, Ok, Err};
+ghost use Rattle.std.specs.Prelude.{◌≡◌, ◌≢◌, IfOk, IfErr, OnErr, Ok, Err};
 ghost use Rattle.pg_anchors.specs.Catalogue.{catalogue_view};
 ghost use Rattle.pg_meaning.specs.declared.fault.Fault.TheVariants.{OutOfMemory};
 ghost use Rattle.pg_store.specs.Changes.{Changes};
@@ -28,6 +28,7 @@ pub fn create_index<T: Tables>(
 ) -> Result<ReplyBytes, Fault>
     requires fit { IsFit T.seen store.old shared.old }
     ensures changes { Changes T.seen store.old shared.old store.new shared.new result (λ start end. end ≡ start) }
+    ensures names { OnErr result (shared.new.names ≡ shared.old.names) }
     ensures indexes { IsIndexAnswer result (index_created may_write (indexes_of catalogue.old) label.now key.now) (indexes_of catalogue.old) (indexes_of catalogue.new) }
 {
     let indexes = with_one_more(alloc, catalogue, may_write, label, key)?;

@@ -26,8 +26,13 @@ room_below : (b : Bool) → unless b ElementQuota ≡ Ok tt → b ≡ true
 room_below true h = refl
 room_below false h = absurd cc
 
-pub room_left : {T S : Type 0} (seen : Seen T S) (store : Store T) (shared : Shared S) (max_elements : ℕ) → IsFit seen store shared → max_elements ≤ 2 ^ 63 → room_for max_elements (graph_of_store seen store shared) ≡ Ok tt → store.elements < 2 ^ 63
-room_left seen store shared max_elements fit few room =
-    let below = ltb-true (element_count (graph_of_store seen store shared)) max_elements (room_below (nat_lt (element_count (graph_of_store seen store shared)) max_elements) room) in
+pub room_left : (graph : Graph) (max_elements : ℕ) → max_elements ≤ 2 ^ 63 → room_for max_elements graph ≡ Ok tt → element_count graph < 2 ^ 63
+room_left graph max_elements few room =
+    let below = ltb-true (element_count graph) max_elements (room_below (nat_lt (element_count graph) max_elements) room) in
+    omega (arith, below, few)
+
+pub few_elements : {T S : Type 0} (seen : Seen T S) (store : Store T) (shared : Shared S) (graph : Graph) → IsFit seen store shared → graph ≡ graph_of_store seen store shared → element_count graph < 2 ^ 63 → store.elements < 2 ^ 63
+few_elements seen store shared graph fit same few =
     let counted = fit.well.counted in
-    omega (arith, below, counted, few)
+    let fewer = subst (λ g. element_count g < 2 ^ 63) same few in
+    omega (arith, fewer, counted)

@@ -1,6 +1,6 @@
 //! One new element, where there is room and an id for it.
 ghost use Rattle.std.specs.Prelude.{◌≡◌, ◌≢◌, ◌<◌, ◌≤◌, ◌^◌, true, OnOk, IfOk, IfErr, Ok, Err};
-ghost use Rattle.pg_meaning.specs.Graph.{has_node};
+ghost use Rattle.pg_meaning.specs.Graph.{element_count, has_node};
 ghost use Rattle.pg_meaning.specs.Meters.{greatest_id, test_counter};
 ghost use Rattle.pg_meaning.specs.Updates.{first_text, add_between};
 ghost use Rattle.pg_meaning.specs.Patterns.{types_of, way_of};
@@ -15,7 +15,7 @@ ghost use Rattle.pg_write_make.specs.Outcomes.{node_added, relationship_of, outc
 use crate::texts::{label_texts, type_text};
 use pg_graph::Tables;
 use pg_meter::Room;
-use pg_store::{Shared, Store};
+use pg_store::{Shared, Snapshot, Store};
 use pg_syntax_tree::{NodePattern, RelationshipPattern};
 use pg_value_core::{Fault, NodeId, RelId, Value};
 use std::alloc::{AllocError, Global};
@@ -34,22 +34,16 @@ fn test_counter(next: u64) -> Result<(), Fault>
 }
 
 // Whether there is room for one more element.
-fn test_room<T: Tables>(
-    store: &Store<T>,
-    shared: &Shared<T::Shared>,
-    max_elements: u64,
-) -> Result<(), Fault>
-    requires fit { IsFit T.seen store.now shared.now }
-    requires quota { max_elements ≤ 2 ^ 63 }
-    ensures is { result ≡ room_for max_elements (graph_of_store T.seen store.now shared.now) }
-    ensures left { OnOk result (store.now.elements < 2 ^ 63) }
+fn test_room<T: Tables>(graph: &Snapshot<'_, T>, max_elements: u64) -> Result<(), Fault>
+    requires { max_elements ≤ 2 ^ 63 }
+    ensures is { result ≡ room_for max_elements graph.now }
+    ensures left { OnOk result (element_count graph.now < 2 ^ 63) }
 {
-    let _graph = store.graph(shared);
-    Room::new(store.elements(), max_elements).take()
+    Room::new(graph.elements(), max_elements).take()
 }
 
 /// Adds a node, as the pattern says and with these properties, or what stands in their place.
-#[tactic(auto, using(crate::proofs::ChangedLemmas::unchanged, crate::proofs::ChangedLemmas::one_change))]
+#[tactic(auto, using(crate::proofs::ChangedLemmas::unchanged, crate::proofs::ChangedLemmas::one_change, crate::proofs::RoomLemmas::few_elements))]
 pub fn add_node<T: Tables>(
     alloc: Global,
     store: &mut Store<T>,
@@ -66,7 +60,7 @@ pub fn add_node<T: Tables>(
     ensures changed { Changed T.seen store.old shared.old store.new shared.new }
 {
     let properties = outcome?;
-    test_room(store, shared, max_elements)?;
+    test_room(&store.graph(shared), max_elements)?;
     test_counter(store.next_ids().node)?;
     let labels = label_texts(alloc, &pattern.labels)?;
     Ok(store.create_node(alloc, shared, &labels, properties)?)
@@ -101,7 +95,7 @@ fn add_between<T: Tables>(
 }
 
 /// Adds a relationship between two nodes, with these properties, or what stands in their place.
-#[tactic(auto, using(crate::proofs::ChangedLemmas::unchanged))]
+#[tactic(auto, using(crate::proofs::ChangedLemmas::unchanged, crate::proofs::RoomLemmas::few_elements))]
 pub fn add_relationship<T: Tables>(
     alloc: Global,
     store: &mut Store<T>,
@@ -122,7 +116,7 @@ pub fn add_relationship<T: Tables>(
     ensures changed { Changed T.seen store.old shared.old store.new shared.new }
 {
     let properties = outcome?;
-    test_room(store, shared, max_elements)?;
+    test_room(&store.graph(shared), max_elements)?;
     test_counter(store.next_ids().rel)?;
     Ok(add_between(alloc, store, shared, pattern, left, right, properties)?)
 }

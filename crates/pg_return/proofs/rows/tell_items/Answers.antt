@@ -20,7 +20,7 @@ loop-one-preserved g c =
     let f = value_given (parameters_view c.args.parameters.now) c.args.graph.now names (map view c.args.row.now) in
     let here = ap (trees_of names) (item_here c.loop-one-test.true c.one-item.is c.deref-one-items.ensures.value) in
     rw c.in_ok-push.ensures.items
-    (one_item c.args.graph.now _ f (trees_of names c.args.ready.now.items) _ _ _ _ c.loop-one.found.items _ (view c.in_ok-value.value) c.take.result c.loop-one.invariant here c.in_ok-value.ensures.ok c.take.ensures)
+    (one_item c.args.graph.now _ f (trees_of names c.args.ready.now.items) _ _ _ _ c.loop-one.found.items _ (view c.in_ok-value.value) c.take.result c.loop-one.invariant here c.in_ok-value.ensures.ok c.take.ensures.telling)
 
 pub returns-in_err-value-clause-err : goal.returns-in_err-value-clause-err
 returns-in_err-value-clause-err g c =

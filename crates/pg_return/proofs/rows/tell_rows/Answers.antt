@@ -18,7 +18,7 @@ loop-at-preserved g c =
     let row = map view c.row.result.now in
     let made = c.in_ok-told.ensures.ok in
     one_row graph _ f rows (drop c.loop-at.at rows) (drop (c.loop-at.at + 1) rows) _ _ row made.values c.loop-at.invariant (drop_here rows c.loop-at.at row c.row.ensures) made.are
-    (λ columns before h. c.in_ok-end_row.ensures graph columns before made.values (subst (λ os. IsTelling graph columns before made.values os c.tell_items.new.telling) (sym c.as_slice.ensures.value) (made.telling columns before h)))
+    (λ columns before h. c.in_ok-end_row.ensures.telling graph columns before made.values (subst (λ os. IsTelling graph columns before made.values os c.tell_items.new.telling) (sym c.as_slice.ensures.value) (made.telling columns before h)))
 
 pub returns-in_err-told-clause-err : goal.returns-in_err-told-clause-err
 returns-in_err-told-clause-err g c =

@@ -4,5 +4,5 @@ use Rattle.pg_server.proofs.connections.serve_on.Goals as goal
 
 pub loop-served-preserved : goal.loop-served-preserved
 loop-served-preserved g c =
-    subst (λ n. ServesInTurn n c.args.server.now c.serve_connection.new.server) (sym (add-one c.loop-served._served))
-    (c.loop-served.server, c.serve_connection.result, c.loop-served.invariant, c.serve_connection.ensures)
+    subst (λ n. ServesInTurn n c.args.server.now.state c.serve_connection.new.server.state) (sym (add-one c.loop-served._served))
+    (c.loop-served.server.state, c.serve_connection.result, c.loop-served.invariant, c.serve_connection.ensures)

@@ -6,7 +6,7 @@ use Rattle.pg_spell.proofs.tables.tell_values.Goals as goal
 pub loop-value-preserved : goal.loop-value-preserved
 loop-value-preserved g c =
     rw c.in_ok-push.ensures.items
-    (one_value_told c.args.graph.now _ _ _ _ _ _ _ (view c.in-Some.value) c.take.result c.loop-value.invariant (ap (map view) c.in-Some.ensures.steps.0) c.take.ensures)
+    (one_value_told c.args.graph.now _ _ _ _ _ _ _ (view c.in-Some.value) c.take.result c.loop-value.invariant (ap (map view) c.in-Some.ensures.steps.0) c.take.ensures.telling)
 
 pub returns : goal.returns
 returns g c = λ columns rows h.

@@ -12,6 +12,7 @@ returns-in-Query g c =
     let same : query c.as_str.result.now (string_bytes c.in-Query.text) given ≡ request_view c.args.request =
     ap (λ t. query t (string_bytes c.in-Query.text) given) c.as_str.ensures.value ∙ ap request_view (sym c.in-Query.is) in
     record {
-      tenants = subst (λ r. RepliesAt c.args.place c.args.self.now.tenants r c.query.result c.query.new.self.tenants) same c.query.ensures.tenants;
-      cache = subst (λ r. LooksUp (key_at c.args.place c.args.self.now.tenants r) (reply_of c.query.result) c.args.self.now.cache c.query.new.self.cache) same c.query.ensures.cache;
+      tenants = subst (λ r. RepliesAt c.args.place c.args.self.now.state.tenants r c.query.result c.query.new.self.state.tenants) same c.query.ensures.tenants;
+      cache = subst (λ r. LooksUp (key_at c.args.place c.args.self.now.state.tenants r) (reply_of c.query.result) c.args.self.now.state.cache c.query.new.self.state.cache) same c.query.ensures.cache;
+      names = c.query.ensures.names;
     }

@@ -1,0 +1,22 @@
+-- What tenants hold over the names and the part of the tables that all of them share.
+use Rattle.std.specs.Prelude.{◌≡◌, ℕ, ◌<◌, length}
+use Rattle.pg_graph.specs.Content.{Seen}
+use Rattle.pg_server.specs.State.{ServerSeen, state_at}
+use Rattle.pg_store.specs.Stores.{graph_of_store, IsFit}
+use Rattle.pg_store.specs.declared.shared.Shared.{Shared}
+use Rattle.pg_store.specs.declared.store.Store.{Store}
+
+-- what the stores of all tenants share
+abbrev pub shared_of : {X : Type 0} → ServerSeen X → Shared X
+shared_of server = record { names = server.state.names; tables = server.tables }
+
+-- The tenant at this place holds its graph in a store of that owner over these names and this part of the tables: the names in it are numbers of
+-- these names, and read as their texts it is the tenant's graph.
+pub record HoldsTenant {T S : Type 0} (seen : Seen T S) (server : ServerSeen S) (place : ℕ) : Type 0 where
+  pub store : Store T
+  pub own : seen.owner store.tables ≡ place
+  pub fit : IsFit seen store (shared_of server)
+  pub graph : graph_of_store seen store (shared_of server) ≡ (state_at server.state place).graph
+
+abbrev pub HoldTenants : {T S : Type 0} → Seen T S → ServerSeen S → Type 0
+HoldTenants seen server = (place : ℕ) → place < length server.state.tenants → HoldsTenant seen server place

@@ -5,8 +5,6 @@ mod command;
 mod fault;
 mod outcome;
 mod records;
-#[cfg(test)]
-mod tests;
 
 use command::{Command, command_of};
 use fault::ProgramFault;

@@ -1,5 +1,5 @@
 -- Wide rows of values stand for the projected rows of the definitions: SKIP, LIMIT and WHERE.
-use Rattle.std.proofs.Common.{◌≡◌, ℕ, Bool, true, false, List, [], ◌∷◌, ◌++◌, map, length, take, Result, Ok, Err, Option, Some, None, refl, ap, ◌∙◌}
+use Rattle.std.proofs.Common.{◌≡◌, ℕ, zero, suc, Bool, true, false, List, [], ◌∷◌, ◌++◌, map, length, take, drop, Result, Ok, Err, Option, Some, None, refl, ap, ◌∙◌, arith}
 use Rattle.std.proofs.lemmas.List.{drop-map, take-map}
 use Rattle.pg_meaning.specs.Answer.{◌>>=◌}
 use Rattle.pg_meaning.specs.Conditions.{condition}
@@ -11,8 +11,9 @@ use Rattle.pg_meaning.specs.Tree.{Expression}
 use Rattle.pg_meaning.specs.Value.{Value}
 use Rattle.pg_meaning.specs.declared.fault.Fault.{Fault}
 use Rattle.pg_rows.specs.Named.{row_of, rows_named}
+use Rattle.pg_project.proofs.InTurn.{drop_none}
 use Rattle.pg_project.proofs.Standing.{seen_as}
-use Rattle.pg_project.specs.Given.{passing_given}
+use Rattle.pg_project.specs.Given.{Cut, cut_of, passing_given}
 use Rattle.pg_project.specs.Parts.{stands}
 
 pub limited_map : {X Y : Type 0} (f : X → Y) (n : Option ℕ) (xs : List X) → limited n (map f xs) ≡ map f (limited n xs)
@@ -22,6 +23,17 @@ limited_map f (Some n) xs = take-map f n xs
 pub skipped_map : {X Y : Type 0} (f : X → Y) (n : Option ℕ) (xs : List X) → skipped n (map f xs) ≡ map f (skipped n xs)
 skipped_map f None xs = refl
 skipped_map f (Some n) xs = drop-map f n xs
+
+pub cut_map : {X Y : Type 0} (f : X → Y) (c : Cut) (xs : List X) → limited c.limit (drop c.skip (map f xs)) ≡ map f (limited c.limit (drop c.skip xs))
+cut_map f c xs = ap (limited c.limit) (drop-map f c.skip xs) ∙ limited_map f c.limit (drop c.skip xs)
+
+none_limited : {X : Type 0} (limit : Option ℕ) → limited {X = X} limit [] ≡ []
+none_limited None = refl
+none_limited (Some zero) = refl
+none_limited (Some (suc n)) = refl
+
+pub none_cut : (c : Cut) → cut_of c [] ≡ []
+none_cut c = ap (limited c.limit) (drop_none [] c.skip (omega arith)) ∙ none_limited c.limit
 
 module _ (s : Setting) (graph : Graph) (where_ : Option Expression) (columns earlier : List (List ℕ)) where
   pub passing_stand : (ws : List (List Value))

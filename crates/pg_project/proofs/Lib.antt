@@ -5,8 +5,8 @@ pub mod EachAnswer
 pub mod InTurn
 pub mod Kept
 pub mod Moves
-pub mod OneForOne
 pub mod Projecting
+pub mod ReturnedInTurn
 pub mod SortPlaces
 pub mod Standing
 pub mod Unwinding

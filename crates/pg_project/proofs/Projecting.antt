@@ -1,7 +1,6 @@
 -- The parts of a projection are the definition's clause.
 use Rattle.std.proofs.Common.{◌≡◌, ◌≢◌, ℕ, suc, ◌==◌, Bool, true, false, cond, not, List, [], ◌∷◌, ◌++◌, map, length, take, drop, Result, Ok, Err, IfOk, IfErr, Option, Some, None, refl, sym, ap, subst, ◌∙◌, arith}
 use Rattle.std.proofs.lemmas.Bool.Decides.{nat_tests}
-use Rattle.std.proofs.lemmas.List.{drop-map}
 use Rattle.std.specs.List.{AllByRecursion, list_any}
 use Rattle.std.specs.Prelude.{unwrap_or, is_some, is_none, ◌||◌, ◌&&◌}
 use Rattle.pg_meaning.specs.Aggregates.{aggregate_of}
@@ -25,7 +24,7 @@ use Rattle.pg_syntax_tree.specs.declared.clauses.SortItem.{SortItem as Sort}
 use Rattle.pg_value_core.specs.Gives.{Gives}
 use Rattle.pg_project.proofs.Arranged.{distinct_stand, ordered_stand}
 use Rattle.pg_project.proofs.InTurn.{bound_twice, nothing_behind}
-use Rattle.pg_project.proofs.Kept.{limited_map, passing_stand}
+use Rattle.pg_project.proofs.Kept.{cut_map, passing_stand}
 use Rattle.pg_project.proofs.Standing.{all_rows}
 use Rattle.pg_project.proofs.Wide.{table_wide}
 use Rattle.pg_group.specs.Items.{columns_of, of_columns}
@@ -185,7 +184,7 @@ module _ (s : Setting) (graph : Graph) (columns earlier : List (List ℕ)) (es :
       ≡ ((a >>= λ us. passing_given s.parameters graph (columns ++ earlier) where_ (length columns) (cut_of c us)) >>= λ found. Ok (rows_named columns found))
   sorted_ends (Err f) = refl
   sorted_ends (Ok us) =
-      ap (λ xs. passing_rows s graph where_ xs >>= λ kept. Ok (map (λ (r : Projected). r.columns) kept)) (ap (limited c.limit) (drop-map (stands columns earlier) c.skip us) ∙ limited_map (stands columns earlier) c.limit (drop c.skip us))
+      ap (λ xs. passing_rows s graph where_ xs >>= λ kept. Ok (map (λ (r : Projected). r.columns) kept)) (cut_map (stands columns earlier) c us)
       ∙ passing_stand s graph where_ columns earlier (cut_of c us)
 
   distinct_is : (d : Bool) (ws : List (List Value)) → (d ≡ true → AllByRecursion (λ w. length w ≡ length columns) ws) → distinct_rows d (map (stands columns earlier) ws) ≡ map (stands columns earlier) (distinct_given d ws)
@@ -236,7 +235,7 @@ module _ (s : Setting) (graph : Graph) (columns : List Column) where
     pub cut_later : (a : Result (List Projected) Fault) → (a >>= behind [] false None) ≡ ((a >>= in_columns) >>= cut_rows)
     cut_later (Ok items) =
         ap (λ a. a >>= in_columns) (no_condition (limited c.limit (drop c.skip items)))
-        ∙ ap Ok (sym (ap (limited c.limit) (drop-map (λ (r : Projected). r.columns) c.skip items) ∙ limited_map (λ (r : Projected). r.columns) c.limit (drop c.skip items)))
+        ∙ ap Ok (sym (cut_map (λ (r : Projected). r.columns) c items))
     cut_later (Err f) = refl
 
     abbrev items_by_kind : (hidden aggregated : Bool) → Result (List Projected) Fault

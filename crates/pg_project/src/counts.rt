@@ -18,7 +18,7 @@ use pg_value_core::{Fault, Parameters, Value};
 use std::alloc::Global;
 
 /// SKIP, then LIMIT, each evaluated over no variable.
-pub(crate) fn cut_at<T: Tables>(
+pub fn cut_at<T: Tables>(
     alloc: Global,
     projection: &Projection,
     parameters: &Parameters,

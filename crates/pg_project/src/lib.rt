@@ -13,8 +13,10 @@ mod sorting;
 mod unwind;
 mod values;
 
+pub use counts::cut_at;
+pub use passing::Cut;
 pub use project::{project_return, project_with};
 pub use projection_columns::ProjectionColumns;
-pub use returned::{come_one_for_one, return_columns};
+pub use returned::{come_in_turn, return_columns};
 pub use unwind::unwind_rows;
 pub use values::prepare_each;

@@ -3,7 +3,7 @@ ghost use Rattle.std.specs.Prelude.{◌≡◌, ◌≢◌, ◌<◌, ◌≤◌, []
 ghost use Rattle.pg_expr.specs.Prepared.{condition_of};
 ghost use Rattle.pg_meaning.specs.Conditions.{condition};
 ghost use Rattle.pg_meaning.specs.declared.fault.Fault.TheVariants.{OutOfMemory};
-ghost use Rattle.pg_project.specs.Cuts.{cut_view};
+ghost use Rattle.pg_project.specs.Cuts.{LetsIn, cut_view};
 ghost use Rattle.pg_project.specs.Given.{cut_of, passing_given};
 ghost use Rattle.pg_rows.specs.Left.{first_row, rows_left};
 ghost use Rattle.pg_rows.specs.Named.{row_of};
@@ -22,9 +22,24 @@ use std::alloc::{AllocError, Global};
 
 /// How many rows SKIP leaves out, and how many LIMIT lets in.
 #[derive(Clone, Copy)]
-pub(crate) struct Cut {
+pub struct Cut {
     pub(crate) skip: u64,
     pub(crate) limit: Option<u64>,
+}
+
+impl Cut {
+    /// Whether a row behind so many others is let in.
+    pub fn lets_in(self, at: u64) -> bool
+        ensures { LetsIn (cut_view self) at result }
+    {
+        if at < self.skip {
+            return false;
+        }
+        match self.limit {
+            Some(most) => at - self.skip < most,
+            None => true,
+        }
+    }
 }
 
 /// Whether all rows are let in, under no condition.

@@ -1,9 +1,9 @@
-//! RETURN whose rows come one for one.
+//! RETURN whose rows come in turn.
 ghost use Rattle.std.specs.Prelude.{◌≡◌, true, IfOk};
 ghost use Rattle.pg_group.specs.Items.{expressions_view};
 ghost use Rattle.pg_meaning.specs.Scopes.{return_columns};
 ghost use Rattle.pg_project.specs.Columns.{columns_view};
-ghost use Rattle.pg_project.specs.Returned.{ComeOneForOne, KeepsAll};
+ghost use Rattle.pg_project.specs.Returned.{ComeInTurn};
 ghost use Rattle.pg_syntax_tree.specs.View.{projection_view};
 
 use crate::columns::{Naming, make_columns};
@@ -24,19 +24,10 @@ pub fn return_columns<'a>(
     make_columns(alloc, Naming::Source, scope, projection)
 }
 
-/// Whether each row gives one row, whatever the others are: RETURN of these items neither groups nor sorts,
-/// and leaves none out.
-pub fn come_one_for_one(projection: &Projection, items: &Vec<&Expression>) -> bool
-    ensures { result ≡ true → ComeOneForOne (projection_view projection.now) (expressions_view items.now.items) }
+/// Whether the rows of RETURN come in turn, each by itself: it neither groups these items nor sorts, and equal
+/// rows stay.
+pub fn come_in_turn(projection: &Projection, items: &Vec<&Expression>) -> bool
+    ensures { result ≡ true → ComeInTurn (projection_view projection.now) (expressions_view items.now.items) }
 {
-    keeps_all(projection) && !have_aggregate(items)
-}
-
-fn keeps_all(projection: &Projection) -> bool
-    ensures { result ≡ true → KeepsAll (projection_view projection.now) }
-{
-    !projection.distinct
-        && projection.order.is_empty()
-        && projection.skip.is_none()
-        && projection.limit.is_none()
+    !projection.distinct && projection.order.is_empty() && !have_aggregate(items)
 }

@@ -1,5 +1,5 @@
 -- RETURN as the last clause, and what its rows are answered.
-use Rattle.std.specs.Prelude.{◌≡◌, Bool, ℕ, cond, List, [], map, Result, Ok, None}
+use Rattle.std.specs.Prelude.{◌≡◌, Bool, ℕ, cond, List, [], ◌∷◌, ◌++◌, map, Result, Ok, None}
 use Rattle.serde_json.specs.Data.{Items, string}
 use Rattle.pg_json.specs.Replies.{items_of}
 use Rattle.pg_meaning.specs.Answer.{◌>>=◌}
@@ -12,6 +12,7 @@ use Rattle.pg_meaning.specs.Scopes.{column_names, return_columns}
 use Rattle.pg_meaning.specs.Tree.{Projection}
 use Rattle.pg_meaning.specs.Value.{Value}
 use Rattle.pg_meaning.specs.declared.fault.Fault.{Fault}
+use Rattle.pg_project.specs.Given.{Cut, cut_of}
 use Rattle.pg_spell.specs.Telling.{IsTelling, told}
 use Rattle.pg_spell.specs.declared.telling.Telling.{Telling}
 use Rattle.pg_value_core.specs.declared.out.Out.{Out}
@@ -34,8 +35,19 @@ pub record RowTold (graph : Graph) (given : Result (List Value) Fault) (old new 
   pub are : given ≡ Ok values
   pub telling : (columns : Items) (rows : List (List Value)) → IsTelling graph columns rows [] [] old → IsTelling graph columns rows values found new
 
--- the rows that they give are told
-pub record RowsTold (graph : Graph) (given : Result (List (List Value)) Fault) (old new : Telling) : Type 0 where
+-- no fault comes in place of the values
+pub record IsGiven (given : Result (List Value) Fault) : Type 0 where
+  pub values : List Value
+  pub are : given ≡ Ok values
+
+-- the values at a row are told where it is let in
+pub record RowPassed (graph : Graph) (is_in : Bool) (given : Result (List Value) Fault) (old new : Telling) : Type 0 where
+  pub values : List Value
+  pub are : given ≡ Ok values
+  pub telling : (columns : Items) (rows : List (List Value)) → IsTelling graph columns rows [] [] old → IsTelling graph columns (rows ++ cond is_in (values ∷ []) []) [] [] new
+
+-- the rows that they give are told, as far as they are let in
+pub record RowsTold (graph : Graph) (c : Cut) (given : Result (List (List Value)) Fault) (old new : Telling) : Type 0 where
   pub rows : List (List Value)
   pub are : given ≡ Ok rows
-  pub telling : (columns : Items) → IsTelling graph columns [] [] [] old → IsTelling graph columns rows [] [] new
+  pub telling : (columns : Items) → IsTelling graph columns [] [] [] old → IsTelling graph columns (cut_of c rows) [] [] new

@@ -1,5 +1,6 @@
 //! Look-ups in turn, and what they count and answer.
 
+use crate::expect::expect;
 use pg_cache::PlanCache;
 use pg_plan::{Catalogue, Plan};
 use pg_syntax_tree::Clause;
@@ -35,56 +36,103 @@ fn is_indexed(plan: &Plan) -> Option<bool> {
     Some(plan.anchors().first()?.first()?.index.is_some())
 }
 
+/// Texts with the item that they return, and how often a plan was found and not found so far.
+const LOOK_UPS: [(&str, &str, u64, u64); 7] = [
+    ("RETURN 1", "1", 0, 1),
+    ("RETURN 2", "2", 0, 2),
+    ("RETURN 1", "1", 1, 2),
+    ("RETURN 3", "3", 1, 3),
+    ("RETURN 1", "1", 2, 3),
+    ("RETURN 2", "2", 2, 4),
+    ("RETURN 1", "1", 3, 4),
+];
+
+fn new_cache(rt: &HostRuntime, count: usize) -> Result<PlanCache<RandomState>, Fail> {
+    let count = NonZeroUsize::new(count).ok_or("no room")?;
+    Ok(PlanCache::new(rt.alloc(), count, RandomState::new(rt)?)?)
+}
+
+/// Whether a text's plan for no index returns this item.
+fn is_found(
+    alloc: Global,
+    cache: &mut PlanCache<RandomState>,
+    text: &str,
+    name: &str,
+) -> Result<bool, Fail> {
+    let text = String::from_str(alloc, text)?;
+    let plan = cache.plan_for(alloc, text, no_index(alloc)?)?;
+    Ok(last_item(&plan) == Some(name))
+}
+
+fn is_refused(alloc: Global, cache: &mut PlanCache<RandomState>, text: &str) -> Result<bool, Fail> {
+    let text = String::from_str(alloc, text)?;
+    let none = no_index(alloc)?;
+    Ok(cache.plan_for(alloc, text, none).is_err())
+}
+
 #[test]
 fn the_last_used_stay(rt: HostRuntime) -> Result<(), Fail> {
-    let alloc = rt.alloc();
-    let two = NonZeroUsize::new(2).ok_or("two")?;
-    let mut cache = PlanCache::new(alloc, two, RandomState::new(&rt)?)?;
-    let none = no_index(alloc)?;
-    let rows = [
-        ("RETURN 1", "1", 0, 1),
-        ("RETURN 2", "2", 0, 2),
-        ("RETURN 1", "1", 1, 2),
-        ("RETURN 3", "3", 1, 3),
-        ("RETURN 1", "1", 2, 3),
-        ("RETURN 2", "2", 2, 4),
-        ("RETURN 1", "1", 3, 4),
-    ];
-    for (text, name, hits, misses) in rows {
-        let plan = cache.plan_for(alloc, String::from_str(alloc, text)?, none.clone()?)?;
-        assert!(rt; last_item(&plan) == Some(name), "{text}");
-        assert!(rt; cache.stats() == (hits, misses), "{text}");
+    let mut cache = new_cache(&rt, 2)?;
+    look_up(rt.alloc(), &mut cache)
+}
+
+fn look_up(alloc: Global, cache: &mut PlanCache<RandomState>) -> Result<(), Fail> {
+    for (text, name, hits, misses) in &LOOK_UPS {
+        expect(is_found(alloc, cache, text, name)?, text)?;
+        expect(cache.stats() == (*hits, *misses), text)?;
     }
-    for misses in [5, 6] {
-        let text = String::from_str(alloc, "RETURN 1 +")?;
-        assert!(rt; cache.plan_for(alloc, text, none.clone()?).is_err());
-        assert!(rt; cache.stats() == (3, misses));
+    look_up_faults(alloc, cache)
+}
+
+fn look_up_faults(alloc: Global, cache: &mut PlanCache<RandomState>) -> Result<(), Fail> {
+    for misses in &[5, 6] {
+        expect(is_refused(alloc, cache, "RETURN 1 +")?, "no plan")?;
+        expect(cache.stats() == (3, *misses), "a miss")?;
     }
     Ok(())
 }
 
+/// The key of the one index, if there is one; whether the plan uses it; and how often a plan was found and not found
+/// so far. Lists that are equal share a plan.
+const LISTS: [(&str, bool, u64, u64); 6] = [
+    ("", false, 0, 1),
+    ("name", true, 0, 2),
+    ("", false, 1, 2),
+    ("name", true, 2, 2),
+    ("age", false, 2, 3),
+    ("name", true, 3, 3),
+];
+
+fn list_of(alloc: Global, key: &str) -> Result<Rc<Catalogue>, AllocError> {
+    if key.is_empty() {
+        no_index(alloc)
+    } else {
+        one_index(alloc, "P", key)
+    }
+}
+
+/// Whether the plan for this list of indexes uses it, or not.
+fn uses_index(
+    alloc: Global,
+    cache: &mut PlanCache<RandomState>,
+    key: &str,
+    want: bool,
+) -> Result<bool, Fail> {
+    let text = String::from_str(alloc, "MATCH (n:P {name: 'x'}) RETURN id(n)")?;
+    let plan = cache.plan_for(alloc, text, list_of(alloc, key)?)?;
+    Ok(is_indexed(&plan) == Some(want))
+}
+
 #[test]
 fn each_list_of_indexes_has_its_plan(rt: HostRuntime) -> Result<(), Fail> {
-    let alloc = rt.alloc();
-    let four = NonZeroUsize::new(4).ok_or("four")?;
-    let mut cache = PlanCache::new(alloc, four, RandomState::new(&rt)?)?;
-    let none = no_index(alloc)?;
-    let first = one_index(alloc, "P", "name")?;
-    let second = one_index(alloc, "P", "name")?;
-    let other = one_index(alloc, "P", "age")?;
-    let rows = [
-        ("no index", &none, false, 0, 1),
-        ("an index", &first, true, 0, 2),
-        ("no index again", &none, false, 1, 2),
-        ("an equal list", &second, true, 2, 2),
-        ("another index", &other, false, 2, 3),
-        ("the index again", &first, true, 3, 3),
-    ];
-    for (told, catalogue, indexed, hits, misses) in rows {
-        let text = String::from_str(alloc, "MATCH (n:P {name: 'x'}) RETURN id(n)")?;
-        let plan = cache.plan_for(alloc, text, catalogue.clone()?)?;
-        assert!(rt; is_indexed(&plan) == Some(indexed), "{told}");
-        assert!(rt; cache.stats() == (hits, misses), "{told}");
+    let mut cache = new_cache(&rt, 4)?;
+    look_up_lists(rt.alloc(), &mut cache)
+}
+
+fn look_up_lists(alloc: Global, cache: &mut PlanCache<RandomState>) -> Result<(), Fail> {
+    for (key, is_used, hits, misses) in &LISTS {
+        expect(uses_index(alloc, cache, key, *is_used)?, key)?;
+        expect(cache.stats() == (*hits, *misses), key)?;
     }
     Ok(())
 }

@@ -6,6 +6,8 @@ mod cache;
 #[cfg(test)]
 mod depths;
 #[cfg(test)]
+mod expect;
+#[cfg(test)]
 mod expressions;
 #[cfg(test)]
 mod plans;

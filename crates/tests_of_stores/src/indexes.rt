@@ -23,7 +23,7 @@ fn assert_found<T: Tables>(
     let value = Value::Int(number);
     let graph = store.graph(shared);
     let found = graph.nodes_valued("A", "x", &value).collect(alloc)?;
-    assert_eq!(rt; found.as_slice(), ids);
+    assert!(rt; found.as_slice() == ids);
     let others = graph.nodes_valued("B", "x", &value).collect(alloc)?;
     assert!(rt; others.as_slice().is_empty());
     Ok(())
@@ -84,22 +84,72 @@ fn changes<T: Tables>(
     moved
 }
 
+// An index is made between two nodes with the same number.
+fn index_comes<T: Tables>(
+    rt: &impl Abort,
+    alloc: Global,
+    store: &mut Store<T>,
+    shared: &mut Shared<T::Shared>,
+) -> Result<(), AllocError>
+    requires fit { IsFit T.seen store.old shared.old }
+    ensures fit { IsFit T.seen store.new shared.new }
+{
+    add_node(rt, alloc, store, shared, 2)?;
+    store.add_index(alloc, shared, "A", "x")?;
+    add_node(rt, alloc, store, shared, 2)
+}
+
+// It goes and comes again.
+fn index_goes<T: Tables>(
+    rt: &impl Abort,
+    alloc: Global,
+    store: &mut Store<T>,
+    shared: &mut Shared<T::Shared>,
+) -> Result<(), AllocError>
+    requires fit { IsFit T.seen store.old shared.old }
+    ensures fit { IsFit T.seen store.new shared.new }
+{
+    store.drop_index(shared, "A", "x");
+    assert_both(rt, alloc, store, shared)?;
+    store.add_index(alloc, shared, "A", "x")?;
+    assert_both(rt, alloc, store, shared)
+}
+
+// Both nodes are found by their number, and none by another.
+fn assert_both<T: Tables>(
+    rt: &impl Abort,
+    alloc: Global,
+    store: &Store<T>,
+    shared: &Shared<T::Shared>,
+) -> Result<(), AllocError>
+    requires fit { IsFit T.seen store.now shared.now }
+{
+    assert_found(rt, alloc, store, shared, 2, &[NodeId(0), NodeId(1)])?;
+    assert_found(rt, alloc, store, shared, 3, &[])
+}
+
+fn changes_between<T: Tables>(
+    rt: &impl Abort,
+    alloc: Global,
+    store: &mut Store<T>,
+    shared: &mut Shared<T::Shared>,
+) -> Result<(), AllocError>
+    requires fit { IsFit T.seen store.old shared.old }
+    ensures fit { IsFit T.seen store.new shared.new }
+{
+    assert_both(rt, alloc, store, shared)?;
+    changes(rt, alloc, store, shared)?;
+    index_goes(rt, alloc, store, shared)
+}
+
 fn index_comes_and_goes<T: Tables>(rt: &impl Abort, alloc: Global) -> Result<(), AllocError>
 where
     T::Shared: Drop,
 {
     let mut shared = Shared::new(alloc, T::new_shared(alloc));
     let mut store = Store::<T>::new(alloc, 7);
-    add_node(rt, alloc, &mut store, &mut shared, 2)?;
-    store.add_index(alloc, &mut shared, "A", "x")?;
-    add_node(rt, alloc, &mut store, &mut shared, 2)?;
-    assert_found(rt, alloc, &store, &shared, 2, &[NodeId(0), NodeId(1)])?;
-    changes(rt, alloc, &mut store, &mut shared)?;
-    store.drop_index(&shared, "A", "x");
-    assert_found(rt, alloc, &store, &shared, 2, &[NodeId(0), NodeId(1)])?;
-    store.add_index(alloc, &mut shared, "A", "x")?;
-    assert_found(rt, alloc, &store, &shared, 2, &[NodeId(0), NodeId(1)])?;
-    assert_found(rt, alloc, &store, &shared, 3, &[])
+    index_comes(rt, alloc, &mut store, &mut shared)?;
+    changes_between(rt, alloc, &mut store, &mut shared)
 }
 
 #[test]

@@ -28,7 +28,7 @@ fn number_at<T: Tables>(graph: &Snapshot<'_, T>, id: u64, key: &str) -> Option<i
     }
 }
 
-// Two nodes are made; labels may repeat, a later value stays, and null takes a key out.
+// A node is made; labels may repeat, a later value stays, and null takes a key out.
 fn makes<T: Tables>(
     rt: &impl Abort,
     alloc: Global,
@@ -47,11 +47,23 @@ fn makes<T: Tables>(
     ]?;
     assert_room(rt, store, shared);
     let first = store.create_node(alloc, shared, &labels, properties)?;
-    assert_eq!(rt; first, NodeId(0));
+    assert!(rt; first == NodeId(0));
+    Ok(())
+}
+
+fn makes_second<T: Tables>(
+    rt: &impl Abort,
+    alloc: Global,
+    store: &mut Store<T>,
+    shared: &mut Shared<T::Shared>,
+) -> Result<(), AllocError>
+    requires fit { IsFit T.seen store.old shared.old }
+    ensures fit { IsFit T.seen store.new shared.new }
+{
     let labels = vec![in alloc; "B"]?;
     assert_room(rt, store, shared);
     let second = store.create_node(alloc, shared, &labels, Vec::new(alloc))?;
-    assert_eq!(rt; second, NodeId(1));
+    assert!(rt; second == NodeId(1));
     Ok(())
 }
 
@@ -70,12 +82,41 @@ fn makes_and_undoes<T: Tables>(
     let labels = vec![in alloc; "New"]?;
     assert_room(rt, store, shared);
     store.create_node(alloc, shared, &labels, Vec::new(alloc))?;
-    assert_eq!(rt; store.elements(), 3);
-    assert!(rt; shared.names().len() > names);
+    assert!(rt; store.elements() == 3 && shared.names().len() > names);
     store.undo(shared, mark);
-    assert_eq!(rt; shared.names().len(), names);
-    assert_eq!(rt; store.elements(), 2);
-    assert_eq!(rt; store.next_ids().node, 2);
+    assert!(rt; shared.names().len() == names);
+    assert!(rt; store.elements() == 2 && store.next_ids().node == 2);
+    Ok(())
+}
+
+fn reads_nodes<T: Tables>(rt: &impl Abort, store: &Store<T>, shared: &Shared<T::Shared>)
+    requires fit { IsFit T.seen store.now shared.now }
+{
+    let graph = store.graph(shared);
+    assert!(rt; graph.has_node(NodeId(1)) && !graph.has_node(NodeId(2)));
+    assert!(rt; graph.has_label(NodeId(0), "A") && !graph.has_label(NodeId(1), "A"));
+}
+
+fn reads_properties<T: Tables>(rt: &impl Abort, store: &Store<T>, shared: &Shared<T::Shared>)
+    requires fit { IsFit T.seen store.now shared.now }
+{
+    let graph = store.graph(shared);
+    assert!(rt; number_at(&graph, 0, "x") == Some(2));
+    assert!(rt; number_at(&graph, 0, "y").is_none());
+}
+
+fn reads_lists<T: Tables>(
+    rt: &impl Abort,
+    alloc: Global,
+    store: &Store<T>,
+    shared: &Shared<T::Shared>,
+) -> Result<(), AllocError>
+    requires fit { IsFit T.seen store.now shared.now }
+{
+    let all = store.graph(shared).node_ids(alloc)?;
+    assert!(rt; all.as_slice() == [NodeId(0), NodeId(1)].as_slice());
+    let named = store.graph(shared).nodes_with_label(alloc, "A")?;
+    assert!(rt; named.as_slice() == [NodeId(0)].as_slice());
     Ok(())
 }
 
@@ -87,17 +128,9 @@ fn reads<T: Tables>(
 ) -> Result<(), AllocError>
     requires fit { IsFit T.seen store.now shared.now }
 {
-    assert!(rt; store.graph(shared).has_node(NodeId(1)));
-    assert!(rt; !store.graph(shared).has_node(NodeId(2)));
-    assert_eq!(rt; number_at(&store.graph(shared), 0, "x"), Some(2));
-    assert_eq!(rt; number_at(&store.graph(shared), 0, "y"), None);
-    assert!(rt; store.graph(shared).has_label(NodeId(0), "A"));
-    assert!(rt; !store.graph(shared).has_label(NodeId(1), "A"));
-    let all = store.graph(shared).node_ids(alloc)?;
-    assert_eq!(rt; all.as_slice(), [NodeId(0), NodeId(1)].as_slice());
-    let named = store.graph(shared).nodes_with_label(alloc, "A")?;
-    assert_eq!(rt; named.as_slice(), [NodeId(0)].as_slice());
-    Ok(())
+    reads_nodes(rt, store, shared);
+    reads_properties(rt, store, shared);
+    reads_lists(rt, alloc, store, shared)
 }
 
 fn reads_texts<T: Tables>(
@@ -111,12 +144,40 @@ fn reads_texts<T: Tables>(
     let missing = store.graph(shared).node_texts(alloc, NodeId(2))?;
     assert!(rt; missing.is_none());
     if let Some(texts) = store.graph(shared).node_texts(alloc, NodeId(0))? {
-        assert_eq!(rt; texts.labels.len(), 2);
-        assert_eq!(rt; texts.labels[0].as_str(), "A");
-        assert_eq!(rt; texts.labels[1].as_str(), "B");
-        assert_eq!(rt; texts.properties.len(), 1);
+        assert!(rt; texts.labels.len() == 2 && texts.properties.len() == 1);
+        assert!(rt; texts.labels[0].as_str() == "A" && texts.labels[1].as_str() == "B");
     }
     Ok(())
+}
+
+// Two nodes are made, and read.
+fn makes_and_reads<T: Tables>(
+    rt: &impl Abort,
+    alloc: Global,
+    store: &mut Store<T>,
+    shared: &mut Shared<T::Shared>,
+) -> Result<(), AllocError>
+    requires fit { IsFit T.seen store.old shared.old }
+    ensures fit { IsFit T.seen store.new shared.new }
+{
+    makes(rt, alloc, store, shared)?;
+    makes_second(rt, alloc, store, shared)?;
+    reads(rt, alloc, store, shared)
+}
+
+// A change that is taken back leaves what was read.
+fn undoes_and_reads<T: Tables>(
+    rt: &impl Abort,
+    alloc: Global,
+    store: &mut Store<T>,
+    shared: &mut Shared<T::Shared>,
+) -> Result<(), AllocError>
+    requires fit { IsFit T.seen store.old shared.old }
+    ensures fit { IsFit T.seen store.new shared.new }
+{
+    makes_and_undoes(rt, alloc, store, shared)?;
+    reads(rt, alloc, store, shared)?;
+    reads_texts(rt, alloc, store, shared)
 }
 
 fn each_store_call<T: Tables>(rt: &impl Abort, alloc: Global) -> Result<(), AllocError>
@@ -125,11 +186,8 @@ where
 {
     let mut shared = Shared::new(alloc, T::new_shared(alloc));
     let mut store = Store::<T>::new(alloc, 7);
-    makes(rt, alloc, &mut store, &mut shared)?;
-    reads(rt, alloc, &store, &shared)?;
-    makes_and_undoes(rt, alloc, &mut store, &mut shared)?;
-    reads(rt, alloc, &store, &shared)?;
-    reads_texts(rt, alloc, &store, &shared)
+    makes_and_reads(rt, alloc, &mut store, &mut shared)?;
+    undoes_and_reads(rt, alloc, &mut store, &mut shared)
 }
 
 #[test]

@@ -181,7 +181,7 @@ fn change_or_leave<T: Tables>(
     let before = numbers_of(alloc, &store.graph(shared))?;
     let changed = change(rt, alloc, store, shared, step);
     let after = numbers_of(alloc, &store.graph(shared))?;
-    assert_eq!(rt; before.as_slice() == after.as_slice(), changed.is_err());
+    assert!(rt; (before == after) == changed.is_err());
     changed
 }
 
@@ -215,7 +215,7 @@ where
         let changed = change_in_turn(rt, alloc, &mut store, &mut shared, count);
         store.undo(&mut shared, mark);
         let back = numbers_of(alloc, &store.graph(&shared))?;
-        assert_eq!(rt; back.as_slice(), marked.as_slice());
+        assert!(rt; back == marked);
         changed?;
     }
     Ok(())

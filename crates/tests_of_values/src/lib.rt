@@ -4,6 +4,8 @@
 #[cfg(test)]
 mod calls;
 #[cfg(test)]
+mod expect;
+#[cfg(test)]
 mod tables;
 #[cfg(test)]
 mod values;

@@ -53,7 +53,7 @@ fn add<T: Tables>(
 {
     assert!(rt; tables.node(shared, id).is_none());
     let added = tables.add_node(shared, id, node);
-    assert_eq!(rt; tables.node(shared, id).is_some(), added.is_ok());
+    assert!(rt; tables.node(shared, id).is_some() == added.is_ok());
     added
 }
 
@@ -73,15 +73,9 @@ fn join<T: Tables>(
     assert!(rt; tables.node(shared, source).is_some());
     assert!(rt; tables.node(shared, target).is_some());
     let added = tables.add_rel(shared, id, rel);
-    assert_eq!(rt; tables.rel(shared, id).is_some(), added.is_ok());
-    assert_eq!(rt;
-        tables.outgoing(shared, source).contains(&id),
-        added.is_ok()
-    );
-    assert_eq!(rt;
-        tables.incoming(shared, target).contains(&id),
-        added.is_ok()
-    );
+    assert!(rt; tables.rel(shared, id).is_some() == added.is_ok());
+    assert!(rt; tables.outgoing(shared, source).contains(&id) == added.is_ok());
+    assert!(rt; tables.incoming(shared, target).contains(&id) == added.is_ok());
     added
 }
 
@@ -133,7 +127,7 @@ fn take<T: Tables>(rt: &impl Abort, tables: &mut T, shared: &mut T::Shared, id: 
     assert!(rt; tables.node(shared, id).is_none());
 }
 
-// Two nodes are added, read, changed, and one of them taken out.
+// Two nodes are added, and one of them is changed.
 fn nodes<T: Tables>(
     rt: &impl Abort,
     alloc: Global,
@@ -145,32 +139,32 @@ fn nodes<T: Tables>(
     requires { T.seen.fits tables.old shared.old }
     ensures { T.seen.fits tables.new shared.new }
 {
-    add(
-        rt,
-        tables,
-        shared,
-        NodeId(0),
-        record(alloc, label, key, 10)?,
-    )?;
-    add(
-        rt,
-        tables,
-        shared,
-        NodeId(3),
-        record(alloc, label, key, 20)?,
-    )?;
-    let before = change(
-        rt,
-        tables,
-        shared,
-        NodeId(0),
-        record(alloc, label, key, 30)?,
-    );
-    assert_eq!(rt; number_at(&before.properties, key), Some(10));
-    assert_eq!(rt; at_node(tables, shared, NodeId(0), key), Some(30));
-    assert_eq!(rt; at_node(tables, shared, NodeId(3), key), Some(20));
-    assert_eq!(rt; at_node(tables, shared, NodeId(1), key), None);
-    Ok(())
+    let first = record(alloc, label, key, 10)?;
+    add(rt, tables, shared, NodeId(0), first)?;
+    let second = record(alloc, label, key, 20)?;
+    add(rt, tables, shared, NodeId(3), second)
+}
+
+fn changes<T: Tables>(
+    rt: &impl Abort,
+    tables: &mut T,
+    shared: &mut T::Shared,
+    node: NodeRecord,
+    key: NameId,
+)
+    requires { T.seen.fits tables.old shared.old }
+    ensures { T.seen.fits tables.new shared.new }
+{
+    let before = change(rt, tables, shared, NodeId(0), node);
+    assert!(rt; number_at(&before.properties, key) == Some(10));
+}
+
+fn reads<T: Tables>(rt: &impl Abort, tables: &T, shared: &T::Shared, key: NameId)
+    requires { T.seen.fits tables.now shared.now }
+{
+    assert!(rt; at_node(tables, shared, NodeId(0), key) == Some(30));
+    assert!(rt; at_node(tables, shared, NodeId(3), key) == Some(20));
+    assert!(rt; at_node(tables, shared, NodeId(1), key).is_none());
 }
 
 // Relationships between nodes 0 and 3 are added out of order.
@@ -186,38 +180,43 @@ fn joins<T: Tables>(
 {
     join(rt, tables, shared, RelId(0), edge(alloc, kind, 0, 3))?;
     join(rt, tables, shared, RelId(2), edge(alloc, kind, 3, 3))?;
-    join(rt, tables, shared, RelId(1), edge(alloc, kind, 0, 3))?;
-    assert_eq!(rt;
-        tables.outgoing(shared, NodeId(0)),
-        [RelId(0), RelId(1)].as_slice()
-    );
-    assert_eq!(rt;
-        tables.incoming(shared, NodeId(3)),
-        [RelId(0), RelId(1), RelId(2)].as_slice()
-    );
-    Ok(())
+    join(rt, tables, shared, RelId(1), edge(alloc, kind, 0, 3))
 }
 
-// One of them is changed; all are taken out, and a node with them.
-fn parts<T: Tables>(
+fn reads_joins<T: Tables>(rt: &impl Abort, tables: &T, shared: &T::Shared)
+    requires { T.seen.fits tables.now shared.now }
+{
+    let outgoing = tables.outgoing(shared, NodeId(0));
+    assert!(rt; outgoing == [RelId(0), RelId(1)].as_slice());
+    let incoming = tables.incoming(shared, NodeId(3));
+    assert!(rt; incoming == [RelId(0), RelId(1), RelId(2)].as_slice());
+}
+
+// One of them is changed.
+fn changes_join<T: Tables>(
     rt: &impl Abort,
-    alloc: Global,
     tables: &mut T,
     shared: &mut T::Shared,
+    properties: Properties,
     key: NameId,
-) -> Result<(), AllocError>
+)
     requires { T.seen.fits tables.old shared.old }
     ensures { T.seen.fits tables.new shared.new }
 {
-    let before = change_rel(rt, tables, shared, RelId(1), number(alloc, key, 5)?);
-    assert_eq!(rt; number_at(&before, key), None);
+    let before = change_rel(rt, tables, shared, RelId(1), properties);
+    assert!(rt; number_at(&before, key).is_none());
+}
+
+// All are taken out, and a node with them.
+fn parts<T: Tables>(rt: &impl Abort, tables: &mut T, shared: &mut T::Shared)
+    requires { T.seen.fits tables.old shared.old }
+    ensures { T.seen.fits tables.new shared.new }
+{
     part(rt, tables, shared, RelId(0));
-    assert_eq!(rt; tables.outgoing(shared, NodeId(0)), [RelId(1)].as_slice());
+    assert!(rt; tables.outgoing(shared, NodeId(0)) == [RelId(1)].as_slice());
     part(rt, tables, shared, RelId(1));
     part(rt, tables, shared, RelId(2));
     take(rt, tables, shared, NodeId(3));
-    assert_eq!(rt; at_node(tables, shared, NodeId(0), key), Some(30));
-    Ok(())
 }
 
 fn edge(alloc: Global, kind: NameId, source: u64, target: u64) -> RelRecord {
@@ -229,22 +228,63 @@ fn edge(alloc: Global, kind: NameId, source: u64, target: u64) -> RelRecord {
     }
 }
 
-// Each call of tables, at any that keep the trait's contract.
-fn each_call<T: Tables>(rt: &impl Abort, alloc: Global) -> Result<(), AllocError>
-where
-    T::Shared: Drop,
-{
+// The numbers of a label and of a key.
+fn names(alloc: Global) -> Result<(NameId, NameId), AllocError> {
     let mut names: Names<BuildHasherDefault<FoldHasher>> = Names::new(
         alloc,
         BuildHasherDefault::new(),
     );
     let label = names.intern("P")?;
     let key = names.intern("x")?;
+    Ok((label, key))
+}
+
+fn each_call_at_nodes<T: Tables>(
+    rt: &impl Abort,
+    alloc: Global,
+    tables: &mut T,
+    shared: &mut T::Shared,
+    label: NameId,
+    key: NameId,
+) -> Result<(), AllocError>
+    requires { T.seen.fits tables.old shared.old }
+    ensures { T.seen.fits tables.new shared.new }
+{
+    nodes(rt, alloc, tables, shared, label, key)?;
+    changes(rt, tables, shared, record(alloc, label, key, 30)?, key);
+    reads(rt, tables, shared, key);
+    Ok(())
+}
+
+fn each_call_at_relationships<T: Tables>(
+    rt: &impl Abort,
+    alloc: Global,
+    tables: &mut T,
+    shared: &mut T::Shared,
+    kind: NameId,
+    key: NameId,
+) -> Result<(), AllocError>
+    requires { T.seen.fits tables.old shared.old }
+    ensures { T.seen.fits tables.new shared.new }
+{
+    joins(rt, alloc, tables, shared, kind)?;
+    reads_joins(rt, tables, shared);
+    changes_join(rt, tables, shared, number(alloc, key, 5)?, key);
+    parts(rt, tables, shared);
+    assert!(rt; at_node(tables, shared, NodeId(0), key) == Some(30));
+    Ok(())
+}
+
+// Each call of tables, at any that keep the trait's contract.
+fn each_call<T: Tables>(rt: &impl Abort, alloc: Global) -> Result<(), AllocError>
+where
+    T::Shared: Drop,
+{
+    let (label, key) = names(alloc)?;
     let mut shared = T::new_shared(alloc);
     let mut tables = T::new(alloc, 7);
-    nodes(rt, alloc, &mut tables, &mut shared, label, key)?;
-    joins(rt, alloc, &mut tables, &mut shared, label)?;
-    parts(rt, alloc, &mut tables, &mut shared, key)
+    each_call_at_nodes(rt, alloc, &mut tables, &mut shared, label, key)?;
+    each_call_at_relationships(rt, alloc, &mut tables, &mut shared, label, key)
 }
 
 #[test]

@@ -1,5 +1,6 @@
 //! What is asked of values: order, equality, hash, copies, membership, logic and measures.
 
+use crate::expect::expect;
 use pg_value::{
     Fault, NodeId, Path, RelId, Tri, Value, and, comes_again, depth, eq3, equivalent, is_in, less3,
     not, or, order, truth, truth_of, value_of, weight, xor,
@@ -124,75 +125,99 @@ fn total_order(rt: HostRuntime) -> Result<(), Fail> {
 
 #[test]
 fn texts(rt: HostRuntime) -> Result<(), Fail> {
-    assert!(rt; !comes_again(rt.alloc(), &[])?);
-    assert!(rt; !comes_again(rt.alloc(), &["a", "b", "A"])?);
-    assert!(rt; comes_again(rt.alloc(), &["a", "b", "a"])?);
-    Ok(())
+    expect(!comes_again(rt.alloc(), &[])?, "none")?;
+    expect(!comes_again(rt.alloc(), &["a", "b", "A"])?, "others")?;
+    expect(comes_again(rt.alloc(), &["a", "b", "a"])?, "again")
+}
+
+fn sorted(a: Global) -> Result<Vec<Value>, Fail> {
+    let mut values = vec![in a; NULL, TWO, YES, NODE, ONE]?;
+    values.sort()?;
+    Ok(values)
 }
 
 #[test]
 fn sorting(rt: HostRuntime) -> Result<(), Fail> {
-    let mut values = vec![in rt.alloc(); NULL, TWO, YES, NODE, ONE]?;
-    values.sort()?;
-    assert!(rt; values == vec![in rt.alloc(); NODE, YES, ONE, TWO, NULL]?);
-    Ok(())
+    let is_right = sorted(rt.alloc())? == vec![in rt.alloc(); NODE, YES, ONE, TWO, NULL]?;
+    expect(is_right, "sorted")
+}
+
+/// What is found under a value, where a list has 1 and null has 2.
+fn found_under(a: Global, value: &Value) -> Result<Option<i64>, Fail> {
+    let mut places = HashMap::new(a);
+    drop(places.insert(list(a, &[1, -1])?, 1)?);
+    drop(places.insert(NULL, 2)?);
+    Ok(places.get(value).copied())
 }
 
 #[test]
 fn hashing(rt: HostRuntime) -> Result<(), Fail> {
-    let mut places = HashMap::new(rt.alloc());
-    drop(places.insert(list(rt.alloc(), &[1, -1])?, 1)?);
-    drop(places.insert(NULL, 2)?);
-    assert!(rt; places.get(&list(rt.alloc(), &[1, -1])?).copied() == Some(1));
-    assert!(rt; places.get(&NULL).copied() == Some(2));
-    assert!(rt; places.get(&ONE).is_none());
-    Ok(())
+    let a = rt.alloc();
+    expect(found_under(a, &list(a, &[1, -1])?)? == Some(1), "a list")?;
+    expect(found_under(a, &NULL)? == Some(2), "null")?;
+    expect(found_under(a, &ONE)?.is_none(), "none")
+}
+
+/// A list of values of each kind.
+fn whole(a: Global) -> Result<Value, Fail> {
+    Ok(Value::List(ascending(a)?))
+}
+
+fn measures(value: &Value, heavy: u64, deep: u64) -> bool {
+    weight(value) == heavy && depth(value) == deep
+}
+
+/// A copy whose original is gone.
+fn copied(a: Global) -> Result<Value, Fail> {
+    Ok(whole(a)?.copy(a)?)
 }
 
 #[test]
 fn copies(rt: HostRuntime) -> Result<(), Fail> {
-    let whole = Value::List(ascending(rt.alloc())?);
-    assert!(rt; weight(&whole) == 30 && depth(&whole) == 3);
-    assert!(rt; weight(&NULL) == 1 && depth(&NULL) == 1);
-    let copy = whole.copy(rt.alloc())?;
-    assert!(rt; copy == whole);
-    drop(whole);
-    assert!(rt; copy == Value::List(ascending(rt.alloc())?));
+    expect(measures(&whole(rt.alloc())?, 30, 3), "a list")?;
+    expect(measures(&NULL, 1, 1), "null")?;
+    expect(copied(rt.alloc())? == whole(rt.alloc())?, "a copy")
+}
+
+/// Two operands, and what AND, OR and XOR make of them.
+const TABLE: [(Tri, Tri, Tri, Tri, Tri); 6] = [
+    (Tri::True, Tri::True, Tri::True, Tri::True, Tri::False),
+    (Tri::True, Tri::False, Tri::False, Tri::True, Tri::True),
+    (Tri::True, Tri::Null, Tri::Null, Tri::True, Tri::Null),
+    (Tri::False, Tri::False, Tri::False, Tri::False, Tri::False),
+    (Tri::False, Tri::Null, Tri::False, Tri::Null, Tri::Null),
+    (Tri::Null, Tri::Null, Tri::Null, Tri::Null, Tri::Null),
+];
+
+#[test]
+fn logic() -> Result<(), Fail> {
+    for (x, y, both, some, one) in &TABLE {
+        let is_right = and(*x, *y) == *both && or(*x, *y) == *some && xor(*x, *y) == *one;
+        expect(is_right, "operands")?;
+    }
     Ok(())
 }
 
-#[test]
-fn logic(rt: HostRuntime) {
-    // two operands, and what AND, OR and XOR make of them
-    let table = [
-        (Tri::True, Tri::True, Tri::True, Tri::True, Tri::False),
-        (Tri::True, Tri::False, Tri::False, Tri::True, Tri::True),
-        (Tri::True, Tri::Null, Tri::Null, Tri::True, Tri::Null),
-        (Tri::False, Tri::False, Tri::False, Tri::False, Tri::False),
-        (Tri::False, Tri::Null, Tri::False, Tri::Null, Tri::Null),
-        (Tri::Null, Tri::Null, Tri::Null, Tri::Null, Tri::Null),
-    ];
-    for (x, y, both, some, one) in table {
-        assert!(rt; and(x, y) == both && or(x, y) == some && xor(x, y) == one);
-    }
+/// Whether NOT turns the truth so, and its value gives it back.
+fn is_turned(t: Tri, turned: Tri) -> bool {
+    not(t) == turned && truth_of(&value_of(t)).ok() == Some(t)
+}
+
+fn is_true_told() -> bool {
+    value_of(Tri::True) == YES
 }
 
 #[test]
-fn truths(rt: HostRuntime) {
-    for (t, turned) in [
-        (Tri::True, Tri::False),
-        (Tri::False, Tri::True),
-        (Tri::Null, Tri::Null),
-    ] {
-        assert!(rt; not(t) == turned && truth_of(&value_of(t)).ok() == Some(t));
-    }
-    assert!(rt; truth(true) == Tri::True && value_of(Tri::True) == YES);
-    assert!(rt; truth_of(&ONE).is_err());
+fn truths() -> Result<(), Fail> {
+    expect(is_turned(Tri::True, Tri::False), "true")?;
+    expect(is_turned(Tri::False, Tri::True), "false")?;
+    expect(is_turned(Tri::Null, Tri::Null), "null")?;
+    expect(truth(true) == Tri::True && is_true_told(), "truth")?;
+    expect(truth_of(&ONE).is_err(), "an integer")
 }
 
 #[test]
-fn codes(rt: HostRuntime) {
-    for (fault, code) in [(Fault::TypeFault, 16), (Fault::OutOfMemory, 99)] {
-        assert!(rt; fault.code() == code);
-    }
+fn codes() -> Result<(), Fail> {
+    let is_right = Fault::TypeFault.code() == 16 && Fault::OutOfMemory.code() == 99;
+    expect(is_right, "codes")
 }

@@ -1,4 +1,5 @@
 use Rattle.std.proofs.Common.{drop}
+use Rattle.pg_project.specs.Cuts.{cut_view}
 use Rattle.pg_project.specs.Given.{trees_of, values_given}
 use Rattle.pg_return.proofs.Returns.{RowsSoFar}
 use Rattle.pg_rows.specs.Tables.{table}
@@ -7,4 +8,4 @@ use Rattle.pg_return.proofs.rows.tell_rows.Given as goal
 
 abbrev pub invariant-loop-at : goal.invariant-loop-at
 invariant-loop-at g l =
-    RowsSoFar l.graph (values_given (parameters_view l.parameters) l.graph l.names (trees_of l.names l.ready.items)) (table l.rows) (drop l.at (table l.rows)) l.initial.telling l.telling
+    RowsSoFar l.graph (cut_view l.cut) (values_given (parameters_view l.parameters) l.graph l.names (trees_of l.names l.ready.items)) (table l.rows) (drop l.at (table l.rows)) l.at l.initial.telling l.telling

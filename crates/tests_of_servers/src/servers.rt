@@ -1,7 +1,7 @@
-//! Servers of two tenants.
+//! Servers of two tenants, and what they reply.
 use pg_pool::PooledTables;
 use pg_server::{Config, Server};
-use std::alloc::AllocError;
+use std::alloc::{AllocError, Global};
 use std::hash::RandomState;
 use std::test::Fail;
 
@@ -26,4 +26,40 @@ pub(crate) fn server_of(
         return Err(AllocError.into());
     };
     Ok(Server::new(alloc, config, RandomState::new(rt)?)?)
+}
+
+/// A test's end with the name of the case, where it isn't right. (A test that holds a server is dear to prove for
+/// all that it does itself, and formats nothing so.)
+pub(crate) fn expect(is_right: bool, case: &str) -> Result<(), Fail> {
+    if is_right {
+        Ok(())
+    } else {
+        Err(Fail::new(case))
+    }
+}
+
+/// Whether a body gets this reply.
+pub(crate) fn replies(
+    server: &mut Server<RandomState, PooledTables>,
+    body: &[u8],
+    want: &str,
+) -> bool {
+    server.handle(body).as_slice() == want.as_bytes()
+}
+
+/// A query's body. The text has no quotes and no backslash.
+pub(crate) fn body_of(alloc: Global, token: &str, text: &str) -> Result<String, AllocError> {
+    format!(in alloc; "{{\"op\":\"query\",\"token\":\"{token}\",\"text\":\"{text}\"}}")
+}
+
+/// Whether a query gets this reply.
+pub(crate) fn is_answered(
+    alloc: Global,
+    server: &mut Server<RandomState, PooledTables>,
+    token: &str,
+    text: &str,
+    want: &str,
+) -> Result<bool, AllocError> {
+    let body = body_of(alloc, token, text)?;
+    Ok(replies(server, body.as_bytes(), want))
 }

@@ -5,4 +5,5 @@ mod returning;
 mod rows;
 mod running;
 
+pub use pg_run_clauses::Given;
 pub use running::answer_clauses;

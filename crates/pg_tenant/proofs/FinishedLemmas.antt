@@ -13,7 +13,6 @@ use Rattle.pg_meaning.specs.Value.{Entries}
 use Rattle.pg_meaning.specs.declared.fault.Fault.{Fault}
 use Rattle.pg_meter.specs.Quotas.{Steps}
 use Rattle.pg_rows.specs.States.{state_of}
-use Rattle.pg_run_clauses.specs.Runs.{quota_of}
 use Rattle.pg_tenant.specs.Outcomes.{under_plan}
 
 -- the output of the last rows under these columns
@@ -27,7 +26,7 @@ module _ (plan : Plan) (q : Query) (parameters : Entries) (graph : Graph) (max_s
   answer = under_plan plan q parameters graph max_steps max_elements
 
   abbrev pub run : Plan → List Clause → Steps → Result State Fault
-  run p cs m = clauses_run parameters (quota_of m.limit max_elements) [] p cs (state_of graph (record { names = []; rows = [] ∷ [] }) m.used)
+  run p cs m = clauses_run parameters (record { max_steps = m.limit; max_elements = max_elements }) [] p cs (state_of graph (record { names = []; rows = [] ∷ [] }) m.used)
 
   -- these clauses, from these anchors and steps on
   module _ (cs : List Clause) (p : Plan) (m : Steps) (clauses_are : cs ≡ q.clauses) (plan_is : p ≡ plan) (steps_are : m ≡ record { used = 0; limit = max_steps }) where

@@ -1,10 +1,10 @@
 use Rattle.std.proofs.Common.{◌≡◌, cond, [], map, sym, ap, ◌∙◌}
 use Rattle.std.specs.Prelude.{fold}
-use Rattle.pg_run_clauses.specs.Runs.{plan_view}
 use Rattle.pg_meaning.specs.Answer.{◌>>=◌}
 use Rattle.pg_meaning.specs.Queries.{returns}
 use Rattle.pg_meaning.specs.Scopes.{columns, scope_after}
 use Rattle.pg_meaning.specs.Tree.{Query}
+use Rattle.pg_anchors.specs.Plans.{plan_view}
 use Rattle.pg_plan.specs.Plans.{plan_anchors, plan_query}
 use Rattle.pg_store.specs.Stores.{graph_of_store}
 use Rattle.pg_syntax_tree.specs.View.{clause_view}

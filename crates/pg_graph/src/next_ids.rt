@@ -1,7 +1,7 @@
 //! The ids that come next.
 
 /// The ids that the next elements get.
-#[derive(Clone, Copy, Debug, PartialEq, Eq)]
+#[derive(Clone, Copy, PartialEq, Eq)]
 pub struct NextIds {
     pub node: u64,
     pub rel: u64,

@@ -5,7 +5,7 @@ use crate::patterns::PathPattern;
 use pg_meaning::Sort;
 
 /// An item of WITH or RETURN: where it begins, its expression as written and as read, and its alias.
-#[derive(Debug, Drop)]
+#[derive(Drop)]
 pub struct Item {
     pub start: usize,
     pub source: String,
@@ -13,14 +13,14 @@ pub struct Item {
     pub alias: Option<Name>,
 }
 
-#[derive(Debug, Drop)]
+#[derive(Drop)]
 pub struct SortItem {
     pub key: Expression,
     pub direction: Option<Sort>,
 }
 
 /// What stands behind WITH or RETURN; `star` is the place of `*`, where it is written.
-#[derive(Debug, Drop)]
+#[derive(Drop)]
 pub struct Projection {
     pub distinct: bool,
     pub star: Option<usize>,
@@ -31,7 +31,7 @@ pub struct Projection {
 }
 
 /// An item of SET, with its target first.
-#[derive(Debug, Drop)]
+#[derive(Drop)]
 pub enum SetItem {
     Property(Name, Name, Expression),
     All(Name, Expression),
@@ -40,20 +40,20 @@ pub enum SetItem {
 }
 
 /// An item of REMOVE, with its target first.
-#[derive(Debug, Drop)]
+#[derive(Drop)]
 pub enum RemoveItem {
     Property(Name, Name),
     Labels(Name, Vec<Name>),
 }
 
 /// ON CREATE, or ON MATCH.
-#[derive(Debug, Drop)]
+#[derive(Drop)]
 pub struct On {
     pub create: bool,
     pub items: Vec<SetItem>,
 }
 
-#[derive(Debug, Drop)]
+#[derive(Drop)]
 pub enum Clause {
     /// Whether it is optional, the paths and WHERE.
     Match(bool, Vec<PathPattern>, Option<Expression>),
@@ -69,7 +69,7 @@ pub enum Clause {
     Return(Projection),
 }
 
-#[derive(Debug, Drop)]
+#[derive(Drop)]
 pub struct Query {
     pub clauses: Vec<Clause>,
     pub semicolon: bool,

@@ -3,7 +3,7 @@
 use pg_meaning::{Operator, TextTest};
 
 /// A name, decoded, and where its token begins.
-#[derive(Debug, PartialEq, Eq, Drop)]
+#[derive(PartialEq, Eq, Drop)]
 pub struct Name {
     pub text: String,
     pub quoted: bool,
@@ -11,7 +11,7 @@ pub struct Name {
 }
 
 /// A value as a text can write it.
-#[derive(Debug, PartialEq, Eq, Drop)]
+#[derive(PartialEq, Eq, Drop)]
 pub enum Literal {
     Null,
     Boolean(bool),
@@ -20,20 +20,20 @@ pub enum Literal {
 }
 
 /// What stands behind an atom: a property's key, or an index.
-#[derive(Debug, Drop)]
+#[derive(Drop)]
 pub enum Suffix<E> {
     Property(Name),
     Index(E),
 }
 
 /// A test behind a sum; `IS NOT NULL` is negated.
-#[derive(Debug, Drop)]
+#[derive(Drop)]
 pub enum Test<E> {
     Text(TextTest, E),
     IsNull(bool),
 }
 
-#[derive(Debug, Drop)]
+#[derive(Drop)]
 pub enum Expression {
     Literal(Literal),
     Parameter(Name),

@@ -2,7 +2,7 @@
 
 use crate::expression::{Expression, Name};
 
-#[derive(Debug, Drop)]
+#[derive(Drop)]
 pub enum Properties {
     None,
     Given(Vec<(Name, Expression)>),
@@ -10,7 +10,7 @@ pub enum Properties {
 }
 
 /// A node pattern, and where it begins.
-#[derive(Debug, Drop)]
+#[derive(Drop)]
 pub struct NodePattern {
     pub place: usize,
     pub variable: Option<Name>,
@@ -19,7 +19,7 @@ pub struct NodePattern {
 }
 
 /// `*` with what stands behind it.
-#[derive(Clone, Copy, Debug, PartialEq, Eq)]
+#[derive(Clone, Copy, PartialEq, Eq)]
 pub struct Range {
     pub lower: Option<u64>,
     pub dots: bool,
@@ -27,14 +27,14 @@ pub struct Range {
 }
 
 /// A type, and whether a colon stands before it.
-#[derive(Debug, Drop)]
+#[derive(Drop)]
 pub struct TypeName {
     pub colon: bool,
     pub name: Name,
 }
 
 /// What stands in the brackets of a relationship.
-#[derive(Debug, Drop)]
+#[derive(Drop)]
 pub struct Detail {
     pub variable: Option<Name>,
     pub types: Vec<TypeName>,
@@ -42,7 +42,7 @@ pub struct Detail {
     pub properties: Properties,
 }
 
-#[derive(Debug, Drop)]
+#[derive(Drop)]
 pub struct RelationshipPattern {
     pub place: usize,
     pub left_head: bool,
@@ -50,7 +50,7 @@ pub struct RelationshipPattern {
     pub right_head: bool,
 }
 
-#[derive(Debug, Drop)]
+#[derive(Drop)]
 pub struct PathPattern {
     pub variable: Option<Name>,
     pub first: NodePattern,

@@ -3,7 +3,7 @@ ghost use Rattle.std.specs.Prelude.{◌≡◌, ◌^◌, map, option_map, string_
 ghost use Rattle.graphd.specs.Commands.{command_in, command_view, number_in};
 
 /// What the program is asked for, with the path of its configuration.
-#[derive(Clone, Copy, PartialEq, Eq)]
+#[derive(Clone, Copy)]
 pub(crate) enum Command<'a> {
     Run {
         config: &'a str,

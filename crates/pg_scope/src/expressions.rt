@@ -15,7 +15,7 @@ use pg_meaning::{Fault, Operator};
 use pg_syntax_tree::{Expression, Name, Suffix, Test};
 
 /// Where an expression stands: as the whole of an item, or elsewhere.
-#[derive(Clone, Copy, PartialEq)]
+#[derive(Clone, Copy)]
 pub(crate) enum Role {
     WholeItem,
     Elsewhere,

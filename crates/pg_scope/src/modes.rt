@@ -3,7 +3,7 @@ ghost use Rattle.std.specs.Prelude.{◌≡◌};
 ghost use Rattle.pg_meaning.specs.StaticFaults as spec;
 ghost use Rattle.pg_scope.specs.Modes.{mode_view};
 
-#[derive(Clone, Copy, PartialEq)]
+#[derive(Clone, Copy)]
 pub(crate) enum Mode {
     Matching,
     Creating,

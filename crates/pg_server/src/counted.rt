@@ -7,7 +7,7 @@ ghost use Rattle.pg_server.specs.Counts.{inner_of, faults_of, next_count};
 use std::io::{Read, Write};
 
 /// The reader or the writer has failed.
-#[derive(Clone, Copy, PartialEq, Eq)]
+#[derive(Clone, Copy)]
 pub struct DeviceFault;
 
 /// A reader or a writer, and how often it has failed. The count goes round after 2^64 faults.

@@ -3,7 +3,7 @@ ghost use Rattle.std.specs.Prelude.{◌≡◌};
 ghost use Rattle.pg_server.specs.Ends.{end_line, end_status};
 
 /// How a run of the server ended.
-#[derive(Clone, Copy, PartialEq, Eq)]
+#[derive(Clone, Copy)]
 pub enum End {
     /// The input ended between frames, or as many frames were served as were asked for.
     Done,

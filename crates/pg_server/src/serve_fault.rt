@@ -5,7 +5,7 @@ ghost use Rattle.pg_server.specs.Connections.{serve_line, serve_status};
 use thiserror::Error;
 
 /// Why a server stopped serving connections.
-#[derive(Clone, Copy, Debug, PartialEq, Eq, Error)]
+#[derive(Clone, Copy, Debug, Error)]
 pub enum ServeFault {
     /// No connection could be accepted.
     #[error("cannot listen")]

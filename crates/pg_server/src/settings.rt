@@ -8,7 +8,7 @@ use pg_tenant::Quota;
 use std::marker::Model;
 
 /// What the requests with a token may do.
-#[derive(Clone, Copy, PartialEq, Eq)]
+#[derive(Clone, Copy)]
 pub enum Rights {
     Read,
     Write,

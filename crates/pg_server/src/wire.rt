@@ -11,7 +11,7 @@ use std::io::{Read, Write};
 pub(crate) const MAX_BODY: usize = 1_048_576;
 
 /// How the filling of a buffer ended.
-#[derive(Clone, Copy, PartialEq, Eq)]
+#[derive(Clone, Copy)]
 pub(crate) enum Filled {
     Whole,
     /// The input ended after so many bytes.
@@ -20,7 +20,7 @@ pub(crate) enum Filled {
 }
 
 /// How the reading of a frame ended.
-#[derive(Clone, Copy, PartialEq, Eq)]
+#[derive(Clone, Copy)]
 pub(crate) enum Incoming {
     /// The input ended where a frame could begin.
     NoFrame,

@@ -23,7 +23,7 @@ pub enum Entry {
 }
 
 /// A moment of a store to which it can be taken back.
-#[derive(Clone, Copy, PartialEq, Eq)]
+#[derive(Clone, Copy)]
 pub struct Mark {
     journal: usize,
     names: usize,

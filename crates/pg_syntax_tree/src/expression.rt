@@ -3,7 +3,7 @@
 use pg_meaning::{Operator, TextTest};
 
 /// A name, decoded, and where its token begins.
-#[derive(PartialEq, Eq, Drop)]
+#[derive(Drop)]
 pub struct Name {
     pub text: String,
     pub quoted: bool,
@@ -11,7 +11,7 @@ pub struct Name {
 }
 
 /// A value as a text can write it.
-#[derive(PartialEq, Eq, Drop)]
+#[derive(Drop)]
 pub enum Literal {
     Null,
     Boolean(bool),

@@ -19,7 +19,7 @@ pub struct NodePattern {
 }
 
 /// `*` with what stands behind it.
-#[derive(Clone, Copy, PartialEq, Eq)]
+#[derive(Clone, Copy)]
 pub struct Range {
     pub lower: Option<u64>,
     pub dots: bool,

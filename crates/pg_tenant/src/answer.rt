@@ -18,7 +18,7 @@ use pg_value_core::{Fault, Parameters};
 use std::alloc::Global;
 
 /// How much a request may cost, and how many elements a tenant may keep.
-#[derive(Clone, Copy, PartialEq, Eq)]
+#[derive(Clone, Copy)]
 pub struct Quota {
     pub max_steps: u64,
     pub max_elements: u64,

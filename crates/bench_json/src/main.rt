@@ -5,11 +5,11 @@
 mod work;
 
 use anyhow::anyhow;
-use pg_json::{RequestScratch, read_request, write_reply};
+use pg_json::{RequestScratch, read_request};
 use pg_meaning::Fault;
 use std::env;
 use std::time::Instant;
-use work::{reply, request};
+use work::{reply, request, rows};
 
 fn refused(fault: Fault) -> anyhow::Error {
     anyhow!("refused with {}", fault.code())
@@ -33,8 +33,8 @@ fn main(rt: HostRuntime) -> anyhow::Result<()> {
 fn small(rt: &HostRuntime) -> anyhow::Result<()> {
     let alloc = rt.alloc();
     for kind in ["mixed", "integers", "texts"] {
-        let reply = reply(alloc, kind, 3).map_err(refused)?;
-        let bytes = write_reply(alloc, &reply).map_err(refused)?;
+        let rows = rows(alloc, kind, 3).map_err(refused)?;
+        let bytes = reply(alloc, &rows).map_err(refused)?;
         println!(rt; "{kind}: {} bytes", bytes.len())?;
     }
     let body = request(alloc, 3).map_err(refused)?;
@@ -49,10 +49,10 @@ fn measure(rt: &HostRuntime, kind: &str, size: u32, times: u32) -> anyhow::Resul
         return measure_reading(rt, size, times);
     }
     let alloc = rt.alloc();
-    let reply = reply(alloc, kind, size).map_err(refused)?;
+    let rows = rows(alloc, kind, size).map_err(refused)?;
     for _ in 0..times {
         let start = Instant::now(rt)?;
-        let bytes = write_reply(alloc, &reply).map_err(refused)?;
+        let bytes = reply(alloc, &rows).map_err(refused)?;
         let time = start.elapsed(rt)?;
         println!(rt; "{kind} {} {}", bytes.len(), time.as_micros())?;
     }

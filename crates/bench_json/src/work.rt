@@ -1,29 +1,30 @@
 //! What is written and read.
-use pg_json::ReplyBody;
+use pg_json::{ReplyBytes, RowsReply};
 use pg_meaning::Fault;
 use pg_value_core::Out;
 use std::alloc::Global;
 
 const TEXT: &str = "a name of some forty letters, plain ones";
 
-/// A reply of so many rows: of integers, of texts, or of one each.
-pub fn reply(alloc: Global, kind: &str, size: u32) -> Result<ReplyBody, Fault> {
+/// So many rows: of integers, of texts, or of one each.
+pub fn rows(alloc: Global, kind: &str, size: u32) -> Result<Vec<Vec<Out>>, Fault> {
     let mut rows = Vec::new(alloc);
     for i in 0..size {
         rows.push(row(alloc, kind, i)?)?;
     }
-    Ok(ReplyBody::Query {
-        columns: columns(alloc)?,
-        rows,
-        steps: u64::from(size),
-    })
+    Ok(rows)
 }
 
-fn columns(alloc: Global) -> Result<Vec<String>, Fault> {
-    Ok(vec![in alloc;
-        String::from_str(alloc, "n.number")?,
-        String::from_str(alloc, "n.name")?,
-    ]?)
+/// The reply with these rows.
+pub fn reply(alloc: Global, rows: &[Vec<Out>]) -> Result<ReplyBytes, Fault> {
+    let mut reply = RowsReply::begin(alloc)?;
+    reply.name("n.number")?;
+    reply.name("n.name")?;
+    reply.end_names()?;
+    for row in rows {
+        reply.push(row)?;
+    }
+    reply.finish(rows.len() as u64)
 }
 
 fn row(alloc: Global, kind: &str, i: u32) -> Result<Vec<Out>, Fault> {

@@ -2,17 +2,17 @@
 use Rattle.std.proofs.Common.{◌≡◌, ◌≢◌, ℕ, ◌+◌, ◌-◌, ◌*◌, List, [], ◌∷◌, cond, ◌==◌, ◌||◌, nat_lt, get_or, arith, refl, sym, ap, ◌∙◌}
 use Rattle.std.specs.Fmt.{digits}
 use Rattle.std.specs.Prelude.{codes}
-use Rattle.serde_json.specs.Data.{Data, object, Members, member}
+use Rattle.serde_json.specs.Data.{Data, object, Items, Members, member}
 use Rattle.serde_json.specs.Written.{compact_text}
 use Rattle.serde_json.proofs.OnLiterals.{serde_json_on_literals}
 use Rattle.pg_meaning.specs.Codes.{code_of}
 use Rattle.pg_meaning.specs.declared.fault.Fault.{Fault}
 use Rattle.pg_meaning.specs.declared.fault.Fault.TheVariants.{FrameTooLong, BadRequest, UnknownToken, ReadOnly, TextTooLong, BadLexeme, BadSyntax, TooDeep, UndefinedVariable, VariableAlreadyBound, BadAggregate, BadPattern, UnknownFunction, DuplicateColumn, MissingParameter, TypeFault, Overflow, DivisionByZero, ValueTooLarge, NotStorable, MergeNull, NodeStillConnected, DeletedEntity, NegativeCount, StepQuota, ElementQuota, IdsExhausted, IndexExists, NoSuchIndex, TooManyIndexes, ReplyTooLong, TenantBusy, NoTransaction, TransactionOpen, NoSuchPage, HeldRowsQuota, OutOfMemory}
-use Rattle.pg_json.specs.Laws.{RefusalsDiffer, RepliesAreNoRefusals, DoneIsNoRefusal}
+use Rattle.pg_json.specs.Laws.{RefusalsDiffer, RowsAreNoRefusals, StatusesAreNoRefusals, DoneIsNoRefusal}
 use Rattle.pg_json.specs.Refusals.{refusal_text, done_text}
-use Rattle.pg_json.specs.Replies.{reply_text, natural}
-use Rattle.pg_json.specs.declared.reply.ReplyBody.{ReplyBody}
-use Rattle.pg_json.specs.declared.reply.ReplyBody.TheVariants.{Query, Status}
+use Rattle.pg_json.specs.Replies.{tenant_text, natural}
+use Rattle.pg_json.specs.Rows.{rows_text}
+use Rattle.pg_json.specs.declared.status.TenantStatus.{TenantStatus}
 
 -- the number in `{"code":25,..`, of one digit or two
 abbrev code_in : List ℕ → ℕ
@@ -71,10 +71,13 @@ fault_in-refusal OutOfMemory = refl
 pub refusals_differ : RefusalsDiffer
 refusals_differ f g e = sym (fault_in-refusal f) ∙ ap fault_in e ∙ fault_in-refusal g
 
-code_in-reply : (r : ReplyBody) → code_in (reply_text r) ≡ 0
-unfolding serde_json_on_literals digits reply_text
-code_in-reply (Query columns rows steps) = refl
-code_in-reply (Status s) = refl
+code_in-rows : (columns : Items) (rows : List Items) (steps : ℕ) → code_in (rows_text columns rows steps) ≡ 0
+unfolding serde_json_on_literals digits rows_text
+code_in-rows columns rows steps = refl
+
+code_in-status : (s : TenantStatus) → code_in (tenant_text s) ≡ 0
+unfolding serde_json_on_literals digits tenant_text
+code_in-status s = refl
 
 code_in-done : code_in done_text ≡ 0
 unfolding serde_json_on_literals digits done_text
@@ -92,8 +95,11 @@ no_refusal s f none e =
     let last : f ≡ OutOfMemory = sym (fault_in-refusal f) ∙ ap fault_in (sym e) ∙ ap (λ n. with_code n faults) none in
     apart (code_in s) none (ap code_in (e ∙ ap refusal_text last) ∙ code_in-last)
 
-pub replies_are_no_refusals : RepliesAreNoRefusals
-replies_are_no_refusals r f = no_refusal (reply_text r) f (code_in-reply r)
+pub rows_are_no_refusals : RowsAreNoRefusals
+rows_are_no_refusals columns rows steps f = no_refusal (rows_text columns rows steps) f (code_in-rows columns rows steps)
+
+pub statuses_are_no_refusals : StatusesAreNoRefusals
+statuses_are_no_refusals s f = no_refusal (tenant_text s) f (code_in-status s)
 
 pub done_is_no_refusal : DoneIsNoRefusal
 done_is_no_refusal f = no_refusal done_text f code_in-done

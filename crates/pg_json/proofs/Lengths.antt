@@ -4,10 +4,9 @@ use Rattle.std.specs.Char.{digit_char}
 use Rattle.json.specs.Print.{escape_letter, escape_byte, escape}
 use Rattle.serde_json.specs.Data.{Data, null, boolean, number, string, array, object, Items, no_items, item, Members, no_members, member}
 use Rattle.serde_json.specs.Written.{comma_if, compact_text, items_text, members_text}
-use Rattle.pg_json.specs.Replies.{query_data, reply_data, reply_text}
+use Rattle.pg_json.specs.Replies.{query_data}
 use Rattle.pg_json.specs.Room.{least, items_least, members_least}
 use Rattle.pg_json.specs.Rows.{rows_data, rows_text}
-use Rattle.pg_json.specs.declared.reply.ReplyBody.{ReplyBody}
 
 either_some : (b : Bool) (x : ℕ) (xs ys : List ℕ) → 1 ≤ length ys → 1 ≤ length (cond b (x ∷ xs) ys)
 either_some true x xs ys some = omega arith
@@ -45,11 +44,7 @@ mutual
   members_within later (member k d ms) = simp length-append (omega (arith, text_within k, least_within d, members_within true ms))
 
 -- a reply is at least as long as its columns and rows are counted
-pub reply_within : (r : ReplyBody) → least (reply_data r) ≤ length (reply_text r)
-unfolding reply_text
-reply_within r = least_within (reply_data r)
-
-pub query_within : (columns rows : Items) (steps : ℕ) → items_least columns + items_least rows ≤ least (query_data columns rows steps)
+query_within : (columns rows : Items) (steps : ℕ) → items_least columns + items_least rows ≤ least (query_data columns rows steps)
 query_within columns rows steps = omega arith
 
 pub rows_within : (columns : Items) (rows : List Items) (steps : ℕ) → items_least (rows_data rows) ≤ length (rows_text columns rows steps)

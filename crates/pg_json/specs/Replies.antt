@@ -1,14 +1,12 @@
 -- The text of a reply, as the compact text of its data.
-use Rattle.std.specs.Prelude.{ℕ, List, [], ◌∷◌, map, codes, String, string_bytes, Vec}
+use Rattle.std.specs.Prelude.{ℕ, List, [], ◌∷◌, map, codes, String, string_bytes}
 use Rattle.std.specs.declared.alloc.Global.{Global}
 use Rattle.serde_json.specs.Data.{Data, null, boolean, number, unsigned, string, array, object, Items, no_items, item, Members, no_members, member}
 use Rattle.serde_json.specs.Find.{of_integer}
 use Rattle.serde_json.specs.Written.{compact_text}
 use Rattle.pg_value_core.specs.declared.out.Out.{Out, fold-Out}
 use Rattle.pg_value_core.specs.declared.out.Out.TheOpen.{Out-F}
-use Rattle.pg_json.specs.declared.reply.ReplyBody.{ReplyBody}
-use Rattle.pg_json.specs.declared.reply.ReplyBody.TheVariants.{Query, Status}
-use Rattle.pg_json.specs.declared.reply.TenantStatus.{TenantStatus}
+use Rattle.pg_json.specs.declared.status.TenantStatus.{TenantStatus}
 
 abbrev pub items_of : List Data → Items
 items_of [] = no_items
@@ -59,9 +57,6 @@ outs vs = items_of (map data_of vs)
 abbrev pub named_outs : List (String Global × Out) → Members
 named_outs ms = members_of (map (λ m. (m.0, data_of m.1)) ms)
 
-abbrev pub rows_of : List (Vec Out Global) → Items
-rows_of rows = items_of (map (λ row. array (outs row.items)) rows)
-
 -- {"code":0,"columns":[..],"rows":[[..],..],"steps":n}
 abbrev pub query_data : Items → Items → ℕ → Data
 query_data columns rows steps = object (member (codes "code") (natural 0) (member (codes "columns") (array columns) (member (codes "rows") (array rows) (member (codes "steps") (natural steps) no_members))))
@@ -83,12 +78,8 @@ status_data elements indexes max_elements max_steps next_node next_rel =
 abbrev pub tenant_data : TenantStatus → Data
 tenant_data s = status_data s.elements (index_items s.indexes.items) s.max_elements s.max_steps s.next_node s.next_rel
 
-abbrev pub reply_data : ReplyBody → Data
-reply_data (Query columns rows steps) = query_data (text_items columns.items) (rows_of rows.items) steps
-reply_data (Status s) = tenant_data s
-
-unfoldable pub reply_text : ReplyBody → List ℕ
-reply_text r = compact_text (reply_data r)
+unfoldable pub tenant_text : TenantStatus → List ℕ
+tenant_text s = compact_text (tenant_data s)
 
 -- the bytes that a reply may have
 abbrev pub max_reply : ℕ

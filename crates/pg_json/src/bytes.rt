@@ -6,6 +6,8 @@ ghost use Rattle.pg_json.specs.Replies.{max_reply};
 use pg_meaning::Fault;
 use std::marker::Model;
 
+pub(crate) const MAX_REPLY: usize = 16_777_216;
+
 #[derive(Drop)]
 enum Body {
     Fixed(&'static str),

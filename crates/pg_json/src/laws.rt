@@ -1,6 +1,6 @@
 //! What tells replies apart. A function without a body says that it holds.
 
-ghost use Rattle.pg_json.specs.Laws.{RefusalsDiffer, RepliesAreNoRefusals, DoneIsNoRefusal};
+ghost use Rattle.pg_json.specs.Laws.{RefusalsDiffer, RowsAreNoRefusals, StatusesAreNoRefusals, DoneIsNoRefusal};
 
 /// No two faults have one text.
 #[tactic(auto, using(crate::proofs::Codes::refusals_differ))]
@@ -11,6 +11,7 @@ pub fn law_of_refusals()
 /// What answers a request that isn't refused is never the text of a refusal.
 #[tactic(auto, using(crate::proofs::Codes::done_is_no_refusal))]
 pub fn law_of_replies()
-    ensures replies { RepliesAreNoRefusals }
+    ensures rows { RowsAreNoRefusals }
+    ensures statuses { StatusesAreNoRefusals }
     ensures done { DoneIsNoRefusal }
 {}

@@ -83,20 +83,13 @@ fn room_after_members(mut room: usize, members: &BTreeMap<String, Out>) -> Optio
     Some(room)
 }
 
-pub(crate) fn room_after_texts(mut room: usize, texts: &[String]) -> Option<usize>
+fn room_after_texts(mut room: usize, texts: &[String]) -> Option<usize>
     ensures { Leaves room (items_least (text_items texts.now)) result }
 {
     for text in texts {
         room = room_after_text(room.checked_sub(1)?, text)?;
     }
     Some(room)
-}
-
-/// With the row's brackets and the comma behind it.
-pub(crate) fn room_after_row(room: usize, row: &[Out]) -> Option<usize>
-    ensures { Leaves room (items_least (outs row.now) + 2) result }
-{
-    room_after_items(room.checked_sub(2)?, row)
 }
 
 fn room_after_text(room: usize, text: &str) -> Option<usize>

@@ -1,7 +1,6 @@
 //! The reply of a query whose rows are told one after the other.
-use crate::bytes::ReplyBytes;
+use crate::bytes::{MAX_REPLY, ReplyBytes};
 use crate::value::{write_items, write_natural};
-use crate::write::MAX_REPLY;
 use json::Writer;
 use pg_meaning::Fault;
 use pg_value_core::Out;

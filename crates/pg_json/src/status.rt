@@ -1,17 +1,54 @@
 //! The reply that tells what a tenant has and may have.
-ghost use Rattle.std.specs.Prelude.{◌≡◌, ◌++◌, ◌∷◌, [], OnOk, codes, decimal};
+ghost use Rattle.std.specs.Prelude.{◌≡◌, ◌≢◌, ◌<◌, ◌≤◌, ◌++◌, ◌∷◌, [], IfOk, IfErr, OnOk, length, codes, decimal};
 ghost use Rattle.json.specs.Tree.{json_tokens};
 ghost use Rattle.json.specs.Token.{key as key_token, number as number_token};
 ghost use Rattle.serde_json.specs.Data.{array};
 ghost use Rattle.serde_json.specs.Written.{outline};
-ghost use Rattle.pg_json.specs.Replies.{index_data, index_items, tenant_data};
+ghost use Rattle.pg_json.specs.Replies.{index_data, index_items, max_reply, tenant_data, tenant_text};
+ghost use Rattle.pg_meaning.specs.declared.fault.Fault.TheVariants.{OutOfMemory, ReplyTooLong};
 
-use crate::reply::TenantStatus;
+use crate::bytes::{MAX_REPLY, ReplyBytes};
 use crate::value::write_natural;
 use json::Writer;
-use std::alloc::AllocError;
+use pg_meaning::Fault;
+use std::alloc::{AllocError, Global};
 
-pub(crate) fn write_status(status: &TenantStatus, to: &mut Writer) -> Result<(), AllocError>
+/// What a tenant has and may have.
+#[derive(Drop)]
+pub struct TenantStatus {
+    /// Nodes and relationships together.
+    pub elements: u64,
+    /// Labels and keys, in the order of their bytes.
+    pub indexes: Vec<(String, String)>,
+    pub max_elements: u64,
+    pub max_steps: u64,
+    pub next_node: u64,
+    pub next_rel: u64,
+}
+
+/// The reply's text, which no reply may have longer than 16 MiB.
+pub fn write_status(alloc: Global, status: &TenantStatus) -> Result<ReplyBytes, Fault>
+    ensures ok { IfOk result (λ bytes. bytes ≡ tenant_text status.now) }
+    ensures within { IfOk result (λ bytes. length bytes ≤ max_reply) }
+    ensures kind { IfErr result (λ e. e ≢ OutOfMemory → e ≡ ReplyTooLong) }
+    ensures long { IfErr result (λ e. e ≢ OutOfMemory → max_reply < length (tenant_text status.now)) }
+{
+    let text = text_of(alloc, status)?;
+    if text.len() > MAX_REPLY {
+        return Err(Fault::ReplyTooLong);
+    }
+    Ok(ReplyBytes::made(text))
+}
+
+fn text_of(alloc: Global, status: &TenantStatus) -> Result<Vec<u8>, AllocError>
+    ensures { IfOk result (λ v. v.items ≡ tenant_text status.now) }
+{
+    let mut to = Writer::new(Vec::with_capacity(alloc, 128)?);
+    write_body(status, &mut to)?;
+    Ok(to.into_inner())
+}
+
+fn write_body(status: &TenantStatus, to: &mut Writer) -> Result<(), AllocError>
     ensures ok { OnOk result (to.new.tokens ≡ to.old.tokens ++ json_tokens (outline (tenant_data status.now))) }
     ensures before { to.new.before ≡ to.old.before }
 {

@@ -139,7 +139,7 @@ fn write_labels(labels: &[String], to: &mut Writer) -> Result<(), AllocError>
     write_texts(labels, to)
 }
 
-pub(crate) fn write_texts(texts: &[String], to: &mut Writer) -> Result<(), AllocError>
+fn write_texts(texts: &[String], to: &mut Writer) -> Result<(), AllocError>
     ensures ok { OnOk result (to.new.tokens ≡ to.old.tokens ++ json_tokens (outline (array (text_items texts.now)))) }
     ensures before { to.new.before ≡ to.old.before }
 {

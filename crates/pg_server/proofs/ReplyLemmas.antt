@@ -11,9 +11,8 @@ use Rattle.pg_json.specs.Refusals.{refusal_text}
 use Rattle.serde_json.specs.Written.{compact_text}
 use Rattle.serde_json.specs.Data.{Data}
 use Rattle.pg_json.specs.Replies as replies
-use Rattle.pg_json.specs.Replies.{reply_text, max_reply, status_data, index_data, items_of}
-use Rattle.pg_json.specs.declared.reply.ReplyBody.TheVariants.{Status}
-use Rattle.pg_json.specs.declared.reply.TenantStatus.{TenantStatus}
+use Rattle.pg_json.specs.Replies.{tenant_text, max_reply, status_data, index_data, items_of}
+use Rattle.pg_json.specs.declared.status.TenantStatus.{TenantStatus}
 use Rattle.pg_json.specs.Requests.{Request, query, status, create_index, drop_index}
 use Rattle.pg_meaning.specs.Graph.{Graph, element_count}
 use Rattle.pg_meaning.specs.Plans.{Catalogue}
@@ -78,7 +77,7 @@ indexes_told is = ap items_of (each_told is)
 
 -- what a status tells is what the tenant has
 pub status_is : (s : State) (r : TenantStatus) → r.elements ≡ element_count s.graph → catalogue_view r.indexes.items ≡ s.indexes → r.max_elements ≡ s.settings.max_elements → r.max_steps ≡ s.settings.max_steps
-    → r.next_node ≡ s.graph.next_node → r.next_rel ≡ s.graph.next_relationship → reply_text (Status r) ≡ status_text s
-unfolding reply_text status_text
+    → r.next_node ≡ s.graph.next_node → r.next_rel ≡ s.graph.next_relationship → tenant_text r ≡ status_text s
+unfolding tenant_text status_text
 status_is s r elements indexes most_elements most_steps next_node next_rel =
     λ i. compact_text (status_data (elements i) ((indexes_told r.indexes.items ∙ ap index_items indexes) i) (most_elements i) (most_steps i) (next_node i) (next_rel i))

@@ -30,7 +30,7 @@ use crate::tokens::TokenPlaces;
 use crate::wire::MAX_BODY;
 use pg_cache::PlanCache;
 use pg_graph::Tables;
-use pg_json::{ReplyBytes, RequestBody, RequestScratch, read_request, refusal, write_reply};
+use pg_json::{ReplyBytes, RequestBody, RequestScratch, read_request, refusal, write_status};
 use pg_meaning::Fault;
 use pg_plan::{Catalogue, Plan, check_length};
 use pg_store::Store;
@@ -223,8 +223,8 @@ impl<S: BuildHasher + Drop, T: Tables> Server<S, T> {
     {
         let tenant = &self.tenants[place];
         let graph = tenant.store.graph(&self.shared.stores);
-        let body = tenant.status(self.alloc, &graph)?;
-        write_reply(self.alloc, &body)
+        let told = tenant.status(self.alloc, &graph)?;
+        write_status(self.alloc, &told)
     }
 
     fn create_index(

@@ -1,6 +1,6 @@
 //! A tenant: what it may use, its graph and its indexes.
 ghost use Rattle.std.specs.Prelude.{◌≡◌, IfOk, OnErr};
-ghost use Rattle.pg_json.specs.Replies.{reply_text};
+ghost use Rattle.pg_json.specs.Replies.{tenant_text};
 ghost use Rattle.pg_server.specs.Solo.{may_write, status_text};
 ghost use Rattle.pg_store.specs.Changes.{Changes};
 ghost use Rattle.pg_store.specs.Stores.{IsFit};
@@ -12,7 +12,7 @@ ghost use Rattle.pg_value_core.specs.Given.{parameters_view};
 
 use crate::settings::TenantSettings;
 use pg_graph::Tables;
-use pg_json::{ReplyBody, ReplyBytes, TenantStatus};
+use pg_json::{ReplyBytes, TenantStatus};
 use pg_meaning::Fault;
 use pg_plan::{Catalogue, Plan};
 use pg_store::{Shared, Snapshot, Store};
@@ -63,20 +63,20 @@ impl<T: Tables> Tenant<T> {
         &self,
         alloc: Global,
         graph: &Snapshot<'_, T>,
-    ) -> Result<ReplyBody, AllocError>
-        ensures { IfOk result (λ body. reply_text body ≡ status_text (record { settings = self.now.settings; graph = graph.now; indexes = indexes_of self.now.indexes })) }
+    ) -> Result<TenantStatus, AllocError>
+        ensures { IfOk result (λ told. tenant_text told ≡ status_text (record { settings = self.now.settings; graph = graph.now; indexes = indexes_of self.now.indexes })) }
     {
         let indexes = copy_indexes(alloc, &self.indexes)?;
         let next = graph.next_ids();
         let quota = self.settings.quota();
-        Ok(ReplyBody::Status(TenantStatus {
+        Ok(TenantStatus {
             elements: graph.elements(),
             indexes,
             max_elements: quota.max_elements,
             max_steps: quota.max_steps,
             next_node: next.node,
             next_rel: next.rel,
-        }))
+        })
     }
 
     /// Makes an index, or leaves everything as it was.

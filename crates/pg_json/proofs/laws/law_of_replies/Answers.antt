@@ -1,5 +1,8 @@
-use Rattle.pg_json.proofs.Codes.{replies_are_no_refusals}
+use Rattle.pg_json.proofs.Codes.{rows_are_no_refusals, statuses_are_no_refusals}
 use Rattle.pg_json.proofs.laws.law_of_replies.Goals as goal
 
-pub returns-clause-replies : goal.returns-clause-replies
-returns-clause-replies c = replies_are_no_refusals
+pub returns-clause-rows : goal.returns-clause-rows
+returns-clause-rows c = rows_are_no_refusals
+
+pub returns-clause-statuses : goal.returns-clause-statuses
+returns-clause-statuses c = statuses_are_no_refusals

@@ -1,5 +1,5 @@
 use Rattle.std.proofs.Common.{◌≡◌, ◌<◌, arith, length, ap, ◌∙◌}
-use Rattle.pg_json.specs.Replies.{reply_text}
+use Rattle.pg_json.specs.Replies.{tenant_text}
 use Rattle.pg_server.specs.Solo.{status_text}
 use Rattle.pg_server.specs.State.{State, ServerState, state_at}
 use Rattle.pg_server.specs.Tenants.{state_of}
@@ -25,7 +25,7 @@ returns-clause-ok g c =
     let here : (let s : State = record { settings = tenant.settings; graph = c.graph-graph.result; indexes = indexes_of tenant.indexes } in s) ≡ state_at c.args.self.now.state c.args.place =
     (λ i. let s : State = record { settings = tenant.settings; graph = c.graph-graph.ensures i; indexes = indexes_of tenant.indexes } in s)
     ∙ state_found seen tenants c.self.inside.shared.stores c.args.place tenant lt c.index-tenant.ensures ∙ ap (λ (s : ServerState). state_at s c.args.place) (ap state_seen c.self.view_is) in
-    written_ok (reply_text c.in_ok-body.body) (status_text (state_at c.args.self.now.state c.args.place)) (c.in_ok-body.ensures ∙ ap status_text here) c.write_reply.result c.write_reply.ensures.ok c.write_reply.ensures.within
+    written_ok (tenant_text c.in_ok-told.told) (status_text (state_at c.args.self.now.state c.args.place)) (c.in_ok-told.ensures ∙ ap status_text here) c.write_status.result c.write_status.ensures.ok c.write_status.ensures.within
 
 pub returns-clause-err : goal.returns-clause-err
 returns-clause-err g c =
@@ -36,4 +36,4 @@ returns-clause-err g c =
     let here : (let s : State = record { settings = tenant.settings; graph = c.graph-graph.result; indexes = indexes_of tenant.indexes } in s) ≡ state_at c.args.self.now.state c.args.place =
     (λ i. let s : State = record { settings = tenant.settings; graph = c.graph-graph.ensures i; indexes = indexes_of tenant.indexes } in s)
     ∙ state_found seen tenants c.self.inside.shared.stores c.args.place tenant lt c.index-tenant.ensures ∙ ap (λ (s : ServerState). state_at s c.args.place) (ap state_seen c.self.view_is) in
-    written_err (reply_text c.in_ok-body.body) (status_text (state_at c.args.self.now.state c.args.place)) (c.in_ok-body.ensures ∙ ap status_text here) c.write_reply.result c.write_reply.ensures.kind c.write_reply.ensures.long
+    written_err (tenant_text c.in_ok-told.told) (status_text (state_at c.args.self.now.state c.args.place)) (c.in_ok-told.ensures ∙ ap status_text here) c.write_status.result c.write_status.ensures.kind c.write_status.ensures.long

@@ -60,7 +60,10 @@ fn is_found(
     name: &str,
 ) -> Result<bool, Fail> {
     let text = String::from_str(alloc, text)?;
-    let plan = cache.plan_for(alloc, text, no_index(alloc)?)?;
+    let plan = cache
+        .plan_for(alloc, text, no_index(alloc)?)
+        .ok()
+        .ok_or("no plan")?;
     Ok(last_item(&plan) == Some(name))
 }
 
@@ -119,7 +122,10 @@ fn uses_index(
     want: bool,
 ) -> Result<bool, Fail> {
     let text = String::from_str(alloc, "MATCH (n:P {name: 'x'}) RETURN id(n)")?;
-    let plan = cache.plan_for(alloc, text, list_of(alloc, key)?)?;
+    let plan = cache
+        .plan_for(alloc, text, list_of(alloc, key)?)
+        .ok()
+        .ok_or("no plan")?;
     Ok(is_indexed(&plan) == Some(want))
 }
 

@@ -27,6 +27,16 @@ abbrev pub is_range : Function → Bool
 is_range function.range = true
 is_range f = false
 
+-- whether a function of one value only looks at it
+abbrev pub looks : Function → Bool
+looks function.range = false
+looks function.properties = false
+looks function.head = false
+looks function.last = false
+looks function.coalesce = false
+looks function.to_string = false
+looks f = true
+
 -- no function of one value takes so many
 abbrev pub IsNotOne : Values → Type 0
 IsNotOne vs = (f : Value → Answer) → of_one f vs ≡ Err UnknownFunction

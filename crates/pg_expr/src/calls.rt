@@ -1,6 +1,6 @@
 //! What functions give: deleted elements among the arguments first, then null, then the function, then the limits.
-ghost use Rattle.std.specs.Prelude.{◌≡◌, ◌≢◌, IfOk, IfErr, IfSome, IfNone, Ok, Err, false, ◌-◌};
-ghost use Rattle.pg_expr.specs.Calls.{is_range, IsNotOne};
+ghost use Rattle.std.specs.Prelude.{◌≡◌, ◌≢◌, IfOk, IfErr, IfSome, IfNone, Ok, Err, true, false, ◌-◌};
+ghost use Rattle.pg_expr.specs.Calls.{is_range, looks, IsNotOne};
 ghost use Rattle.pg_expr.specs.Sites.{found_view, founds_view};
 ghost use Rattle.pg_meaning.specs.Expressions.{fault_of_name};
 ghost use Rattle.pg_meaning.specs.Expressions as meaning;
@@ -146,26 +146,46 @@ fn at_one<'a, T: Tables>(
     ensures err { IfErr result (λ e. e ≢ OutOfMemory → function_at graph.now (function_view function) (item (found_view argument.entry) no_items) ≡ Err e) }
 {
     match function {
-        Function::Id => Ok(Found::Made(number(graph, argument.look())?)),
-        Function::Labels => Ok(Found::Made(labels(alloc, graph, argument.look())?)),
-        Function::Type => Ok(Found::Made(kind(alloc, graph, argument.look())?)),
-        Function::Keys => Ok(Found::Made(keys(alloc, graph, argument.look())?)),
         Function::Properties => properties(alloc, graph, argument),
-        Function::Size => Ok(Found::Made(values::size(argument.look())?)),
-        Function::Length => Ok(Found::Made(values::length(argument.look())?)),
-        Function::Nodes => Ok(Found::Made(values::nodes(alloc, argument.look())?)),
-        Function::Relationships => {
-            Ok(Found::Made(values::relationships(alloc, argument.look())?))
-        }
         Function::Head => head(argument),
         Function::Last => last(argument),
         Function::Coalesce => Ok(argument),
-        Function::Range => Err(Fault::OutOfMemory),
         Function::ToString => to_text(alloc, argument),
-        Function::ToInteger => Ok(Found::Made(values::to_integer(argument.look())?)),
-        Function::Abs => Ok(Found::Made(values::absolute(argument.look())?)),
-        Function::StartNode => Ok(Found::Made(source(graph, argument.look())?)),
-        Function::EndNode => Ok(Found::Made(target(graph, argument.look())?)),
+        _ => Ok(Found::Made(at_look(alloc, graph, function, argument.look())?)),
+    }
+}
+
+/// What a function of one argument gives that only looks at it.
+fn at_look<T: Tables>(
+    alloc: Global,
+    graph: &Snapshot<'_, T>,
+    function: Function,
+    v: &Value,
+) -> Result<Value, Fault>
+    requires there { is_deleted graph.now (view v.now) ≡ false }
+    requires looks { looks (function_view function) ≡ true }
+    ensures ok { IfOk result (λ u. function_at graph.now (function_view function) (item (view v.now) no_items) ≡ Ok (view u)) }
+    ensures err { IfErr result (λ e. e ≢ OutOfMemory → function_at graph.now (function_view function) (item (view v.now) no_items) ≡ Err e) }
+{
+    match function {
+        Function::Id => number(graph, v),
+        Function::Labels => labels(alloc, graph, v),
+        Function::Type => kind(alloc, graph, v),
+        Function::Keys => keys(alloc, graph, v),
+        Function::Size => values::size(v),
+        Function::Length => values::length(v),
+        Function::Nodes => values::nodes(alloc, v),
+        Function::Relationships => values::relationships(alloc, v),
+        Function::ToInteger => values::to_integer(v),
+        Function::Abs => values::absolute(v),
+        Function::StartNode => source(graph, v),
+        Function::EndNode => target(graph, v),
+        Function::Properties
+        | Function::Head
+        | Function::Last
+        | Function::Coalesce
+        | Function::Range
+        | Function::ToString => unreachable!(),
     }
 }
 

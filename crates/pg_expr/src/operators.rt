@@ -1,6 +1,6 @@
 //! What operators, signs and tests give at values that were found.
-ghost use Rattle.std.specs.Prelude.{◌≡◌, ◌≢◌, IfOk, IfErr, Ok, Err, map, option_map};
-ghost use Rattle.pg_expr.specs.Operators.{all_negated, is_chosen};
+ghost use Rattle.std.specs.Prelude.{◌≡◌, ◌≢◌, IfOk, IfErr, Ok, Err, false, map, option_map};
+ghost use Rattle.pg_expr.specs.Operators.{all_negated, is_chosen, takes_operands};
 ghost use Rattle.pg_expr.specs.Sites.{found_view, pairs_view};
 ghost use Rattle.pg_meaning.specs.Arithmetic.{plus, signed};
 ghost use Rattle.pg_meaning.specs.Expressions.{is_in as membership, combined, all_compared, all_signed, begins_comparison, condition_of, is_comparison, tested, null_tested};
@@ -29,14 +29,26 @@ pub(crate) fn combined<'a>(
     ensures err { IfErr result (λ e. e ≢ OutOfMemory → combined operator (found_view v.entry) (found_view w.entry) ≡ Err e) }
 {
     match operator {
-        Operator::Or => Ok(Found::Made(values::disjunction(v.look(), w.look())?)),
-        Operator::Xor => Ok(Found::Made(values::exclusive(v.look(), w.look())?)),
-        Operator::And => Ok(Found::Made(values::conjunction(v.look(), w.look())?)),
         Operator::Plus => sum(alloc, v, w),
-        Operator::Minus => Ok(Found::Made(values::minus(v.look(), w.look())?)),
-        Operator::Times => Ok(Found::Made(values::times(v.look(), w.look())?)),
-        Operator::Divide => Ok(Found::Made(values::divide(v.look(), w.look())?)),
-        Operator::Modulo => Ok(Found::Made(values::modulo(v.look(), w.look())?)),
+        _ => Ok(Found::Made(looked_at(operator, v.look(), w.look())?)),
+    }
+}
+
+/// What an operator gives that only looks at its operands.
+fn looked_at(operator: Operator, v: &Value, w: &Value) -> Result<Value, Fault>
+    requires { takes_operands operator ≡ false }
+    ensures ok { IfOk result (λ u. combined operator (view v.now) (view w.now) ≡ Ok (view u)) }
+    ensures err { IfErr result (λ e. combined operator (view v.now) (view w.now) ≡ Err e) }
+{
+    match operator {
+        Operator::Or => values::disjunction(v, w),
+        Operator::Xor => values::exclusive(v, w),
+        Operator::And => values::conjunction(v, w),
+        Operator::Plus => unreachable!(),
+        Operator::Minus => values::minus(v, w),
+        Operator::Times => values::times(v, w),
+        Operator::Divide => values::divide(v, w),
+        Operator::Modulo => values::modulo(v, w),
         _ => Err(Fault::BadSyntax),
     }
 }

@@ -1,15 +1,11 @@
 -- The records of a server's pool are its tenants'.
-use Rattle.std.proofs.Common.{◌≡◌, ℕ, ◌<◌, Bool, Option, Some, None, length, refl, sym, ap, subst}
+use Rattle.std.proofs.Common.{◌≡◌, ℕ, Option, Some, None, refl, ap, subst}
 use Rattle.slab.specs.Slab.{get}
-use Rattle.pg_graph.specs.Refinement.{Holds}
-use Rattle.pg_meaning.specs.Graph.{Graph}
 use Rattle.pg_pool.proofs.Found.{are_records}
 use Rattle.pg_pool.specs.Records.{owner_of, is_node, id_of, label}
-use Rattle.pg_pool.specs.Tables.{AreRecords, IsUnused, content_of, pooled}
+use Rattle.pg_pool.specs.Tables.{AreRecords, IsUnused, content_of}
 use Rattle.pg_pool.specs.declared.pool.Pool.{Pool}
 use Rattle.pg_pool.specs.declared.pool.Record.{Record}
-use Rattle.pg_server.specs.Holds.{HoldTenants, shared_of}
-use Rattle.pg_server.specs.State.{ServerSeen, state_at}
 use Rattle.graphd.specs.Records.{HoldsRecords, TenantsHoldRecords, UnusedIsEmpty}
 
 pub tenants_hold_records : TenantsHoldRecords

@@ -1,12 +1,11 @@
 -- What aggregates take in and tell.
 use Rattle.std.proofs.Common.{◌≡◌, ◌≢◌, Bool, true, false, cond, ◌&&◌, ◌⊎◌, inl, inr, List, [], ◌∷◌, ◌++◌, filter, fold, Result, Ok, Err, refl, sym, ap, subst, ◌∙◌, append_assoc, append-nil, is_lt, is_gt, Less, Equal, Greater}
 use Rattle.std.proofs.lemmas.Cmp.{tied_itself}
-use Rattle.std.specs.Cmp.{IsTotalOrder}
-use Rattle.std.specs.List.{AllByRecursion, list_any}
+use Rattle.std.specs.List.{list_any}
 use Rattle.std.specs.Ordering.{ordering_reverse}
 use Rattle.std.specs.declared.cmp.Ordering.{Ordering}
 use Rattle.pg_meaning.specs.Aggregates.{Aggregate, Summary, counting, summing, least, greatest, collecting, total, extended, take_in, lesser, greater}
-use Rattle.pg_meaning.specs.Answer.{◌>>=◌, each_step}
+use Rattle.pg_meaning.specs.Answer.{each_step}
 use Rattle.pg_meaning.specs.AnswerLaws.{went_well, same_ok}
 use Rattle.pg_meaning.specs.Arithmetic.{is_in_range}
 use Rattle.pg_meaning.specs.Lists.{IsIn}

@@ -1,5 +1,5 @@
 -- The instances of SET, REMOVE and DELETE are what their functions compute.
-use Rattle.std.proofs.Common.{◌≡◌, Bool, true, false, [], ◌∷◌, Option, Some, None, Result, Ok, Err, codes, pos, refl, sym, ap, subst}
+use Rattle.std.proofs.Common.{◌≡◌, Bool, true, false, [], ◌∷◌, Some, None, Result, Ok, Err, codes, refl, sym, ap, subst}
 use Rattle.pg_meaning.specs.AnswerLaws.{same_ok}
 use Rattle.pg_meaning.specs.Entries.{value_at}
 use Rattle.pg_meaning.specs.ExamplesOfFits.{not_true, pair_graph, instances_of_graphs}

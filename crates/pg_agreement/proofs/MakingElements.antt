@@ -1,5 +1,5 @@
 -- The nodes and the relationships of one path, each made or a fault of the row.
-use Rattle.std.proofs.Common.{◌≡◌, ℕ, suc, pred, ◌+◌, ◌<◌, ◌≤◌, nat_lt, false, inl, inr, List, [], ◌∷◌, ◌++◌, cond, flat_map, length, Option, Some, None, IsTrue, Result, Ok, Err, refl, sym, ap, subst, ◌∙◌, append_assoc, append-nil, arith}
+use Rattle.std.proofs.Common.{◌≡◌, ℕ, suc, pred, ◌+◌, ◌≤◌, nat_lt, false, inl, inr, List, [], ◌∷◌, ◌++◌, cond, flat_map, length, Option, Some, None, IsTrue, Result, Ok, Err, refl, sym, ap, subst, ◌∙◌, append_assoc, append-nil, arith}
 use Rattle.std.proofs.lemmas.List.{length-append}
 use Rattle.std.specs.List.{AllByRecursion}
 use Rattle.pg_agreement.proofs.MakingPlaces.{known, known_with, count_made, made_and_left, one_less}

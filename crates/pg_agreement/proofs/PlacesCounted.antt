@@ -1,5 +1,5 @@
 -- The node places of a CREATE, counted by the charge and by the meaning.
-use Rattle.std.proofs.Common.{◌≡◌, ℕ, suc, pred, ◌+◌, true, false, List, [], ◌∷◌, ◌++◌, map, flat_map, length, Option, Some, None, refl, sym, ap, subst, ◌∙◌, append_assoc, arith}
+use Rattle.std.proofs.Common.{◌≡◌, ℕ, suc, pred, ◌+◌, true, false, List, [], ◌∷◌, ◌++◌, map, flat_map, length, Some, None, refl, sym, ap, subst, ◌∙◌, append_assoc, arith}
 use Rattle.std.proofs.lemmas.List.{length-append}
 use Rattle.std.specs.List.{AllByRecursion, AllZip}
 use Rattle.pg_meaning.specs.Meaning.{placed, all_placed, new_places, made_hops, all_made, IsTrailOf}

@@ -19,7 +19,7 @@ use Rattle.pg_meaning.specs.OrderLaws.{order_total}
 use Rattle.pg_meaning.specs.Projections.{Projected, visible, column_value, projected, skipped, limited, same_values, firsts, distinct_rows, passing_rows}
 use Rattle.pg_meaning.specs.Rows.{Row, value_in, values_in}
 use Rattle.pg_meaning.specs.Scopes.{Column, is_aggregate, column_names}
-use Rattle.pg_meaning.specs.Tree.{Expression, Item, Projection}
+use Rattle.pg_meaning.specs.Tree.{Expression, Projection}
 use Rattle.pg_meaning.specs.Value.{Value}
 use Rattle.pg_meaning.specs.declared.fault.Fault.{Fault}
 use Rattle.pg_meaning.specs.declared.fault.Fault.TheVariants.{StepQuota}

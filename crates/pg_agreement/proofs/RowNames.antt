@@ -1,25 +1,9 @@
 -- The names that a row binds, as it is extended.
-use Rattle.std.proofs.Common.{◌≡◌, ℕ, ◌+◌, ◌*◌, ◌<◌, ◌≤◌, nat_lt, Bool, true, false, cond, ◌||◌, inl, inr, List, [], ◌∷◌, ◌++◌, length, Option, Some, None, is_some, bytes_eq, Result, Ok, Err, refl, sym, ap, subst, ◌∙◌, arith, append_assoc, append-nil, le_refl, ltb→lt, nltb→le, T, not, IsTrue, Less, Equal, Greater}
-use Rattle.std.specs.FinMap.Entries as by_id
-use Rattle.std.specs.Ordering.{nat_cmp}
-use Rattle.pg_meaning.specs.Turns.{RowByRow, AtSomeTurn}
-use Rattle.pg_meaning.specs.Agreement.{given, AreRowsOf, AnswerAgrees}
-use Rattle.pg_meaning.specs.Answer.{◌>>=◌, ◌>>◌, unless, each_step}
-use Rattle.pg_meaning.specs.AnswerLaws.{by_answer, went_well, same_ok}
-use Rattle.pg_meaning.specs.Entries.{are_rising, set_keys}
-use Rattle.pg_meaning.specs.EntriesLaws.{set_keys_keeps_rising}
-use Rattle.pg_meaning.specs.Graph.{Graph, IsGraph}
-use Rattle.pg_meaning.specs.ListsLaws.{all_joined}
-use Rattle.pg_meaning.specs.Meaning.{CreateRow, CreateFaults}
-use Rattle.pg_meaning.specs.Meters.{Setting, State, spend}
+use Rattle.std.proofs.Common.{◌≡◌, ℕ, Bool, true, false, cond, ◌||◌, List, [], ◌∷◌, ◌++◌, Option, Some, None, is_some, bytes_eq, refl, sym, ap, ◌∙◌}
 use Rattle.pg_meaning.specs.Names.{Names, is_among, add_name}
-use Rattle.pg_meaning.specs.Patterns.{add_if_named, add_path_names}
-use Rattle.pg_agreement.proofs.ProjectedParts.{spend_fault}
+use Rattle.pg_meaning.specs.Patterns.{add_if_named}
 use Rattle.pg_meaning.specs.Rows.{Row, value_in, bind_new, bind_if_named}
-use Rattle.pg_meaning.specs.Tree.{Name, Properties, NodePattern, PathPattern, create}
-use Rattle.pg_meaning.specs.Updates.{count_new, create_row, create_clause, given_pairs, given_properties, test_storable}
-use Rattle.pg_meaning.specs.Value.{Value, Entries, no_entries}
-use Rattle.pg_meaning.specs.declared.fault.Fault.{Fault}
+use Rattle.pg_meaning.specs.Value.{Value}
 
 -- ---- names that a row binds
 

@@ -1,5 +1,5 @@
 -- A property of the graphs before and after that is reflexive and goes on holds of a whole query, if it does of what CREATE, SET, REMOVE and DELETE do.
-use Rattle.std.proofs.Common.{◌≡◌, ℕ, Bool, true, false, ◌⊎◌, inl, inr, List, [], ◌∷◌, Option, Some, None, Ok, refl, sym, subst}
+use Rattle.std.proofs.Common.{◌≡◌, ℕ, Bool, true, false, ◌⊎◌, inl, inr, List, [], ◌∷◌, Option, Some, None, refl, sym, subst}
 use Rattle.std.specs.Bool.{⊤}
 use Rattle.std.specs.List.{AllByRecursion}
 use Rattle.pg_meaning.specs.Turns.{Given, RowByRow, InTurn}

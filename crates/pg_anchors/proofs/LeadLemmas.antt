@@ -1,6 +1,6 @@
 -- What conditions fix, as the program reads them.
 use Rattle.std.proofs.Common.{◌≡◌, ◌≤◌, ℕ, Bool, true, false, not, cond, List, [], ◌∷◌, ◌++◌, length, map, Option, Some, None, refl, sym, ap, ◌∙◌, arith, bytes_eq}
-use Rattle.std.specs.Prelude.{◌&&◌, ◌||◌, flat_map, option_map}
+use Rattle.std.specs.Prelude.{◌&&◌, ◌||◌, flat_map}
 use Rattle.std.proofs.lemmas.Slice.Eq.{bytes_eq-Decides}
 use Rattle.pg_meaning.specs.Conditions as conditions
 use Rattle.pg_meaning.specs.Names.{Names, is_among}

@@ -1,5 +1,5 @@
 -- The same names in scope give the same plan.
-use Rattle.std.proofs.Common.{◌≡◌, ℕ, ◌+◌, Bool, true, false, cond, not, List, [], ◌∷◌, ◌++◌, map, Option, Some, None, refl, sym, ap, ◌∙◌, append_assoc}
+use Rattle.std.proofs.Common.{◌≡◌, ℕ, ◌+◌, Bool, false, cond, not, List, [], ◌∷◌, ◌++◌, Option, Some, None, refl, sym, ap, ◌∙◌, append_assoc}
 use Rattle.std.specs.Prelude.{◌&&◌, flat_map, position}
 use Rattle.std.specs.List.{position_from}
 use Rattle.std.proofs.lemmas.Iterator.Adapters.{position_from-zero}

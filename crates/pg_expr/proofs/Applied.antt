@@ -1,6 +1,6 @@
 -- A call's tests in their order.
-use Rattle.std.proofs.Common.{◌≡◌, true, false, List, [], ◌∷◌, ◌++◌, length, Ok, Err, refl, ap, sym, subst, Bool, ◌∙◌, arith}
-use Rattle.std.specs.Prelude.{◌≢◌, not}
+use Rattle.std.proofs.Common.{◌≡◌, true, false, List, [], ◌∷◌, ◌++◌, length, Ok, Err, refl, ap, sym, subst, Bool, arith}
+use Rattle.std.specs.Prelude.{◌≢◌}
 use Rattle.pg_expr.specs.Calls.{is_range, IsNotOne}
 use Rattle.pg_expr.specs.Sites.{found_view, founds_view}
 use Rattle.pg_expr.specs.declared.site.Found.{Found}

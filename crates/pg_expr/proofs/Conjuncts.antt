@@ -1,5 +1,5 @@
 -- One conjunct after the other.
-use Rattle.std.proofs.Common.{◌≡◌, Bool, true, false, cond, List, [], ◌∷◌, map, Result, Ok, Err, refl, ap, ◌∙◌}
+use Rattle.std.proofs.Common.{◌≡◌, Bool, true, false, cond, List, [], ◌∷◌, Result, Ok, Err, refl, ap, ◌∙◌}
 use Rattle.pg_expr.specs.Conditions.{is_met_by, all_met_by, begins_conjunction}
 use Rattle.pg_expr.specs.Sites.{given}
 use Rattle.pg_expr.specs.declared.site.Site.{Site}

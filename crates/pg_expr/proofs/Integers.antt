@@ -1,5 +1,5 @@
 -- The integers among a range's arguments one after the other.
-use Rattle.std.proofs.Common.{◌≡◌, ◌≢◌, suc, ℤ, List, [], ◌∷◌, ◌++◌, length, Result, Ok, Err, refl, sym, ap, ◌∙◌}
+use Rattle.std.proofs.Common.{◌≡◌, ◌≢◌, ℤ, List, [], ◌∷◌, ◌++◌, length, Result, Ok, Err, refl, sym, ap, ◌∙◌}
 use Rattle.pg_expr.specs.Sites.{found_view, founds_view}
 use Rattle.pg_expr.specs.declared.site.Found.{Found}
 use Rattle.pg_meaning.specs.Answer.{◌>>=◌}

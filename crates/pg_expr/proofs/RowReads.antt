@@ -1,16 +1,12 @@
 -- What stands in a row under a name, and in a list at a place.
-use Rattle.std.proofs.Common.{◌≡◌, ℕ, zero, suc, List, [], ◌∷◌, map, Option, Some, None, Ok, Err, Bor, length, get_or, ◌<◌, ◌≤◌, refl, sym, ap, ◌∙◌}
+use Rattle.std.proofs.Common.{◌≡◌, ℕ, List, map, Option, Some, None, Bor, length, get_or, ◌<◌, ◌≤◌, refl, ap, ◌∙◌}
 use Rattle.std.proofs.lemmas.Option.{slice_get-map, slice_get_past, slice_get_read}
 use Rattle.std.specs.Option.{option_and_then}
-use Rattle.std.specs.Prelude.{bytes_eq, option_copied, option_map, position, slice_get, unwrap_or}
-use Rattle.pg_meaning.specs.Expressions.{or_fault}
-use Rattle.pg_meaning.specs.Functions.{item_at}
+use Rattle.std.specs.Prelude.{bytes_eq, option_copied, option_map, position, slice_get}
 use Rattle.pg_meaning.specs.Rows.{value_in}
-use Rattle.pg_meaning.specs.Value.{Value as Datum, null}
-use Rattle.pg_meaning.specs.declared.fault.Fault.TheVariants.{UndefinedVariable}
 use Rattle.pg_rows.proofs.NamedRows.{values_stand}
 use Rattle.pg_rows.specs.Named.{row_of}
-use Rattle.pg_value_core.specs.View.{view, values_view}
+use Rattle.pg_value_core.specs.View.{view}
 use Rattle.pg_value_core.specs.declared.value.Value.{Value}
 
 pub through : (r : Option (Bor Value)) → option_map (λ v. view v.now) r ≡ option_map view (option_copied r)

@@ -1,5 +1,5 @@
 -- The parts of an expression one after the other: what is found so far, and what is left.
-use Rattle.std.proofs.Common.{◌≡◌, ℕ, ◌≤◌, Bool, true, false, List, [], ◌∷◌, ◌++◌, map, length, drop, Option, Some, None, Result, Ok, Err, refl, sym, ap, subst, ◌∙◌}
+use Rattle.std.proofs.Common.{◌≡◌, ℕ, ◌≤◌, Bool, true, false, List, [], ◌∷◌, ◌++◌, map, length, drop, Option, Some, Result, Ok, Err, refl, sym, ap, subst, ◌∙◌}
 use Rattle.std.proofs.lemmas.List.{drop_all}
 use Rattle.std.specs.Prelude.{◌≢◌, Box, Vec, IfOk, IfErr, string_bytes}
 use Rattle.std.specs.declared.alloc.Global.{Global}
@@ -11,7 +11,7 @@ use Rattle.pg_expr.specs.declared.site.Site.{Site}
 use Rattle.pg_meaning.specs.Answer.{Answer, ◌>>=◌}
 use Rattle.pg_meaning.specs.Arithmetic.{appended}
 use Rattle.pg_meaning.specs.Entries.{put}
-use Rattle.pg_meaning.specs.Expressions.{condition_of, tested, null_tested, property_of, indexed}
+use Rattle.pg_meaning.specs.Expressions.{condition_of, tested, indexed}
 use Rattle.pg_meaning.specs.Functions.{is_null}
 use Rattle.pg_meaning.specs.Graph.{Graph}
 use Rattle.pg_meaning.specs.Logic.{is_true}
@@ -23,7 +23,7 @@ use Rattle.pg_meaning.specs.declared.logic.Tri.{Tri}
 use Rattle.pg_meaning.specs.declared.logic.Tri.TheVariants.{True, False, Null}
 use Rattle.pg_meaning.specs.declared.operators.Operator.{Operator}
 use Rattle.pg_meaning.specs.declared.operators.TextTest.{TextTest}
-use Rattle.pg_syntax_tree.specs.View.{expression_view, pair_view, when_view, operand_view, test_view, tests_of, suffix_view, suffixes_of, name_view, names_view, perhaps_view}
+use Rattle.pg_syntax_tree.specs.View.{expression_view, pair_view, when_view, operand_view, test_view, tests_of, suffix_view, suffixes_of, names_view, perhaps_view}
 use Rattle.pg_syntax_tree.proofs.Views.{call_is, case_is, chain_is, suffixes_is}
 use Rattle.pg_syntax_tree.specs.declared.expression.Expression.{Expression}
 use Rattle.pg_syntax_tree.specs.declared.expression.Expression.TheVariants as expression

@@ -1,5 +1,5 @@
 -- The parts of calls.
-use Rattle.std.specs.Prelude.{◌≡◌, ℕ, Bool, true, false, List, Option, Some, None, Result, Ok, Err}
+use Rattle.std.specs.Prelude.{◌≡◌, ℕ, Bool, true, false, List, Some, None, Err}
 use Rattle.pg_expr.specs.Sites.{given_each, given_first}
 use Rattle.pg_expr.specs.declared.site.Site.{Site}
 use Rattle.pg_meaning.specs.Answer.{Answer, ◌>>=◌}
@@ -9,7 +9,6 @@ use Rattle.pg_meaning.specs.Functions as function
 use Rattle.pg_meaning.specs.Graph.{Graph}
 use Rattle.pg_meaning.specs.Tree as tree
 use Rattle.pg_meaning.specs.Value.{Value, Values}
-use Rattle.pg_meaning.specs.declared.fault.Fault.{Fault}
 use Rattle.pg_meaning.specs.declared.fault.Fault.TheVariants.{UnknownFunction}
 
 -- a call of what stands under a name

@@ -1,5 +1,5 @@
 -- The trees that prepared expressions stand for, over columns of these names.
-use Rattle.std.specs.Prelude.{ℕ, List, Option, Some, None, option_map}
+use Rattle.std.specs.Prelude.{ℕ, List, Option, option_map}
 use Rattle.pg_expr.specs.declared.prepared.Prepared.{Prepared}
 use Rattle.pg_expr.specs.declared.prepared.PreparedCondition.{PreparedCondition}
 use Rattle.pg_meaning.specs.Tree.{Expression}

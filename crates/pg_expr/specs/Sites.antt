@@ -1,5 +1,5 @@
 -- What expressions give at a site: a row under names, with the parameters of the request.
-use Rattle.std.specs.Prelude.{List, map, Bool, true, false, Option, Some, None, unwrap_or, Result, Ok}
+use Rattle.std.specs.Prelude.{List, map, true, false, Option, Some, None, unwrap_or, Result, Ok}
 use Rattle.pg_expr.specs.declared.site.Found.{Found}
 use Rattle.pg_expr.specs.declared.site.Found.TheVariants.{Lent, Made}
 use Rattle.pg_expr.specs.declared.site.Site.{Site}

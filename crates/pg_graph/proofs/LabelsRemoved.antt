@@ -11,7 +11,7 @@ use Rattle.pg_graph.proofs.SortedLists.{all_without}
 use Rattle.pg_names.specs.Names.{AreDistinct}
 use Rattle.pg_graph.specs.Records.{AreLabels, without_label}
 use Rattle.pg_graph.specs.Refinement.{text_of, label_texts, AreNamed}
-use Rattle.pg_meaning.specs.Names.{is_among, in_byte_order}
+use Rattle.pg_meaning.specs.Names.{is_among}
 use Rattle.pg_meaning.specs.NamesLaws.{in_byte_order_rises}
 use Rattle.pg_meaning.specs.Order.{text_order}
 

@@ -1,5 +1,5 @@
 -- An index as a finite map from keys to finite sets of ids.
-use Rattle.std.specs.Prelude.{ℕ, Option}
+use Rattle.std.specs.Prelude.{Option}
 use Rattle.std.specs.BTreeMap.{get}
 use Rattle.std.specs.FinMap as map
 use Rattle.std.specs.Option.{option_map_or}

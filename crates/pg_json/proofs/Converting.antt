@@ -1,5 +1,5 @@
 -- The values of lists and members, as far as they are converted.
-use Rattle.std.proofs.Common.{◌≡◌, ◌≤◌, ℕ, drop, length, List, [], ◌∷◌, ◌++◌, Option, Some, None, option_map, option_and_then, String, Global, Ordering, Less, Equal, Greater, string_bytes, string_cmp, refl, sym, ap, ◌∙◌}
+use Rattle.std.proofs.Common.{◌≡◌, ◌≤◌, ℕ, drop, length, List, [], ◌∷◌, ◌++◌, Option, Some, None, option_map, option_and_then, Less, Greater, string_bytes, string_cmp, refl, sym, ap, ◌∙◌}
 use Rattle.std.proofs.lemmas.Cmp.{nat_list_cmp_total}
 use Rattle.std.proofs.lemmas.List.{drop_all}
 use Rattle.std.specs.List.{AllByRecursion}
@@ -11,7 +11,7 @@ use Rattle.serde_json.specs.declared.value.Value.{Value as Data}
 use Rattle.serde_json.proofs.Views.{Entry}
 use Rattle.pg_meaning.specs.Entries.{put}
 use Rattle.pg_meaning.specs.Order.{text_order}
-use Rattle.pg_meaning.specs.Value.{Value as Datum, Values, no_items, item, Entries, no_entries, entry}
+use Rattle.pg_meaning.specs.Value.{Value as Datum, Values, no_items, item, Entries, entry}
 use Rattle.pg_json.specs.Given.{value_within, values_within, entries_within}
 use Rattle.pg_value_core.specs.View.{view, values_view}
 use Rattle.pg_value_core.specs.declared.value.Value.{Value}

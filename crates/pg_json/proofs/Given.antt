@@ -1,5 +1,5 @@
 -- What data gives, by its depth and by the data that gives it.
-use Rattle.std.proofs.Common.{◌≡◌, ℕ, ℤ, zero, suc, ◌-◌, ◌<◌, ◌≤◌, nat_le, nat_lt, max, List, [], ◌∷◌, ◌++◌, Bool, true, false, ◌&&◌, cond, Option, Some, None, option_map, option_and_then, Ordering, Less, Equal, Greater, refl, sym, ap, inl, inr, ◌⊎◌, ◌+◌, ◌∙◌, arith, lt-ltb, le-leb}
+use Rattle.std.proofs.Common.{◌≡◌, ℕ, ℤ, zero, suc, ◌-◌, ◌<◌, ◌≤◌, nat_le, max, List, Bool, true, false, ◌&&◌, cond, Option, Some, None, option_map, option_and_then, Ordering, Less, Equal, Greater, refl, sym, ap, inl, inr, ◌⊎◌, ◌+◌, ◌∙◌, arith, lt-ltb, le-leb}
 use Rattle.std.proofs.Math.Dec.{leb-suc-suc}
 use Rattle.std.proofs.Math.Nat.{le-max_left, le-max_right, max-le}
 use Rattle.std.proofs.lemmas.Bool.{lt-leb}
@@ -14,7 +14,7 @@ use Rattle.pg_meaning.specs.Measure.{depth_of, items_depth, entries_depth, great
 use Rattle.pg_meaning.specs.Order.{text_order}
 use Rattle.pg_meaning.specs.Value.{Value, null, boolean, integer, text, list, mapping, node, relationship, path, Values, no_items, item, Entries, no_entries, entry}
 use Rattle.pg_json.specs.Given.{if_room, value_within, values_within, entries_within, data_giving, items_giving, members_giving, IsGiven, AreGiven, EntriesAreGiven}
-use Rattle.pg_json.specs.Parameters.{value_of, values_of, entries_of, if_within_depth, parameters_in}
+use Rattle.pg_json.specs.Parameters.{value_of, values_of, entries_of, parameters_in}
 
 -- ---- nothing is of depth 0
 

@@ -43,14 +43,6 @@ impl Room {
         Ok(())
     }
 
-    /// Makes room again for that many of the elements.
-    pub fn give(&mut self, elements: u64)
-        requires { elements ≤ self.old.elements }
-        ensures { self.old ≡ record self.new { elements = self.new.elements + elements } }
-    {
-        self.elements -= elements;
-    }
-
     pub fn elements(&self) -> u64
         ensures { result ≡ self.now.elements }
     {

@@ -6,7 +6,7 @@ use Rattle.std.specs.Prelude.{◌≡◌, ℕ, true, List, [], ◌∷◌, Option,
 use Rattle.std.specs.List.{AllZip}
 use Rattle.std.specs.Option.{IsSomeAnd, IsSomeAnd-prop}
 use Rattle.pg_meaning.specs.Names.{Names, is_among}
-use Rattle.pg_meaning.specs.Patterns.{texts_of, nodes_of}
+use Rattle.pg_meaning.specs.Patterns.{texts_of}
 use Rattle.pg_meaning.specs.Plans.{Anchor, Fixed, Plan, fixed_keys, leading_of, IndexSuits, IsAnchorOf, ArePlanned, IsPlanFrom, IsPlanOf}
 use Rattle.pg_meaning.specs.Scopes.{scope_after}
 use Rattle.pg_meaning.specs.Tree.{NodePattern, PathPattern, Clause, match_paths, unwind, create, merge, set_items, remove_items, delete, with_rows, return_rows, Query}

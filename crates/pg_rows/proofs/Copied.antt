@@ -1,9 +1,9 @@
 -- A row copied to the end of values.
-use Rattle.std.proofs.Common.{◌≡◌, ℕ, zero, suc, ◌+◌, ◌*◌, ◌≤◌, List, [], ◌∷◌, ◌++◌, map, length, take, refl, sym, ap, ◌∙◌, arith}
+use Rattle.std.proofs.Common.{◌≡◌, ℕ, zero, suc, ◌+◌, ◌≤◌, List, [], ◌∷◌, ◌++◌, map, length, take, ap, ◌∙◌, arith}
 use Rattle.std.proofs.lemmas.List.{length-map}
 use Rattle.pg_value_core.specs.View.{view}
 use Rattle.pg_value_core.specs.declared.value.Value.{Value}
-use Rattle.pg_rows.proofs.Tabled.{map_append, rows_push}
+use Rattle.pg_rows.proofs.Tabled.{rows_push}
 use Rattle.pg_rows.specs.Tables.{rows_of, table}
 use Rattle.pg_rows.specs.declared.table.Rows.{Rows}
 

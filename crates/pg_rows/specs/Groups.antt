@@ -1,6 +1,6 @@
 -- Groups of rows by the order in which their keys come first.
-use Rattle.std.specs.Prelude.{ℕ, List, [], ◌∷◌, ◌++◌, map, cond}
-use Rattle.std.specs.List.{list_any, position_or_len}
+use Rattle.std.specs.Prelude.{ℕ, List, map}
+use Rattle.std.specs.List.{position_or_len}
 use Rattle.std.specs.Global.{Vec}
 use Rattle.pg_meaning.specs.Projections.{same_values}
 use Rattle.pg_meaning.specs.Value.{Value as Datum}
@@ -13,6 +13,3 @@ keys_view ks = map (λ k. map view k.items) ks
 -- the place of the first key that is equivalent, or else the place behind the last
 abbrev pub group_number : List (List Datum) → List Datum → ℕ
 group_number keys key = position_or_len (same_values key) keys
-
-abbrev pub with_group : List (List Datum) → List Datum → List (List Datum)
-with_group keys key = cond (list_any (same_values key) keys) keys (keys ++ key ∷ [])

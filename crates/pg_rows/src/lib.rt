@@ -3,7 +3,6 @@
 
 mod columns;
 mod firsts;
-mod groups;
 mod laws;
 mod left;
 mod moves;
@@ -13,7 +12,6 @@ mod table;
 
 pub use columns::Columns;
 pub use firsts::distinct;
-pub use groups::Groups;
 pub use left::RowsLeft;
 pub use named::Table;
 pub use sorts::sort;

@@ -1,12 +1,11 @@
 -- The instances of runs and configurations.
-use Rattle.std.proofs.Common.{◌≡◌, ℕ, List, [], ◌∷◌, Bool, true, false, cond, Option, Some, arith, refl, sym, ap, subst, ◌∙◌, inl, inr, length}
+use Rattle.std.proofs.Common.{◌≡◌, ℕ, List, [], Bool, true, false, cond, Some, refl, sym, ap, subst, ◌∙◌, inl, inr, length}
 use Rattle.std.specs.Prelude.{◌&&◌, ◌⊎◌, not, codes}
 use Rattle.std.proofs.lemmas.List.{ext_get_or}
 use Rattle.std.proofs.lemmas.Slice.Eq.{bytes_eq-Decides}
 use Rattle.pg_json.specs.Refusals.{refusal_text}
-use Rattle.pg_json.specs.Requests.{Request, status}
+use Rattle.pg_json.specs.Requests.{status}
 use Rattle.pg_meaning.specs.declared.fault.Fault.TheVariants.{OutOfMemory}
-use Rattle.pg_server.specs.Exchange.{Exchange}
 use Rattle.pg_server.specs.InstancesOfRuns.{EmptyRuns, StatusRuns, ConfigurationsAreTested, reader, one_reader, told}
 use Rattle.pg_server.specs.Runs.{Runs, SoloRun, asked, shows_one_of, is_want_of_memory}
 use Rattle.pg_server.specs.Solo.{solo, limited, status_text}

@@ -1,5 +1,5 @@
 -- What a request does to the cache of plans.
-use Rattle.std.proofs.Common.{◌≡◌, ℕ, Bool, true, false, List, length, Option, Some, None, Result, Ok, Err, refl, ap, subst, sym, ◌∙◌, inl, inr, ◌⊎◌}
+use Rattle.std.proofs.Common.{◌≡◌, ℕ, Bool, true, false, List, length, Option, Some, None, Ok, Err, refl, ap, subst, sym, inl, inr, ◌⊎◌}
 use Rattle.std.specs.Prelude.{nat_le, cond}
 use Rattle.pg_cache.specs.Cache.{CacheSeen, IsLookUp, Key, has_key}
 use Rattle.pg_json.specs.Refusals.{refusal_text}

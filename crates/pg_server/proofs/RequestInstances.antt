@@ -1,5 +1,5 @@
 -- The instances of requests and of what a tenant answers them.
-use Rattle.std.proofs.Common.{◌≡◌, ℕ, zero, suc, List, [], ◌∷◌, true, false, cond, Option, Some, None, Ok, length, refl, ap, ◌∙◌, inl, inr}
+use Rattle.std.proofs.Common.{◌≡◌, ℕ, zero, suc, List, [], true, false, cond, Option, Some, None, Ok, length, refl, ap, ◌∙◌, inl, inr}
 use Rattle.std.specs.Fmt.{digits}
 use Rattle.std.specs.Prelude.{◌⊎◌, ◌||◌, not, nat_le, nat_lt, codes}
 use Rattle.serde_json.proofs.OnLiterals.{serde_json_on_literals}

@@ -1,7 +1,6 @@
 -- The map from tokens to tenants, made from the last tenant to the first.
 use Rattle.std.proofs.Common.{◌≡◌, ℕ, suc, ◌+◌, ◌<◌, List, [], ◌∷◌, Bool, true, false, cond, length, get_or, drop, map, Option, Some, None, option_map, bytes_eq, arith, refl, sym, ap, ◌∙◌, add-one, drop-cons}
-use Rattle.std.specs.Prelude.{◌||◌, position}
-use Rattle.std.proofs.lemmas.Slice.Eq.{bytes_eq-Decides}
+use Rattle.std.specs.Prelude.{◌||◌}
 use Rattle.pg_meaning.specs.Names.{is_among}
 use Rattle.pg_names.proofs.Interned.{position_here, position_later, equal_bytes, same_bytes}
 use Rattle.pg_server.specs.Settings.{TenantSettings, TokenSettings, token_texts}

@@ -1,5 +1,5 @@
 -- What calls leave of the shared part to others: the parts of their tables, and the texts of the names.
-use Rattle.std.proofs.Common.{◌≡◌, ◌≤◌, ℕ, zero, suc, List, [], ◌∷◌, length, take, slice_get, Some, Result, Ok, Err, OnErr, arith, refl, sym, ap, subst, ◌∙◌}
+use Rattle.std.proofs.Common.{◌≡◌, ◌≤◌, ℕ, zero, suc, List, [], ◌∷◌, length, take, Result, Ok, Err, OnErr, arith, refl, sym, ap, subst, ◌∙◌}
 use Rattle.std.specs.Prelude.{OnOk}
 use Rattle.pg_graph.proofs.Others.{keeps_refl, keeps_trans}
 use Rattle.pg_graph.specs.Content.{Content, Seen, Keeps}

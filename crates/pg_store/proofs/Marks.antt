@@ -1,6 +1,6 @@
 -- Marks of moments, over a journal and names that grew or were cut back.
 use Rattle.std.proofs.Common.{◌≡◌, ◌≤◌, ℕ, zero, suc, List, [], ◌∷◌, ◌++◌, length, take, drop, arith, refl, sym, ap, subst, ◌∙◌}
-use Rattle.std.proofs.lemmas.List.{take-append-le, drop-append-le, take-append-drop, length-append}
+use Rattle.std.proofs.lemmas.List.{drop-append-le, take-append-drop}
 use Rattle.pg_graph.specs.Content.{Seen}
 use Rattle.pg_store.specs.Journal.{State, IsWell, CanUndo, graph_in, undo_one, undone}
 use Rattle.pg_store.specs.Stores.{state_of, names_at, state_at, graph_of_store, graph_at, IsFit, HasMark, IsBack}

@@ -16,7 +16,7 @@ use Rattle.pg_graph.specs.declared.records.NodeRecord.{NodeRecord}
 use Rattle.pg_graph.specs.declared.records.RelRecord.{RelRecord}
 use Rattle.pg_meaning.specs.Graph.{Graph, IsGraph, empty_graph, element_count, has_node, has_relationship}
 use Rattle.pg_store.specs.Covers.{HasCovered, has_in}
-use Rattle.pg_store.specs.Journal.{State, IsWell, CanUndo, live}
+use Rattle.pg_store.specs.Journal.{CanUndo, live}
 use Rattle.pg_store.specs.Stores.{graph_of_store, state_of, IsFit}
 use Rattle.pg_store.specs.declared.journal.Entry.{Entry}
 use Rattle.pg_store.specs.declared.sets.Sets.{Sets}

@@ -1,5 +1,5 @@
 -- Whether some text stands twice in a list.
-use Rattle.std.specs.Prelude.{ℕ, Bool, false, ◌||◌, List, [], ◌∷◌}
+use Rattle.std.specs.Prelude.{Bool, false, ◌||◌, [], ◌∷◌}
 use Rattle.pg_meaning.specs.Names.{Names, is_among}
 
 -- some text has come before: among these, or earlier in the list

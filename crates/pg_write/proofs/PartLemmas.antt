@@ -1,5 +1,5 @@
 -- The definitions of SET and REMOVE, from what their parts give.
-use Rattle.std.proofs.Common.{◌≡◌, ℕ, Bool, true, false, List, Some, Result, Ok, Err, refl, ap, ◌∙◌}
+use Rattle.std.proofs.Common.{◌≡◌, ℕ, true, false, List, Some, Result, Ok, Err, refl, ap, ◌∙◌}
 use Rattle.pg_meaning.specs.Answer.{Answer, ◌>>=◌, ◌>>◌}
 use Rattle.pg_meaning.specs.Graph.{Graph, has_node, has_relationship}
 use Rattle.pg_meaning.specs.Rows.{Row}

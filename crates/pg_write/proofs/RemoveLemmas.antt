@@ -1,5 +1,5 @@
 -- The definition of REMOVE, from what its parts give.
-use Rattle.std.proofs.Common.{◌≡◌, Bool, true, false, Result, Ok, Err, refl, ap, ◌∙◌}
+use Rattle.std.proofs.Common.{◌≡◌, true, false, Result, Ok, Err, refl, ap, ◌∙◌}
 use Rattle.pg_meaning.specs.Answer.{◌>>=◌}
 use Rattle.pg_meaning.specs.Graph.{Graph}
 use Rattle.pg_meaning.specs.Rows.{Row}

@@ -1,5 +1,5 @@
 -- No change, one change, and changes in turn.
-use Rattle.std.proofs.Common.{◌≡◌, refl, ◌∙◌}
+use Rattle.std.proofs.Common.{refl, ◌∙◌}
 use Rattle.std.specs.Prelude.{Result}
 use Rattle.pg_graph.specs.Content.{Seen}
 use Rattle.pg_meaning.specs.Graph.{Graph}

@@ -1,5 +1,5 @@
 -- The definition's making is that from the outcomes.
-use Rattle.std.proofs.Common.{◌≡◌, ℕ, List, [], ◌∷◌, ◌++◌, map, Option, Some, None, Result, Ok, Err, refl, sym, ap, ◌∙◌}
+use Rattle.std.proofs.Common.{◌≡◌, ℕ, List, [], ◌∷◌, map, Option, Some, None, Result, Ok, Err, refl, sym, ap, ◌∙◌}
 use Rattle.pg_meaning.specs.Answer.{◌>>=◌, ◌>>◌}
 use Rattle.pg_meaning.specs.Graph.{Graph, add_node}
 use Rattle.pg_meaning.specs.Meters.{Setting, test_room, test_counter}
@@ -11,7 +11,7 @@ use Rattle.pg_meaning.specs.Value.{Value, null, boolean, integer, text, list, ma
 use Rattle.pg_meaning.specs.Walks.{bound_value}
 use Rattle.pg_meaning.specs.declared.fault.Fault.{Fault}
 use Rattle.pg_meaning.specs.declared.fault.Fault.TheVariants.{TypeFault}
-use Rattle.pg_write_make.specs.Outcomes.{Outcome, Outcomes, node_added, node_found, with_id, with_new, node_of, nodes_made, relationship_of, hops_made, bonds_made, relationships_of, trail_of, path_made, paths_made, node_outcome, relationship_outcome, path_outcomes}
+use Rattle.pg_write_make.specs.Outcomes.{Outcome, node_added, node_found, with_id, with_new, node_of, nodes_made, hops_made, bonds_made, relationships_of, trail_of, path_made, paths_made, node_outcome, relationship_outcome, path_outcomes}
 
 -- with the bonds of the relationships
 abbrev bonded : Graph × List ℕ → Graph × List Bond

@@ -1,5 +1,5 @@
 -- Room for one more element.
-use Rattle.std.proofs.Common.{◌≡◌, ◌<◌, ◌≤◌, ◌^◌, ℕ, [], Bool, true, false, Ok, Err, Result, refl, sym, ap, subst, ◌∙◌, arith}
+use Rattle.std.proofs.Common.{◌≡◌, ◌<◌, ◌≤◌, ◌^◌, ℕ, [], Bool, true, false, Ok, Err, Result, refl, subst, arith}
 use Rattle.std.specs.Prelude.{nat_lt, OnOk}
 use Rattle.std.proofs.lemmas.Bool.{ltb-true}
 use Rattle.pg_graph.specs.Content.{Seen}

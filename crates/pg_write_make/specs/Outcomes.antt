@@ -6,7 +6,7 @@ use Rattle.pg_meaning.specs.Answer.{◌>>=◌, ◌>>◌, unless}
 use Rattle.pg_meaning.specs.Entries.{set_keys}
 use Rattle.pg_meaning.specs.Graph.{Graph, element_count, add_node}
 use Rattle.pg_meaning.specs.Meters.{Setting, test_counter}
-use Rattle.pg_meaning.specs.Patterns.{nodes_of, node_name, texts_of, types_of, way_of, relationship_properties, Bond, single, Trail, Assignment}
+use Rattle.pg_meaning.specs.Patterns.{nodes_of, node_name, texts_of, types_of, way_of, relationship_properties, single, Trail, Assignment}
 use Rattle.pg_meaning.specs.Rows.{Row, bind_if_named}
 use Rattle.pg_meaning.specs.Tree.{NodePattern, RelationshipPattern, PathPattern}
 use Rattle.pg_meaning.specs.Updates.{Making, given_properties, first_text, add_between}

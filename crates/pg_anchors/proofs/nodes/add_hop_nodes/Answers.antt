@@ -1,4 +1,4 @@
-use Rattle.std.proofs.Common.{sym, subst}
+use Rattle.std.proofs.Common.{subst}
 use Rattle.pg_scope.proofs.FirstLemmas.{item_here, items_end}
 use Rattle.pg_scope.specs.Names.{names_in}
 use Rattle.pg_anchors.proofs.PlaceLemmas.{all_left, one_node, none_left}

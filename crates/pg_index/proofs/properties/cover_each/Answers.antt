@@ -1,4 +1,4 @@
-use Rattle.std.proofs.Common.{◌≡◌, ◌+◌, ◌<◌, true, length, take, get_or, add-one, arith, sym, ap, subst, ◌∙◌}
+use Rattle.std.proofs.Common.{◌≡◌, ◌<◌, true, length, take, get_or, add-one, arith, sym, ap, subst, ◌∙◌}
 use Rattle.std.proofs.Math.ListN.{set}
 use Rattle.pg_index.proofs.PropertyLemmas.{Gains, set_grows, set_pairs, one_covered, done_step}
 use Rattle.pg_index.proofs.properties.cover_each.Goals as goal

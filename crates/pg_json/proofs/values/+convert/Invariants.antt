@@ -1,4 +1,4 @@
-use Rattle.std.proofs.Common.{◌≡◌, ℕ, List, ◌++◌, Some, String, Global, drop}
+use Rattle.std.proofs.Common.{◌≡◌, List, ◌++◌, Some, String, Global, drop}
 use Rattle.serde_json.specs.View.{items_view, members_view}
 use Rattle.serde_json.specs.declared.value.Value.{Value}
 use Rattle.pg_json.specs.Given.{values_within, entries_within}

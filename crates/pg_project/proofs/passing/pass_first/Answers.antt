@@ -1,4 +1,4 @@
-use Rattle.std.proofs.Common.{◌≡◌, [], ◌++◌, map, take, sym, ap, ◌∙◌}
+use Rattle.std.proofs.Common.{◌≡◌, ◌++◌, map, take, sym, ap, ◌∙◌}
 use Rattle.std.proofs.lemmas.List.{take-map}
 use Rattle.pg_rows.specs.Left.{first_row, rows_left}
 use Rattle.pg_value_core.specs.View.{view}

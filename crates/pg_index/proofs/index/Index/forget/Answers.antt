@@ -1,4 +1,4 @@
-use Rattle.std.proofs.Common.{◌≡◌, MutBor, Option, Some, None, refl, sym, ap, ◌∙◌}
+use Rattle.std.proofs.Common.{◌≡◌, MutBor, Option, Some, None, refl, sym, ◌∙◌}
 use Rattle.std.specs.Option.{option_copied_mut}
 use Rattle.pg_index.proofs.Indexes.{nothing_there}
 use Rattle.pg_index.proofs.index.Index.forget.Goals as goal

@@ -1,5 +1,4 @@
-use Rattle.std.proofs.Common.{refl, sym, ap, ◌∙◌}
-use Rattle.std.proofs.lemmas.Result.{on_ok_weaker}
+use Rattle.std.proofs.Common.{refl, ap, ◌∙◌}
 use Rattle.pg_graph.specs.Removed.{Ids, has_id}
 use Rattle.pg_index.proofs.PropertyLemmas.{put_grows, put_there, value_grows, value_there}
 use Rattle.pg_index.proofs.properties.PropertyIndex.put.Goals as goal

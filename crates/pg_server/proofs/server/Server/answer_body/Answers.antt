@@ -1,12 +1,10 @@
-use Rattle.std.proofs.Common.{◌≡◌, ℕ, [], ◌∷◌, length, arith, Some, false, true, sym, subst, ap, ◌∙◌}
-use Rattle.std.specs.Prelude.{option_and_then}
+use Rattle.std.proofs.Common.{◌≡◌, ℕ, [], length, arith, false, sym, subst, ap, ◌∙◌}
 use Rattle.std.proofs.lemmas.Bool.{le-leb}
 use Rattle.pg_json.specs.Bodies.{request_view}
 use Rattle.pg_meaning.specs.Graph.{IsGraph}
 use Rattle.pg_meaning.specs.GraphLaws.{empty_is_graph}
 use Rattle.pg_server.specs.Frames.{body_limit}
 use Rattle.pg_server.specs.Handles.{AddsNames, Handles, LooksUp, key_asked}
-use Rattle.pg_server.specs.Runs.{asked, is_short}
 use Rattle.pg_server.specs.Settings.{all_tokens}
 use Rattle.pg_server.specs.State.{ServerState, settings_of, state_at}
 use Rattle.pg_server.specs.Step.{Answers}

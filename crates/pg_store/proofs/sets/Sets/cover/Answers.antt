@@ -1,4 +1,4 @@
-use Rattle.std.proofs.Common.{◌≡◌, Some, None, OnOk, true, refl, sym, ap, subst, ◌∙◌}
+use Rattle.std.proofs.Common.{◌≡◌, Some, None, true, refl, subst}
 use Rattle.std.proofs.lemmas.Result.{on_ok_weaker}
 use Rattle.pg_store.proofs.SetLemmas.{label_grows, label_there, all_grows, all_there}
 use Rattle.pg_store.proofs.sets.Sets.cover.Goals as goal

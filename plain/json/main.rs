@@ -164,9 +164,8 @@ fn main() {
         let start = Instant::now();
         let (len, time) = if kind == "request" {
             let request = read_request(body.as_bytes()).unwrap();
-            let time = start.elapsed();
             drop(request);
-            (body.len(), time)
+            (body.len(), start.elapsed())
         } else {
             let text = write_reply(&columns, &rows, size as u64);
             let time = start.elapsed();

@@ -7,6 +7,8 @@ mod work;
 use anyhow::anyhow;
 use pg_json::{RequestScratch, read_request};
 use pg_meaning::Fault;
+use pg_value_core::Out;
+use std::alloc::Global;
 use std::env;
 use std::time::Instant;
 use work::{reply, request, rows};
@@ -34,13 +36,22 @@ fn small(rt: &HostRuntime) -> anyhow::Result<()> {
     let alloc = rt.alloc();
     for kind in ["mixed", "integers", "texts"] {
         let rows = rows(alloc, kind, 3).map_err(refused)?;
-        let bytes = reply(alloc, &rows).map_err(refused)?;
-        println!(rt; "{kind}: {} bytes", bytes.len())?;
+        println!(rt; "{kind}: {} bytes", length_of_reply(alloc, &rows)?)?;
     }
     let body = request(alloc, 3).map_err(refused)?;
-    let mut scratch = RequestScratch::new(alloc);
-    drop(read_request(alloc, &mut scratch, body.as_bytes()).map_err(refused)?);
+    read(alloc, &mut RequestScratch::new(alloc), body.as_str())?;
     println!(rt; "request: {} bytes", body.len())?;
+    Ok(())
+}
+
+fn length_of_reply(alloc: Global, rows: &[Vec<Out>]) -> anyhow::Result<usize> {
+    let bytes = reply(alloc, rows).map_err(refused)?;
+    Ok(bytes.len())
+}
+
+fn read(alloc: Global, scratch: &mut RequestScratch, body: &str) -> anyhow::Result<()> {
+    let request = read_request(alloc, scratch, body.as_bytes()).map_err(refused)?;
+    drop(request);
     Ok(())
 }
 
@@ -50,11 +61,20 @@ fn measure(rt: &HostRuntime, kind: &str, size: u32, times: u32) -> anyhow::Resul
     }
     let alloc = rt.alloc();
     let rows = rows(alloc, kind, size).map_err(refused)?;
+    measure_writing(rt, kind, &rows, times)
+}
+
+fn measure_writing(
+    rt: &HostRuntime,
+    kind: &str,
+    rows: &[Vec<Out>],
+    times: u32,
+) -> anyhow::Result<()> {
     for _ in 0..times {
         let start = Instant::now(rt)?;
-        let bytes = reply(alloc, &rows).map_err(refused)?;
+        let length = length_of_reply(rt.alloc(), rows)?;
         let time = start.elapsed(rt)?;
-        println!(rt; "{kind} {} {}", bytes.len(), time.as_micros())?;
+        println!(rt; "{kind} {} {}", length, time.as_micros())?;
     }
     Ok(())
 }
@@ -62,13 +82,20 @@ fn measure(rt: &HostRuntime, kind: &str, size: u32, times: u32) -> anyhow::Resul
 fn measure_reading(rt: &HostRuntime, size: u32, times: u32) -> anyhow::Result<()> {
     let alloc = rt.alloc();
     let body = request(alloc, size).map_err(refused)?;
-    let mut scratch = RequestScratch::new(alloc);
+    measure_requests(rt, &mut RequestScratch::new(alloc), body.as_str(), times)
+}
+
+fn measure_requests(
+    rt: &HostRuntime,
+    scratch: &mut RequestScratch,
+    body: &str,
+    times: u32,
+) -> anyhow::Result<()> {
     for _ in 0..times {
         let start = Instant::now(rt)?;
-        let request = read_request(alloc, &mut scratch, body.as_bytes()).map_err(refused)?;
+        read(rt.alloc(), scratch, body)?;
         let time = start.elapsed(rt)?;
         println!(rt; "request {} {}", body.len(), time.as_micros())?;
-        drop(request);
     }
     Ok(())
 }

@@ -1,4 +1,6 @@
 //! Each kind of work of tables and of a store, one after the other, timed.
+ghost use Rattle.std.specs.Prelude.{◌≡◌};
+ghost use Rattle.pg_graph.specs.Content.{empty_content};
 ghost use Rattle.pg_store.specs.Stores.{IsFit};
 
 use crate::report::Report;
@@ -23,24 +25,50 @@ where
     let schema = Schema::new(alloc)?;
     let mut shared = T::new_shared(alloc);
     let mut tables = T::new(alloc, 0);
+    measure_empty(alloc, report, &mut tables, &mut shared, &schema, count)
+}
+
+fn measure_empty<T: Tables>(
+    alloc: Global,
+    report: &Report<'_>,
+    tables: &mut T,
+    shared: &mut T::Shared,
+    schema: &Schema,
+    count: u64,
+) -> anyhow::Result<()>
+    requires fits { T.seen.fits tables.old shared.old }
+    requires empty { T.seen.content tables.old shared.old ≡ empty_content }
+{
     report.memory("nothing")?;
     let start = report.start()?;
-    fill(alloc, &mut tables, &mut shared, &schema, count)?;
+    fill(alloc, tables, shared, schema, count)?;
     report.took(&start, "add")?;
     report.memory("add")?;
+    measure_finding(report, tables, shared, schema, count)?;
     let start = report.start()?;
-    let total = sum(&tables, &shared, &schema, count, 1);
+    join(alloc, tables, shared, schema, count)?;
+    report.took(&start, "join")?;
+    report.memory("join")?;
+    report.found(degrees(tables, shared, count), "join")
+}
+
+fn measure_finding<T: Tables>(
+    report: &Report<'_>,
+    tables: &T,
+    shared: &T::Shared,
+    schema: &Schema,
+    count: u64,
+) -> anyhow::Result<()>
+    requires fits { T.seen.fits tables.now shared.now }
+{
+    let start = report.start()?;
+    let total = sum(tables, shared, schema, count, 1);
     report.took(&start, "find in order")?;
     report.found(total, "find in order")?;
     let start = report.start()?;
-    let total = sum(&tables, &shared, &schema, count, JUMP);
+    let total = sum(tables, shared, schema, count, JUMP);
     report.took(&start, "find in jumps")?;
-    report.found(total, "find in jumps")?;
-    let start = report.start()?;
-    join(alloc, &mut tables, &mut shared, &schema, count)?;
-    report.took(&start, "join")?;
-    report.memory("join")?;
-    report.found(degrees(&tables, &shared, count), "join")
+    report.found(total, "find in jumps")
 }
 
 /// A store is filled, read, changed, taken back and emptied.
@@ -54,11 +82,23 @@ where
 {
     let mut shared = Shared::new(alloc, T::new_shared(alloc));
     let mut store = Store::<T>::new(alloc, 0);
-    measure_additions(alloc, report, &mut store, &mut shared, count)?;
-    measure_reads(report, &store, &shared, count)?;
-    measure_index(alloc, report, &mut store, &mut shared, count)?;
-    measure_undo(alloc, report, &mut store, &mut shared, count)?;
-    measure_removals(report, &mut store, &mut shared, count)
+    measure_new(alloc, report, &mut store, &mut shared, count)
+}
+
+fn measure_new<T: Tables>(
+    alloc: Global,
+    report: &Report<'_>,
+    store: &mut Store<T>,
+    shared: &mut Shared<T::Shared>,
+    count: u64,
+) -> anyhow::Result<()>
+    requires fit { IsFit T.seen store.old shared.old }
+{
+    measure_additions(alloc, report, store, shared, count)?;
+    measure_reads(report, store, shared, count)?;
+    measure_index(alloc, report, store, shared, count)?;
+    measure_undo(alloc, report, store, shared, count)?;
+    measure_removals(report, store, shared, count)
 }
 
 fn measure_additions<T: Tables>(

@@ -22,10 +22,10 @@ pub struct Schema {
 
 impl Schema {
     pub fn new(alloc: Global) -> Result<Schema, AllocError> {
-        let mut names: Names<BuildHasherDefault<FoldHasher>> = Names::new(
-            alloc,
-            BuildHasherDefault::new(),
-        );
+        Schema::of(&mut Names::new(alloc, BuildHasherDefault::new()))
+    }
+
+    fn of(names: &mut Names<BuildHasherDefault<FoldHasher>>) -> Result<Schema, AllocError> {
         Ok(Schema {
             label: names.intern("Person")?,
             kind: names.intern("KNOWS")?,

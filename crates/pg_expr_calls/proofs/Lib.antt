@@ -7,3 +7,4 @@ pub mod Numerals
 pub mod Paths
 pub mod RangeCounts
 pub mod RangeSteps
+pub mod Sums

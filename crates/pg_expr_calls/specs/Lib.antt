@@ -1,2 +1,3 @@
 pub mod Elements
 pub mod Ranges
+pub mod Sums

@@ -1,9 +1,10 @@
 //! What `+` gives: sums, joined texts, and lists joined or with one item more.
 
-ghost use Rattle.std.specs.Prelude.{◌≡◌, ◌≢◌, IfOk, IfErr, Ok, Err, ◌++◌, string_bytes};
+ghost use Rattle.std.specs.Prelude.{◌≡◌, ◌≢◌, IfOk, IfErr, Ok, Err, true, ◌++◌, string_bytes};
+ghost use Rattle.pg_expr_calls.specs.Sums.{have_no_sum};
 ghost use Rattle.pg_meaning.specs.Arithmetic.{plus, appended};
 ghost use Rattle.pg_meaning.specs.Measure.{made};
-ghost use Rattle.pg_meaning.specs.Value.{text, list, item, no_items};
+ghost use Rattle.pg_meaning.specs.Value.{integer, text, list, item, no_items};
 ghost use Rattle.pg_meaning.specs.declared.fault.Fault.TheVariants.{OutOfMemory};
 ghost use Rattle.pg_value_core.specs.View.{view, values_view};
 
@@ -11,21 +12,63 @@ use crate::limits::made;
 use pg_value_core::{Fault, Value};
 
 /// `v + w`.
-#[tactic(auto, using(crate::proofs::Checked::in_sum))]
 pub fn plus(v: Value, w: Value) -> Result<Value, Fault>
     ensures ok { IfOk result (λ u. plus (view v) (view w) ≡ Ok (view u)) }
     ensures err { IfErr result (λ e. e ≢ OutOfMemory → plus (view v) (view w) ≡ Err e) }
 {
-    match (v, w) {
-        (Value::Null, _) | (_, Value::Null) => Ok(Value::Null),
-        (Value::Int(x), Value::Int(y)) => match x.checked_add(y) {
+    match v {
+        Value::Null => Ok(Value::Null),
+        Value::Int(x) => integer_plus(x, w),
+        Value::Text(s) => text_plus(s, w),
+        Value::List(xs) => list_plus(xs, w),
+        v => other_plus(v, w),
+    }
+}
+
+#[tactic(auto, using(crate::proofs::Checked::in_sum))]
+fn integer_plus(x: i64, w: Value) -> Result<Value, Fault>
+    ensures ok { IfOk result (λ u. plus (integer x) (view w) ≡ Ok (view u)) }
+    ensures err { IfErr result (λ e. e ≢ OutOfMemory → plus (integer x) (view w) ≡ Err e) }
+{
+    match w {
+        Value::Int(y) => match x.checked_add(y) {
             Some(n) => Ok(Value::Int(n)),
             None => Err(Fault::Overflow),
         },
-        (Value::Text(s), Value::Text(t)) => join_texts(s, t.as_str()),
-        (Value::List(xs), Value::List(ys)) => join_lists(xs, ys),
-        (Value::List(xs), w) => append(xs, w),
-        (v, Value::List(ys)) => prepend(v, ys),
+        w => other_plus(Value::Int(x), w),
+    }
+}
+
+fn text_plus(s: String, w: Value) -> Result<Value, Fault>
+    ensures ok { IfOk result (λ u. plus (text (string_bytes s)) (view w) ≡ Ok (view u)) }
+    ensures err { IfErr result (λ e. e ≢ OutOfMemory → plus (text (string_bytes s)) (view w) ≡ Err e) }
+{
+    match w {
+        Value::Text(t) => join_texts(s, t.as_str()),
+        w => other_plus(Value::Text(s), w),
+    }
+}
+
+fn list_plus(xs: Vec<Value>, w: Value) -> Result<Value, Fault>
+    ensures ok { IfOk result (λ u. plus (list (values_view xs.items)) (view w) ≡ Ok (view u)) }
+    ensures err { IfErr result (λ e. e ≢ OutOfMemory → plus (list (values_view xs.items)) (view w) ≡ Err e) }
+{
+    match w {
+        Value::Null => Ok(Value::Null),
+        Value::List(ys) => join_lists(xs, ys),
+        w => append(xs, w),
+    }
+}
+
+/// `v + w` of values that have no sum of their own, where `v` can only go before a list.
+fn other_plus(v: Value, w: Value) -> Result<Value, Fault>
+    requires { have_no_sum (view v) (view w) ≡ true }
+    ensures ok { IfOk result (λ u. plus (view v) (view w) ≡ Ok (view u)) }
+    ensures err { IfErr result (λ e. e ≢ OutOfMemory → plus (view v) (view w) ≡ Err e) }
+{
+    match w {
+        Value::Null => Ok(Value::Null),
+        Value::List(ys) => prepend(v, ys),
         _ => Err(Fault::TypeFault),
     }
 }

@@ -1,3 +1,4 @@
 pub mod CodeLemmas
+pub mod CodeSteps
 pub mod IndexLemmas
 pub mod TreeLemmas

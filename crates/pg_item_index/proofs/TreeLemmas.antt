@@ -1,5 +1,6 @@
--- Lists of other lengths are not the same.
-use Rattle.std.proofs.Common.{◌≡◌, suc, Bool, true, false, List, [], ◌∷◌, map, length, refl, ap, ◌∙◌}
+-- Lists of other lengths are not the same; and one step on through two lists that are compared.
+use Rattle.std.proofs.Common.{◌≡◌, ℕ, suc, ◌+◌, ◌<◌, Bool, true, false, List, [], ◌∷◌, map, length, drop, get_or, refl, sym, ap, ◌∙◌}
+use Rattle.std.proofs.lemmas.List.{drop_more}
 use Rattle.std.specs.Prelude.{◌≢◌, ◌&&◌}
 use Rattle.std.specs.Bool.{beq}
 use Rattle.pg_meaning.specs.Parse.{expressions_of, operands_of, pairs_of, whens_of}
@@ -18,72 +19,143 @@ and_false : (a b : Bool) → b ≡ false → (a && b) ≡ false
 and_false true b e = e
 and_false false b e = refl
 
-module _ {X : Type 0} (same : X → X → Bool) (all : List X → List X → Bool) (fewer : (y : X) (ys : List X) → all [] (y ∷ ys) ≡ false) (more : (x : X) (xs : List X) → all (x ∷ xs) [] ≡ false)
-    (step : (x y : X) (xs ys : List X) → all (x ∷ xs) (y ∷ ys) ≡ (same x y && all xs ys)) where
-  other_lengths : (xs ys : List X) → length xs ≢ length ys → all xs ys ≡ false
+-- what `a && b` gives, by its branches
+pub and_then : {a b v : Bool} → a ≡ true → v ≡ b → v ≡ (a && b)
+and_then {a} {b} e h = h ∙ ap (λ x. x && b) (sym e)
+
+pub and_else : {a v : Bool} (b : Bool) → a ≡ false → v ≡ a → v ≡ (a && b)
+and_else b e h = h ∙ e ∙ ap (λ x. x && b) (sym e)
+
+-- how two lists are compared: item by item
+pub record Compared (X : Type 0) : Type 0 where
+  pub same : X → X → Bool
+  pub all : List X → List X → Bool
+  pub fewer : (y : X) (ys : List X) → all [] (y ∷ ys) ≡ false
+  pub more : (x : X) (xs : List X) → all (x ∷ xs) [] ≡ false
+  pub step : (x y : X) (xs ys : List X) → all (x ∷ xs) (y ∷ ys) ≡ (same x y && all xs ys)
+
+module _ {X : Type 0} (k : Compared X) where
+  other_lengths : (xs ys : List X) → length xs ≢ length ys → k.all xs ys ≡ false
   other_lengths [] [] n = absurd (n refl)
-  other_lengths [] (y ∷ ys) n = fewer y ys
-  other_lengths (x ∷ xs) [] n = more x xs
-  other_lengths (x ∷ xs) (y ∷ ys) n = step x y xs ys ∙ and_false (same x y) (all xs ys) (other_lengths xs ys (λ e. n (ap suc e)))
+  other_lengths [] (y ∷ ys) n = k.fewer y ys
+  other_lengths (x ∷ xs) [] n = k.more x xs
+  other_lengths (x ∷ xs) (y ∷ ys) n = k.step x y xs ys ∙ and_false (k.same x y) (k.all xs ys) (other_lengths xs ys (λ e. n (ap suc e)))
+
+  step_at : (xs ys : List X) (i : ℕ) (x y : X) → i < length xs → i < length ys → x ≡ get_or xs i x → y ≡ get_or ys i y
+      → k.all (drop i xs) (drop i ys) ≡ (k.same x y && k.all (drop (i + 1) xs) (drop (i + 1) ys))
+  step_at xs ys i x y p q e f =
+      ap (λ zs. k.all zs (drop i ys)) (drop_more xs i x p ∙ ap (λ v. v ∷ drop (i + 1) xs) (sym e))
+      ∙ ap (k.all (x ∷ drop (i + 1) xs)) (drop_more ys i y q ∙ ap (λ v. v ∷ drop (i + 1) ys) (sym f))
+      ∙ k.step x y (drop (i + 1) xs) (drop (i + 1) ys)
+
+  -- the two items are the same: the rest decides
+  pub same_here : {whole : Bool} (xs ys : List X) (i : ℕ) (x y : X) → i < length xs → i < length ys → x ≡ get_or xs i x → y ≡ get_or ys i y
+      → true ≡ k.same x y → whole ≡ k.all (drop i xs) (drop i ys) → whole ≡ k.all (drop (i + 1) xs) (drop (i + 1) ys)
+  same_here xs ys i x y p q e f s w = w ∙ step_at xs ys i x y p q e f ∙ ap (λ b. b && k.all (drop (i + 1) xs) (drop (i + 1) ys)) (sym s)
+
+  -- the two items are not the same: nor are the lists
+  pub other_here : {whole : Bool} (xs ys : List X) (i : ℕ) (x y : X) → i < length xs → i < length ys → x ≡ get_or xs i x → y ≡ get_or ys i y
+      → false ≡ k.same x y → whole ≡ k.all (drop i xs) (drop i ys) → false ≡ whole
+  other_here xs ys i x y p q e f s w = sym (w ∙ step_at xs ys i x y p q e f ∙ ap (λ b. b && k.all (drop (i + 1) xs) (drop (i + 1) ys)) (sym s))
+
+abbrev pub names : Compared Name
+names = record { same = λ x y. same_name (name_view x) (name_view y); all = λ xs ys. same_names (names_view xs) (names_view ys); fewer = λ y ys. refl; more = λ x xs. refl; step = λ x y xs ys. refl }
 
 pub other_names : (xs ys : List Name) → length xs ≢ length ys → same_names (names_view xs) (names_view ys) ≡ false
-other_names = other_lengths (λ x y. same_name (name_view x) (name_view y)) (λ xs ys. same_names (names_view xs) (names_view ys)) (λ y ys. refl) (λ x xs. refl) (λ x y xs ys. refl)
+other_names = other_lengths names
+
+abbrev pub flags : Compared Bool
+flags = record { same = beq; all = same_flags; fewer = λ y ys. refl; more = λ x xs. refl; step = λ x y xs ys. refl }
 
 pub other_flags : (xs ys : List Bool) → length xs ≢ length ys → same_flags xs ys ≡ false
-other_flags = other_lengths beq same_flags (λ y ys. refl) (λ x xs. refl) (λ x y xs ys. refl)
+other_flags = other_lengths flags
+
+abbrev pub expressions : Compared Expression
+expressions = record {
+  same = λ x y. same_expression (expression_view x) (expression_view y);
+  all = λ xs ys. same_expressions (expressions_of (map expression_view xs)) (expressions_of (map expression_view ys));
+  fewer = λ y ys. refl;
+  more = λ x xs. refl;
+  step = λ x y xs ys. refl;
+}
 
 pub other_expressions : (xs ys : List Expression) → length xs ≢ length ys → same_expressions (expressions_of (map expression_view xs)) (expressions_of (map expression_view ys)) ≡ false
-other_expressions =
-    other_lengths (λ x y. same_expression (expression_view x) (expression_view y)) (λ xs ys. same_expressions (expressions_of (map expression_view xs)) (expressions_of (map expression_view ys)))
-    (λ y ys. refl) (λ x xs. refl) (λ x y xs ys. refl)
+other_expressions = other_lengths expressions
+
+abbrev pub pairs : Compared (Name × Expression)
+pairs = record {
+  same = λ x y. same_name (name_view x.0) (name_view y.0) && same_expression (expression_view x.1) (expression_view y.1);
+  all = λ xs ys. same_pairs (pairs_of (map pair_view xs)) (pairs_of (map pair_view ys));
+  fewer = λ y ys. refl;
+  more = λ x xs. refl;
+  step = λ x y xs ys. refl;
+}
 
 pub other_pairs : (xs ys : List (Name × Expression)) → length xs ≢ length ys → same_pairs (pairs_of (map pair_view xs)) (pairs_of (map pair_view ys)) ≡ false
-other_pairs =
-    other_lengths (λ x y. same_name (name_view x.0) (name_view y.0) && same_expression (expression_view x.1) (expression_view y.1)) (λ xs ys. same_pairs (pairs_of (map pair_view xs)) (pairs_of (map pair_view ys)))
-    (λ y ys. refl) (λ x xs. refl) (λ x y xs ys. refl)
+other_pairs = other_lengths pairs
+
+abbrev pub whens : Compared (Expression × Expression)
+whens = record {
+  same = λ x y. same_expression (expression_view x.0) (expression_view y.0) && same_expression (expression_view x.1) (expression_view y.1);
+  all = λ xs ys. same_whens (whens_of (map when_view xs)) (whens_of (map when_view ys));
+  fewer = λ y ys. refl;
+  more = λ x xs. refl;
+  step = λ x y xs ys. refl;
+}
 
 pub other_whens : (xs ys : List (Expression × Expression)) → length xs ≢ length ys → same_whens (whens_of (map when_view xs)) (whens_of (map when_view ys)) ≡ false
-other_whens =
-    other_lengths (λ x y. same_expression (expression_view x.0) (expression_view y.0) && same_expression (expression_view x.1) (expression_view y.1)) (λ xs ys. same_whens (whens_of (map when_view xs)) (whens_of (map when_view ys)))
-    (λ y ys. refl) (λ x xs. refl) (λ x y xs ys. refl)
+other_whens = other_lengths whens
+
+abbrev pub operands : Compared (Operator × Expression)
+operands = record {
+  same = λ x y. same_operator x.0 y.0 && same_expression (expression_view x.1) (expression_view y.1);
+  all = λ xs ys. same_operands (operands_of (map operand_view xs)) (operands_of (map operand_view ys));
+  fewer = λ y ys. refl;
+  more = λ x xs. refl;
+  step = λ x y xs ys. refl;
+}
 
 pub other_operands : (xs ys : List (Operator × Expression)) → length xs ≢ length ys → same_operands (operands_of (map operand_view xs)) (operands_of (map operand_view ys)) ≡ false
-other_operands =
-    other_lengths (λ x y. same_operator x.0 y.0 && same_expression (expression_view x.1) (expression_view y.1)) (λ xs ys. same_operands (operands_of (map operand_view xs)) (operands_of (map operand_view ys)))
-    (λ y ys. refl) (λ x xs. refl) (λ x y xs ys. refl)
+other_operands = other_lengths operands
 
-test_step : (x y : Test Expression) (xs ys : List (Test Expression))
+pub test_step : (x y : Test Expression) (xs ys : List (Test Expression))
     → same_tests (tests_of (map test_view (x ∷ xs))) (tests_of (map test_view (y ∷ ys))) ≡ (is_same_test x y && same_tests (tests_of (map test_view xs)) (tests_of (map test_view ys)))
 test_step (test.Text t x) (test.Text u y) xs ys = refl
 test_step (test.Text t x) (test.IsNull c) xs ys = refl
 test_step (test.IsNull b) (test.Text u y) xs ys = refl
 test_step (test.IsNull b) (test.IsNull c) xs ys = refl
 
-tests_end : (x : Test Expression) (xs : List (Test Expression)) → same_tests (tests_of (map test_view (x ∷ xs))) (tests_of (map test_view [])) ≡ false
+pub tests_end : (x : Test Expression) (xs : List (Test Expression)) → same_tests (tests_of (map test_view (x ∷ xs))) (tests_of (map test_view [])) ≡ false
 tests_end (test.Text t x) xs = refl
 tests_end (test.IsNull b) xs = refl
 
-tests_begin : (x : Test Expression) (xs : List (Test Expression)) → same_tests (tests_of (map test_view [])) (tests_of (map test_view (x ∷ xs))) ≡ false
+pub tests_begin : (x : Test Expression) (xs : List (Test Expression)) → same_tests (tests_of (map test_view [])) (tests_of (map test_view (x ∷ xs))) ≡ false
 tests_begin (test.Text t x) xs = refl
 tests_begin (test.IsNull b) xs = refl
 
-pub other_tests : (xs ys : List (Test Expression)) → length xs ≢ length ys → same_tests (tests_of (map test_view xs)) (tests_of (map test_view ys)) ≡ false
-other_tests = other_lengths is_same_test (λ xs ys. same_tests (tests_of (map test_view xs)) (tests_of (map test_view ys))) tests_begin tests_end test_step
+abbrev pub tests : Compared (Test Expression)
+tests = record { same = is_same_test; all = λ xs ys. same_tests (tests_of (map test_view xs)) (tests_of (map test_view ys)); fewer = tests_begin; more = tests_end; step = test_step }
 
-suffix_step : (x y : Suffix Expression) (xs ys : List (Suffix Expression))
+pub other_tests : (xs ys : List (Test Expression)) → length xs ≢ length ys → same_tests (tests_of (map test_view xs)) (tests_of (map test_view ys)) ≡ false
+other_tests = other_lengths tests
+
+pub suffix_step : (x y : Suffix Expression) (xs ys : List (Suffix Expression))
     → same_suffixes (suffixes_of (map suffix_view (x ∷ xs))) (suffixes_of (map suffix_view (y ∷ ys))) ≡ (is_same_suffix x y && same_suffixes (suffixes_of (map suffix_view xs)) (suffixes_of (map suffix_view ys)))
 suffix_step (suffix.Property n) (suffix.Property m) xs ys = refl
 suffix_step (suffix.Property n) (suffix.Index y) xs ys = refl
 suffix_step (suffix.Index x) (suffix.Property m) xs ys = refl
 suffix_step (suffix.Index x) (suffix.Index y) xs ys = refl
 
-suffixes_end : (x : Suffix Expression) (xs : List (Suffix Expression)) → same_suffixes (suffixes_of (map suffix_view (x ∷ xs))) (suffixes_of (map suffix_view [])) ≡ false
+pub suffixes_end : (x : Suffix Expression) (xs : List (Suffix Expression)) → same_suffixes (suffixes_of (map suffix_view (x ∷ xs))) (suffixes_of (map suffix_view [])) ≡ false
 suffixes_end (suffix.Property n) xs = refl
 suffixes_end (suffix.Index x) xs = refl
 
-suffixes_begin : (x : Suffix Expression) (xs : List (Suffix Expression)) → same_suffixes (suffixes_of (map suffix_view [])) (suffixes_of (map suffix_view (x ∷ xs))) ≡ false
+pub suffixes_begin : (x : Suffix Expression) (xs : List (Suffix Expression)) → same_suffixes (suffixes_of (map suffix_view [])) (suffixes_of (map suffix_view (x ∷ xs))) ≡ false
 suffixes_begin (suffix.Property n) xs = refl
 suffixes_begin (suffix.Index x) xs = refl
 
+abbrev pub suffixes : Compared (Suffix Expression)
+suffixes = record { same = is_same_suffix; all = λ xs ys. same_suffixes (suffixes_of (map suffix_view xs)) (suffixes_of (map suffix_view ys)); fewer = suffixes_begin; more = suffixes_end; step = suffix_step }
+
 pub other_suffixes : (xs ys : List (Suffix Expression)) → length xs ≢ length ys → same_suffixes (suffixes_of (map suffix_view xs)) (suffixes_of (map suffix_view ys)) ≡ false
-other_suffixes = other_lengths is_same_suffix (λ xs ys. same_suffixes (suffixes_of (map suffix_view xs)) (suffixes_of (map suffix_view ys))) suffixes_begin suffixes_end suffix_step
+other_suffixes = other_lengths suffixes

@@ -190,7 +190,9 @@ fn same_pairs(a: &Vec<(Name, Expression)>, b: &Vec<(Name, Expression)>) -> bool
         return false;
     }
     for i in 0..a.len() {
-        if !(same_name(&a[i].0, &b[i].0) && same_expression(&a[i].1, &b[i].1)) {
+        let (n, x) = &a[i];
+        let (m, y) = &b[i];
+        if !(same_name(n, m) && same_expression(x, y)) {
             return false;
         }
     }
@@ -206,7 +208,9 @@ fn same_whens(a: &Vec<(Expression, Expression)>, b: &Vec<(Expression, Expression
         return false;
     }
     for i in 0..a.len() {
-        if !(same_expression(&a[i].0, &b[i].0) && same_expression(&a[i].1, &b[i].1)) {
+        let (condition, x) = &a[i];
+        let (other, y) = &b[i];
+        if !(same_expression(condition, other) && same_expression(x, y)) {
             return false;
         }
     }
@@ -222,7 +226,9 @@ fn same_operands(a: &Vec<(Operator, Expression)>, b: &Vec<(Operator, Expression)
         return false;
     }
     for i in 0..a.len() {
-        if !(a[i].0 == b[i].0 && same_expression(&a[i].1, &b[i].1)) {
+        let (operator, x) = &a[i];
+        let (other, y) = &b[i];
+        if !(*operator == *other && same_expression(x, y)) {
             return false;
         }
     }

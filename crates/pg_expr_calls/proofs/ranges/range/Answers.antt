@@ -1,8 +1,8 @@
-use Rattle.std.proofs.Common.{◌≡◌, ℤ, to_z, of_z, sym, subst, arith, rules}
+use Rattle.std.proofs.Common.{◌≡◌, ℤ, to_z, of_z, ap, sym, subst, ◌∙◌, arith, rules}
 use Rattle.std.specs.Prelude.{◌-ℤ◌, FitsSigned}
 use Rattle.std.specs.Int.{w64}
-use Rattle.pg_expr_calls.proofs.RangeCounts.{all_fit}
-use Rattle.pg_meaning.specs.Functions.{steps_within}
+use Rattle.pg_expr_calls.proofs.RangeCounts.{all_fit, heavy_range}
+use Rattle.pg_meaning.specs.Functions.{range_by, steps_within}
 use Rattle.pg_expr_calls.proofs.ranges.range.Goals as goal
 
 pub integers_from-requires : goal.integers_from-requires
@@ -18,3 +18,16 @@ integers_from-requires c =
     (subst (λ (z : ℤ). FitsSigned w64 z) (sym first) c.ranges.start)
     (subst (λ (z : ℤ). FitsSigned w64 z) (sym last) c.ranges.end)
     count
+
+pub returns-then-step-eq0-clause-err : goal.returns-then-step-eq0-clause-err
+returns-then-step-eq0-clause-err c =
+    let same : to_z w64 (of_z w64 c.args.step) ≡ c.args.step = search rules in
+    λ _. ap (range_by c.args.start c.args.end) (sym same ∙ ap (to_z w64) c.if-step-eq0.true)
+
+pub returns-then-count-ge-GREATEST_WEIGHT-clause-err : goal.returns-then-count-ge-GREATEST_WEIGHT-clause-err
+returns-then-count-ge-GREATEST_WEIGHT-clause-err c =
+    let start = to_z w64 (of_z w64 c.args.start) in
+    let end = to_z w64 (of_z w64 c.args.end) in
+    let step = to_z w64 (of_z w64 c.args.step) in
+    let same : steps_within (end -ℤ start) step ≡ steps_within (c.args.end -ℤ c.args.start) c.args.step = search rules in
+    λ _. heavy_range c.args.start c.args.end c.args.step (λ zero. c.if-step-eq0.false (ap (of_z w64) zero)) (omega (arith, same, c.steps_within-count.ensures, c.if-count-ge-GREATEST_WEIGHT.true))

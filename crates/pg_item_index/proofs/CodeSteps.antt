@@ -1,0 +1,48 @@
+-- One item more of a list whose bytes are put behind those that were found.
+use Rattle.std.proofs.Common.{◌≡◌, ℕ, ◌+◌, ◌<◌, List, ◌∷◌, map, length, drop, get_or, refl, sym, ap, ◌∙◌}
+use Rattle.std.proofs.lemmas.List.{drop_more}
+use Rattle.pg_item_index.specs.Codes.{with_byte, byte_of_operator, with_expression, with_expressions, with_whens, with_operands, with_tests, with_suffixes, with_test, with_suffix}
+use Rattle.pg_meaning.specs.Parse.{expressions_of, operands_of, whens_of}
+use Rattle.pg_meaning.specs.declared.operators.Operator.{Operator}
+use Rattle.pg_syntax_tree.specs.View.{expression_view, suffixes_of, tests_of, when_view, operand_view, test_view, suffix_view}
+use Rattle.pg_syntax_tree.specs.declared.expression.Expression.{Expression}
+use Rattle.pg_syntax_tree.specs.declared.expression.Suffix.{Suffix}
+use Rattle.pg_syntax_tree.specs.declared.expression.Suffix.TheVariants as suffix
+use Rattle.pg_syntax_tree.specs.declared.expression.Test.{Test}
+use Rattle.pg_syntax_tree.specs.declared.expression.Test.TheVariants as test
+
+-- how a list is written: item by item
+pub record Written (X : Type 0) : Type 0 where
+  pub one : X → List ℕ → List ℕ
+  pub all : List X → List ℕ → List ℕ
+  pub step : (x : X) (xs : List X) (code : List ℕ) → all (x ∷ xs) code ≡ all xs (one x code)
+
+module _ {X : Type 0} (k : Written X) where
+  pub written_here : {code next whole : List ℕ} (xs : List X) (i : ℕ) (x : X) → i < length xs → x ≡ get_or xs i x → next ≡ k.one x code
+      → k.all (drop i xs) code ≡ whole → k.all (drop (i + 1) xs) next ≡ whole
+  written_here {code} xs i x p e s w =
+      ap (k.all (drop (i + 1) xs)) s ∙ sym (k.step x (drop (i + 1) xs) code)
+      ∙ ap (λ zs. k.all zs code) (ap (λ v. v ∷ drop (i + 1) xs) e ∙ sym (drop_more xs i x p)) ∙ w
+
+abbrev pub expressions : Written Expression
+expressions = record { one = λ x. with_expression (expression_view x); all = λ xs. with_expressions (expressions_of (map expression_view xs)); step = λ x xs code. refl }
+
+abbrev pub whens : Written (Expression × Expression)
+whens = record { one = λ x code. with_expression (expression_view x.1) (with_expression (expression_view x.0) code); all = λ xs. with_whens (whens_of (map when_view xs)); step = λ x xs code. refl }
+
+abbrev pub operands : Written (Operator × Expression)
+operands = record { one = λ x code. with_expression (expression_view x.1) (with_byte (byte_of_operator x.0) code); all = λ xs. with_operands (operands_of (map operand_view xs)); step = λ x xs code. refl }
+
+pub test_step : (x : Test Expression) (xs : List (Test Expression)) (code : List ℕ) → with_tests (tests_of (map test_view (x ∷ xs))) code ≡ with_tests (tests_of (map test_view xs)) (with_test x code)
+test_step (test.Text t x) xs code = refl
+test_step (test.IsNull b) xs code = refl
+
+abbrev pub tests : Written (Test Expression)
+tests = record { one = with_test; all = λ xs. with_tests (tests_of (map test_view xs)); step = test_step }
+
+pub suffix_step : (x : Suffix Expression) (xs : List (Suffix Expression)) (code : List ℕ) → with_suffixes (suffixes_of (map suffix_view (x ∷ xs))) code ≡ with_suffixes (suffixes_of (map suffix_view xs)) (with_suffix x code)
+suffix_step (suffix.Property n) xs code = refl
+suffix_step (suffix.Index x) xs code = refl
+
+abbrev pub suffixes : Written (Suffix Expression)
+suffixes = record { one = with_suffix; all = λ xs. with_suffixes (suffixes_of (map suffix_view xs)); step = suffix_step }

@@ -1,5 +1,5 @@
 -- One answer after the other, from what is there and what is left.
-use Rattle.std.proofs.Common.{◌≡◌, ◌⊎◌, inl, inr, ℕ, zero, suc, ◌+◌, ◌<◌, ◌≤◌, min, Bool, true, false, List, [], ◌∷◌, ◌++◌, map, length, take, drop, get_or, set, Result, Ok, Err, Some, refl, sym, ap, ◌∙◌, arith, add-one}
+use Rattle.std.proofs.Common.{◌≡◌, ◌⊎◌, inl, inr, ℕ, zero, suc, ◌+◌, ◌<◌, ◌≤◌, min, Bool, true, false, List, [], ◌∷◌, ◌++◌, map, length, take, drop, get_or, set, Result, Ok, Err, Some, refl, sym, ap, ◌∙◌, arith, add-one, append-nil}
 use Rattle.std.proofs.Math.Seq.{drop-cons}
 use Rattle.std.proofs.lemmas.List.{append_assoc, take_more_set, take-set-le, drop-set-lt, length-set}
 use Rattle.std.proofs.lemmas.Bool.{leb-true, leb-false}
@@ -7,7 +7,7 @@ use Rattle.std.specs.Prelude.{slice_get, nat_le}
 use Rattle.pg_group.specs.Kept.{Answers, taken_in, all_taken_in}
 use Rattle.pg_group.specs.Summaries.{Taken}
 use Rattle.pg_meaning.specs.Aggregates.{Aggregate}
-use Rattle.pg_meaning.specs.Answer.{◌>>=◌, each_step}
+use Rattle.pg_meaning.specs.Answer.{◌>>=◌, each_answer, each_step}
 use Rattle.pg_meaning.specs.declared.fault.Fault.{Fault}
 
 abbrev pub after : {Y : Type 0} → List Y → Result (List Y) Fault → Result (List Y) Fault
@@ -34,6 +34,27 @@ parts : {X : Type 0} (xs : List X) (i : ℕ) → take i xs ++ drop i xs ≡ xs
 parts xs zero = refl
 parts [] (suc i) = refl
 parts (x ∷ xs) (suc i) = ap (λ ys. x ∷ ys) (parts xs i)
+
+-- ---- answers left to right, each behind those there are
+
+module _ {X Y P Z : Type 0} (at : X → Result Y Fault) (see : P → X) (view : Z → Y) (ps : List P) (i : ℕ) where
+  module _ (found : List Z) (all : Result (List Y) Fault) (so_far : all ≡ after (map view found) (each_answer at (map see (drop i ps)))) where
+    pub next_answered : (p : P) → i < length ps → p ≡ get_or ps i p → (more : List Z) (z : Z) → at (see p) ≡ Ok (view z) → more ≡ found ++ z ∷ [] → all ≡ after (map view more) (each_answer at (map see (drop (i + 1) ps)))
+    next_answered p within is more z e front =
+        so_far
+        ∙ ap (λ qs. after (map view found) (each_answer at (map see qs))) (here ps i p within is)
+        ∙ ap (λ r. after (map view found) (r >>= λ y. each_answer at (map see (drop (i + 1) ps)) >>= λ ys. Ok (y ∷ ys))) e
+        ∙ put_behind (map view found) (view z) (each_answer at (map see (drop (i + 1) ps)))
+        ∙ ap (λ ys. after ys (each_answer at (map see (drop (i + 1) ps)))) (sym (ap (map view) front ∙ map_behind view found z))
+
+    pub fault_answered : (p : P) → i < length ps → p ≡ get_or ps i p → (f : Fault) → at (see p) ≡ Err f → all ≡ Err f
+    fault_answered p within is f e =
+        so_far
+        ∙ ap (λ qs. after (map view found) (each_answer at (map see qs))) (here ps i p within is)
+        ∙ ap (λ r. after (map view found) (r >>= λ y. each_answer at (map see (drop (i + 1) ps)) >>= λ ys. Ok (y ∷ ys))) e
+
+    pub all_answered : length ps ≤ i → all ≡ Ok (map view found)
+    all_answered none = so_far ∙ ap (λ qs. after (map view found) (each_answer at (map see qs))) (none_left ps i none) ∙ ap Ok (append-nil (map view found))
 
 -- ---- aggregates left to right, each in the place of what was kept before
 

@@ -4,6 +4,7 @@ pub mod ClauseLemmas
 pub mod CountLemmas
 pub mod CreationLemmas
 pub mod GrowthLemmas
+pub mod LoopLemmas
 pub mod NameLemmas
 pub mod ShapeLemmas
 pub mod StepLemmas

@@ -37,7 +37,7 @@ use Rattle.pg_write_make.specs.Outcomes.{Outcome, hops_made, node_of, nodes_made
 abbrev Given : Type 0
 Given = Result (Vec (Bor (List ℕ) × Value)) Fault
 
-abbrev behind : {X : Type 0} → List X → Result (Graph × List X) Fault → Result (Graph × List X) Fault
+abbrev pub behind : {X : Type 0} → List X → Result (Graph × List X) Fault → Result (Graph × List X) Fault
 behind xs r = r >>= λ made. Ok (made.0, xs ++ made.1)
 
 one_behind : {X : Type 0} (xs : List X) (x : X) (r : Result (Graph × List X) Fault) → ◌≡◌ {A = Result (Graph × List X) Fault} (behind xs (r >>= λ made. Ok (made.0, x ∷ made.1))) (behind (xs ++ x ∷ []) r)

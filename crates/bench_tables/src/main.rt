@@ -15,7 +15,8 @@ use measures::{measure_store, measure_tables};
 use pg_graph::Tables;
 use pg_pool::PooledTables;
 use pg_tables::PlainTables;
-use report::Report;
+use report::{Failure, Report};
+use std::alloc::Global;
 use std::env;
 
 fn main(rt: HostRuntime) -> anyhow::Result<()> {
@@ -36,19 +37,26 @@ where
     T::Shared: Drop,
 {
     let report = Report::new(rt, false);
-    match part {
+    let ended = match part {
         "tables" => measure_tables::<T>(rt.alloc(), &report, count),
         "store" => measure_store::<T>(rt.alloc(), &report, count),
-        _ => Err(anyhow!("'{part}' is neither tables nor store")),
-    }
+        _ => return Err(anyhow!("'{part}' is neither tables nor store")),
+    };
+    ended.map_err(told)
+}
+
+fn told(failure: Failure) -> anyhow::Error {
+    anyhow!("{}", failure.text())
 }
 
 /// A little of each kind of work.
 fn small(rt: &HostRuntime) -> anyhow::Result<()> {
-    let alloc = rt.alloc();
-    let report = Report::new(rt, true);
-    measure_tables::<PlainTables>(alloc, &report, 1000)?;
-    measure_tables::<PooledTables>(alloc, &report, 1000)?;
-    measure_store::<PlainTables>(alloc, &report, 1000)?;
-    measure_store::<PooledTables>(alloc, &report, 1000)
+    measure_small(rt.alloc(), &Report::new(rt, true)).map_err(told)
+}
+
+fn measure_small(alloc: Global, report: &Report<'_>) -> Result<(), Failure> {
+    measure_tables::<PlainTables>(alloc, report, 1000)?;
+    measure_tables::<PooledTables>(alloc, report, 1000)?;
+    measure_store::<PlainTables>(alloc, report, 1000)?;
+    measure_store::<PooledTables>(alloc, report, 1000)
 }

@@ -3,7 +3,7 @@ ghost use Rattle.std.specs.Prelude.{◌≡◌};
 ghost use Rattle.pg_graph.specs.Content.{empty_content};
 ghost use Rattle.pg_store.specs.Stores.{IsFit};
 
-use crate::report::Report;
+use crate::report::{Failure, Report};
 use crate::stores;
 use crate::work::{Schema, degrees, fill, join, sum};
 use pg_graph::Tables;
@@ -18,7 +18,7 @@ pub fn measure_tables<T: Tables>(
     alloc: Global,
     report: &Report<'_>,
     count: u64,
-) -> anyhow::Result<()>
+) -> Result<(), Failure>
 where
     T::Shared: Drop,
 {
@@ -35,7 +35,7 @@ fn measure_empty<T: Tables>(
     shared: &mut T::Shared,
     schema: &Schema,
     count: u64,
-) -> anyhow::Result<()>
+) -> Result<(), Failure>
     requires fits { T.seen.fits tables.old shared.old }
     requires empty { T.seen.content tables.old shared.old ≡ empty_content }
 {
@@ -58,7 +58,7 @@ fn measure_finding<T: Tables>(
     shared: &T::Shared,
     schema: &Schema,
     count: u64,
-) -> anyhow::Result<()>
+) -> Result<(), Failure>
     requires fits { T.seen.fits tables.now shared.now }
 {
     let start = report.start()?;
@@ -76,7 +76,7 @@ pub fn measure_store<T: Tables>(
     alloc: Global,
     report: &Report<'_>,
     count: u64,
-) -> anyhow::Result<()>
+) -> Result<(), Failure>
 where
     T::Shared: Drop,
 {
@@ -91,7 +91,7 @@ fn measure_new<T: Tables>(
     store: &mut Store<T>,
     shared: &mut Shared<T::Shared>,
     count: u64,
-) -> anyhow::Result<()>
+) -> Result<(), Failure>
     requires fit { IsFit T.seen store.old shared.old }
 {
     measure_additions(alloc, report, store, shared, count)?;
@@ -107,7 +107,7 @@ fn measure_additions<T: Tables>(
     store: &mut Store<T>,
     shared: &mut Shared<T::Shared>,
     count: u64,
-) -> anyhow::Result<()>
+) -> Result<(), Failure>
     requires fit { IsFit T.seen store.old shared.old }
     ensures fit { IsFit T.seen store.new shared.new }
 {
@@ -127,7 +127,7 @@ fn measure_reads<T: Tables>(
     store: &Store<T>,
     shared: &Shared<T::Shared>,
     count: u64,
-) -> anyhow::Result<()>
+) -> Result<(), Failure>
     requires fit { IsFit T.seen store.now shared.now }
 {
     let start = report.start()?;
@@ -154,7 +154,7 @@ fn measure_index<T: Tables>(
     store: &mut Store<T>,
     shared: &mut Shared<T::Shared>,
     count: u64,
-) -> anyhow::Result<()>
+) -> Result<(), Failure>
     requires fit { IsFit T.seen store.old shared.old }
     ensures fit { IsFit T.seen store.new shared.new }
 {
@@ -175,7 +175,7 @@ fn measure_undo<T: Tables>(
     store: &mut Store<T>,
     shared: &mut Shared<T::Shared>,
     count: u64,
-) -> anyhow::Result<()>
+) -> Result<(), Failure>
     requires fit { IsFit T.seen store.old shared.old }
     ensures fit { IsFit T.seen store.new shared.new }
 {
@@ -198,7 +198,7 @@ fn measure_removals<T: Tables>(
     store: &mut Store<T>,
     shared: &mut Shared<T::Shared>,
     count: u64,
-) -> anyhow::Result<()>
+) -> Result<(), Failure>
     requires fit { IsFit T.seen store.old shared.old }
     ensures fit { IsFit T.seen store.new shared.new }
 {

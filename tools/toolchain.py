@@ -1,4 +1,5 @@
-"""The toolchain's own command, rt, as a module: how it reads crates.txt, applies an edit, and shares out processors and memory."""
+"""The toolchain's own command, rt, as a module: how it reads crates.txt, applies an edit, and shares out processors and memory. And which
+libraries are those that rt ci left: it writes no stamp for them, so tools/test notes beside each what it was proved from."""
 import importlib.machinery
 import importlib.util
 import os
@@ -13,3 +14,34 @@ def load():
 
 
 rt = load()
+
+
+def sums_of(crates):
+    """A sum of the texts of each crate and of those below it, and of the toolchain, by the crate's name."""
+    seen = {}
+    return {it.name: rt.stamp_of(it, seen) for it in crates}
+
+
+def note_of(crate):
+    """Where the sum is noted from which rt ci proved the crate's library. What replaces the library removes it."""
+    return f"{crate.folder}/out/rlib/proved-from"
+
+
+def note_libraries(crates, sums):
+    """Notes these sums beside the libraries that rt ci left, but where a text has changed since they were taken."""
+    now = sums_of(crates)
+    for crate in crates:
+        if os.path.isdir(crate.rlib) and now[crate.name] == sums[crate.name]:
+            with open(note_of(crate), "w", encoding="utf-8") as it:
+                it.write(sums[crate.name])
+
+
+def is_of_ci(crate, sum):
+    """Whether rt ci proved this library from the texts of this sum. It may have taken what an earlier run kept, which is older than the
+    texts, so that goes by the note; where there is none, by the times."""
+    made = f"{crate.rlib}/format"
+    if not os.path.isfile(made) or os.path.isfile(f"{crate.folder}/out/rlib/stamp"):
+        return False
+    if os.path.isfile(note_of(crate)):
+        return rt.rtlib.text_of(note_of(crate)) == sum
+    return all(os.path.getmtime(it) < os.path.getmtime(made) for it in rt.rtlib.files_of(crate.folder))

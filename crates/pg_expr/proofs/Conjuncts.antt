@@ -54,5 +54,3 @@ of_chain e os h = absurd (cc)
 pub of_other_chain : (e : tree.Expression) (os : tree.Operands) → begins_conjunction os ≡ false → conjuncts (tree.chain e os) ≡ tree.chain e os ∷ []
 of_other_chain e (tree.operand And f os) h = absurd (cc)
 of_other_chain e os h = refl
-
-pub ruleset in_turn = (next_met, next_unmet, next_fault, alone, of_chain, of_other_chain)

@@ -1,7 +1,11 @@
 pub mod Applied
+pub mod ChainLemmas
 pub mod Comparisons
 pub mod Conjuncts
+pub mod ExitLemmas
 pub mod Integers
+pub mod LabelLemmas
 pub mod Presence
 pub mod RowReads
+pub mod TextListLemmas
 pub mod Walks

@@ -20,7 +20,6 @@ pub(crate) fn range_of<'a>(alloc: Global, arguments: &Vec<Found<'a>>) -> Result<
 }
 
 /// The integers that all arguments are.
-#[tactic(auto, using(crate::proofs::Integers::integers))]
 fn integers(alloc: Global, arguments: &Vec<Found<'_>>) -> Result<Vec<i64>, Fault>
     ensures ok { IfOk result (λ is. integers_of (founds_view arguments.now.items) ≡ Ok is.items) }
     ensures err { IfErr result (λ e. e ≢ OutOfMemory → integers_of (founds_view arguments.now.items) ≡ Err e) }
@@ -35,7 +34,6 @@ fn integers(alloc: Global, arguments: &Vec<Found<'_>>) -> Result<Vec<i64>, Fault
     Ok(integers)
 }
 
-#[tactic(auto, using(crate::proofs::Integers::other_count))]
 fn range_over(alloc: Global, integers: &Vec<i64>) -> Result<Value, Fault>
     ensures ok { IfOk result (λ v. range_over integers.now.items ≡ Ok (view v)) }
     ensures err { IfErr result (λ e. e ≢ OutOfMemory → range_over integers.now.items ≡ Err e) }

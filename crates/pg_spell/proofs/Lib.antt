@@ -4,3 +4,4 @@ pub mod Members
 pub mod Places
 pub mod Told
 pub mod Tells
+pub mod ValueLemmas

@@ -4,8 +4,11 @@ pub mod ClauseLemmas
 pub mod CountLemmas
 pub mod CreationLemmas
 pub mod GrowthLemmas
+pub mod HopLemmas
 pub mod LoopLemmas
 pub mod NameLemmas
+pub mod PathLemmas
+pub mod RowLemmas
 pub mod ShapeLemmas
 pub mod StepLemmas
 pub mod TrailLemmas

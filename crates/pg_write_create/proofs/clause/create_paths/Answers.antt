@@ -1,4 +1,5 @@
-use Rattle.std.proofs.Common.{rules, ◌≡◌, Ok, Err, length, take, sym, ap, ◌∙◌}
+use Rattle.std.proofs.Common.{◌≡◌, Ok, Err, length, take, refl, sym, ap, ◌∙◌}
+use Rattle.std.proofs.lemmas.Result.{err_from_is_err_and}
 use Rattle.pg_meaning.specs.Patterns.{add_path_names}
 use Rattle.pg_meaning.specs.Updates.{count_new, create_clause}
 use Rattle.pg_meaning.specs.declared.fault.Fault.{Fault}
@@ -7,7 +8,7 @@ use Rattle.pg_rows.specs.States.{seen, state_of}
 use Rattle.pg_rows.specs.Tables.{table}
 use Rattle.pg_store.specs.Stores.{graph_of_store}
 use Rattle.pg_value_core.specs.Given.{parameters_view}
-use Rattle.pg_write_create.proofs.ClauseLemmas.{clause_done, clause_fault}
+use Rattle.pg_write_create.proofs.ClauseLemmas.{clause_done, clause_fault, clause_refused}
 use Rattle.pg_write_create.proofs.ShapeLemmas.{first_kept}
 use Rattle.pg_write_create.specs.Creations.{rows_created}
 use Rattle.pg_write_create.specs.Lent.{paths_view}
@@ -21,6 +22,29 @@ create_rows-requires-clause-names g c =
     (λ i. add_path_names (paths_view (c.deref-3.ensures.value i)) (take (c.split-names.ensures.width i) names))
     ∙ ap (add_path_names ps) (first_kept ps (seen c.args.table).names names named)
     ∙ sym named
+
+pub returns-in_err-count-clause-gives : goal.returns-in_err-count-clause-gives
+returns-in_err-count-clause-gives g c =
+    let p = err_from_is_err_and c.from_residual.result c.from_residual.ensures.1 in
+    λ s suits most. record { ok = rw p.1 tt; err = rw (p.1, p.2) (λ other. absurd (other refl)) }
+
+pub returns-in_err-spend_for_rows-clause-gives : goal.returns-in_err-spend_for_rows-clause-gives
+returns-in_err-spend_for_rows-clause-gives g c =
+    let ps = paths_view c.args.paths.now.items in
+    let t = seen c.args.table in
+    let many : c.len.result ≡ length t.rows = c.len.ensures ∙ ap length c.split-names.ensures.rows in
+    let count : c.in_ok-count.count ≡ count_new t.names ps = c.in_ok-count.ensures ∙ (λ i. count_new (c.split-names.ensures.names i) (paths_view (c.deref.ensures.value i))) in
+    let p = err_from_is_err_and c.from_residual-in_err-spend_for_rows.result c.from_residual-in_err-spend_for_rows.ensures.1 in
+    λ s suits most. record {
+      ok = rw p.1 tt;
+      err = rw (p.1, p.2) (λ other. clause_refused s (parameters_view c.args.parameters.now) c.args.meter.now.limit c.args.max_elements t suits most ps (graph_of_store g.T.Tables.seen c.args.store.now c.args.shared.now) c.args.meter.now.used
+          c.len.result c.in_ok-count.count many count c.in_err-spend_for_rows.field-0.0 (c.in_err-spend_for_rows.ensures.spends s suits.steps_are));
+    }
+
+pub returns-in_err-bind_names-clause-gives : goal.returns-in_err-bind_names-clause-gives
+returns-in_err-bind_names-clause-gives g c =
+    let p = err_from_is_err_and c.from_residual-in_err-bind_names.result c.from_residual-in_err-bind_names.ensures.1 in
+    λ s suits most. record { ok = rw p.1 tt; err = rw (p.1, p.2) (λ other. absurd (other refl)) }
 
 pub returns-in_err-made-clause-gives : goal.returns-in_err-made-clause-gives
 returns-in_err-made-clause-gives g c =
@@ -38,10 +62,10 @@ returns-in_err-made-clause-gives g c =
     λ f is. clause_fault s parameters c.args.meter.now.limit c.args.max_elements t suits most ps before c.args.meter.now.used c.len.result c.in_ok-count.count many count
     c.spend_for_rows.new.meter.used (c.in_ok-spend_for_rows.ensures.spends s suits.steps_are) names named rows c.split-names.ensures.rows c.split-names.ensures.width f
     (ap (λ p. rows_created parameters c.args.max_elements (paths_view p) before (rows_named names (table rows))) (sym c.deref-3.ensures.value) ∙ is) in
-    let failed = c.in_err-made.ensures.err in
+    let p = err_from_is_err_and c.from_residual-in_err-made.result c.from_residual-in_err-made.ensures.1 in
     record {
-      ok = search rules;
-      err = search (rules, refused, failed);
+      ok = rw p.1 tt;
+      err = rw (p.1, p.2) (λ other. refused c.in_err-made.field-0.0 (c.in_err-made.ensures.err other));
     }
 
 pub returns-clause-gives : goal.returns-clause-gives

@@ -59,6 +59,9 @@ pub cut_is : (limit : Option ℕ) (skip n : ℕ) (rows : List (List Value)) → 
 cut_is (Some m) skip n rows h = refl
 cut_is None skip n rows h = sym (all_taken n (drop skip rows) (let e = length-drop skip rows in omega arith))
 
+pub cut_taken : (c : Cut) (rows left : List (List Value)) (most n : ℕ) → most ≡ unwrap_or c.limit n → n ≡ length rows → left ≡ drop c.skip rows → take most left ≡ cut_of c rows
+cut_taken c rows left most n m l d = (λ i. take (m i) (d i)) ∙ cut_is c.limit c.skip n rows l
+
 -- all rows of the width pass where nothing is cut and nothing is asked
 all_pass : (parameters : Entries) (graph : Graph) (names : List (List ℕ)) (width : ℕ) (rows : List (List Value)) → AllByRecursion (λ r. length r ≡ width) rows → passing_given parameters graph names None width rows ≡ Ok rows
 all_pass parameters graph names width [] wide = refl

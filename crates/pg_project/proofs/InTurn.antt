@@ -52,3 +52,7 @@ module _ {X Y : Type 0} (f : X → Result Y Fault) (xs : List X) (done : List Y)
 
   pub no_more : each_answer f xs ≡ after done (each_answer f (drop i xs)) → length xs ≤ i → each_answer f xs ≡ Ok done
   no_more all h = all ∙ ap (λ ys. after done (each_answer f ys)) (drop_none xs i h) ∙ ap Ok (nothing_behind done)
+
+pub none_before : {Y : Type 0} (found : List Y) (a : Result (List Y) Fault) → found ≡ [] → a ≡ after found a
+none_before found (Ok ys) none = ap (λ xs. Ok (xs ++ ys)) (sym none)
+none_before found (Err e) none = refl

@@ -2,6 +2,7 @@ pub mod Arranged
 pub mod ColumnViews
 pub mod Conditions
 pub mod EachAnswer
+pub mod ExitLemmas
 pub mod InTurn
 pub mod Kept
 pub mod Moves
@@ -9,6 +10,9 @@ pub mod Projecting
 pub mod ReturnedInTurn
 pub mod SortPlaces
 pub mod Standing
+pub mod TailLemmas
+pub mod TurnLemmas
 pub mod Unwinding
+pub mod UnwoundLemmas
 pub mod Wide
 pub mod WideRows

@@ -1,7 +1,10 @@
-use Rattle.std.proofs.Common.{rules, ◌≡◌, ◌+◌, ◌∷◌, [], map, length, drop, Err, ap, ◌∙◌}
+use Rattle.std.proofs.Common.{◌≡◌, ◌+◌, ◌∷◌, [], map, length, drop, Err, ap, ◌∙◌}
 use Rattle.std.proofs.lemmas.List.{length-append}
+use Rattle.std.proofs.lemmas.Result.{IfOk-from_err}
 use Rattle.pg_expr.specs.Prepared.{tree_of}
 use Rattle.pg_meaning.specs.declared.fault.Fault.{Fault}
+use Rattle.pg_expr.proofs.ExitLemmas.{fault_passed}
+use Rattle.pg_project.proofs.ExitLemmas.{memory_passed}
 use Rattle.pg_project.proofs.InTurn.{after, one_more, one_fault}
 use Rattle.pg_project.proofs.Unwinding.{lists_more}
 use Rattle.pg_project.specs.Unwound.{list_given, lists_given, lists_view}
@@ -16,7 +19,7 @@ returns-in_err-list_at-clause-err g c =
     let f = list_given (parameters_view c.args.parameters.now) c.args.graph.now (tree_of c.args.names.now c.args.prepared.now) c.args.names.now in
     let refused : (e : Fault) → f (map view c.row.result.now) ≡ Err e → lists_given (parameters_view c.args.parameters.now) c.args.graph.now (tree_of c.args.names.now c.args.prepared.now) c.args.names.now (table c.args.rows.now) ≡ Err e =
     λ e h. one_fault f (table c.args.rows.now) (lists_view l.lists.items) l.at (map view c.row.result.now) e l.invariant.0 c.row.ensures h in
-    search (rules, refused)
+    fault_passed _ c.in_err-list_at.field-0.0 c.from_residual-in_err-list_at.result c.from_residual-in_err-list_at.ensures.1 (λ other. refused c.in_err-list_at.field-0.0 (c.in_err-list_at.ensures.err other))
 
 pub loop-at-preserved : goal.loop-at-preserved
 loop-at-preserved g c =
@@ -28,3 +31,27 @@ loop-at-preserved g c =
           (lists_more l.lists.items list c.push.new.self.items c.in_ok-push.ensures.items),
       ap length c.in_ok-push.ensures.items ∙ length-append l.lists.items (list ∷ []) ∙ ap (λ n. n + 1) l.invariant.1,
     )
+
+pub returns-in_err-lists-clause-ok : goal.returns-in_err-lists-clause-ok
+returns-in_err-lists-clause-ok g c = IfOk-from_err c.from_residual.result _ c.from_residual.ensures.0
+
+pub returns-in_err-lists-clause-len : goal.returns-in_err-lists-clause-len
+returns-in_err-lists-clause-len g c = IfOk-from_err c.from_residual.result _ c.from_residual.ensures.0
+
+pub returns-in_err-lists-clause-err : goal.returns-in_err-lists-clause-err
+returns-in_err-lists-clause-err g c = memory_passed _ c.from_residual.result c.from_residual.ensures.1
+
+pub returns-in_err-list_at-clause-ok : goal.returns-in_err-list_at-clause-ok
+returns-in_err-list_at-clause-ok g c = IfOk-from_err c.from_residual-in_err-list_at.result _ c.from_residual-in_err-list_at.ensures.0
+
+pub returns-in_err-list_at-clause-len : goal.returns-in_err-list_at-clause-len
+returns-in_err-list_at-clause-len g c = IfOk-from_err c.from_residual-in_err-list_at.result _ c.from_residual-in_err-list_at.ensures.0
+
+pub returns-in_err-push-clause-ok : goal.returns-in_err-push-clause-ok
+returns-in_err-push-clause-ok g c = IfOk-from_err c.from_residual-in_err-push.result _ c.from_residual-in_err-push.ensures.0
+
+pub returns-in_err-push-clause-len : goal.returns-in_err-push-clause-len
+returns-in_err-push-clause-len g c = IfOk-from_err c.from_residual-in_err-push.result _ c.from_residual-in_err-push.ensures.0
+
+pub returns-in_err-push-clause-err : goal.returns-in_err-push-clause-err
+returns-in_err-push-clause-err g c = memory_passed _ c.from_residual-in_err-push.result c.from_residual-in_err-push.ensures.1

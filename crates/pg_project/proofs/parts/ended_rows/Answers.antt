@@ -1,7 +1,12 @@
-use Rattle.std.proofs.Common.{rules, ◌≡◌, length, option_map, Ok, sym, ap, subst, ◌∙◌}
+use Rattle.std.proofs.Common.{◌≡◌, ◌≤◌, length, option_map, Ok, Err, sym, ap, subst, ◌∙◌}
+use Rattle.std.proofs.lemmas.Result.{IfOk-from_err, IfOk-weaker, IfErr-weaker}
 use Rattle.std.specs.List.{AllByRecursion}
+use Rattle.pg_expr.specs.Prepared.{condition_of}
 use Rattle.pg_meaning.specs.Answer.{◌>>=◌}
 use Rattle.pg_project.proofs.Conditions.{whole_passes}
+use Rattle.pg_expr.proofs.ExitLemmas.{fault_passed}
+use Rattle.pg_project.proofs.ExitLemmas.{memory_passed}
+use Rattle.pg_project.proofs.TailLemmas.{sorts_fail, passed_on}
 use Rattle.pg_project.proofs.Wide.{table_wide}
 use Rattle.pg_project.specs.Cuts.{cut_view}
 use Rattle.pg_group.specs.Items.{expressions_view}
@@ -26,8 +31,79 @@ returns-then-width-len-clause-ok g c =
     let first : distinct_given p.distinct t.rows ≡ table c.in_ok-first.first = sym (c.in_ok-first.ensures.rows ∙ ap (distinct_given p.distinct) c.split-names.ensures.rows) in
     let in_order : ordered_given ps graph t.names es p.order (distinct_given p.distinct t.rows) ≡ Ok (table sorted) =
     (λ i. ordered_given ps graph (sym c.split-names.ensures.names i) es p.order (first i)) ∙ c.in_ok-sorted.ensures.ok in
-    let same : sorted.width ≡ width = search rules in
+    let same : sorted.width ≡ width = sym c.width.ensures ∙ c.if-width-len.true ∙ c.len.ensures ∙ c.args.items.now.ok.0 in
     let wide : AllByRecursion (λ r. length r ≡ width) (table sorted) = subst (λ n. AllByRecursion (λ r. length r ≡ n) (table sorted)) same (table_wide sorted) in
     let all = c.lets_all_pass.ensures c.if-lets_all_pass.true in
     ap (λ a. a >>= λ us. passing_given ps graph t.names where_ width (cut_of cut us)) in_order
     ∙ whole_passes ps graph t.names where_ width cut (table sorted) all.0 all.1 wide
+
+pub returns-in_err-first-clause-ok : goal.returns-in_err-first-clause-ok
+returns-in_err-first-clause-ok g c = IfOk-from_err c.from_residual.result _ c.from_residual.ensures.0
+
+pub returns-in_err-first-clause-width : goal.returns-in_err-first-clause-width
+returns-in_err-first-clause-width g c = IfOk-from_err c.from_residual.result _ c.from_residual.ensures.0
+
+pub returns-in_err-first-clause-err : goal.returns-in_err-first-clause-err
+returns-in_err-first-clause-err g c = memory_passed _ c.from_residual.result c.from_residual.ensures.1
+
+pub returns-in_err-sorted-clause-ok : goal.returns-in_err-sorted-clause-ok
+returns-in_err-sorted-clause-ok g c = IfOk-from_err c.from_residual-in_err-sorted.result _ c.from_residual-in_err-sorted.ensures.0
+
+pub returns-in_err-sorted-clause-width : goal.returns-in_err-sorted-clause-width
+returns-in_err-sorted-clause-width g c = IfOk-from_err c.from_residual-in_err-sorted.result _ c.from_residual-in_err-sorted.ensures.0
+
+pub returns-in_err-sorted-clause-err : goal.returns-in_err-sorted-clause-err
+returns-in_err-sorted-clause-err g c =
+    let t = seen c.args.wide in
+    let p = projection_view c.args.projection.now in
+    fault_passed _ c.in_err-sorted.field-0.0 c.from_residual-in_err-sorted.result c.from_residual-in_err-sorted.ensures.1
+    (λ other. sorts_fail (parameters_view c.args.parameters.now) c.args.graph.now c.split-names.result.0 t.names (expressions_view c.args.items.now.items) p.distinct p.order
+    (cut_view c.args.cut) (option_map expression_view c.args.condition.now) (length c.args.items.now.items) t.rows (table c.in_ok-first.first) c.split-names.ensures.names
+    (c.in_ok-first.ensures.rows ∙ ap (distinct_given p.distinct) c.split-names.ensures.rows) c.in_err-sorted.field-0.0 (c.in_err-sorted.ensures.err other))
+
+pub returns-then-width-len-clause-width : goal.returns-then-width-len-clause-width
+returns-then-width-len-clause-width g c = sym c.width.ensures ∙ c.if-width-len.true ∙ c.len.ensures ∙ c.args.items.now.ok.0
+
+pub returns-then-width-len-clause-err : goal.returns-then-width-len-clause-err
+returns-then-width-len-clause-err g c = tt
+
+pub returns-in_err-wanted-clause-ok : goal.returns-in_err-wanted-clause-ok
+returns-in_err-wanted-clause-ok g c = IfOk-from_err c.from_residual-in_err-wanted.result _ c.from_residual-in_err-wanted.ensures.0
+
+pub returns-in_err-wanted-clause-width : goal.returns-in_err-wanted-clause-width
+returns-in_err-wanted-clause-width g c = IfOk-from_err c.from_residual-in_err-wanted.result _ c.from_residual-in_err-wanted.ensures.0
+
+pub returns-in_err-wanted-clause-err : goal.returns-in_err-wanted-clause-err
+returns-in_err-wanted-clause-err g c = memory_passed _ c.from_residual-in_err-wanted.result c.from_residual-in_err-wanted.ensures.1
+
+pub passing_rows-requires : goal.passing_rows-requires
+passing_rows-requires g c =
+    let width = length c.args.items.now.items in
+    let wide = c.in_ok-sorted.sorted.width in
+    let same : length (seen c.args.wide).names ≡ wide = sym (c.in_ok-sorted.ensures.width ∙ c.in_ok-first.ensures.width ∙ c.split-names.ensures.width) in
+    subst (λ n. n ≤ wide) (sym (c.len-2.ensures ∙ c.args.items.now.ok.0)) (subst (λ n. width ≤ n) same c.requires)
+
+pub returns-clause-ok : goal.returns-clause-ok
+returns-clause-ok g c =
+    let t = seen c.args.wide in
+    let p = projection_view c.args.projection.now in
+    IfOk-weaker c.passing_rows.result _ _
+    (λ found passes. passed_on (parameters_view c.args.parameters.now) c.args.graph.now c.split-names.result.0 t.names (expressions_view c.args.items.now.items) p.distinct p.order
+    (cut_view c.args.cut) (option_map expression_view c.args.condition.now) (length c.args.items.now.items) t.rows (table c.in_ok-first.first) c.split-names.ensures.names
+    (c.in_ok-first.ensures.rows ∙ ap (distinct_given p.distinct) c.split-names.ensures.rows) (table c.in_ok-sorted.sorted)
+    (condition_of c.split-names.result.0 c.in_ok-wanted.wanted) c.len-2.result c.in_ok-sorted.ensures.ok c.in_ok-wanted.ensures (c.len-2.ensures ∙ c.args.items.now.ok.0) (Ok (table found)) passes)
+    c.passing_rows.ensures.ok
+
+pub returns-clause-width : goal.returns-clause-width
+returns-clause-width g c = IfOk-weaker c.passing_rows.result _ _ (λ found wide. wide ∙ c.len-2.ensures ∙ c.args.items.now.ok.0) c.passing_rows.ensures.width
+
+pub returns-clause-err : goal.returns-clause-err
+returns-clause-err g c =
+    let t = seen c.args.wide in
+    let p = projection_view c.args.projection.now in
+    IfErr-weaker c.passing_rows.result _ _
+    (λ e fails other. passed_on (parameters_view c.args.parameters.now) c.args.graph.now c.split-names.result.0 t.names (expressions_view c.args.items.now.items) p.distinct p.order
+    (cut_view c.args.cut) (option_map expression_view c.args.condition.now) (length c.args.items.now.items) t.rows (table c.in_ok-first.first) c.split-names.ensures.names
+    (c.in_ok-first.ensures.rows ∙ ap (distinct_given p.distinct) c.split-names.ensures.rows) (table c.in_ok-sorted.sorted)
+    (condition_of c.split-names.result.0 c.in_ok-wanted.wanted) c.len-2.result c.in_ok-sorted.ensures.ok c.in_ok-wanted.ensures (c.len-2.ensures ∙ c.args.items.now.ok.0) (Err e) (fails other))
+    c.passing_rows.ensures.err

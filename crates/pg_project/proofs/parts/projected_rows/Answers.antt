@@ -1,7 +1,9 @@
-use Rattle.std.proofs.Common.{rules, ◌≡◌, ◌||◌, ◌++◌, length, map, option_map, Ok, Err, sym, ap, subst, ◌∙◌}
+use Rattle.std.proofs.Common.{◌≡◌, ◌||◌, ◌++◌, length, map, option_map, Ok, Err, sym, ap, subst, ◌∙◌}
 use Rattle.std.proofs.lemmas.List.{length-map}
+use Rattle.std.proofs.lemmas.Result.{IfOk-from_err}
 use Rattle.pg_meaning.specs.Projections.{item_rows}
 use Rattle.pg_meaning.specs.declared.fault.Fault.{Fault}
+use Rattle.pg_expr.proofs.ExitLemmas.{fault_passed}
 use Rattle.pg_project.proofs.Projecting.{items_fail, ended_gives}
 use Rattle.pg_project.specs.Columns.{columns_view}
 use Rattle.pg_project.specs.Cuts.{cut_view}
@@ -29,8 +31,8 @@ returns-in_err-wide-clause-gives g c = λ s given.
     let refused : (f : Fault) → item_rows s graph (hides_earlier p where_) (columns_of columns es) rows ≡ Err f → rows_projected s graph all p where_ rows ≡ Err f =
     items_fail s graph ps given all p where_ rows columns c.args.names.now es c.in_ok-items.ensures.trees (cut_view c.in_ok-cut.cut) c.in_ok-cut.ensures.ok in
     record {
-      ok = search rules;
-      err = search (rules, refused, said);
+      ok = IfOk-from_err c.from_residual-in_err-wide.result _ c.from_residual-in_err-wide.ensures.0;
+      err = fault_passed _ c.in_err-wide.field-0.0 c.from_residual-in_err-wide.result c.from_residual-in_err-wide.ensures.1 (λ other. refused c.in_err-wide.field-0.0 (ap (λ b. item_rows s graph b (columns_of columns es) rows) (sym c.hides_earlier.ensures) ∙ said.err other));
     }
 
 pub returns-clause-gives : goal.returns-clause-gives

@@ -1,9 +1,11 @@
-use Rattle.std.proofs.Common.{rules, ◌≡◌, Ok, Err, length, option_map, sym, ap, ◌∙◌}
+use Rattle.std.proofs.Common.{◌≡◌, Ok, Err, length, option_map, sym, ap, ◌∙◌}
+use Rattle.std.proofs.lemmas.Result.{IfOk-from_err}
 use Rattle.pg_meaning.specs.Meters.{spend}
 use Rattle.pg_meaning.specs.Projections.{project_clause}
 use Rattle.pg_meaning.specs.Scopes.{column_names}
 use Rattle.pg_meaning.specs.declared.fault.Fault.{Fault}
 use Rattle.pg_project.proofs.ColumnViews.{view_names}
+use Rattle.pg_expr.proofs.ExitLemmas.{fault_passed}
 use Rattle.pg_project.proofs.Projecting.{rows_fail, all_projected}
 use Rattle.pg_project.specs.Columns.{columns_view, naming_columns}
 use Rattle.pg_project.specs.Parts.{rows_projected}
@@ -32,8 +34,8 @@ returns-in_err-found-clause-gives g c = λ s suits.
     ((λ i. rows_projected s graph (sym are i) p where_ (rows_named (sym c.split-names.ensures.names i) (sym c.split-names.ensures.rows i))) ∙ h) in
     let said = c.in_err-found.ensures.gives s suits.parameters_are in
     record {
-      ok = search rules;
-      err = search (rules, refused, said);
+      ok = IfOk-from_err c.from_residual-in_err-found.result _ c.from_residual-in_err-found.ensures.0;
+      err = fault_passed _ c.in_err-found.field-0.0 c.from_residual-in_err-found.result c.from_residual-in_err-found.ensures.1 (λ other. refused c.in_err-found.field-0.0 (said.err other));
     }
 
 pub returns-clause-gives : goal.returns-clause-gives

@@ -1,6 +1,9 @@
-use Rattle.std.proofs.Common.{rules, ◌≡◌, ◌+◌, ◌∷◌, [], map, length, drop, Err, sym, ap, ◌∙◌}
+use Rattle.std.proofs.Common.{◌≡◌, ◌+◌, ◌∷◌, [], map, length, drop, Err, sym, ap, ◌∙◌}
 use Rattle.std.proofs.lemmas.List.{length-append}
+use Rattle.std.proofs.lemmas.Result.{IfOk-from_err}
 use Rattle.pg_meaning.specs.declared.fault.Fault.{Fault}
+use Rattle.pg_expr.proofs.ExitLemmas.{fault_passed}
+use Rattle.pg_project.proofs.ExitLemmas.{memory_passed}
 use Rattle.pg_project.proofs.InTurn.{after, one_more, one_fault}
 use Rattle.pg_project.specs.Given.{all_keys_given, keys_given}
 use Rattle.pg_project.specs.Sources.{sources_view}
@@ -15,7 +18,7 @@ returns-in_err-push_keys-clause-err g c =
     let f = keys_given (parameters_view c.args.parameters.now) c.args.graph.now c.args.names.now (sources_view c.args.names.now c.args.sources.now.items) in
     let refused : (e : Fault) → f (map view c.row.result.now) ≡ Err e → all_keys_given (parameters_view c.args.parameters.now) c.args.graph.now c.args.names.now (sources_view c.args.names.now c.args.sources.now.items) (table c.args.rows.now) ≡ Err e =
     λ e h. one_fault f (table c.args.rows.now) (table l.found) l.at (map view c.row.result.now) e l.invariant.0 c.row.ensures h in
-    search (rules, refused)
+    fault_passed _ c.in_err-push_keys.field-0.0 c.from_residual-in_err-push_keys.result c.from_residual-in_err-push_keys.ensures.1 (λ other. refused c.in_err-push_keys.field-0.0 (c.in_err-push_keys.ensures.err other))
 
 pub loop-at-preserved : goal.loop-at-preserved
 loop-at-preserved g c =
@@ -28,3 +31,27 @@ loop-at-preserved g c =
       c.in_ok-push_from.ensures.width ∙ l.invariant.2,
       c.in_ok-push_from.ensures.emptied,
     )
+
+pub returns-in_err-keys-clause-ok : goal.returns-in_err-keys-clause-ok
+returns-in_err-keys-clause-ok g c = IfOk-from_err c.from_residual.result _ c.from_residual.ensures.0
+
+pub returns-in_err-keys-clause-len : goal.returns-in_err-keys-clause-len
+returns-in_err-keys-clause-len g c = IfOk-from_err c.from_residual.result _ c.from_residual.ensures.0
+
+pub returns-in_err-keys-clause-err : goal.returns-in_err-keys-clause-err
+returns-in_err-keys-clause-err g c = memory_passed _ c.from_residual.result c.from_residual.ensures.1
+
+pub returns-in_err-push_keys-clause-ok : goal.returns-in_err-push_keys-clause-ok
+returns-in_err-push_keys-clause-ok g c = IfOk-from_err c.from_residual-in_err-push_keys.result _ c.from_residual-in_err-push_keys.ensures.0
+
+pub returns-in_err-push_keys-clause-len : goal.returns-in_err-push_keys-clause-len
+returns-in_err-push_keys-clause-len g c = IfOk-from_err c.from_residual-in_err-push_keys.result _ c.from_residual-in_err-push_keys.ensures.0
+
+pub returns-in_err-push_from-clause-ok : goal.returns-in_err-push_from-clause-ok
+returns-in_err-push_from-clause-ok g c = IfOk-from_err c.from_residual-in_err-push_from.result _ c.from_residual-in_err-push_from.ensures.0
+
+pub returns-in_err-push_from-clause-len : goal.returns-in_err-push_from-clause-len
+returns-in_err-push_from-clause-len g c = IfOk-from_err c.from_residual-in_err-push_from.result _ c.from_residual-in_err-push_from.ensures.0
+
+pub returns-in_err-push_from-clause-err : goal.returns-in_err-push_from-clause-err
+returns-in_err-push_from-clause-err g c = memory_passed _ c.from_residual-in_err-push_from.result c.from_residual-in_err-push_from.ensures.1

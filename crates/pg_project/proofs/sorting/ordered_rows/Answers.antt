@@ -1,6 +1,9 @@
-use Rattle.std.proofs.Common.{rules, ◌≡◌, ◌<◌, length, map, Err, sym, ap, ◌∙◌, arith}
+use Rattle.std.proofs.Common.{◌≡◌, ◌<◌, length, map, Err, sym, ap, ◌∙◌, arith}
 use Rattle.std.proofs.lemmas.Bool.Decides.{nat_tests}
+use Rattle.std.proofs.lemmas.Result.{IfOk-from_err}
 use Rattle.pg_meaning.specs.declared.fault.Fault.{Fault}
+use Rattle.pg_expr.proofs.ExitLemmas.{fault_passed}
+use Rattle.pg_project.proofs.ExitLemmas.{memory_passed}
 use Rattle.pg_project.proofs.SortPlaces.{ordered_fails}
 use Rattle.pg_group.specs.Items.{expressions_view}
 use Rattle.pg_project.specs.Given.{all_keys_given, ordered_given}
@@ -17,4 +20,28 @@ returns-in_err-keys-clause-err g c =
     → ordered_given (parameters_view c.args.parameters.now) c.args.graph.now c.args.names.now (expressions_view c.args.items.now.items) (map sort_item_view c.args.order.now.items) (table c.args.rows) ≡ Err e =
     λ e h. ordered_fails (parameters_view c.args.parameters.now) c.args.graph.now c.args.names.now (expressions_view c.args.items.now.items) c.args.order.now.items (table c.args.rows) e some
     (ap (λ ks. all_keys_given (parameters_view c.args.parameters.now) c.args.graph.now c.args.names.now ks (table c.args.rows)) (sym c.in_ok-sources.ensures.sources) ∙ h) in
-    search (rules, refused)
+    fault_passed _ c.in_err-keys.field-0.0 c.from_residual-in_err-keys.result c.from_residual-in_err-keys.ensures.1 (λ other. refused c.in_err-keys.field-0.0 (c.in_err-keys.ensures.err other))
+
+pub returns-in_err-sources-clause-ok : goal.returns-in_err-sources-clause-ok
+returns-in_err-sources-clause-ok g c = IfOk-from_err c.from_residual.result _ c.from_residual.ensures.0
+
+pub returns-in_err-sources-clause-width : goal.returns-in_err-sources-clause-width
+returns-in_err-sources-clause-width g c = IfOk-from_err c.from_residual.result _ c.from_residual.ensures.0
+
+pub returns-in_err-sources-clause-err : goal.returns-in_err-sources-clause-err
+returns-in_err-sources-clause-err g c = memory_passed _ c.from_residual.result c.from_residual.ensures.1
+
+pub returns-in_err-keys-clause-ok : goal.returns-in_err-keys-clause-ok
+returns-in_err-keys-clause-ok g c = IfOk-from_err c.from_residual-in_err-keys.result _ c.from_residual-in_err-keys.ensures.0
+
+pub returns-in_err-keys-clause-width : goal.returns-in_err-keys-clause-width
+returns-in_err-keys-clause-width g c = IfOk-from_err c.from_residual-in_err-keys.result _ c.from_residual-in_err-keys.ensures.0
+
+pub returns-in_err-sorted_rows-clause-ok : goal.returns-in_err-sorted_rows-clause-ok
+returns-in_err-sorted_rows-clause-ok g c = IfOk-from_err c.from_residual-in_err-sorted_rows.result _ c.from_residual-in_err-sorted_rows.ensures.0
+
+pub returns-in_err-sorted_rows-clause-width : goal.returns-in_err-sorted_rows-clause-width
+returns-in_err-sorted_rows-clause-width g c = IfOk-from_err c.from_residual-in_err-sorted_rows.result _ c.from_residual-in_err-sorted_rows.ensures.0
+
+pub returns-in_err-sorted_rows-clause-err : goal.returns-in_err-sorted_rows-clause-err
+returns-in_err-sorted_rows-clause-err g c = memory_passed _ c.from_residual-in_err-sorted_rows.result c.from_residual-in_err-sorted_rows.ensures.1

@@ -119,7 +119,6 @@ fn remove_row<T: Tables>(
 }
 
 // All items at all rows.
-#[tactic(auto, using(pg_write_make::proofs::ChangedLemmas::unchanged, pg_write_make::proofs::ChangedLemmas::changed_then, pg_write_make::proofs::RowLemmas::step_on, pg_write_make::proofs::RowLemmas::step_fault, pg_write_make::proofs::RowLemmas::steps_done))]
 fn remove_rows<T: Tables>(
     scene: &Scene<'_>,
     store: &mut Store<T>,

@@ -82,7 +82,6 @@ fn storable_entries<'a>(
 }
 
 // Gives a target a value under one key.
-#[tactic(auto, using(pg_write_make::proofs::ChangedLemmas::unchanged, crate::proofs::PartLemmas::pairs_set, crate::proofs::PartLemmas::pairs_refused))]
 fn set_key<T: Tables>(
     scene: &Scene<'_>,
     store: &mut Store<T>,
@@ -104,7 +103,6 @@ fn set_key<T: Tables>(
 }
 
 // Gives a target the entries of a map in the place of its own properties.
-#[tactic(auto, using(pg_write_make::proofs::ChangedLemmas::unchanged, crate::proofs::PartLemmas::map_set, crate::proofs::PartLemmas::map_refused, crate::proofs::PartLemmas::entries_refused))]
 fn set_all<T: Tables>(
     scene: &Scene<'_>,
     store: &mut Store<T>,
@@ -126,7 +124,6 @@ fn set_all<T: Tables>(
 }
 
 // Gives a target the entries of a map beside its own properties.
-#[tactic(auto, using(pg_write_make::proofs::ChangedLemmas::unchanged, crate::proofs::PartLemmas::map_set, crate::proofs::PartLemmas::map_refused, crate::proofs::PartLemmas::entries_refused))]
 fn set_more<T: Tables>(
     scene: &Scene<'_>,
     store: &mut Store<T>,
@@ -171,7 +168,6 @@ fn change<T: Tables>(
 }
 
 // One item at one row. On null nothing is evaluated.
-#[tactic(auto, using(pg_write_make::proofs::ChangedLemmas::unchanged, crate::proofs::PartLemmas::nothing_set, crate::proofs::PartLemmas::target_set, crate::proofs::PartLemmas::target_refused))]
 fn set_item<T: Tables>(
     scene: &Scene<'_>,
     store: &mut Store<T>,
@@ -212,7 +208,6 @@ pub fn set_row<T: Tables>(
 }
 
 // All items at all rows.
-#[tactic(auto, using(pg_write_make::proofs::ChangedLemmas::unchanged, pg_write_make::proofs::ChangedLemmas::changed_then, pg_write_make::proofs::RowLemmas::step_on, pg_write_make::proofs::RowLemmas::step_fault, pg_write_make::proofs::RowLemmas::steps_done))]
 fn set_rows<T: Tables>(
     scene: &Scene<'_>,
     store: &mut Store<T>,

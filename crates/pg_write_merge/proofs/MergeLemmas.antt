@@ -1,16 +1,19 @@
 -- MERGE at a row, from what its parts give.
-use Rattle.std.proofs.Common.{◌≡◌, ◌≢◌, ℕ, List, [], ◌∷◌, ◌++◌, length, Result, Ok, Err, refl, sym, ap, ◌∙◌}
+use Rattle.std.proofs.Common.{◌≡◌, ◌≢◌, ◌<◌, ℕ, false, List, [], ◌∷◌, ◌++◌, length, Result, Ok, Err, refl, sym, ap, ◌∙◌, arith}
 use Rattle.std.proofs.lemmas.List.{length-map}
+use Rattle.std.specs.Prelude.{IfErr, OnOk}
 use Rattle.pg_meaning.specs.Answer.{◌>>=◌, each_step}
 use Rattle.pg_meaning.specs.Graph.{Graph}
 use Rattle.pg_meaning.specs.Meters.{Setting, State, spend}
 use Rattle.pg_meaning.specs.Names.{Names}
+use Rattle.pg_meaning.specs.Reading.{test_paths}
 use Rattle.pg_meaning.specs.Rows.{Row}
 use Rattle.pg_meaning.specs.Tree.{PathPattern, SetItem}
 use Rattle.pg_meaning.specs.Updates.{count_new, make, merged_row, set_row}
 use Rattle.pg_meaning.specs.Value.{Value}
 use Rattle.pg_meaning.specs.Walks.{PathWanted}
 use Rattle.pg_meaning.specs.declared.fault.Fault.{Fault}
+use Rattle.pg_meaning.specs.declared.fault.Fault.TheVariants.{OutOfMemory}
 use Rattle.pg_rows.specs.Named.{row_of, rows_named}
 use Rattle.pg_write.proofs.ClauseLemmas.{row_same}
 use Rattle.pg_write_make.specs.Scenes.{reading}
@@ -22,7 +25,7 @@ rows_more : (names : Names) (rows : List (List Value)) (values : List Value) →
 rows_more names [] values = refl
 rows_more names (r ∷ rows) values = ap (λ (rs : List Row). row_of names r ∷ rs) (rows_more names rows values)
 
-abbrev with_rows : Graph → List Row → ℕ → State
+abbrev pub with_rows : Graph → List Row → ℕ → State
 with_rows graph rows steps = record { graph = graph; rows = rows; steps = steps }
 
 -- ---- a resulting row
@@ -109,6 +112,24 @@ module _ (s : Setting) (p : PathPattern) (created matched : List SetItem) (graph
   pub asked_fault : (e : Fault) → asked s p graph row ≡ Err e → merging ≡ Err e
   asked_fault e is = ap then_walked is
 
+  -- what was read of the same graph at the same row
+  module _ (read : Graph) (own : Row) (same : read ≡ graph) (same' : own ≡ row) where
+    pub asked_there : (r : Result (List PathWanted) Fault) → asked s p read own ≡ r → asked s p graph row ≡ r
+    asked_there r is = sym (λ i. asked s p (same i) (same' i)) ∙ is
+
+    pub asked_here : (r : Result (List PathWanted) Fault) → asked s p graph row ≡ r → asked s p read own ≡ r
+    asked_here r is = (λ i. asked s p (same i) (same' i)) ∙ is
+
+    pub tested_there : (r : Result (Unit {0}) Fault) → test_paths false read own (p ∷ []) ≡ r → test_paths false graph row (p ∷ []) ≡ r
+    tested_there r is = sym (λ i. test_paths false (same i) (same' i) (p ∷ [])) ∙ is
+
+    module _ (given wanted : List PathWanted) (are : given ≡ wanted) where
+      pub spent_there : (r : Result ℕ Fault) → spend s used (found_at s p read own given).1 ≡ r → spend s used (found_at s p graph row wanted).1 ≡ r
+      spent_there r cost = sym (λ i. spend s used (found_at s p (same i) (same' i) (are i)).1) ∙ cost
+
+      pub found_there : (found : List Row) → found ≡ rows_found s p read own given → found ≡ rows_found s p graph row wanted
+      found_there found is = is ∙ (λ i. rows_found s p (same i) (same' i) (are i))
+
   module _ (wanted : List PathWanted) (is : asked s p graph row ≡ Ok wanted) where
     abbrev then_merged : Result ℕ Fault → Result State Fault
     then_merged r = r >>= λ steps. rows_merged s p created matched (with_rows graph rows steps) row (rows_found s p graph row wanted)
@@ -128,3 +149,26 @@ module _ {S X : Type 0} (f : ℕ → S → X → Result S Fault) (k limit : ℕ)
 
   pub step_err : (all : Result S Fault) (s : S) (x : X) (xs ys : List X) (e : Fault) → all ≡ each_step (f limit) s ys → ys ≡ x ∷ xs → f k s x ≡ Err e → all ≡ Err e
   step_err all s x xs ys e rest is h = rest ∙ ap (each_step (f limit) s) is ∙ ap (λ r. r >>= λ u. each_step (f limit) u xs) (ap (λ n. f n s x) (sym same) ∙ h)
+
+-- ---- the loop over rows: its start, a row fewer, its end
+
+pub rows_begun : (step : State → Row → Result State Fault) (names : Names) (graph : Graph) (used : ℕ) (all left made : List (List Value)) → left ≡ all → made ≡ [] → each_step step (with_rows graph [] used) (rows_named names all) ≡ each_step step (with_rows graph (rows_named names made) used) (rows_named names left)
+rows_begun step names graph used all left made same none = λ i. each_step step (with_rows graph (rows_named names (sym none i)) used) (rows_named names (sym same i))
+
+pub one_fewer : {X : Type 0} (xs ys : List X) (x : X) → xs ≡ x ∷ ys → length ys < length xs
+one_fewer xs ys x e =
+    let n = ap length e in
+    omega (arith, n)
+
+pub rows_over : {S : Type 0} (step : S → Row → Result S Fault) (names : Names) (all : Result S Fault) (s : S) (left : List (List Value)) → all ≡ each_step step s (rows_named names left) → left ≡ [] → all ≡ Ok s
+rows_over step names all s left rest none = rest ∙ ap (λ rs. each_step step s (rows_named names rs)) none
+
+-- ---- what the last call returned is returned as it is
+
+pub ok_through : {X : Type 0} (r : Result X Fault) (whole last done : Result State Fault) → whole ≡ last → OnOk r (last ≡ done) → OnOk r (whole ≡ done)
+ok_through (Ok x) whole last done first h = first ∙ h
+ok_through (Err e) whole last done first h = tt
+
+pub err_through : {X : Type 0} (r : Result X Fault) (whole last : Result State Fault) → whole ≡ last → IfErr r (λ e. e ≢ OutOfMemory → last ≡ Err e) → IfErr r (λ e. e ≢ OutOfMemory → whole ≡ Err e)
+err_through (Ok x) whole last first h = tt
+err_through (Err e) whole last first h = λ other. first ∙ h other

@@ -1,13 +1,14 @@
-use Rattle.std.proofs.Common.{refl, sym, ap, ◌∙◌}
-use Rattle.std.proofs.lemmas.Result.{err_from_is_err_and, IfErr-weaker, IfOk-weaker}
+use Rattle.std.proofs.Common.{Ok, refl, sym, ap, ◌∙◌}
+use Rattle.std.proofs.lemmas.Result.{err_from_is_err_and}
 use Rattle.pg_meaning.specs.Updates.{merged_row}
 use Rattle.pg_rows.specs.Named.{rows_named}
 use Rattle.pg_rows.specs.Tables.{table}
 use Rattle.pg_store.specs.Stores.{graph_of_store}
 use Rattle.pg_write_make.specs.Scenes.{parameters_in, row_in}
-use Rattle.pg_write_merge.proofs.MergeLemmas.{made_then, making_fault, making_refused}
+use Rattle.pg_write_merge.proofs.MergeLemmas.{err_through, made_then, making_fault, making_refused, ok_through}
+use Rattle.pg_write_merge.specs.Mergings.{row_made}
 use Rattle.pg_write_merge.specs.Ready.{created_in, names_in, path_in, setting_in, state_in}
-use Rattle.pg_write_create.specs.Creations.{row_made}
+use Rattle.pg_write_create.specs.Creations.{row_made as row_creates}
 use Rattle.pg_write_create.specs.Lent.{paths_view}
 use Rattle.pg_write_merge.proofs.rows.make_merged.Goals as goal
 
@@ -30,7 +31,7 @@ returns-in_err-made-clause-err g c =
     rw (p.1, p.2)
     (λ other.
     making_fault s (path_in m) (created_in m) graph (rows_named (names_in m) (table c.args.merged.now)) c.args.meter.now.used m.count row c.requires.ready.count _ c.spend.new.self.used (c.in_ok-spend.ensures.spends s refl)
-    (ap (λ ps. row_made (parameters_in m.scene) m.max_elements (paths_view ps) graph row) (sym c.from_ref.ensures.value) ∙ c.in_err-made.ensures.err other))
+    (ap (λ ps. row_creates (parameters_in m.scene) m.max_elements (paths_view ps) graph row) (sym c.from_ref.ensures.value) ∙ c.in_err-made.ensures.err other))
 
 pub returns-clause-ok : goal.returns-clause-ok
 returns-clause-ok g c =
@@ -42,9 +43,13 @@ returns-clause-ok g c =
     let behind = row_in m.scene c.in_ok-made.made.items in
     let made =
     made_then s (path_in m) (created_in m) graph (rows_named (names_in m) (table c.args.merged.now)) c.args.meter.now.used m.count row c.requires.ready.count after behind c.spend.new.self.used (c.in_ok-spend.ensures.spends s refl)
-    (ap (λ ps. row_made (parameters_in m.scene) m.max_elements (paths_view ps) graph row) (sym c.from_ref.ensures.value) ∙ c.in_ok-made.ensures.ok)
+    (ap (λ ps. row_creates (parameters_in m.scene) m.max_elements (paths_view ps) graph row) (sym c.from_ref.ensures.value) ∙ c.in_ok-made.ensures.ok)
     ∙ ap (λ k. merged_row (setting_in m k) (created_in m) (state_in m after c.args.merged.now c.spend.new.self.used) behind) (sym c.in_ok-spend.ensures.limit) in
-    IfOk-weaker c.merged_row.result _ _ (λ u h. made ∙ h) c.merged_row.ensures.ok
+    ok_through c.merged_row.result
+    (row_made s (path_in m) (created_in m) (state_in m graph c.args.merged.now c.args.meter.now.used) row)
+    (merged_row (setting_in m c.spend.new.self.limit) (created_in m) (state_in m after c.args.merged.now c.spend.new.self.used) behind)
+    (Ok (state_in m (graph_of_store g.T.Tables.seen c.merged_row.new.store c.merged_row.new.shared) c.merged_row.new.merged c.merged_row.new.meter.used))
+    made c.merged_row.ensures.ok
 
 pub returns-clause-err : goal.returns-clause-err
 returns-clause-err g c =
@@ -56,6 +61,9 @@ returns-clause-err g c =
     let behind = row_in m.scene c.in_ok-made.made.items in
     let made =
     made_then s (path_in m) (created_in m) graph (rows_named (names_in m) (table c.args.merged.now)) c.args.meter.now.used m.count row c.requires.ready.count after behind c.spend.new.self.used (c.in_ok-spend.ensures.spends s refl)
-    (ap (λ ps. row_made (parameters_in m.scene) m.max_elements (paths_view ps) graph row) (sym c.from_ref.ensures.value) ∙ c.in_ok-made.ensures.ok)
+    (ap (λ ps. row_creates (parameters_in m.scene) m.max_elements (paths_view ps) graph row) (sym c.from_ref.ensures.value) ∙ c.in_ok-made.ensures.ok)
     ∙ ap (λ k. merged_row (setting_in m k) (created_in m) (state_in m after c.args.merged.now c.spend.new.self.used) behind) (sym c.in_ok-spend.ensures.limit) in
-    IfErr-weaker c.merged_row.result _ _ (λ e h. λ other. made ∙ h other) c.merged_row.ensures.err
+    err_through c.merged_row.result
+    (row_made s (path_in m) (created_in m) (state_in m graph c.args.merged.now c.args.meter.now.used) row)
+    (merged_row (setting_in m c.spend.new.self.limit) (created_in m) (state_in m after c.args.merged.now c.spend.new.self.used) behind)
+    made c.merged_row.ensures.err

@@ -1,0 +1,87 @@
+use Rattle.std.proofs.Common.{◌≡◌, ◌≢◌, false, Result, Ok, Err, IfErr, refl, sym, ap, ◌∙◌}
+use Rattle.std.proofs.lemmas.Result.{err_from_is_err_and}
+use Rattle.std.specs.Prelude.{OnOk}
+use Rattle.pg_meaning.specs.Graph.{Graph}
+use Rattle.pg_meaning.specs.Updates.{is_nothing, set_item, target_of}
+use Rattle.pg_meaning.specs.declared.fault.Fault.{Fault}
+use Rattle.pg_meaning.specs.declared.fault.Fault.TheVariants.{OutOfMemory}
+use Rattle.pg_store.specs.Stores.{graph_of_store}
+use Rattle.pg_syntax_tree.specs.View.{name_view}
+use Rattle.pg_write.proofs.PartLemmas.{nothing_set, target_refused, target_set}
+use Rattle.pg_write.specs.Items.{changed_by, item_of}
+use Rattle.pg_write.specs.Targets.{target_view}
+use Rattle.pg_write.specs.declared.targets.Target.{Target}
+use Rattle.pg_write.specs.declared.targets.Target.TheVariants.{Nothing, Node, Rel}
+use Rattle.pg_write_make.proofs.ChangedLemmas.{unchanged}
+use Rattle.pg_write_make.specs.Scenes.{parameters_in, reading, row_in}
+use Rattle.pg_write.proofs.setting.set_item.Goals as goal
+
+not_nothing : (t : Target) → t ≢ Nothing → is_nothing (target_view t) ≡ false
+not_nothing Nothing h = absurd (h refl)
+not_nothing (Node id) h = refl
+not_nothing (Rel id) h = refl
+
+-- what the last call returned is returned as it is
+ok_through : {X : Type 0} (r : Result X Fault) (whole last done : Result Graph Fault) → whole ≡ last → OnOk r (last ≡ done) → OnOk r (whole ≡ done)
+ok_through (Ok x) whole last done first h = first ∙ h
+ok_through (Err e) whole last done first h = tt
+
+err_through : {X : Type 0} (r : Result X Fault) (whole last : Result Graph Fault) → whole ≡ last → IfErr r (λ e. e ≢ OutOfMemory → last ≡ Err e) → IfErr r (λ e. e ≢ OutOfMemory → whole ≡ Err e)
+err_through (Ok x) whole last first h = tt
+err_through (Err e) whole last first h = λ other. first ∙ h other
+
+pub returns-in_err-target-clause-err : goal.returns-in_err-target-clause-err
+returns-in_err-target-clause-err g c =
+    let scene = c.args.scene.now in
+    let graph = graph_of_store g.T.Tables.seen c.args.store.now c.args.shared.now in
+    let row = row_in scene c.args.row.now in
+    let name = name_view c.args.item.now.target.now in
+    let p = err_from_is_err_and c.from_residual.result c.from_residual.ensures.1 in
+    rw (p.1, p.2)
+    (λ other. target_refused scene.names.now (parameters_in scene) row graph name c.args.item.now.change c.in_err-target.field-0.0
+    (ap (λ read. target_of read row name) (sym c.graph.ensures) ∙ c.in_err-target.ensures.err))
+
+pub returns-in_err-target-clause-changed : goal.returns-in_err-target-clause-changed
+returns-in_err-target-clause-changed g c = unchanged g.T.Tables.seen c.args.store.now c.args.shared.now c.requires.fit
+
+pub returns-in-Nothing-clause-ok : goal.returns-in-Nothing-clause-ok
+returns-in-Nothing-clause-ok g c =
+    let scene = c.args.scene.now in
+    let graph = graph_of_store g.T.Tables.seen c.args.store.now c.args.shared.now in
+    let row = row_in scene c.args.row.now in
+    let name = name_view c.args.item.now.target.now in
+    nothing_set scene.names.now (parameters_in scene) row graph name c.args.item.now.change
+    (ap (λ read. target_of read row name) (sym c.graph.ensures) ∙ c.in_ok-target.ensures.ok ∙ ap (λ t. Ok (target_view t)) c.in-Nothing.is)
+
+pub returns-in-Nothing-clause-changed : goal.returns-in-Nothing-clause-changed
+returns-in-Nothing-clause-changed g c = unchanged g.T.Tables.seen c.args.store.now c.args.shared.now c.requires.fit
+
+pub returns-in_default-clause-ok : goal.returns-in_default-clause-ok
+returns-in_default-clause-ok g c =
+    let scene = c.args.scene.now in
+    let graph = graph_of_store g.T.Tables.seen c.args.store.now c.args.shared.now in
+    let row = row_in scene c.args.row.now in
+    let name = name_view c.args.item.now.target.now in
+    let target = target_view c.in_ok-target.target in
+    let change = c.args.item.now.change in
+    ok_through c.change.result (set_item (reading (parameters_in scene)) row graph (item_of scene.names.now c.args.item.now)) (changed_by scene.names.now (parameters_in scene) row graph change target)
+    (Ok (graph_of_store g.T.Tables.seen c.change.new.store c.change.new.shared))
+    (target_set scene.names.now (parameters_in scene) row graph name change target
+    (ap (λ read. target_of read row name) (sym c.graph.ensures) ∙ c.in_ok-target.ensures.ok) (not_nothing c.in_ok-target.target c.in_default.not-Nothing))
+    c.change.ensures.ok
+
+pub returns-in_default-clause-err : goal.returns-in_default-clause-err
+returns-in_default-clause-err g c =
+    let scene = c.args.scene.now in
+    let graph = graph_of_store g.T.Tables.seen c.args.store.now c.args.shared.now in
+    let row = row_in scene c.args.row.now in
+    let name = name_view c.args.item.now.target.now in
+    let target = target_view c.in_ok-target.target in
+    let change = c.args.item.now.change in
+    err_through c.change.result (set_item (reading (parameters_in scene)) row graph (item_of scene.names.now c.args.item.now)) (changed_by scene.names.now (parameters_in scene) row graph change target)
+    (target_set scene.names.now (parameters_in scene) row graph name change target
+    (ap (λ read. target_of read row name) (sym c.graph.ensures) ∙ c.in_ok-target.ensures.ok) (not_nothing c.in_ok-target.target c.in_default.not-Nothing))
+    c.change.ensures.err
+
+pub returns-in_default-clause-changed : goal.returns-in_default-clause-changed
+returns-in_default-clause-changed g c = c.change.ensures.changed

@@ -1,4 +1,4 @@
-//! The same work in plain Rust, with nothing proved: what `bench_json` is compared with.
+//! The same work in plain Rust, with nothing proved: what `bench` is compared with.
 use std::collections::BTreeMap;
 use std::fmt::Write;
 use std::time::Instant;
@@ -171,6 +171,6 @@ fn main() {
             let time = start.elapsed();
             (text.len(), time)
         };
-        println!("{kind} {len} {}", time.as_micros());
+        println!("took {} {kind}\nfound {len} {kind}", time.as_micros());
     }
 }

@@ -1,4 +1,4 @@
-//! The same work in plain Rust, with nothing proved: what `bench_tables` is compared with.
+//! The same work in plain Rust, with nothing proved: what `bench` is compared with.
 use std::collections::{BTreeMap, BTreeSet, HashMap};
 use std::time::Instant;
 use std::{env, fs, mem};
@@ -490,10 +490,11 @@ fn measure_removals(store: &mut Store, count: u64) {
 
 fn main() {
     let mut words = env::args().skip(1);
+    let part = words.next();
     let count = words.next().unwrap().parse().unwrap();
-    match words.next().as_deref() {
+    match part.as_deref() {
         Some("tables") => measure_tables(count),
         Some("store") => measure_store(count),
-        _ => panic!("COUNT and one of tables and store are expected"),
+        _ => panic!("one of tables and store, and COUNT, are expected"),
     }
 }

@@ -14,7 +14,7 @@ use Rattle.pg_meaning.specs.Queries.{Outcome, output_rows}
 use Rattle.pg_meaning.specs.Value.{Value, values_of}
 use Rattle.pg_meaning.specs.declared.fault.Fault.{Fault}
 use Rattle.pg_meaning.specs.declared.fault.Fault.TheVariants.{ReplyTooLong}
-use Rattle.pg_return.specs.Returning.{named_items, replied}
+use Rattle.pg_run.specs.Returning.{named_items, replied}
 use Rattle.pg_spell.specs.Printed.{printed_items}
 use Rattle.pg_spell.specs.Telling.{fitting}
 use Rattle.pg_spell.specs.Told.{printed_rows, test_told}

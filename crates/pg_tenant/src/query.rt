@@ -14,7 +14,7 @@ use pg_graph::Tables;
 use pg_json::ReplyBytes;
 use pg_meter::Meter;
 use pg_plan::Plan;
-use pg_return::{Given, answer_clauses};
+use pg_run::{Given, answer_clauses};
 use pg_store::{Mark, Shared, Store};
 use pg_value_core::{Fault, Parameters};
 use std::alloc::Global;

@@ -1,2 +1,0 @@
-pub mod Returning
-pub mod Running

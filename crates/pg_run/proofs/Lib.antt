@@ -1,0 +1,5 @@
+pub mod Clauses
+mod NextClause
+mod Planned
+pub mod Returns
+mod Settings

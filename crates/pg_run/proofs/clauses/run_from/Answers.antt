@@ -1,0 +1,63 @@
+use Rattle.std.proofs.Common.{rules, ◌≡◌, ◌∷◌, map, drop, ◌+◌, Ok, sym, subst, ap, ◌∙◌}
+use Rattle.std.proofs.lemmas.List.{drop_more}
+use Rattle.std.specs.Prelude.{fold}
+use Rattle.pg_meaning.specs.Plans.{ArePlanned, IsPlanFrom}
+use Rattle.pg_meaning.specs.Queries.{clause_step, clauses_run, first_anchors}
+use Rattle.pg_meaning.specs.Scopes.{scope_after}
+use Rattle.pg_rows.specs.States.{seen, state_of}
+use Rattle.pg_run.proofs.NextClause.{next_clause}
+use Rattle.pg_run.proofs.Planned.{first_planned, others_planned}
+use Rattle.pg_run.specs.Runs.{plan_view, quota_of, setting_of}
+use Rattle.pg_store.specs.Stores.{graph_of_store}
+use Rattle.pg_syntax_tree.specs.View.{clause_view}
+use Rattle.pg_value_core.specs.Given.{parameters_view}
+use Rattle.pg_write_make.proofs.ChangedLemmas.{changed_then}
+use Rattle.pg_run.proofs.clauses.run_from.Goals as goal
+
+pub run_clause-requires-clause-planned : goal.run_clause-requires-clause-planned
+run_clause-requires-clause-planned g c =
+    let names = c.loop-clause.table.names in
+    let plan = plan_view c.loop-clause.left.now in
+    let clause = clause_view c.clause-item.result in
+    let i = c.loop-clause.clause-index in
+    let split : drop i c.args.clauses.now ≡ c.clause-item.result ∷ drop (i + 1) c.args.clauses.now =
+    drop_more c.args.clauses.now i c.clause-item.result c.loop-clause-test.true ∙ ap (λ x. x ∷ drop (i + 1) c.args.clauses.now) (sym c.clause-item.is) in
+    let here : IsPlanFrom names (clause ∷ map clause_view (drop (i + 1) c.args.clauses.now)) plan = subst (λ xs. IsPlanFrom names (map clause_view xs) plan) split c.loop-clause.invariant.planned in
+    subst (λ a. ArePlanned names clause a) (sym c.anchors_first.ensures.first) (first_planned names clause (map clause_view (drop (i + 1) c.args.clauses.now)) plan here)
+
+pub loop-clause-preserved : goal.loop-clause-preserved
+loop-clause-preserved g c =
+    let parameters = parameters_view c.args.given.now.parameters.now in
+    let limit = c.loop-clause.meter.limit in
+    let elements = c.args.given.now.max_elements in
+    let names = c.loop-clause.table.names in
+    let plan = plan_view c.loop-clause.left.now in
+    let clause = clause_view c.clause-item.result in
+    let i = c.loop-clause.clause-index in
+    let later = map clause_view (drop (i + 1) c.args.clauses.now) in
+    let before = state_of (graph_of_store g.T.Tables.seen c.loop-clause.store c.loop-clause.shared) (seen c.loop-clause.table) c.loop-clause.meter.used in
+    let after = state_of (graph_of_store g.T.Tables.seen c.run_clause.new.store c.run_clause.new.shared) (seen c.in_ok-table.table) c.run_clause.new.meter.used in
+    let says : clause_step (setting_of parameters limit elements names (first_anchors plan)) clause before ≡ Ok after =
+    subst (λ a. clause_step (setting_of parameters limit elements names a) clause before ≡ Ok after) c.anchors_first.ensures.first c.in_ok-table.ensures.gives.ok in
+    let step = next_clause parameters limit elements names plan clause later before after says in
+    let split : drop i c.args.clauses.now ≡ c.clause-item.result ∷ drop (i + 1) c.args.clauses.now =
+    drop_more c.args.clauses.now i c.clause-item.result c.loop-clause-test.true ∙ ap (λ x. x ∷ drop (i + 1) c.args.clauses.now) (sym c.clause-item.is) in
+    let here : IsPlanFrom names (clause ∷ later) plan = subst (λ xs. IsPlanFrom names (map clause_view xs) plan) split c.loop-clause.invariant.planned in
+    record {
+      left =
+          ap (λ m. clauses_run parameters (quota_of m elements) c.in_ok-table.table.names (plan_view c.anchors_first.result.1.now) later after) c.run_clause.ensures.limit
+          ∙ ap (λ ns. clauses_run parameters (quota_of limit elements) ns (plan_view c.anchors_first.result.1.now) later after) c.in_ok-table.ensures.names
+          ∙ ap (λ p. clauses_run parameters (quota_of limit elements) (scope_after names clause) p later after) c.anchors_first.ensures.others
+          ∙ sym step
+          ∙ sym (ap (λ xs. clauses_run parameters (quota_of limit elements) names plan (map clause_view xs) before) split)
+          ∙ c.loop-clause.invariant.left;
+      names =
+          ap (λ ns. fold scope_after ns later) c.in_ok-table.ensures.names
+          ∙ sym (ap (λ xs. fold scope_after names (map clause_view xs)) split)
+          ∙ c.loop-clause.invariant.names;
+      limit = search rules;
+      planned =
+          subst (λ ns. IsPlanFrom ns later (plan_view c.anchors_first.result.1.now)) (sym c.in_ok-table.ensures.names)
+          (subst (λ p. IsPlanFrom (scope_after names clause) later p) (sym c.anchors_first.ensures.others) (others_planned names clause later plan here));
+      changed = changed_then g.T.Tables.seen _ _ _ _ _ _ c.loop-clause.invariant.changed c.run_clause.ensures.changed;
+    }

@@ -1,0 +1,32 @@
+use Rattle.std.proofs.Common.{rules, [], sym, ap, subst, ◌∙◌}
+use Rattle.pg_meaning.specs.Scopes.{column_names, return_columns}
+use Rattle.pg_run.proofs.Returns.{gives_same, returned_all, returned_fails}
+use Rattle.pg_run.specs.Returning.{named_items}
+use Rattle.pg_rows.specs.States.{seen, state_of}
+use Rattle.pg_spell.specs.Telling.{IsTelling, told}
+use Rattle.pg_spell.specs.Told.{rows_told}
+use Rattle.pg_syntax_tree.specs.View.{projection_view}
+use Rattle.pg_run.proofs.returning.reply_of_all.Goals as goal
+
+pub returns-in_err-made : goal.returns-in_err-made
+returns-in_err-made g c = λ s suits.
+    let p = projection_view c.args.projection.now in
+    let state = state_of c.args.graph.now (seen c.args.table) c.args.meter.now.used in
+    let said = c.in_err-made.ensures.gives s suits in
+    let refused = returned_fails s p state in
+    record {
+      ok = search rules;
+      err = search (rules, refused, said);
+    }
+
+pub returns : goal.returns
+returns g c = λ s suits.
+    let p = projection_view c.args.projection.now in
+    let graph = c.args.graph.now in
+    let state = state_of graph (seen c.args.table) c.args.meter.now.used in
+    let t = seen c.in_ok-made.made in
+    let names = c.in_ok-made.ensures.names ∙ ap (λ ns. column_names (return_columns ns p)) (sym suits.scope_is) in
+    let begun = subst (λ ns. IsTelling graph (named_items ns) [] [] [] c.in_ok-telling.telling) c.names.ensures (c.in_ok-telling.ensures graph) in
+    gives_same c.finish.result _ (told graph (named_items t.names) (rows_told t) c.used.result) (λ bytes. bytes)
+    (returned_all s p state graph t _ (c.in_ok-made.ensures.gives s suits).ok names ∙ ap (told graph (named_items t.names) (rows_told t)) (sym c.used.ensures))
+    (c.finish.ensures graph (named_items t.names) (rows_told t) (c.in_ok-tell_table.ensures (named_items t.names) begun))

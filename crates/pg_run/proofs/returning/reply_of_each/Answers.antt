@@ -1,0 +1,33 @@
+use Rattle.std.proofs.Common.{◌≡◌, length, Ok, sym, ap, ◌∙◌}
+use Rattle.pg_meaning.specs.Answer.{◌>>=◌, each_answer}
+use Rattle.pg_meaning.specs.Meters.{spend}
+use Rattle.pg_project.specs.Cuts.{cut_view}
+use Rattle.pg_project.specs.Given.{cut_given, cut_of, trees_of, values_given}
+use Rattle.pg_run.proofs.Returns.{gives_same}
+use Rattle.pg_run.specs.Returning.{named_items}
+use Rattle.pg_rows.specs.States.{seen}
+use Rattle.pg_spell.specs.Telling.{told}
+use Rattle.pg_syntax_tree.specs.View.{projection_view}
+use Rattle.pg_value_core.specs.Given.{parameters_view}
+use Rattle.pg_run.proofs.returning.reply_of_each.Goals as goal
+
+pub returns : goal.returns
+returns g c = λ s limit.
+    let t = seen c.args.table in
+    let graph = c.args.graph.now in
+    let columns = c.args.columns.now in
+    let used = c.args.meter.now.used in
+    let p = projection_view c.args.projection.now in
+    let parameters = parameters_view c.args.parameters.now in
+    let cut = cut_view c.in_ok-cut.cut in
+    let given = each_answer (values_given parameters graph t.names (trees_of t.names c.args.ready.now.items)) t.rows in
+    let made = c.in_ok-tell_rows.ensures.ok in
+    let rows = cut_of cut made.rows in
+    let spent : spend s used (length t.rows) ≡ Ok c.spend.new.self.used = ap (spend s used) (sym (c.len.ensures ∙ ap length c.rows-rows.ensures.rows)) ∙ c.in_ok-spend.ensures.spends s limit in
+    let are : given ≡ Ok made.rows = (λ i. each_answer (values_given parameters graph (sym c.names.ensures i) (trees_of (sym c.names.ensures i) c.args.ready.now.items)) (sym c.rows-rows.ensures.rows i)) ∙ made.are in
+    gives_same c.finish.result _ (told graph (named_items columns) rows c.used.result) (λ bytes. bytes)
+    (ap (λ a. a >>= λ steps. cut_given parameters graph p.skip p.limit >>= λ k. given >>= λ found. told graph (named_items columns) (cut_of k found) steps) spent
+    ∙ ap (λ a. a >>= λ k. given >>= λ found. told graph (named_items columns) (cut_of k found) c.spend.new.self.used) c.in_ok-cut.ensures.ok
+    ∙ ap (λ a. a >>= λ found. told graph (named_items columns) (cut_of cut found) c.spend.new.self.used) are
+    ∙ ap (told graph (named_items columns) rows) (sym c.used.ensures))
+    (c.finish.ensures graph (named_items columns) rows (made.telling (named_items columns) (c.in_ok-telling.ensures graph)))

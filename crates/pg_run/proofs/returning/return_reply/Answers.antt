@@ -1,0 +1,30 @@
+use Rattle.std.proofs.Common.{◌≡◌, length, sym, ap, ◌∙◌}
+use Rattle.std.proofs.lemmas.List.{length-map}
+use Rattle.pg_group.specs.Items.{columns_of, expressions_view}
+use Rattle.pg_meaning.specs.Answer.{◌>>=◌, each_answer}
+use Rattle.pg_meaning.specs.Meters.{spend}
+use Rattle.pg_meaning.specs.Scopes.{return_columns}
+use Rattle.pg_project.specs.Given.{cut_given, cut_of, trees_of, values_given}
+use Rattle.pg_run.proofs.Returns.{gives_same, returned_each}
+use Rattle.pg_run.specs.Returning.{named_items}
+use Rattle.pg_rows.specs.States.{seen}
+use Rattle.pg_spell.specs.Telling.{told}
+use Rattle.pg_syntax_tree.specs.View.{expression_view, projection_view}
+use Rattle.pg_run.proofs.returning.return_reply.Goals as goal
+
+pub returns-then-come_in_turn : goal.returns-then-come_in_turn
+returns-then-come_in_turn g c = λ s suits.
+    let p = projection_view c.args.projection.now in
+    let graph = c.args.graph.now in
+    let t = seen c.args.table in
+    let used = c.args.meter.now.used in
+    let columns = c.in_ok-columns.columns.names in
+    let items = c.in_ok-items.items.items in
+    let es = expressions_view items in
+    let same : length columns ≡ length es = sym c.in_ok-items.ensures.len ∙ sym (length-map items (λ e. expression_view e.now)) in
+    let are : columns_of columns es ≡ return_columns s.scope p = sym c.in_ok-items.ensures.trees ∙ c.in_ok-columns.ensures ∙ ap (λ ns. return_columns ns p) (c.names.ensures ∙ sym suits.scope_is) in
+    let trees : es ≡ trees_of t.names c.in_ok-ready.ready.items = sym c.in_ok-ready.ensures.trees ∙ ap (λ ns. trees_of ns c.in_ok-ready.ready.items) c.names-then-come_in_turn.ensures in
+    gives_same c.reply_of_each.result _ _ (λ bytes. bytes)
+    (returned_each s graph p t used columns es same are (c.come_in_turn.ensures c.if-come_in_turn.true)
+    ∙ (λ i. spend s used (length t.rows) >>= λ steps. cut_given (suits.parameters_are i) graph p.skip p.limit >>= λ k. each_answer (values_given (suits.parameters_are i) graph t.names (trees i)) t.rows >>= λ found. told graph (named_items (sym c.names-then-come_in_turn-2.ensures i)) (cut_of k found) steps))
+    (c.reply_of_each.ensures s suits.steps_are)

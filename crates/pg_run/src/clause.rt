@@ -1,0 +1,128 @@
+//! One clause.
+ghost use Rattle.std.specs.Prelude.{IfOk, ◌≡◌, ◌≤◌, ◌^◌};
+ghost use Rattle.pg_meaning.specs.Plans.{ArePlanned};
+ghost use Rattle.pg_meaning.specs.Queries.{clause_step};
+ghost use Rattle.pg_meaning.specs.Scopes.{scope_after};
+ghost use Rattle.pg_rows.specs.States.{seen, state_of};
+ghost use Rattle.pg_run.specs.Runs.{anchors_view, setting_of};
+ghost use Rattle.pg_store.specs.Stores.{graph_of_store, IsFit};
+ghost use Rattle.pg_syntax_tree.specs.View.{clause_view};
+ghost use Rattle.pg_value_core.specs.Given.{parameters_view};
+ghost use Rattle.pg_value_core.specs.Gives.{Gives};
+ghost use Rattle.pg_write_make.specs.Changed.{Changed};
+
+use crate::updates::{remove_rows, set_rows};
+use pg_graph::Tables;
+use pg_match::match_rows;
+use pg_match_stages::Anchor;
+use pg_meter::Meter;
+use pg_project::{project_return, project_with, unwind_rows};
+use pg_rows::Table;
+use pg_store::{Shared, Store};
+use pg_syntax_tree::Clause;
+use pg_value_core::{Fault, Parameters};
+use pg_write_create::create_paths;
+use pg_write_delete::delete_elements;
+use pg_write_merge::merge_path;
+use std::alloc::Global;
+
+/// What a query runs with beside its graph and its steps.
+#[derive(Clone, Copy)]
+pub struct Given<'a> {
+    pub alloc: Global,
+    pub parameters: &'a Parameters,
+    pub max_elements: u64,
+}
+
+/// The rows after one clause, whose changes are in the store. After an error the store is to be taken back.
+pub(crate) fn run_clause<T: Tables>(
+    given: &Given<'_>,
+    clause: &Clause,
+    anchors: &[Anchor],
+    store: &mut Store<T>,
+    shared: &mut Shared<T::Shared>,
+    table: Table,
+    meter: &mut Meter,
+) -> Result<Table, Fault>
+    requires fit { IsFit T.seen store.old shared.old }
+    requires quota { given.now.max_elements ≤ 2 ^ 63 }
+    requires planned { ArePlanned (seen table).names (clause_view clause.now) (anchors_view anchors.now) }
+    ensures gives { Gives result (clause_step (setting_of (parameters_view given.now.parameters.now) meter.old.limit given.now.max_elements (seen table).names (anchors_view anchors.now)) (clause_view clause.now) (state_of (graph_of_store T.seen store.old shared.old) (seen table) meter.old.used)) (λ t. state_of (graph_of_store T.seen store.new shared.new) (seen t) meter.new.used) }
+    ensures names { IfOk result (λ t. (seen t).names ≡ scope_after (seen table).names (clause_view clause.now)) }
+    ensures limit { meter.new.limit ≡ meter.old.limit }
+    ensures changed { Changed T.seen store.old shared.old store.new shared.new }
+{
+    match clause {
+        Clause::Match(is_optional, paths, condition) => match_rows(
+            given.alloc,
+            *is_optional,
+            paths,
+            condition,
+            anchors,
+            given.parameters,
+            &store.graph(shared),
+            table,
+            meter,
+        ),
+        Clause::Unwind(list, name) => unwind_rows(
+            given.alloc,
+            list,
+            name,
+            given.parameters,
+            &store.graph(shared),
+            table,
+            meter,
+        ),
+        Clause::With(projection, condition) => project_with(
+            given.alloc,
+            projection,
+            condition,
+            given.parameters,
+            &store.graph(shared),
+            table,
+            meter,
+        ),
+        Clause::Return(projection) => project_return(
+            given.alloc,
+            projection,
+            given.parameters,
+            &store.graph(shared),
+            table,
+            meter,
+        ),
+        Clause::Create(paths) => create_paths(
+            given.alloc,
+            paths,
+            given.parameters,
+            given.max_elements,
+            store,
+            shared,
+            table,
+            meter,
+        ),
+        Clause::Merge(path, parts) => merge_path(
+            given.alloc,
+            path,
+            parts,
+            anchors,
+            given.parameters,
+            given.max_elements,
+            store,
+            shared,
+            table,
+            meter,
+        ),
+        Clause::Set(items) => set_rows(given, items, store, shared, table, meter),
+        Clause::Remove(items) => remove_rows(given, items, store, shared, table, meter),
+        Clause::Delete(is_detach, elements) => delete_elements(
+            given.alloc,
+            *is_detach,
+            elements,
+            given.parameters,
+            store,
+            shared,
+            table,
+            meter,
+        ),
+    }
+}

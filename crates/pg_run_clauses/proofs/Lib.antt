@@ -1,3 +1,0 @@
-mod NextClause
-mod Planned
-mod Settings

@@ -21,8 +21,8 @@ use pg_rows::Table;
 use pg_store::{Shared, Store};
 use pg_syntax_tree::Clause;
 use pg_value_core::{Fault, Parameters};
+use pg_write::delete_elements;
 use pg_write_create::create_paths;
-use pg_write_delete::delete_elements;
 use pg_write_merge::merge_path;
 use std::alloc::Global;
 

@@ -1,3 +1,4 @@
+pub mod Gathered
 pub mod Items
 pub mod Maps
 pub mod Parts

@@ -1,0 +1,79 @@
+//! DELETE: what all rows name is gathered first, so that each row sees the graph as it was.
+ghost use Rattle.std.specs.Prelude.{◌≡◌, ◌+◌, IfOk, length, map};
+ghost use Rattle.pg_meaning.specs.Meters.{Setting, spend};
+ghost use Rattle.pg_meaning.specs.Updates.{delete_clause};
+ghost use Rattle.pg_meter.specs.Quotas.{after_test};
+ghost use Rattle.pg_rows.specs.States.{Suits, seen, state_of};
+ghost use Rattle.pg_store.specs.Stores.{graph_of_store, IsFit};
+ghost use Rattle.pg_syntax_tree.specs.View.{expression_view};
+ghost use Rattle.pg_value_core.specs.Given.{parameters_view};
+ghost use Rattle.pg_value_core.specs.Gives.{Gives};
+ghost use Rattle.pg_write_make.specs.Changed.{Changed};
+
+use crate::doomed::Doomed;
+use crate::gathering::gather;
+use crate::removal::take_out;
+use pg_graph::Tables;
+use pg_meter::Meter;
+use pg_rows::Table;
+use pg_store::{Shared, Store};
+use pg_syntax_tree::Expression;
+use pg_value_core::{Fault, Parameters};
+use std::alloc::Global;
+
+// Takes in a step for each element, or none where they would pass the quota.
+fn spend_for(meter: &mut Meter, doomed: &Doomed) -> Result<(), Fault>
+    ensures spends { (s : Setting) → s.quota.max_steps ≡ meter.old.limit → spend s meter.old.used (length doomed.now.0 + length doomed.now.1) ≡ after_test result meter.new.used }
+    ensures limit { meter.new.limit ≡ meter.old.limit }
+{
+    let steps = doomed.nodes().len() + doomed.rels().len();
+    meter.spend(steps as u64)
+}
+
+// Takes out what the expressions name at all rows, at a step for each element.
+#[tactic(auto, using(pg_write_make::proofs::ChangedLemmas::unchanged))]
+fn delete_at_rows<T: Tables>(
+    alloc: Global,
+    is_detach: bool,
+    elements: &Vec<Expression>,
+    parameters: &Parameters,
+    store: &mut Store<T>,
+    shared: &Shared<T::Shared>,
+    table: &Table,
+    meter: &mut Meter,
+) -> Result<(), Fault>
+    requires fit { IsFit T.seen store.old shared.now }
+    ensures gives { (s : Setting) → Suits s (parameters_view parameters.now) meter.old.limit (seen table.now).names → Gives result (delete_clause s is_detach (map expression_view elements.now.items) (state_of (graph_of_store T.seen store.old shared.now) (seen table.now) meter.old.used)) (λ _. state_of (graph_of_store T.seen store.new shared.now) (seen table.now) meter.new.used) }
+    ensures limit { meter.new.limit ≡ meter.old.limit }
+    ensures changed { Changed T.seen store.old shared.now store.new shared.now }
+{
+    let graph = store.graph(shared);
+    let doomed = gather(alloc, is_detach, elements, parameters, &graph, table)?;
+    spend_for(meter, &doomed)?;
+    take_out(store, shared, &doomed)
+}
+
+/// Takes out the elements that the expressions name at all rows, at a step for each; with DETACH
+/// the relationships at their nodes too. The rows stay. An error leaves a part of it done, and the
+/// caller takes that back.
+pub fn delete_elements<T: Tables>(
+    alloc: Global,
+    is_detach: bool,
+    elements: &Vec<Expression>,
+    parameters: &Parameters,
+    store: &mut Store<T>,
+    shared: &Shared<T::Shared>,
+    table: Table,
+    meter: &mut Meter,
+) -> Result<Table, Fault>
+    requires fit { IsFit T.seen store.old shared.now }
+    ensures gives { (s : Setting) → Suits s (parameters_view parameters.now) meter.old.limit (seen table).names → Gives result (delete_clause s is_detach (map expression_view elements.now.items) (state_of (graph_of_store T.seen store.old shared.now) (seen table) meter.old.used)) (λ t. state_of (graph_of_store T.seen store.new shared.now) (seen t) meter.new.used) }
+    ensures names { IfOk result (λ t. (seen t).names ≡ (seen table).names) }
+    ensures limit { meter.new.limit ≡ meter.old.limit }
+    ensures changed { Changed T.seen store.old shared.now store.new shared.now }
+{
+    delete_at_rows(
+        alloc, is_detach, elements, parameters, store, shared, &table, meter,
+    )?;
+    Ok(table)
+}

@@ -1,4 +1,0 @@
-pub mod IdLemmas
-pub mod GatherLemmas
-pub mod RemovalLemmas
-pub mod ClauseLemmas

@@ -13,7 +13,7 @@ ghost use Rattle.pg_write_make.specs.Changed.{Changed};
 use crate::counts::count_new;
 use crate::creation::create_rows;
 use pg_graph::Tables;
-use pg_match_bind::bind_names;
+use pg_match_rows::bind_names;
 use pg_meter::Meter;
 use pg_rows::Table;
 use pg_store::{Shared, Store};

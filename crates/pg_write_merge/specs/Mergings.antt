@@ -1,7 +1,7 @@
 -- The parts of MERGE at a row, and what a match is read as.
 use Rattle.std.specs.Prelude.{ℕ, zero, suc, false, List, [], ◌∷◌, ◌++◌, map, Result, Ok}
-use Rattle.pg_match_bind.specs.Readings.{behind_parts, read_values}
-use Rattle.pg_match_bind.specs.declared.part.Part.{Part}
+use Rattle.pg_match_rows.specs.Readings.{behind_parts, read_values}
+use Rattle.pg_match_rows.specs.declared.part.Part.{Part}
 use Rattle.pg_match_stages.specs.declared.step.Step.{Step}
 use Rattle.pg_meaning.specs.Answer.{◌>>=◌, ◌>>◌, each_step}
 use Rattle.pg_meaning.specs.Graph.{Graph}

@@ -1,6 +1,6 @@
 //! MERGE.
 ghost use Rattle.std.specs.Prelude.{◌≡◌, ◌≢◌, ◌≤◌, ◌^◌, ◌∷◌, [], IfOk, IfErr, Ok, Err, length, map, take};
-ghost use Rattle.pg_match_bind.specs.Parts.{parts_of};
+ghost use Rattle.pg_match_rows.specs.Parts.{parts_of};
 ghost use Rattle.pg_match_stages.specs.View.{anchor_view};
 ghost use Rattle.pg_meaning.specs.Answer.{each_step};
 ghost use Rattle.pg_meaning.specs.Meters.{Setting};
@@ -21,7 +21,7 @@ ghost use Rattle.pg_write_merge.specs.Ready.{created_said, matched_said, path_sa
 use crate::merging::{Merge, prepare};
 use crate::rows::merge_rows;
 use pg_graph::Tables;
-use pg_match_bind::{Part, bind_names};
+use pg_match_rows::{Part, bind_names};
 use pg_match_stages::Anchor;
 use pg_meter::Meter;
 use pg_rows::{Columns, Rows, Table};

@@ -1,15 +1,14 @@
 //! A MERGE made ready, once a clause, for its rows.
 ghost use Rattle.std.specs.Prelude.{◌≡◌, ◌≤◌, ◌++◌, ◌∷◌, [], Bool, IfOk, length, map, take};
-ghost use Rattle.pg_match_bind.specs.Parts.{parts_of};
+ghost use Rattle.pg_match_rows.specs.Parts.{parts_of};
 ghost use Rattle.pg_meaning.specs.Patterns.{add_path_names};
 ghost use Rattle.pg_meaning.specs.Updates.{count_new, items_on};
 ghost use Rattle.pg_syntax_tree.specs.View.{on_view, path_view};
 ghost use Rattle.pg_write.specs.Items.{item_of};
 ghost use Rattle.pg_write_merge.specs.Ready.{IsReady, Means};
 
-use pg_match_bind::Part;
+use pg_match_rows::{Part, Patterns};
 use pg_match_stages::Anchor;
-use pg_match_wanted::Patterns;
 use pg_rows::Columns;
 use pg_syntax_tree::{On, PathPattern};
 use pg_value_core::Parameters;

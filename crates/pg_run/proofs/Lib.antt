@@ -1,5 +1,12 @@
 pub mod Clauses
+pub mod Items
+pub mod Members
 mod NextClause
+pub mod Places
 mod Planned
 pub mod Returns
 mod Settings
+pub mod Tells
+pub mod Told
+pub mod ValueLemmas
+pub mod Ways

@@ -23,9 +23,9 @@ use Rattle.pg_project.specs.Returned.{ComeInTurn}
 use Rattle.pg_run.specs.Returning.{RowPassed, named_items, returned}
 use Rattle.pg_rows.specs.Named.{rows_named}
 use Rattle.pg_rows.specs.States.{Named, named_rows, state_of}
-use Rattle.pg_spell.specs.Telling.{IsTelling, told}
-use Rattle.pg_spell.specs.Told.{rows_told}
-use Rattle.pg_spell.specs.declared.telling.Telling.{Telling}
+use Rattle.pg_run.specs.Telling.{IsTelling, told}
+use Rattle.pg_run.specs.Told.{rows_told}
+use Rattle.pg_run.specs.declared.telling.Telling.{Telling}
 use Rattle.pg_value_core.specs.Gives.{Gives}
 use Rattle.pg_value_core.specs.declared.out.Out.{Out}
 

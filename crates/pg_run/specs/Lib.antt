@@ -1,3 +1,7 @@
+pub mod Places
+pub mod Printed
 pub mod Returning
 pub mod Running
 pub mod Runs
+pub mod Telling
+pub mod Told

@@ -13,8 +13,8 @@ use Rattle.pg_meaning.specs.Tree.{Projection}
 use Rattle.pg_meaning.specs.Value.{Value}
 use Rattle.pg_meaning.specs.declared.fault.Fault.{Fault}
 use Rattle.pg_project.specs.Given.{Cut, cut_of}
-use Rattle.pg_spell.specs.Telling.{IsTelling, told}
-use Rattle.pg_spell.specs.declared.telling.Telling.{Telling}
+use Rattle.pg_run.specs.Telling.{IsTelling, told}
+use Rattle.pg_run.specs.declared.telling.Telling.{Telling}
 use Rattle.pg_value_core.specs.declared.out.Out.{Out}
 
 abbrev pub named_items : List (List ℕ) → Items

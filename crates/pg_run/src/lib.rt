@@ -1,11 +1,18 @@
-//! A query over a tenant's store: its clauses, one after the other, and RETURN, whose rows are told to the reply.
+//! A query over a tenant's store: its clauses, one after the other, and the reply, to which RETURN tells its rows, each value as a reply
+//! spells it out.
 #![tactic(auto)]
 
 mod clause;
 mod clauses;
+mod elements;
 mod returning;
+mod room;
 mod rows;
 mod running;
+mod spelling;
+mod stored;
+mod tables;
+mod telling;
 mod updates;
 
 pub use clause::Given;

@@ -9,11 +9,11 @@ ghost use Rattle.pg_rows.specs.Tables.{table};
 ghost use Rattle.pg_value_core.specs.Given.{parameters_view};
 ghost use Rattle.pg_value_core.specs.View.{view};
 
+use crate::telling::Telling;
 use pg_expr::{Prepared, evaluate};
 use pg_graph::Tables;
 use pg_project::Cut;
 use pg_rows::{Columns, Rows};
-use pg_spell::Telling;
 use pg_store::Snapshot;
 use pg_value_core::{Fault, Out, Parameters, Value};
 use std::alloc::Global;

@@ -15,9 +15,9 @@ use Rattle.pg_meaning.specs.Value.{Value, values_of}
 use Rattle.pg_meaning.specs.declared.fault.Fault.{Fault}
 use Rattle.pg_meaning.specs.declared.fault.Fault.TheVariants.{ReplyTooLong}
 use Rattle.pg_run.specs.Returning.{named_items, replied}
-use Rattle.pg_spell.specs.Printed.{printed_items}
-use Rattle.pg_spell.specs.Telling.{fitting}
-use Rattle.pg_spell.specs.Told.{printed_rows, test_told}
+use Rattle.pg_run.specs.Printed.{printed_items}
+use Rattle.pg_run.specs.Telling.{fitting}
+use Rattle.pg_run.specs.Told.{printed_rows, test_told}
 use Rattle.pg_tenant.proofs.AnswerLemmas.{outcome_is_no_refusal}
 use Rattle.pg_tenant.proofs.FinishedLemmas.{output}
 use Rattle.pg_tenant.specs.Answers.{Answered, row_data, outcome_text, refused, answered}

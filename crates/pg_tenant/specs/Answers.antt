@@ -9,7 +9,7 @@ use Rattle.pg_meaning.specs.Queries.{Outcome}
 use Rattle.pg_meaning.specs.Value.{Value, values_of}
 use Rattle.pg_meaning.specs.declared.fault.Fault.{Fault}
 use Rattle.pg_meaning.specs.declared.fault.Fault.TheVariants.{ReplyTooLong}
-use Rattle.pg_spell.specs.Printed.{printed_items}
+use Rattle.pg_run.specs.Printed.{printed_items}
 
 abbrev pub row_data : Graph → List Value → Data
 row_data graph row = array (printed_items graph (values_of row))

@@ -3,8 +3,8 @@ use Rattle.pg_meaning.specs.Scopes.{column_names, return_columns}
 use Rattle.pg_run.proofs.Returns.{gives_same, returned_all, returned_fails}
 use Rattle.pg_run.specs.Returning.{named_items}
 use Rattle.pg_rows.specs.States.{seen, state_of}
-use Rattle.pg_spell.specs.Telling.{IsTelling, told}
-use Rattle.pg_spell.specs.Told.{rows_told}
+use Rattle.pg_run.specs.Telling.{IsTelling, told}
+use Rattle.pg_run.specs.Told.{rows_told}
 use Rattle.pg_syntax_tree.specs.View.{projection_view}
 use Rattle.pg_run.proofs.returning.reply_of_all.Goals as goal
 

@@ -6,7 +6,7 @@ use Rattle.pg_project.specs.Given.{cut_given, cut_of, trees_of, values_given}
 use Rattle.pg_run.proofs.Returns.{gives_same}
 use Rattle.pg_run.specs.Returning.{named_items}
 use Rattle.pg_rows.specs.States.{seen}
-use Rattle.pg_spell.specs.Telling.{told}
+use Rattle.pg_run.specs.Telling.{told}
 use Rattle.pg_syntax_tree.specs.View.{projection_view}
 use Rattle.pg_value_core.specs.Given.{parameters_view}
 use Rattle.pg_run.proofs.returning.reply_of_each.Goals as goal

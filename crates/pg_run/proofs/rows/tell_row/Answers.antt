@@ -1,7 +1,7 @@
 use Rattle.std.proofs.Common.{rules, ◌≡◌, true, map, sym, subst}
 use Rattle.pg_project.specs.Given.{trees_of, values_given}
 use Rattle.pg_run.specs.Returning.{RowPassed}
-use Rattle.pg_spell.specs.Telling.{IsTelling}
+use Rattle.pg_run.specs.Telling.{IsTelling}
 use Rattle.pg_value_core.specs.Given.{parameters_view}
 use Rattle.pg_value_core.specs.View.{view}
 use Rattle.pg_run.proofs.rows.tell_row.Goals as goal

@@ -2,8 +2,8 @@ use Rattle.std.proofs.Common.{rules, ◌≡◌, true, false, [], ap, subst}
 use Rattle.pg_run.proofs.Returns.{gives_same}
 use Rattle.pg_run.specs.Returning.{named_items, replied}
 use Rattle.pg_rows.specs.States.{seen, state_of}
-use Rattle.pg_spell.specs.Telling.{IsTelling, told}
-use Rattle.pg_spell.specs.Told.{rows_told}
+use Rattle.pg_run.specs.Telling.{IsTelling, told}
+use Rattle.pg_run.specs.Told.{rows_told}
 use Rattle.pg_run.proofs.running.reply_of.Goals as goal
 
 pub returns-then-not-returns : goal.returns-then-not-returns

@@ -1,0 +1,136 @@
+-- A value of each kind, as it is seen and spelt out, and the first fault in a list or a map.
+use Rattle.std.proofs.Common.{◌≡◌, ◌≢◌, ℕ, ◌+◌, ◌-◌, List, ◌∷◌, Err, Vec, BTreeMap, String, Global, Bool, ℤ, string_bytes, rules, sym, ap, ◌∙◌, arith}
+use Rattle.serde_json.specs.Data as json
+use Rattle.pg_json.specs.Replies.{data_of, named_outs, outs}
+use Rattle.pg_json.specs.Room.{items_least, least, members_least}
+use Rattle.pg_meaning.specs.Answer.{◌>>◌}
+use Rattle.pg_meaning.specs.Graph.{Graph}
+use Rattle.pg_meaning.specs.Queries.{test_entries, test_items, test_output}
+use Rattle.pg_meaning.specs.Value as seen
+use Rattle.pg_meaning.specs.declared.fault.Fault.{Fault}
+use Rattle.pg_run.proofs.Items.{ItemsWithin}
+use Rattle.pg_run.proofs.Members.{MembersWithin, Named, Pair}
+use Rattle.pg_run.specs.Printed.{printed, printed_items, printed_members}
+use Rattle.pg_value_core.specs.View.{entries_view, values_view, view}
+use Rattle.pg_value_core.specs.declared.ids.NodeId.{NodeId}
+use Rattle.pg_value_core.specs.declared.ids.Path.{Path}
+use Rattle.pg_value_core.specs.declared.ids.RelId.{RelId}
+use Rattle.pg_value_core.specs.declared.out.Out.{Out}
+use Rattle.pg_value_core.specs.declared.out.Out as out
+use Rattle.pg_value_core.specs.declared.value.Value.{Value}
+use Rattle.pg_value_core.specs.declared.value.Value as value
+
+-- ---- what a value is seen as
+
+view_null : view value.Null ≡ seen.null
+view_null = search (rules, value.the_lemmas)
+
+view_bool : (b : Bool) → view (value.Bool b) ≡ seen.boolean b
+view_bool b = search (rules, value.the_lemmas)
+
+view_int : (i : ℤ) → view (value.Int i) ≡ seen.integer i
+view_int i = search (rules, value.the_lemmas)
+
+view_text : (s : String Global) → view (value.Text s) ≡ seen.text (string_bytes s)
+view_text s = search (rules, value.the_lemmas)
+
+view_list : (items : Vec Value Global) → view (value.List items) ≡ seen.list (values_view items.items)
+view_list items = search (rules, value.the_lemmas)
+
+view_map : (entries : BTreeMap (String Global) Value) → view (value.Map entries) ≡ seen.mapping (entries_view entries.entries)
+view_map entries = search (rules, value.the_lemmas)
+
+view_node : (id : NodeId) → view (value.Node id) ≡ seen.node id.0
+view_node id = search (rules, value.the_lemmas)
+
+view_rel : (id : RelId) → view (value.Rel id) ≡ seen.relationship id.0
+view_rel id = search (rules, value.the_lemmas)
+
+view_path : (path : Path) → view (value.Path path) ≡ seen.path path.0.items
+view_path path = search (rules, value.the_lemmas)
+
+data_null : data_of out.Null ≡ json.null
+data_null = search (rules, out.the_lemmas)
+
+data_bool : (b : Bool) → data_of (out.Bool b) ≡ json.boolean b
+data_bool b = search (rules, out.the_lemmas)
+
+data_text : (s : String Global) → data_of (out.Text s) ≡ json.string (string_bytes s)
+data_text s = search (rules, out.the_lemmas)
+
+data_list : (found : Vec Out Global) → data_of (out.List found) ≡ json.array (outs found.items)
+data_list found = search (rules, out.the_lemmas)
+
+data_map : (found : BTreeMap (String Global) Out) → data_of (out.Map found) ≡ json.object (named_outs found.entries)
+data_map found = search (rules, out.the_lemmas)
+
+module _ (v : Value) where
+  pub null_seen : v ≡ value.Null → view v ≡ seen.null
+  null_seen e = ap view e ∙ view_null
+
+  pub bool_seen : (b : Bool) → v ≡ value.Bool b → view v ≡ seen.boolean b
+  bool_seen b e = ap view e ∙ view_bool b
+
+  pub int_seen : (i : ℤ) → v ≡ value.Int i → view v ≡ seen.integer i
+  int_seen i e = ap view e ∙ view_int i
+
+  pub text_seen : (s : String Global) → v ≡ value.Text s → view v ≡ seen.text (string_bytes s)
+  text_seen s e = ap view e ∙ view_text s
+
+  pub list_seen : (items : Vec Value Global) → v ≡ value.List items → view v ≡ seen.list (values_view items.items)
+  list_seen items e = ap view e ∙ view_list items
+
+  pub map_seen : (entries : BTreeMap (String Global) Value) → v ≡ value.Map entries → view v ≡ seen.mapping (entries_view entries.entries)
+  map_seen entries e = ap view e ∙ view_map entries
+
+  pub node_seen : (id : NodeId) → v ≡ value.Node id → view v ≡ seen.node id.0
+  node_seen id e = ap view e ∙ view_node id
+
+  pub rel_seen : (id : RelId) → v ≡ value.Rel id → view v ≡ seen.relationship id.0
+  rel_seen id e = ap view e ∙ view_rel id
+
+  pub path_seen : (path : Path) → v ≡ value.Path path → view v ≡ seen.path path.0.items
+  path_seen path e = ap view e ∙ view_path path
+
+module _ (graph : Graph) (v : Value) where
+  pub null_shown : v ≡ value.Null → data_of out.Null ≡ printed graph (view v)
+  null_shown e = data_null ∙ ap (printed graph) (sym (null_seen v e))
+
+  pub bool_shown : (b : Bool) → v ≡ value.Bool b → data_of (out.Bool b) ≡ printed graph (view v)
+  bool_shown b e = data_bool b ∙ ap (printed graph) (sym (bool_seen v b e))
+
+  pub text_shown : (s : String Global) → v ≡ value.Text s → data_of (out.Text s) ≡ printed graph (view v)
+  text_shown s e = data_text s ∙ ap (printed graph) (sym (text_seen v s e))
+
+  -- a value that holds no other, within the room
+  pub room_behind_it : (room next : ℕ) (one : Out) → next ≡ room - least (data_of one) → data_of one ≡ printed graph (view v) → next ≡ room - least (printed graph (view v))
+  room_behind_it room next one left same = left ∙ ap (λ d. room - least d) same
+
+  pub data_within : (next : ℕ) (one given : Out) → (next ≢ 0 → given ≡ one) → data_of one ≡ printed graph (view v) → next ≢ 0 → data_of given ≡ printed graph (view v)
+  data_within next one given is same some = ap data_of (is some) ∙ same
+
+  -- a list and a map, within the room
+  room_inside : (room less next n : ℕ) → less ≡ room - 1 → next ≡ less - n → next ≡ room - (n + 1)
+  room_inside room less next n first left = omega (arith, first, left)
+
+  module _ (room less next : ℕ) (first : less ≡ room - 1) where
+    pub list_room : (items : Vec Value Global) → v ≡ value.List items → next ≡ less - items_least (printed_items graph (values_view items.items)) → next ≡ room - least (printed graph (view v))
+    list_room items e left = room_inside room less next (items_least (printed_items graph (values_view items.items))) first left ∙ ap (λ w. room - least (printed graph w)) (sym (list_seen v items e))
+
+    pub map_room : (entries : BTreeMap (String Global) Value) → v ≡ value.Map entries → next ≡ less - members_least (printed_members graph (entries_view entries.entries)) → next ≡ room - least (printed graph (view v))
+    map_room entries e left = room_inside room less next (members_least (printed_members graph (entries_view entries.entries))) first left ∙ ap (λ w. room - least (printed graph w)) (sym (map_seen v entries e))
+
+  pub list_shown : (items : Vec Value Global) (found : Vec Out Global) → v ≡ value.List items → outs found.items ≡ printed_items graph (values_view items.items) → data_of (out.List found) ≡ printed graph (view v)
+  list_shown items found e same = data_list found ∙ ap json.array same ∙ ap (printed graph) (sym (list_seen v items e))
+
+  pub map_shown : (entries : BTreeMap (String Global) Value) (found : BTreeMap (String Global) Out) → v ≡ value.Map entries → named_outs found.entries ≡ printed_members graph (entries_view entries.entries) → data_of (out.Map found) ≡ printed graph (view v)
+  map_shown entries found e same = data_map found ∙ ap json.object same ∙ ap (printed graph) (sym (map_seen v entries e))
+
+-- ---- the first fault
+
+module _ (graph : Graph) (start room : ℕ) where
+  pub item_refused : (all rest more : List Value) (found : List Out) (v : Value) (e : Fault) → ItemsWithin graph start room all rest found → rest ≡ v ∷ more → test_output graph (view v) ≡ Err e → test_items graph (values_view all) ≡ Err e
+  item_refused all rest more found v e so_far is fault = so_far.tests ∙ ap (λ vs. test_items graph (values_view vs)) is ∙ ap (λ t. t >> test_items graph (values_view more)) fault
+
+  pub entry_refused : (all rest more : List Pair) (found : List Named) (p : Pair) (e : Fault) → MembersWithin graph start room all rest found → rest ≡ p ∷ more → test_output graph (view p.1) ≡ Err e → test_entries graph (entries_view all) ≡ Err e
+  entry_refused all rest more found p e so_far is fault = so_far.tests ∙ ap (λ es. test_entries graph (entries_view es)) is ∙ ap (λ t. t >> test_entries graph (entries_view more)) fault

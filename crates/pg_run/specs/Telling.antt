@@ -1,0 +1,52 @@
+-- A query's reply while its rows are told: written as long as it may fit, then looked through for its fault alone.
+use Rattle.std.specs.Prelude.{◌≡◌, ◌≢◌, ℕ, ◌+◌, ◌-◌, nat_le, List, length, Result, Ok, Err, Option, Some, None, if◌then◌else◌}
+use Rattle.serde_json.specs.Data.{Items}
+use Rattle.pg_json.specs.Replies.{outs, max_reply}
+use Rattle.pg_json.specs.Room.{items_least}
+use Rattle.pg_json.specs.Rows.{HasWritten, rows_data, rows_text}
+use Rattle.pg_meaning.specs.Answer.{◌>>◌}
+use Rattle.pg_meaning.specs.Graph.{Graph}
+use Rattle.pg_meaning.specs.Queries.{test_items}
+use Rattle.pg_meaning.specs.Value.{Value, values_of}
+use Rattle.pg_meaning.specs.declared.fault.Fault.{Fault}
+use Rattle.pg_meaning.specs.declared.fault.Fault.TheVariants.{OutOfMemory, ReplyTooLong}
+use Rattle.pg_run.specs.Printed.{printed_items}
+use Rattle.pg_run.specs.Told.{printed_rows, test_told}
+use Rattle.pg_run.specs.declared.telling.Telling.{Telling}
+use Rattle.pg_value_core.specs.declared.out.Out.{Out}
+
+-- ---- what a query's rows are answered
+
+-- a text that a reply may have
+abbrev pub fitting : List ℕ → Result (List ℕ) Fault
+fitting text = if nat_le (length text) max_reply then Ok text else Err ReplyTooLong
+
+-- the reply of these rows: a deleted element is told before a length
+abbrev pub told : Graph → (columns : Items) → List (List Value) → (steps : ℕ) → Result (List ℕ) Fault
+told graph columns rows steps = test_told graph rows >> fitting (rows_text columns (printed_rows graph rows) steps)
+
+-- ---- before all rows are there
+
+-- what the test has found so far
+abbrev pub Tested : Option Fault → Result (Unit {0}) Fault → Type 0
+Tested None r = r ≡ Ok tt
+Tested (Some e) r = e ≢ OutOfMemory → r ≡ Err e
+
+-- a length that the rows' text has at least
+abbrev pub rows_least : Graph → List (List Value) → ℕ
+rows_least graph rows = items_least (rows_data (printed_rows graph rows))
+
+-- one byte more than a reply may have
+abbrev pub whole_room : ℕ
+whole_room = max_reply + 1
+
+-- these rows are told, and of one row more these values
+pub record IsTelling (graph : Graph) (columns : Items) (rows : List (List Value)) (row : List Value) (found : List Out) (t : Telling) : Type 0 where
+  pub tested : Tested t.fault (test_told graph rows >> test_items graph (values_of row))
+  pub counted : t.fault ≡ None → t.room ≡ whole_room - rows_least graph rows - items_least (printed_items graph (values_of row))
+  pub shown : t.fault ≡ None → t.room ≢ 0 → outs found ≡ printed_items graph (values_of row)
+  pub written : t.fault ≡ None → t.room ≢ 0 → HasWritten t.reply columns (printed_rows graph rows)
+
+-- no reply of rows can come of it any more: a fault was found, or there is no room for what was told
+abbrev pub IsLost : Telling → Type 0
+IsLost t = t.fault ≡ None → t.room ≡ 0

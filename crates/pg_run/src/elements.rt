@@ -1,0 +1,136 @@
+//! Nodes, relationships and paths of a store, spelt out as long as there is room for them.
+ghost use Rattle.std.specs.Prelude.{◌≡◌, ◌≢◌, ◌-◌, IfOk, IfErr, Ok, Err};
+ghost use Rattle.pg_json.specs.Replies.{data_of, path_data};
+ghost use Rattle.pg_json.specs.Room.{least};
+ghost use Rattle.pg_meaning.specs.Graph.{node_at, has_node, relationship_at, has_relationship};
+ghost use Rattle.pg_meaning.specs.Queries.{test_present, test_ids};
+ghost use Rattle.pg_meaning.specs.declared.fault.Fault.TheVariants.{OutOfMemory};
+ghost use Rattle.pg_run.specs.Printed.{shown_node, shown_relationship, path_items};
+ghost use Rattle.pg_run.specs.Places.{test_place, shown_place};
+
+use crate::room::within;
+use crate::stored::spell_stored_entries;
+use pg_graph::Tables;
+use pg_store::Snapshot;
+use pg_value_core::{Fault, NodeId, Out, Path, RelId};
+use std::alloc::Global;
+
+pub(crate) fn spell_node<T: Tables>(
+    alloc: Global,
+    graph: &Snapshot<'_, T>,
+    id: NodeId,
+    room: &mut usize,
+) -> Result<Out, Fault>
+    ensures live { IfOk result (λ out. test_present (has_node graph.now id.0) ≡ Ok tt) }
+    ensures room { IfOk result (λ out. room.new ≡ room.old - least (shown_node graph.now id.0 (node_at graph.now id.0))) }
+    ensures data { IfOk result (λ out. room.new ≢ 0 → data_of out ≡ shown_node graph.now id.0 (node_at graph.now id.0)) }
+    ensures err { IfErr result (λ e. e ≢ OutOfMemory → test_present (has_node graph.now id.0) ≡ Err e) }
+{
+    if *room == 0 {
+        return nothing_shown(graph.has_node(id));
+    }
+    Ok(within(whole_node(alloc, graph, id)?, room))
+}
+
+pub(crate) fn spell_rel<T: Tables>(
+    alloc: Global,
+    graph: &Snapshot<'_, T>,
+    id: RelId,
+    room: &mut usize,
+) -> Result<Out, Fault>
+    ensures live { IfOk result (λ out. test_present (has_relationship graph.now id.0) ≡ Ok tt) }
+    ensures room { IfOk result (λ out. room.new ≡ room.old - least (shown_relationship graph.now id.0 (relationship_at graph.now id.0))) }
+    ensures data { IfOk result (λ out. room.new ≢ 0 → data_of out ≡ shown_relationship graph.now id.0 (relationship_at graph.now id.0)) }
+    ensures err { IfErr result (λ e. e ≢ OutOfMemory → test_present (has_relationship graph.now id.0) ≡ Err e) }
+{
+    if *room == 0 {
+        return nothing_shown(graph.has_rel(id));
+    }
+    Ok(within(whole_rel(alloc, graph, id)?, room))
+}
+
+/// The test of an element that there is no room for.
+fn nothing_shown(is_there: bool) -> Result<Out, Fault>
+    ensures live { IfOk result (λ out. test_present is_there ≡ Ok tt) }
+    ensures err { IfErr result (λ e. test_present is_there ≡ Err e) }
+{
+    if is_there {
+        Ok(Out::Null)
+    } else {
+        Err(Fault::DeletedEntity)
+    }
+}
+
+fn whole_node<T: Tables>(alloc: Global, graph: &Snapshot<'_, T>, id: NodeId) -> Result<Out, Fault>
+    ensures live { IfOk result (λ out. test_present (has_node graph.now id.0) ≡ Ok tt) }
+    ensures data { IfOk result (λ out. data_of out ≡ shown_node graph.now id.0 (node_at graph.now id.0)) }
+    ensures err { IfErr result (λ e. e ≢ OutOfMemory → test_present (has_node graph.now id.0) ≡ Err e) }
+{
+    match graph.node_texts(alloc, id)? {
+        Some(node) => Ok(Out::Node {
+            id,
+            labels: node.labels,
+            properties: spell_stored_entries(alloc, node.properties)?,
+        }),
+        None => Err(Fault::DeletedEntity),
+    }
+}
+
+fn whole_rel<T: Tables>(alloc: Global, graph: &Snapshot<'_, T>, id: RelId) -> Result<Out, Fault>
+    ensures live { IfOk result (λ out. test_present (has_relationship graph.now id.0) ≡ Ok tt) }
+    ensures data { IfOk result (λ out. data_of out ≡ shown_relationship graph.now id.0 (relationship_at graph.now id.0)) }
+    ensures err { IfErr result (λ e. e ≢ OutOfMemory → test_present (has_relationship graph.now id.0) ≡ Err e) }
+{
+    match graph.rel_texts(alloc, id)? {
+        Some(rel) => Ok(Out::Rel {
+            id,
+            kind: rel.kind,
+            start: rel.source,
+            end: rel.target,
+            properties: spell_stored_entries(alloc, rel.properties)?,
+        }),
+        None => Err(Fault::DeletedEntity),
+    }
+}
+
+pub(crate) fn spell_path<T: Tables>(
+    alloc: Global,
+    graph: &Snapshot<'_, T>,
+    path: Path,
+    room: &mut usize,
+) -> Result<Out, Fault>
+    ensures live { IfOk result (λ out. test_ids graph.now path.0.items ≡ Ok tt) }
+    ensures room { IfOk result (λ out. room.new ≡ room.old - least (path_data (path_items graph.now path.0.items))) }
+    ensures data { IfOk result (λ out. room.new ≢ 0 → data_of out ≡ path_data (path_items graph.now path.0.items)) }
+    ensures err { IfErr result (λ e. e ≢ OutOfMemory → test_ids graph.now path.0.items ≡ Err e) }
+{
+    *room = room.saturating_sub(11);
+    let mut found = Vec::with_capacity(alloc, path.0.len())?;
+    let mut is_node = true;
+    for id in &path.0 {
+        *room = room.saturating_sub(1);
+        found.push(spell_place(alloc, graph, is_node, *id, room)?)?;
+        is_node = !is_node;
+    }
+    Ok(Out::Path(found))
+}
+
+// A node's or a relationship's place in a path.
+fn spell_place<T: Tables>(
+    alloc: Global,
+    graph: &Snapshot<'_, T>,
+    is_node: bool,
+    id: u64,
+    room: &mut usize,
+) -> Result<Out, Fault>
+    ensures live { IfOk result (λ out. test_place graph.now is_node id ≡ Ok tt) }
+    ensures room { IfOk result (λ out. room.new ≡ room.old - least (shown_place graph.now is_node id)) }
+    ensures data { IfOk result (λ out. room.new ≢ 0 → data_of out ≡ shown_place graph.now is_node id) }
+    ensures err { IfErr result (λ e. e ≢ OutOfMemory → test_place graph.now is_node id ≡ Err e) }
+{
+    if is_node {
+        spell_node(alloc, graph, NodeId(id), room)
+    } else {
+        spell_rel(alloc, graph, RelId(id), room)
+    }
+}

@@ -1,0 +1,61 @@
+//! The rows of a table, told one after the other.
+ghost use Rattle.std.specs.Prelude.{◌≡◌, [], List, IfOk, OnOk, map};
+ghost use Rattle.serde_json.specs.Data.{Items};
+ghost use Rattle.pg_meaning.specs.Value.{Value as Datum};
+ghost use Rattle.pg_rows.specs.States.{seen};
+ghost use Rattle.pg_rows.specs.Tables.{table};
+ghost use Rattle.pg_run.specs.Telling.{IsTelling};
+ghost use Rattle.pg_run.specs.Told.{rows_told};
+ghost use Rattle.pg_value_core.specs.View.{view};
+
+use crate::telling::Telling;
+use pg_graph::Tables;
+use pg_rows::{Rows, Table};
+use pg_store::Snapshot;
+use pg_value_core::{Out, Value};
+use std::alloc::{AllocError, Global};
+
+/// Tells all rows of a table.
+#[tactic(auto, using(crate::proofs::Told::told_is_table))]
+pub(crate) fn tell_table<T: Tables>(
+    alloc: Global,
+    graph: &Snapshot<'_, T>,
+    table: Table,
+    telling: &mut Telling,
+) -> Result<(), AllocError>
+    ensures { (columns : Items) → IsTelling graph.now columns [] [] [] telling.old → OnOk result (IsTelling graph.now columns (rows_told (seen table)) [] [] telling.new) }
+{
+    let (_names, rows) = table.split();
+    tell_rows(alloc, graph, rows, telling)
+}
+
+fn tell_rows<T: Tables>(
+    alloc: Global,
+    graph: &Snapshot<'_, T>,
+    rows: Rows,
+    telling: &mut Telling,
+) -> Result<(), AllocError>
+    ensures { (columns : Items) → IsTelling graph.now columns [] [] [] telling.old → OnOk result (IsTelling graph.now columns (table rows) [] [] telling.new) }
+{
+    let mut left = rows.into_left();
+    while let Some(row) = left.next_row(alloc)? {
+        let outs = tell_values(alloc, graph, row, telling)?;
+        telling.end_row(outs.as_slice())?;
+    }
+    Ok(())
+}
+
+fn tell_values<T: Tables>(
+    alloc: Global,
+    graph: &Snapshot<'_, T>,
+    row: Vec<Value>,
+    telling: &mut Telling,
+) -> Result<Vec<Out>, AllocError>
+    ensures { (columns : Items) (rows : List (List Datum)) → IsTelling graph.now columns rows [] [] telling.old → IfOk result (λ outs. IsTelling graph.now columns rows (map view row.items) outs.items telling.new) }
+{
+    let mut outs = Vec::with_capacity(alloc, row.len())?;
+    for value in row {
+        outs.push(telling.take(alloc, graph, value))?;
+    }
+    Ok(outs)
+}

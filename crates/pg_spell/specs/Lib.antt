@@ -1,4 +1,0 @@
-pub mod Printed
-pub mod Places
-pub mod Told
-pub mod Telling

@@ -4,7 +4,7 @@ use Rattle.std.proofs.lemmas.Slice.Eq.{bytes_eq-Decides}
 use Rattle.std.specs.Cmp.Lexicographic.{pointwise, pointwise_decides}
 use Rattle.std.specs.Str.{bytes_eq}
 use Rattle.std.specs.String.{string_eq}
-use Rattle.pg_anchors.specs.Catalogue.{catalogue_view}
+use Rattle.pg_plan.specs.Catalogue.{catalogue_view}
 use Rattle.pg_meaning.specs.Plans.{Catalogue}
 use Rattle.pg_cache.specs.Cache.{Key, key_view, same_index, same_key}
 use Rattle.pg_cache.specs.declared.key.Key as kept_key

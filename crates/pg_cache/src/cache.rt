@@ -1,7 +1,7 @@
 //! A cache of plans under their texts and indexes, of which the last used stay.
 ghost use Rattle.std.specs.Prelude.{◌≡◌, ◌≢◌, None, Some, IfOk, IfErr, Err, string_bytes};
 ghost use Rattle.std.specs.NonZero.{non_zero_usize_get};
-ghost use Rattle.pg_anchors.specs.Catalogue.{catalogue_view};
+ghost use Rattle.pg_plan.specs.Catalogue.{catalogue_view};
 ghost use Rattle.pg_cache.specs.Cache.{empty_cache, kept, key_of, key_view, IsHit, IsMiss, MayKeep};
 ghost use Rattle.pg_meaning.specs.declared.fault.Fault.TheVariants.{OutOfMemory};
 ghost use Rattle.pg_plan.specs.Plans.{IsPlanOfText};

@@ -1,3 +1,6 @@
+pub mod LeadLemmas
 pub mod MeaningLemmas
+pub mod PlaceLemmas
 mod ReturnLemmas
+pub mod SameLemmas
 mod TextLemmas

@@ -1,6 +1,10 @@
+pub mod Anchors
 pub mod Begins
+pub mod Catalogue
 pub mod Laws
+pub mod Leads
 pub mod Parameters
+pub mod Places
 pub mod Plans
 pub mod Reading
 pub mod Returns

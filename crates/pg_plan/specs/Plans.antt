@@ -1,6 +1,6 @@
 -- A plan as the program keeps it, the query that it is of, and where its walks begin.
 use Rattle.std.specs.Prelude.{◌≡◌, ℕ, List, Ok}
-use Rattle.pg_anchors.specs.Plans.{plan_view}
+use Rattle.pg_plan.specs.Anchors.{plan_view}
 use Rattle.pg_meaning.specs.Plans as plans
 use Rattle.pg_meaning.specs.Tree.{Query}
 use Rattle.pg_meaning.specs.Texts.{text_checked}

@@ -1,12 +1,19 @@
-//! From a query text to its plan.
+//! From a query text to its plan: at which node the walk of each path begins, and over which index, for the indexes that there are.
 #![tactic(auto)]
 
 ghost use Rattle.pg_plan.specs.Laws.{PlansAreGood, TextsMean};
 
+mod anchor;
+mod anchors;
+mod conjuncts;
+mod leads;
+mod nodes;
 mod parameters;
+mod places;
 mod plan;
 mod reading;
 mod returning;
+mod serving;
 mod updates;
 
 pub use plan::{Catalogue, Plan};

@@ -1,6 +1,6 @@
 //! What is kept of a query text.
 ghost use Rattle.std.specs.Prelude.{◌≡◌, map, string_bytes};
-ghost use Rattle.pg_anchors.specs.Plans.{plan_view};
+ghost use Rattle.pg_plan.specs.Anchors.{plan_view};
 ghost use Rattle.pg_meaning.specs.Grammar.{parameters_of};
 ghost use Rattle.pg_meaning.specs.Plans.{IsPlanOf};
 ghost use Rattle.pg_meaning.specs.Queries as queries;

@@ -1,6 +1,6 @@
 //! From a query text to its plan.
 ghost use Rattle.std.specs.Prelude.{◌≡◌, ◌≢◌, IfOk, IfErr, Ok, Err, map, string_bytes};
-ghost use Rattle.pg_anchors.specs.Catalogue.{catalogue_view};
+ghost use Rattle.pg_plan.specs.Catalogue.{catalogue_view};
 ghost use Rattle.pg_meaning.specs.Grammar.{parameters_of};
 ghost use Rattle.pg_meaning.specs.Texts as spec;
 ghost use Rattle.pg_meaning.specs.declared.fault.Fault.TheVariants.{OutOfMemory};
@@ -10,9 +10,9 @@ ghost use Rattle.pg_plan.specs.Reading.{tested_length};
 ghost use Rattle.pg_plan.specs.Returns.{ReturnsLast};
 ghost use Rattle.pg_syntax_tree.specs.View.{query_view};
 
+use crate::anchors::plan_anchors;
 use crate::parameters::parameter_names;
 use crate::plan::{Catalogue, Plan};
-use pg_anchors::plan_anchors;
 use pg_lex::tokens;
 use pg_meaning::Fault;
 use pg_scope::check;

@@ -6,7 +6,7 @@ use Rattle.std.specs.Str.{bytes_eq}
 use Rattle.std.specs.declared.alloc.Global.{Global}
 use Rattle.std.specs.declared.cmp.Ordering.{Ordering}
 use Rattle.std.specs.declared.rc.Rc.{Rc}
-use Rattle.pg_anchors.specs.Catalogue.{catalogue_view}
+use Rattle.pg_plan.specs.Catalogue.{catalogue_view}
 use Rattle.pg_json.specs.Refusals.{done_text}
 use Rattle.pg_meaning.specs.Answer.{◌>>◌, unless}
 use Rattle.pg_meaning.specs.Order.{text_order}

@@ -1,6 +1,6 @@
 //! The indexes of a tenant as texts, in the order of their bytes.
 ghost use Rattle.std.specs.Prelude.{◌≡◌, ◌++◌, filter, IfOk, OnOk, string_bytes};
-ghost use Rattle.pg_anchors.specs.Catalogue.{catalogue_view};
+ghost use Rattle.pg_plan.specs.Catalogue.{catalogue_view};
 ghost use Rattle.pg_meaning.specs.Plans as spec;
 ghost use Rattle.pg_tenant.specs.Indexes.{is_same, is_on_side as on_side, stands_before, with_index as with_one, without_index as without_one};
 

@@ -1,4 +1,4 @@
-use Rattle.pg_anchors.specs.Catalogue.{catalogue_view}
+use Rattle.pg_plan.specs.Catalogue.{catalogue_view}
 use Rattle.pg_syntax_tree.specs.View.{query_view}
 use Rattle.pg_plan.proofs.MeaningLemmas.{begins_well}
 use Rattle.pg_plan.proofs.reading.plan_text.Goals as goal

@@ -1,5 +1,5 @@
 use Rattle.std.proofs.Common.{◌≡◌, ◌++◌, drop}
-use Rattle.pg_anchors.specs.Catalogue.{catalogue_view}
+use Rattle.pg_plan.specs.Catalogue.{catalogue_view}
 use Rattle.pg_tenant.proofs.catalogue.copy_indexes.Given as goal
 
 abbrev pub invariant-loop-index : goal.invariant-loop-index

@@ -1,5 +1,5 @@
 use Rattle.std.proofs.Common.{◌≡◌, ◌++◌, drop, filter}
-use Rattle.pg_anchors.specs.Catalogue.{catalogue_view}
+use Rattle.pg_plan.specs.Catalogue.{catalogue_view}
 use Rattle.pg_tenant.specs.Indexes.{is_on_side}
 use Rattle.pg_tenant.proofs.catalogue.push_side.Given as goal
 

@@ -4,7 +4,7 @@ use Rattle.pg_meaning.specs.Answer.{◌>>=◌}
 use Rattle.pg_meaning.specs.Queries.{returns}
 use Rattle.pg_meaning.specs.Scopes.{columns, scope_after}
 use Rattle.pg_meaning.specs.Tree.{Query}
-use Rattle.pg_anchors.specs.Plans.{plan_view}
+use Rattle.pg_plan.specs.Anchors.{plan_view}
 use Rattle.pg_plan.specs.Plans.{plan_anchors, plan_query}
 use Rattle.pg_store.specs.Stores.{graph_of_store}
 use Rattle.pg_syntax_tree.specs.View.{clause_view}

@@ -1,5 +1,5 @@
 use Rattle.std.proofs.Common.{◌≡◌, ◌<◌, Ok, Vec, String, Global, arith, length, rules, string_bytes, ap, subst, sym, inl, ◌∙◌}
-use Rattle.pg_anchors.specs.Catalogue.{catalogue_view}
+use Rattle.pg_plan.specs.Catalogue.{catalogue_view}
 use Rattle.pg_cache.proofs.Seen.{look_up_is_seen}
 use Rattle.pg_cache.specs.Cache.{CacheSeen, IsLookUp, cache_seen, key_of}
 use Rattle.pg_meaning.specs.Plans.{Catalogue}

@@ -1,5 +1,5 @@
 use Rattle.std.proofs.Common.{String, Global, Vec, ap, ◌∙◌}
-use Rattle.pg_anchors.specs.Catalogue.{catalogue_view}
+use Rattle.pg_plan.specs.Catalogue.{catalogue_view}
 use Rattle.pg_server.proofs.ReplyLemmas.{status_is}
 use Rattle.pg_server.specs.State.{State}
 use Rattle.pg_tenant.specs.Indexes.{indexes_of}

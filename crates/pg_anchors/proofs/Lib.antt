@@ -1,3 +1,0 @@
-pub mod LeadLemmas
-pub mod SameLemmas
-pub mod PlaceLemmas

@@ -1,4 +1,0 @@
-pub mod Catalogue
-pub mod Leads
-pub mod Places
-pub mod Plans

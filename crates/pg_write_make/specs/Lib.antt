@@ -1,4 +1,8 @@
+pub mod Bindings
 pub mod Changed
+pub mod Creations
+pub mod Lent
+pub mod Makings
 pub mod Outcomes
 pub mod Scenes
 pub mod Values

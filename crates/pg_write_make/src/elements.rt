@@ -44,7 +44,7 @@ fn test_room<T: Tables>(graph: &Snapshot<'_, T>, max_elements: u64) -> Result<()
 
 /// Adds a node, as the pattern says and with these properties, or what stands in their place.
 #[tactic(auto, using(crate::proofs::ChangedLemmas::unchanged, crate::proofs::ChangedLemmas::one_change, crate::proofs::RoomLemmas::few_elements))]
-pub fn add_node<T: Tables>(
+pub(crate) fn add_node<T: Tables>(
     alloc: Global,
     store: &mut Store<T>,
     shared: &mut Shared<T::Shared>,
@@ -96,7 +96,7 @@ fn add_between<T: Tables>(
 
 /// Adds a relationship between two nodes, with these properties, or what stands in their place.
 #[tactic(auto, using(crate::proofs::ChangedLemmas::unchanged, crate::proofs::RoomLemmas::few_elements))]
-pub fn add_relationship<T: Tables>(
+pub(crate) fn add_relationship<T: Tables>(
     alloc: Global,
     store: &mut Store<T>,
     shared: &mut Shared<T::Shared>,

@@ -1,16 +1,27 @@
-//! What every change of a graph by a clause stands on, and elements made of what their expressions give.
+//! CREATE: paths made at the rows of a table; and what every change of a graph by a clause stands on.
 #![tactic(auto)]
 
+mod binding;
+mod bound;
 mod charge;
+mod clause;
+mod counts;
+mod creation;
 mod elements;
+mod hops;
+mod kept;
+mod making;
+mod paths;
 mod scene;
 mod storable;
 mod texts;
+mod trails;
 mod values;
 
 pub use charge::spend_for_rows;
-pub use elements::{add_node, add_relationship};
+pub use clause::create_paths;
+pub use counts::count_new;
+pub use creation::make_row;
 pub use scene::Scene;
 pub use storable::test_storable;
 pub use texts::label_texts;
-pub use values::outcome;

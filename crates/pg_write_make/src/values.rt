@@ -107,7 +107,7 @@ fn storable_properties<'a, T: Tables>(
 }
 
 /// An element's properties, or the fault that stands in their place.
-pub fn outcome<'a, T: Tables>(
+pub(crate) fn outcome<'a, T: Tables>(
     scene: &Scene<'a>,
     graph: &Snapshot<'_, T>,
     row: &[Value],

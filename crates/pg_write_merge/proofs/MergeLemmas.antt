@@ -17,9 +17,9 @@ use Rattle.pg_meaning.specs.declared.fault.Fault.TheVariants.{OutOfMemory}
 use Rattle.pg_rows.specs.Named.{row_of, rows_named}
 use Rattle.pg_write.proofs.ClauseLemmas.{row_same}
 use Rattle.pg_write_make.specs.Scenes.{reading}
-use Rattle.pg_write_create.proofs.CreationLemmas.{row_makes}
+use Rattle.pg_write_make.proofs.CreationLemmas.{row_makes}
 use Rattle.pg_write_merge.specs.Mergings.{asked, found_at, row_made, row_merged, rows_found, rows_merged}
-use Rattle.pg_write_create.specs.Creations.{row_made as row_creates}
+use Rattle.pg_write_make.specs.Creations.{row_made as row_creates}
 
 rows_more : (names : Names) (rows : List (List Value)) (values : List Value) → rows_named names (rows ++ values ∷ []) ≡ rows_named names rows ++ row_of names values ∷ []
 rows_more names [] values = refl

@@ -28,7 +28,7 @@ use pg_rows::{Columns, Rows, Table};
 use pg_store::{Shared, Store};
 use pg_syntax_tree::{On, PathPattern};
 use pg_value_core::{Fault, Parameters};
-use pg_write_create::count_new;
+use pg_write_make::count_new;
 use std::alloc::Global;
 use std::slice::from_ref;
 

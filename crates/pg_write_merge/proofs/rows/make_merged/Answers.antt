@@ -8,8 +8,8 @@ use Rattle.pg_write_make.specs.Scenes.{parameters_in, row_in}
 use Rattle.pg_write_merge.proofs.MergeLemmas.{err_through, made_then, making_fault, making_refused, ok_through}
 use Rattle.pg_write_merge.specs.Mergings.{row_made}
 use Rattle.pg_write_merge.specs.Ready.{created_in, names_in, path_in, setting_in, state_in}
-use Rattle.pg_write_create.specs.Creations.{row_made as row_creates}
-use Rattle.pg_write_create.specs.Lent.{paths_view}
+use Rattle.pg_write_make.specs.Creations.{row_made as row_creates}
+use Rattle.pg_write_make.specs.Lent.{paths_view}
 use Rattle.pg_write_merge.proofs.rows.make_merged.Goals as goal
 
 pub returns-in_err-spend-clause-err : goal.returns-in_err-spend-clause-err

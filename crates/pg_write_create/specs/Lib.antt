@@ -1,4 +1,0 @@
-pub mod Bindings
-pub mod Creations
-pub mod Lent
-pub mod Makings

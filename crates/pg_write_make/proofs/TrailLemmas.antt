@@ -1,0 +1,46 @@
+-- What trails bind, part by part.
+use Rattle.std.proofs.Common.{◌≡◌, ℕ, List, [], ◌∷◌, ◌++◌, map, flat_map, length, Option, Some, None, refl, ap, ◌∙◌, arith}
+use Rattle.pg_meaning.specs.Graph.{Graph}
+use Rattle.pg_meaning.specs.Patterns.{bond_ids, path_value, single, walk_on}
+use Rattle.pg_meaning.specs.Rows.{Row, bind_if_named}
+use Rattle.pg_meaning.specs.Value.{Value, path}
+use Rattle.pg_value_core.specs.declared.ids.NodeId.{NodeId}
+use Rattle.pg_value_core.specs.declared.ids.RelId.{RelId}
+use Rattle.pg_write_make.specs.Makings.{node_ids, relationship_ids}
+use Rattle.pg_write_make.specs.Outcomes.{trail_of}
+use Rattle.pg_write_make.specs.Bindings.{Binding, bind_each, named}
+
+pub named_first : (o : Option (List ℕ)) (v : Value) (bs : List Binding) → named ((o, v) ∷ bs) ≡ named ((o, v) ∷ []) ++ named bs
+named_first None v bs = refl
+named_first (Some name) v bs = refl
+
+pub named_both : (as_ bs : List Binding) → named (as_ ++ bs) ≡ named as_ ++ named bs
+named_both [] bs = refl
+named_both (a ∷ as_) bs = by_name a.0 (named_both as_ bs)
+  where
+    by_name : (o : Option (List ℕ)) → named (as_ ++ bs) ≡ named as_ ++ named bs → named ((o, a.1) ∷ as_ ++ bs) ≡ named ((o, a.1) ∷ as_) ++ named bs
+    by_name None h = h
+    by_name (Some name) h = ap (λ cs. (Some name, a.1) ∷ cs) h
+
+pub bind_named : (bs : List Binding) (row : Row) → bind_each (named bs) row ≡ bind_each bs row
+bind_named [] row = refl
+bind_named (b ∷ bs) row = by_name (λ r. bind_named bs r) b.0
+  where
+    by_name : ((r : Row) → bind_each (named bs) r ≡ bind_each bs r) → (o : Option (List ℕ)) → bind_each (named ((o, b.1) ∷ bs)) row ≡ bind_each bs (bind_if_named o b.1 row)
+    by_name rest None = rest row
+    by_name rest (Some name) = rest (bind_if_named (Some name) b.1 row)
+
+pub singles : (rs : List ℕ) → flat_map bond_ids (map single rs) ≡ rs
+singles [] = refl
+singles (r ∷ rs) = ap (λ qs. r ∷ qs) (singles rs)
+
+module _ (graph : Graph) (nodes : List NodeId) (rels : List RelId) where
+  pub path_seen : (n : NodeId) (others : List NodeId) → nodes ≡ n ∷ others → path_value graph (trail_of (node_ids nodes) (relationship_ids rels)) ≡ path (n.0 ∷ walk_on graph n.0 (relationship_ids rels))
+  path_seen n others h = ap (λ ns. path_value graph (trail_of (node_ids ns) (relationship_ids rels))) h ∙ ap (λ rs. path (n.0 ∷ walk_on graph n.0 rs)) (singles (relationship_ids rels))
+
+  pub path_of_none : nodes ≡ [] → path_value graph (trail_of (node_ids nodes) (relationship_ids rels)) ≡ path []
+  path_of_none h = ap (λ ns. path_value graph (trail_of (node_ids ns) (relationship_ids rels))) h
+
+pub none_there : {X : Type 0} (xs : List X) → length xs ≡ 0 → xs ≡ []
+none_there [] h = refl
+none_there (x ∷ xs) h = absurd (omega (arith, h))

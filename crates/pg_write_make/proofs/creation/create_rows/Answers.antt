@@ -1,0 +1,114 @@
+use Rattle.std.proofs.Common.{◌≤◌, map, take, length, refl, sym, ap, subst, ◌∙◌}
+use Rattle.std.proofs.lemmas.Result.{err_from_is_err_and}
+use Rattle.pg_meaning.specs.Patterns.{add_path_names}
+use Rattle.pg_rows.specs.Left.{rows_left}
+use Rattle.pg_rows.specs.Named.{rows_named}
+use Rattle.pg_rows.specs.Tables.{table}
+use Rattle.pg_store.specs.Stores.{graph_of_store}
+use Rattle.pg_value_core.specs.View.{view}
+use Rattle.pg_write_make.proofs.CreatedRowLemmas.{one_fewer, rows_begun, rows_over}
+use Rattle.pg_write_make.proofs.StepLemmas.{row_done, row_failed}
+use Rattle.pg_write_make.specs.Creations.{rows_created}
+use Rattle.pg_write_make.specs.Lent.{paths_view}
+use Rattle.pg_write_make.proofs.ChangedLemmas.{changed_then, unchanged}
+use Rattle.pg_write_make.specs.Scenes.{parameters_in}
+use Rattle.pg_write_make.proofs.creation.create_rows.Goals as goal
+
+pub loop-left-init : goal.loop-left-init
+loop-left-init g c = record {
+  rest = rows_begun (parameters_in c.args.scene.now) c.args.max_elements (paths_view c.args.paths.now) c.args.scene.now.names.now (graph_of_store g.T.Tables.seen c.args.store.now c.args.shared.now)
+      (rows_left c.into_left-left.result) (table c.new-made.result) (table c.args.rows) c.into_left-left.ensures.rows c.new-made.ensures.rows;
+  width = c.new-made.ensures.width ∙ c.len.ensures;
+  narrow = c.into_left-left.ensures.width;
+  changed = unchanged g.T.Tables.seen c.args.store.now c.args.shared.now c.requires.fit;
+}
+
+pub returns-in_err-row-clause-err : goal.returns-in_err-row-clause-err
+returns-in_err-row-clause-err g c =
+    let p = err_from_is_err_and c.from_residual.result c.from_residual.ensures.1 in
+    rw (p.1, p.2) (λ other. absurd (other refl))
+
+pub returns-in_err-row-clause-changed : goal.returns-in_err-row-clause-changed
+returns-in_err-row-clause-changed g c = c.loop-left.invariant.changed
+
+pub create_row-requires-clause-fit : goal.create_row-requires-clause-fit
+create_row-requires-clause-fit g c = c.loop-left.invariant.changed.fit
+
+pub create_row-requires-clause-quota : goal.create_row-requires-clause-quota
+create_row-requires-clause-quota g c = c.requires.quota
+
+pub create_row-requires-clause-within : goal.create_row-requires-clause-within
+create_row-requires-clause-within g c =
+    let len = rw c.in-Some.is at c.in_ok-row.ensures.len in
+    subst (λ n. n ≤ length c.args.scene.now.names.now) (sym (len ∙ c.loop-left.invariant.narrow)) c.requires.within
+
+pub create_row-requires-clause-names : goal.create_row-requires-clause-names
+create_row-requires-clause-names g c =
+    let len = rw c.in-Some.is at c.in_ok-row.ensures.len in
+    ap (λ n. add_path_names (paths_view c.args.paths.now) (take n c.args.scene.now.names.now)) (len ∙ c.loop-left.invariant.narrow) ∙ c.requires.names
+
+pub returns-in_err-create_row-clause-err : goal.returns-in_err-create_row-clause-err
+returns-in_err-create_row-clause-err g c =
+    let parameters = parameters_in c.args.scene.now in
+    let ps = paths_view c.args.paths.now in
+    let names = c.args.scene.now.names.now in
+    let seen = g.T.Tables.seen in
+    let first = rw c.in-Some.is at c.in_ok-row.ensures.row in
+    let p = err_from_is_err_and c.from_residual-in_err-create_row.result c.from_residual-in_err-create_row.ensures.1 in
+    rw (p.1, p.2) (λ other. row_failed parameters c.args.max_elements ps names (map view c.in-Some.row.items) (rows_left c.loop-left.left) (rows_left c.next_row.new.self)
+    (graph_of_store seen c.loop-left.store c.loop-left.shared) (table c.loop-left.made)
+    (rows_created parameters c.args.max_elements ps (graph_of_store seen c.args.store.now c.args.shared.now) (rows_named names (table c.args.rows)))
+    first c.loop-left.invariant.rest c.in_err-create_row.field-0.0 (c.in_err-create_row.ensures.err other))
+
+pub returns-in_err-create_row-clause-changed : goal.returns-in_err-create_row-clause-changed
+returns-in_err-create_row-clause-changed g c =
+    changed_then g.T.Tables.seen c.args.store.now c.loop-left.store c.create_row.new.store c.args.shared.now c.loop-left.shared c.create_row.new.shared c.loop-left.invariant.changed c.create_row.ensures.changed
+
+pub push-requires : goal.push-requires
+push-requires g c = c.in_ok-create_row.ensures.whole ∙ sym c.loop-left.invariant.width
+
+pub loop-left-smaller : goal.loop-left-smaller
+loop-left-smaller g c = one_fewer (rows_left c.loop-left.left) (rows_left c.next_row.new.self) (map view c.in-Some.row.items) (rw c.in-Some.is at c.in_ok-row.ensures.row)
+
+pub loop-left-preserved : goal.loop-left-preserved
+loop-left-preserved g c =
+    let parameters = parameters_in c.args.scene.now in
+    let ps = paths_view c.args.paths.now in
+    let names = c.args.scene.now.names.now in
+    let seen = g.T.Tables.seen in
+    let first = rw c.in-Some.is at c.in_ok-row.ensures.row in
+    record {
+      rest = row_done parameters c.args.max_elements ps names (map view c.in-Some.row.items) (rows_left c.loop-left.left) (rows_left c.next_row.new.self)
+          (graph_of_store seen c.loop-left.store c.loop-left.shared) (table c.loop-left.made)
+          (rows_created parameters c.args.max_elements ps (graph_of_store seen c.args.store.now c.args.shared.now) (rows_named names (table c.args.rows)))
+          first c.loop-left.invariant.rest (graph_of_store seen c.create_row.new.store c.create_row.new.shared)
+          (map view c.in_ok-create_row.field-0.items) (table c.push.new.self) c.in_ok-create_row.ensures.ok c.in_ok-push.ensures.rows;
+      width = c.push.ensures.width ∙ c.loop-left.invariant.width;
+      narrow = c.next_row.ensures.width ∙ c.loop-left.invariant.narrow;
+      changed = changed_then seen c.args.store.now c.loop-left.store c.create_row.new.store c.args.shared.now c.loop-left.shared c.create_row.new.shared c.loop-left.invariant.changed c.create_row.ensures.changed;
+    }
+
+pub returns-in_err-push-clause-err : goal.returns-in_err-push-clause-err
+returns-in_err-push-clause-err g c =
+    let p = err_from_is_err_and c.from_residual-in_err-push.result c.from_residual-in_err-push.ensures.1 in
+    rw (p.1, p.2) (λ other. absurd (other refl))
+
+pub returns-in_err-push-clause-changed : goal.returns-in_err-push-clause-changed
+returns-in_err-push-clause-changed g c =
+    changed_then g.T.Tables.seen c.args.store.now c.loop-left.store c.create_row.new.store c.args.shared.now c.loop-left.shared c.create_row.new.shared c.loop-left.invariant.changed c.create_row.ensures.changed
+
+pub returns-clause-ok : goal.returns-clause-ok
+returns-clause-ok g c =
+    let parameters = parameters_in c.args.scene.now in
+    let ps = paths_view c.args.paths.now in
+    let names = c.args.scene.now.names.now in
+    let seen = g.T.Tables.seen in
+    rows_over parameters c.args.max_elements ps names (graph_of_store seen c.loop-left.store c.loop-left.shared) (rows_left c.loop-left.left) (table c.loop-left.made)
+    (rows_created parameters c.args.max_elements ps (graph_of_store seen c.args.store.now c.args.shared.now) (rows_named names (table c.args.rows)))
+    c.loop-left.invariant.rest (rw c.in_default.is at c.in_ok-row.ensures.none)
+
+pub returns-clause-width : goal.returns-clause-width
+returns-clause-width g c = c.loop-left.invariant.width
+
+pub returns-clause-changed : goal.returns-clause-changed
+returns-clause-changed g c = c.loop-left.invariant.changed

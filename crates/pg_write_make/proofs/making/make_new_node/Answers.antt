@@ -1,0 +1,29 @@
+use Rattle.std.proofs.Common.{ap, ◌∙◌}
+use Rattle.pg_meaning.specs.Graph.{has_node}
+use Rattle.pg_meaning.specs.Patterns.{node_name}
+use Rattle.pg_store.specs.Stores.{graph_of_store}
+use Rattle.pg_syntax_tree.specs.View.{node_view}
+use Rattle.pg_write_make.proofs.GrowthLemmas.{added_grows, added_there, bound_there}
+use Rattle.pg_write_make.specs.Makings.{named_ids}
+use Rattle.pg_write_make.specs.Outcomes.{outcome_view}
+use Rattle.pg_write_make.proofs.making.make_new_node.Goals as goal
+
+pub returns-clause-grows : goal.returns-clause-grows
+returns-clause-grows g c =
+    let before = graph_of_store g.T.Tables.seen c.args.store.now c.args.shared.now in
+    let after = graph_of_store g.T.Tables.seen c.add_node.new.store c.add_node.new.shared in
+    added_grows c.args.max_elements (outcome_view c.args.outcome) (node_view c.args.pattern.now) before after c.in_ok-id.ensures.ok
+
+pub returns-clause-there : goal.returns-clause-there
+returns-clause-there g c =
+    let before = graph_of_store g.T.Tables.seen c.args.store.now c.args.shared.now in
+    let after = graph_of_store g.T.Tables.seen c.add_node.new.store c.add_node.new.shared in
+    ap (has_node after) c.in_ok-id.ensures.id ∙ added_there c.args.max_elements (outcome_view c.args.outcome) (node_view c.args.pattern.now) before after c.in_ok-id.ensures.ok
+
+pub returns-clause-bound : goal.returns-clause-bound
+returns-clause-bound g c =
+    let before = graph_of_store g.T.Tables.seen c.args.store.now c.args.shared.now in
+    let after = graph_of_store g.T.Tables.seen c.add_node.new.store c.add_node.new.shared in
+    let grows = added_grows c.args.max_elements (outcome_view c.args.outcome) (node_view c.args.pattern.now) before after c.in_ok-id.ensures.ok in
+    let now = ap (has_node after) c.in_ok-id.ensures.id ∙ added_there c.args.max_elements (outcome_view c.args.outcome) (node_view c.args.pattern.now) before after c.in_ok-id.ensures.ok in
+    bound_there (node_name (node_view c.args.pattern.now)) before after (named_ids c.args.named.now.items) (named_ids c.bind_new.new.named.items) c.in_ok-id.id.0 grows now (λ none. ap named_ids (c.in_ok-bind_new.ensures.none none)) c.in_ok-bind_new.ensures.ids

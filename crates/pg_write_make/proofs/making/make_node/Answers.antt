@@ -1,0 +1,22 @@
+use Rattle.std.proofs.Common.{List, ℕ, sym, subst}
+use Rattle.std.proofs.lemmas.Result.{err_from_is_err_and}
+use Rattle.pg_store.specs.Stores.{graph_of_store}
+use Rattle.pg_write_make.proofs.BoundLemmas.{pushed_id}
+use Rattle.pg_write_make.proofs.GrowthLemmas.{there_grows, there_push}
+use Rattle.pg_write_make.specs.Makings.{node_ids, AreThere}
+use Rattle.pg_write_make.proofs.making.make_node.Goals as goal
+
+pub returns-in_err-id-clause-err : goal.returns-in_err-id-clause-err
+returns-in_err-id-clause-err g c =
+    let p = err_from_is_err_and c.from_residual.result c.from_residual.ensures.1 in
+    rw (p.1, p.2) (λ other. c.in_err-id.ensures.err other (node_ids c.args.ids.now.items))
+
+pub returns-clause-there : goal.returns-clause-there
+returns-clause-there g c =
+    let before = graph_of_store g.T.Tables.seen c.args.store.now c.args.shared.now in
+    let after = graph_of_store g.T.Tables.seen c.place_node.new.store c.place_node.new.shared in
+    let ids = node_ids c.args.ids.now.items in
+    record {
+      bound = c.in_ok-id.ensures.bound;
+      made = subst (λ (ns : List ℕ). AreThere after ns) (sym (pushed_id c.args.ids.now.items c.push.new.self.items c.in_ok-id.id c.in_ok-push.ensures.items)) (there_push after ids c.in_ok-id.id.0 (there_grows before after ids c.in_ok-id.ensures.grows c.requires.there.made) c.in_ok-id.ensures.there);
+    }

@@ -1,0 +1,13 @@
+use Rattle.std.proofs.Common.{Ok, option_map, ap, ◌∙◌}
+use Rattle.pg_meaning.specs.Patterns.{node_name}
+use Rattle.pg_store.specs.Stores.{graph_of_store}
+use Rattle.pg_syntax_tree.specs.View.{node_view}
+use Rattle.pg_value_core.specs.declared.ids.NodeId.{NodeId}
+use Rattle.pg_write_make.proofs.BoundLemmas.{found_there}
+use Rattle.pg_write_make.specs.Scenes.{row_in}
+use Rattle.pg_write_make.proofs.making.place_node.Goals as goal
+
+pub returns-in-Some-clause-there : goal.returns-in-Some-clause-there
+returns-in-Some-clause-there g c =
+    found_there (graph_of_store g.T.Tables.seen c.args.store.now c.args.shared.now) (node_name (node_view c.args.pattern.now)) (row_in c.args.scene.now c.args.row.now) c.args.named.now.items c.in-Some.id.0 c.requires.tested c.requires.there
+    (c.in_ok-id.ensures.ok ∙ ap (λ o. Ok (option_map (λ (i : NodeId). i.0) o)) c.in-Some.is)

@@ -1,0 +1,122 @@
+//! What is made at a row, row after row.
+ghost use Rattle.std.specs.Prelude.{◌≡◌, ◌≢◌, ◌≤◌, ◌^◌, false, IfOk, IfErr, Ok, Err, length, map, take};
+ghost use Rattle.pg_meaning.specs.Patterns.{add_path_names, bind_match};
+ghost use Rattle.pg_meaning.specs.Reading.{test_paths};
+ghost use Rattle.pg_meaning.specs.declared.fault.Fault.TheVariants.{OutOfMemory};
+ghost use Rattle.pg_rows.specs.Named.{row_of, rows_named};
+ghost use Rattle.pg_rows.specs.Tables.{table};
+ghost use Rattle.pg_store.specs.Stores.{graph_of_store, IsFit};
+ghost use Rattle.pg_value_core.specs.View.{view};
+ghost use Rattle.pg_write_make.specs.Bindings.{match_bindings, named, EndsWith};
+ghost use Rattle.pg_write_make.specs.Creations.{row_created, row_made, rows_created};
+ghost use Rattle.pg_write_make.specs.Lent.{paths_view, trail_view};
+ghost use Rattle.pg_write_make.specs.Changed.{Changed};
+ghost use Rattle.pg_write_make.specs.Scenes.{parameters_in, row_in};
+
+use crate::binding::bind_all;
+use crate::bound::test_paths;
+use crate::kept::kept_values;
+use crate::paths::{Trail, make_paths};
+use crate::scene::Scene;
+use crate::trails::row_bindings;
+use pg_graph::Tables;
+use pg_rows::Rows;
+use pg_store::{Shared, Snapshot, Store};
+use pg_syntax_tree::PathPattern;
+use pg_value_core::{Fault, Value};
+use std::alloc::AllocError;
+
+// The row with the variables of what was made at it.
+#[tactic(auto, using(crate::proofs::BindingLemmas::match_bound, crate::proofs::TrailLemmas::bind_named))]
+fn bound_row<T: Tables>(
+    scene: &Scene<'_>,
+    graph: &Snapshot<'_, T>,
+    mut row: Vec<Value>,
+    paths: &[PathPattern],
+    trails: &Vec<Trail>,
+) -> Result<Vec<Value>, AllocError>
+    requires { EndsWith scene.now.names.now (map view row.items) (named (match_bindings graph.now (paths_view paths.now) (map trail_view trails.now.items))) }
+    ensures bound { IfOk result (λ values. row_of scene.now.names.now (map view values.items) ≡ bind_match graph.now (paths_view paths.now) (map trail_view trails.now.items) (row_in scene.now row.items)) }
+    ensures whole { IfOk result (λ values. length values.items ≡ length scene.now.names.now) }
+{
+    let bindings = row_bindings(scene.alloc, graph, paths, trails)?;
+    bind_all(scene, &mut row, bindings)?;
+    Ok(row)
+}
+
+/// Makes the paths at a row whose bound nodes are there, and gives the row with its new variables.
+/// The names are those behind the clause.
+#[tactic(auto, using(crate::proofs::ChangedLemmas::unchanged, crate::proofs::ShapeLemmas::ready_to_bind))]
+pub fn make_row<T: Tables>(
+    scene: &Scene<'_>,
+    store: &mut Store<T>,
+    shared: &mut Shared<T::Shared>,
+    max_elements: u64,
+    row: Vec<Value>,
+    paths: &[PathPattern],
+) -> Result<Vec<Value>, Fault>
+    requires fit { IsFit T.seen store.old shared.old }
+    requires quota { max_elements ≤ 2 ^ 63 }
+    requires within { length row.items ≤ length scene.now.names.now }
+    requires names { add_path_names (paths_view paths.now) (take (length row.items) scene.now.names.now) ≡ scene.now.names.now }
+    requires tested { test_paths false (graph_of_store T.seen store.old shared.old) (row_in scene.now row.items) (paths_view paths.now) ≡ Ok tt }
+    ensures ok { IfOk result (λ values. row_made (parameters_in scene.now) max_elements (paths_view paths.now) (graph_of_store T.seen store.old shared.old) (row_in scene.now row.items) ≡ Ok (graph_of_store T.seen store.new shared.new, row_of scene.now.names.now (map view values.items))) }
+    ensures whole { IfOk result (λ values. length values.items ≡ length scene.now.names.now) }
+    ensures err { IfErr result (λ e. e ≢ OutOfMemory → row_made (parameters_in scene.now) max_elements (paths_view paths.now) (graph_of_store T.seen store.old shared.old) (row_in scene.now row.items) ≡ Err e) }
+    ensures changed { Changed T.seen store.old shared.old store.new shared.new }
+{
+    let kept = kept_values(scene, &store.graph(shared), &row, paths)?;
+    let trails = make_paths(scene, store, shared, max_elements, &row, paths, kept)?;
+    Ok(bound_row(scene, &store.graph(shared), row, paths, &trails)?)
+}
+
+// Makes the paths at a row, where its bound nodes are there.
+#[tactic(auto, using(crate::proofs::ChangedLemmas::unchanged))]
+fn create_row<T: Tables>(
+    scene: &Scene<'_>,
+    store: &mut Store<T>,
+    shared: &mut Shared<T::Shared>,
+    max_elements: u64,
+    row: Vec<Value>,
+    paths: &[PathPattern],
+) -> Result<Vec<Value>, Fault>
+    requires fit { IsFit T.seen store.old shared.old }
+    requires quota { max_elements ≤ 2 ^ 63 }
+    requires within { length row.items ≤ length scene.now.names.now }
+    requires names { add_path_names (paths_view paths.now) (take (length row.items) scene.now.names.now) ≡ scene.now.names.now }
+    ensures ok { IfOk result (λ values. row_created (parameters_in scene.now) max_elements (paths_view paths.now) (graph_of_store T.seen store.old shared.old) (row_in scene.now row.items) ≡ Ok (graph_of_store T.seen store.new shared.new, row_of scene.now.names.now (map view values.items))) }
+    ensures whole { IfOk result (λ values. length values.items ≡ length scene.now.names.now) }
+    ensures err { IfErr result (λ e. e ≢ OutOfMemory → row_created (parameters_in scene.now) max_elements (paths_view paths.now) (graph_of_store T.seen store.old shared.old) (row_in scene.now row.items) ≡ Err e) }
+    ensures changed { Changed T.seen store.old shared.old store.new shared.new }
+{
+    test_paths(scene, &store.graph(shared), &row, paths)?;
+    make_row(scene, store, shared, max_elements, row, paths)
+}
+
+/// Makes the paths at each row, in the graph of the rows before, and gives the rows with their new
+/// variables. The names are those behind the clause.
+#[tactic(auto, using(crate::proofs::ChangedLemmas::unchanged, crate::proofs::ChangedLemmas::changed_then))]
+pub(crate) fn create_rows<T: Tables>(
+    scene: &Scene<'_>,
+    store: &mut Store<T>,
+    shared: &mut Shared<T::Shared>,
+    max_elements: u64,
+    rows: Rows,
+    paths: &[PathPattern],
+) -> Result<Rows, Fault>
+    requires fit { IsFit T.seen store.old shared.old }
+    requires quota { max_elements ≤ 2 ^ 63 }
+    requires within { rows.width ≤ length scene.now.names.now }
+    requires names { add_path_names (paths_view paths.now) (take rows.width scene.now.names.now) ≡ scene.now.names.now }
+    ensures ok { IfOk result (λ made. rows_created (parameters_in scene.now) max_elements (paths_view paths.now) (graph_of_store T.seen store.old shared.old) (rows_named scene.now.names.now (table rows)) ≡ Ok (graph_of_store T.seen store.new shared.new, rows_named scene.now.names.now (table made))) }
+    ensures width { IfOk result (λ made. made.width ≡ length scene.now.names.now) }
+    ensures err { IfErr result (λ e. e ≢ OutOfMemory → rows_created (parameters_in scene.now) max_elements (paths_view paths.now) (graph_of_store T.seen store.old shared.old) (rows_named scene.now.names.now (table rows)) ≡ Err e) }
+    ensures changed { Changed T.seen store.old shared.old store.new shared.new }
+{
+    let mut made = Rows::new(scene.alloc, scene.names.len());
+    let mut left = rows.into_left();
+    while let Some(row) = left.next_row(scene.alloc)? {
+        made.push(create_row(scene, store, shared, max_elements, row, paths)?)?;
+    }
+    Ok(made)
+}

@@ -121,6 +121,22 @@ abbrev mutual
   with_suffixes (tree.property n xs) code = with_suffixes xs (with_text n.text (with_byte 1 code))
   with_suffixes (tree.index x xs) code = with_suffixes xs (with_expression x (with_byte 2 code))
 
+-- the byte that an expression begins with
+abbrev pub byte_of_form : tree.Expression → ℕ
+byte_of_form (tree.literal v) = 1
+byte_of_form (tree.parameter n) = 2
+byte_of_form (tree.variable n) = 3
+byte_of_form (tree.list_literal xs) = 4
+byte_of_form (tree.map_literal ps) = 5
+byte_of_form (tree.parentheses x) = 6
+byte_of_form (tree.call n star distinct xs) = 7
+byte_of_form (tree.case x ws e) = 8
+byte_of_form (tree.chain x os) = 9
+byte_of_form (tree.negation n x) = 10
+byte_of_form (tree.signs bs x) = 11
+byte_of_form (tree.tests x ts) = 12
+byte_of_form (tree.suffixes x xs ls) = 13
+
 -- one test, and one suffix
 abbrev pub with_test : Test Expression → List ℕ → List ℕ
 with_test (test.Text t x) code = with_expression (expression_view x) (with_byte (byte_of_test t) code)

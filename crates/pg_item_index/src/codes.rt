@@ -148,69 +148,67 @@ fn add_call(code: &mut Vec<u8>, name: &Name, star: bool, distinct: bool) -> Resu
     add_flag(code, distinct)
 }
 
+/// The byte with which an expression begins.
+#[tactic(auto, using(pg_syntax_tree::proofs::Views::map_is, pg_syntax_tree::proofs::Views::case_is, pg_syntax_tree::proofs::Views::chain_is, pg_syntax_tree::proofs::Views::tests_is, pg_syntax_tree::proofs::Views::suffixes_is))]
+fn byte_of_form(expression: &Expression) -> u8
+    ensures { result ≡ spec.byte_of_form (expression_view expression.now) }
+{
+    match expression {
+        Expression::Literal(_) => 1,
+        Expression::Parameter(_) => 2,
+        Expression::Variable(_) => 3,
+        Expression::ListLiteral(_) => 4,
+        Expression::MapLiteral(_) => 5,
+        Expression::Parentheses(_) => 6,
+        Expression::Call(_, _, _, _) => 7,
+        Expression::Case(_, _, _) => 8,
+        Expression::Chain(_, _) => 9,
+        Expression::Negation(_, _) => 10,
+        Expression::Signs(_, _) => 11,
+        Expression::Tests(_, _) => 12,
+        Expression::Suffixes(_, _, _) => 13,
+    }
+}
+
 #[cycle(codes)]
 #[tactic(auto, using(pg_syntax_tree::proofs::Views::map_is, pg_syntax_tree::proofs::Views::case_is, pg_syntax_tree::proofs::Views::chain_is, pg_syntax_tree::proofs::Views::tests_is, pg_syntax_tree::proofs::Views::suffixes_is))]
 pub(crate) fn add_expression(code: &mut Vec<u8>, expression: &Expression) -> Result<(), AllocError>
     ensures { OnOk result (code.new.items ≡ spec.with_expression (expression_view expression.now) code.old.items) }
 {
+    add_byte(code, byte_of_form(expression))?;
     match expression {
-        Expression::Literal(literal) => {
-            add_byte(code, 1)?;
-            add_literal(code, literal)
-        }
-        Expression::Parameter(name) => {
-            add_byte(code, 2)?;
-            add_text(code, name.text.as_str())
-        }
-        Expression::Variable(name) => {
-            add_byte(code, 3)?;
-            add_text(code, name.text.as_str())
-        }
-        Expression::ListLiteral(items) => {
-            add_byte(code, 4)?;
-            add_all(code, items)
-        }
-        Expression::MapLiteral(pairs) => {
-            add_byte(code, 5)?;
-            add_pairs(code, pairs)
-        }
-        Expression::Parentheses(inner) => {
-            add_byte(code, 6)?;
-            add_expression(code, inner)
-        }
+        Expression::Literal(literal) => add_literal(code, literal),
+        Expression::Parameter(name) => add_text(code, name.text.as_str()),
+        Expression::Variable(name) => add_text(code, name.text.as_str()),
+        Expression::ListLiteral(items) => add_all(code, items),
+        Expression::MapLiteral(pairs) => add_pairs(code, pairs),
+        Expression::Parentheses(inner) => add_expression(code, inner),
         Expression::Call(name, star, distinct, arguments) => {
-            add_byte(code, 7)?;
             add_call(code, name, *star, *distinct)?;
             add_all(code, arguments)
         }
         Expression::Case(subject, whens, otherwise) => {
-            add_byte(code, 8)?;
             add_perhaps(code, subject)?;
             add_whens(code, whens)?;
             add_perhaps(code, otherwise)
         }
         Expression::Chain(first, operands) => {
-            add_byte(code, 9)?;
             add_expression(code, first)?;
             add_operands(code, operands)
         }
         Expression::Negation(count, operand) => {
-            add_byte(code, 10)?;
             add_number(code, *count as u64)?;
             add_expression(code, operand)
         }
         Expression::Signs(signs, operand) => {
-            add_byte(code, 11)?;
             add_flags(code, signs)?;
             add_expression(code, operand)
         }
         Expression::Tests(first, tests) => {
-            add_byte(code, 12)?;
             add_expression(code, first)?;
             add_tests(code, tests)
         }
         Expression::Suffixes(first, suffixes, labels) => {
-            add_byte(code, 13)?;
             add_expression(code, first)?;
             add_suffixes(code, suffixes)?;
             add_names(code, labels)

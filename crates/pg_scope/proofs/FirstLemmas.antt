@@ -55,3 +55,7 @@ walk_item F f step {xs} {items} {i} {x} = walk_past F F (step x)
 -- the walk is at its end
 pub walked : (first last : Option Found) (fs : List Found) → least first fs ≡ least last [] → IsFirst first fs last
 walked first last fs e = record { is = sym (e ∙ least_of_none last) }
+
+-- the walk over a list is at its end
+pub walk_ended : {X : Type 0} (F : List X → List Found) → F [] ≡ [] → {xs items : List X} {i : ℕ} → length xs ≤ i → xs ≡ items → (first last : Option Found) → least first (F items) ≡ least last (F (drop i items)) → IsFirst first (F items) last
+walk_ended F none {xs} {items} {i} past is first last so_far = walked first last (F items) (so_far ∙ ap (λ ys. least last (F ys)) (items_end past is) ∙ ap (least last) none)

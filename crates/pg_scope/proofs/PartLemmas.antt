@@ -1,11 +1,12 @@
 -- The walk over the parts of the paths of a clause.
-use Rattle.std.proofs.Common.{◌≡◌, ℕ, ◌+◌, ◌<◌, length, get_or, drop, Bool, not, List, [], ◌∷◌, ◌++◌, Option, Some, None, refl, sym, ap, subst, ◌∙◌, append_assoc, append-nil}
+use Rattle.std.proofs.Common.{◌≡◌, ℕ, ◌+◌, ◌<◌, ◌≤◌, length, get_or, drop, Bool, not, List, [], ◌∷◌, ◌++◌, Option, Some, None, Result, Ok, Err, IfOk, refl, sym, ap, subst, ◌∙◌, append_assoc, append-nil}
 use Rattle.std.specs.Prelude.{◌||◌, ◌&&◌, bytes_eq}
+use Rattle.std.specs.declared.alloc.AllocError.{AllocError}
 use Rattle.pg_meaning.specs.Names.{Names, is_among}
 use Rattle.pg_meaning.specs.StaticFaults.{Found, Mode, Part, path_part, node_part, relationship_part, Used, used_with, with_variable, relationship_variable, is_used, is_matching, is_described, new_faults, node_variable_faults, properties_faults, relationship_faults, found_if, least, part_faults, parts_faults}
 use Rattle.pg_meaning.specs.Tree.{Name, NodePattern, RelationshipPattern}
 use Rattle.pg_meaning.specs.declared.fault.Fault.TheVariants.{VariableAlreadyBound}
-use Rattle.pg_scope.proofs.FirstLemmas.{item_here, least_joined, least_of_none}
+use Rattle.pg_scope.proofs.FirstLemmas.{item_here, items_end, least_joined, least_of_none}
 use Rattle.pg_scope.specs.First.{IsFirst}
 use Rattle.pg_scope.specs.Names.{HasSame}
 use Rattle.pg_scope.specs.Used.{Passes, nothing_used}
@@ -60,6 +61,11 @@ passes_in_turn {mode} {outer} {u} {v} {w} {first} {next} {last} {xs} {ys} g h = 
   is = λ rest. ap (λ zs. least first (parts_faults mode outer u zs)) (append_assoc xs ys rest) ∙ g.is (ys ++ rest) ∙ h.is rest;
 }
 
+pub then_passes : {mode : Mode} {outer : Names} {u v : Used} {first next : Option Found} {xs : List Part} (ys : List Part) (w : Used) (r : Result (Option Found) AllocError) → Passes mode outer xs u first v next
+    → IfOk r (λ last. Passes mode outer ys v next w last) → IfOk r (λ last. Passes mode outer (xs ++ ys) u first w last)
+then_passes ys w (Ok last) g h = passes_in_turn g h
+then_passes ys w (Err e) g h = tt
+
 passes_part : (mode : Mode) (outer : Names) (u v : Used) (first next : Option Found) (x : Part) → IsFirst first (part_faults mode outer u x) next → SameUsed v (used_with x u)
     → Passes mode outer (x ∷ []) u first v next
 passes_part mode outer u v first next x e s = record {
@@ -94,10 +100,21 @@ passes_item F {here} {xs} {items} {i} {x} step within is same {mode} {outer} {u}
     ap (λ ys. all (F ys)) (item_here within is same) ∙ ap all (step (drop (i + 1) items))
     ∙ ap (λ zs. least first (parts_faults mode outer u zs)) (append_assoc here after rest) ∙ p.is (after ++ rest)
 
+-- a walk over a list is at its end
+pub passes_all : {X : Type 0} (F : List X → List Part) → F [] ≡ [] → {xs items : List X} {i : ℕ} → length xs ≤ i → xs ≡ items → (mode : Mode) (outer : Names) (u v : Used) (first last : Option Found)
+    → ((rest : List Part) → least first (parts_faults mode outer u (F items ++ rest)) ≡ least last (parts_faults mode outer v (F (drop i items) ++ rest))) → Passes mode outer (F items) u first v last
+passes_all F none past is mode outer u v first last so_far = record { is = λ rest. so_far rest ∙ ap (λ zs. least last (parts_faults mode outer v (zs ++ rest))) (ap F (items_end past is) ∙ none) }
+
 -- the walk over all the parts
-pub passed : {mode : Mode} {outer : Names} {u v : Used} {first last : Option Found} {xs : List Part} → u ≡ nothing_used → Passes mode outer xs u first v last → IsFirst first (parts_faults mode outer nothing_used xs) last
+passed : {mode : Mode} {outer : Names} {u v : Used} {first last : Option Found} {xs : List Part} → u ≡ nothing_used → Passes mode outer xs u first v last → IsFirst first (parts_faults mode outer nothing_used xs) last
 passed {mode} {outer} {u} {v} {first} {last} {xs} nothing p =
     record { is = sym (ap (λ w. least first (parts_faults mode outer w xs)) (sym nothing) ∙ ap (λ ys. least first (parts_faults mode outer u ys)) (sym (append-nil xs)) ∙ p.is [] ∙ least_of_none last) }
 
-pub passed_alone : {mode : Mode} {outer : Names} {u v : Used} {first last : Option Found} {xs : List Part} → u ≡ nothing_used → Passes mode outer xs u first v last → IsFirst first (parts_faults mode outer nothing_used (xs ++ [])) last
-passed_alone {mode} {outer} {u} {v} {first} {last} {xs} nothing p = subst (λ ys. IsFirst first (parts_faults mode outer nothing_used ys) last) (sym (append-nil xs)) (passed nothing p)
+module _ (mode : Mode) (outer : Names) (u v : Used) (first : Option Found) (xs : List Part) (nothing : u ≡ nothing_used) where
+  pub then_passed : (r : Result (Option Found) AllocError) → IfOk r (λ last. Passes mode outer xs u first v last) → IfOk r (λ last. IsFirst first (parts_faults mode outer nothing_used xs) last)
+  then_passed (Ok last) p = passed nothing p
+  then_passed (Err e) p = tt
+
+  pub then_passed_alone : (r : Result (Option Found) AllocError) → IfOk r (λ last. Passes mode outer xs u first v last) → IfOk r (λ last. IsFirst first (parts_faults mode outer nothing_used (xs ++ [])) last)
+  then_passed_alone (Ok last) p = subst (λ ys. IsFirst first (parts_faults mode outer nothing_used ys) last) (sym (append-nil xs)) (passed nothing p)
+  then_passed_alone (Err e) p = tt

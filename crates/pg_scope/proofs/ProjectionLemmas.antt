@@ -5,6 +5,7 @@ use Rattle.std.specs.List.{list_any}
 use Rattle.std.specs.BTreeSet.{insert_key}
 use Rattle.std.specs.Ordering.{match_ordering, is_eq}
 use Rattle.std.proofs.Common.{Less, Equal, Greater}
+use Rattle.std.proofs.lemmas.Bool.{false≢true}
 use Rattle.std.proofs.lemmas.Map.Text.{is_eq-slice_cmp}
 use Rattle.std.proofs.lemmas.Slice.Eq.{bytes_eq-Decides}
 use Rattle.pg_meaning.specs.Aggregates.{aggregate_of}
@@ -100,7 +101,7 @@ no_aggregate scope (Some at) = each (in_byte_order scope)
 
 key_is : (visible : Names) (t : List ℕ) (key : Expression) → same_expression (variable_column t).value key ≡ true → is_among visible t ≡ true → faults_of visible key ≡ []
 key_is visible t (tree.variable m) e h = ap (λ b. found_if (not b) m.place UndefinedVariable) (ap (is_among visible) (sym ((bytes_eq-Decides t m.text).0 e)) ∙ h)
-key_is visible t x e h = absurd cc
+key_is visible t x e h = absurd (false≢true e)
 
 or_true : (a : Bool) → (a || true) ≡ true
 or_true true = refl
@@ -108,7 +109,7 @@ or_true false = refl
 
 star_is : (visible ns : Names) (key : Expression) → ((n : List ℕ) → is_among ns n ≡ true → is_among visible n ≡ true) → list_any (λ c. same_expression c.value key) (map variable_column ns) ≡ true
     → faults_of visible key ≡ []
-star_is visible [] key within e = absurd cc
+star_is visible [] key within e = absurd (false≢true e)
 star_is visible (n ∷ ns) key within e = by_first (λ f. star_is visible ns key (λ m g. within m (ap (λ b. bytes_eq m n || b) g ∙ or_true (bytes_eq m n))) f) (same_expression (variable_column n).value key) refl e
   where
     by_first : (list_any (λ c. same_expression c.value key) (map variable_column ns) ≡ true → faults_of visible key ≡ []) → (b : Bool) → same_expression (variable_column n).value key ≡ b → (b || list_any (λ c. same_expression c.value key) (map variable_column ns)) ≡ true → faults_of visible key ≡ []
@@ -117,7 +118,7 @@ star_is visible (n ∷ ns) key within e = by_first (λ f. star_is visible ns key
 
 stars_are : (visible scope : Names) (star : Option ℕ) (key : Expression) → ((n : List ℕ) → is_among (starred (is_some star) scope) n ≡ true → is_among visible n ≡ true)
     → list_any (λ c. same_expression c.value key) (star_columns scope star) ≡ true → faults_of visible key ≡ []
-stars_are visible scope None key within e = absurd cc
+stars_are visible scope None key within e = absurd (false≢true e)
 stars_are visible scope (Some at) key within e = star_is visible (in_byte_order scope) key (λ n h. within n (sym (among_put scope [] n ∙ or_false (is_among scope n)) ∙ h)) e
 
 abbrev stands : SortItem → List Column → Bool
@@ -180,7 +181,7 @@ module _ (naming : Naming) (scope : Names) (p : Projection) where
     where
       by_star : (star : Option ℕ) (b : Bool) → (is_none star && b) ≡ true → is_some star ≡ false
       by_star None b e = refl
-      by_star (Some at) b e = absurd cc
+      by_star (Some at) b e = absurd (false≢true e)
 
   pub visible_narrow : {ns : Names} → narrow p ≡ true → HasSame ns own_names → HasSame ns visible
   visible_narrow {ns} given s =
@@ -188,7 +189,7 @@ module _ (naming : Naming) (scope : Names) (p : Projection) where
     where
       by_star : (star : Option ℕ) (b : Bool) → (is_none star && b) ≡ true → b ≡ true
       by_star None b e = e
-      by_star (Some at) b e = absurd cc
+      by_star (Some at) b e = absurd (false≢true e)
 
   pub visible_wide : {ns : Names} → narrow p ≡ false → HasSame ns (own_names ++ scope) → HasSame ns visible
   visible_wide {ns} given s = by_test (p.distinct || list_any is_aggregate columns) refl
@@ -204,7 +205,7 @@ module _ (naming : Naming) (scope : Names) (p : Projection) where
       absorbed false b n = refl
 
       starry : (star : Option ℕ) (b : Bool) → b ≡ true → (is_none star && b) ≡ false → is_some star ≡ true
-      starry None b e h = absurd cc
+      starry None b e h = absurd (false≢true (sym h ∙ e))
       starry (Some at) b e h = refl
 
       by_test : (b : Bool) → (p.distinct || list_any is_aggregate columns) ≡ b → HasSame ns visible

@@ -112,8 +112,7 @@ fn pass_path<'a>(
     let first = pass_variable(outer, used, &path.variable, first)?;
     let is_whole = is_one_node(path);
     let first = pass_node(alloc, mode, outer, used, is_whole, &path.first, first)?;
-    let first = pass_hops(alloc, mode, outer, used, &path.hops, first)?;
-    Ok(first)
+    pass_hops(alloc, mode, outer, used, &path.hops, first)
 }
 
 /// Past some paths.
@@ -145,8 +144,7 @@ pub(crate) fn fault_in_path<'a>(
     ensures { IfOk result (λ found. IsFirst first (spec.paths_faults (mode_view mode) (names_in outer.now) (path_view path.now ∷ [])) found) }
 {
     let mut used = Used::new(alloc);
-    let first = pass_path(alloc, mode, outer, &mut used, path, first)?;
-    Ok(first)
+    pass_path(alloc, mode, outer, &mut used, path, first)
 }
 
 /// The first fault, with those of the paths of a clause.
@@ -160,6 +158,5 @@ pub(crate) fn fault_in_paths<'a>(
     ensures { IfOk result (λ found. IsFirst first (spec.paths_faults (mode_view mode) (names_in outer.now) (map path_view paths.now.items)) found) }
 {
     let mut used = Used::new(alloc);
-    let first = pass_paths(alloc, mode, outer, &mut used, paths, first)?;
-    Ok(first)
+    pass_paths(alloc, mode, outer, &mut used, paths, first)
 }

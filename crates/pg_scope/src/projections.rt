@@ -109,8 +109,8 @@ fn fault_in_tail<'a>(
 ) -> Result<Option<Found>, AllocError>
     ensures { IfOk result (λ found. IsTail (projection_view projection.now) (seen condition.entry) (names_in visible.now) first found) }
 {
-    let nothing = BTreeSet::new(alloc);
     let first = fault_in_order(alloc, visible, &projection.items, &projection.order, first)?;
+    let nothing = BTreeSet::new(alloc);
     let first = fault_if_any(&nothing, &projection.skip, first);
     let first = fault_if_any(&nothing, &projection.limit, first);
     Ok(fault_if_seen(visible, condition, first))

@@ -29,8 +29,7 @@ pub fn add_path<'a>(names: &mut Names<'a>, path: &'a PathPattern) -> Result<(), 
 {
     add_variable(names, &path.variable)?;
     add_variable(names, &path.first.variable)?;
-    add_hops(names, &path.hops)?;
-    Ok(())
+    add_hops(names, &path.hops)
 }
 
 /// Brings in the variables of some paths.

@@ -112,29 +112,15 @@ fn through_with<'a>(
     ensures { IfOk result (λ r. Steps (names_in scope.entry) (tree.with_rows (projection_view projection.now) (option_map expression_view condition.now)) first r.0 (names_in r.1)) }
 {
     match condition {
-        Some(condition) => {
-            let naming = Naming::Variable;
-            let step = fault_in_projection(
-                alloc,
-                naming,
-                scope,
-                projection,
-                Some(condition),
-                first,
-            )?;
-            Ok(step)
-        }
-        None => {
-            let step = fault_in_projection(
-                alloc,
-                Naming::Variable,
-                scope,
-                projection,
-                None,
-                first,
-            )?;
-            Ok(step)
-        }
+        Some(condition) => fault_in_projection(
+            alloc,
+            Naming::Variable,
+            scope,
+            projection,
+            Some(condition),
+            first,
+        ),
+        None => fault_in_projection(alloc, Naming::Variable, scope, projection, None, first),
     }
 }
 
@@ -147,8 +133,7 @@ fn through_return<'a>(
     ensures { IfOk result (λ r. Steps (names_in scope.entry) (tree.return_rows (projection_view projection.now)) first r.0 (names_in r.1)) }
 {
     let first = fault_in_star(&scope, projection, first);
-    let step = fault_in_projection(alloc, Naming::Source, scope, projection, None, first)?;
-    Ok(step)
+    fault_in_projection(alloc, Naming::Source, scope, projection, None, first)
 }
 
 /// Past a clause.
@@ -161,10 +146,7 @@ pub(crate) fn through_clause<'a>(
     ensures { IfOk result (λ r. Steps (names_in scope.entry) (clause_view clause.now) first r.0 (names_in r.1)) }
 {
     match clause {
-        Clause::Match(_, paths, condition) => {
-            let step = through_match(alloc, scope, paths, condition, first)?;
-            Ok(step)
-        }
+        Clause::Match(_, paths, condition) => through_match(alloc, scope, paths, condition, first),
         Clause::Unwind(list, name) => through_unwind(scope, list, name, first),
         Clause::Create(paths) => through_create(alloc, scope, paths, first),
         Clause::Merge(path, ons) => through_merge(alloc, scope, path, ons, first),

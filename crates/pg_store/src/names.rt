@@ -25,11 +25,7 @@ pub(crate) fn labels_of(
     ensures keeps { KeepsNames names.old names.new }
     ensures distinct { AreDistinct names.new }
 {
-    let mut labels = Labels::new(alloc);
-    for text in texts {
-        labels.insert_text(names, text)?;
-    }
-    Ok(labels)
+    more_labels(names, Labels::new(alloc), texts)
 }
 
 // The labels with those of these texts.
@@ -77,11 +73,8 @@ pub(crate) fn properties_of(
     ensures keeps { KeepsNames names.old names.new }
     ensures distinct { AreDistinct names.new }
 {
-    let mut properties = Properties::with_capacity(alloc, pairs.len())?;
-    for (key, value) in pairs {
-        properties.set_text(names, key, value)?;
-    }
-    Ok(properties)
+    let properties = Properties::with_capacity(alloc, pairs.len())?;
+    more_properties(names, properties, pairs)
 }
 
 // The properties with those of these pairs.

@@ -12,6 +12,7 @@ ghost use Rattle.pg_syntax_expressions.specs.ShrinksExpressions.{expr_shrinks};
 ghost use Rattle.pg_syntax.specs.ShrinksClauses.{reading_eats, set_item_eats, remove_item_eats, on_items_eats, updating_eats};
 ghost use Rattle.pg_syntax_tree.specs.View.{name_view, expression_view, set_item_view, remove_item_view, on_view, clause_view};
 
+use crate::behind::alias_behind;
 use crate::patterns::{Paths, path};
 use pg_meaning::{Keyword, Symbol};
 use pg_syntax_expressions::{Whole, expression};
@@ -62,8 +63,7 @@ fn unwind_clause(
 {
     tokens.expect_keyword(Keyword::Unwind)?;
     let list = expression(alloc, tokens, depth)?;
-    tokens.expect_keyword(Keyword::As)?;
-    let variable = tokens.var(alloc)?;
+    let (list, variable) = alias_behind(alloc, list, tokens)?;
     Ok(Clause::Unwind(list, variable))
 }
 

@@ -11,6 +11,7 @@ ghost use Rattle.pg_syntax_expressions.specs.ShrinksExpressions.{expr_shrinks};
 ghost use Rattle.pg_syntax.specs.ShrinksClauses.{item_shrinks, sort_item_shrinks};
 ghost use Rattle.pg_syntax_tree.specs.View.{name_view, expression_view, item_view, sort_item_view, projection_view, clause_view};
 
+use crate::behind::optional_expression_behind;
 use crate::clauses::expression_behind;
 use pg_lex::{Lexeme, Token};
 use pg_meaning::{Keyword, Sort, Symbol};
@@ -228,19 +229,22 @@ fn projection(
 ) -> Result<Projection, ParseError>
     ensures { Gives projection_view (parse.projection (parse.expr depth) (pieces.item of_with text.now (parse.expr depth)) (tokens_view tokens.old.rest.now)) result tokens.new.rest.now }
 {
-    let piece = Items {
-        alloc,
-        text,
-        depth,
-        of_with,
-    };
     let distinct = tokens.eat_keyword(Keyword::Distinct);
     let place = start_of(tokens.rest);
     let has_star = tokens.eat(Symbol::Star);
-    let items = item_row(&piece, tokens, has_star)?;
+    let items = item_row(
+        &Items {
+            alloc,
+            text,
+            depth,
+            of_with,
+        },
+        tokens,
+        has_star,
+    )?;
     let order = ordering(alloc, tokens, depth)?;
     let skip = expression_behind(alloc, tokens, depth, Keyword::Skip)?;
-    let limit = expression_behind(alloc, tokens, depth, Keyword::Limit)?;
+    let (skip, limit) = optional_expression_behind(alloc, skip, tokens, depth, Keyword::Limit)?;
     Ok(Projection {
         distinct,
         star: has_star.then_some(place),
@@ -262,7 +266,13 @@ pub(crate) fn with_clause(
 {
     tokens.expect_keyword(Keyword::With)?;
     let projection = projection(alloc, text, tokens, depth, true)?;
-    let condition = expression_behind(alloc, tokens, depth, Keyword::Where)?;
+    let (projection, condition) = optional_expression_behind(
+        alloc,
+        projection,
+        tokens,
+        depth,
+        Keyword::Where,
+    )?;
     Ok(Clause::With(projection, condition))
 }
 

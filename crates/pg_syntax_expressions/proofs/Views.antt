@@ -1,9 +1,10 @@
--- Tests and suffixes as they are read, one before the others.
+-- Tests and suffixes as they are read, one before the others, and operands.
 use Rattle.std.proofs.Common.{◌≡◌, ◌<◌, length, List, [], ◌∷◌, map, refl, ap, arith}
-use Rattle.pg_meaning.specs.Parse.{all_tests, all_suffixes, tested, suffixed}
+use Rattle.pg_meaning.specs.declared.operators.Operator.{Operator}
+use Rattle.pg_meaning.specs.Parse.{all_tests, all_suffixes, chained, operands_of, tested, suffixed}
 use Rattle.pg_meaning.specs.Tree as tree
 use Rattle.pg_syntax_expressions.specs.Parts.{suffix_view, test_view}
-use Rattle.pg_syntax_tree.specs.View.{expression_view, name_view, names_view, tests_of, suffixes_of}
+use Rattle.pg_syntax_tree.specs.View.{expression_view, name_view, names_view, operand_view, tests_of, suffixes_of}
 use Rattle.pg_syntax_tree.specs.View as view
 use Rattle.pg_syntax_tree.specs.declared.expression.Expression.{Expression}
 use Rattle.pg_syntax_tree.specs.declared.expression.Name.{Name}
@@ -21,6 +22,10 @@ suffixes_read : (ss : List (Suffix Expression)) → suffixes_of (map view.suffix
 suffixes_read [] = refl
 suffixes_read (suffix.Property n ∷ ss) = ap (tree.property (name_view n)) (suffixes_read ss)
 suffixes_read (suffix.Index x ∷ ss) = ap (tree.index (expression_view x)) (suffixes_read ss)
+
+pub chained_more : (x : tree.Expression) (os : List (Operator × Expression)) → 0 < length os → tree.chain x (operands_of (map operand_view os)) ≡ chained x (map operand_view os)
+chained_more x [] e = absurd (omega arith)
+chained_more x (o ∷ os) e = refl
 
 pub tested_more : (x : tree.Expression) (ts : List (Test Expression)) → 0 < length ts → tree.tests x (tests_of (map view.test_view ts)) ≡ tested x (map test_view ts)
 tested_more x [] e = absurd (omega arith)

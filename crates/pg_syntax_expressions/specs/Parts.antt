@@ -1,6 +1,7 @@
 -- What the parts of expressions stand for.
 use Rattle.std.specs.Prelude.{Option, Some, None, option_map, Box, pos, true, false}
 use Rattle.std.specs.declared.alloc.Global.{Global}
+use Rattle.pg_meaning.specs.declared.lexemes.Keyword.{Keyword}
 use Rattle.pg_meaning.specs.declared.lexemes.Keyword.TheVariants as k
 use Rattle.pg_meaning.specs.declared.operators.TextTest.{TextTest}
 use Rattle.pg_meaning.specs.Parse.{Parser, ◌>>=◌, ◌>>◌, ◌<$>◌, pure, keyword, symbol, listed, expressions_of}
@@ -29,6 +30,10 @@ test_view (test.IsNull negated) = tree.null_test negated
 -- a test with a right side, behind its keywords
 abbrev pub test_behind : TextTest → Parser tree.Expression → Parser (tree.Tests → tree.Tests)
 test_behind t right = (λ x. tree.text_test t x) <$> right
+
+-- a word and WITH
+abbrev pub word_and_with : Keyword → Parser (Unit {0})
+word_and_with x = keyword x >> keyword k.With
 
 abbrev pub perhaps_view : Option (Box Expression Global) → Option tree.Expression
 perhaps_view = option_map (λ b. expression_view b.value)

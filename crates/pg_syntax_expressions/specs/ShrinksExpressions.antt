@@ -1,6 +1,5 @@
 -- No parser of expressions takes a token back.
-use Rattle.std.proofs.Common.{◌≡◌, ℕ, zero, suc, ◌<◌, ◌≤◌, Bool, true, false, List, [], ◌∷◌, ◌++◌, length, Option, Some, None, sym, ap, inl, inr, arith}
-use Rattle.pg_meaning.specs.declared.lexemes.Keyword.{Keyword}
+use Rattle.std.proofs.Common.{◌≡◌, ℕ, zero, suc, ◌≤◌, Bool, true, false, List, [], ◌∷◌, length, Some, arith}
 use Rattle.pg_meaning.specs.declared.lexemes.Symbol.{Symbol}
 use Rattle.pg_meaning.specs.declared.lexemes.Symbol.TheVariants as s
 use Rattle.pg_meaning.specs.declared.lexemes.Keyword.TheVariants as k

@@ -12,10 +12,11 @@ ghost use Rattle.pg_syntax_tokens.specs.ShrinksLaws.{eats_shrinks};
 ghost use Rattle.pg_syntax_expressions.specs.ShrinksExpressions.{map_pair_eats, suffix_eats, when_eats};
 ghost use Rattle.pg_syntax_tree.specs.View.{expression_view, literal_view, name_view, names_view, pair_view, when_view};
 
+use crate::behind::{expression_behind, keyword_behind, pieces_behind, symbol_behind};
 use pg_lex::Lexeme;
 use pg_meaning::{Keyword, Symbol};
 use pg_syntax_tokens::{
-    Each, Expressions, ParseError, Row, Rule, Tokens, labels_if_any, many, pieces, separated,
+    Each, Expressions, ParseError, Row, Rule, Tokens, labels_if_any, many, separated,
 };
 use pg_syntax_tree::{Expression, Literal, Name, Suffix};
 use std::alloc::{AllocError, Global};
@@ -127,9 +128,8 @@ impl<'w, W: Expressions> Rule for When<'w, W> {
     fn read(&self, tokens: &mut Tokens<'_, '_>) -> Result<(Expression, Expression), ParseError> {
         tokens.expect_keyword(Keyword::When)?;
         let condition = self.0.expression(tokens)?;
-        tokens.expect_keyword(Keyword::Then)?;
-        let result = self.0.expression(tokens)?;
-        Ok((condition, result))
+        let condition = keyword_behind(condition, Keyword::Then, tokens)?;
+        expression_behind(condition, self.0, tokens)
     }
 }
 
@@ -217,8 +217,7 @@ impl<'w, W: Expressions> Rule for OneSuffix<'w, W> {
         }
         tokens.expect(Symbol::OpenBracket)?;
         let index = self.0.expression(tokens)?;
-        tokens.expect(Symbol::CloseBracket)?;
-        Ok(Suffix::Index(index))
+        Ok(Suffix::Index(symbol_behind(index, Symbol::CloseBracket, tokens)?))
     }
 }
 
@@ -293,7 +292,7 @@ fn parentheses<W: Expressions>(
     ensures { Gives expression_view (parentheses_behind (W.parser whole.now) (tokens_view tokens.old.rest.now)) result tokens.new.rest.now }
 {
     let inner = whole.expression(tokens)?;
-    tokens.expect(Symbol::CloseParenthesis)?;
+    let inner = symbol_behind(inner, Symbol::CloseParenthesis, tokens)?;
     Ok(Expression::Parentheses(Box::new(whole.alloc(), inner)?))
 }
 
@@ -376,7 +375,7 @@ pub(crate) fn post<W: Expressions>(
 {
     let alloc = whole.alloc();
     let first = atom(whole, tokens)?;
-    let suffixes = pieces(alloc, &OneSuffix(whole), tokens)?;
+    let (first, suffixes) = pieces_behind(alloc, first, &OneSuffix(whole), tokens)?;
     let labels = labels_if_any(alloc, tokens)?;
     Ok(suffixed(alloc, first, suffixes, labels)?)
 }

@@ -11,9 +11,10 @@ ghost use Rattle.pg_syntax_tokens.specs.ShrinksLaws.{eats_shrinks};
 ghost use Rattle.pg_syntax_expressions.specs.ShrinksExpressions.{link_eats};
 ghost use Rattle.pg_syntax_tree.specs.View.{expression_view, operand_view};
 
+use crate::behind::pieces_behind;
 use pg_lex::Lexeme;
 use pg_meaning::{Keyword, Operator, Symbol};
-use pg_syntax_tokens::{Expressions, ParseError, Row, Rule, Tokens, pieces};
+use pg_syntax_tokens::{Expressions, ParseError, Row, Rule, Tokens};
 use pg_syntax_tree::Expression;
 use std::alloc::{AllocError, Global};
 
@@ -131,7 +132,6 @@ impl<'o, O: Expressions> Row for Link<'o, O> {
 }
 
 /// The operands together, where there are several.
-#[tactic(auto, using(pg_syntax_tree::proofs::Views::chain_is))]
 fn chained(
     alloc: Global,
     first: Expression,
@@ -156,6 +156,6 @@ pub(crate) fn chain<O: Expressions>(
 {
     let alloc = operand.alloc();
     let first = operand.expression(tokens)?;
-    let operands = pieces(alloc, &Link { level, operand }, tokens)?;
+    let (first, operands) = pieces_behind(alloc, first, &Link { level, operand }, tokens)?;
     Ok(chained(alloc, first, operands)?)
 }

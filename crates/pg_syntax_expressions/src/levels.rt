@@ -7,12 +7,13 @@ ghost use Rattle.pg_meaning.specs.declared.operators.TextTest.TheVariants as tes
 ghost use Rattle.pg_meaning.specs.Parse as parse;
 ghost use Rattle.pg_meaning.specs.Tree as tree;
 ghost use Rattle.pg_syntax_tokens.specs.Gives.{Gives, same};
-ghost use Rattle.pg_syntax_expressions.specs.Parts.{test_view, test_behind};
+ghost use Rattle.pg_syntax_expressions.specs.Parts.{test_view, test_behind, word_and_with};
 ghost use Rattle.pg_syntax_tokens.specs.ShrinksLaws.{eats_shrinks, keyword_eats};
 ghost use Rattle.pg_syntax_expressions.specs.ShrinksExpressions.{sign_eats, test_eats, unary_shrinks, product_shrinks, sum_shrinks, predicate_shrinks, comparison_shrinks, negation_shrinks, conjunction_shrinks, exclusion_shrinks, disjunction_shrinks};
 ghost use Rattle.pg_syntax_tree.specs.View.{expression_view};
 
 use crate::atoms::post;
+use crate::behind::pieces_behind;
 use crate::chains::chain;
 use pg_meaning::{Keyword, Symbol, TextTest};
 use pg_syntax_tokens::{Expressions, ParseError, Row, Rule, Tokens, pieces};
@@ -150,6 +151,35 @@ fn test_of<O: Expressions>(
     Ok(Test::Text(test, right.expression(tokens)?))
 }
 
+/// A test with a right side, behind a keyword.
+fn test_by<O: Expressions>(
+    word: Keyword,
+    test: TextTest,
+    right: &O,
+    tokens: &mut Tokens<'_, '_>,
+) -> Result<Test<Expression>, ParseError>
+    requires { O.ready right.now }
+    ensures { Gives test_view (parse.test_by test (parse.keyword word) (O.parser right.now) (tokens_view tokens.old.rest.now)) result tokens.new.rest.now }
+{
+    tokens.expect_keyword(word)?;
+    test_of(test, right, tokens)
+}
+
+/// The same, with WITH behind the keyword.
+fn test_by_with<O: Expressions>(
+    word: Keyword,
+    test: TextTest,
+    right: &O,
+    tokens: &mut Tokens<'_, '_>,
+) -> Result<Test<Expression>, ParseError>
+    requires { O.ready right.now }
+    ensures { Gives test_view (parse.test_by test (word_and_with word) (O.parser right.now) (tokens_view tokens.old.rest.now)) result tokens.new.rest.now }
+{
+    tokens.expect_keyword(word)?;
+    tokens.expect_keyword(Keyword::With)?;
+    test_of(test, right, tokens)
+}
+
 #[tactic(auto, unfolding(pg_meaning::specs::Parse::one_test))]
 fn one_test<O: Expressions>(
     right: &O,
@@ -159,22 +189,16 @@ fn one_test<O: Expressions>(
     ensures { Gives test_view (parse.one_test (O.parser right.now) (tokens_view tokens.old.rest.now)) result tokens.new.rest.now }
 {
     if tokens.sees_keyword(Keyword::Starts) {
-        tokens.expect_keyword(Keyword::Starts)?;
-        tokens.expect_keyword(Keyword::With)?;
-        return test_of(TextTest::StartsWith, right, tokens);
+        return test_by_with(Keyword::Starts, TextTest::StartsWith, right, tokens);
     }
     if tokens.sees_keyword(Keyword::Ends) {
-        tokens.expect_keyword(Keyword::Ends)?;
-        tokens.expect_keyword(Keyword::With)?;
-        return test_of(TextTest::EndsWith, right, tokens);
+        return test_by_with(Keyword::Ends, TextTest::EndsWith, right, tokens);
     }
     if tokens.sees_keyword(Keyword::Contains) {
-        tokens.expect_keyword(Keyword::Contains)?;
-        return test_of(TextTest::Contains, right, tokens);
+        return test_by(Keyword::Contains, TextTest::Contains, right, tokens);
     }
     if tokens.sees_keyword(Keyword::In) {
-        tokens.expect_keyword(Keyword::In)?;
-        return test_of(TextTest::In, right, tokens);
+        return test_by(Keyword::In, TextTest::In, right, tokens);
     }
     null_test(tokens)
 }
@@ -249,7 +273,7 @@ impl<'w, W: Expressions> Expressions for Predicate<'w, W> {
     fn expression(&self, tokens: &mut Tokens<'_, '_>) -> Result<Expression, ParseError> {
         let sum = Sum(self.0);
         let first = sum.expression(tokens)?;
-        let tests = pieces(self.alloc(), &OneTest(&sum), tokens)?;
+        let (first, tests) = pieces_behind(self.alloc(), first, &OneTest(&sum), tokens)?;
         Ok(tested(self.alloc(), first, tests)?)
     }
 }

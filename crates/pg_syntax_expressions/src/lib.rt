@@ -2,6 +2,7 @@
 #![tactic(auto)]
 
 mod atoms;
+mod behind;
 mod chains;
 mod levels;
 mod nesting;

@@ -13,7 +13,7 @@ use Rattle.pg_syntax_tree.specs.declared.expression.Suffix.{Suffix}
 use Rattle.pg_syntax_tree.specs.declared.expression.Suffix.TheVariants as suffix
 use Rattle.pg_syntax_tree.specs.declared.expression.Test.{Test}
 use Rattle.pg_syntax_tree.specs.declared.expression.Test.TheVariants as test
-use Rattle.pg_scope.proofs.FirstLemmas.{in_turn, walk_item, no_more}
+use Rattle.pg_scope.proofs.FirstLemmas.{in_turn, walk_item, walk_ended, no_more}
 use Rattle.pg_syntax_tree.proofs.Views.{map_is, call_is, chain_is, tests_is, suffixes_is, case_is}
 use Rattle.pg_scope.proofs.expressions.+expressions.Goals as goal
 
@@ -91,3 +91,39 @@ fault_in_expression-returns-in-Suffixes t c = let a = c.in-Suffixes in rw a.is (
 pub fault_in_expression-returns-in-Case : goal.fault_in_expression-returns-in-Case
 fault_in_expression-returns-in-Case t c = let a = c.in-Case in
     rw a.is (rw (case_is a.subject a.whens a.otherwise) (in_turn (in_turn c.fault_in_perhaps-first.ensures c.fault_in_whens-first.ensures) c.fault_in_perhaps.ensures))
+
+pub fault_in_all-loop-item-init : goal.fault_in_all-loop-item-init
+fault_in_all-loop-item-init t c = refl
+
+pub fault_in_all-returns : goal.fault_in_all-returns
+fault_in_all-returns t c = walk_ended (λ ys. all_faults (names_in c.args.visible.now) (expressions_of (map expression_view ys))) refl c.loop-item-test.false c.deref-item-items.ensures.value c.args.first c.loop-item.first c.loop-item.invariant
+
+pub fault_in_pairs-loop-value-init : goal.fault_in_pairs-loop-value-init
+fault_in_pairs-loop-value-init t c = refl
+
+pub fault_in_pairs-returns : goal.fault_in_pairs-returns
+fault_in_pairs-returns t c = walk_ended (λ ys. pair_faults (names_in c.args.visible.now) (pairs_of (map pair_view ys))) refl c.loop-value-test.false c.deref-value-items.ensures.value c.args.first c.loop-value.first c.loop-value.invariant
+
+pub fault_in_operands-loop-operand-init : goal.fault_in_operands-loop-operand-init
+fault_in_operands-loop-operand-init t c = refl
+
+pub fault_in_operands-returns : goal.fault_in_operands-returns
+fault_in_operands-returns t c = walk_ended (λ ys. operand_faults (names_in c.args.visible.now) (operands_of (map operand_view ys))) refl c.loop-operand-test.false c.deref-operand-items.ensures.value c.args.first c.loop-operand.first c.loop-operand.invariant
+
+pub fault_in_whens-loop-condition-init : goal.fault_in_whens-loop-condition-init
+fault_in_whens-loop-condition-init t c = refl
+
+pub fault_in_whens-returns : goal.fault_in_whens-returns
+fault_in_whens-returns t c = walk_ended (λ ys. when_faults (names_in c.args.visible.now) (whens_of (map when_view ys))) refl c.loop-condition-test.false c.deref-condition-items.ensures.value c.args.first c.loop-condition.first c.loop-condition.invariant
+
+pub fault_in_tests-loop-test-init : goal.fault_in_tests-loop-test-init
+fault_in_tests-loop-test-init t c = refl
+
+pub fault_in_tests-returns : goal.fault_in_tests-returns
+fault_in_tests-returns t c = walk_ended (λ ys. test_faults (names_in c.args.visible.now) (tests_of (map test_view ys))) refl c.loop-test-test.false c.deref-test-items.ensures.value c.args.first c.loop-test.first c.loop-test.invariant
+
+pub fault_in_suffixes-loop-suffix-init : goal.fault_in_suffixes-loop-suffix-init
+fault_in_suffixes-loop-suffix-init t c = refl
+
+pub fault_in_suffixes-returns : goal.fault_in_suffixes-returns
+fault_in_suffixes-returns t c = walk_ended (λ ys. suffix_faults (names_in c.args.visible.now) (suffixes_of (map suffix_view ys))) refl c.loop-suffix-test.false c.deref-suffix-items.ensures.value c.args.first c.loop-suffix.first c.loop-suffix.invariant

@@ -1,7 +1,9 @@
 use Rattle.std.proofs.Common.{◌++◌, ◌∷◌, [], refl, ap, ◌∙◌}
+use Rattle.std.proofs.lemmas.Result.{IfOk-from_err}
+use Rattle.pg_graph.proofs.Others.{keeps_refl}
 use Rattle.pg_graph.proofs.Made.{next_is_absent}
 use Rattle.pg_graph.specs.Content.{Content}
-use Rattle.pg_store.proofs.ChangeLemmas.{changed_fit, refused_fit, changed_marks}
+use Rattle.pg_store.proofs.ChangeLemmas.{changed_fit, refused_fit, changed_marks, marks_alike, at_err}
 use Rattle.pg_store.proofs.Kept.{tables_kept}
 use Rattle.pg_store.proofs.CoverLemmas.{covers_now, grown_covers, covers_with}
 use Rattle.pg_store.proofs.States.{with_new_node, new_node_made, new_node_undone}
@@ -49,17 +51,49 @@ returns-clause-fit g c =
     (covers_with (has_in c.cover_node.new.self) s store.next.node c.args.node (grown_covers (has_in store.sets) (has_in c.cover_node.new.self) c.cover_node.ensures.grown s (covers_now (has_in store.sets) store.journal.items s c.requires.fit.covered)) (λ k found. c.in_ok-cover_node.ensures.ok k found))
     c.add_node.ensures.keeps.fits
 
-pub returns-in_err-cover_node-clause-fit : goal.returns-in_err-cover_node-clause-fit
-returns-in_err-cover_node-clause-fit g c =
-    let store = c.args.self.now in
-    let s = state_of g.T.Tables.seen store c.args.shared.now in
-    refused_fit g.T.Tables.seen store (record store { journal = c.reserve.new.self; sets = c.cover_node.new.self }) c.args.shared.now c.args.shared.now c.requires.fit refl refl c.in_ok-reserve.ensures.items c.cover_node.ensures.grown c.requires.fit.fits
-
-pub returns-in_err-add_node-clause-fit : goal.returns-in_err-add_node-clause-fit
-returns-in_err-add_node-clause-fit g c =
-    let store = c.args.self.now in
-    let s = state_of g.T.Tables.seen store c.args.shared.now in
-    refused_fit g.T.Tables.seen store (record store { tables = c.add_node.new.self; journal = c.reserve.new.self; sets = c.cover_node.new.self }) c.args.shared.now (record c.args.shared.now { tables = c.add_node.new.shared }) c.requires.fit refl (λ t. record s { content = c.in_err-add_node.ensures.err t }) c.in_ok-reserve.ensures.items c.cover_node.ensures.grown c.add_node.ensures.keeps.fits
-
 pub returns-clause-keeps : goal.returns-clause-keeps
 returns-clause-keeps g c = tables_kept c.args.self.now _ c.args.shared.now _ c.requires.fit c.add_node.ensures.keeps refl
+
+pub returns-in_err-reserve : goal.returns-in_err-reserve
+returns-in_err-reserve g c =
+    let store = c.args.self.now in
+    let shared = c.args.shared.now in
+    let left = record store { journal = c.reserve.new.self } in
+    record {
+      id = IfOk-from_err c.from_residual.result _ c.from_residual.ensures.0;
+      ok = IfOk-from_err c.from_residual.result _ c.from_residual.ensures.0;
+      err = at_err c.from_residual.result refl;
+      marks = marks_alike g.T.Tables.seen store left shared shared refl c.reserve.ensures.items refl;
+      fit = refused_fit g.T.Tables.seen store left shared shared c.requires.fit refl refl c.reserve.ensures.items (λ k i h. h) c.requires.fit.fits;
+      keeps = tables_kept store left shared shared c.requires.fit (keeps_refl store.tables shared.tables c.requires.fit.fits) refl;
+    }
+
+pub returns-in_err-cover_node : goal.returns-in_err-cover_node
+returns-in_err-cover_node g c =
+    let store = c.args.self.now in
+    let shared = c.args.shared.now in
+    let left = record store { journal = c.reserve.new.self; sets = c.cover_node.new.self } in
+    record {
+      id = IfOk-from_err c.from_residual-in_err-cover_node.result _ c.from_residual-in_err-cover_node.ensures.0;
+      ok = IfOk-from_err c.from_residual-in_err-cover_node.result _ c.from_residual-in_err-cover_node.ensures.0;
+      err = at_err c.from_residual-in_err-cover_node.result refl;
+      marks = marks_alike g.T.Tables.seen store left shared shared refl c.reserve.ensures.items refl;
+      fit = refused_fit g.T.Tables.seen store left shared shared c.requires.fit refl refl c.reserve.ensures.items c.cover_node.ensures.grown c.requires.fit.fits;
+      keeps = tables_kept store left shared shared c.requires.fit (keeps_refl store.tables shared.tables c.requires.fit.fits) refl;
+    }
+
+pub returns-in_err-add_node : goal.returns-in_err-add_node
+returns-in_err-add_node g c =
+    let store = c.args.self.now in
+    let shared = c.args.shared.now in
+    let s = state_of g.T.Tables.seen store shared in
+    let left = record store { tables = c.add_node.new.self; journal = c.reserve.new.self; sets = c.cover_node.new.self } in
+    let after = record shared { tables = c.add_node.new.shared } in
+    record {
+      id = IfOk-from_err c.from_residual-in_err-add_node.result _ c.from_residual-in_err-add_node.ensures.0;
+      ok = IfOk-from_err c.from_residual-in_err-add_node.result _ c.from_residual-in_err-add_node.ensures.0;
+      err = at_err c.from_residual-in_err-add_node.result (λ t. graph_in shared.names (record s { content = c.in_err-add_node.ensures.err t }));
+      marks = marks_alike g.T.Tables.seen store left shared after refl c.reserve.ensures.items (λ t. record s { content = c.in_err-add_node.ensures.err t });
+      fit = refused_fit g.T.Tables.seen store left shared after c.requires.fit refl (λ t. record s { content = c.in_err-add_node.ensures.err t }) c.reserve.ensures.items c.cover_node.ensures.grown c.add_node.ensures.keeps.fits;
+      keeps = tables_kept store left shared after c.requires.fit c.add_node.ensures.keeps refl;
+    }

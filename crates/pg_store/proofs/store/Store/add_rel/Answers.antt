@@ -1,7 +1,9 @@
 use Rattle.std.proofs.Common.{◌++◌, ◌∷◌, [], refl, ap, ◌∙◌}
+use Rattle.std.proofs.lemmas.Result.{IfOk-from_err}
+use Rattle.pg_graph.proofs.Others.{keeps_refl}
 use Rattle.pg_graph.proofs.Removed.{is_live}
 use Rattle.pg_graph.specs.Content.{Content}
-use Rattle.pg_store.proofs.ChangeLemmas.{changed_fit, changed_marks}
+use Rattle.pg_store.proofs.ChangeLemmas.{changed_fit, changed_marks, marks_alike, refused_fit, at_err}
 use Rattle.pg_store.proofs.Kept.{tables_kept}
 use Rattle.pg_store.proofs.CoverLemmas.{covers_now}
 use Rattle.pg_store.proofs.States.{next_rel_is_absent, with_new_rel, new_rel_made, new_rel_undone}
@@ -64,3 +66,33 @@ returns-clause-fit g c =
 
 pub returns-clause-keeps : goal.returns-clause-keeps
 returns-clause-keeps g c = tables_kept c.args.self.now _ c.args.shared.now _ c.requires.fit c.add_rel.ensures.keeps refl
+
+pub returns-in_err-reserve : goal.returns-in_err-reserve
+returns-in_err-reserve g c =
+    let store = c.args.self.now in
+    let shared = c.args.shared.now in
+    let left = record store { journal = c.reserve.new.self } in
+    record {
+      id = IfOk-from_err c.from_residual.result _ c.from_residual.ensures.0;
+      ok = IfOk-from_err c.from_residual.result _ c.from_residual.ensures.0;
+      err = at_err c.from_residual.result refl;
+      marks = marks_alike g.T.Tables.seen store left shared shared refl c.reserve.ensures.items refl;
+      fit = refused_fit g.T.Tables.seen store left shared shared c.requires.fit refl refl c.reserve.ensures.items (λ k i h. h) c.requires.fit.fits;
+      keeps = tables_kept store left shared shared c.requires.fit (keeps_refl store.tables shared.tables c.requires.fit.fits) refl;
+    }
+
+pub returns-in_err-add_rel : goal.returns-in_err-add_rel
+returns-in_err-add_rel g c =
+    let store = c.args.self.now in
+    let shared = c.args.shared.now in
+    let s = state_of g.T.Tables.seen store shared in
+    let left = record store { tables = c.add_rel.new.self; journal = c.reserve.new.self } in
+    let after = record shared { tables = c.add_rel.new.shared } in
+    record {
+      id = IfOk-from_err c.from_residual-in_err-add_rel.result _ c.from_residual-in_err-add_rel.ensures.0;
+      ok = IfOk-from_err c.from_residual-in_err-add_rel.result _ c.from_residual-in_err-add_rel.ensures.0;
+      err = at_err c.from_residual-in_err-add_rel.result (λ t. graph_in shared.names (record s { content = c.in_err-add_rel.ensures.err t }));
+      marks = marks_alike g.T.Tables.seen store left shared after refl c.reserve.ensures.items (λ t. record s { content = c.in_err-add_rel.ensures.err t });
+      fit = refused_fit g.T.Tables.seen store left shared after c.requires.fit refl (λ t. record s { content = c.in_err-add_rel.ensures.err t }) c.reserve.ensures.items (λ k i h. h) c.add_rel.ensures.keeps.fits;
+      keeps = tables_kept store left shared after c.requires.fit c.add_rel.ensures.keeps refl;
+    }

@@ -1,7 +1,9 @@
 use Rattle.std.proofs.Common.{◌++◌, ◌∷◌, [], IsSome, refl, sym, ap, subst, ◌∙◌}
+use Rattle.std.proofs.lemmas.Result.{IfOk-from_err}
+use Rattle.pg_graph.proofs.Others.{keeps_refl}
 use Rattle.pg_graph.proofs.Removed.{is_live}
 use Rattle.pg_graph.specs.Content.{Content}
-use Rattle.pg_store.proofs.ChangeLemmas.{changed_fit, refused_fit, changed_marks}
+use Rattle.pg_store.proofs.ChangeLemmas.{changed_fit, refused_fit, changed_marks, marks_alike, at_err}
 use Rattle.pg_store.proofs.Kept.{tables_kept}
 use Rattle.pg_store.proofs.CoverLemmas.{covers_now, grown_covers, grows_on, covers_with}
 use Rattle.pg_store.proofs.SetLemmas.{same_grow}
@@ -57,18 +59,6 @@ returns-clause-fit g c =
     (covers_with (has_in c.cover_node.new.self) s c.args.id.0 c.args.node (grown_covers (has_in store.sets) (has_in c.cover_node.new.self) (grows_on (has_in store.sets) (has_in c.note_leaving.new.self) (has_in c.cover_node.new.self) (same_grow store.sets c.note_leaving.new.self c.note_leaving.ensures.all c.note_leaving.ensures.labels c.note_leaving.ensures.indexes) c.cover_node.ensures.grown) s (covers_now (has_in store.sets) store.journal.items s c.requires.fit.covered)) (λ k found. c.in_ok-cover_node.ensures.ok k found))
     c.change-before.ensures.keeps.fits
 
-pub returns-in_err-note_leaving-clause-fit : goal.returns-in_err-note_leaving-clause-fit
-returns-in_err-note_leaving-clause-fit g c =
-    let store = c.args.self.now in
-    let s = state_of g.T.Tables.seen store c.args.shared.now in
-    refused_fit g.T.Tables.seen store (record store { journal = c.reserve.new.self; sets = c.note_leaving.new.self }) c.args.shared.now c.args.shared.now c.requires.fit refl refl c.in_ok-reserve.ensures.items (same_grow store.sets c.note_leaving.new.self c.note_leaving.ensures.all c.note_leaving.ensures.labels c.note_leaving.ensures.indexes) c.requires.fit.fits
-
-pub returns-in_err-cover_node-clause-fit : goal.returns-in_err-cover_node-clause-fit
-returns-in_err-cover_node-clause-fit g c =
-    let store = c.args.self.now in
-    let s = state_of g.T.Tables.seen store c.args.shared.now in
-    refused_fit g.T.Tables.seen store (record store { journal = c.reserve.new.self; sets = c.cover_node.new.self }) c.args.shared.now c.args.shared.now c.requires.fit refl refl c.in_ok-reserve.ensures.items (grows_on (has_in store.sets) (has_in c.note_leaving.new.self) (has_in c.cover_node.new.self) (same_grow store.sets c.note_leaving.new.self c.note_leaving.ensures.all c.note_leaving.ensures.labels c.note_leaving.ensures.indexes) c.cover_node.ensures.grown) c.requires.fit.fits
-
 pub unwrap-was-requires : goal.unwrap-was-requires
 unwrap-was-requires g c =
     let store = c.args.self.now in
@@ -77,3 +67,42 @@ unwrap-was-requires g c =
 
 pub returns-clause-keeps : goal.returns-clause-keeps
 returns-clause-keeps g c = tables_kept c.args.self.now _ c.args.shared.now _ c.requires.fit c.change-before.ensures.keeps refl
+
+pub returns-in_err-reserve : goal.returns-in_err-reserve
+returns-in_err-reserve g c =
+    let store = c.args.self.now in
+    let shared = c.args.shared.now in
+    let left = record store { journal = c.reserve.new.self } in
+    record {
+      ok = IfOk-from_err c.from_residual.result _ c.from_residual.ensures.0;
+      err = at_err c.from_residual.result refl;
+      marks = marks_alike g.T.Tables.seen store left shared shared refl c.reserve.ensures.items refl;
+      fit = refused_fit g.T.Tables.seen store left shared shared c.requires.fit refl refl c.reserve.ensures.items (λ k i h. h) c.requires.fit.fits;
+      keeps = tables_kept store left shared shared c.requires.fit (keeps_refl store.tables shared.tables c.requires.fit.fits) refl;
+    }
+
+pub returns-in_err-note_leaving : goal.returns-in_err-note_leaving
+returns-in_err-note_leaving g c =
+    let store = c.args.self.now in
+    let shared = c.args.shared.now in
+    let left = record store { journal = c.reserve.new.self; sets = c.note_leaving.new.self } in
+    record {
+      ok = IfOk-from_err c.from_residual-in_err-note_leaving.result _ c.from_residual-in_err-note_leaving.ensures.0;
+      err = at_err c.from_residual-in_err-note_leaving.result refl;
+      marks = marks_alike g.T.Tables.seen store left shared shared refl c.reserve.ensures.items refl;
+      fit = refused_fit g.T.Tables.seen store left shared shared c.requires.fit refl refl c.reserve.ensures.items (same_grow store.sets c.note_leaving.new.self c.note_leaving.ensures.all c.note_leaving.ensures.labels c.note_leaving.ensures.indexes) c.requires.fit.fits;
+      keeps = tables_kept store left shared shared c.requires.fit (keeps_refl store.tables shared.tables c.requires.fit.fits) refl;
+    }
+
+pub returns-in_err-cover_node : goal.returns-in_err-cover_node
+returns-in_err-cover_node g c =
+    let store = c.args.self.now in
+    let shared = c.args.shared.now in
+    let left = record store { journal = c.reserve.new.self; sets = c.cover_node.new.self } in
+    record {
+      ok = IfOk-from_err c.from_residual-in_err-cover_node.result _ c.from_residual-in_err-cover_node.ensures.0;
+      err = at_err c.from_residual-in_err-cover_node.result refl;
+      marks = marks_alike g.T.Tables.seen store left shared shared refl c.reserve.ensures.items refl;
+      fit = refused_fit g.T.Tables.seen store left shared shared c.requires.fit refl refl c.reserve.ensures.items (grows_on (has_in store.sets) (has_in c.note_leaving.new.self) (has_in c.cover_node.new.self) (same_grow store.sets c.note_leaving.new.self c.note_leaving.ensures.all c.note_leaving.ensures.labels c.note_leaving.ensures.indexes) c.cover_node.ensures.grown) c.requires.fit.fits;
+      keeps = tables_kept store left shared shared c.requires.fit (keeps_refl store.tables shared.tables c.requires.fit.fits) refl;
+    }

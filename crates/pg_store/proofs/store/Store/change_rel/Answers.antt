@@ -1,7 +1,7 @@
 use Rattle.std.proofs.Common.{◌++◌, ◌∷◌, [], refl, ap, ◌∙◌}
 use Rattle.pg_graph.proofs.Removed.{is_live}
 use Rattle.pg_graph.specs.Content.{Content}
-use Rattle.pg_store.proofs.ChangeLemmas.{changed_fit, changed_marks}
+use Rattle.pg_store.proofs.ChangeLemmas.{changed_fit, changed_marks, marks_alike, refused_fit}
 use Rattle.pg_store.proofs.Kept.{tables_kept}
 use Rattle.pg_store.proofs.CoverLemmas.{covers_now, covers_other_properties}
 use Rattle.pg_store.proofs.States.{with_rel_changed, rel_changed, rel_change_undone}
@@ -57,3 +57,13 @@ returns-clause-fit g c =
 
 pub returns-clause-keeps : goal.returns-clause-keeps
 returns-clause-keeps g c = tables_kept c.args.self.now _ c.args.shared.now _ c.requires.fit c.change_rel-before.ensures.keeps refl
+
+pub returns-in_err-reserve-clause-marks : goal.returns-in_err-reserve-clause-marks
+returns-in_err-reserve-clause-marks g c =
+    let store = c.args.self.now in
+    marks_alike g.T.Tables.seen store (record store { journal = c.reserve.new.self }) c.args.shared.now c.args.shared.now refl c.reserve.ensures.items refl
+
+pub returns-in_err-reserve-clause-fit : goal.returns-in_err-reserve-clause-fit
+returns-in_err-reserve-clause-fit g c =
+    let store = c.args.self.now in
+    refused_fit g.T.Tables.seen store (record store { journal = c.reserve.new.self }) c.args.shared.now c.args.shared.now c.requires.fit refl refl c.reserve.ensures.items (λ k i h. h) c.requires.fit.fits

@@ -1,6 +1,5 @@
-use Rattle.std.proofs.Common.{rules}
 use Rattle.std.proofs.Common.{sym, ◌∙◌}
-use Rattle.std.proofs.lemmas.Result.{on_ok_weaker, on_err_weaker}
+use Rattle.std.proofs.lemmas.Result.{IfOk-from_err, on_ok_weaker, on_err_weaker}
 use Rattle.pg_graph.proofs.Held.{more_named}
 use Rattle.pg_graph.proofs.NamedChanges.{label_texts_kept}
 use Rattle.pg_meaning.specs.Graph.{add_node}
@@ -11,7 +10,7 @@ use Rattle.pg_store.specs.Stores.{texts_of}
 
 pub returns-in_err-labels-clause-changes : goal.returns-in_err-labels-clause-changes
 returns-in_err-labels-clause-changes g c = record {
-  says = search rules;
+  says = IfOk-from_err c.from_residual.result _ c.from_residual.ensures.0;
   same = (at_err c.from_residual.result (renamed_graph g.T.Tables.seen c.args.self.now c.args.shared.now c.labels_of.new.names c.labels_of.ensures.keeps c.requires.fit));
   fit = (renamed_fit g.T.Tables.seen c.args.self.now c.args.shared.now c.labels_of.new.names c.labels_of.ensures.keeps c.requires.fit c.labels_of.ensures.distinct);
   keeps = renamed_keeps g.T.Tables.seen c.args.self.now c.args.shared.now c.labels_of.new.names c.labels_of.ensures.keeps c.requires.fit c.labels_of.ensures.distinct;
@@ -22,7 +21,7 @@ returns-in_err-labels-clause-marks g c = renamed_marks g.T.Tables.seen c.args.se
 
 pub returns-in_err-properties-clause-changes : goal.returns-in_err-properties-clause-changes
 returns-in_err-properties-clause-changes g c = record {
-  says = search rules;
+  says = IfOk-from_err c.from_residual-in_err-properties.result _ c.from_residual-in_err-properties.ensures.0;
   same = (at_err c.from_residual-in_err-properties.result (renamed_graph g.T.Tables.seen c.args.self.now c.args.shared.now c.properties_of.new.names
       (keeps_both c.args.shared.now.names c.labels_of.new.names c.properties_of.new.names c.labels_of.ensures.keeps c.properties_of.ensures.keeps) c.requires.fit));
   fit = (renamed_fit g.T.Tables.seen c.args.self.now c.args.shared.now c.properties_of.new.names

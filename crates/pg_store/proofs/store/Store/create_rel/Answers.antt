@@ -1,9 +1,9 @@
-use Rattle.std.proofs.Common.{rules}
-use Rattle.std.proofs.Common.{◌∙◌}
+use Rattle.std.proofs.Common.{◌∙◌, sym, subst}
 use Rattle.std.proofs.lemmas.Option.{slice_get_within}
-use Rattle.std.proofs.lemmas.Result.{on_ok_weaker, on_err_weaker}
+use Rattle.std.proofs.lemmas.Result.{IfOk-from_err, on_ok_weaker, on_err_weaker}
 use Rattle.pg_graph.proofs.NamedChanges.{text_is}
 use Rattle.pg_meaning.specs.Graph.{add_relationship}
+use Rattle.pg_names.specs.Names.{AreDistinct}
 use Rattle.pg_store.proofs.ChangeLemmas.{at_err, marks_then, renamed_graph, renamed_fit, renamed_keeps, renamed_marks}
 use Rattle.pg_store.proofs.Kept.{keeps_both, kept_then}
 use Rattle.pg_store.proofs.Stores.{node_held}
@@ -13,7 +13,7 @@ use Rattle.pg_store.specs.Stores.{state_of}
 
 pub returns-in_err-properties-clause-changes : goal.returns-in_err-properties-clause-changes
 returns-in_err-properties-clause-changes g c = record {
-  says = search rules;
+  says = IfOk-from_err c.from_residual-in_err-properties.result _ c.from_residual-in_err-properties.ensures.0;
   same = (at_err c.from_residual-in_err-properties.result (renamed_graph g.T.Tables.seen c.args.self.now c.args.shared.now c.properties_of.new.names
       (keeps_both c.args.shared.now.names c.intern.new.self c.properties_of.new.names c.intern.ensures.keeps c.properties_of.ensures.keeps) c.requires.fit));
   fit = (renamed_fit g.T.Tables.seen c.args.self.now c.args.shared.now c.properties_of.new.names
@@ -63,3 +63,19 @@ returns-clause-marks g c =
     (renamed_marks g.T.Tables.seen c.args.self.now c.args.shared.now c.properties_of.new.names
     (keeps_both c.args.shared.now.names c.intern.new.self c.properties_of.new.names c.intern.ensures.keeps c.properties_of.ensures.keeps) c.requires.fit)
     c.add_rel.ensures.marks
+
+pub returns-in_err-kind-clause-changes : goal.returns-in_err-kind-clause-changes
+returns-in_err-kind-clause-changes g c =
+    let store = c.args.self.now in
+    let shared = c.args.shared.now in
+    let names = c.intern.new.self in
+    let distinct = subst AreDistinct (sym c.in_err-kind.ensures.err) c.requires.fit.well.held.distinct in
+    record {
+      says = IfOk-from_err c.from_residual.result _ c.from_residual.ensures.0;
+      same = at_err c.from_residual.result (renamed_graph g.T.Tables.seen store shared names c.intern.ensures.keeps c.requires.fit);
+      fit = renamed_fit g.T.Tables.seen store shared names c.intern.ensures.keeps c.requires.fit distinct;
+      keeps = renamed_keeps g.T.Tables.seen store shared names c.intern.ensures.keeps c.requires.fit distinct;
+    }
+
+pub returns-in_err-kind-clause-marks : goal.returns-in_err-kind-clause-marks
+returns-in_err-kind-clause-marks g c = renamed_marks g.T.Tables.seen c.args.self.now c.args.shared.now c.intern.new.self c.intern.ensures.keeps c.requires.fit

@@ -1,8 +1,10 @@
-use Rattle.std.proofs.Common.{not, filter, ◌∙◌}
-use Rattle.std.proofs.lemmas.Result.{on_ok_weaker}
+use Rattle.std.proofs.Common.{refl, not, filter, ◌∙◌}
+use Rattle.std.proofs.lemmas.Result.{on_ok_weaker, IfOk-from_err}
 use Rattle.pg_graph.specs.Refinement.{label_texts, property_entries, node_of}
 use Rattle.pg_meaning.specs.Graph.{Node}
 use Rattle.pg_meaning.specs.Names.{is_among}
+use Rattle.pg_store.proofs.Kept.{nothing_touched}
+use Rattle.pg_store.proofs.ChangeLemmas.{at_err, marks_stay}
 use Rattle.pg_store.proofs.Changed.{node_changed_alike, without_is}
 use Rattle.pg_store.proofs.store.Store.remove_labels.Goals as goal
 use Rattle.pg_store.specs.Journal.{live}
@@ -23,3 +25,14 @@ returns-clause-changes g c = record {
   fit = c.change_node.ensures.fit;
   keeps = c.change_node.ensures.keeps;
 }
+
+pub returns-in_err-before-clause-changes : goal.returns-in_err-before-clause-changes
+returns-in_err-before-clause-changes g c = record {
+  says = IfOk-from_err c.from_residual.result _ c.from_residual.ensures.0;
+  same = at_err c.from_residual.result refl;
+  fit = c.requires.fit;
+  keeps = nothing_touched c.args.self.now c.args.shared.now c.requires.fit;
+}
+
+pub returns-in_err-before-clause-marks : goal.returns-in_err-before-clause-marks
+returns-in_err-before-clause-marks g c = marks_stay g.T.Tables.seen c.args.self.now c.args.shared.now

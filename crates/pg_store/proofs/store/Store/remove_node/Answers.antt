@@ -1,10 +1,10 @@
-use Rattle.std.proofs.Common.{rules}
 use Rattle.std.proofs.Common.{◌++◌, ◌∷◌, [], IsSome, refl, sym, ap, subst, ◌∙◌}
 use Rattle.pg_graph.proofs.Others.{keeps_refl}
 use Rattle.pg_graph.proofs.Refined.{outgoing_are_read, incoming_are_read}
 use Rattle.pg_graph.proofs.Removed.{is_live}
 use Rattle.pg_graph.specs.Removed.{Ids}
-use Rattle.pg_store.proofs.ChangeLemmas.{changed_fit, refused_fit, changed_marks}
+use Rattle.std.proofs.lemmas.Result.{IfOk-from_err}
+use Rattle.pg_store.proofs.ChangeLemmas.{changed_fit, refused_fit, changed_marks, marks_alike, at_err}
 use Rattle.pg_store.proofs.SetLemmas.{same_grow}
 use Rattle.pg_store.proofs.Stores.{node_held, copied_some}
 use Rattle.pg_store.proofs.Kept.{tables_kept}
@@ -69,8 +69,8 @@ returns-clause-marks g c =
 
 pub returns-in_err-note_leaving-clause-changes : goal.returns-in_err-note_leaving-clause-changes
 returns-in_err-note_leaving-clause-changes g c = record {
-  says = search rules;
-  same = search rules;
+  says = IfOk-from_err c.from_residual-in_err-note_leaving.result _ c.from_residual-in_err-note_leaving.ensures.0;
+  same = at_err c.from_residual-in_err-note_leaving.result refl;
   fit = (let store = c.args.self.now in
       let s = state_of g.T.Tables.seen store c.args.shared.now in
       refused_fit g.T.Tables.seen store (record store { journal = c.reserve.new.self; sets = c.note_leaving.new.self }) c.args.shared.now c.args.shared.now c.requires.fit refl refl c.in_ok-reserve.ensures.items (same_grow store.sets c.note_leaving.new.self c.note_leaving.ensures.all c.note_leaving.ensures.labels c.note_leaving.ensures.indexes) c.requires.fit.fits);
@@ -79,8 +79,8 @@ returns-in_err-note_leaving-clause-changes g c = record {
 
 pub returns-in_err-insert-clause-changes : goal.returns-in_err-insert-clause-changes
 returns-in_err-insert-clause-changes g c = record {
-  says = search rules;
-  same = search rules;
+  says = IfOk-from_err c.from_residual-in_err-insert.result _ c.from_residual-in_err-insert.ensures.0;
+  same = at_err c.from_residual-in_err-insert.result (λ t. graph_in c.args.shared.now.names (record (state_of g.T.Tables.seen c.args.self.now c.args.shared.now) { gone_nodes = c.in_err-insert.ensures.err t }));
   fit = (let store = c.args.self.now in
       let s = state_of g.T.Tables.seen store c.args.shared.now in
       refused_fit g.T.Tables.seen store (record store { gone_nodes = c.insert.new.self; journal = c.reserve.new.self; sets = c.note_leaving.new.self }) c.args.shared.now c.args.shared.now c.requires.fit refl (λ t. record s { gone_nodes = c.in_err-insert.ensures.err t }) c.in_ok-reserve.ensures.items (same_grow store.sets c.note_leaving.new.self c.note_leaving.ensures.all c.note_leaving.ensures.labels c.note_leaving.ensures.indexes) c.requires.fit.fits);
@@ -92,3 +92,30 @@ unwrap-was-requires g c =
     let store = c.args.self.now in
     let s = state_of g.T.Tables.seen store c.args.shared.now in
     copied_some c.node.result (subst IsSome (sym c.node.ensures) (is_live s.content.nodes store.gone_nodes c.args.id.0 (node_held c.args.shared.now.names (live s) store.next.node store.next.rel c.args.id.0 c.requires.there)).1)
+
+pub returns-in_err-reserve-clause-marks : goal.returns-in_err-reserve-clause-marks
+returns-in_err-reserve-clause-marks g c =
+    let store = c.args.self.now in
+    marks_alike g.T.Tables.seen store (record store { journal = c.reserve.new.self }) c.args.shared.now c.args.shared.now refl c.reserve.ensures.items refl
+
+pub returns-in_err-note_leaving-clause-marks : goal.returns-in_err-note_leaving-clause-marks
+returns-in_err-note_leaving-clause-marks g c =
+    let store = c.args.self.now in
+    marks_alike g.T.Tables.seen store (record store { journal = c.reserve.new.self; sets = c.note_leaving.new.self }) c.args.shared.now c.args.shared.now refl c.reserve.ensures.items refl
+
+pub returns-in_err-insert-clause-marks : goal.returns-in_err-insert-clause-marks
+returns-in_err-insert-clause-marks g c =
+    let store = c.args.self.now in
+    let s = state_of g.T.Tables.seen store c.args.shared.now in
+    marks_alike g.T.Tables.seen store (record store { gone_nodes = c.insert.new.self; journal = c.reserve.new.self; sets = c.note_leaving.new.self }) c.args.shared.now c.args.shared.now refl c.reserve.ensures.items (λ t. record s { gone_nodes = c.in_err-insert.ensures.err t })
+
+pub returns-in_err-reserve-clause-changes : goal.returns-in_err-reserve-clause-changes
+returns-in_err-reserve-clause-changes g c =
+    let store = c.args.self.now in
+    let left = record store { journal = c.reserve.new.self } in
+    record {
+      says = IfOk-from_err c.from_residual.result _ c.from_residual.ensures.0;
+      same = at_err c.from_residual.result refl;
+      fit = refused_fit g.T.Tables.seen store left c.args.shared.now c.args.shared.now c.requires.fit refl refl c.reserve.ensures.items (λ k i h. h) c.requires.fit.fits;
+      keeps = tables_kept store left c.args.shared.now c.args.shared.now c.requires.fit (keeps_refl store.tables c.args.shared.now.tables c.requires.fit.fits) refl;
+    }

@@ -1,7 +1,8 @@
 use Rattle.std.proofs.Common.{◌++◌, ◌∷◌, [], refl, ap, ◌∙◌}
 use Rattle.pg_graph.proofs.Others.{keeps_refl}
 use Rattle.pg_graph.specs.Removed.{Ids}
-use Rattle.pg_store.proofs.ChangeLemmas.{changed_fit, changed_marks}
+use Rattle.std.proofs.lemmas.Result.{IfOk-from_err}
+use Rattle.pg_store.proofs.ChangeLemmas.{at_err, changed_fit, changed_marks, marks_alike, refused_fit}
 use Rattle.pg_store.proofs.Stores.{rel_held}
 use Rattle.pg_store.proofs.Kept.{tables_kept}
 use Rattle.pg_store.proofs.CoverLemmas.{covers_now}
@@ -54,3 +55,37 @@ returns-clause-marks g c =
     refl
     (ap (λ (gone : Ids). record removed { gone_rels = gone }) c.in_ok-insert.ensures.ok)
     (c.push_reserved.ensures.items ∙ ap (λ es. es ++ RelRemoved c.args.id ∷ []) c.in_ok-reserve.ensures.items)
+
+pub returns-in_err-reserve-clause-changes : goal.returns-in_err-reserve-clause-changes
+returns-in_err-reserve-clause-changes g c =
+    let store = c.args.self.now in
+    let left = record store { journal = c.reserve.new.self } in
+    record {
+      says = IfOk-from_err c.from_residual.result _ c.from_residual.ensures.0;
+      same = at_err c.from_residual.result refl;
+      fit = refused_fit g.T.Tables.seen store left c.args.shared.now c.args.shared.now c.requires.fit refl refl c.reserve.ensures.items (λ k i h. h) c.requires.fit.fits;
+      keeps = tables_kept store left c.args.shared.now c.args.shared.now c.requires.fit (keeps_refl store.tables c.args.shared.now.tables c.requires.fit.fits) refl;
+    }
+
+pub returns-in_err-reserve-clause-marks : goal.returns-in_err-reserve-clause-marks
+returns-in_err-reserve-clause-marks g c =
+    let store = c.args.self.now in
+    marks_alike g.T.Tables.seen store (record store { journal = c.reserve.new.self }) c.args.shared.now c.args.shared.now refl c.reserve.ensures.items refl
+
+pub returns-in_err-insert-clause-changes : goal.returns-in_err-insert-clause-changes
+returns-in_err-insert-clause-changes g c =
+    let store = c.args.self.now in
+    let left = record store { gone_rels = c.insert.new.self; journal = c.reserve.new.self } in
+    let s = state_of g.T.Tables.seen store c.args.shared.now in
+    record {
+      says = IfOk-from_err c.from_residual-in_err-insert.result _ c.from_residual-in_err-insert.ensures.0;
+      same = at_err c.from_residual-in_err-insert.result (ap (graph_in c.args.shared.now.names) (λ t. record s { gone_rels = c.in_err-insert.ensures.err t }));
+      fit = refused_fit g.T.Tables.seen store left c.args.shared.now c.args.shared.now c.requires.fit refl (λ t. record s { gone_rels = c.in_err-insert.ensures.err t }) c.reserve.ensures.items (λ k i h. h) c.requires.fit.fits;
+      keeps = tables_kept store left c.args.shared.now c.args.shared.now c.requires.fit (keeps_refl store.tables c.args.shared.now.tables c.requires.fit.fits) refl;
+    }
+
+pub returns-in_err-insert-clause-marks : goal.returns-in_err-insert-clause-marks
+returns-in_err-insert-clause-marks g c =
+    let store = c.args.self.now in
+    let s = state_of g.T.Tables.seen store c.args.shared.now in
+    marks_alike g.T.Tables.seen store (record store { gone_rels = c.insert.new.self; journal = c.reserve.new.self }) c.args.shared.now c.args.shared.now refl c.reserve.ensures.items (λ t. record s { gone_rels = c.in_err-insert.ensures.err t })

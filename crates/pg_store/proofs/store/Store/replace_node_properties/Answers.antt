@@ -1,13 +1,12 @@
-use Rattle.std.proofs.Common.{rules}
-use Rattle.std.proofs.Common.{ap, ◌∙◌}
-use Rattle.std.proofs.lemmas.Result.{on_ok_weaker, on_err_weaker}
+use Rattle.std.proofs.Common.{refl, ap, ◌∙◌}
+use Rattle.std.proofs.lemmas.Result.{IfOk-from_err, on_ok_weaker, on_err_weaker}
 use Rattle.pg_graph.proofs.Held.{more_named}
 use Rattle.pg_graph.specs.Refinement.{node_of}
 use Rattle.pg_meaning.specs.Entries.{set_keys}
 use Rattle.pg_meaning.specs.Graph.{Node, change_node}
 use Rattle.pg_meaning.specs.Value.{no_entries}
-use Rattle.pg_store.proofs.ChangeLemmas.{at_err, marks_then, renamed_graph, renamed_fit, renamed_keeps, renamed_marks}
-use Rattle.pg_store.proofs.Kept.{kept_then}
+use Rattle.pg_store.proofs.ChangeLemmas.{at_err, marks_then, renamed_graph, renamed_fit, renamed_keeps, renamed_marks, marks_stay}
+use Rattle.pg_store.proofs.Kept.{kept_then, nothing_touched}
 use Rattle.pg_store.proofs.Changed.{node_changed_alike, with_properties}
 use Rattle.pg_store.proofs.store.Store.replace_node_properties.Goals as goal
 use Rattle.pg_store.specs.Journal.{live}
@@ -15,7 +14,7 @@ use Rattle.pg_store.specs.Stores.{state_of, pairs_of}
 
 pub returns-in_err-properties-clause-changes : goal.returns-in_err-properties-clause-changes
 returns-in_err-properties-clause-changes g c = record {
-  says = search rules;
+  says = IfOk-from_err c.from_residual-in_err-properties.result _ c.from_residual-in_err-properties.ensures.0;
   same = (at_err c.from_residual-in_err-properties.result (renamed_graph g.T.Tables.seen c.args.self.now c.args.shared.now c.properties_of.new.names c.properties_of.ensures.keeps c.requires.fit));
   fit = (renamed_fit g.T.Tables.seen c.args.self.now c.args.shared.now c.properties_of.new.names c.properties_of.ensures.keeps c.requires.fit c.properties_of.ensures.distinct);
   keeps = renamed_keeps g.T.Tables.seen c.args.self.now c.args.shared.now c.properties_of.new.names c.properties_of.ensures.keeps c.requires.fit c.properties_of.ensures.distinct;
@@ -55,3 +54,14 @@ returns-clause-marks g c =
     marks_then g.T.Tables.seen c.args.self.now c.args.self.now c.change_node.new.self c.args.shared.now _ c.change_node.new.shared
     (renamed_marks g.T.Tables.seen c.args.self.now c.args.shared.now c.properties_of.new.names c.properties_of.ensures.keeps c.requires.fit)
     c.change_node.ensures.marks
+
+pub returns-in_err-labels-clause-changes : goal.returns-in_err-labels-clause-changes
+returns-in_err-labels-clause-changes g c = record {
+  says = IfOk-from_err c.from_residual.result _ c.from_residual.ensures.0;
+  same = at_err c.from_residual.result refl;
+  fit = c.requires.fit;
+  keeps = nothing_touched c.args.self.now c.args.shared.now c.requires.fit;
+}
+
+pub returns-in_err-labels-clause-marks : goal.returns-in_err-labels-clause-marks
+returns-in_err-labels-clause-marks g c = marks_stay g.T.Tables.seen c.args.self.now c.args.shared.now

@@ -1,6 +1,5 @@
-use Rattle.std.proofs.Common.{rules}
 use Rattle.std.proofs.Common.{ap, ◌∙◌}
-use Rattle.std.proofs.lemmas.Result.{on_ok_weaker, on_err_weaker}
+use Rattle.std.proofs.lemmas.Result.{IfOk-from_err, on_ok_weaker, on_err_weaker}
 use Rattle.pg_graph.specs.Refinement.{property_entries}
 use Rattle.pg_meaning.specs.Graph.{change_relationship}
 use Rattle.pg_store.proofs.ChangeLemmas.{at_err, marks_then, renamed_graph, renamed_fit, renamed_keeps, renamed_marks}
@@ -12,7 +11,7 @@ use Rattle.pg_store.specs.Stores.{state_of, graph_of_store}
 
 pub returns-in_err-properties-clause-changes : goal.returns-in_err-properties-clause-changes
 returns-in_err-properties-clause-changes g c = record {
-  says = search rules;
+  says = IfOk-from_err c.from_residual.result _ c.from_residual.ensures.0;
   same = (at_err c.from_residual.result (renamed_graph g.T.Tables.seen c.args.self.now c.args.shared.now c.properties_of.new.names c.properties_of.ensures.keeps c.requires.fit));
   fit = (renamed_fit g.T.Tables.seen c.args.self.now c.args.shared.now c.properties_of.new.names c.properties_of.ensures.keeps c.requires.fit c.properties_of.ensures.distinct);
   keeps = renamed_keeps g.T.Tables.seen c.args.self.now c.args.shared.now c.properties_of.new.names c.properties_of.ensures.keeps c.requires.fit c.properties_of.ensures.distinct;

@@ -1,8 +1,31 @@
-use Rattle.std.proofs.Common.{◌<◌, ap, length, subst, sym, ◌∙◌}
+use Rattle.std.proofs.Common.{◌≡◌, ◌<◌, ap, length, refl, subst, sym, ◌∙◌}
+use Rattle.pg_graph.proofs.Others.{keeps_refl}
+use Rattle.pg_graph.specs.Content.{Seen}
 use Rattle.pg_store.proofs.ChangeLemmas.{grown_fit}
 use Rattle.pg_store.proofs.SetLemmas.{same_grow}
 use Rattle.pg_store.proofs.Settled.{settles_then}
 use Rattle.pg_store.proofs.store.Store.sweep.Goals as goal
+use Rattle.pg_store.specs.Stores.{Settles}
+use Rattle.pg_store.specs.declared.sets.Sets.{Sets}
+use Rattle.pg_store.specs.declared.shared.Shared.{Shared}
+use Rattle.pg_store.specs.declared.store.Store.{Store}
+
+-- one turn of the loop
+module _ {T S : Type 0} (seen : Seen T S) (start now after : Store T) (sets : Sets) (shared : Shared S) where
+  fewer_left : length sets.dust.items < length now.sets.dust.items → after.sets.dust ≡ sets.dust → length after.sets.dust.items < length now.sets.dust.items
+  fewer_left fewer same = subst (λ n. n < length now.sets.dust.items) (sym (ap (λ v. length v.items) same)) fewer
+
+  noted : Settles seen start shared now shared → sets.all ≡ now.sets.all → sets.labels ≡ now.sets.labels → sets.indexes ≡ now.sets.indexes → Settles seen start shared (record now { sets = sets }) shared
+  noted was all labels indexes = record {
+    fit = grown_fit seen now shared sets was.fit (same_grow now.sets sets all labels indexes);
+    journal = was.journal;
+    graph = was.graph;
+    names = was.names;
+    keeps = was.keeps;
+  }
+
+  swept_on : Settles seen start shared now shared → sets.all ≡ now.sets.all → sets.labels ≡ now.sets.labels → sets.indexes ≡ now.sets.indexes → Settles seen (record now { sets = sets }) shared after shared → Settles seen start shared after shared
+  swept_on was all labels indexes swept = settles_then seen start (record now { sets = sets }) after shared shared shared (noted was all labels indexes) swept
 
 pub sweep_from-requires-clause-fit : goal.sweep_from-requires-clause-fit
 sweep_from-requires-clause-fit g c =
@@ -11,31 +34,90 @@ sweep_from-requires-clause-fit g c =
     grown_fit g.T.Tables.seen now c.args.shared.now c.next_dust.new.self c.loop-place.invariant.settles.fit (same_grow now.sets c.next_dust.new.self next.all next.labels next.indexes)
 
 pub loop-place-smaller : goal.loop-place-smaller
-loop-place-smaller g c = subst (λ n. n < length c.loop-place.self.sets.dust.items) (sym (ap (λ v. length v.items) c.sweep_from.ensures.dust)) c.in-Some.ensures.fewer
+loop-place-smaller g c = fewer_left g.T.Tables.seen c.args.self.now c.loop-place.self c.sweep_from.new.self c.next_dust.new.self c.args.shared.now c.in-Some.ensures.fewer c.sweep_from.ensures.dust
 
 pub loop-place-preserved : goal.loop-place-preserved
 loop-place-preserved g c =
-    let seen = g.T.Tables.seen in
-    let shared = c.args.shared.now in
-    let now = c.loop-place.self in
     let was = c.loop-place.invariant in
     let next = c.next_dust.ensures in
-    let fit = grown_fit seen now shared c.next_dust.new.self was.settles.fit (same_grow now.sets c.next_dust.new.self next.all next.labels next.indexes) in
     record {
-      settles = settles_then seen c.args.self.now (record now { sets = c.next_dust.new.self }) c.sweep_from.new.self shared shared shared
-          (record { fit = fit; journal = was.settles.journal; graph = was.settles.graph; names = was.settles.names; keeps = was.settles.keeps }) c.sweep_from.ensures.swept;
+      settles = swept_on g.T.Tables.seen c.args.self.now c.loop-place.self c.sweep_from.new.self c.next_dust.new.self c.args.shared.now was.settles next.all next.labels next.indexes c.sweep_from.ensures.swept;
+      state = c.sweep_from.ensures.state ∙ was.state;
+    }
+
+pub loop-place-smaller-in-Some : goal.loop-place-smaller-in-Some
+loop-place-smaller-in-Some g c = fewer_left g.T.Tables.seen c.args.self.now c.loop-place.self c.sweep_from.new.self c.next_dust.new.self c.args.shared.now c.in-Some.ensures.fewer c.sweep_from.ensures.dust
+
+pub loop-place-preserved-in-Some : goal.loop-place-preserved-in-Some
+loop-place-preserved-in-Some g c =
+    let was = c.loop-place.invariant in
+    let next = c.next_dust.ensures in
+    record {
+      settles = swept_on g.T.Tables.seen c.args.self.now c.loop-place.self c.sweep_from.new.self c.next_dust.new.self c.args.shared.now was.settles next.all next.labels next.indexes c.sweep_from.ensures.swept;
+      state = c.sweep_from.ensures.state ∙ was.state;
+    }
+
+pub loop-place-smaller-in-Some-2 : goal.loop-place-smaller-in-Some-2
+loop-place-smaller-in-Some-2 g c = fewer_left g.T.Tables.seen c.args.self.now c.loop-place.self c.sweep_from.new.self c.next_dust.new.self c.args.shared.now c.in-Some.ensures.fewer c.sweep_from.ensures.dust
+
+pub loop-place-preserved-in-Some-2 : goal.loop-place-preserved-in-Some-2
+loop-place-preserved-in-Some-2 g c =
+    let was = c.loop-place.invariant in
+    let next = c.next_dust.ensures in
+    record {
+      settles = swept_on g.T.Tables.seen c.args.self.now c.loop-place.self c.sweep_from.new.self c.next_dust.new.self c.args.shared.now was.settles next.all next.labels next.indexes c.sweep_from.ensures.swept;
+      state = c.sweep_from.ensures.state ∙ was.state;
+    }
+
+pub loop-place-smaller-in-Some-3 : goal.loop-place-smaller-in-Some-3
+loop-place-smaller-in-Some-3 g c = fewer_left g.T.Tables.seen c.args.self.now c.loop-place.self c.sweep_from.new.self c.next_dust.new.self c.args.shared.now c.in-Some.ensures.fewer c.sweep_from.ensures.dust
+
+pub loop-place-preserved-in-Some-3 : goal.loop-place-preserved-in-Some-3
+loop-place-preserved-in-Some-3 g c =
+    let was = c.loop-place.invariant in
+    let next = c.next_dust.ensures in
+    record {
+      settles = swept_on g.T.Tables.seen c.args.self.now c.loop-place.self c.sweep_from.new.self c.next_dust.new.self c.args.shared.now was.settles next.all next.labels next.indexes c.sweep_from.ensures.swept;
+      state = c.sweep_from.ensures.state ∙ was.state;
+    }
+
+pub loop-place-smaller-in-Some-4 : goal.loop-place-smaller-in-Some-4
+loop-place-smaller-in-Some-4 g c = fewer_left g.T.Tables.seen c.args.self.now c.loop-place.self c.sweep_from.new.self c.next_dust.new.self c.args.shared.now c.in-Some.ensures.fewer c.sweep_from.ensures.dust
+
+pub loop-place-preserved-in-Some-4 : goal.loop-place-preserved-in-Some-4
+loop-place-preserved-in-Some-4 g c =
+    let was = c.loop-place.invariant in
+    let next = c.next_dust.ensures in
+    record {
+      settles = swept_on g.T.Tables.seen c.args.self.now c.loop-place.self c.sweep_from.new.self c.next_dust.new.self c.args.shared.now was.settles next.all next.labels next.indexes c.sweep_from.ensures.swept;
+      state = c.sweep_from.ensures.state ∙ was.state;
+    }
+
+pub loop-place-smaller-in-Some-5 : goal.loop-place-smaller-in-Some-5
+loop-place-smaller-in-Some-5 g c = fewer_left g.T.Tables.seen c.args.self.now c.loop-place.self c.sweep_from.new.self c.next_dust.new.self c.args.shared.now c.in-Some.ensures.fewer c.sweep_from.ensures.dust
+
+pub loop-place-preserved-in-Some-5 : goal.loop-place-preserved-in-Some-5
+loop-place-preserved-in-Some-5 g c =
+    let was = c.loop-place.invariant in
+    let next = c.next_dust.ensures in
+    record {
+      settles = swept_on g.T.Tables.seen c.args.self.now c.loop-place.self c.sweep_from.new.self c.next_dust.new.self c.args.shared.now was.settles next.all next.labels next.indexes c.sweep_from.ensures.swept;
       state = c.sweep_from.ensures.state ∙ was.state;
     }
 
 pub returns-clause-swept : goal.returns-clause-swept
 returns-clause-swept g c =
-    let now = c.loop-place.self in
-    let was = c.loop-place.invariant.settles in
     let next = c.next_dust.ensures in
-    record {
-      fit = grown_fit g.T.Tables.seen now c.args.shared.now c.next_dust.new.self was.fit (same_grow now.sets c.next_dust.new.self next.all next.labels next.indexes);
-      journal = was.journal;
-      graph = was.graph;
-      names = was.names;
-      keeps = was.keeps;
-    }
+    noted g.T.Tables.seen c.args.self.now c.loop-place.self c.loop-place.self c.next_dust.new.self c.args.shared.now c.loop-place.invariant.settles next.all next.labels next.indexes
+
+pub loop-place-init : goal.loop-place-init
+loop-place-init g c = record {
+  settles = record { fit = c.requires.fit; journal = c.requires.journal; graph = refl; names = refl; keeps = keeps_refl c.args.self.now.tables c.args.shared.now.tables c.requires.fit.fits };
+  state = refl;
+}
+
+pub sweep_from-requires-clause-journal : goal.sweep_from-requires-clause-journal
+sweep_from-requires-clause-journal g c = c.loop-place.invariant.settles.journal
+
+pub returns-clause-state : goal.returns-clause-state
+returns-clause-state g c = c.loop-place.invariant.state

@@ -16,7 +16,8 @@ use Rattle.pg_meaning.specs.declared.fault.Fault.{Fault}
 use Rattle.pg_meaning.specs.declared.fault.Fault.TheVariants.{OutOfMemory}
 use Rattle.pg_rows.specs.Named.{row_of, rows_named}
 use Rattle.pg_rows.specs.States.{Named, Suits, named_rows, state_of}
-use Rattle.pg_syntax_tree.specs.View.{set_item_view}
+use Rattle.pg_syntax_tree.specs.View.{set_item_view, remove_item_view}
+use Rattle.pg_syntax_tree.specs.declared.clauses.RemoveItem.{RemoveItem as Removal}
 use Rattle.pg_syntax_tree.specs.declared.clauses.SetItem.{SetItem as Item}
 use Rattle.pg_value_core.specs.Gives.{Gives}
 use Rattle.pg_write.specs.Items.{item_of}
@@ -110,3 +111,37 @@ set_gives s parameters max_steps t suits items graph after used steps row_count 
       ok = IfOk-weaker r _ _ (λ u h. set_done s parameters suits.parameters_are wanted graph t used after steps charge (same ∙ h)) ok;
       err = IfErr-weaker r _ _ (λ e h. λ other. set_fault s parameters suits.parameters_are wanted graph t used e steps charge (same ∙ h other)) err;
     }
+
+pub remove_gives : (s : Setting) (t : Named) (items : List Removal) (graph after : Graph) (used steps row_count item_count : ℕ)
+    → row_count ≡ length t.rows → item_count ≡ length items
+    → (names : List (List ℕ)) → names ≡ t.names
+    → (rows : List (List Value)) → rows ≡ t.rows
+    → spend s used (row_count * item_count) ≡ Ok steps
+    → (r : Result (Unit {0}) Fault)
+    → OnOk r (each_step (remove_row (map remove_item_view items)) graph (rows_named names rows) ≡ Ok after)
+    → IfErr r (λ e. e ≢ OutOfMemory → each_step (remove_row (map remove_item_view items)) graph (rows_named names rows) ≡ Err e)
+    → Gives r (remove_clause s (map remove_item_view items) (state_of graph t used)) (λ _. state_of after t steps)
+remove_gives s t items graph after used steps row_count item_count row_is item_is names here rows rows_are cost r ok err =
+    let wanted = map remove_item_view items in
+    let all : Result Graph Fault = each_step (remove_row wanted) graph (named_rows t) in
+    let given : Result Graph Fault = each_step (remove_row wanted) graph (rows_named names rows) in
+    let same : all ≡ given = (λ i. each_step (remove_row wanted) graph (rows_named (sym here i) (sym rows_are i))) in
+    let charge : spend s used (length t.rows * length wanted) ≡ Ok steps =
+    (λ i. spend s used (sym row_is i * (length-map items remove_item_view ∙ sym item_is) i)) ∙ cost in
+    record {
+      ok = IfOk-weaker r (λ u. given ≡ Ok after) (λ u. remove_clause s wanted (state_of graph t used) ≡ Ok (state_of after t steps)) (λ u h. remove_done s wanted graph t used after steps charge (same ∙ h)) ok;
+      err = IfErr-weaker r (λ e. e ≢ OutOfMemory → given ≡ Err e) (λ e. e ≢ OutOfMemory → remove_clause s wanted (state_of graph t used) ≡ Err e) (λ e h. λ other. remove_fault s wanted graph t used e steps charge (same ∙ h other)) err;
+    }
+
+-- a clause whose cost is refused
+pub set_stops : (s : Setting) (parameters : Entries) → s.parameters ≡ parameters → (t : Named) (items : List Item) (graph : Graph) (used row_count item_count : ℕ)
+    → row_count ≡ length t.rows → item_count ≡ length items
+    → (e : Fault) → spend s used (row_count * item_count) ≡ Err e → set_clause s (map set_item_view items) (state_of graph t used) ≡ Err e
+set_stops s parameters is t items graph used row_count item_count row_is item_is e cost =
+    set_refused s parameters is (map set_item_view items) graph t used e ((λ i. spend s used (sym row_is i * (length-map items set_item_view ∙ sym item_is) i)) ∙ cost)
+
+pub remove_stops : (s : Setting) (t : Named) (items : List Removal) (graph : Graph) (used row_count item_count : ℕ)
+    → row_count ≡ length t.rows → item_count ≡ length items
+    → (e : Fault) → spend s used (row_count * item_count) ≡ Err e → remove_clause s (map remove_item_view items) (state_of graph t used) ≡ Err e
+remove_stops s t items graph used row_count item_count row_is item_is e cost =
+    remove_refused s (map remove_item_view items) graph t used e ((λ i. spend s used (sym row_is i * (length-map items remove_item_view ∙ sym item_is) i)) ∙ cost)

@@ -2,7 +2,6 @@
 use Rattle.std.proofs.Common.{◌≡◌, ◌≢◌, ◌+◌, ℕ, Bool, List, [], length, Result, Ok, Err, refl, sym, ap, subst, ◌∙◌}
 use Rattle.std.proofs.lemmas.Result.{IfOk-weaker, IfErr-weaker}
 use Rattle.std.specs.Prelude.{OnOk, IfErr}
-use Rattle.std.specs.Result.{IsErrAnd}
 use Rattle.pg_meaning.specs.Answer.{◌>>=◌, ◌>>◌, each_step}
 use Rattle.pg_meaning.specs.AnswerLaws.{same_ok}
 use Rattle.pg_meaning.specs.Graph.{Graph, IsGraph, remove_elements}
@@ -92,8 +91,3 @@ gathered_are_there is_detach parameters graph is read read_is es rows d h =
     let none : Named = record { names = []; rows = [] } in
     all_there s is_detach graph is none 0 (each_step (put_row parameters graph es) ([], []) rows) (each_step (doom_row s graph es) ([], []) rows) (rows_alike graph s es rows) d
     (ap (λ g. gathered is_detach parameters g es rows) (sym read_is) ∙ h)
-
--- a fault that is handed on
-pub gives_fault : {X A : Type 0} (r : Result X Fault) (e : Fault) (answer : Result A Fault) (seen : X → A) → IsErrAnd r (λ f. f ≡ e) → (e ≢ OutOfMemory → answer ≡ Err e) → Gives r answer seen
-gives_fault (Ok x) e answer seen is h = absurd is
-gives_fault (Err f) e answer seen is h = record { ok = tt; err = λ other. h (λ same. other (is ∙ same)) ∙ ap Err (sym is) }

@@ -1,8 +1,11 @@
 pub mod ClauseLemmas
 pub mod DeleteLemmas
+pub mod ExitLemmas
 pub mod GatherLemmas
 pub mod IdLemmas
 pub mod MapLemmas
+pub mod MovedLemmas
 pub mod PartLemmas
 pub mod RemovalLemmas
 pub mod RemoveLemmas
+pub mod StepLemmas

@@ -1,5 +1,5 @@
 -- The definitions of SET and REMOVE, from what their parts give.
-use Rattle.std.proofs.Common.{◌≡◌, ℕ, true, false, List, Some, Result, Ok, Err, refl, ap, ◌∙◌}
+use Rattle.std.proofs.Common.{◌≡◌, ◌≢◌, ℕ, true, false, List, [], ◌∷◌, Some, Result, Ok, Err, refl, sym, ap, ◌∙◌}
 use Rattle.pg_meaning.specs.Answer.{Answer, ◌>>=◌, ◌>>◌}
 use Rattle.pg_meaning.specs.Graph.{Graph, has_node, has_relationship}
 use Rattle.pg_meaning.specs.Rows.{Row}
@@ -9,16 +9,19 @@ use Rattle.pg_meaning.specs.Value.{Value, node, relationship, Entries}
 use Rattle.pg_meaning.specs.declared.fault.Fault.{Fault}
 use Rattle.pg_meaning.specs.declared.fault.Fault.TheVariants.{DeletedEntity}
 use Rattle.pg_write.specs.Items.{item_with, changed_by}
-use Rattle.pg_write.specs.Parts.{storable_pairs}
+use Rattle.pg_write.specs.Parts.{one_pair, storable_pairs}
+use Rattle.pg_write.specs.Targets.{target_view}
 use Rattle.pg_write_make.specs.Scenes.{reading}
 use Rattle.pg_write.specs.declared.items.ReadyChange.{ReadyChange}
 use Rattle.pg_write.specs.declared.items.ReadyChange.TheVariants.{Key, All, More, Labels}
+use Rattle.pg_write.specs.declared.targets.Target.{Target as Code}
+use Rattle.pg_write.specs.declared.targets.Target.TheVariants.{Nothing, Node, Rel}
 
-abbrev Pairs : Type 0
+abbrev pub Pairs : Type 0
 Pairs = List (List ℕ × Value)
 
 -- the pairs behind the test
-abbrev tested : Pairs → Result Pairs Fault
+abbrev pub tested : Pairs → Result Pairs Fault
 tested pairs = test_storable pairs >> Ok pairs
 
 module _ (graph : Graph) (pairs_of : Value → Result Pairs Fault) (change : Pairs → Entries → Entries) (target : Target) where
@@ -56,6 +59,10 @@ module _ (graph : Graph) (pairs_of : Value → Result Pairs Fault) (change : Pai
   pub entries_refused : (value : Answer) (pairs : Pairs) (e : Fault) → (value >>= pairs_of) ≡ Ok pairs → test_storable pairs ≡ Err e → set_pairs graph pairs_of change value target ≡ Err e
   entries_refused value pairs e is err = pairs_refused value e (joined value ∙ ap (λ r. r >>= tested) is ∙ ap (λ r. r >> Ok pairs) err)
 
+-- the value under one key
+pub one_pair_tested : (key : List ℕ) (given : Answer) (v : Value) → given ≡ Ok v → (pairs : Pairs) → pairs ≡ (key, v) ∷ [] → storable_pairs (one_pair key) given ≡ tested pairs
+one_pair_tested key given v is pairs same = ap (storable_pairs (one_pair key)) is ∙ ap tested (sym same)
+
 -- ---- an item, from its target
 
 module _ (names : List (List ℕ)) (parameters : Entries) (row : Row) (graph : Graph) (n : tree.Name) where
@@ -80,6 +87,11 @@ module _ (names : List (List ℕ)) (parameters : Entries) (row : Row) (graph : G
   target_refused c e is = item_is c ∙ ap (λ r. r >>= on_found (changed_by names parameters row graph c)) is
 
 -- ---- the target
+
+pub not_nothing : (t : Code) → t ≢ Nothing → is_nothing (target_view t) ≡ false
+not_nothing Nothing h = absurd (h refl)
+not_nothing (Node id) h = refl
+not_nothing (Rel id) h = refl
 
 module _ (graph : Graph) (n : ℕ) where
   pub node_there : has_node graph n ≡ true → target_value graph (Some (node n)) ≡ Ok (at_node n)

@@ -1,5 +1,5 @@
 -- Elements that leave one after the other leave together.
-use Rattle.std.proofs.Common.{subst, sym, ◌≡◌, ◌==◌, ◌<◌, ℕ, Bool, true, false, cond, not, ◌||◌, List, [], ◌∷◌, filter, Ok, refl, ap, ◌∙◌, arith, true≢false}
+use Rattle.std.proofs.Common.{subst, sym, ◌≡◌, ◌==◌, ◌<◌, ℕ, Bool, true, false, cond, not, ◌||◌, List, [], ◌∷◌, filter, Ok, Err, refl, ap, ◌∙◌, arith, true≢false}
 use Rattle.std.proofs.lemmas.Bool.Decides.{nat_tests}
 use Rattle.std.specs.FinMap.Entries as by_id
 use Rattle.std.specs.List.{AllByRecursion, list_any}
@@ -11,6 +11,7 @@ use Rattle.pg_meaning.specs.Graph.{Graph, Relationship, has_node, has_relationsh
 use Rattle.pg_meaning.specs.GraphLaws.{remove_removes}
 use Rattle.pg_meaning.specs.ListsLaws.{all_weaker, all_both}
 use Rattle.pg_meaning.specs.Updates.{Doomed, is_connected, test_unconnected}
+use Rattle.pg_meaning.specs.declared.fault.Fault.{Fault}
 use Rattle.pg_meaning.specs.declared.fault.Fault.TheVariants.{NodeStillConnected}
 use Rattle.pg_write.specs.Gathered.{Rises, taken_out}
 
@@ -111,13 +112,13 @@ all_apart graph ns h = none_connected graph ns (passed (list_any (is_connected g
 
 -- ---- one more leaves
 
-abbrev RelationshipsThere : Graph → List ℕ → Type 0
+abbrev pub RelationshipsThere : Graph → List ℕ → Type 0
 RelationshipsThere graph = AllByRecursion (λ r. IsTrue (has_relationship graph r))
 
-abbrev NodesThere : Graph → List ℕ → Type 0
+abbrev pub NodesThere : Graph → List ℕ → Type 0
 NodesThere graph = AllByRecursion (λ n. IsTrue (has_node graph n))
 
-abbrev NodesApart : Graph → List ℕ → Type 0
+abbrev pub NodesApart : Graph → List ℕ → Type 0
 NodesApart graph = AllByRecursion (λ n. incident both n graph ≡ [])
 
 pub one_relationship_goes : (before after : Graph) (r : ℕ) (left rest : List ℕ) → left ≡ r ∷ rest → after ≡ remove_elements [] (r ∷ []) before → Rises left → RelationshipsThere before left
@@ -142,8 +143,8 @@ one_node_goes before after n left rest is gone rises there apart =
       subst (λ graph. NodesApart graph rest) (sym gone) (still_apart before n rest all_apart.1),
     )
 
-pub this_apart : (graph : Graph) (n : ℕ) (left rest : List ℕ) → left ≡ n ∷ rest → NodesApart graph left → incident both n graph ≡ []
-this_apart graph n left rest is apart = (subst (NodesApart graph) is apart).0
+pub this_one : (P : ℕ → Type 0) (n : ℕ) (left rest : List ℕ) → left ≡ n ∷ rest → AllByRecursion P left → P n
+this_one P n left rest is all = (subst (AllByRecursion P) is all).0
 
 -- ---- all of them
 
@@ -153,6 +154,11 @@ module _ (before middle : Graph) (d : Doomed) (rs : List ℕ) (rs_are : rs ≡ d
 
   pub now_apart : (seen : Graph) (ns ms : List ℕ) → seen ≡ middle → ns ≡ d.0 → ms ≡ d.0 → Ok tt ≡ test_unconnected seen ns → NodesApart middle ms
   now_apart seen ns ms same is is' passes = subst (NodesApart middle) (is ∙ sym is') (all_apart middle ns (ap (λ graph. test_unconnected graph ns) (sym same) ∙ sym passes))
+
+  pub still_connected : (seen : Graph) (ns : List ℕ) → seen ≡ middle → ns ≡ d.0 → (e : Fault) → Err e ≡ test_unconnected seen ns → taken_out d before ≡ Err e
+  still_connected seen ns same is e stops =
+      (λ i. test_unconnected (remove_elements [] (sym rs_are i) before) (sym is i) >> Ok (remove_elements d.0 d.1 before))
+      ∙ ap (λ r. r >> Ok (remove_elements d.0 d.1 before)) (ap (λ graph. test_unconnected graph ns) (sym (same ∙ cut)) ∙ sym stops)
 
   pub all_taken_out : (seen after : Graph) (ns ms : List ℕ) → seen ≡ middle → ns ≡ d.0 → ms ≡ d.0 → Ok tt ≡ test_unconnected seen ns → after ≡ remove_elements ms [] middle → taken_out d before ≡ Ok after
   all_taken_out seen after ns ms same is is' passes left =

@@ -20,7 +20,6 @@ use pg_write_make::label_texts;
 use std::alloc::{AllocError, Global};
 
 /// Gives a target's keys these values, where null takes the key out.
-#[tactic(auto, using(pg_write_make::proofs::ChangedLemmas::unchanged, pg_write_make::proofs::ChangedLemmas::one_change))]
 pub(crate) fn put_properties<T: Tables>(
     alloc: Global,
     store: &mut Store<T>,
@@ -41,7 +40,6 @@ pub(crate) fn put_properties<T: Tables>(
 }
 
 /// Gives a target these properties in the place of its own.
-#[tactic(auto, using(pg_write_make::proofs::ChangedLemmas::unchanged, pg_write_make::proofs::ChangedLemmas::one_change))]
 pub(crate) fn replace_properties<T: Tables>(
     alloc: Global,
     store: &mut Store<T>,
@@ -62,7 +60,6 @@ pub(crate) fn replace_properties<T: Tables>(
 }
 
 /// Gives a node more labels.
-#[tactic(auto, using(pg_write_make::proofs::ChangedLemmas::unchanged, pg_write_make::proofs::ChangedLemmas::one_change))]
 pub(crate) fn put_labels<T: Tables>(
     alloc: Global,
     store: &mut Store<T>,
@@ -88,7 +85,6 @@ pub(crate) fn put_labels<T: Tables>(
 }
 
 /// Takes labels from a node.
-#[tactic(auto, using(pg_write_make::proofs::ChangedLemmas::unchanged, pg_write_make::proofs::ChangedLemmas::one_change))]
 pub(crate) fn take_labels<T: Tables>(
     alloc: Global,
     store: &mut Store<T>,

@@ -52,7 +52,6 @@ fn gather_value<T: Tables>(
 }
 
 // What all expressions give at a row.
-#[tactic(auto, using(pg_write_make::proofs::RowLemmas::item_on))]
 fn gather_row<T: Tables>(
     doomed: &mut Doomed,
     scene: &Scene<'_>,
@@ -70,7 +69,6 @@ fn gather_row<T: Tables>(
 }
 
 // What all expressions give at all rows.
-#[tactic(auto, using(pg_write_make::proofs::RowLemmas::step_on, pg_write_make::proofs::RowLemmas::step_fault, pg_write_make::proofs::RowLemmas::steps_done))]
 fn gather_rows<T: Tables>(
     doomed: &mut Doomed,
     scene: &Scene<'_>,

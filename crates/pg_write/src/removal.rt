@@ -33,7 +33,6 @@ fn test_unconnected<T: Tables>(graph: &Snapshot<'_, T>, nodes: &BTreeSet<u64>) -
     Ok(())
 }
 
-#[tactic(auto, using(pg_write_make::proofs::ChangedLemmas::unchanged))]
 fn remove_rels<T: Tables>(
     store: &mut Store<T>,
     shared: &Shared<T::Shared>,
@@ -51,7 +50,6 @@ fn remove_rels<T: Tables>(
     Ok(())
 }
 
-#[tactic(auto, using(pg_write_make::proofs::ChangedLemmas::unchanged))]
 fn remove_nodes<T: Tables>(
     store: &mut Store<T>,
     shared: &Shared<T::Shared>,
@@ -72,7 +70,6 @@ fn remove_nodes<T: Tables>(
 
 /// Takes out what is doomed, unless one of its nodes would leave a relationship behind. An error
 /// leaves a part of it done.
-#[tactic(auto, using(pg_write_make::proofs::ChangedLemmas::unchanged, pg_write_make::proofs::ChangedLemmas::changed_then))]
 pub(crate) fn take_out<T: Tables>(
     store: &mut Store<T>,
     shared: &Shared<T::Shared>,

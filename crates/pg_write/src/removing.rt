@@ -79,7 +79,6 @@ fn take_key<T: Tables>(
 }
 
 // One item at one row.
-#[tactic(auto, using(pg_write_make::proofs::ChangedLemmas::unchanged, crate::proofs::RemoveLemmas::nothing_removed, crate::proofs::RemoveLemmas::target_removed, crate::proofs::RemoveLemmas::target_refused))]
 fn remove_item<T: Tables>(
     scene: &Scene<'_>,
     store: &mut Store<T>,
@@ -99,7 +98,6 @@ fn remove_item<T: Tables>(
 }
 
 // All items at one row.
-#[tactic(auto, using(pg_write_make::proofs::ChangedLemmas::unchanged, pg_write_make::proofs::ChangedLemmas::changed_then))]
 fn remove_row<T: Tables>(
     scene: &Scene<'_>,
     store: &mut Store<T>,
@@ -139,7 +137,6 @@ fn remove_rows<T: Tables>(
 
 /// Removes what the items say, row by row, at the steps of all rows. An error leaves a part of it
 /// done, and the caller takes that back.
-#[tactic(auto, using(pg_write_make::proofs::ChangedLemmas::unchanged))]
 pub fn remove_items<T: Tables>(
     alloc: Global,
     items: &Vec<RemoveItem>,

@@ -188,7 +188,6 @@ fn set_item<T: Tables>(
 
 /// Sets what the items say at one row. An error leaves a part of it done, and the caller takes that
 /// back.
-#[tactic(auto, using(pg_write_make::proofs::ChangedLemmas::unchanged, pg_write_make::proofs::ChangedLemmas::changed_then, pg_write_make::proofs::RowLemmas::item_on))]
 pub fn set_row<T: Tables>(
     scene: &Scene<'_>,
     store: &mut Store<T>,
@@ -228,7 +227,6 @@ fn set_rows<T: Tables>(
 
 /// Sets what the items say, row by row, at the steps of all rows. An error leaves a part of it
 /// done, and the caller takes that back.
-#[tactic(auto, using(pg_write_make::proofs::ChangedLemmas::unchanged, crate::proofs::ClauseLemmas::set_done, crate::proofs::ClauseLemmas::set_fault, crate::proofs::ClauseLemmas::set_refused))]
 pub fn set_items<T: Tables>(
     alloc: Global,
     items: &Vec<SetItem>,

@@ -1,6 +1,5 @@
 -- Steps over what is left of a list, item by item.
 use Rattle.std.proofs.Common.{◌≡◌, ◌<◌, ◌≤◌, ◌+◌, ℕ, zero, suc, List, [], ◌∷◌, map, drop, get_or, length, Some, Result, Ok, Err, refl, sym, ap, ◌∙◌, add-one, arith}
-use Rattle.std.proofs.lemmas.Option.{slice_get_read}
 use Rattle.std.specs.Prelude.{slice_get}
 use Rattle.pg_meaning.specs.Answer.{◌>>=◌, each_step}
 use Rattle.pg_meaning.specs.declared.fault.Fault.{Fault}
@@ -29,6 +28,3 @@ module _ {S X Y : Type 0} (step : S → Y → Result S Fault) (f : X → Y) (xs 
 
   pub steps_done : (s : S) → length xs ≤ i → each_step step s (map f (drop i xs)) ≡ Ok s
   steps_done s h = ap (λ ys. each_step step s (map f ys)) (none_left xs i h)
-
-  pub item_on : (s t : S) (x : X) → x ≡ get_or xs i x → i < length xs → step s (f x) ≡ Ok t → each_step step s (map f (drop i xs)) ≡ each_step step t (map f (drop (i + 1) xs))
-  item_on s t x at within is = step_on s t x (slice_get_read xs (length xs) i x refl within at) is

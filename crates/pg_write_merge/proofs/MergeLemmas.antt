@@ -162,13 +162,3 @@ one_fewer xs ys x e =
 
 pub rows_over : {S : Type 0} (step : S → Row → Result S Fault) (names : Names) (all : Result S Fault) (s : S) (left : List (List Value)) → all ≡ each_step step s (rows_named names left) → left ≡ [] → all ≡ Ok s
 rows_over step names all s left rest none = rest ∙ ap (λ rs. each_step step s (rows_named names rs)) none
-
--- ---- what the last call returned is returned as it is
-
-pub ok_through : {X : Type 0} (r : Result X Fault) (whole last done : Result State Fault) → whole ≡ last → OnOk r (last ≡ done) → OnOk r (whole ≡ done)
-ok_through (Ok x) whole last done first h = first ∙ h
-ok_through (Err e) whole last done first h = tt
-
-pub err_through : {X : Type 0} (r : Result X Fault) (whole last : Result State Fault) → whole ≡ last → IfErr r (λ e. e ≢ OutOfMemory → last ≡ Err e) → IfErr r (λ e. e ≢ OutOfMemory → whole ≡ Err e)
-err_through (Ok x) whole last first h = tt
-err_through (Err e) whole last first h = λ other. first ∙ h other

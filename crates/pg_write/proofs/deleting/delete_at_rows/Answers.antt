@@ -4,7 +4,8 @@ use Rattle.pg_store.proofs.Stores.{store_is_graph}
 use Rattle.pg_store.specs.Stores.{graph_of_store}
 use Rattle.pg_syntax_tree.specs.View.{expression_view}
 use Rattle.pg_value_core.specs.Given.{parameters_view}
-use Rattle.pg_write.proofs.DeleteLemmas.{not_gathered, not_charged, taken_gives, gathered_are_there, gives_fault}
+use Rattle.pg_write.proofs.DeleteLemmas.{not_gathered, not_charged, taken_gives, gathered_are_there}
+use Rattle.pg_write.proofs.ExitLemmas.{gives_fault}
 use Rattle.pg_write.proofs.deleting.delete_at_rows.Goals as goal
 
 pub returns-in_err-doomed-clause-gives : goal.returns-in_err-doomed-clause-gives

@@ -1,4 +1,4 @@
-use Rattle.pg_write.proofs.DeleteLemmas.{gives_fault}
+use Rattle.pg_write.proofs.ExitLemmas.{gives_fault}
 use Rattle.pg_write.proofs.deleting.delete_elements.Goals as goal
 
 pub returns-in_err-delete_at_rows-clause-gives : goal.returns-in_err-delete_at_rows-clause-gives

@@ -1,34 +1,15 @@
-use Rattle.std.proofs.Common.{◌≡◌, ◌≢◌, false, Result, Ok, Err, IfErr, refl, sym, ap, ◌∙◌}
+use Rattle.std.proofs.Common.{Ok, sym, ap, ◌∙◌}
 use Rattle.std.proofs.lemmas.Result.{err_from_is_err_and}
-use Rattle.std.specs.Prelude.{OnOk}
-use Rattle.pg_meaning.specs.Graph.{Graph}
-use Rattle.pg_meaning.specs.Updates.{is_nothing, set_item, target_of}
-use Rattle.pg_meaning.specs.declared.fault.Fault.{Fault}
-use Rattle.pg_meaning.specs.declared.fault.Fault.TheVariants.{OutOfMemory}
+use Rattle.pg_meaning.specs.Updates.{set_item, target_of}
 use Rattle.pg_store.specs.Stores.{graph_of_store}
 use Rattle.pg_syntax_tree.specs.View.{name_view}
-use Rattle.pg_write.proofs.PartLemmas.{nothing_set, target_refused, target_set}
+use Rattle.pg_write.proofs.ExitLemmas.{ok_through, err_through}
+use Rattle.pg_write.proofs.PartLemmas.{not_nothing, nothing_set, target_refused, target_set}
 use Rattle.pg_write.specs.Items.{changed_by, item_of}
 use Rattle.pg_write.specs.Targets.{target_view}
-use Rattle.pg_write.specs.declared.targets.Target.{Target}
-use Rattle.pg_write.specs.declared.targets.Target.TheVariants.{Nothing, Node, Rel}
 use Rattle.pg_write_make.proofs.ChangedLemmas.{unchanged}
 use Rattle.pg_write_make.specs.Scenes.{parameters_in, reading, row_in}
 use Rattle.pg_write.proofs.setting.set_item.Goals as goal
-
-not_nothing : (t : Target) → t ≢ Nothing → is_nothing (target_view t) ≡ false
-not_nothing Nothing h = absurd (h refl)
-not_nothing (Node id) h = refl
-not_nothing (Rel id) h = refl
-
--- what the last call returned is returned as it is
-ok_through : {X : Type 0} (r : Result X Fault) (whole last done : Result Graph Fault) → whole ≡ last → OnOk r (last ≡ done) → OnOk r (whole ≡ done)
-ok_through (Ok x) whole last done first h = first ∙ h
-ok_through (Err e) whole last done first h = tt
-
-err_through : {X : Type 0} (r : Result X Fault) (whole last : Result Graph Fault) → whole ≡ last → IfErr r (λ e. e ≢ OutOfMemory → last ≡ Err e) → IfErr r (λ e. e ≢ OutOfMemory → whole ≡ Err e)
-err_through (Ok x) whole last first h = tt
-err_through (Err e) whole last first h = λ other. first ∙ h other
 
 pub returns-in_err-target-clause-err : goal.returns-in_err-target-clause-err
 returns-in_err-target-clause-err g c =

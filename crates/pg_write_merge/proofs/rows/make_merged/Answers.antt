@@ -5,7 +5,8 @@ use Rattle.pg_rows.specs.Named.{rows_named}
 use Rattle.pg_rows.specs.Tables.{table}
 use Rattle.pg_store.specs.Stores.{graph_of_store}
 use Rattle.pg_write_make.specs.Scenes.{parameters_in, row_in}
-use Rattle.pg_write_merge.proofs.MergeLemmas.{err_through, made_then, making_fault, making_refused, ok_through}
+use Rattle.pg_write.proofs.ExitLemmas.{err_through, ok_through}
+use Rattle.pg_write_merge.proofs.MergeLemmas.{made_then, making_fault, making_refused}
 use Rattle.pg_write_merge.specs.Mergings.{row_made}
 use Rattle.pg_write_merge.specs.Ready.{created_in, names_in, path_in, setting_in, state_in}
 use Rattle.pg_write_make.specs.Creations.{row_made as row_creates}

@@ -6,7 +6,8 @@ use Rattle.pg_rows.specs.Tables.{table}
 use Rattle.pg_store.specs.Stores.{graph_of_store}
 use Rattle.pg_write_make.proofs.ChangedLemmas.{unchanged}
 use Rattle.pg_write_make.specs.Scenes.{row_in}
-use Rattle.pg_write_merge.proofs.MergeLemmas.{asked_fault, asked_here, asked_there, err_through, found_there, ok_through, spent_fault, spent_then, spent_there, tested_there}
+use Rattle.pg_write.proofs.ExitLemmas.{err_through, ok_through}
+use Rattle.pg_write_merge.proofs.MergeLemmas.{asked_fault, asked_here, asked_there, found_there, spent_fault, spent_then, spent_there, tested_there}
 use Rattle.pg_write_merge.specs.Mergings.{row_merged, rows_merged}
 use Rattle.pg_write_merge.specs.Ready.{created_in, matched_in, names_in, path_in, setting_in, state_in}
 use Rattle.pg_write_merge.proofs.rows.merge_row.Goals as goal

@@ -1,0 +1,72 @@
+use Rattle.std.proofs.Common.{◌≡◌, filter, not, Ok, refl, sym, ap, subst, ◌∙◌}
+use Rattle.std.proofs.lemmas.Result.{IfOk-from_err}
+use Rattle.pg_expr.proofs.ExitLemmas.{fault_passed}
+use Rattle.pg_meaning.specs.Graph.{Node as Element, change_node}
+use Rattle.pg_meaning.specs.Names.{Names, is_among}
+use Rattle.pg_meaning.specs.Patterns.{texts_of}
+use Rattle.pg_meaning.specs.Updates.{change_labels}
+use Rattle.pg_meaning.specs.declared.fault.Fault.TheVariants.{OutOfMemory}
+use Rattle.pg_store.specs.Stores.{graph_of_store}
+use Rattle.pg_syntax_tree.specs.View.{names_view}
+use Rattle.pg_write.specs.Targets.{target_view, IsThere}
+use Rattle.pg_write.specs.declared.targets.Target.{Target}
+use Rattle.pg_write_make.proofs.ChangedLemmas.{unchanged, one_change}
+use Rattle.pg_write.proofs.changes.take_labels.Goals as goal
+
+pub returns-in-Nothing : goal.returns-in-Nothing
+returns-in-Nothing g c =
+    let graph = graph_of_store g.T.Tables.seen c.args.store.now c.args.shared.now in
+    record {
+      ok = ap (λ (t : Target). change_labels (filter (λ l. not (is_among (texts_of (names_view c.args.labels.now.items)) l))) (target_view t) graph) c.in-Nothing.is;
+      err = tt;
+      changed = unchanged g.T.Tables.seen c.args.store.now c.args.shared.now c.requires.fit;
+    }
+
+pub returns-in-Rel : goal.returns-in-Rel
+returns-in-Rel g c =
+    let graph = graph_of_store g.T.Tables.seen c.args.store.now c.args.shared.now in
+    record {
+      ok = tt;
+      err = λ other. ap (λ (t : Target). change_labels (filter (λ l. not (is_among (texts_of (names_view c.args.labels.now.items)) l))) (target_view t) graph) c.in-Rel.is;
+      changed = unchanged g.T.Tables.seen c.args.store.now c.args.shared.now c.requires.fit;
+    }
+
+pub returns-in_err-texts-in-Node : goal.returns-in_err-texts-in-Node
+returns-in_err-texts-in-Node g c =
+    let graph = graph_of_store g.T.Tables.seen c.args.store.now c.args.shared.now in
+    let given = change_labels (filter (λ l. not (is_among (texts_of (names_view c.args.labels.now.items)) l))) (target_view c.args.target) graph in
+    record {
+      ok = IfOk-from_err c.from_residual.result (λ u. given ≡ Ok graph) c.from_residual.ensures.0;
+      err = fault_passed given OutOfMemory c.from_residual.result c.from_residual.ensures.1 (λ other. absurd (other refl));
+      changed = unchanged g.T.Tables.seen c.args.store.now c.args.shared.now c.requires.fit;
+    }
+
+pub remove_labels-requires : goal.remove_labels-requires
+remove_labels-requires g c =
+    let graph = graph_of_store g.T.Tables.seen c.args.store.now c.args.shared.now in
+    record { fit = c.requires.fit; there = subst (λ (t : Target). IsThere graph (target_view t)) c.in-Node.is c.requires.there }
+
+pub returns-in_err-remove_labels-in-Node : goal.returns-in_err-remove_labels-in-Node
+returns-in_err-remove_labels-in-Node g c =
+    let seen = g.T.Tables.seen in
+    let call = c.remove_labels in
+    let result = c.from_residual-in_err-remove_labels-in-Node in
+    let given = change_labels (filter (λ l. not (is_among (texts_of (names_view c.args.labels.now.items)) l))) (target_view c.args.target) (graph_of_store seen c.args.store.now c.args.shared.now) in
+    record {
+      ok = IfOk-from_err result.result (λ u. given ≡ Ok (graph_of_store seen call.new.self call.new.shared)) result.ensures.0;
+      err = fault_passed given OutOfMemory result.result result.ensures.1 (λ other. absurd (other refl));
+      changed = one_change seen c.args.store.now c.args.shared.now call.new.self call.new.shared call.result _ call.ensures.changes call.ensures.marks;
+    }
+
+pub returns-in_ok-remove_labels-in-Node : goal.returns-in_ok-remove_labels-in-Node
+returns-in_ok-remove_labels-in-Node g c =
+    let seen = g.T.Tables.seen in
+    let graph = graph_of_store seen c.args.store.now c.args.shared.now in
+    let call = c.remove_labels in
+    record {
+      ok =
+          ap (λ (t : Target). change_labels (filter (λ l. not (is_among (texts_of (names_view c.args.labels.now.items)) l))) (target_view t) graph) c.in-Node.is
+          ∙ ap Ok (sym (c.in_ok-remove_labels-in-Node.ensures.changes.says ∙ ap (λ (ts : Names). change_node (λ (e : Element). record e { labels = filter (λ l. not (is_among ts l)) e.labels }) c.in-Node.id.0 graph) c.in_ok-texts-in-Node.ensures));
+      err = tt;
+      changed = one_change seen c.args.store.now c.args.shared.now call.new.self call.new.shared call.result _ call.ensures.changes call.ensures.marks;
+    }

@@ -1,7 +1,6 @@
 -- MERGE at a row, from what its parts give.
 use Rattle.std.proofs.Common.{◌≡◌, ◌≢◌, ◌<◌, ℕ, false, List, [], ◌∷◌, ◌++◌, length, Result, Ok, Err, refl, sym, ap, ◌∙◌, arith}
 use Rattle.std.proofs.lemmas.List.{length-map}
-use Rattle.std.specs.Prelude.{IfErr, OnOk}
 use Rattle.pg_meaning.specs.Answer.{◌>>=◌, each_step}
 use Rattle.pg_meaning.specs.Graph.{Graph}
 use Rattle.pg_meaning.specs.Meters.{Setting, State, spend}
@@ -13,7 +12,6 @@ use Rattle.pg_meaning.specs.Updates.{count_new, make, merged_row, set_row}
 use Rattle.pg_meaning.specs.Value.{Value}
 use Rattle.pg_meaning.specs.Walks.{PathWanted}
 use Rattle.pg_meaning.specs.declared.fault.Fault.{Fault}
-use Rattle.pg_meaning.specs.declared.fault.Fault.TheVariants.{OutOfMemory}
 use Rattle.pg_rows.specs.Named.{row_of, rows_named}
 use Rattle.pg_write.proofs.ClauseLemmas.{row_same}
 use Rattle.pg_write_make.specs.Scenes.{reading}

@@ -1,9 +1,9 @@
-pub mod Clauses
 pub mod Items
 pub mod Members
 mod NextClause
 pub mod Places
 mod Planned
+pub mod ReplyLemmas
 pub mod Returns
 mod Settings
 pub mod Tells

@@ -4,7 +4,7 @@ use Rattle.pg_meaning.specs.Plans.{IsPlanFrom}
 use Rattle.pg_meaning.specs.Queries.{returns}
 use Rattle.pg_meaning.specs.Scopes.{scope_after}
 use Rattle.pg_meaning.specs.Tree.{return_rows}
-use Rattle.pg_run.proofs.Clauses.{returns_last}
+use Rattle.pg_run.proofs.ReplyLemmas.{returns_last}
 use Rattle.pg_run.specs.Running.{Replies, ran}
 use Rattle.pg_run.specs.Runs.{plan_view}
 use Rattle.pg_store.specs.Stores.{graph_of_store}

@@ -9,7 +9,7 @@ use Rattle.pg_meaning.specs.Queries.{clauses_run}
 use Rattle.pg_meaning.specs.Scopes.{scope_after}
 use Rattle.pg_meaning.specs.Tree.{return_rows}
 use Rattle.pg_meaning.specs.declared.fault.Fault.{Fault}
-use Rattle.pg_run.proofs.Clauses.{planned_slice, replies, replies_fault, slice_is, within_plan}
+use Rattle.pg_run.proofs.ReplyLemmas.{planned_slice, replies, replies_fault, slice_is, within_plan}
 use Rattle.pg_run.specs.Running.{Replies}
 use Rattle.pg_rows.specs.States.{seen, state_of}
 use Rattle.pg_run.specs.Runs.{anchors_view, plan_view, quota_of}

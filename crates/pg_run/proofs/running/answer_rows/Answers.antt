@@ -5,7 +5,7 @@ use Rattle.pg_meaning.specs.Graph.{Graph}
 use Rattle.pg_meaning.specs.Meters.{State}
 use Rattle.pg_meaning.specs.Scopes.{scope_after}
 use Rattle.pg_meaning.specs.declared.fault.Fault.{Fault}
-use Rattle.pg_run.proofs.Clauses.{rows_fault, rows_reply}
+use Rattle.pg_run.proofs.ReplyLemmas.{rows_fault, rows_reply}
 use Rattle.pg_run.specs.Returning.{replied}
 use Rattle.pg_run.specs.Running.{Replies, ran}
 use Rattle.pg_rows.specs.States.{seen, state_of}

@@ -13,6 +13,7 @@ use pg_pool::PooledTables;
 use pg_server::{Config, Counted, End, ServeFault, Server, serve_on};
 use std::hash::RandomState;
 use std::io::BufReader;
+use std::mem::ManuallyDrop;
 use std::net::{Ipv4Addr, TcpListener};
 use std::process::ExitCode;
 use std::{env, fs, io};
@@ -43,17 +44,18 @@ fn run_words(rt: &HostRuntime) -> Result<End, ProgramFault> {
     }
 }
 
-/// A server of the configuration at a path.
+/// A server of the configuration at a path. Its memory is left to the end of the process: to let go
+/// of each record would only take time.
 fn new_server(
     rt: &HostRuntime,
     path: &str,
-) -> Result<Server<RandomState, PooledTables>, ProgramFault> {
+) -> Result<ManuallyDrop<Server<RandomState, PooledTables>>, ProgramFault> {
     let bytes = read_file(rt, path)?;
     let config = Config::read(rt.alloc(), &bytes)?;
     let Ok(hasher) = RandomState::new(rt) else {
         return Err(ProgramFault::NoRandomNumbers);
     };
-    Ok(Server::new(rt.alloc(), config, hasher)?)
+    Ok(ManuallyDrop::new(Server::new(rt.alloc(), config, hasher)?))
 }
 
 fn read_file(rt: &HostRuntime, path: &str) -> Result<Vec<u8>, ProgramFault> {
@@ -67,7 +69,7 @@ fn read_file(rt: &HostRuntime, path: &str) -> Result<Vec<u8>, ProgramFault> {
 /// Serves standard input to standard output, until its end.
 fn serve_standard(
     rt: &HostRuntime,
-    mut server: Server<RandomState, PooledTables>,
+    mut server: ManuallyDrop<Server<RandomState, PooledTables>>,
 ) -> Result<End, ProgramFault> {
     let mut reader = Counted::new(BufReader::new(rt.alloc(), rt.reader())?);
     let mut writer = Counted::new(io::writer(rt));
@@ -77,7 +79,7 @@ fn serve_standard(
 /// Serves so many connections at a port of this machine.
 fn serve_port(
     rt: &HostRuntime,
-    mut server: Server<RandomState, PooledTables>,
+    mut server: ManuallyDrop<Server<RandomState, PooledTables>>,
     port: u16,
     count: u64,
 ) -> Result<End, ProgramFault> {

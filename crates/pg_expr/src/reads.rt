@@ -17,7 +17,7 @@ use pg_expr_calls::value_at;
 use pg_graph::Tables;
 use pg_store::{NodeView, Snapshot};
 use pg_syntax_tree::Name;
-use pg_value_core::{Fault, NodeId, RelId, Value};
+use pg_value_core::{Fault, NodeId, Parts, RelId, Value};
 use std::alloc::Global;
 use std::collections::BTreeMap;
 
@@ -103,11 +103,11 @@ fn property_made<'a, T: Tables>(
     ensures ok { IfOk result (λ f. property_of graph.now (view value) key.now ≡ Ok (found_view f)) }
     ensures err { IfErr result (λ e. property_of graph.now (view value) key.now ≡ Err e) }
 {
-    match value {
-        Value::Null => Ok(null()),
-        Value::Map(entries) => Ok(Found::Made(value_at(entries, key))),
-        Value::Node(id) => node_property(graph, id, key),
-        Value::Rel(id) => relationship_property(graph, id, key),
+    match value.into_parts() {
+        Parts::Null => Ok(null()),
+        Parts::Map(entries) => Ok(Found::Made(value_at(entries, key))),
+        Parts::Node(id) => node_property(graph, id, key),
+        Parts::Rel(id) => relationship_property(graph, id, key),
         _ => Err(Fault::TypeFault),
     }
 }

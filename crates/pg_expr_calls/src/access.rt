@@ -9,7 +9,7 @@ ghost use Rattle.pg_meaning.specs.Value.{list, mapping};
 ghost use Rattle.pg_value_core.specs.View.{view, values_view, entries_view};
 
 use crate::functions::{item_at, null};
-use pg_value_core::{Fault, Value};
+use pg_value_core::{Fault, Parts, Value};
 use std::collections::BTreeMap;
 
 /// `v[i]` of a list.
@@ -61,9 +61,9 @@ pub fn property(v: Value, key: &str) -> Result<Value, Fault>
     ensures ok { IfOk result (λ u. (graph : Graph) → property_of graph (view v) key.now ≡ Ok (view u)) }
     ensures err { IfErr result (λ e. (graph : Graph) → property_of graph (view v) key.now ≡ Err e) }
 {
-    match v {
-        Value::Null => Ok(Value::Null),
-        Value::Map(entries) => Ok(value_at(entries, key)),
+    match v.into_parts() {
+        Parts::Null => Ok(Value::Null),
+        Parts::Map(entries) => Ok(value_at(entries, key)),
         _ => Err(Fault::TypeFault),
     }
 }

@@ -7,7 +7,7 @@ ghost use Rattle.pg_meaning.specs.declared.fault.Fault.TheVariants.{OutOfMemory}
 ghost use Rattle.pg_value_core.specs.View.{view, values_view};
 
 use itoa::Buffer;
-use pg_value_core::{Fault, Value};
+use pg_value_core::{Fault, Parts, Value};
 use std::alloc::{AllocError, Global};
 
 /// The number of a list's items or of a text's characters.
@@ -73,8 +73,8 @@ pub fn head(v: Value) -> Result<Value, Fault>
     ensures ok { IfOk result (λ u. head_of (view v) ≡ Ok (view u)) }
     ensures err { IfErr result (λ e. head_of (view v) ≡ Err e) }
 {
-    match v {
-        Value::List(items) => Ok(item_at(items, 0)),
+    match v.into_parts() {
+        Parts::List(items) => Ok(item_at(items, 0)),
         _ => Err(Fault::TypeFault),
     }
 }
@@ -84,8 +84,8 @@ pub fn last(v: Value) -> Result<Value, Fault>
     ensures ok { IfOk result (λ u. last_of (view v) ≡ Ok (view u)) }
     ensures err { IfErr result (λ e. last_of (view v) ≡ Err e) }
 {
-    match v {
-        Value::List(items) => Ok(last_item(items)),
+    match v.into_parts() {
+        Parts::List(items) => Ok(last_item(items)),
         _ => Err(Fault::TypeFault),
     }
 }
@@ -122,11 +122,11 @@ pub fn to_text(alloc: Global, v: Value) -> Result<Value, Fault>
     ensures ok { IfOk result (λ u. string_of (view v) ≡ Ok (view u)) }
     ensures err { IfErr result (λ e. e ≢ OutOfMemory → string_of (view v) ≡ Err e) }
 {
-    match v {
-        Value::Int(i) => Ok(Value::Text(digits(alloc, i)?)),
-        Value::Bool(true) => Ok(Value::Text(String::from_str(alloc, "true")?)),
-        Value::Bool(false) => Ok(Value::Text(String::from_str(alloc, "false")?)),
-        Value::Text(text) => Ok(Value::Text(text)),
+    match v.into_parts() {
+        Parts::Int(i) => Ok(Value::Text(digits(alloc, i)?)),
+        Parts::Bool(true) => Ok(Value::Text(String::from_str(alloc, "true")?)),
+        Parts::Bool(false) => Ok(Value::Text(String::from_str(alloc, "false")?)),
+        Parts::Text(text) => Ok(Value::Text(text)),
         _ => Err(Fault::TypeFault),
     }
 }

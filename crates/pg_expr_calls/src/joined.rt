@@ -9,19 +9,19 @@ ghost use Rattle.pg_meaning.specs.declared.fault.Fault.TheVariants.{OutOfMemory}
 ghost use Rattle.pg_value_core.specs.View.{view, values_view};
 
 use crate::limits::made;
-use pg_value_core::{Fault, Value};
+use pg_value_core::{Fault, Parts, Value};
 
 /// `v + w`.
 pub fn plus(v: Value, w: Value) -> Result<Value, Fault>
     ensures ok { IfOk result (λ u. plus (view v) (view w) ≡ Ok (view u)) }
     ensures err { IfErr result (λ e. e ≢ OutOfMemory → plus (view v) (view w) ≡ Err e) }
 {
-    match v {
-        Value::Null => Ok(Value::Null),
-        Value::Int(x) => integer_plus(x, w),
-        Value::Text(s) => text_plus(s, w),
-        Value::List(xs) => list_plus(xs, w),
-        v => other_plus(v, w),
+    match v.into_parts() {
+        Parts::Null => Ok(Value::Null),
+        Parts::Int(x) => integer_plus(x, w),
+        Parts::Text(s) => text_plus(s, w),
+        Parts::List(xs) => list_plus(xs, w),
+        v => other_plus(v.into_value(), w),
     }
 }
 
@@ -30,12 +30,12 @@ fn integer_plus(x: i64, w: Value) -> Result<Value, Fault>
     ensures ok { IfOk result (λ u. plus (integer x) (view w) ≡ Ok (view u)) }
     ensures err { IfErr result (λ e. e ≢ OutOfMemory → plus (integer x) (view w) ≡ Err e) }
 {
-    match w {
-        Value::Int(y) => match x.checked_add(y) {
+    match w.into_parts() {
+        Parts::Int(y) => match x.checked_add(y) {
             Some(n) => Ok(Value::Int(n)),
             None => Err(Fault::Overflow),
         },
-        w => other_plus(Value::Int(x), w),
+        w => other_plus(Value::Int(x), w.into_value()),
     }
 }
 
@@ -43,9 +43,9 @@ fn text_plus(s: String, w: Value) -> Result<Value, Fault>
     ensures ok { IfOk result (λ u. plus (text (string_bytes s)) (view w) ≡ Ok (view u)) }
     ensures err { IfErr result (λ e. e ≢ OutOfMemory → plus (text (string_bytes s)) (view w) ≡ Err e) }
 {
-    match w {
-        Value::Text(t) => join_texts(s, t.as_str()),
-        w => other_plus(Value::Text(s), w),
+    match w.into_parts() {
+        Parts::Text(t) => join_texts(s, t.as_str()),
+        w => other_plus(Value::Text(s), w.into_value()),
     }
 }
 
@@ -53,10 +53,10 @@ fn list_plus(xs: Vec<Value>, w: Value) -> Result<Value, Fault>
     ensures ok { IfOk result (λ u. plus (list (values_view xs.items)) (view w) ≡ Ok (view u)) }
     ensures err { IfErr result (λ e. e ≢ OutOfMemory → plus (list (values_view xs.items)) (view w) ≡ Err e) }
 {
-    match w {
-        Value::Null => Ok(Value::Null),
-        Value::List(ys) => join_lists(xs, ys),
-        w => append(xs, w),
+    match w.into_parts() {
+        Parts::Null => Ok(Value::Null),
+        Parts::List(ys) => join_lists(xs, ys),
+        w => append(xs, w.into_value()),
     }
 }
 
@@ -66,9 +66,9 @@ fn other_plus(v: Value, w: Value) -> Result<Value, Fault>
     ensures ok { IfOk result (λ u. plus (view v) (view w) ≡ Ok (view u)) }
     ensures err { IfErr result (λ e. e ≢ OutOfMemory → plus (view v) (view w) ≡ Err e) }
 {
-    match w {
-        Value::Null => Ok(Value::Null),
-        Value::List(ys) => prepend(v, ys),
+    match w.into_parts() {
+        Parts::Null => Ok(Value::Null),
+        Parts::List(ys) => prepend(v, ys),
         _ => Err(Fault::TypeFault),
     }
 }

@@ -11,9 +11,15 @@ use std::alloc::{AllocError, Global};
 use std::marker::Model;
 
 /// The numbers of a set of names, rising. Few labels take no memory beside the node.
-#[derive(Drop)]
 pub struct Labels {
     names: SmallVec<NameId, 2>,
+}
+
+// Written out, since a derived one is proved anew in each function that may let such a value go.
+impl Drop for Labels {
+    fn drop(self) {
+        let Labels { names: _ } = self;
+    }
 }
 
 impl Model for Labels {

@@ -15,10 +15,16 @@ use smallvec::SmallVec;
 use std::alloc::{AllocError, Global};
 
 /// A rising list of ids for each node that has any.
-#[derive(Drop)]
 pub struct Links {
     alloc: Global,
     lists: ById<SmallVec<RelId, 2>>,
+}
+
+// Written out, since a derived one is proved anew in each function that may let such a value go.
+impl Drop for Links {
+    fn drop(self) {
+        let Links { alloc: _, lists: _ } = self;
+    }
 }
 
 impl Links {

@@ -121,7 +121,7 @@ impl Properties {
         ensures ok { OnOk result (self.new ≡ with_property self.old key (view value)) }
         ensures err { OnErr result (self.new ≡ self.old) }
     {
-        if matches!(value, Value::Null) {
+        if matches!(&value, Value::Null) {
             self.remove(key);
             return Ok(());
         }

@@ -14,13 +14,25 @@ use pg_value_core::{Fault, Value, order};
 use std::alloc::Global;
 
 /// A count, a sum, the best value so far, or the values.
-#[derive(Drop)]
 pub(crate) enum Held {
     Count(i64),
     Sum(i64),
     Lowest(Option<Value>),
     Highest(Option<Value>),
     Values(Collected),
+}
+
+// Written out, since a derived one is proved anew in each function that may let such a value go.
+impl Drop for Held {
+    fn drop(self) {
+        match self {
+            Held::Count(_) => {}
+            Held::Sum(_) => {}
+            Held::Lowest(_) => {}
+            Held::Highest(_) => {}
+            Held::Values(_) => {}
+        }
+    }
 }
 
 impl Held {

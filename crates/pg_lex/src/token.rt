@@ -10,7 +10,6 @@ pub struct Natural {
 }
 
 /// A lexeme with its decoded content. Where nothing is decoded, that is a part of the text.
-#[derive(Drop)]
 pub enum Lexeme<'a> {
     /// No keyword.
     Word(&'a str),
@@ -22,6 +21,22 @@ pub enum Lexeme<'a> {
     Parameter(&'a str),
     QuotedParameter(String),
     Symbol(Symbol),
+}
+
+// Written out, since a derived one is proved anew in each function that may let such a value go.
+impl<'a> Drop for Lexeme<'a> {
+    fn drop(self) {
+        match self {
+            Lexeme::Word(_) => {}
+            Lexeme::Keyword(_, _) => {}
+            Lexeme::QuotedName(_) => {}
+            Lexeme::Integer(_) => {}
+            Lexeme::Text(_) => {}
+            Lexeme::Parameter(_) => {}
+            Lexeme::QuotedParameter(_) => {}
+            Lexeme::Symbol(_) => {}
+        }
+    }
 }
 
 /// A lexeme and the bytes of the text that spell it, from `start` up to `finish`.

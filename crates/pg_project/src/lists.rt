@@ -13,7 +13,7 @@ use pg_expr::{Prepared, evaluate};
 use pg_graph::Tables;
 use pg_rows::{Columns, Rows};
 use pg_store::Snapshot;
-use pg_value_core::{Fault, Parameters, Value};
+use pg_value_core::{Fault, Parameters, Parts, Value};
 use std::alloc::{AllocError, Global};
 
 /// The list at each row.
@@ -57,9 +57,9 @@ fn items_in(alloc: Global, value: Value) -> Result<Vec<Value>, Fault>
     ensures ok { IfOk result (λ items. unwound (view value) ≡ Ok (map view items.items)) }
     ensures err { IfErr result (λ e. unwound (view value) ≡ Err e) }
 {
-    match value {
-        Value::Null => Ok(Vec::new(alloc)),
-        Value::List(items) => Ok(items_of(items)),
+    match value.into_parts() {
+        Parts::Null => Ok(Vec::new(alloc)),
+        Parts::List(items) => Ok(items_of(items)),
         _ => Err(Fault::TypeFault),
     }
 }

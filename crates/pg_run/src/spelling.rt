@@ -11,7 +11,7 @@ use crate::elements::{spell_node, spell_path, spell_rel};
 use crate::room::within;
 use pg_graph::Tables;
 use pg_store::Snapshot;
-use pg_value_core::{Fault, Out, Value};
+use pg_value_core::{Fault, Out, Parts, Value};
 use std::alloc::Global;
 use std::collections::BTreeMap;
 
@@ -29,22 +29,22 @@ pub(crate) fn spell<T: Tables>(
     ensures data { IfOk result (λ out. room.new ≢ 0 → data_of out ≡ printed graph.now (view value)) }
     ensures err { IfErr result (λ e. e ≢ OutOfMemory → test_output graph.now (view value) ≡ Err e) }
 {
-    match value {
-        Value::Null => Ok(within(Out::Null, room)),
-        Value::Bool(b) => Ok(within(Out::Bool(b), room)),
-        Value::Int(i) => Ok(within(Out::Int(i), room)),
-        Value::Text(text) => Ok(within(Out::Text(text), room)),
-        Value::List(items) => {
+    match value.into_parts() {
+        Parts::Null => Ok(within(Out::Null, room)),
+        Parts::Bool(b) => Ok(within(Out::Bool(b), room)),
+        Parts::Int(i) => Ok(within(Out::Int(i), room)),
+        Parts::Text(text) => Ok(within(Out::Text(text), room)),
+        Parts::List(items) => {
             *room = room.saturating_sub(1);
             Ok(Out::List(spell_items(alloc, graph, items, room)?))
         }
-        Value::Map(entries) => {
+        Parts::Map(entries) => {
             *room = room.saturating_sub(1);
             Ok(Out::Map(spell_entries(alloc, graph, entries, room)?))
         }
-        Value::Node(id) => spell_node(alloc, graph, id, room),
-        Value::Rel(id) => spell_rel(alloc, graph, id, room),
-        Value::Path(path) => spell_path(alloc, graph, path, room),
+        Parts::Node(id) => spell_node(alloc, graph, id, room),
+        Parts::Rel(id) => spell_rel(alloc, graph, id, room),
+        Parts::Path(path) => spell_path(alloc, graph, path, room),
     }
 }
 

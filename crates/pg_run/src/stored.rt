@@ -4,7 +4,7 @@ ghost use Rattle.pg_json.specs.Replies.{data_of, outs, named_outs};
 ghost use Rattle.pg_run.specs.Printed.{stored_data, stored_items, stored_members};
 ghost use Rattle.pg_value_core.specs.View.{view, values_view, entries_view};
 
-use pg_value_core::{Out, Value};
+use pg_value_core::{Out, Parts, Value};
 use std::alloc::{AllocError, Global};
 use std::collections::BTreeMap;
 
@@ -12,13 +12,13 @@ use std::collections::BTreeMap;
 fn spell_stored(alloc: Global, value: Value) -> Result<Out, AllocError>
     ensures { IfOk result (λ out. data_of out ≡ stored_data (view value)) }
 {
-    match value {
-        Value::Bool(b) => Ok(Out::Bool(b)),
-        Value::Int(i) => Ok(Out::Int(i)),
-        Value::Text(text) => Ok(Out::Text(text)),
-        Value::List(items) => Ok(Out::List(spell_stored_items(alloc, items)?)),
-        Value::Map(entries) => Ok(Out::Map(spell_stored_entries(alloc, entries)?)),
-        Value::Null | Value::Node(_) | Value::Rel(_) | Value::Path(_) => Ok(Out::Null),
+    match value.into_parts() {
+        Parts::Bool(b) => Ok(Out::Bool(b)),
+        Parts::Int(i) => Ok(Out::Int(i)),
+        Parts::Text(text) => Ok(Out::Text(text)),
+        Parts::List(items) => Ok(Out::List(spell_stored_items(alloc, items)?)),
+        Parts::Map(entries) => Ok(Out::Map(spell_stored_entries(alloc, entries)?)),
+        Parts::Null | Parts::Node(_) | Parts::Rel(_) | Parts::Path(_) => Ok(Out::Null),
     }
 }
 

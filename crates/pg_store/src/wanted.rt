@@ -20,11 +20,21 @@ pub enum Wanted<'a> {
 }
 
 /// Where an id is kept: with those of all nodes, of a label, or of a label and a value under a key.
-#[derive(Drop)]
 pub enum Place {
     All,
     Labelled(NameId),
     Valued(NameId, NameId, Value),
+}
+
+// Written out, since a derived one is proved anew in each function that may let such a value go.
+impl Drop for Place {
+    fn drop(self) {
+        match self {
+            Place::All => {}
+            Place::Labelled(_) => {}
+            Place::Valued(_, _, _) => {}
+        }
+    }
 }
 
 impl Place {

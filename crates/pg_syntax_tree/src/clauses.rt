@@ -31,7 +31,6 @@ pub struct Projection {
 }
 
 /// An item of SET, with its target first.
-#[derive(Drop)]
 pub enum SetItem {
     Property(Name, Name, Expression),
     All(Name, Expression),
@@ -39,11 +38,31 @@ pub enum SetItem {
     Labels(Name, Vec<Name>),
 }
 
+// Written out, since a derived one is proved anew in each function that may let such a value go.
+impl Drop for SetItem {
+    fn drop(self) {
+        match self {
+            SetItem::Property(_, _, _) => {}
+            SetItem::All(_, _) => {}
+            SetItem::More(_, _) => {}
+            SetItem::Labels(_, _) => {}
+        }
+    }
+}
+
 /// An item of REMOVE, with its target first.
-#[derive(Drop)]
 pub enum RemoveItem {
     Property(Name, Name),
     Labels(Name, Vec<Name>),
+}
+
+impl Drop for RemoveItem {
+    fn drop(self) {
+        match self {
+            RemoveItem::Property(_, _) => {}
+            RemoveItem::Labels(_, _) => {}
+        }
+    }
 }
 
 /// ON CREATE, or ON MATCH.
@@ -53,7 +72,6 @@ pub struct On {
     pub items: Vec<SetItem>,
 }
 
-#[derive(Drop)]
 pub enum Clause {
     /// Whether it is optional, the paths and WHERE.
     Match(bool, Vec<PathPattern>, Option<Expression>),
@@ -69,8 +87,32 @@ pub enum Clause {
     Return(Projection),
 }
 
-#[derive(Drop)]
+impl Drop for Clause {
+    fn drop(self) {
+        match self {
+            Clause::Match(_, _, _) => {}
+            Clause::Unwind(_, _) => {}
+            Clause::Create(_) => {}
+            Clause::Merge(_, _) => {}
+            Clause::Set(_) => {}
+            Clause::Remove(_) => {}
+            Clause::Delete(_, _) => {}
+            Clause::With(_, _) => {}
+            Clause::Return(_) => {}
+        }
+    }
+}
+
 pub struct Query {
     pub clauses: Vec<Clause>,
     pub semicolon: bool,
+}
+
+impl Drop for Query {
+    fn drop(self) {
+        let Query {
+            clauses: _,
+            semicolon: _,
+        } = self;
+    }
 }

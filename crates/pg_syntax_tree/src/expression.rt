@@ -11,7 +11,6 @@ pub struct Name {
 }
 
 /// A value as a text can write it.
-#[derive(Drop)]
 pub enum Literal {
     Null,
     Boolean(bool),
@@ -19,21 +18,48 @@ pub enum Literal {
     Text(String),
 }
 
+// Written out, since a derived one is proved anew in each function that may let such a value go.
+impl Drop for Literal {
+    fn drop(self) {
+        match self {
+            Literal::Null => {}
+            Literal::Boolean(_) => {}
+            Literal::Integer(_) => {}
+            Literal::Text(_) => {}
+        }
+    }
+}
+
 /// What stands behind an atom: a property's key, or an index.
-#[derive(Drop)]
 pub enum Suffix<E> {
     Property(Name),
     Index(E),
 }
 
+impl<E: Drop> Drop for Suffix<E> {
+    fn drop(self) {
+        match self {
+            Suffix::Property(_) => {}
+            Suffix::Index(_) => {}
+        }
+    }
+}
+
 /// A test behind a sum; `IS NOT NULL` is negated.
-#[derive(Drop)]
 pub enum Test<E> {
     Text(TextTest, E),
     IsNull(bool),
 }
 
-#[derive(Drop)]
+impl<E: Drop> Drop for Test<E> {
+    fn drop(self) {
+        match self {
+            Test::Text(_, _) => {}
+            Test::IsNull(_) => {}
+        }
+    }
+}
+
 pub enum Expression {
     Literal(Literal),
     Parameter(Name),
@@ -55,4 +81,24 @@ pub enum Expression {
     Tests(Box<Expression>, Vec<Test<Expression>>),
     /// Properties and indexes, then labels.
     Suffixes(Box<Expression>, Vec<Suffix<Expression>>, Vec<Name>),
+}
+
+impl Drop for Expression {
+    fn drop(self) {
+        match self {
+            Expression::Literal(_) => {}
+            Expression::Parameter(_) => {}
+            Expression::Variable(_) => {}
+            Expression::ListLiteral(_) => {}
+            Expression::MapLiteral(_) => {}
+            Expression::Parentheses(_) => {}
+            Expression::Call(_, _, _, _) => {}
+            Expression::Case(_, _, _) => {}
+            Expression::Chain(_, _) => {}
+            Expression::Negation(_, _) => {}
+            Expression::Signs(_, _) => {}
+            Expression::Tests(_, _) => {}
+            Expression::Suffixes(_, _, _) => {}
+        }
+    }
 }

@@ -2,11 +2,21 @@
 
 use crate::expression::{Expression, Name};
 
-#[derive(Drop)]
 pub enum Properties {
     None,
     Given(Vec<(Name, Expression)>),
     Parameter(Name),
+}
+
+// Written out, since a derived one is proved anew in each function that may let such a value go.
+impl Drop for Properties {
+    fn drop(self) {
+        match self {
+            Properties::None => {}
+            Properties::Given(_) => {}
+            Properties::Parameter(_) => {}
+        }
+    }
 }
 
 /// A node pattern, and where it begins.

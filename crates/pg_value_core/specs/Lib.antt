@@ -1,4 +1,5 @@
 pub mod Given
 pub mod Gives
 pub mod Hashed
+pub mod Parts
 pub mod View

@@ -7,11 +7,13 @@ mod ids;
 mod ordering;
 mod out;
 mod parameters;
+mod parts;
 mod value;
 
 pub use ids::{NodeId, Path, RelId};
 pub use ordering::{equivalent, order};
 pub use out::Out;
 pub use parameters::Parameters;
+pub use parts::Parts;
 pub use pg_meaning::{Fault, Tri};
 pub use value::Value;

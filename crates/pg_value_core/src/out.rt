@@ -3,7 +3,6 @@ use crate::ids::{NodeId, RelId};
 use std::collections::BTreeMap;
 
 /// A value of a reply. Elements stand with what they hold, as texts.
-#[derive(Drop)]
 pub enum Out {
     Null,
     Bool(bool),
@@ -25,4 +24,31 @@ pub enum Out {
     },
     /// Nodes and relationships in turn.
     Path(Vec<Out>),
+}
+
+// Written out, since a derived one is proved anew in each function that may let such a value go.
+impl Drop for Out {
+    fn drop(self) {
+        match self {
+            Out::Null => {}
+            Out::Bool(_) => {}
+            Out::Int(_) => {}
+            Out::Text(_) => {}
+            Out::List(_) => {}
+            Out::Map(_) => {}
+            Out::Node {
+                id: _,
+                labels: _,
+                properties: _,
+            } => {}
+            Out::Rel {
+                id: _,
+                kind: _,
+                start: _,
+                end: _,
+                properties: _,
+            } => {}
+            Out::Path(_) => {}
+        }
+    }
 }

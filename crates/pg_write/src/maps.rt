@@ -7,7 +7,7 @@ ghost use Rattle.pg_store.specs.Stores.{pairs_of};
 ghost use Rattle.pg_value_core.specs.View.{view, entries_view};
 ghost use Rattle.pg_write.specs.Maps.{keys_of, values_of, joined};
 
-use pg_value_core::{Fault, Value};
+use pg_value_core::{Fault, Parts, Value};
 use std::alloc::{AllocError, Global};
 use std::collections::BTreeMap;
 
@@ -43,8 +43,8 @@ pub(crate) fn map_parts(alloc: Global, value: Value) -> Result<(Vec<String>, Vec
     ensures ok { IfOk result (λ parts. mapping_pairs (view value) ≡ Ok (joined parts.0.items parts.1.items)) }
     ensures err { IfErr result (λ e. e ≢ OutOfMemory → mapping_pairs (view value) ≡ Err e) }
 {
-    match value {
-        Value::Map(entries) => Ok(parts(alloc, entries)?),
+    match value.into_parts() {
+        Parts::Map(entries) => Ok(parts(alloc, entries)?),
         _ => Err(Fault::TypeFault),
     }
 }

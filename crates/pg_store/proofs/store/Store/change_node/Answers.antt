@@ -63,7 +63,7 @@ pub unwrap-was-requires : goal.unwrap-was-requires
 unwrap-was-requires g c =
     let store = c.args.self.now in
     let s = state_of g.T.Tables.seen store c.args.shared.now in
-    copied_some c.node-2.result (subst IsSome (sym c.node-2.ensures) (is_live s.content.nodes store.gone_nodes c.args.id.0 c.requires.there).1)
+    copied_some c.node.result (subst IsSome (sym c.node.ensures) (is_live s.content.nodes store.gone_nodes c.args.id.0 c.requires.there).1)
 
 pub returns-clause-keeps : goal.returns-clause-keeps
 returns-clause-keeps g c = tables_kept c.args.self.now _ c.args.shared.now _ c.requires.fit c.change-before.ensures.keeps refl

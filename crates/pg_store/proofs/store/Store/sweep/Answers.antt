@@ -45,66 +45,6 @@ loop-place-preserved g c =
       state = c.sweep_from.ensures.state ∙ was.state;
     }
 
-pub loop-place-smaller-in-Some : goal.loop-place-smaller-in-Some
-loop-place-smaller-in-Some g c = fewer_left g.T.Tables.seen c.args.self.now c.loop-place.self c.sweep_from.new.self c.next_dust.new.self c.args.shared.now c.in-Some.ensures.fewer c.sweep_from.ensures.dust
-
-pub loop-place-preserved-in-Some : goal.loop-place-preserved-in-Some
-loop-place-preserved-in-Some g c =
-    let was = c.loop-place.invariant in
-    let next = c.next_dust.ensures in
-    record {
-      settles = swept_on g.T.Tables.seen c.args.self.now c.loop-place.self c.sweep_from.new.self c.next_dust.new.self c.args.shared.now was.settles next.all next.labels next.indexes c.sweep_from.ensures.swept;
-      state = c.sweep_from.ensures.state ∙ was.state;
-    }
-
-pub loop-place-smaller-in-Some-2 : goal.loop-place-smaller-in-Some-2
-loop-place-smaller-in-Some-2 g c = fewer_left g.T.Tables.seen c.args.self.now c.loop-place.self c.sweep_from.new.self c.next_dust.new.self c.args.shared.now c.in-Some.ensures.fewer c.sweep_from.ensures.dust
-
-pub loop-place-preserved-in-Some-2 : goal.loop-place-preserved-in-Some-2
-loop-place-preserved-in-Some-2 g c =
-    let was = c.loop-place.invariant in
-    let next = c.next_dust.ensures in
-    record {
-      settles = swept_on g.T.Tables.seen c.args.self.now c.loop-place.self c.sweep_from.new.self c.next_dust.new.self c.args.shared.now was.settles next.all next.labels next.indexes c.sweep_from.ensures.swept;
-      state = c.sweep_from.ensures.state ∙ was.state;
-    }
-
-pub loop-place-smaller-in-Some-3 : goal.loop-place-smaller-in-Some-3
-loop-place-smaller-in-Some-3 g c = fewer_left g.T.Tables.seen c.args.self.now c.loop-place.self c.sweep_from.new.self c.next_dust.new.self c.args.shared.now c.in-Some.ensures.fewer c.sweep_from.ensures.dust
-
-pub loop-place-preserved-in-Some-3 : goal.loop-place-preserved-in-Some-3
-loop-place-preserved-in-Some-3 g c =
-    let was = c.loop-place.invariant in
-    let next = c.next_dust.ensures in
-    record {
-      settles = swept_on g.T.Tables.seen c.args.self.now c.loop-place.self c.sweep_from.new.self c.next_dust.new.self c.args.shared.now was.settles next.all next.labels next.indexes c.sweep_from.ensures.swept;
-      state = c.sweep_from.ensures.state ∙ was.state;
-    }
-
-pub loop-place-smaller-in-Some-4 : goal.loop-place-smaller-in-Some-4
-loop-place-smaller-in-Some-4 g c = fewer_left g.T.Tables.seen c.args.self.now c.loop-place.self c.sweep_from.new.self c.next_dust.new.self c.args.shared.now c.in-Some.ensures.fewer c.sweep_from.ensures.dust
-
-pub loop-place-preserved-in-Some-4 : goal.loop-place-preserved-in-Some-4
-loop-place-preserved-in-Some-4 g c =
-    let was = c.loop-place.invariant in
-    let next = c.next_dust.ensures in
-    record {
-      settles = swept_on g.T.Tables.seen c.args.self.now c.loop-place.self c.sweep_from.new.self c.next_dust.new.self c.args.shared.now was.settles next.all next.labels next.indexes c.sweep_from.ensures.swept;
-      state = c.sweep_from.ensures.state ∙ was.state;
-    }
-
-pub loop-place-smaller-in-Some-5 : goal.loop-place-smaller-in-Some-5
-loop-place-smaller-in-Some-5 g c = fewer_left g.T.Tables.seen c.args.self.now c.loop-place.self c.sweep_from.new.self c.next_dust.new.self c.args.shared.now c.in-Some.ensures.fewer c.sweep_from.ensures.dust
-
-pub loop-place-preserved-in-Some-5 : goal.loop-place-preserved-in-Some-5
-loop-place-preserved-in-Some-5 g c =
-    let was = c.loop-place.invariant in
-    let next = c.next_dust.ensures in
-    record {
-      settles = swept_on g.T.Tables.seen c.args.self.now c.loop-place.self c.sweep_from.new.self c.next_dust.new.self c.args.shared.now was.settles next.all next.labels next.indexes c.sweep_from.ensures.swept;
-      state = c.sweep_from.ensures.state ∙ was.state;
-    }
-
 pub returns-clause-swept : goal.returns-clause-swept
 returns-clause-swept g c =
     let next = c.next_dust.ensures in

@@ -1,0 +1,39 @@
+//! A value taken apart.
+ghost use Rattle.std.specs.Prelude.{◌≡◌};
+ghost use Rattle.pg_value_core.specs.Parts.{value_of};
+
+use crate::ids::{NodeId, Path, RelId};
+use crate::value::Value;
+use std::collections::BTreeMap;
+
+/// What a value is made of. A value has a `drop` of its own, so that only its own functions may take it apart.
+#[derive(Drop)]
+pub enum Parts {
+    Null,
+    Bool(bool),
+    Int(i64),
+    Text(String),
+    List(Vec<Value>),
+    Map(BTreeMap<String, Value>),
+    Node(NodeId),
+    Rel(RelId),
+    Path(Path),
+}
+
+impl Parts {
+    pub fn into_value(self) -> Value
+        ensures { result ≡ value_of self }
+    {
+        match self {
+            Parts::Null => Value::Null,
+            Parts::Bool(b) => Value::Bool(b),
+            Parts::Int(i) => Value::Int(i),
+            Parts::Text(text) => Value::Text(text),
+            Parts::List(items) => Value::List(items),
+            Parts::Map(entries) => Value::Map(entries),
+            Parts::Node(id) => Value::Node(id),
+            Parts::Rel(id) => Value::Rel(id),
+            Parts::Path(path) => Value::Path(path),
+        }
+    }
+}

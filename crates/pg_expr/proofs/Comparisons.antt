@@ -53,5 +53,3 @@ as_is (Err e) = refl
 pub last_sign : (ss : List Bool) (s : Bool) (v : Value) → all_signed (ss ++ s ∷ []) v ≡ (signed s v >>= all_signed ss)
 last_sign [] s v = as_is (signed s v)
 last_sign (t ∷ ss) s v = ap (λ a. a >>= signed t) (last_sign ss s v) ∙ in_turn (signed s v) (all_signed ss) (signed t)
-
-pub ruleset comparisons = (at_first, next_compared, next_fault, at_last)

@@ -1,3 +1,4 @@
+pub mod AfterLemmas
 pub mod Applied
 pub mod ChainLemmas
 pub mod Comparisons

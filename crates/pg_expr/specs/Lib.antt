@@ -1,3 +1,4 @@
+pub mod After
 pub mod Calls
 pub mod Conditions
 pub mod Elements

@@ -151,8 +151,22 @@ fn at_one<'a, T: Tables>(
         Function::Last => last(argument),
         Function::Coalesce => Ok(argument),
         Function::ToString => to_text(alloc, argument),
-        _ => Ok(Found::Made(at_look(alloc, graph, function, argument.look())?)),
+        _ => made_at_look(alloc, graph, function, argument.look()),
     }
+}
+
+fn made_at_look<'a, T: Tables>(
+    alloc: Global,
+    graph: &Snapshot<'_, T>,
+    function: Function,
+    v: &Value,
+) -> Result<Found<'a>, Fault>
+    requires there { is_deleted graph.now (view v.now) ≡ false }
+    requires looks { looks (function_view function) ≡ true }
+    ensures ok { IfOk result (λ f. function_at graph.now (function_view function) (item (view v.now) no_items) ≡ Ok (found_view f)) }
+    ensures err { IfErr result (λ e. e ≢ OutOfMemory → function_at graph.now (function_view function) (item (view v.now) no_items) ≡ Err e) }
+{
+    Ok(Found::Made(at_look(alloc, graph, function, v)?))
 }
 
 /// What a function of one argument gives that only looks at it.

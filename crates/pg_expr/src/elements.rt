@@ -4,15 +4,17 @@ ghost use Rattle.pg_expr.specs.Elements.{properties_given, keys_given};
 ghost use Rattle.pg_expr.specs.Sites.{found_view};
 ghost use Rattle.pg_meaning.specs.Functions.{id_of, labels_of, type_of, start_node_of, end_node_of, is_deleted, texts};
 ghost use Rattle.pg_meaning.specs.Graph.{has_node, has_relationship};
+ghost use Rattle.pg_meaning.specs.Order.{keys_of};
 ghost use Rattle.pg_meaning.specs.Value.{integer, node, relationship};
 ghost use Rattle.pg_meaning.specs.declared.fault.Fault.TheVariants.{OutOfMemory};
-ghost use Rattle.pg_value_core.specs.View.{view};
+ghost use Rattle.pg_value_core.specs.View.{view, entries_view};
 
 use crate::site::Found;
 use pg_graph::Tables;
 use pg_store::Snapshot;
 use pg_value_core::{Fault, NodeId, RelId, Value};
 use std::alloc::{AllocError, Global};
+use std::collections::BTreeMap;
 
 /// The number of an element that is there.
 #[tactic(auto, using(crate::proofs::Presence::presence))]
@@ -68,9 +70,19 @@ fn node_labels<T: Tables>(
     ensures err { IfErr result (λ e. e ≢ OutOfMemory → labels_of graph.now (node id.0) ≡ Err e) }
 {
     match graph.node(id) {
-        Some(node) => Ok(text_list(alloc, &node.labels(alloc)?)?),
+        Some(node) => {
+            let all = node.labels(alloc)?;
+            texts_of(alloc, &all)
+        }
         None => Err(Fault::DeletedEntity),
     }
+}
+
+fn texts_of(alloc: Global, all: &Vec<&str>) -> Result<Value, Fault>
+    ensures ok { IfOk result (λ u. view u ≡ texts (map (λ t. t.now) all.now.items)) }
+    ensures err { IfErr result (λ e. e ≡ OutOfMemory) }
+{
+    Ok(text_list(alloc, all)?)
 }
 
 fn text_list(alloc: Global, all: &Vec<&str>) -> Result<Value, AllocError>
@@ -165,36 +177,36 @@ pub(crate) fn properties<'a, T: Tables>(
 {
     match found.look() {
         Value::Map(_) => Ok(found),
-        Value::Node(id) => Ok(Found::Made(node_properties(alloc, graph, *id)?)),
-        Value::Rel(id) => Ok(Found::Made(relationship_properties(alloc, graph, *id)?)),
+        Value::Node(id) => node_properties(alloc, graph, *id),
+        Value::Rel(id) => relationship_properties(alloc, graph, *id),
         _ => Err(Fault::TypeFault),
     }
 }
 
-fn node_properties<T: Tables>(
+fn node_properties<'a, T: Tables>(
     alloc: Global,
     graph: &Snapshot<'_, T>,
     id: NodeId,
-) -> Result<Value, Fault>
-    ensures ok { IfOk result (λ u. properties_given graph.now (node id.0) ≡ Ok (view u)) }
+) -> Result<Found<'a>, Fault>
+    ensures ok { IfOk result (λ f. properties_given graph.now (node id.0) ≡ Ok (found_view f)) }
     ensures err { IfErr result (λ e. e ≢ OutOfMemory → properties_given graph.now (node id.0) ≡ Err e) }
 {
     match graph.node_texts(alloc, id)? {
-        Some(texts) => Ok(Value::Map(texts.properties)),
+        Some(texts) => Ok(Found::Made(Value::Map(texts.properties))),
         None => Err(Fault::DeletedEntity),
     }
 }
 
-fn relationship_properties<T: Tables>(
+fn relationship_properties<'a, T: Tables>(
     alloc: Global,
     graph: &Snapshot<'_, T>,
     id: RelId,
-) -> Result<Value, Fault>
-    ensures ok { IfOk result (λ u. properties_given graph.now (relationship id.0) ≡ Ok (view u)) }
+) -> Result<Found<'a>, Fault>
+    ensures ok { IfOk result (λ f. properties_given graph.now (relationship id.0) ≡ Ok (found_view f)) }
     ensures err { IfErr result (λ e. e ≢ OutOfMemory → properties_given graph.now (relationship id.0) ≡ Err e) }
 {
     match graph.rel_texts(alloc, id)? {
-        Some(texts) => Ok(Value::Map(texts.properties)),
+        Some(texts) => Ok(Found::Made(Value::Map(texts.properties))),
         None => Err(Fault::DeletedEntity),
     }
 }
@@ -209,11 +221,18 @@ pub(crate) fn keys<T: Tables>(
     ensures err { IfErr result (λ e. e ≢ OutOfMemory → keys_given graph.now (view v.now) ≡ Err e) }
 {
     match v {
-        Value::Map(entries) => Ok(pg_expr_calls::keys(alloc, entries)?),
+        Value::Map(entries) => keys_of(alloc, entries),
         Value::Node(id) => node_keys(alloc, graph, *id),
         Value::Rel(id) => relationship_keys(alloc, graph, *id),
         _ => Err(Fault::TypeFault),
     }
+}
+
+fn keys_of(alloc: Global, entries: &BTreeMap<String, Value>) -> Result<Value, Fault>
+    ensures ok { IfOk result (λ u. view u ≡ texts (keys_of (entries_view entries.now.entries))) }
+    ensures err { IfErr result (λ e. e ≡ OutOfMemory) }
+{
+    Ok(pg_expr_calls::keys(alloc, entries)?)
 }
 
 fn node_keys<T: Tables>(alloc: Global, graph: &Snapshot<'_, T>, id: NodeId) -> Result<Value, Fault>
@@ -221,7 +240,7 @@ fn node_keys<T: Tables>(alloc: Global, graph: &Snapshot<'_, T>, id: NodeId) -> R
     ensures err { IfErr result (λ e. e ≢ OutOfMemory → keys_given graph.now (node id.0) ≡ Err e) }
 {
     match graph.node_texts(alloc, id)? {
-        Some(texts) => Ok(pg_expr_calls::keys(alloc, &texts.properties)?),
+        Some(texts) => keys_of(alloc, &texts.properties),
         None => Err(Fault::DeletedEntity),
     }
 }
@@ -235,7 +254,7 @@ fn relationship_keys<T: Tables>(
     ensures err { IfErr result (λ e. e ≢ OutOfMemory → keys_given graph.now (relationship id.0) ≡ Err e) }
 {
     match graph.rel_texts(alloc, id)? {
-        Some(texts) => Ok(pg_expr_calls::keys(alloc, &texts.properties)?),
+        Some(texts) => keys_of(alloc, &texts.properties),
         None => Err(Fault::DeletedEntity),
     }
 }

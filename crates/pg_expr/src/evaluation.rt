@@ -1,23 +1,21 @@
 //! What an expression gives at a row: operands left to right, and the first fault decides.
-ghost use Rattle.std.specs.Prelude.{◌≡◌, ◌≢◌, IfOk, IfErr, Ok, Err, map, option_map, string_bytes};
+ghost use Rattle.std.specs.Prelude.{map, option_map, string_bytes};
 ghost use Rattle.pg_expr.specs.Calls.{given_call};
 ghost use Rattle.pg_expr.specs.Prepared.{tree_of};
-ghost use Rattle.pg_expr.specs.Sites.{found_view, founds_view, pairs_view, given, given_each, given_map, given_first, given_perhaps, given_otherwise, given_true, given_chain, given_chained, given_compared, given_operands, given_text_test, given_tests, given_index, given_reads};
+ghost use Rattle.pg_expr.specs.Sites.{found_view, founds_view, pairs_view, given, given_each, given_map, given_first, given_perhaps, given_otherwise, given_true, given_chain, given_chained, given_operands, given_text_test, given_tests, given_index, given_reads};
 ghost use Rattle.pg_meaning.specs.Expressions.{evaluate};
 ghost use Rattle.pg_meaning.specs.Parse.{expressions_of, operands_of, pairs_of, whens_of};
-ghost use Rattle.pg_meaning.specs.Tree as tree;
-ghost use Rattle.pg_meaning.specs.declared.fault.Fault.TheVariants.{OutOfMemory};
 ghost use Rattle.pg_rows.specs.Named.{row_of};
 ghost use Rattle.pg_syntax_tree.specs.View.{expression_view, pair_view, when_view, operand_view, test_view, tests_of, suffix_view, suffixes_of, perhaps_view, names_view};
 ghost use Rattle.pg_value_core.specs.Given.{parameters_view};
 ghost use Rattle.pg_value_core.specs.Gives.{Gives};
 ghost use Rattle.pg_value_core.specs.View.{view};
 
-use crate::atoms::{literal_value, parameter, variable};
+use crate::atoms::{literal_found, parameter, variable};
 use crate::calls::{applied, call_fault, is_coalesce, is_null};
 use crate::made::{list_of, map_of, put};
 use crate::operators::{
-    all_compared, all_signed, begins_comparison, combined, is_chosen, negated, null_tested, tested,
+    all_signed, begins_comparison, combined, compared, is_chosen, negated, null_tested, tested,
 };
 use crate::prepared::Prepared;
 use crate::reads::{index, labels, property};
@@ -28,7 +26,6 @@ use pg_rows::Columns;
 use pg_scope::function_named;
 use pg_store::Snapshot;
 use pg_syntax_tree::{Expression, Name, Suffix, Test};
-use pg_value::value_of;
 use pg_value_core::{Fault, Parameters, Value};
 use std::alloc::Global;
 use std::collections::BTreeMap;
@@ -56,20 +53,19 @@ pub fn evaluate<T: Tables>(
 
 /// What an expression gives, which is lent where it stands somewhere.
 #[cycle(find)]
-#[tactic(auto, using(pg_syntax_tree::proofs::Views::map_is, pg_syntax_tree::proofs::Views::call_is, pg_syntax_tree::proofs::Views::case_is, pg_syntax_tree::proofs::Views::chain_is, pg_syntax_tree::proofs::Views::negation_is, pg_syntax_tree::proofs::Views::signs_is, pg_syntax_tree::proofs::Views::tests_is, pg_syntax_tree::proofs::Views::suffixes_is))]
+#[tactic(auto, using(pg_syntax_tree::proofs::Views::map_is, pg_syntax_tree::proofs::Views::case_is, pg_syntax_tree::proofs::Views::chain_is, pg_syntax_tree::proofs::Views::tests_is, pg_syntax_tree::proofs::Views::suffixes_is))]
 pub(crate) fn find<'a, T: Tables>(
     site: &Site<'a>,
     graph: &Snapshot<'a, T>,
     expression: &Expression,
 ) -> Result<Found<'a>, Fault>
-    ensures ok { IfOk result (λ f. given site.now graph.now (expression_view expression.now) ≡ Ok (found_view f)) }
-    ensures err { IfErr result (λ e. e ≢ OutOfMemory → given site.now graph.now (expression_view expression.now) ≡ Err e) }
+    ensures { Gives result (given site.now graph.now (expression_view expression.now)) found_view }
 {
     match expression {
-        Expression::Literal(literal) => Ok(Found::Made(literal_value(site.alloc, literal)?)),
+        Expression::Literal(literal) => literal_found(site.alloc, literal),
         Expression::Parameter(name) => parameter(site, name.text.as_str()),
         Expression::Variable(name) => variable(site, name.text.as_str()),
-        Expression::ListLiteral(items) => list(site, graph, items),
+        Expression::ListLiteral(items) => list_of(site.alloc, each(site, graph, items)),
         Expression::MapLiteral(pairs) => mapping(site, graph, pairs),
         Expression::Parentheses(inner) => find(site, graph, inner),
         Expression::Call(name, _, _, arguments) => call(site, graph, name, arguments),
@@ -82,8 +78,8 @@ pub(crate) fn find<'a, T: Tables>(
             let found = find(site, graph, first)?;
             chain(site, graph, found, operands)
         }
-        Expression::Negation(count, inner) => negation(site, graph, *count, inner),
-        Expression::Signs(signs, inner) => signed(site, graph, signs, inner),
+        Expression::Negation(count, inner) => negated(*count, find(site, graph, inner)),
+        Expression::Signs(signs, inner) => all_signed(signs, find(site, graph, inner)),
         Expression::Tests(inner, tests) => {
             let found = find(site, graph, inner)?;
             pass_tests(site, graph, found, tests)
@@ -96,26 +92,12 @@ pub(crate) fn find<'a, T: Tables>(
 }
 
 #[cycle(find)]
-fn list<'a, T: Tables>(
-    site: &Site<'a>,
-    graph: &Snapshot<'a, T>,
-    items: &Vec<Expression>,
-) -> Result<Found<'a>, Fault>
-    ensures ok { IfOk result (λ f. given site.now graph.now (tree.list_literal (expressions_of (map expression_view items.now.items))) ≡ Ok (found_view f)) }
-    ensures err { IfErr result (λ e. e ≢ OutOfMemory → given site.now graph.now (tree.list_literal (expressions_of (map expression_view items.now.items))) ≡ Err e) }
-{
-    let found = each(site, graph, items)?;
-    list_of(site.alloc, found)
-}
-
-#[cycle(find)]
 fn each<'a, T: Tables>(
     site: &Site<'a>,
     graph: &Snapshot<'a, T>,
     items: &Vec<Expression>,
 ) -> Result<Vec<Found<'a>>, Fault>
-    ensures ok { IfOk result (λ fs. given_each site.now graph.now (expressions_of (map expression_view items.now.items)) ≡ Ok (founds_view fs.items)) }
-    ensures err { IfErr result (λ e. e ≢ OutOfMemory → given_each site.now graph.now (expressions_of (map expression_view items.now.items)) ≡ Err e) }
+    ensures { Gives result (given_each site.now graph.now (expressions_of (map expression_view items.now.items))) (λ fs. founds_view fs.items) }
 {
     let mut found = Vec::with_capacity(site.alloc, items.len())?;
     for item in items {
@@ -133,8 +115,7 @@ fn mapping<'a, T: Tables>(
     graph: &Snapshot<'a, T>,
     pairs: &Vec<(Name, Expression)>,
 ) -> Result<Found<'a>, Fault>
-    ensures ok { IfOk result (λ f. given_map site.now graph.now (pairs_of (map pair_view pairs.now.items)) ≡ Ok (found_view f)) }
-    ensures err { IfErr result (λ e. e ≢ OutOfMemory → given_map site.now graph.now (pairs_of (map pair_view pairs.now.items)) ≡ Err e) }
+    ensures { Gives result (given_map site.now graph.now (pairs_of (map pair_view pairs.now.items))) found_view }
 {
     let mut entries = BTreeMap::new(site.alloc);
     for (key, value) in pairs {
@@ -151,8 +132,7 @@ fn call<'a, T: Tables>(
     name: &Name,
     arguments: &Vec<Expression>,
 ) -> Result<Found<'a>, Fault>
-    ensures ok { IfOk result (λ f. given_call site.now graph.now (string_bytes name.now.text) (expressions_of (map expression_view arguments.now.items)) ≡ Ok (found_view f)) }
-    ensures err { IfErr result (λ e. e ≢ OutOfMemory → given_call site.now graph.now (string_bytes name.now.text) (expressions_of (map expression_view arguments.now.items)) ≡ Err e) }
+    ensures { Gives result (given_call site.now graph.now (string_bytes name.now.text) (expressions_of (map expression_view arguments.now.items))) found_view }
 {
     let Some(function) = function_named(name.text.as_str()) else {
         return Err(call_fault(name.text.as_str()));
@@ -172,8 +152,7 @@ fn first_given<'a, T: Tables>(
     graph: &Snapshot<'a, T>,
     items: &Vec<Expression>,
 ) -> Result<Found<'a>, Fault>
-    ensures ok { IfOk result (λ f. given_first site.now graph.now (expressions_of (map expression_view items.now.items)) ≡ Ok (found_view f)) }
-    ensures err { IfErr result (λ e. e ≢ OutOfMemory → given_first site.now graph.now (expressions_of (map expression_view items.now.items)) ≡ Err e) }
+    ensures { Gives result (given_first site.now graph.now (expressions_of (map expression_view items.now.items))) found_view }
 {
     for item in items {
         let next = find(site, graph, item)?;
@@ -190,8 +169,7 @@ fn perhaps<'a, T: Tables>(
     graph: &Snapshot<'a, T>,
     expression: &Option<Box<Expression>>,
 ) -> Result<Option<Found<'a>>, Fault>
-    ensures ok { IfOk result (λ o. given_perhaps site.now graph.now (perhaps_view expression.now) ≡ Ok (option_map found_view o)) }
-    ensures err { IfErr result (λ e. e ≢ OutOfMemory → given_perhaps site.now graph.now (perhaps_view expression.now) ≡ Err e) }
+    ensures { Gives result (given_perhaps site.now graph.now (perhaps_view expression.now)) (option_map found_view) }
 {
     match expression {
         Some(inner) => Ok(Some(find(site, graph, inner)?)),
@@ -206,8 +184,7 @@ fn choose<'a, T: Tables>(
     subject: Option<Found<'a>>,
     whens: &Vec<(Expression, Expression)>,
 ) -> Result<Option<Found<'a>>, Fault>
-    ensures ok { IfOk result (λ o. given_true site.now graph.now (option_map found_view subject.entry) (whens_of (map when_view whens.now.items)) ≡ Ok (option_map found_view o)) }
-    ensures err { IfErr result (λ e. e ≢ OutOfMemory → given_true site.now graph.now (option_map found_view subject.entry) (whens_of (map when_view whens.now.items)) ≡ Err e) }
+    ensures { Gives result (given_true site.now graph.now (option_map found_view subject.entry) (whens_of (map when_view whens.now.items))) (option_map found_view) }
 {
     first_true(site, graph, &subject, whens)
 }
@@ -221,8 +198,7 @@ fn first_true<'a, T: Tables>(
     subject: &Option<Found<'a>>,
     whens: &Vec<(Expression, Expression)>,
 ) -> Result<Option<Found<'a>>, Fault>
-    ensures ok { IfOk result (λ o. given_true site.now graph.now (option_map found_view subject.now) (whens_of (map when_view whens.now.items)) ≡ Ok (option_map found_view o)) }
-    ensures err { IfErr result (λ e. e ≢ OutOfMemory → given_true site.now graph.now (option_map found_view subject.now) (whens_of (map when_view whens.now.items)) ≡ Err e) }
+    ensures { Gives result (given_true site.now graph.now (option_map found_view subject.now) (whens_of (map when_view whens.now.items))) (option_map found_view) }
 {
     for (condition, value) in whens {
         let tested = find(site, graph, condition)?;
@@ -241,8 +217,7 @@ fn or_otherwise<'a, T: Tables>(
     chosen: Option<Found<'a>>,
     otherwise: &Option<Box<Expression>>,
 ) -> Result<Found<'a>, Fault>
-    ensures ok { IfOk result (λ f. given_otherwise site.now graph.now (option_map found_view chosen.entry) (perhaps_view otherwise.now) ≡ Ok (found_view f)) }
-    ensures err { IfErr result (λ e. e ≢ OutOfMemory → given_otherwise site.now graph.now (option_map found_view chosen.entry) (perhaps_view otherwise.now) ≡ Err e) }
+    ensures { Gives result (given_otherwise site.now graph.now (option_map found_view chosen.entry) (perhaps_view otherwise.now)) found_view }
 {
     if let Some(found) = chosen {
         return Ok(found);
@@ -251,6 +226,7 @@ fn or_otherwise<'a, T: Tables>(
     Ok(or_null(found))
 }
 
+/// A chain of comparisons evaluates all its operands first.
 #[cycle(find)]
 fn chain<'a, T: Tables>(
     site: &Site<'a>,
@@ -258,11 +234,10 @@ fn chain<'a, T: Tables>(
     first: Found<'a>,
     operands: &Vec<(Operator, Expression)>,
 ) -> Result<Found<'a>, Fault>
-    ensures ok { IfOk result (λ f. given_chained site.now graph.now (found_view first.entry) (operands_of (map operand_view operands.now.items)) ≡ Ok (found_view f)) }
-    ensures err { IfErr result (λ e. e ≢ OutOfMemory → given_chained site.now graph.now (found_view first.entry) (operands_of (map operand_view operands.now.items)) ≡ Err e) }
+    ensures { Gives result (given_chained site.now graph.now (found_view first.entry) (operands_of (map operand_view operands.now.items))) found_view }
 {
     if begins_comparison(operands) {
-        compared(site, graph, first, operands)
+        compared(first, each_operand(site, graph, operands))
     } else {
         joined(site, graph, first, operands)
     }
@@ -276,8 +251,7 @@ fn joined<'a, T: Tables>(
     first: Found<'a>,
     operands: &Vec<(Operator, Expression)>,
 ) -> Result<Found<'a>, Fault>
-    ensures ok { IfOk result (λ f. given_chain site.now graph.now (found_view first.entry) (operands_of (map operand_view operands.now.items)) ≡ Ok (found_view f)) }
-    ensures err { IfErr result (λ e. e ≢ OutOfMemory → given_chain site.now graph.now (found_view first.entry) (operands_of (map operand_view operands.now.items)) ≡ Err e) }
+    ensures { Gives result (given_chain site.now graph.now (found_view first.entry) (operands_of (map operand_view operands.now.items))) found_view }
 {
     let mut left = first;
     for (operator, operand) in operands {
@@ -287,30 +261,13 @@ fn joined<'a, T: Tables>(
     Ok(left)
 }
 
-/// A chain of comparisons evaluates all its operands first.
-#[cycle(find)]
-fn compared<'a, T: Tables>(
-    site: &Site<'a>,
-    graph: &Snapshot<'a, T>,
-    first: Found<'a>,
-    operands: &Vec<(Operator, Expression)>,
-) -> Result<Found<'a>, Fault>
-    ensures ok { IfOk result (λ f. given_compared site.now graph.now (found_view first.entry) (operands_of (map operand_view operands.now.items)) ≡ Ok (found_view f)) }
-    ensures err { IfErr result (λ e. e ≢ OutOfMemory → given_compared site.now graph.now (found_view first.entry) (operands_of (map operand_view operands.now.items)) ≡ Err e) }
-{
-    let others = each_operand(site, graph, operands)?;
-    let truth = all_compared(&first, &others)?;
-    Ok(Found::Made(value_of(truth)))
-}
-
 #[cycle(find)]
 fn each_operand<'a, T: Tables>(
     site: &Site<'a>,
     graph: &Snapshot<'a, T>,
     operands: &Vec<(Operator, Expression)>,
 ) -> Result<Vec<(Operator, Found<'a>)>, Fault>
-    ensures ok { IfOk result (λ ps. given_operands site.now graph.now (operands_of (map operand_view operands.now.items)) ≡ Ok (pairs_view ps.items)) }
-    ensures err { IfErr result (λ e. e ≢ OutOfMemory → given_operands site.now graph.now (operands_of (map operand_view operands.now.items)) ≡ Err e) }
+    ensures { Gives result (given_operands site.now graph.now (operands_of (map operand_view operands.now.items))) (λ ps. pairs_view ps.items) }
 {
     let mut found = Vec::with_capacity(site.alloc, operands.len())?;
     for (operator, operand) in operands {
@@ -321,34 +278,6 @@ fn each_operand<'a, T: Tables>(
 }
 
 #[cycle(find)]
-fn negation<'a, T: Tables>(
-    site: &Site<'a>,
-    graph: &Snapshot<'a, T>,
-    count: usize,
-    inner: &Expression,
-) -> Result<Found<'a>, Fault>
-    ensures ok { IfOk result (λ f. given site.now graph.now (tree.negation count (expression_view inner.now)) ≡ Ok (found_view f)) }
-    ensures err { IfErr result (λ e. e ≢ OutOfMemory → given site.now graph.now (tree.negation count (expression_view inner.now)) ≡ Err e) }
-{
-    let found = find(site, graph, inner)?;
-    negated(count, found)
-}
-
-#[cycle(find)]
-fn signed<'a, T: Tables>(
-    site: &Site<'a>,
-    graph: &Snapshot<'a, T>,
-    signs: &Vec<bool>,
-    inner: &Expression,
-) -> Result<Found<'a>, Fault>
-    ensures ok { IfOk result (λ f. given site.now graph.now (tree.signs signs.now.items (expression_view inner.now)) ≡ Ok (found_view f)) }
-    ensures err { IfErr result (λ e. e ≢ OutOfMemory → given site.now graph.now (tree.signs signs.now.items (expression_view inner.now)) ≡ Err e) }
-{
-    let found = find(site, graph, inner)?;
-    all_signed(signs, found)
-}
-
-#[cycle(find)]
 #[tactic(auto, using(crate::proofs::Walks::testing))]
 fn pass_tests<'a, T: Tables>(
     site: &Site<'a>,
@@ -356,8 +285,7 @@ fn pass_tests<'a, T: Tables>(
     first: Found<'a>,
     tests: &Vec<Test<Expression>>,
 ) -> Result<Found<'a>, Fault>
-    ensures ok { IfOk result (λ f. given_tests site.now graph.now (found_view first.entry) (tests_of (map test_view tests.now.items)) ≡ Ok (found_view f)) }
-    ensures err { IfErr result (λ e. e ≢ OutOfMemory → given_tests site.now graph.now (found_view first.entry) (tests_of (map test_view tests.now.items)) ≡ Err e) }
+    ensures { Gives result (given_tests site.now graph.now (found_view first.entry) (tests_of (map test_view tests.now.items))) found_view }
 {
     let mut found = first;
     for test in tests {
@@ -377,11 +305,9 @@ fn text_tested<'a, T: Tables>(
     test: TextTest,
     operand: &Expression,
 ) -> Result<Found<'a>, Fault>
-    ensures ok { IfOk result (λ f. given_text_test site.now graph.now (found_view found.entry) test (expression_view operand.now) ≡ Ok (found_view f)) }
-    ensures err { IfErr result (λ e. e ≢ OutOfMemory → given_text_test site.now graph.now (found_view found.entry) test (expression_view operand.now) ≡ Err e) }
+    ensures { Gives result (given_text_test site.now graph.now (found_view found.entry) test (expression_view operand.now)) found_view }
 {
-    let right = find(site, graph, operand)?;
-    tested(test, &found, &right)
+    tested(test, found, find(site, graph, operand))
 }
 
 /// Properties and indexes one behind the other, then labels.
@@ -394,8 +320,7 @@ fn read<'a, T: Tables>(
     suffixes: &Vec<Suffix<Expression>>,
     names: &Vec<Name>,
 ) -> Result<Found<'a>, Fault>
-    ensures ok { IfOk result (λ f. given_reads site.now graph.now (found_view first.entry) (suffixes_of (map suffix_view suffixes.now.items)) (names_view names.now.items) ≡ Ok (found_view f)) }
-    ensures err { IfErr result (λ e. e ≢ OutOfMemory → given_reads site.now graph.now (found_view first.entry) (suffixes_of (map suffix_view suffixes.now.items)) (names_view names.now.items) ≡ Err e) }
+    ensures { Gives result (given_reads site.now graph.now (found_view first.entry) (suffixes_of (map suffix_view suffixes.now.items)) (names_view names.now.items)) found_view }
 {
     let mut found = first;
     for suffix in suffixes {
@@ -414,9 +339,7 @@ fn indexed<'a, T: Tables>(
     found: Found<'a>,
     place: &Expression,
 ) -> Result<Found<'a>, Fault>
-    ensures ok { IfOk result (λ f. given_index site.now graph.now (found_view found.entry) (expression_view place.now) ≡ Ok (found_view f)) }
-    ensures err { IfErr result (λ e. e ≢ OutOfMemory → given_index site.now graph.now (found_view found.entry) (expression_view place.now) ≡ Err e) }
+    ensures { Gives result (given_index site.now graph.now (found_view found.entry) (expression_view place.now)) found_view }
 {
-    let at = find(site, graph, place)?;
-    index(site.alloc, graph, found, at.look())
+    index(site.alloc, graph, found, find(site, graph, place))
 }

@@ -1,5 +1,6 @@
 //! What an expression makes, within the limits of weight and depth.
 ghost use Rattle.std.specs.Prelude.{◌≡◌, ◌≢◌, ◌^◌, ◌-◌, min, IfOk, IfErr, Ok, Err, string_bytes};
+ghost use Rattle.pg_expr.specs.After.{After};
 ghost use Rattle.pg_expr.specs.Sites.{found_view, founds_view};
 ghost use Rattle.pg_meaning.specs.Entries.{put};
 ghost use Rattle.pg_meaning.specs.Measure.{made, is_within_limits, items_weight, items_depth};
@@ -31,8 +32,21 @@ pub(crate) fn made<'a>(found: Found<'a>) -> Result<Found<'a>, Fault>
     }
 }
 
-/// A list of what was found, where it is within the limits; only then is it copied.
-pub(crate) fn list_of<'a>(alloc: Global, found: Vec<Found<'a>>) -> Result<Found<'a>, Fault>
+/// A list of what was found, or the fault that was found in its place.
+pub(crate) fn list_of<'a>(
+    alloc: Global,
+    found: Result<Vec<Found<'a>>, Fault>,
+) -> Result<Found<'a>, Fault>
+    ensures { After found.entry result (λ fs. made (list (founds_view fs.items))) found_view }
+{
+    match found {
+        Ok(items) => list_within(alloc, items),
+        Err(fault) => Err(fault),
+    }
+}
+
+/// A list where it is within the limits; only then is what was found copied.
+fn list_within<'a>(alloc: Global, found: Vec<Found<'a>>) -> Result<Found<'a>, Fault>
     ensures ok { IfOk result (λ f. made (list (founds_view found.entry.items)) ≡ Ok (found_view f)) }
     ensures err { IfErr result (λ e. e ≢ OutOfMemory → made (list (founds_view found.entry.items)) ≡ Err e) }
 {

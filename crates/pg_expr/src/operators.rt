@@ -1,6 +1,7 @@
 //! What operators, signs and tests give at values that were found.
 ghost use Rattle.std.specs.Prelude.{◌≡◌, ◌≢◌, IfOk, IfErr, Ok, Err, false, map, option_map};
-ghost use Rattle.pg_expr.specs.Operators.{all_negated, is_chosen, takes_operands};
+ghost use Rattle.pg_expr.specs.After.{After};
+ghost use Rattle.pg_expr.specs.Operators.{all_negated, is_chosen, takes_operands, truth_compared};
 ghost use Rattle.pg_expr.specs.Sites.{found_view, pairs_view};
 ghost use Rattle.pg_meaning.specs.Arithmetic.{plus, signed};
 ghost use Rattle.pg_meaning.specs.Expressions.{is_in as membership, combined, all_compared, all_signed, begins_comparison, condition_of, is_comparison, tested, null_tested};
@@ -30,8 +31,16 @@ pub(crate) fn combined<'a>(
 {
     match operator {
         Operator::Plus => sum(alloc, v, w),
-        _ => Ok(Found::Made(looked_at(operator, v.look(), w.look())?)),
+        _ => made_at_look(operator, v.look(), w.look()),
     }
+}
+
+fn made_at_look<'a>(operator: Operator, v: &Value, w: &Value) -> Result<Found<'a>, Fault>
+    requires { takes_operands operator ≡ false }
+    ensures ok { IfOk result (λ f. combined operator (view v.now) (view w.now) ≡ Ok (found_view f)) }
+    ensures err { IfErr result (λ e. combined operator (view v.now) (view w.now) ≡ Err e) }
+{
+    Ok(Found::Made(looked_at(operator, v, w)?))
 }
 
 /// What an operator gives that only looks at its operands.
@@ -62,12 +71,32 @@ fn sum<'a>(alloc: Global, v: Found<'a>, w: Found<'a>) -> Result<Found<'a>, Fault
     Ok(Found::Made(values::plus(left, right)?))
 }
 
-/// Each neighbour with the next, where all were evaluated before.
-#[tactic(auto, using(crate::proofs::Comparisons::comparisons))]
-pub(crate) fn all_compared(
+/// A chain of comparisons whose operands were all evaluated before, or the fault of one of them.
+pub(crate) fn compared<'a>(
+    first: Found<'_>,
+    others: Result<Vec<(Operator, Found<'_>)>, Fault>,
+) -> Result<Found<'a>, Fault>
+    ensures { After others.entry result (λ ps. truth_compared (found_view first.entry) (pairs_view ps.items)) found_view }
+{
+    match others {
+        Ok(pairs) => compared_value(&first, &pairs),
+        Err(fault) => Err(fault),
+    }
+}
+
+fn compared_value<'a>(
     first: &Found<'_>,
     others: &Vec<(Operator, Found<'_>)>,
-) -> Result<Tri, Fault>
+) -> Result<Found<'a>, Fault>
+    ensures ok { IfOk result (λ f. truth_compared (found_view first.now) (pairs_view others.now.items) ≡ Ok (found_view f)) }
+    ensures err { IfErr result (λ e. truth_compared (found_view first.now) (pairs_view others.now.items) ≡ Err e) }
+{
+    let truth = all_compared(first, others)?;
+    Ok(Found::Made(value_of(truth)))
+}
+
+/// Each neighbour with the next.
+fn all_compared(first: &Found<'_>, others: &Vec<(Operator, Found<'_>)>) -> Result<Tri, Fault>
     ensures { result ≡ all_compared (found_view first.now) (pairs_view others.now.items) }
 {
     let mut all = Tri::True;
@@ -98,16 +127,29 @@ fn condition_of(subject: &Option<Found<'_>>, v: &Found<'_>) -> Result<Tri, Fault
     }
 }
 
-/// `v STARTS WITH w` and its like.
-pub(crate) fn tested<'a>(test: TextTest, v: &Found<'_>, w: &Found<'_>) -> Result<Found<'a>, Fault>
-    ensures ok { IfOk result (λ f. tested test (found_view v.now) (found_view w.now) ≡ Ok (found_view f)) }
-    ensures err { IfErr result (λ e. tested test (found_view v.now) (found_view w.now) ≡ Err e) }
+/// `v STARTS WITH w` and its like, or the fault that was found in the place of `w`.
+pub(crate) fn tested<'a>(
+    test: TextTest,
+    v: Found<'_>,
+    w: Result<Found<'_>, Fault>,
+) -> Result<Found<'a>, Fault>
+    ensures { After w.entry result (λ u. tested test (found_view v.entry) (found_view u)) found_view }
+{
+    match w {
+        Ok(right) => tested_value(test, v.look(), right.look()),
+        Err(fault) => Err(fault),
+    }
+}
+
+fn tested_value<'a>(test: TextTest, v: &Value, w: &Value) -> Result<Found<'a>, Fault>
+    ensures ok { IfOk result (λ f. tested test (view v.now) (view w.now) ≡ Ok (found_view f)) }
+    ensures err { IfErr result (λ e. tested test (view v.now) (view w.now) ≡ Err e) }
 {
     match test {
-        TextTest::StartsWith => Ok(Found::Made(values::begins_with(v.look(), w.look()))),
-        TextTest::EndsWith => Ok(Found::Made(values::finishes_with(v.look(), w.look()))),
-        TextTest::Contains => Ok(Found::Made(values::contains(v.look(), w.look()))),
-        TextTest::In => Ok(Found::Made(member(v.look(), w.look())?)),
+        TextTest::StartsWith => Ok(Found::Made(values::begins_with(v, w))),
+        TextTest::EndsWith => Ok(Found::Made(values::finishes_with(v, w))),
+        TextTest::Contains => Ok(Found::Made(values::contains(v, w))),
+        TextTest::In => Ok(Found::Made(member(v, w)?)),
     }
 }
 
@@ -132,12 +174,21 @@ pub(crate) fn null_tested<'a>(is_negated: bool, v: Found<'_>) -> Found<'a>
     }
 }
 
-/// NOT, so many times.
-pub(crate) fn negated<'a>(count: usize, v: Found<'_>) -> Result<Found<'a>, Fault>
-    ensures ok { IfOk result (λ f. all_negated count (found_view v.entry) ≡ Ok (found_view f)) }
-    ensures err { IfErr result (λ e. all_negated count (found_view v.entry) ≡ Err e) }
+/// NOT, so many times, or the fault that was found in the place of the value.
+pub(crate) fn negated<'a>(count: usize, v: Result<Found<'_>, Fault>) -> Result<Found<'a>, Fault>
+    ensures { After v.entry result (λ u. all_negated count (found_view u)) found_view }
 {
-    let truth = truth_of(v.look())?;
+    match v {
+        Ok(found) => negated_value(count, found.look()),
+        Err(fault) => Err(fault),
+    }
+}
+
+fn negated_value<'a>(count: usize, v: &Value) -> Result<Found<'a>, Fault>
+    ensures ok { IfOk result (λ f. all_negated count (view v.now) ≡ Ok (found_view f)) }
+    ensures err { IfErr result (λ e. all_negated count (view v.now) ≡ Err e) }
+{
+    let truth = truth_of(v)?;
     Ok(Found::Made(value_of(turned(count, truth))))
 }
 
@@ -151,30 +202,44 @@ fn turned(count: usize, t: Tri) -> Tri
     turned
 }
 
-/// The signs before a value, the last one first.
+/// The signs before a value, or the fault that was found in its place.
+pub(crate) fn all_signed<'a>(
+    signs: &Vec<bool>,
+    v: Result<Found<'a>, Fault>,
+) -> Result<Found<'a>, Fault>
+    ensures { After v.entry result (λ u. all_signed signs.now.items (found_view u)) found_view }
+{
+    match v {
+        Ok(found) => signed_value(signs, found),
+        Err(fault) => Err(fault),
+    }
+}
+
+/// The last sign goes first.
 #[tactic(auto, using(crate::proofs::Comparisons::last_sign))]
-pub(crate) fn all_signed<'a>(signs: &Vec<bool>, v: Found<'a>) -> Result<Found<'a>, Fault>
+fn signed_value<'a>(signs: &Vec<bool>, v: Found<'a>) -> Result<Found<'a>, Fault>
     ensures ok { IfOk result (λ f. all_signed signs.now.items (found_view v.entry) ≡ Ok (found_view f)) }
     ensures err { IfErr result (λ e. all_signed signs.now.items (found_view v.entry) ≡ Err e) }
 {
     let mut signed = v;
     let mut left = signs.as_slice();
     while let Some((sign, before)) = left.split_last() {
-        signed = Found::Made(with_sign(*sign, signed.look())?);
+        signed = with_sign(*sign, signed.look())?;
         left = before;
     }
     Ok(signed)
 }
 
-fn with_sign(is_minus: bool, v: &Value) -> Result<Value, Fault>
-    ensures ok { IfOk result (λ u. signed is_minus (view v.now) ≡ Ok (view u)) }
+fn with_sign<'a>(is_minus: bool, v: &Value) -> Result<Found<'a>, Fault>
+    ensures ok { IfOk result (λ f. signed is_minus (view v.now) ≡ Ok (found_view f)) }
     ensures err { IfErr result (λ e. signed is_minus (view v.now) ≡ Err e) }
 {
-    if is_minus {
-        values::negative(v)
+    let value = if is_minus {
+        values::negative(v)?
     } else {
-        values::positive(v)
-    }
+        values::positive(v)?
+    };
+    Ok(Found::Made(value))
 }
 
 pub(crate) fn is_true(t: Tri) -> bool

@@ -1,5 +1,6 @@
 //! What is read of a value: a property, an item, labels.
 ghost use Rattle.std.specs.Prelude.{◌≡◌, ◌≢◌, IfOk, IfErr, Ok, Err, map, string_bytes};
+ghost use Rattle.pg_expr.specs.After.{After};
 ghost use Rattle.pg_expr.specs.Reads.{labels_tested};
 ghost use Rattle.pg_expr.specs.Sites.{found_view};
 ghost use Rattle.std.specs.List.{list_all};
@@ -112,8 +113,22 @@ fn property_made<'a, T: Tables>(
     }
 }
 
-/// `v[i]`.
+/// `v[i]`, or the fault that was found in the place of `i`.
 pub(crate) fn index<'a, T: Tables>(
+    alloc: Global,
+    graph: &Snapshot<'a, T>,
+    value: Found<'a>,
+    place: Result<Found<'a>, Fault>,
+) -> Result<Found<'a>, Fault>
+    ensures { After place.entry result (λ i. indexed graph.now (found_view value.entry) (found_view i)) found_view }
+{
+    match place {
+        Ok(at) => index_at(alloc, graph, value, at.look()),
+        Err(fault) => Err(fault),
+    }
+}
+
+fn index_at<'a, T: Tables>(
     alloc: Global,
     graph: &Snapshot<'a, T>,
     value: Found<'a>,

@@ -4,10 +4,9 @@ ghost use Rattle.std.specs.FinMap as map;
 ghost use Rattle.pg_graph.specs.Content.{empty_content};
 
 use pg_graph::{Labels, NodeRecord, Properties, RelRecord, Tables};
-use pg_names::{NameId, Names};
+use pg_names::{IndexedTexts, NameId, Names};
 use pg_value_core::{NodeId, RelId, Value};
 use std::alloc::{AllocError, Global};
-use std::hash::{BuildHasherDefault, FoldHasher};
 
 const TEXT: &str = "a name of some forty letters, plain ones";
 
@@ -22,10 +21,10 @@ pub struct Schema {
 
 impl Schema {
     pub fn new(alloc: Global) -> Result<Schema, AllocError> {
-        Schema::of(&mut Names::new(alloc, BuildHasherDefault::new()))
+        Schema::of(&mut Names::new(alloc))
     }
 
-    fn of(names: &mut Names<BuildHasherDefault<FoldHasher>>) -> Result<Schema, AllocError> {
+    fn of(names: &mut Names<IndexedTexts>) -> Result<Schema, AllocError> {
         Ok(Schema {
             label: names.intern("Person")?,
             kind: names.intern("KNOWS")?,

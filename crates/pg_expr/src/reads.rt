@@ -234,7 +234,7 @@ fn node_labels<'a, T: Tables>(
     }
 }
 
-fn has_all(node: &NodeView<'_>, labels: &Vec<Name>) -> bool
+fn has_all<T: Tables>(node: &NodeView<'_, T>, labels: &Vec<Name>) -> bool
     ensures { result ≡ list_all (λ l. is_among node.now.labels l.text) (names_view labels.now.items) }
 {
     for label in labels {

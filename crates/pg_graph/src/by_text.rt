@@ -11,14 +11,18 @@ ghost use Rattle.pg_value_core.specs.View.{view, entries_view};
 
 use crate::labels::Labels;
 use crate::properties::Properties;
-use pg_names::Names;
+use pg_names::{Names, TextSet};
 use pg_value_core::Value;
 use std::alloc::{AllocError, Global};
 use std::collections::{BTreeMap, BTreeSet};
 
 impl Labels {
     /// Adds the label of this text, if it isn't there.
-    pub fn insert_text(&mut self, names: &mut Names, text: &str) -> Result<(), AllocError>
+    pub fn insert_text<K: TextSet>(
+        &mut self,
+        names: &mut Names<K>,
+        text: &str,
+    ) -> Result<(), AllocError>
         requires { AreNamed names.old self.old }
         ensures ok { OnOk result (label_texts names.new self.new ≡ put_texts (text.now ∷ []) (label_texts names.old self.old)) }
         ensures err { OnErr result (label_texts names.new self.new ≡ label_texts names.old self.old) }
@@ -31,7 +35,7 @@ impl Labels {
     }
 
     /// Takes the label of this text out, if it is there.
-    pub fn remove_text(&mut self, names: &Names, text: &str)
+    pub fn remove_text<K: TextSet>(&mut self, names: &Names<K>, text: &str)
         requires { AreNamed names.now self.old }
         ensures texts { label_texts names.now self.new ≡ filter (λ l. not (bytes_eq l text.now)) (label_texts names.now self.old) }
         ensures named { AreNamed names.now self.new }
@@ -42,7 +46,11 @@ impl Labels {
     }
 
     /// The texts of the labels, in byte order.
-    pub fn texts<'a>(&self, alloc: Global, names: &'a Names) -> Result<Vec<&'a str>, AllocError>
+    pub fn texts<'a, K: TextSet>(
+        &self,
+        alloc: Global,
+        names: &'a Names<K>,
+    ) -> Result<Vec<&'a str>, AllocError>
         requires { AreNamed names.now self.now }
         ensures { IfOk result (λ texts. map_list (λ t. t.now) texts.items ≡ label_texts names.now self.now) }
     {
@@ -53,7 +61,7 @@ impl Labels {
         texts.into_iter().collect(alloc)
     }
 
-    pub fn contains_text(&self, names: &Names, text: &str) -> bool
+    pub fn contains_text<K: TextSet>(&self, names: &Names<K>, text: &str) -> bool
         requires { AreNamed names.now self.now }
         ensures { result ≡ is_among (label_texts names.now self.now) text.now }
     {
@@ -66,7 +74,12 @@ impl Labels {
 
 impl Properties {
     /// Gives the key of this text its value. Null takes the key out.
-    pub fn set_text(&mut self, names: &mut Names, key: &str, value: Value) -> Result<(), AllocError>
+    pub fn set_text<K: TextSet>(
+        &mut self,
+        names: &mut Names<K>,
+        key: &str,
+        value: Value,
+    ) -> Result<(), AllocError>
         requires { AreNamed names.old (map.keys self.old) }
         ensures ok { OnOk result (property_entries names.new self.new ≡ set_key key.now (view value) (property_entries names.old self.old)) }
         ensures err { OnErr result (property_entries names.new self.new ≡ property_entries names.old self.old) }
@@ -78,7 +91,7 @@ impl Properties {
         self.set(name, value)
     }
 
-    pub fn get_text(&self, names: &Names, key: &str) -> Option<&Value>
+    pub fn get_text<K: TextSet>(&self, names: &Names<K>, key: &str) -> Option<&Value>
         requires { AreNamed names.now (map.keys self.now) }
         ensures { option_map (λ v. view v.now) result ≡ at_key key.now (property_entries names.now self.now) }
     {
@@ -89,10 +102,10 @@ impl Properties {
     }
 
     /// The properties by the texts of their keys, in memory of their own.
-    pub fn by_text(
+    pub fn by_text<K: TextSet>(
         &self,
         alloc: Global,
-        names: &Names,
+        names: &Names<K>,
     ) -> Result<BTreeMap<String, Value>, AllocError>
         requires { AreNamed names.now (map.keys self.now) }
         ensures { IfOk result (λ found. entries_view found.entries ≡ property_entries names.now self.now) }

@@ -19,4 +19,4 @@ pub use links::{Incidence, Links};
 pub use next_ids::NextIds;
 pub use properties::Properties;
 pub use records::{NodeRecord, RelRecord};
-pub use tables::Tables;
+pub use tables::{SharedPart, Tables};

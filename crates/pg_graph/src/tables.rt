@@ -7,14 +7,21 @@ ghost use Rattle.pg_graph.specs.Links.{numbers};
 
 use crate::properties::Properties;
 use crate::records::{NodeRecord, RelRecord};
+use pg_names::TextSet;
 use pg_value_core::{NodeId, RelId};
 use std::alloc::{AllocError, Global};
+
+/// What tables share. The labels, types and keys of their records are numbers of a table of names that lies beside it.
+pub trait SharedPart: Drop {
+    /// The set in which that table keeps its texts.
+    type Texts: TextSet;
+}
 
 /// One owner's nodes and relationships, kept in a value of this type and in a part that it shares
 /// with the tables of other owners.
 pub trait Tables: Drop {
     /// What the tables of all owners share. Each call of one tables value is lent the same one.
-    type Shared;
+    type Shared: SharedPart;
 
     /// How the tables are seen over the shared part.
     ghost seen: { Seen Self Self.Shared };

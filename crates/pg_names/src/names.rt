@@ -4,65 +4,40 @@ ghost use Rattle.std.specs.List.{position};
 ghost use Rattle.std.specs.Str.{bytes_eq};
 ghost use Rattle.pg_names.specs.Names.{AreDistinct, AreNumbered, KeepsNames, NamesAreTakenBack, with_name};
 
-use indexmap::IndexSet;
+use crate::name_id::NameId;
+use crate::text_set::TextSet;
 use std::alloc::{AllocError, Global};
-use std::hash::{BuildHasher, BuildHasherDefault, FoldHasher};
 use std::marker::Model;
 
-/// A name's number in its table.
-#[derive(Clone, Copy, Default, PartialEq, Eq, Hash)]
-pub struct NameId(u64);
-
-impl Model for NameId {
-    ghost use Rattle.std.specs.Prelude.{ℕ};
-    ghost use Rattle.std.specs.Coded.{coded_ℕ};
-
-    ghost Value = { ℕ };
-
-    ghost coded = { coded_ℕ };
-
-    ghost view = { λ n. n.0 };
-
-    ghost inverse = { λ n. record { 0 = n } };
-}
-
-impl NameId {
-    pub fn as_u64(&self) -> u64
-        ensures { result ≡ self.now }
-    {
-        self.0
-    }
-}
-
-/// Texts by their numbers, from 0 on. New ones go to the end, and only the last ones can be cut off.
+/// Texts by their numbers, from 0 on. New ones go to the end, and only the last ones can be cut off. They stand in a set of any type that
+/// keeps their order.
 #[derive(Drop)]
-pub struct Names<S: BuildHasher = BuildHasherDefault<FoldHasher>> {
+pub struct Names<K: TextSet> {
     alloc: Global,
-    texts: IndexSet<String, S>,
+    texts: K,
 }
 
-impl<S: BuildHasher> Model for Names<S> {
-    ghost use Rattle.std.specs.Prelude.{ℕ, List, map};
+impl<K: TextSet> Model for Names<K> {
+    ghost use Rattle.std.specs.Prelude.{ℕ, List};
     ghost use Rattle.std.specs.Coded.{coded_list, coded_ℕ};
-    ghost use Rattle.std.specs.String.{string_bytes};
     ghost use Rattle.pg_names.specs.Names.{AreDistinct};
 
     ghost Value = { List (List ℕ) };
 
     ghost coded = { coded_list (coded_list coded_ℕ) };
 
-    ghost view = { λ n. map string_bytes n.texts.keys };
+    ghost view = { λ n. K.texts n.texts };
 
-    ghost invariant = { λ n. AreDistinct (map string_bytes n.texts.keys) };
+    ghost invariant = { λ n. AreDistinct (K.texts n.texts) };
 }
 
-impl<S: BuildHasher> Names<S> {
-    pub fn new(alloc: Global, hasher: S) -> Self
+impl<K: TextSet> Names<K> {
+    pub fn new(alloc: Global) -> Self
         ensures { result ≡ [] }
     {
         Names {
             alloc,
-            texts: IndexSet::with_hasher(alloc, hasher),
+            texts: K::new(alloc),
         }
     }
 
@@ -78,8 +53,8 @@ impl<S: BuildHasher> Names<S> {
             return Ok(number);
         }
         let owned = String::from_str(self.alloc, text)?;
-        let (index, _) = self.texts.insert_full(owned)?;
-        Ok(NameId(index as u64))
+        let place = self.texts.put(owned)?;
+        Ok(NameId(place as u64))
     }
 
     /// The number of a text that the table has.
@@ -87,8 +62,8 @@ impl<S: BuildHasher> Names<S> {
         ensures found { result ≡ position (bytes_eq text.now) self.now }
         ensures distinct { AreDistinct self.now }
     {
-        match self.texts.get_index_of(text) {
-            Some(index) => Some(NameId(index as u64)),
+        match self.texts.place_of(text) {
+            Some(place) => Some(NameId(place as u64)),
             None => None,
         }
     }
@@ -98,7 +73,7 @@ impl<S: BuildHasher> Names<S> {
         requires { name < length self.now }
         ensures { slice_get self.now name ≡ Some result.now }
     {
-        self.texts.get_index(name.0 as usize).unwrap().as_str()
+        self.texts.text_at(name.0 as usize)
     }
 
     /// Keeps the first so many names.
@@ -106,7 +81,7 @@ impl<S: BuildHasher> Names<S> {
         ensures kept { self.new ≡ take len self.old }
         ensures distinct { AreDistinct self.new }
     {
-        self.texts.truncate(len);
+        self.texts.keep(len);
     }
 
     /// How many names there are.
@@ -115,7 +90,7 @@ impl<S: BuildHasher> Names<S> {
         ensures numbered { AreNumbered self.now }
         ensures distinct { AreDistinct self.now }
     {
-        self.texts.len()
+        self.texts.count()
     }
 }
 

@@ -5,7 +5,8 @@ ghost use Rattle.pg_pool.specs.Tables.{pooled, AreRecords, SlotsStay};
 
 use crate::pool::{Pool, Record};
 use crate::slots::Slots;
-use pg_graph::{Incidence, NodeRecord, Properties, RelRecord, Tables};
+use pg_graph::{Incidence, NodeRecord, Properties, RelRecord, SharedPart, Tables};
+use pg_names::IndexedTexts;
 use pg_value_core::{NodeId, RelId};
 use std::alloc::{AllocError, Global};
 
@@ -33,6 +34,10 @@ impl PooledTables {
         requires { ⟦<PooledTables as Tables>⟧.seen.fits self.now pool.now }
         ensures { AreRecords (⟦<PooledTables as Tables>⟧.seen.content self.now pool.now) self.now.owner pool.now }
     {}
+}
+
+impl SharedPart for Pool {
+    type Texts = IndexedTexts;
 }
 
 impl Tables for PooledTables {

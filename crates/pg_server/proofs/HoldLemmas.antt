@@ -6,7 +6,7 @@ use Rattle.pg_server.specs.Holds.{HoldTenants}
 use Rattle.pg_server.specs.State.{State, ServerState, ServerSeen}
 use Rattle.pg_server.specs.Tenants.{AllFit, server_seen, state_of}
 use Rattle.pg_server.specs.declared.tenant.Tenant.{Tenant}
-use Rattle.pg_server.proofs.TenantLemmas.{fits_at, length_mapped, state_found}
+use Rattle.pg_server.proofs.TenantLemmas.{fit_of_parts, fits_at, length_mapped, state_found}
 use Rattle.pg_store.specs.declared.shared.Shared.{Shared}
 
 abbrev pub state_seen : {X : Type 0} → ServerSeen X → ServerState
@@ -17,13 +17,13 @@ there [] k lt = absurd (omega arith)
 there (x ∷ xs) zero lt = (x, refl)
 there (x ∷ xs) (suc k) lt = there xs k (omega arith)
 
-pub hold_tenants : {T S : Type 0} (seen : Seen T S) (cache : CacheSeen) (tenants : List (Tenant T)) (shared : Shared S) → AllFit seen tenants shared → HoldTenants seen (server_seen seen cache tenants shared)
+pub hold_tenants : {T S K : Type 0} (seen : Seen T S) (cache : CacheSeen) (tenants : List (Tenant T)) (shared : Shared S K) → AllFit seen tenants shared → HoldTenants seen (server_seen seen cache tenants shared)
 hold_tenants {T = T} seen cache tenants shared all k lt =
     let below : k < length tenants = omega (arith, lt, length_mapped (λ x. state_of seen x shared) tenants) in
     let found = there tenants k below in
     record {
       store = found.0.store;
       own = ap (λ (t : Tenant T). seen.owner t.store.tables) found.1 ∙ all.own k found.0 below;
-      fit = fits_at seen tenants shared all k found.0 below found.1;
+      fit = fit_of_parts seen found.0.store shared (fits_at seen tenants shared all k found.0 below found.1);
       graph = ap (λ (s : State). s.graph) (state_found seen tenants shared k found.0 below found.1);
     }

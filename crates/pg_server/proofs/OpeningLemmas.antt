@@ -7,16 +7,17 @@ use Rattle.pg_server.specs.Settings.{TenantSettings}
 use Rattle.pg_server.specs.State.{State, opening}
 use Rattle.pg_server.specs.Tenants.{states_of, AreOpening}
 use Rattle.pg_server.specs.declared.tenant.Tenant.{Tenant}
+use Rattle.pg_server.proofs.TenantLemmas.{fit_of_parts}
 use Rattle.pg_store.specs.Stores.{graph_of_store, IsFit}
 use Rattle.pg_store.specs.declared.shared.Shared.{Shared}
 use Rattle.pg_tenant.specs.Indexes.{indexes_of}
 
 module _ {T S : Type 0} (seen : Seen T S) where
-  -- a store that was just made
+  -- a store that was just made, over any names and each part that its owner doesn't use
   pub record Opens (tenant : Tenant T) (owner : ℕ) : Type 0 where
     pub own : seen.owner tenant.store.tables ≡ owner
-    pub fit : (shared : Shared S) → AreDistinct shared.names → seen.is_unused owner shared.tables → IsFit seen tenant.store shared
-    pub empty : (shared : Shared S) → seen.is_unused owner shared.tables → graph_of_store seen tenant.store shared ≡ empty_graph
+    pub fit : (shared : Shared S (Unit {0})) → AreDistinct shared.names → seen.is_unused owner shared.tables → IsFit seen tenant.store shared
+    pub empty : (shared : Shared S (Unit {0})) → seen.is_unused owner shared.tables → graph_of_store seen tenant.store shared ≡ empty_graph
     pub indexless : indexes_of tenant.indexes ≡ []
 
   abbrev pub OpenFrom : ℕ → List (Tenant T) → Type 0
@@ -54,7 +55,7 @@ module _ {T S : Type 0} (seen : Seen T S) where
   pub few_begun : (all rest : List TenantSettings) (begun : List (Tenant T)) → BegunSoFar all rest begun → length begun ≤ length all
   few_begun all rest begun so_far = omega (arith, lengths begun rest, ap length so_far.same)
 
-  module _ (shared : Shared S) (unused : (owner : ℕ) → seen.is_unused owner shared.tables) where
+  module _ (shared : Shared S (Unit {0})) (unused : (owner : ℕ) → seen.is_unused owner shared.tables) where
     fit_from : AreDistinct shared.names → (k : ℕ) (tenants : List (Tenant T)) → OpenFrom k tenants → (i : ℕ) (d : Tenant T) → i < length tenants → IsFit seen (get_or tenants i d).store shared
     fit_from distinct k [] h i d lt = absurd (omega arith)
     fit_from distinct k (t ∷ ts) h zero d lt = h.0.fit shared distinct (unused k)
@@ -78,15 +79,15 @@ module _ {T S : Type 0} (seen : Seen T S) where
   whole [] = refl
   whole (x ∷ xs) = ap (λ ys. x ∷ ys) (whole xs)
 
-  pub all_begun : (all rest : List TenantSettings) (begun : List (Tenant T)) → BegunSoFar all rest begun → length rest ≡ 0 → AreOpening seen all begun
+  pub all_begun : {K : Type 0} (all rest : List TenantSettings) (begun : List (Tenant T)) → BegunSoFar all rest begun → length rest ≡ 0 → AreOpening seen K all begun
   all_begun all rest begun so_far none =
       let same : map (λ (t : Tenant T). t.settings) begun ≡ all =
       sym (whole (map (λ (t : Tenant T). t.settings) begun)) ∙ ap (λ ss. map (λ (t : Tenant T). t.settings) begun ++ ss) (sym (nothing_left rest none)) ∙ so_far.same in
       record {
         same = same;
-        fit = λ shared distinct unused. record {
-          fit = λ k d lt. fit_from shared unused distinct 0 begun so_far.opened k d lt;
-          own = λ k d lt. own_from shared unused 0 begun so_far.opened k d lt ∙ omega arith;
+        fit = λ shared distinct unused. let part : Shared S (Unit {0}) = record { names = shared.names; tables = shared.tables } in record {
+          fit = λ k d lt. fit_of_parts seen (get_or begun k d).store part (fit_from part unused distinct 0 begun so_far.opened k d lt);
+          own = λ k d lt. own_from part unused 0 begun so_far.opened k d lt ∙ omega arith;
         };
-        empty = λ shared unused. empty_from shared unused 0 begun so_far.opened ∙ ap (map opening) same;
+        empty = λ shared unused. empty_from (record { names = shared.names; tables = shared.tables }) unused 0 begun so_far.opened ∙ ap (map opening) same;
       }

@@ -31,7 +31,7 @@ use Rattle.pg_tenant.specs.Outcomes.{query_outcome}
 
 -- ---- one tenant's answer
 
-module _ {T S : Type 0} (seen : Seen T S) (tenants : List (Tenant T)) (old new : Shared S) (all : AllFit seen tenants old) (t : ℕ) (was now : Tenant T) (lt : t < length tenants)
+module _ {T S K : Type 0} (seen : Seen T S) (tenants : List (Tenant T)) (old new : Shared S K) (all : AllFit seen tenants old) (t : ℕ) (was now : Tenant T) (lt : t < length tenants)
     (at : was ≡ get_or tenants t was) (keeps : KeepsShared seen was.store old now.store new) (settings : now.settings ≡ was.settings) where
   abbrev before : State
   before = state_of seen was old

@@ -42,21 +42,26 @@ length_mapped f [] = refl
 length_mapped f (x ∷ xs) = ap suc (length_mapped f xs)
 
 -- the state of the tenant at a place
-pub state_found : {T S : Type 0} (seen : Seen T S) (tenants : List (Tenant T)) (shared : Shared S) (t : ℕ) (was : Tenant T) → t < length tenants → was ≡ get_or tenants t was
+pub state_found : {T S K : Type 0} (seen : Seen T S) (tenants : List (Tenant T)) (shared : Shared S K) (t : ℕ) (was : Tenant T) → t < length tenants → was ≡ get_or tenants t was
     → state_of seen was shared ≡ state_in (states_of seen tenants shared) t
 state_found seen tenants shared t was lt at = ap (λ x. state_of seen x shared) at ∙ sym (get_mapped (λ x. state_of seen x shared) tenants t was no_state lt)
 
 -- the indexes of the tenant at a place
-pub indexes_at : {T S : Type 0} (seen : Seen T S) (tenants : List (Tenant T)) (shared : Shared S) (t : ℕ) (was : Tenant T) → t < length tenants → was ≡ get_or tenants t was
+pub indexes_at : {T S K : Type 0} (seen : Seen T S) (tenants : List (Tenant T)) (shared : Shared S K) (t : ℕ) (was : Tenant T) → t < length tenants → was ≡ get_or tenants t was
     → indexes_of was.indexes ≡ (state_in (states_of seen tenants shared) t).indexes
 indexes_at {T = T} seen tenants shared t was lt at =
     ap (λ (x : Tenant T). indexes_of x.indexes) at ∙ ap (λ (s : State). s.indexes) (sym (get_mapped (λ x. state_of seen x shared) tenants t was no_state lt))
 
+-- whatever set keeps the names, a store fits the same names and part
+pub fit_of_parts : {T S J K : Type 0} (seen : Seen T S) (store : Store T) (shared : Shared S J) → IsFit seen store shared
+    → let same : Shared S K = record { names = shared.names; tables = shared.tables } in IsFit seen store same
+fit_of_parts seen store shared fit = record { fits = fit.fits; well = fit.well; journal = fit.journal; covered = fit.covered }
+
 -- the store of the tenant at a place fits
-pub fits_at : {T S : Type 0} (seen : Seen T S) (tenants : List (Tenant T)) (shared : Shared S) → AllFit seen tenants shared → (t : ℕ) (was : Tenant T) → t < length tenants → was ≡ get_or tenants t was → IsFit seen was.store shared
+pub fits_at : {T S K : Type 0} (seen : Seen T S) (tenants : List (Tenant T)) (shared : Shared S K) → AllFit seen tenants shared → (t : ℕ) (was : Tenant T) → t < length tenants → was ≡ get_or tenants t was → IsFit seen was.store shared
 fits_at {T = T} seen tenants shared all t was lt at = subst (λ (x : Tenant T). IsFit seen x.store shared) (sym at) (all.fit t was lt)
 
-module _ {T S : Type 0} (seen : Seen T S) (tenants : List (Tenant T)) (old new : Shared S) (all : AllFit seen tenants old) (t : ℕ) (was now : Tenant T) (lt : t < length tenants)
+module _ {T S K : Type 0} (seen : Seen T S) (tenants : List (Tenant T)) (old new : Shared S K) (all : AllFit seen tenants old) (t : ℕ) (was now : Tenant T) (lt : t < length tenants)
     (at : was ≡ get_or tenants t was) (keeps : KeepsShared seen was.store old now.store new) (settings : now.settings ≡ was.settings) where
   owner_is : seen.owner was.store.tables ≡ t
   owner_is = ap (λ (x : Tenant T). seen.owner x.store.tables) at ∙ all.own t was lt
@@ -66,7 +71,7 @@ module _ {T S : Type 0} (seen : Seen T S) (tenants : List (Tenant T)) (old new :
     another e = ne (sym (all.own j d below) ∙ e ∙ owner_is)
 
     stays_there : IsFit seen (get_or tenants j d).store new × (graph_of_store seen (get_or tenants j d).store new ≡ graph_of_store seen (get_or tenants j d).store old)
-    stays_there = other_stores_stay seen was.store now.store (get_or tenants j d).store old new keeps another (all.fit j d below)
+    stays_there = other_stores_stay _ seen was.store now.store (get_or tenants j d).store old new keeps another (all.fit j d below)
 
     fits_there : IsFit seen (get_or tenants j d).store new
     fits_there = stays_there.0
@@ -115,19 +120,19 @@ module _ {T S : Type 0} (seen : Seen T S) (tenants : List (Tenant T)) (old new :
         }
 
 -- each tenant's graph is one
-module _ {T S : Type 0} (seen : Seen T S) (shared : Shared S) (law : (store : Store T) → IsFit seen store shared → IsGraph (graph_of_store seen store shared)) (empty : IsGraph no_state.graph) where
+module _ {T S K : Type 0} (seen : Seen T S) (shared : Shared S K) (law : (store : Store T) → IsFit seen store shared → IsGraph (graph_of_store seen store shared)) (empty : IsGraph no_state.graph) where
   pub graphs_are : (tenants : List (Tenant T)) → ((k : ℕ) (d : Tenant T) → k < length tenants → IsFit seen (get_or tenants k d).store shared)
       → (t : ℕ) → IsGraph (get_or (states_of seen tenants shared) t no_state).graph
   graphs_are [] fit t = empty
   graphs_are (x ∷ xs) fit zero = law x.store (fit 0 x (omega arith))
   graphs_are (x ∷ xs) fit (suc t) = graphs_are xs (λ k d lt. fit (suc k) d (omega arith)) t
 
-pub settings_seen : {T S : Type 0} (seen : Seen T S) (tenants : List (Tenant T)) (shared : Shared S) → map (λ (s : State). s.settings) (states_of seen tenants shared) ≡ map (λ (x : Tenant T). x.settings) tenants
+pub settings_seen : {T S K : Type 0} (seen : Seen T S) (tenants : List (Tenant T)) (shared : Shared S K) → map (λ (s : State). s.settings) (states_of seen tenants shared) ≡ map (λ (x : Tenant T). x.settings) tenants
 settings_seen seen [] shared = refl
 settings_seen seen (x ∷ xs) shared = ap (λ ss. x.settings ∷ ss) (settings_seen seen xs shared)
 
 -- a tenant stands where its state does
-pub place_seen : {T S : Type 0} (seen : Seen T S) (shared : Shared S) (token : List ℕ) (tenants : List (Tenant T))
+pub place_seen : {T S K : Type 0} (seen : Seen T S) (shared : Shared S K) (token : List ℕ) (tenants : List (Tenant T))
     → position (λ (s : State). is_among (tokens_of s) token) (states_of seen tenants shared) ≡ tenant_of (map (λ (x : Tenant T). x.settings) tenants) token
 place_seen {T = T} seen shared token tenants =
     position_map (λ x. state_of seen x shared) (λ (s : State). is_among (tokens_of s) token) tenants

@@ -6,8 +6,8 @@ use Rattle.pg_store.specs.Stores.{graph_of_store, IsFit}
 use Rattle.pg_store.specs.declared.shared.Shared.{Shared}
 use Rattle.pg_store.specs.declared.store.Store.{Store}
 
--- what the stores of all tenants share
-abbrev pub shared_of : {X : Type 0} → ServerSeen X → Shared X
+-- what the stores of all tenants share, whatever set K keeps the texts of the names: nothing is said of it
+abbrev pub shared_of : {X K : Type 0} → ServerSeen X → Shared X K
 shared_of server = record { names = server.state.names; tables = server.tables }
 
 -- The tenant at this place holds its graph in a store of that owner over these names and this part of the tables: the names in it are numbers of
@@ -15,8 +15,8 @@ shared_of server = record { names = server.state.names; tables = server.tables }
 pub record HoldsTenant {T S : Type 0} (seen : Seen T S) (server : ServerSeen S) (place : ℕ) : Type 0 where
   pub store : Store T
   pub own : seen.owner store.tables ≡ place
-  pub fit : IsFit seen store (shared_of server)
-  pub graph : graph_of_store seen store (shared_of server) ≡ (state_at server.state place).graph
+  pub fit : IsFit seen store (shared_of {K = Unit {0}} server)
+  pub graph : graph_of_store seen store (shared_of {K = Unit {0}} server) ≡ (state_at server.state place).graph
 
 abbrev pub HoldTenants : {T S : Type 0} → Seen T S → ServerSeen S → Type 0
 HoldTenants seen server = (place : ℕ) → place < length server.state.tenants → HoldsTenant seen server place

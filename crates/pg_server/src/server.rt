@@ -318,7 +318,7 @@ fn opening_tenants<T: Tables>(
     settings: Vec<TenantSettings>,
 ) -> Result<Vec<Tenant<T>>, AllocError>
     requires { length settings.items ≤ max_tenants }
-    ensures { IfOk result (λ tenants. AreOpening T.seen settings.items tenants.items) }
+    ensures { IfOk result (λ tenants. AreOpening T.seen T.Shared.Texts settings.items tenants.items) }
 {
     let mut tenants = Vec::with_capacity(alloc, settings.len())?;
     for one in settings {

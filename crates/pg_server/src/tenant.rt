@@ -116,7 +116,7 @@ impl<T: Tables> Tenant<T> {
         key: &str,
     ) -> Result<ReplyBytes, Fault>
         ensures settings { self.new.settings ≡ self.old.settings }
-        ensures changes { (part : Shared T.Shared) → IsFit T.seen self.old.store part → Changes T.seen self.old.store part self.new.store part result (λ start end. end ≡ start) }
+        ensures changes { (part : Shared T.Shared T.Shared.Texts) → IsFit T.seen self.old.store part → Changes T.seen self.old.store part self.new.store part result (λ start end. end ≡ start) }
         ensures indexes { IsIndexAnswer result (index_dropped (may_write self.old.settings token.now) (indexes_of self.old.indexes) label.now key.now) (indexes_of self.old.indexes) (indexes_of self.new.indexes) }
     {
         let may_write = self.settings.may_write(token);

@@ -26,13 +26,13 @@ one_longer : (es : List Entry) (e : Entry) (n : ℕ) → n ≤ length es → n �
 one_longer es e n h = omega (arith, length-append es (e ∷ []))
 
 module _ {T S : Type 0} (seen : Seen T S) where
-  pub marks_stay : (store : Store T) (shared : Shared S) → KeepsMarks seen store shared store shared
+  pub marks_stay : {K : Type 0} (store : Store T) (shared : Shared S K) → KeepsMarks seen store shared store shared
   marks_stay store shared = record { there = λ mark h. h; same = λ mark h. refl }
 
-  pub marks_then : (a b c : Store T) (r s t : Shared S) → KeepsMarks seen a r b s → KeepsMarks seen b s c t → KeepsMarks seen a r c t
+  pub marks_then : {K : Type 0} (a b c : Store T) (r s t : Shared S K) → KeepsMarks seen a r b s → KeepsMarks seen b s c t → KeepsMarks seen a r c t
   marks_then a b c r s t p q = record { there = λ mark h. q.there mark (p.there mark h); same = λ mark h. q.same mark (p.there mark h) ∙ p.same mark h }
 
-  pub marks_alike : (old new : Store T) (before after : Shared S) → after.names ≡ before.names → new.journal.items ≡ old.journal.items → state_of seen new after ≡ state_of seen old before → KeepsMarks seen old before new after
+  pub marks_alike : {K : Type 0} (old new : Store T) (before after : Shared S K) → after.names ≡ before.names → new.journal.items ≡ old.journal.items → state_of seen new after ≡ state_of seen old before → KeepsMarks seen old before new after
   marks_alike old new before after names journal is = record {
     there = λ mark has.
         still_marked seen old new before after mark (ap (take mark.names) names) (same_state mark) (ap (take mark.journal) journal)
@@ -46,7 +46,7 @@ module _ {T S : Type 0} (seen : Seen T S) where
       same_state mark = λ i. undone (drop mark.journal (journal i)) (is i)
 
   -- a change that joined the journal
-  module _ (old new : Store T) (before after : Shared S) (fit : IsFit seen old before) (e : Entry) (s : State) (undoes : Undoes before.names e (state_of seen old before) s) (names : after.names ≡ before.names) (is : state_of seen new after ≡ s) (journal : new.journal.items ≡ old.journal.items ++ e ∷ []) where
+  module _ {K : Type 0} (old new : Store T) (before after : Shared S K) (fit : IsFit seen old before) (e : Entry) (s : State) (undoes : Undoes before.names e (state_of seen old before) s) (names : after.names ≡ before.names) (is : state_of seen new after ≡ s) (journal : new.journal.items ≡ old.journal.items ++ e ∷ []) where
     now : Undoes before.names e (state_of seen old before) (state_of seen new after)
     now = subst (Undoes before.names e (state_of seen old before)) (sym is) undoes
 
@@ -79,7 +79,7 @@ module _ {T S : Type 0} (seen : Seen T S) where
     changed_marks = record { there = still_there; same = λ mark has. same_moment seen old new before after mark (same_names mark has) (same_state mark has) }
 
   -- a change that was refused: the state stays, and sets may have grown
-  pub refused_fit : (old new : Store T) (before after : Shared S) → IsFit seen old before → after.names ≡ before.names → state_of seen new after ≡ state_of seen old before → new.journal.items ≡ old.journal.items
+  pub refused_fit : {K : Type 0} (old new : Store T) (before after : Shared S K) → IsFit seen old before → after.names ≡ before.names → state_of seen new after ≡ state_of seen old before → new.journal.items ≡ old.journal.items
       → Grows (has_in old.sets) (has_in new.sets) → seen.fits new.tables after.tables → IsFit seen new after
   refused_fit old new before after fit names is journal grows fits = record {
     fits = fits;
@@ -91,7 +91,7 @@ module _ {T S : Type 0} (seen : Seen T S) where
   }
 
   -- sets that grew
-  module _ (store : Store T) (shared : Shared S) (sets : Sets) (fit : IsFit seen store shared) where
+  module _ {K : Type 0} (store : Store T) (shared : Shared S K) (sets : Sets) (fit : IsFit seen store shared) where
     abbrev pub with_sets : Store T
     with_sets = record store { sets = sets }
 
@@ -102,8 +102,8 @@ module _ {T S : Type 0} (seen : Seen T S) where
     grown_marks = marks_alike store with_sets shared shared refl refl refl
 
   -- names that grew
-  module _ (store : Store T) (shared : Shared S) (names : List (List ℕ)) (keeps : KeepsNames shared.names names) (fit : IsFit seen store shared) where
-    abbrev pub renamed : Shared S
+  module _ {K : Type 0} (store : Store T) (shared : Shared S K) (names : List (List ℕ)) (keeps : KeepsNames shared.names names) (fit : IsFit seen store shared) where
+    abbrev pub renamed : Shared S K
     renamed = record shared { names = names }
 
     pub renamed_graph : graph_of_store seen store renamed ≡ graph_of_store seen store shared

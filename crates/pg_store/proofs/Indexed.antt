@@ -157,7 +157,7 @@ indexed_covers old new s x label key all labels more is by filled covers (with_v
     let k_is : k ≡ key = sym (same_number x.key k (and_right (x.label == l) (x.key == k) same)) ∙ by in
     filled i n v at (ap (λ q. is_found_by q key v n) (sym l_is) ∙ ap (λ q. is_found_by l q v n) (sym k_is) ∙ found))
 
-pub indexed_fit : {T S : Type 0} (seen : Seen T S) (store : Store T) (shared : Shared S) (sets : Sets) → IsFit seen store shared → store.journal.items ≡ [] → Covers (has_in sets) (state_of seen store shared) → IsFit seen (record store { sets = sets }) shared
+pub indexed_fit : {T S K : Type 0} (seen : Seen T S) (store : Store T) (shared : Shared S K) (sets : Sets) → IsFit seen store shared → store.journal.items ≡ [] → Covers (has_in sets) (state_of seen store shared) → IsFit seen (record store { sets = sets }) shared
 indexed_fit seen store shared sets fit nothing covers = record {
   fits = fit.fits;
   well = fit.well;
@@ -166,7 +166,7 @@ indexed_fit seen store shared sets fit nothing covers = record {
 }
 
 -- an index that was filled is kept, or found no memory
-pub kept_fit : {T S V E : Type 0} (seen : Seen T S) (store : Store T) (shared : Shared S) (sets : Sets) → IsFit seen store shared → store.journal.items ≡ [] → (x : PropertyIndex) (label key : ℕ)
+pub kept_fit : {T S K V E : Type 0} (seen : Seen T S) (store : Store T) (shared : Shared S K) (sets : Sets) → IsFit seen store shared → store.journal.items ≡ [] → (x : PropertyIndex) (label key : ℕ)
     → sets.all ≡ store.sets.all → sets.labels ≡ store.sets.labels → x.label ≡ label → x.key ≡ key
     → ((i : ℕ) (n : NodeRecord) (v : Value) → map.get (state_of seen store shared).content.nodes i ≡ Some n → is_found_by label key v n ≡ true → finds x v i ≡ true)
     → (r : Result V E) → OnOk r (sets.indexes.items ≡ store.sets.indexes.items ++ x ∷ []) → OnErr r (sets.indexes.items ≡ store.sets.indexes.items) → IsFit seen (record store { sets = sets }) shared

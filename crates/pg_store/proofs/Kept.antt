@@ -35,17 +35,17 @@ first_names_stay (suc k) (x ∷ xs) (y ∷ ys) keeps h =
 
 module _ {T S : Type 0} {seen : Seen T S} where
   -- a call that left the names
-  pub tables_kept : (old new : Store T) (before after : Shared S) → IsFit seen old before → Keeps seen old.tables before.tables new.tables after.tables → after.names ≡ before.names → KeepsShared seen old before new after
+  pub tables_kept : {K : Type 0} (old new : Store T) (before after : Shared S K) → IsFit seen old before → Keeps seen old.tables before.tables new.tables after.tables → after.names ≡ before.names → KeepsShared seen old before new after
   tables_kept old new before after fit keeps same = record {
     tables = keeps;
     names = subst (KeepsNames before.names) (sym same) (λ n t h. h);
     distinct = subst AreDistinct (sym same) fit.well.held.distinct;
   }
 
-  pub nothing_touched : (store : Store T) (shared : Shared S) → IsFit seen store shared → KeepsShared seen store shared store shared
+  pub nothing_touched : {K : Type 0} (store : Store T) (shared : Shared S K) → IsFit seen store shared → KeepsShared seen store shared store shared
   nothing_touched store shared fit = tables_kept store store shared shared fit (keeps_refl store.tables shared.tables fit.fits) refl
 
-  pub kept_then : (a b c : Store T) (r s t : Shared S) → KeepsShared seen a r b s → KeepsShared seen b s c t → KeepsShared seen a r c t
+  pub kept_then : {K : Type 0} (a b c : Store T) (r s t : Shared S K) → KeepsShared seen a r b s → KeepsShared seen b s c t → KeepsShared seen a r c t
   kept_then a b c r s t p q = record {
     tables = keeps_trans a.tables b.tables c.tables r.tables s.tables t.tables p.tables q.tables;
     names = keeps_both r.names s.names t.names p.names q.names;
@@ -54,7 +54,7 @@ module _ {T S : Type 0} {seen : Seen T S} where
 
 -- ---- names that stay with what was done, or go with it
 
-module _ {T S : Type 0} (seen : Seen T S) (old mid new : Store T) (before between after : Shared S) (kept : KeepsShared seen old before mid between) (keeps : Keeps seen mid.tables between.tables new.tables after.tables) where
+module _ {T S K : Type 0} (seen : Seen T S) (old mid new : Store T) (before between after : Shared S K) (kept : KeepsShared seen old before mid between) (keeps : Keeps seen mid.tables between.tables new.tables after.tables) where
   kept_by : (names : List (List ℕ)) → after.names ≡ names → KeepsNames before.names names → AreDistinct names → KeepsShared seen old before new after
   kept_by names same grown distinct = record {
     tables = keeps_trans old.tables mid.tables new.tables before.tables between.tables after.tables kept.tables keeps;
@@ -75,7 +75,7 @@ module _ {T S : Type 0} (seen : Seen T S) (old mid new : Store T) (before betwee
 
 -- ---- other stores
 
-module _ {T S : Type 0} (seen : Seen T S) (store : Store T) (old new : Shared S) (fit : IsFit seen store old) (content : seen.content store.tables new.tables ≡ seen.content store.tables old.tables) (keeps : KeepsNames old.names new.names) where
+module _ {T S K : Type 0} (seen : Seen T S) (store : Store T) (old new : Shared S K) (fit : IsFit seen store old) (content : seen.content store.tables new.tables ≡ seen.content store.tables old.tables) (keeps : KeepsNames old.names new.names) where
   abbrev was : State
   was = state_of seen store old
 
@@ -93,8 +93,8 @@ module _ {T S : Type 0} (seen : Seen T S) (store : Store T) (old new : Shared S)
     covered = subst (HasCovered (has_in store.sets) store.journal.items) (sym same_state) fit.covered;
   }
 
-pub other_stores_stay : {T S : Type 0} (seen : Seen T S) → OtherStoresStay seen
-other_stores_stay seen old new other before after kept apart fit =
+pub other_stores_stay : {T S : Type 0} (K : Type 0) (seen : Seen T S) → OtherStoresStay K seen
+other_stores_stay K seen old new other before after kept apart fit =
     let same = kept.tables.others.same other.tables apart fit.fits in (
       fit_over seen other before after fit same kept.names kept.distinct (kept.tables.others.fit other.tables apart fit.fits),
       graph_over seen other before after fit same kept.names,

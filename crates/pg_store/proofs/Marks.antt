@@ -32,7 +32,7 @@ undone_between k n es s h long =
     ∙ ap (λ (fs : List Entry). undone fs s) (sym (drop-append-le k (take n es) (drop n es) (fits_in k n es h (omega (arith, h, long)))))
     ∙ ap (λ (fs : List Entry). undone (drop k fs) s) (take-append-drop n es)
 
-module _ {T S : Type 0} (seen : Seen T S) (old new : Store T) (before after : Shared S) (mark : Mark) (names : names_at seen new after mark ≡ names_at seen old before mark) (state : state_at seen new after mark ≡ state_at seen old before mark) where
+module _ {T S K : Type 0} (seen : Seen T S) (old new : Store T) (before after : Shared S K) (mark : Mark) (names : names_at seen new after mark ≡ names_at seen old before mark) (state : state_at seen new after mark ≡ state_at seen old before mark) where
   pub same_moment : graph_at seen new after mark ≡ graph_at seen old before mark
   same_moment = λ i. graph_in (names i) (state i)
 
@@ -60,7 +60,7 @@ drop_every zero (x ∷ xs) h = absurd (omega (arith, h))
 drop_every (suc n) [] h = refl
 drop_every (suc n) (x ∷ xs) h = drop_every n xs (omega (arith, h))
 
-module _ {T S : Type 0} (seen : Seen T S) (store : Store T) (shared : Shared S) (mark : Mark) (journal : mark.journal ≡ length store.journal.items) (names : mark.names ≡ length shared.names) where
+module _ {T S K : Type 0} (seen : Seen T S) (store : Store T) (shared : Shared S K) (mark : Mark) (journal : mark.journal ≡ length store.journal.items) (names : mark.names ≡ length shared.names) where
   names_now : names_at seen store shared mark ≡ shared.names
   names_now = take_every mark.names shared.names names
 
@@ -82,7 +82,7 @@ module _ {T S : Type 0} (seen : Seen T S) (store : Store T) (shared : Shared S) 
 
 -- ---- a store that is back at a mark, with the names of then
 
-module _ {T S : Type 0} (seen : Seen T S) (mark : Mark) (old new : Store T) (before after : Shared S) (has : HasMark seen old before mark) (back : IsBack seen mark old before new after) (cut : after.names ≡ take mark.names before.names) where
+module _ {T S K : Type 0} (seen : Seen T S) (mark : Mark) (old new : Store T) (before after : Shared S K) (has : HasMark seen old before mark) (back : IsBack seen mark old before new after) (cut : after.names ≡ take mark.names before.names) where
   pub marked_graph : graph_of_store seen new after ≡ graph_at seen old before mark
   marked_graph = λ i. graph_in (cut i) (back.state i)
 

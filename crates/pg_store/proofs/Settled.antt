@@ -87,10 +87,10 @@ module _ (names : List (List ℕ)) (s : State) (id : ℕ) (well : IsWell names s
     }
 
 module _ {T S : Type 0} (seen : Seen T S) where
-  pub settles_first : (old : Store T) (before : Shared S) → IsFit seen old before → old.journal.items ≡ [] → Settles seen old before old before
+  pub settles_first : {K : Type 0} (old : Store T) (before : Shared S K) → IsFit seen old before → old.journal.items ≡ [] → Settles seen old before old before
   settles_first old before fit journal = record { fit = fit; journal = journal; graph = refl; names = refl; keeps = keeps_refl old.tables before.tables fit.fits }
 
-  pub settles_on : (old now new : Store T) (before shared after : Shared S) (s : State) → Settles seen old before now shared
+  pub settles_on : {K : Type 0} (old now new : Store T) (before shared after : Shared S K) (s : State) → Settles seen old before now shared
       → state_of seen new after ≡ s → IsWell shared.names s → Covers (has_in new.sets) s → graph_in shared.names s ≡ graph_of_store seen now shared → after.names ≡ shared.names → new.journal.items ≡ now.journal.items → Keeps seen now.tables shared.tables new.tables after.tables
       → Settles seen old before new after
   settles_on old now new before shared after s was is well covers same names journal keeps =
@@ -108,7 +108,7 @@ module _ {T S : Type 0} (seen : Seen T S) where
         keeps = keeps_trans old.tables now.tables new.tables before.tables shared.tables after.tables was.keeps keeps;
       }
 
-  pub settles_then : (old now new : Store T) (before shared after : Shared S) → Settles seen old before now shared → Settles seen now shared new after → Settles seen old before new after
+  pub settles_then : {K : Type 0} (old now new : Store T) (before shared after : Shared S K) → Settles seen old before now shared → Settles seen now shared new after → Settles seen old before new after
   settles_then old now new before shared after p q = record { fit = q.fit; journal = q.journal; graph = q.graph ∙ p.graph; names = q.names ∙ p.names; keeps = keeps_trans old.tables now.tables new.tables before.tables shared.tables after.tables p.keeps q.keeps }
 
 pub fewer : {X : Type 0} (m : FinMap nat_cmp X) (k : ℕ) (v : X) → map.get m k ≡ Some v → map.len (map.remove m k) < map.len m

@@ -32,7 +32,7 @@ made names ns rs = record { nodes = map_list (λ e. (e.0, node_of names e.1)) ns
 no_elements : (names : List (List ℕ)) (c : Content) → c ≡ empty_content → graph_of names c 0 0 ≡ empty_graph
 no_elements names c h = ap (λ (c : Content). graph_of names c 0 0) h ∙ (λ i. made names (nothing_held NodeRecord i) (nothing_held RelRecord i))
 
-module _ {T S : Type 0} (seen : Seen T S) (tables : T) (shared : Shared S) (gone_nodes gone_rels : Ids) (journal : Vec Entry) (sets : Sets) (empty : seen.content tables shared.tables ≡ empty_content) (no_nodes : gone_nodes ≡ map.empty) (no_rels : gone_rels ≡ map.empty) (nothing_done : journal.items ≡ []) where
+module _ {T S K : Type 0} (seen : Seen T S) (tables : T) (shared : Shared S K) (gone_nodes gone_rels : Ids) (journal : Vec Entry) (sets : Sets) (empty : seen.content tables shared.tables ≡ empty_content) (no_nodes : gone_nodes ≡ map.empty) (no_rels : gone_rels ≡ map.empty) (nothing_done : journal.items ≡ []) where
   abbrev new_store : Store T
   new_store = record { tables = tables; next = record { node = 0; rel = 0 }; elements = 0; gone_nodes = gone_nodes; gone_rels = gone_rels; journal = journal; sets = sets }
 
@@ -77,7 +77,7 @@ node_is_there names c i j id o is = ap is_some (node_is_read names c i j id ∙ 
     by_case None = refl
     by_case (Some n) = refl
 
-pub store_is_graph : {T S : Type 0} (seen : Seen T S) (store : Store T) (shared : Shared S) → IsFit seen store shared → IsGraph (graph_of_store seen store shared)
+pub store_is_graph : {T S K : Type 0} (seen : Seen T S) (store : Store T) (shared : Shared S K) → IsFit seen store shared → IsGraph (graph_of_store seen store shared)
 store_is_graph seen store shared fit = held_is_graph shared.names (live (state_of seen store shared)) store.next.node store.next.rel fit.well.holds
 
 pub rel_is_there : (names : List (List ℕ)) (c : Content) (i j id : ℕ) (o : Option RelRecord) → o ≡ map.get c.rels id → has_relationship (graph_of names c i j) id ≡ is_some o
@@ -107,14 +107,14 @@ copied_some None h = h
 copied_some (Some x) h = refl
 
 -- an integer of 64 bits
-pub node_is_below : {T S : Type 0} (seen : Seen T S) (store : Store T) (shared : Shared S) (id : ℕ) → IsFit seen store shared → has_node (graph_of_store seen store shared) id ≡ true → id < 2 ^ 63
+pub node_is_below : {T S K : Type 0} (seen : Seen T S) (store : Store T) (shared : Shared S K) (id : ℕ) → IsFit seen store shared → has_node (graph_of_store seen store shared) id ≡ true → id < 2 ^ 63
 node_is_below seen store shared id fit is = by_case (map.get (live (state_of seen store shared)).nodes id) refl (node_held shared.names (live (state_of seen store shared)) store.next.node store.next.rel id is)
   where
     by_case : (o : Option NodeRecord) → map.get (live (state_of seen store shared)).nodes id ≡ o → IsSome o → id < 2 ^ 63
     by_case None none h = absurd (cc)
     by_case (Some n) there h = let below = (fit.well.holds.nodes id n there).below in let ids = fit.well.node_ids in omega (arith, below, ids)
 
-pub rel_is_below : {T S : Type 0} (seen : Seen T S) (store : Store T) (shared : Shared S) (id : ℕ) → IsFit seen store shared → has_relationship (graph_of_store seen store shared) id ≡ true → id < 2 ^ 63
+pub rel_is_below : {T S K : Type 0} (seen : Seen T S) (store : Store T) (shared : Shared S K) (id : ℕ) → IsFit seen store shared → has_relationship (graph_of_store seen store shared) id ≡ true → id < 2 ^ 63
 rel_is_below seen store shared id fit is = by_case (map.get (live (state_of seen store shared)).rels id) refl (rel_held shared.names (live (state_of seen store shared)) store.next.node store.next.rel id is)
   where
     by_case : (o : Option RelRecord) → map.get (live (state_of seen store shared)).rels id ≡ o → IsSome o → id < 2 ^ 63

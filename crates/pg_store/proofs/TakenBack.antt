@@ -14,7 +14,7 @@ use Rattle.pg_store.specs.declared.shared.Shared.{Shared}
 use Rattle.pg_store.specs.declared.store.Store.{Store}
 
 -- the store `now` is `old` with some of what was done since the mark taken back
-pub record GoesBack {T S : Type 0} (seen : Seen T S) (mark : ℕ) (old : Store T) (before : Shared S) (now : Store T) (shared : Shared S) : Type 0 where
+pub record GoesBack {T S K : Type 0} (seen : Seen T S) (mark : ℕ) (old : Store T) (before : Shared S K) (now : Store T) (shared : Shared S K) : Type 0 where
   pub fit : IsFit seen now shared
   pub names : shared.names ≡ before.names
   pub gone : List Entry
@@ -24,16 +24,16 @@ pub record GoesBack {T S : Type 0} (seen : Seen T S) (mark : ℕ) (old : Store T
   pub keeps : Keeps seen old.tables before.tables now.tables shared.tables
 
 module _ {T S : Type 0} (seen : Seen T S) (mark : ℕ) where
-  pub at_first : (old : Store T) (before : Shared S) → IsFit seen old before → mark ≤ length old.journal.items → GoesBack seen mark old before old before
+  pub at_first : {K : Type 0} (old : Store T) (before : Shared S K) → IsFit seen old before → mark ≤ length old.journal.items → GoesBack seen mark old before old before
   at_first old before fit there = record { fit = fit; names = refl; gone = []; parts = sym (append-nil old.journal.items); state = refl; there = there; keeps = keeps_refl old.tables before.tables fit.fits }
 
-  pub can_go : (now : Store T) (shared : Shared S) (es : List Entry) (e : Entry) → now.journal.items ≡ es ++ e ∷ [] → IsFit seen now shared → CanUndoOne e (state_of seen now shared)
+  pub can_go : {K : Type 0} (now : Store T) (shared : Shared S K) (es : List Entry) (e : Entry) → now.journal.items ≡ es ++ e ∷ [] → IsFit seen now shared → CanUndoOne e (state_of seen now shared)
   can_go now shared es e items fit = (popped shared.names es now.journal.items e (state_of seen now shared) items fit.journal).0
 
   longer : (m : ℕ) (xs es : List Entry) (e : Entry) → xs ≡ es ++ e ∷ [] → m < length xs → m ≤ length es
   longer m xs es e is h = let longer = ap length is ∙ length-append es (e ∷ []) in omega (arith, longer)
 
-  pub goes_on : (old now new : Store T) (before shared after : Shared S) (e : Entry) → GoesBack seen mark old before now shared → mark < length now.journal.items
+  pub goes_on : {K : Type 0} (old now new : Store T) (before shared after : Shared S K) (e : Entry) → GoesBack seen mark old before now shared → mark < length now.journal.items
       → now.journal.items ≡ new.journal.items ++ e ∷ [] → state_of seen new after ≡ undo_one e (state_of seen now shared) → after.names ≡ shared.names → has_in new.sets ≡ has_in now.sets → Keeps seen now.tables shared.tables new.tables after.tables
       → GoesBack seen mark old before new after
   goes_on old now new before shared after e was more items is names sets keeps =
@@ -57,7 +57,7 @@ module _ {T S : Type 0} (seen : Seen T S) (mark : ℕ) where
       }
 
 -- at the mark
-pub is_back : {T S : Type 0} (seen : Seen T S) (mark : Mark) (old now : Store T) (before shared : Shared S) → GoesBack seen mark.journal old before now shared → length now.journal.items ≤ mark.journal → IsBack seen mark old before now shared
+pub is_back : {T S K : Type 0} (seen : Seen T S) (mark : Mark) (old now : Store T) (before shared : Shared S K) → GoesBack seen mark.journal old before now shared → length now.journal.items ≤ mark.journal → IsBack seen mark old before now shared
 is_back seen mark old now before shared was h =
     let long : length now.journal.items ≡ mark.journal = omega (arith, h, was.there) in
     record {
@@ -66,7 +66,7 @@ is_back seen mark old now before shared was h =
     }
 
 -- with the names of then
-pub back_is_fit : {T S : Type 0} (seen : Seen T S) (mark : Mark) (old now : Store T) (before shared after : Shared S) → HasMark seen old before mark → IsBack seen mark old before now shared → IsFit seen now shared
+pub back_is_fit : {T S K : Type 0} (seen : Seen T S) (mark : Mark) (old now : Store T) (before shared after : Shared S K) → HasMark seen old before mark → IsBack seen mark old before now shared → IsFit seen now shared
     → after.names ≡ take mark.names before.names → after.tables ≡ shared.tables → IsFit seen now after
 back_is_fit {S = S} seen mark old now before shared after has back fit cut same =
     let s = state_of seen now shared in

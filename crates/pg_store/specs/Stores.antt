@@ -15,7 +15,7 @@ use Rattle.pg_store.specs.declared.texts.RelTexts.{RelTexts}
 use Rattle.pg_value_core.specs.View.{view, entries_view}
 use Rattle.pg_value_core.specs.declared.value.Value as code
 
-module _ {T S : Type 0} (seen : Seen T S) (store : Store T) (shared : Shared S) where
+module _ {T S K : Type 0} (seen : Seen T S) (store : Store T) (shared : Shared S K) where
   abbrev pub state_of : State
   state_of = record {
     content = seen.content store.tables shared.tables;
@@ -53,12 +53,12 @@ module _ {T S : Type 0} (seen : Seen T S) (store : Store T) (shared : Shared S) 
     pub undo : CanUndo (names_at mark) (take mark.journal store.journal.items) (state_at mark)
 
 -- the store `now` is `old` with all taken back that was done since the mark
-pub record IsBack {T S : Type 0} (seen : Seen T S) (mark : Mark) (old : Store T) (before : Shared S) (now : Store T) (after : Shared S) : Type 0 where
+pub record IsBack {T S K : Type 0} (seen : Seen T S) (mark : Mark) (old : Store T) (before : Shared S K) (now : Store T) (after : Shared S K) : Type 0 where
   pub state : state_of seen now after ≡ state_at seen old before mark
   pub journal : now.journal.items ≡ take mark.journal old.journal.items
 
 -- the store `now` is `old` with some of its removed elements gone, and nothing left to undo
-pub record Settles {T S : Type 0} (seen : Seen T S) (old : Store T) (before : Shared S) (now : Store T) (shared : Shared S) : Type 0 where
+pub record Settles {T S K : Type 0} (seen : Seen T S) (old : Store T) (before : Shared S K) (now : Store T) (shared : Shared S K) : Type 0 where
   pub fit : IsFit seen now shared
   pub journal : now.journal.items ≡ []
   pub graph : graph_of_store seen now shared ≡ graph_of_store seen old before
@@ -66,21 +66,21 @@ pub record Settles {T S : Type 0} (seen : Seen T S) (old : Store T) (before : Sh
   pub keeps : Keeps seen old.tables before.tables now.tables shared.tables
 
 -- each mark of the old store is one of the new, of the same graph
-pub record KeepsMarks {T S : Type 0} (seen : Seen T S) (old : Store T) (before : Shared S) (new : Store T) (after : Shared S) : Type 0 where
+pub record KeepsMarks {T S K : Type 0} (seen : Seen T S) (old : Store T) (before : Shared S K) (new : Store T) (after : Shared S K) : Type 0 where
   pub there : (mark : Mark) → HasMark seen old before mark → HasMark seen new after mark
   pub same : (mark : Mark) → HasMark seen old before mark → graph_at seen new after mark ≡ graph_at seen old before mark
 
 -- A call on the store `old`, lent the shared part `before`, left the store `new` and the part `after`. Nothing that
 -- others have in the part of the tables changed, and each number has its text still.
-pub record KeepsShared {T S : Type 0} (seen : Seen T S) (old : Store T) (before : Shared S) (new : Store T) (after : Shared S) : Type 0 where
+pub record KeepsShared {T S K : Type 0} (seen : Seen T S) (old : Store T) (before : Shared S K) (new : Store T) (after : Shared S K) : Type 0 where
   pub tables : Keeps seen old.tables before.tables new.tables after.tables
   pub names : KeepsNames before.names after.names
   pub distinct : AreDistinct after.names
 
--- a store of another owner fits again, and its graph is the same
-abbrev pub OtherStoresStay : {T S : Type 0} → Seen T S → Type 0
-OtherStoresStay {T} {S} seen =
-    (old new other : Store T) (before after : Shared S) → KeepsShared seen old before new after → seen.owner other.tables ≢ seen.owner old.tables → IsFit seen other before
+-- a store of another owner fits again, and its graph is the same, whatever set K keeps the names
+abbrev pub OtherStoresStay : {T S : Type 0} → Type 0 → Seen T S → Type 0
+OtherStoresStay {T} {S} K seen =
+    (old new other : Store T) (before after : Shared S K) → KeepsShared seen old before new after → seen.owner other.tables ≢ seen.owner old.tables → IsFit seen other before
     → IsFit seen other after × (graph_of_store seen other after ≡ graph_of_store seen other before)
 
 abbrev pub texts_of : List (Bor (List ℕ)) → List (List ℕ)

@@ -129,8 +129,8 @@ impl<T: Tables> Store<T> {
 
     /// Keeps an index no longer. It takes no memory.
     pub fn drop_index(&mut self, shared: &Shared<T::Shared>, label: &str, key: &str)
-        ensures fit { (part : Shared T.Shared) → IsFit T.seen self.old part → IsFit T.seen self.new part }
-        ensures same { (part : Shared T.Shared) → graph_of_store T.seen self.new part ≡ graph_of_store T.seen self.old part }
+        ensures fit { (part : Shared T.Shared T.Shared.Texts) → IsFit T.seen self.old part → IsFit T.seen self.new part }
+        ensures same { (part : Shared T.Shared T.Shared.Texts) → graph_of_store T.seen self.new part ≡ graph_of_store T.seen self.old part }
         ensures tables { self.new.tables ≡ self.old.tables }
         ensures gone { has_index self.new shared.now.names label.now key.now ≡ false }
     {

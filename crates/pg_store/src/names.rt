@@ -9,14 +9,14 @@ ghost use Rattle.pg_meaning.specs.Value.{no_entries};
 ghost use Rattle.pg_store.specs.Stores.{texts_of, pairs_of, without_texts};
 
 use pg_graph::{Labels, Properties};
-use pg_names::Names;
+use pg_names::{Names, TextSet};
 use pg_value_core::Value;
 use std::alloc::{AllocError, Global};
 
 // The labels of these texts.
-pub(crate) fn labels_of(
+pub(crate) fn labels_of<K: TextSet>(
     alloc: Global,
-    names: &mut Names,
+    names: &mut Names<K>,
     texts: &Vec<&str>,
 ) -> Result<Labels, AllocError>
     requires { AreDistinct names.old }
@@ -29,8 +29,8 @@ pub(crate) fn labels_of(
 }
 
 // The labels with those of these texts.
-pub(crate) fn more_labels(
-    names: &mut Names,
+pub(crate) fn more_labels<K: TextSet>(
+    names: &mut Names<K>,
     before: Labels,
     texts: &Vec<&str>,
 ) -> Result<Labels, AllocError>
@@ -49,7 +49,7 @@ pub(crate) fn more_labels(
 }
 
 // The labels without those of these texts.
-pub(crate) fn less_labels(names: &Names, before: Labels, texts: &Vec<&str>) -> Labels
+pub(crate) fn less_labels<K: TextSet>(names: &Names<K>, before: Labels, texts: &Vec<&str>) -> Labels
     requires { AreNamed names.now before }
     ensures labels { label_texts names.now result ≡ without_texts (texts_of texts.now.items) (label_texts names.now before) }
     ensures named { AreNamed names.now result }
@@ -62,9 +62,9 @@ pub(crate) fn less_labels(names: &Names, before: Labels, texts: &Vec<&str>) -> L
 }
 
 // The properties of these pairs.
-pub(crate) fn properties_of(
+pub(crate) fn properties_of<K: TextSet>(
     alloc: Global,
-    names: &mut Names,
+    names: &mut Names<K>,
     pairs: Vec<(&str, Value)>,
 ) -> Result<Properties, AllocError>
     requires { AreDistinct names.old }
@@ -78,8 +78,8 @@ pub(crate) fn properties_of(
 }
 
 // The properties with those of these pairs.
-pub(crate) fn more_properties(
-    names: &mut Names,
+pub(crate) fn more_properties<K: TextSet>(
+    names: &mut Names<K>,
     before: Properties,
     pairs: Vec<(&str, Value)>,
 ) -> Result<Properties, AllocError>

@@ -2,29 +2,29 @@
 ghost use Rattle.std.specs.Prelude.{◌≡◌, []};
 ghost use Rattle.pg_names.specs.Names.{AreDistinct};
 
+use pg_graph::SharedPart;
 use pg_names::Names;
 use std::alloc::Global;
-use std::hash::BuildHasherDefault;
 
 /// What the stores of all tenants share: the texts of names, and the part that their tables share.
 #[derive(Drop)]
-pub struct Shared<X> {
-    pub(crate) names: Names,
+pub struct Shared<X: SharedPart> {
+    pub(crate) names: Names<X::Texts>,
     pub(crate) tables: X,
 }
 
-impl<X> Shared<X> {
+impl<X: SharedPart> Shared<X> {
     /// A part for tables, and no names.
     pub fn new(alloc: Global, tables: X) -> Self
         ensures names { result.names ≡ [] }
         ensures distinct { AreDistinct result.names }
         ensures tables { result.tables ≡ tables }
     {
-        let names = Names::new(alloc, BuildHasherDefault::new());
+        let names = Names::new(alloc);
         Shared { names, tables }
     }
 
-    pub fn names(&self) -> &Names
+    pub fn names(&self) -> &Names<X::Texts>
         ensures { result.now ≡ self.now.names }
     {
         &self.names

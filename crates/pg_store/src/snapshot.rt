@@ -83,14 +83,14 @@ impl<'a, T: Tables> Snapshot<'a, T> {
     }
 
     /// A node, if it is there.
-    pub fn node(&self, id: NodeId) -> Option<NodeView<'a>>
+    pub fn node(&self, id: NodeId) -> Option<NodeView<'a, T>>
         ensures { result ≡ node_at self.now id.0 }
     {
         self.store.node_view(self.shared, id)
     }
 
     /// A relationship, if it is there.
-    pub fn rel(&self, id: RelId) -> Option<RelView<'a>>
+    pub fn rel(&self, id: RelId) -> Option<RelView<'a, T>>
         ensures { result ≡ relationship_at self.now id.0 }
     {
         self.store.rel_view(self.shared, id)

@@ -27,8 +27,8 @@ impl<T: Tables> Store<T> {
     /// The empty graph, over any shared part that has none of this owner.
     pub fn new(alloc: Global, owner: u32) -> Self
         ensures owner { T.seen.owner result.tables ≡ owner }
-        ensures fit { (shared : Shared T.Shared) → AreDistinct shared.names → T.seen.is_unused owner shared.tables → IsFit T.seen result shared }
-        ensures empty { (shared : Shared T.Shared) → T.seen.is_unused owner shared.tables → graph_of_store T.seen result shared ≡ empty_graph }
+        ensures fit { (shared : Shared T.Shared T.Shared.Texts) → AreDistinct shared.names → T.seen.is_unused owner shared.tables → IsFit T.seen result shared }
+        ensures empty { (shared : Shared T.Shared T.Shared.Texts) → T.seen.is_unused owner shared.tables → graph_of_store T.seen result shared ≡ empty_graph }
     {
         Store {
             tables: T::new(alloc, owner),
@@ -43,7 +43,7 @@ impl<T: Tables> Store<T> {
 
     /// How many nodes and relationships there are.
     pub fn elements(&self) -> u64
-        ensures { (shared : Shared T.Shared) → IsFit T.seen self.now shared → result ≡ element_count (graph_of_store T.seen self.now shared) }
+        ensures { (shared : Shared T.Shared T.Shared.Texts) → IsFit T.seen self.now shared → result ≡ element_count (graph_of_store T.seen self.now shared) }
     {
         self.elements
     }
@@ -51,8 +51,8 @@ impl<T: Tables> Store<T> {
     /// The ids that the next elements get.
     pub fn next_ids(&self) -> NextIds
         ensures is { result ≡ self.now.next }
-        ensures node { (shared : Shared T.Shared) → result.node ≡ (graph_of_store T.seen self.now shared).next_node }
-        ensures relationship { (shared : Shared T.Shared) → result.rel ≡ (graph_of_store T.seen self.now shared).next_relationship }
+        ensures node { (shared : Shared T.Shared T.Shared.Texts) → result.node ≡ (graph_of_store T.seen self.now shared).next_node }
+        ensures relationship { (shared : Shared T.Shared T.Shared.Texts) → result.rel ≡ (graph_of_store T.seen self.now shared).next_relationship }
     {
         self.next
     }
@@ -60,10 +60,10 @@ impl<T: Tables> Store<T> {
 
 /// What a store holds is a graph.
 pub fn law_of_stores<T: Tables>()
-    ensures { (store : Store T) (shared : Shared T.Shared) → IsFit T.seen store shared → IsGraph (graph_of_store T.seen store shared) }
+    ensures { (store : Store T) (shared : Shared T.Shared T.Shared.Texts) → IsFit T.seen store shared → IsGraph (graph_of_store T.seen store shared) }
 {}
 
 /// Whatever one owner's calls do with the shared part, the graphs of the others stay.
 pub fn law_of_other_stores<T: Tables>()
-    ensures { OtherStoresStay T.seen }
+    ensures { OtherStoresStay T.Shared.Texts T.seen }
 {}

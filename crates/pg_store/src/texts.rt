@@ -5,7 +5,7 @@ ghost use Rattle.pg_graph.specs.Refinement.{AreNamed, label_texts, node_of, rela
 ghost use Rattle.pg_store.specs.Stores.{node_texts_view, rel_texts_view};
 
 use pg_graph::{Labels, NodeRecord, RelRecord};
-use pg_names::Names;
+use pg_names::{Names, TextSet};
 use pg_value_core::{NodeId, Value};
 use std::alloc::{AllocError, Global};
 use std::collections::BTreeMap;
@@ -26,9 +26,9 @@ pub struct RelTexts {
     pub properties: BTreeMap<String, Value>,
 }
 
-pub(crate) fn texts_of_node(
+pub(crate) fn texts_of_node<K: TextSet>(
     alloc: Global,
-    names: &Names,
+    names: &Names<K>,
     node: &NodeRecord,
 ) -> Result<NodeTexts, AllocError>
     requires labels { AreNamed names.now node.now.labels }
@@ -40,9 +40,9 @@ pub(crate) fn texts_of_node(
     Ok(NodeTexts { labels, properties })
 }
 
-pub(crate) fn texts_of_rel(
+pub(crate) fn texts_of_rel<K: TextSet>(
     alloc: Global,
-    names: &Names,
+    names: &Names<K>,
     rel: &RelRecord,
 ) -> Result<RelTexts, AllocError>
     requires kind { rel.now.kind < length names.now }
@@ -59,7 +59,11 @@ pub(crate) fn texts_of_rel(
     })
 }
 
-fn label_strings(alloc: Global, names: &Names, labels: &Labels) -> Result<Vec<String>, AllocError>
+fn label_strings<K: TextSet>(
+    alloc: Global,
+    names: &Names<K>,
+    labels: &Labels,
+) -> Result<Vec<String>, AllocError>
     requires { AreNamed names.now labels.now }
     ensures { IfOk result (λ texts. map_list string_bytes texts.items ≡ label_texts names.now labels.now) }
 {

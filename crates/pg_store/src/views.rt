@@ -11,19 +11,18 @@ use crate::shared::Shared;
 use crate::store::Store;
 use crate::texts::{NodeTexts, RelTexts, texts_of_node, texts_of_rel};
 use pg_graph::{NodeRecord, RelRecord, Tables};
-use pg_names::Names;
 use pg_value_core::{NodeId, RelId, Value};
 use std::alloc::{AllocError, Global};
 use std::marker::Model;
 
 /// A node, to read.
 #[derive(Drop)]
-pub struct NodeView<'a> {
-    names: &'a Names,
+pub struct NodeView<'a, T: Tables> {
+    shared: &'a Shared<T::Shared>,
     record: &'a NodeRecord,
 }
 
-impl<'a> Model for NodeView<'a> {
+impl<'a, T: Tables> Model for NodeView<'a, T> {
     ghost use Rattle.pg_graph.specs.Refinement.{node_of};
     ghost use Rattle.pg_meaning.specs.Graph.{Node};
     ghost use Rattle.pg_store.specs.GraphCode.{node_code};
@@ -33,48 +32,48 @@ impl<'a> Model for NodeView<'a> {
 
     ghost coded = { node_code };
 
-    ghost view = { λ n. node_of n.names.now n.record.now };
+    ghost view = { λ n. node_of n.shared.now.names n.record.now };
 
-    ghost invariant = { λ n. IsNamedNode n.names.now n.record.now };
+    ghost invariant = { λ n. IsNamedNode n.shared.now.names n.record.now };
 }
 
-impl<'a> NodeView<'a> {
+impl<'a, T: Tables> NodeView<'a, T> {
     pub fn has_label(&self, label: &str) -> bool
         ensures { result ≡ is_among self.now.labels label.now }
     {
-        self.record.labels.contains_text(self.names, label)
+        self.record.labels.contains_text(&self.shared.names, label)
     }
 
     /// What the node has under a key.
     pub fn property(&self, key: &str) -> Option<&'a Value>
         ensures { option_map (λ v. view v.now) result ≡ at_key key.now self.now.properties }
     {
-        self.record.properties.get_text(self.names, key)
+        self.record.properties.get_text(&self.shared.names, key)
     }
 
     /// The labels, in byte order.
     pub fn labels(&self, alloc: Global) -> Result<Vec<&'a str>, AllocError>
         ensures { IfOk result (λ texts. map_list (λ t. t.now) texts.items ≡ self.now.labels) }
     {
-        self.record.labels.texts(alloc, self.names)
+        self.record.labels.texts(alloc, &self.shared.names)
     }
 
     /// What the node holds, in memory of its own.
     pub fn texts(&self, alloc: Global) -> Result<NodeTexts, AllocError>
         ensures { IfOk result (λ texts. node_texts_view texts ≡ self.now) }
     {
-        texts_of_node(alloc, self.names, self.record)
+        texts_of_node(alloc, &self.shared.names, self.record)
     }
 }
 
 /// A relationship, to read.
 #[derive(Drop)]
-pub struct RelView<'a> {
-    names: &'a Names,
+pub struct RelView<'a, T: Tables> {
+    shared: &'a Shared<T::Shared>,
     record: &'a RelRecord,
 }
 
-impl<'a> Model for RelView<'a> {
+impl<'a, T: Tables> Model for RelView<'a, T> {
     ghost use Rattle.pg_graph.specs.Refinement.{relationship_of};
     ghost use Rattle.pg_meaning.specs.Graph.{Relationship};
     ghost use Rattle.pg_store.specs.GraphCode.{relationship_code};
@@ -84,17 +83,17 @@ impl<'a> Model for RelView<'a> {
 
     ghost coded = { relationship_code };
 
-    ghost view = { λ r. relationship_of r.names.now r.record.now };
+    ghost view = { λ r. relationship_of r.shared.now.names r.record.now };
 
-    ghost invariant = { λ r. IsNamedRel r.names.now r.record.now };
+    ghost invariant = { λ r. IsNamedRel r.shared.now.names r.record.now };
 }
 
-impl<'a> RelView<'a> {
+impl<'a, T: Tables> RelView<'a, T> {
     /// The text of the type.
     pub fn kind(&self) -> &'a str
         ensures { result.now ≡ self.now.type }
     {
-        self.names.text(self.record.kind)
+        self.shared.names.text(self.record.kind)
     }
 
     pub fn has_type(&self, kind: &str) -> bool
@@ -119,14 +118,14 @@ impl<'a> RelView<'a> {
     pub fn property(&self, key: &str) -> Option<&'a Value>
         ensures { option_map (λ v. view v.now) result ≡ at_key key.now self.now.properties }
     {
-        self.record.properties.get_text(self.names, key)
+        self.record.properties.get_text(&self.shared.names, key)
     }
 
     /// What the relationship holds, in memory of its own.
     pub fn texts(&self, alloc: Global) -> Result<RelTexts, AllocError>
         ensures { IfOk result (λ texts. rel_texts_view texts ≡ self.now) }
     {
-        texts_of_rel(alloc, self.names, self.record)
+        texts_of_rel(alloc, &self.shared.names, self.record)
     }
 }
 
@@ -136,13 +135,13 @@ impl<T: Tables> Store<T> {
         &'a self,
         shared: &'a Shared<T::Shared>,
         id: NodeId,
-    ) -> Option<NodeView<'a>>
+    ) -> Option<NodeView<'a, T>>
         requires fit { IsFit T.seen self.now shared.now }
         ensures { result ≡ node_at (graph_of_store T.seen self.now shared.now) id.0 }
     {
         match self.node(shared, id) {
             Some(node) => Some(NodeView {
-                names: &shared.names,
+                shared,
                 record: node,
             }),
             None => None,
@@ -154,13 +153,13 @@ impl<T: Tables> Store<T> {
         &'a self,
         shared: &'a Shared<T::Shared>,
         id: RelId,
-    ) -> Option<RelView<'a>>
+    ) -> Option<RelView<'a, T>>
         requires fit { IsFit T.seen self.now shared.now }
         ensures { result ≡ relationship_at (graph_of_store T.seen self.now shared.now) id.0 }
     {
         match self.rel(shared, id) {
             Some(rel) => Some(RelView {
-                names: &shared.names,
+                shared,
                 record: rel,
             }),
             None => None,

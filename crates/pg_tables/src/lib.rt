@@ -5,7 +5,8 @@ ghost use Rattle.std.specs.FinMap as map;
 ghost use Rattle.pg_graph.specs.Content.{Content};
 ghost use Rattle.pg_graph.specs.Links.{IsIncidence};
 
-use pg_graph::{ById, Incidence, NodeRecord, Properties, RelRecord, Tables};
+use pg_graph::{ById, Incidence, NodeRecord, Properties, RelRecord, SharedPart, Tables};
+use pg_names::IndexedTexts;
 use pg_value_core::{NodeId, RelId};
 use std::alloc::{AllocError, Global};
 
@@ -18,8 +19,16 @@ pub struct PlainTables {
     incidence: Incidence,
 }
 
+/// What plain tables share: nothing.
+#[derive(Drop)]
+pub struct Nothing;
+
+impl SharedPart for Nothing {
+    type Texts = IndexedTexts;
+}
+
 impl Tables for PlainTables {
-    type Shared = ();
+    type Shared = Nothing;
 
     ghost seen = { record {
       owner = λ t. t.owner;
@@ -28,7 +37,9 @@ impl Tables for PlainTables {
       is_unused = λ _ _. Unit {0};
     } };
 
-    fn new_shared(_alloc: Global) {}
+    fn new_shared(_alloc: Global) -> Nothing {
+        Nothing
+    }
 
     fn new(alloc: Global, owner: u32) -> Self {
         PlainTables {
@@ -39,32 +50,37 @@ impl Tables for PlainTables {
         }
     }
 
-    fn node<'a>(&'a self, _shared: &'a (), id: NodeId) -> Option<&'a NodeRecord> {
+    fn node<'a>(&'a self, _shared: &'a Nothing, id: NodeId) -> Option<&'a NodeRecord> {
         self.nodes.get(id.0)
     }
 
-    fn rel<'a>(&'a self, _shared: &'a (), id: RelId) -> Option<&'a RelRecord> {
+    fn rel<'a>(&'a self, _shared: &'a Nothing, id: RelId) -> Option<&'a RelRecord> {
         self.rels.get(id.0)
     }
 
-    fn outgoing<'a>(&'a self, _shared: &'a (), node: NodeId) -> &'a [RelId] {
+    fn outgoing<'a>(&'a self, _shared: &'a Nothing, node: NodeId) -> &'a [RelId] {
         self.incidence.outgoing(node)
     }
 
-    fn incoming<'a>(&'a self, _shared: &'a (), node: NodeId) -> &'a [RelId] {
+    fn incoming<'a>(&'a self, _shared: &'a Nothing, node: NodeId) -> &'a [RelId] {
         self.incidence.incoming(node)
     }
 
     fn add_node(
         &mut self,
-        _shared: &mut (),
+        _shared: &mut Nothing,
         id: NodeId,
         node: NodeRecord,
     ) -> Result<(), AllocError> {
         self.nodes.insert(id.0, node)
     }
 
-    fn add_rel(&mut self, _shared: &mut (), id: RelId, rel: RelRecord) -> Result<(), AllocError> {
+    fn add_rel(
+        &mut self,
+        _shared: &mut Nothing,
+        id: RelId,
+        rel: RelRecord,
+    ) -> Result<(), AllocError> {
         let source = rel.source;
         let target = rel.target;
         self.incidence.add(id, source, target)?;
@@ -75,22 +91,27 @@ impl Tables for PlainTables {
         Ok(())
     }
 
-    fn change(&mut self, _shared: &mut (), id: NodeId, node: NodeRecord) -> NodeRecord {
+    fn change(&mut self, _shared: &mut Nothing, id: NodeId, node: NodeRecord) -> NodeRecord {
         self.nodes.replace(id.0, node)
     }
 
-    fn change_rel(&mut self, _shared: &mut (), id: RelId, properties: Properties) -> Properties {
+    fn change_rel(
+        &mut self,
+        _shared: &mut Nothing,
+        id: RelId,
+        properties: Properties,
+    ) -> Properties {
         let rel = self.rels.get(id.0).unwrap().with_properties(properties);
         let RelRecord { properties, .. } = self.rels.replace(id.0, rel);
         properties
     }
 
-    fn drop_rel(&mut self, _shared: &mut (), id: RelId) {
+    fn drop_rel(&mut self, _shared: &mut Nothing, id: RelId) {
         let rel = self.rels.remove(id.0);
         self.incidence.remove(id, rel.source, rel.target);
     }
 
-    fn drop_node(&mut self, _shared: &mut (), id: NodeId) {
+    fn drop_node(&mut self, _shared: &mut Nothing, id: NodeId) {
         drop(self.nodes.remove(id.0));
     }
 }

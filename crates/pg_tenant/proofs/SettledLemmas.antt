@@ -19,6 +19,6 @@ answer_settled result reply outcome start mid end same answer kept = by_result r
     by_result (Ok bytes) a kept = record { ok = subst (IsReply start outcome bytes) (sym kept) a.ok; told = a.told; err = a.err }
     by_result (Err e) a kept = record { ok = a.ok; told = a.told; err = a.err }
 
-pub same_tables_kept : {T S : Type 0} (seen : Seen T S) (old new : Store T) (shared : Shared S) → IsFit seen old shared → new.tables ≡ old.tables → KeepsShared seen old shared new shared
+pub same_tables_kept : {T S K : Type 0} (seen : Seen T S) (old new : Store T) (shared : Shared S K) → IsFit seen old shared → new.tables ≡ old.tables → KeepsShared seen old shared new shared
 same_tables_kept {T = T} seen old new shared fit same =
     tables_kept old new shared shared fit (subst (λ (t : T). Keeps seen old.tables shared.tables t shared.tables) (sym same) (keeps_refl old.tables shared.tables fit.fits)) refl

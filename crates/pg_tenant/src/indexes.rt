@@ -48,7 +48,7 @@ pub fn drop_index<T: Tables>(
     label: &str,
     key: &str,
 ) -> Result<ReplyBytes, Fault>
-    ensures changes { (part : Shared T.Shared) → IsFit T.seen store.old part → Changes T.seen store.old part store.new part result (λ start end. end ≡ start) }
+    ensures changes { (part : Shared T.Shared T.Shared.Texts) → IsFit T.seen store.old part → Changes T.seen store.old part store.new part result (λ start end. end ≡ start) }
     ensures indexes { IsIndexAnswer result (index_dropped may_write (indexes_of catalogue.old) label.now key.now) (indexes_of catalogue.old) (indexes_of catalogue.new) }
 {
     let indexes = with_one_less(alloc, catalogue, may_write, label, key)?;

@@ -11,14 +11,14 @@ use Rattle.pg_store.specs.declared.store.Store.{Store}
 use Rattle.pg_write_make.specs.Changed.{Changed}
 
 module _ {T S : Type 0} (seen : Seen T S) where
-  pub unchanged : (store : Store T) (shared : Shared S) → IsFit seen store shared → Changed seen store shared store shared
+  pub unchanged : {K : Type 0} (store : Store T) (shared : Shared S K) → IsFit seen store shared → Changed seen store shared store shared
   unchanged store shared fit = record {
     fit = fit;
     marks = record { there = λ mark has. has; same = λ mark has. refl };
     keeps = nothing_touched store shared fit;
   }
 
-  pub changed_then : (a b c : Store T) (r s t : Shared S) → Changed seen a r b s → Changed seen b s c t → Changed seen a r c t
+  pub changed_then : {K : Type 0} (a b c : Store T) (r s t : Shared S K) → Changed seen a r b s → Changed seen b s c t → Changed seen a r c t
   changed_then a b c r s t p q = record {
     fit = q.fit;
     marks = record {
@@ -28,5 +28,5 @@ module _ {T S : Type 0} (seen : Seen T S) where
     keeps = kept_then a b c r s t p.keeps q.keeps;
   }
 
-  pub one_change : {X E : Type 0} (old : Store T) (before : Shared S) (new : Store T) (after : Shared S) (result : Result X E) (Says : Graph → Graph → Type 0) → Changes seen old before new after result Says → KeepsMarks seen old before new after → Changed seen old before new after
+  pub one_change : {K : Type 0} {X E : Type 0} (old : Store T) (before : Shared S K) (new : Store T) (after : Shared S K) (result : Result X E) (Says : Graph → Graph → Type 0) → Changes seen old before new after result Says → KeepsMarks seen old before new after → Changed seen old before new after
   one_change old before new after result Says changes marks = record { fit = changes.fit; marks = marks; keeps = changes.keeps }

@@ -31,7 +31,7 @@ room_left graph max_elements few room =
     let below = ltb-true (element_count graph) max_elements (room_below (nat_lt (element_count graph) max_elements) room) in
     omega (arith, below, few)
 
-pub few_elements : {T S : Type 0} (seen : Seen T S) (store : Store T) (shared : Shared S) (graph : Graph) → IsFit seen store shared → graph ≡ graph_of_store seen store shared → element_count graph < 2 ^ 63 → store.elements < 2 ^ 63
+pub few_elements : {T S K : Type 0} (seen : Seen T S) (store : Store T) (shared : Shared S K) (graph : Graph) → IsFit seen store shared → graph ≡ graph_of_store seen store shared → element_count graph < 2 ^ 63 → store.elements < 2 ^ 63
 few_elements seen store shared graph fit same few =
     let counted = fit.well.counted in
     let fewer = subst (λ g. element_count g < 2 ^ 63) same few in

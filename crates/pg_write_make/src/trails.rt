@@ -16,7 +16,7 @@ use pg_syntax_tree::{Name, NodePattern, PathPattern, RelationshipPattern};
 use pg_value_core::{NodeId, Path, RelId, Value};
 use std::alloc::{AllocError, Global};
 
-fn other_end(relationship: &RelView<'_>, at: NodeId) -> NodeId
+fn other_end<T: Tables>(relationship: &RelView<'_, T>, at: NodeId) -> NodeId
     ensures { result.0 ≡ other_end at.0 relationship.now }
 {
     if relationship.source() == at {

@@ -1,5 +1,6 @@
 use Rattle.std.proofs.Common.{rules, arith, subst, refl, length}
 use Rattle.pg_server.proofs.OpeningLemmas.{Opens, none_begun, one_begun, few_begun, all_begun}
+use Rattle.pg_server.proofs.TenantLemmas.{fit_of_parts}
 use Rattle.pg_server.proofs.server.opening_tenants.Goals as goal
 
 pub loop-one-init : goal.loop-one-init
@@ -11,7 +12,12 @@ overflow_cast-owner g c = omega (arith, few_begun g.T.Tables.seen _ _ _ c.loop-o
 pub loop-one-preserved : goal.loop-one-preserved
 loop-one-preserved g c =
     let opens : Opens g.T.Tables.seen (record { settings = c.in-Some.one; store = c.new.result; indexes = c.in_ok-indexes.indexes }) (length c.loop-one.tenants.items) =
-    subst (Opens g.T.Tables.seen (record { settings = c.in-Some.one; store = c.new.result; indexes = c.in_ok-indexes.indexes })) (search rules) (record { own = c.new.ensures.owner; fit = c.new.ensures.fit; empty = c.new.ensures.empty; indexless = c.in_ok-indexes.ensures }) in
+    subst (Opens g.T.Tables.seen (record { settings = c.in-Some.one; store = c.new.result; indexes = c.in_ok-indexes.indexes })) (search rules) (record {
+      own = c.new.ensures.owner;
+      fit = λ shared distinct unused. fit_of_parts g.T.Tables.seen c.new.result (record { names = shared.names; tables = shared.tables }) (c.new.ensures.fit (record { names = shared.names; tables = shared.tables }) distinct unused);
+      empty = λ shared unused. c.new.ensures.empty (record { names = shared.names; tables = shared.tables }) unused;
+      indexless = c.in_ok-indexes.ensures;
+    }) in
     one_begun g.T.Tables.seen _ _ _ _ _ _ _ c.loop-one.invariant c.in-Some.ensures.steps.0 c.in_ok-push.ensures.items refl opens
 
 pub returns : goal.returns

@@ -5,10 +5,10 @@ use Rattle.pg_store.proofs.names.less_labels.Goals as goal
 use Rattle.pg_store.specs.Stores.{texts_of, without_texts}
 
 pub loop-text-init : goal.loop-text-init
-loop-text-init c = record { labels = refl; named = c.requires }
+loop-text-init g c = record { labels = refl; named = c.requires }
 
 pub returns-clause-labels : goal.returns-clause-labels
-returns-clause-labels c =
+returns-clause-labels g c =
     let l = c.loop-text in
     sym (at_drop_all (λ ts. without_texts (texts_of ts) (label_texts c.args.names.now l.labels)) c.args.texts.now.items l.text-index (subst (λ ts. length ts ≤ l.text-index) c.deref-text-items.ensures.value c.loop-text-test.false))
     ∙ l.invariant.labels

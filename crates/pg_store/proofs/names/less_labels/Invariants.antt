@@ -5,7 +5,7 @@ use Rattle.pg_store.specs.Stores.{texts_of, without_texts}
 
 -- the labels so far without the texts to come are those without all
 abbrev pub invariant-loop-text : goal.invariant-loop-text
-invariant-loop-text l = record {
+invariant-loop-text g l = record {
   labels : without_texts (texts_of (drop l.text-index l.texts.items)) (label_texts l.names l.labels) ≡ without_texts (texts_of l.texts.items) (label_texts l.names l.fn.before);
   named : AreNamed l.names l.labels;
 }

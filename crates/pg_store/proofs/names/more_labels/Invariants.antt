@@ -7,7 +7,7 @@ use Rattle.pg_store.specs.Stores.{texts_of}
 
 -- the labels so far with the texts to come are all
 abbrev pub invariant-loop-text : goal.invariant-loop-text
-invariant-loop-text l = record {
+invariant-loop-text g l = record {
   labels : put_texts (texts_of (drop l.text-index l.texts.items)) (label_texts l.names l.labels) ≡ put_texts (texts_of l.texts.items) (label_texts l.fn.names l.fn.before);
   named : AreNamed l.names l.labels;
   keeps : KeepsNames l.fn.names l.names;

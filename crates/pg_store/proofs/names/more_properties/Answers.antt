@@ -7,7 +7,7 @@ use Rattle.pg_store.proofs.names.more_properties.Goals as goal
 use Rattle.pg_store.specs.Stores.{pairs_of}
 
 pub loop-key-init : goal.loop-key-init
-loop-key-init c = record {
+loop-key-init g c = record {
   properties = ap (λ ps. set_keys (pairs_of ps) (property_entries c.args.names.now c.args.before)) c.into_iter-key-iterator.ensures.into_iter_gives.0;
   named = c.requires.named;
   keeps = λ number text h. h;
@@ -15,7 +15,7 @@ loop-key-init c = record {
 }
 
 pub loop-key-preserved : goal.loop-key-preserved
-loop-key-preserved c =
+loop-key-preserved g c =
     let l = c.loop-key in
     let set = c.set_text.ensures in
     record {
@@ -28,10 +28,10 @@ loop-key-preserved c =
     }
 
 pub returns-in_err-set_text-clause-properties : goal.returns-in_err-set_text-clause-properties
-returns-in_err-set_text-clause-properties c = IfOk-from_err c.from_residual.result _ c.from_residual.ensures.0
+returns-in_err-set_text-clause-properties g c = IfOk-from_err c.from_residual.result _ c.from_residual.ensures.0
 
 pub returns-in_err-set_text-clause-named : goal.returns-in_err-set_text-clause-named
-returns-in_err-set_text-clause-named c = IfOk-from_err c.from_residual.result _ c.from_residual.ensures.0
+returns-in_err-set_text-clause-named g c = IfOk-from_err c.from_residual.result _ c.from_residual.ensures.0
 
 pub returns-in_err-set_text-clause-keeps : goal.returns-in_err-set_text-clause-keeps
-returns-in_err-set_text-clause-keeps c = λ number text h. c.set_text.ensures.keeps number text (c.loop-key.invariant.keeps number text h)
+returns-in_err-set_text-clause-keeps g c = λ number text h. c.set_text.ensures.keeps number text (c.loop-key.invariant.keeps number text h)

@@ -9,7 +9,7 @@ use Rattle.pg_store.specs.Stores.{pairs_of}
 
 -- the properties so far with the pairs to come are all
 abbrev pub invariant-loop-key : goal.invariant-loop-key
-invariant-loop-key l = record {
+invariant-loop-key g l = record {
   properties : set_keys (pairs_of (into_iter_items l.key-iterator)) (property_entries l.names l.properties) ≡ set_keys (pairs_of l.fn.pairs.items) (property_entries l.fn.names l.fn.before);
   named : AreNamed l.names (map.keys l.properties);
   keeps : KeepsNames l.fn.names l.names;

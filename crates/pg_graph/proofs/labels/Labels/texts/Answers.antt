@@ -21,7 +21,7 @@ now_inserted (x ∷ xs) k = by_order (slice_cmp nat_cmp k.now x.now) (now_insert
     by_order Greater rest = ap (λ r. x.now ∷ r) rest
 
 pub loop-label-preserved : goal.loop-label-preserved
-loop-label-preserved c =
+loop-label-preserved g c =
     let names = c.args.names.now in
     let items = c.as_slice-label-items.result.now in
     let i = c.loop-label.label-index in

@@ -27,14 +27,14 @@ one_more names es i left e text copy found next less is same_text same_value so_
     ∙ sym (at_drop_more entries es i e less)
 
 pub text-requires : goal.text-requires
-text-requires c =
+text-requires g c =
     let es = c.entries-entries.result.now in
     let i = c.loop-left.left - 1 in
     let named = subst (λ (xs : List (ℕ × meaning.Value)). AreNamed c.args.names.now (map_list (λ e. e.0) xs)) (sym c.entries-entries.ensures) c.requires in
     subst (λ (e : ℕ × Value). e.0 < length c.args.names.now) (sym c.index-entries-left.is) (named_at c.args.names.now es i c.index-entries-left.result named (omega arith))
 
 pub loop-left-preserved : goal.loop-left-preserved
-loop-left-preserved c =
+loop-left-preserved g c =
     let e = c.index-entries-left.result in
     record {
       within = omega arith;

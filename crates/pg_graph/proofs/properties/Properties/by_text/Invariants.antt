@@ -6,10 +6,10 @@ use Rattle.pg_value_core.specs.View.{entries_view}
 
 -- what is behind the place is found
 abbrev pub invariant-loop-left : goal.invariant-loop-left
-invariant-loop-left l = record {
+invariant-loop-left g l = record {
   within : l.left ≤ length l.entries;
   found : entries_view l.found.entries ≡ named_entries l.names (seen_entries (drop l.left l.entries));
 }
 
 abbrev pub decreases-loop-left : goal.decreases-loop-left
-decreases-loop-left l = l.left
+decreases-loop-left g l = l.left

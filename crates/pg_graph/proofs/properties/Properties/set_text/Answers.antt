@@ -8,7 +8,7 @@ use Rattle.pg_graph.specs.Refinement.{AreNamed, property_entries}
 use Rattle.pg_value_core.specs.View.{view}
 
 pub returns-clause-ok : goal.returns-clause-ok
-returns-clause-ok c =
+returns-clause-ok g c =
     let new = c.intern.new.self in
     on_ok_weaker c.set.result (λ e.
     ap (property_entries new) e
@@ -16,11 +16,11 @@ returns-clause-ok c =
     c.set.ensures.ok
 
 pub returns-clause-err : goal.returns-clause-err
-returns-clause-err c =
+returns-clause-err g c =
     on_err_weaker c.set.result (λ e. ap (property_entries c.intern.new.self) e ∙ property_entries_kept c.args.names.now c.intern.new.self c.intern.ensures.keeps c.args.self.now c.requires) c.set.ensures.err
 
 pub returns-clause-named : goal.returns-clause-named
-returns-clause-named c =
+returns-clause-named g c =
     let old = c.args.names.now in
     let new = c.intern.new.self in
     let distinct = c.in_ok-name.ensures.distinct in

@@ -1,12 +1,10 @@
-use Rattle.std.proofs.Common.{sym, ap, ◌∙◌}
+use Rattle.std.proofs.Common.{ap, ◌∙◌}
 use Rattle.std.specs.List.{position}
 use Rattle.std.specs.Str.{bytes_eq}
-use Rattle.std.specs.String.{string_bytes}
-use Rattle.pg_names.proofs.Interned.{position_map}
 use Rattle.pg_names.proofs.names.Names.find.Goals as goal
 
 pub returns-in-Some-clause-found : goal.returns-in-Some-clause-found
-returns-in-Some-clause-found g c = c.in-Some.ensures.index ∙ sym (position_map string_bytes (bytes_eq c.args.text.now) c.self.inside.texts.keys) ∙ ap (position (bytes_eq c.args.text.now)) c.self.view_is
+returns-in-Some-clause-found g c = c.in-Some.ensures ∙ ap (position (bytes_eq c.args.text.now)) c.self.view_is
 
 pub returns-in-None-clause-found : goal.returns-in-None-clause-found
-returns-in-None-clause-found g c = c.in-None.ensures.index ∙ sym (position_map string_bytes (bytes_eq c.args.text.now) c.self.inside.texts.keys) ∙ ap (position (bytes_eq c.args.text.now)) c.self.view_is
+returns-in-None-clause-found g c = c.in-None.ensures ∙ ap (position (bytes_eq c.args.text.now)) c.self.view_is

@@ -11,7 +11,7 @@ use Rattle.pg_store.specs.declared.shared.Shared.{Shared}
 use Rattle.pg_store.specs.declared.store.Store.{Store}
 
 -- one turn of the loop
-module _ {T S : Type 0} (seen : Seen T S) (start now after : Store T) (sets : Sets) (shared : Shared S) where
+module _ {T S K : Type 0} (seen : Seen T S) (start now after : Store T) (sets : Sets) (shared : Shared S K) where
   fewer_left : length sets.dust.items < length now.sets.dust.items → after.sets.dust ≡ sets.dust → length after.sets.dust.items < length now.sets.dust.items
   fewer_left fewer same = subst (λ n. n < length now.sets.dust.items) (sym (ap (λ v. length v.items) same)) fewer
 

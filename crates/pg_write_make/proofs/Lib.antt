@@ -17,5 +17,6 @@ pub mod RowLemmas
 pub mod ShapeLemmas
 pub mod StepLemmas
 pub mod TrailLemmas
+pub mod TurnLemmas
 pub mod ValueLemmas
 pub mod WholeLemmas

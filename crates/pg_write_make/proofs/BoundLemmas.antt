@@ -1,15 +1,15 @@
 -- Variables that the row or the clause has bound.
-use Rattle.std.proofs.Common.{◌≡◌, ◌<◌, ◌+◌, ℕ, drop, get_or, length, Bool, true, false, cond, List, [], ◌∷◌, ◌++◌, Option, Some, None, is_some, flat_map, Result, Ok, Err, refl, sym, ap, ◌∙◌}
+use Rattle.std.proofs.Common.{◌≡◌, ◌<◌, ◌+◌, ℕ, drop, get_or, length, Bool, true, false, cond, List, [], ◌∷◌, ◌++◌, Option, Some, None, is_some, flat_map, Result, Ok, Err, refl, sym, ap, ◌∙◌, append_assoc}
 use Rattle.std.proofs.lemmas.List.{map-append}
 use Rattle.std.proofs.lemmas.Option.{slice_get_read}
 use Rattle.std.specs.Borrow.{Bor}
 use Rattle.std.specs.Map.{lookup}
-use Rattle.std.specs.Prelude.{bytes_eq}
+use Rattle.std.specs.Prelude.{IfOk, bytes_eq}
 use Rattle.pg_meaning.specs.Answer.{◌>>=◌, ◌>>◌, unless}
 use Rattle.pg_meaning.specs.Graph.{Graph, has_node}
 use Rattle.pg_meaning.specs.Patterns.{node_name, nodes_of}
 use Rattle.pg_meaning.specs.Reading.{test_bound, test_nodes, test_paths}
-use Rattle.pg_meaning.specs.Rows.{Row, value_in, bind_new}
+use Rattle.pg_meaning.specs.Rows.{Row, value_in, bind_if_named, bind_new}
 use Rattle.pg_meaning.specs.Value.{Value, null, boolean, integer, text, list, mapping, node, relationship, path}
 use Rattle.pg_meaning.specs.Tree.{NodePattern, PathPattern}
 use Rattle.pg_meaning.specs.Updates.{Making}
@@ -116,6 +116,29 @@ module _ (max : ℕ) (o : Outcome) (n : NodePattern) (m : Making) where
 
   pub of_new_fault : (e : Fault) → node_found (bound_value (node_name n) m.bound) ≡ Ok None → node_added max o n m.graph ≡ Err e → node_of max o n m ≡ Err e
   of_new_fault e h k = ap of h ∙ ap (λ r. r >>= λ (after : Graph). Ok (with_new n m after)) k
+
+-- the node of a variable that is bound nowhere, from what making it gives
+pub placed : (max : ℕ) (o : Outcome) (n : NodePattern) (before after : Graph) (row named more : Row) (r : Result NodeId Fault) → node_found (bound_value (node_name n) (row ++ named)) ≡ Ok None
+    → IfOk r (λ id. (rs : Row) (ids : List ℕ) → bound_value (node_name n) (rs ++ named) ≡ None → node_after max o n (record { graph = before; bound = rs ++ named; ids = ids }) ≡ Ok (record { graph = after; bound = rs ++ more; ids = ids ++ id.0 ∷ [] }))
+    → IfOk r (λ id. (ids : List ℕ) → node_of max o n (record { graph = before; bound = row ++ named; ids = ids }) ≡ Ok (record { graph = after; bound = row ++ more; ids = ids ++ id.0 ∷ [] }))
+placed max o n before after row named more (Ok id) found made = λ ids. of_new max o n (record { graph = before; bound = row ++ named; ids = ids }) (record { graph = after; bound = row ++ more; ids = ids ++ id.0 ∷ [] }) found (made row ids (none_found (bound_value (node_name n) (row ++ named)) found))
+placed max o n before after row named more (Err e) found made = tt
+
+-- a new node is bound behind what is bound already
+pub new_bound : (max : ℕ) (o : Outcome) (n : NodePattern) (before after : Graph) (named more : Row) (id : ℕ) → node_added max o n before ≡ Ok after → id ≡ before.next_node
+    → (node_name n ≡ None → more ≡ named) → ((name : List ℕ) → node_name n ≡ Some name → more ≡ named ++ (name, node id) ∷ [])
+    → (row : Row) (ids : List ℕ) → bound_value (node_name n) (row ++ named) ≡ None → node_after max o n (record { graph = before; bound = row ++ named; ids = ids }) ≡ Ok (record { graph = after; bound = row ++ more; ids = ids ++ id ∷ [] })
+new_bound max o n before after named more id added same none some row ids free =
+    ap (λ r. r >>= λ (g : Graph). Ok (with_new n (record { graph = before; bound = row ++ named; ids = ids }) g)) added
+    ∙ ap (λ (k : ℕ). ok_making (bind_if_named (node_name n) (node k) (row ++ named)) k) (sym same)
+    ∙ ap (λ (b : Row). ok_making b id) (by_name (node_name n) free none some)
+  where
+    ok_making : Row → ℕ → Result Making Fault
+    ok_making b k = Ok (record { graph = after; bound = b; ids = ids ++ k ∷ [] })
+
+    by_name : (name : Option (List ℕ)) → bound_value name (row ++ named) ≡ None → (name ≡ None → more ≡ named) → ((t : List ℕ) → name ≡ Some t → more ≡ named ++ (t, node id) ∷ []) → bind_if_named name (node id) (row ++ named) ≡ row ++ more
+    by_name None h f g = ap (λ (ns : Row). row ++ ns) (sym (f refl))
+    by_name (Some t) h f g = bound_last t (node id) (row ++ named) h ∙ append_assoc row named ((t, node id) ∷ []) ∙ ap (λ (ns : Row). row ++ ns) (sym (g t refl))
 
 pub pushed_id : (ids more : List NodeId) (id : NodeId) → more ≡ ids ++ id ∷ [] → node_ids more ≡ node_ids ids ++ id.0 ∷ []
 pushed_id ids more id h = ap node_ids h ∙ map-append (λ (i : NodeId). i.0) ids (id ∷ [])

@@ -1,14 +1,19 @@
 -- What trails bind, part by part.
-use Rattle.std.proofs.Common.{◌≡◌, ℕ, List, [], ◌∷◌, ◌++◌, map, flat_map, length, Option, Some, None, refl, ap, ◌∙◌, arith}
+use Rattle.std.proofs.Common.{◌≡◌, ◌≤◌, ℕ, List, [], ◌∷◌, ◌++◌, map, flat_map, drop, length, append-nil, Option, Some, None, refl, ap, ◌∙◌, arith}
+use Rattle.std.proofs.lemmas.List.{drop_all}
 use Rattle.pg_meaning.specs.Graph.{Graph}
 use Rattle.pg_meaning.specs.Patterns.{bond_ids, path_value, single, walk_on}
 use Rattle.pg_meaning.specs.Rows.{Row, bind_if_named}
+use Rattle.pg_meaning.specs.Tree.{PathPattern}
 use Rattle.pg_meaning.specs.Value.{Value, path}
+use Rattle.pg_syntax_tree.specs.declared.patterns.PathPattern.{PathPattern as PathCode}
 use Rattle.pg_value_core.specs.declared.ids.NodeId.{NodeId}
 use Rattle.pg_value_core.specs.declared.ids.RelId.{RelId}
 use Rattle.pg_write_make.specs.Makings.{node_ids, relationship_ids}
 use Rattle.pg_write_make.specs.Outcomes.{trail_of}
-use Rattle.pg_write_make.specs.Bindings.{Binding, bind_each, named}
+use Rattle.pg_write_make.specs.Bindings.{Binding, bind_each, match_bindings, named}
+use Rattle.pg_write_make.specs.Lent.{paths_view, trail_view}
+use Rattle.pg_write_make.specs.declared.paths.Trail.{Trail as TrailCode}
 
 pub named_first : (o : Option (List ℕ)) (v : Value) (bs : List Binding) → named ((o, v) ∷ bs) ≡ named ((o, v) ∷ []) ++ named bs
 named_first None v bs = refl
@@ -44,3 +49,18 @@ module _ (graph : Graph) (nodes : List NodeId) (rels : List RelId) where
 pub none_there : {X : Type 0} (xs : List X) → length xs ≡ 0 → xs ≡ []
 none_there [] h = refl
 none_there (x ∷ xs) h = absurd (omega (arith, h))
+
+nothing_bound : (graph : Graph) (ps : List PathPattern) → match_bindings graph ps [] ≡ []
+nothing_bound graph [] = refl
+nothing_bound graph (p ∷ ps) = refl
+
+module _ (graph : Graph) (ps : List PathCode) (i : ℕ) (ts : List TrailCode) (bs whole : List Binding) (so_far : whole ≡ bs ++ named (match_bindings graph (paths_view (drop i ps)) (map trail_view ts))) where
+  pub bindings_over : ts ≡ [] → whole ≡ bs
+  bindings_over none =
+      so_far
+      ∙ ap (λ rest. bs ++ named (match_bindings graph (paths_view (drop i ps)) (map trail_view rest))) none
+      ∙ ap (λ more. bs ++ named more) (nothing_bound graph (paths_view (drop i ps)))
+      ∙ append-nil bs
+
+  pub bindings_past : length ps ≤ i → whole ≡ bs
+  bindings_past past = so_far ∙ ap (λ rest. bs ++ named (match_bindings graph (paths_view rest) (map trail_view ts))) (drop_all i ps past) ∙ append-nil bs

@@ -3,8 +3,9 @@ use Rattle.pg_meaning.specs.Graph.{has_node}
 use Rattle.pg_meaning.specs.Patterns.{node_name}
 use Rattle.pg_store.specs.Stores.{graph_of_store}
 use Rattle.pg_syntax_tree.specs.View.{node_view}
+use Rattle.pg_write_make.proofs.BoundLemmas.{new_bound}
 use Rattle.pg_write_make.proofs.GrowthLemmas.{added_grows, added_there, bound_there}
-use Rattle.pg_write_make.specs.Makings.{named_ids}
+use Rattle.pg_write_make.specs.Makings.{bindings, named_ids}
 use Rattle.pg_write_make.specs.Outcomes.{outcome_view}
 use Rattle.pg_write_make.proofs.making.make_new_node.Goals as goal
 
@@ -27,3 +28,9 @@ returns-clause-bound g c =
     let grows = added_grows c.args.max_elements (outcome_view c.args.outcome) (node_view c.args.pattern.now) before after c.in_ok-id.ensures.ok in
     let now = ap (has_node after) c.in_ok-id.ensures.id ∙ added_there c.args.max_elements (outcome_view c.args.outcome) (node_view c.args.pattern.now) before after c.in_ok-id.ensures.ok in
     bound_there (node_name (node_view c.args.pattern.now)) before after (named_ids c.args.named.now.items) (named_ids c.bind_new.new.named.items) c.in_ok-id.id.0 grows now (λ none. ap named_ids (c.in_ok-bind_new.ensures.none none)) c.in_ok-bind_new.ensures.ids
+
+pub returns-clause-ok : goal.returns-clause-ok
+returns-clause-ok g c =
+    let seen = g.T.Tables.seen in
+    new_bound c.args.max_elements (outcome_view c.args.outcome) (node_view c.args.pattern.now) (graph_of_store seen c.args.store.now c.args.shared.now) (graph_of_store seen c.add_node.new.store c.add_node.new.shared)
+    (bindings c.args.named.now.items) (bindings c.bind_new.new.named.items) c.in_ok-id.id.0 c.in_ok-id.ensures.ok c.in_ok-id.ensures.id (λ none. ap bindings (c.in_ok-bind_new.ensures.none none)) c.in_ok-bind_new.ensures.bound

@@ -1,9 +1,12 @@
-use Rattle.std.proofs.Common.{List, ℕ, sym, subst}
+use Rattle.std.proofs.Common.{List, ℕ, ◌++◌, Result, Ok, sym, ap, subst, ◌∙◌}
 use Rattle.std.proofs.lemmas.Result.{err_from_is_err_and}
+use Rattle.pg_meaning.specs.Updates.{Making}
+use Rattle.pg_meaning.specs.declared.fault.Fault.{Fault}
 use Rattle.pg_store.specs.Stores.{graph_of_store}
 use Rattle.pg_write_make.proofs.BoundLemmas.{pushed_id}
 use Rattle.pg_write_make.proofs.GrowthLemmas.{there_grows, there_push}
-use Rattle.pg_write_make.specs.Makings.{node_ids, AreThere}
+use Rattle.pg_write_make.specs.Makings.{bindings, node_ids, AreThere}
+use Rattle.pg_write_make.specs.Scenes.{row_in}
 use Rattle.pg_write_make.proofs.making.make_node.Goals as goal
 
 pub returns-in_err-id-clause-err : goal.returns-in_err-id-clause-err
@@ -20,3 +23,10 @@ returns-clause-there g c =
       bound = c.in_ok-id.ensures.bound;
       made = subst (λ (ns : List ℕ). AreThere after ns) (sym (pushed_id c.args.ids.now.items c.push.new.self.items c.in_ok-id.id c.in_ok-push.ensures.items)) (there_push after ids c.in_ok-id.id.0 (there_grows before after ids c.in_ok-id.ensures.grows c.requires.there.made) c.in_ok-id.ensures.there);
     }
+
+pub returns-clause-ok : goal.returns-clause-ok
+returns-clause-ok g c =
+    let after = graph_of_store g.T.Tables.seen c.place_node.new.store c.place_node.new.shared in
+    let bound = row_in c.args.scene.now c.args.row.now ++ bindings c.place_node.new.named.items in
+    let made : List ℕ → Result Making Fault = λ ns. Ok (record { graph = after; bound = bound; ids = ns }) in
+    c.in_ok-id.ensures.ok (node_ids c.args.ids.now.items) ∙ ap made (sym (pushed_id c.args.ids.now.items c.push.new.self.items c.in_ok-id.id c.in_ok-push.ensures.items))

@@ -1,6 +1,6 @@
 -- A turn of a loop that goes over a list and keeps what each item gives.
-use Rattle.std.proofs.Common.{◌≡◌, ◌<◌, ◌≤◌, ◌+◌, ℕ, zero, suc, Bool, true, false, List, [], ◌∷◌, ◌++◌, map, drop, get_or, length, append_assoc, Some, None, Result, Ok, Err, refl, sym, ap, ◌∙◌, arith}
-use Rattle.std.proofs.lemmas.List.{map-append}
+use Rattle.std.proofs.Common.{◌≡◌, ◌<◌, ◌≤◌, ◌+◌, ℕ, zero, suc, Bool, true, false, List, [], ◌∷◌, ◌++◌, map, drop, get_or, length, append_assoc, append-nil, Some, None, IfErr, IsErrAnd, Result, Ok, Err, refl, sym, ap, ◌∙◌, arith}
+use Rattle.std.proofs.lemmas.List.{drop_all, map-append}
 use Rattle.std.proofs.lemmas.Option.{slice_get_read}
 use Rattle.std.specs.Borrow.{Bor}
 use Rattle.std.specs.Prelude.{string_bytes}
@@ -12,6 +12,7 @@ use Rattle.pg_meaning.specs.Tree as tree
 use Rattle.pg_meaning.specs.Updates.{count_nodes}
 use Rattle.pg_meaning.specs.Value.{Value as Datum}
 use Rattle.pg_meaning.specs.declared.fault.Fault.{Fault}
+use Rattle.pg_meaning.specs.declared.fault.Fault.TheVariants.{OutOfMemory}
 use Rattle.pg_store.specs.Stores.{pairs_of}
 use Rattle.pg_syntax_tree.specs.View.{expression_view, node_view}
 use Rattle.pg_syntax_tree.specs.declared.expression.Expression.{Expression}
@@ -20,7 +21,7 @@ use Rattle.pg_syntax_tree.specs.declared.patterns.NodePattern.{NodePattern}
 use Rattle.pg_value_core.specs.View.{view}
 use Rattle.pg_value_core.specs.declared.ids.RelId.{RelId}
 use Rattle.pg_value_core.specs.declared.value.Value.{Value}
-use Rattle.pg_write_make.proofs.LoopLemmas.{at_same, within_same}
+use Rattle.pg_write_make.proofs.LoopLemmas.{at_same, past_same, within_same}
 use Rattle.pg_write_make.proofs.RowLemmas.{drop_at}
 use Rattle.pg_write_make.specs.Creations.{count_one}
 use Rattle.pg_write_make.specs.Makings.{patterns_view, relationship_ids}
@@ -46,6 +47,15 @@ module _ {X : Type 0} (items xs : List X) (i : ℕ) (x : X) (same : items ≡ xs
       ∙ sym (append_assoc made own others)
       ∙ ap (λ os. os ++ others) (sym pushed)
 
+-- nothing is left to be made
+pub all_made : {X O : Type 0} (items xs : List X) (i : ℕ) (same : items ≡ xs) → length items ≤ i → (left : List X → List O) (made whole : List O) → left [] ≡ [] → made ++ left (drop i xs) ≡ whole → made ≡ whole
+all_made items xs i same past left made whole none so_far =
+    sym (append-nil made) ∙ ap (λ os. made ++ os) (sym none) ∙ ap (λ ys. made ++ left ys) (sym (drop_all i xs (past_same items xs i same past))) ∙ so_far
+
+pub memory_alone : {X : Type 0} (e : Fault) (r : Result X Fault) → IsErrAnd r (λ f. f ≡ e) → e ≡ OutOfMemory → IfErr r (λ f. f ≡ OutOfMemory)
+memory_alone e (Ok x) is h = absurd is
+memory_alone e (Err f) is h = is ∙ h
+
 one_after : {Y : Type 0} (ys : List Y) (y : Y) (r : Result (List Y) Fault) → ◌≡◌ {A = Result (List Y) Fault} (after ys (r >>= λ zs. Ok (y ∷ zs))) (after (ys ++ y ∷ []) r)
 one_after ys y (Ok zs) = ap (λ (all : List _). Ok all) (sym (append_assoc ys (y ∷ []) zs))
 one_after ys y (Err e) = refl
@@ -60,6 +70,9 @@ module _ (items xs : List (Name × Expression)) (i : ℕ) (x : Name × Expressio
   this_pair : whole ≡ pair_then (value_given s graph row (expression_view x.1))
   this_pair = so_far ∙ ap (λ ps. after (pairs_of vs) (pairs_given s graph row (pairs_wanted ps))) (next_item items xs i x same at within)
 
+  pub pair_refused : (e : Fault) → value_given s graph row (expression_view x.1) ≡ Err e → whole ≡ Err e
+  pair_refused e given = this_pair ∙ ap pair_then given
+
   pub pair_kept : (more : List (Bor (List ℕ) × Value)) (key : Bor (List ℕ)) (v : Value) → value_given s graph row (expression_view x.1) ≡ Ok (view v) → key.now ≡ string_bytes x.0.text → more ≡ vs ++ (key, v) ∷ []
       → whole ≡ after (pairs_of more) others
   pair_kept more key v given named pushed =
@@ -68,6 +81,17 @@ module _ (items xs : List (Name × Expression)) (i : ℕ) (x : Name × Expressio
       ∙ one_after (pairs_of vs) (string_bytes x.0.text, view v) others
       ∙ ap (λ (n : List ℕ). after (pairs_of vs ++ (n, view v) ∷ []) others) (sym named)
       ∙ ap (λ ps. after ps others) (sym (seen_pushed (λ p. (p.0.now, view p.1)) vs more (key, v) pushed))
+
+pub none_before : {Y : Type 0} (ys : List Y) (r : Result (List Y) Fault) → ys ≡ [] → r ≡ after ys r
+none_before ys (Ok zs) none = ap (λ (os : List _). Ok (os ++ zs)) (sym none)
+none_before ys (Err e) none = refl
+
+pub pairs_past : (items xs : List (Name × Expression)) (i : ℕ) (same : items ≡ xs) → length items ≤ i → (s : Scene) (graph : Graph) (row : List Value) (found : List (List ℕ × Datum)) (whole : Result (List (List ℕ × Datum)) Fault)
+    → whole ≡ after found (pairs_given s graph row (pairs_wanted (drop i xs))) → whole ≡ Ok found
+pairs_past items xs i same past s graph row found whole so_far =
+    so_far
+    ∙ ap (λ ps. after found (pairs_given s graph row (pairs_wanted ps))) (drop_all i xs (past_same items xs i same past))
+    ∙ ap (λ (ps : List (List ℕ × Datum)). Ok ps) (append-nil found)
 
 any_default : {X : Type 0} (xs : List X) (i : ℕ) (d e : X) → i < length xs → get_or xs i d ≡ get_or xs i e
 any_default [] i d e h = absurd (omega (arith, h))

@@ -1,5 +1,5 @@
 -- What the loops over nodes and hops need at a turn and at their end.
-use Rattle.std.proofs.Common.{◌≡◌, ◌<◌, ◌≤◌, ◌+◌, ℕ, false, List, [], ◌∷◌, drop, get_or, length, append-nil, Result, Ok, Err, refl, sym, ap, subst, ◌∙◌}
+use Rattle.std.proofs.Common.{◌≡◌, ◌≢◌, ◌<◌, ◌≤◌, ◌+◌, ℕ, false, List, [], ◌∷◌, drop, get_or, length, append-nil, Result, Ok, Err, IfOk, IfErr, refl, sym, ap, subst, ◌∙◌}
 use Rattle.std.proofs.lemmas.List.{drop_all}
 use Rattle.std.proofs.lemmas.Option.{slice_get_read}
 use Rattle.std.specs.Borrow.{Bor}
@@ -13,6 +13,7 @@ use Rattle.pg_meaning.specs.Tree as tree
 use Rattle.pg_meaning.specs.Updates.{Making}
 use Rattle.pg_meaning.specs.Walks.{bound_value}
 use Rattle.pg_meaning.specs.declared.fault.Fault.{Fault}
+use Rattle.pg_meaning.specs.declared.fault.Fault.TheVariants.{OutOfMemory}
 use Rattle.pg_syntax_tree.specs.View.{node_view, path_view}
 use Rattle.pg_syntax_tree.specs.declared.patterns.NodePattern.{NodePattern}
 use Rattle.pg_syntax_tree.specs.declared.patterns.PathPattern.{PathPattern}
@@ -23,7 +24,7 @@ use Rattle.pg_write_make.proofs.GrowthLemmas.{both_passed, tests_grow}
 use Rattle.pg_write_make.proofs.StepLemmas.{behind}
 use Rattle.pg_write_make.specs.Makings.{making_of, named_ids, node_ids, others_view, outcomes_view, relationships_view, AllThere, AreThere, Grows}
 use Rattle.pg_write_make.proofs.RowLemmas.{drop_at}
-use Rattle.pg_write_make.specs.Outcomes.{Outcome, hops_made, node_of, nodes_made}
+use Rattle.pg_write_make.specs.Outcomes.{Outcome, Outcomes, hops_made, node_of, nodes_made}
 
 pub at_same : {X : Type 0} (xs ys : List X) (i : ℕ) (x : X) → xs ≡ ys → x ≡ get_or xs i x → x ≡ get_or ys i x
 at_same {X} xs ys i x e h = h ∙ ap (λ (zs : List X). get_or zs i x) e
@@ -88,3 +89,17 @@ hops_done max os hs i left ns graph ids whole rest past =
 
 pub next_there : (graph : Graph) (ns : List NodeId) (right : NodeId) (more : List NodeId) → ns ≡ right ∷ more → AreThere graph (node_ids ns) → AreThere graph (node_ids (right ∷ more))
 next_there graph ns right more e there = subst (λ (xs : List NodeId). AreThere graph (node_ids xs)) e there
+
+-- ---- what a call gives is given on
+
+pub ok_onto : {X A : Type 0} (r : Result X Fault) (gives : X → Result A Fault) (whole last : Result A Fault) → whole ≡ last → IfOk r (λ x. last ≡ gives x) → IfOk r (λ x. whole ≡ gives x)
+ok_onto (Ok x) gives whole last same h = same ∙ h
+ok_onto (Err e) gives whole last same h = tt
+
+pub err_onto : {X A : Type 0} (r : Result X Fault) (whole last : Result A Fault) → whole ≡ last → IfErr r (λ e. e ≢ OutOfMemory → last ≡ Err e) → IfErr r (λ e. e ≢ OutOfMemory → whole ≡ Err e)
+err_onto (Ok x) whole last same h = tt
+err_onto (Err e) whole last same h = λ other. same ∙ h other
+
+pub parts_kept : (first given : Outcome) (nodes nodes_given bonds bonds_given : List Outcome) → given ≡ first → nodes ≡ nodes_given → bonds ≡ bonds_given → ◌≡◌ {A = Outcomes} (first ∷ nodes, bonds) (given ∷ nodes_given, bonds_given)
+parts_kept first given nodes nodes_given bonds bonds_given one all others =
+    ap (λ (o : Outcome). (o ∷ nodes, bonds)) (sym one) ∙ ap (λ (os : List Outcome). (given ∷ os, bonds)) all ∙ ap (λ (os : List Outcome). (given ∷ nodes_given, os)) others

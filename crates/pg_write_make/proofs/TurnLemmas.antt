@@ -4,13 +4,16 @@ use Rattle.std.proofs.lemmas.List.{drop_all, map-append}
 use Rattle.std.proofs.lemmas.Option.{slice_get_read}
 use Rattle.std.specs.Borrow.{Bor}
 use Rattle.std.specs.Prelude.{string_bytes}
-use Rattle.pg_meaning.specs.Answer.{◌>>=◌}
+use Rattle.pg_meaning.specs.Answer.{◌>>=◌, ◌>>◌}
 use Rattle.pg_meaning.specs.Graph.{Graph, Relationship, other_end, relationship_at}
 use Rattle.pg_meaning.specs.Names.{Names}
-use Rattle.pg_meaning.specs.Patterns.{walk_on}
+use Rattle.pg_meaning.specs.Patterns.{node_name, walk_on}
+use Rattle.pg_meaning.specs.Reading.{test_bound, test_nodes}
+use Rattle.pg_meaning.specs.Rows.{Row}
 use Rattle.pg_meaning.specs.Tree as tree
 use Rattle.pg_meaning.specs.Updates.{count_nodes}
 use Rattle.pg_meaning.specs.Value.{Value as Datum}
+use Rattle.pg_meaning.specs.Walks.{bound_value}
 use Rattle.pg_meaning.specs.declared.fault.Fault.{Fault}
 use Rattle.pg_meaning.specs.declared.fault.Fault.TheVariants.{OutOfMemory}
 use Rattle.pg_store.specs.Stores.{pairs_of}
@@ -18,13 +21,14 @@ use Rattle.pg_syntax_tree.specs.View.{expression_view, node_view}
 use Rattle.pg_syntax_tree.specs.declared.expression.Expression.{Expression}
 use Rattle.pg_syntax_tree.specs.declared.expression.Name.{Name}
 use Rattle.pg_syntax_tree.specs.declared.patterns.NodePattern.{NodePattern}
+use Rattle.pg_syntax_tree.specs.declared.patterns.RelationshipPattern.{RelationshipPattern}
 use Rattle.pg_value_core.specs.View.{view}
 use Rattle.pg_value_core.specs.declared.ids.RelId.{RelId}
 use Rattle.pg_value_core.specs.declared.value.Value.{Value}
 use Rattle.pg_write_make.proofs.LoopLemmas.{at_same, past_same, within_same}
 use Rattle.pg_write_make.proofs.RowLemmas.{drop_at}
 use Rattle.pg_write_make.specs.Creations.{count_one}
-use Rattle.pg_write_make.specs.Makings.{patterns_view, relationship_ids}
+use Rattle.pg_write_make.specs.Makings.{others_view, patterns_view, relationship_ids}
 use Rattle.pg_write_make.specs.Scenes.{value_given}
 use Rattle.pg_write_make.specs.Values.{pairs_given, pairs_wanted, after}
 use Rattle.pg_write_make.specs.declared.scene.Scene.{Scene}
@@ -114,6 +118,30 @@ module _ (items xs : List RelId) (i : ℕ) (d : RelId) (same : items ≡ xs) (wi
       ∙ ap (λ (ns : List ℕ). ns ++ there ∷ walk_on graph there rest) (sym pushed)
       ∙ sym (append_assoc one (there ∷ []) (walk_on graph there rest))
       ∙ ap (λ (ns : List ℕ). ns ++ walk_on graph there rest) (sym again)
+
+  -- a relationship that isn't there ends the walk
+  pub walk_ends : (graph : Graph) (here : ℕ) (ids whole : List ℕ) → relationship_at graph bond.0 ≡ None → whole ≡ ids ++ walk_on graph here (relationship_ids (drop i xs)) → whole ≡ ids
+  walk_ends graph here ids whole is so_far =
+      let rest = relationship_ids (drop (i + 1) xs) in
+      so_far
+      ∙ ap (λ ys. ids ++ walk_on graph here (relationship_ids ys)) (next_item items xs i bond same (any_default items i d bond within) within)
+      ∙ ap (λ o. ids ++ (elim o [ None ↦ [] | Some r ↦ bond.0 ∷ other_end here r ∷ walk_on graph (other_end here r) rest ])) is
+      ∙ append-nil ids
+
+pub all_walked : (items xs : List RelId) (i : ℕ) (same : items ≡ xs) → length items ≤ i → (graph : Graph) (here : ℕ) (ids whole : List ℕ) → whole ≡ ids ++ walk_on graph here (relationship_ids (drop i xs)) → whole ≡ ids
+all_walked items xs i same past graph here ids whole so_far =
+    so_far ∙ ap (λ ys. ids ++ walk_on graph here (relationship_ids ys)) (drop_all i xs (past_same items xs i same past)) ∙ append-nil ids
+
+module _ (items xs : List (RelationshipPattern × NodePattern)) (i : ℕ) (same : items ≡ xs) (graph : Graph) (row : Row) (whole : Result (Unit {0}) Fault) (so_far : whole ≡ test_nodes false graph row (others_view (drop i xs))) where
+  pub all_tested : length items ≤ i → whole ≡ Ok tt
+  all_tested past = so_far ∙ ap (λ ys. test_nodes false graph row (others_view ys)) (drop_all i xs (past_same items xs i same past))
+
+  module _ (x : RelationshipPattern × NodePattern) (at : x ≡ get_or items i x) (within : i < length items) (r : Result (Unit {0}) Fault) (is : r ≡ test_bound false graph (bound_value (node_name (node_view x.1)) row)) where
+    pub test_then : whole ≡ (r >> test_nodes false graph row (others_view (drop (i + 1) xs)))
+    test_then =
+        so_far
+        ∙ ap (λ ys. test_nodes false graph row (others_view ys)) (next_item items xs i x same at within)
+        ∙ ap (λ t. t >> test_nodes false graph row (others_view (drop (i + 1) xs))) (sym is)
 
 one_moved : (whole count left more : ℕ) → whole ≡ count + (1 + left) → more ≡ count + 1 → whole ≡ more + left
 one_moved whole count left more all next = omega (arith, all, next)

@@ -3,7 +3,8 @@ use Rattle.std.proofs.Common.{◌≡◌, ◌<◌, ◌≤◌, ◌+◌, ℕ, zero,
 use Rattle.std.proofs.lemmas.List.{drop_all, map-append}
 use Rattle.std.proofs.lemmas.Option.{slice_get_read}
 use Rattle.std.specs.Borrow.{Bor}
-use Rattle.std.specs.Prelude.{string_bytes}
+use Rattle.std.specs.Prelude.{String, string_bytes}
+use Rattle.std.specs.declared.alloc.Global.{Global}
 use Rattle.pg_meaning.specs.Answer.{◌>>=◌, ◌>>◌}
 use Rattle.pg_meaning.specs.Graph.{Graph, Relationship, other_end, relationship_at}
 use Rattle.pg_meaning.specs.Names.{Names}
@@ -12,7 +13,7 @@ use Rattle.pg_meaning.specs.Reading.{test_bound, test_nodes}
 use Rattle.pg_meaning.specs.Rows.{Row}
 use Rattle.pg_meaning.specs.Tree as tree
 use Rattle.pg_meaning.specs.Updates.{count_nodes}
-use Rattle.pg_meaning.specs.Value.{Value as Datum}
+use Rattle.pg_meaning.specs.Value.{Value as Datum, entries_of}
 use Rattle.pg_meaning.specs.Walks.{bound_value}
 use Rattle.pg_meaning.specs.declared.fault.Fault.{Fault}
 use Rattle.pg_meaning.specs.declared.fault.Fault.TheVariants.{OutOfMemory}
@@ -22,7 +23,7 @@ use Rattle.pg_syntax_tree.specs.declared.expression.Expression.{Expression}
 use Rattle.pg_syntax_tree.specs.declared.expression.Name.{Name}
 use Rattle.pg_syntax_tree.specs.declared.patterns.NodePattern.{NodePattern}
 use Rattle.pg_syntax_tree.specs.declared.patterns.RelationshipPattern.{RelationshipPattern}
-use Rattle.pg_value_core.specs.View.{view}
+use Rattle.pg_value_core.specs.View.{entries_view, view}
 use Rattle.pg_value_core.specs.declared.ids.RelId.{RelId}
 use Rattle.pg_value_core.specs.declared.value.Value.{Value}
 use Rattle.pg_write_make.proofs.LoopLemmas.{at_same, past_same, within_same}
@@ -96,6 +97,17 @@ pairs_past items xs i same past s graph row found whole so_far =
     so_far
     ∙ ap (λ ps. after found (pairs_given s graph row (pairs_wanted ps))) (drop_all i xs (past_same items xs i same past))
     ∙ ap (λ (ps : List (List ℕ × Datum)). Ok ps) (append-nil found)
+
+pub entry_copied : (vs more : List (Bor (List ℕ) × Value)) (whole : List (List ℕ × Datum)) (entries later : List (String Global × Value)) (k : String Global) (v w : Value) (key : Bor (List ℕ)) → entries ≡ (k, v) ∷ later → key.now ≡ string_bytes k → view w ≡ view v
+    → more ≡ vs ++ (key, w) ∷ [] → whole ≡ pairs_of vs ++ entries_of (entries_view entries) → whole ≡ pairs_of more ++ entries_of (entries_view later)
+entry_copied vs more whole entries later k v w key steps named same pushed so_far =
+    let rest = entries_of (entries_view later) in
+    so_far
+    ∙ ap (λ es. pairs_of vs ++ entries_of (entries_view es)) steps
+    ∙ ap (λ (n : List ℕ). pairs_of vs ++ (n, view v) ∷ rest) (sym named)
+    ∙ ap (λ (d : Datum). pairs_of vs ++ (key.now, d) ∷ rest) (sym same)
+    ∙ sym (append_assoc (pairs_of vs) ((key.now, view w) ∷ []) rest)
+    ∙ ap (λ ps. ps ++ rest) (sym (seen_pushed (λ p. (p.0.now, view p.1)) vs more (key, w) pushed))
 
 any_default : {X : Type 0} (xs : List X) (i : ℕ) (d e : X) → i < length xs → get_or xs i d ≡ get_or xs i e
 any_default [] i d e h = absurd (omega (arith, h))

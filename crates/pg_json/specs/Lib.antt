@@ -2,6 +2,7 @@ pub mod Requests
 pub mod Parameters
 pub mod Bodies
 pub mod Replies
+pub mod Elements
 pub mod Refusals
 pub mod Bytes
 pub mod Room

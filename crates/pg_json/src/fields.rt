@@ -5,7 +5,7 @@ ghost use Rattle.serde_json.specs.Data.{string, no_members, put};
 ghost use Rattle.serde_json.specs.Read.{read, of_members, converted};
 ghost use Rattle.pg_json.specs.Bodies.{request_view};
 ghost use Rattle.pg_json.specs.Fields.{members_with, object_giving, parameters_of, asked_with, name_keys, text_keys, IsGlance, IsGlanceOfMembers};
-ghost use Rattle.pg_json.specs.Requests.{is_one_of};
+ghost use Rattle.pg_json.specs.Requests.{is_one_of, query};
 ghost use Rattle.pg_value_core.specs.View.{entries_view};
 ghost use Rattle.pg_meaning.specs.declared.fault.Fault.TheVariants.{BadRequest, OutOfMemory};
 
@@ -158,11 +158,12 @@ pub(crate) fn request_with(alloc: Global, found: Fields<'_>) -> Result<RequestBo
     };
     match found.text {
         Some(text) => if op == "query" {
-            Ok(RequestBody::Query {
-                token: String::from_str(alloc, token)?,
-                text: String::from_str(alloc, text)?,
-                parameters: Parameters::from_map(found.parameters.unwrap_or(BTreeMap::new(alloc))),
-            })
+            query_with(
+                alloc,
+                token,
+                text,
+                found.parameters.unwrap_or(BTreeMap::new(alloc)),
+            )
         } else {
             Err(Fault::BadRequest)
         },
@@ -174,4 +175,20 @@ pub(crate) fn request_with(alloc: Global, found: Fields<'_>) -> Result<RequestBo
             Err(Fault::BadRequest)
         },
     }
+}
+
+fn query_with(
+    alloc: Global,
+    token: &str,
+    text: &str,
+    parameters: BTreeMap<String, Value>,
+) -> Result<RequestBody, Fault>
+    ensures ok { IfOk result (λ r. request_view r ≡ query token.now text.now (entries_view parameters.entries)) }
+    ensures kind { IfErr result (λ e. e ≡ OutOfMemory) }
+{
+    Ok(RequestBody::Query {
+        token: String::from_str(alloc, token)?,
+        text: String::from_str(alloc, text)?,
+        parameters: Parameters::from_map(parameters),
+    })
 }

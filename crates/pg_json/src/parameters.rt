@@ -10,6 +10,7 @@ ghost use Rattle.pg_value_core.specs.View.{view, values_view, entries_view};
 
 use crate::number::whole_number;
 use crate::unread::Unread;
+use crate::values::put_entry;
 use json::{Reader, Token};
 use pg_value_core::Value;
 use std::alloc::Global;
@@ -91,6 +92,6 @@ fn read_members(
         };
         let key = String::from_str(alloc, name)?;
         let value = read(alloc, reader, room)?;
-        drop(found.insert(key, value)?);
+        put_entry(&mut found, key, value)?;
     }
 }

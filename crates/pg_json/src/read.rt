@@ -4,7 +4,7 @@ ghost use Rattle.serde_json.specs.Read.{read};
 ghost use Rattle.serde_json.specs.View.{view, members_view};
 ghost use Rattle.serde_json.specs.Find.{as_object, as_str, get_member};
 ghost use Rattle.pg_json.specs.Parameters.{parameters_in as spec_parameters_in};
-ghost use Rattle.pg_json.specs.Requests.{meaning, request_of, object_request, parameters_given, create_index, drop_index, query_of, status_of, index_of, query_keys, status_keys, index_keys, with_only, name_at, if_any as spec_if_any, text_at as spec_text_at, has_only as spec_has_only, is_one_of as spec_is_one_of};
+ghost use Rattle.pg_json.specs.Requests.{meaning, request_of, object_request, parameters_given, create_index, drop_index, query_of, status_of, index_of, query_keys, status_keys, index_keys, with_only, name_at, Request, if_any as spec_if_any, text_at as spec_text_at, has_only as spec_has_only, is_one_of as spec_is_one_of};
 ghost use Rattle.pg_json.specs.Bodies.{request_view};
 ghost use Rattle.pg_value_core.specs.View.{entries_view};
 ghost use Rattle.pg_meaning.specs.declared.fault.Fault.TheVariants.{BadRequest, OutOfMemory};
@@ -147,31 +147,43 @@ fn status_from(mut members: Map<String, Value>) -> Result<RequestBody, Fault>
     Ok(RequestBody::Status { token })
 }
 
-fn create_index_from(mut members: Map<String, Value>) -> Result<RequestBody, Fault>
+/// What a request about an index names.
+#[derive(Drop)]
+struct IndexNames {
+    token: String,
+    label: String,
+    key: String,
+}
+
+fn index_names_from(mut members: Map<String, Value>) -> Result<IndexNames, Fault>
+    ensures ok { (request : List ℕ → List ℕ → List ℕ → Request) → IfOk result (λ n. with_only index_keys (members_view members.entries) (index_of request (members_view members.entries)) ≡ Some (request (string_bytes n.token) (string_bytes n.label) (string_bytes n.key))) }
+    ensures kind { IfErr result (λ e. e ≡ BadRequest) }
+    ensures refused { (request : List ℕ → List ℕ → List ℕ → Request) → IfErr result (λ e. with_only index_keys (members_view members.entries) (index_of request (members_view members.entries)) ≡ None) }
+{
+    if !has_only(&members, &["op", "token", "label", "key"]) {
+        return Err(Fault::BadRequest);
+    }
+    let token = take_text(&mut members, "token").ok_or(Fault::BadRequest)?;
+    let label = take_name(&mut members, "label").ok_or(Fault::BadRequest)?;
+    let key = take_name(&mut members, "key").ok_or(Fault::BadRequest)?;
+    Ok(IndexNames { token, label, key })
+}
+
+fn create_index_from(members: Map<String, Value>) -> Result<RequestBody, Fault>
     ensures ok { IfOk result (λ r. with_only index_keys (members_view members.entries) (index_of create_index (members_view members.entries)) ≡ Some (request_view r)) }
     ensures kind { IfErr result (λ e. e ≡ BadRequest) }
     ensures refused { IfErr result (λ e. with_only index_keys (members_view members.entries) (index_of create_index (members_view members.entries)) ≡ None) }
 {
-    if !has_only(&members, &["op", "token", "label", "key"]) {
-        return Err(Fault::BadRequest);
-    }
-    let token = take_text(&mut members, "token").ok_or(Fault::BadRequest)?;
-    let label = take_name(&mut members, "label").ok_or(Fault::BadRequest)?;
-    let key = take_name(&mut members, "key").ok_or(Fault::BadRequest)?;
+    let IndexNames { token, label, key } = index_names_from(members)?;
     Ok(RequestBody::CreateIndex { token, label, key })
 }
 
-fn drop_index_from(mut members: Map<String, Value>) -> Result<RequestBody, Fault>
+fn drop_index_from(members: Map<String, Value>) -> Result<RequestBody, Fault>
     ensures ok { IfOk result (λ r. with_only index_keys (members_view members.entries) (index_of drop_index (members_view members.entries)) ≡ Some (request_view r)) }
     ensures kind { IfErr result (λ e. e ≡ BadRequest) }
     ensures refused { IfErr result (λ e. with_only index_keys (members_view members.entries) (index_of drop_index (members_view members.entries)) ≡ None) }
 {
-    if !has_only(&members, &["op", "token", "label", "key"]) {
-        return Err(Fault::BadRequest);
-    }
-    let token = take_text(&mut members, "token").ok_or(Fault::BadRequest)?;
-    let label = take_name(&mut members, "label").ok_or(Fault::BadRequest)?;
-    let key = take_name(&mut members, "key").ok_or(Fault::BadRequest)?;
+    let IndexNames { token, label, key } = index_names_from(members)?;
     Ok(RequestBody::DropIndex { token, label, key })
 }
 

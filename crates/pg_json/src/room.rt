@@ -1,7 +1,7 @@
 //! Whether a reply is surely too long, told before it is written. It takes no memory.
 ghost use Rattle.std.specs.Prelude.{◌≡◌, ◌+◌, ◌-◌, ◌≤◌, length, decimal};
 ghost use Rattle.std.specs.Fmt.{signed_decimal};
-ghost use Rattle.pg_json.specs.Replies.{data_of, outs, named_outs, text_items, node_data};
+ghost use Rattle.pg_json.specs.Replies.{data_of, outs, named_outs, text_items};
 ghost use Rattle.pg_json.specs.Room.{least, items_least, members_least, Leaves};
 
 use pg_value_core::Out;
@@ -34,7 +34,10 @@ fn room_after(room: usize, value: &Out) -> Option<usize>
             id,
             labels,
             properties,
-        } => room_after_node(room, id.0, labels, properties),
+        } => {
+            let room = room_before_properties(room, id.0, labels)?;
+            room_after_members(room, properties)
+        }
         Out::Rel {
             id,
             kind,
@@ -47,20 +50,6 @@ fn room_after(room: usize, value: &Out) -> Option<usize>
         }
         Out::Path(elements) => room_after_items(room.checked_sub(11)?, elements),
     }
-}
-
-#[cycle(room)]
-fn room_after_node(
-    room: usize,
-    id: u64,
-    labels: &[String],
-    properties: &BTreeMap<String, Out>,
-) -> Option<usize>
-    ensures { Leaves room (least (node_data id (text_items labels.now) (named_outs properties.now.entries))) result }
-{
-    let room = room.checked_sub(36 + digits(id))?;
-    let room = room_after_texts(room, labels)?;
-    room_after_members(room, properties)
 }
 
 #[cycle(room)]
@@ -81,6 +70,13 @@ fn room_after_members(mut room: usize, members: &BTreeMap<String, Out>) -> Optio
         room = room_after(room_after_key(room, key)?, member)?;
     }
     Some(room)
+}
+
+/// A node's keys, brackets, number and labels.
+fn room_before_properties(room: usize, id: u64, labels: &[String]) -> Option<usize>
+    ensures { Leaves room (36 + length (decimal id) + items_least (text_items labels.now)) result }
+{
+    room_after_texts(room.checked_sub(36 + digits(id))?, labels)
 }
 
 fn room_after_texts(mut room: usize, texts: &[String]) -> Option<usize>

@@ -1,4 +1,7 @@
 //! The reply of a query whose rows are told one after the other.
+ghost use Rattle.std.specs.Prelude.{◌≡◌, ◌++◌, OnOk};
+ghost use Rattle.pg_json.specs.Rows.{head_tokens};
+
 use crate::bytes::{MAX_REPLY, ReplyBytes};
 use crate::value::{write_items, write_natural};
 use json::Writer;
@@ -24,10 +27,7 @@ impl RowsReply {
         ensures { IfOk result (λ r. HasNamed r []) }
     {
         let mut to = Writer::new(Vec::with_capacity(alloc, 128)?);
-        to.begin_object()?;
-        write_natural("code", 0, &mut to)?;
-        to.key("columns")?;
-        to.begin_array()?;
+        write_head(&mut to)?;
         Ok(RowsReply { to })
     }
 
@@ -81,4 +81,15 @@ impl RowsReply {
         to.end_object()?;
         Ok(to.into_inner())
     }
+}
+
+/// What stands before the first column.
+fn write_head(to: &mut Writer) -> Result<(), AllocError>
+    ensures ok { OnOk result (to.new.tokens ≡ to.old.tokens ++ head_tokens) }
+    ensures before { to.new.before ≡ to.old.before }
+{
+    to.begin_object()?;
+    write_natural("code", 0, to)?;
+    to.key("columns")?;
+    to.begin_array()
 }

@@ -1,10 +1,11 @@
 //! A value's tokens.
 ghost use Rattle.std.specs.Prelude.{◌≡◌, ◌++◌, ◌∷◌, [], OnOk, codes, decimal};
 ghost use Rattle.json.specs.Tree.{json_tokens, items_tokens, members_tokens};
-ghost use Rattle.json.specs.Token.{key as key_token, number as number_token, string as string_token, begin_object};
+ghost use Rattle.json.specs.Token.{key as key_token, number as number_token, string as string_token, begin_object, begin_array};
 ghost use Rattle.serde_json.specs.Data.{array};
 ghost use Rattle.serde_json.specs.Written.{outline, items_outline, members_outline};
-ghost use Rattle.pg_json.specs.Replies.{data_of, outs, named_outs, text_items, node_data, rel_data, path_data};
+ghost use Rattle.pg_json.specs.Replies.{data_of, outs, named_outs, text_items};
+ghost use Rattle.pg_json.specs.Elements.{node_begun, rel_begun, rel_ended};
 
 use json::Writer;
 use pg_value_core::{NodeId, Out, RelId};
@@ -12,7 +13,6 @@ use std::alloc::AllocError;
 use std::collections::BTreeMap;
 
 #[cycle(write)]
-#[tactic(auto, using(crate::proofs::Elements::data_node, crate::proofs::Elements::data_rel))]
 fn write(value: &Out, to: &mut Writer) -> Result<(), AllocError>
     ensures ok { OnOk result (to.new.tokens ≡ to.old.tokens ++ json_tokens (outline (data_of value.now))) }
     ensures before { to.new.before ≡ to.old.before }
@@ -34,76 +34,28 @@ fn write(value: &Out, to: &mut Writer) -> Result<(), AllocError>
             id,
             labels,
             properties,
-        } => write_node(*id, labels, properties, to),
+        } => {
+            begin_node(*id, labels, to)?;
+            write_members(properties, to)?;
+            to.end_object()
+        }
         Out::Rel {
             id,
             kind,
             start,
             end,
             properties,
-        } => write_rel(*id, kind, *start, *end, properties, to),
-        Out::Path(elements) => write_path(elements, to),
+        } => {
+            begin_rel(*id, *end, to)?;
+            write_members(properties, to)?;
+            end_rel(*start, kind, to)
+        }
+        Out::Path(elements) => {
+            begin_path(to)?;
+            write_items(elements, to)?;
+            to.end_object()
+        }
     }
-}
-
-#[cycle(write)]
-fn write_node(
-    id: NodeId,
-    labels: &[String],
-    properties: &BTreeMap<String, Out>,
-    to: &mut Writer,
-) -> Result<(), AllocError>
-    ensures ok { OnOk result (to.new.tokens ≡ to.old.tokens ++ json_tokens (outline (node_data id.0 (text_items labels.now) (named_outs properties.now.entries)))) }
-    ensures before { to.new.before ≡ to.old.before }
-{
-    to.begin_object()?;
-    write_natural("$node", id.0, to)?;
-    write_labels(labels, to)?;
-    write_properties(properties, to)?;
-    to.end_object()
-}
-
-#[cycle(write)]
-fn write_rel(
-    id: RelId,
-    kind: &str,
-    start: NodeId,
-    end: NodeId,
-    properties: &BTreeMap<String, Out>,
-    to: &mut Writer,
-) -> Result<(), AllocError>
-    ensures ok { OnOk result (to.new.tokens ≡ to.old.tokens ++ json_tokens (outline (rel_data id.0 end.0 (named_outs properties.now.entries) start.0 kind.now))) }
-    ensures before { to.new.before ≡ to.old.before }
-{
-    to.begin_object()?;
-    write_natural("$rel", id.0, to)?;
-    write_natural("end", end.0, to)?;
-    write_properties(properties, to)?;
-    write_natural("start", start.0, to)?;
-    write_type(kind, to)?;
-    to.end_object()
-}
-
-#[cycle(write)]
-fn write_properties(properties: &BTreeMap<String, Out>, to: &mut Writer) -> Result<(), AllocError>
-    ensures ok { OnOk result (to.new.tokens ≡ to.old.tokens ++ key_token (codes "properties") ∷ begin_object ∷ members_tokens (members_outline (named_outs properties.now.entries))) }
-    ensures before { to.new.before ≡ to.old.before }
-{
-    to.key("properties")?;
-    to.begin_object()?;
-    write_members(properties, to)
-}
-
-#[cycle(write)]
-fn write_path(elements: &[Out], to: &mut Writer) -> Result<(), AllocError>
-    ensures ok { OnOk result (to.new.tokens ≡ to.old.tokens ++ json_tokens (outline (path_data (outs elements.now)))) }
-    ensures before { to.new.before ≡ to.old.before }
-{
-    to.begin_object()?;
-    to.key("$path")?;
-    to.begin_array()?;
-    write_items(elements, to)?;
-    to.end_object()
 }
 
 /// The items and the closing bracket.
@@ -129,6 +81,55 @@ fn write_members(members: &BTreeMap<String, Out>, to: &mut Writer) -> Result<(),
         write(member, to)?;
     }
     to.end_object()
+}
+
+/// What stands before a node's properties.
+fn begin_node(id: NodeId, labels: &[String], to: &mut Writer) -> Result<(), AllocError>
+    ensures ok { OnOk result (to.new.tokens ≡ to.old.tokens ++ node_begun id.0 (text_items labels.now)) }
+    ensures before { to.new.before ≡ to.old.before }
+{
+    to.begin_object()?;
+    write_natural("$node", id.0, to)?;
+    write_labels(labels, to)?;
+    begin_properties(to)
+}
+
+/// What stands before a relationship's properties.
+fn begin_rel(id: RelId, end: NodeId, to: &mut Writer) -> Result<(), AllocError>
+    ensures ok { OnOk result (to.new.tokens ≡ to.old.tokens ++ rel_begun id.0 end.0) }
+    ensures before { to.new.before ≡ to.old.before }
+{
+    to.begin_object()?;
+    write_natural("$rel", id.0, to)?;
+    write_natural("end", end.0, to)?;
+    begin_properties(to)
+}
+
+/// What stands behind a relationship's properties.
+fn end_rel(start: NodeId, kind: &str, to: &mut Writer) -> Result<(), AllocError>
+    ensures ok { OnOk result (to.new.tokens ≡ to.old.tokens ++ rel_ended start.0 kind.now) }
+    ensures before { to.new.before ≡ to.old.before }
+{
+    write_natural("start", start.0, to)?;
+    write_type(kind, to)?;
+    to.end_object()
+}
+
+fn begin_properties(to: &mut Writer) -> Result<(), AllocError>
+    ensures ok { OnOk result (to.new.tokens ≡ to.old.tokens ++ key_token (codes "properties") ∷ begin_object ∷ []) }
+    ensures before { to.new.before ≡ to.old.before }
+{
+    to.key("properties")?;
+    to.begin_object()
+}
+
+fn begin_path(to: &mut Writer) -> Result<(), AllocError>
+    ensures ok { OnOk result (to.new.tokens ≡ to.old.tokens ++ begin_object ∷ key_token (codes "$path") ∷ begin_array ∷ []) }
+    ensures before { to.new.before ≡ to.old.before }
+{
+    to.begin_object()?;
+    to.key("$path")?;
+    to.begin_array()
 }
 
 fn write_labels(labels: &[String], to: &mut Writer) -> Result<(), AllocError>

@@ -1,6 +1,7 @@
 //! From JSON data to the values of parameters.
-ghost use Rattle.std.specs.Prelude.{◌≡◌, ◌≢◌, None, Some, IfOk, IfErr};
+ghost use Rattle.std.specs.Prelude.{◌≡◌, ◌≢◌, None, Some, IfOk, IfErr, OnOk, string_bytes};
 ghost use Rattle.serde_json.specs.View.{view as data_view, items_view, members_view};
+ghost use Rattle.pg_meaning.specs.Entries.{put};
 ghost use Rattle.pg_json.specs.Given.{value_within, values_within, entries_within};
 ghost use Rattle.pg_meaning.specs.declared.fault.Fault.TheVariants.{BadRequest, OutOfMemory};
 ghost use Rattle.pg_value_core.specs.View.{view, values_view, entries_view};
@@ -8,7 +9,7 @@ ghost use Rattle.pg_value_core.specs.View.{view, values_view, entries_view};
 use pg_meaning::Fault;
 use pg_value_core::Value;
 use serde_json::{Map, Value as Data};
-use std::alloc::Global;
+use std::alloc::{AllocError, Global};
 use std::collections::BTreeMap;
 
 /// The value that data gives, if it gives one that is at most so deep.
@@ -62,8 +63,31 @@ pub(crate) fn entries_from(
     let mut entries = BTreeMap::new(alloc);
     for (key, given) in members.iter() {
         let value = value_from(alloc, given, room)?;
-        let name = String::from_str(alloc, key.as_str())?;
-        drop(entries.insert(name, value)?);
+        enter(alloc, &mut entries, key.as_str(), value)?;
     }
     Ok(entries)
+}
+
+/// Puts the value at a copy of the name.
+fn enter(
+    alloc: Global,
+    entries: &mut BTreeMap<String, Value>,
+    name: &str,
+    value: Value,
+) -> Result<(), AllocError>
+    ensures { OnOk result (entries_view entries.new.entries ≡ put name.now (view value) (entries_view entries.old.entries)) }
+{
+    put_entry(entries, String::from_str(alloc, name)?, value)
+}
+
+/// Puts the value at the name.
+pub(crate) fn put_entry(
+    entries: &mut BTreeMap<String, Value>,
+    name: String,
+    value: Value,
+) -> Result<(), AllocError>
+    ensures { OnOk result (entries_view entries.new.entries ≡ put (string_bytes name) (view value) (entries_view entries.old.entries)) }
+{
+    drop(entries.insert(name, value)?);
+    Ok(())
 }

@@ -8,7 +8,6 @@ use Rattle.serde_json.specs.Read.{of_json, of_items, of_members, converted}
 use Rattle.pg_json.specs.Given.{data_giving, members_giving, AreGiven, EntriesAreGiven}
 use Rattle.pg_json.proofs.Given.{members_giving-put, given_put}
 use Rattle.pg_json.proofs.Reading.{converted-array, converted-object, item_read, items_over, member_read, members_over, items_before, items_before-no_items, one_more_item, given_push}
-use Rattle.pg_value_core.proofs.Maps.{entries_view-insert_entry}
 use Rattle.pg_value_core.specs.View.{view, values_view, entries_view}
 use Rattle.pg_value_core.specs.declared.value.Value.{Null, Bool, Int, Text, List, Map, the_lemmas}
 use Rattle.pg_json.proofs.parameters.+read.Goals as goal
@@ -120,8 +119,8 @@ read_members-members-preserved t c =
     let less = read_key-shorter l.reader (Some k) s named in
     let lesser = done.shorter in
     let copied : string_bytes c.in_ok-key.key ≡ k = search rules in
-    let entered = ap entries_view c.in_ok-insert.ensures.entries ∙ entries_view-insert_entry l.found.entries c.in_ok-key.key v in
-    let inserted : members_giving (entries_view c.insert.new.self.entries) ≡ put k (data_giving (view v)) old =
+    let entered = c.in_ok-put_entry.ensures in
+    let inserted : members_giving (entries_view c.put_entry.new.entries.entries) ≡ put k (data_giving (view v)) old =
     ap members_giving entered ∙ members_giving-put (string_bytes c.in_ok-key.key) (view v) es ∙ ap (λ name. put name (data_giving (view v)) old) copied in (
       n - 1,
       omega (arith, l.invariant.1),

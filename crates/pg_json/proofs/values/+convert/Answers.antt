@@ -9,7 +9,6 @@ use Rattle.serde_json.proofs.Views.{Entry}
 use Rattle.pg_meaning.specs.Entries.{put}
 use Rattle.pg_json.specs.Given.{values_within, entries_within}
 use Rattle.pg_json.proofs.Converting.{one_more_value, no_value, all_values, after, one_more_entry, refused_entries}
-use Rattle.pg_value_core.proofs.Maps.{entries_view-insert_entry}
 use Rattle.pg_value_core.specs.View.{view, entries_view}
 use Rattle.pg_json.proofs.values.+convert.Goals as goal
 
@@ -22,12 +21,10 @@ entries_from-loop-key-preserved t c =
     let left = c.next.new.self in
     let all : c.args.members.now.entries ≡ done ++ e ∷ left = l.invariant.1 ∙ ap (λ es. done ++ es) c.in-Some.ensures.steps in
     let sorted = subst (λ es. IsStrictlySortedBy string_cmp (keys_of es)) all c.iter-key-items.ensures.ordered in
-    let last = one_more_entry room done e left (entries_view l.entries.entries) (view c.in_ok-value.value) sorted l.invariant.2 c.in_ok-value.ensures.ok in
-    let named : string_bytes c.in_ok-name.name ≡ string_bytes e.0 = c.in_ok-name.ensures.ok ∙ c.as_str.ensures.value in
-    let entered = ap entries_view c.in_ok-insert.ensures.entries ∙ entries_view-insert_entry l.entries.entries c.in_ok-name.name c.in_ok-value.value in (
+    let last = one_more_entry room done e left (entries_view l.entries.entries) (view c.in_ok-value.value) sorted l.invariant.2 c.in_ok-value.ensures.ok in (
       done ++ e ∷ [],
       all ∙ sym (append_assoc done (e ∷ []) left),
-      last ∙ ap Some (ap (λ k. put k (view c.in_ok-value.value) (entries_view l.entries.entries)) (sym named) ∙ sym entered),
+      last ∙ ap Some (ap (λ k. put k (view c.in_ok-value.value) (entries_view l.entries.entries)) (sym c.as_str.ensures.value) ∙ sym c.in_ok-enter.ensures),
     )
 
 pub entries_from-returns-clause-ok : goal.entries_from-returns-clause-ok

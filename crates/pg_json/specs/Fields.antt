@@ -1,5 +1,5 @@
 -- The members of an object that has texts and parameters at the keys of a query or a status. For private clauses.
-use Rattle.std.specs.Prelude.{◌≡◌, ℕ, ⊤, MatchOption, option_and_then, unwrap_or, List, [], ◌∷◌, Option, None, Some, option_map, if◌then◌else◌, codes}
+use Rattle.std.specs.Prelude.{◌≡◌, ℕ, ⊤, Bool, true, false, MatchOption, option_and_then, unwrap_or, List, [], ◌∷◌, Option, None, Some, option_map, if◌then◌else◌, codes}
 use Rattle.std.specs.Str.{bytes_eq}
 use Rattle.serde_json.specs.Data.{Data, Members, no_members, member, string, object}
 use Rattle.pg_meaning.specs.Measure.{greatest_depth}
@@ -65,6 +65,6 @@ abbrev pub AsksNothing : Option (Members × List Token) → Type 0
 AsksNothing o = MatchOption o ⊤ (λ p. object_request p.0 ≡ None)
 
 -- the same of the members behind an opening brace, with the tokens that are left
-abbrev pub IsGlanceOfMembers : Option (Members × List Token) → List Token → Glance → Type 0
-IsGlanceOfMembers o rest (Fitting f) = (o ≡ Some (members_with f, rest)) × HaveDepth (parameters_of f)
-IsGlanceOfMembers o rest NoRequest = AsksNothing o
+abbrev pub IsGlanceOfMembers : Option (Members × List Token) → List Token → Fields → Bool → Type 0
+IsGlanceOfMembers o rest f true = o ≡ Some (members_with f, rest)
+IsGlanceOfMembers o rest f false = AsksNothing o

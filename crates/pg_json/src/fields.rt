@@ -1,10 +1,10 @@
 //! What stands at a request's keys, read token by token.
 ghost use Rattle.std.specs.Prelude.{◌≡◌, ◌≢◌, length, true, None, Some, IfOk, IfErr, bytes_eq, codes};
 ghost use Rattle.json.specs.Json.{members, value};
-ghost use Rattle.serde_json.specs.Data.{string, no_members, put};
+ghost use Rattle.serde_json.specs.Data.{string, put};
 ghost use Rattle.serde_json.specs.Read.{read, of_members, converted};
 ghost use Rattle.pg_json.specs.Bodies.{request_view};
-ghost use Rattle.pg_json.specs.Fields.{members_with, object_giving, parameters_of, asked_with, name_keys, text_keys, IsGlance, IsGlanceOfMembers};
+ghost use Rattle.pg_json.specs.Fields.{members_with, object_giving, parameters_of, asked_with, name_keys, text_keys, HaveDepth, IsGlance, IsGlanceOfMembers};
 ghost use Rattle.pg_json.specs.Requests.{is_one_of, query};
 ghost use Rattle.pg_value_core.specs.View.{entries_view};
 ghost use Rattle.pg_meaning.specs.declared.fault.Fault.TheVariants.{BadRequest, OutOfMemory};
@@ -47,45 +47,49 @@ pub(crate) fn look<'a>(
     let Some(Token::BeginObject) = reader.next() else {
         return Err(Unread::Unclear);
     };
-    match fields_by_key(alloc, &mut reader) {
-        Ok(Glance::Fitting(found)) => match reader.next() {
-            None => Ok(Glance::Fitting(found)),
-            Some(_) => Ok(Glance::NoRequest),
-        },
-        Ok(Glance::NoRequest) => Ok(Glance::NoRequest),
-        Err(unread) => Err(unread),
-    }
-}
-
-fn fields_by_key<'a>(alloc: Global, reader: &mut Reader<'a>) -> Result<Glance<'a>, Unread>
-    ensures { IfOk result (IsGlanceOfMembers (converted (λ ms. of_members ms no_members) (members (value 126) (length reader.old) reader.old)) reader.new) }
-{
     let mut found = Fields {
         op: None,
         parameters: None,
         text: None,
         token: None,
     };
+    if !take_fields(alloc, &mut reader, &mut found)? {
+        return Ok(Glance::NoRequest);
+    }
+    match reader.next() {
+        None => Ok(Glance::Fitting(found)),
+        Some(_) => Ok(Glance::NoRequest),
+    }
+}
+
+/// Takes what stands at the keys, up to the closing brace; whether it fits.
+fn take_fields<'a>(
+    alloc: Global,
+    reader: &mut Reader<'a>,
+    found: &mut Fields<'a>,
+) -> Result<bool, Unread>
+    ensures members { IfOk result (IsGlanceOfMembers (converted (λ ms. of_members ms (members_with found.old)) (members (value 126) (length reader.old) reader.old)) reader.new found.new) }
+    ensures depth { HaveDepth (parameters_of found.old) → HaveDepth (parameters_of found.new) }
+{
     'members: loop {
         let key = match reader.next_key() {
             Ok(Some(key)) => key,
-            Ok(None) => return Ok(Glance::Fitting(found)),
-            Err(_) => return Ok(Glance::NoRequest),
+            Ok(None) => return Ok(true),
+            Err(_) => return Ok(false),
         };
         if is_parameters_key(key) {
-            let parameters = read_parameters(alloc, reader)?;
-            found = with_parameters(found, parameters);
+            put_parameters(found, read_parameters(alloc, reader)?);
             continue 'members;
         }
         if is_index_key(key) {
             return Err(Unread::Unclear);
         }
         if !is_text_key(key) {
-            return Ok(Glance::NoRequest);
+            return Ok(false);
         }
         match reader.next() {
-            Some(Token::String(text)) => found = with(found, key, text),
-            Some(Token::Bad) => return Ok(Glance::NoRequest),
+            Some(Token::String(text)) => put_text(found, key, text),
+            Some(Token::Bad) => return Ok(false),
             _ => return Err(Unread::Unclear),
         }
     }
@@ -109,39 +113,26 @@ fn is_text_key(key: &str) -> bool
     key == "op" || key == "token" || key == "text"
 }
 
-/// With this text at this key.
-fn with<'a>(found: Fields<'a>, key: &str, text: &'a str) -> Fields<'a>
+/// Puts the text at the key.
+fn put_text<'a>(found: &mut Fields<'a>, key: &str, text: &'a str)
     requires { is_one_of text_keys key.now ≡ true }
-    ensures texts { members_with result ≡ put key.now (string text.now) (members_with found.entry) }
-    ensures parameters { parameters_of result ≡ parameters_of found.entry }
+    ensures texts { members_with found.new ≡ put key.now (string text.now) (members_with found.old) }
+    ensures parameters { parameters_of found.new ≡ parameters_of found.old }
 {
     if key == "op" {
-        Fields {
-            op: Some(text),
-            ..found
-        }
+        found.op = Some(text);
     } else if key == "text" {
-        Fields {
-            text: Some(text),
-            ..found
-        }
+        found.text = Some(text);
     } else {
-        Fields {
-            token: Some(text),
-            ..found
-        }
+        found.token = Some(text);
     }
 }
 
-/// With these parameters.
-fn with_parameters<'a>(found: Fields<'a>, parameters: BTreeMap<String, Value>) -> Fields<'a>
-    ensures members { members_with result ≡ put (codes "params") (object_giving (entries_view parameters.entries)) (members_with found.entry) }
-    ensures parameters { parameters_of result ≡ Some (entries_view parameters.entries) }
+fn put_parameters(found: &mut Fields<'_>, parameters: BTreeMap<String, Value>)
+    ensures members { members_with found.new ≡ put (codes "params") (object_giving (entries_view parameters.entries)) (members_with found.old) }
+    ensures parameters { parameters_of found.new ≡ Some (entries_view parameters.entries) }
 {
-    Fields {
-        parameters: Some(parameters),
-        ..found
-    }
+    found.parameters = Some(parameters);
 }
 
 /// The request that has these fields.

@@ -10,7 +10,7 @@ use Rattle.pg_json.specs.Requests.{is_one_of}
 use Rattle.pg_json.proofs.Reading.{member_read, member_refused, key_refused, members_over}
 use Rattle.pg_json.proofs.Strangers.{strange_member, no_key}
 use Rattle.pg_value_core.specs.View.{entries_view}
-use Rattle.pg_json.proofs.fields.fields_by_key.Goals as goal
+use Rattle.pg_json.proofs.fields.take_fields.Goals as goal
 
 pub members-preserved-then-is_parameters_key : goal.members-preserved-then-is_parameters_key
 members-preserved-then-is_parameters_key c =
@@ -21,8 +21,8 @@ members-preserved-then-is_parameters_key c =
     let k = c.in-Ok-Some.key.now in
     let s = c.next_key.new.self in
     let r = c.read_parameters.new.reader in
-    let done = c.in_ok-parameters.ensures in
-    let d = object_giving (entries_view c.in_ok-parameters.parameters.entries) in
+    let done = c.in_ok-read_parameters.ensures in
+    let d = object_giving (entries_view c.in_ok-read_parameters.field-0.entries) in
     let named : read_key l.reader ≡ Some (Some k, s) = grind arith in
     let is : bytes_eq k (codes "params") ≡ true = search rules in
     let same : k ≡ codes "params" = (bytes_eq-Decides k (codes "params")).0 is in
@@ -32,8 +32,8 @@ members-preserved-then-is_parameters_key c =
       n - 1,
       omega (arith, l.invariant.1, less, lesser),
       l.invariant.2 ∙ turn ∙ ap (λ key. converted (λ ms. of_members ms (put key d old)) (members p (n - 1) r)) same
-          ∙ ap (λ found. converted (λ ms. of_members ms found) (members p (n - 1) r)) (sym c.with_parameters-found.ensures.members),
-      subst HaveDepth (sym c.with_parameters-found.ensures.parameters) done.given,
+          ∙ ap (λ found. converted (λ ms. of_members ms found) (members p (n - 1) r)) (sym c.put_parameters.ensures.members),
+      λ _. subst HaveDepth (sym c.put_parameters.ensures.parameters) done.given,
     )
 
 pub members-preserved : goal.members-preserved
@@ -53,12 +53,12 @@ members-preserved c =
     let turn = member_read p old n k l.reader s r d (omega (arith, l.invariant.1, less)) named is in (
       n - 1,
       omega (arith, l.invariant.1, less, ap length first),
-      l.invariant.2 ∙ turn ∙ ap (λ found. converted (λ ms. of_members ms found) (members p (n - 1) r)) (sym c.with-found.ensures.texts),
-      subst HaveDepth (sym c.with-found.ensures.parameters) l.invariant.3,
+      l.invariant.2 ∙ turn ∙ ap (λ found. converted (λ ms. of_members ms found) (members p (n - 1) r)) (sym c.put_text.ensures.texts),
+      λ before. subst HaveDepth (sym c.put_text.ensures.parameters) (l.invariant.3 before),
     )
 
-pub returns-then-not-is_text_key : goal.returns-then-not-is_text_key
-returns-then-not-is_text_key c =
+pub returns-then-not-is_text_key-clause-members : goal.returns-then-not-is_text_key-clause-members
+returns-then-not-is_text_key-clause-members c =
     let l = c.members in
     let k = c.in-Ok-Some.key.now in
     let named : read_key l.reader ≡ Some (Some k, c.next_key.new.self) = grind arith in
@@ -67,8 +67,8 @@ returns-then-not-is_text_key c =
     let no_parameters : bytes_eq k (codes "params") ≡ false = search rules in
     subst AsksNothing (sym l.invariant.2) (strange_member (value 126) (members_with l.found) l.invariant.0 k l.reader c.next_key.new.self named (no_key k no_text no_parameters no_name))
 
-pub returns-in-Some-Bad : goal.returns-in-Some-Bad
-returns-in-Some-Bad c =
+pub returns-in-Some-Bad-clause-members : goal.returns-in-Some-Bad-clause-members
+returns-in-Some-Bad-clause-members c =
     let p = value 126 in
     let l = c.members in
     let k = c.in-Ok-Some.key.now in
@@ -78,14 +78,12 @@ returns-in-Some-Bad c =
     let none : converted of_json (p s) ≡ None = ap (converted of_json) (ap p first ∙ value_is 126 _) in
     subst AsksNothing (sym (l.invariant.2 ∙ member_refused p (members_with l.found) l.invariant.0 k l.reader s named none)) tt
 
-pub returns-in-Ok-None : goal.returns-in-Ok-None
-returns-in-Ok-None c =
-    let l = c.members in (
-      l.invariant.2 ∙ members_over (value 126) (members_with l.found) l.invariant.0 l.reader c.next_key.new.self l.invariant.1 (grind arith),
-      l.invariant.3,
-    )
+pub returns-in-Ok-None-clause-members : goal.returns-in-Ok-None-clause-members
+returns-in-Ok-None-clause-members c =
+    let l = c.members in
+    l.invariant.2 ∙ members_over (value 126) (members_with l.found) l.invariant.0 l.reader c.next_key.new.self l.invariant.1 (grind arith)
 
-pub returns-in-Err : goal.returns-in-Err
-returns-in-Err c =
+pub returns-in-Err-clause-members : goal.returns-in-Err-clause-members
+returns-in-Err-clause-members c =
     let l = c.members in
     subst AsksNothing (sym (l.invariant.2 ∙ key_refused (value 126) (members_with l.found) l.invariant.0 l.reader c.in-Err.ensures.value)) tt

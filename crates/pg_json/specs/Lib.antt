@@ -8,5 +8,6 @@ pub mod Bytes
 pub mod Room
 pub mod Given
 pub mod Fields
+pub mod Operations
 pub mod Laws
 pub mod Rows

@@ -1,6 +1,8 @@
 //! The parameters of a query, read token by token.
-ghost use Rattle.std.specs.Prelude.{◌≡◌, ◌<◌, ◌+◌, length, Some, IfOk, OnOk, map};
+ghost use Rattle.std.specs.Prelude.{◌≡◌, ◌<◌, ◌+◌, ◌∷◌, ℕ, List, length, Some, IfOk, OnOk, map};
 ghost use Rattle.json.specs.Json.{value, items, members};
+ghost use Rattle.json.specs.Token as tokens;
+ghost use Rattle.json.specs.Reads.{token_of};
 ghost use Rattle.serde_json.specs.Data.{no_members};
 ghost use Rattle.serde_json.specs.Read.{of_json, of_items, of_members, converted};
 ghost use Rattle.pg_meaning.specs.Measure.{greatest_depth};
@@ -46,15 +48,26 @@ fn read(alloc: Global, reader: &mut Reader<'_>, room: usize) -> Result<Value, Un
         return Err(Unread::Unclear);
     }
     match reader.next() {
-        Some(Token::Null) => Ok(Value::Null),
-        Some(Token::Bool(b)) => Ok(Value::Bool(b)),
-        Some(Token::Number(text)) => match whole_number(text) {
+        Some(Token::BeginArray) => Ok(Value::List(read_items(alloc, reader, room - 1)?)),
+        Some(Token::BeginObject) => Ok(Value::Map(read_members(alloc, reader, room - 1)?)),
+        Some(token) => scalar(alloc, token),
+        None => Err(Unread::Unclear),
+    }
+}
+
+/// The value that one token is.
+fn scalar(alloc: Global, token: Token<'_>) -> Result<Value, Unread>
+    ensures ok { (depth : ℕ) (rest : List tokens.Token) → IfOk result (λ v. converted of_json (value depth (token_of token.entry ∷ rest)) ≡ Some (data_giving (view v), rest)) }
+    ensures given { (room : ℕ) → 0 < room → IfOk result (λ v. IsGiven room (view v)) }
+{
+    match token {
+        Token::Null => Ok(Value::Null),
+        Token::Bool(b) => Ok(Value::Bool(b)),
+        Token::Number(text) => match whole_number(text) {
             Some(number) => Ok(Value::Int(number)),
             None => Err(Unread::Unclear),
         },
-        Some(Token::String(text)) => Ok(Value::Text(String::from_str(alloc, text)?)),
-        Some(Token::BeginArray) => Ok(Value::List(read_items(alloc, reader, room - 1)?)),
-        Some(Token::BeginObject) => Ok(Value::Map(read_members(alloc, reader, room - 1)?)),
+        Token::String(text) => Ok(Value::Text(String::from_str(alloc, text)?)),
         _ => Err(Unread::Unclear),
     }
 }

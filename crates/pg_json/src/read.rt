@@ -6,6 +6,7 @@ ghost use Rattle.serde_json.specs.Find.{as_object, as_str, get_member};
 ghost use Rattle.pg_json.specs.Parameters.{parameters_in as spec_parameters_in};
 ghost use Rattle.pg_json.specs.Requests.{meaning, request_of, object_request, parameters_given, create_index, drop_index, query_of, status_of, index_of, query_keys, status_keys, index_keys, with_only, name_at, Request, if_any as spec_if_any, text_at as spec_text_at, has_only as spec_has_only, is_one_of as spec_is_one_of};
 ghost use Rattle.pg_json.specs.Bodies.{request_view};
+ghost use Rattle.pg_json.specs.Operations.{asked_by};
 ghost use Rattle.pg_value_core.specs.View.{entries_view};
 ghost use Rattle.pg_meaning.specs.declared.fault.Fault.TheVariants.{BadRequest, OutOfMemory};
 
@@ -72,22 +73,40 @@ fn object_from(alloc: Global, members: Map<String, Value>) -> Result<RequestBody
     ensures kind { IfErr result (λ e. e ≢ OutOfMemory → e ≡ BadRequest) }
     ensures refused { IfErr result (λ e. e ≢ OutOfMemory → object_request (members_view members.entries) ≡ None) }
 {
-    let Some(op) = text_at(&members, "op") else {
-        return Err(Fault::BadRequest);
-    };
+    match operation_of(&members) {
+        Some(Operation::Query) => query_from(alloc, members),
+        Some(Operation::Status) => status_from(members),
+        Some(Operation::CreateIndex) => create_index_from(members),
+        Some(Operation::DropIndex) => drop_index_from(members),
+        None => Err(Fault::BadRequest),
+    }
+}
+
+/// What a request asks for.
+#[derive(Clone, Copy, Drop)]
+enum Operation {
+    Query,
+    Status,
+    CreateIndex,
+    DropIndex,
+}
+
+/// The operation that the members name.
+fn operation_of(members: &Map<String, Value>) -> Option<Operation>
+    ensures { option_and_then (λ o. asked_by o (members_view members.now.entries)) result ≡ object_request (members_view members.now.entries) }
+{
+    let op = text_at(members, "op")?;
     if op == "query" {
-        return query_from(alloc, members);
+        Some(Operation::Query)
+    } else if op == "status" {
+        Some(Operation::Status)
+    } else if op == "create_index" {
+        Some(Operation::CreateIndex)
+    } else if op == "drop_index" {
+        Some(Operation::DropIndex)
+    } else {
+        None
     }
-    if op == "status" {
-        return status_from(members);
-    }
-    if op == "create_index" {
-        return create_index_from(members);
-    }
-    if op == "drop_index" {
-        return drop_index_from(members);
-    }
-    Err(Fault::BadRequest)
 }
 
 fn query_from(alloc: Global, mut members: Map<String, Value>) -> Result<RequestBody, Fault>

@@ -1,5 +1,6 @@
 use Rattle.std.proofs.Common.{◌≡◌, ◌+◌, ◌-◌, ◌<◌, ◌∷◌, length, Some, None, string_bytes, sym, ap, subst, ◌∙◌, arith, rules, to_z, of_z, w64, option_map}
 use Rattle.json.specs.Token.{Token}
+use Rattle.json.specs.Reads.{token_of}
 use Rattle.json.specs.Json.{parse_map, after_end_array, read_key, items, members, value}
 use Rattle.json.proofs.Grammar.{value_is, value-begin_array, value-begin_object, read_key-shorter}
 use Rattle.serde_json.specs.Data.{Data, null, boolean, number, string, array, object, put, no_members}
@@ -12,37 +13,10 @@ use Rattle.pg_value_core.specs.View.{view, values_view, entries_view}
 use Rattle.pg_value_core.specs.declared.value.Value.{Null, Bool, Int, Text, List, Map, the_lemmas}
 use Rattle.pg_json.proofs.parameters.+read.Goals as goal
 
-pub read-returns-in-Some-Null-clause-ok : goal.read-returns-in-Some-Null-clause-ok
-read-returns-in-Some-Null-clause-ok t c =
-    let d = c.args.room + 61 in
-    let is : c.args.reader.now ≡ Token.null ∷ c.next.new.self = grind arith in
-    let seen : data_giving (view Null) ≡ null = search (rules, the_lemmas) in
-    ap (converted of_json) (ap (value d) is ∙ value_is d _) ∙ ap (λ j. Some (j, c.next.new.self)) (sym seen)
-
-pub read-returns-in-Some-Bool-clause-ok : goal.read-returns-in-Some-Bool-clause-ok
-read-returns-in-Some-Bool-clause-ok t c =
-    let d = c.args.room + 61 in
-    let is : c.args.reader.now ≡ Token.boolean c.in-Some-Bool.b ∷ c.next.new.self = grind arith in
-    let seen : data_giving (view (Bool c.in-Some-Bool.b)) ≡ boolean c.in-Some-Bool.b = search (rules, the_lemmas) in
-    ap (converted of_json) (ap (value d) is ∙ value_is d _) ∙ ap (λ j. Some (j, c.next.new.self)) (sym seen)
-
 pub read-returns-in-Some-clause-ok : goal.read-returns-in-Some-clause-ok
 read-returns-in-Some-clause-ok t c =
-    let d = c.args.room + 61 in
-    let is : c.args.reader.now ≡ Token.number c.in-Some-Number.text.now ∷ c.next.new.self = grind arith in
-    let rest = c.next.new.self in
-    let same : to_z w64 (of_z w64 c.in-Some.number) ≡ c.in-Some.number = search rules in
-    let seen : data_giving (view (Int (to_z w64 (of_z w64 c.in-Some.number)))) ≡ number (of_integer (to_z w64 (of_z w64 c.in-Some.number))) = search (rules, the_lemmas) in
-    ap (converted of_json) (ap (value d) is ∙ value_is d _)
-    ∙ ap (λ m. option_map {U = Data × _} (λ b. (b, rest)) (option_map number m)) c.in-Some.ensures.read
-    ∙ ap (λ z. Some (number (of_integer z), rest)) (sym same) ∙ ap (λ j. Some (j, rest)) (sym seen)
-
-pub read-returns-in_ok-from_str-in-Some-String-clause-ok : goal.read-returns-in_ok-from_str-in-Some-String-clause-ok
-read-returns-in_ok-from_str-in-Some-String-clause-ok t c =
-    let d = c.args.room + 61 in
-    let is : c.args.reader.now ≡ Token.string c.in-Some-String.text.now ∷ c.next.new.self = grind arith in
-    let seen : data_giving (view (Text c.in_ok-from_str-in-Some-String.field-0)) ≡ string c.in-Some-String.text.now = search (rules, the_lemmas) in
-    ap (converted of_json) (ap (value d) is ∙ value_is d _) ∙ ap (λ j. Some (j, c.next.new.self)) (sym seen)
+    let is : c.args.reader.now ≡ token_of c.in-Some.token ∷ c.next.new.self = grind arith in
+    rw is (c.scalar.ensures.ok (c.args.room + 61) c.next.new.self)
 
 pub read-returns-in_ok-read_items-in-Some-BeginArray-clause-ok : goal.read-returns-in_ok-read_items-in-Some-BeginArray-clause-ok
 read-returns-in_ok-read_items-in-Some-BeginArray-clause-ok t c =

@@ -1,11 +1,12 @@
 -- One item more of a list whose bytes are put behind those that were found.
 use Rattle.std.proofs.Common.{◌≡◌, ℕ, ◌+◌, ◌<◌, List, ◌∷◌, map, length, drop, get_or, refl, sym, ap, ◌∙◌}
 use Rattle.std.proofs.lemmas.List.{drop_more}
-use Rattle.pg_item_index.specs.Codes.{with_byte, byte_of_operator, with_expression, with_expressions, with_whens, with_operands, with_tests, with_suffixes, with_test, with_suffix}
-use Rattle.pg_meaning.specs.Parse.{expressions_of, operands_of, whens_of}
+use Rattle.pg_item_index.specs.Codes.{with_byte, with_text, with_pairs, byte_of_operator, with_expression, with_expressions, with_whens, with_operands, with_tests, with_suffixes, with_test, with_suffix}
+use Rattle.pg_meaning.specs.Parse.{expressions_of, operands_of, pairs_of, whens_of}
 use Rattle.pg_meaning.specs.declared.operators.Operator.{Operator}
-use Rattle.pg_syntax_tree.specs.View.{expression_view, suffixes_of, tests_of, when_view, operand_view, test_view, suffix_view}
+use Rattle.pg_syntax_tree.specs.View.{expression_view, name_view, suffixes_of, tests_of, pair_view, when_view, operand_view, test_view, suffix_view}
 use Rattle.pg_syntax_tree.specs.declared.expression.Expression.{Expression}
+use Rattle.pg_syntax_tree.specs.declared.expression.Name.{Name}
 use Rattle.pg_syntax_tree.specs.declared.expression.Suffix.{Suffix}
 use Rattle.pg_syntax_tree.specs.declared.expression.Suffix.TheVariants as suffix
 use Rattle.pg_syntax_tree.specs.declared.expression.Test.{Test}
@@ -26,6 +27,9 @@ module _ {X : Type 0} (k : Written X) where
 
 abbrev pub expressions : Written Expression
 expressions = record { one = λ x. with_expression (expression_view x); all = λ xs. with_expressions (expressions_of (map expression_view xs)); step = λ x xs code. refl }
+
+abbrev pub pairs : Written (Name × Expression)
+pairs = record { one = λ x code. with_expression (expression_view x.1) (with_text (name_view x.0).text (with_byte 1 code)); all = λ xs. with_pairs (pairs_of (map pair_view xs)); step = λ x xs code. refl }
 
 abbrev pub whens : Written (Expression × Expression)
 whens = record { one = λ x code. with_expression (expression_view x.1) (with_expression (expression_view x.0) code); all = λ xs. with_whens (whens_of (map when_view xs)); step = λ x xs code. refl }

@@ -1,10 +1,10 @@
 use Rattle.std.proofs.Common.{rules, ◌≡◌, ◌<◌, ℕ, length, List, [], ◌∷◌, ◌++◌, map, subst, ap, ◌∙◌}
 use Rattle.std.specs.Prelude.{OnOk}
-use Rattle.pg_item_index.specs.Codes.{byte_of_form, with_byte, with_expression, with_perhaps, with_whens, with_suffixes, with_names}
-use Rattle.pg_meaning.specs.Parse.{whens_of}
-use Rattle.pg_syntax_tree.specs.View.{expression_view, names_view, suffixes_of, when_view, suffix_view, perhaps_view}
+use Rattle.pg_item_index.specs.Codes.{byte_of_form, with_byte, with_text, with_expression, with_pairs, with_perhaps, with_whens, with_operands, with_tests, with_suffixes, with_names}
+use Rattle.pg_meaning.specs.Parse.{operands_of, pairs_of, whens_of}
+use Rattle.pg_syntax_tree.specs.View.{expression_view, name_view, names_view, operand_view, pair_view, suffixes_of, tests_of, when_view, suffix_view, test_view, perhaps_view}
 use Rattle.pg_syntax_tree.specs.declared.expression.Expression.{Expression}
-use Rattle.pg_syntax_tree.proofs.Views.{case_is, suffixes_is}
+use Rattle.pg_syntax_tree.proofs.Views.{map_is, case_is, chain_is, tests_is, suffixes_is}
 use Rattle.pg_item_index.proofs.CodeSteps as lemma
 use Rattle.pg_item_index.proofs.codes.+codes.Goals as goal
 
@@ -23,6 +23,37 @@ add_expression-returns-in_ok-add_suffixes-in-Suffixes t c =
     let begun = c.in_ok-add_byte.ensures ∙ ap (λ (b : ℕ). with_byte b c.args.code.now.items) (c.byte_of_form.ensures ∙ ap (λ (e : Expression). byte_of_form (expression_view e)) x.is ∙ ap byte_of_form (suffixes_is x.first x.suffixes x.labels)) in
     let before = c.in_ok-add_suffixes-in-Suffixes.ensures ∙ ap (with_suffixes (suffixes_of (map suffix_view x.suffixes.items))) (c.in_ok-add_expression-in-Suffixes.ensures ∙ ap (with_expression (expression_view c.deref-in-Suffixes.result.now)) begun ∙ ap (λ (y : Expression). with_expression (expression_view y) (c.args.code.now.items ++ 13 ∷ [])) c.deref-in-Suffixes.ensures) in
     rw (x.is, suffixes_is x.first x.suffixes x.labels) (subst (λ (l : List ℕ). OnOk last.result (last.new.code.items ≡ with_names (names_view x.labels.items) l)) before last.ensures)
+
+pub add_expression-returns-in-MapLiteral : goal.add_expression-returns-in-MapLiteral
+add_expression-returns-in-MapLiteral t c =
+    let x = c.in-MapLiteral in
+    let last = c.add_pairs in
+    let begun = c.in_ok-add_byte.ensures ∙ ap (λ (b : ℕ). with_byte b c.args.code.now.items) (c.byte_of_form.ensures ∙ ap (λ (e : Expression). byte_of_form (expression_view e)) x.is ∙ ap byte_of_form (map_is x.pairs)) in
+    rw (x.is, map_is x.pairs) (subst (λ (l : List ℕ). OnOk last.result (last.new.code.items ≡ with_pairs (pairs_of (map pair_view x.pairs.items)) l)) begun last.ensures)
+
+pub add_expression-returns-in_ok-add_expression-in-Chain : goal.add_expression-returns-in_ok-add_expression-in-Chain
+add_expression-returns-in_ok-add_expression-in-Chain t c =
+    let x = c.in-Chain in
+    let last = c.add_operands in
+    let begun = c.in_ok-add_byte.ensures ∙ ap (λ (b : ℕ). with_byte b c.args.code.now.items) (c.byte_of_form.ensures ∙ ap (λ (e : Expression). byte_of_form (expression_view e)) x.is ∙ ap byte_of_form (chain_is x.first x.operands)) in
+    let before = c.in_ok-add_expression-in-Chain.ensures ∙ ap (with_expression (expression_view c.deref-in-Chain.result.now)) begun ∙ ap (λ (y : Expression). with_expression (expression_view y) (c.args.code.now.items ++ 9 ∷ [])) c.deref-in-Chain.ensures in
+    rw (x.is, chain_is x.first x.operands) (subst (λ (l : List ℕ). OnOk last.result (last.new.code.items ≡ with_operands (operands_of (map operand_view x.operands.items)) l)) before last.ensures)
+
+pub add_expression-returns-in_ok-add_expression-in-Tests : goal.add_expression-returns-in_ok-add_expression-in-Tests
+add_expression-returns-in_ok-add_expression-in-Tests t c =
+    let x = c.in-Tests in
+    let last = c.add_tests in
+    let begun = c.in_ok-add_byte.ensures ∙ ap (λ (b : ℕ). with_byte b c.args.code.now.items) (c.byte_of_form.ensures ∙ ap (λ (e : Expression). byte_of_form (expression_view e)) x.is ∙ ap byte_of_form (tests_is x.first x.tests)) in
+    let before = c.in_ok-add_expression-in-Tests.ensures ∙ ap (with_expression (expression_view c.deref-in-Tests.result.now)) begun ∙ ap (λ (y : Expression). with_expression (expression_view y) (c.args.code.now.items ++ 12 ∷ [])) c.deref-in-Tests.ensures in
+    rw (x.is, tests_is x.first x.tests) (subst (λ (l : List ℕ). OnOk last.result (last.new.code.items ≡ with_tests (tests_of (map test_view x.tests.items)) l)) before last.ensures)
+
+pub add_pairs-loop-pair-preserved : goal.add_pairs-loop-pair-preserved
+add_pairs-loop-pair-preserved t c =
+    let l = c.loop-pair in
+    let xs = c.args.pairs.now.items in
+    let inside : l.pair-index < length xs = search rules in
+    let x = c.pair-item.result in
+    lemma.written_here lemma.pairs xs l.pair-index x inside (search rules) (c.in_ok-add_expression.ensures ∙ ap (with_expression (expression_view x.1)) (c.in_ok-add_text.ensures ∙ ap (λ (s : List ℕ). with_text s c.add_byte.new.code.items) c.as_str.ensures.value ∙ ap (with_text (name_view x.0).text) c.in_ok-add_byte.ensures)) l.invariant
 
 pub add_all-loop-expression-preserved : goal.add_all-loop-expression-preserved
 add_all-loop-expression-preserved t c =

@@ -1,7 +1,22 @@
 use Rattle.std.proofs.Common.{arith, rules, ◌<◌, ◌≡◌, length, sym, ◌∙◌}
-use Rattle.pg_syntax_tree.proofs.Views.{case_is, suffixes_is}
+use Rattle.pg_syntax_tree.proofs.Views.{map_is, case_is, chain_is, tests_is, suffixes_is}
 use Rattle.pg_item_index.proofs.TreeLemmas as lemma
 use Rattle.pg_item_index.proofs.trees.+trees.Goals as goal
+
+pub same_expression-returns-in-MapLiteral-b : goal.same_expression-returns-in-MapLiteral-b
+same_expression-returns-in-MapLiteral-b t c = let x = c.in-MapLiteral in let y = c.in-MapLiteral-b in rw x.is (rw y.is (rw (map_is x.a) (rw (map_is y.b) c.same_pairs.ensures)))
+
+pub same_expression-returns-then-same_expression : goal.same_expression-returns-then-same_expression
+same_expression-returns-then-same_expression t c = let x = c.in-Chain in let y = c.in-Chain-b in rw x.is (rw y.is (rw (chain_is x.a x.xs) (rw (chain_is y.b y.ys) (grind arith))))
+
+pub same_expression-returns-else-same_expression : goal.same_expression-returns-else-same_expression
+same_expression-returns-else-same_expression t c = let x = c.in-Chain in let y = c.in-Chain-b in rw x.is (rw y.is (rw (chain_is x.a x.xs) (rw (chain_is y.b y.ys) (grind arith))))
+
+pub same_expression-returns-then-same_expression-2 : goal.same_expression-returns-then-same_expression-2
+same_expression-returns-then-same_expression-2 t c = let x = c.in-Tests in let y = c.in-Tests-b in rw x.is (rw y.is (rw (tests_is x.a x.xs) (rw (tests_is y.b y.ys) (grind arith))))
+
+pub same_expression-returns-else-same_expression-2 : goal.same_expression-returns-else-same_expression-2
+same_expression-returns-else-same_expression-2 t c = let x = c.in-Tests in let y = c.in-Tests-b in rw x.is (rw y.is (rw (tests_is x.a x.xs) (rw (tests_is y.b y.ys) (grind arith))))
 
 pub same_expression-returns-then-same_whens : goal.same_expression-returns-then-same_whens
 same_expression-returns-then-same_whens t c = let x = c.in-Case in let y = c.in-Case-b in rw x.is (rw y.is (rw (case_is x.a x.whens x.x) (rw (case_is y.b y.others y.y) (elim c.if-same_perhaps.branch [

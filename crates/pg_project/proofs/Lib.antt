@@ -5,6 +5,7 @@ pub mod EachAnswer
 pub mod ExitLemmas
 pub mod InTurn
 pub mod Kept
+pub mod MadeLemmas
 pub mod Moves
 pub mod Projecting
 pub mod ReturnedInTurn

@@ -4,7 +4,7 @@ use Rattle.std.proofs.lemmas.Result.{IfOk-from_err}
 use Rattle.pg_meaning.specs.Projections.{item_rows}
 use Rattle.pg_meaning.specs.declared.fault.Fault.{Fault}
 use Rattle.pg_expr.proofs.ExitLemmas.{fault_passed}
-use Rattle.pg_project.proofs.Projecting.{items_fail, ended_gives}
+use Rattle.pg_project.proofs.Projecting.{cut_fails, items_fail, ended_gives}
 use Rattle.pg_project.specs.Columns.{columns_view}
 use Rattle.pg_project.specs.Cuts.{cut_view}
 use Rattle.pg_group.specs.Items.{columns_of, expressions_view}
@@ -15,6 +15,7 @@ use Rattle.pg_rows.specs.States.{seen}
 use Rattle.pg_rows.specs.Tables.{table}
 use Rattle.pg_syntax_tree.specs.View.{expression_view, projection_view}
 use Rattle.pg_value_core.specs.Given.{parameters_view}
+use Rattle.pg_project.proofs.ExitLemmas.{memory_passed}
 use Rattle.pg_project.proofs.parts.projected_rows.Goals as goal
 
 pub returns-in_err-wide-clause-gives : goal.returns-in_err-wide-clause-gives
@@ -57,3 +58,29 @@ returns-clause-gives g c = λ s given.
     ended_gives s graph ps given all p where_ rows columns c.args.names.now es c.in_ok-items.ensures.trees (cut_view c.in_ok-cut.cut) c.in_ok-cut.ensures.ok
     wide.wide (length items) same long named made
     c.ended_rows.result c.ended_rows.ensures.ok c.ended_rows.ensures.err
+
+pub returns-in_err-items-clause-gives : goal.returns-in_err-items-clause-gives
+returns-in_err-items-clause-gives g c = λ s given. record {
+      ok = IfOk-from_err c.from_residual.result _ c.from_residual.ensures.0;
+      err = memory_passed _ c.from_residual.result c.from_residual.ensures.1;
+    }
+
+pub returns-in_err-items-clause-width : goal.returns-in_err-items-clause-width
+returns-in_err-items-clause-width g c = IfOk-from_err c.from_residual.result _ c.from_residual.ensures.0
+
+pub returns-in_err-cut-clause-gives : goal.returns-in_err-cut-clause-gives
+returns-in_err-cut-clause-gives g c = λ s given.
+    let f = c.in_err-cut.field-0.0 in
+    let all = columns_view c.args.columns.now in
+    let where_ = option_map expression_view c.args.condition.now in
+    record {
+      ok = IfOk-from_err c.from_residual-in_err-cut.result _ c.from_residual-in_err-cut.ensures.0;
+      err = fault_passed _ f c.from_residual-in_err-cut.result c.from_residual-in_err-cut.ensures.1
+          (λ other. cut_fails s c.args.graph.now (parameters_view c.args.parameters.now) given all (projection_view c.args.projection.now) where_ (rows_named c.args.names.now (table c.args.rows)) f (c.in_err-cut.ensures.err other));
+    }
+
+pub returns-in_err-cut-clause-width : goal.returns-in_err-cut-clause-width
+returns-in_err-cut-clause-width g c = IfOk-from_err c.from_residual-in_err-cut.result _ c.from_residual-in_err-cut.ensures.0
+
+pub returns-in_err-wide-clause-width : goal.returns-in_err-wide-clause-width
+returns-in_err-wide-clause-width g c = IfOk-from_err c.from_residual-in_err-wide.result _ c.from_residual-in_err-wide.ensures.0

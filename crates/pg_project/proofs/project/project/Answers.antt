@@ -6,13 +6,14 @@ use Rattle.pg_meaning.specs.Scopes.{column_names}
 use Rattle.pg_meaning.specs.declared.fault.Fault.{Fault}
 use Rattle.pg_project.proofs.ColumnViews.{view_names}
 use Rattle.pg_expr.proofs.ExitLemmas.{fault_passed}
-use Rattle.pg_project.proofs.Projecting.{rows_fail, all_projected}
+use Rattle.pg_project.proofs.Projecting.{steps_fail, rows_fail, all_projected}
 use Rattle.pg_project.specs.Columns.{columns_view, naming_columns}
 use Rattle.pg_project.specs.Parts.{rows_projected}
 use Rattle.pg_rows.specs.Named.{rows_named}
 use Rattle.pg_rows.specs.States.{seen, named_rows, state_of}
 use Rattle.pg_rows.specs.Tables.{table}
 use Rattle.pg_syntax_tree.specs.View.{expression_view, projection_view}
+use Rattle.pg_project.proofs.ExitLemmas.{memory_passed}
 use Rattle.pg_project.proofs.project.project.Goals as goal
 
 pub returns-in_err-found-clause-gives : goal.returns-in_err-found-clause-gives
@@ -66,3 +67,30 @@ returns-clause-names g c =
     ∙ c.into_names.ensures
     ∙ sym (view_names c.in_ok-columns.columns)
     ∙ ap column_names (c.in_ok-columns.ensures ∙ ap (λ ns. naming_columns c.args.naming ns p) c.split-names.ensures.names)
+
+pub returns-in_err-spend-clause-gives : goal.returns-in_err-spend-clause-gives
+returns-in_err-spend-clause-gives g c = λ s suits.
+    let used = c.args.meter.now.used in
+    let f = c.in_err-spend.field-0.0 in
+    let spent : spend s used (length (seen c.args.table).rows) ≡ Err f =
+    ap (spend s used) (sym (c.len.ensures ∙ ap length c.split-names.ensures.rows)) ∙ c.in_err-spend.ensures.spends s suits.steps_are in
+    let p = projection_view c.args.projection.now in
+    record {
+      ok = IfOk-from_err c.from_residual.result _ c.from_residual.ensures.0;
+      err = fault_passed _ f c.from_residual.result c.from_residual.ensures.1 (λ other. steps_fail s c.args.graph.now (naming_columns c.args.naming s.scope p) p (option_map expression_view c.args.condition.now) (seen c.args.table) used f spent);
+    }
+
+pub returns-in_err-spend-clause-names : goal.returns-in_err-spend-clause-names
+returns-in_err-spend-clause-names g c = IfOk-from_err c.from_residual.result _ c.from_residual.ensures.0
+
+pub returns-in_err-columns-clause-gives : goal.returns-in_err-columns-clause-gives
+returns-in_err-columns-clause-gives g c = λ s suits. record {
+      ok = IfOk-from_err c.from_residual-in_err-columns.result _ c.from_residual-in_err-columns.ensures.0;
+      err = memory_passed _ c.from_residual-in_err-columns.result c.from_residual-in_err-columns.ensures.1;
+    }
+
+pub returns-in_err-columns-clause-names : goal.returns-in_err-columns-clause-names
+returns-in_err-columns-clause-names g c = IfOk-from_err c.from_residual-in_err-columns.result _ c.from_residual-in_err-columns.ensures.0
+
+pub returns-in_err-found-clause-names : goal.returns-in_err-found-clause-names
+returns-in_err-found-clause-names g c = IfOk-from_err c.from_residual-in_err-found.result _ c.from_residual-in_err-found.ensures.0

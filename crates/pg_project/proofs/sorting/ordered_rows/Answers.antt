@@ -45,3 +45,15 @@ returns-in_err-sorted_rows-clause-width g c = IfOk-from_err c.from_residual-in_e
 
 pub returns-in_err-sorted_rows-clause-err : goal.returns-in_err-sorted_rows-clause-err
 returns-in_err-sorted_rows-clause-err g c = memory_passed _ c.from_residual-in_err-sorted_rows.result c.from_residual-in_err-sorted_rows.ensures.1
+
+pub returns-in_err-descending-clause-ok : goal.returns-in_err-descending-clause-ok
+returns-in_err-descending-clause-ok g c = IfOk-from_err c.from_residual-in_err-descending.result _ c.from_residual-in_err-descending.ensures.0
+
+pub returns-in_err-descending-clause-width : goal.returns-in_err-descending-clause-width
+returns-in_err-descending-clause-width g c = IfOk-from_err c.from_residual-in_err-descending.result _ c.from_residual-in_err-descending.ensures.0
+
+pub returns-in_err-descending-clause-err : goal.returns-in_err-descending-clause-err
+returns-in_err-descending-clause-err g c = memory_passed _ c.from_residual-in_err-descending.result c.from_residual-in_err-descending.ensures.1
+
+pub returns-clause-err : goal.returns-clause-err
+returns-clause-err g c = tt

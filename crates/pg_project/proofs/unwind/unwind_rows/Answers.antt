@@ -1,4 +1,4 @@
-use Rattle.std.proofs.Common.{rules, ◌≡◌, length, map, position, bytes_eq, is_none, Ok, Err, sym, ap, subst, ◌∙◌}
+use Rattle.std.proofs.Common.{◌≡◌, length, map, position, bytes_eq, is_none, Ok, Err, sym, ap, subst, ◌∙◌}
 use Rattle.std.proofs.lemmas.List.{length-map}
 use Rattle.std.specs.List.{AllByRecursion}
 use Rattle.pg_expr.specs.Prepared.{tree_of}
@@ -14,6 +14,9 @@ use Rattle.pg_rows.specs.Tables.{table}
 use Rattle.pg_syntax_tree.specs.View.{expression_view, name_view}
 use Rattle.pg_value_core.specs.Given.{parameters_view}
 use Rattle.pg_value_core.specs.View.{view}
+use Rattle.std.proofs.lemmas.Result.{IfOk-from_err}
+use Rattle.pg_expr.proofs.ExitLemmas.{fault_passed}
+use Rattle.pg_project.proofs.ExitLemmas.{memory_passed}
 use Rattle.pg_project.proofs.unwind.unwind_rows.Goals as goal
 
 pub returns-in_err-lists-clause-unwinds : goal.returns-in_err-lists-clause-unwinds
@@ -29,8 +32,8 @@ returns-in_err-lists-clause-unwinds g c =
     λ f h. lists_fail s graph e (name_view c.args.name.now) t c.args.meter.now.used ps c.args.meter.now.limit suits f
     ((λ i. lists_given ps graph (sym c.in_ok-prepared.ensures i) (sym c.split-names.ensures.names i) (sym c.split-names.ensures.rows i)) ∙ h) in
     record {
-      ok = search rules;
-      err = search (rules, refused);
+      ok = IfOk-from_err c.from_residual-in_err-lists.result _ c.from_residual-in_err-lists.ensures.0;
+      err = fault_passed _ c.in_err-lists.field-0.0 c.from_residual-in_err-lists.result c.from_residual-in_err-lists.ensures.1 (λ other. refused c.in_err-lists.field-0.0 (c.in_err-lists.ensures.err other));
     }
 
 pub returns-in_err-spend-clause-unwinds : goal.returns-in_err-spend-clause-unwinds
@@ -50,8 +53,8 @@ returns-in_err-spend-clause-unwinds g c =
     λ f h. steps_fail s graph e (name_view c.args.name.now) t used ps c.args.meter.now.limit suits ls n f listed long c.in_ok-total_length.ensures h in
     let tested = c.in_err-spend.ensures.spends s suits.steps_are in
     record {
-      ok = search rules;
-      err = search (rules, refused, tested);
+      ok = IfOk-from_err c.from_residual-in_err-spend.result _ c.from_residual-in_err-spend.ensures.0;
+      err = fault_passed _ c.in_err-spend.field-0.0 c.from_residual-in_err-spend.result c.from_residual-in_err-spend.ensures.1 (λ other. refused c.in_err-spend.field-0.0 tested);
     }
 
 pub returns-clause-unwinds : goal.returns-clause-unwinds
@@ -83,3 +86,36 @@ returns-clause-names g c =
     c.in_ok-unwound_table.ensures.names
     ∙ (λ i. with_name (c.as_str.ensures.value i) (c.split-names.ensures.names i))
     ∙ one_name (name_view c.args.name.now).text (seen c.args.table).names
+
+pub returns-in_err-prepared-clause-unwinds : goal.returns-in_err-prepared-clause-unwinds
+returns-in_err-prepared-clause-unwinds g c = λ s suits. record {
+      ok = IfOk-from_err c.from_residual.result _ c.from_residual.ensures.0;
+      err = memory_passed _ c.from_residual.result c.from_residual.ensures.1;
+    }
+
+pub returns-in_err-total_length-clause-unwinds : goal.returns-in_err-total_length-clause-unwinds
+returns-in_err-total_length-clause-unwinds g c = λ s suits. record {
+      ok = IfOk-from_err c.from_residual-in_err-total_length.result _ c.from_residual-in_err-total_length.ensures.0;
+      err = memory_passed _ c.from_residual-in_err-total_length.result c.from_residual-in_err-total_length.ensures.1;
+    }
+
+pub returns-in_err-unwound_table-clause-unwinds : goal.returns-in_err-unwound_table-clause-unwinds
+returns-in_err-unwound_table-clause-unwinds g c = λ s suits. record {
+      ok = IfOk-from_err c.from_residual-in_err-unwound_table.result _ c.from_residual-in_err-unwound_table.ensures.0;
+      err = memory_passed _ c.from_residual-in_err-unwound_table.result c.from_residual-in_err-unwound_table.ensures.1;
+    }
+
+pub returns-in_err-prepared-clause-names : goal.returns-in_err-prepared-clause-names
+returns-in_err-prepared-clause-names g c = IfOk-from_err c.from_residual.result _ c.from_residual.ensures.0
+
+pub returns-in_err-lists-clause-names : goal.returns-in_err-lists-clause-names
+returns-in_err-lists-clause-names g c = IfOk-from_err c.from_residual-in_err-lists.result _ c.from_residual-in_err-lists.ensures.0
+
+pub returns-in_err-total_length-clause-names : goal.returns-in_err-total_length-clause-names
+returns-in_err-total_length-clause-names g c = IfOk-from_err c.from_residual-in_err-total_length.result _ c.from_residual-in_err-total_length.ensures.0
+
+pub returns-in_err-spend-clause-names : goal.returns-in_err-spend-clause-names
+returns-in_err-spend-clause-names g c = IfOk-from_err c.from_residual-in_err-spend.result _ c.from_residual-in_err-spend.ensures.0
+
+pub returns-in_err-unwound_table-clause-names : goal.returns-in_err-unwound_table-clause-names
+returns-in_err-unwound_table-clause-names g c = IfOk-from_err c.from_residual-in_err-unwound_table.result _ c.from_residual-in_err-unwound_table.ensures.0

@@ -1,0 +1,27 @@
+use Rattle.std.proofs.Common.{◌+◌, ◌∷◌, [], length, map, ap, ◌∙◌}
+use Rattle.std.proofs.lemmas.List.{length-append, map-append}
+use Rattle.pg_group.specs.Items.{expressions_view}
+use Rattle.pg_meaning.specs.Tree.{SortItem}
+use Rattle.pg_project.proofs.MadeLemmas.{all_made, map_twice-append, one_made}
+use Rattle.pg_project.specs.Given.{key_of}
+use Rattle.pg_project.specs.Sources.{source_view, sources_view}
+use Rattle.pg_syntax_tree.specs.View.{sort_item_view}
+use Rattle.pg_project.proofs.sorting.sources.Goals as goal
+
+pub loop-item-preserved : goal.loop-item-preserved
+loop-item-preserved c =
+    let l = c.loop-item in
+    let names = c.args.names.now in
+    let found = l.found.items in
+    let key = c.in_ok-sort_key.field-0 in
+    let of_key = λ (o : SortItem). key_of (expressions_view c.args.items.now.items) o.key in (
+      one_made (λ zs. map of_key (map sort_item_view zs)) (map_twice-append of_key sort_item_view) (sources_view names found) c.deref-item-items.result.now c.args.order.now.items c.deref-item-items.ensures.value l.item-index l.invariant.0
+          c.item-item.result c.loop-item-test.true c.item-item.is (sources_view names c.push.new.self.items) (source_view names key ∷ []) (ap (sources_view names) c.in_ok-push.ensures.items ∙ map-append (source_view names) found (key ∷ [])) (λ j. c.in_ok-sort_key.ensures j ∷ []),
+      ap length c.in_ok-push.ensures.items ∙ length-append found (key ∷ []) ∙ ap (λ n. n + 1) l.invariant.1,
+    )
+
+pub returns-clause-sources : goal.returns-clause-sources
+returns-clause-sources c =
+    let l = c.loop-item in
+    let of_key = λ (o : SortItem). key_of (expressions_view c.args.items.now.items) o.key in
+    all_made (λ zs. map of_key (map sort_item_view zs)) (map_twice-append of_key sort_item_view) (sources_view c.args.names.now l.found.items) c.deref-item-items.result.now c.args.order.now.items c.deref-item-items.ensures.value l.item-index l.invariant.0 c.loop-item-test.false

@@ -1,10 +1,12 @@
 pub mod Best
 pub mod Cells
 pub mod Different
+pub mod ExitLemmas
 pub mod Folding
 pub mod Grouping
 pub mod Lifts
 pub mod Measures
 pub mod Numbered
 pub mod Ranges
+pub mod RowLemmas
 pub mod Turns

@@ -5,7 +5,7 @@ use Rattle.pg_expr.specs.Prepared.{tree_of}
 use Rattle.pg_meaning.specs.declared.fault.Fault.{Fault}
 use Rattle.pg_expr.proofs.ExitLemmas.{fault_passed}
 use Rattle.pg_project.proofs.ExitLemmas.{memory_passed}
-use Rattle.pg_project.proofs.InTurn.{after, one_more, one_fault}
+use Rattle.pg_project.proofs.InTurn.{after, one_more, one_fault, none_before}
 use Rattle.pg_project.proofs.Unwinding.{lists_more}
 use Rattle.pg_project.specs.Unwound.{list_given, lists_given, lists_view}
 use Rattle.pg_rows.specs.Tables.{table}
@@ -55,3 +55,13 @@ returns-in_err-push-clause-len g c = IfOk-from_err c.from_residual-in_err-push.r
 
 pub returns-in_err-push-clause-err : goal.returns-in_err-push-clause-err
 returns-in_err-push-clause-err g c = memory_passed _ c.from_residual-in_err-push.result c.from_residual-in_err-push.ensures.1
+
+pub loop-at-init : goal.loop-at-init
+loop-at-init g c =
+    let made = c.in_ok-lists.lists.items in (
+      none_before (lists_view made) (lists_given (parameters_view c.args.parameters.now) c.args.graph.now (tree_of c.args.names.now c.args.prepared.now) c.args.names.now (table c.args.rows.now)) (ap lists_view c.in_ok-lists.ensures.items),
+      ap length c.in_ok-lists.ensures.items,
+    )
+
+pub returns-clause-err : goal.returns-clause-err
+returns-clause-err g c = tt

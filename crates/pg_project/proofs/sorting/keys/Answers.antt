@@ -55,3 +55,6 @@ returns-in_err-push_from-clause-len g c = IfOk-from_err c.from_residual-in_err-p
 
 pub returns-in_err-push_from-clause-err : goal.returns-in_err-push_from-clause-err
 returns-in_err-push_from-clause-err g c = memory_passed _ c.from_residual-in_err-push_from.result c.from_residual-in_err-push_from.ensures.1
+
+pub returns-clause-err : goal.returns-clause-err
+returns-clause-err g c = tt

@@ -6,6 +6,7 @@ use Rattle.pg_project.proofs.MadeLemmas.{all_made, map_twice-append, one_made}
 use Rattle.pg_project.specs.Given.{key_of}
 use Rattle.pg_project.specs.Sources.{source_view, sources_view}
 use Rattle.pg_syntax_tree.specs.View.{sort_item_view}
+use Rattle.pg_project.proofs.TurnLemmas.{all_long}
 use Rattle.pg_project.proofs.sorting.sources.Goals as goal
 
 pub loop-item-preserved : goal.loop-item-preserved
@@ -25,3 +26,6 @@ returns-clause-sources c =
     let l = c.loop-item in
     let of_key = λ (o : SortItem). key_of (expressions_view c.args.items.now.items) o.key in
     all_made (λ zs. map of_key (map sort_item_view zs)) (map_twice-append of_key sort_item_view) (sources_view c.args.names.now l.found.items) c.deref-item-items.result.now c.args.order.now.items c.deref-item-items.ensures.value l.item-index l.invariant.0 c.loop-item-test.false
+
+pub returns-clause-len : goal.returns-clause-len
+returns-clause-len c = all_long c.deref-item-items.result.now c.args.order.now.items (length c.loop-item.found.items) c.loop-item.item-index c.deref-item-items.ensures.value c.loop-item.invariant.1 c.loop-item.auto.item-index-end c.loop-item-test.false

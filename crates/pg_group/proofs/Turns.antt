@@ -13,6 +13,10 @@ use Rattle.pg_meaning.specs.declared.fault.Fault.{Fault}
 abbrev pub after : {Y : Type 0} → List Y → Result (List Y) Fault → Result (List Y) Fault
 after found rest = rest >>= λ ys. Ok (found ++ ys)
 
+pub nothing_before : {Y : Type 0} (rest : Result (List Y) Fault) → rest ≡ after [] rest
+nothing_before (Ok ys) = refl
+nothing_before (Err f) = refl
+
 put_behind : {Y : Type 0} (found : List Y) (y : Y) (rest : Result (List Y) Fault) → after found (rest >>= λ ys. Ok (y ∷ ys)) ≡ after (found ++ y ∷ []) rest
 put_behind found y (Ok ys) = ap Ok (sym (append_assoc found (y ∷ []) ys))
 put_behind found y (Err f) = refl
@@ -76,6 +80,12 @@ module _ {A Z : Type 0} (at : Answers) (see : A → Aggregate) (view : Z → Tak
 
       back : drop (i + 1) (set (set ts i w) i u) ≡ drop (i + 1) ts
       back = drop-set-lt (i + 1) (set ts i w) i u (omega arith) ∙ drop-set-lt (i + 1) ts i w (omega arith)
+
+  pub fault_taken : (bs : List A) (ts : List Z) (i : ℕ) (a : A) (t : Z) (f : Fault) → i < length bs → i < length ts → a ≡ get_or bs i a → t ≡ get_or ts i t → taken_in at (see a) (view t) ≡ Err f
+      → after (map view (take i ts)) (all_taken_in at (map see (drop i bs)) (map view (drop i ts))) ≡ Err f
+  fault_taken bs ts i a t f in_bs in_ts a-is t-is e =
+      (λ j. after (map view (take i ts)) (all_taken_in at (map see (here bs i a in_bs a-is j)) (map view (here ts i t in_ts t-is j))))
+      ∙ ap (λ r. after (map view (take i ts)) (r >>= λ v. all_taken_in at (map see (drop (i + 1) bs)) (map view (drop (i + 1) ts)) >>= λ vs. Ok (v ∷ vs))) e
 
   nothing_left : (bs : List Aggregate) (ts : List Taken) → (bs ≡ []) ⊎ (ts ≡ []) → all_taken_in at bs ts ≡ Ok ts
   nothing_left [] ts h = refl

@@ -61,9 +61,9 @@ returns-clause-gives g c = λ s given.
 
 pub returns-in_err-items-clause-gives : goal.returns-in_err-items-clause-gives
 returns-in_err-items-clause-gives g c = λ s given. record {
-      ok = IfOk-from_err c.from_residual.result _ c.from_residual.ensures.0;
-      err = memory_passed _ c.from_residual.result c.from_residual.ensures.1;
-    }
+  ok = IfOk-from_err c.from_residual.result _ c.from_residual.ensures.0;
+  err = memory_passed _ c.from_residual.result c.from_residual.ensures.1;
+}
 
 pub returns-in_err-items-clause-width : goal.returns-in_err-items-clause-width
 returns-in_err-items-clause-width g c = IfOk-from_err c.from_residual.result _ c.from_residual.ensures.0

@@ -85,9 +85,9 @@ returns-in_err-spend-clause-names g c = IfOk-from_err c.from_residual.result _ c
 
 pub returns-in_err-columns-clause-gives : goal.returns-in_err-columns-clause-gives
 returns-in_err-columns-clause-gives g c = λ s suits. record {
-      ok = IfOk-from_err c.from_residual-in_err-columns.result _ c.from_residual-in_err-columns.ensures.0;
-      err = memory_passed _ c.from_residual-in_err-columns.result c.from_residual-in_err-columns.ensures.1;
-    }
+  ok = IfOk-from_err c.from_residual-in_err-columns.result _ c.from_residual-in_err-columns.ensures.0;
+  err = memory_passed _ c.from_residual-in_err-columns.result c.from_residual-in_err-columns.ensures.1;
+}
 
 pub returns-in_err-columns-clause-names : goal.returns-in_err-columns-clause-names
 returns-in_err-columns-clause-names g c = IfOk-from_err c.from_residual-in_err-columns.result _ c.from_residual-in_err-columns.ensures.0

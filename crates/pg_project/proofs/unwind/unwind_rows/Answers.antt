@@ -89,21 +89,21 @@ returns-clause-names g c =
 
 pub returns-in_err-prepared-clause-unwinds : goal.returns-in_err-prepared-clause-unwinds
 returns-in_err-prepared-clause-unwinds g c = λ s suits. record {
-      ok = IfOk-from_err c.from_residual.result _ c.from_residual.ensures.0;
-      err = memory_passed _ c.from_residual.result c.from_residual.ensures.1;
-    }
+  ok = IfOk-from_err c.from_residual.result _ c.from_residual.ensures.0;
+  err = memory_passed _ c.from_residual.result c.from_residual.ensures.1;
+}
 
 pub returns-in_err-total_length-clause-unwinds : goal.returns-in_err-total_length-clause-unwinds
 returns-in_err-total_length-clause-unwinds g c = λ s suits. record {
-      ok = IfOk-from_err c.from_residual-in_err-total_length.result _ c.from_residual-in_err-total_length.ensures.0;
-      err = memory_passed _ c.from_residual-in_err-total_length.result c.from_residual-in_err-total_length.ensures.1;
-    }
+  ok = IfOk-from_err c.from_residual-in_err-total_length.result _ c.from_residual-in_err-total_length.ensures.0;
+  err = memory_passed _ c.from_residual-in_err-total_length.result c.from_residual-in_err-total_length.ensures.1;
+}
 
 pub returns-in_err-unwound_table-clause-unwinds : goal.returns-in_err-unwound_table-clause-unwinds
 returns-in_err-unwound_table-clause-unwinds g c = λ s suits. record {
-      ok = IfOk-from_err c.from_residual-in_err-unwound_table.result _ c.from_residual-in_err-unwound_table.ensures.0;
-      err = memory_passed _ c.from_residual-in_err-unwound_table.result c.from_residual-in_err-unwound_table.ensures.1;
-    }
+  ok = IfOk-from_err c.from_residual-in_err-unwound_table.result _ c.from_residual-in_err-unwound_table.ensures.0;
+  err = memory_passed _ c.from_residual-in_err-unwound_table.result c.from_residual-in_err-unwound_table.ensures.1;
+}
 
 pub returns-in_err-prepared-clause-names : goal.returns-in_err-prepared-clause-names
 returns-in_err-prepared-clause-names g c = IfOk-from_err c.from_residual.result _ c.from_residual.ensures.0

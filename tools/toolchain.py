@@ -1,5 +1,6 @@
 """The toolchain's own command, rt, as a module: how it reads crates.txt, applies an edit, and shares out processors and memory. And which
 libraries are those that rt ci left: it writes no stamp for them, so tools/test notes beside each what it was proved from."""
+import hashlib
 import importlib.machinery
 import importlib.util
 import os
@@ -16,10 +17,20 @@ def load():
 rt = load()
 
 
+def texts_of(crate):
+    """A sum of the crate's own texts, each with its path in the crate."""
+    sum = hashlib.sha256(repr(crate.said).encode())
+    for file in sorted(rt.rtlib.files_of(crate.folder)):
+        with open(file, "rb") as it:
+            sum.update(repr((os.path.relpath(file, crate.folder), it.read())).encode())
+    return sum.hexdigest()
+
+
 def sums_of(crates):
     """A sum of the texts of each crate and of those below it, and of the toolchain, by the crate's name."""
-    seen = {}
-    return {it.name: rt.stamp_of(it, seen) for it in crates}
+    kit, own = rt.rtlib.text_of(f"{rt.KIT}/WHAT"), {it.name: texts_of(it) for it in crates}
+    below = {it.name: sorted(own[dep.name] for dep in it.below()) for it in crates}
+    return {it.name: hashlib.sha256(repr((kit, own[it.name], below[it.name])).encode()).hexdigest() for it in crates}
 
 
 def note_of(crate):

@@ -28,7 +28,7 @@ def texts_of(crate):
 
 def sums_of(crates):
     """A sum of the texts of each crate and of those below it, and of the toolchain, by the crate's name."""
-    kit, own = rt.rtlib.text_of(f"{rt.KIT}/WHAT"), {it.name: texts_of(it) for it in crates}
+    kit, own = rt.rtlib.text_of(f"{rt.rtlib.KIT}/WHAT"), {it.name: texts_of(it) for it in crates}
     below = {it.name: sorted(own[dep.name] for dep in it.below()) for it in crates}
     return {it.name: hashlib.sha256(repr((kit, own[it.name], below[it.name])).encode()).hexdigest() for it in crates}
 

@@ -1,4 +1,4 @@
-use Rattle.std.proofs.Common.{Option, Some, false, true, ap, ◌∙◌}
+use Rattle.std.proofs.Common.{Option, Some, ap, ◌∙◌}
 use Rattle.pg_lex.specs.View.{tokens_view}
 use Rattle.pg_meaning.specs.Parse as parse
 use Rattle.pg_meaning.specs.Tree as tree

@@ -1,4 +1,5 @@
 pub mod LeadLemmas
+mod LoopLemmas
 pub mod MeaningLemmas
 pub mod PlaceLemmas
 mod ReturnLemmas

@@ -19,43 +19,42 @@ use std::collections::BTreeSet;
 fn behind_projection<'a>(
     alloc: Global,
     naming: Naming,
-    scope: Names<'a>,
+    mut scope: Names<'a>,
     projection: &'a Projection,
 ) -> Result<Names<'a>, AllocError>
     ensures { IfOk result (λ names. HasSame (names_in names) (column_names (projection_columns (column_of naming) (names_in scope.entry) (projection_view projection.now)))) }
 {
     if projection.star.is_some() {
-        let mut starred = scope;
-        add_columns(naming, &mut starred, &projection.items)?;
-        return Ok(starred);
+        add_columns(naming, &mut scope, &projection.items)?;
+        return Ok(scope);
     }
     let mut names = BTreeSet::new(alloc);
     add_columns(naming, &mut names, &projection.items)?;
     Ok(names)
 }
 
-fn behind_unwind<'a>(scope: Names<'a>, name: &'a Name) -> Result<Names<'a>, AllocError>
+fn behind_unwind<'a>(mut scope: Names<'a>, name: &'a Name) -> Result<Names<'a>, AllocError>
     ensures { IfOk result (λ names. HasSame (names_in names) (add_name (names_in scope.entry) (name_view name.now).text)) }
 {
-    let mut names = scope;
-    add(&mut names, name.text.as_str())?;
-    Ok(names)
+    add(&mut scope, name.text.as_str())?;
+    Ok(scope)
 }
 
-fn behind_paths<'a>(scope: Names<'a>, paths: &'a Vec<PathPattern>) -> Result<Names<'a>, AllocError>
+fn behind_paths<'a>(
+    mut scope: Names<'a>,
+    paths: &'a Vec<PathPattern>,
+) -> Result<Names<'a>, AllocError>
     ensures { IfOk result (λ names. HasSame (names_in names) (add_path_names (map path_view paths.now.items) (names_in scope.entry))) }
 {
-    let mut names = scope;
-    add_paths(&mut names, paths)?;
-    Ok(names)
+    add_paths(&mut scope, paths)?;
+    Ok(scope)
 }
 
-fn behind_merge<'a>(scope: Names<'a>, path: &'a PathPattern) -> Result<Names<'a>, AllocError>
+fn behind_merge<'a>(mut scope: Names<'a>, path: &'a PathPattern) -> Result<Names<'a>, AllocError>
     ensures { IfOk result (λ names. HasSame (names_in names) (add_path_names (path_view path.now ∷ []) (names_in scope.entry))) }
 {
-    let mut names = scope;
-    add_path(&mut names, path)?;
-    Ok(names)
+    add_path(&mut scope, path)?;
+    Ok(scope)
 }
 
 /// The names in scope behind a clause, from those before it.

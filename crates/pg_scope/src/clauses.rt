@@ -38,11 +38,10 @@ fn fault_in_set<'a>(scope: &Names<'a>, item: &'a SetItem, first: Option<Found>) 
 pub(crate) fn fault_in_sets<'a>(
     scope: &Names<'a>,
     items: &'a Vec<SetItem>,
-    first: Option<Found>,
+    mut first: Option<Found>,
 ) -> Option<Found>
     ensures { IsFirst first (flat_map (spec.set_faults (names_in scope.now)) (map set_item_view items.now.items)) result }
 {
-    let mut first = first;
     for item in items {
         first = fault_in_set(scope, item, first);
     }
@@ -52,11 +51,10 @@ pub(crate) fn fault_in_sets<'a>(
 pub(crate) fn fault_in_ons<'a>(
     scope: &Names<'a>,
     ons: &'a Vec<On>,
-    first: Option<Found>,
+    mut first: Option<Found>,
 ) -> Option<Found>
     ensures { IsFirst first (flat_map (λ o. flat_map (spec.set_faults (names_in scope.now)) o.1) (map on_view ons.now.items)) result }
 {
-    let mut first = first;
     for on in ons {
         first = fault_in_sets(scope, &on.items, first);
     }
@@ -81,11 +79,10 @@ fn fault_in_remove<'a>(
 pub(crate) fn fault_in_removes<'a>(
     scope: &Names<'a>,
     items: &'a Vec<RemoveItem>,
-    first: Option<Found>,
+    mut first: Option<Found>,
 ) -> Option<Found>
     ensures { IsFirst first (flat_map (spec.remove_faults (names_in scope.now)) (map remove_item_view items.now.items)) result }
 {
-    let mut first = first;
     for item in items {
         first = fault_in_remove(scope, item, first);
     }
@@ -95,11 +92,10 @@ pub(crate) fn fault_in_removes<'a>(
 pub(crate) fn fault_in_each<'a>(
     scope: &Names<'a>,
     items: &'a Vec<Expression>,
-    first: Option<Found>,
+    mut first: Option<Found>,
 ) -> Option<Found>
     ensures { IsFirst first (flat_map (spec.faults_of (names_in scope.now)) (map expression_view items.now.items)) result }
 {
-    let mut first = first;
     for item in items {
         first = fault_in_expression(scope, Role::Elsewhere, item, first);
     }

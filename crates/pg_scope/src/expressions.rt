@@ -109,11 +109,10 @@ pub(crate) fn fault_in_expression<'a>(
 fn fault_in_all<'a>(
     visible: &Names<'a>,
     items: &'a Vec<Expression>,
-    first: Option<Found>,
+    mut first: Option<Found>,
 ) -> Option<Found>
     ensures { IsFirst first (spec.all_faults (names_in visible.now) (expressions_of (map expression_view items.now.items))) result }
 {
-    let mut first = first;
     for item in items {
         first = fault_in_expression(visible, Role::Elsewhere, item, first);
     }
@@ -124,11 +123,10 @@ fn fault_in_all<'a>(
 fn fault_in_pairs<'a>(
     visible: &Names<'a>,
     pairs: &'a Vec<(Name, Expression)>,
-    first: Option<Found>,
+    mut first: Option<Found>,
 ) -> Option<Found>
     ensures { IsFirst first (spec.pair_faults (names_in visible.now) (pairs_of (map pair_view pairs.now.items))) result }
 {
-    let mut first = first;
     for (_, value) in pairs {
         first = fault_in_expression(visible, Role::Elsewhere, value, first);
     }
@@ -153,11 +151,10 @@ fn fault_in_perhaps<'a>(
 fn fault_in_whens<'a>(
     visible: &Names<'a>,
     whens: &'a Vec<(Expression, Expression)>,
-    first: Option<Found>,
+    mut first: Option<Found>,
 ) -> Option<Found>
     ensures { IsFirst first (spec.when_faults (names_in visible.now) (whens_of (map when_view whens.now.items))) result }
 {
-    let mut first = first;
     for (condition, value) in whens {
         first = fault_in_expression(visible, Role::Elsewhere, condition, first);
         first = fault_in_expression(visible, Role::Elsewhere, value, first);
@@ -169,11 +166,10 @@ fn fault_in_whens<'a>(
 fn fault_in_operands<'a>(
     visible: &Names<'a>,
     operands: &'a Vec<(Operator, Expression)>,
-    first: Option<Found>,
+    mut first: Option<Found>,
 ) -> Option<Found>
     ensures { IsFirst first (spec.operand_faults (names_in visible.now) (operands_of (map operand_view operands.now.items))) result }
 {
-    let mut first = first;
     for (_, operand) in operands {
         first = fault_in_expression(visible, Role::Elsewhere, operand, first);
     }
@@ -184,11 +180,10 @@ fn fault_in_operands<'a>(
 fn fault_in_tests<'a>(
     visible: &Names<'a>,
     tests: &'a Vec<Test<Expression>>,
-    first: Option<Found>,
+    mut first: Option<Found>,
 ) -> Option<Found>
     ensures { IsFirst first (spec.test_faults (names_in visible.now) (tests_of (map test_view tests.now.items))) result }
 {
-    let mut first = first;
     for test in tests {
         first = match test {
             Test::Text(_, operand) => fault_in_expression(visible, Role::Elsewhere, operand, first),
@@ -202,11 +197,10 @@ fn fault_in_tests<'a>(
 fn fault_in_suffixes<'a>(
     visible: &Names<'a>,
     suffixes: &'a Vec<Suffix<Expression>>,
-    first: Option<Found>,
+    mut first: Option<Found>,
 ) -> Option<Found>
     ensures { IsFirst first (spec.suffix_faults (names_in visible.now) (suffixes_of (map suffix_view suffixes.now.items))) result }
 {
-    let mut first = first;
     for suffix in suffixes {
         first = match suffix {
             Suffix::Index(index) => fault_in_expression(visible, Role::Elsewhere, index, first),

@@ -46,12 +46,11 @@ pub(crate) fn fault_in_items<'a>(
     scope: &Names<'a>,
     star: bool,
     items: &'a Vec<Item>,
-    first: Option<Found>,
+    mut first: Option<Found>,
 ) -> Result<(Option<Found>, Names<'a>), AllocError>
     ensures { IfOk result (λ r. IsFirst first (spec.item_faults (column_of naming) (names_in scope.now) (starred star (names_in scope.now)) (map item_view items.now.items)) r.0 × HasSame (names_in r.1) (column_names (map (column_of naming) (map item_view items.now.items)))) }
 {
     let mut columns = BTreeSet::new(alloc);
-    let mut first = first;
     for item in items {
         let again = stood(scope, star, &mut columns, column_name(naming, item))?;
         first = noted(again, item.start, Fault::DuplicateColumn, first);

@@ -79,11 +79,10 @@ fn pass_hops<'a>(
     outer: &Names<'a>,
     used: &mut Used<'a>,
     hops: &'a Vec<(RelationshipPattern, NodePattern)>,
-    first: Option<Found>,
+    mut first: Option<Found>,
 ) -> Result<Option<Found>, AllocError>
     ensures { IfOk result (λ found. Passes (mode_view mode) (names_in outer.now) (flat_map spec.hop_parts (map hop_view hops.now.items)) (used_in used.old) first (used_in used.new) found) }
 {
-    let mut first = first;
     for (relationship, node) in hops {
         first = pass_relationship(alloc, mode, outer, used, relationship, first)?;
         first = pass_node(alloc, mode, outer, used, false, node, first)?;
@@ -122,11 +121,10 @@ fn pass_paths<'a>(
     outer: &Names<'a>,
     used: &mut Used<'a>,
     paths: &'a Vec<PathPattern>,
-    first: Option<Found>,
+    mut first: Option<Found>,
 ) -> Result<Option<Found>, AllocError>
     ensures { IfOk result (λ found. Passes (mode_view mode) (names_in outer.now) (flat_map spec.path_parts (map path_view paths.now.items)) (used_in used.old) first (used_in used.new) found) }
 {
-    let mut first = first;
     for path in paths {
         first = pass_path(alloc, mode, outer, used, path, first)?;
     }

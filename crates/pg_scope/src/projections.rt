@@ -71,12 +71,11 @@ fn fault_in_sorts<'a>(
     visible: &Names<'a>,
     items: &'a Vec<Item>,
     order: &'a Vec<SortItem>,
-    first: Option<Found>,
+    mut first: Option<Found>,
 ) -> Result<Option<Found>, AllocError>
     ensures { IfOk result (λ found. IsFirst first (flat_map (sorts (map item_view items.now.items) (names_in visible.now)) (map sort_item_view order.now.items)) found) }
 {
     let index = index_of(alloc, items)?;
-    let mut first = first;
     for sort in order {
         first = fault_in_sort(alloc, visible, items, &index, sort, first)?;
     }

@@ -21,12 +21,11 @@ fn fault_in_keys<'a>(
     alloc: Global,
     outer: &Names<'a>,
     pairs: &'a Vec<(Name, Expression)>,
-    first: Option<Found>,
+    mut first: Option<Found>,
 ) -> Result<Option<Found>, AllocError>
     ensures { IfOk result (λ found. IsFirst first (spec.key_faults (names_in outer.now) [] (pairs_of (map pair_view pairs.now.items))) found) }
 {
     let mut before = BTreeSet::new(alloc);
-    let mut first = first;
     for (key, value) in pairs {
         let again = !add(&mut before, key.text.as_str())?;
         first = noted(again, key.place, Fault::BadPattern, first);

@@ -26,64 +26,60 @@ type Step<'a> = (Option<Found>, Names<'a>);
 
 fn through_match<'a>(
     alloc: Global,
-    scope: Names<'a>,
+    mut scope: Names<'a>,
     paths: &'a Vec<PathPattern>,
     condition: &'a Option<Expression>,
     first: Option<Found>,
 ) -> Result<Step<'a>, AllocError>
     ensures { IfOk result (λ r. (is_optional : Bool) → Steps (names_in scope.entry) (tree.match_paths is_optional (map path_view paths.now.items) (option_map expression_view condition.now)) first r.0 (names_in r.1)) }
 {
-    let mut names = scope;
-    let first = fault_in_paths(alloc, Mode::Matching, &names, paths, first)?;
-    add_paths(&mut names, paths)?;
-    let first = fault_if_any(&names, condition, first);
-    Ok((first, names))
+    let first = fault_in_paths(alloc, Mode::Matching, &scope, paths, first)?;
+    add_paths(&mut scope, paths)?;
+    let first = fault_if_any(&scope, condition, first);
+    Ok((first, scope))
 }
 
 fn through_unwind<'a>(
-    scope: Names<'a>,
+    mut scope: Names<'a>,
     list: &'a Expression,
     name: &'a Name,
     first: Option<Found>,
 ) -> Result<Step<'a>, AllocError>
     ensures { IfOk result (λ r. Steps (names_in scope.entry) (tree.unwind (expression_view list.now) (name_view name.now)) first r.0 (names_in r.1)) }
 {
-    let mut names = scope;
-    let first = fault_in_expression(&names, Role::Elsewhere, list, first);
-    let bound = is_among(&names, name.text.as_str());
+    let first = fault_in_expression(&scope, Role::Elsewhere, list, first);
+    let bound = is_among(&scope, name.text.as_str());
     let first = noted(bound, name.place, Fault::VariableAlreadyBound, first);
-    add(&mut names, name.text.as_str())?;
-    Ok((first, names))
+    add(&mut scope, name.text.as_str())?;
+    Ok((first, scope))
 }
 
 fn through_create<'a>(
     alloc: Global,
-    scope: Names<'a>,
+    mut scope: Names<'a>,
     paths: &'a Vec<PathPattern>,
     first: Option<Found>,
 ) -> Result<Step<'a>, AllocError>
     ensures { IfOk result (λ r. Steps (names_in scope.entry) (tree.create (map path_view paths.now.items)) first r.0 (names_in r.1)) }
 {
-    let mut names = scope;
-    let first = fault_in_paths(alloc, Mode::Creating, &names, paths, first)?;
-    add_paths(&mut names, paths)?;
-    Ok((first, names))
+    let first = fault_in_paths(alloc, Mode::Creating, &scope, paths, first)?;
+    add_paths(&mut scope, paths)?;
+    Ok((first, scope))
 }
 
 fn through_merge<'a>(
     alloc: Global,
-    scope: Names<'a>,
+    mut scope: Names<'a>,
     path: &'a PathPattern,
     ons: &'a Vec<On>,
     first: Option<Found>,
 ) -> Result<Step<'a>, AllocError>
     ensures { IfOk result (λ r. Steps (names_in scope.entry) (tree.merge (path_view path.now) (map on_view ons.now.items)) first r.0 (names_in r.1)) }
 {
-    let mut names = scope;
-    let first = fault_in_path(alloc, Mode::Merging, &names, path, first)?;
-    add_path(&mut names, path)?;
-    let first = fault_in_ons(&names, ons, first);
-    Ok((first, names))
+    let first = fault_in_path(alloc, Mode::Merging, &scope, path, first)?;
+    add_path(&mut scope, path)?;
+    let first = fault_in_ons(&scope, ons, first);
+    Ok((first, scope))
 }
 
 fn is_nothing(scope: &Names) -> bool

@@ -1,1 +1,4 @@
+mod Calls
+mod Cases
+mod Steps
 pub mod Views

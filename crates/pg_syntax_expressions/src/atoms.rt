@@ -83,7 +83,6 @@ pub fn map_pairs<W: Expressions>(
 }
 
 /// What stands behind the opening sign of a call.
-#[tactic(auto, using(pg_syntax_tree::proofs::Views::call_is), unfolding(pg_meaning::specs::Parse::call))]
 fn call<W: Expressions>(
     function: Name,
     whole: &W,
@@ -92,13 +91,11 @@ fn call<W: Expressions>(
     requires { W.ready whole.now }
     ensures { Gives expression_view (parse.call (W.parser whole.now) (name_view function) (tokens_view tokens.old.rest.now)) result tokens.new.rest.now }
 {
-    if tokens.sees(Symbol::Star) {
-        tokens.expect(Symbol::Star)?;
+    if tokens.eat(Symbol::Star) {
         tokens.expect(Symbol::CloseParenthesis)?;
         return Ok(Expression::Call(function, true, false, Vec::new(whole.alloc())));
     }
-    if tokens.sees(Symbol::CloseParenthesis) {
-        tokens.expect(Symbol::CloseParenthesis)?;
+    if tokens.eat(Symbol::CloseParenthesis) {
         return Ok(Expression::Call(function, false, false, Vec::new(whole.alloc())));
     }
     let distinct = tokens.eat_keyword(Keyword::Distinct);
@@ -168,16 +165,14 @@ fn otherwise<W: Expressions>(
     requires { W.ready whole.now }
     ensures { Gives perhaps_view (parse.maybe (parse.sees_keyword k.Else) (else_of (W.parser whole.now)) (tokens_view tokens.old.rest.now)) result tokens.new.rest.now }
 {
-    if !tokens.sees_keyword(Keyword::Else) {
+    if !tokens.eat_keyword(Keyword::Else) {
         return Ok(None);
     }
-    tokens.expect_keyword(Keyword::Else)?;
     let found = whole.expression(tokens)?;
     Ok(Some(Box::new(whole.alloc(), found)?))
 }
 
 /// What stands behind CASE.
-#[tactic(auto, using(pg_syntax_tree::proofs::Views::case_is), unfolding(pg_meaning::specs::Parse::case))]
 fn case<W: Expressions>(whole: &W, tokens: &mut Tokens<'_, '_>) -> Result<Expression, ParseError>
     requires { W.ready whole.now }
     ensures { Gives expression_view (parse.case (W.parser whole.now) (tokens_view tokens.old.rest.now)) result tokens.new.rest.now }
@@ -270,8 +265,7 @@ fn word_atom<W: Expressions>(
     requires { W.ready whole.now }
     ensures { Gives expression_view (parse.word_atom (W.parser whole.now) (name_view name) (tokens_view tokens.old.rest.now)) result tokens.new.rest.now }
 {
-    if tokens.sees(Symbol::OpenParenthesis) {
-        tokens.expect(Symbol::OpenParenthesis)?;
+    if tokens.eat(Symbol::OpenParenthesis) {
         return call(name, whole, tokens);
     }
     Ok(Expression::Variable(name))
@@ -296,6 +290,16 @@ fn parentheses<W: Expressions>(
     Ok(Expression::Parentheses(Box::new(whole.alloc(), inner)?))
 }
 
+fn name_at(alloc: Global, text: &str, quoted: bool, place: usize) -> Result<Name, AllocError>
+    ensures { IfOk result (λ n. name_view n ≡ parse.name_at place quoted text.now) }
+{
+    Ok(Name {
+        text: String::from_str(alloc, text)?,
+        quoted,
+        place,
+    })
+}
+
 /// The atom that the lexeme begins, behind it.
 fn atom_by<W: Expressions>(
     place: usize,
@@ -306,36 +310,22 @@ fn atom_by<W: Expressions>(
     requires { W.ready whole.now }
     ensures { Gives expression_view (parse.atom_by (W.parser whole.now) place (lexeme_view lexeme.now) (tokens_view tokens.old.rest.now)) result tokens.new.rest.now }
 {
-    if let Some(literal) = literal_of(whole.alloc(), lexeme)? {
+    let alloc = whole.alloc();
+    if let Some(literal) = literal_of(alloc, lexeme)? {
         return Ok(Expression::Literal(literal));
     }
     match lexeme {
         Lexeme::Keyword(Keyword::Case, _) => case(whole, tokens),
         Lexeme::Symbol(Symbol::OpenBracket) => list(whole, tokens),
         Lexeme::Symbol(Symbol::OpenParenthesis) => parentheses(whole, tokens),
-        Lexeme::Parameter(name) => Ok(Expression::Parameter(Name {
-            text: String::from_str(whole.alloc(), *name)?,
-            quoted: false,
-            place,
-        })),
-        Lexeme::QuotedParameter(name) => Ok(Expression::Parameter(Name {
-            text: String::from_str(whole.alloc(), name.as_str())?,
-            quoted: true,
-            place,
-        })),
-        Lexeme::QuotedName(name) => Ok(Expression::Variable(Name {
-            text: String::from_str(whole.alloc(), name.as_str())?,
-            quoted: true,
-            place,
-        })),
-        Lexeme::Word(name) => {
-            let name = Name {
-                text: String::from_str(whole.alloc(), *name)?,
-                quoted: false,
-                place,
-            };
-            word_atom(name, whole, tokens)
+        Lexeme::Parameter(name) => Ok(Expression::Parameter(name_at(alloc, *name, false, place)?)),
+        Lexeme::QuotedParameter(name) => {
+            Ok(Expression::Parameter(name_at(alloc, name.as_str(), true, place)?))
         }
+        Lexeme::QuotedName(name) => {
+            Ok(Expression::Variable(name_at(alloc, name.as_str(), true, place)?))
+        }
+        Lexeme::Word(name) => word_atom(name_at(alloc, *name, false, place)?, whole, tokens),
         _ => Err(ParseError::BadSyntax),
     }
 }
@@ -353,7 +343,6 @@ fn plain_atom<W: Expressions>(
     atom_by(token.start, &token.lexeme, whole, tokens)
 }
 
-#[tactic(auto, using(pg_syntax_tree::proofs::Views::map_is), unfolding(pg_meaning::specs::Parse::atom))]
 fn atom<W: Expressions>(whole: &W, tokens: &mut Tokens<'_, '_>) -> Result<Expression, ParseError>
     requires { W.ready whole.now }
     ensures { Gives expression_view (parse.atom (W.parser whole.now) (tokens_view tokens.old.rest.now)) result tokens.new.rest.now }

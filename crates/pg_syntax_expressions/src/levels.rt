@@ -82,7 +82,6 @@ impl<'w, W: Expressions> Expressions for Unary<'w, W> {
         self.0.alloc()
     }
 
-    #[tactic(auto, unfolding(pg_meaning::specs::Parse::unary))]
     fn expression(&self, tokens: &mut Tokens<'_, '_>) -> Result<Expression, ParseError> {
         let signs = pieces(self.alloc(), &Sign, tokens)?;
         let operand = post(self.0, tokens)?;
@@ -355,7 +354,6 @@ impl<'w, W: Expressions> Expressions for Negation<'w, W> {
         self.0.alloc()
     }
 
-    #[tactic(auto, unfolding(pg_meaning::specs::Parse::negation))]
     fn expression(&self, tokens: &mut Tokens<'_, '_>) -> Result<Expression, ParseError> {
         let nots = pieces(self.alloc(), &Not, tokens)?;
         let operand = Comparison(self.0).expression(tokens)?;

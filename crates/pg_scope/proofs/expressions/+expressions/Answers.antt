@@ -1,4 +1,4 @@
-use Rattle.std.proofs.Common.{◌≡◌, ℕ, Bool, Option, length, map, List, [], ◌∷◌, ◌++◌, refl, subst, ◌∙◌, arith}
+use Rattle.std.proofs.Common.{◌≡◌, ℕ, Bool, Option, Box, Vec, Global, length, map, List, [], ◌∷◌, ◌++◌, refl, sym, ap, subst, ◌∙◌, inl, inr, arith}
 use Rattle.pg_meaning.specs.Parse.{expressions_of, operands_of, pairs_of, whens_of}
 use Rattle.pg_meaning.specs.StaticFaults.{all_faults, pair_faults, when_faults, operand_faults, test_faults, suffix_faults, faults_of, expression_faults, count_of, Role, Found}
 use Rattle.pg_meaning.specs.Tree as tree
@@ -7,14 +7,20 @@ use Rattle.pg_scope.specs.First.{IsFirst}
 use Rattle.pg_meaning.specs.Names.{Names}
 use Rattle.pg_scope.specs.Names.{names_in}
 use Rattle.pg_scope.specs.Roles.{role_view}
-use Rattle.pg_syntax_tree.specs.View.{expression_view, name_view, pair_view, suffixes_of, tests_of, when_view, operand_view, test_view, suffix_view}
+use Rattle.pg_syntax_tree.specs.View.{expression_view, literal_view, name_view, pair_view, suffixes_of, tests_of, when_view, operand_view, test_view, suffix_view, view_step}
 use Rattle.pg_syntax_tree.specs.declared.expression.Expression.{Expression}
+use Rattle.pg_syntax_tree.specs.declared.expression.Expression.TheFolds.{fold-roll-Expression}
+use Rattle.pg_syntax_tree.specs.declared.expression.Expression.TheOpen.{Expression-F}
+use Rattle.pg_syntax_tree.specs.declared.expression.Expression.TheVariants as expression
+use Rattle.pg_syntax_tree.specs.declared.expression.Expression.TheViews.{rolls-Literal, rolls-Parameter, rolls-Variable, rolls-ListLiteral, rolls-Parentheses}
+use Rattle.pg_syntax_tree.specs.declared.expression.Literal.{Literal}
+use Rattle.pg_syntax_tree.specs.declared.expression.Name.{Name}
 use Rattle.pg_syntax_tree.specs.declared.expression.Suffix.{Suffix}
 use Rattle.pg_syntax_tree.specs.declared.expression.Suffix.TheVariants as suffix
 use Rattle.pg_syntax_tree.specs.declared.expression.Test.{Test}
 use Rattle.pg_syntax_tree.specs.declared.expression.Test.TheVariants as test
 use Rattle.pg_scope.proofs.FirstLemmas.{in_turn, walk_item, walk_ended, no_more}
-use Rattle.pg_syntax_tree.proofs.Views.{map_is, call_is, chain_is, tests_is, suffixes_is, case_is}
+use Rattle.pg_syntax_tree.proofs.Views.{map_is, call_is, chain_is, negation_is, signs_is, tests_is, suffixes_is, case_is}
 use Rattle.pg_scope.proofs.expressions.+expressions.Goals as goal
 
 abbrev faults_in_test : Names → Test Expression → List Found
@@ -32,6 +38,21 @@ faults_in_suffix visible (suffix.Index x) = faults_of visible (expression_view x
 suffix_step : (visible : Names) (x : Suffix Expression) (xs : List (Suffix Expression)) → suffix_faults visible (suffixes_of (map suffix_view (x ∷ xs))) ≡ faults_in_suffix visible x ++ suffix_faults visible (suffixes_of (map suffix_view xs))
 suffix_step visible (suffix.Property n) xs = refl
 suffix_step visible (suffix.Index x) xs = refl
+
+variable_is : (n : Name) → expression_view (expression.Variable n) ≡ tree.variable (name_view n)
+variable_is n = ap expression_view (sym (rolls-Variable n)) ∙ fold-roll-Expression tree.Expression view_step (Expression-F.Variable n)
+
+literal_is : (l : Literal) → expression_view (expression.Literal l) ≡ tree.literal (literal_view l)
+literal_is l = ap expression_view (sym (rolls-Literal l)) ∙ fold-roll-Expression tree.Expression view_step (Expression-F.Literal l)
+
+parameter_is : (n : Name) → expression_view (expression.Parameter n) ≡ tree.parameter (name_view n)
+parameter_is n = ap expression_view (sym (rolls-Parameter n)) ∙ fold-roll-Expression tree.Expression view_step (Expression-F.Parameter n)
+
+parentheses_is : (x : Box Expression Global) → expression_view (expression.Parentheses x) ≡ tree.parentheses (expression_view x.value)
+parentheses_is x = ap expression_view (sym (rolls-Parentheses x)) ∙ fold-roll-Expression tree.Expression view_step (Expression-F.Parentheses x)
+
+list_is : (xs : Vec Expression Global) → expression_view (expression.ListLiteral xs) ≡ tree.list_literal (expressions_of (map expression_view xs.items))
+list_is xs = ap expression_view (sym (rolls-ListLiteral xs)) ∙ fold-roll-Expression tree.Expression view_step (Expression-F.ListLiteral xs)
 
 count_is : (xs : List Expression) → length xs ≡ count_of (expressions_of (map expression_view xs))
 count_is [] = refl
@@ -127,3 +148,24 @@ fault_in_suffixes-loop-suffix-init t c = refl
 
 pub fault_in_suffixes-returns : goal.fault_in_suffixes-returns
 fault_in_suffixes-returns t c = walk_ended (λ ys. suffix_faults (names_in c.args.visible.now) (suffixes_of (map suffix_view ys))) refl c.loop-suffix-test.false c.deref-suffix-items.ensures.value c.args.first c.loop-suffix.first c.loop-suffix.invariant
+
+pub fault_in_expression-returns-in-Variable : goal.fault_in_expression-returns-in-Variable
+fault_in_expression-returns-in-Variable t c = rw c.in-Variable.is (rw (variable_is c.in-Variable.name) c.fault_in_variable.ensures)
+
+pub fault_in_expression-returns-in-ListLiteral : goal.fault_in_expression-returns-in-ListLiteral
+fault_in_expression-returns-in-ListLiteral t c = rw c.in-ListLiteral.is (rw (list_is c.in-ListLiteral.items) c.fault_in_all.ensures)
+
+pub fault_in_perhaps-returns-in-Some : goal.fault_in_perhaps-returns-in-Some
+fault_in_perhaps-returns-in-Some t c = rw c.in-Some.is (rw c.deref.ensures at c.fault_in_expression.ensures)
+
+pub fault_in_expression-returns-in-Parentheses : goal.fault_in_expression-returns-in-Parentheses
+fault_in_expression-returns-in-Parentheses t c =
+    let inner = c.in-Parentheses.inner in
+    let h = rw c.deref-in-Parentheses.ensures at c.fault_in_expression.ensures in
+    elim c.in-Parentheses.is [
+      | inl e ↦ rw e (rw (parentheses_is inner) h)
+      | inr others ↦ elim others [ inl e ↦ rw e.1 (rw (negation_is e.0 inner) h) | inr e ↦ rw e.1 (rw (signs_is e.0 inner) h) ]
+    ]
+
+pub fault_in_expression-returns-in-Literal : goal.fault_in_expression-returns-in-Literal
+fault_in_expression-returns-in-Literal t c = elim c.in-Literal.is [ inl e ↦ rw e.1 (rw (literal_is e.0) (no_more _)) | inr e ↦ rw e.1 (rw (parameter_is e.0) (no_more _)) ]

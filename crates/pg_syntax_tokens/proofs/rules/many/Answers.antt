@@ -1,4 +1,4 @@
-use Rattle.std.proofs.Common.{sym}
+use Rattle.std.proofs.Common.{length, refl, sym, arith}
 use Rattle.std.proofs.lemmas.Result.{err_from_is_err_and}
 use Rattle.pg_lex.specs.View.{tokens_view}
 use Rattle.pg_syntax_tokens.proofs.Rows.{passed, left_more, left_fails, left_ends, map_more}
@@ -10,6 +10,9 @@ returns-in_err-read g c =
     let seen = sym c.loop-found-test.ensures in
     rw (r.1, r.2) (passed c.in_err-read.field-0.0 (g.R.Rule.parser c.args.rule.now (tokens_view c.loop-found.tokens.rest.now)) _
     (λ none. left_fails _ _ _ _ _ c.loop-found.invariant (g.met.R.Row.none c.args.rule.now) seen none) c.in_err-read.ensures)
+
+pub loop-found-init : goal.loop-found-init
+loop-found-init g c = record { turns = length (tokens_view c.args.tokens.now.rest.now); enough = omega arith; is = refl }
 
 pub loop-found-preserved : goal.loop-found-preserved
 loop-found-preserved g c =

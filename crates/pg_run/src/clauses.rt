@@ -42,7 +42,6 @@ pub(crate) fn run_clauses<T: Tables>(
 }
 
 /// The rows after the clauses that are left.
-#[tactic(auto, using(pg_write_make::proofs::ChangedLemmas::unchanged, pg_write_make::proofs::ChangedLemmas::changed_then, crate::proofs::NextClause::next_clause, crate::proofs::NextClause::no_clause))]
 fn run_from<T: Tables>(
     given: &Given<'_>,
     clauses: &[Clause],

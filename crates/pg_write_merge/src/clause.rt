@@ -33,7 +33,6 @@ use std::alloc::Global;
 use std::slice::from_ref;
 
 // MERGE over columns of which so many were there before it.
-#[tactic(auto, using(pg_write_make::proofs::ChangedLemmas::unchanged))]
 fn merge_columns<'a, T: Tables>(
     merge: &Merge<'a>,
     names: &'a Columns,
@@ -66,7 +65,6 @@ fn merge_columns<'a, T: Tables>(
 /// Finds the path at each row, or makes it, in the graph of the rows before, and sets what the items
 /// of its kind say at each resulting row. An error leaves a part of it done, and the caller takes
 /// that back.
-#[tactic(auto, using(pg_write_make::proofs::ChangedLemmas::unchanged))]
 pub fn merge_path<'a, T: Tables>(
     alloc: Global,
     path: &'a PathPattern,

@@ -1,55 +1,156 @@
-use Rattle.std.proofs.Common.{rules, refl, sym, subst}
+use Rattle.std.proofs.Common.{◌≡◌, ℕ, List, Result, rules, refl, sym, subst}
+use Rattle.std.specs.Prelude.{IfOk}
+use Rattle.pg_meaning.specs.Meters.{Setting, State}
 use Rattle.pg_meaning.specs.Queries.{clause_step}
+use Rattle.pg_meaning.specs.Scopes.{scope_after}
+use Rattle.pg_meaning.specs.declared.fault.Fault.{Fault}
 use Rattle.pg_rows.specs.States.{seen, state_of}
+use Rattle.pg_rows.specs.declared.named.Table.{Table}
 use Rattle.pg_run.proofs.Settings.{suits_own}
 use Rattle.pg_run.specs.Runs.{anchors_view, setting_of}
 use Rattle.pg_store.specs.Stores.{graph_of_store}
 use Rattle.pg_syntax_tree.specs.View.{clause_view}
+use Rattle.pg_syntax_tree.specs.declared.clauses.Clause.{Clause}
 use Rattle.pg_value_core.specs.Given.{parameters_view}
 use Rattle.pg_value_core.specs.Gives.{Gives}
+use Rattle.pg_write_make.proofs.ChangedLemmas.{unchanged}
 use Rattle.pg_run.proofs.clause.run_clause.Goals as goal
+
+-- what is said of a clause's kind, of the clause
+module _ (whole part : Clause) (is : whole ≡ part) (r : Result Table Fault) where
+  given_of : (s : Setting) (state : State) (after : Table → State) → Gives r (clause_step s (clause_view part) state) after → Gives r (clause_step s (clause_view whole) state) after
+  given_of s state after h = subst (λ c. Gives r (clause_step s (clause_view c) state) after) (sym is) h
+
+  named_of : (names : List (List ℕ)) → IfOk r (λ t. (seen t).names ≡ scope_after names (clause_view part)) → IfOk r (λ t. (seen t).names ≡ scope_after names (clause_view whole))
+  named_of names h = subst (λ c. IfOk r (λ t. (seen t).names ≡ scope_after names (clause_view c))) (sym is) h
 
 pub returns-in-Match-clause-gives : goal.returns-in-Match-clause-gives
 returns-in-Match-clause-gives g c =
-    let given = c.match_rows.ensures.gives (setting_of (parameters_view c.args.given.now.parameters.now) c.args.meter.now.limit c.args.given.now.max_elements c.args.table.names (anchors_view c.args.anchors.now)) (suits_own _ _ _ _ _) refl in
+    let given = c.match_rows.ensures.gives (setting_of (parameters_view c.args.given.now.parameters.now) c.args.meter.now.limit c.args.given.now.max_elements c.args.table.names (anchors_view c.args.anchors.now)) (suits_own (parameters_view c.args.given.now.parameters.now) c.args.meter.now.limit c.args.given.now.max_elements c.args.table.names (anchors_view c.args.anchors.now)) refl in
     search rules
+
+pub returns-in-Match-clause-names : goal.returns-in-Match-clause-names
+returns-in-Match-clause-names g c = named_of c.args.clause.now _ c.in-Match.is c.match_rows.result c.args.table.names c.match_rows.ensures.names
+
+pub returns-in-Match-clause-limit : goal.returns-in-Match-clause-limit
+returns-in-Match-clause-limit g c = c.match_rows.ensures.limit
+
+pub returns-in-Match-clause-changed : goal.returns-in-Match-clause-changed
+returns-in-Match-clause-changed g c = unchanged g.T.Tables.seen c.args.store.now c.args.shared.now c.requires.fit
 
 pub returns-in-Unwind-clause-gives : goal.returns-in-Unwind-clause-gives
 returns-in-Unwind-clause-gives g c =
-    let given = c.unwind_rows.ensures.unwinds (setting_of (parameters_view c.args.given.now.parameters.now) c.args.meter.now.limit c.args.given.now.max_elements c.args.table.names (anchors_view c.args.anchors.now)) (suits_own _ _ _ _ _) in
+    let given = c.unwind_rows.ensures.unwinds (setting_of (parameters_view c.args.given.now.parameters.now) c.args.meter.now.limit c.args.given.now.max_elements c.args.table.names (anchors_view c.args.anchors.now)) (suits_own (parameters_view c.args.given.now.parameters.now) c.args.meter.now.limit c.args.given.now.max_elements c.args.table.names (anchors_view c.args.anchors.now)) in
     search rules
+
+pub returns-in-Unwind-clause-names : goal.returns-in-Unwind-clause-names
+returns-in-Unwind-clause-names g c = named_of c.args.clause.now _ c.in-Unwind.is c.unwind_rows.result c.args.table.names c.unwind_rows.ensures.names
+
+pub returns-in-Unwind-clause-limit : goal.returns-in-Unwind-clause-limit
+returns-in-Unwind-clause-limit g c = c.unwind_rows.ensures.limit
+
+pub returns-in-Unwind-clause-changed : goal.returns-in-Unwind-clause-changed
+returns-in-Unwind-clause-changed g c = unchanged g.T.Tables.seen c.args.store.now c.args.shared.now c.requires.fit
 
 pub returns-in-With-clause-gives : goal.returns-in-With-clause-gives
 returns-in-With-clause-gives g c =
-    let given = c.project_with.ensures.gives (setting_of (parameters_view c.args.given.now.parameters.now) c.args.meter.now.limit c.args.given.now.max_elements c.args.table.names (anchors_view c.args.anchors.now)) (suits_own _ _ _ _ _) in
+    let given = c.project_with.ensures.gives (setting_of (parameters_view c.args.given.now.parameters.now) c.args.meter.now.limit c.args.given.now.max_elements c.args.table.names (anchors_view c.args.anchors.now)) (suits_own (parameters_view c.args.given.now.parameters.now) c.args.meter.now.limit c.args.given.now.max_elements c.args.table.names (anchors_view c.args.anchors.now)) in
     search rules
+
+pub returns-in-With-clause-names : goal.returns-in-With-clause-names
+returns-in-With-clause-names g c = named_of c.args.clause.now _ c.in-With.is c.project_with.result c.args.table.names c.project_with.ensures.names
+
+pub returns-in-With-clause-limit : goal.returns-in-With-clause-limit
+returns-in-With-clause-limit g c = c.project_with.ensures.limit
+
+pub returns-in-With-clause-changed : goal.returns-in-With-clause-changed
+returns-in-With-clause-changed g c = unchanged g.T.Tables.seen c.args.store.now c.args.shared.now c.requires.fit
 
 pub returns-in-Return-clause-gives : goal.returns-in-Return-clause-gives
 returns-in-Return-clause-gives g c =
-    let given = c.project_return.ensures.gives (setting_of (parameters_view c.args.given.now.parameters.now) c.args.meter.now.limit c.args.given.now.max_elements c.args.table.names (anchors_view c.args.anchors.now)) (suits_own _ _ _ _ _) in
+    let given = c.project_return.ensures.gives (setting_of (parameters_view c.args.given.now.parameters.now) c.args.meter.now.limit c.args.given.now.max_elements c.args.table.names (anchors_view c.args.anchors.now)) (suits_own (parameters_view c.args.given.now.parameters.now) c.args.meter.now.limit c.args.given.now.max_elements c.args.table.names (anchors_view c.args.anchors.now)) in
     search rules
+
+pub returns-in-Return-clause-names : goal.returns-in-Return-clause-names
+returns-in-Return-clause-names g c = named_of c.args.clause.now _ c.in-Return.is c.project_return.result c.args.table.names c.project_return.ensures.names
+
+pub returns-in-Return-clause-limit : goal.returns-in-Return-clause-limit
+returns-in-Return-clause-limit g c = c.project_return.ensures.limit
+
+pub returns-in-Return-clause-changed : goal.returns-in-Return-clause-changed
+returns-in-Return-clause-changed g c = unchanged g.T.Tables.seen c.args.store.now c.args.shared.now c.requires.fit
 
 pub returns-in-Create-clause-gives : goal.returns-in-Create-clause-gives
 returns-in-Create-clause-gives g c =
-    let given = c.create_paths.ensures.gives (setting_of (parameters_view c.args.given.now.parameters.now) c.args.meter.now.limit c.args.given.now.max_elements c.args.table.names (anchors_view c.args.anchors.now)) (suits_own _ _ _ _ _) refl in
-    search rules
+    let s = setting_of (parameters_view c.args.given.now.parameters.now) c.args.meter.now.limit c.args.given.now.max_elements c.args.table.names (anchors_view c.args.anchors.now) in
+    given_of c.args.clause.now _ c.in-Create.is c.create_paths.result s (state_of (graph_of_store g.T.Tables.seen c.args.store.now c.args.shared.now) (seen c.args.table) c.args.meter.now.used) _
+    (c.create_paths.ensures.gives s (suits_own (parameters_view c.args.given.now.parameters.now) c.args.meter.now.limit c.args.given.now.max_elements c.args.table.names (anchors_view c.args.anchors.now)) refl)
+
+pub returns-in-Create-clause-names : goal.returns-in-Create-clause-names
+returns-in-Create-clause-names g c = named_of c.args.clause.now _ c.in-Create.is c.create_paths.result c.args.table.names c.create_paths.ensures.names
+
+pub returns-in-Create-clause-limit : goal.returns-in-Create-clause-limit
+returns-in-Create-clause-limit g c = c.create_paths.ensures.limit
+
+pub returns-in-Create-clause-changed : goal.returns-in-Create-clause-changed
+returns-in-Create-clause-changed g c = c.create_paths.ensures.changed
 
 pub returns-in-Merge-clause-gives : goal.returns-in-Merge-clause-gives
 returns-in-Merge-clause-gives g c =
-    let given = c.merge_path.ensures.gives (setting_of (parameters_view c.args.given.now.parameters.now) c.args.meter.now.limit c.args.given.now.max_elements c.args.table.names (anchors_view c.args.anchors.now)) (suits_own _ _ _ _ _) refl refl in
-    subst (λ x. Gives c.merge_path.result (clause_step (setting_of (parameters_view c.args.given.now.parameters.now) c.args.meter.now.limit c.args.given.now.max_elements c.args.table.names (anchors_view c.args.anchors.now)) (clause_view x) (state_of (graph_of_store g.T.Tables.seen c.args.store.now c.args.shared.now) (seen c.args.table) c.args.meter.now.used)) (λ t. state_of (graph_of_store g.T.Tables.seen c.merge_path.new.store c.merge_path.new.shared) (seen t) c.merge_path.new.meter.used)) (sym c.in-Merge.is) given
+    let s = setting_of (parameters_view c.args.given.now.parameters.now) c.args.meter.now.limit c.args.given.now.max_elements c.args.table.names (anchors_view c.args.anchors.now) in
+    given_of c.args.clause.now _ c.in-Merge.is c.merge_path.result s (state_of (graph_of_store g.T.Tables.seen c.args.store.now c.args.shared.now) (seen c.args.table) c.args.meter.now.used) _
+    (c.merge_path.ensures.gives s (suits_own (parameters_view c.args.given.now.parameters.now) c.args.meter.now.limit c.args.given.now.max_elements c.args.table.names (anchors_view c.args.anchors.now)) refl refl)
+
+pub returns-in-Merge-clause-names : goal.returns-in-Merge-clause-names
+returns-in-Merge-clause-names g c = named_of c.args.clause.now _ c.in-Merge.is c.merge_path.result c.args.table.names c.merge_path.ensures.names
+
+pub returns-in-Merge-clause-limit : goal.returns-in-Merge-clause-limit
+returns-in-Merge-clause-limit g c = c.merge_path.ensures.limit
+
+pub returns-in-Merge-clause-changed : goal.returns-in-Merge-clause-changed
+returns-in-Merge-clause-changed g c = c.merge_path.ensures.changed
 
 pub returns-in-Set-clause-gives : goal.returns-in-Set-clause-gives
 returns-in-Set-clause-gives g c =
-    let given = c.set_rows.ensures.gives (setting_of (parameters_view c.args.given.now.parameters.now) c.args.meter.now.limit c.args.given.now.max_elements c.args.table.names (anchors_view c.args.anchors.now)) (suits_own _ _ _ _ _) in
-    search rules
+    let s = setting_of (parameters_view c.args.given.now.parameters.now) c.args.meter.now.limit c.args.given.now.max_elements c.args.table.names (anchors_view c.args.anchors.now) in
+    given_of c.args.clause.now _ c.in-Set.is c.set_rows.result s (state_of (graph_of_store g.T.Tables.seen c.args.store.now c.args.shared.now) (seen c.args.table) c.args.meter.now.used) _
+    (c.set_rows.ensures.gives s (suits_own (parameters_view c.args.given.now.parameters.now) c.args.meter.now.limit c.args.given.now.max_elements c.args.table.names (anchors_view c.args.anchors.now)))
+
+pub returns-in-Set-clause-names : goal.returns-in-Set-clause-names
+returns-in-Set-clause-names g c = named_of c.args.clause.now _ c.in-Set.is c.set_rows.result c.args.table.names c.set_rows.ensures.names
+
+pub returns-in-Set-clause-limit : goal.returns-in-Set-clause-limit
+returns-in-Set-clause-limit g c = c.set_rows.ensures.limit
+
+pub returns-in-Set-clause-changed : goal.returns-in-Set-clause-changed
+returns-in-Set-clause-changed g c = c.set_rows.ensures.changed
 
 pub returns-in-Remove-clause-gives : goal.returns-in-Remove-clause-gives
 returns-in-Remove-clause-gives g c =
-    let given = c.remove_rows.ensures.gives (setting_of (parameters_view c.args.given.now.parameters.now) c.args.meter.now.limit c.args.given.now.max_elements c.args.table.names (anchors_view c.args.anchors.now)) (suits_own _ _ _ _ _) in
-    search rules
+    let s = setting_of (parameters_view c.args.given.now.parameters.now) c.args.meter.now.limit c.args.given.now.max_elements c.args.table.names (anchors_view c.args.anchors.now) in
+    given_of c.args.clause.now _ c.in-Remove.is c.remove_rows.result s (state_of (graph_of_store g.T.Tables.seen c.args.store.now c.args.shared.now) (seen c.args.table) c.args.meter.now.used) _
+    (c.remove_rows.ensures.gives s (suits_own (parameters_view c.args.given.now.parameters.now) c.args.meter.now.limit c.args.given.now.max_elements c.args.table.names (anchors_view c.args.anchors.now)))
+
+pub returns-in-Remove-clause-names : goal.returns-in-Remove-clause-names
+returns-in-Remove-clause-names g c = named_of c.args.clause.now _ c.in-Remove.is c.remove_rows.result c.args.table.names c.remove_rows.ensures.names
+
+pub returns-in-Remove-clause-limit : goal.returns-in-Remove-clause-limit
+returns-in-Remove-clause-limit g c = c.remove_rows.ensures.limit
+
+pub returns-in-Remove-clause-changed : goal.returns-in-Remove-clause-changed
+returns-in-Remove-clause-changed g c = c.remove_rows.ensures.changed
 
 pub returns-in-Delete-clause-gives : goal.returns-in-Delete-clause-gives
 returns-in-Delete-clause-gives g c =
-    let given = c.delete_elements.ensures.gives (setting_of (parameters_view c.args.given.now.parameters.now) c.args.meter.now.limit c.args.given.now.max_elements c.args.table.names (anchors_view c.args.anchors.now)) (suits_own _ _ _ _ _) in
-    search rules
+    let s = setting_of (parameters_view c.args.given.now.parameters.now) c.args.meter.now.limit c.args.given.now.max_elements c.args.table.names (anchors_view c.args.anchors.now) in
+    given_of c.args.clause.now _ c.in-Delete.is c.delete_elements.result s (state_of (graph_of_store g.T.Tables.seen c.args.store.now c.args.shared.now) (seen c.args.table) c.args.meter.now.used) _
+    (c.delete_elements.ensures.gives s (suits_own (parameters_view c.args.given.now.parameters.now) c.args.meter.now.limit c.args.given.now.max_elements c.args.table.names (anchors_view c.args.anchors.now)))
+
+pub returns-in-Delete-clause-names : goal.returns-in-Delete-clause-names
+returns-in-Delete-clause-names g c = named_of c.args.clause.now _ c.in-Delete.is c.delete_elements.result c.args.table.names c.delete_elements.ensures.names
+
+pub returns-in-Delete-clause-limit : goal.returns-in-Delete-clause-limit
+returns-in-Delete-clause-limit g c = c.delete_elements.ensures.limit
+
+pub returns-in-Delete-clause-changed : goal.returns-in-Delete-clause-changed
+returns-in-Delete-clause-changed g c = c.delete_elements.ensures.changed

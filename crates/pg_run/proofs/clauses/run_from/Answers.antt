@@ -1,18 +1,34 @@
-use Rattle.std.proofs.Common.{rules, ◌≡◌, ◌∷◌, map, drop, ◌+◌, Ok, sym, subst, ap, ◌∙◌}
-use Rattle.std.proofs.lemmas.List.{drop_more}
+use Rattle.std.proofs.Common.{◌≡◌, ◌∷◌, map, drop, ◌+◌, Ok, refl, sym, subst, ap, ◌∙◌}
+use Rattle.std.proofs.lemmas.List.{drop_all, drop_more}
 use Rattle.std.specs.Prelude.{fold}
 use Rattle.pg_meaning.specs.Plans.{ArePlanned, IsPlanFrom}
 use Rattle.pg_meaning.specs.Queries.{clause_step, clauses_run, first_anchors}
 use Rattle.pg_meaning.specs.Scopes.{scope_after}
 use Rattle.pg_rows.specs.States.{seen, state_of}
-use Rattle.pg_run.proofs.NextClause.{next_clause}
+use Rattle.pg_run.proofs.NextClause.{next_clause, no_clause}
 use Rattle.pg_run.proofs.Planned.{first_planned, others_planned}
 use Rattle.pg_run.specs.Runs.{plan_view, quota_of, setting_of}
 use Rattle.pg_store.specs.Stores.{graph_of_store}
 use Rattle.pg_syntax_tree.specs.View.{clause_view}
 use Rattle.pg_value_core.specs.Given.{parameters_view}
-use Rattle.pg_write_make.proofs.ChangedLemmas.{changed_then}
+use Rattle.pg_write_make.proofs.ChangedLemmas.{changed_then, unchanged}
+use Rattle.pg_write.proofs.ExitLemmas.{gives_fault}
 use Rattle.pg_run.proofs.clauses.run_from.Goals as goal
+
+pub loop-clause-init : goal.loop-clause-init
+loop-clause-init g c = record {
+  left = refl;
+  names = refl;
+  limit = refl;
+  planned = c.requires.planned;
+  changed = unchanged g.T.Tables.seen c.args.store.now c.args.shared.now c.requires.fit;
+}
+
+pub run_clause-requires-clause-fit : goal.run_clause-requires-clause-fit
+run_clause-requires-clause-fit g c = c.loop-clause.invariant.changed.fit
+
+pub run_clause-requires-clause-quota : goal.run_clause-requires-clause-quota
+run_clause-requires-clause-quota g c = c.requires.quota
 
 pub run_clause-requires-clause-planned : goal.run_clause-requires-clause-planned
 run_clause-requires-clause-planned g c =
@@ -55,9 +71,57 @@ loop-clause-preserved g c =
           ap (λ ns. fold scope_after ns later) c.in_ok-table.ensures.names
           ∙ sym (ap (λ xs. fold scope_after names (map clause_view xs)) split)
           ∙ c.loop-clause.invariant.names;
-      limit = search rules;
+      limit = c.run_clause.ensures.limit ∙ c.loop-clause.invariant.limit;
       planned =
           subst (λ ns. IsPlanFrom ns later (plan_view c.anchors_first.result.1.now)) (sym c.in_ok-table.ensures.names)
           (subst (λ p. IsPlanFrom (scope_after names clause) later p) (sym c.anchors_first.ensures.others) (others_planned names clause later plan here));
-      changed = changed_then g.T.Tables.seen _ _ _ _ _ _ c.loop-clause.invariant.changed c.run_clause.ensures.changed;
+      changed = changed_then g.T.Tables.seen c.args.store.now c.loop-clause.store c.run_clause.new.store c.args.shared.now c.loop-clause.shared c.run_clause.new.shared c.loop-clause.invariant.changed c.run_clause.ensures.changed;
     }
+
+pub returns-in_err-table-clause-gives : goal.returns-in_err-table-clause-gives
+returns-in_err-table-clause-gives g c =
+    let parameters = parameters_view c.args.given.now.parameters.now in
+    let limit = c.loop-clause.meter.limit in
+    let elements = c.args.given.now.max_elements in
+    let names = c.loop-clause.table.names in
+    let plan = plan_view c.loop-clause.left.now in
+    let clause = clause_view c.clause-item.result in
+    let i = c.loop-clause.clause-index in
+    let later = map clause_view (drop (i + 1) c.args.clauses.now) in
+    let before = state_of (graph_of_store g.T.Tables.seen c.loop-clause.store c.loop-clause.shared) (seen c.loop-clause.table) c.loop-clause.meter.used in
+    let split : drop i c.args.clauses.now ≡ c.clause-item.result ∷ drop (i + 1) c.args.clauses.now =
+    drop_more c.args.clauses.now i c.clause-item.result c.loop-clause-test.true ∙ ap (λ x. x ∷ drop (i + 1) c.args.clauses.now) (sym c.clause-item.is) in
+    gives_fault c.from_residual.result _ _ _ c.from_residual.ensures.1
+    (λ other. sym c.loop-clause.invariant.left
+    ∙ ap (λ xs. clauses_run parameters (quota_of limit elements) names plan (map clause_view xs) before) split
+    ∙ no_clause parameters limit elements names plan clause later before _
+    (sym (ap (λ a. clause_step (setting_of parameters limit elements names a) clause before) c.anchors_first.ensures.first) ∙ c.in_err-table.ensures.gives.err other))
+
+pub returns-in_err-table-clause-limit : goal.returns-in_err-table-clause-limit
+returns-in_err-table-clause-limit g c = c.run_clause.ensures.limit ∙ c.loop-clause.invariant.limit
+
+pub returns-in_err-table-clause-changed : goal.returns-in_err-table-clause-changed
+returns-in_err-table-clause-changed g c =
+    changed_then g.T.Tables.seen c.args.store.now c.loop-clause.store c.run_clause.new.store c.args.shared.now c.loop-clause.shared c.run_clause.new.shared c.loop-clause.invariant.changed c.run_clause.ensures.changed
+
+pub returns-clause-gives : goal.returns-clause-gives
+returns-clause-gives g c =
+    let before = state_of (graph_of_store g.T.Tables.seen c.loop-clause.store c.loop-clause.shared) (seen c.loop-clause.table) c.loop-clause.meter.used in
+    record {
+      ok =
+          sym c.loop-clause.invariant.left
+          ∙ ap (λ xs. clauses_run (parameters_view c.args.given.now.parameters.now) (quota_of c.loop-clause.meter.limit c.args.given.now.max_elements) c.loop-clause.table.names (plan_view c.loop-clause.left.now) (map clause_view xs) before)
+          (drop_all c.loop-clause.clause-index c.args.clauses.now c.loop-clause-test.false);
+      err = tt;
+    }
+
+pub returns-clause-names : goal.returns-clause-names
+returns-clause-names g c =
+    sym (ap (λ xs. fold scope_after c.loop-clause.table.names (map clause_view xs)) (drop_all c.loop-clause.clause-index c.args.clauses.now c.loop-clause-test.false))
+    ∙ c.loop-clause.invariant.names
+
+pub returns-clause-limit : goal.returns-clause-limit
+returns-clause-limit g c = c.loop-clause.invariant.limit
+
+pub returns-clause-changed : goal.returns-clause-changed
+returns-clause-changed g c = c.loop-clause.invariant.changed

@@ -1,4 +1,4 @@
-use Rattle.std.proofs.Common.{◌≡◌, length, Ok, sym, ap, ◌∙◌}
+use Rattle.std.proofs.Common.{◌≡◌, length, Ok, refl, sym, ap, ◌∙◌}
 use Rattle.pg_meaning.specs.Answer.{◌>>=◌, each_answer}
 use Rattle.pg_meaning.specs.Meters.{spend}
 use Rattle.pg_project.specs.Cuts.{cut_view}
@@ -9,6 +9,7 @@ use Rattle.pg_rows.specs.States.{seen}
 use Rattle.pg_run.specs.Telling.{told}
 use Rattle.pg_syntax_tree.specs.View.{projection_view}
 use Rattle.pg_value_core.specs.Given.{parameters_view}
+use Rattle.pg_write.proofs.ExitLemmas.{gives_fault}
 use Rattle.pg_run.proofs.returning.reply_of_each.Goals as goal
 
 pub returns : goal.returns
@@ -31,3 +32,50 @@ returns g c = λ s limit.
     ∙ ap (λ a. a >>= λ found. told graph (named_items columns) (cut_of cut found) c.spend.new.self.used) are
     ∙ ap (told graph (named_items columns) rows) (sym c.used.ensures))
     (c.finish.ensures graph (named_items columns) rows (made.telling (named_items columns) (c.in_ok-telling.ensures graph)))
+
+pub returns-in_err-spend : goal.returns-in_err-spend
+returns-in_err-spend g c = λ s limit.
+    let t = seen c.args.table in
+    let graph = c.args.graph.now in
+    let columns = c.args.columns.now in
+    let used = c.args.meter.now.used in
+    let p = projection_view c.args.projection.now in
+    let parameters = parameters_view c.args.parameters.now in
+    let given = each_answer (values_given parameters graph t.names (trees_of t.names c.args.ready.now.items)) t.rows in
+    gives_fault c.from_residual.result _ _ _ c.from_residual.ensures.1
+    (λ other. ap (λ a. a >>= λ steps. cut_given parameters graph p.skip p.limit >>= λ k. given >>= λ found. told graph (named_items columns) (cut_of k found) steps)
+    (ap (spend s used) (sym (c.len.ensures ∙ ap length c.rows-rows.ensures.rows)) ∙ c.in_err-spend.ensures.spends s limit))
+
+pub returns-in_err-cut : goal.returns-in_err-cut
+returns-in_err-cut g c = λ s limit.
+    let t = seen c.args.table in
+    let graph = c.args.graph.now in
+    let columns = c.args.columns.now in
+    let used = c.args.meter.now.used in
+    let p = projection_view c.args.projection.now in
+    let parameters = parameters_view c.args.parameters.now in
+    let given = each_answer (values_given parameters graph t.names (trees_of t.names c.args.ready.now.items)) t.rows in
+    gives_fault c.from_residual-in_err-cut.result _ _ _ c.from_residual-in_err-cut.ensures.1
+    (λ other. ap (λ a. a >>= λ steps. cut_given parameters graph p.skip p.limit >>= λ k. given >>= λ found. told graph (named_items columns) (cut_of k found) steps)
+    (ap (spend s used) (sym (c.len.ensures ∙ ap length c.rows-rows.ensures.rows)) ∙ c.in_ok-spend.ensures.spends s limit)
+    ∙ ap (λ a. a >>= λ k. given >>= λ found. told graph (named_items columns) (cut_of k found) c.spend.new.self.used) (c.in_err-cut.ensures.err other))
+
+pub returns-in_err-telling : goal.returns-in_err-telling
+returns-in_err-telling g c = λ s limit.
+    gives_fault c.from_residual-in_err-telling.result _ _ _ c.from_residual-in_err-telling.ensures.1 (λ other. absurd (other refl))
+
+pub returns-in_err-tell_rows : goal.returns-in_err-tell_rows
+returns-in_err-tell_rows g c = λ s limit.
+    let t = seen c.args.table in
+    let graph = c.args.graph.now in
+    let columns = c.args.columns.now in
+    let used = c.args.meter.now.used in
+    let p = projection_view c.args.projection.now in
+    let parameters = parameters_view c.args.parameters.now in
+    let given = each_answer (values_given parameters graph t.names (trees_of t.names c.args.ready.now.items)) t.rows in
+    let cut = cut_view c.in_ok-cut.cut in
+    gives_fault c.from_residual-in_err-tell_rows.result _ _ _ c.from_residual-in_err-tell_rows.ensures.1
+    (λ other. ap (λ a. a >>= λ steps. cut_given parameters graph p.skip p.limit >>= λ k. given >>= λ found. told graph (named_items columns) (cut_of k found) steps)
+    (ap (spend s used) (sym (c.len.ensures ∙ ap length c.rows-rows.ensures.rows)) ∙ c.in_ok-spend.ensures.spends s limit)
+    ∙ ap (λ a. a >>= λ k. given >>= λ found. told graph (named_items columns) (cut_of k found) c.spend.new.self.used) c.in_ok-cut.ensures.ok
+    ∙ ap (λ a. a >>= λ found. told graph (named_items columns) (cut_of cut found) c.spend.new.self.used) ((λ i. each_answer (values_given parameters graph (sym c.names.ensures i) (trees_of (sym c.names.ensures i) c.args.ready.now.items)) (sym c.rows-rows.ensures.rows i)) ∙ c.in_err-tell_rows.ensures.err other))

@@ -1,4 +1,4 @@
-use Rattle.std.proofs.Common.{◌≡◌, ◌∷◌, [], Ok, length, map, take, sym, ap, ◌∙◌}
+use Rattle.std.proofs.Common.{◌≡◌, ◌∷◌, [], Ok, length, map, take, refl, sym, ap, ◌∙◌}
 use Rattle.std.proofs.lemmas.Result.{err_from_is_err_and}
 use Rattle.pg_match.proofs.Found.{rows_wide}
 use Rattle.pg_match_rows.specs.Parts.{parts_of}
@@ -10,6 +10,8 @@ use Rattle.pg_rows.specs.Tables.{table}
 use Rattle.pg_store.specs.Stores.{graph_of_store}
 use Rattle.pg_syntax_tree.specs.View.{on_view, path_view}
 use Rattle.pg_value_core.specs.Given.{parameters_view}
+use Rattle.pg_write.proofs.ExitLemmas.{gives_fault}
+use Rattle.pg_write_make.proofs.ChangedLemmas.{unchanged}
 use Rattle.pg_write_merge.proofs.ClauseLemmas.{clause_is, first_kept, not_fewer}
 use Rattle.pg_write_merge.proofs.clause.merge_path.Goals as goal
 
@@ -62,3 +64,33 @@ returns-clause-gives g c = λ s suits most at.
       ok = whole ∙ c.in_ok-merged.ensures.ok ∙ ap (λ t. Ok (state_of (graph_of_store g.T.Tables.seen c.merge_columns.new.store c.merge_columns.new.shared) t c.merge_columns.new.meter.used)) (sym c.new.ensures);
       err = tt;
     }
+
+pub returns-in_err-count-clause-gives : goal.returns-in_err-count-clause-gives
+returns-in_err-count-clause-gives g c = λ s suits most at. gives_fault c.from_residual.result _ _ _ c.from_residual.ensures.1 (λ other. absurd (other refl))
+
+pub returns-in_err-count-clause-changed : goal.returns-in_err-count-clause-changed
+returns-in_err-count-clause-changed g c = unchanged g.T.Tables.seen c.args.store.now c.args.shared.now c.requires.fit
+
+pub returns-in_err-count-clause-limit : goal.returns-in_err-count-clause-limit
+returns-in_err-count-clause-limit g c = refl
+
+pub returns-in_err-bindings-clause-gives : goal.returns-in_err-bindings-clause-gives
+returns-in_err-bindings-clause-gives g c = λ s suits most at. gives_fault c.from_residual-in_err-bindings.result _ _ _ c.from_residual-in_err-bindings.ensures.1 (λ other. absurd (other refl))
+
+pub returns-in_err-bindings-clause-changed : goal.returns-in_err-bindings-clause-changed
+returns-in_err-bindings-clause-changed g c = unchanged g.T.Tables.seen c.args.store.now c.args.shared.now c.requires.fit
+
+pub returns-in_err-bindings-clause-limit : goal.returns-in_err-bindings-clause-limit
+returns-in_err-bindings-clause-limit g c = refl
+
+pub returns-in_err-merged-clause-changed : goal.returns-in_err-merged-clause-changed
+returns-in_err-merged-clause-changed g c = c.merge_columns.ensures.changed
+
+pub returns-in_err-merged-clause-limit : goal.returns-in_err-merged-clause-limit
+returns-in_err-merged-clause-limit g c = c.merge_columns.ensures.limit
+
+pub returns-clause-changed : goal.returns-clause-changed
+returns-clause-changed g c = c.merge_columns.ensures.changed
+
+pub returns-clause-limit : goal.returns-clause-limit
+returns-clause-limit g c = c.merge_columns.ensures.limit

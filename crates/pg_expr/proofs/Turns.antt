@@ -161,9 +161,6 @@ module _ (s : Site) (g : Graph) where
     abbrev by_name : Option Function → Answer
     by_name o = elim o [ Some f ↦ by_choice f (is_coalesce f) | None ↦ Err (fault_of_name name) ]
 
-    pub unnamed : function_named name ≡ None → given_call s g name es ≡ Err (fault_of_name name)
-    unnamed h = ap by_name h
-
     pub coalesced : (f : Function) → function_named name ≡ Some f → is_coalesce f ≡ true → given_call s g name es ≡ given_first s g es
     coalesced f h k = ap by_name h ∙ ap (by_choice f) k
 

@@ -1,4 +1,4 @@
-use Rattle.std.proofs.Common.{◌≡◌, Some, Ok, ◌+◌, ◌∷◌, drop, map, sym, ap, ◌∙◌, arith, length}
+use Rattle.std.proofs.Common.{◌≡◌, Some, Ok, Err, ◌+◌, ◌∷◌, drop, map, sym, ap, ◌∙◌, arith, length}
 use Rattle.std.proofs.lemmas.Result.{IfOk-from_err, err_from_is_err_and}
 use Rattle.std.specs.Prelude.{option_map, string_bytes, unwrap_or}
 use Rattle.pg_expr.proofs.AfterLemmas.{after}
@@ -149,14 +149,6 @@ find-returns-in-Signs g t c =
       ok = ok_by c.all_signed.result found_view (ap (λ e. given s graph (expression_view e)) a.is ∙ ap (λ e. given s graph e) (signs_is a.signs a.inner) ∙ ap (λ x. given s graph (tree.signs a.signs.items (expression_view x))) (sym c.deref-in-Signs.ensures)) told.ok;
       err = err_by c.all_signed.result (ap (λ e. given s graph (expression_view e)) a.is ∙ ap (λ e. given s graph e) (signs_is a.signs a.inner) ∙ ap (λ x. given s graph (tree.signs a.signs.items (expression_view x))) (sym c.deref-in-Signs.ensures)) told.err;
     }
-
-pub text_tested-returns : goal.text_tested-returns
-text_tested-returns g t c =
-    after c.find.result (given c.args.site.now c.args.graph.now (expression_view c.args.operand.now)) found_view (tested c.args.test (found_view c.args.found)) c.tested.result found_view c.find.ensures.ok c.find.ensures.err c.tested.ensures
-
-pub indexed-returns : goal.indexed-returns
-indexed-returns g t c =
-    after c.find.result (given c.args.site.now c.args.graph.now (expression_view c.args.place.now)) found_view (indexed c.args.graph.now (found_view c.args.found)) c.index.result found_view c.find.ensures.ok c.find.ensures.err c.index.ensures
 
 pub each-returns-in_err-found : goal.each-returns-in_err-found
 each-returns-in_err-found g t c =
@@ -499,7 +491,7 @@ pass_tests-returns-in_err-found-in-Text g t c =
     (λ n. l.invariant
     ∙ ap (tests_given s graph (found_view l.found)) (item_here c.loop-test-test.true c.test-item.is c.deref-test-items.ensures.value)
     ∙ ap (λ x. tests_given s graph (found_view l.found) (x ∷ rest)) c.in-Text.is
-    ∙ failed_text_test s graph (found_view l.found) c.in-Text.test c.in-Text.operand rest c.in_err-found-in-Text.field-0.0 (c.in_err-found-in-Text.ensures.err n))
+    ∙ failed_text_test s graph (found_view l.found) c.in-Text.test c.in-Text.operand rest c.in_err-found-in-Text.field-0.0 ((after c.find.result (given s graph (expression_view c.in-Text.operand)) found_view (tested c.in-Text.test (found_view l.found)) (Err c.in_err-found-in-Text.field-0.0) found_view c.find.ensures.ok c.find.ensures.err c.in_err-found-in-Text.ensures).err n))
 
 pub pass_tests-loop-test-preserved : goal.pass_tests-loop-test-preserved
 pass_tests-loop-test-preserved g t c =
@@ -511,7 +503,7 @@ pass_tests-loop-test-preserved g t c =
       | goal.pass_tests-in-Text+in_ok-found-in-Text w ↦ l.invariant
           ∙ ap (tests_given s graph (found_view l.found)) (item_here c.loop-test-test.true c.test-item.is c.deref-test-items.ensures.value)
           ∙ ap (λ x. tests_given s graph (found_view l.found) (x ∷ rest)) w.in-Text.is
-          ∙ next_text_test s graph (found_view l.found) w.in-Text.test w.in-Text.operand rest (found_view w.in_ok-found-in-Text.found) w.in_ok-found-in-Text.ensures.ok
+          ∙ next_text_test s graph (found_view l.found) w.in-Text.test w.in-Text.operand rest (found_view w.in_ok-found-in-Text.found) (after w.find.result (given s graph (expression_view w.in-Text.operand)) found_view (tested w.in-Text.test (found_view l.found)) (Ok w.in_ok-found-in-Text.found) found_view w.find.ensures.ok w.find.ensures.err w.in_ok-found-in-Text.ensures).ok
           ∙ ap (λ f. tests_given s graph (found_view f) rest) (sym w.found-is)
       | goal.pass_tests-in-IsNull w ↦ l.invariant
           ∙ ap (tests_given s graph (found_view l.found)) (item_here c.loop-test-test.true c.test-item.is c.deref-test-items.ensures.value)
@@ -552,7 +544,7 @@ read-returns-in_err-found-in-Index g t c =
     (l.invariant
     ∙ ap (suffixes_given s graph (found_view l.found)) (item_here c.loop-suffix-test.true c.suffix-item.is c.deref-suffix-items.ensures.value)
     ∙ ap (λ x. suffixes_given s graph (found_view l.found) (x ∷ rest)) c.in-Index.is
-    ∙ failed_index s graph (found_view l.found) c.in-Index.place rest c.in_err-found-in-Index.field-0.0 (c.in_err-found-in-Index.ensures.err n)))
+    ∙ failed_index s graph (found_view l.found) c.in-Index.place rest c.in_err-found-in-Index.field-0.0 ((after c.find.result (given s graph (expression_view c.in-Index.place)) found_view (indexed graph (found_view l.found)) (Err c.in_err-found-in-Index.field-0.0) found_view c.find.ensures.ok c.find.ensures.err c.in_err-found-in-Index.ensures).err n)))
 
 pub read-loop-suffix-preserved : goal.read-loop-suffix-preserved
 read-loop-suffix-preserved g t c =
@@ -569,7 +561,7 @@ read-loop-suffix-preserved g t c =
       | goal.read-in-Index+in_ok-found-in-Index w ↦ l.invariant
           ∙ ap (suffixes_given s graph (found_view l.found)) (item_here c.loop-suffix-test.true c.suffix-item.is c.deref-suffix-items.ensures.value)
           ∙ ap (λ x. suffixes_given s graph (found_view l.found) (x ∷ rest)) w.in-Index.is
-          ∙ next_index s graph (found_view l.found) w.in-Index.place rest (found_view w.in_ok-found-in-Index.found) w.in_ok-found-in-Index.ensures.ok
+          ∙ next_index s graph (found_view l.found) w.in-Index.place rest (found_view w.in_ok-found-in-Index.found) (after w.find.result (given s graph (expression_view w.in-Index.place)) found_view (indexed graph (found_view l.found)) (Ok w.in_ok-found-in-Index.found) found_view w.find.ensures.ok w.find.ensures.err w.in_ok-found-in-Index.ensures).ok
           ∙ ap (λ f. suffixes_given s graph (found_view f) rest) (sym w.found-is)
     ]
 

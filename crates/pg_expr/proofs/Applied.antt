@@ -65,5 +65,3 @@ pub one_left : (fs rest : List Found) (x : Found) → fs ≡ rest ++ x ∷ [] �
 one_left fs [] x e h = ap founds_view e
 one_left fs (y ∷ []) x e h = let both = ap length e in absurd (omega arith)
 one_left fs (y ∷ z ∷ rest) x e h = let both = ap length e in absurd (omega arith)
-
-pub ruleset steps = (when_deleted, when_null, when_whole)

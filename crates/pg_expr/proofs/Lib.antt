@@ -9,4 +9,5 @@ pub mod LabelLemmas
 pub mod Presence
 pub mod RowReads
 pub mod TextListLemmas
+pub mod Turns
 pub mod Walks

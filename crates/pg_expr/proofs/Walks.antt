@@ -204,11 +204,3 @@ ok_by result seen same h = subst (λ (r : Answer). IfOk result (λ x. r ≡ Ok (
 
 pub err_by : {X : Type 0} (result : Result X Fault) {a b : Answer} → a ≡ b → IfErr result (λ e. e ≢ OutOfMemory → b ≡ Err e) → IfErr result (λ e. e ≢ OutOfMemory → a ≡ Err e)
 err_by result same h = subst (λ (r : Answer). IfErr result (λ e. e ≢ OutOfMemory → r ≡ Err e)) (sym same) h
-
-pub ruleset coalescing = (next_null, next_given)
-
-pub ruleset choosing = (next_unmet, failed_when, met_value, met_fault, next_unknown)
-
-pub ruleset testing = (next_text_test, failed_text_test)
-
-pub ruleset reading = (next_index, failed_index)

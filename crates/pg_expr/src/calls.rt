@@ -47,7 +47,6 @@ pub(crate) fn is_null(v: &Found<'_>) -> bool
 }
 
 /// What a function gives at its arguments.
-#[tactic(auto, using(crate::proofs::Applied::steps))]
 pub(crate) fn applied<'a, T: Tables>(
     alloc: Global,
     graph: &Snapshot<'a, T>,

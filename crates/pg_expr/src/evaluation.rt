@@ -2,7 +2,7 @@
 ghost use Rattle.std.specs.Prelude.{map, option_map, string_bytes};
 ghost use Rattle.pg_expr.specs.Calls.{given_call};
 ghost use Rattle.pg_expr.specs.Prepared.{tree_of};
-ghost use Rattle.pg_expr.specs.Sites.{found_view, founds_view, pairs_view, given, given_each, given_map, given_first, given_perhaps, given_otherwise, given_true, given_chain, given_chained, given_operands, given_text_test, given_tests, given_index, given_reads};
+ghost use Rattle.pg_expr.specs.Sites.{found_view, founds_view, pairs_view, given, given_each, given_map, given_first, given_perhaps, given_otherwise, given_true, given_chain, given_chained, given_operands, given_tests, given_reads};
 ghost use Rattle.pg_meaning.specs.Expressions.{evaluate};
 ghost use Rattle.pg_meaning.specs.Parse.{expressions_of, operands_of, pairs_of, whens_of};
 ghost use Rattle.pg_rows.specs.Named.{row_of};
@@ -21,7 +21,7 @@ use crate::prepared::Prepared;
 use crate::reads::{index, labels, property};
 use crate::site::{Found, Site, null, or_null};
 use pg_graph::Tables;
-use pg_meaning::{Operator, TextTest};
+use pg_meaning::Operator;
 use pg_rows::Columns;
 use pg_scope::function_named;
 use pg_store::Snapshot;
@@ -53,7 +53,6 @@ pub fn evaluate<T: Tables>(
 
 /// What an expression gives, which is lent where it stands somewhere.
 #[cycle(find)]
-#[tactic(auto, using(pg_syntax_tree::proofs::Views::map_is, pg_syntax_tree::proofs::Views::case_is, pg_syntax_tree::proofs::Views::chain_is, pg_syntax_tree::proofs::Views::tests_is, pg_syntax_tree::proofs::Views::suffixes_is))]
 pub(crate) fn find<'a, T: Tables>(
     site: &Site<'a>,
     graph: &Snapshot<'a, T>,
@@ -109,7 +108,6 @@ fn each<'a, T: Tables>(
 
 /// Of a key twice the later value stays.
 #[cycle(find)]
-#[tactic(auto, using(crate::proofs::Walks::next_pair))]
 fn mapping<'a, T: Tables>(
     site: &Site<'a>,
     graph: &Snapshot<'a, T>,
@@ -146,7 +144,6 @@ fn call<'a, T: Tables>(
 
 /// The first that isn't null, and the rest isn't evaluated.
 #[cycle(find)]
-#[tactic(auto, using(crate::proofs::Walks::coalescing))]
 fn first_given<'a, T: Tables>(
     site: &Site<'a>,
     graph: &Snapshot<'a, T>,
@@ -191,7 +188,6 @@ fn choose<'a, T: Tables>(
 
 /// The result behind the first true condition alone.
 #[cycle(find)]
-#[tactic(auto, using(crate::proofs::Walks::choosing))]
 fn first_true<'a, T: Tables>(
     site: &Site<'a>,
     graph: &Snapshot<'a, T>,
@@ -278,7 +274,6 @@ fn each_operand<'a, T: Tables>(
 }
 
 #[cycle(find)]
-#[tactic(auto, using(crate::proofs::Walks::testing))]
 fn pass_tests<'a, T: Tables>(
     site: &Site<'a>,
     graph: &Snapshot<'a, T>,
@@ -290,29 +285,15 @@ fn pass_tests<'a, T: Tables>(
     let mut found = first;
     for test in tests {
         found = match test {
-            Test::Text(test, operand) => text_tested(site, graph, found, *test, operand)?,
+            Test::Text(test, operand) => tested(*test, found, find(site, graph, operand))?,
             Test::IsNull(is_negated) => null_tested(*is_negated, found),
         };
     }
     Ok(found)
 }
 
-#[cycle(find)]
-fn text_tested<'a, T: Tables>(
-    site: &Site<'a>,
-    graph: &Snapshot<'a, T>,
-    found: Found<'a>,
-    test: TextTest,
-    operand: &Expression,
-) -> Result<Found<'a>, Fault>
-    ensures { Gives result (given_text_test site.now graph.now (found_view found.entry) test (expression_view operand.now)) found_view }
-{
-    tested(test, found, find(site, graph, operand))
-}
-
 /// Properties and indexes one behind the other, then labels.
 #[cycle(find)]
-#[tactic(auto, using(crate::proofs::Walks::reading))]
 fn read<'a, T: Tables>(
     site: &Site<'a>,
     graph: &Snapshot<'a, T>,
@@ -326,20 +307,8 @@ fn read<'a, T: Tables>(
     for suffix in suffixes {
         found = match suffix {
             Suffix::Property(key) => property(graph, found, key.text.as_str())?,
-            Suffix::Index(place) => indexed(site, graph, found, place)?,
+            Suffix::Index(place) => index(site.alloc, graph, found, find(site, graph, place))?,
         };
     }
     labels(graph, found, names)
-}
-
-#[cycle(find)]
-fn indexed<'a, T: Tables>(
-    site: &Site<'a>,
-    graph: &Snapshot<'a, T>,
-    found: Found<'a>,
-    place: &Expression,
-) -> Result<Found<'a>, Fault>
-    ensures { Gives result (given_index site.now graph.now (found_view found.entry) (expression_view place.now)) found_view }
-{
-    index(site.alloc, graph, found, find(site, graph, place))
 }

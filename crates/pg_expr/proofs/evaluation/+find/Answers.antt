@@ -1,15 +1,29 @@
-use Rattle.std.proofs.Common.{◌≡◌, Ok, ◌+◌, drop, length, sym, ap, ◌∙◌, arith}
+use Rattle.std.proofs.Common.{◌≡◌, Some, Ok, Err, ◌+◌, ◌∷◌, drop, map, sym, ap, ◌∙◌, arith, length}
 use Rattle.std.proofs.lemmas.Result.{IfOk-from_err, err_from_is_err_and}
-use Rattle.std.specs.Prelude.{option_map}
+use Rattle.std.specs.Prelude.{option_map, string_bytes, unwrap_or}
 use Rattle.pg_expr.proofs.AfterLemmas.{after}
-use Rattle.pg_expr.proofs.Walks.{ok_by, err_by, of_call, of_chain, of_suffixes, of_case, failed_case, joined, joined_pairs, each_of, operands_given, next_item, no_more_items, next_operand, no_more_operands}
-use Rattle.pg_expr.specs.Operators.{all_negated}
-use Rattle.pg_expr.specs.Sites.{found_view, founds_view, pairs_view, given}
-use Rattle.pg_meaning.specs.Expressions.{all_signed, indexed, tested}
+use Rattle.pg_expr.proofs.Turns as turn
+use Rattle.pg_expr.proofs.Turns.{fault_gives, no_memory, gives_by, told}
+use Rattle.pg_expr.proofs.Walks.{ok_by, err_by, of_call, of_chain, of_suffixes, of_case, failed_case, joined, joined_pairs, each_of, pairs_given, first_of, true_of, chain_of, operands_given, tests_given, suffixes_given, next_item, no_more_items, next_pair, next_null, next_given, next_unmet, failed_when, met_value, met_fault, next_unknown, next_operand, no_more_operands, next_text_test, failed_text_test, next_index, failed_index}
+use Rattle.pg_expr.specs.Operators.{all_negated, truth_compared}
+use Rattle.pg_expr.specs.Sites.{found_view, founds_view, pairs_view, given, given_operands, given_otherwise, given_perhaps, row_at, parameters_at}
+use Rattle.pg_meaning.specs.Answer.{◌>>=◌}
+use Rattle.pg_meaning.specs.Expressions.{all_signed, indexed, labelled, or_fault, property_of, tested}
+use Rattle.pg_meaning.specs.Entries.{at_key}
+use Rattle.pg_meaning.specs.Functions.{applied, function_named}
+use Rattle.pg_meaning.specs.Measure.{made}
+use Rattle.pg_meaning.specs.Parse.{expressions_of, operands_of}
+use Rattle.pg_meaning.specs.Rows.{value_in}
 use Rattle.pg_meaning.specs.Tree as tree
+use Rattle.pg_meaning.specs.Value.{list, mapping, null}
+use Rattle.pg_meaning.specs.declared.fault.Fault.TheVariants.{MissingParameter, UndefinedVariable}
+use Rattle.pg_scope.proofs.FirstLemmas.{item_here, items_end}
+use Rattle.pg_scope.specs.Calls.{function_view}
 use Rattle.pg_syntax_tree.proofs.Views.{negation_is, signs_is}
-use Rattle.pg_syntax_tree.specs.View.{expression_view}
-use Rattle.pg_scope.proofs.FirstLemmas.{item_here}
+use Rattle.pg_syntax_tree.specs.View.{expression_view, names_view, operand_view, perhaps_view}
+use Rattle.pg_syntax_tree.specs.declared.expression.Suffix.TheVariants as suffix
+use Rattle.pg_syntax_tree.specs.declared.expression.Test.TheVariants as test
+use Rattle.pg_value_core.specs.View.{entries_view}
 use Rattle.pg_expr.proofs.evaluation.+find.Goals as goal
 
 pub each-loop-item-preserved : goal.each-loop-item-preserved
@@ -136,10 +150,506 @@ find-returns-in-Signs g t c =
       err = err_by c.all_signed.result (ap (λ e. given s graph (expression_view e)) a.is ∙ ap (λ e. given s graph e) (signs_is a.signs a.inner) ∙ ap (λ x. given s graph (tree.signs a.signs.items (expression_view x))) (sym c.deref-in-Signs.ensures)) told.err;
     }
 
-pub text_tested-returns : goal.text_tested-returns
-text_tested-returns g t c =
-    after c.find.result (given c.args.site.now c.args.graph.now (expression_view c.args.operand.now)) found_view (tested c.args.test (found_view c.args.found)) c.tested.result found_view c.find.ensures.ok c.find.ensures.err c.tested.ensures
+pub each-returns-in_err-found : goal.each-returns-in_err-found
+each-returns-in_err-found g t c =
+    no_memory c.from_residual.result c.from_residual.ensures.1
 
-pub indexed-returns : goal.indexed-returns
-indexed-returns g t c =
-    after c.find.result (given c.args.site.now c.args.graph.now (expression_view c.args.place.now)) found_view (indexed c.args.graph.now (found_view c.args.found)) c.index.result found_view c.find.ensures.ok c.find.ensures.err c.index.ensures
+pub each-loop-item-init : goal.each-loop-item-init
+each-loop-item-init g t c =
+    turn.first_item c.args.site.now c.args.graph.now c.in_ok-found.found.items c.args.items.now.items c.in_ok-found.ensures.items
+
+pub each-returns-in_err-next : goal.each-returns-in_err-next
+each-returns-in_err-next g t c =
+    let s = c.args.site.now in
+    let graph = c.args.graph.now in
+    let l = c.loop-item in
+    let rest = drop (l.item-index + 1) c.args.items.now.items in
+    fault_gives c.in_err-next.field-0.0 c.from_residual-in_err-next.result c.from_residual-in_err-next.ensures.1
+    (λ n. l.invariant
+    ∙ ap (λ ys. joined (founds_view l.found.items) (each_of s graph ys)) (item_here c.loop-item-test.true c.item-item.is c.deref-item-items.ensures.value)
+    ∙ turn.failed_item s graph l.found.items c.item-item.result rest c.in_err-next.field-0.0 (c.in_err-next.ensures.err n))
+
+pub each-returns-in_err-push : goal.each-returns-in_err-push
+each-returns-in_err-push g t c =
+    no_memory c.from_residual-in_err-push.result c.from_residual-in_err-push.ensures.1
+
+pub each_operand-returns-in_err-found : goal.each_operand-returns-in_err-found
+each_operand-returns-in_err-found g t c =
+    no_memory c.from_residual.result c.from_residual.ensures.1
+
+pub each_operand-loop-operator-init : goal.each_operand-loop-operator-init
+each_operand-loop-operator-init g t c =
+    turn.first_operand c.args.site.now c.args.graph.now c.in_ok-found.found.items c.args.operands.now.items c.in_ok-found.ensures.items
+
+pub each_operand-returns-in_err-next : goal.each_operand-returns-in_err-next
+each_operand-returns-in_err-next g t c =
+    let s = c.args.site.now in
+    let graph = c.args.graph.now in
+    let l = c.loop-operator in
+    let rest = drop (l.operator-index + 1) c.args.operands.now.items in
+    fault_gives c.in_err-next.field-0.0 c.from_residual-in_err-next.result c.from_residual-in_err-next.ensures.1
+    (λ n. l.invariant
+    ∙ ap (λ ys. joined_pairs (pairs_view l.found.items) (operands_given s graph ys)) (item_here c.loop-operator-test.true c.loop-operator-item.is c.deref-operator-items.ensures.value)
+    ∙ turn.failed_operand s graph l.found.items c.loop-operator-item.result rest c.in_err-next.field-0.0 (c.in_err-next.ensures.err n))
+
+pub each_operand-returns-in_err-push : goal.each_operand-returns-in_err-push
+each_operand-returns-in_err-push g t c =
+    no_memory c.from_residual-in_err-push.result c.from_residual-in_err-push.ensures.1
+
+pub mapping-loop-key-init : goal.mapping-loop-key-init
+mapping-loop-key-init g t c =
+    ap (λ es. pairs_given c.args.site.now c.args.graph.now (entries_view es) c.args.pairs.now.items) (sym c.new-entries.ensures.empty)
+
+pub mapping-returns-in_err-next : goal.mapping-returns-in_err-next
+mapping-returns-in_err-next g t c =
+    let s = c.args.site.now in
+    let graph = c.args.graph.now in
+    let l = c.loop-key in
+    let rest = drop (l.key-index + 1) c.args.pairs.now.items in
+    fault_gives c.in_err-next.field-0.0 c.from_residual.result c.from_residual.ensures.1
+    (λ n. ap (λ r. r >>= λ es. made (mapping es))
+    (l.invariant
+    ∙ ap (pairs_given s graph (entries_view l.entries.entries)) (item_here c.loop-key-test.true c.loop-key-item.is c.deref-key-items.ensures.value)
+    ∙ turn.failed_pair s graph (entries_view l.entries.entries) c.loop-key-item.result rest c.in_err-next.field-0.0 (c.in_err-next.ensures.err n)))
+
+pub mapping-returns-in_err-entries : goal.mapping-returns-in_err-entries
+mapping-returns-in_err-entries g t c =
+    no_memory c.from_residual-in_err-entries.result c.from_residual-in_err-entries.ensures.1
+
+pub mapping-loop-key-preserved : goal.mapping-loop-key-preserved
+mapping-loop-key-preserved g t c =
+    let s = c.args.site.now in
+    let graph = c.args.graph.now in
+    let l = c.loop-key in
+    let rest = drop (l.key-index + 1) c.args.pairs.now.items in
+    l.invariant
+    ∙ ap (pairs_given s graph (entries_view l.entries.entries)) (item_here c.loop-key-test.true c.loop-key-item.is c.deref-key-items.ensures.value)
+    ∙ next_pair s graph (entries_view l.entries.entries) c.loop-key-item.result rest (found_view c.in_ok-next.next) c.in_ok-next.ensures.ok
+    ∙ ap (λ es. pairs_given s graph es rest) (sym c.in_ok-entries.ensures)
+
+pub mapping-returns : goal.mapping-returns
+mapping-returns g t c =
+    let l = c.loop-key in
+    gives_by c.map_of.result
+    (ap (λ r. r >>= λ es. made (mapping es))
+    (l.invariant ∙ ap (pairs_given c.args.site.now c.args.graph.now (entries_view l.entries.entries)) (items_end c.loop-key-test.false c.deref-key-items.ensures.value)))
+    (told c.map_of.result c.map_of.ensures.ok c.map_of.ensures.err)
+
+pub call-returns-then-is_coalesce : goal.call-returns-then-is_coalesce
+call-returns-then-is_coalesce g t c =
+    let es = expressions_of (map expression_view c.args.arguments.now.items) in
+    let named = ap function_named (sym c.as_str.ensures.value) ∙ sym c.function_named.ensures ∙ ap (option_map function_view) c.in-Some.is in
+    gives_by c.first_given.result (turn.coalesced c.args.site.now c.args.graph.now (string_bytes c.args.name.now.text) es (function_view c.in-Some.function) named (sym c.is_coalesce.ensures ∙ c.if-is_coalesce.true)) c.first_given.ensures
+
+pub call-returns-in_err-found : goal.call-returns-in_err-found
+call-returns-in_err-found g t c =
+    let s = c.args.site.now in
+    let graph = c.args.graph.now in
+    let es = expressions_of (map expression_view c.args.arguments.now.items) in
+    let named = ap function_named (sym c.as_str.ensures.value) ∙ sym c.function_named.ensures ∙ ap (option_map function_view) c.in-Some.is in
+    fault_gives c.in_err-found.field-0.0 c.from_residual.result c.from_residual.ensures.1
+    (λ n. turn.called s graph (string_bytes c.args.name.now.text) es (function_view c.in-Some.function) named (sym c.is_coalesce.ensures ∙ c.if-is_coalesce.false) ∙ ap (λ r. r >>= applied graph (function_view c.in-Some.function)) (c.in_err-found.ensures.err n))
+
+pub call-returns : goal.call-returns
+call-returns g t c =
+    let s = c.args.site.now in
+    let graph = c.args.graph.now in
+    let es = expressions_of (map expression_view c.args.arguments.now.items) in
+    let named = ap function_named (sym c.as_str.ensures.value) ∙ sym c.function_named.ensures ∙ ap (option_map function_view) c.in-Some.is in
+    gives_by c.applied.result
+    (turn.called s graph (string_bytes c.args.name.now.text) es (function_view c.in-Some.function) named (sym c.is_coalesce.ensures ∙ c.if-is_coalesce.false) ∙ ap (λ r. r >>= applied graph (function_view c.in-Some.function)) c.in_ok-found.ensures.ok)
+    record { ok = c.applied.ensures.ok; err = c.applied.ensures.err }
+
+pub first_given-returns-in_err-next : goal.first_given-returns-in_err-next
+first_given-returns-in_err-next g t c =
+    let s = c.args.site.now in
+    let graph = c.args.graph.now in
+    let l = c.loop-item in
+    let rest = drop (l.item-index + 1) c.args.items.now.items in
+    fault_gives c.in_err-next.field-0.0 c.from_residual.result c.from_residual.ensures.1
+    (λ n. l.invariant
+    ∙ ap (first_of s graph) (item_here c.loop-item-test.true c.item-item.is c.deref-item-items.ensures.value)
+    ∙ turn.failed_first s graph c.item-item.result rest c.in_err-next.field-0.0 (c.in_err-next.ensures.err n))
+
+pub first_given-returns-then-not-is_null : goal.first_given-returns-then-not-is_null
+first_given-returns-then-not-is_null g t c =
+    let s = c.args.site.now in
+    let graph = c.args.graph.now in
+    let l = c.loop-item in
+    let rest = drop (l.item-index + 1) c.args.items.now.items in
+    record {
+      ok = l.invariant
+          ∙ ap (first_of s graph) (item_here c.loop-item-test.true c.item-item.is c.deref-item-items.ensures.value)
+          ∙ next_given s graph c.item-item.result rest (found_view c.in_ok-next.next) c.in_ok-next.ensures.ok (sym c.is_null.ensures ∙ c.if-not-is_null.true);
+      err = tt;
+    }
+
+pub first_given-loop-item-preserved : goal.first_given-loop-item-preserved
+first_given-loop-item-preserved g t c =
+    let s = c.args.site.now in
+    let graph = c.args.graph.now in
+    let l = c.loop-item in
+    let rest = drop (l.item-index + 1) c.args.items.now.items in
+    l.invariant
+    ∙ ap (first_of s graph) (item_here c.loop-item-test.true c.item-item.is c.deref-item-items.ensures.value)
+    ∙ next_null s graph c.item-item.result rest (found_view c.in_ok-next.next) c.in_ok-next.ensures.ok (sym c.is_null.ensures ∙ c.if-not-is_null.false)
+
+pub first_given-returns : goal.first_given-returns
+first_given-returns g t c =
+    record {
+      ok = c.loop-item.invariant ∙ ap (first_of c.args.site.now c.args.graph.now) (items_end c.loop-item-test.false c.deref-item-items.ensures.value) ∙ ap Ok (sym c.null.ensures);
+      err = tt;
+    }
+
+pub perhaps-returns-in_err-find-in-Some : goal.perhaps-returns-in_err-find-in-Some
+perhaps-returns-in_err-find-in-Some g t c =
+    let s = c.args.site.now in
+    let graph = c.args.graph.now in
+    fault_gives c.in_err-find-in-Some.field-0.0 c.from_residual.result c.from_residual.ensures.1
+    (λ n. ap (λ o. given_perhaps s graph (perhaps_view o)) c.in-Some.is
+    ∙ ap (λ r. r >>= λ v. Ok (Some v)) (turn.boxed s graph c.deref.ensures (c.in_err-find-in-Some.ensures.err n)))
+
+pub perhaps-returns-in_ok-find-in-Some : goal.perhaps-returns-in_ok-find-in-Some
+perhaps-returns-in_ok-find-in-Some g t c =
+    let s = c.args.site.now in
+    let graph = c.args.graph.now in
+    record {
+      ok = ap (λ o. given_perhaps s graph (perhaps_view o)) c.in-Some.is ∙ ap (λ r. r >>= λ v. Ok (Some v)) (turn.boxed s graph c.deref.ensures c.in_ok-find-in-Some.ensures.ok);
+      err = tt;
+    }
+
+pub perhaps-returns-in-None : goal.perhaps-returns-in-None
+perhaps-returns-in-None g t c =
+    record { ok = ap (λ o. given_perhaps c.args.site.now c.args.graph.now (perhaps_view o)) c.in-None.is; err = tt }
+
+pub choose-returns : goal.choose-returns
+choose-returns g t c =
+    c.first_true.ensures
+
+pub first_true-returns-in_err-tested : goal.first_true-returns-in_err-tested
+first_true-returns-in_err-tested g t c =
+    let s = c.args.site.now in
+    let graph = c.args.graph.now in
+    let subject = option_map found_view c.args.subject.now in
+    let l = c.loop-condition in
+    let rest = drop (l.condition-index + 1) c.args.whens.now.items in
+    let w = c.loop-condition-item.result in
+    fault_gives c.in_err-tested.field-0.0 c.from_residual.result c.from_residual.ensures.1
+    (λ n. l.invariant
+    ∙ ap (true_of s graph subject) (item_here c.loop-condition-test.true c.loop-condition-item.is c.deref-condition-items.ensures.value)
+    ∙ failed_when s graph subject w rest c.in_err-tested.field-0.0 (c.in_err-tested.ensures.err n))
+
+pub first_true-returns-in_err-is_chosen : goal.first_true-returns-in_err-is_chosen
+first_true-returns-in_err-is_chosen g t c =
+    let s = c.args.site.now in
+    let graph = c.args.graph.now in
+    let subject = option_map found_view c.args.subject.now in
+    let l = c.loop-condition in
+    let rest = drop (l.condition-index + 1) c.args.whens.now.items in
+    let w = c.loop-condition-item.result in
+    fault_gives c.in_err-is_chosen.field-0.0 c.from_residual-in_err-is_chosen.result c.from_residual-in_err-is_chosen.ensures.1
+    (λ _. l.invariant
+    ∙ ap (true_of s graph subject) (item_here c.loop-condition-test.true c.loop-condition-item.is c.deref-condition-items.ensures.value)
+    ∙ next_unknown s graph subject w rest (found_view c.in_ok-tested.tested) c.in_err-is_chosen.field-0.0 c.in_ok-tested.ensures.ok c.in_err-is_chosen.ensures.err)
+
+pub first_true-returns-in_err-find : goal.first_true-returns-in_err-find
+first_true-returns-in_err-find g t c =
+    let s = c.args.site.now in
+    let graph = c.args.graph.now in
+    let subject = option_map found_view c.args.subject.now in
+    let l = c.loop-condition in
+    let rest = drop (l.condition-index + 1) c.args.whens.now.items in
+    let w = c.loop-condition-item.result in
+    fault_gives c.in_err-find.field-0.0 c.from_residual-in_err-find.result c.from_residual-in_err-find.ensures.1
+    (λ n. l.invariant
+    ∙ ap (true_of s graph subject) (item_here c.loop-condition-test.true c.loop-condition-item.is c.deref-condition-items.ensures.value)
+    ∙ met_fault s graph subject w rest (found_view c.in_ok-tested.tested) c.in_err-find.field-0.0 c.in_ok-tested.ensures.ok (c.in_ok-is_chosen.ensures.ok ∙ ap Ok c.if-branch.true) (c.in_err-find.ensures.err n))
+
+pub first_true-returns-then-branch : goal.first_true-returns-then-branch
+first_true-returns-then-branch g t c =
+    let s = c.args.site.now in
+    let graph = c.args.graph.now in
+    let subject = option_map found_view c.args.subject.now in
+    let l = c.loop-condition in
+    let rest = drop (l.condition-index + 1) c.args.whens.now.items in
+    let w = c.loop-condition-item.result in
+    record {
+      ok = l.invariant
+          ∙ ap (true_of s graph subject) (item_here c.loop-condition-test.true c.loop-condition-item.is c.deref-condition-items.ensures.value)
+          ∙ met_value s graph subject w rest (found_view c.in_ok-tested.tested) (found_view c.in_ok-find.field-0) c.in_ok-tested.ensures.ok (c.in_ok-is_chosen.ensures.ok ∙ ap Ok c.if-branch.true) c.in_ok-find.ensures.ok;
+      err = tt;
+    }
+
+pub first_true-loop-condition-preserved : goal.first_true-loop-condition-preserved
+first_true-loop-condition-preserved g t c =
+    let s = c.args.site.now in
+    let graph = c.args.graph.now in
+    let subject = option_map found_view c.args.subject.now in
+    let l = c.loop-condition in
+    let rest = drop (l.condition-index + 1) c.args.whens.now.items in
+    let w = c.loop-condition-item.result in
+    l.invariant
+    ∙ ap (true_of s graph subject) (item_here c.loop-condition-test.true c.loop-condition-item.is c.deref-condition-items.ensures.value)
+    ∙ next_unmet s graph subject w rest (found_view c.in_ok-tested.tested) c.in_ok-tested.ensures.ok (c.in_ok-is_chosen.ensures.ok ∙ ap Ok c.if-branch.false)
+
+pub first_true-returns : goal.first_true-returns
+first_true-returns g t c =
+    record {
+      ok = c.loop-condition.invariant ∙ ap (true_of c.args.site.now c.args.graph.now (option_map found_view c.args.subject.now)) (items_end c.loop-condition-test.false c.deref-condition-items.ensures.value);
+      err = tt;
+    }
+
+pub or_otherwise-returns-in-Some : goal.or_otherwise-returns-in-Some
+or_otherwise-returns-in-Some g t c =
+    let s = c.args.site.now in
+    let graph = c.args.graph.now in
+    record { ok = ap (λ o. given_otherwise s graph (option_map found_view o) (perhaps_view c.args.otherwise.now)) c.in-Some.is; err = tt }
+
+pub or_otherwise-returns-in_err-found : goal.or_otherwise-returns-in_err-found
+or_otherwise-returns-in_err-found g t c =
+    let s = c.args.site.now in
+    let graph = c.args.graph.now in
+    fault_gives c.in_err-found.field-0.0 c.from_residual.result c.from_residual.ensures.1
+    (λ n. ap (λ o. given_otherwise s graph (option_map found_view o) (perhaps_view c.args.otherwise.now)) c.in_default.is
+    ∙ ap (λ r. r >>= λ o. Ok (unwrap_or o null)) (c.in_err-found.ensures.err n))
+
+pub or_otherwise-returns : goal.or_otherwise-returns
+or_otherwise-returns g t c =
+    let s = c.args.site.now in
+    let graph = c.args.graph.now in
+    record {
+      ok = ap (λ o. given_otherwise s graph (option_map found_view o) (perhaps_view c.args.otherwise.now)) c.in_default.is
+          ∙ ap (λ r. r >>= λ o. Ok (unwrap_or o null)) c.in_ok-found.ensures.ok
+          ∙ ap Ok (sym c.or_null.ensures);
+      err = tt;
+    }
+
+pub chain-returns-then-begins_comparison : goal.chain-returns-then-begins_comparison
+chain-returns-then-begins_comparison g t c =
+    let s = c.args.site.now in
+    let graph = c.args.graph.now in
+    let v = found_view c.args.first in
+    let os = operands_of (map operand_view c.args.operands.now.items) in
+    gives_by c.compared.result (turn.of_comparisons s graph v os (sym c.begins_comparison.ensures ∙ c.if-begins_comparison.true))
+    (after c.each_operand.result (given_operands s graph os) (λ ps. pairs_view ps.items) (truth_compared v) c.compared.result found_view c.each_operand.ensures.ok c.each_operand.ensures.err c.compared.ensures)
+
+pub chain-returns-else-begins_comparison : goal.chain-returns-else-begins_comparison
+chain-returns-else-begins_comparison g t c =
+    let os = operands_of (map operand_view c.args.operands.now.items) in
+    gives_by c.joined.result (turn.of_others c.args.site.now c.args.graph.now (found_view c.args.first) os (sym c.begins_comparison.ensures ∙ c.if-begins_comparison.false)) c.joined.ensures
+
+pub joined-returns-in_err-right : goal.joined-returns-in_err-right
+joined-returns-in_err-right g t c =
+    let s = c.args.site.now in
+    let graph = c.args.graph.now in
+    let l = c.loop-operator in
+    let rest = drop (l.operator-index + 1) c.args.operands.now.items in
+    let p = c.loop-operator-item.result in
+    fault_gives c.in_err-right.field-0.0 c.from_residual.result c.from_residual.ensures.1
+    (λ n. l.invariant
+    ∙ ap (chain_of s graph (found_view l.left)) (item_here c.loop-operator-test.true c.loop-operator-item.is c.deref-operator-items.ensures.value)
+    ∙ turn.failed_right s graph (found_view l.left) p rest c.in_err-right.field-0.0 (c.in_err-right.ensures.err n))
+
+pub joined-returns-in_err-left : goal.joined-returns-in_err-left
+joined-returns-in_err-left g t c =
+    let s = c.args.site.now in
+    let graph = c.args.graph.now in
+    let l = c.loop-operator in
+    let rest = drop (l.operator-index + 1) c.args.operands.now.items in
+    let p = c.loop-operator-item.result in
+    fault_gives c.in_err-left.field-0.0 c.from_residual-in_err-left.result c.from_residual-in_err-left.ensures.1
+    (λ n. l.invariant
+    ∙ ap (chain_of s graph (found_view l.left)) (item_here c.loop-operator-test.true c.loop-operator-item.is c.deref-operator-items.ensures.value)
+    ∙ turn.failed_combined s graph (found_view l.left) p rest (found_view c.in_ok-right.right) c.in_err-left.field-0.0 c.in_ok-right.ensures.ok (c.in_err-left.ensures.err n))
+
+pub joined-loop-operator-preserved : goal.joined-loop-operator-preserved
+joined-loop-operator-preserved g t c =
+    let s = c.args.site.now in
+    let graph = c.args.graph.now in
+    let l = c.loop-operator in
+    let rest = drop (l.operator-index + 1) c.args.operands.now.items in
+    let p = c.loop-operator-item.result in
+    l.invariant
+    ∙ ap (chain_of s graph (found_view l.left)) (item_here c.loop-operator-test.true c.loop-operator-item.is c.deref-operator-items.ensures.value)
+    ∙ turn.next_combined s graph (found_view l.left) p rest (found_view c.in_ok-right.right) (found_view c.in_ok-left.left) c.in_ok-right.ensures.ok c.in_ok-left.ensures.ok
+
+pub joined-returns : goal.joined-returns
+joined-returns g t c =
+    let l = c.loop-operator in
+    record {
+      ok = l.invariant ∙ ap (chain_of c.args.site.now c.args.graph.now (found_view l.left)) (items_end c.loop-operator-test.false c.deref-operator-items.ensures.value);
+      err = tt;
+    }
+
+pub pass_tests-returns-in_err-found-in-Text : goal.pass_tests-returns-in_err-found-in-Text
+pass_tests-returns-in_err-found-in-Text g t c =
+    let s = c.args.site.now in
+    let graph = c.args.graph.now in
+    let l = c.loop-test in
+    let rest = drop (l.test-index + 1) c.args.tests.now.items in
+    fault_gives c.in_err-found-in-Text.field-0.0 c.from_residual.result c.from_residual.ensures.1
+    (λ n. l.invariant
+    ∙ ap (tests_given s graph (found_view l.found)) (item_here c.loop-test-test.true c.test-item.is c.deref-test-items.ensures.value)
+    ∙ ap (λ x. tests_given s graph (found_view l.found) (x ∷ rest)) c.in-Text.is
+    ∙ failed_text_test s graph (found_view l.found) c.in-Text.test c.in-Text.operand rest c.in_err-found-in-Text.field-0.0 ((after c.find.result (given s graph (expression_view c.in-Text.operand)) found_view (tested c.in-Text.test (found_view l.found)) (Err c.in_err-found-in-Text.field-0.0) found_view c.find.ensures.ok c.find.ensures.err c.in_err-found-in-Text.ensures).err n))
+
+pub pass_tests-loop-test-preserved : goal.pass_tests-loop-test-preserved
+pass_tests-loop-test-preserved g t c =
+    let s = c.args.site.now in
+    let graph = c.args.graph.now in
+    let l = c.loop-test in
+    let rest = drop (l.test-index + 1) c.args.tests.now.items in
+    elim c.match-test.branch [
+      | goal.pass_tests-in-Text+in_ok-found-in-Text w ↦ l.invariant
+          ∙ ap (tests_given s graph (found_view l.found)) (item_here c.loop-test-test.true c.test-item.is c.deref-test-items.ensures.value)
+          ∙ ap (λ x. tests_given s graph (found_view l.found) (x ∷ rest)) w.in-Text.is
+          ∙ next_text_test s graph (found_view l.found) w.in-Text.test w.in-Text.operand rest (found_view w.in_ok-found-in-Text.found) (after w.find.result (given s graph (expression_view w.in-Text.operand)) found_view (tested w.in-Text.test (found_view l.found)) (Ok w.in_ok-found-in-Text.found) found_view w.find.ensures.ok w.find.ensures.err w.in_ok-found-in-Text.ensures).ok
+          ∙ ap (λ f. tests_given s graph (found_view f) rest) (sym w.found-is)
+      | goal.pass_tests-in-IsNull w ↦ l.invariant
+          ∙ ap (tests_given s graph (found_view l.found)) (item_here c.loop-test-test.true c.test-item.is c.deref-test-items.ensures.value)
+          ∙ ap (λ x. tests_given s graph (found_view l.found) (x ∷ rest)) w.in-IsNull.is
+          ∙ ap (λ v. tests_given s graph v rest) (sym w.null_tested.ensures)
+          ∙ ap (λ f. tests_given s graph (found_view f) rest) (sym w.found-is)
+    ]
+
+pub pass_tests-returns : goal.pass_tests-returns
+pass_tests-returns g t c =
+    let l = c.loop-test in
+    record {
+      ok = l.invariant ∙ ap (tests_given c.args.site.now c.args.graph.now (found_view l.found)) (items_end c.loop-test-test.false c.deref-test-items.ensures.value);
+      err = tt;
+    }
+
+pub read-returns-in_err-found-in-Property : goal.read-returns-in_err-found-in-Property
+read-returns-in_err-found-in-Property g t c =
+    let s = c.args.site.now in
+    let graph = c.args.graph.now in
+    let l = c.loop-suffix in
+    let rest = drop (l.suffix-index + 1) c.args.suffixes.now.items in
+    fault_gives c.in_err-found-in-Property.field-0.0 c.from_residual.result c.from_residual.ensures.1
+    (λ n. ap (λ r. r >>= λ w. labelled graph w (names_view c.args.names.now.items))
+    (l.invariant
+    ∙ ap (suffixes_given s graph (found_view l.found)) (item_here c.loop-suffix-test.true c.suffix-item.is c.deref-suffix-items.ensures.value)
+    ∙ ap (λ x. suffixes_given s graph (found_view l.found) (x ∷ rest)) c.in-Property.is
+    ∙ turn.failed_property s graph (found_view l.found) c.in_err-found-in-Property.field-0.0 c.in-Property.key rest (ap (property_of graph (found_view l.found)) (sym c.as_str.ensures.value) ∙ c.in_err-found-in-Property.ensures.err)))
+
+pub read-returns-in_err-found-in-Index : goal.read-returns-in_err-found-in-Index
+read-returns-in_err-found-in-Index g t c =
+    let s = c.args.site.now in
+    let graph = c.args.graph.now in
+    let l = c.loop-suffix in
+    let rest = drop (l.suffix-index + 1) c.args.suffixes.now.items in
+    fault_gives c.in_err-found-in-Index.field-0.0 c.from_residual-in_err-found-in-Index.result c.from_residual-in_err-found-in-Index.ensures.1
+    (λ n. ap (λ r. r >>= λ w. labelled graph w (names_view c.args.names.now.items))
+    (l.invariant
+    ∙ ap (suffixes_given s graph (found_view l.found)) (item_here c.loop-suffix-test.true c.suffix-item.is c.deref-suffix-items.ensures.value)
+    ∙ ap (λ x. suffixes_given s graph (found_view l.found) (x ∷ rest)) c.in-Index.is
+    ∙ failed_index s graph (found_view l.found) c.in-Index.place rest c.in_err-found-in-Index.field-0.0 ((after c.find.result (given s graph (expression_view c.in-Index.place)) found_view (indexed graph (found_view l.found)) (Err c.in_err-found-in-Index.field-0.0) found_view c.find.ensures.ok c.find.ensures.err c.in_err-found-in-Index.ensures).err n)))
+
+pub read-loop-suffix-preserved : goal.read-loop-suffix-preserved
+read-loop-suffix-preserved g t c =
+    let s = c.args.site.now in
+    let graph = c.args.graph.now in
+    let l = c.loop-suffix in
+    let rest = drop (l.suffix-index + 1) c.args.suffixes.now.items in
+    elim c.match-suffix.branch [
+      | goal.read-in-Property+in_ok-found-in-Property w ↦ l.invariant
+          ∙ ap (suffixes_given s graph (found_view l.found)) (item_here c.loop-suffix-test.true c.suffix-item.is c.deref-suffix-items.ensures.value)
+          ∙ ap (λ x. suffixes_given s graph (found_view l.found) (x ∷ rest)) w.in-Property.is
+          ∙ turn.next_property s graph (found_view l.found) (found_view w.in_ok-found-in-Property.found) w.in-Property.key rest (ap (property_of graph (found_view l.found)) (sym w.as_str.ensures.value) ∙ w.in_ok-found-in-Property.ensures.ok)
+          ∙ ap (λ f. suffixes_given s graph (found_view f) rest) (sym w.found-is)
+      | goal.read-in-Index+in_ok-found-in-Index w ↦ l.invariant
+          ∙ ap (suffixes_given s graph (found_view l.found)) (item_here c.loop-suffix-test.true c.suffix-item.is c.deref-suffix-items.ensures.value)
+          ∙ ap (λ x. suffixes_given s graph (found_view l.found) (x ∷ rest)) w.in-Index.is
+          ∙ next_index s graph (found_view l.found) w.in-Index.place rest (found_view w.in_ok-found-in-Index.found) (after w.find.result (given s graph (expression_view w.in-Index.place)) found_view (indexed graph (found_view l.found)) (Ok w.in_ok-found-in-Index.found) found_view w.find.ensures.ok w.find.ensures.err w.in_ok-found-in-Index.ensures).ok
+          ∙ ap (λ f. suffixes_given s graph (found_view f) rest) (sym w.found-is)
+    ]
+
+pub read-returns : goal.read-returns
+read-returns g t c =
+    let graph = c.args.graph.now in
+    let l = c.loop-suffix in
+    gives_by c.labels.result
+    (ap (λ r. r >>= λ w. labelled graph w (names_view c.args.names.now.items)) (l.invariant ∙ ap (suffixes_given c.args.site.now graph (found_view l.found)) (items_end c.loop-suffix-test.false c.deref-suffix-items.ensures.value)))
+    (told c.labels.result c.labels.ensures.ok c.labels.ensures.err)
+
+pub find-returns-in-Literal : goal.find-returns-in-Literal
+find-returns-in-Literal g t c =
+    let s = c.args.site.now in
+    let graph = c.args.graph.now in
+    gives_by c.literal_found.result (ap (λ e. given s graph (expression_view e)) c.in-Literal.is ∙ turn.of_literal s graph c.in-Literal.literal)
+    (turn.literal_gives c.in-Literal.literal c.literal_found.result c.literal_found.ensures.ok c.literal_found.ensures.err)
+
+pub find-returns-in-Parameter : goal.find-returns-in-Parameter
+find-returns-in-Parameter g t c =
+    let s = c.args.site.now in
+    let graph = c.args.graph.now in
+    gives_by c.parameter.result (ap (λ e. given s graph (expression_view e)) c.in-Parameter.is ∙ turn.of_parameter s graph c.in-Parameter.name ∙ ap (λ k. or_fault (at_key k (parameters_at s)) MissingParameter) (sym c.as_str.ensures.value))
+    (told c.parameter.result c.parameter.ensures.ok c.parameter.ensures.err)
+
+pub find-returns-in-Variable : goal.find-returns-in-Variable
+find-returns-in-Variable g t c =
+    let s = c.args.site.now in
+    let graph = c.args.graph.now in
+    gives_by c.variable.result (ap (λ e. given s graph (expression_view e)) c.in-Variable.is ∙ turn.of_variable s graph c.in-Variable.name ∙ ap (λ k. or_fault (value_in k (row_at s)) UndefinedVariable) (sym c.as_str-in-Variable.ensures.value))
+    (told c.variable.result c.variable.ensures.ok c.variable.ensures.err)
+
+pub find-returns-in-ListLiteral : goal.find-returns-in-ListLiteral
+find-returns-in-ListLiteral g t c =
+    let s = c.args.site.now in
+    let graph = c.args.graph.now in
+    let items = c.in-ListLiteral.items.items in
+    gives_by c.list_of.result (ap (λ e. given s graph (expression_view e)) c.in-ListLiteral.is ∙ turn.of_list s graph c.in-ListLiteral.items)
+    (after c.each.result (each_of s graph items) (λ fs. founds_view fs.items) (λ vs. made (list vs)) c.list_of.result found_view c.each.ensures.ok c.each.ensures.err c.list_of.ensures)
+
+pub find-returns-in-MapLiteral : goal.find-returns-in-MapLiteral
+find-returns-in-MapLiteral g t c =
+    let s = c.args.site.now in
+    let graph = c.args.graph.now in
+    gives_by c.mapping.result (ap (λ e. given s graph (expression_view e)) c.in-MapLiteral.is ∙ turn.of_map s graph c.in-MapLiteral.pairs) c.mapping.ensures
+
+pub find-returns-in-Parentheses : goal.find-returns-in-Parentheses
+find-returns-in-Parentheses g t c =
+    let s = c.args.site.now in
+    let graph = c.args.graph.now in
+    gives_by c.find.result (ap (λ e. given s graph (expression_view e)) c.in-Parentheses.is ∙ turn.of_parentheses s graph c.in-Parentheses.inner ∙ ap (λ x. given s graph (expression_view x)) (sym c.deref.ensures)) c.find.ensures
+
+pub find-returns-in_ok-found-in-Tests : goal.find-returns-in_ok-found-in-Tests
+find-returns-in_ok-found-in-Tests g t c =
+    let s = c.args.site.now in
+    let graph = c.args.graph.now in
+    let a = c.in-Tests in
+    gives_by c.pass_tests.result (ap (λ e. given s graph (expression_view e)) a.is ∙ turn.of_tests s graph a.inner a.tests (found_view c.in_ok-found-in-Tests.found) (turn.boxed s graph c.deref-in-Tests.ensures c.in_ok-found-in-Tests.ensures.ok))
+    c.pass_tests.ensures
+
+pub find-returns-in_err-found-in-Chain : goal.find-returns-in_err-found-in-Chain
+find-returns-in_err-found-in-Chain g t c =
+    let s = c.args.site.now in
+    let graph = c.args.graph.now in
+    let a = c.in-Chain in
+    fault_gives c.in_err-found-in-Chain.field-0.0 c.from_residual-in_err-found-in-Chain.result c.from_residual-in_err-found-in-Chain.ensures.1
+    (λ n. ap (λ e. given s graph (expression_view e)) a.is ∙ turn.failed_chain s graph a.first a.operands c.in_err-found-in-Chain.field-0.0 (turn.boxed s graph c.deref-in-Chain.ensures (c.in_err-found-in-Chain.ensures.err n)))
+
+pub find-returns-in_err-found-in-Tests : goal.find-returns-in_err-found-in-Tests
+find-returns-in_err-found-in-Tests g t c =
+    let s = c.args.site.now in
+    let graph = c.args.graph.now in
+    let a = c.in-Tests in
+    fault_gives c.in_err-found-in-Tests.field-0.0 c.from_residual-in_err-found-in-Tests.result c.from_residual-in_err-found-in-Tests.ensures.1
+    (λ n. ap (λ e. given s graph (expression_view e)) a.is ∙ turn.failed_tests s graph a.inner a.tests c.in_err-found-in-Tests.field-0.0 (turn.boxed s graph c.deref-in-Tests.ensures (c.in_err-found-in-Tests.ensures.err n)))
+
+pub find-returns-in_err-found-in-Suffixes : goal.find-returns-in_err-found-in-Suffixes
+find-returns-in_err-found-in-Suffixes g t c =
+    let s = c.args.site.now in
+    let graph = c.args.graph.now in
+    let a = c.in-Suffixes in
+    fault_gives c.in_err-found-in-Suffixes.field-0.0 c.from_residual-in_err-found-in-Suffixes.result c.from_residual-in_err-found-in-Suffixes.ensures.1
+    (λ n. ap (λ e. given s graph (expression_view e)) a.is ∙ turn.failed_suffixes s graph a.inner a.suffixes a.names c.in_err-found-in-Suffixes.field-0.0 (turn.boxed s graph c.deref-in-Suffixes.ensures (c.in_err-found-in-Suffixes.ensures.err n)))
+
+pub find-returns-in_err-subject-in-Case : goal.find-returns-in_err-subject-in-Case
+find-returns-in_err-subject-in-Case g t c =
+    let s = c.args.site.now in
+    let graph = c.args.graph.now in
+    let a = c.in-Case in
+    fault_gives c.in_err-subject-in-Case.field-0.0 c.from_residual.result c.from_residual.ensures.1
+    (λ n. ap (λ e. given s graph (expression_view e)) a.is ∙ turn.failed_subject s graph a.subject a.whens a.otherwise c.in_err-subject-in-Case.field-0.0 (c.in_err-subject-in-Case.ensures.err n))

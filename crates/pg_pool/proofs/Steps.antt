@@ -1,5 +1,5 @@
 -- What a call that changes one slot leaves of its tables, and of those of other owners.
-use Rattle.std.proofs.Common.{◌≡◌, ◌≢◌, ℕ, true, false, Some, None, inl, refl, sym, ap, subst, ◌∙◌}
+use Rattle.std.proofs.Common.{◌≡◌, ◌≢◌, ℕ, true, false, Some, None, Result, Ok, Err, OnErr, inl, refl, sym, ap, subst, ◌∙◌}
 use Rattle.std.specs.Ordering.{nat_cmp}
 use Rattle.std.specs.FinMap as map
 use Rattle.std.specs.FinMap.{FinMap}
@@ -172,3 +172,7 @@ nothing_changed t pool pool' ids incidence fits same as_before links =
       content = λ i. record { nodes = nodes i; rels = rels i };
       others = others_stay t.owner pool pool' (λ k. inl (same k));
     }
+
+pub at_err : {V E P : Type 0} (r : Result V E) → P → OnErr r P
+at_err (Ok v) p = tt
+at_err (Err e) p = p

@@ -1,4 +1,5 @@
 use Rattle.std.proofs.Common.{sym, ap, ◌∙◌}
+use Rattle.std.proofs.lemmas.List.{nil_from_length}
 use Rattle.std.proofs.lemmas.Result.{IfOk-from_err}
 use Rattle.std.specs.Vec.Iter.{into_iter_items}
 use Rattle.pg_graph.specs.Refinement.{property_entries}
@@ -35,3 +36,17 @@ returns-in_err-set_text-clause-named g c = IfOk-from_err c.from_residual.result 
 
 pub returns-in_err-set_text-clause-keeps : goal.returns-in_err-set_text-clause-keeps
 returns-in_err-set_text-clause-keeps g c = λ number text h. c.set_text.ensures.keeps number text (c.loop-key.invariant.keeps number text h)
+
+pub returns-in_err-set_text-clause-distinct : goal.returns-in_err-set_text-clause-distinct
+returns-in_err-set_text-clause-distinct g c = c.set_text.ensures.distinct c.loop-key.invariant.distinct
+
+pub returns : goal.returns
+returns g c =
+    let l = c.loop-key in
+    let none = nil_from_length (into_iter_items l.key-iterator) (sym l.key-iterator.rest.ok.0 ∙ c.in-None.ensures.steps.0) in
+    record {
+      properties = ap (λ ps. set_keys (pairs_of ps) (property_entries l.names l.properties)) (sym none) ∙ l.invariant.properties;
+      named = l.invariant.named;
+      keeps = l.invariant.keeps;
+      distinct = l.invariant.distinct;
+    }

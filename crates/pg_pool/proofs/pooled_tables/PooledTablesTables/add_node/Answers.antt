@@ -1,9 +1,13 @@
-use Rattle.std.proofs.Common.{sym, ap, refl, ◌∙◌}
+use Rattle.std.proofs.Common.{ℕ, sym, ap, subst, refl, ◌∙◌}
+use Rattle.std.proofs.lemmas.Result.{IfOk-from_err}
 use Rattle.std.specs.FinMap as map
+use Rattle.std.specs.FinMap.{FinMap}
+use Rattle.std.specs.Ordering.{nat_cmp}
 use Rattle.slab.specs.Slab.{get}
-use Rattle.pg_pool.proofs.Steps.{node_added}
+use Rattle.pg_pool.proofs.Steps.{Step, node_added, nothing_changed, at_err}
 use Rattle.pg_pool.proofs.Values.{inside_none}
 use Rattle.pg_pool.proofs.pooled_tables.PooledTablesTables.add_node.Goals as goal
+use Rattle.pg_pool.specs.Tables.{content_of}
 
 pub returns : goal.returns
 returns c =
@@ -16,3 +20,19 @@ returns c =
     (sym (ap (λ s. get s key) reserved) ∙ inserted.was_vacant) inserted.updates.changed
     (c.in_ok-insert.ensures.ok ∙ ap (map.insert c.args.self.now.nodes c.args.id.0) (c.vacant_key.ensures.value ∙ sym inserted.key)) in
     record { ok = step.content; err = tt; keeps = record { fits = step.fits; owner = refl; others = step.others } }
+
+pub returns-in_err-reserve : goal.returns-in_err-reserve
+returns-in_err-reserve c =
+    let failed = c.from_residual in
+    let old = c.args.self.now in
+    let step = nothing_changed old c.args.shared.now (record { records = c.reserve.new.self }) old.rels old.incidence c.requires.fits (λ k. ap (λ s. get s k) c.reserve.ensures.rest_kept) refl c.requires.fits.incidence in
+    record { ok = IfOk-from_err failed.result _ failed.ensures.0; err = at_err failed.result step.content; keeps = record { fits = step.fits; owner = refl; others = step.others } }
+
+pub returns-in_err-insert : goal.returns-in_err-insert
+returns-in_err-insert c =
+    let failed = c.from_residual-in_err-insert in
+    let old = c.args.self.now in
+    let step = subst (λ (ids : FinMap nat_cmp ℕ). Step old (record old { nodes = ids }) c.args.shared.now (record { records = c.reserve.new.self }) (content_of old c.args.shared.now))
+    (sym c.in_err-insert.ensures.err)
+    (nothing_changed old c.args.shared.now (record { records = c.reserve.new.self }) old.rels old.incidence c.requires.fits (λ k. ap (λ s. get s k) c.reserve.ensures.rest_kept) refl c.requires.fits.incidence) in
+    record { ok = IfOk-from_err failed.result _ failed.ensures.0; err = at_err failed.result step.content; keeps = record { fits = step.fits; owner = refl; others = step.others } }

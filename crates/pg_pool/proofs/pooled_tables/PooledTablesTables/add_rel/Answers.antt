@@ -1,9 +1,10 @@
 use Rattle.std.proofs.Common.{IsSome, subst, sym, ap, refl, ◌∙◌}
+use Rattle.std.proofs.lemmas.Result.{IfOk-from_err}
 use Rattle.std.specs.FinMap as map
 use Rattle.slab.specs.Slab.{get}
 use Rattle.pg_graph.proofs.Incident.{outgoing_rise, incoming_rise}
 use Rattle.pg_graph.proofs.Maps.{get_inserted, removed_inserted}
-use Rattle.pg_pool.proofs.Steps.{rel_added, nothing_changed}
+use Rattle.pg_pool.proofs.Steps.{rel_added, nothing_changed, at_err}
 use Rattle.pg_pool.proofs.Values.{inside_none}
 use Rattle.pg_pool.proofs.pooled_tables.PooledTablesTables.add_rel.Goals as goal
 
@@ -37,3 +38,17 @@ returns c =
     (c.in_ok-insert.ensures.ok ∙ ap (map.insert c.args.self.now.rels c.args.id.0) (c.vacant_key.ensures.value ∙ sym inserted.key))
     (c.in_default.ensures.ok _ c.args.rel refl refl c.requires.absent c.requires.fits.incidence) in
     record { ok = step.content; err = tt; keeps = record { fits = step.fits; owner = refl; others = step.others } }
+
+pub returns-in_err-reserve : goal.returns-in_err-reserve
+returns-in_err-reserve c =
+    let failed = c.from_residual in
+    let old = c.args.self.now in
+    let step = nothing_changed old c.args.shared.now (record { records = c.reserve.new.self }) old.rels old.incidence c.requires.fits (λ k. ap (λ s. get s k) c.reserve.ensures.rest_kept) refl c.requires.fits.incidence in
+    record { ok = IfOk-from_err failed.result _ failed.ensures.0; err = at_err failed.result step.content; keeps = record { fits = step.fits; owner = refl; others = step.others } }
+
+pub returns-in_err-insert : goal.returns-in_err-insert
+returns-in_err-insert c =
+    let failed = c.from_residual-in_err-insert in
+    let old = c.args.self.now in
+    let step = nothing_changed old c.args.shared.now (record { records = c.reserve.new.self }) c.insert.new.self old.incidence c.requires.fits (λ k. ap (λ s. get s k) c.reserve.ensures.rest_kept) c.in_err-insert.ensures.err c.requires.fits.incidence in
+    record { ok = IfOk-from_err failed.result _ failed.ensures.0; err = at_err failed.result step.content; keeps = record { fits = step.fits; owner = refl; others = step.others } }

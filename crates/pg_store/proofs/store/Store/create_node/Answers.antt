@@ -8,6 +8,9 @@ use Rattle.pg_store.proofs.Kept.{keeps_both, kept_then}
 use Rattle.pg_store.proofs.store.Store.create_node.Goals as goal
 use Rattle.pg_store.specs.Stores.{texts_of}
 
+pub returns-in_err-labels-clause-id : goal.returns-in_err-labels-clause-id
+returns-in_err-labels-clause-id g c = IfOk-from_err c.from_residual.result _ c.from_residual.ensures.0
+
 pub returns-in_err-labels-clause-changes : goal.returns-in_err-labels-clause-changes
 returns-in_err-labels-clause-changes g c = record {
   says = IfOk-from_err c.from_residual.result _ c.from_residual.ensures.0;
@@ -18,6 +21,9 @@ returns-in_err-labels-clause-changes g c = record {
 
 pub returns-in_err-labels-clause-marks : goal.returns-in_err-labels-clause-marks
 returns-in_err-labels-clause-marks g c = renamed_marks g.T.Tables.seen c.args.self.now c.args.shared.now c.labels_of.new.names c.labels_of.ensures.keeps c.requires.fit
+
+pub returns-in_err-properties-clause-id : goal.returns-in_err-properties-clause-id
+returns-in_err-properties-clause-id g c = IfOk-from_err c.from_residual-in_err-properties.result _ c.from_residual-in_err-properties.ensures.0
 
 pub returns-in_err-properties-clause-changes : goal.returns-in_err-properties-clause-changes
 returns-in_err-properties-clause-changes g c = record {
@@ -41,6 +47,12 @@ add_node-requires-clause-fit g c =
 
 pub add_node-requires-clause-labels : goal.add_node-requires-clause-labels
 add_node-requires-clause-labels g c = more_named c.labels_of.new.names c.properties_of.new.names c.properties_of.ensures.keeps c.in_ok-labels.labels c.in_ok-labels.ensures.named
+
+pub add_node-requires-clause-keys : goal.add_node-requires-clause-keys
+add_node-requires-clause-keys g c = c.in_ok-properties.ensures.named
+
+pub returns-clause-id : goal.returns-clause-id
+returns-clause-id g c = c.add_node.ensures.id
 
 pub returns-clause-changes : goal.returns-clause-changes
 returns-clause-changes g c = record {

@@ -1,4 +1,5 @@
 use Rattle.std.proofs.Common.{sym, ap, subst, ◌∙◌}
+use Rattle.std.proofs.lemmas.Result.{IfOk-from_err}
 use Rattle.pg_index.specs.Properties.{is_found_by}
 use Rattle.pg_store.proofs.CoverLemmas.{covers_now}
 use Rattle.pg_store.proofs.Filling.{IsFilled, filled_first, filled_on}
@@ -31,6 +32,21 @@ loop-id-preserved g c =
           (λ n v at found. c.in_ok-put_in.ensures.ok n v at (ap (λ l. is_found_by l index.key v n) was.label ∙ ap (λ k. is_found_by c.args.label k v n) was.key ∙ found))
           (subst (IsFilled s.content.nodes c.args.label c.args.key index) c.in-Some.ensures.steps was.filled);
     }
+
+pub returns-in_err-put_in : goal.returns-in_err-put_in
+returns-in_err-put_in g c =
+    let failed = c.from_residual in
+    record {
+      label = IfOk-from_err failed.result _ failed.ensures.0;
+      key = IfOk-from_err failed.result _ failed.ensures.0;
+      all = IfOk-from_err failed.result _ failed.ensures.0;
+    }
+
+pub returns-clause-label : goal.returns-clause-label
+returns-clause-label g c = c.loop-id.invariant.label
+
+pub returns-clause-key : goal.returns-clause-key
+returns-clause-key g c = c.loop-id.invariant.key
 
 pub returns-clause-all : goal.returns-clause-all
 returns-clause-all g c =

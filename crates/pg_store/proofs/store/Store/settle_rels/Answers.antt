@@ -2,10 +2,18 @@ use Rattle.std.proofs.Common.{subst, sym, refl, ◌<◌}
 use Rattle.std.specs.FinMap as map
 use Rattle.pg_graph.specs.Removed.{Ids}
 use Rattle.pg_store.proofs.CoverLemmas.{covers_now}
-use Rattle.pg_store.proofs.Settled.{among, settles_on, fewer, graph_without_rel, well_without_rel, without_gone_rel}
+use Rattle.pg_store.proofs.Settled.{among, settles_first, settles_on, fewer, graph_without_rel, well_without_rel, without_gone_rel}
 use Rattle.pg_store.proofs.store.Store.settle_rels.Goals as goal
 use Rattle.pg_store.specs.Covers.{has_in}
 use Rattle.pg_store.specs.Stores.{state_of}
+
+pub loop-id-init : goal.loop-id-init
+loop-id-init g c = settles_first g.T.Tables.seen c.args.self.now c.args.shared.now c.requires.fit c.requires.journal
+
+pub drop_rel-requires : goal.drop_rel-requires
+drop_rel-requires g c =
+    let was = c.loop-id.invariant in
+    record { fits = was.fit.fits; present = was.fit.well.rels_wait c.in-Some.id (among c.loop-id.self.gone_rels c.in-Some.id _ c.in-Some.ensures.before) }
 
 pub loop-id-smaller : goal.loop-id-smaller
 loop-id-smaller g c =

@@ -1,3 +1,4 @@
+pub mod Asking
 pub mod Codes
 pub mod Converting
 pub mod Digits

@@ -1,11 +1,12 @@
 -- The tokens of lists and maps, a part at a time.
-use Rattle.std.proofs.Common.{◌≡◌, ◌+◌, ◌<◌, ◌≤◌, ℕ, List, ◌++◌, [], ◌∷◌, length, drop, get_or, String, Vec, BTreeMap, Global, string_bytes, sym, ap, ◌∙◌, append_assoc}
+use Rattle.std.proofs.Common.{◌≡◌, ◌+◌, ◌<◌, ◌≤◌, ℕ, List, ◌++◌, [], ◌∷◌, length, map, drop, get_or, String, Vec, BTreeMap, Global, string_bytes, sym, ap, ◌∙◌, append_assoc}
 use Rattle.std.proofs.lemmas.List.{drop_more, drop_all}
 use Rattle.json.specs.Token.{Token, begin_object, begin_array, end_array, key}
 use Rattle.json.specs.Tree.{json_tokens, items_tokens, members_tokens}
+use Rattle.serde_json.specs.Data.{Data}
 use Rattle.serde_json.specs.Written.{outline, items_outline, members_outline}
 use Rattle.pg_value_core.specs.declared.out.Out.{Out, List as OutList, Map as OutMap}
-use Rattle.pg_json.specs.Replies.{data_of, outs, named_outs}
+use Rattle.pg_json.specs.Replies.{items_of, data_of, outs, named_outs}
 use Rattle.pg_json.proofs.Elements.{data_list, data_map}
 
 abbrev pub written_items : List Out → List Token
@@ -29,15 +30,20 @@ map_written a b d members first second =
     ∙ append_assoc a (begin_object ∷ []) (written_members members.entries)
     ∙ ap (λ shown. a ++ json_tokens (outline shown)) (sym (data_map members))
 
-pub item_written : (a b : List Token) (es : List Out) (i : ℕ) (e : Out) → i < length es → e ≡ get_or es i e → b ≡ a ++ json_tokens (outline (data_of e))
-    → b ++ written_items (drop (i + 1) es) ≡ a ++ written_items (drop i es)
-item_written a b es i e within is written =
-    ap (λ ts. ts ++ written_items (drop (i + 1) es)) written
-    ∙ append_assoc a (json_tokens (outline (data_of e))) (written_items (drop (i + 1) es))
-    ∙ ap (λ xs. a ++ written_items xs) (sym (drop_more es i e within ∙ ap (λ x. x ∷ drop (i + 1) es) (sym is)))
+-- a list whose items are seen as data in one way
+module _ {X : Type 0} (shown : X → Data) where
+  abbrev pub written_list : List X → List Token
+  written_list xs = items_tokens (items_outline (items_of (map shown xs)))
 
-pub items_written : (a b : List Token) (es : List Out) (i : ℕ) → length es ≤ i → b ≡ a ++ end_array ∷ [] → b ≡ a ++ written_items (drop i es)
-items_written a b es i all last = last ∙ ap (λ xs. a ++ written_items xs) (sym (drop_all i es all))
+  pub item_written : (a b : List Token) (xs : List X) (i : ℕ) (x : X) → i < length xs → x ≡ get_or xs i x → b ≡ a ++ json_tokens (outline (shown x))
+      → b ++ written_list (drop (i + 1) xs) ≡ a ++ written_list (drop i xs)
+  item_written a b xs i x within is written =
+      ap (λ ts. ts ++ written_list (drop (i + 1) xs)) written
+      ∙ append_assoc a (json_tokens (outline (shown x))) (written_list (drop (i + 1) xs))
+      ∙ ap (λ ys. a ++ written_list ys) (sym (drop_more xs i x within ∙ ap (λ y. y ∷ drop (i + 1) xs) (sym is)))
+
+  pub items_written : (a b : List Token) (xs : List X) (i : ℕ) → length xs ≤ i → b ≡ a ++ end_array ∷ [] → b ≡ a ++ written_list (drop i xs)
+  items_written a b xs i all last = last ∙ ap (λ ys. a ++ written_list ys) (sym (drop_all i xs all))
 
 pub member_written : (a b d : List Token) (k : String Global) (name : List ℕ) (e : Out) (more : List (String Global × Out))
     → name ≡ string_bytes k → b ≡ a ++ key name ∷ [] → d ≡ b ++ json_tokens (outline (data_of e))

@@ -5,7 +5,7 @@ use Rattle.json.specs.Tree.{json_tokens, items_tokens, members_tokens}
 use Rattle.serde_json.specs.Written.{outline, items_outline, members_outline}
 use Rattle.pg_value_core.specs.declared.out.Out.{Out}
 use Rattle.pg_json.specs.Elements.{rel_begun, rel_ended}
-use Rattle.pg_json.specs.Replies.{outs, named_outs}
+use Rattle.pg_json.specs.Replies.{data_of, outs, named_outs}
 use Rattle.pg_json.proofs.Elements.{around, data_path, data_rel, node_written}
 use Rattle.pg_json.proofs.Written.{list_written, map_written, written_members, item_written, items_written, member_written}
 use Rattle.pg_json.proofs.value.+write.Goals as goal
@@ -138,7 +138,7 @@ pub write_items-loop-item-preserved : goal.write_items-loop-item-preserved
 write_items-loop-item-preserved t c =
     let l = c.loop-item in
     record {
-      left = item_written l.to.tokens c.write.new.to.tokens c.args.items.now l.item-index c.item-item.result c.loop-item-test.true c.item-item.is c.in_ok-write.ensures.ok ∙ l.invariant.left;
+      left = item_written data_of l.to.tokens c.write.new.to.tokens c.args.items.now l.item-index c.item-item.result c.loop-item-test.true c.item-item.is c.in_ok-write.ensures.ok ∙ l.invariant.left;
       before = c.write.ensures.before ∙ l.invariant.before;
     }
 
@@ -152,7 +152,7 @@ pub write_items-returns-clause-ok : goal.write_items-returns-clause-ok
 write_items-returns-clause-ok t c =
     let l = c.loop-item in
     on_ok_weaker c.end_array.result
-    (λ last. items_written l.to.tokens c.end_array.new.self.tokens c.args.items.now l.item-index c.loop-item-test.false last ∙ l.invariant.left)
+    (λ last. items_written data_of l.to.tokens c.end_array.new.self.tokens c.args.items.now l.item-index c.loop-item-test.false last ∙ l.invariant.left)
     c.end_array.ensures.ok
 
 pub write_items-returns-clause-before : goal.write_items-returns-clause-before

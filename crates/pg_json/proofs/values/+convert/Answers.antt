@@ -8,7 +8,7 @@ use Rattle.serde_json.specs.View.{items_view, members_view}
 use Rattle.serde_json.proofs.Views.{Entry}
 use Rattle.pg_meaning.specs.Entries.{put}
 use Rattle.pg_json.specs.Given.{values_within, entries_within}
-use Rattle.pg_json.proofs.Converting.{one_more_value, no_value, all_values, after, one_more_entry, refused_entries}
+use Rattle.pg_json.proofs.Converting.{one_more_value, no_value, all_values, after, one_more_entry, refused_entries, list_within, list_refused, map_within, map_refused}
 use Rattle.pg_value_core.specs.View.{view, entries_view}
 use Rattle.pg_json.proofs.Exits.{fault_passed}
 use Rattle.pg_meaning.specs.declared.fault.Fault.TheVariants.{BadRequest, OutOfMemory}
@@ -139,3 +139,21 @@ value_from-returns-in_err-entries_from-in-Object-clause-ok t c = IfOk-from_err c
 
 pub value_from-returns-in_err-entries_from-in-Object-clause-kind : goal.value_from-returns-in_err-entries_from-in-Object-clause-kind
 value_from-returns-in_err-entries_from-in-Object-clause-kind t c = fault_passed (λ e. e ≢ OutOfMemory → e ≡ BadRequest) c.in_err-entries_from-in-Object.field-0.0 c.from_residual-in_err-entries_from-in-Object.result c.from_residual-in_err-entries_from-in-Object.ensures.1 c.in_err-entries_from-in-Object.ensures.kind
+
+pub value_from-returns-in_ok-items_from-in-Array-clause-ok : goal.value_from-returns-in_ok-items_from-in-Array-clause-ok
+value_from-returns-in_ok-items_from-in-Array-clause-ok t c =
+    rw c.in-Array.is (list_within c.args.room c.if-room-eq0.false c.in-Array.items c.in_ok-items_from-in-Array.field-0 c.in_ok-items_from-in-Array.ensures.ok)
+
+pub value_from-returns-in_ok-entries_from-in-Object-clause-ok : goal.value_from-returns-in_ok-entries_from-in-Object-clause-ok
+value_from-returns-in_ok-entries_from-in-Object-clause-ok t c =
+    rw c.in-Object.is (map_within c.args.room c.if-room-eq0.false c.in-Object.members c.in_ok-entries_from-in-Object.field-0 c.in_ok-entries_from-in-Object.ensures.ok)
+
+pub value_from-returns-in_err-items_from-in-Array-clause-refused : goal.value_from-returns-in_err-items_from-in-Array-clause-refused
+value_from-returns-in_err-items_from-in-Array-clause-refused t c =
+    fault_passed (λ e. e ≢ OutOfMemory → value_within c.args.room (data_view c.args.given.now) ≡ None) c.in_err-items_from-in-Array.field-0.0 c.from_residual-in_err-items_from-in-Array.result c.from_residual-in_err-items_from-in-Array.ensures.1
+    (λ other. rw c.in-Array.is (list_refused c.args.room c.if-room-eq0.false c.in-Array.items (c.in_err-items_from-in-Array.ensures.refused other)))
+
+pub value_from-returns-in_err-entries_from-in-Object-clause-refused : goal.value_from-returns-in_err-entries_from-in-Object-clause-refused
+value_from-returns-in_err-entries_from-in-Object-clause-refused t c =
+    fault_passed (λ e. e ≢ OutOfMemory → value_within c.args.room (data_view c.args.given.now) ≡ None) c.in_err-entries_from-in-Object.field-0.0 c.from_residual-in_err-entries_from-in-Object.result c.from_residual-in_err-entries_from-in-Object.ensures.1
+    (λ other. rw c.in-Object.is (map_refused c.args.room c.if-room-eq0.false c.in-Object.members (c.in_err-entries_from-in-Object.ensures.refused other)))

@@ -1,5 +1,5 @@
 -- The values of lists and members, as far as they are converted.
-use Rattle.std.proofs.Common.{◌≡◌, ◌≤◌, ℕ, drop, length, List, [], ◌∷◌, ◌++◌, Option, Some, None, option_map, option_and_then, Less, Greater, string_bytes, string_cmp, refl, sym, ap, ◌∙◌}
+use Rattle.std.proofs.Common.{◌≡◌, ◌≢◌, ◌≤◌, ◌-◌, ℕ, drop, length, List, [], ◌∷◌, ◌++◌, Option, Some, None, option_map, option_and_then, Less, Greater, Vec, BTreeMap, String, Global, rules, arith, lt-ltb, string_bytes, string_cmp, refl, sym, ap, ◌∙◌}
 use Rattle.std.proofs.lemmas.Cmp.{nat_list_cmp_total}
 use Rattle.std.proofs.lemmas.List.{drop_all}
 use Rattle.std.specs.List.{AllByRecursion}
@@ -7,14 +7,15 @@ use Rattle.std.specs.List.Sorted.{IsStrictlySortedBy}
 use Rattle.std.specs.Map.{keys_of}
 use Rattle.std.specs.Ordering.{ordering_reverse}
 use Rattle.serde_json.specs.View.{view as data_view, items_view, members_view}
-use Rattle.serde_json.specs.declared.value.Value.{Value as Data}
+use Rattle.serde_json.specs.Data as json
+use Rattle.serde_json.specs.declared.value.Value.{Value as Data, Array, Object, the_lemmas as data_lemmas}
 use Rattle.serde_json.proofs.Views.{Entry}
 use Rattle.pg_meaning.specs.Entries.{put}
 use Rattle.pg_meaning.specs.Order.{text_order}
-use Rattle.pg_meaning.specs.Value.{Value as Datum, Values, no_items, item, Entries, entry}
-use Rattle.pg_json.specs.Given.{value_within, values_within, entries_within}
-use Rattle.pg_value_core.specs.View.{view, values_view}
-use Rattle.pg_value_core.specs.declared.value.Value.{Value}
+use Rattle.pg_meaning.specs.Value.{Value as Datum, Values, no_items, item, Entries, entry, list, mapping}
+use Rattle.pg_json.specs.Given.{value_within, values_within, entries_within, if_room}
+use Rattle.pg_value_core.specs.View.{view, values_view, entries_view}
+use Rattle.pg_value_core.specs.declared.value.Value.{Value, List as ListValue, Map as MapValue, the_lemmas}
 
 -- ---- lists
 
@@ -90,3 +91,33 @@ one_more_entry n (first ∷ done) e more es v sorted h g =
     nat_list_cmp_total.antisymm (string_bytes e.0) (string_bytes first.0) ∙ ap ordering_reverse (below_middle first done e more sorted.0) in
     let placed : put (string_bytes e.0) v (entry (string_bytes first.0) parts.0 parts.2) ≡ entry (string_bytes first.0) parts.0 (put (string_bytes e.0) v parts.2) = rw above refl in
     rw (parts.1, later) (ap Some (sym placed ∙ ap (put (string_bytes e.0) v) parts.4))
+
+-- ---- a list and a map
+
+has_room : {A : Type 0} (n : ℕ) (o : Option A) → n ≢ 0 → if_room n o ≡ o
+has_room n o some = rw (lt-ltb 0 n (omega arith)) refl
+
+data_array : (ds : Vec Data Global) → data_view (Array ds) ≡ json.array (items_view ds.items)
+data_array ds = search (rules, data_lemmas)
+
+data_object : (ms : BTreeMap (String Global) Data) → data_view (Object ms) ≡ json.object (members_view ms.entries)
+data_object ms = search (rules, data_lemmas)
+
+view_list : (vs : Vec Value Global) → view (ListValue vs) ≡ list (values_view vs.items)
+view_list vs = search (rules, the_lemmas)
+
+view_map : (es : BTreeMap (String Global) Value) → view (MapValue es) ≡ mapping (entries_view es.entries)
+view_map es = search (rules, the_lemmas)
+
+module _ (n : ℕ) (some : n ≢ 0) where
+  pub list_within : (ds : Vec Data Global) (vs : Vec Value Global) → values_within (n - 1) (items_view ds.items) ≡ Some (values_view vs.items) → value_within n (data_view (Array ds)) ≡ Some (view (ListValue vs))
+  list_within ds vs h = rw (data_array ds, view_list vs) (has_room n (option_map list (values_within (n - 1) (items_view ds.items))) some ∙ ap (option_map list) h)
+
+  pub list_refused : (ds : Vec Data Global) → values_within (n - 1) (items_view ds.items) ≡ None → value_within n (data_view (Array ds)) ≡ None
+  list_refused ds h = rw (data_array ds) (has_room n (option_map list (values_within (n - 1) (items_view ds.items))) some ∙ ap (option_map list) h)
+
+  pub map_within : (ms : BTreeMap (String Global) Data) (es : BTreeMap (String Global) Value) → entries_within (n - 1) (members_view ms.entries) ≡ Some (entries_view es.entries) → value_within n (data_view (Object ms)) ≡ Some (view (MapValue es))
+  map_within ms es h = rw (data_object ms, view_map es) (has_room n (option_map mapping (entries_within (n - 1) (members_view ms.entries))) some ∙ ap (option_map mapping) h)
+
+  pub map_refused : (ms : BTreeMap (String Global) Data) → entries_within (n - 1) (members_view ms.entries) ≡ None → value_within n (data_view (Object ms)) ≡ None
+  map_refused ms h = rw (data_object ms) (has_room n (option_map mapping (entries_within (n - 1) (members_view ms.entries))) some ∙ ap (option_map mapping) h)

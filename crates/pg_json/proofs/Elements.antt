@@ -1,14 +1,23 @@
 -- The data of an element, and its tokens, written in three steps.
-use Rattle.std.proofs.Common.{◌≡◌, ℕ, List, ◌++◌, [], ◌∷◌, String, Vec, BTreeMap, Global, string_bytes, codes, decimal, rules, sym, ap, ◌∙◌, append_assoc}
+use Rattle.std.proofs.Common.{◌≡◌, List, ◌++◌, [], ◌∷◌, String, Vec, BTreeMap, Global, string_bytes, codes, decimal, rules, sym, ap, ◌∙◌, append_assoc}
 use Rattle.json.specs.Token.{Token, begin_object, end_object, key, number}
 use Rattle.json.specs.Tree.{json_tokens, members_tokens}
-use Rattle.serde_json.specs.Data.{array}
+use Rattle.serde_json.specs.Data.{array, object, string}
 use Rattle.serde_json.specs.Written.{outline, members_outline}
 use Rattle.pg_value_core.specs.declared.ids.NodeId.{NodeId}
 use Rattle.pg_value_core.specs.declared.ids.RelId.{RelId}
-use Rattle.pg_value_core.specs.declared.out.Out.{Out, Node, Rel, Path, the_lemmas}
+use Rattle.pg_value_core.specs.declared.out.Out.{Out, Text, List as OutList, Map as OutMap, Node, Rel, Path, the_lemmas}
 use Rattle.pg_json.specs.Elements.{node_begun}
 use Rattle.pg_json.specs.Replies.{data_of, outs, named_outs, node_data, rel_data, path_data, text_items}
+
+pub data_text : (text : String Global) → data_of (Text text) ≡ string (string_bytes text)
+data_text text = search (rules, the_lemmas)
+
+pub data_list : (items : Vec Out Global) → data_of (OutList items) ≡ array (outs items.items)
+data_list items = search (rules, the_lemmas)
+
+pub data_map : (members : BTreeMap (String Global) Out) → data_of (OutMap members) ≡ object (named_outs members.entries)
+data_map members = search (rules, the_lemmas)
 
 pub data_node : (id : NodeId) (labels : Vec (String Global) Global) (ps : BTreeMap (String Global) Out)
     → data_of (Node id labels ps) ≡ node_data id.0 (text_items labels.items) (named_outs ps.entries)

@@ -1,13 +1,17 @@
+pub mod Asking
 pub mod Codes
 pub mod Converting
 pub mod Digits
 pub mod Elements
+pub mod Exits
 pub mod Given
 pub mod Members
 pub mod Reading
+pub mod Rooms
 pub mod Strangers
 pub mod Lengths
 pub mod Meanings
 pub mod Taking
 pub mod Texts
 pub mod Writing
+pub mod Written

@@ -1,14 +1,15 @@
 -- Members that are texts and parameters at the keys of a request.
-use Rattle.std.proofs.Common.{◌≡◌, ℕ, List, Bool, true, false, cond, Option, Some, None, option_map, refl, ◌∙◌}
+use Rattle.std.proofs.Common.{◌≡◌, ℕ, List, Bool, true, false, cond, Option, Some, None, option_map, refl, sym, ◌∙◌, ◌||◌}
 use Rattle.std.proofs.lemmas.Slice.Eq.{bytes_eq-Decides}
+use Rattle.std.proofs.lemmas.Bool.{false≢true}
 use Rattle.std.specs.Prelude.{codes}
 use Rattle.std.specs.Str.{bytes_eq}
 use Rattle.serde_json.specs.Data.{object, string, put}
 use Rattle.pg_meaning.specs.Value.{Entries}
 use Rattle.pg_json.proofs.Given.{parameters_back}
-use Rattle.pg_json.specs.Fields.{members_of_fields, members_with, object_giving, parameters_of, HaveDepth, asked, asked_with}
+use Rattle.pg_json.specs.Fields.{text_keys, members_of_fields, members_with, object_giving, parameters_of, HaveDepth, asked, asked_with}
 use Rattle.pg_json.specs.declared.fields.Fields.{Fields}
-use Rattle.pg_json.specs.Requests.{Request, request_of}
+use Rattle.pg_json.specs.Requests.{Request, request_of, is_one_of}
 
 pub put_op : (s : List ℕ) (op : Option (List ℕ)) (ps : Option Entries) (text token : Option (List ℕ)) → put (codes "op") (string s) (members_of_fields op ps text token) ≡ members_of_fields (Some s) ps text token
 put_op s None None None None = refl
@@ -58,6 +59,26 @@ put_token s (Some a) (Some p) None None = refl
 put_token s (Some a) (Some p) None (Some c) = refl
 put_token s (Some a) (Some p) (Some b) None = refl
 put_token s (Some a) (Some p) (Some b) (Some c) = refl
+
+only_token : (a b c : Bool) → (a || (b || (c || false))) ≡ true → false ≡ a → false ≡ c → b ≡ true
+only_token a true c one no_a no_c = refl
+only_token true false c one no_a no_c = absurd (false≢true no_a)
+only_token false false true one no_a no_c = absurd (false≢true no_c)
+only_token false false false one no_a no_c = absurd (false≢true one)
+
+-- the text goes to its key
+module _ (key s : List ℕ) (op : Option (List ℕ)) (ps : Option Entries) (text token : Option (List ℕ)) where
+  pub op_put : true ≡ bytes_eq key (codes "op") → members_of_fields (Some s) ps text token ≡ put key (string s) (members_of_fields op ps text token)
+  op_put is = rw ((bytes_eq-Decides key (codes "op")).0 (sym is)) (sym (put_op s op ps text token))
+
+  pub text_put : true ≡ bytes_eq key (codes "text") → members_of_fields op ps (Some s) token ≡ put key (string s) (members_of_fields op ps text token)
+  text_put is = rw ((bytes_eq-Decides key (codes "text")).0 (sym is)) (sym (put_text s op ps text token))
+
+  pub token_put : is_one_of text_keys key ≡ true → false ≡ bytes_eq key (codes "op") → false ≡ bytes_eq key (codes "text")
+      → members_of_fields op ps text (Some s) ≡ put key (string s) (members_of_fields op ps text token)
+  token_put one no_op no_text =
+      let is = only_token (bytes_eq key (codes "op")) (bytes_eq key (codes "token")) (bytes_eq key (codes "text")) one no_op no_text in
+      rw ((bytes_eq-Decides key (codes "token")).0 is) (sym (put_token s op ps text token))
 
 -- what is asked where an index request lacks a key
 abbrev by_name : List ℕ → (query status : Option Request) → Option Request

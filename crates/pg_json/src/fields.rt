@@ -43,7 +43,9 @@ pub(crate) fn look<'a>(
 ) -> Result<Glance<'a>, Unread>
     ensures { IfOk result (λ g. IsGlance (read text.now) g) }
 {
-    let mut reader = Reader::new(text, scratch)?;
+    let Ok(mut reader) = Reader::new(text, scratch) else {
+        return Err(Unread::OutOfMemory);
+    };
     let Some(Token::BeginObject) = reader.next() else {
         return Err(Unread::Unclear);
     };

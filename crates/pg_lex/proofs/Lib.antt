@@ -4,6 +4,7 @@ pub mod Comes
 pub mod Comments
 pub mod Contents
 pub mod Contract
+pub mod Hexadecimals
 pub mod Lexing
 pub mod Longest
 pub mod Pairs

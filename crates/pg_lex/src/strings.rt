@@ -23,10 +23,18 @@ fn coded(text: &str) -> Option<(char, &str)>
     ensures front { scan.Fronts scan.same (scan.coded_front (spec.characters text.now)) result }
     ensures no_longer { IfSome result (λ p. length p.1.now ≤ length text.now) }
 {
-    let (a, text) = hexadecimal(text)?;
-    let (b, text) = hexadecimal(text)?;
-    let (c, text) = hexadecimal(text)?;
-    let (d, rest) = hexadecimal(text)?;
+    let Some((a, text)) = hexadecimal(text) else {
+        return None;
+    };
+    let Some((b, text)) = hexadecimal(text) else {
+        return None;
+    };
+    let Some((c, text)) = hexadecimal(text) else {
+        return None;
+    };
+    let Some((d, rest)) = hexadecimal(text) else {
+        return None;
+    };
     let code = ((a * 16 + b) * 16 + c) * 16 + d;
     Some((char::from_u32(code)?, rest))
 }

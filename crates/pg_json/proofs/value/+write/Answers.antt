@@ -1,5 +1,5 @@
-use Rattle.std.proofs.Common.{◌≡◌, List, [], ◌∷◌, ◌++◌, ◌∙◌, ap, sym, rules, codes}
-use Rattle.std.proofs.lemmas.Result.{on_ok_weaker}
+use Rattle.std.proofs.Common.{List, [], ◌∷◌, ◌++◌, ◌∙◌, ap, sym, rules, codes}
+use Rattle.std.proofs.lemmas.Result.{on_ok_weaker, IfOk-from_err}
 use Rattle.json.specs.Token.{Token, begin_object, begin_array, end_object, key}
 use Rattle.json.specs.Tree.{json_tokens, items_tokens, members_tokens}
 use Rattle.serde_json.specs.Written.{outline, items_outline, members_outline}
@@ -7,6 +7,7 @@ use Rattle.pg_value_core.specs.declared.out.Out.{Out}
 use Rattle.pg_json.specs.Elements.{rel_begun, rel_ended}
 use Rattle.pg_json.specs.Replies.{data_of, outs, named_outs}
 use Rattle.pg_json.proofs.Elements.{around, data_path, data_rel, node_written}
+use Rattle.pg_json.proofs.Written.{list_written, map_written, written_members, item_written, items_written, member_written}
 use Rattle.pg_json.proofs.value.+write.Goals as goal
 
 pub write-returns-in_ok-write_members-in-Node-clause-ok : goal.write-returns-in_ok-write_members-in-Node-clause-ok
@@ -43,3 +44,147 @@ write-returns-in_ok-write_items-in-Path-clause-ok t c =
     ∙ ap (λ es. a ++ (before ++ (inside es ++ end_object ∷ []))) c.deref-in-Path.ensures.value
     ∙ ap (λ d. a ++ json_tokens (outline d)) (sym (data_path p.elements)))
     c.end_object-in-Path.ensures.ok)
+
+pub write-returns-in_err-begin_array-in-List-clause-ok : goal.write-returns-in_err-begin_array-in-List-clause-ok
+write-returns-in_err-begin_array-in-List-clause-ok t c = IfOk-from_err c.from_residual.result _ c.from_residual.ensures.0
+
+pub write-returns-in_err-begin_array-in-List-clause-before : goal.write-returns-in_err-begin_array-in-List-clause-before
+write-returns-in_err-begin_array-in-List-clause-before t c = c.begin_array.ensures.room.0
+
+pub write-returns-in_err-begin_object-in-Map-clause-ok : goal.write-returns-in_err-begin_object-in-Map-clause-ok
+write-returns-in_err-begin_object-in-Map-clause-ok t c = IfOk-from_err c.from_residual-in_err-begin_object-in-Map.result _ c.from_residual-in_err-begin_object-in-Map.ensures.0
+
+pub write-returns-in_err-begin_object-in-Map-clause-before : goal.write-returns-in_err-begin_object-in-Map-clause-before
+write-returns-in_err-begin_object-in-Map-clause-before t c = c.begin_object.ensures.room.0
+
+pub write-returns-in_err-begin_node-in-Node-clause-ok : goal.write-returns-in_err-begin_node-in-Node-clause-ok
+write-returns-in_err-begin_node-in-Node-clause-ok t c = IfOk-from_err c.from_residual-in_err-begin_node-in-Node.result _ c.from_residual-in_err-begin_node-in-Node.ensures.0
+
+pub write-returns-in_err-begin_node-in-Node-clause-before : goal.write-returns-in_err-begin_node-in-Node-clause-before
+write-returns-in_err-begin_node-in-Node-clause-before t c = c.begin_node.ensures.before
+
+pub write-returns-in_err-write_members-in-Node-clause-ok : goal.write-returns-in_err-write_members-in-Node-clause-ok
+write-returns-in_err-write_members-in-Node-clause-ok t c = IfOk-from_err c.from_residual-in_err-write_members-in-Node.result _ c.from_residual-in_err-write_members-in-Node.ensures.0
+
+pub write-returns-in_err-write_members-in-Node-clause-before : goal.write-returns-in_err-write_members-in-Node-clause-before
+write-returns-in_err-write_members-in-Node-clause-before t c = c.write_members-in-Node.ensures.before ∙ c.begin_node.ensures.before
+
+pub write-returns-in_err-begin_rel-in-Rel-clause-ok : goal.write-returns-in_err-begin_rel-in-Rel-clause-ok
+write-returns-in_err-begin_rel-in-Rel-clause-ok t c = IfOk-from_err c.from_residual-in_err-begin_rel-in-Rel.result _ c.from_residual-in_err-begin_rel-in-Rel.ensures.0
+
+pub write-returns-in_err-begin_rel-in-Rel-clause-before : goal.write-returns-in_err-begin_rel-in-Rel-clause-before
+write-returns-in_err-begin_rel-in-Rel-clause-before t c = c.begin_rel.ensures.before
+
+pub write-returns-in_err-write_members-in-Rel-clause-ok : goal.write-returns-in_err-write_members-in-Rel-clause-ok
+write-returns-in_err-write_members-in-Rel-clause-ok t c = IfOk-from_err c.from_residual-in_err-write_members-in-Rel.result _ c.from_residual-in_err-write_members-in-Rel.ensures.0
+
+pub write-returns-in_err-write_members-in-Rel-clause-before : goal.write-returns-in_err-write_members-in-Rel-clause-before
+write-returns-in_err-write_members-in-Rel-clause-before t c = c.write_members-in-Rel.ensures.before ∙ c.begin_rel.ensures.before
+
+pub write-returns-in_err-begin_path-in-Path-clause-ok : goal.write-returns-in_err-begin_path-in-Path-clause-ok
+write-returns-in_err-begin_path-in-Path-clause-ok t c = IfOk-from_err c.from_residual-in_err-begin_path-in-Path.result _ c.from_residual-in_err-begin_path-in-Path.ensures.0
+
+pub write-returns-in_err-begin_path-in-Path-clause-before : goal.write-returns-in_err-begin_path-in-Path-clause-before
+write-returns-in_err-begin_path-in-Path-clause-before t c = c.begin_path.ensures.before
+
+pub write-returns-in_err-write_items-in-Path-clause-ok : goal.write-returns-in_err-write_items-in-Path-clause-ok
+write-returns-in_err-write_items-in-Path-clause-ok t c = IfOk-from_err c.from_residual-in_err-write_items-in-Path.result _ c.from_residual-in_err-write_items-in-Path.ensures.0
+
+pub write-returns-in_err-write_items-in-Path-clause-before : goal.write-returns-in_err-write_items-in-Path-clause-before
+write-returns-in_err-write_items-in-Path-clause-before t c = c.write_items-in-Path.ensures.before ∙ c.begin_path.ensures.before
+
+pub write-returns-in-Null-clause-before : goal.write-returns-in-Null-clause-before
+write-returns-in-Null-clause-before t c = c.null.ensures.room.0
+
+pub write-returns-in-Bool-clause-before : goal.write-returns-in-Bool-clause-before
+write-returns-in-Bool-clause-before t c = c.boolean.ensures.room.0
+
+pub write-returns-in-Int-clause-before : goal.write-returns-in-Int-clause-before
+write-returns-in-Int-clause-before t c = c.i64.ensures.room.0
+
+pub write-returns-in-Text-clause-before : goal.write-returns-in-Text-clause-before
+write-returns-in-Text-clause-before t c = c.string.ensures.room.0
+
+pub write-returns-in_ok-begin_array-in-List-clause-before : goal.write-returns-in_ok-begin_array-in-List-clause-before
+write-returns-in_ok-begin_array-in-List-clause-before t c = c.write_items.ensures.before ∙ c.begin_array.ensures.room.0
+
+pub write-returns-in_ok-begin_object-in-Map-clause-before : goal.write-returns-in_ok-begin_object-in-Map-clause-before
+write-returns-in_ok-begin_object-in-Map-clause-before t c = c.write_members.ensures.before ∙ c.begin_object.ensures.room.0
+
+pub write-returns-in_ok-write_members-in-Node-clause-before : goal.write-returns-in_ok-write_members-in-Node-clause-before
+write-returns-in_ok-write_members-in-Node-clause-before t c = c.end_object.ensures.room.0 ∙ c.write_members-in-Node.ensures.before ∙ c.begin_node.ensures.before
+
+pub write-returns-in_ok-write_members-in-Rel-clause-before : goal.write-returns-in_ok-write_members-in-Rel-clause-before
+write-returns-in_ok-write_members-in-Rel-clause-before t c = c.end_rel.ensures.before ∙ c.write_members-in-Rel.ensures.before ∙ c.begin_rel.ensures.before
+
+pub write-returns-in_ok-write_items-in-Path-clause-before : goal.write-returns-in_ok-write_items-in-Path-clause-before
+write-returns-in_ok-write_items-in-Path-clause-before t c = c.end_object-in-Path.ensures.room.0 ∙ c.write_items-in-Path.ensures.before ∙ c.begin_path.ensures.before
+
+pub write-returns-in_ok-begin_array-in-List-clause-ok : goal.write-returns-in_ok-begin_array-in-List-clause-ok
+write-returns-in_ok-begin_array-in-List-clause-ok t c =
+    rw c.in-List.is
+    (on_ok_weaker c.write_items.result
+    (list_written c.args.to.now.tokens c.begin_array.new.self.tokens c.write_items.new.to.tokens c.in-List.items c.deref-in-List.result.now c.deref-in-List.ensures.value c.in_ok-begin_array-in-List.ensures.ok)
+    c.write_items.ensures.ok)
+
+pub write-returns-in_ok-begin_object-in-Map-clause-ok : goal.write-returns-in_ok-begin_object-in-Map-clause-ok
+write-returns-in_ok-begin_object-in-Map-clause-ok t c =
+    rw c.in-Map.is
+    (on_ok_weaker c.write_members.result
+    (map_written c.args.to.now.tokens c.begin_object.new.self.tokens c.write_members.new.to.tokens c.in-Map.members c.in_ok-begin_object-in-Map.ensures.ok)
+    c.write_members.ensures.ok)
+
+pub write_items-loop-item-preserved : goal.write_items-loop-item-preserved
+write_items-loop-item-preserved t c =
+    let l = c.loop-item in
+    record {
+      left = item_written data_of l.to.tokens c.write.new.to.tokens c.args.items.now l.item-index c.item-item.result c.loop-item-test.true c.item-item.is c.in_ok-write.ensures.ok ∙ l.invariant.left;
+      before = c.write.ensures.before ∙ l.invariant.before;
+    }
+
+pub write_items-returns-in_err-write-clause-ok : goal.write_items-returns-in_err-write-clause-ok
+write_items-returns-in_err-write-clause-ok t c = IfOk-from_err c.from_residual.result _ c.from_residual.ensures.0
+
+pub write_items-returns-in_err-write-clause-before : goal.write_items-returns-in_err-write-clause-before
+write_items-returns-in_err-write-clause-before t c = c.write.ensures.before ∙ c.loop-item.invariant.before
+
+pub write_items-returns-clause-ok : goal.write_items-returns-clause-ok
+write_items-returns-clause-ok t c =
+    let l = c.loop-item in
+    on_ok_weaker c.end_array.result
+    (λ last. items_written data_of l.to.tokens c.end_array.new.self.tokens c.args.items.now l.item-index c.loop-item-test.false last ∙ l.invariant.left)
+    c.end_array.ensures.ok
+
+pub write_items-returns-clause-before : goal.write_items-returns-clause-before
+write_items-returns-clause-before t c = c.end_array.ensures.room.0 ∙ c.loop-item.invariant.before
+
+pub write_members-loop-key-preserved : goal.write_members-loop-key-preserved
+write_members-loop-key-preserved t c =
+    let l = c.loop-key in
+    let written = member_written l.to.tokens c.key.new.self.tokens c.write.new.to.tokens c.in-Some.key.now c.deref.result.now c.in-Some.member.now c.next.new.self c.deref.ensures c.in_ok-key.ensures.ok c.in_ok-write.ensures.ok in
+    record {
+      left = written ∙ ap (λ ms. l.to.tokens ++ written_members ms) (sym c.in-Some.ensures.steps) ∙ l.invariant.left;
+      before = c.write.ensures.before ∙ c.key.ensures.room.0 ∙ l.invariant.before;
+    }
+
+pub write_members-returns-in_err-key-clause-ok : goal.write_members-returns-in_err-key-clause-ok
+write_members-returns-in_err-key-clause-ok t c = IfOk-from_err c.from_residual.result _ c.from_residual.ensures.0
+
+pub write_members-returns-in_err-key-clause-before : goal.write_members-returns-in_err-key-clause-before
+write_members-returns-in_err-key-clause-before t c = c.key.ensures.room.0 ∙ c.loop-key.invariant.before
+
+pub write_members-returns-in_err-write-clause-ok : goal.write_members-returns-in_err-write-clause-ok
+write_members-returns-in_err-write-clause-ok t c = IfOk-from_err c.from_residual-in_err-write.result _ c.from_residual-in_err-write.ensures.0
+
+pub write_members-returns-in_err-write-clause-before : goal.write_members-returns-in_err-write-clause-before
+write_members-returns-in_err-write-clause-before t c = c.write.ensures.before ∙ c.key.ensures.room.0 ∙ c.loop-key.invariant.before
+
+pub write_members-returns-clause-ok : goal.write_members-returns-clause-ok
+write_members-returns-clause-ok t c =
+    let l = c.loop-key in
+    on_ok_weaker c.end_object.result
+    (λ last. last ∙ ap (λ ms. l.to.tokens ++ written_members ms) (sym c.in-None.ensures.steps.0) ∙ l.invariant.left)
+    c.end_object.ensures.ok
+
+pub write_members-returns-clause-before : goal.write_members-returns-clause-before
+write_members-returns-clause-before t c = c.end_object.ensures.room.0 ∙ c.loop-key.invariant.before

@@ -1,6 +1,6 @@
 use Rattle.std.proofs.lemmas.List.{drop_more}
-use Rattle.std.proofs.lemmas.Result.{err_from_is_err_and}
-use Rattle.std.proofs.Common.{◌≡◌, ◌+◌, drop, length, arith, Some, [], ◌∷◌, ◌++◌, string_bytes, sym, ap, subst, ◌∙◌, append_assoc, append-nil}
+use Rattle.std.proofs.lemmas.Result.{IfOk-from_err}
+use Rattle.std.proofs.Common.{◌≡◌, ◌≢◌, ◌+◌, drop, length, arith, Some, None, [], ◌∷◌, ◌++◌, refl, sym, ap, subst, ◌∙◌, append_assoc, append-nil}
 use Rattle.std.specs.List.Sorted.{IsStrictlySortedBy}
 use Rattle.std.specs.Map.{keys_of}
 use Rattle.std.specs.String.{string_cmp}
@@ -8,8 +8,12 @@ use Rattle.serde_json.specs.View.{items_view, members_view}
 use Rattle.serde_json.proofs.Views.{Entry}
 use Rattle.pg_meaning.specs.Entries.{put}
 use Rattle.pg_json.specs.Given.{values_within, entries_within}
-use Rattle.pg_json.proofs.Converting.{one_more_value, no_value, all_values, after, one_more_entry, refused_entries}
+use Rattle.pg_json.proofs.Converting.{one_more_value, no_value, all_values, after, one_more_entry, refused_entries, list_within, list_refused, map_within, map_refused}
 use Rattle.pg_value_core.specs.View.{view, entries_view}
+use Rattle.pg_json.proofs.Exits.{fault_passed}
+use Rattle.pg_meaning.specs.declared.fault.Fault.TheVariants.{BadRequest, OutOfMemory}
+use Rattle.serde_json.specs.View.{view as data_view}
+use Rattle.pg_json.specs.Given.{value_within}
 use Rattle.pg_json.proofs.values.+convert.Goals as goal
 
 pub entries_from-loop-key-preserved : goal.entries_from-loop-key-preserved
@@ -56,23 +60,100 @@ items_from-returns-clause-ok t c =
 
 pub items_from-returns-in_err-value-clause-refused : goal.items_from-returns-in_err-value-clause-refused
 items_from-returns-in_err-value-clause-refused t c =
-    let p = err_from_is_err_and c.from_residual-in_err-value.result c.from_residual-in_err-value.ensures.1 in
     let l = c.loop-item in
     let room = c.args.room in
     let xs = c.deref-item-items.result.now in
     let x = c.item-item.result in
     let here : drop l.item-index xs ≡ x ∷ drop (l.item-index + 1) xs = drop_more xs l.item-index x (omega arith) ∙ ap (λ y. y ∷ drop (l.item-index + 1) xs) (sym c.item-item.is) in
     let same : c.args.items.now.items ≡ xs = sym c.deref-item-items.ensures.value in
-    rw (p.1, p.2)
+    fault_passed (λ e. e ≢ OutOfMemory → values_within room (items_view c.args.items.now.items) ≡ None) c.in_err-value.field-0.0 c.from_residual-in_err-value.result c.from_residual-in_err-value.ensures.1
     (λ other. l.invariant
     ∙ ap (λ ys. after l.values.items (values_within room (items_view (drop l.item-index ys)))) same
     ∙ no_value room l.values.items x (drop l.item-index xs) (drop (l.item-index + 1) xs) here (c.in_err-value.ensures.refused other))
 
 pub entries_from-returns-in_err-value-clause-refused : goal.entries_from-returns-in_err-value-clause-refused
 entries_from-returns-in_err-value-clause-refused t c =
-    let p = err_from_is_err_and c.from_residual.result c.from_residual.ensures.1 in
     let l = c.loop-key in
     let e : Entry = (c.in-Some.key.now, c.in-Some.given.now) in
     let left = c.next.new.self in
     let all : c.args.members.now.entries ≡ l.invariant.0 ++ e ∷ left = l.invariant.1 ∙ ap (λ es. l.invariant.0 ++ es) c.in-Some.ensures.steps in
-    rw (p.1, p.2) (λ other. ap (λ es. entries_within c.args.room (members_view es)) all ∙ refused_entries c.args.room l.invariant.0 e left (c.in_err-value.ensures.refused other))
+    fault_passed (λ e. e ≢ OutOfMemory → entries_within c.args.room (members_view c.args.members.now.entries) ≡ None) c.in_err-value.field-0.0 c.from_residual.result c.from_residual.ensures.1
+    (λ other. ap (λ es. entries_within c.args.room (members_view es)) all ∙ refused_entries c.args.room l.invariant.0 e left (c.in_err-value.ensures.refused other))
+
+pub entries_from-returns-in_err-value-clause-ok : goal.entries_from-returns-in_err-value-clause-ok
+entries_from-returns-in_err-value-clause-ok t c = IfOk-from_err c.from_residual.result _ c.from_residual.ensures.0
+
+pub entries_from-returns-in_err-value-clause-kind : goal.entries_from-returns-in_err-value-clause-kind
+entries_from-returns-in_err-value-clause-kind t c = fault_passed (λ e. e ≢ OutOfMemory → e ≡ BadRequest) c.in_err-value.field-0.0 c.from_residual.result c.from_residual.ensures.1 c.in_err-value.ensures.kind
+
+pub entries_from-returns-in_err-enter-clause-ok : goal.entries_from-returns-in_err-enter-clause-ok
+entries_from-returns-in_err-enter-clause-ok t c = IfOk-from_err c.from_residual-in_err-enter.result _ c.from_residual-in_err-enter.ensures.0
+
+pub entries_from-returns-in_err-enter-clause-kind : goal.entries_from-returns-in_err-enter-clause-kind
+entries_from-returns-in_err-enter-clause-kind t c = fault_passed (λ e. e ≢ OutOfMemory → e ≡ BadRequest) OutOfMemory c.from_residual-in_err-enter.result c.from_residual-in_err-enter.ensures.1 (λ other. absurd (other refl))
+
+pub entries_from-returns-in_err-enter-clause-refused : goal.entries_from-returns-in_err-enter-clause-refused
+entries_from-returns-in_err-enter-clause-refused t c = fault_passed (λ e. e ≢ OutOfMemory → entries_within c.args.room (members_view c.args.members.now.entries) ≡ None) OutOfMemory c.from_residual-in_err-enter.result c.from_residual-in_err-enter.ensures.1 (λ other. absurd (other refl))
+
+pub items_from-returns-in_err-values-clause-ok : goal.items_from-returns-in_err-values-clause-ok
+items_from-returns-in_err-values-clause-ok t c = IfOk-from_err c.from_residual.result _ c.from_residual.ensures.0
+
+pub items_from-returns-in_err-values-clause-kind : goal.items_from-returns-in_err-values-clause-kind
+items_from-returns-in_err-values-clause-kind t c = fault_passed (λ e. e ≢ OutOfMemory → e ≡ BadRequest) OutOfMemory c.from_residual.result c.from_residual.ensures.1 (λ other. absurd (other refl))
+
+pub items_from-returns-in_err-values-clause-refused : goal.items_from-returns-in_err-values-clause-refused
+items_from-returns-in_err-values-clause-refused t c = fault_passed (λ e. e ≢ OutOfMemory → values_within c.args.room (items_view c.args.items.now.items) ≡ None) OutOfMemory c.from_residual.result c.from_residual.ensures.1 (λ other. absurd (other refl))
+
+pub items_from-returns-in_err-value-clause-ok : goal.items_from-returns-in_err-value-clause-ok
+items_from-returns-in_err-value-clause-ok t c = IfOk-from_err c.from_residual-in_err-value.result _ c.from_residual-in_err-value.ensures.0
+
+pub items_from-returns-in_err-value-clause-kind : goal.items_from-returns-in_err-value-clause-kind
+items_from-returns-in_err-value-clause-kind t c = fault_passed (λ e. e ≢ OutOfMemory → e ≡ BadRequest) c.in_err-value.field-0.0 c.from_residual-in_err-value.result c.from_residual-in_err-value.ensures.1 c.in_err-value.ensures.kind
+
+pub items_from-returns-in_err-push-clause-ok : goal.items_from-returns-in_err-push-clause-ok
+items_from-returns-in_err-push-clause-ok t c = IfOk-from_err c.from_residual-in_err-push.result _ c.from_residual-in_err-push.ensures.0
+
+pub items_from-returns-in_err-push-clause-kind : goal.items_from-returns-in_err-push-clause-kind
+items_from-returns-in_err-push-clause-kind t c = fault_passed (λ e. e ≢ OutOfMemory → e ≡ BadRequest) OutOfMemory c.from_residual-in_err-push.result c.from_residual-in_err-push.ensures.1 (λ other. absurd (other refl))
+
+pub items_from-returns-in_err-push-clause-refused : goal.items_from-returns-in_err-push-clause-refused
+items_from-returns-in_err-push-clause-refused t c = fault_passed (λ e. e ≢ OutOfMemory → values_within c.args.room (items_view c.args.items.now.items) ≡ None) OutOfMemory c.from_residual-in_err-push.result c.from_residual-in_err-push.ensures.1 (λ other. absurd (other refl))
+
+pub value_from-returns-in_err-from_str-in-String-clause-ok : goal.value_from-returns-in_err-from_str-in-String-clause-ok
+value_from-returns-in_err-from_str-in-String-clause-ok t c = IfOk-from_err c.from_residual.result _ c.from_residual.ensures.0
+
+pub value_from-returns-in_err-from_str-in-String-clause-kind : goal.value_from-returns-in_err-from_str-in-String-clause-kind
+value_from-returns-in_err-from_str-in-String-clause-kind t c = fault_passed (λ e. e ≢ OutOfMemory → e ≡ BadRequest) OutOfMemory c.from_residual.result c.from_residual.ensures.1 (λ other. absurd (other refl))
+
+pub value_from-returns-in_err-from_str-in-String-clause-refused : goal.value_from-returns-in_err-from_str-in-String-clause-refused
+value_from-returns-in_err-from_str-in-String-clause-refused t c = fault_passed (λ e. e ≢ OutOfMemory → value_within c.args.room (data_view c.args.given.now) ≡ None) OutOfMemory c.from_residual.result c.from_residual.ensures.1 (λ other. absurd (other refl))
+
+pub value_from-returns-in_err-items_from-in-Array-clause-ok : goal.value_from-returns-in_err-items_from-in-Array-clause-ok
+value_from-returns-in_err-items_from-in-Array-clause-ok t c = IfOk-from_err c.from_residual-in_err-items_from-in-Array.result _ c.from_residual-in_err-items_from-in-Array.ensures.0
+
+pub value_from-returns-in_err-items_from-in-Array-clause-kind : goal.value_from-returns-in_err-items_from-in-Array-clause-kind
+value_from-returns-in_err-items_from-in-Array-clause-kind t c = fault_passed (λ e. e ≢ OutOfMemory → e ≡ BadRequest) c.in_err-items_from-in-Array.field-0.0 c.from_residual-in_err-items_from-in-Array.result c.from_residual-in_err-items_from-in-Array.ensures.1 c.in_err-items_from-in-Array.ensures.kind
+
+pub value_from-returns-in_err-entries_from-in-Object-clause-ok : goal.value_from-returns-in_err-entries_from-in-Object-clause-ok
+value_from-returns-in_err-entries_from-in-Object-clause-ok t c = IfOk-from_err c.from_residual-in_err-entries_from-in-Object.result _ c.from_residual-in_err-entries_from-in-Object.ensures.0
+
+pub value_from-returns-in_err-entries_from-in-Object-clause-kind : goal.value_from-returns-in_err-entries_from-in-Object-clause-kind
+value_from-returns-in_err-entries_from-in-Object-clause-kind t c = fault_passed (λ e. e ≢ OutOfMemory → e ≡ BadRequest) c.in_err-entries_from-in-Object.field-0.0 c.from_residual-in_err-entries_from-in-Object.result c.from_residual-in_err-entries_from-in-Object.ensures.1 c.in_err-entries_from-in-Object.ensures.kind
+
+pub value_from-returns-in_ok-items_from-in-Array-clause-ok : goal.value_from-returns-in_ok-items_from-in-Array-clause-ok
+value_from-returns-in_ok-items_from-in-Array-clause-ok t c =
+    rw c.in-Array.is (list_within c.args.room c.if-room-eq0.false c.in-Array.items c.in_ok-items_from-in-Array.field-0 c.in_ok-items_from-in-Array.ensures.ok)
+
+pub value_from-returns-in_ok-entries_from-in-Object-clause-ok : goal.value_from-returns-in_ok-entries_from-in-Object-clause-ok
+value_from-returns-in_ok-entries_from-in-Object-clause-ok t c =
+    rw c.in-Object.is (map_within c.args.room c.if-room-eq0.false c.in-Object.members c.in_ok-entries_from-in-Object.field-0 c.in_ok-entries_from-in-Object.ensures.ok)
+
+pub value_from-returns-in_err-items_from-in-Array-clause-refused : goal.value_from-returns-in_err-items_from-in-Array-clause-refused
+value_from-returns-in_err-items_from-in-Array-clause-refused t c =
+    fault_passed (λ e. e ≢ OutOfMemory → value_within c.args.room (data_view c.args.given.now) ≡ None) c.in_err-items_from-in-Array.field-0.0 c.from_residual-in_err-items_from-in-Array.result c.from_residual-in_err-items_from-in-Array.ensures.1
+    (λ other. rw c.in-Array.is (list_refused c.args.room c.if-room-eq0.false c.in-Array.items (c.in_err-items_from-in-Array.ensures.refused other)))
+
+pub value_from-returns-in_err-entries_from-in-Object-clause-refused : goal.value_from-returns-in_err-entries_from-in-Object-clause-refused
+value_from-returns-in_err-entries_from-in-Object-clause-refused t c =
+    fault_passed (λ e. e ≢ OutOfMemory → value_within c.args.room (data_view c.args.given.now) ≡ None) c.in_err-entries_from-in-Object.field-0.0 c.from_residual-in_err-entries_from-in-Object.result c.from_residual-in_err-entries_from-in-Object.ensures.1
+    (λ other. rw c.in-Object.is (map_refused c.args.room c.if-room-eq0.false c.in-Object.members (c.in_err-entries_from-in-Object.ensures.refused other)))

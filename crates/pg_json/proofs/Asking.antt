@@ -1,0 +1,28 @@
+-- What is asked for, by the name of the operation.
+use Rattle.std.proofs.Common.{◌≡◌, ℕ, List, true, false, Some, None, option_and_then, refl, sym, ap, ◌∙◌}
+use Rattle.std.specs.Prelude.{codes}
+use Rattle.std.specs.Str.{bytes_eq}
+use Rattle.serde_json.specs.Data.{Members}
+use Rattle.pg_json.specs.Requests.{text_at, by_op, object_request, with_only, query_keys, query_of, status_keys, status_of, index_keys, index_of, create_index, drop_index}
+
+module _ (ms : Members) (op : List ℕ) (named : Some op ≡ text_at (codes "op") ms) where
+  by_its_name : object_request ms ≡ by_op op ms
+  by_its_name = ap (option_and_then (λ o. by_op o ms)) (sym named)
+
+  pub query_asked : true ≡ bytes_eq op (codes "query") → with_only query_keys ms (query_of ms) ≡ object_request ms
+  query_asked query = sym (by_its_name ∙ rw (← query) refl)
+
+  module _ (no_query : false ≡ bytes_eq op (codes "query")) where
+    pub status_asked : true ≡ bytes_eq op (codes "status") → with_only status_keys ms (status_of ms) ≡ object_request ms
+    status_asked status = sym (by_its_name ∙ rw (← no_query, ← status) refl)
+
+    module _ (no_status : false ≡ bytes_eq op (codes "status")) where
+      pub create_asked : true ≡ bytes_eq op (codes "create_index") → with_only index_keys ms (index_of create_index ms) ≡ object_request ms
+      create_asked create = sym (by_its_name ∙ rw (← no_query, ← no_status, ← create) refl)
+
+      module _ (no_create : false ≡ bytes_eq op (codes "create_index")) where
+        pub drop_asked : true ≡ bytes_eq op (codes "drop_index") → with_only index_keys ms (index_of drop_index ms) ≡ object_request ms
+        drop_asked drop = sym (by_its_name ∙ rw (← no_query, ← no_status, ← no_create, ← drop) refl)
+
+        pub none_asked : false ≡ bytes_eq op (codes "drop_index") → None ≡ object_request ms
+        none_asked no_drop = sym (by_its_name ∙ rw (← no_query, ← no_status, ← no_create, ← no_drop) refl)

@@ -1,4 +1,4 @@
-use Rattle.std.proofs.Common.{slice_set, length, Result, Ok, Err, OnOk, OnErr, sym, ap, subst, ◌∙◌}
+use Rattle.std.proofs.Common.{slice_set, length, Result, Ok, Err, OnOk, OnErr, rules, sym, ap, subst, ◌∙◌}
 use Rattle.std.proofs.lemmas.List.{length-set}
 use Rattle.std.specs.List.{refill}
 use Rattle.std.specs.Result.{IsErr}
@@ -58,3 +58,6 @@ returns-in_err-insert-in-Err-clause-err g c = always_on_fault c.from_residual.re
 
 pub returns-in_err-insert-in-Err-clause-rises : goal.returns-in_err-insert-in-Err-clause-rises
 returns-in_err-insert-in-Err-clause-rises g c = subst (λ v. Rises g.T.Numbered.number v.items) (sym c.in_err-insert-in-Err.ensures.err) c.requires
+
+pub insert-requires : goal.insert-requires
+insert-requires g c = (search rules, (subst (λ xs. IsPlace g.T.Numbered.number c.number.result xs (Err c.in-Err.i)) c.as_slice.ensures c.in-Err.ensures).0)

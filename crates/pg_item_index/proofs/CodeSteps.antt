@@ -1,6 +1,6 @@
 -- One item more of a list whose bytes are put behind those that were found.
-use Rattle.std.proofs.Common.{◌≡◌, ℕ, ◌+◌, ◌<◌, List, ◌∷◌, map, length, drop, get_or, refl, sym, ap, ◌∙◌}
-use Rattle.std.proofs.lemmas.List.{drop_more}
+use Rattle.std.proofs.Common.{◌≡◌, ℕ, ◌+◌, ◌<◌, ◌≤◌, List, [], ◌∷◌, map, length, drop, get_or, refl, sym, ap, subst, ◌∙◌}
+use Rattle.std.proofs.lemmas.List.{drop_all, drop_more}
 use Rattle.pg_item_index.specs.Codes.{with_byte, with_text, with_pairs, byte_of_operator, with_expression, with_expressions, with_whens, with_operands, with_tests, with_suffixes, with_test, with_suffix}
 use Rattle.pg_meaning.specs.Parse.{expressions_of, operands_of, pairs_of, whens_of}
 use Rattle.pg_meaning.specs.declared.operators.Operator.{Operator}
@@ -17,6 +17,7 @@ pub record Written (X : Type 0) : Type 0 where
   pub one : X → List ℕ → List ℕ
   pub all : List X → List ℕ → List ℕ
   pub step : (x : X) (xs : List X) (code : List ℕ) → all (x ∷ xs) code ≡ all xs (one x code)
+  pub none : (code : List ℕ) → all [] code ≡ with_byte 0 code
 
 module _ {X : Type 0} (k : Written X) where
   pub written_here : {code next whole : List ℕ} (xs : List X) (i : ℕ) (x : X) → i < length xs → x ≡ get_or xs i x → next ≡ k.one x code
@@ -25,28 +26,32 @@ module _ {X : Type 0} (k : Written X) where
       ap (k.all (drop (i + 1) xs)) s ∙ sym (k.step x (drop (i + 1) xs) code)
       ∙ ap (λ zs. k.all zs code) (ap (λ v. v ∷ drop (i + 1) xs) e ∙ sym (drop_more xs i x p)) ∙ w
 
+  -- all items are written
+  pub written_all : {code whole : List ℕ} (items xs : List X) (i : ℕ) → items ≡ xs → length items ≤ i → k.all (drop i xs) code ≡ whole → with_byte 0 code ≡ whole
+  written_all {code} items xs i same p w = sym (k.none code) ∙ ap (λ zs. k.all zs code) (sym (drop_all i xs (subst (λ ys. length ys ≤ i) same p))) ∙ w
+
 abbrev pub expressions : Written Expression
-expressions = record { one = λ x. with_expression (expression_view x); all = λ xs. with_expressions (expressions_of (map expression_view xs)); step = λ x xs code. refl }
+expressions = record { one = λ x. with_expression (expression_view x); all = λ xs. with_expressions (expressions_of (map expression_view xs)); step = λ x xs code. refl; none = λ code. refl }
 
 abbrev pub pairs : Written (Name × Expression)
-pairs = record { one = λ x code. with_expression (expression_view x.1) (with_text (name_view x.0).text (with_byte 1 code)); all = λ xs. with_pairs (pairs_of (map pair_view xs)); step = λ x xs code. refl }
+pairs = record { one = λ x code. with_expression (expression_view x.1) (with_text (name_view x.0).text (with_byte 1 code)); all = λ xs. with_pairs (pairs_of (map pair_view xs)); step = λ x xs code. refl; none = λ code. refl }
 
 abbrev pub whens : Written (Expression × Expression)
-whens = record { one = λ x code. with_expression (expression_view x.1) (with_expression (expression_view x.0) code); all = λ xs. with_whens (whens_of (map when_view xs)); step = λ x xs code. refl }
+whens = record { one = λ x code. with_expression (expression_view x.1) (with_expression (expression_view x.0) code); all = λ xs. with_whens (whens_of (map when_view xs)); step = λ x xs code. refl; none = λ code. refl }
 
 abbrev pub operands : Written (Operator × Expression)
-operands = record { one = λ x code. with_expression (expression_view x.1) (with_byte (byte_of_operator x.0) code); all = λ xs. with_operands (operands_of (map operand_view xs)); step = λ x xs code. refl }
+operands = record { one = λ x code. with_expression (expression_view x.1) (with_byte (byte_of_operator x.0) code); all = λ xs. with_operands (operands_of (map operand_view xs)); step = λ x xs code. refl; none = λ code. refl }
 
 pub test_step : (x : Test Expression) (xs : List (Test Expression)) (code : List ℕ) → with_tests (tests_of (map test_view (x ∷ xs))) code ≡ with_tests (tests_of (map test_view xs)) (with_test x code)
 test_step (test.Text t x) xs code = refl
 test_step (test.IsNull b) xs code = refl
 
 abbrev pub tests : Written (Test Expression)
-tests = record { one = with_test; all = λ xs. with_tests (tests_of (map test_view xs)); step = test_step }
+tests = record { one = with_test; all = λ xs. with_tests (tests_of (map test_view xs)); step = test_step; none = λ code. refl }
 
 pub suffix_step : (x : Suffix Expression) (xs : List (Suffix Expression)) (code : List ℕ) → with_suffixes (suffixes_of (map suffix_view (x ∷ xs))) code ≡ with_suffixes (suffixes_of (map suffix_view xs)) (with_suffix x code)
 suffix_step (suffix.Property n) xs code = refl
 suffix_step (suffix.Index x) xs code = refl
 
 abbrev pub suffixes : Written (Suffix Expression)
-suffixes = record { one = with_suffix; all = λ xs. with_suffixes (suffixes_of (map suffix_view xs)); step = suffix_step }
+suffixes = record { one = with_suffix; all = λ xs. with_suffixes (suffixes_of (map suffix_view xs)); step = suffix_step; none = λ code. refl }

@@ -2,3 +2,4 @@ pub mod CodeLemmas
 pub mod CodeSteps
 pub mod IndexLemmas
 pub mod TreeLemmas
+pub mod OtherForms

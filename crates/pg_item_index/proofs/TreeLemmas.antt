@@ -1,6 +1,6 @@
 -- Lists of other lengths are not the same; and one step on through two lists that are compared.
-use Rattle.std.proofs.Common.{◌≡◌, ℕ, suc, ◌+◌, ◌<◌, Bool, true, false, List, [], ◌∷◌, map, length, drop, get_or, refl, sym, ap, ◌∙◌}
-use Rattle.std.proofs.lemmas.List.{drop_more}
+use Rattle.std.proofs.Common.{◌≡◌, ℕ, suc, ◌+◌, ◌<◌, ◌≤◌, Bool, true, false, List, [], ◌∷◌, map, length, drop, get_or, refl, sym, ap, subst, ◌∙◌}
+use Rattle.std.proofs.lemmas.List.{drop_all, drop_more}
 use Rattle.std.specs.Prelude.{◌≢◌, ◌&&◌}
 use Rattle.std.specs.Bool.{beq}
 use Rattle.pg_meaning.specs.Parse.{expressions_of, operands_of, pairs_of, whens_of}
@@ -26,12 +26,17 @@ and_then {a} {b} e h = h ∙ ap (λ x. x && b) (sym e)
 pub and_else : {a v : Bool} (b : Bool) → a ≡ false → v ≡ a → v ≡ (a && b)
 and_else b e h = h ∙ e ∙ ap (λ x. x && b) (sym e)
 
+-- what was found of two expressions, by where they stand
+pub same_there : {v : Bool} {a b x y : Expression} → v ≡ same_expression (expression_view x) (expression_view y) → x ≡ a → y ≡ b → v ≡ same_expression (expression_view a) (expression_view b)
+same_there {v} {a} {b} {x} {y} h e f = h ∙ ap (λ z. same_expression (expression_view z) (expression_view y)) e ∙ ap (λ z. same_expression (expression_view a) (expression_view z)) f
+
 -- how two lists are compared: item by item
 pub record Compared (X : Type 0) : Type 0 where
   pub same : X → X → Bool
   pub all : List X → List X → Bool
   pub fewer : (y : X) (ys : List X) → all [] (y ∷ ys) ≡ false
   pub more : (x : X) (xs : List X) → all (x ∷ xs) [] ≡ false
+  pub none : all [] [] ≡ true
   pub step : (x y : X) (xs ys : List X) → all (x ∷ xs) (y ∷ ys) ≡ (same x y && all xs ys)
 
 module _ {X : Type 0} (k : Compared X) where
@@ -40,6 +45,15 @@ module _ {X : Type 0} (k : Compared X) where
   other_lengths [] (y ∷ ys) n = k.fewer y ys
   other_lengths (x ∷ xs) [] n = k.more x xs
   other_lengths (x ∷ xs) (y ∷ ys) n = k.step x y xs ys ∙ and_false (k.same x y) (k.all xs ys) (other_lengths xs ys (λ e. n (ap suc e)))
+
+  -- lists of lengths that were found to differ
+  pub others : (xs ys : List X) {m n : ℕ} → m ≡ length xs → n ≡ length ys → m ≢ n → false ≡ k.all xs ys
+  others xs ys e f n = sym (other_lengths xs ys (λ h. n (e ∙ h ∙ sym f)))
+
+  -- both lists have been gone through
+  pub all_gone : {whole : Bool} (xs ys : List X) (i : ℕ) → length xs ≤ i → length xs ≡ length ys → whole ≡ k.all (drop i xs) (drop i ys) → true ≡ whole
+  all_gone xs ys i p e w =
+      sym (w ∙ ap (λ zs. k.all zs (drop i ys)) (drop_all i xs p) ∙ ap (k.all []) (drop_all i ys (subst (λ n. n ≤ i) e p)) ∙ k.none)
 
   step_at : (xs ys : List X) (i : ℕ) (x y : X) → i < length xs → i < length ys → x ≡ get_or xs i x → y ≡ get_or ys i y
       → k.all (drop i xs) (drop i ys) ≡ (k.same x y && k.all (drop (i + 1) xs) (drop (i + 1) ys))
@@ -59,13 +73,13 @@ module _ {X : Type 0} (k : Compared X) where
   other_here xs ys i x y p q e f s w = sym (w ∙ step_at xs ys i x y p q e f ∙ ap (λ b. b && k.all (drop (i + 1) xs) (drop (i + 1) ys)) (sym s))
 
 abbrev pub names : Compared Name
-names = record { same = λ x y. same_name (name_view x) (name_view y); all = λ xs ys. same_names (names_view xs) (names_view ys); fewer = λ y ys. refl; more = λ x xs. refl; step = λ x y xs ys. refl }
+names = record { same = λ x y. same_name (name_view x) (name_view y); all = λ xs ys. same_names (names_view xs) (names_view ys); fewer = λ y ys. refl; more = λ x xs. refl; none = refl; step = λ x y xs ys. refl }
 
 pub other_names : (xs ys : List Name) → length xs ≢ length ys → same_names (names_view xs) (names_view ys) ≡ false
 other_names = other_lengths names
 
 abbrev pub flags : Compared Bool
-flags = record { same = beq; all = same_flags; fewer = λ y ys. refl; more = λ x xs. refl; step = λ x y xs ys. refl }
+flags = record { same = beq; all = same_flags; fewer = λ y ys. refl; more = λ x xs. refl; none = refl; step = λ x y xs ys. refl }
 
 pub other_flags : (xs ys : List Bool) → length xs ≢ length ys → same_flags xs ys ≡ false
 other_flags = other_lengths flags
@@ -76,6 +90,7 @@ expressions = record {
   all = λ xs ys. same_expressions (expressions_of (map expression_view xs)) (expressions_of (map expression_view ys));
   fewer = λ y ys. refl;
   more = λ x xs. refl;
+  none = refl;
   step = λ x y xs ys. refl;
 }
 
@@ -88,6 +103,7 @@ pairs = record {
   all = λ xs ys. same_pairs (pairs_of (map pair_view xs)) (pairs_of (map pair_view ys));
   fewer = λ y ys. refl;
   more = λ x xs. refl;
+  none = refl;
   step = λ x y xs ys. refl;
 }
 
@@ -100,6 +116,7 @@ whens = record {
   all = λ xs ys. same_whens (whens_of (map when_view xs)) (whens_of (map when_view ys));
   fewer = λ y ys. refl;
   more = λ x xs. refl;
+  none = refl;
   step = λ x y xs ys. refl;
 }
 
@@ -112,6 +129,7 @@ operands = record {
   all = λ xs ys. same_operands (operands_of (map operand_view xs)) (operands_of (map operand_view ys));
   fewer = λ y ys. refl;
   more = λ x xs. refl;
+  none = refl;
   step = λ x y xs ys. refl;
 }
 
@@ -134,7 +152,7 @@ tests_begin (test.Text t x) xs = refl
 tests_begin (test.IsNull b) xs = refl
 
 abbrev pub tests : Compared (Test Expression)
-tests = record { same = is_same_test; all = λ xs ys. same_tests (tests_of (map test_view xs)) (tests_of (map test_view ys)); fewer = tests_begin; more = tests_end; step = test_step }
+tests = record { same = is_same_test; all = λ xs ys. same_tests (tests_of (map test_view xs)) (tests_of (map test_view ys)); fewer = tests_begin; more = tests_end; none = refl; step = test_step }
 
 pub other_tests : (xs ys : List (Test Expression)) → length xs ≢ length ys → same_tests (tests_of (map test_view xs)) (tests_of (map test_view ys)) ≡ false
 other_tests = other_lengths tests
@@ -155,7 +173,7 @@ suffixes_begin (suffix.Property n) xs = refl
 suffixes_begin (suffix.Index x) xs = refl
 
 abbrev pub suffixes : Compared (Suffix Expression)
-suffixes = record { same = is_same_suffix; all = λ xs ys. same_suffixes (suffixes_of (map suffix_view xs)) (suffixes_of (map suffix_view ys)); fewer = suffixes_begin; more = suffixes_end; step = suffix_step }
+suffixes = record { same = is_same_suffix; all = λ xs ys. same_suffixes (suffixes_of (map suffix_view xs)) (suffixes_of (map suffix_view ys)); fewer = suffixes_begin; more = suffixes_end; none = refl; step = suffix_step }
 
 pub other_suffixes : (xs ys : List (Suffix Expression)) → length xs ≢ length ys → same_suffixes (suffixes_of (map suffix_view xs)) (suffixes_of (map suffix_view ys)) ≡ false
 other_suffixes = other_lengths suffixes

@@ -1,8 +1,10 @@
-use Rattle.std.proofs.Common.{◌≡◌, [], ◌∷◌, ◌++◌, string_bytes, sym, ap, ◌∙◌, subst, append_assoc}
+use Rattle.std.proofs.Common.{◌≡◌, ◌<◌, ◌+◌, ℕ, List, [], ◌∷◌, ◌++◌, map, length, take, get_or, take-suc, take_all, add-one, append-nil, string_bytes, refl, sym, ap, ◌∙◌, subst, append_assoc}
 use Rattle.std.specs.List.Sorted.{IsStrictlySortedBy}
 use Rattle.std.specs.Map.{keys_of}
 use Rattle.std.specs.String.{string_cmp}
-use Rattle.pg_value_core.specs.View.{entries_view}
+use Rattle.pg_meaning.specs.Value.{values_of}
+use Rattle.pg_value_core.specs.View.{view, entries_view}
+use Rattle.pg_value_core.specs.declared.value.Value.{Value}
 use Rattle.pg_value_core.proofs.Maps.{Pair, entries_view-insert_entry, put_last}
 use Rattle.pg_value_core.proofs.+copy.Goals as goal
 
@@ -19,3 +21,38 @@ copy::copy_entries-loop-key-preserved t c =
       all ∙ sym (append_assoc done (e ∷ []) left),
       ap entries_view c.in_ok-insert.ensures.entries ∙ entries_view-insert_entry l.copies.entries c.in_ok-name.name c.in_ok-same.same ∙ rw (named, c.in_ok-same.ensures, l.invariant.2) last,
     )
+
+map_push : (cs : List Value) (v : Value) → map view (cs ++ v ∷ []) ≡ map view cs ++ view v ∷ []
+map_push [] v = refl
+map_push (c ∷ cs) v = ap (λ rest. view c ∷ rest) (map_push cs v)
+
+-- one copy more, behind those of what came before
+copied_next : (cs xs : List Value) (i : ℕ) (x v : Value) → i < length xs → x ≡ get_or xs i x → view v ≡ view x → map view cs ≡ map view (take i xs) → map view (cs ++ v ∷ []) ≡ map view (take (i + 1) xs)
+copied_next cs xs i x v inside e same so_far =
+    map_push cs v ∙ ap (λ ys. ys ++ view v ∷ []) so_far ∙ ap (λ y. map view (take i xs) ++ y ∷ []) (same ∙ ap view e)
+    ∙ sym (map_push (take i xs) (get_or xs i x)) ∙ ap (map view) (sym (take-suc xs i x inside)) ∙ ap (λ n. map view (take n xs)) (sym (add-one i))
+
+pub copy::copy_items-loop-item-init : goal.copy::copy_items-loop-item-init
+copy::copy_items-loop-item-init t c = ap (map view) c.in_ok-copies.ensures.items
+
+pub copy::copy_items-loop-item-preserved : goal.copy::copy_items-loop-item-preserved
+copy::copy_items-loop-item-preserved t c =
+    let l = c.loop-item in
+    ap (map view) c.in_ok-push.ensures.items
+    ∙ copied_next l.copies.items c.deref-item-items.result.now l.item-index c.item-item.result c.in_ok-copy.field-0 c.loop-item-test.true c.item-item.is c.in_ok-copy.ensures l.invariant
+
+pub copy::copy_items-returns : goal.copy::copy_items-returns
+copy::copy_items-returns t c =
+    let l = c.loop-item in
+    ap values_of (l.invariant ∙ ap (map view) (take_all l.item-index c.deref-item-items.result.now c.loop-item-test.false ∙ c.deref-item-items.ensures.value))
+
+pub copy::copy_entries-loop-key-init : goal.copy::copy_entries-loop-key-init
+copy::copy_entries-loop-key-init t c = ([], sym (c.into_iter-key-iterator.ensures.into_iter_gives ∙ c.iter-key-items.ensures.rest), ap entries_view c.new-copies.ensures.empty)
+
+pub copy::copy_entries-returns : goal.copy::copy_entries-returns
+copy::copy_entries-returns t c =
+    let done = c.loop-key.invariant.0 in
+    c.loop-key.invariant.2 ∙ ap entries_view (sym (c.loop-key.invariant.1 ∙ ap (λ es. done ++ es) c.in-None.ensures.steps.0 ∙ append-nil done))
+
+pub value::Value::copy-returns-in-Null : goal.value::Value::copy-returns-in-Null
+value::Value::copy-returns-in-Null t c = ap view (sym c.in-Null.is)

@@ -1,4 +1,4 @@
-use Rattle.std.proofs.Common.{Ok, Err, sym, subst, ◌∙◌}
+use Rattle.std.proofs.Common.{rules, Ok, Err, sym, subst, ◌∙◌}
 use Rattle.pg_graph.specs.Sorted.{IsPlace, Rises}
 use Rattle.pg_graph.proofs.SortedLists.{without_found, without_missing, without_rises}
 use Rattle.pg_graph.proofs.sorted.remove.Goals as goal
@@ -19,3 +19,12 @@ returns-in_default-clause-removed g c =
     let number = g.T.Numbered.number in
     let at : IsPlace number c.args.number items (Err c.in_default.field-0) = subst (λ xs. IsPlace number c.args.number xs (Err c.in_default.field-0)) c.as_slice.ensures c.in_default.ensures in
     sym (without_missing number c.args.number items c.in_default.field-0 at.1)
+
+pub place-requires : goal.place-requires
+place-requires g c = subst (Rises g.T.Numbered.number) (sym c.as_slice.ensures) c.requires
+
+pub returns-in_default-clause-rises : goal.returns-in_default-clause-rises
+returns-in_default-clause-rises g c = c.requires
+
+pub remove-requires : goal.remove-requires
+remove-requires g c = (search rules, (subst (λ xs. IsPlace g.T.Numbered.number c.args.number xs (Ok c.in-Ok.i)) c.as_slice.ensures c.in-Ok.ensures).0)

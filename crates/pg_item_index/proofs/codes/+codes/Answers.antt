@@ -91,3 +91,31 @@ add_suffixes-loop-i-preserved t c =
     let xs = c.args.suffixes.now.items in
     let inside : l.i < length xs = search rules in
     lemma.written_here lemma.suffixes xs l.i c.index.result.now inside c.index.ensures c.in_ok-add_suffix.ensures l.invariant
+
+pub add_all-returns : goal.add_all-returns
+add_all-returns t c =
+    let l = c.loop-expression in
+    let last = c.add_byte in
+    subst (λ (code : List ℕ). OnOk last.result (last.new.code.items ≡ code))
+    (lemma.written_all lemma.expressions c.deref-expression-items.result.now c.args.expressions.now.items l.expression-index c.deref-expression-items.ensures.value c.loop-expression-test.false l.invariant) last.ensures
+
+pub add_pairs-returns : goal.add_pairs-returns
+add_pairs-returns t c =
+    let l = c.loop-pair in
+    let last = c.add_byte-2 in
+    subst (λ (code : List ℕ). OnOk last.result (last.new.code.items ≡ code))
+    (lemma.written_all lemma.pairs c.deref-pair-items.result.now c.args.pairs.now.items l.pair-index c.deref-pair-items.ensures.value c.loop-pair-test.false l.invariant) last.ensures
+
+pub add_whens-returns : goal.add_whens-returns
+add_whens-returns t c =
+    let l = c.loop-when in
+    let last = c.add_byte in
+    subst (λ (code : List ℕ). OnOk last.result (last.new.code.items ≡ code))
+    (lemma.written_all lemma.whens c.deref-when-items.result.now c.args.whens.now.items l.when-index c.deref-when-items.ensures.value c.loop-when-test.false l.invariant) last.ensures
+
+pub add_operands-returns : goal.add_operands-returns
+add_operands-returns t c =
+    let l = c.loop-operand in
+    let last = c.add_byte-2 in
+    subst (λ (code : List ℕ). OnOk last.result (last.new.code.items ≡ code))
+    (lemma.written_all lemma.operands c.deref-operand-items.result.now c.args.operands.now.items l.operand-index c.deref-operand-items.ensures.value c.loop-operand-test.false l.invariant) last.ensures

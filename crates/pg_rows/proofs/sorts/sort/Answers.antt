@@ -1,4 +1,4 @@
-use Rattle.std.proofs.Common.{◌≡◌, ◌+◌, ◌++◌, ◌∷◌, [], length, map, sym, ap, subst, ◌∙◌, rules, arith}
+use Rattle.std.proofs.Common.{◌≡◌, ◌<◌, ◌+◌, ℕ, List, ◌++◌, ◌∷◌, [], length, map, take, get_or, take-suc, add-one, sym, ap, subst, ◌∙◌, rules, arith}
 use Rattle.pg_value_core.specs.View.{view}
 use Rattle.pg_rows.proofs.Keyed.{entry_of, entry_order, numbered_more, all_numbered, sorted_entries}
 use Rattle.pg_rows.proofs.Places.{sorted_below}
@@ -8,6 +8,11 @@ use Rattle.std.specs.Ordering.{is_lt}
 use Rattle.pg_rows.specs.Sorts.{keyed_below, key_order}
 use Rattle.pg_rows.specs.Tables.{table, EachBelow}
 use Rattle.pg_rows.proofs.sorts.sort.Goals as goal
+
+map_next : {X Y : Type 0} (f : X → Y) (xs : List X) (i : ℕ) (x : X) → i < length xs → x ≡ get_or xs i x → map f (take i xs) ++ f x ∷ [] ≡ map f (take (i + 1) xs)
+map_next f xs i x inside e =
+    ap (λ y. map f (take i xs) ++ f y ∷ []) e ∙ sym (map_append f (take i xs) (get_or xs i x ∷ []))
+    ∙ ap (map f) (sym (take-suc xs i x inside)) ∙ ap (λ n. map f (take n xs)) (sym (add-one i))
 
 pub loop-at-preserved : goal.loop-at-preserved
 loop-at-preserved c =
@@ -32,3 +37,20 @@ returns-clause-places c =
 
 pub returns-clause-below : goal.returns-clause-below
 returns-clause-below c = subst (EachBelow (length (table c.args.keys.now))) (sym (returns-clause-places c)) (sorted_below c.args.descending.now (table c.args.keys.now))
+
+pub loop-at-init : goal.loop-at-init
+loop-at-init c = ap (map entry_of) c.in_ok-entries.ensures.items
+
+pub loop-entry-init : goal.loop-entry-init
+loop-entry-init c = c.in_ok-places.ensures.items
+
+pub loop-entry-preserved : goal.loop-entry-preserved
+loop-entry-preserved c =
+    let l = c.loop-entry in
+    let entry = c.entry-item.result in
+    c.in_ok-push-2.ensures.items
+    ∙ ap (λ ns. ns ++ entry.1 ∷ []) l.invariant
+    ∙ map_next (λ e. e.1) c.deref-entry-items.result.now l.entry-index entry c.loop-entry-test.true c.entry-item.is
+
+pub row-requires : goal.row-requires
+row-requires c = subst (λ n. c.loop-at.at < n) c.len-at-end.ensures c.loop-at-test.true

@@ -1,10 +1,16 @@
-use Rattle.std.proofs.Common.{ℕ, ◌+◌, ◌*◌, ◌<◌, ◌≤◌, ◌++◌, length, map, drop, get_or, sym, ap, subst, ◌∙◌, rules}
-use Rattle.std.proofs.lemmas.List.{length-map}
+use Rattle.std.proofs.Common.{◌≡◌, ℕ, ◌+◌, ◌*◌, ◌<◌, ◌≤◌, ◌++◌, length, map, drop, get_or, refl, sym, ap, subst, ◌∙◌, rules, arith}
+use Rattle.std.proofs.lemmas.List.{append-nil, drop_all, length-map}
 use Rattle.pg_value_core.specs.View.{view}
 use Rattle.pg_rows.proofs.Moved.{below_at, pick_step, seen_left, seen_moved, length_more}
 use Rattle.pg_rows.proofs.Tabled.{length_rows, row_within}
-use Rattle.pg_rows.specs.Tables.{rows_of, moved_rows, EachBelow}
+use Rattle.pg_rows.specs.Tables.{rows_of, table, moved_rows, EachBelow}
 use Rattle.pg_rows.proofs.table.Rows.pick.Goals as goal
+
+none_yet : (w : ℕ) → 0 ≡ 0 * w
+none_yet w = omega arith
+
+level : (a b : ℕ) → a ≤ b → b ≤ a → a ≡ b
+level a b h k = omega arith
 
 pub overflow_mul-place : goal.overflow_mul-place
 overflow_mul-place c =
@@ -45,3 +51,28 @@ loop-place-preserved c =
       c.loop-place.invariant.2,
       c.loop-place.invariant.3,
     )
+
+pub loop-place-init : goal.loop-place-init
+loop-place-init c = (refl, ap length c.in_ok-moved.ensures.items ∙ none_yet c.args.self.now.width, refl, refl)
+
+pub invariant_of-self : goal.invariant_of-self
+invariant_of-self c = record { sized = c.move_row.ensures.len ∙ c.loop-place.self.sized }
+
+pub invariant_of-result : goal.invariant_of-result
+invariant_of-result c =
+    let l = c.loop-place in
+    record { sized = l.invariant.1 ∙ ap (λ n. n * l.self.width) (level l.place-index (length c.args.places.now) l.auto.place-index-end c.loop-place-test.false) }
+
+pub returns-clause-rows : goal.returns-clause-rows
+returns-clause-rows c =
+    let l = c.loop-place in
+    let ps = c.args.places.now in
+    let width : ℕ = l.self.width in
+    let seen = map view l.moved.items in
+    ap (λ n. rows_of width n seen) (sym (level l.place-index (length ps) l.auto.place-index-end c.loop-place-test.false))
+    ∙ sym (append-nil (rows_of width l.place-index seen))
+    ∙ ap (λ qs. rows_of width l.place-index seen ++ moved_rows width (table l.self) qs) (sym (drop_all l.place-index ps c.loop-place-test.false))
+    ∙ l.invariant.0
+
+pub returns-clause-width : goal.returns-clause-width
+returns-clause-width c = c.loop-place.invariant.2

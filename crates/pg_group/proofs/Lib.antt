@@ -1,3 +1,4 @@
+pub mod Apart
 pub mod Best
 pub mod Cells
 pub mod Different
@@ -6,6 +7,7 @@ pub mod Folding
 pub mod Grouping
 pub mod Lifts
 pub mod Measures
+pub mod Merging
 pub mod Numbered
 pub mod Ranges
 pub mod RowLemmas

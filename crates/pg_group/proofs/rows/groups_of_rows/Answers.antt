@@ -1,5 +1,5 @@
-use Rattle.std.proofs.Common.{◌≡◌, Err, map, sym, ap, ◌∙◌}
-use Rattle.pg_group.proofs.Turns.{step_on, step_fault}
+use Rattle.std.proofs.Common.{◌≡◌, ◌≤◌, Err, map, sym, ap, subst, ◌∙◌}
+use Rattle.pg_group.proofs.Turns.{none_left, step_on, step_fault}
 use Rattle.pg_group.specs.Items.{aggregates_in, expressions_view, keys_in}
 use Rattle.pg_group.specs.Kept.{answers_at, first_kept, kept_row, kept_rows}
 use Rattle.pg_group.specs.KeptGroups.{groups_view}
@@ -32,3 +32,12 @@ pub loop-at-init : goal.loop-at-init
 loop-at-init g c =
     let es = expressions_view c.args.expressions.now.items in
     ap (λ gs. kept_rows (parameters_view c.args.parameters.now) c.args.graph.now c.args.names.now es gs (table c.args.rows.now)) (sym (c.in_ok-groups.ensures c.args.names.now ∙ (λ i. first_kept (c.requires.keys i) (c.requires.aggregates i))))
+
+pub returns : goal.returns
+returns g c =
+    let es = expressions_view c.args.expressions.now.items in
+    let none = none_left (table c.args.rows.now) c.loop-at.at (subst (λ n. n ≤ c.loop-at.at) c.len-at-end.ensures c.loop-at-test.false) in
+    record {
+      ok = c.loop-at.invariant ∙ ap (kept_rows (parameters_view c.args.parameters.now) c.args.graph.now c.args.names.now es (groups_view c.loop-at.groups)) none;
+      err = tt;
+    }

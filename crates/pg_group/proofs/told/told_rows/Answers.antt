@@ -1,5 +1,5 @@
-use Rattle.std.proofs.Common.{◌++◌, ◌∷◌, [], append_assoc, map, sym, ap, ◌∙◌}
-use Rattle.std.proofs.lemmas.List.{append-nil}
+use Rattle.std.proofs.Common.{◌≡◌, List, ◌++◌, ◌∷◌, [], append_assoc, map, refl, sym, ap, ◌∙◌}
+use Rattle.std.proofs.lemmas.List.{append-nil, nil_from_length}
 use Rattle.std.proofs.lemmas.Result.{IfOk-from_err}
 use Rattle.std.specs.Global.{Vec}
 use Rattle.std.specs.Vec.Iter.{into_iter_items}
@@ -7,10 +7,36 @@ use Rattle.pg_group.specs.Kept.{Kept, merged, told_each}
 use Rattle.pg_group.specs.KeptGroups.{groups_of}
 use Rattle.pg_group.specs.Views.{takens_view}
 use Rattle.pg_group.specs.declared.taken.Taken.{Taken}
+use Rattle.pg_meaning.specs.Value.{Value}
 use Rattle.pg_rows.specs.Groups.{keys_view}
 use Rattle.pg_rows.specs.Tables.{table}
 use Rattle.pg_value_core.specs.View.{view}
 use Rattle.pg_group.proofs.told.told_rows.Goals as goal
+
+no_groups : (keys : List (List Value)) → groups_of keys [] ≡ []
+no_groups [] = refl
+no_groups (k ∷ ks) = refl
+
+pub loop-key-init : goal.loop-key-init
+loop-key-init c =
+    let kinds = c.args.are_aggregates.now.items in
+    let row_of = λ (k : Kept). merged kinds k.key (told_each k.taken) in
+    let seen = λ (ts : Vec Taken). takens_view ts.items in (
+      (λ i. c.new-found.ensures.rows i ++ map row_of (groups_of (keys_view (c.into_iter-key-iterator.ensures.into_iter_gives.0 i)) (map seen (c.into_iter-left.ensures.rest i)))),
+      c.new-found.ensures.width ∙ c.len.ensures ∙ c.args.are_aggregates.now.ok.0,
+    )
+
+pub returns-in_default-clause-rows : goal.returns-in_default-clause-rows
+returns-in_default-clause-rows c =
+    let l = c.loop-key in
+    let kinds = c.args.are_aggregates.now.items in
+    let found = table l.found in
+    let row_of = λ (k : Kept). merged kinds k.key (told_each k.taken) in
+    let seen = λ (ts : Vec Taken). takens_view ts.items in
+    let none = nil_from_length (into_iter_items l.left) (sym l.left.rest.ok.0 ∙ c.in_default.ensures.cases.0) in
+    sym (append-nil found)
+    ∙ ap (λ gs. found ++ map row_of gs) (sym (ap (λ ts. groups_of (keys_view l.key-iterator) (map seen ts)) none ∙ no_groups (keys_view l.key-iterator)))
+    ∙ l.invariant.0
 
 pub returns-in_default-clause-width : goal.returns-in_default-clause-width
 returns-in_default-clause-width c = c.loop-key.invariant.1

@@ -1,16 +1,24 @@
-use Rattle.std.proofs.Common.{rules, ◌≡◌, Err, ap, ◌∙◌}
+use Rattle.std.proofs.Common.{◌≡◌, ap, ◌∙◌}
 use Rattle.std.specs.Global.{Vec}
 use Rattle.std.specs.List.{list_any}
+use Rattle.pg_group.proofs.ExitLemmas.{fault_given, memory_given}
 use Rattle.pg_group.proofs.Numbered.{put_known, put_new, taken, refused, into, put, same_keys}
-use Rattle.pg_group.specs.Kept.{all_taken_in}
+use Rattle.pg_group.specs.KeptGroups.{groups_view}
 use Rattle.pg_group.specs.ReadyItems.{aggregates_view}
 use Rattle.pg_group.specs.Sites.{answers}
-use Rattle.pg_group.specs.Views.{takens_view}
 use Rattle.pg_group.specs.declared.taken.Taken.{Taken}
-use Rattle.pg_meaning.specs.declared.fault.Fault.{Fault}
 use Rattle.pg_rows.proofs.Occurrences.{fresh, known}
 use Rattle.pg_group.proofs.groups.Groups.with_row.Goals as goal
 use Rattle.pg_group.proofs.groups.Groups.with_row.Goals.{then-is_new+in_ok-begun+in_ok-push, else-is_new}
+
+pub returns-in_err-number : goal.returns-in_err-number
+returns-in_err-number g c = memory_given _ groups_view c.from_residual.result c.from_residual.ensures.1
+
+pub returns-in_err-begun : goal.returns-in_err-begun
+returns-in_err-begun g c = memory_given _ groups_view c.from_residual-in_err-begun.result c.from_residual-in_err-begun.ensures.1
+
+pub returns-in_err-push : goal.returns-in_err-push
+returns-in_err-push g c = memory_given _ groups_view c.from_residual-in_err-push.result c.from_residual-in_err-push.ensures.1
 
 pub returns-in_err-take_in_all : goal.returns-in_err-take_in_all
 returns-in_err-take_in_all g c =
@@ -26,12 +34,9 @@ returns-in_err-take_in_all g c =
       | then-is_new+in_ok-begun+in_ok-push w ↦ put_new at aggregates c.args.key c.args.self.keys.keys c.insert_full.new.self.keys c.args.self.taken.items c.args.self.paired e.keys n e.index now old w.in_ok-begun.field-0 (fresh there c.in_ok-number.is_new e.added w.if-is_new.true) (ap (λ (v : Vec (Vec Taken)). v.items) w.taken-is ∙ w.in_ok-push.ensures.items) (w.in_ok-begun.ensures c.args.site.now.names.now) c.index_mut.ensures.value
       | else-is_new w ↦ put_known at aggregates c.args.key c.args.self.keys.keys c.insert_full.new.self.keys c.args.self.taken.items c.args.self.paired e.keys n e.index now old (known there c.in_ok-number.is_new e.added w.if-is_new.false) (ap (λ (v : Vec (Vec Taken)). v.items) w.taken-is) c.index_mut.ensures.value
     ] in
-    let faulty : (f : Fault) → all_taken_in at aggregates (takens_view old.items) ≡ Err f → into at aggregates c.args.key c.args.self.keys.keys c.insert_full.new.self.keys c.args.self.taken.items c.args.self.paired e.keys n e.index ≡ Err f =
-    λ f h. refused at aggregates c.args.key c.args.self.keys.keys c.insert_full.new.self.keys c.args.self.taken.items c.args.self.paired e.keys n e.index now old f stands h in
-    record {
-      ok = search rules;
-      err = search (rules, faulty);
-    }
+    let f = c.in_err-take_in_all.field-0.0 in
+    fault_given _ groups_view f c.from_residual-in_err-take_in_all.result c.from_residual-in_err-take_in_all.ensures.1
+    (λ other. refused at aggregates c.args.key c.args.self.keys.keys c.insert_full.new.self.keys c.args.self.taken.items c.args.self.paired e.keys n e.index now old f stands (c.in_err-take_in_all.ensures.err other))
 
 pub returns : goal.returns
 returns g c =

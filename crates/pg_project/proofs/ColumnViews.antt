@@ -1,6 +1,6 @@
 -- The columns of the program are those of the definitions.
-use Rattle.std.proofs.Common.{◌≡◌, ℕ, ◌+◌, ◌≤◌, List, [], ◌∷◌, ◌++◌, Bor, Ordering, Less, Equal, Greater, map, length, drop, slice_get, Option, Some, None, refl, sym, ap, ◌∙◌, arith}
-use Rattle.std.proofs.lemmas.List.{length-append, length-map}
+use Rattle.std.proofs.Common.{◌≡◌, ℕ, ◌+◌, ◌<◌, ◌≤◌, List, [], ◌∷◌, ◌++◌, Bor, Ordering, Less, Equal, Greater, map, length, drop, get_or, slice_get, Option, Some, None, refl, sym, ap, subst, ◌∙◌, arith}
+use Rattle.std.proofs.lemmas.List.{drop_all, drop_more, length-append, length-map, map-append}
 use Rattle.std.specs.BTreeSet.{insert_key}
 use Rattle.std.specs.Cmp.Lexicographic.{slice_cmp}
 use Rattle.std.specs.Ordering.{nat_cmp, match_ordering}
@@ -10,7 +10,7 @@ use Rattle.pg_meaning.specs.Scopes.{column_names, star_columns, variable_column}
 use Rattle.pg_meaning.specs.Tree.{Expression, variable, Item, Projection}
 use Rattle.pg_project.proofs.InTurn.{drop_here, drop_none, joined, nothing_behind}
 use Rattle.pg_project.specs.Columns.{column_of, columns_view, naming_columns, star_names, texts_of, trees_in, values_in_items, variable_tree, variable_trees}
-use Rattle.pg_group.specs.Items.{columns_of}
+use Rattle.pg_group.specs.Items.{columns_of, expressions_view}
 use Rattle.pg_syntax_tree.specs.View.{expression_view, item_view, name_view, view_step}
 use Rattle.pg_syntax_tree.specs.declared.expression.Expression.{Expression as Code}
 use Rattle.pg_syntax_tree.specs.declared.expression.Expression.TheFolds.{fold-roll-Expression}
@@ -91,3 +91,21 @@ view_names c =
     let values = values_in_items (map item_view items) in
     let long : length values ≡ length items = length-map (map item_view items) (λ (i : Item). i.value) ∙ length-map items item_view in
     names_are c.names (trees ++ values) (c.paired ∙ sym (length-append trees values ∙ (λ i. length-map c.starred.items expression_view i + long i)))
+
+-- trees are put behind others, one after the other of a list that is lent
+module _ {S : Type 0} (lent ss : List S) (same : lent ≡ ss) (left : List S → List Expression) (i : ℕ) (found : List (Bor Code)) (whole : List Expression) (so_far : expressions_view found ++ left (drop i ss) ≡ whole) where
+  pub tree_pushed : (s : S) → i < length lent → s ≡ get_or lent i s → (more : List (Bor Code)) (e : Bor Code) → more ≡ found ++ e ∷ [] → left (s ∷ drop (i + 1) ss) ≡ expression_view e.now ∷ left (drop (i + 1) ss)
+      → expressions_view more ++ left (drop (i + 1) ss) ≡ whole
+  tree_pushed s within is more e pushed first =
+      let rest = left (drop (i + 1) ss) in
+      let next : drop i ss ≡ s ∷ drop (i + 1) ss = drop_more ss i s (subst (λ (ys : List S). i < length ys) same within) ∙ ap (λ y. y ∷ drop (i + 1) ss) (sym (is ∙ ap (λ (ys : List S). get_or ys i s) same)) in
+      ap (λ es. es ++ rest) (ap expressions_view pushed ∙ map-append (λ x. expression_view x.now) found (e ∷ []))
+      ∙ joined (expressions_view found) (expression_view e.now) rest
+      ∙ ap (λ es. expressions_view found ++ es) (sym (ap left next ∙ first))
+      ∙ so_far
+
+  pub trees_over : left [] ≡ [] → length lent ≤ i → expressions_view found ≡ whole
+  trees_over none past =
+      sym (nothing_behind (expressions_view found))
+      ∙ ap (λ es. expressions_view found ++ es) (sym (ap left (drop_all i ss (subst (λ (ys : List S). length ys ≤ i) same past)) ∙ none))
+      ∙ so_far

@@ -56,3 +56,6 @@ module _ {X Y : Type 0} (f : X → Result Y Fault) (xs : List X) (done : List Y)
 pub none_before : {Y : Type 0} (found : List Y) (a : Result (List Y) Fault) → found ≡ [] → a ≡ after found a
 none_before found (Ok ys) none = ap (λ xs. Ok (xs ++ ys)) (sym none)
 none_before found (Err e) none = refl
+
+pub met : (i n : ℕ) → i ≤ n → n ≤ i → i ≡ n
+met i n within past = omega (arith, within, past)

@@ -1,5 +1,5 @@
 -- Places in lists, as the program looks for them.
-use Rattle.std.proofs.Common.{◌≡◌, ℕ, zero, suc, ◌+◌, ◌<◌, ◌≤◌, Bool, true, cond, List, [], ◌∷◌, map, length, get_or, Err, Ok, Some, refl, ap, ◌∙◌, arith}
+use Rattle.std.proofs.Common.{◌≡◌, ℕ, zero, suc, ◌+◌, ◌<◌, ◌≤◌, Bool, true, cond, List, [], ◌∷◌, map, length, get_or, Err, Ok, Some, refl, sym, ap, ◌∙◌, arith}
 use Rattle.std.proofs.lemmas.Iterator.Adapters.{position_from-zero}
 use Rattle.std.specs.List.{position_from}
 use Rattle.std.specs.Prelude.{position, slice_index_or}
@@ -38,3 +38,14 @@ pub ordered_fails : (parameters : Entries) (graph : Graph) (names : List (List �
     → all_keys_given parameters graph names (map (λ x. key_of es x.key) (map sort_item_view order)) rows ≡ Err f → ordered_given parameters graph names es (map sort_item_view order) rows ≡ Err f
 ordered_fails parameters graph names es [] rows f some h = absurd (omega (arith, some))
 ordered_fails parameters graph names es (o ∷ os) rows f some h = ap (λ a. a >>= λ keys. Ok (rows_at_places rows (sorted_places (directions (map sort_item_view (o ∷ os))) keys))) h
+
+-- the rows stay where nothing sorts them
+pub ordered_unsorted : (parameters : Entries) (graph : Graph) (names : List (List ℕ)) (es : List Expression) (order : List SortItem) (rows : List (List Datum)) → length order ≡ 0 → ordered_given parameters graph names es (map sort_item_view order) rows ≡ Ok rows
+ordered_unsorted parameters graph names es [] rows none = refl
+ordered_unsorted parameters graph names es (o ∷ os) rows none = absurd (omega (arith, none))
+
+pub ordered_done : (parameters : Entries) (graph : Graph) (names : List (List ℕ)) (es : List Expression) (order : List SortItem) (rows keys found : List (List Datum)) → 0 < length order
+    → all_keys_given parameters graph names (map (λ x. key_of es x.key) (map sort_item_view order)) rows ≡ Ok keys → found ≡ rows_at_places rows (sorted_places (directions (map sort_item_view order)) keys)
+    → ordered_given parameters graph names es (map sort_item_view order) rows ≡ Ok found
+ordered_done parameters graph names es [] rows keys found some h sorted = absurd (omega (arith, some))
+ordered_done parameters graph names es (o ∷ os) rows keys found some h sorted = ap (λ a. a >>= λ ks. Ok (rows_at_places rows (sorted_places (directions (map sort_item_view (o ∷ os))) ks))) h ∙ ap Ok (sym sorted)

@@ -49,8 +49,7 @@ fn count_at<T: Tables>(
     };
     let names = Columns::new(alloc);
     let prepared = prepare(alloc, expression, &names)?;
-    let row: Vec<Value> = Vec::new(alloc);
-    let value = evaluate(alloc, &prepared, &names, row.as_slice(), parameters, graph)?;
+    let value = evaluate(alloc, &prepared, &names, &[], parameters, graph)?;
     Ok(Some(count_of(&value)?))
 }
 

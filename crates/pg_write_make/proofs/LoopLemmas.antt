@@ -1,4 +1,4 @@
--- What the loops over nodes and hops need at a turn and at their end.
+-- What the loops over nodes and hops need at their start, at a turn and at their end.
 use Rattle.std.proofs.Common.{◌≡◌, ◌≢◌, ◌<◌, ◌≤◌, ◌+◌, ℕ, false, List, [], ◌∷◌, drop, get_or, length, append-nil, Result, Ok, Err, IfOk, IfErr, refl, sym, ap, subst, ◌∙◌}
 use Rattle.std.proofs.lemmas.List.{drop_all}
 use Rattle.std.proofs.lemmas.Option.{slice_get_read}
@@ -19,10 +19,12 @@ use Rattle.pg_syntax_tree.specs.declared.patterns.NodePattern.{NodePattern}
 use Rattle.pg_syntax_tree.specs.declared.patterns.PathPattern.{PathPattern}
 use Rattle.pg_syntax_tree.specs.declared.patterns.RelationshipPattern.{RelationshipPattern}
 use Rattle.pg_value_core.specs.declared.ids.NodeId.{NodeId}
+use Rattle.pg_value_core.specs.declared.ids.RelId.{RelId}
 use Rattle.pg_value_core.specs.declared.value.Value.{Value}
+use Rattle.pg_write_make.proofs.CreatedRowLemmas.{behind_none}
 use Rattle.pg_write_make.proofs.GrowthLemmas.{both_passed, tests_grow}
 use Rattle.pg_write_make.proofs.StepLemmas.{behind}
-use Rattle.pg_write_make.specs.Makings.{making_of, named_ids, node_ids, others_view, outcomes_view, relationships_view, AllThere, AreThere, Grows}
+use Rattle.pg_write_make.specs.Makings.{making_of, named_ids, node_ids, others_view, outcomes_view, relationship_ids, relationships_view, AllThere, AreThere, Grows}
 use Rattle.pg_write_make.proofs.RowLemmas.{drop_at}
 use Rattle.pg_write_make.specs.Outcomes.{Outcome, Outcomes, hops_made, node_of, nodes_made}
 
@@ -80,6 +82,12 @@ module _ (max : ℕ) (o : Outcome) (os : List Outcome) (p : PathPattern) (graph 
   first_refused e made = from_none ∙ ap then_others made
 
 -- ---- hops
+
+pub hops_begun : (max : ℕ) (given os : List (Result (Vec (Bor (List ℕ) × Value)) Fault)) (rs : List tree.RelationshipPattern) (left : ℕ) (ns : List ℕ) (graph : Graph) (made : List RelId) → os ≡ given → made ≡ []
+    → hops_made max (outcomes_view given) rs left ns graph ≡ behind (relationship_ids made) (hops_made max (outcomes_view os) rs left ns graph)
+hops_begun max given os rs left ns graph made same none =
+    behind_none (hops_made max (outcomes_view given) rs left ns graph)
+    ∙ (λ i. behind (relationship_ids (sym none i)) (hops_made max (outcomes_view (sym same i)) rs left ns graph))
 
 -- no hop is left
 pub hops_done : (max : ℕ) (os : List Outcome) (hs : List (RelationshipPattern × NodePattern)) (i left : ℕ) (ns : List ℕ) (graph : Graph) (ids : List ℕ) (whole : Result (Graph × List ℕ) Fault)

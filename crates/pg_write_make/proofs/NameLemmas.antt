@@ -115,6 +115,12 @@ binds_one names vs ws n v bs cs whole first pushed is rest e =
       subst (λ (xs : List Value). EndsWith names xs cs) (sym pushed) one.0,
     )
 
+pub binds_none : (names : Texts) (vs : List Value) (n : List ℕ) (v : Value) (bs cs : List Binding) (whole : Row) → bs ≡ (Some n, v) ∷ cs → is_some (value_in n (row_of names vs)) ≡ true → whole ≡ bind_each bs (row_of names vs) → EndsWith names vs bs
+    → (whole ≡ bind_each cs (row_of names vs)) × EndsWith names vs cs
+binds_none names vs n v bs cs whole first is rest e =
+    let none = bound_already names vs n v cs is (subst (λ (xs : List Binding). EndsWith names vs xs) first e) in
+    (rest ∙ ap (λ xs. bind_each xs (row_of names vs)) first ∙ ap (bind_each cs) none.1, none.0)
+
 -- nothing is left to be bound
 pub all_bound : (names : Texts) (vs : List Value) → EndsWith names vs [] → length vs ≡ length names
 all_bound names vs e = sym (names_len names vs e.within) ∙ ap length e.ends

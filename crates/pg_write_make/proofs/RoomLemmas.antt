@@ -1,18 +1,18 @@
--- Room for one more element.
-use Rattle.std.proofs.Common.{◌≡◌, ◌<◌, ◌≤◌, ◌^◌, ℕ, [], Bool, true, false, Ok, Err, Result, refl, subst, arith}
+-- Room for one more element, and its making.
+use Rattle.std.proofs.Common.{◌≡◌, ◌<◌, ◌≤◌, ◌^◌, ℕ, [], Bool, true, false, Ok, Err, Result, refl, sym, ap, subst, ◌∙◌, arith}
 use Rattle.std.specs.Prelude.{nat_lt, OnOk}
 use Rattle.std.proofs.lemmas.Bool.{ltb-true}
 use Rattle.pg_graph.specs.Content.{Seen}
-use Rattle.pg_meaning.specs.Answer.{unless}
+use Rattle.pg_meaning.specs.Answer.{◌>>=◌, ◌>>◌, unless}
 use Rattle.pg_meaning.specs.Graph.{Graph, element_count}
-use Rattle.pg_meaning.specs.Meters.{Setting}
+use Rattle.pg_meaning.specs.Meters.{Setting, greatest_id}
 use Rattle.pg_meaning.specs.declared.fault.Fault.{Fault}
-use Rattle.pg_meaning.specs.Value.{no_entries}
+use Rattle.pg_meaning.specs.Value.{Entries, no_entries}
 use Rattle.pg_meaning.specs.declared.fault.Fault.TheVariants.{ElementQuota}
 use Rattle.pg_store.specs.Stores.{graph_of_store, IsFit}
 use Rattle.pg_store.specs.declared.shared.Shared.{Shared}
 use Rattle.pg_store.specs.declared.store.Store.{Store}
-use Rattle.pg_write_make.specs.Outcomes.{room_for}
+use Rattle.pg_write_make.specs.Outcomes.{Outcome, room_for}
 
 -- the setting of which the quota of elements alone is read
 abbrev pub making_up_to : ℕ → Setting
@@ -36,3 +36,26 @@ few_elements seen store shared graph fit same few =
     let counted = fit.well.counted in
     let fewer = subst (λ g. element_count g < 2 ^ 63) same few in
     omega (arith, fewer, counted)
+
+pub id_left : (n next : ℕ) → n ≡ next → n < greatest_id → next < 2 ^ 63
+id_left n next same below = omega (arith, same, below)
+
+-- ---- an element from its properties, where there is room and an id for it
+
+abbrev pub made_if : Outcome → (room id : Result (Unit {0}) Fault) → (Entries → Graph) → Result Graph Fault
+made_if o room id make = o >>= λ properties. room >> (id >> Ok (make properties))
+
+module _ (o : Outcome) (room id : Result (Unit {0}) Fault) (make : Entries → Graph) where
+  pub no_properties : (e : Fault) → o ≡ Err e → made_if o room id make ≡ Err e
+  no_properties e given = λ i. made_if (given i) room id make
+
+  module _ (properties : Entries) (given : o ≡ Ok properties) where
+    pub no_room : (e : Fault) → room ≡ Err e → made_if o room id make ≡ Err e
+    no_room e full = λ i. made_if (given i) (full i) id make
+
+    module _ (free : room ≡ Ok tt) where
+      pub no_id : (e : Fault) → id ≡ Err e → made_if o room id make ≡ Err e
+      no_id e last = λ i. made_if (given i) (free i) (last i) make
+
+      pub all_there : (after : Graph) → id ≡ Ok tt → after ≡ make properties → made_if o room id make ≡ Ok after
+      all_there after next made = (λ i. made_if (given i) (free i) (next i) make) ∙ ap Ok (sym made)

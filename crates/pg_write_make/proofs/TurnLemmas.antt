@@ -177,3 +177,11 @@ module _ (items xs : List (Bor NodePattern)) (i : ℕ) (x : Bor NodePattern) (sa
 
   pub none_counts : makes ≡ false → more ≡ count → (whole ≡ more + left) × (more ≤ i + 1)
   none_counts is next = (counted ∙ ap (λ b. count + count_one b left) is ∙ ap (λ k. k + left) (sym next), few_still count more i next few)
+
+pub all_counted : (items xs : List (Bor NodePattern)) (i : ℕ) (same : items ≡ xs) → length items ≤ i → (seen : Names) (count whole : ℕ) → whole ≡ count + count_nodes seen (patterns_view (drop i xs)) → count ≡ whole
+all_counted items xs i same past seen count whole so_far =
+    let all = so_far ∙ ap (λ ys. count + count_nodes seen (patterns_view ys)) (drop_all i xs (past_same items xs i same past)) in
+    omega (arith, all)
+
+pub few_in : (count i n : ℕ) → count ≤ i → i ≤ n → count ≤ n
+few_in count i n few within = omega (arith, few, within)

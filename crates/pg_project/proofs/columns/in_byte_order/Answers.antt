@@ -3,6 +3,7 @@ use Rattle.pg_meaning.specs.Names.{put_texts}
 use Rattle.pg_project.proofs.ColumnViews.{text_inserted}
 use Rattle.pg_project.proofs.InTurn.{drop_here}
 use Rattle.pg_project.specs.Columns.{texts_of}
+use Rattle.std.proofs.lemmas.Result.{IfOk-from_err}
 use Rattle.pg_project.proofs.columns.in_byte_order.Goals as goal
 
 pub loop-at-preserved : goal.loop-at-preserved
@@ -14,3 +15,18 @@ loop-at-preserved c =
     ∙ ap (put_texts rest) (text_inserted l.texts.keys c.name.result)
     ∙ sym (ap (λ ns. put_texts ns (texts_of l.texts.keys)) (drop_here scope l.at c.name.result.now c.name.ensures))
     ∙ l.invariant
+
+pub returns-in_err-insert : goal.returns-in_err-insert
+returns-in_err-insert c = IfOk-from_err c.from_residual.result _ c.from_residual.ensures.0
+
+pub collect-requires-clause-can : goal.collect-requires-clause-can
+collect-requires-clause-can c = tt
+
+pub collect-requires-clause-finite : goal.collect-requires-clause-finite
+collect-requires-clause-finite c = tt
+
+pub collect-requires-clause-can_collect : goal.collect-requires-clause-can_collect
+collect-requires-clause-can_collect c = λ xs t yields. tt
+
+pub loop-at-init : goal.loop-at-init
+loop-at-init c = ap (λ keys. put_texts c.args.scope.now (texts_of keys)) c.new-texts.ensures.empty

@@ -1,11 +1,11 @@
-use Rattle.std.proofs.Common.{◌≡◌, ◌+◌, ◌∷◌, [], map, length, drop, Err, ap, ◌∙◌}
+use Rattle.std.proofs.Common.{◌≡◌, ◌+◌, ◌∷◌, [], map, length, drop, Err, ap, ◌∙◌, subst, ◌≤◌, ◌<◌}
 use Rattle.std.proofs.lemmas.List.{length-append}
 use Rattle.std.proofs.lemmas.Result.{IfOk-from_err}
 use Rattle.pg_expr.specs.Prepared.{tree_of}
 use Rattle.pg_meaning.specs.declared.fault.Fault.{Fault}
 use Rattle.pg_expr.proofs.ExitLemmas.{fault_passed}
 use Rattle.pg_project.proofs.ExitLemmas.{memory_passed}
-use Rattle.pg_project.proofs.InTurn.{after, one_more, one_fault, none_before}
+use Rattle.pg_project.proofs.InTurn.{after, one_more, one_fault, none_before, no_more, met}
 use Rattle.pg_project.proofs.Unwinding.{lists_more}
 use Rattle.pg_project.specs.Unwound.{list_given, lists_given, lists_view}
 use Rattle.pg_rows.specs.Tables.{table}
@@ -65,3 +65,12 @@ loop-at-init g c =
 
 pub returns-clause-err : goal.returns-clause-err
 returns-clause-err g c = tt
+
+pub row-requires : goal.row-requires
+row-requires g c = subst (λ n. c.loop-at.at < n) c.len-at-end.ensures c.loop-at-test.true
+
+pub returns-clause-ok : goal.returns-clause-ok
+returns-clause-ok g c = no_more (list_given (parameters_view c.args.parameters.now) c.args.graph.now (tree_of c.args.names.now c.args.prepared.now) c.args.names.now) (table c.args.rows.now) (lists_view c.loop-at.lists.items) c.loop-at.at c.loop-at.invariant.0 (subst (λ n. n ≤ c.loop-at.at) c.len-at-end.ensures c.loop-at-test.false)
+
+pub returns-clause-len : goal.returns-clause-len
+returns-clause-len g c = c.loop-at.invariant.1 ∙ met c.loop-at.at c.len-at-end.result c.loop-at.auto.at-end c.loop-at-test.false ∙ c.len-at-end.ensures

@@ -1,6 +1,6 @@
-use Rattle.std.proofs.Common.{◌≡◌, ◌||◌, ◌++◌, length, map, option_map, Ok, Err, sym, ap, subst, ◌∙◌}
-use Rattle.std.proofs.lemmas.List.{length-map}
-use Rattle.std.proofs.lemmas.Result.{IfOk-from_err}
+use Rattle.std.proofs.Common.{◌≡◌, ◌||◌, ◌++◌, length, map, option_map, Ok, Err, sym, ap, subst, ◌∙◌, ◌≤◌, List, arith}
+use Rattle.std.proofs.lemmas.List.{length-map, length-append}
+use Rattle.std.proofs.lemmas.Result.{IfOk-from_err, IfOk-weaker}
 use Rattle.pg_meaning.specs.Projections.{item_rows}
 use Rattle.pg_meaning.specs.declared.fault.Fault.{Fault}
 use Rattle.pg_expr.proofs.ExitLemmas.{fault_passed}
@@ -17,6 +17,9 @@ use Rattle.pg_syntax_tree.specs.View.{expression_view, projection_view}
 use Rattle.pg_value_core.specs.Given.{parameters_view}
 use Rattle.pg_project.proofs.ExitLemmas.{memory_passed}
 use Rattle.pg_project.proofs.parts.projected_rows.Goals as goal
+
+first_of : {X Y : Type 0} (items : List X) (columns more names : List Y) → length items ≡ length columns → names ≡ columns ++ more → length items ≤ length names
+first_of items columns more names long same = omega (arith, long, ap length same, length-append columns more)
 
 pub returns-in_err-wide-clause-gives : goal.returns-in_err-wide-clause-gives
 returns-in_err-wide-clause-gives g c = λ s given.
@@ -84,3 +87,15 @@ returns-in_err-cut-clause-width g c = IfOk-from_err c.from_residual-in_err-cut.r
 
 pub returns-in_err-wide-clause-width : goal.returns-in_err-wide-clause-width
 returns-in_err-wide-clause-width g c = IfOk-from_err c.from_residual-in_err-wide.result _ c.from_residual-in_err-wide.ensures.0
+
+pub item_rows-requires-clause-items : goal.item_rows-requires-clause-items
+item_rows-requires-clause-items g c = c.in_ok-items.ensures.len
+
+pub ended_rows-requires : goal.ended_rows-requires
+ended_rows-requires g c =
+    let columns = c.args.columns.now.names in
+    let earlier = earlier_names (has_aggregate (expressions_view c.in_ok-items.items.items) || c.hides_earlier.result) c.args.names.now in
+    first_of c.in_ok-items.items.items columns earlier (seen c.in_ok-wide.wide).names c.in_ok-items.ensures.len c.in_ok-wide.ensures.names
+
+pub returns-clause-width : goal.returns-clause-width
+returns-clause-width g c = IfOk-weaker c.ended_rows.result _ _ (λ found wide. wide ∙ c.in_ok-items.ensures.len) c.ended_rows.ensures.width

@@ -1,10 +1,10 @@
-use Rattle.std.proofs.Common.{◌≡◌, ◌+◌, ◌∷◌, [], map, length, drop, Err, sym, ap, ◌∙◌}
+use Rattle.std.proofs.Common.{◌≡◌, ◌+◌, ◌∷◌, [], map, length, drop, Err, sym, ap, ◌∙◌, subst, ◌≤◌, ◌<◌}
 use Rattle.std.proofs.lemmas.List.{length-append}
 use Rattle.std.proofs.lemmas.Result.{IfOk-from_err}
 use Rattle.pg_meaning.specs.declared.fault.Fault.{Fault}
 use Rattle.pg_expr.proofs.ExitLemmas.{fault_passed}
 use Rattle.pg_project.proofs.ExitLemmas.{memory_passed}
-use Rattle.pg_project.proofs.InTurn.{after, one_more, one_fault}
+use Rattle.pg_project.proofs.InTurn.{after, one_more, one_fault, no_more, none_before, met}
 use Rattle.pg_project.specs.Given.{all_keys_given, keys_given}
 use Rattle.pg_project.specs.Sources.{sources_view}
 use Rattle.pg_rows.specs.Tables.{table}
@@ -58,3 +58,26 @@ returns-in_err-push_from-clause-err g c = memory_passed _ c.from_residual-in_err
 
 pub returns-clause-err : goal.returns-clause-err
 returns-clause-err g c = tt
+
+pub loop-at-init : goal.loop-at-init
+loop-at-init g c = (
+  none_before (table c.new-found.result) (all_keys_given (parameters_view c.args.parameters.now) c.args.graph.now c.args.names.now (sources_view c.args.names.now c.args.sources.now.items) (table c.args.rows.now)) c.new-found.ensures.rows,
+  ap length c.new-found.ensures.rows,
+  c.new-found.ensures.width ∙ c.len.ensures ∙ c.args.sources.now.ok.0,
+  c.in_ok-keys.ensures.items,
+)
+
+pub row-requires : goal.row-requires
+row-requires g c = subst (λ n. c.loop-at.at < n) c.len-at-end.ensures c.loop-at-test.true
+
+pub push_keys-requires : goal.push_keys-requires
+push_keys-requires g c = c.loop-at.invariant.3
+
+pub push_from-requires : goal.push_from-requires
+push_from-requires g c = c.in_ok-push_keys.ensures.len ∙ sym c.loop-at.invariant.2
+
+pub returns-clause-ok : goal.returns-clause-ok
+returns-clause-ok g c = no_more (keys_given (parameters_view c.args.parameters.now) c.args.graph.now c.args.names.now (sources_view c.args.names.now c.args.sources.now.items)) (table c.args.rows.now) (table c.loop-at.found) c.loop-at.at c.loop-at.invariant.0 (subst (λ n. n ≤ c.loop-at.at) c.len-at-end.ensures c.loop-at-test.false)
+
+pub returns-clause-len : goal.returns-clause-len
+returns-clause-len g c = c.loop-at.invariant.1 ∙ met c.loop-at.at c.len-at-end.result c.loop-at.auto.at-end c.loop-at-test.false ∙ c.len-at-end.ensures

@@ -16,3 +16,6 @@ returns-in_err-found-clause-rows c = IfOk-from_err c.from_residual-in_err-found.
 
 pub returns-clause-names : goal.returns-clause-names
 returns-clause-names c = ap (λ t. t.names) c.new.ensures ∙ c.in_ok-add.ensures.added
+
+pub new-requires : goal.new-requires
+new-requires c = c.in_ok-found.ensures.width ∙ c.len.ensures

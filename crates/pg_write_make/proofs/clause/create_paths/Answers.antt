@@ -1,5 +1,5 @@
 use Rattle.std.proofs.Common.{◌≡◌, Ok, Err, length, take, refl, sym, ap, ◌∙◌}
-use Rattle.std.proofs.lemmas.Result.{err_from_is_err_and}
+use Rattle.std.proofs.lemmas.Result.{err_from_is_err_and, IfOk-from_err}
 use Rattle.pg_meaning.specs.Patterns.{add_path_names}
 use Rattle.pg_meaning.specs.Updates.{count_new, create_clause}
 use Rattle.pg_meaning.specs.declared.fault.Fault.{Fault}
@@ -12,6 +12,7 @@ use Rattle.pg_write_make.proofs.ClauseLemmas.{clause_done, clause_fault, clause_
 use Rattle.pg_write_make.proofs.ShapeLemmas.{first_kept}
 use Rattle.pg_write_make.specs.Creations.{rows_created}
 use Rattle.pg_write_make.specs.Lent.{paths_view}
+use Rattle.pg_write_make.proofs.ChangedLemmas.{unchanged}
 use Rattle.pg_write_make.proofs.clause.create_paths.Goals as goal
 
 pub create_rows-requires-clause-names : goal.create_rows-requires-clause-names
@@ -91,3 +92,57 @@ returns-clause-gives g c =
           ∙ ap (λ u. Ok (state_of after u steps)) (sym c.new.ensures);
       err = tt;
     }
+
+pub returns-in_err-count-clause-names : goal.returns-in_err-count-clause-names
+returns-in_err-count-clause-names g c = IfOk-from_err c.from_residual.result _ c.from_residual.ensures.0
+
+pub returns-in_err-count-clause-changed : goal.returns-in_err-count-clause-changed
+returns-in_err-count-clause-changed g c = unchanged g.T.Tables.seen c.args.store.now c.args.shared.now c.requires.fit
+
+pub returns-in_err-count-clause-limit : goal.returns-in_err-count-clause-limit
+returns-in_err-count-clause-limit g c = refl
+
+pub returns-in_err-spend_for_rows-clause-names : goal.returns-in_err-spend_for_rows-clause-names
+returns-in_err-spend_for_rows-clause-names g c = IfOk-from_err c.from_residual-in_err-spend_for_rows.result _ c.from_residual-in_err-spend_for_rows.ensures.0
+
+pub returns-in_err-spend_for_rows-clause-changed : goal.returns-in_err-spend_for_rows-clause-changed
+returns-in_err-spend_for_rows-clause-changed g c = unchanged g.T.Tables.seen c.args.store.now c.args.shared.now c.requires.fit
+
+pub returns-in_err-spend_for_rows-clause-limit : goal.returns-in_err-spend_for_rows-clause-limit
+returns-in_err-spend_for_rows-clause-limit g c = c.spend_for_rows.ensures.limit
+
+pub returns-in_err-bind_names-clause-names : goal.returns-in_err-bind_names-clause-names
+returns-in_err-bind_names-clause-names g c = IfOk-from_err c.from_residual-in_err-bind_names.result _ c.from_residual-in_err-bind_names.ensures.0
+
+pub returns-in_err-bind_names-clause-changed : goal.returns-in_err-bind_names-clause-changed
+returns-in_err-bind_names-clause-changed g c = unchanged g.T.Tables.seen c.args.store.now c.args.shared.now c.requires.fit
+
+pub returns-in_err-bind_names-clause-limit : goal.returns-in_err-bind_names-clause-limit
+returns-in_err-bind_names-clause-limit g c = c.spend_for_rows.ensures.limit
+
+pub returns-in_err-made-clause-names : goal.returns-in_err-made-clause-names
+returns-in_err-made-clause-names g c = IfOk-from_err c.from_residual-in_err-made.result _ c.from_residual-in_err-made.ensures.0
+
+pub returns-in_err-made-clause-changed : goal.returns-in_err-made-clause-changed
+returns-in_err-made-clause-changed g c = c.create_rows.ensures.changed
+
+pub returns-in_err-made-clause-limit : goal.returns-in_err-made-clause-limit
+returns-in_err-made-clause-limit g c = c.spend_for_rows.ensures.limit
+
+pub create_rows-requires-clause-fit : goal.create_rows-requires-clause-fit
+create_rows-requires-clause-fit g c = c.requires.fit
+
+pub create_rows-requires-clause-quota : goal.create_rows-requires-clause-quota
+create_rows-requires-clause-quota g c = c.requires.quota
+
+pub returns-clause-names : goal.returns-clause-names
+returns-clause-names g c =
+    ap (λ t. t.names) c.new.ensures
+    ∙ c.in_ok-bind_names.ensures.names
+    ∙ (λ i. add_path_names (paths_view (c.deref-2.ensures.value i)) (c.split-names.ensures.names i))
+
+pub returns-clause-changed : goal.returns-clause-changed
+returns-clause-changed g c = c.create_rows.ensures.changed
+
+pub returns-clause-limit : goal.returns-clause-limit
+returns-clause-limit g c = c.spend_for_rows.ensures.limit

@@ -1,8 +1,9 @@
-use Rattle.std.proofs.Common.{◌++◌}
+use Rattle.std.proofs.Common.{◌++◌, ◌≤◌, length, subst}
 use Rattle.pg_meaning.specs.Updates.{count_nodes}
 use Rattle.pg_store.specs.Stores.{texts_of}
-use Rattle.pg_write_make.proofs.TurnLemmas.{one_counts, none_counts}
+use Rattle.pg_write_make.proofs.TurnLemmas.{one_counts, none_counts, all_counted, few_in}
 use Rattle.pg_write_make.specs.Makings.{patterns_view}
+use Rattle.std.proofs.lemmas.Result.{IfOk-from_err}
 use Rattle.pg_write_make.proofs.counts.count_nodes.Goals as goal
 use Rattle.pg_write_make.proofs.counts.count_nodes.Goals.{then-branch, else-branch}
 
@@ -25,3 +26,19 @@ loop-node-preserved c =
           c.loop-node.count c.if-branch.count whole c.loop-node.invariant.rest c.loop-node.invariant.few w.if-branch.false w.count-is in
           record { rest = both.0; few = both.1 }
     ]
+
+pub returns-in_err-makes_node-clause-count : goal.returns-in_err-makes_node-clause-count
+returns-in_err-makes_node-clause-count c = IfOk-from_err c.from_residual.result _ c.from_residual.ensures.0
+
+pub returns-in_err-makes_node-clause-few : goal.returns-in_err-makes_node-clause-few
+returns-in_err-makes_node-clause-few c = IfOk-from_err c.from_residual.result _ c.from_residual.ensures.0
+
+pub returns-clause-count : goal.returns-clause-count
+returns-clause-count c =
+    all_counted c.deref-node-items.result.now c.args.nodes.now.items c.loop-node.node-index c.deref-node-items.ensures.value c.loop-node-test.false (texts_of c.loop-node.seen.items ++ c.args.names.now) c.loop-node.count
+    (count_nodes c.args.names.now (patterns_view c.args.nodes.now.items)) c.loop-node.invariant.rest
+
+pub returns-clause-few : goal.returns-clause-few
+returns-clause-few c =
+    let items = c.deref-node-items.result.now in
+    subst (λ ns. c.loop-node.count ≤ length ns) c.deref-node-items.ensures.value (few_in c.loop-node.count c.loop-node.node-index (length items) c.loop-node.invariant.few c.loop-node.auto.node-index-end)

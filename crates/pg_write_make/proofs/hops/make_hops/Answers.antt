@@ -1,15 +1,17 @@
-use Rattle.std.proofs.Common.{◌≡◌, ◌<◌, ◌∷◌, arith, drop, get_or, inl, inr, length}
+use Rattle.std.proofs.Common.{◌≡◌, ◌<◌, ◌∷◌, arith, drop, get_or, inl, inr, length, refl}
 use Rattle.std.proofs.lemmas.List.{nil_from_length}
-use Rattle.std.proofs.lemmas.Result.{err_from_is_err_and}
+use Rattle.std.proofs.lemmas.Result.{err_from_is_err_and, IfOk-from_err}
 use Rattle.std.specs.Vec.Iter.{into_iter_items}
 use Rattle.pg_store.specs.Stores.{graph_of_store}
 use Rattle.pg_syntax_tree.specs.View.{relationship_view}
-use Rattle.pg_write_make.proofs.LoopLemmas.{at_same, within_same, past_same, hops_done, next_there}
+use Rattle.pg_write_make.proofs.LoopLemmas.{at_same, within_same, past_same, hops_done, next_there, hops_begun}
 use Rattle.pg_write_make.proofs.GrowthLemmas.{grows_twice, joined_grows, there_grows}
 use Rattle.pg_write_make.proofs.StepLemmas.{hop_made, hop_refused, hops_over}
 use Rattle.pg_write_make.specs.Makings.{node_ids, outcomes_view, relationship_ids, relationships_view, AreThere, Grows}
-use Rattle.pg_write_make.proofs.ChangedLemmas.{changed_then}
+use Rattle.pg_write_make.proofs.ChangedLemmas.{changed_then, unchanged}
 use Rattle.pg_write_make.specs.Outcomes.{hops_made, outcome_view}
+use Rattle.pg_expr.proofs.ExitLemmas.{fault_passed}
+use Rattle.pg_meaning.specs.declared.fault.Fault.TheVariants.{OutOfMemory}
 use Rattle.pg_write_make.proofs.hops.make_hops.Goals as goal
 use Rattle.pg_write_make.proofs.hops.make_hops.Goals.{in_default-via-in-Some+in_default, in_default-via-in_default}
 
@@ -86,3 +88,59 @@ returns-in_default-clause-ok g c =
       | in_default-via-in-Some+in_default w ↦ over (inr (nil_from_length c.loop-hop.ahead.now w.in_default.ensures'.cases))
       | in_default-via-in_default w ↦ over (inl (nil_from_length (into_iter_items c.loop-hop.rest) (let none = w.in_default.ensures.cases in omega (arith, none.0))))
     ]
+
+pub returns-in_err-made-clause-ok : goal.returns-in_err-made-clause-ok
+returns-in_err-made-clause-ok g c = IfOk-from_err c.from_residual.result _ c.from_residual.ensures.0
+
+pub returns-in_err-made-clause-err : goal.returns-in_err-made-clause-err
+returns-in_err-made-clause-err g c = fault_passed _ OutOfMemory c.from_residual.result c.from_residual.ensures.1 (λ other. absurd (other refl))
+
+pub returns-in_err-made-clause-changed : goal.returns-in_err-made-clause-changed
+returns-in_err-made-clause-changed g c = unchanged g.T.Tables.seen c.args.store.now c.args.shared.now c.requires.fit
+
+pub returns-in_err-made-clause-grows : goal.returns-in_err-made-clause-grows
+returns-in_err-made-clause-grows g c = IfOk-from_err c.from_residual.result _ c.from_residual.ensures.0
+
+pub loop-hop-init : goal.loop-hop-init
+loop-hop-init g c = record {
+  rest = hops_begun c.args.max_elements c.args.outcomes.items (into_iter_items c.into_iter-rest.result) (relationships_view c.args.hops.now.items) c.args.first.0 (node_ids c.args.others.now) (graph_of_store g.T.Tables.seen c.args.store.now c.args.shared.now) c.in_ok-made.made.items
+      c.into_iter-rest.ensures.rest c.in_ok-made.ensures.items;
+  left = c.requires.first;
+  ahead = c.requires.others;
+  grows = λ n there. there;
+  changed = unchanged g.T.Tables.seen c.args.store.now c.args.shared.now c.requires.fit;
+}
+
+pub add_relationship-requires-clause-quota : goal.add_relationship-requires-clause-quota
+add_relationship-requires-clause-quota g c = c.requires.quota
+
+pub add_relationship-requires-clause-left : goal.add_relationship-requires-clause-left
+add_relationship-requires-clause-left g c = c.loop-hop.invariant.left
+
+pub add_relationship-requires-clause-right : goal.add_relationship-requires-clause-right
+add_relationship-requires-clause-right g c =
+    (next_there (graph_of_store g.T.Tables.seen c.loop-hop.store c.loop-hop.shared) c.loop-hop.ahead.now c.in-Some-Some.right.now c.in-Some-Some.more.now c.in-Some-Some.ensures'.cases.0 c.loop-hop.invariant.ahead).0
+
+pub returns-in_err-add_relationship-in-Some-Some-clause-ok : goal.returns-in_err-add_relationship-in-Some-Some-clause-ok
+returns-in_err-add_relationship-in-Some-Some-clause-ok g c = IfOk-from_err c.from_residual-in_err-add_relationship-in-Some-Some.result _ c.from_residual-in_err-add_relationship-in-Some-Some.ensures.0
+
+pub returns-in_err-add_relationship-in-Some-Some-clause-grows : goal.returns-in_err-add_relationship-in-Some-Some-clause-grows
+returns-in_err-add_relationship-in-Some-Some-clause-grows g c = IfOk-from_err c.from_residual-in_err-add_relationship-in-Some-Some.result _ c.from_residual-in_err-add_relationship-in-Some-Some.ensures.0
+
+pub returns-in_err-push-in-Some-Some-clause-ok : goal.returns-in_err-push-in-Some-Some-clause-ok
+returns-in_err-push-in-Some-Some-clause-ok g c = IfOk-from_err c.from_residual-in_err-push-in-Some-Some.result _ c.from_residual-in_err-push-in-Some-Some.ensures.0
+
+pub returns-in_err-push-in-Some-Some-clause-grows : goal.returns-in_err-push-in-Some-Some-clause-grows
+returns-in_err-push-in-Some-Some-clause-grows g c = IfOk-from_err c.from_residual-in_err-push-in-Some-Some.result _ c.from_residual-in_err-push-in-Some-Some.ensures.0
+
+pub returns-in_default-clause-err : goal.returns-in_default-clause-err
+returns-in_default-clause-err g c = tt
+
+pub returns-in_default-clause-changed : goal.returns-in_default-clause-changed
+returns-in_default-clause-changed g c = c.loop-hop.invariant.changed
+
+pub returns-in_default-clause-grows : goal.returns-in_default-clause-grows
+returns-in_default-clause-grows g c = c.loop-hop.invariant.grows
+
+pub returns-clause-err : goal.returns-clause-err
+returns-clause-err g c = tt

@@ -1,4 +1,4 @@
-use Rattle.std.proofs.Common.{ap, ◌∙◌}
+use Rattle.std.proofs.Common.{ap, ◌∙◌, refl}
 use Rattle.pg_meaning.specs.Graph.{has_node}
 use Rattle.pg_meaning.specs.Patterns.{node_name}
 use Rattle.pg_store.specs.Stores.{graph_of_store}
@@ -7,6 +7,9 @@ use Rattle.pg_write_make.proofs.BoundLemmas.{new_bound}
 use Rattle.pg_write_make.proofs.GrowthLemmas.{added_grows, added_there, bound_there}
 use Rattle.pg_write_make.specs.Makings.{bindings, named_ids}
 use Rattle.pg_write_make.specs.Outcomes.{outcome_view}
+use Rattle.std.proofs.lemmas.Result.{IfOk-from_err}
+use Rattle.pg_expr.proofs.ExitLemmas.{fault_passed}
+use Rattle.pg_meaning.specs.declared.fault.Fault.TheVariants.{OutOfMemory}
 use Rattle.pg_write_make.proofs.making.make_new_node.Goals as goal
 
 pub returns-clause-grows : goal.returns-clause-grows
@@ -34,3 +37,51 @@ returns-clause-ok g c =
     let seen = g.T.Tables.seen in
     new_bound c.args.max_elements (outcome_view c.args.outcome) (node_view c.args.pattern.now) (graph_of_store seen c.args.store.now c.args.shared.now) (graph_of_store seen c.add_node.new.store c.add_node.new.shared)
     (bindings c.args.named.now.items) (bindings c.bind_new.new.named.items) c.in_ok-id.id.0 c.in_ok-id.ensures.ok c.in_ok-id.ensures.id (λ none. ap bindings (c.in_ok-bind_new.ensures.none none)) c.in_ok-bind_new.ensures.bound
+
+pub add_node-requires-clause-fit : goal.add_node-requires-clause-fit
+add_node-requires-clause-fit g c = c.requires.fit
+
+pub add_node-requires-clause-quota : goal.add_node-requires-clause-quota
+add_node-requires-clause-quota g c = c.requires.quota
+
+pub returns-in_err-id-clause-ok : goal.returns-in_err-id-clause-ok
+returns-in_err-id-clause-ok g c = IfOk-from_err c.from_residual.result _ c.from_residual.ensures.0
+
+pub returns-in_err-id-clause-err : goal.returns-in_err-id-clause-err
+returns-in_err-id-clause-err g c = fault_passed _ c.in_err-id.field-0.0 c.from_residual.result c.from_residual.ensures.1 c.in_err-id.ensures.err
+
+pub returns-in_err-id-clause-changed : goal.returns-in_err-id-clause-changed
+returns-in_err-id-clause-changed g c = c.add_node.ensures.changed
+
+pub returns-in_err-id-clause-grows : goal.returns-in_err-id-clause-grows
+returns-in_err-id-clause-grows g c = IfOk-from_err c.from_residual.result _ c.from_residual.ensures.0
+
+pub returns-in_err-id-clause-there : goal.returns-in_err-id-clause-there
+returns-in_err-id-clause-there g c = IfOk-from_err c.from_residual.result _ c.from_residual.ensures.0
+
+pub returns-in_err-id-clause-bound : goal.returns-in_err-id-clause-bound
+returns-in_err-id-clause-bound g c = IfOk-from_err c.from_residual.result _ c.from_residual.ensures.0
+
+pub returns-in_err-bind_new-clause-ok : goal.returns-in_err-bind_new-clause-ok
+returns-in_err-bind_new-clause-ok g c = IfOk-from_err c.from_residual-in_err-bind_new.result _ c.from_residual-in_err-bind_new.ensures.0
+
+pub returns-in_err-bind_new-clause-err : goal.returns-in_err-bind_new-clause-err
+returns-in_err-bind_new-clause-err g c = fault_passed _ OutOfMemory c.from_residual-in_err-bind_new.result c.from_residual-in_err-bind_new.ensures.1 (λ other. absurd (other refl))
+
+pub returns-in_err-bind_new-clause-changed : goal.returns-in_err-bind_new-clause-changed
+returns-in_err-bind_new-clause-changed g c = c.add_node.ensures.changed
+
+pub returns-in_err-bind_new-clause-grows : goal.returns-in_err-bind_new-clause-grows
+returns-in_err-bind_new-clause-grows g c = IfOk-from_err c.from_residual-in_err-bind_new.result _ c.from_residual-in_err-bind_new.ensures.0
+
+pub returns-in_err-bind_new-clause-there : goal.returns-in_err-bind_new-clause-there
+returns-in_err-bind_new-clause-there g c = IfOk-from_err c.from_residual-in_err-bind_new.result _ c.from_residual-in_err-bind_new.ensures.0
+
+pub returns-in_err-bind_new-clause-bound : goal.returns-in_err-bind_new-clause-bound
+returns-in_err-bind_new-clause-bound g c = IfOk-from_err c.from_residual-in_err-bind_new.result _ c.from_residual-in_err-bind_new.ensures.0
+
+pub returns-clause-err : goal.returns-clause-err
+returns-clause-err g c = tt
+
+pub returns-clause-changed : goal.returns-clause-changed
+returns-clause-changed g c = c.add_node.ensures.changed

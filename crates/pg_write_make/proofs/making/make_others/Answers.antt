@@ -1,13 +1,13 @@
-use Rattle.std.proofs.Common.{◌≡◌, ◌<◌, get_or, length, drop, arith}
+use Rattle.std.proofs.Common.{◌≡◌, ◌<◌, get_or, length, drop, arith, sym, ap}
 use Rattle.std.proofs.lemmas.List.{nil_from_length}
-use Rattle.std.proofs.lemmas.Result.{err_from_is_err_and}
+use Rattle.std.proofs.lemmas.Result.{err_from_is_err_and, IfOk-from_err}
 use Rattle.std.specs.Vec.Iter.{into_iter_items}
 use Rattle.pg_store.specs.Stores.{graph_of_store}
 use Rattle.pg_write_make.proofs.LoopLemmas.{at_same, within_same, past_same, node_is_tested, nodes_over, nodes_past}
 use Rattle.pg_write_make.proofs.GrowthLemmas.{grows_twice}
 use Rattle.pg_write_make.proofs.StepLemmas.{node_made, node_refused, tests_left}
 use Rattle.pg_write_make.specs.Makings.{making_of, others_view, outcomes_view}
-use Rattle.pg_write_make.proofs.ChangedLemmas.{changed_then}
+use Rattle.pg_write_make.proofs.ChangedLemmas.{changed_then, unchanged}
 use Rattle.pg_write_make.specs.Outcomes.{nodes_made}
 use Rattle.pg_write_make.specs.Scenes.{row_in}
 use Rattle.pg_write_make.proofs.making.make_others.Goals as goal
@@ -100,3 +100,36 @@ returns-clause-grows g c = c.loop-hop.invariant.grows
 
 pub returns-clause-there : goal.returns-clause-there
 returns-clause-there g c = c.loop-hop.invariant.there
+
+pub loop-hop-init : goal.loop-hop-init
+loop-hop-init g c =
+    let hs = c.args.hops.now.items in
+    let making = making_of (graph_of_store g.T.Tables.seen c.args.store.now c.args.shared.now) (row_in c.args.scene.now c.args.row.now) c.args.named.now.items c.args.ids.now.items in
+    record {
+      rest = ap (λ os. nodes_made c.args.max_elements (outcomes_view os) (others_view hs) making) (sym c.into_iter-rest.ensures.rest);
+      tested = c.requires.tested;
+      there = c.requires.there;
+      grows = λ n there. there;
+      changed = unchanged g.T.Tables.seen c.args.store.now c.args.shared.now c.requires.fit;
+    }
+
+pub make_node-requires-clause-fit : goal.make_node-requires-clause-fit
+make_node-requires-clause-fit g c = c.loop-hop.invariant.changed.fit
+
+pub make_node-requires-clause-quota : goal.make_node-requires-clause-quota
+make_node-requires-clause-quota g c = c.requires.quota
+
+pub returns-in_err-make_node-in-Some-clause-ok : goal.returns-in_err-make_node-in-Some-clause-ok
+returns-in_err-make_node-in-Some-clause-ok g c = IfOk-from_err c.from_residual.result _ c.from_residual.ensures.0
+
+pub returns-in_err-make_node-in-Some-clause-grows : goal.returns-in_err-make_node-in-Some-clause-grows
+returns-in_err-make_node-in-Some-clause-grows g c = IfOk-from_err c.from_residual.result _ c.from_residual.ensures.0
+
+pub returns-in_err-make_node-in-Some-clause-there : goal.returns-in_err-make_node-in-Some-clause-there
+returns-in_err-make_node-in-Some-clause-there g c = IfOk-from_err c.from_residual.result _ c.from_residual.ensures.0
+
+pub returns-in-None-clause-err : goal.returns-in-None-clause-err
+returns-in-None-clause-err g c = tt
+
+pub returns-clause-err : goal.returns-clause-err
+returns-clause-err g c = tt

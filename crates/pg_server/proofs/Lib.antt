@@ -2,6 +2,7 @@ pub mod ConfigLemmas
 pub mod ConfigurationInstances
 pub mod DistinctLemmas
 pub mod FillLemmas
+pub mod FoundLemmas
 pub mod FrameLemmas
 pub mod HandleLemmas
 pub mod HoldLemmas

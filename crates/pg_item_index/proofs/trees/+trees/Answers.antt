@@ -11,13 +11,27 @@ pub same_expression-returns-then-same_expression : goal.same_expression-returns-
 same_expression-returns-then-same_expression t c = let x = c.in-Chain in let y = c.in-Chain-b in rw x.is (rw y.is (rw (chain_is x.a x.xs) (rw (chain_is y.b y.ys) (lemma.and_then (sym (lemma.same_there c.if-same_expression.ensures c.deref-in-Chain-b.ensures c.deref-in-Chain-b-2.ensures)) c.same_operands.ensures))))
 
 pub same_expression-returns-else-same_expression : goal.same_expression-returns-else-same_expression
-same_expression-returns-else-same_expression t c = let x = c.in-Chain in let y = c.in-Chain-b in rw x.is (rw y.is (rw (chain_is x.a x.xs) (rw (chain_is y.b y.ys) (grind arith))))
+same_expression-returns-else-same_expression t c =
+    let x = c.in-Chain in
+    let y = c.in-Chain-b in
+    let other = lemma.same_there c.if-same_expression.ensures c.deref-in-Chain-b.ensures c.deref-in-Chain-b-2.ensures in
+    let result = lemma.same_there c.same_expression-in-Chain-b.ensures c.deref-in-Chain-b.ensures c.deref-in-Chain-b-2.ensures in
+    rw x.is (rw y.is (rw (chain_is x.a x.xs) (rw (chain_is y.b y.ys) (lemma.and_else _ (sym other) result))))
 
 pub same_expression-returns-then-same_expression-2 : goal.same_expression-returns-then-same_expression-2
-same_expression-returns-then-same_expression-2 t c = let x = c.in-Tests in let y = c.in-Tests-b in rw x.is (rw y.is (rw (tests_is x.a x.xs) (rw (tests_is y.b y.ys) (grind arith))))
+same_expression-returns-then-same_expression-2 t c =
+    let x = c.in-Tests in
+    let y = c.in-Tests-b in
+    let same = lemma.same_there c.if-same_expression-2.ensures c.deref-in-Tests-b.ensures c.deref-in-Tests-b-2.ensures in
+    rw x.is (rw y.is (rw (tests_is x.a x.xs) (rw (tests_is y.b y.ys) (lemma.and_then (sym same) c.same_tests.ensures))))
 
 pub same_expression-returns-else-same_expression-2 : goal.same_expression-returns-else-same_expression-2
-same_expression-returns-else-same_expression-2 t c = let x = c.in-Tests in let y = c.in-Tests-b in rw x.is (rw y.is (rw (tests_is x.a x.xs) (rw (tests_is y.b y.ys) (grind arith))))
+same_expression-returns-else-same_expression-2 t c =
+    let x = c.in-Tests in
+    let y = c.in-Tests-b in
+    let other = lemma.same_there c.if-same_expression-2.ensures c.deref-in-Tests-b.ensures c.deref-in-Tests-b-2.ensures in
+    let result = lemma.same_there c.same_expression-in-Tests-b.ensures c.deref-in-Tests-b.ensures c.deref-in-Tests-b-2.ensures in
+    rw x.is (rw y.is (rw (tests_is x.a x.xs) (rw (tests_is y.b y.ys) (lemma.and_else _ (sym other) result))))
 
 pub same_expression-returns-then-same_whens : goal.same_expression-returns-then-same_whens
 same_expression-returns-then-same_whens t c = let x = c.in-Case in let y = c.in-Case-b in rw x.is (rw y.is (rw (case_is x.a x.whens x.x) (rw (case_is y.b y.others y.y) (elim c.if-same_perhaps.branch [

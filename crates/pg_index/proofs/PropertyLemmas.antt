@@ -2,8 +2,7 @@
 use Rattle.std.proofs.Common.{◌≡◌, ◌==◌, ◌<◌, ℕ, zero, suc, Bool, true, false, not, cond, List, [], ◌∷◌, length, take, get_or, Result, Ok, Err, OnOk, OnErr, inl, inr, arith, refl, sym, ap, ◌∙◌}
 use Rattle.std.specs.Prelude.{◌&&◌, ◌||◌}
 use Rattle.std.proofs.Math.ListN.{set}
-use Rattle.std.proofs.lemmas.Bool.Decides.{nat_tests}
-use Rattle.std.proofs.lemmas.Bool.{cases_eq}
+use Rattle.std.proofs.lemmas.Bool.{cases_eq, eqb-true}
 use Rattle.std.proofs.lemmas.Cmp.{on_total}
 use Rattle.std.specs.BTreeMap.{is_at}
 use Rattle.std.specs.Cmp.{IsTotalOrder, Equal-is, tied_itself}
@@ -152,11 +151,11 @@ one_covered y n id label key v covered h = by_label (y.label == label) refl
   where
     by_key : (b : Bool) → (y.key == key) ≡ b → y.label ≡ label → (not b || finds y v id) ≡ true
     by_key false e same = refl
-    by_key true e same = covered v (ap (λ l. is_found_by l y.key v n) same ∙ ap (λ k. is_found_by label k v n) (grind (arith, nat_tests, e)) ∙ h)
+    by_key true e same = covered v (ap (λ l. is_found_by l y.key v n) same ∙ ap (λ k. is_found_by label k v n) (eqb-true y.key key e) ∙ h)
 
     by_label : (b : Bool) → (y.label == label) ≡ b → (not (b && (y.key == key)) || finds y v id) ≡ true
     by_label false e = refl
-    by_label true e = by_key (y.key == key) refl (grind (arith, nat_tests, e))
+    by_label true e = by_key (y.key == key) refl (eqb-true y.label label e)
 
 pub done_step : (xs : List PropertyIndex) (at : ℕ) (y : PropertyIndex) (label key : ℕ) (v : Value) (id : ℕ) → at < length xs → all_find (take at xs) label key v id ≡ true → One y label key v id → all_find (take (suc at) (set xs at y)) label key v id ≡ true
 done_step [] at y label key v id within h one = absurd (omega (arith, within))
@@ -173,7 +172,7 @@ member_finds (x ∷ xs) (suc at) d label key v i within is h = member_finds xs a
 -- ---- an index that loses an id
 
 same_number : (a b : ℕ) → (a == b) ≡ true → a ≡ b
-same_number a b h = grind (arith, nat_tests)
+same_number a b h = eqb-true a b h
 
 pub is_for_both : (x : PropertyIndex) (label key : ℕ) → is_for x label key ≡ true → (x.label ≡ label) × (x.key ≡ key)
 is_for_both x label key h = (same_number x.label label (and_left (x.label == label) (x.key == key) h), same_number x.key key (and_right (x.label == label) (x.key == key) h))

@@ -1,7 +1,7 @@
 -- One tree has the same bytes, however it is written.
 use denote.Enum.Bare.{same_true}
 use Rattle.std.proofs.Common.{◌≡◌, ℕ, pos, Bool, true, false, List, [], ◌∷◌, refl, ap, ◌∙◌}
-use Rattle.std.proofs.lemmas.Bool.{eqb-true}
+use Rattle.std.proofs.lemmas.Bool.{eqb-true, false≢true}
 use Rattle.std.proofs.lemmas.Slice.Eq.{bytes_eq-Decides}
 use Rattle.std.specs.Prelude.{◌&&◌, ◌==◌, bytes_eq}
 use Rattle.std.specs.Bool.{beq}
@@ -19,8 +19,8 @@ use Rattle.pg_meaning.specs.Value as value
 
 both : (a b : Bool) → (a && b) ≡ true → (a ≡ true) × (b ≡ true)
 both true true e = (refl, refl)
-both true false e = absurd cc
-both false b e = absurd cc
+both true false e = absurd (false≢true e)
+both false b e = absurd (false≢true e)
 
 same_bytes : (a b : List ℕ) → bytes_eq a b ≡ true → a ≡ b
 same_bytes a b e = (bytes_eq-Decides a b).0 e
@@ -28,21 +28,21 @@ same_bytes a b e = (bytes_eq-Decides a b).0 e
 same_flag : (a b : Bool) → beq a b ≡ true → a ≡ b
 same_flag true true e = refl
 same_flag false false e = refl
-same_flag true false e = absurd cc
-same_flag false true e = absurd cc
+same_flag true false e = absurd (false≢true e)
+same_flag false true e = absurd (false≢true e)
 
 flags_alike : (bs cs : List Bool) → same_flags bs cs ≡ true → (code : List ℕ) → with_flags bs code ≡ with_flags cs code
 flags_alike [] [] e code = refl
-flags_alike [] (c ∷ cs) e code = absurd cc
-flags_alike (b ∷ bs) [] e code = absurd cc
+flags_alike [] (c ∷ cs) e code = absurd (false≢true e)
+flags_alike (b ∷ bs) [] e code = absurd (false≢true e)
 flags_alike (b ∷ bs) (c ∷ cs) e code =
     let h = both (beq b c) (same_flags bs cs) e in
     ap (λ b. with_flags bs (with_flag b code)) (same_flag b c h.0) ∙ flags_alike bs cs h.1 (with_flag c code)
 
 names_alike : (ns ms : List Name) → same_names ns ms ≡ true → (code : List ℕ) → with_names ns code ≡ with_names ms code
 names_alike [] [] e code = refl
-names_alike [] (m ∷ ms) e code = absurd cc
-names_alike (n ∷ ns) [] e code = absurd cc
+names_alike [] (m ∷ ms) e code = absurd (false≢true e)
+names_alike (n ∷ ns) [] e code = absurd (false≢true e)
 names_alike (n ∷ ns) (m ∷ ms) e code =
     let h = both (same_name n m) (same_names ns ms) e in
     ap (λ t. with_names ns (with_text t (with_byte 1 code))) (same_bytes n.text m.text h.0) ∙ names_alike ns ms h.1 (with_text m.text (with_byte 1 code))
@@ -52,7 +52,7 @@ literal_alike value.null value.null e code = refl
 literal_alike (value.boolean b) (value.boolean c) e code = ap (λ b. with_literal (value.boolean b) code) (same_flag b c e)
 literal_alike (value.integer (pos n)) (value.integer (pos m)) e code = ap (λ n. with_literal (value.integer (pos n)) code) (eqb-true n m e)
 literal_alike (value.text t) (value.text u) e code = ap (λ t. with_literal (value.text t) code) (same_bytes t u e)
-literal_alike v w e code = absurd cc
+literal_alike v w e code = absurd (false≢true e)
 
 operator_alike : (o p : Operator) → same_operator o p ≡ true → o ≡ p
 operator_alike o p e = same_true operator_type tt o p e
@@ -100,14 +100,14 @@ mutual
       ap (λ c. with_names ls (with_suffixes xs c)) (alike x y g.0 (with_byte 13 code))
       ∙ ap (with_names ls) (suffixes_alike xs ys g.1 (with_expression y (with_byte 13 code)))
       ∙ names_alike ls ms h.1 (with_suffixes ys (with_expression y (with_byte 13 code)))
-  alike x y e code = absurd cc
+  alike x y e code = absurd (false≢true e)
 
   all_alike : (xs ys : Expressions) → same_expressions xs ys ≡ true → (code : List ℕ) → with_expressions xs code ≡ with_expressions ys code
   all_alike tree.no_expressions tree.no_expressions e code = refl
   all_alike (tree.expression x xs) (tree.expression y ys) e code =
       let h = both (same_expression x y) (same_expressions xs ys) e in
       ap (with_expressions xs) (alike x y h.0 code) ∙ all_alike xs ys h.1 (with_expression y code)
-  all_alike xs ys e code = absurd cc
+  all_alike xs ys e code = absurd (false≢true e)
 
   pairs_alike : (ps qs : Pairs) → same_pairs ps qs ≡ true → (code : List ℕ) → with_pairs ps code ≡ with_pairs qs code
   pairs_alike tree.no_pairs tree.no_pairs e code = refl
@@ -117,12 +117,12 @@ mutual
       ap (λ t. with_pairs ps (with_expression x (with_text t (with_byte 1 code)))) (same_bytes n.text m.text g.0)
       ∙ ap (with_pairs ps) (alike x y g.1 (with_text m.text (with_byte 1 code)))
       ∙ pairs_alike ps qs h.1 (with_expression y (with_text m.text (with_byte 1 code)))
-  pairs_alike ps qs e code = absurd cc
+  pairs_alike ps qs e code = absurd (false≢true e)
 
   perhaps_alike : (x y : Perhaps) → same_perhaps x y ≡ true → (code : List ℕ) → with_perhaps x code ≡ with_perhaps y code
   perhaps_alike tree.absent tree.absent e code = refl
   perhaps_alike (tree.present x) (tree.present y) e code = alike x y e code
-  perhaps_alike x y e code = absurd cc
+  perhaps_alike x y e code = absurd (false≢true e)
 
   whens_alike : (ws vs : Whens) → same_whens ws vs ≡ true → (code : List ℕ) → with_whens ws code ≡ with_whens vs code
   whens_alike tree.no_whens tree.no_whens e code = refl
@@ -132,7 +132,7 @@ mutual
       ap (λ l. with_whens ws (with_expression x l)) (alike c d g.0 code)
       ∙ ap (with_whens ws) (alike x y g.1 (with_expression d code))
       ∙ whens_alike ws vs h.1 (with_expression y (with_expression d code))
-  whens_alike ws vs e code = absurd cc
+  whens_alike ws vs e code = absurd (false≢true e)
 
   operands_alike : (os ps : Operands) → same_operands os ps ≡ true → (code : List ℕ) → with_operands os code ≡ with_operands ps code
   operands_alike tree.no_operands tree.no_operands e code = refl
@@ -142,7 +142,7 @@ mutual
       ap (λ q. with_operands os (with_expression x (with_byte (byte_of_operator q) code))) (operator_alike o p g.0)
       ∙ ap (with_operands os) (alike x y g.1 (with_byte (byte_of_operator p) code))
       ∙ operands_alike os ps h.1 (with_expression y (with_byte (byte_of_operator p) code))
-  operands_alike os ps e code = absurd cc
+  operands_alike os ps e code = absurd (false≢true e)
 
   tests_alike : (ts us : Tests) → same_tests ts us ≡ true → (code : List ℕ) → with_tests ts code ≡ with_tests us code
   tests_alike tree.no_tests tree.no_tests e code = refl
@@ -155,7 +155,7 @@ mutual
   tests_alike (tree.null_test b ts) (tree.null_test c us) e code =
       let h = both (beq b c) (same_tests ts us) e in
       ap (λ b. with_tests ts (with_flag b (with_byte 5 code))) (same_flag b c h.0) ∙ tests_alike ts us h.1 (with_flag c (with_byte 5 code))
-  tests_alike ts us e code = absurd cc
+  tests_alike ts us e code = absurd (false≢true e)
 
   suffixes_alike : (xs ys : Suffixes) → same_suffixes xs ys ≡ true → (code : List ℕ) → with_suffixes xs code ≡ with_suffixes ys code
   suffixes_alike tree.no_suffixes tree.no_suffixes e code = refl
@@ -165,4 +165,4 @@ mutual
   suffixes_alike (tree.index x xs) (tree.index y ys) e code =
       let h = both (same_expression x y) (same_suffixes xs ys) e in
       ap (with_suffixes xs) (alike x y h.0 (with_byte 2 code)) ∙ suffixes_alike xs ys h.1 (with_expression y (with_byte 2 code))
-  suffixes_alike xs ys e code = absurd cc
+  suffixes_alike xs ys e code = absurd (false≢true e)

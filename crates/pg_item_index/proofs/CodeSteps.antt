@@ -1,11 +1,17 @@
 -- One item more of a list whose bytes are put behind those that were found.
-use Rattle.std.proofs.Common.{◌≡◌, ℕ, ◌+◌, ◌<◌, ◌≤◌, List, [], ◌∷◌, map, length, drop, get_or, refl, sym, ap, subst, ◌∙◌}
+use Rattle.std.proofs.Common.{◌≡◌, ℕ, ◌+◌, ◌<◌, ◌≤◌, List, [], ◌∷◌, map, length, drop, get_or, Vec, Box, Global, refl, sym, ap, subst, ◌∙◌}
 use Rattle.std.proofs.lemmas.List.{drop_all, drop_more}
-use Rattle.pg_item_index.specs.Codes.{with_byte, with_text, with_pairs, byte_of_operator, with_expression, with_expressions, with_whens, with_operands, with_tests, with_suffixes, with_test, with_suffix}
+use Rattle.pg_item_index.specs.Codes.{byte_of_form, with_byte, with_text, with_pairs, byte_of_operator, with_expression, with_expressions, with_whens, with_operands, with_tests, with_suffixes, with_test, with_suffix}
 use Rattle.pg_meaning.specs.Parse.{expressions_of, operands_of, pairs_of, whens_of}
+use Rattle.pg_meaning.specs.Tree as tree
 use Rattle.pg_meaning.specs.declared.operators.Operator.{Operator}
-use Rattle.pg_syntax_tree.specs.View.{expression_view, name_view, suffixes_of, tests_of, pair_view, when_view, operand_view, test_view, suffix_view}
+use Rattle.pg_syntax_tree.specs.View.{expression_view, literal_view, view_step, name_view, suffixes_of, tests_of, pair_view, when_view, operand_view, test_view, suffix_view}
 use Rattle.pg_syntax_tree.specs.declared.expression.Expression.{Expression}
+use Rattle.pg_syntax_tree.specs.declared.expression.Expression.TheFolds.{fold-roll-Expression}
+use Rattle.pg_syntax_tree.specs.declared.expression.Expression.TheOpen.{Expression-F}
+use Rattle.pg_syntax_tree.specs.declared.expression.Expression.TheVariants as code
+use Rattle.pg_syntax_tree.specs.declared.expression.Expression.TheViews.{rolls-Literal, rolls-Parameter, rolls-Variable, rolls-ListLiteral, rolls-Parentheses}
+use Rattle.pg_syntax_tree.specs.declared.expression.Literal.{Literal}
 use Rattle.pg_syntax_tree.specs.declared.expression.Name.{Name}
 use Rattle.pg_syntax_tree.specs.declared.expression.Suffix.{Suffix}
 use Rattle.pg_syntax_tree.specs.declared.expression.Suffix.TheVariants as suffix
@@ -55,3 +61,24 @@ suffix_step (suffix.Index x) xs code = refl
 
 abbrev pub suffixes : Written (Suffix Expression)
 suffixes = record { one = with_suffix; all = λ xs. with_suffixes (suffixes_of (map suffix_view xs)); step = suffix_step; none = λ code. refl }
+
+-- the byte of a form, and then what the form has
+pub form_written : (e : Expression) (code first : List ℕ) (byte : ℕ) (d : tree.Expression) (rest : List ℕ → List ℕ) → expression_view e ≡ d → byte ≡ byte_of_form (expression_view e) → first ≡ with_byte byte code
+    → rest (with_byte (byte_of_form d) code) ≡ with_expression d code → rest first ≡ with_expression (expression_view e) code
+form_written e code first byte d rest seen by_form written whole =
+    ap rest (written ∙ ap (λ b. with_byte b code) (by_form ∙ ap byte_of_form seen)) ∙ whole ∙ sym (ap (λ f. with_expression f code) seen)
+
+pub literal_seen : {e : Expression} (x : Literal) → e ≡ code.Literal x → expression_view e ≡ tree.literal (literal_view x)
+literal_seen x is = ap expression_view (is ∙ sym (rolls-Literal x)) ∙ fold-roll-Expression tree.Expression view_step (Expression-F.Literal x)
+
+pub parameter_seen : {e : Expression} (n : Name) → e ≡ code.Parameter n → expression_view e ≡ tree.parameter (name_view n)
+parameter_seen n is = ap expression_view (is ∙ sym (rolls-Parameter n)) ∙ fold-roll-Expression tree.Expression view_step (Expression-F.Parameter n)
+
+pub variable_seen : {e : Expression} (n : Name) → e ≡ code.Variable n → expression_view e ≡ tree.variable (name_view n)
+variable_seen n is = ap expression_view (is ∙ sym (rolls-Variable n)) ∙ fold-roll-Expression tree.Expression view_step (Expression-F.Variable n)
+
+pub list_literal_seen : {e : Expression} (xs : Vec Expression Global) → e ≡ code.ListLiteral xs → expression_view e ≡ tree.list_literal (expressions_of (map expression_view xs.items))
+list_literal_seen xs is = ap expression_view (is ∙ sym (rolls-ListLiteral xs)) ∙ fold-roll-Expression tree.Expression view_step (Expression-F.ListLiteral xs)
+
+pub parentheses_seen : {e : Expression} (x : Box Expression Global) → e ≡ code.Parentheses x → expression_view e ≡ tree.parentheses (expression_view x.value)
+parentheses_seen x is = ap expression_view (is ∙ sym (rolls-Parentheses x)) ∙ fold-roll-Expression tree.Expression view_step (Expression-F.Parentheses x)

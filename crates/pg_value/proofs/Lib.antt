@@ -1,3 +1,4 @@
+pub mod Forms
 pub mod Memberships
 pub mod Steps
 pub mod Tables

@@ -1,10 +1,12 @@
 use Rattle.std.proofs.Common.{◌≡◌, ◌<◌, ◌+◌, ℕ, List, [], ◌∷◌, ◌++◌, map, length, take, get_or, take-suc, take_all, add-one, append-nil, string_bytes, refl, sym, ap, ◌∙◌, subst, append_assoc}
+use Rattle.std.proofs.lemmas.Result.{IfOk-from_err}
 use Rattle.std.specs.List.Sorted.{IsStrictlySortedBy}
 use Rattle.std.specs.Map.{keys_of}
 use Rattle.std.specs.String.{string_cmp}
-use Rattle.pg_meaning.specs.Value.{values_of}
+use Rattle.pg_meaning.specs.Value.{values_of, text, list, mapping}
 use Rattle.pg_value_core.specs.View.{view, entries_view}
 use Rattle.pg_value_core.specs.declared.value.Value.{Value}
+use Rattle.pg_value_core.proofs.Forms as form
 use Rattle.pg_value_core.proofs.Maps.{Pair, entries_view-insert_entry, put_last}
 use Rattle.pg_value_core.proofs.+copy.Goals as goal
 
@@ -56,3 +58,57 @@ copy::copy_entries-returns t c =
 
 pub value::Value::copy-returns-in-Null : goal.value::Value::copy-returns-in-Null
 value::Value::copy-returns-in-Null t c = ap view (sym c.in-Null.is)
+
+pub value::Value::copy-returns-in-Bool : goal.value::Value::copy-returns-in-Bool
+value::Value::copy-returns-in-Bool t c = ap view (sym c.in-Bool.is)
+
+pub value::Value::copy-returns-in-Node : goal.value::Value::copy-returns-in-Node
+value::Value::copy-returns-in-Node t c = ap view (sym c.in-Node.is)
+
+pub value::Value::copy-returns-in-Rel : goal.value::Value::copy-returns-in-Rel
+value::Value::copy-returns-in-Rel t c = ap view (sym c.in-Rel.is)
+
+pub value::Value::copy-returns-in_ok-from_str-in-Text : goal.value::Value::copy-returns-in_ok-from_str-in-Text
+value::Value::copy-returns-in_ok-from_str-in-Text t c =
+    let copied = c.in_ok-from_str-in-Text in
+    form.text_seen copied.field-0 refl ∙ ap text (copied.ensures.ok ∙ c.as_str.ensures.value) ∙ sym (form.text_seen c.in-Text.text c.in-Text.is)
+
+pub value::Value::copy-returns-in_ok-copy_items-in-List : goal.value::Value::copy-returns-in_ok-copy_items-in-List
+value::Value::copy-returns-in_ok-copy_items-in-List t c =
+    let copied = c.in_ok-copy_items-in-List in
+    form.list_seen copied.field-0 refl ∙ ap list copied.ensures ∙ sym (form.list_seen c.in-List.items c.in-List.is)
+
+pub value::Value::copy-returns-in_ok-copy_entries-in-Map : goal.value::Value::copy-returns-in_ok-copy_entries-in-Map
+value::Value::copy-returns-in_ok-copy_entries-in-Map t c =
+    let copied = c.in_ok-copy_entries-in-Map in
+    form.map_seen copied.field-0 refl ∙ ap mapping copied.ensures ∙ sym (form.map_seen c.in-Map.entries c.in-Map.is)
+
+pub value::Value::copy-returns-in_err-from_str-in-Text : goal.value::Value::copy-returns-in_err-from_str-in-Text
+value::Value::copy-returns-in_err-from_str-in-Text t c = IfOk-from_err c.from_residual.result _ c.from_residual.ensures.0
+
+pub value::Value::copy-returns-in_err-copy_items-in-List : goal.value::Value::copy-returns-in_err-copy_items-in-List
+value::Value::copy-returns-in_err-copy_items-in-List t c = IfOk-from_err c.from_residual-in_err-copy_items-in-List.result _ c.from_residual-in_err-copy_items-in-List.ensures.0
+
+pub value::Value::copy-returns-in_err-copy_entries-in-Map : goal.value::Value::copy-returns-in_err-copy_entries-in-Map
+value::Value::copy-returns-in_err-copy_entries-in-Map t c = IfOk-from_err c.from_residual-in_err-copy_entries-in-Map.result _ c.from_residual-in_err-copy_entries-in-Map.ensures.0
+
+pub value::Value::copy-returns-in_err-to_vec-in-Path : goal.value::Value::copy-returns-in_err-to_vec-in-Path
+value::Value::copy-returns-in_err-to_vec-in-Path t c = IfOk-from_err c.from_residual-in_err-to_vec-in-Path.result _ c.from_residual-in_err-to_vec-in-Path.ensures.0
+
+pub copy::copy_items-returns-in_err-copies : goal.copy::copy_items-returns-in_err-copies
+copy::copy_items-returns-in_err-copies t c = IfOk-from_err c.from_residual.result _ c.from_residual.ensures.0
+
+pub copy::copy_items-returns-in_err-copy : goal.copy::copy_items-returns-in_err-copy
+copy::copy_items-returns-in_err-copy t c = IfOk-from_err c.from_residual-in_err-copy.result _ c.from_residual-in_err-copy.ensures.0
+
+pub copy::copy_items-returns-in_err-push : goal.copy::copy_items-returns-in_err-push
+copy::copy_items-returns-in_err-push t c = IfOk-from_err c.from_residual-in_err-push.result _ c.from_residual-in_err-push.ensures.0
+
+pub copy::copy_entries-returns-in_err-name : goal.copy::copy_entries-returns-in_err-name
+copy::copy_entries-returns-in_err-name t c = IfOk-from_err c.from_residual.result _ c.from_residual.ensures.0
+
+pub copy::copy_entries-returns-in_err-same : goal.copy::copy_entries-returns-in_err-same
+copy::copy_entries-returns-in_err-same t c = IfOk-from_err c.from_residual-in_err-same.result _ c.from_residual-in_err-same.ensures.0
+
+pub copy::copy_entries-returns-in_err-insert : goal.copy::copy_entries-returns-in_err-insert
+copy::copy_entries-returns-in_err-insert t c = IfOk-from_err c.from_residual-in_err-insert.result _ c.from_residual-in_err-insert.ensures.0

@@ -1,12 +1,57 @@
-use Rattle.std.proofs.Common.{rules, ◌≡◌, ◌<◌, ℕ, length, List, [], ◌∷◌, ◌++◌, map, subst, ap, ◌∙◌}
+use Rattle.std.proofs.Common.{◌≡◌, ◌<◌, ◌≤◌, ℕ, length, get_or, List, [], ◌∷◌, ◌++◌, map, refl, subst, ap, ◌∙◌}
 use Rattle.std.specs.Prelude.{OnOk}
-use Rattle.pg_item_index.specs.Codes.{byte_of_form, with_byte, with_text, with_expression, with_pairs, with_perhaps, with_whens, with_operands, with_tests, with_suffixes, with_names}
-use Rattle.pg_meaning.specs.Parse.{operands_of, pairs_of, whens_of}
-use Rattle.pg_syntax_tree.specs.View.{expression_view, name_view, names_view, operand_view, pair_view, suffixes_of, tests_of, when_view, suffix_view, test_view, perhaps_view}
+use Rattle.pg_item_index.specs.Codes.{byte_of_form, with_byte, with_text, with_literal, with_expression, with_expressions, with_pairs, with_perhaps, with_whens, with_operands, with_tests, with_suffixes, with_names}
+use Rattle.pg_meaning.specs.Parse.{expressions_of, operands_of, pairs_of, whens_of}
+use Rattle.pg_syntax_tree.specs.View.{expression_view, literal_view, name_view, names_view, operand_view, pair_view, suffixes_of, tests_of, when_view, suffix_view, test_view, perhaps_view}
 use Rattle.pg_syntax_tree.specs.declared.expression.Expression.{Expression}
 use Rattle.pg_syntax_tree.proofs.Views.{map_is, case_is, chain_is, tests_is, suffixes_is}
 use Rattle.pg_item_index.proofs.CodeSteps as lemma
 use Rattle.pg_item_index.proofs.codes.+codes.Goals as goal
+
+pub add_expression-returns-in-Literal : goal.add_expression-returns-in-Literal
+add_expression-returns-in-Literal t c =
+    let x = c.in-Literal in
+    let e = c.args.expression.now in
+    let first = c.add_byte.new.code.items in
+    let last = c.add_literal in
+    subst (λ (code : List ℕ). OnOk last.result (last.new.code.items ≡ code))
+    (lemma.form_written e c.args.code.now.items first c.byte_of_form.result _ (with_literal (literal_view x.literal)) (lemma.literal_seen x.literal x.is) c.byte_of_form.ensures c.in_ok-add_byte.ensures refl) last.ensures
+
+pub add_expression-returns-in-Parameter : goal.add_expression-returns-in-Parameter
+add_expression-returns-in-Parameter t c =
+    let x = c.in-Parameter in
+    let e = c.args.expression.now in
+    let first = c.add_byte.new.code.items in
+    let last = c.add_text in
+    subst (λ (code : List ℕ). OnOk last.result (last.new.code.items ≡ code))
+    (ap (λ (s : List ℕ). with_text s first) c.as_str.ensures.value ∙ lemma.form_written e c.args.code.now.items first c.byte_of_form.result _ (with_text (name_view x.name).text) (lemma.parameter_seen x.name x.is) c.byte_of_form.ensures c.in_ok-add_byte.ensures refl) last.ensures
+
+pub add_expression-returns-in-Variable : goal.add_expression-returns-in-Variable
+add_expression-returns-in-Variable t c =
+    let x = c.in-Variable in
+    let e = c.args.expression.now in
+    let first = c.add_byte.new.code.items in
+    let last = c.add_text-in-Variable in
+    subst (λ (code : List ℕ). OnOk last.result (last.new.code.items ≡ code))
+    (ap (λ (s : List ℕ). with_text s first) c.as_str-in-Variable.ensures.value ∙ lemma.form_written e c.args.code.now.items first c.byte_of_form.result _ (with_text (name_view x.name).text) (lemma.variable_seen x.name x.is) c.byte_of_form.ensures c.in_ok-add_byte.ensures refl) last.ensures
+
+pub add_expression-returns-in-ListLiteral : goal.add_expression-returns-in-ListLiteral
+add_expression-returns-in-ListLiteral t c =
+    let x = c.in-ListLiteral in
+    let e = c.args.expression.now in
+    let first = c.add_byte.new.code.items in
+    let last = c.add_all in
+    subst (λ (code : List ℕ). OnOk last.result (last.new.code.items ≡ code))
+    (lemma.form_written e c.args.code.now.items first c.byte_of_form.result _ (with_expressions (expressions_of (map expression_view x.items.items))) (lemma.list_literal_seen x.items x.is) c.byte_of_form.ensures c.in_ok-add_byte.ensures refl) last.ensures
+
+pub add_expression-returns-in-Parentheses : goal.add_expression-returns-in-Parentheses
+add_expression-returns-in-Parentheses t c =
+    let x = c.in-Parentheses in
+    let e = c.args.expression.now in
+    let first = c.add_byte.new.code.items in
+    let last = c.add_expression in
+    subst (λ (code : List ℕ). OnOk last.result (last.new.code.items ≡ code))
+    (ap (λ (y : Expression). with_expression (expression_view y) first) c.deref.ensures ∙ lemma.form_written e c.args.code.now.items first c.byte_of_form.result _ (with_expression (expression_view x.inner.value)) (lemma.parentheses_seen x.inner x.is) c.byte_of_form.ensures c.in_ok-add_byte.ensures refl) last.ensures
 
 pub add_expression-returns-in_ok-add_whens-in-Case : goal.add_expression-returns-in_ok-add_whens-in-Case
 add_expression-returns-in_ok-add_whens-in-Case t c =
@@ -51,45 +96,49 @@ pub add_pairs-loop-pair-preserved : goal.add_pairs-loop-pair-preserved
 add_pairs-loop-pair-preserved t c =
     let l = c.loop-pair in
     let xs = c.args.pairs.now.items in
-    let inside : l.pair-index < length xs = search rules in
+    let items = c.deref-pair-items.ensures.value in
+    let inside : l.pair-index < length xs = subst (λ ys. l.pair-index < length ys) items c.loop-pair-test.true in
     let x = c.pair-item.result in
-    lemma.written_here lemma.pairs xs l.pair-index x inside (search rules) (c.in_ok-add_expression.ensures ∙ ap (with_expression (expression_view x.1)) (c.in_ok-add_text.ensures ∙ ap (λ (s : List ℕ). with_text s c.add_byte.new.code.items) c.as_str.ensures.value ∙ ap (with_text (name_view x.0).text) c.in_ok-add_byte.ensures)) l.invariant
+    lemma.written_here lemma.pairs xs l.pair-index x inside (c.pair-item.is ∙ ap (λ ys. get_or ys l.pair-index x) items) (c.in_ok-add_expression.ensures ∙ ap (with_expression (expression_view x.1)) (c.in_ok-add_text.ensures ∙ ap (λ (s : List ℕ). with_text s c.add_byte.new.code.items) c.as_str.ensures.value ∙ ap (with_text (name_view x.0).text) c.in_ok-add_byte.ensures)) l.invariant
 
 pub add_all-loop-expression-preserved : goal.add_all-loop-expression-preserved
 add_all-loop-expression-preserved t c =
     let l = c.loop-expression in
     let xs = c.args.expressions.now.items in
-    let inside : l.expression-index < length xs = search rules in
-    lemma.written_here lemma.expressions xs l.expression-index c.expression-item.result inside (search rules) c.in_ok-add_expression.ensures l.invariant
+    let items = c.deref-expression-items.ensures.value in
+    let inside : l.expression-index < length xs = subst (λ ys. l.expression-index < length ys) items c.loop-expression-test.true in
+    lemma.written_here lemma.expressions xs l.expression-index c.expression-item.result inside (c.expression-item.is ∙ ap (λ ys. get_or ys l.expression-index c.expression-item.result) items) c.in_ok-add_expression.ensures l.invariant
 
 pub add_whens-loop-when-preserved : goal.add_whens-loop-when-preserved
 add_whens-loop-when-preserved t c =
     let l = c.loop-when in
     let xs = c.args.whens.now.items in
-    let inside : l.when-index < length xs = search rules in
+    let items = c.deref-when-items.ensures.value in
+    let inside : l.when-index < length xs = subst (λ ys. l.when-index < length ys) items c.loop-when-test.true in
     let x = c.when-item.result in
-    lemma.written_here lemma.whens xs l.when-index x inside (search rules) (c.in_ok-add_expression-2.ensures ∙ ap (with_expression (expression_view x.1)) c.in_ok-add_expression.ensures) l.invariant
+    lemma.written_here lemma.whens xs l.when-index x inside (c.when-item.is ∙ ap (λ ys. get_or ys l.when-index x) items) (c.in_ok-add_expression-2.ensures ∙ ap (with_expression (expression_view x.1)) c.in_ok-add_expression.ensures) l.invariant
 
 pub add_operands-loop-operand-preserved : goal.add_operands-loop-operand-preserved
 add_operands-loop-operand-preserved t c =
     let l = c.loop-operand in
     let xs = c.args.operands.now.items in
-    let inside : l.operand-index < length xs = search rules in
+    let items = c.deref-operand-items.ensures.value in
+    let inside : l.operand-index < length xs = subst (λ ys. l.operand-index < length ys) items c.loop-operand-test.true in
     let x = c.operand-item.result in
-    lemma.written_here lemma.operands xs l.operand-index x inside (search rules) (c.in_ok-add_expression.ensures ∙ ap (with_expression (expression_view x.1)) (c.in_ok-add_byte.ensures ∙ ap (λ b. with_byte b l.code.items) c.byte_of_operator.ensures)) l.invariant
+    lemma.written_here lemma.operands xs l.operand-index x inside (c.operand-item.is ∙ ap (λ ys. get_or ys l.operand-index x) items) (c.in_ok-add_expression.ensures ∙ ap (with_expression (expression_view x.1)) (c.in_ok-add_byte.ensures ∙ ap (λ b. with_byte b l.code.items) c.byte_of_operator.ensures)) l.invariant
 
 pub add_tests-loop-i-preserved : goal.add_tests-loop-i-preserved
 add_tests-loop-i-preserved t c =
     let l = c.loop-i in
     let xs = c.args.tests.now.items in
-    let inside : l.i < length xs = search rules in
+    let inside : l.i < length xs = subst (λ n. l.i < n) (c.len-i-end.ensures ∙ c.args.tests.now.ok.0) c.loop-i-test.true in
     lemma.written_here lemma.tests xs l.i c.index.result.now inside c.index.ensures c.in_ok-add_test.ensures l.invariant
 
 pub add_suffixes-loop-i-preserved : goal.add_suffixes-loop-i-preserved
 add_suffixes-loop-i-preserved t c =
     let l = c.loop-i in
     let xs = c.args.suffixes.now.items in
-    let inside : l.i < length xs = search rules in
+    let inside : l.i < length xs = subst (λ n. l.i < n) (c.len-i-end.ensures ∙ c.args.suffixes.now.ok.0) c.loop-i-test.true in
     lemma.written_here lemma.suffixes xs l.i c.index.result.now inside c.index.ensures c.in_ok-add_suffix.ensures l.invariant
 
 pub add_all-returns : goal.add_all-returns
@@ -119,3 +168,19 @@ add_operands-returns t c =
     let last = c.add_byte-2 in
     subst (λ (code : List ℕ). OnOk last.result (last.new.code.items ≡ code))
     (lemma.written_all lemma.operands c.deref-operand-items.result.now c.args.operands.now.items l.operand-index c.deref-operand-items.ensures.value c.loop-operand-test.false l.invariant) last.ensures
+
+pub add_tests-returns : goal.add_tests-returns
+add_tests-returns t c =
+    let l = c.loop-i in
+    let last = c.add_byte in
+    let xs = c.args.tests.now.items in
+    let past = subst (λ n. n ≤ l.i) (c.len-i-end.ensures ∙ c.args.tests.now.ok.0) c.loop-i-test.false in
+    subst (λ (code : List ℕ). OnOk last.result (last.new.code.items ≡ code)) (lemma.written_all lemma.tests xs xs l.i refl past l.invariant) last.ensures
+
+pub add_suffixes-returns : goal.add_suffixes-returns
+add_suffixes-returns t c =
+    let l = c.loop-i in
+    let last = c.add_byte in
+    let xs = c.args.suffixes.now.items in
+    let past = subst (λ n. n ≤ l.i) (c.len-i-end.ensures ∙ c.args.suffixes.now.ok.0) c.loop-i-test.false in
+    subst (λ (code : List ℕ). OnOk last.result (last.new.code.items ≡ code)) (lemma.written_all lemma.suffixes xs xs l.i refl past l.invariant) last.ensures

@@ -11,37 +11,65 @@ pub same_expression-returns-then-same_expression : goal.same_expression-returns-
 same_expression-returns-then-same_expression t c = let x = c.in-Chain in let y = c.in-Chain-b in rw x.is (rw y.is (rw (chain_is x.a x.xs) (rw (chain_is y.b y.ys) (lemma.and_then (sym (lemma.same_there c.if-same_expression.ensures c.deref-in-Chain-b.ensures c.deref-in-Chain-b-2.ensures)) c.same_operands.ensures))))
 
 pub same_expression-returns-else-same_expression : goal.same_expression-returns-else-same_expression
-same_expression-returns-else-same_expression t c = let x = c.in-Chain in let y = c.in-Chain-b in rw x.is (rw y.is (rw (chain_is x.a x.xs) (rw (chain_is y.b y.ys) (grind arith))))
+same_expression-returns-else-same_expression t c =
+    let x = c.in-Chain in
+    let y = c.in-Chain-b in
+    let other = lemma.same_there c.if-same_expression.ensures c.deref-in-Chain-b.ensures c.deref-in-Chain-b-2.ensures in
+    let result = lemma.same_there c.same_expression-in-Chain-b.ensures c.deref-in-Chain-b.ensures c.deref-in-Chain-b-2.ensures in
+    rw x.is (rw y.is (rw (chain_is x.a x.xs) (rw (chain_is y.b y.ys) (lemma.and_else _ (sym other) result))))
 
 pub same_expression-returns-then-same_expression-2 : goal.same_expression-returns-then-same_expression-2
-same_expression-returns-then-same_expression-2 t c = let x = c.in-Tests in let y = c.in-Tests-b in rw x.is (rw y.is (rw (tests_is x.a x.xs) (rw (tests_is y.b y.ys) (grind arith))))
+same_expression-returns-then-same_expression-2 t c =
+    let x = c.in-Tests in
+    let y = c.in-Tests-b in
+    let same = lemma.same_there c.if-same_expression-2.ensures c.deref-in-Tests-b.ensures c.deref-in-Tests-b-2.ensures in
+    rw x.is (rw y.is (rw (tests_is x.a x.xs) (rw (tests_is y.b y.ys) (lemma.and_then (sym same) c.same_tests.ensures))))
 
 pub same_expression-returns-else-same_expression-2 : goal.same_expression-returns-else-same_expression-2
-same_expression-returns-else-same_expression-2 t c = let x = c.in-Tests in let y = c.in-Tests-b in rw x.is (rw y.is (rw (tests_is x.a x.xs) (rw (tests_is y.b y.ys) (grind arith))))
+same_expression-returns-else-same_expression-2 t c =
+    let x = c.in-Tests in
+    let y = c.in-Tests-b in
+    let other = lemma.same_there c.if-same_expression-2.ensures c.deref-in-Tests-b.ensures c.deref-in-Tests-b-2.ensures in
+    let result = lemma.same_there c.same_expression-in-Tests-b.ensures c.deref-in-Tests-b.ensures c.deref-in-Tests-b-2.ensures in
+    rw x.is (rw y.is (rw (tests_is x.a x.xs) (rw (tests_is y.b y.ys) (lemma.and_else _ (sym other) result))))
 
 pub same_expression-returns-then-same_whens : goal.same_expression-returns-then-same_whens
-same_expression-returns-then-same_whens t c = let x = c.in-Case in let y = c.in-Case-b in rw x.is (rw y.is (rw (case_is x.a x.whens x.x) (rw (case_is y.b y.others y.y) (elim c.if-same_perhaps.branch [
-  | goal.same_expression-then-same_perhaps w ↦ grind arith
-  | goal.same_expression-else-same_perhaps w ↦ grind arith
-]))))
+same_expression-returns-then-same_whens t c =
+    let x = c.in-Case in
+    let y = c.in-Case-b in
+    rw x.is (rw y.is (rw (case_is x.a x.whens x.x) (rw (case_is y.b y.others y.y) (elim c.if-same_perhaps.branch [
+      | goal.same_expression-then-same_perhaps w ↦ lemma.and_then (sym (lemma.and_then (sym c.same_perhaps.ensures ∙ w.if-same_perhaps.true) (w.value-is ∙ w.same_whens.ensures)) ∙ c.if-same_whens.true) c.same_perhaps-then-same_whens.ensures
+      | goal.same_expression-else-same_perhaps w ↦ lemma.and_then (sym (lemma.and_else _ (sym c.same_perhaps.ensures ∙ w.if-same_perhaps.false) (w.value-is ∙ c.same_perhaps.ensures)) ∙ c.if-same_whens.true) c.same_perhaps-then-same_whens.ensures
+    ]))))
 
 pub same_expression-returns-else-same_whens : goal.same_expression-returns-else-same_whens
-same_expression-returns-else-same_whens t c = let x = c.in-Case in let y = c.in-Case-b in rw x.is (rw y.is (rw (case_is x.a x.whens x.x) (rw (case_is y.b y.others y.y) (elim c.if-same_perhaps.branch [
-  | goal.same_expression-then-same_perhaps w ↦ grind arith
-  | goal.same_expression-else-same_perhaps w ↦ grind arith
-]))))
+same_expression-returns-else-same_whens t c =
+    let x = c.in-Case in
+    let y = c.in-Case-b in
+    rw x.is (rw y.is (rw (case_is x.a x.whens x.x) (rw (case_is y.b y.others y.y) (elim c.if-same_perhaps.branch [
+      | goal.same_expression-then-same_perhaps w ↦ lemma.and_else _ (sym (lemma.and_then (sym c.same_perhaps.ensures ∙ w.if-same_perhaps.true) (w.value-is ∙ w.same_whens.ensures)) ∙ c.if-same_whens.false) (lemma.and_then (sym c.same_perhaps.ensures ∙ w.if-same_perhaps.true) (w.value-is ∙ w.same_whens.ensures))
+      | goal.same_expression-else-same_perhaps w ↦ lemma.and_else _ (sym (lemma.and_else _ (sym c.same_perhaps.ensures ∙ w.if-same_perhaps.false) (w.value-is ∙ c.same_perhaps.ensures)) ∙ c.if-same_whens.false) (lemma.and_else _ (sym c.same_perhaps.ensures ∙ w.if-same_perhaps.false) (w.value-is ∙ c.same_perhaps.ensures))
+    ]))))
 
 pub same_expression-returns-then-same_suffixes : goal.same_expression-returns-then-same_suffixes
-same_expression-returns-then-same_suffixes t c = let x = c.in-Suffixes in let y = c.in-Suffixes-b in rw x.is (rw y.is (rw (suffixes_is x.a x.xs x.ls) (rw (suffixes_is y.b y.ys y.ms) (elim c.if-same_expression-3.branch [
-  | goal.same_expression-then-same_expression-3 w ↦ grind arith
-  | goal.same_expression-else-same_expression-3 w ↦ grind arith
-]))))
+same_expression-returns-then-same_suffixes t c =
+    let x = c.in-Suffixes in
+    let y = c.in-Suffixes-b in
+    let first = lemma.same_there c.same_expression-in-Suffixes-b.ensures c.deref-in-Suffixes-b.ensures c.deref-in-Suffixes-b-2.ensures in
+    rw x.is (rw y.is (rw (suffixes_is x.a x.xs x.ls) (rw (suffixes_is y.b y.ys y.ms) (elim c.if-same_expression-3.branch [
+      | goal.same_expression-then-same_expression-3 w ↦ lemma.and_then (sym (lemma.and_then (sym first ∙ w.if-same_expression-3.true) (w.value-is ∙ w.same_suffixes.ensures)) ∙ c.if-same_suffixes.true) c.same_names.ensures
+      | goal.same_expression-else-same_expression-3 w ↦ lemma.and_then (sym (lemma.and_else _ (sym first ∙ w.if-same_expression-3.false) (w.value-is ∙ first)) ∙ c.if-same_suffixes.true) c.same_names.ensures
+    ]))))
 
 pub same_expression-returns-else-same_suffixes : goal.same_expression-returns-else-same_suffixes
-same_expression-returns-else-same_suffixes t c = let x = c.in-Suffixes in let y = c.in-Suffixes-b in rw x.is (rw y.is (rw (suffixes_is x.a x.xs x.ls) (rw (suffixes_is y.b y.ys y.ms) (elim c.if-same_expression-3.branch [
-  | goal.same_expression-then-same_expression-3 w ↦ grind arith
-  | goal.same_expression-else-same_expression-3 w ↦ grind arith
-]))))
+same_expression-returns-else-same_suffixes t c =
+    let x = c.in-Suffixes in
+    let y = c.in-Suffixes-b in
+    let first = lemma.same_there c.same_expression-in-Suffixes-b.ensures c.deref-in-Suffixes-b.ensures c.deref-in-Suffixes-b-2.ensures in
+    rw x.is (rw y.is (rw (suffixes_is x.a x.xs x.ls) (rw (suffixes_is y.b y.ys y.ms) (elim c.if-same_expression-3.branch [
+      | goal.same_expression-then-same_expression-3 w ↦ lemma.and_else _ (sym (lemma.and_then (sym first ∙ w.if-same_expression-3.true) (w.value-is ∙ w.same_suffixes.ensures)) ∙ c.if-same_suffixes.false) (lemma.and_then (sym first ∙ w.if-same_expression-3.true) (w.value-is ∙ w.same_suffixes.ensures))
+      | goal.same_expression-else-same_expression-3 w ↦ lemma.and_else _ (sym (lemma.and_else _ (sym first ∙ w.if-same_expression-3.false) (w.value-is ∙ first)) ∙ c.if-same_suffixes.false) (lemma.and_else _ (sym first ∙ w.if-same_expression-3.false) (w.value-is ∙ first))
+    ]))))
 
 pub same_all-loop-i-preserved : goal.same_all-loop-i-preserved
 same_all-loop-i-preserved t c =

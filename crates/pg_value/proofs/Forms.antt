@@ -1,0 +1,119 @@
+-- The data that a value of each type stands for, and that values of other types are not equal.
+use Rattle.std.proofs.Common.{◌≡◌, ℤ, Bool, List, Vec, BTreeMap, String, Global, string_bytes, refl, sym, ap, ◌∙◌}
+use Rattle.pg_meaning.specs.Equality.{eq3}
+use Rattle.pg_meaning.specs.Value.{Value as Datum, null, boolean, integer, text, list, mapping, node, relationship, path}
+use Rattle.pg_meaning.specs.declared.logic.Tri.TheVariants.{False, Null}
+use Rattle.pg_value_core.specs.View.{view, view_step, values_view, entries_view}
+use Rattle.pg_value_core.specs.declared.ids.NodeId.{NodeId}
+use Rattle.pg_value_core.specs.declared.ids.Path.{Path}
+use Rattle.pg_value_core.specs.declared.ids.RelId.{RelId}
+use Rattle.pg_value_core.specs.declared.value.Value.{Value}
+use Rattle.pg_value_core.specs.declared.value.Value.TheFolds.{fold-roll-Value}
+use Rattle.pg_value_core.specs.declared.value.Value.TheOpen.{Value-F}
+use Rattle.pg_value_core.specs.declared.value.Value.TheVariants as code
+use Rattle.pg_value_core.specs.declared.value.Value.TheViews.{out-Value, roll-Value, roll-out-Value, rolls-Null, rolls-Bool, rolls-Int, rolls-Text, rolls-List, rolls-Map, rolls-Node, rolls-Rel, rolls-Path}
+
+null_seen : {v : Value} → v ≡ code.Null → view v ≡ null
+null_seen is = ap view (is ∙ sym rolls-Null) ∙ fold-roll-Value Datum view_step Value-F.Null
+
+pub bool_seen : {v : Value} (x : Bool) → v ≡ code.Bool x → view v ≡ boolean x
+bool_seen x is = ap view (is ∙ sym (rolls-Bool x)) ∙ fold-roll-Value Datum view_step (Value-F.Bool x)
+
+pub int_seen : {v : Value} (i : ℤ) → v ≡ code.Int i → view v ≡ integer i
+int_seen i is = ap view (is ∙ sym (rolls-Int i)) ∙ fold-roll-Value Datum view_step (Value-F.Int i)
+
+pub text_seen : {v : Value} (s : String Global) → v ≡ code.Text s → view v ≡ text (string_bytes s)
+text_seen s is = ap view (is ∙ sym (rolls-Text s)) ∙ fold-roll-Value Datum view_step (Value-F.Text s)
+
+pub list_seen : {v : Value} (vs : Vec Value Global) → v ≡ code.List vs → view v ≡ list (values_view vs.items)
+list_seen vs is = ap view (is ∙ sym (rolls-List vs)) ∙ fold-roll-Value Datum view_step (Value-F.List vs)
+
+pub map_seen : {v : Value} (m : BTreeMap (String Global) Value) → v ≡ code.Map m → view v ≡ mapping (entries_view m.entries)
+map_seen m is = ap view (is ∙ sym (rolls-Map m)) ∙ fold-roll-Value Datum view_step (Value-F.Map m)
+
+pub node_seen : {v : Value} (n : NodeId) → v ≡ code.Node n → view v ≡ node n.0
+node_seen n is = ap view (is ∙ sym (rolls-Node n)) ∙ fold-roll-Value Datum view_step (Value-F.Node n)
+
+pub rel_seen : {v : Value} (r : RelId) → v ≡ code.Rel r → view v ≡ relationship r.0
+rel_seen r is = ap view (is ∙ sym (rolls-Rel r)) ∙ fold-roll-Value Datum view_step (Value-F.Rel r)
+
+pub path_seen : {v : Value} (p : Path) → v ≡ code.Path p → view v ≡ path p.0.items
+path_seen p is = ap view (is ∙ sym (rolls-Path p)) ∙ fold-roll-Value Datum view_step (Value-F.Path p)
+
+pub both_seen : (a b : Value) (v w : Datum) → view a ≡ v → view b ≡ w → eq3 v w ≡ eq3 (view a) (view b)
+both_seen a b v w e f = sym (ap (λ u. eq3 u (view b)) e ∙ ap (eq3 v) f)
+
+pub null_left : (a b : Value) → a ≡ code.Null → Null ≡ eq3 (view a) (view b)
+null_left a b is = sym (ap (λ u. eq3 u (view b)) (null_seen is))
+
+with_null : (v : Datum) → Null ≡ eq3 v null
+with_null null = refl
+with_null v = refl
+
+pub null_right : (a b : Value) → b ≡ code.Null → Null ≡ eq3 (view a) (view b)
+null_right a b is = with_null (view a) ∙ sym (ap (eq3 (view a)) (null_seen is))
+
+module _ (b : Value) (some : b ≡ code.Null → ⊥) where
+  bool_apart : (x : Bool) (part : Value-F Value) → roll-Value part ≡ b → ((x : Bool) → b ≡ code.Bool x → ⊥) → False ≡ eq3 (boolean x) (view b)
+  bool_apart x Value-F.Null same none = absurd (some (sym same ∙ rolls-Null))
+  bool_apart x (Value-F.Bool y) same none = absurd (none y (sym same ∙ rolls-Bool y))
+  bool_apart x part same none = ap (eq3 (boolean x)) (sym (fold-roll-Value Datum view_step part) ∙ ap view same)
+
+  pub other_bool : (a : Value) (x : Bool) → a ≡ code.Bool x → ((x : Bool) → b ≡ code.Bool x → ⊥) → False ≡ eq3 (view a) (view b)
+  other_bool a x is none = bool_apart x (out-Value b) (roll-out-Value b) none ∙ ap (λ v. eq3 v (view b)) (sym (bool_seen x is))
+
+  int_apart : (i : ℤ) (part : Value-F Value) → roll-Value part ≡ b → ((i : ℤ) → b ≡ code.Int i → ⊥) → False ≡ eq3 (integer i) (view b)
+  int_apart i Value-F.Null same none = absurd (some (sym same ∙ rolls-Null))
+  int_apart i (Value-F.Int y) same none = absurd (none y (sym same ∙ rolls-Int y))
+  int_apart i part same none = ap (eq3 (integer i)) (sym (fold-roll-Value Datum view_step part) ∙ ap view same)
+
+  pub other_int : (a : Value) (i : ℤ) → a ≡ code.Int i → ((i : ℤ) → b ≡ code.Int i → ⊥) → False ≡ eq3 (view a) (view b)
+  other_int a i is none = int_apart i (out-Value b) (roll-out-Value b) none ∙ ap (λ v. eq3 v (view b)) (sym (int_seen i is))
+
+  text_apart : (s : String Global) (part : Value-F Value) → roll-Value part ≡ b → ((s : String Global) → b ≡ code.Text s → ⊥) → False ≡ eq3 (text (string_bytes s)) (view b)
+  text_apart s Value-F.Null same none = absurd (some (sym same ∙ rolls-Null))
+  text_apart s (Value-F.Text y) same none = absurd (none y (sym same ∙ rolls-Text y))
+  text_apart s part same none = ap (eq3 (text (string_bytes s))) (sym (fold-roll-Value Datum view_step part) ∙ ap view same)
+
+  pub other_text : (a : Value) (s : String Global) → a ≡ code.Text s → ((s : String Global) → b ≡ code.Text s → ⊥) → False ≡ eq3 (view a) (view b)
+  other_text a s is none = text_apart s (out-Value b) (roll-out-Value b) none ∙ ap (λ v. eq3 v (view b)) (sym (text_seen s is))
+
+  list_apart : (vs : Vec Value Global) (part : Value-F Value) → roll-Value part ≡ b → ((vs : Vec Value Global) → b ≡ code.List vs → ⊥) → False ≡ eq3 (list (values_view vs.items)) (view b)
+  list_apart vs Value-F.Null same none = absurd (some (sym same ∙ rolls-Null))
+  list_apart vs (Value-F.List y) same none = absurd (none y (sym same ∙ rolls-List y))
+  list_apart vs part same none = ap (eq3 (list (values_view vs.items))) (sym (fold-roll-Value Datum view_step part) ∙ ap view same)
+
+  pub other_list : (a : Value) (vs : Vec Value Global) → a ≡ code.List vs → ((vs : Vec Value Global) → b ≡ code.List vs → ⊥) → False ≡ eq3 (view a) (view b)
+  other_list a vs is none = list_apart vs (out-Value b) (roll-out-Value b) none ∙ ap (λ v. eq3 v (view b)) (sym (list_seen vs is))
+
+  map_apart : (m : BTreeMap (String Global) Value) (part : Value-F Value) → roll-Value part ≡ b → ((m : BTreeMap (String Global) Value) → b ≡ code.Map m → ⊥) → False ≡ eq3 (mapping (entries_view m.entries)) (view b)
+  map_apart m Value-F.Null same none = absurd (some (sym same ∙ rolls-Null))
+  map_apart m (Value-F.Map y) same none = absurd (none y (sym same ∙ rolls-Map y))
+  map_apart m part same none = ap (eq3 (mapping (entries_view m.entries))) (sym (fold-roll-Value Datum view_step part) ∙ ap view same)
+
+  pub other_map : (a : Value) (m : BTreeMap (String Global) Value) → a ≡ code.Map m → ((m : BTreeMap (String Global) Value) → b ≡ code.Map m → ⊥) → False ≡ eq3 (view a) (view b)
+  other_map a m is none = map_apart m (out-Value b) (roll-out-Value b) none ∙ ap (λ v. eq3 v (view b)) (sym (map_seen m is))
+
+  node_apart : (n : NodeId) (part : Value-F Value) → roll-Value part ≡ b → ((n : NodeId) → b ≡ code.Node n → ⊥) → False ≡ eq3 (node n.0) (view b)
+  node_apart n Value-F.Null same none = absurd (some (sym same ∙ rolls-Null))
+  node_apart n (Value-F.Node y) same none = absurd (none y (sym same ∙ rolls-Node y))
+  node_apart n part same none = ap (eq3 (node n.0)) (sym (fold-roll-Value Datum view_step part) ∙ ap view same)
+
+  pub other_node : (a : Value) (n : NodeId) → a ≡ code.Node n → ((n : NodeId) → b ≡ code.Node n → ⊥) → False ≡ eq3 (view a) (view b)
+  other_node a n is none = node_apart n (out-Value b) (roll-out-Value b) none ∙ ap (λ v. eq3 v (view b)) (sym (node_seen n is))
+
+  rel_apart : (r : RelId) (part : Value-F Value) → roll-Value part ≡ b → ((r : RelId) → b ≡ code.Rel r → ⊥) → False ≡ eq3 (relationship r.0) (view b)
+  rel_apart r Value-F.Null same none = absurd (some (sym same ∙ rolls-Null))
+  rel_apart r (Value-F.Rel y) same none = absurd (none y (sym same ∙ rolls-Rel y))
+  rel_apart r part same none = ap (eq3 (relationship r.0)) (sym (fold-roll-Value Datum view_step part) ∙ ap view same)
+
+  pub other_rel : (a : Value) (r : RelId) → a ≡ code.Rel r → ((r : RelId) → b ≡ code.Rel r → ⊥) → False ≡ eq3 (view a) (view b)
+  other_rel a r is none = rel_apart r (out-Value b) (roll-out-Value b) none ∙ ap (λ v. eq3 v (view b)) (sym (rel_seen r is))
+
+  path_apart : (p : Path) (part : Value-F Value) → roll-Value part ≡ b → ((p : Path) → b ≡ code.Path p → ⊥) → False ≡ eq3 (path p.0.items) (view b)
+  path_apart p Value-F.Null same none = absurd (some (sym same ∙ rolls-Null))
+  path_apart p (Value-F.Path y) same none = absurd (none y (sym same ∙ rolls-Path y))
+  path_apart p part same none = ap (eq3 (path p.0.items)) (sym (fold-roll-Value Datum view_step part) ∙ ap view same)
+
+  pub other_path : (a : Value) (p : Path) → a ≡ code.Path p → ((p : Path) → b ≡ code.Path p → ⊥) → False ≡ eq3 (view a) (view b)
+  other_path a p is none = path_apart p (out-Value b) (roll-out-Value b) none ∙ ap (λ v. eq3 v (view b)) (sym (path_seen p is))

@@ -4,6 +4,7 @@ use Rattle.pg_meaning.specs.Equality.{items_eq3, entries_eq3}
 use Rattle.pg_meaning.specs.Logic.{and3, tri_of}
 use Rattle.pg_value_core.specs.View.{values_view, entries_view}
 use Rattle.pg_value.proofs.Forms as form
+use Rattle.pg_value_core.proofs.Forms as value
 use Rattle.pg_value.proofs.Steps.{items_begun, items_step, items_over, items_left, items_done, entries_begun, entries_step, entries_differ, entries_over, entries_left, entries_done}
 use Rattle.pg_value.proofs.Tables.{and_false}
 use Rattle.pg_value.proofs.equality.+eq3.Goals as goal
@@ -11,37 +12,37 @@ use Rattle.pg_value.proofs.equality.+eq3.Goals as goal
 pub eq3-returns-in-Bool-Bool : goal.eq3-returns-in-Bool-Bool
 eq3-returns-in-Bool-Bool t c =
     let h = c.in-Bool-Bool in
-    c.truth.ensures ∙ form.both_seen c.args.a.now c.args.b.now _ _ (form.bool_seen h.x h.is-0) (form.bool_seen h.y h.is-1)
+    c.truth.ensures ∙ form.both_seen c.args.a.now c.args.b.now _ _ (value.bool_seen h.x h.is-0) (value.bool_seen h.y h.is-1)
 
 pub eq3-returns-in-Text-Text : goal.eq3-returns-in-Text-Text
 eq3-returns-in-Text-Text t c =
     let h = c.in-Text-Text in
-    c.truth-in-Text-Text.ensures ∙ ap tri_of c.eq.ensures ∙ form.both_seen c.args.a.now c.args.b.now _ _ (form.text_seen h.x h.is-0) (form.text_seen h.y h.is-1)
+    c.truth-in-Text-Text.ensures ∙ ap tri_of c.eq.ensures ∙ form.both_seen c.args.a.now c.args.b.now _ _ (value.text_seen h.x h.is-0) (value.text_seen h.y h.is-1)
 
 pub eq3-returns-in-List-List : goal.eq3-returns-in-List-List
 eq3-returns-in-List-List t c =
     let h = c.in-List-List in
-    c.eq3_items.ensures ∙ form.both_seen c.args.a.now c.args.b.now _ _ (form.list_seen h.xs h.is-0) (form.list_seen h.ys h.is-1)
+    c.eq3_items.ensures ∙ form.both_seen c.args.a.now c.args.b.now _ _ (value.list_seen h.xs h.is-0) (value.list_seen h.ys h.is-1)
 
 pub eq3-returns-in-Map-Map : goal.eq3-returns-in-Map-Map
 eq3-returns-in-Map-Map t c =
     let h = c.in-Map-Map in
-    c.eq3_entries.ensures ∙ form.both_seen c.args.a.now c.args.b.now _ _ (form.map_seen h.xs h.is-0) (form.map_seen h.ys h.is-1)
+    c.eq3_entries.ensures ∙ form.both_seen c.args.a.now c.args.b.now _ _ (value.map_seen h.xs h.is-0) (value.map_seen h.ys h.is-1)
 
 pub eq3-returns-in-Node-Node : goal.eq3-returns-in-Node-Node
 eq3-returns-in-Node-Node t c =
     let h = c.in-Node-Node in
-    c.truth-in-Node-Node.ensures ∙ form.both_seen c.args.a.now c.args.b.now _ _ (form.node_seen h.x h.is-0) (form.node_seen h.y h.is-1)
+    c.truth-in-Node-Node.ensures ∙ form.both_seen c.args.a.now c.args.b.now _ _ (value.node_seen h.x h.is-0) (value.node_seen h.y h.is-1)
 
 pub eq3-returns-in-Rel-Rel : goal.eq3-returns-in-Rel-Rel
 eq3-returns-in-Rel-Rel t c =
     let h = c.in-Rel-Rel in
-    c.truth-in-Rel-Rel.ensures ∙ form.both_seen c.args.a.now c.args.b.now _ _ (form.rel_seen h.x h.is-0) (form.rel_seen h.y h.is-1)
+    c.truth-in-Rel-Rel.ensures ∙ form.both_seen c.args.a.now c.args.b.now _ _ (value.rel_seen h.x h.is-0) (value.rel_seen h.y h.is-1)
 
 pub eq3-returns-in-Path-Path : goal.eq3-returns-in-Path-Path
 eq3-returns-in-Path-Path t c =
     let h = c.in-Path-Path in
-    c.truth-in-Path-Path.ensures ∙ ap tri_of c.eq-in-Path-Path.ensures ∙ form.both_seen c.args.a.now c.args.b.now _ _ (form.path_seen h.x h.is-0) (form.path_seen h.y h.is-1)
+    c.truth-in-Path-Path.ensures ∙ ap tri_of c.eq-in-Path-Path.ensures ∙ form.both_seen c.args.a.now c.args.b.now _ _ (value.path_seen h.x h.is-0) (value.path_seen h.y h.is-1)
 
 pub eq3-returns-in_default : goal.eq3-returns-in_default
 eq3-returns-in_default t c = let h = c.in_default in form.other_bool c.args.b.now h.not-Null-1 c.args.a.now h.field-0-0 h.is-0 h.not-Bool-1

@@ -12,7 +12,7 @@ def built(folder):
     """The program, proved and built in a copy of the repository below this folder. Libraries that rt check left here aren't proved anew."""
     copy = Path(folder) / "repository"
     copy.mkdir()
-    # (hard links, since what rt check keeps is large; a check replaces files and writes into none)
+    # (hard links, since what rt check keeps there is large)
     subprocess.run(["cp", "-al", ROOT / "crates", copy / "crates"], check=True)
     for name in ("HANDLES", "crates.txt"):
         shutil.copy(ROOT / name, copy)

@@ -25,7 +25,7 @@ use Rattle.pg_rows.specs.Sorts.{directions, keyed_below, numbered, sorted_by, so
 use Rattle.pg_rows.specs.Tables.{first_places, rows_at_places, EachBelow}
 use Rattle.pg_project.proofs.EachAnswer.{each_mapped, each_is, as_many, by_case}
 use Rattle.pg_project.proofs.Standing.{seen_as, value_in_first}
-use Rattle.pg_group.specs.Items.{columns_of}
+use Rattle.pg_project.specs.Items.{columns_of}
 use Rattle.pg_project.specs.Given.{distinct_given, key_of, chosen_key, key_given, keys_given, all_keys_given, ordered_given}
 use Rattle.pg_project.specs.Parts.{stands}
 

@@ -10,7 +10,7 @@ use Rattle.pg_meaning.specs.Scopes.{column_names, star_columns, variable_column}
 use Rattle.pg_meaning.specs.Tree.{Expression, variable, Item, Projection}
 use Rattle.pg_project.proofs.InTurn.{drop_here, drop_none, joined, nothing_behind}
 use Rattle.pg_project.specs.Columns.{column_of, columns_view, naming_columns, star_names, texts_of, trees_in, values_in_items, variable_tree, variable_trees}
-use Rattle.pg_group.specs.Items.{columns_of, expressions_view}
+use Rattle.pg_project.specs.Items.{columns_of, expressions_view}
 use Rattle.pg_syntax_tree.specs.View.{expression_view, item_view, name_view, view_step}
 use Rattle.pg_syntax_tree.specs.declared.expression.Expression.{Expression as Code}
 use Rattle.pg_syntax_tree.specs.declared.expression.Expression.TheFolds.{fold-roll-Expression}

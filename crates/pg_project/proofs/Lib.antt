@@ -2,7 +2,6 @@ pub mod Arranged
 pub mod ColumnViews
 pub mod Conditions
 pub mod EachAnswer
-pub mod ExitLemmas
 pub mod InTurn
 pub mod Kept
 pub mod MadeLemmas
@@ -17,3 +16,17 @@ pub mod Unwinding
 pub mod UnwoundLemmas
 pub mod Wide
 pub mod WideRows
+pub mod Apart
+pub mod Best
+pub mod Cells
+pub mod Different
+pub mod ExitLemmas
+pub mod Folding
+pub mod Grouping
+pub mod Lifts
+pub mod Measures
+pub mod Merging
+pub mod Numbered
+pub mod Ranges
+pub mod RowLemmas
+pub mod Turns

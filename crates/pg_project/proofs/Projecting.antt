@@ -27,7 +27,7 @@ use Rattle.pg_project.proofs.InTurn.{bound_twice, nothing_behind}
 use Rattle.pg_project.proofs.Kept.{cut_map, passing_stand}
 use Rattle.pg_project.proofs.Standing.{all_rows}
 use Rattle.pg_project.proofs.Wide.{table_wide}
-use Rattle.pg_group.specs.Items.{columns_of, of_columns}
+use Rattle.pg_project.specs.Items.{columns_of, of_columns}
 use Rattle.pg_project.specs.Given.{Cut, count_at, cut_given, cut_of, distinct_given, earlier_names, has_aggregate, has_none, hides_earlier, ordered_given, passing_given, tail_given, wide_rows_given}
 use Rattle.pg_project.specs.Parts.{rows_ended, rows_projected, stands}
 

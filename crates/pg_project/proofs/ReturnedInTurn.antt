@@ -12,7 +12,7 @@ use Rattle.pg_meaning.specs.Value.{Value}
 use Rattle.pg_meaning.specs.declared.fault.Fault.{Fault}
 use Rattle.pg_rows.proofs.NamedRows.{values_are}
 use Rattle.pg_rows.specs.Named.{row_of, rows_named}
-use Rattle.pg_group.specs.Items.{columns_of}
+use Rattle.pg_project.specs.Items.{columns_of}
 use Rattle.pg_project.proofs.EachAnswer.{as_many, each_is, each_seen}
 use Rattle.pg_project.proofs.Kept.{cut_map}
 use Rattle.pg_project.proofs.Projecting.{aggregates_are, behind, column_rows, columns_only, cut_later, cut_rows}

@@ -13,7 +13,7 @@ use Rattle.pg_meaning.specs.Value.{Value, null}
 use Rattle.pg_meaning.specs.declared.fault.Fault.{Fault}
 use Rattle.pg_rows.specs.Named.{row_of, rows_named}
 use Rattle.pg_project.proofs.EachAnswer.{each_seen, as_many, by_case}
-use Rattle.pg_group.specs.Items.{columns_of}
+use Rattle.pg_project.specs.Items.{columns_of}
 use Rattle.pg_project.specs.Given.{values_given, wide_given, wide_rows_given}
 use Rattle.pg_project.specs.Parts.{stands}
 

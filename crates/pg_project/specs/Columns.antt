@@ -6,7 +6,7 @@ use Rattle.pg_meaning.specs.Scopes.{Column, with_column, return_column, projecti
 use Rattle.pg_meaning.specs.Tree.{Expression, variable, Item, Projection}
 use Rattle.pg_syntax_tree.specs.View.{expression_view, item_view}
 use Rattle.pg_syntax_tree.specs.declared.expression.Expression.{Expression as Code}
-use Rattle.pg_group.specs.Items.{columns_of}
+use Rattle.pg_project.specs.Items.{columns_of}
 use Rattle.pg_project.specs.declared.columns.Naming.{Naming}
 use Rattle.pg_project.specs.declared.columns.Naming.TheVariants.{Variable, Source}
 use Rattle.pg_project.specs.declared.projection_columns.ProjectionColumns.{ProjectionColumns}

@@ -5,3 +5,10 @@ pub mod Parts
 pub mod Sources
 pub mod Unwound
 pub mod Returned
+pub mod Items
+pub mod Kept
+pub mod KeptGroups
+pub mod ReadyItems
+pub mod Sites
+pub mod Summaries
+pub mod Views

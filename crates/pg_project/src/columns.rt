@@ -1,10 +1,10 @@
 //! The columns of WITH and RETURN.
 ghost use Rattle.std.specs.Prelude.{◌≡◌, ◌++◌, ◌+◌, ◌∷◌, [], cond, length, map, IfOk, OnOk};
-ghost use Rattle.pg_group.specs.Items.{columns_of, expressions_view};
 ghost use Rattle.pg_meaning.specs.Names.{in_byte_order};
 ghost use Rattle.pg_meaning.specs.Scopes.{column_names, variable_text};
 ghost use Rattle.pg_project.specs.Columns.{column_of, columns_view, naming_columns, star_names, texts_of, trees_in, variable_trees};
 ghost use Rattle.pg_project.specs.Given.{earlier_names};
+ghost use Rattle.pg_project.specs.Items.{columns_of, expressions_view};
 ghost use Rattle.pg_syntax_tree.specs.View.{expression_view, item_view, projection_view};
 
 use crate::projection_columns::ProjectionColumns;

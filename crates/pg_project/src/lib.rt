@@ -1,15 +1,26 @@
-//! UNWIND, and the projections of WITH and RETURN.
+//! UNWIND, and the projections of WITH and RETURN, with their groups and aggregates.
 #![tactic(auto)]
 
+mod aggregates;
+mod collected;
 mod columns;
 mod counts;
+mod group;
+mod groups;
+mod held;
+mod items;
 mod lists;
 mod parts;
 mod passing;
 mod project;
 mod projection_columns;
 mod returned;
+mod rows;
+mod site;
 mod sorting;
+mod taken;
+mod taking;
+mod told;
 mod unwind;
 mod values;
 

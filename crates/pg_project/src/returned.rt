@@ -1,14 +1,14 @@
 //! RETURN whose rows come in turn.
 ghost use Rattle.std.specs.Prelude.{◌≡◌, true, IfOk};
-ghost use Rattle.pg_group.specs.Items.{expressions_view};
 ghost use Rattle.pg_meaning.specs.Scopes.{return_columns};
 ghost use Rattle.pg_project.specs.Columns.{columns_view};
+ghost use Rattle.pg_project.specs.Items.{expressions_view};
 ghost use Rattle.pg_project.specs.Returned.{ComeInTurn};
 ghost use Rattle.pg_syntax_tree.specs.View.{projection_view};
 
+use crate::aggregates::have_aggregate;
 use crate::columns::{Naming, make_columns};
 use crate::projection_columns::ProjectionColumns;
-use pg_group::have_aggregate;
 use pg_rows::Columns;
 use pg_syntax_tree::{Expression, Projection};
 use std::alloc::{AllocError, Global};

@@ -1,8 +1,8 @@
 //! What expressions give at rows, one expression after the other.
 ghost use Rattle.std.specs.Prelude.{◌≡◌, ◌≢◌, ◌<◌, ◌+◌, ◌++◌, [], cond, drop, length, map, IfOk, IfErr, OnOk, Ok, Err};
 ghost use Rattle.pg_meaning.specs.declared.fault.Fault.TheVariants.{OutOfMemory};
-ghost use Rattle.pg_group.specs.Items.{expressions_view};
 ghost use Rattle.pg_project.specs.Given.{trees_of, values_given, wide_rows_given};
+ghost use Rattle.pg_project.specs.Items.{expressions_view};
 ghost use Rattle.pg_rows.specs.Left.{first_row, rows_left};
 ghost use Rattle.pg_rows.specs.Tables.{table};
 ghost use Rattle.pg_value_core.specs.Given.{parameters_view};

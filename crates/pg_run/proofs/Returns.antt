@@ -1,7 +1,7 @@
 -- RETURN whose rows are told one after the other.
 use Rattle.std.proofs.Common.{◌≡◌, ℕ, ◌+◌, Bool, List, [], ◌∷◌, ◌++◌, map, length, length-append, Result, Ok, Err, None, refl, sym, ap, subst, ◌∙◌, arith}
 use Rattle.serde_json.specs.Data.{Items}
-use Rattle.pg_group.specs.Items.{columns_of}
+use Rattle.pg_project.specs.Items.{columns_of}
 use Rattle.pg_meaning.specs.Answer.{◌>>=◌, each_answer}
 use Rattle.pg_meaning.specs.Graph.{Graph}
 use Rattle.pg_meaning.specs.Meters.{Setting, State, spend}

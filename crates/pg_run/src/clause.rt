@@ -21,9 +21,8 @@ use pg_rows::Table;
 use pg_store::{Shared, Store};
 use pg_syntax_tree::Clause;
 use pg_value_core::{Fault, Parameters};
-use pg_write::delete_elements;
+use pg_write::{delete_elements, merge_path};
 use pg_write_make::create_paths;
-use pg_write_merge::merge_path;
 use std::alloc::Global;
 
 /// What a query runs with beside its graph and its steps.

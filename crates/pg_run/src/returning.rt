@@ -1,11 +1,11 @@
 //! RETURN and the reply of its rows.
 ghost use Rattle.std.specs.Prelude.{◌≡◌, length};
-ghost use Rattle.pg_group.specs.Items.{columns_of};
 ghost use Rattle.pg_meaning.specs.Answer.{◌>>=◌ as and_then, each_answer};
 ghost use Rattle.pg_meaning.specs.Meters.{Setting, spend};
 ghost use Rattle.pg_project.specs.Given.{cut_given, cut_of, trees_of, values_given};
-ghost use Rattle.pg_run.specs.Returning.{named_items, returned};
+ghost use Rattle.pg_project.specs.Items.{columns_of};
 ghost use Rattle.pg_rows.specs.States.{seen, state_of, Suits};
+ghost use Rattle.pg_run.specs.Returning.{named_items, returned};
 ghost use Rattle.pg_run.specs.Telling.{told};
 ghost use Rattle.pg_syntax_tree.specs.View.{projection_view};
 ghost use Rattle.pg_value_core.specs.Given.{parameters_view};

@@ -9,3 +9,8 @@ pub mod PartLemmas
 pub mod RemovalLemmas
 pub mod RemoveLemmas
 pub mod StepLemmas
+pub mod MergeClauseLemmas
+pub mod FoundLemmas
+pub mod MergeLemmas
+pub mod ReadyLemmas
+pub mod WalkLemmas

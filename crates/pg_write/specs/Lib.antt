@@ -3,3 +3,5 @@ pub mod Items
 pub mod Maps
 pub mod Parts
 pub mod Targets
+pub mod Mergings
+pub mod Ready

@@ -19,7 +19,7 @@ pub(crate) enum ReadyChange<'a> {
 
 /// An item, with its target.
 #[derive(Clone, Copy)]
-pub struct ReadySet<'a> {
+pub(crate) struct ReadySet<'a> {
     pub(crate) target: &'a Name,
     pub(crate) change: ReadyChange<'a>,
 }
@@ -43,7 +43,7 @@ fn ready_set<'a>(
 }
 
 /// The items, with their expressions made ready.
-pub fn ready_sets<'a>(
+pub(crate) fn ready_sets<'a>(
     alloc: Global,
     names: &Columns,
     items: &'a Vec<SetItem>,

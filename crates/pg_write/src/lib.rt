@@ -1,18 +1,24 @@
-//! SET, REMOVE and DELETE, each by one call.
+//! SET, REMOVE, DELETE and MERGE, each by one call.
 #![tactic(auto)]
 
 mod changes;
 mod deleting;
 mod doomed;
+mod found;
 mod gathering;
 mod items;
 mod maps;
+mod merge;
+mod merged_rows;
+mod merging;
+mod nulls;
 mod removal;
 mod removing;
+mod row_matches;
 mod setting;
 mod targets;
 
 pub use deleting::delete_elements;
-pub use items::{ReadySet, ready_sets};
+pub use merge::merge_path;
 pub use removing::remove_items;
-pub use setting::{set_items, set_row};
+pub use setting::set_items;

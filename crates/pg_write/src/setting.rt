@@ -7,8 +7,8 @@ ghost use Rattle.pg_meaning.specs.Updates.{mapping_pairs, test_storable, set_pai
 ghost use Rattle.pg_meaning.specs.Value.{no_entries};
 ghost use Rattle.pg_meaning.specs.declared.fault.Fault.TheVariants.{OutOfMemory};
 ghost use Rattle.pg_rows.specs.Named.{rows_named};
-ghost use Rattle.pg_rows.specs.Tables.{table};
 ghost use Rattle.pg_rows.specs.States.{Suits, seen, state_of};
+ghost use Rattle.pg_rows.specs.Tables.{table};
 ghost use Rattle.pg_store.specs.Stores.{graph_of_store, pairs_of, IsFit};
 ghost use Rattle.pg_syntax_tree.specs.View.{set_item_view};
 ghost use Rattle.pg_value_core.specs.Given.{parameters_view};
@@ -188,7 +188,7 @@ fn set_item<T: Tables>(
 
 /// Sets what the items say at one row. An error leaves a part of it done, and the caller takes that
 /// back.
-pub fn set_row<T: Tables>(
+pub(crate) fn set_row<T: Tables>(
     scene: &Scene<'_>,
     store: &mut Store<T>,
     shared: &mut Shared<T::Shared>,

@@ -1,6 +1,6 @@
 use Rattle.std.proofs.Common.{◌++◌, refl}
 use Rattle.std.proofs.lemmas.Result.{IfOk-from_err}
-use Rattle.pg_group.specs.Items.{expressions_view}
+use Rattle.pg_project.specs.Items.{expressions_view}
 use Rattle.pg_project.proofs.ColumnViews.{tree_pushed, trees_over}
 use Rattle.pg_project.specs.Columns.{trees_in}
 use Rattle.pg_project.proofs.columns.push_starred.Goals as goal

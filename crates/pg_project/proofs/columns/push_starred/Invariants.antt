@@ -1,6 +1,6 @@
 use Rattle.std.proofs.Common.{◌≡◌, ◌++◌, drop}
 use Rattle.pg_project.specs.Columns.{trees_in}
-use Rattle.pg_group.specs.Items.{expressions_view}
+use Rattle.pg_project.specs.Items.{expressions_view}
 use Rattle.pg_project.proofs.columns.push_starred.Given as goal
 
 abbrev pub invariant-loop-expression : goal.invariant-loop-expression

@@ -1,7 +1,7 @@
 use Rattle.std.proofs.Common.{◌++◌, refl, map}
 use Rattle.std.proofs.lemmas.Result.{IfOk-from_err}
 use Rattle.pg_syntax_tree.specs.View.{item_view}
-use Rattle.pg_group.specs.Items.{expressions_view}
+use Rattle.pg_project.specs.Items.{expressions_view}
 use Rattle.pg_project.proofs.ColumnViews.{tree_pushed, trees_over}
 use Rattle.pg_project.specs.Columns.{values_in_items}
 use Rattle.pg_project.proofs.columns.push_values.Goals as goal

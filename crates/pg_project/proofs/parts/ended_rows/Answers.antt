@@ -9,7 +9,7 @@ use Rattle.pg_project.proofs.ExitLemmas.{memory_passed}
 use Rattle.pg_project.proofs.TailLemmas.{sorts_fail, passed_on}
 use Rattle.pg_project.proofs.Wide.{table_wide}
 use Rattle.pg_project.specs.Cuts.{cut_view}
-use Rattle.pg_group.specs.Items.{expressions_view}
+use Rattle.pg_project.specs.Items.{expressions_view}
 use Rattle.pg_project.specs.Given.{cut_of, distinct_given, ordered_given, passing_given}
 use Rattle.pg_rows.specs.States.{seen}
 use Rattle.pg_rows.specs.Tables.{table}

@@ -7,7 +7,7 @@ use Rattle.pg_expr.proofs.ExitLemmas.{fault_passed}
 use Rattle.pg_project.proofs.Projecting.{cut_fails, items_fail, ended_gives}
 use Rattle.pg_project.specs.Columns.{columns_view}
 use Rattle.pg_project.specs.Cuts.{cut_view}
-use Rattle.pg_group.specs.Items.{columns_of, expressions_view}
+use Rattle.pg_project.specs.Items.{columns_of, expressions_view}
 use Rattle.pg_project.specs.Given.{earlier_names, has_aggregate, hides_earlier}
 use Rattle.pg_project.specs.Parts.{rows_projected, stands}
 use Rattle.pg_rows.specs.Named.{rows_named}

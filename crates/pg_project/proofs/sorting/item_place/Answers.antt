@@ -5,7 +5,7 @@ use Rattle.std.specs.Prelude.{position}
 use Rattle.pg_meaning.specs.Tree.{Expression}
 use Rattle.pg_meaning.specs.Trees.{same_expression}
 use Rattle.pg_project.proofs.SortPlaces.{from_zero, place_here}
-use Rattle.pg_group.specs.Items.{expressions_view}
+use Rattle.pg_project.specs.Items.{expressions_view}
 use Rattle.pg_syntax_tree.specs.View.{expression_view}
 use Rattle.pg_project.proofs.sorting.item_place.Goals as goal
 

@@ -1,7 +1,7 @@
 use Rattle.std.proofs.Common.{◌≡◌, drop}
 use Rattle.std.specs.List.{position_from}
 use Rattle.pg_meaning.specs.Trees.{same_expression}
-use Rattle.pg_group.specs.Items.{expressions_view}
+use Rattle.pg_project.specs.Items.{expressions_view}
 use Rattle.pg_syntax_tree.specs.View.{expression_view}
 use Rattle.pg_project.proofs.sorting.item_place.Given as goal
 

@@ -5,7 +5,7 @@ use Rattle.pg_meaning.specs.declared.fault.Fault.{Fault}
 use Rattle.pg_expr.proofs.ExitLemmas.{fault_passed}
 use Rattle.pg_project.proofs.ExitLemmas.{memory_passed}
 use Rattle.pg_project.proofs.SortPlaces.{ordered_fails, ordered_done, ordered_unsorted}
-use Rattle.pg_group.specs.Items.{expressions_view}
+use Rattle.pg_project.specs.Items.{expressions_view}
 use Rattle.pg_project.specs.Given.{all_keys_given, ordered_given}
 use Rattle.pg_project.specs.Sources.{sources_view}
 use Rattle.pg_rows.specs.Tables.{table, rows_at_places}

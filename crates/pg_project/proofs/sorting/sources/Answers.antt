@@ -1,6 +1,6 @@
 use Rattle.std.proofs.Common.{◌+◌, ◌∷◌, [], length, map, ap, ◌∙◌}
 use Rattle.std.proofs.lemmas.List.{length-append, map-append}
-use Rattle.pg_group.specs.Items.{expressions_view}
+use Rattle.pg_project.specs.Items.{expressions_view}
 use Rattle.pg_meaning.specs.Tree.{SortItem}
 use Rattle.pg_project.proofs.MadeLemmas.{all_made, map_twice-append, one_made}
 use Rattle.pg_project.specs.Given.{key_of}

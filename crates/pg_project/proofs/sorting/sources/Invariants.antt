@@ -1,5 +1,5 @@
 use Rattle.std.proofs.Common.{◌≡◌, length, map, take}
-use Rattle.pg_group.specs.Items.{expressions_view}
+use Rattle.pg_project.specs.Items.{expressions_view}
 use Rattle.pg_project.specs.Given.{key_of}
 use Rattle.pg_project.specs.Sources.{sources_view}
 use Rattle.pg_syntax_tree.specs.View.{sort_item_view}

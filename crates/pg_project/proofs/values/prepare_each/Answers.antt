@@ -1,7 +1,7 @@
 use Rattle.std.proofs.Common.{◌+◌, ◌∷◌, [], Bor, length, ap, ◌∙◌}
 use Rattle.std.proofs.lemmas.List.{length-append, map-append}
 use Rattle.pg_expr.specs.Prepared.{tree_of}
-use Rattle.pg_group.specs.Items.{expressions_view}
+use Rattle.pg_project.specs.Items.{expressions_view}
 use Rattle.pg_project.proofs.MadeLemmas.{all_made, one_made}
 use Rattle.pg_project.proofs.TurnLemmas.{all_long}
 use Rattle.pg_project.specs.Given.{trees_of}

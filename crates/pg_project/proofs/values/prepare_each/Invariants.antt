@@ -1,5 +1,5 @@
 use Rattle.std.proofs.Common.{◌≡◌, length, take}
-use Rattle.pg_group.specs.Items.{expressions_view}
+use Rattle.pg_project.specs.Items.{expressions_view}
 use Rattle.pg_project.specs.Given.{trees_of}
 use Rattle.pg_project.proofs.values.prepare_each.Given as goal
 

@@ -1,6 +1,6 @@
 use Rattle.std.proofs.Common.{◌≡◌, length, sym, ap, ◌∙◌}
 use Rattle.std.proofs.lemmas.List.{length-map}
-use Rattle.pg_group.specs.Items.{columns_of, expressions_view}
+use Rattle.pg_project.specs.Items.{columns_of, expressions_view}
 use Rattle.pg_meaning.specs.Answer.{◌>>=◌, each_answer}
 use Rattle.pg_meaning.specs.Meters.{spend}
 use Rattle.pg_meaning.specs.Scopes.{return_columns}

@@ -1,8 +1,0 @@
-use Rattle.std.proofs.Common.{◌≡◌, drop, is_some}
-use Rattle.std.specs.List.{list_any}
-use Rattle.pg_group.specs.Items.{expressions_view}
-use Rattle.pg_meaning.specs.Aggregates.{aggregate_of}
-use Rattle.pg_group.proofs.columns.have_aggregate.Given as goal
-
-abbrev pub invariant-loop-expression : goal.invariant-loop-expression
-invariant-loop-expression l = list_any (λ e. is_some (aggregate_of e)) (expressions_view l.expressions.items) ≡ list_any (λ e. is_some (aggregate_of e)) (expressions_view (drop l.expression-index l.expressions.items))

@@ -1,0 +1,138 @@
+//! What is kept of the values that an aggregate has taken in.
+ghost use Rattle.std.specs.Prelude.{◌≡◌, ◌+ℤ◌, [], Ok, option_map, pos};
+ghost use Rattle.pg_meaning.specs.Aggregates.{lesser, greater};
+ghost use Rattle.pg_project.specs.Summaries.{added, better, held_of, held_with, told, value_or_null};
+ghost use Rattle.pg_project.specs.Summaries as kept;
+ghost use Rattle.pg_project.specs.Views.{held_view};
+ghost use Rattle.pg_scope.specs.Calls.{summary_view};
+ghost use Rattle.pg_value_core.specs.Gives.{Gives};
+ghost use Rattle.pg_value_core.specs.View.{view};
+
+use crate::collected::Collected;
+use pg_scope::Summary;
+use pg_value_core::{Fault, Value, order};
+use std::alloc::Global;
+
+/// A count, a sum, the best value so far, or the values.
+pub(crate) enum Held {
+    Count(i64),
+    Sum(i64),
+    Lowest(Option<Value>),
+    Highest(Option<Value>),
+    Values(Collected),
+}
+
+// Written out, since a derived one is proved anew in each function that may let such a value go.
+impl Drop for Held {
+    fn drop(self) {
+        match self {
+            Held::Count(_) => {}
+            Held::Sum(_) => {}
+            Held::Lowest(_) => {}
+            Held::Highest(_) => {}
+            Held::Values(_) => {}
+        }
+    }
+}
+
+impl Held {
+    /// No values yet.
+    pub(crate) fn new(alloc: Global, summary: Summary) -> Held
+        ensures { held_view result ≡ held_of (summary_view summary) [] }
+    {
+        match summary {
+            Summary::Counting => Held::Count(0),
+            Summary::Summing => Held::Sum(0),
+            Summary::Least => Held::Lowest(None),
+            Summary::Greatest => Held::Highest(None),
+            Summary::Collecting => Held::Values(Collected::new(alloc)),
+        }
+    }
+
+    /// With one value more.
+    pub(crate) fn with(self, value: Value) -> Result<Held, Fault>
+        ensures { Gives result (held_with (held_view self) (view value)) held_view }
+    {
+        match self {
+            Held::Count(count) => counted(count),
+            Held::Sum(sum) => with_summand(sum, &value),
+            Held::Lowest(best) => Ok(Held::Lowest(Some(lesser(best, value)))),
+            Held::Highest(best) => Ok(Held::Highest(Some(greater(best, value)))),
+            Held::Values(values) => Ok(Held::Values(values.with(value)?)),
+        }
+    }
+
+    /// What it tells in the end.
+    pub(crate) fn tell(self) -> Value
+        ensures { view result ≡ told (held_view self) }
+    {
+        match self {
+            Held::Count(count) => Value::Int(count),
+            Held::Sum(sum) => Value::Int(sum),
+            Held::Lowest(best) => or_null(best),
+            Held::Highest(best) => or_null(best),
+            Held::Values(values) => values.into_list(),
+        }
+    }
+}
+
+fn counted(count: i64) -> Result<Held, Fault>
+    ensures { Gives result (Ok (kept.count (count +ℤ pos 1))) held_view }
+{
+    match count.checked_add(1) {
+        Some(more) => Ok(Held::Count(more)),
+        None => Err(Fault::OutOfMemory),
+    }
+}
+
+#[tactic(auto, using(crate::proofs::Ranges::in_range, crate::proofs::Ranges::out_of_range))]
+fn with_summand(sum: i64, value: &Value) -> Result<Held, Fault>
+    ensures { Gives result (added sum (view value.now)) held_view }
+{
+    match value {
+        Value::Int(summand) => match sum.checked_add(*summand) {
+            Some(more) => Ok(Held::Sum(more)),
+            None => Err(Fault::Overflow),
+        },
+        _ => Err(Fault::TypeFault),
+    }
+}
+
+fn lesser(best: Option<Value>, value: Value) -> Value
+    ensures { view result ≡ better lesser (option_map view best) (view value) }
+{
+    match best {
+        Some(best) => {
+            if order(&value, &best).is_lt() {
+                value
+            } else {
+                best
+            }
+        }
+        None => value,
+    }
+}
+
+fn greater(best: Option<Value>, value: Value) -> Value
+    ensures { view result ≡ better greater (option_map view best) (view value) }
+{
+    match best {
+        Some(best) => {
+            if order(&value, &best).is_gt() {
+                value
+            } else {
+                best
+            }
+        }
+        None => value,
+    }
+}
+
+fn or_null(value: Option<Value>) -> Value
+    ensures { view result ≡ value_or_null (option_map view value) }
+{
+    match value {
+        Some(value) => value,
+        None => Value::Null,
+    }
+}

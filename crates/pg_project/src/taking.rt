@@ -1,0 +1,86 @@
+//! Rows taken into the aggregates of a group.
+ghost use Rattle.std.specs.Prelude.{◌≡◌, ◌≢◌, ℕ, List, IfOk, IfErr, OnOk, Ok, Err};
+ghost use Rattle.pg_meaning.specs.declared.fault.Fault.TheVariants.{OutOfMemory};
+ghost use Rattle.pg_project.specs.Kept.{all_taken_in, argument_given};
+ghost use Rattle.pg_project.specs.Kept as kept;
+ghost use Rattle.pg_project.specs.ReadyItems.{aggregate_view, aggregates_view};
+ghost use Rattle.pg_project.specs.Sites.{answers};
+ghost use Rattle.pg_project.specs.Views.{taken_view, takens_view};
+ghost use Rattle.pg_value_core.specs.Gives.{Gives};
+ghost use Rattle.pg_value_core.specs.View.{view};
+
+use crate::items::Aggregate;
+use crate::site::Site;
+use crate::taken::Taken;
+use pg_expr::evaluate;
+use pg_graph::Tables;
+use pg_store::Snapshot;
+use pg_value_core::{Fault, Value};
+use std::alloc::{AllocError, Global};
+use std::mem;
+
+/// No values yet of each aggregate.
+pub(crate) fn begun(
+    alloc: Global,
+    aggregates: &Vec<Aggregate<'_>>,
+) -> Result<Vec<Taken>, AllocError>
+    ensures { (names : List (List ℕ)) → IfOk result (λ ts. takens_view ts.items ≡ kept.begun (aggregates_view names aggregates.now.items)) }
+{
+    let mut begun = Vec::with_capacity(alloc, aggregates.len())?;
+    for aggregate in aggregates {
+        begun.push(Taken::new(alloc, aggregate.summary, aggregate.distinct))?;
+    }
+    Ok(begun)
+}
+
+/// The value of the aggregate's argument; without one each row counts.
+pub(crate) fn argument_value<T: Tables>(
+    site: &Site<'_>,
+    graph: &Snapshot<'_, T>,
+    aggregate: &Aggregate<'_>,
+) -> Result<Value, Fault>
+    ensures { Gives result (argument_given (answers site.now graph.now) (aggregate_view site.now.names.now aggregate.now)) view }
+{
+    match &aggregate.argument {
+        Some(argument) => evaluate(
+            site.alloc,
+            argument,
+            site.names,
+            site.row,
+            site.parameters,
+            graph,
+        ),
+        None => Ok(Value::Bool(true)),
+    }
+}
+
+/// What is kept, with the value of the aggregate's argument taken in.
+fn take_in<T: Tables>(
+    site: &Site<'_>,
+    graph: &Snapshot<'_, T>,
+    aggregate: &Aggregate<'_>,
+    taken: Taken,
+) -> Result<Taken, Fault>
+    ensures { Gives result (kept.taken_in (answers site.now graph.now) (aggregate_view site.now.names.now aggregate.now) (taken_view taken)) taken_view }
+{
+    let value = argument_value(site, graph, aggregate)?;
+    taken.with(site.alloc, value)
+}
+
+/// Takes the row into the aggregates of a group, left to right.
+pub(crate) fn take_in_all<T: Tables>(
+    site: &Site<'_>,
+    graph: &Snapshot<'_, T>,
+    aggregates: &Vec<Aggregate<'_>>,
+    taken: &mut Vec<Taken>,
+) -> Result<(), Fault>
+    ensures ok { OnOk result (all_taken_in (answers site.now graph.now) (aggregates_view site.now.names.now aggregates.now.items) (takens_view taken.old.items) ≡ Ok (takens_view taken.new.items)) }
+    ensures err { IfErr result (λ e. e ≢ OutOfMemory → all_taken_in (answers site.now graph.now) (aggregates_view site.now.names.now aggregates.now.items) (takens_view taken.old.items) ≡ Err e) }
+{
+    let count = aggregates.len().min(taken.len());
+    for at in 0..count {
+        let before = mem::replace(&mut taken[at], Taken::nothing());
+        taken[at] = take_in(site, graph, &aggregates[at], before)?;
+    }
+    Ok(())
+}

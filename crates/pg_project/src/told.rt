@@ -1,0 +1,76 @@
+//! The rows of groups.
+ghost use Rattle.std.specs.Prelude.{◌≡◌, IfOk, length, map, option_map, option_to_list};
+ghost use Rattle.pg_meaning.specs.Projections.{first_or_null};
+ghost use Rattle.pg_project.specs.Kept.{merged, told_each};
+ghost use Rattle.pg_project.specs.KeptGroups.{groups_view};
+ghost use Rattle.pg_project.specs.Views.{takens_view, taken_view};
+ghost use Rattle.pg_rows.specs.Tables.{table};
+ghost use Rattle.pg_value_core.specs.View.{view};
+
+use crate::groups::Groups;
+use crate::taken::Taken;
+use pg_rows::Rows;
+use pg_value_core::Value;
+use std::alloc::{AllocError, Global};
+
+/// For each group a row with the values of its items.
+pub(crate) fn told_rows(
+    alloc: Global,
+    are_aggregates: &Vec<bool>,
+    groups: Groups,
+) -> Result<Rows, AllocError>
+    ensures rows { IfOk result (λ found. table found ≡ map (λ g. merged are_aggregates.now.items g.key (told_each g.taken)) (groups_view groups)) }
+    ensures width { IfOk result (λ found. found.width ≡ length are_aggregates.now.items) }
+{
+    let mut found = Rows::new(alloc, are_aggregates.len());
+    let mut left = groups.taken.into_iter();
+    for key in groups.keys {
+        let Some(taken) = left.next() else {
+            return Ok(found);
+        };
+        found.push(told_row(alloc, are_aggregates, key, taken)?)?;
+    }
+    Ok(found)
+}
+
+/// The values of the items that group and what the aggregates tell, in the order of the items.
+fn told_row(
+    alloc: Global,
+    are_aggregates: &Vec<bool>,
+    key: Vec<Value>,
+    taken: Vec<Taken>,
+) -> Result<Vec<Value>, AllocError>
+    ensures values { IfOk result (λ row. map view row.items ≡ merged are_aggregates.now.items (map view key.items) (told_each (takens_view taken.items))) }
+    ensures len { IfOk result (λ row. length row.items ≡ length are_aggregates.now.items) }
+{
+    let mut row = Vec::with_capacity(alloc, are_aggregates.len())?;
+    let mut keys = key.into_iter();
+    let mut summaries = taken.into_iter();
+    for is_aggregate in are_aggregates {
+        let value = if *is_aggregate {
+            told_or_null(summaries.next())
+        } else {
+            or_null(keys.next())
+        };
+        row.push(value)?;
+    }
+    Ok(row)
+}
+
+fn told_or_null(taken: Option<Taken>) -> Value
+    ensures { view result ≡ first_or_null (told_each (option_to_list (option_map taken_view taken))) }
+{
+    match taken {
+        Some(taken) => taken.held.tell(),
+        None => Value::Null,
+    }
+}
+
+fn or_null(value: Option<Value>) -> Value
+    ensures { view result ≡ first_or_null (option_to_list (option_map view value)) }
+{
+    match value {
+        Some(value) => value,
+        None => Value::Null,
+    }
+}

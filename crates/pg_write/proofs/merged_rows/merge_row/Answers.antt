@@ -1,0 +1,168 @@
+use Rattle.std.proofs.Common.{Ok, Err, length, map, refl, sym, ap, ◌∙◌}
+use Rattle.std.proofs.lemmas.Result.{err_from_is_err_and}
+use Rattle.pg_match_stages.specs.View.{wanted_path}
+use Rattle.pg_rows.specs.Named.{rows_named}
+use Rattle.pg_rows.specs.Tables.{table}
+use Rattle.pg_store.specs.Stores.{graph_of_store}
+use Rattle.pg_write_make.proofs.ChangedLemmas.{unchanged}
+use Rattle.pg_write_make.specs.Scenes.{row_in}
+use Rattle.pg_write.proofs.ExitLemmas.{err_through, ok_through}
+use Rattle.pg_write.proofs.MergeLemmas.{asked_fault, asked_here, asked_there, found_there, spent_fault, spent_then, spent_there, tested_there}
+use Rattle.pg_write.specs.Mergings.{row_merged, rows_merged}
+use Rattle.pg_write.specs.Ready.{created_in, matched_in, names_in, path_in, setting_in, state_in}
+use Rattle.pg_write.proofs.merged_rows.merge_row.Goals as goal
+
+pub returns-in_err-wanted-clause-err : goal.returns-in_err-wanted-clause-err
+returns-in_err-wanted-clause-err g c =
+    let m = c.args.merging.now in
+    let s = setting_in m c.args.meter.now.limit in
+    let graph = graph_of_store g.T.Tables.seen c.args.store.now c.args.shared.now in
+    let rows = rows_named (names_in m) (table c.args.merged.now) in
+    let row = row_in m.scene c.args.row.items in
+    let p = err_from_is_err_and c.from_residual.result c.from_residual.ensures.1 in
+    rw (p.1, p.2)
+    (λ other. asked_fault s (path_in m) (created_in m) (matched_in m) graph rows c.args.meter.now.used row c.in_err-wanted.field-0.0
+    (asked_there s (path_in m) (created_in m) (matched_in m) graph rows c.args.meter.now.used row c.graph.result (row_in m.scene c.deref.result.now) c.graph.ensures (ap (row_in m.scene) c.deref.ensures.value) (Err c.in_err-wanted.field-0.0)
+    (c.in_err-wanted.ensures.err other)))
+
+pub returns-in_err-wanted-clause-width : goal.returns-in_err-wanted-clause-width
+returns-in_err-wanted-clause-width g c = refl
+
+pub returns-in_err-wanted-clause-changed : goal.returns-in_err-wanted-clause-changed
+returns-in_err-wanted-clause-changed g c = unchanged g.T.Tables.seen c.args.store.now c.args.shared.now c.requires.fit
+
+pub returns-in_err-wanted-clause-limit : goal.returns-in_err-wanted-clause-limit
+returns-in_err-wanted-clause-limit g c = refl
+
+pub find_rows-requires-clause-ready : goal.find_rows-requires-clause-ready
+find_rows-requires-clause-ready g c = c.requires.ready
+
+pub find_rows-requires-clause-bound : goal.find_rows-requires-clause-bound
+find_rows-requires-clause-bound g c = ap length c.deref-2.ensures.value ∙ c.requires.bound
+
+pub find_rows-requires-clause-asked : goal.find_rows-requires-clause-asked
+find_rows-requires-clause-asked g c =
+    let m = c.args.merging.now in
+    let s = setting_in m 0 in
+    let graph = graph_of_store g.T.Tables.seen c.args.store.now c.args.shared.now in
+    let rows = rows_named (names_in m) (table c.args.merged.now) in
+    let row = row_in m.scene c.args.row.items in
+    let wanted = map wanted_path c.in_ok-wanted.wanted.items in
+    asked_here s (path_in m) (created_in m) (matched_in m) graph rows c.args.meter.now.used row c.graph-2.result (row_in m.scene c.deref-2.result.now) c.graph-2.ensures (ap (row_in m.scene) c.deref-2.ensures.value) (Ok wanted)
+    (asked_there s (path_in m) (created_in m) (matched_in m) graph rows c.args.meter.now.used row c.graph.result (row_in m.scene c.deref.result.now) c.graph.ensures (ap (row_in m.scene) c.deref.ensures.value) (Ok wanted)
+    c.in_ok-wanted.ensures.ok)
+    ∙ ap (λ ws. Ok (map wanted_path ws)) (sym c.deref-3.ensures.value)
+
+pub returns-in_err-found-clause-err : goal.returns-in_err-found-clause-err
+returns-in_err-found-clause-err g c =
+    let m = c.args.merging.now in
+    let s = setting_in m c.args.meter.now.limit in
+    let graph = graph_of_store g.T.Tables.seen c.args.store.now c.args.shared.now in
+    let rows = rows_named (names_in m) (table c.args.merged.now) in
+    let row = row_in m.scene c.args.row.items in
+    let wanted = map wanted_path c.in_ok-wanted.wanted.items in
+    let p = err_from_is_err_and c.from_residual-in_err-found.result c.from_residual-in_err-found.ensures.1 in
+    rw (p.1, p.2)
+    (λ other. spent_fault s (path_in m) (created_in m) (matched_in m) graph rows c.args.meter.now.used row wanted
+    (asked_there s (path_in m) (created_in m) (matched_in m) graph rows c.args.meter.now.used row c.graph.result (row_in m.scene c.deref.result.now) c.graph.ensures (ap (row_in m.scene) c.deref.ensures.value) (Ok wanted)
+    c.in_ok-wanted.ensures.ok)
+    c.in_err-found.field-0.0
+    (spent_there s (path_in m) (created_in m) (matched_in m) graph rows c.args.meter.now.used row c.graph-2.result (row_in m.scene c.deref-2.result.now) c.graph-2.ensures (ap (row_in m.scene) c.deref-2.ensures.value)
+    (map wanted_path c.deref-3.result.now) wanted (ap (map wanted_path) c.deref-3.ensures.value) (Err c.in_err-found.field-0.0) (c.in_err-found.ensures.err other)))
+
+pub returns-in_err-found-clause-width : goal.returns-in_err-found-clause-width
+returns-in_err-found-clause-width g c = refl
+
+pub returns-in_err-found-clause-changed : goal.returns-in_err-found-clause-changed
+returns-in_err-found-clause-changed g c = unchanged g.T.Tables.seen c.args.store.now c.args.shared.now c.requires.fit
+
+pub returns-in_err-found-clause-limit : goal.returns-in_err-found-clause-limit
+returns-in_err-found-clause-limit g c = c.find_rows.ensures.limit
+
+pub merge_found-requires-clause-fit : goal.merge_found-requires-clause-fit
+merge_found-requires-clause-fit g c = c.requires.fit
+
+pub merge_found-requires-clause-quota : goal.merge_found-requires-clause-quota
+merge_found-requires-clause-quota g c = c.requires.quota
+
+pub merge_found-requires-clause-ready : goal.merge_found-requires-clause-ready
+merge_found-requires-clause-ready g c = c.requires.ready
+
+pub merge_found-requires-clause-bound : goal.merge_found-requires-clause-bound
+merge_found-requires-clause-bound g c = c.requires.bound
+
+pub merge_found-requires-clause-wide : goal.merge_found-requires-clause-wide
+merge_found-requires-clause-wide g c = c.requires.wide
+
+pub merge_found-requires-clause-found : goal.merge_found-requires-clause-found
+merge_found-requires-clause-found g c = c.in_ok-found.ensures.width ∙ sym c.requires.wide
+
+pub merge_found-requires-clause-tested : goal.merge_found-requires-clause-tested
+merge_found-requires-clause-tested g c =
+    let m = c.args.merging.now in
+    tested_there (setting_in m 0) (path_in m) (created_in m) (matched_in m) (graph_of_store g.T.Tables.seen c.args.store.now c.args.shared.now) (rows_named (names_in m) (table c.args.merged.now)) c.args.meter.now.used (row_in m.scene c.args.row.items)
+    c.graph.result (row_in m.scene c.deref.result.now) c.graph.ensures (ap (row_in m.scene) c.deref.ensures.value) (Ok tt) c.in_ok-wanted.ensures.tested
+
+pub returns-clause-ok : goal.returns-clause-ok
+returns-clause-ok g c =
+    let m = c.args.merging.now in
+    let s = setting_in m c.args.meter.now.limit in
+    let graph = graph_of_store g.T.Tables.seen c.args.store.now c.args.shared.now in
+    let rows = rows_named (names_in m) (table c.args.merged.now) in
+    let row = row_in m.scene c.args.row.items in
+    let wanted = map wanted_path c.in_ok-wanted.wanted.items in
+    let given = map wanted_path c.deref-3.result.now in
+    let found = rows_named (names_in m) (table c.in_ok-found.found) in
+    let steps = c.find_rows.new.meter.used in
+    let own = row_in m.scene c.deref-2.result.now in
+    let same = ap (row_in m.scene) c.deref-2.ensures.value in
+    let are = ap (map wanted_path) c.deref-3.ensures.value in
+    let first =
+    spent_then s (path_in m) (created_in m) (matched_in m) graph rows c.args.meter.now.used row wanted
+    (asked_there s (path_in m) (created_in m) (matched_in m) graph rows c.args.meter.now.used row c.graph.result (row_in m.scene c.deref.result.now) c.graph.ensures (ap (row_in m.scene) c.deref.ensures.value) (Ok wanted)
+    c.in_ok-wanted.ensures.ok)
+    steps found
+    (spent_there s (path_in m) (created_in m) (matched_in m) graph rows c.args.meter.now.used row c.graph-2.result own c.graph-2.ensures same given wanted are (Ok steps) c.in_ok-found.ensures.spends)
+    (found_there s (path_in m) (created_in m) (matched_in m) graph rows c.args.meter.now.used row c.graph-2.result own c.graph-2.ensures same given wanted are found c.in_ok-found.ensures.rows)
+    ∙ ap (λ k. rows_merged (setting_in m k) (path_in m) (created_in m) (matched_in m) (state_in m graph c.args.merged.now steps) row found) (sym c.in_ok-found.ensures.limit) in
+    ok_through c.merge_found.result
+    (row_merged s (path_in m) (created_in m) (matched_in m) (state_in m graph c.args.merged.now c.args.meter.now.used) row)
+    (rows_merged (setting_in m c.find_rows.new.meter.limit) (path_in m) (created_in m) (matched_in m) (state_in m graph c.args.merged.now steps) row found)
+    (Ok (state_in m (graph_of_store g.T.Tables.seen c.merge_found.new.store c.merge_found.new.shared) c.merge_found.new.merged c.merge_found.new.meter.used))
+    first c.merge_found.ensures.ok
+
+pub returns-clause-err : goal.returns-clause-err
+returns-clause-err g c =
+    let m = c.args.merging.now in
+    let s = setting_in m c.args.meter.now.limit in
+    let graph = graph_of_store g.T.Tables.seen c.args.store.now c.args.shared.now in
+    let rows = rows_named (names_in m) (table c.args.merged.now) in
+    let row = row_in m.scene c.args.row.items in
+    let wanted = map wanted_path c.in_ok-wanted.wanted.items in
+    let given = map wanted_path c.deref-3.result.now in
+    let found = rows_named (names_in m) (table c.in_ok-found.found) in
+    let steps = c.find_rows.new.meter.used in
+    let own = row_in m.scene c.deref-2.result.now in
+    let same = ap (row_in m.scene) c.deref-2.ensures.value in
+    let are = ap (map wanted_path) c.deref-3.ensures.value in
+    let first =
+    spent_then s (path_in m) (created_in m) (matched_in m) graph rows c.args.meter.now.used row wanted
+    (asked_there s (path_in m) (created_in m) (matched_in m) graph rows c.args.meter.now.used row c.graph.result (row_in m.scene c.deref.result.now) c.graph.ensures (ap (row_in m.scene) c.deref.ensures.value) (Ok wanted)
+    c.in_ok-wanted.ensures.ok)
+    steps found
+    (spent_there s (path_in m) (created_in m) (matched_in m) graph rows c.args.meter.now.used row c.graph-2.result own c.graph-2.ensures same given wanted are (Ok steps) c.in_ok-found.ensures.spends)
+    (found_there s (path_in m) (created_in m) (matched_in m) graph rows c.args.meter.now.used row c.graph-2.result own c.graph-2.ensures same given wanted are found c.in_ok-found.ensures.rows)
+    ∙ ap (λ k. rows_merged (setting_in m k) (path_in m) (created_in m) (matched_in m) (state_in m graph c.args.merged.now steps) row found) (sym c.in_ok-found.ensures.limit) in
+    err_through c.merge_found.result
+    (row_merged s (path_in m) (created_in m) (matched_in m) (state_in m graph c.args.merged.now c.args.meter.now.used) row)
+    (rows_merged (setting_in m c.find_rows.new.meter.limit) (path_in m) (created_in m) (matched_in m) (state_in m graph c.args.merged.now steps) row found)
+    first c.merge_found.ensures.err
+
+pub returns-clause-width : goal.returns-clause-width
+returns-clause-width g c = c.merge_found.ensures.width
+
+pub returns-clause-changed : goal.returns-clause-changed
+returns-clause-changed g c = c.merge_found.ensures.changed
+
+pub returns-clause-limit : goal.returns-clause-limit
+returns-clause-limit g c = c.merge_found.ensures.limit ∙ c.find_rows.ensures.limit

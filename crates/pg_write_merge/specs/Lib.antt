@@ -1,2 +1,0 @@
-pub mod Mergings
-pub mod Ready

@@ -22,7 +22,7 @@ tenants_hold_records server hold place below =
       graph_is = refl;
     })
 
-empty_slot : (pool : Pool) → ((owner : ℕ) → IsUnused owner pool) → (key : ℕ) (slot : Option Record) → get pool.records key ≡ slot → slot ≡ None
+empty_slot : {K : Type 0} (pool : Pool K) → ((owner : ℕ) → IsUnused owner pool) → (key : ℕ) (slot : Option Record) → get pool.records key ≡ slot → slot ≡ None
 empty_slot pool unused key None is = refl
 empty_slot pool unused key (Some r) is = absurd (unused (owner_of r) key (id_of r) (is_node r) (ap label is))
 

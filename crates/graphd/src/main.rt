@@ -9,6 +9,7 @@ mod records;
 use command::{Command, command_of};
 use fault::ProgramFault;
 use outcome::{line_of, status_of};
+use pg_names::IndexedTexts;
 use pg_pool::PooledTables;
 use pg_server::{Config, Counted, End, ServeFault, Server, serve_on};
 use std::hash::RandomState;
@@ -49,7 +50,7 @@ fn run_words(rt: &HostRuntime) -> Result<End, ProgramFault> {
 fn new_server(
     rt: &HostRuntime,
     path: &str,
-) -> Result<ManuallyDrop<Server<RandomState, PooledTables>>, ProgramFault> {
+) -> Result<ManuallyDrop<Server<RandomState, PooledTables<IndexedTexts>>>, ProgramFault> {
     let bytes = read_file(rt, path)?;
     let config = Config::read(rt.alloc(), &bytes)?;
     let Ok(hasher) = RandomState::new(rt) else {
@@ -69,7 +70,7 @@ fn read_file(rt: &HostRuntime, path: &str) -> Result<Vec<u8>, ProgramFault> {
 /// Serves standard input to standard output, until its end.
 fn serve_standard(
     rt: &HostRuntime,
-    mut server: ManuallyDrop<Server<RandomState, PooledTables>>,
+    mut server: ManuallyDrop<Server<RandomState, PooledTables<IndexedTexts>>>,
 ) -> Result<End, ProgramFault> {
     let mut reader = Counted::new(BufReader::new(rt.alloc(), rt.reader())?);
     let mut writer = Counted::new(io::writer(rt));
@@ -79,7 +80,7 @@ fn serve_standard(
 /// Serves so many connections at a port of this machine.
 fn serve_port(
     rt: &HostRuntime,
-    mut server: ManuallyDrop<Server<RandomState, PooledTables>>,
+    mut server: ManuallyDrop<Server<RandomState, PooledTables<IndexedTexts>>>,
     port: u16,
     count: u64,
 ) -> Result<End, ProgramFault> {

@@ -31,7 +31,7 @@ node_there s o id e = let slot = node_slot s o id e in ap node_in slot.1 ∙ ap 
 pub rel_there : (s : Option Record) (o id : ℕ) → label s ≡ Some (o, (false, id)) → rel_in s ≡ Some (rel_or_none s)
 rel_there s o id e = let slot = rel_slot s o id e in ap rel_in slot.1 ∙ ap (λ r. Some (rel_or_none r)) (sym slot.1)
 
-module _ (t : PooledTables) (pool : Pool) (fits : Fits t pool) where
+module _ {K : Type 0} (t : PooledTables K) (pool : Pool K) (fits : Fits t pool) where
   node_is_record : (id : ℕ) (node : NodeRecord) → (map.get (content_of t pool).nodes id ≡ Some node) ↔ ((key : ℕ) × (get pool.records key ≡ Some (Node t.owner (record { 0 = id }) node)))
   node_is_record id node = (
     λ e.
@@ -60,7 +60,7 @@ module _ (t : PooledTables) (pool : Pool) (fits : Fits t pool) where
   are_records = record { nodes = node_is_record; rels = rel_is_record; once = one_slot }
 
 -- over two pools with one content, the owner's records of the first are in the same slots of the second
-slots_same : (t : PooledTables) (one two : Pool) → Fits t one → Fits t two → content_of t one ≡ content_of t two → (key : ℕ) (r : Record) → owner_of r ≡ t.owner → get one.records key ≡ Some r → get two.records key ≡ Some r
+slots_same : {K : Type 0} (t : PooledTables K) (one two : Pool K) → Fits t one → Fits t two → content_of t one ≡ content_of t two → (key : ℕ) (r : Record) → owner_of r ≡ t.owner → get one.records key ≡ Some r → get two.records key ≡ Some r
 slots_same t one two fits fits' same key (Node owner id node) own e =
     let named : label (get one.records key) ≡ Some (t.owner, (true, id.0)) = ap label e ∙ ap (λ o. Some (o, (true, id.0))) own in
     let found = (fits.nodes id.0 key).1 named in
@@ -79,7 +79,7 @@ slots_same t one two fits fits' same key (Rel owner id rel) own e =
     slot.1 ∙ (λ j. Some (Rel (sym own j) id (alike j)))
 
 -- what leaves the owner's content as it was leaves its records in their slots
-pub slots_stay : (t : PooledTables) (old new : Pool) (o : ℕ) → Fits t old → t.owner ≢ o → OthersStay pooled o old new → SlotsStay t.owner old new
+pub slots_stay : {K : Type 0} (t : PooledTables K) (old new : Pool K) (o : ℕ) → Fits t old → t.owner ≢ o → OthersStay pooled o old new → SlotsStay t.owner old new
 slots_stay t old new o fits apart others key r own = (
   slots_same t old new fits (others.fit t apart fits) (sym (others.same t apart fits)) key r own,
   slots_same t new old (others.fit t apart fits) fits (others.same t apart fits) key r own,

@@ -24,7 +24,7 @@ false_not_true : false ≢ true
 false_not_true e = true_not_false (sym e)
 
 -- if no slot changed but the owner's and empty ones, nothing of other owners changed
-pub others_stay : (o : ℕ) (old new : Pool) → OnlyOwn o old.records new.records → OthersStay pooled o old new
+pub others_stay : {K : Type 0} (o : ℕ) (old new : Pool K) → OnlyOwn o old.records new.records → OthersStay pooled o old new
 others_stay o old new only = record {
   fit = λ t apart fits. record {
     nodes = others_find o old.records new.records only true t.owner t.nodes apart fits.nodes;
@@ -39,12 +39,12 @@ others_stay o old new only = record {
 }
 
 -- what a call on tables leaves
-pub record Step (t t' : PooledTables) (pool pool' : Pool) (now : Content) : Type 0 where
+pub record Step {K : Type 0} (t t' : PooledTables K) (pool pool' : Pool K) (now : Content) : Type 0 where
   pub fits : Fits t' pool'
   pub content : content_of t' pool' ≡ now
   pub others : OthersStay pooled t.owner pool pool'
 
-module _ (t : PooledTables) (pool pool' : Pool) (key : ℕ) (fits : Fits t pool) (but : AllBut key pool.records pool'.records) where
+module _ {K : Type 0} (t : PooledTables K) (pool pool' : Pool K) (key : ℕ) (fits : Fits t pool) (but : AllBut key pool.records pool'.records) where
   pub node_added : (id : NodeId) (node : NodeRecord) (ids : FinMap nat_cmp ℕ) → map.get t.nodes id.0 ≡ None → get pool.records key ≡ None
       → get pool'.records key ≡ Some (Node t.owner id node) → ids ≡ map.insert t.nodes id.0 key
       → Step t (record t { nodes = ids }) pool pool' (with_node (content_of t pool) id.0 node)
@@ -157,7 +157,7 @@ module _ (t : PooledTables) (pool pool' : Pool) (key : ℕ) (fits : Fits t pool)
       }
 
 -- no slot changed, and the tables' own parts mean what they meant
-pub nothing_changed : (t : PooledTables) (pool pool' : Pool) (ids : FinMap nat_cmp ℕ) (incidence : Incidence) → Fits t pool → ((k : ℕ) → get pool'.records k ≡ get pool.records k) → ids ≡ t.rels
+pub nothing_changed : {K : Type 0} (t : PooledTables K) (pool pool' : Pool K) (ids : FinMap nat_cmp ℕ) (incidence : Incidence) → Fits t pool → ((k : ℕ) → get pool'.records k ≡ get pool.records k) → ids ≡ t.rels
     → IsIncidence incidence (content_of t pool).rels
     → Step t (record t { rels = ids; incidence = incidence }) pool pool' (content_of t pool)
 nothing_changed t pool pool' ids incidence fits same as_before links =

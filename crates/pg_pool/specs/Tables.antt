@@ -20,29 +20,29 @@ abbrev pub Finds : Bool → ℕ → FinMap nat_cmp ℕ → Slab Record → Type 
 Finds nodes owner ids slots = (id key : ℕ) → (map.get ids id ≡ Some key) ↔ (label (get slots key) ≡ Some (owner, (nodes, id)))
 
 -- the tables' maps send exactly the ids of their owner's records to their slots, and their lists are those of the relationships there
-pub record Fits (t : PooledTables) (pool : Pool) : Type 0 where
+pub record Fits {K : Type 0} (t : PooledTables K) (pool : Pool K) : Type 0 where
   pub nodes : Finds true t.owner t.nodes pool.records
   pub rels : Finds false t.owner t.rels pool.records
   pub incidence : IsIncidence t.incidence (map_values (rel_at pool.records) t.rels)
 
 -- what the tables' slots have
-abbrev pub content_of : PooledTables → Pool → Content
+abbrev pub content_of : {K : Type 0} → PooledTables K → Pool K → Content
 content_of t pool = record { nodes = map_values (node_at pool.records) t.nodes; rels = map_values (rel_at pool.records) t.rels }
 
 -- no record is the owner's
-abbrev pub IsUnused : ℕ → Pool → Type 0
+abbrev pub IsUnused : {K : Type 0} → ℕ → Pool K → Type 0
 IsUnused owner pool = (key id : ℕ) (nodes : Bool) → label (get pool.records key) ≢ Some (owner, (nodes, id))
 
 -- how the tables of one owner are seen over the pool
-abbrev pub pooled : Seen PooledTables Pool
+abbrev pub pooled : {K : Type 0} → Seen (PooledTables K) (Pool K)
 pooled = record { owner = λ t. t.owner; fits = Fits; content = content_of; is_unused = IsUnused }
 
 -- the content is exactly the owner's records in the pool, each element in one slot
-pub record AreRecords (content : Content) (owner : ℕ) (pool : Pool) : Type 0 where
+pub record AreRecords {K : Type 0} (content : Content) (owner : ℕ) (pool : Pool K) : Type 0 where
   pub nodes : (id : ℕ) (node : NodeRecord) → (map.get content.nodes id ≡ Some node) ↔ ((key : ℕ) × (get pool.records key ≡ Some (Node owner (record { 0 = id }) node)))
   pub rels : (id : ℕ) (rel : RelRecord) → (map.get content.rels id ≡ Some rel) ↔ ((key : ℕ) × (get pool.records key ≡ Some (Rel owner (record { 0 = id }) rel)))
   pub once : (key other id : ℕ) (nodes : Bool) → label (get pool.records key) ≡ Some (owner, (nodes, id)) → label (get pool.records other) ≡ Some (owner, (nodes, id)) → key ≡ other
 
 -- each record of the owner is in the slot in which it was, and the owner has no other
-abbrev pub SlotsStay : ℕ → Pool → Pool → Type 0
+abbrev pub SlotsStay : {K : Type 0} → ℕ → Pool K → Pool K → Type 0
 SlotsStay owner old new = (key : ℕ) (r : Record) → owner_of r ≡ owner → (get old.records key ≡ Some r) ↔ (get new.records key ≡ Some r)

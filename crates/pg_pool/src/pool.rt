@@ -7,6 +7,7 @@ use pg_graph::{NodeRecord, RelRecord};
 use pg_value_core::{NodeId, RelId};
 use slab::Slab;
 use std::alloc::Global;
+use std::marker::PhantomData;
 use std::mem;
 
 /// What an owner keeps under an id.
@@ -26,18 +27,21 @@ pub enum Record {
     },
 }
 
-/// The records of all owners, each in a slot that the next record takes once this one is gone.
+/// The records of all owners, each in a slot that the next record takes once this one is gone. The names that stand
+/// beside them keep their texts in a set `K`.
 #[derive(Drop)]
-pub struct Pool {
+pub struct Pool<K> {
     pub(crate) records: Slab<Record>,
+    texts: PhantomData<K>,
 }
 
-impl Pool {
+impl<K> Pool<K> {
     pub(crate) fn new(alloc: Global) -> Self
         ensures { (key : ℕ) → get result.records key ≡ None }
     {
         Pool {
             records: Slab::new(alloc),
+            texts: PhantomData,
         }
     }
 

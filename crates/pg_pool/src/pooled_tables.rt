@@ -6,46 +6,48 @@ ghost use Rattle.pg_pool.specs.Tables.{pooled, AreRecords, SlotsStay};
 use crate::pool::{Pool, Record};
 use crate::slots::Slots;
 use pg_graph::{Incidence, NodeRecord, Properties, RelRecord, SharedPart, Tables};
-use pg_names::IndexedTexts;
+use pg_names::TextSet;
 use pg_value_core::{NodeId, RelId};
 use std::alloc::{AllocError, Global};
+use std::marker::PhantomData;
 
 /// One owner's nodes and relationships: the slots of their records, and the relationships at each
-/// node.
+/// node. Names stand beside them whose texts are kept in a set `K`.
 #[derive(Drop)]
-pub struct PooledTables {
+pub struct PooledTables<K> {
     owner: u32,
     nodes: Slots,
     rels: Slots,
     incidence: Incidence,
+    texts: PhantomData<K>,
 }
 
-impl PooledTables {
+impl<K: TextSet> PooledTables<K> {
     /// A change of the tables of another owner leaves each record of this one in its slot.
-    pub fn law_of_slots(&self, before: &Pool, after: &Pool, owner: u32)
-        requires fits { ⟦<PooledTables as Tables>⟧.seen.fits self.now before.now }
+    pub fn law_of_slots(&self, before: &Pool<K>, after: &Pool<K>, owner: u32)
+        requires fits { ⟦<PooledTables<K> as Tables>⟧.seen.fits self.now before.now }
         requires apart { self.now.owner ≢ owner }
-        requires others { OthersStay ⟦<PooledTables as Tables>⟧.seen owner before.now after.now }
+        requires others { OthersStay ⟦<PooledTables<K> as Tables>⟧.seen owner before.now after.now }
         ensures { SlotsStay self.now.owner before.now after.now }
     {}
 
     /// What these tables hold is exactly their owner's records in the pool, each element in one slot.
-    pub fn law_of_records(&self, pool: &Pool)
-        requires { ⟦<PooledTables as Tables>⟧.seen.fits self.now pool.now }
-        ensures { AreRecords (⟦<PooledTables as Tables>⟧.seen.content self.now pool.now) self.now.owner pool.now }
+    pub fn law_of_records(&self, pool: &Pool<K>)
+        requires { ⟦<PooledTables<K> as Tables>⟧.seen.fits self.now pool.now }
+        ensures { AreRecords (⟦<PooledTables<K> as Tables>⟧.seen.content self.now pool.now) self.now.owner pool.now }
     {}
 }
 
-impl SharedPart for Pool {
-    type Texts = IndexedTexts;
+impl<K: TextSet> SharedPart for Pool<K> {
+    type Texts = K;
 }
 
-impl Tables for PooledTables {
-    type Shared = Pool;
+impl<K: TextSet> Tables for PooledTables<K> {
+    type Shared = Pool<K>;
 
     ghost seen = { pooled };
 
-    fn new_shared(alloc: Global) -> Pool {
+    fn new_shared(alloc: Global) -> Pool<K> {
         Pool::new(alloc)
     }
 
@@ -55,30 +57,31 @@ impl Tables for PooledTables {
             nodes: Slots::new(alloc),
             rels: Slots::new(alloc),
             incidence: Incidence::new(alloc),
+            texts: PhantomData,
         }
     }
 
-    fn node<'a>(&'a self, shared: &'a Pool, id: NodeId) -> Option<&'a NodeRecord> {
+    fn node<'a>(&'a self, shared: &'a Pool<K>, id: NodeId) -> Option<&'a NodeRecord> {
         let key = self.nodes.get(id.0)?;
         shared.node(*key)
     }
 
-    fn rel<'a>(&'a self, shared: &'a Pool, id: RelId) -> Option<&'a RelRecord> {
+    fn rel<'a>(&'a self, shared: &'a Pool<K>, id: RelId) -> Option<&'a RelRecord> {
         let key = self.rels.get(id.0)?;
         shared.rel(*key)
     }
 
-    fn outgoing<'a>(&'a self, _shared: &'a Pool, node: NodeId) -> &'a [RelId] {
+    fn outgoing<'a>(&'a self, _shared: &'a Pool<K>, node: NodeId) -> &'a [RelId] {
         self.incidence.outgoing(node)
     }
 
-    fn incoming<'a>(&'a self, _shared: &'a Pool, node: NodeId) -> &'a [RelId] {
+    fn incoming<'a>(&'a self, _shared: &'a Pool<K>, node: NodeId) -> &'a [RelId] {
         self.incidence.incoming(node)
     }
 
     fn add_node(
         &mut self,
-        shared: &mut Pool,
+        shared: &mut Pool<K>,
         id: NodeId,
         node: NodeRecord,
     ) -> Result<(), AllocError> {
@@ -91,7 +94,7 @@ impl Tables for PooledTables {
         Ok(())
     }
 
-    fn add_rel(&mut self, shared: &mut Pool, id: RelId, rel: RelRecord) -> Result<(), AllocError> {
+    fn add_rel(&mut self, shared: &mut Pool<K>, id: RelId, rel: RelRecord) -> Result<(), AllocError> {
         shared.records.reserve(1)?;
         self.rels.insert(id.0, shared.records.vacant_key())?;
         if let Err(e) = self.incidence.add(id, rel.source, rel.target) {
@@ -105,7 +108,7 @@ impl Tables for PooledTables {
         Ok(())
     }
 
-    fn change(&mut self, shared: &mut Pool, id: NodeId, node: NodeRecord) -> NodeRecord {
+    fn change(&mut self, shared: &mut Pool<K>, id: NodeId, node: NodeRecord) -> NodeRecord {
         let key = *self.nodes.get(id.0).unwrap();
         let owner = self.owner;
         match shared.replace(key, Record::Node { owner, id, node }) {
@@ -114,7 +117,7 @@ impl Tables for PooledTables {
         }
     }
 
-    fn change_rel(&mut self, shared: &mut Pool, id: RelId, properties: Properties) -> Properties {
+    fn change_rel(&mut self, shared: &mut Pool<K>, id: RelId, properties: Properties) -> Properties {
         let key = *self.rels.get(id.0).unwrap();
         let rel = shared.rel(key).unwrap().with_properties(properties);
         let owner = self.owner;
@@ -127,7 +130,7 @@ impl Tables for PooledTables {
         }
     }
 
-    fn drop_rel(&mut self, shared: &mut Pool, id: RelId) {
+    fn drop_rel(&mut self, shared: &mut Pool<K>, id: RelId) {
         let key = self.rels.remove(id.0);
         match shared.records.remove(key) {
             Record::Rel { rel, .. } => self.incidence.remove(id, rel.source, rel.target),
@@ -135,7 +138,7 @@ impl Tables for PooledTables {
         }
     }
 
-    fn drop_node(&mut self, shared: &mut Pool, id: NodeId) {
+    fn drop_node(&mut self, shared: &mut Pool<K>, id: NodeId) {
         let key = self.nodes.remove(id.0);
         drop(shared.records.remove(key));
     }

@@ -6,29 +6,33 @@ ghost use Rattle.pg_graph.specs.Content.{Content};
 ghost use Rattle.pg_graph.specs.Links.{IsIncidence};
 
 use pg_graph::{ById, Incidence, NodeRecord, Properties, RelRecord, SharedPart, Tables};
-use pg_names::IndexedTexts;
+use pg_names::TextSet;
 use pg_value_core::{NodeId, RelId};
 use std::alloc::{AllocError, Global};
+use std::marker::PhantomData;
 
-/// One owner's nodes and relationships, in maps of its own.
+/// One owner's nodes and relationships, in maps of its own, beside names whose texts are kept in a set `K`.
 #[derive(Drop)]
-pub struct PlainTables {
+pub struct PlainTables<K> {
     owner: u32,
     nodes: ById<NodeRecord>,
     rels: ById<RelRecord>,
     incidence: Incidence,
+    texts: PhantomData<K>,
 }
 
 /// What plain tables share: nothing.
 #[derive(Drop)]
-pub struct Nothing;
-
-impl SharedPart for Nothing {
-    type Texts = IndexedTexts;
+pub struct Nothing<K> {
+    texts: PhantomData<K>,
 }
 
-impl Tables for PlainTables {
-    type Shared = Nothing;
+impl<K: TextSet> SharedPart for Nothing<K> {
+    type Texts = K;
+}
+
+impl<K: TextSet> Tables for PlainTables<K> {
+    type Shared = Nothing<K>;
 
     ghost seen = { record {
       owner = λ t. t.owner;
@@ -37,8 +41,8 @@ impl Tables for PlainTables {
       is_unused = λ _ _. Unit {0};
     } };
 
-    fn new_shared(_alloc: Global) -> Nothing {
-        Nothing
+    fn new_shared(_alloc: Global) -> Nothing<K> {
+        Nothing { texts: PhantomData }
     }
 
     fn new(alloc: Global, owner: u32) -> Self {
@@ -47,28 +51,29 @@ impl Tables for PlainTables {
             nodes: ById::new(alloc),
             rels: ById::new(alloc),
             incidence: Incidence::new(alloc),
+            texts: PhantomData,
         }
     }
 
-    fn node<'a>(&'a self, _shared: &'a Nothing, id: NodeId) -> Option<&'a NodeRecord> {
+    fn node<'a>(&'a self, _shared: &'a Nothing<K>, id: NodeId) -> Option<&'a NodeRecord> {
         self.nodes.get(id.0)
     }
 
-    fn rel<'a>(&'a self, _shared: &'a Nothing, id: RelId) -> Option<&'a RelRecord> {
+    fn rel<'a>(&'a self, _shared: &'a Nothing<K>, id: RelId) -> Option<&'a RelRecord> {
         self.rels.get(id.0)
     }
 
-    fn outgoing<'a>(&'a self, _shared: &'a Nothing, node: NodeId) -> &'a [RelId] {
+    fn outgoing<'a>(&'a self, _shared: &'a Nothing<K>, node: NodeId) -> &'a [RelId] {
         self.incidence.outgoing(node)
     }
 
-    fn incoming<'a>(&'a self, _shared: &'a Nothing, node: NodeId) -> &'a [RelId] {
+    fn incoming<'a>(&'a self, _shared: &'a Nothing<K>, node: NodeId) -> &'a [RelId] {
         self.incidence.incoming(node)
     }
 
     fn add_node(
         &mut self,
-        _shared: &mut Nothing,
+        _shared: &mut Nothing<K>,
         id: NodeId,
         node: NodeRecord,
     ) -> Result<(), AllocError> {
@@ -77,7 +82,7 @@ impl Tables for PlainTables {
 
     fn add_rel(
         &mut self,
-        _shared: &mut Nothing,
+        _shared: &mut Nothing<K>,
         id: RelId,
         rel: RelRecord,
     ) -> Result<(), AllocError> {
@@ -91,13 +96,13 @@ impl Tables for PlainTables {
         Ok(())
     }
 
-    fn change(&mut self, _shared: &mut Nothing, id: NodeId, node: NodeRecord) -> NodeRecord {
+    fn change(&mut self, _shared: &mut Nothing<K>, id: NodeId, node: NodeRecord) -> NodeRecord {
         self.nodes.replace(id.0, node)
     }
 
     fn change_rel(
         &mut self,
-        _shared: &mut Nothing,
+        _shared: &mut Nothing<K>,
         id: RelId,
         properties: Properties,
     ) -> Properties {
@@ -106,12 +111,12 @@ impl Tables for PlainTables {
         properties
     }
 
-    fn drop_rel(&mut self, _shared: &mut Nothing, id: RelId) {
+    fn drop_rel(&mut self, _shared: &mut Nothing<K>, id: RelId) {
         let rel = self.rels.remove(id.0);
         self.incidence.remove(id, rel.source, rel.target);
     }
 
-    fn drop_node(&mut self, _shared: &mut Nothing, id: NodeId) {
+    fn drop_node(&mut self, _shared: &mut Nothing<K>, id: NodeId) {
         drop(self.nodes.remove(id.0));
     }
 }

@@ -6,19 +6,19 @@ use Rattle.pg_graph.proofs.Maps.{get_inserted, removed_inserted}
 use Rattle.pg_tables.proofs.PlainTablesTables.add_rel.Goals as goal
 
 pub add-requires-clause-outgoing : goal.add-requires-clause-outgoing
-add-requires-clause-outgoing c = outgoing_rise _ _ c.requires.fits
+add-requires-clause-outgoing g c = outgoing_rise _ _ c.requires.fits
 
 pub add-requires-clause-incoming : goal.add-requires-clause-incoming
-add-requires-clause-incoming c = incoming_rise _ _ c.requires.fits
+add-requires-clause-incoming g c = incoming_rise _ _ c.requires.fits
 
 pub remove-requires-clause-outgoing : goal.remove-requires-clause-outgoing
-remove-requires-clause-outgoing c = outgoing_rise _ _ (c.in_ok-add.ensures.ok c.args.self.now.rels c.args.rel refl refl c.requires.absent c.requires.fits)
+remove-requires-clause-outgoing g c = outgoing_rise _ _ (c.in_ok-add.ensures.ok c.args.self.now.rels c.args.rel refl refl c.requires.absent c.requires.fits)
 
 pub remove-requires-clause-incoming : goal.remove-requires-clause-incoming
-remove-requires-clause-incoming c = incoming_rise _ _ (c.in_ok-add.ensures.ok c.args.self.now.rels c.args.rel refl refl c.requires.absent c.requires.fits)
+remove-requires-clause-incoming g c = incoming_rise _ _ (c.in_ok-add.ensures.ok c.args.self.now.rels c.args.rel refl refl c.requires.absent c.requires.fits)
 
 pub returns-in-Err-clause-keeps : goal.returns-in-Err-clause-keeps
-returns-in-Err-clause-keeps c =
+returns-in-Err-clause-keeps g c =
     let added = c.in_ok-add.ensures.ok c.args.self.now.rels c.args.rel refl refl c.requires.absent c.requires.fits in
     record {
       fits = subst (IsIncidence c.remove.new.self) (removed_inserted _ c.args.id.0 c.args.rel c.requires.absent ∙ sym c.in-Err.ensures.err)

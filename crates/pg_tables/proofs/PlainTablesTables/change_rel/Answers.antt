@@ -5,7 +5,7 @@ use Rattle.pg_graph.proofs.Others.{others_refl}
 use Rattle.pg_tables.proofs.PlainTablesTables.change_rel.Goals as goal
 
 pub returns-clause-keeps : goal.returns-clause-keeps
-returns-clause-keeps c =
+returns-clause-keeps g c =
     let there = sym c.get.ensures ∙ ap option_copied c.unwrap.ensures in
     let ends = c.with_properties-rel.ensures in
     record {

@@ -9,29 +9,29 @@ use Rattle.pg_pool.proofs.Values.{inside_none}
 use Rattle.pg_pool.proofs.pooled_tables.PooledTablesTables.add_rel.Goals as goal
 
 pub add-requires-clause-outgoing : goal.add-requires-clause-outgoing
-add-requires-clause-outgoing c = outgoing_rise _ _ c.requires.fits.incidence
+add-requires-clause-outgoing g c = outgoing_rise _ _ c.requires.fits.incidence
 
 pub add-requires-clause-incoming : goal.add-requires-clause-incoming
-add-requires-clause-incoming c = incoming_rise _ _ c.requires.fits.incidence
+add-requires-clause-incoming g c = incoming_rise _ _ c.requires.fits.incidence
 
 pub remove-requires : goal.remove-requires
-remove-requires c = subst IsSome (sym (ap (λ m. map.get m c.args.id.0) c.in_ok-insert.ensures.ok ∙ get_inserted _ c.args.id.0 _)) refl
+remove-requires g c = subst IsSome (sym (ap (λ m. map.get m c.args.id.0) c.in_ok-insert.ensures.ok ∙ get_inserted _ c.args.id.0 _)) refl
 
 pub returns-in-Err : goal.returns-in-Err
-returns-in-Err c =
+returns-in-Err g c =
     let absent = c.requires.absent in
-    let step = nothing_changed c.args.self.now c.args.shared.now (record { records = c.reserve.new.self }) c.remove.new.self c.add.new.self c.requires.fits
+    let step = nothing_changed c.args.self.now c.args.shared.now (record c.args.shared.now { records = c.reserve.new.self }) c.remove.new.self c.add.new.self c.requires.fits
     (λ k. ap (λ s. get s k) c.in_ok-reserve.ensures.rest_kept)
     (c.remove.ensures.removed ∙ ap (λ m. map.remove m c.args.id.0) c.in_ok-insert.ensures.ok ∙ removed_inserted _ c.args.id.0 _ (inside_none _ _ _ absent))
     (c.in-Err.ensures.err _ absent c.requires.fits.incidence) in
     record { ok = tt; err = step.content; keeps = record { fits = step.fits; owner = refl; others = step.others } }
 
 pub returns : goal.returns
-returns c =
+returns g c =
     let inserted = c.insert_reserved.ensures in
     let key = c.insert_reserved.result in
     let reserved = c.in_ok-reserve.ensures.rest_kept in
-    let step = rel_added c.args.self.now c.args.shared.now (record { records = c.insert_reserved.new.self }) key c.requires.fits
+    let step = rel_added c.args.self.now c.args.shared.now (record c.args.shared.now { records = c.insert_reserved.new.self }) key c.requires.fits
     (λ k ne. inserted.updates.others k ne ∙ ap (λ s. get s k) reserved)
     c.args.id c.args.rel c.insert.new.self c.add.new.self (inside_none _ _ _ c.requires.absent)
     (sym (ap (λ s. get s key) reserved) ∙ inserted.was_vacant) inserted.updates.changed
@@ -40,15 +40,15 @@ returns c =
     record { ok = step.content; err = tt; keeps = record { fits = step.fits; owner = refl; others = step.others } }
 
 pub returns-in_err-reserve : goal.returns-in_err-reserve
-returns-in_err-reserve c =
+returns-in_err-reserve g c =
     let failed = c.from_residual in
     let old = c.args.self.now in
-    let step = nothing_changed old c.args.shared.now (record { records = c.reserve.new.self }) old.rels old.incidence c.requires.fits (λ k. ap (λ s. get s k) c.reserve.ensures.rest_kept) refl c.requires.fits.incidence in
+    let step = nothing_changed old c.args.shared.now (record c.args.shared.now { records = c.reserve.new.self }) old.rels old.incidence c.requires.fits (λ k. ap (λ s. get s k) c.reserve.ensures.rest_kept) refl c.requires.fits.incidence in
     record { ok = IfOk-from_err failed.result _ failed.ensures.0; err = at_err failed.result step.content; keeps = record { fits = step.fits; owner = refl; others = step.others } }
 
 pub returns-in_err-insert : goal.returns-in_err-insert
-returns-in_err-insert c =
+returns-in_err-insert g c =
     let failed = c.from_residual-in_err-insert in
     let old = c.args.self.now in
-    let step = nothing_changed old c.args.shared.now (record { records = c.reserve.new.self }) c.insert.new.self old.incidence c.requires.fits (λ k. ap (λ s. get s k) c.reserve.ensures.rest_kept) c.in_err-insert.ensures.err c.requires.fits.incidence in
+    let step = nothing_changed old c.args.shared.now (record c.args.shared.now { records = c.reserve.new.self }) c.insert.new.self old.incidence c.requires.fits (λ k. ap (λ s. get s k) c.reserve.ensures.rest_kept) c.in_err-insert.ensures.err c.requires.fits.incidence in
     record { ok = IfOk-from_err failed.result _ failed.ensures.0; err = at_err failed.result step.content; keeps = record { fits = step.fits; owner = refl; others = step.others } }

@@ -12,23 +12,23 @@ use Rattle.pg_pool.specs.Tables.{content_of}
 use Rattle.pg_pool.proofs.pooled_tables.PooledTablesTables.change_rel.Goals as goal
 
 pub unwrap-key-requires : goal.unwrap-key-requires
-unwrap-key-requires c = read_some _ (subst IsSome (sym c.get.ensures) (inside_some _ _ _ c.requires.present))
+unwrap-key-requires g c = read_some _ (subst IsSome (sym c.get.ensures) (inside_some _ _ _ c.requires.present))
 
 pub unwrap-requires : goal.unwrap-requires
-unwrap-requires c =
+unwrap-requires g c =
     let labelled = (c.requires.fits.rels _ _).0 (sym c.get.ensures ∙ ap option_copied c.unwrap-key.ensures) in
     read_some _ (subst IsSome (sym (c.rel.ensures ∙ rel_there _ _ _ labelled)) refl)
 
 pub replace-requires : goal.replace-requires
-replace-requires c = labelled_some _ _ _ ((c.requires.fits.rels _ _).0 (sym c.get.ensures ∙ ap option_copied c.unwrap-key.ensures))
+replace-requires g c = labelled_some _ _ _ ((c.requires.fits.rels _ _).0 (sym c.get.ensures ∙ ap option_copied c.unwrap-key.ensures))
 
 pub unreachable-requires : goal.unreachable-requires
-unreachable-requires c =
+unreachable-requires g c =
     let labels = sym (ap label c.in-Node.ensures.before) ∙ (c.requires.fits.rels _ _).0 (sym c.get.ensures ∙ ap option_copied c.unwrap-key.ensures) in
     true_not_false (ap (λ p. p.1.0) (same_some _ _ labels))
 
 pub returns : goal.returns
-returns c =
+returns g c =
     let found : map.get c.args.self.now.rels c.args.id.0 ≡ Some c.unwrap-key.result.now = sym c.get.ensures ∙ ap option_copied c.unwrap-key.ensures in
     let content = content_of c.args.self.now c.args.shared.now in
     let there : map.get content.rels c.args.id.0 ≡ Some c.unwrap.result.now =

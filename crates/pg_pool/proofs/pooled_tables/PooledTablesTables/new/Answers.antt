@@ -8,14 +8,14 @@ use Rattle.pg_pool.specs.Values.{map_values}
 use Rattle.pg_pool.proofs.pooled_tables.PooledTablesTables.new.Goals as goal
 
 pub returns-clause-fits : goal.returns-clause-fits
-returns-clause-fits c = λ shared unused. record {
+returns-clause-fits g c = λ shared unused. record {
   nodes = subst (λ ids. Finds true c.args.owner ids shared.records) (sym c.new.ensures) (finds_empty true c.args.owner shared.records (λ key id. unused key id true));
   rels = subst (λ ids. Finds false c.args.owner ids shared.records) (sym c.new-2.ensures) (finds_empty false c.args.owner shared.records (λ key id. unused key id false));
   incidence = subst (IsIncidence c.new-3.result) (sym (ap (map_values (rel_at shared.records)) c.new-2.ensures ∙ values_empty (rel_at shared.records))) c.new-3.ensures;
 }
 
 pub returns-clause-empty : goal.returns-clause-empty
-returns-clause-empty c = λ shared unused i. record {
+returns-clause-empty g c = λ shared unused i. record {
   nodes = (ap (map_values (node_at shared.records)) c.new.ensures ∙ values_empty (node_at shared.records)) i;
   rels = (ap (map_values (rel_at shared.records)) c.new-2.ensures ∙ values_empty (rel_at shared.records)) i;
 }

@@ -4,4 +4,4 @@ use Rattle.pg_pool.specs.Records.{label}
 use Rattle.pg_pool.proofs.pooled_tables.PooledTablesTables.new_shared.Goals as goal
 
 pub returns : goal.returns
-returns c = record { unused = λ owner key id nodes e. no_some _ (sym (ap label (c.new.ensures key)) ∙ e) }
+returns g c = record { unused = λ owner key id nodes e. no_some _ (sym (ap label (c.new.ensures key)) ∙ e) }

@@ -94,7 +94,12 @@ impl<K: TextSet> Tables for PooledTables<K> {
         Ok(())
     }
 
-    fn add_rel(&mut self, shared: &mut Pool<K>, id: RelId, rel: RelRecord) -> Result<(), AllocError> {
+    fn add_rel(
+        &mut self,
+        shared: &mut Pool<K>,
+        id: RelId,
+        rel: RelRecord,
+    ) -> Result<(), AllocError> {
         shared.records.reserve(1)?;
         self.rels.insert(id.0, shared.records.vacant_key())?;
         if let Err(e) = self.incidence.add(id, rel.source, rel.target) {
@@ -117,7 +122,12 @@ impl<K: TextSet> Tables for PooledTables<K> {
         }
     }
 
-    fn change_rel(&mut self, shared: &mut Pool<K>, id: RelId, properties: Properties) -> Properties {
+    fn change_rel(
+        &mut self,
+        shared: &mut Pool<K>,
+        id: RelId,
+        properties: Properties,
+    ) -> Properties {
         let key = *self.rels.get(id.0).unwrap();
         let rel = shared.rel(key).unwrap().with_properties(properties);
         let owner = self.owner;

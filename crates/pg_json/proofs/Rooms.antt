@@ -1,25 +1,18 @@
 -- What is left of the room, a part of a value at a time.
-use Rattle.std.proofs.Common.{◌≡◌, ◌+◌, ◌<◌, ◌≤◌, ◌∷◌, ◌∙◌, ℕ, List, map, drop, get_or, sym, ap, Option, Some, None, length, decimal, String, Vec, BTreeMap, Global, string_bytes, refl, arith}
+use Rattle.std.proofs.Common.{◌≡◌, ◌+◌, ◌-◌, ◌<◌, ◌≤◌, ◌∷◌, ◌∙◌, ℕ, List, map, drop, get_or, sym, ap, length, decimal, String, Vec, BTreeMap, Global, string_bytes, refl, arith}
 use Rattle.std.proofs.lemmas.List.{drop_more, drop_all}
 use Rattle.serde_json.specs.Data.{Data}
 use Rattle.pg_value_core.specs.declared.ids.NodeId.{NodeId}
 use Rattle.pg_value_core.specs.declared.ids.RelId.{RelId}
 use Rattle.pg_value_core.specs.declared.out.Out.{Out, Text, List as OutList, Map as OutMap, Node, Rel, Path}
 use Rattle.pg_json.specs.Replies.{items_of, data_of, outs, named_outs, text_items}
-use Rattle.pg_json.specs.Room.{least, items_least, members_least, Leaves}
+use Rattle.pg_json.specs.Room.{least, items_least, members_least}
 use Rattle.pg_json.proofs.Elements.{data_text, data_list, data_map, data_node, data_rel, data_path}
 
 -- ---- one part in front of the rest
 
-pub rest_left : (room r front rest whole : ℕ) (left : Option ℕ) → r + front ≡ room → front + rest ≡ whole → Leaves r rest left → Leaves room whole left
-rest_left room r front rest whole None first parts h = omega (arith, first, parts, h)
-rest_left room r front rest whole (Some x) first parts h = omega (arith, first, parts, h)
-
-pub too_little : (room front rest whole : ℕ) → room < front → front + rest ≡ whole → room < whole
-too_little room front rest whole short parts = omega (arith, short, parts)
-
-pub second_too_little : (room r front second rest whole : ℕ) → r + front ≡ room → r < second → front + (second + rest) ≡ whole → room < whole
-second_too_little room r front second rest whole first short parts = omega (arith, first, short, parts)
+pub behind_both : (room r s front rest whole : ℕ) → front + rest ≡ whole → r ≡ room - front → s ≡ r - rest → s ≡ room - whole
+behind_both room r s front rest whole parts first second = omega (arith, parts, first, second)
 
 pub text_least : (text : String Global) → length (string_bytes text) + 2 ≡ least (data_of (Text text))
 text_least text = rw (data_text text) refl
@@ -43,32 +36,27 @@ path_least elements = rw (data_path elements) (omega arith)
 
 -- ---- two parts in front of the rest, in a loop
 
-module _ (start room all first second rest : ℕ) (so_far : start + (first + second + rest) ≡ room + all) where
-  pub no_first : room < first → start < all
-  no_first short = omega (arith, so_far, short)
+pub behind_two : (room s first second rest : ℕ) → s ≡ (room - first) - second → room - (second + first + rest) ≡ s - rest
+behind_two room s first second rest is = omega (arith, is)
 
-  pub no_second : (r : ℕ) → r + first ≡ room → r < second → start < all
-  no_second r behind short = omega (arith, so_far, behind, short)
+pub behind_member : (room s r key value rest : ℕ) → r ≡ room - key → s ≡ r - value → room - (key + value + rest) ≡ s - rest
+behind_member room s r key value rest first second = omega (arith, first, second)
 
-  pub both_left : (r s : ℕ) → r + first ≡ room → s + second ≡ r → start + rest ≡ s + all
-  both_left r s behind last = omega (arith, so_far, behind, last)
+pub behind_none : (room : ℕ) → room - 0 ≡ room
+behind_none room = omega arith
 
-pub none_left : (start room all : ℕ) → start + 0 ≡ room + all → room + all ≡ start
-none_left start room all e = omega (arith, e)
-
-comma_first : (start item rest whole : ℕ) → start + (item + 1 + rest) ≡ whole → start + (1 + item + rest) ≡ whole
-comma_first start item rest whole e = omega (arith, e)
+pub nothing_behind : (room n : ℕ) → room ≡ 0 → room - n ≡ 0
+nothing_behind room n e = omega (arith, e)
 
 -- items that are seen as data in one way
 module _ {X : Type 0} (shown : X → Data) where
-  abbrev pub list_needs : List X → ℕ
+  abbrev list_needs : List X → ℕ
   list_needs xs = items_least (items_of (map shown xs))
 
-  pub next_item : (start whole : ℕ) (xs : List X) (i : ℕ) (x : X) → i < length xs → x ≡ get_or xs i x → start + list_needs (drop i xs) ≡ whole
-      → start + (1 + least (shown x) + list_needs (drop (i + 1) xs)) ≡ whole
-  next_item start whole xs i x within is so_far =
+  pub behind_item : (room s : ℕ) (xs : List X) (i : ℕ) (x : X) → i < length xs → x ≡ get_or xs i x → s ≡ (room - 1) - least (shown x) → room - list_needs (drop i xs) ≡ s - list_needs (drop (i + 1) xs)
+  behind_item room s xs i x within is left =
       let here : drop i xs ≡ x ∷ drop (i + 1) xs = drop_more xs i x within ∙ ap (λ y. y ∷ drop (i + 1) xs) (sym is) in
-      comma_first start (least (shown x)) (list_needs (drop (i + 1) xs)) whole (ap (λ ys. start + list_needs ys) (sym here) ∙ so_far)
+      ap (λ ys. room - list_needs ys) here ∙ behind_two room s 1 (least (shown x)) (list_needs (drop (i + 1) xs)) left
 
-  pub no_item : (start room all : ℕ) (xs : List X) (i : ℕ) → length xs ≤ i → start + list_needs (drop i xs) ≡ room + all → room + all ≡ start
-  no_item start room all xs i passed so_far = none_left start room all (ap (λ ys. start + list_needs ys) (sym (drop_all i xs passed)) ∙ so_far)
+  pub behind_items : (room : ℕ) (xs : List X) (i : ℕ) → length xs ≤ i → room - list_needs (drop i xs) ≡ room
+  behind_items room xs i passed = ap (λ ys. room - list_needs ys) (drop_all i xs passed) ∙ behind_none room

@@ -1,5 +1,5 @@
 -- A length that a text has at least, which is told without reading the texts in it. For private clauses.
-use Rattle.std.specs.Prelude.{ℕ, ◌+◌, ◌<◌, ◌≡◌, length, Option, MatchOption}
+use Rattle.std.specs.Prelude.{ℕ, ◌+◌, length}
 use Rattle.serde_json.specs.Data.{Data, null, boolean, number, string, array, object, Items, no_items, item, Members, no_members, member}
 use Rattle.serde_json.specs.Written.{number_text}
 
@@ -20,7 +20,3 @@ abbrev mutual
   pub members_least : Members → ℕ
   members_least no_members = 0
   members_least (member k d ms) = length k + 4 + least d + members_least ms
-
--- what is left of the room, or that it is too little
-abbrev pub Leaves : ℕ → ℕ → Option ℕ → Type 0
-Leaves room n left = MatchOption left (room < n) (λ r. r + n ≡ room)

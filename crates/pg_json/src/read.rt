@@ -117,8 +117,12 @@ fn query_from(alloc: Global, mut members: Map<String, Value>) -> Result<RequestB
     if !has_only(&members, &["op", "token", "text", "params"]) {
         return Err(Fault::BadRequest);
     }
-    let token = take_text(&mut members, "token").ok_or(Fault::BadRequest)?;
-    let text = take_text(&mut members, "text").ok_or(Fault::BadRequest)?;
+    let Some(token) = take_text(&mut members, "token") else {
+        return Err(Fault::BadRequest);
+    };
+    let Some(text) = take_text(&mut members, "text") else {
+        return Err(Fault::BadRequest);
+    };
     let parameters = parameters_from(alloc, find(&members, "params"))?;
     Ok(RequestBody::Query {
         token,
@@ -162,7 +166,9 @@ fn status_from(mut members: Map<String, Value>) -> Result<RequestBody, Fault>
     if !has_only(&members, &["op", "token"]) {
         return Err(Fault::BadRequest);
     }
-    let token = take_text(&mut members, "token").ok_or(Fault::BadRequest)?;
+    let Some(token) = take_text(&mut members, "token") else {
+        return Err(Fault::BadRequest);
+    };
     Ok(RequestBody::Status { token })
 }
 
@@ -182,9 +188,15 @@ fn index_names_from(mut members: Map<String, Value>) -> Result<IndexNames, Fault
     if !has_only(&members, &["op", "token", "label", "key"]) {
         return Err(Fault::BadRequest);
     }
-    let token = take_text(&mut members, "token").ok_or(Fault::BadRequest)?;
-    let label = take_name(&mut members, "label").ok_or(Fault::BadRequest)?;
-    let key = take_name(&mut members, "key").ok_or(Fault::BadRequest)?;
+    let Some(token) = take_text(&mut members, "token") else {
+        return Err(Fault::BadRequest);
+    };
+    let Some(label) = take_name(&mut members, "label") else {
+        return Err(Fault::BadRequest);
+    };
+    let Some(key) = take_name(&mut members, "key") else {
+        return Err(Fault::BadRequest);
+    };
     Ok(IndexNames { token, label, key })
 }
 

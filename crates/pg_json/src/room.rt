@@ -2,41 +2,30 @@
 ghost use Rattle.std.specs.Prelude.{◌≡◌, ◌+◌, ◌-◌, ◌≤◌, length, decimal};
 ghost use Rattle.std.specs.Fmt.{signed_decimal};
 ghost use Rattle.pg_json.specs.Replies.{data_of, outs, named_outs, text_items};
-ghost use Rattle.pg_json.specs.Room.{least, items_least, members_least, Leaves};
+ghost use Rattle.pg_json.specs.Room.{least, items_least, members_least};
 
 use pg_value_core::Out;
 use std::collections::BTreeMap;
 
 /// What is left of the room behind the value's text, which is at least as long as counted here; 0 also where
 /// there was too little.
+#[cycle(room)]
 pub fn room_behind(room: usize, value: &Out) -> usize
     ensures { result ≡ room - least (data_of value.now) }
 {
-    match room_after(room, value) {
-        Some(left) => left,
-        None => 0,
-    }
-}
-
-/// What is left of the room behind the text of the value, which is at least as long as counted here.
-#[cycle(room)]
-#[tactic(auto, using(crate::proofs::Elements::data_node, crate::proofs::Elements::data_rel))]
-fn room_after(room: usize, value: &Out) -> Option<usize>
-    ensures { Leaves room (least (data_of value.now)) result }
-{
     match value {
-        Out::Null | Out::Bool(_) => room.checked_sub(4),
-        Out::Int(i) => room.checked_sub(signed_digits(*i)),
-        Out::Text(text) => room_after_text(room, text),
-        Out::List(items) => room_after_items(room.checked_sub(1)?, items),
-        Out::Map(members) => room_after_members(room.checked_sub(1)?, members),
+        Out::Null | Out::Bool(_) => room.saturating_sub(4),
+        Out::Int(i) => room.saturating_sub(signed_digits(*i)),
+        Out::Text(text) => room_behind_text(room, text),
+        Out::List(items) => room_behind_items(room.saturating_sub(1), items),
+        Out::Map(members) => room_behind_members(room.saturating_sub(1), members),
         Out::Node {
             id,
             labels,
             properties,
         } => {
-            let room = room_before_properties(room, id.0, labels)?;
-            room_after_members(room, properties)
+            let room = room_before_properties(room, id.0, labels);
+            room_behind_members(room, properties)
         }
         Out::Rel {
             id,
@@ -45,66 +34,72 @@ fn room_after(room: usize, value: &Out) -> Option<usize>
             end,
             properties,
         } => {
-            let room = room_after_ids(room, id.0, start.0, end.0)?;
-            room_after_members(room_after_text(room, kind)?, properties)
+            let room = room_behind_ids(room, id.0, start.0, end.0);
+            room_behind_members(room_behind_text(room, kind), properties)
         }
-        Out::Path(elements) => room_after_items(room.checked_sub(11)?, elements),
+        Out::Path(elements) => room_behind_items(room.saturating_sub(11), elements),
     }
 }
 
 #[cycle(room)]
-fn room_after_items(mut room: usize, items: &[Out]) -> Option<usize>
-    ensures { Leaves room (items_least (outs items.now)) result }
+fn room_behind_items(mut room: usize, items: &[Out]) -> usize
+    ensures { result ≡ room - items_least (outs items.now) }
 {
     for item in items {
-        room = room_after(room.checked_sub(1)?, item)?;
+        if room == 0 {
+            return 0;
+        }
+        room = room_behind(room - 1, item);
     }
-    Some(room)
+    room
 }
 
 #[cycle(room)]
-fn room_after_members(mut room: usize, members: &BTreeMap<String, Out>) -> Option<usize>
-    ensures { Leaves room (members_least (named_outs members.now.entries)) result }
+fn room_behind_members(mut room: usize, members: &BTreeMap<String, Out>) -> usize
+    ensures { result ≡ room - members_least (named_outs members.now.entries) }
 {
     for (key, member) in members.iter() {
-        room = room_after(room_after_key(room, key)?, member)?;
+        if room == 0 {
+            return 0;
+        }
+        room = room_behind(room_behind_key(room, key), member);
     }
-    Some(room)
+    room
 }
 
 /// A node's keys, brackets, number and labels.
-fn room_before_properties(room: usize, id: u64, labels: &[String]) -> Option<usize>
-    ensures { Leaves room (36 + length (decimal id) + items_least (text_items labels.now)) result }
+fn room_before_properties(room: usize, id: u64, labels: &[String]) -> usize
+    ensures { result ≡ room - (36 + length (decimal id) + items_least (text_items labels.now)) }
 {
-    room_after_texts(room.checked_sub(36 + digits(id))?, labels)
+    room_behind_texts(room.saturating_sub(36 + digits(id)), labels)
 }
 
-fn room_after_texts(mut room: usize, texts: &[String]) -> Option<usize>
-    ensures { Leaves room (items_least (text_items texts.now)) result }
+fn room_behind_texts(mut room: usize, texts: &[String]) -> usize
+    ensures { result ≡ room - items_least (text_items texts.now) }
 {
     for text in texts {
-        room = room_after_text(room.checked_sub(1)?, text)?;
+        room = room_behind_text(room.saturating_sub(1), text);
     }
-    Some(room)
+    room
 }
 
-fn room_after_text(room: usize, text: &str) -> Option<usize>
-    ensures { Leaves room (length text.now + 2) result }
+fn room_behind_text(room: usize, text: &str) -> usize
+    ensures { result ≡ room - (length text.now + 2) }
 {
-    room.checked_sub(2)?.checked_sub(text.len())
+    room.saturating_sub(2).saturating_sub(text.len())
 }
 
-fn room_after_key(room: usize, key: &str) -> Option<usize>
-    ensures { Leaves room (length key.now + 4) result }
+fn room_behind_key(room: usize, key: &str) -> usize
+    ensures { result ≡ room - (length key.now + 4) }
 {
-    room.checked_sub(4)?.checked_sub(key.len())
+    room.saturating_sub(4).saturating_sub(key.len())
 }
 
 /// A relationship's keys, brackets and numbers.
-fn room_after_ids(room: usize, id: u64, start: u64, end: u64) -> Option<usize>
-    ensures { Leaves room (48 + length (decimal id) + length (decimal start) + length (decimal end)) result }
+fn room_behind_ids(room: usize, id: u64, start: u64, end: u64) -> usize
+    ensures { result ≡ room - (48 + length (decimal id) + length (decimal start) + length (decimal end)) }
 {
-    room.checked_sub(48 + digits(id) + digits(start) + digits(end))
+    room.saturating_sub(48 + digits(id) + digits(start) + digits(end))
 }
 
 #[tactic(auto, using(crate::proofs::Digits::digits_between, crate::proofs::Digits::digits_of_zero))]

@@ -1,5 +1,5 @@
 //! The static faults of the items of WITH and RETURN.
-ghost use Rattle.std.specs.Prelude.{◌≡◌, ◌∷◌, ◌++◌, map, IfOk, OnOk};
+ghost use Rattle.std.specs.Prelude.{◌≡◌, [], ◌∷◌, ◌++◌, map, IfOk, OnOk};
 ghost use Rattle.pg_meaning.specs.Names.{is_among};
 ghost use Rattle.pg_meaning.specs.Scopes.{column_names};
 ghost use Rattle.pg_meaning.specs.StaticFaults as spec;
@@ -14,8 +14,7 @@ use crate::found::{Found, noted};
 use crate::names::{Names, add, is_among};
 use pg_meaning::Fault;
 use pg_syntax_tree::Item;
-use std::alloc::{AllocError, Global};
-use std::collections::BTreeSet;
+use std::alloc::AllocError;
 
 /// Whether `*` stands for the name.
 fn is_starred<'a>(scope: &Names<'a>, star: bool, name: &'a str) -> bool
@@ -39,24 +38,25 @@ fn stood<'a>(
     Ok(!new || is_starred(scope, star, name))
 }
 
-/// The first fault, with those of the items, and the names of their columns.
+/// The first fault, with those of the items, whose names become the columns.
 pub(crate) fn fault_in_items<'a>(
-    alloc: Global,
     naming: Naming,
     scope: &Names<'a>,
     star: bool,
     items: &'a Vec<Item>,
+    columns: &mut Names<'a>,
     mut first: Option<Found>,
-) -> Result<(Option<Found>, Names<'a>), AllocError>
-    ensures { IfOk result (λ r. IsFirst first (spec.item_faults (column_of naming) (names_in scope.now) (starred star (names_in scope.now)) (map item_view items.now.items)) r.0 × HasSame (names_in r.1) (column_names (map (column_of naming) (map item_view items.now.items)))) }
+) -> Result<Option<Found>, AllocError>
+    requires { columns.old.keys ≡ [] }
+    ensures first { IfOk result (λ found. IsFirst first (spec.item_faults (column_of naming) (names_in scope.now) (starred star (names_in scope.now)) (map item_view items.now.items)) found) }
+    ensures names { OnOk result (HasSame (names_in columns.new) (column_names (map (column_of naming) (map item_view items.now.items)))) }
 {
-    let mut columns = BTreeSet::new(alloc);
     for item in items {
-        let again = stood(scope, star, &mut columns, column_name(naming, item))?;
+        let again = stood(scope, star, columns, column_name(naming, item))?;
         first = noted(again, item.start, Fault::DuplicateColumn, first);
         first = fault_in_expression(scope, Role::WholeItem, &item.value, first);
     }
-    Ok((first, columns))
+    Ok(first)
 }
 
 /// Brings the columns into scope beside what is there.

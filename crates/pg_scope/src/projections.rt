@@ -126,7 +126,7 @@ fn is_narrow(projection: &Projection) -> bool
 pub(crate) fn fault_in_projection<'a>(
     alloc: Global,
     naming: Naming,
-    scope: Names<'a>,
+    mut scope: Names<'a>,
     projection: &'a Projection,
     condition: Option<&'a Expression>,
     first: Option<Found>,
@@ -135,16 +135,16 @@ pub(crate) fn fault_in_projection<'a>(
 {
     let star = projection.star.is_some();
     let items = &projection.items;
-    let (first, columns) = fault_in_items(alloc, naming, &scope, star, items, first)?;
+    let mut columns = BTreeSet::new(alloc);
+    let first = fault_in_items(naming, &scope, star, items, &mut columns, first)?;
     if is_narrow(projection) {
         let found = fault_in_tail(alloc, &columns, projection, condition, first)?;
         return Ok((found, columns));
     }
-    let mut visible = scope;
-    add_columns(naming, &mut visible, items)?;
-    let found = fault_in_tail(alloc, &visible, projection, condition, first)?;
+    add_columns(naming, &mut scope, items)?;
+    let found = fault_in_tail(alloc, &scope, projection, condition, first)?;
     if star {
-        Ok((found, visible))
+        Ok((found, scope))
     } else {
         Ok((found, columns))
     }

@@ -13,7 +13,7 @@ use crate::columns::Naming;
 use crate::expressions::{Role, fault_in_expression};
 use crate::found::{Found, noted};
 use crate::modes::Mode;
-use crate::names::{Names, add, is_among};
+use crate::names::{Names, add};
 use crate::paths::{fault_in_path, fault_in_paths};
 use crate::projections::{fault_if_any, fault_in_projection};
 use crate::scopes::{add_path, add_paths};
@@ -48,10 +48,11 @@ fn through_unwind<'a>(
     ensures { IfOk result (λ r. Steps (names_in scope.entry) (tree.unwind (expression_view list.now) (name_view name.now)) first r.0 (names_in r.1)) }
 {
     let first = fault_in_expression(&scope, Role::Elsewhere, list, first);
-    let bound = is_among(&scope, name.text.as_str());
-    let first = noted(bound, name.place, Fault::VariableAlreadyBound, first);
-    add(&mut scope, name.text.as_str())?;
-    Ok((first, scope))
+    let bound = !add(&mut scope, name.text.as_str())?;
+    Ok((
+        noted(bound, name.place, Fault::VariableAlreadyBound, first),
+        scope,
+    ))
 }
 
 fn through_create<'a>(

@@ -12,7 +12,6 @@ ghost use Rattle.pg_syntax_expressions.specs.ShrinksExpressions.{expr_shrinks};
 ghost use Rattle.pg_syntax.specs.ShrinksClauses.{reading_eats, set_item_eats, remove_item_eats, on_items_eats, updating_eats};
 ghost use Rattle.pg_syntax_tree.specs.View.{name_view, expression_view, set_item_view, remove_item_view, on_view, clause_view};
 
-use crate::behind::alias_behind;
 use crate::patterns::{Paths, path};
 use pg_meaning::{Keyword, Symbol};
 use pg_syntax_expressions::{Whole, expression};
@@ -34,6 +33,14 @@ pub(crate) fn expression_behind(
     }
     tokens.expect_keyword(keyword)?;
     Ok(Some(expression(alloc, tokens, depth)?))
+}
+
+/// AS and a variable.
+pub(crate) fn alias(alloc: Global, tokens: &mut Tokens<'_, '_>) -> Result<Name, ParseError>
+    ensures { Gives name_view (parse.alias (tokens_view tokens.old.rest.now)) result tokens.new.rest.now }
+{
+    tokens.expect_keyword(Keyword::As)?;
+    tokens.var(alloc)
 }
 
 // ---- clauses that read
@@ -63,7 +70,7 @@ fn unwind_clause(
 {
     tokens.expect_keyword(Keyword::Unwind)?;
     let list = expression(alloc, tokens, depth)?;
-    let (list, variable) = alias_behind(alloc, list, tokens)?;
+    let variable = alias(alloc, tokens)?;
     Ok(Clause::Unwind(list, variable))
 }
 

@@ -1,7 +1,6 @@
 //! From tokens to the trees of the whole language.
 #![tactic(auto)]
 
-mod behind;
 mod clauses;
 mod patterns;
 mod projections;

@@ -1,6 +1,6 @@
 //! WITH and RETURN.
 
-ghost use Rattle.std.specs.Prelude.{◌≡◌, Some, map, option_map, string_bytes, is_some};
+ghost use Rattle.std.specs.Prelude.{◌≡◌, Some, IfOk, map, option_map, string_bytes, is_some};
 ghost use Rattle.pg_lex.specs.View.{lexeme_view, tokens_view};
 ghost use Rattle.pg_meaning.specs.Parse as parse;
 ghost use Rattle.pg_meaning.specs.declared.lexemes.Keyword.TheVariants as k;
@@ -11,8 +11,7 @@ ghost use Rattle.pg_syntax_expressions.specs.ShrinksExpressions.{expr_shrinks};
 ghost use Rattle.pg_syntax.specs.ShrinksClauses.{item_shrinks, sort_item_shrinks};
 ghost use Rattle.pg_syntax_tree.specs.View.{name_view, expression_view, item_view, sort_item_view, projection_view, clause_view};
 
-use crate::behind::optional_expression_behind;
-use crate::clauses::expression_behind;
+use crate::clauses::{alias, expression_behind};
 use pg_lex::{Lexeme, Token};
 use pg_meaning::{Keyword, Sort, Symbol};
 use pg_syntax_expressions::expression;
@@ -45,14 +44,13 @@ fn source_of(alloc: Global, text: &str, start: usize, finish: usize) -> Result<S
     Ok(String::from_str(alloc, source)?)
 }
 
-fn alias(alloc: Global, tokens: &mut Tokens<'_, '_>) -> Result<Option<Name>, ParseError>
+fn alias_if_any(alloc: Global, tokens: &mut Tokens<'_, '_>) -> Result<Option<Name>, ParseError>
     ensures { Gives (option_map name_view) (parse.maybe (parse.sees_keyword k.As) parse.alias (tokens_view tokens.old.rest.now)) result tokens.new.rest.now }
 {
     if !tokens.sees_keyword(Keyword::As) {
         return Ok(None);
     }
-    tokens.expect_keyword(Keyword::As)?;
-    Ok(Some(tokens.var(alloc)?))
+    Ok(Some(alias(alloc, tokens)?))
 }
 
 #[tactic(auto, unfolding(pg_meaning::specs::Parse::return_item))]
@@ -68,7 +66,7 @@ fn return_item(
     let value = expression(alloc, tokens, depth)?;
     let start = start_of(old);
     let source = source_of(alloc, text, start, finish_between(old, tokens.rest))?;
-    let alias = alias(alloc, tokens)?;
+    let alias = alias_if_any(alloc, tokens)?;
     Ok(Item {
         start,
         source,
@@ -244,7 +242,7 @@ fn projection(
     )?;
     let order = ordering(alloc, tokens, depth)?;
     let skip = expression_behind(alloc, tokens, depth, Keyword::Skip)?;
-    let (skip, limit) = optional_expression_behind(alloc, skip, tokens, depth, Keyword::Limit)?;
+    let limit = expression_behind(alloc, tokens, depth, Keyword::Limit)?;
     Ok(Projection {
         distinct,
         star: has_star.then_some(place),
@@ -253,6 +251,21 @@ fn projection(
         skip,
         limit,
     })
+}
+
+/// What was found, with the condition behind it, if one is there. It is of any type: a projection
+/// that is dropped where no condition can be read makes a long proof.
+fn condition_behind<T: Drop>(
+    alloc: Global,
+    found: T,
+    tokens: &mut Tokens<'_, '_>,
+    depth: usize,
+) -> Result<(T, Option<Expression>), ParseError>
+    ensures condition { Gives (λ p. option_map expression_view p.1) (pieces.behind k.Where (parse.expr depth) (tokens_view tokens.old.rest.now)) result tokens.new.rest.now }
+    ensures found { IfOk result (λ p. p.0 ≡ found) }
+{
+    let condition = expression_behind(alloc, tokens, depth, Keyword::Where)?;
+    Ok((found, condition))
 }
 
 #[tactic(auto, unfolding(pg_meaning::specs::Parse::with_clause))]
@@ -266,13 +279,7 @@ pub(crate) fn with_clause(
 {
     tokens.expect_keyword(Keyword::With)?;
     let projection = projection(alloc, text, tokens, depth, true)?;
-    let (projection, condition) = optional_expression_behind(
-        alloc,
-        projection,
-        tokens,
-        depth,
-        Keyword::Where,
-    )?;
+    let (projection, condition) = condition_behind(alloc, projection, tokens, depth)?;
     Ok(Clause::With(projection, condition))
 }
 

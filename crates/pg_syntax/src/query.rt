@@ -1,6 +1,6 @@
 //! Queries.
 
-ghost use Rattle.std.specs.Prelude.{◌≡◌, ◌≢◌, ◌↔◌, ◌⊎◌, true, false, Some, Ok, Err, IfOk, IfErr, IsErrOf, length, map};
+ghost use Rattle.std.specs.Prelude.{◌≡◌, ◌≢◌, ◌↔◌, ◌⊎◌, ◌++◌, ◌∷◌, [], true, false, Some, Ok, Err, IfOk, IfErr, IsErrOf, length, map};
 ghost use Rattle.pg_lex.specs.View.{tokens_view};
 ghost use Rattle.pg_meaning.specs.Depth.{is_too_deep};
 ghost use Rattle.pg_meaning.specs.Grammar.{Reads};
@@ -20,7 +20,7 @@ use pg_lex::Token;
 use pg_meaning::{Fault, Keyword, Symbol};
 use pg_syntax_tokens::{ParseError, Tokens, is_too_deep, many};
 use pg_syntax_tree::{Clause, Query};
-use std::alloc::Global;
+use std::alloc::{AllocError, Global};
 
 /// The clauses up to WITH, behind those that were found, and whether some of them write.
 fn part(
@@ -38,20 +38,28 @@ fn part(
     Ok((clauses, updates))
 }
 
+/// One more behind those that were found.
+fn followed<T: Drop>(mut found: Vec<T>, next: T) -> Result<Vec<T>, AllocError>
+    ensures { IfOk result (λ v. v.items ≡ found.items ++ next ∷ []) }
+{
+    found.push(next)?;
+    Ok(found)
+}
+
 /// The last clause, behind those that were found.
 fn last(
     alloc: Global,
     text: &str,
     tokens: &mut Tokens<'_, '_>,
     depth: usize,
-    mut found: Vec<Clause>,
+    found: Vec<Clause>,
     updates: bool,
 ) -> Result<Vec<Clause>, ParseError>
     ensures { Gives (λ v. map clause_view v.items) (pieces.last text.now (parse.expr depth) (map clause_view found.items) updates (tokens_view tokens.old.rest.now)) result tokens.new.rest.now }
 {
     if tokens.sees_keyword(Keyword::Return) {
-        found.push(return_clause(alloc, text, tokens, depth)?)?;
-        return Ok(found);
+        let clause = return_clause(alloc, text, tokens, depth)?;
+        return Ok(followed(found, clause)?);
     }
     if !updates {
         return Err(ParseError::BadSyntax);
@@ -71,9 +79,9 @@ fn parts(
     ensures { Gives (λ v. map clause_view v.items) (parse.parts text.now (parse.expr depth) (length tokens.old.rest.now) (tokens_view tokens.old.rest.now)) result tokens.new.rest.now }
 {
     let (mut found, mut updates) = part(alloc, tokens, depth, Vec::new(alloc))?;
-    while tokens.sees_keyword(Keyword::With) {
-        found.push(with_clause(alloc, text, tokens, depth)?)?;
-        let next = part(alloc, tokens, depth, found)?;
+    'parts: while tokens.sees_keyword(Keyword::With) {
+        let clause = with_clause(alloc, text, tokens, depth)?;
+        let next = part(alloc, tokens, depth, followed(found, clause)?)?;
         found = next.0;
         updates = next.1;
     }

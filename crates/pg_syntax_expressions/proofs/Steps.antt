@@ -1,21 +1,29 @@
 -- What a token that was taken, or left, says of a parser that asks for it.
-use Rattle.std.proofs.Common.{◌≡◌, Bool, true, false, List, Some, None, Result, refl, sym, ap, ◌∙◌, true≢false}
+use Rattle.std.proofs.Common.{◌≡◌, Bool, true, false, List, Option, Some, None, Result, Ok, Err, refl, sym, ap, ◌∙◌, true≢false}
 use Rattle.std.specs.Option.{option_map_or}
 use Rattle.std.specs.Result.{IsErrAnd}
 use Rattle.std.proofs.lemmas.Result.{err_from_is_err_and}
 use Rattle.pg_lex.specs.declared.token.Token.{Token as Code}
+use Rattle.pg_lex.specs.View.{tokens_view}
 use Rattle.pg_meaning.specs.Parse as parse
 use Rattle.pg_meaning.specs.Parse.{Outcome, Parser, Test, ◌>>=◌, ◌>>◌, ◌<$>◌, and_then, branch, maybe, pure, rest, sees_keyword, sees_symbol}
 use Rattle.pg_meaning.specs.Tokens.{Token}
 use Rattle.pg_meaning.specs.declared.lexemes.Keyword.{Keyword}
 use Rattle.pg_meaning.specs.declared.lexemes.Symbol.{Symbol}
 use Rattle.pg_syntax_tokens.proofs.Rows.{passed}
-use Rattle.pg_syntax_tokens.specs.Gives.{Gives, Fails}
+use Rattle.pg_syntax_tokens.specs.Gives.{Gives, GivesValue, Fails}
 use Rattle.pg_syntax_tokens.specs.declared.error.ParseError.{ParseError}
+use Rattle.pg_syntax_tokens.specs.declared.error.ParseError.TheVariants.{OutOfMemory, BadSyntax}
 
 -- an error that a `?` passes on
 pub fails : {A B C : Type 0} (view : B → A) (o : Outcome C) (q : Outcome A) (r : Result B ParseError) (e : ParseError) (us : List Code) → IsErrAnd r (λ y. y ≡ e) → (o ≡ None → q ≡ None) → Fails o e → Gives view q r us
 fails view o q r e us is none failed = let p = err_from_is_err_and r is in rw (p.1, p.2) (passed e o q none failed)
+
+-- a value behind whose tokens no more is read
+pub gives : {A B : Type 0} (view : B → A) (o : Outcome A) (x : A) (r : Result B ParseError) (us : List Code) → o ≡ Some (x, tokens_view us) → GivesValue view (Some x) r → Gives view o r us
+gives {A} view o x (Ok b) us is e = is ∙ ap (λ (p : Option A). option_map_or (λ y. Some (y, tokens_view us)) p None) e
+gives view o x (Err OutOfMemory) us is e = tt
+gives view o x (Err BadSyntax) us is e = absurd cc
 
 abbrev some : {A : Type 0} → A → List Token → Outcome A
 some a ts = Some (a, ts)

@@ -1,10 +1,10 @@
 -- What the parts of expressions stand for.
-use Rattle.std.specs.Prelude.{Option, Some, None, option_map, Box, pos, true, false}
+use Rattle.std.specs.Prelude.{ℕ, List, [], ◌∷◌, Option, Some, None, option_map, Box, pos, true, false}
 use Rattle.std.specs.declared.alloc.Global.{Global}
 use Rattle.pg_meaning.specs.declared.lexemes.Keyword.{Keyword}
 use Rattle.pg_meaning.specs.declared.lexemes.Keyword.TheVariants as k
 use Rattle.pg_meaning.specs.declared.operators.TextTest.{TextTest}
-use Rattle.pg_meaning.specs.Parse.{Parser, ◌>>=◌, ◌>>◌, ◌<$>◌, pure, keyword, symbol, listed, expressions_of}
+use Rattle.pg_meaning.specs.Parse.{Parser, Test as Begins, ◌>>=◌, ◌>>◌, ◌<$>◌, pure, keyword, symbol, listed, expressions_of, many, name_at}
 use Rattle.pg_meaning.specs.Tokens.{Lexeme}
 use Rattle.pg_meaning.specs.Tokens as lexeme
 use Rattle.pg_meaning.specs.Value as value
@@ -41,6 +41,10 @@ perhaps_view = option_map (λ b. expression_view b.value)
 abbrev pub else_of : Parser tree.Expression → Parser tree.Expression
 else_of whole = keyword k.Else >> whole
 
+-- one piece, and all further ones
+abbrev pub one_or_more : {A : Type 0} → Begins → Parser A → Parser (List A)
+one_or_more begins piece = piece >>= λ x. many begins piece (x ∷ [])
+
 -- a list behind its opening sign
 abbrev pub list_behind : Parser tree.Expression → Parser tree.Expression
 list_behind whole = (λ xs. tree.list_literal (expressions_of xs)) <$> listed s.CloseBracket whole
@@ -57,3 +61,9 @@ literal_by (lexeme.keyword k.True w) = Some (value.boolean true)
 literal_by (lexeme.keyword k.False w) = Some (value.boolean false)
 literal_by (lexeme.keyword k.Null w) = Some value.null
 literal_by l = None
+
+-- a lexeme that is an atom alone
+abbrev pub leaf_by : ℕ → Lexeme → Option tree.Expression
+leaf_by at (lexeme.parameter q w) = Some (tree.parameter (name_at at q w))
+leaf_by at (lexeme.quoted_name w) = Some (tree.variable (name_at at true w))
+leaf_by at l = option_map tree.literal (literal_by l)

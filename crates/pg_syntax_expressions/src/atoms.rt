@@ -1,22 +1,21 @@
 //! Atoms, and what stands behind them.
 
-ghost use Rattle.std.specs.Prelude.{◌≡◌, IfOk, map, option_map, refl};
+ghost use Rattle.std.specs.Prelude.{◌≡◌, Some, IfOk, map, option_map, refl};
 ghost use Rattle.pg_lex.specs.View.{lexeme_view, tokens_view};
 ghost use Rattle.pg_meaning.specs.declared.lexemes.Keyword.TheVariants as k;
 ghost use Rattle.pg_meaning.specs.Parse as parse;
 ghost use Rattle.pg_meaning.specs.Parse.{pairs_of};
 ghost use Rattle.pg_meaning.specs.Tree as tree;
-ghost use Rattle.pg_syntax_tokens.specs.Gives.{Gives};
-ghost use Rattle.pg_syntax_expressions.specs.Parts.{suffix_view, perhaps_view, else_of, literal_by, list_behind, parentheses_behind};
+ghost use Rattle.pg_syntax_tokens.specs.Gives.{Gives, GivesValue};
+ghost use Rattle.pg_syntax_expressions.specs.Parts.{suffix_view, perhaps_view, else_of, leaf_by, literal_by, list_behind, one_or_more, parentheses_behind};
 ghost use Rattle.pg_syntax_tokens.specs.ShrinksLaws.{eats_shrinks};
 ghost use Rattle.pg_syntax_expressions.specs.ShrinksExpressions.{map_pair_eats, suffix_eats, when_eats};
-ghost use Rattle.pg_syntax_tree.specs.View.{expression_view, literal_view, name_view, names_view, pair_view, when_view};
+ghost use Rattle.pg_syntax_tree.specs.View.{expression_view, name_view, names_view, pair_view, when_view};
 
-use crate::behind::{expression_behind, keyword_behind, pieces_behind, symbol_behind};
 use pg_lex::Lexeme;
 use pg_meaning::{Keyword, Symbol};
 use pg_syntax_tokens::{
-    Each, Expressions, ParseError, Row, Rule, Tokens, labels_if_any, many, separated,
+    Each, Expressions, ParseError, Row, Rule, Tokens, labels_if_any, many, pieces, separated,
 };
 use pg_syntax_tree::{Expression, Literal, Name, Suffix};
 use std::alloc::{AllocError, Global};
@@ -125,8 +124,9 @@ impl<'w, W: Expressions> Rule for When<'w, W> {
     fn read(&self, tokens: &mut Tokens<'_, '_>) -> Result<(Expression, Expression), ParseError> {
         tokens.expect_keyword(Keyword::When)?;
         let condition = self.0.expression(tokens)?;
-        let condition = keyword_behind(condition, Keyword::Then, tokens)?;
-        expression_behind(condition, self.0, tokens)
+        tokens.expect_keyword(Keyword::Then)?;
+        let found = self.0.expression(tokens)?;
+        Ok((condition, found))
     }
 }
 
@@ -172,16 +172,27 @@ fn otherwise<W: Expressions>(
     Ok(Some(Box::new(whole.alloc(), found)?))
 }
 
+/// One piece, and all further ones of a row.
+fn one_or_more<R: Row>(
+    alloc: Global,
+    rule: &R,
+    tokens: &mut Tokens<'_, '_>,
+) -> Result<Vec<R::Tree>, ParseError>
+    requires { R.ready rule.now }
+    ensures { Gives (λ v. map R.view v.items) (one_or_more (R.begins rule.now) (R.parser rule.now) (tokens_view tokens.old.rest.now)) result tokens.new.rest.now }
+{
+    let mut found = Vec::new(alloc);
+    found.push(rule.read(tokens)?)?;
+    many(rule, tokens, found)
+}
+
 /// What stands behind CASE.
 fn case<W: Expressions>(whole: &W, tokens: &mut Tokens<'_, '_>) -> Result<Expression, ParseError>
     requires { W.ready whole.now }
     ensures { Gives expression_view (parse.case (W.parser whole.now) (tokens_view tokens.old.rest.now)) result tokens.new.rest.now }
 {
     let subject = subject(whole, tokens)?;
-    let when = When(whole);
-    let mut whens = Vec::new(whole.alloc());
-    whens.push(when.read(tokens)?)?;
-    let whens = many(&when, tokens, whens)?;
+    let whens = one_or_more(whole.alloc(), &When(whole), tokens)?;
     let otherwise = otherwise(whole, tokens)?;
     tokens.expect_keyword(Keyword::End)?;
     Ok(Expression::Case(subject, whens, otherwise))
@@ -212,7 +223,8 @@ impl<'w, W: Expressions> Rule for OneSuffix<'w, W> {
         }
         tokens.expect(Symbol::OpenBracket)?;
         let index = self.0.expression(tokens)?;
-        Ok(Suffix::Index(symbol_behind(index, Symbol::CloseBracket, tokens)?))
+        tokens.expect(Symbol::CloseBracket)?;
+        Ok(Suffix::Index(index))
     }
 }
 
@@ -233,8 +245,8 @@ fn suffixed(
     first: Expression,
     suffixes: Vec<Suffix<Expression>>,
     labels: Vec<Name>,
-) -> Result<Expression, AllocError>
-    ensures { IfOk result (λ x. expression_view x ≡ parse.suffixed (expression_view first) (map suffix_view suffixes.items) (names_view labels.items)) }
+) -> Result<Expression, ParseError>
+    ensures { GivesValue expression_view (Some (parse.suffixed (expression_view first) (map suffix_view suffixes.items) (names_view labels.items))) result }
 {
     if suffixes.is_empty() && labels.is_empty() {
         return Ok(first);
@@ -242,18 +254,18 @@ fn suffixed(
     Ok(Expression::Suffixes(Box::new(alloc, first)?, suffixes, labels))
 }
 
-/// A literal, unless the lexeme is none.
-fn literal_of(alloc: Global, lexeme: &Lexeme<'_>) -> Result<Option<Literal>, AllocError>
-    ensures { IfOk result (λ o. option_map literal_view o ≡ literal_by (lexeme_view lexeme.now)) }
+/// The literal that the lexeme is.
+fn literal_of(alloc: Global, lexeme: &Lexeme<'_>) -> Result<Expression, ParseError>
+    ensures { GivesValue expression_view (option_map tree.literal (literal_by (lexeme_view lexeme.now))) result }
 {
-    Ok(match lexeme {
-        Lexeme::Integer(number) => Some(Literal::Integer(number.value as i64)),
-        Lexeme::Text(text) => Some(Literal::Text(String::from_str(alloc, text.as_str())?)),
-        Lexeme::Keyword(Keyword::True, _) => Some(Literal::Boolean(true)),
-        Lexeme::Keyword(Keyword::False, _) => Some(Literal::Boolean(false)),
-        Lexeme::Keyword(Keyword::Null, _) => Some(Literal::Null),
-        _ => None,
-    })
+    Ok(Expression::Literal(match lexeme {
+        Lexeme::Integer(number) => Literal::Integer(number.value as i64),
+        Lexeme::Text(text) => Literal::Text(String::from_str(alloc, text.as_str())?),
+        Lexeme::Keyword(Keyword::True, _) => Literal::Boolean(true),
+        Lexeme::Keyword(Keyword::False, _) => Literal::Boolean(false),
+        Lexeme::Keyword(Keyword::Null, _) => Literal::Null,
+        _ => return Err(ParseError::BadSyntax),
+    }))
 }
 
 /// A variable, or a call.
@@ -286,7 +298,7 @@ fn parentheses<W: Expressions>(
     ensures { Gives expression_view (parentheses_behind (W.parser whole.now) (tokens_view tokens.old.rest.now)) result tokens.new.rest.now }
 {
     let inner = whole.expression(tokens)?;
-    let inner = symbol_behind(inner, Symbol::CloseParenthesis, tokens)?;
+    tokens.expect(Symbol::CloseParenthesis)?;
     Ok(Expression::Parentheses(Box::new(whole.alloc(), inner)?))
 }
 
@@ -300,6 +312,22 @@ fn name_at(alloc: Global, text: &str, quoted: bool, place: usize) -> Result<Name
     })
 }
 
+/// The atom that the lexeme is alone.
+fn leaf_of(alloc: Global, place: usize, lexeme: &Lexeme<'_>) -> Result<Expression, ParseError>
+    ensures { GivesValue expression_view (leaf_by place (lexeme_view lexeme.now)) result }
+{
+    match lexeme {
+        Lexeme::Parameter(name) => Ok(Expression::Parameter(name_at(alloc, *name, false, place)?)),
+        Lexeme::QuotedParameter(name) => {
+            Ok(Expression::Parameter(name_at(alloc, name.as_str(), true, place)?))
+        }
+        Lexeme::QuotedName(name) => {
+            Ok(Expression::Variable(name_at(alloc, name.as_str(), true, place)?))
+        }
+        _ => literal_of(alloc, lexeme),
+    }
+}
+
 /// The atom that the lexeme begins, behind it.
 fn atom_by<W: Expressions>(
     place: usize,
@@ -310,23 +338,14 @@ fn atom_by<W: Expressions>(
     requires { W.ready whole.now }
     ensures { Gives expression_view (parse.atom_by (W.parser whole.now) place (lexeme_view lexeme.now) (tokens_view tokens.old.rest.now)) result tokens.new.rest.now }
 {
-    let alloc = whole.alloc();
-    if let Some(literal) = literal_of(alloc, lexeme)? {
-        return Ok(Expression::Literal(literal));
-    }
     match lexeme {
         Lexeme::Keyword(Keyword::Case, _) => case(whole, tokens),
         Lexeme::Symbol(Symbol::OpenBracket) => list(whole, tokens),
         Lexeme::Symbol(Symbol::OpenParenthesis) => parentheses(whole, tokens),
-        Lexeme::Parameter(name) => Ok(Expression::Parameter(name_at(alloc, *name, false, place)?)),
-        Lexeme::QuotedParameter(name) => {
-            Ok(Expression::Parameter(name_at(alloc, name.as_str(), true, place)?))
+        Lexeme::Word(name) => {
+            word_atom(name_at(whole.alloc(), *name, false, place)?, whole, tokens)
         }
-        Lexeme::QuotedName(name) => {
-            Ok(Expression::Variable(name_at(alloc, name.as_str(), true, place)?))
-        }
-        Lexeme::Word(name) => word_atom(name_at(alloc, *name, false, place)?, whole, tokens),
-        _ => Err(ParseError::BadSyntax),
+        _ => leaf_of(whole.alloc(), place, lexeme),
     }
 }
 
@@ -364,7 +383,7 @@ pub(crate) fn post<W: Expressions>(
 {
     let alloc = whole.alloc();
     let first = atom(whole, tokens)?;
-    let (first, suffixes) = pieces_behind(alloc, first, &OneSuffix(whole), tokens)?;
+    let suffixes = pieces(alloc, &OneSuffix(whole), tokens)?;
     let labels = labels_if_any(alloc, tokens)?;
-    Ok(suffixed(alloc, first, suffixes, labels)?)
+    suffixed(alloc, first, suffixes, labels)
 }

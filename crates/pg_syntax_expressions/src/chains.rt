@@ -1,22 +1,21 @@
 //! Chains of operands with operators of one level between.
 
-ghost use Rattle.std.specs.Prelude.{◌≡◌, Some, IfOk, refl, map};
+ghost use Rattle.std.specs.Prelude.{◌≡◌, Some, refl, map};
 ghost use Rattle.pg_lex.specs.View.{lexeme_view, tokens_view};
 ghost use Rattle.pg_meaning.specs.declared.operators.Operator.{Operator};
 ghost use Rattle.pg_meaning.specs.Grammar.{operator_level};
 ghost use Rattle.pg_meaning.specs.Parse as parse;
 ghost use Rattle.pg_meaning.specs.Tree as tree;
-ghost use Rattle.pg_syntax_tokens.specs.Gives.{Gives, same};
+ghost use Rattle.pg_syntax_tokens.specs.Gives.{Gives, GivesValue, same};
 ghost use Rattle.pg_syntax_tokens.specs.ShrinksLaws.{eats_shrinks};
 ghost use Rattle.pg_syntax_expressions.specs.ShrinksExpressions.{link_eats};
 ghost use Rattle.pg_syntax_tree.specs.View.{expression_view, operand_view};
 
-use crate::behind::pieces_behind;
 use pg_lex::Lexeme;
 use pg_meaning::{Keyword, Operator, Symbol};
-use pg_syntax_tokens::{Expressions, ParseError, Row, Rule, Tokens};
+use pg_syntax_tokens::{Expressions, ParseError, Row, Rule, Tokens, pieces};
 use pg_syntax_tree::Expression;
-use std::alloc::{AllocError, Global};
+use std::alloc::Global;
 
 fn level_of(operator: Operator) -> u8
     ensures { result ≡ operator_level operator }
@@ -136,8 +135,8 @@ fn chained(
     alloc: Global,
     first: Expression,
     operands: Vec<(Operator, Expression)>,
-) -> Result<Expression, AllocError>
-    ensures { IfOk result (λ x. expression_view x ≡ parse.chained (expression_view first) (map operand_view operands.items)) }
+) -> Result<Expression, ParseError>
+    ensures { GivesValue expression_view (Some (parse.chained (expression_view first) (map operand_view operands.items))) result }
 {
     if operands.is_empty() {
         return Ok(first);
@@ -156,6 +155,6 @@ pub(crate) fn chain<O: Expressions>(
 {
     let alloc = operand.alloc();
     let first = operand.expression(tokens)?;
-    let (first, operands) = pieces_behind(alloc, first, &Link { level, operand }, tokens)?;
-    Ok(chained(alloc, first, operands)?)
+    let operands = pieces(alloc, &Link { level, operand }, tokens)?;
+    chained(alloc, first, operands)
 }

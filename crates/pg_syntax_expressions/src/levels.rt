@@ -1,24 +1,23 @@
 //! Expressions, from the loosest operators to the tightest.
 
-ghost use Rattle.std.specs.Prelude.{◌≡◌, ◌⊎◌, IfOk, Bool, refl, map, length};
+ghost use Rattle.std.specs.Prelude.{◌≡◌, ◌⊎◌, Some, Bool, refl, map, length};
 ghost use Rattle.pg_lex.specs.View.{tokens_view};
 ghost use Rattle.pg_meaning.specs.declared.lexemes.Keyword.TheVariants as k;
 ghost use Rattle.pg_meaning.specs.declared.operators.TextTest.TheVariants as test;
 ghost use Rattle.pg_meaning.specs.Parse as parse;
 ghost use Rattle.pg_meaning.specs.Tree as tree;
-ghost use Rattle.pg_syntax_tokens.specs.Gives.{Gives, same};
+ghost use Rattle.pg_syntax_tokens.specs.Gives.{Gives, GivesValue, same};
 ghost use Rattle.pg_syntax_expressions.specs.Parts.{test_view, test_behind, word_and_with};
 ghost use Rattle.pg_syntax_tokens.specs.ShrinksLaws.{eats_shrinks, keyword_eats};
 ghost use Rattle.pg_syntax_expressions.specs.ShrinksExpressions.{sign_eats, test_eats, unary_shrinks, product_shrinks, sum_shrinks, predicate_shrinks, comparison_shrinks, negation_shrinks, conjunction_shrinks, exclusion_shrinks, disjunction_shrinks};
 ghost use Rattle.pg_syntax_tree.specs.View.{expression_view};
 
 use crate::atoms::post;
-use crate::behind::pieces_behind;
 use crate::chains::chain;
 use pg_meaning::{Keyword, Symbol, TextTest};
 use pg_syntax_tokens::{Expressions, ParseError, Row, Rule, Tokens, pieces};
 use pg_syntax_tree::{Expression, Test};
-use std::alloc::{AllocError, Global};
+use std::alloc::Global;
 
 /// A sign, true for a minus.
 #[derive(Drop)]
@@ -58,8 +57,8 @@ impl Row for Sign {
 }
 
 #[tactic(auto, using(pg_syntax_tree::proofs::Views::signs_is))]
-fn signed(alloc: Global, signs: Vec<bool>, operand: Expression) -> Result<Expression, AllocError>
-    ensures { IfOk result (λ x. expression_view x ≡ parse.signed signs.items (expression_view operand)) }
+fn signed(alloc: Global, signs: Vec<bool>, operand: Expression) -> Result<Expression, ParseError>
+    ensures { GivesValue expression_view (Some (parse.signed signs.items (expression_view operand))) result }
 {
     if signs.is_empty() {
         return Ok(operand);
@@ -85,7 +84,7 @@ impl<'w, W: Expressions> Expressions for Unary<'w, W> {
     fn expression(&self, tokens: &mut Tokens<'_, '_>) -> Result<Expression, ParseError> {
         let signs = pieces(self.alloc(), &Sign, tokens)?;
         let operand = post(self.0, tokens)?;
-        Ok(signed(self.alloc(), signs, operand)?)
+        signed(self.alloc(), signs, operand)
     }
 }
 
@@ -244,8 +243,8 @@ fn tested(
     alloc: Global,
     first: Expression,
     tests: Vec<Test<Expression>>,
-) -> Result<Expression, AllocError>
-    ensures { IfOk result (λ x. expression_view x ≡ parse.tested (expression_view first) (map test_view tests.items)) }
+) -> Result<Expression, ParseError>
+    ensures { GivesValue expression_view (Some (parse.tested (expression_view first) (map test_view tests.items))) result }
 {
     if tests.is_empty() {
         return Ok(first);
@@ -272,8 +271,8 @@ impl<'w, W: Expressions> Expressions for Predicate<'w, W> {
     fn expression(&self, tokens: &mut Tokens<'_, '_>) -> Result<Expression, ParseError> {
         let sum = Sum(self.0);
         let first = sum.expression(tokens)?;
-        let (first, tests) = pieces_behind(self.alloc(), first, &OneTest(&sum), tokens)?;
-        Ok(tested(self.alloc(), first, tests)?)
+        let tests = pieces(self.alloc(), &OneTest(&sum), tokens)?;
+        tested(self.alloc(), first, tests)
     }
 }
 
@@ -330,8 +329,8 @@ impl Row for Not {
 }
 
 #[tactic(auto, using(pg_syntax_tree::proofs::Views::negation_is))]
-fn negated(alloc: Global, nots: Vec<()>, operand: Expression) -> Result<Expression, AllocError>
-    ensures { IfOk result (λ x. expression_view x ≡ parse.negated nots.items (expression_view operand)) }
+fn negated(alloc: Global, nots: Vec<()>, operand: Expression) -> Result<Expression, ParseError>
+    ensures { GivesValue expression_view (Some (parse.negated nots.items (expression_view operand))) result }
 {
     if nots.is_empty() {
         return Ok(operand);
@@ -357,7 +356,7 @@ impl<'w, W: Expressions> Expressions for Negation<'w, W> {
     fn expression(&self, tokens: &mut Tokens<'_, '_>) -> Result<Expression, ParseError> {
         let nots = pieces(self.alloc(), &Not, tokens)?;
         let operand = Comparison(self.0).expression(tokens)?;
-        Ok(negated(self.alloc(), nots, operand)?)
+        negated(self.alloc(), nots, operand)
     }
 }
 

@@ -2,7 +2,6 @@
 #![tactic(auto)]
 
 mod atoms;
-mod behind;
 mod chains;
 mod levels;
 mod nesting;

@@ -13,7 +13,7 @@ use Rattle.pg_scope.proofs.items.fault_in_items.Goals as goal
 
 pub loop-item-init : goal.loop-item-init
 loop-item-init c =
-    let none = c.new-columns.ensures.empty in (
+    let none = c.requires in (
       starred c.args.star (names_in c.args.scope.now),
       subst (λ ks. HasSame (map (λ k. k.now) ks ++ starred c.args.star (names_in c.args.scope.now)) (starred c.args.star (names_in c.args.scope.now))) (sym none) (same_self _),
       subst (λ ks. HasSame (map (λ k. k.now) ks ++ column_names (map (column_of c.args.naming) (map item_view c.args.items.now.items))) (column_names (map (column_of c.args.naming) (map item_view c.args.items.now.items)))) (sym none) (same_self _),
@@ -39,11 +39,13 @@ loop-item-preserved c =
           c.loop-item-test.true c.item-item.is c.deref-item-items.ensures.value (in_turn noted c.fault_in_expression-first.ensures),
     )
 
-pub returns : goal.returns
-returns c =
+pub returns-clause-first : goal.returns-clause-first
+returns-clause-first c =
     let (done, same, names, rest) = c.loop-item.invariant in
-    let column = column_of c.args.naming in
-    let none = items_end c.loop-item-test.false c.deref-item-items.ensures.value in (
-      walked _ _ _ (rest ∙ ap (λ ys. least c.loop-item.first (item_faults column (names_in c.args.scope.now) done (map item_view ys))) none),
-      nothing_right (ap (λ ys. column_names (map column (map item_view ys))) none) names,
-    )
+    let none = items_end c.loop-item-test.false c.deref-item-items.ensures.value in
+    walked _ _ _ (rest ∙ ap (λ ys. least c.loop-item.first (item_faults (column_of c.args.naming) (names_in c.args.scope.now) done (map item_view ys))) none)
+
+pub returns-clause-names : goal.returns-clause-names
+returns-clause-names c =
+    let (done, same, names, rest) = c.loop-item.invariant in
+    nothing_right (ap (λ ys. column_names (map (column_of c.args.naming) (map item_view ys))) (items_end c.loop-item-test.false c.deref-item-items.ensures.value)) names

@@ -15,8 +15,8 @@ returns-then-is_narrow c =
     let naming = c.args.naming in
     let condition = seen c.args.condition in
     let narrow = sym c.is_narrow.ensures ∙ c.if-is_narrow.true in
-    let items = subst (λ b. IsFirst c.args.first (item_faults (column_of naming) scope (starred b scope) p.items) c.in_ok-first.first) c.is_some-star.ensures c.in_ok-first.ensures.0 in
-    (projected naming scope p condition (visible_narrow naming scope p narrow c.in_ok-first.ensures.1) items c.in_ok-found.ensures, names_alone naming scope p (narrow_star naming scope p narrow) c.in_ok-first.ensures.1)
+    let items = subst (λ b. IsFirst c.args.first (item_faults (column_of naming) scope (starred b scope) p.items) c.in_ok-first.first) c.is_some-star.ensures c.in_ok-first.ensures.first in
+    (projected naming scope p condition (visible_narrow naming scope p narrow c.in_ok-first.ensures.names) items c.in_ok-found.ensures, names_alone naming scope p (narrow_star naming scope p narrow) c.in_ok-first.ensures.names)
 
 pub returns-then-star : goal.returns-then-star
 returns-then-star c =
@@ -25,7 +25,7 @@ returns-then-star c =
     let naming = c.args.naming in
     let condition = seen c.args.condition in
     let wide = sym c.is_narrow.ensures ∙ c.if-is_narrow.false in
-    let items = subst (λ b. IsFirst c.args.first (item_faults (column_of naming) scope (starred b scope) p.items) c.in_ok-first.first) c.is_some-star.ensures c.in_ok-first.ensures.0 in
+    let items = subst (λ b. IsFirst c.args.first (item_faults (column_of naming) scope (starred b scope) p.items) c.in_ok-first.first) c.is_some-star.ensures c.in_ok-first.ensures.first in
     let seen = c.in_ok-add_columns.ensures in
     (projected naming scope p condition (visible_wide naming scope p wide seen) items c.in_ok-found-2.ensures, names_with_star naming scope p (sym c.is_some-star.ensures ∙ c.if-star.true) seen)
 
@@ -36,5 +36,5 @@ returns c =
     let naming = c.args.naming in
     let condition = seen c.args.condition in
     let wide = sym c.is_narrow.ensures ∙ c.if-is_narrow.false in
-    let items = subst (λ b. IsFirst c.args.first (item_faults (column_of naming) scope (starred b scope) p.items) c.in_ok-first.first) c.is_some-star.ensures c.in_ok-first.ensures.0 in
-    (projected naming scope p condition (visible_wide naming scope p wide c.in_ok-add_columns.ensures) items c.in_ok-found-2.ensures, names_alone naming scope p (sym c.is_some-star.ensures ∙ c.if-star.false) c.in_ok-first.ensures.1)
+    let items = subst (λ b. IsFirst c.args.first (item_faults (column_of naming) scope (starred b scope) p.items) c.in_ok-first.first) c.is_some-star.ensures c.in_ok-first.ensures.first in
+    (projected naming scope p condition (visible_wide naming scope p wide c.in_ok-add_columns.ensures) items c.in_ok-found-2.ensures, names_alone naming scope p (sym c.is_some-star.ensures ∙ c.if-star.false) c.in_ok-first.ensures.names)

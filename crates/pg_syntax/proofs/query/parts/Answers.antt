@@ -17,23 +17,23 @@ returns-in_err-found c =
     rw (r.1, r.2) (passed c.in_err-found.field-0.0 (part (expr c.args.depth) (map clause_view c.new.result.items) ts) _
     (λ none. first_fails c.args.text.now _ _ _ ts (omega (arith, length-map c.args.tokens.now.rest.now token_view)) (ap (map clause_view) c.new.ensures.items) none) c.in_err-found.ensures)
 
-pub loop-found-init : goal.loop-found-init
-loop-found-init c =
+pub parts-init : goal.parts-init
+parts-init c =
     let ts = tokens_view c.args.tokens.now.rest.now in
     first_read c.args.text.now _ (expr_shrinks c.args.depth) (map clause_view c.new.result.items) _ _ _ ts _ (omega (arith, length-map c.args.tokens.now.rest.now token_view)) (ap (map clause_view) c.new.ensures.items) c.in_ok-found.ensures
 
 pub returns-in_err-next : goal.returns-in_err-next
 returns-in_err-next c =
     let r = err_from_is_err_and c.from_residual-in_err-next.result c.from_residual-in_err-next.ensures.1 in
-    rw (r.1, r.2) (passed c.in_err-next.field-0.0 (part (expr c.args.depth) (map clause_view c.push.new.self.items) (tokens_view c.with_clause.new.tokens.rest.now)) _
-    (λ none. next_fails c.args.text.now _ (expr_shrinks c.args.depth) _ _ _ _ _ _ _ c.loop-found.invariant (sym c.loop-found-test.ensures) c.in_ok-with_clause.ensures
-    (ap (map clause_view) c.in_ok-push.ensures.items ∙ map_more clause_view _ _) none) c.in_err-next.ensures)
+    rw (r.1, r.2) (passed c.in_err-next.field-0.0 (part (expr c.args.depth) (map clause_view c.in_ok-followed.field-0.items) (tokens_view c.with_clause.new.tokens.rest.now)) _
+    (λ none. next_fails c.args.text.now _ (expr_shrinks c.args.depth) _ _ _ _ _ _ _ c.parts.invariant (sym c.parts-test.ensures) c.in_ok-clause.ensures
+    (ap (map clause_view) c.in_ok-followed.ensures ∙ map_more clause_view _ _) none) c.in_err-next.ensures)
 
-pub loop-found-smaller : goal.loop-found-smaller
-loop-found-smaller c =
-    let less = part_less c.args.text.now _ (expr_shrinks c.args.depth) _ _ _ _ _ _ _ c.in_ok-with_clause.ensures c.in_ok-next.ensures in
-    omega (arith, length-map c.part-in-loop-found.new.tokens.rest.now token_view, length-map c.loop-found.tokens.rest.now token_view)
+pub parts-smaller : goal.parts-smaller
+parts-smaller c =
+    let less = part_less c.args.text.now _ (expr_shrinks c.args.depth) _ _ _ _ _ _ _ c.in_ok-clause.ensures c.in_ok-next.ensures in
+    omega (arith, length-map c.part-in-parts.new.tokens.rest.now token_view, length-map c.parts.tokens.rest.now token_view)
 
-pub loop-found-preserved : goal.loop-found-preserved
-loop-found-preserved c =
-    next_read c.args.text.now _ (expr_shrinks c.args.depth) _ _ _ _ _ _ _ _ _ _ c.loop-found.invariant (sym c.loop-found-test.ensures) c.in_ok-with_clause.ensures (ap (map clause_view) c.in_ok-push.ensures.items ∙ map_more clause_view _ _) c.in_ok-next.ensures
+pub parts-preserved : goal.parts-preserved
+parts-preserved c =
+    next_read c.args.text.now _ (expr_shrinks c.args.depth) _ _ _ _ _ _ _ _ _ _ c.parts.invariant (sym c.parts-test.ensures) c.in_ok-clause.ensures (ap (map clause_view) c.in_ok-followed.ensures ∙ map_more clause_view _ _) c.in_ok-next.ensures

@@ -3,7 +3,7 @@ use Rattle.std.proofs.lemmas.List.{map-id}
 use Rattle.pg_lex.specs.View.{tokens_view}
 use Rattle.pg_meaning.specs.Parse as parse
 use Rattle.pg_meaning.specs.declared.lexemes.Keyword.TheVariants as k
-use Rattle.pg_syntax_expressions.proofs.Steps.{fails, first_fails, second_fails, both}
+use Rattle.pg_syntax_expressions.proofs.Steps.{fails, gives, first_fails, second_fails, both}
 use Rattle.pg_syntax_tree.specs.View.{expression_view}
 use Rattle.pg_syntax_expressions.proofs.levels.NegationExpressions.expression.Goals as goal
 
@@ -33,5 +33,5 @@ returns g c =
     let ts = tokens_view c.args.tokens.now.rest.now in
     let us = tokens_view c.pieces.new.tokens.rest.now in
     let x = expression_view c.in_ok-operand.operand in
-    rw c.in_ok-negated.ensures
-    (rw (← map-id c.in_ok-nots.nots.items) (both nots (parse.comparison whole) parse.negated ts us _ _ x c.in_ok-nots.ensures c.in_ok-operand.ensures))
+    gives expression_view (parse.negation whole ts) (parse.negated c.in_ok-nots.nots.items x) c.negated.result c.expression.new.tokens.rest.now
+    (rw (← map-id c.in_ok-nots.nots.items) (both nots (parse.comparison whole) parse.negated ts us _ _ x c.in_ok-nots.ensures c.in_ok-operand.ensures)) c.negated.ensures

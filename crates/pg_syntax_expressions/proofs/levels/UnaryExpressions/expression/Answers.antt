@@ -2,7 +2,7 @@ use Rattle.std.proofs.Common.{Bool, List, []}
 use Rattle.std.proofs.lemmas.List.{map-id}
 use Rattle.pg_lex.specs.View.{tokens_view}
 use Rattle.pg_meaning.specs.Parse as parse
-use Rattle.pg_syntax_expressions.proofs.Steps.{fails, first_fails, second_fails, both}
+use Rattle.pg_syntax_expressions.proofs.Steps.{fails, gives, first_fails, second_fails, both}
 use Rattle.pg_syntax_tree.specs.View.{expression_view}
 use Rattle.pg_syntax_expressions.proofs.levels.UnaryExpressions.expression.Goals as goal
 
@@ -32,5 +32,5 @@ returns g c =
     let ts = tokens_view c.args.tokens.now.rest.now in
     let us = tokens_view c.pieces.new.tokens.rest.now in
     let x = expression_view c.in_ok-operand.operand in
-    rw c.in_ok-signed.ensures
-    (rw (← map-id c.in_ok-signs.signs.items) (both signs (parse.post whole) parse.signed ts us _ _ x c.in_ok-signs.ensures c.in_ok-operand.ensures))
+    gives expression_view (parse.unary whole ts) (parse.signed c.in_ok-signs.signs.items x) c.signed.result c.post.new.tokens.rest.now
+    (rw (← map-id c.in_ok-signs.signs.items) (both signs (parse.post whole) parse.signed ts us _ _ x c.in_ok-signs.ensures c.in_ok-operand.ensures)) c.signed.ensures

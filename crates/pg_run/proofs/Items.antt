@@ -1,5 +1,5 @@
 -- The items of a list spelt out one after the other.
-use Rattle.std.proofs.Common.{◌≡◌, ◌≢◌, ℕ, ◌+◌, ◌-◌, length, arith, List, [], ◌∷◌, ◌++◌, Ok, refl, sym, ap, ◌∙◌}
+use Rattle.std.proofs.Common.{◌≡◌, ◌≢◌, ℕ, ◌+◌, ◌-◌, length, arith, List, [], ◌∷◌, ◌++◌, Ok, Vec, Global, refl, sym, ap, ◌∙◌}
 use Rattle.serde_json.specs.Data.{Items, no_items, item}
 use Rattle.pg_json.specs.Replies.{data_of, outs}
 use Rattle.pg_json.specs.Room.{least, items_least}
@@ -8,6 +8,7 @@ use Rattle.pg_meaning.specs.Graph.{Graph}
 use Rattle.pg_meaning.specs.Queries.{test_output, test_items}
 use Rattle.pg_run.proofs.Ways.{Way}
 use Rattle.pg_run.specs.Printed.{printed, printed_items}
+use Rattle.pg_run.specs.Spelt.{ListSpelt}
 use Rattle.pg_value_core.specs.View.{view, values_view}
 use Rattle.pg_value_core.specs.declared.out.Out.{Out}
 use Rattle.pg_value_core.specs.declared.value.Value.{Value}
@@ -82,11 +83,11 @@ module _ (graph : Graph) (start : ℕ) where
         ∙ ap (λ d. outs_before found (item d (printed_items graph (values_view more)))) (sym (same some)) ∙ sym (outs_before-push found out (printed_items graph (values_view more)));
   }
 
-  pub all_items_within : (room : ℕ) (all rest : List Value) (found : List Out) → ItemsWithin graph start room all rest found → length rest ≡ 0
-      → (test_items graph (values_view all) ≡ Ok tt) × (room ≡ start - items_least (printed_items graph (values_view all))) × (room ≢ 0 → outs found ≡ printed_items graph (values_view all))
-  all_items_within room all [] found so_far is = (
-    so_far.tests,
-    omega (arith, so_far.counted),
-    λ some. sym (so_far.shown some ∙ outs_before-nothing found),
-  )
+  pub all_items_within : (room : ℕ) (all rest : List Value) (found : Vec Out Global) → ItemsWithin graph start room all rest found.items → length rest ≡ 0 → ListSpelt graph (values_view all) (Ok found) start room
+  all_items_within room all [] found so_far is = record {
+    live = so_far.tests;
+    room = omega (arith, so_far.counted);
+    shown = λ some. sym (so_far.shown some ∙ outs_before-nothing found.items);
+    err = tt;
+  }
   all_items_within room all (v ∷ rest) found so_far is = absurd (omega (arith, is))

@@ -6,6 +6,7 @@ mod Planned
 pub mod ReplyLemmas
 pub mod Returns
 mod Settings
+pub mod Spelts
 pub mod Tells
 pub mod Told
 pub mod ValueLemmas

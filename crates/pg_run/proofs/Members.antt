@@ -1,5 +1,5 @@
 -- The entries of a map spelt out one after the other.
-use Rattle.std.proofs.Common.{◌≡◌, ◌≢◌, ℕ, ◌+◌, ◌-◌, arith, length, List, [], ◌∷◌, ◌++◌, Ok, String, Global, Less, Greater, string_bytes, string_cmp, refl, sym, ap, ◌∙◌, subst, append_assoc}
+use Rattle.std.proofs.Common.{◌≡◌, ◌≢◌, ℕ, ◌+◌, ◌-◌, arith, length, List, [], ◌∷◌, ◌++◌, Ok, BTreeMap, String, Global, Less, Greater, string_bytes, string_cmp, refl, sym, ap, ◌∙◌, subst, append_assoc}
 use Rattle.std.proofs.lemmas.Cmp.{nat_list_cmp_total}
 use Rattle.std.specs.BTreeMap.{insert_entry}
 use Rattle.std.specs.List.{AllByRecursion}
@@ -14,6 +14,7 @@ use Rattle.pg_meaning.specs.Graph.{Graph}
 use Rattle.pg_meaning.specs.Queries.{test_output, test_entries}
 use Rattle.pg_run.proofs.Ways.{Way}
 use Rattle.pg_run.specs.Printed.{printed, printed_members}
+use Rattle.pg_run.specs.Spelt.{MapSpelt}
 use Rattle.pg_value_core.specs.View.{view, entries_view}
 use Rattle.pg_value_core.specs.declared.out.Out.{Out}
 use Rattle.pg_value_core.specs.declared.value.Value.{Value}
@@ -139,10 +140,11 @@ module _ (graph : Graph) (start : ℕ) where
             ∙ ap (λ os. named_before os others) (sym last);
       }
 
-  pub all_members_within : (room : ℕ) (all : List Pair) (found : List Named) → MembersWithin graph start room all [] found
-      → (test_entries graph (entries_view all) ≡ Ok tt) × (room ≡ start - members_least (printed_members graph (entries_view all))) × (room ≢ 0 → named_outs found ≡ printed_members graph (entries_view all))
-  all_members_within room all found so_far = (
-    so_far.tests,
-    omega (arith, so_far.counted),
-    λ some. sym (so_far.shown some ∙ named_before-nothing found),
-  )
+  pub all_members_within : (room : ℕ) (all rest : List Pair) (found : BTreeMap (String Global) Out) → MembersWithin graph start room all rest found.entries → rest ≡ [] → MapSpelt graph (entries_view all) (Ok found) start room
+  all_members_within room all [] found so_far is = record {
+    live = so_far.tests;
+    room = omega (arith, so_far.counted);
+    shown = λ some. sym (so_far.shown some ∙ named_before-nothing found.entries);
+    err = tt;
+  }
+  all_members_within room all (e ∷ rest) found so_far is = cc

@@ -1,6 +1,7 @@
 -- A value of each kind, as it is seen and spelt out, and the first fault in a list or a map.
-use Rattle.std.proofs.Common.{◌≡◌, ◌≢◌, ℕ, ◌+◌, ◌-◌, List, ◌∷◌, Err, Vec, BTreeMap, String, Global, Bool, ℤ, string_bytes, rules, sym, ap, ◌∙◌, arith}
+use Rattle.std.proofs.Common.{◌≡◌, ℕ, ◌+◌, ◌-◌, List, ◌∷◌, Err, Vec, BTreeMap, String, Global, Bool, ℤ, string_bytes, rules, sym, ap, ◌∙◌, arith}
 use Rattle.serde_json.specs.Data as json
+use Rattle.serde_json.specs.Find.{of_integer}
 use Rattle.pg_json.specs.Replies.{data_of, named_outs, outs}
 use Rattle.pg_json.specs.Room.{items_least, least, members_least}
 use Rattle.pg_meaning.specs.Answer.{◌>>◌}
@@ -10,7 +11,7 @@ use Rattle.pg_meaning.specs.Value as seen
 use Rattle.pg_meaning.specs.declared.fault.Fault.{Fault}
 use Rattle.pg_run.proofs.Items.{ItemsWithin}
 use Rattle.pg_run.proofs.Members.{MembersWithin, Named, Pair}
-use Rattle.pg_run.specs.Printed.{printed, printed_items, printed_members}
+use Rattle.pg_run.specs.Printed.{printed, printed_items, printed_members, stored_data, stored_items, stored_members}
 use Rattle.pg_value_core.specs.View.{entries_view, values_view, view}
 use Rattle.pg_value_core.specs.declared.ids.NodeId.{NodeId}
 use Rattle.pg_value_core.specs.declared.ids.Path.{Path}
@@ -54,6 +55,9 @@ data_null = search (rules, out.the_lemmas)
 
 data_bool : (b : Bool) → data_of (out.Bool b) ≡ json.boolean b
 data_bool b = search (rules, out.the_lemmas)
+
+data_int : (i : ℤ) → data_of (out.Int i) ≡ json.number (of_integer i)
+data_int i = search (rules, out.the_lemmas)
 
 data_text : (s : String Global) → data_of (out.Text s) ≡ json.string (string_bytes s)
 data_text s = search (rules, out.the_lemmas)
@@ -99,15 +103,11 @@ module _ (graph : Graph) (v : Value) where
   pub bool_shown : (b : Bool) → v ≡ value.Bool b → data_of (out.Bool b) ≡ printed graph (view v)
   bool_shown b e = data_bool b ∙ ap (printed graph) (sym (bool_seen v b e))
 
+  pub int_shown : (i : ℤ) → v ≡ value.Int i → data_of (out.Int i) ≡ printed graph (view v)
+  int_shown i e = data_int i ∙ ap (printed graph) (sym (int_seen v i e))
+
   pub text_shown : (s : String Global) → v ≡ value.Text s → data_of (out.Text s) ≡ printed graph (view v)
   text_shown s e = data_text s ∙ ap (printed graph) (sym (text_seen v s e))
-
-  -- a value that holds no other, within the room
-  pub room_behind_it : (room next : ℕ) (one : Out) → next ≡ room - least (data_of one) → data_of one ≡ printed graph (view v) → next ≡ room - least (printed graph (view v))
-  room_behind_it room next one left same = left ∙ ap (λ d. room - least d) same
-
-  pub data_within : (next : ℕ) (one given : Out) → (next ≢ 0 → given ≡ one) → data_of one ≡ printed graph (view v) → next ≢ 0 → data_of given ≡ printed graph (view v)
-  data_within next one given is same some = ap data_of (is some) ∙ same
 
   -- a list and a map, within the room
   room_inside : (room less next n : ℕ) → less ≡ room - 1 → next ≡ less - n → next ≡ room - (n + 1)
@@ -125,6 +125,21 @@ module _ (graph : Graph) (v : Value) where
 
   pub map_shown : (entries : BTreeMap (String Global) Value) (found : BTreeMap (String Global) Out) → v ≡ value.Map entries → named_outs found.entries ≡ printed_members graph (entries_view entries.entries) → data_of (out.Map found) ≡ printed graph (view v)
   map_shown entries found e same = data_map found ∙ ap json.object same ∙ ap (printed graph) (sym (map_seen v entries e))
+
+-- ---- values that are stored
+
+module _ (v : Value) where
+  pub bool_stored : (b : Bool) → v ≡ value.Bool b → data_of (out.Bool b) ≡ stored_data (view v)
+  bool_stored b e = data_bool b ∙ ap stored_data (sym (bool_seen v b e))
+
+  pub text_stored : (s : String Global) → v ≡ value.Text s → data_of (out.Text s) ≡ stored_data (view v)
+  text_stored s e = data_text s ∙ ap stored_data (sym (text_seen v s e))
+
+  pub list_stored : (items : Vec Value Global) (found : Vec Out Global) → v ≡ value.List items → outs found.items ≡ stored_items (values_view items.items) → data_of (out.List found) ≡ stored_data (view v)
+  list_stored items found e same = data_list found ∙ ap json.array same ∙ ap stored_data (sym (list_seen v items e))
+
+  pub map_stored : (entries : BTreeMap (String Global) Value) (found : BTreeMap (String Global) Out) → v ≡ value.Map entries → named_outs found.entries ≡ stored_members (entries_view entries.entries) → data_of (out.Map found) ≡ stored_data (view v)
+  map_stored entries found e same = data_map found ∙ ap json.object same ∙ ap stored_data (sym (map_seen v entries e))
 
 -- ---- the first fault
 

@@ -3,5 +3,6 @@ pub mod Printed
 pub mod Returning
 pub mod Running
 pub mod Runs
+pub mod Spelt
 pub mod Telling
 pub mod Told

@@ -1,12 +1,12 @@
 //! Nodes, relationships and paths of a store, spelt out as long as there is room for them.
-ghost use Rattle.std.specs.Prelude.{◌≡◌, ◌≢◌, ◌-◌, IfOk, IfErr, Ok, Err};
+ghost use Rattle.std.specs.Prelude.{◌≡◌, ◌≢◌, IfOk, IfErr, Ok, Err};
 ghost use Rattle.pg_json.specs.Replies.{data_of, path_data};
-ghost use Rattle.pg_json.specs.Room.{least};
 ghost use Rattle.pg_meaning.specs.Graph.{node_at, has_node, relationship_at, has_relationship};
 ghost use Rattle.pg_meaning.specs.Queries.{test_present, test_ids};
 ghost use Rattle.pg_meaning.specs.declared.fault.Fault.TheVariants.{OutOfMemory};
 ghost use Rattle.pg_run.specs.Printed.{shown_node, shown_relationship, path_items};
 ghost use Rattle.pg_run.specs.Places.{test_place, shown_place};
+ghost use Rattle.pg_run.specs.Spelt.{DataSpelt};
 
 use crate::room::within;
 use crate::stored::spell_stored_entries;
@@ -21,10 +21,7 @@ pub(crate) fn spell_node<T: Tables>(
     id: NodeId,
     room: &mut usize,
 ) -> Result<Out, Fault>
-    ensures live { IfOk result (λ out. test_present (has_node graph.now id.0) ≡ Ok tt) }
-    ensures room { IfOk result (λ out. room.new ≡ room.old - least (shown_node graph.now id.0 (node_at graph.now id.0))) }
-    ensures data { IfOk result (λ out. room.new ≢ 0 → data_of out ≡ shown_node graph.now id.0 (node_at graph.now id.0)) }
-    ensures err { IfErr result (λ e. e ≢ OutOfMemory → test_present (has_node graph.now id.0) ≡ Err e) }
+    ensures { DataSpelt (test_present (has_node graph.now id.0)) (shown_node graph.now id.0 (node_at graph.now id.0)) result room.old room.new }
 {
     if *room == 0 {
         return nothing_shown(graph.has_node(id));
@@ -38,10 +35,7 @@ pub(crate) fn spell_rel<T: Tables>(
     id: RelId,
     room: &mut usize,
 ) -> Result<Out, Fault>
-    ensures live { IfOk result (λ out. test_present (has_relationship graph.now id.0) ≡ Ok tt) }
-    ensures room { IfOk result (λ out. room.new ≡ room.old - least (shown_relationship graph.now id.0 (relationship_at graph.now id.0))) }
-    ensures data { IfOk result (λ out. room.new ≢ 0 → data_of out ≡ shown_relationship graph.now id.0 (relationship_at graph.now id.0)) }
-    ensures err { IfErr result (λ e. e ≢ OutOfMemory → test_present (has_relationship graph.now id.0) ≡ Err e) }
+    ensures { DataSpelt (test_present (has_relationship graph.now id.0)) (shown_relationship graph.now id.0 (relationship_at graph.now id.0)) result room.old room.new }
 {
     if *room == 0 {
         return nothing_shown(graph.has_rel(id));
@@ -99,10 +93,7 @@ pub(crate) fn spell_path<T: Tables>(
     path: Path,
     room: &mut usize,
 ) -> Result<Out, Fault>
-    ensures live { IfOk result (λ out. test_ids graph.now path.0.items ≡ Ok tt) }
-    ensures room { IfOk result (λ out. room.new ≡ room.old - least (path_data (path_items graph.now path.0.items))) }
-    ensures data { IfOk result (λ out. room.new ≢ 0 → data_of out ≡ path_data (path_items graph.now path.0.items)) }
-    ensures err { IfErr result (λ e. e ≢ OutOfMemory → test_ids graph.now path.0.items ≡ Err e) }
+    ensures { DataSpelt (test_ids graph.now path.0.items) (path_data (path_items graph.now path.0.items)) result room.old room.new }
 {
     *room = room.saturating_sub(11);
     let mut found = Vec::with_capacity(alloc, path.0.len())?;
@@ -123,10 +114,7 @@ fn spell_place<T: Tables>(
     id: u64,
     room: &mut usize,
 ) -> Result<Out, Fault>
-    ensures live { IfOk result (λ out. test_place graph.now is_node id ≡ Ok tt) }
-    ensures room { IfOk result (λ out. room.new ≡ room.old - least (shown_place graph.now is_node id)) }
-    ensures data { IfOk result (λ out. room.new ≢ 0 → data_of out ≡ shown_place graph.now is_node id) }
-    ensures err { IfErr result (λ e. e ≢ OutOfMemory → test_place graph.now is_node id ≡ Err e) }
+    ensures { DataSpelt (test_place graph.now is_node id) (shown_place graph.now is_node id) result room.old room.new }
 {
     if is_node {
         spell_node(alloc, graph, NodeId(id), room)

@@ -48,7 +48,7 @@ pub(crate) fn return_reply<T: Tables>(
             &ready,
             parameters,
             graph,
-            table,
+            &table,
             meter,
         )
     } else {
@@ -81,10 +81,10 @@ fn reply_of_each<T: Tables>(
     ready: &Vec<Prepared<'_>>,
     parameters: &Parameters,
     graph: &Snapshot<'_, T>,
-    table: Table,
+    table: &Table,
     meter: &mut Meter,
 ) -> Result<ReplyBytes, Fault>
-    ensures { (s : Setting) → s.quota.max_steps ≡ meter.old.limit → Gives result (and_then (spend s meter.old.used (length (seen table).rows)) (λ steps. and_then (cut_given (parameters_view parameters.now) graph.now (projection_view projection.now).skip (projection_view projection.now).limit) (λ c. and_then (each_answer (values_given (parameters_view parameters.now) graph.now (seen table).names (trees_of (seen table).names ready.now.items)) (seen table).rows) (λ found. told graph.now (named_items columns.now) (cut_of c found) steps)))) (λ bytes. bytes) }
+    ensures { (s : Setting) → s.quota.max_steps ≡ meter.old.limit → Gives result (and_then (spend s meter.old.used (length (seen table.now).rows)) (λ steps. and_then (cut_given (parameters_view parameters.now) graph.now (projection_view projection.now).skip (projection_view projection.now).limit) (λ c. and_then (each_answer (values_given (parameters_view parameters.now) graph.now (seen table.now).names (trees_of (seen table.now).names ready.now.items)) (seen table.now).rows) (λ found. told graph.now (named_items columns.now) (cut_of c found) steps)))) (λ bytes. bytes) }
 {
     let rows = table.rows();
     meter.spend(rows.len() as u64)?;

@@ -1,10 +1,5 @@
 //! Values over a store, spelt out as long as there is room for them.
-ghost use Rattle.std.specs.Prelude.{◌≡◌, ◌≢◌, ◌-◌, IfOk, IfErr, Ok, Err};
-ghost use Rattle.pg_json.specs.Replies.{data_of, outs, named_outs};
-ghost use Rattle.pg_json.specs.Room.{least, items_least, members_least};
-ghost use Rattle.pg_meaning.specs.Queries.{test_output, test_items, test_entries};
-ghost use Rattle.pg_meaning.specs.declared.fault.Fault.TheVariants.{OutOfMemory};
-ghost use Rattle.pg_run.specs.Printed.{printed, printed_items, printed_members};
+ghost use Rattle.pg_run.specs.Spelt.{ValueSpelt, ListSpelt, MapSpelt};
 ghost use Rattle.pg_value_core.specs.View.{view, values_view, entries_view};
 
 use crate::elements::{spell_node, spell_path, spell_rel};
@@ -24,10 +19,7 @@ pub(crate) fn spell<T: Tables>(
     value: Value,
     room: &mut usize,
 ) -> Result<Out, Fault>
-    ensures live { IfOk result (λ out. test_output graph.now (view value) ≡ Ok tt) }
-    ensures room { IfOk result (λ out. room.new ≡ room.old - least (printed graph.now (view value))) }
-    ensures data { IfOk result (λ out. room.new ≢ 0 → data_of out ≡ printed graph.now (view value)) }
-    ensures err { IfErr result (λ e. e ≢ OutOfMemory → test_output graph.now (view value) ≡ Err e) }
+    ensures { ValueSpelt graph.now (view value) result room.old room.new }
 {
     match value.into_parts() {
         Parts::Null => Ok(within(Out::Null, room)),
@@ -55,10 +47,7 @@ pub(crate) fn spell_items<T: Tables>(
     items: Vec<Value>,
     room: &mut usize,
 ) -> Result<Vec<Out>, Fault>
-    ensures live { IfOk result (λ found. test_items graph.now (values_view items.items) ≡ Ok tt) }
-    ensures room { IfOk result (λ found. room.new ≡ room.old - items_least (printed_items graph.now (values_view items.items))) }
-    ensures data { IfOk result (λ found. room.new ≢ 0 → outs found.items ≡ printed_items graph.now (values_view items.items)) }
-    ensures err { IfErr result (λ e. e ≢ OutOfMemory → test_items graph.now (values_view items.items) ≡ Err e) }
+    ensures { ListSpelt graph.now (values_view items.items) result room.old room.new }
 {
     let mut found = Vec::with_capacity(alloc, items.len())?;
     for item in items {
@@ -75,10 +64,7 @@ fn spell_entries<T: Tables>(
     entries: BTreeMap<String, Value>,
     room: &mut usize,
 ) -> Result<BTreeMap<String, Out>, Fault>
-    ensures live { IfOk result (λ found. test_entries graph.now (entries_view entries.entries) ≡ Ok tt) }
-    ensures room { IfOk result (λ found. room.new ≡ room.old - members_least (printed_members graph.now (entries_view entries.entries))) }
-    ensures data { IfOk result (λ found. room.new ≢ 0 → named_outs found.entries ≡ printed_members graph.now (entries_view entries.entries)) }
-    ensures err { IfErr result (λ e. e ≢ OutOfMemory → test_entries graph.now (entries_view entries.entries) ≡ Err e) }
+    ensures { MapSpelt graph.now (entries_view entries.entries) result room.old room.new }
 {
     let mut found = BTreeMap::new(alloc);
     for (key, value) in entries {

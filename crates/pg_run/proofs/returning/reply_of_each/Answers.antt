@@ -14,7 +14,7 @@ use Rattle.pg_run.proofs.returning.reply_of_each.Goals as goal
 
 pub returns : goal.returns
 returns g c = λ s limit.
-    let t = seen c.args.table in
+    let t = seen c.args.table.now in
     let graph = c.args.graph.now in
     let columns = c.args.columns.now in
     let used = c.args.meter.now.used in
@@ -35,7 +35,7 @@ returns g c = λ s limit.
 
 pub returns-in_err-spend : goal.returns-in_err-spend
 returns-in_err-spend g c = λ s limit.
-    let t = seen c.args.table in
+    let t = seen c.args.table.now in
     let graph = c.args.graph.now in
     let columns = c.args.columns.now in
     let used = c.args.meter.now.used in
@@ -48,7 +48,7 @@ returns-in_err-spend g c = λ s limit.
 
 pub returns-in_err-cut : goal.returns-in_err-cut
 returns-in_err-cut g c = λ s limit.
-    let t = seen c.args.table in
+    let t = seen c.args.table.now in
     let graph = c.args.graph.now in
     let columns = c.args.columns.now in
     let used = c.args.meter.now.used in
@@ -66,7 +66,7 @@ returns-in_err-telling g c = λ s limit.
 
 pub returns-in_err-tell_rows : goal.returns-in_err-tell_rows
 returns-in_err-tell_rows g c = λ s limit.
-    let t = seen c.args.table in
+    let t = seen c.args.table.now in
     let graph = c.args.graph.now in
     let columns = c.args.columns.now in
     let used = c.args.meter.now.used in

@@ -12,8 +12,8 @@ use Rattle.pg_run.specs.Telling.{told}
 use Rattle.pg_syntax_tree.specs.View.{expression_view, projection_view}
 use Rattle.pg_run.proofs.returning.return_reply.Goals as goal
 
-pub returns-then-come_in_turn : goal.returns-then-come_in_turn
-returns-then-come_in_turn g c = λ s suits.
+pub returns-in_ok-ready : goal.returns-in_ok-ready
+returns-in_ok-ready g c = λ s suits.
     let p = projection_view c.args.projection.now in
     let graph = c.args.graph.now in
     let t = seen c.args.table in

@@ -1,7 +1,10 @@
-use Rattle.std.proofs.Common.{refl, sym, ◌∙◌, subst}
+use Rattle.std.proofs.Common.{ap, refl, sym, ◌∙◌, subst}
+use Rattle.std.proofs.lemmas.Result.{err_from_is_err_and}
 use Rattle.pg_run.proofs.Items.{one_item_spelt, all_items_spelt}
 use Rattle.pg_run.proofs.Members.{MembersSpelt, no_member_spelt, one_member_spelt, all_members_spelt}
+use Rattle.pg_run.proofs.ValueLemmas.{bool_stored, text_stored, list_stored, map_stored}
 use Rattle.pg_run.proofs.Ways.{as_stored}
+use Rattle.pg_value_core.specs.Parts.{value_of}
 use Rattle.pg_run.proofs.stored.+stored.Goals as goal
 
 pub spell_stored_items-loop-item-preserved : goal.spell_stored_items-loop-item-preserved
@@ -22,3 +25,36 @@ spell_stored_entries-loop-key-preserved t c =
 
 pub spell_stored_entries-returns : goal.spell_stored_entries-returns
 spell_stored_entries-returns t c = (all_members_spelt as_stored _ _ (subst (λ es. MembersSpelt as_stored c.args.entries.entries es c.loop-key.found.entries) c.in-None.ensures.steps.0 c.loop-key.invariant)).1
+
+pub spell_stored-returns-in-Bool : goal.spell_stored-returns-in-Bool
+spell_stored-returns-in-Bool t c = bool_stored c.args.value c.in-Bool.b (sym c.into_parts.ensures ∙ ap value_of c.in-Bool.is)
+
+pub spell_stored-returns-in-Text : goal.spell_stored-returns-in-Text
+spell_stored-returns-in-Text t c = text_stored c.args.value c.in-Text.text (sym c.into_parts.ensures ∙ ap value_of c.in-Text.is)
+
+pub spell_stored-returns-in_err-spell_stored_items-in-List : goal.spell_stored-returns-in_err-spell_stored_items-in-List
+spell_stored-returns-in_err-spell_stored_items-in-List t c = rw (err_from_is_err_and c.from_residual.result c.from_residual.ensures.1).1 tt
+
+pub spell_stored-returns-in-List : goal.spell_stored-returns-in-List
+spell_stored-returns-in-List t c = list_stored c.args.value c.in-List.items c.in_ok-spell_stored_items-in-List.field-0 (sym c.into_parts.ensures ∙ ap value_of c.in-List.is) c.in_ok-spell_stored_items-in-List.ensures
+
+pub spell_stored-returns-in_err-spell_stored_entries-in-Map : goal.spell_stored-returns-in_err-spell_stored_entries-in-Map
+spell_stored-returns-in_err-spell_stored_entries-in-Map t c = rw (err_from_is_err_and c.from_residual-in_err-spell_stored_entries-in-Map.result c.from_residual-in_err-spell_stored_entries-in-Map.ensures.1).1 tt
+
+pub spell_stored-returns-in-Map : goal.spell_stored-returns-in-Map
+spell_stored-returns-in-Map t c = map_stored c.args.value c.in-Map.entries c.in_ok-spell_stored_entries-in-Map.field-0 (sym c.into_parts.ensures ∙ ap value_of c.in-Map.is) c.in_ok-spell_stored_entries-in-Map.ensures
+
+pub spell_stored_items-returns-in_err-found : goal.spell_stored_items-returns-in_err-found
+spell_stored_items-returns-in_err-found t c = rw (err_from_is_err_and c.from_residual.result c.from_residual.ensures.1).1 tt
+
+pub spell_stored_items-returns-in_err-spell_stored : goal.spell_stored_items-returns-in_err-spell_stored
+spell_stored_items-returns-in_err-spell_stored t c = rw (err_from_is_err_and c.from_residual-in_err-spell_stored.result c.from_residual-in_err-spell_stored.ensures.1).1 tt
+
+pub spell_stored_items-returns-in_err-push : goal.spell_stored_items-returns-in_err-push
+spell_stored_items-returns-in_err-push t c = rw (err_from_is_err_and c.from_residual-in_err-push.result c.from_residual-in_err-push.ensures.1).1 tt
+
+pub spell_stored_entries-returns-in_err-out : goal.spell_stored_entries-returns-in_err-out
+spell_stored_entries-returns-in_err-out t c = rw (err_from_is_err_and c.from_residual.result c.from_residual.ensures.1).1 tt
+
+pub spell_stored_entries-returns-in_err-insert : goal.spell_stored_entries-returns-in_err-insert
+spell_stored_entries-returns-in_err-insert t c = rw (err_from_is_err_and c.from_residual-in_err-insert.result c.from_residual-in_err-insert.ensures.1).1 tt

@@ -1,0 +1,65 @@
+-- A value spelt out while there is room, from its parts.
+use Rattle.std.proofs.Common.{◌≡◌, ◌≢◌, ℕ, ◌-◌, Bool, ℤ, Vec, BTreeMap, String, Global, Result, Ok, Err, IfOk, IfErr, ap, ◌∙◌, arith}
+use Rattle.serde_json.specs.Data.{Data}
+use Rattle.pg_json.specs.Replies.{data_of}
+use Rattle.pg_json.specs.Room.{least}
+use Rattle.pg_meaning.specs.Graph.{Graph}
+use Rattle.pg_meaning.specs.Queries.{test_output}
+use Rattle.pg_meaning.specs.declared.fault.Fault.{Fault}
+use Rattle.pg_meaning.specs.declared.fault.Fault.TheVariants.{OutOfMemory}
+use Rattle.pg_run.proofs.ValueLemmas.{null_seen, bool_seen, int_seen, text_seen, list_seen, map_seen, null_shown, bool_shown, int_shown, text_shown, list_shown, map_shown, list_room, map_room}
+use Rattle.pg_run.specs.Spelt.{Spelt, DataSpelt, ValueSpelt, ListSpelt, MapSpelt}
+use Rattle.pg_value_core.specs.View.{entries_view, values_view, view}
+use Rattle.pg_value_core.specs.declared.out.Out.{Out}
+use Rattle.pg_value_core.specs.declared.out.Out as out
+use Rattle.pg_value_core.specs.declared.value.Value.{Value}
+use Rattle.pg_value_core.specs.declared.value.Value as value
+
+pub refused : {X : Type 0} {test : Result (Unit {0}) Fault} {taken : ℕ} {IsRight : X → Type 0} {old new : ℕ} {e : Fault} → (e ≢ OutOfMemory → test ≡ Err e) → Spelt test taken IsRight (Err e) old new
+refused h = record { live = tt; room = tt; shown = tt; err = h }
+
+-- where no room was left before
+pub not_shown : (test : Result (Unit {0}) Fault) (d : Data) (old : ℕ) (result : Result Out Fault) → old ≡ 0 → IfOk result (λ out. test ≡ Ok tt) → IfErr result (λ e. test ≡ Err e) → DataSpelt test d result old old
+not_shown test d old (Ok out) none live fault = record { live = live; room = omega (arith, none); shown = λ some. absurd (some none); err = tt }
+not_shown test d old (Err e) none live fault = record { live = tt; room = tt; shown = tt; err = λ other. fault }
+
+-- this, or what stands for it where no room is left behind it
+pub shown_within : (test : Result (Unit {0}) Fault) (d : Data) (old new : ℕ) (one given : Out) → test ≡ Ok tt → data_of one ≡ d → new ≡ old - least (data_of one) → (new ≢ 0 → given ≡ one) → DataSpelt test d (Ok given) old new
+shown_within test d old new one given live same left is = record { live = live; room = left ∙ ap (λ e. old - least e) same; shown = λ some. ap data_of (is some) ∙ same; err = tt }
+
+module _ (graph : Graph) (v : Value) (old new : ℕ) where
+  module _ (given : Out) where
+    pub null_spelt : v ≡ value.Null → new ≡ old - least (data_of out.Null) → (new ≢ 0 → given ≡ out.Null) → ValueSpelt graph (view v) (Ok given) old new
+    null_spelt e left is = shown_within _ _ old new out.Null given (ap (test_output graph) (null_seen v e)) (null_shown graph v e) left is
+
+    pub bool_spelt : (b : Bool) → v ≡ value.Bool b → new ≡ old - least (data_of (out.Bool b)) → (new ≢ 0 → given ≡ out.Bool b) → ValueSpelt graph (view v) (Ok given) old new
+    bool_spelt b e left is = shown_within _ _ old new (out.Bool b) given (ap (test_output graph) (bool_seen v b e)) (bool_shown graph v b e) left is
+
+    pub int_spelt : (i j : ℤ) → v ≡ value.Int i → j ≡ i → new ≡ old - least (data_of (out.Int j)) → (new ≢ 0 → given ≡ out.Int j) → ValueSpelt graph (view v) (Ok given) old new
+    int_spelt i j e same left is = shown_within _ _ old new (out.Int j) given (ap (test_output graph) (int_seen v i e)) (ap (λ k. data_of (out.Int k)) same ∙ int_shown graph v i e) left is
+
+    pub text_spelt : (s : String Global) → v ≡ value.Text s → new ≡ old - least (data_of (out.Text s)) → (new ≢ 0 → given ≡ out.Text s) → ValueSpelt graph (view v) (Ok given) old new
+    text_spelt s e left is = shown_within _ _ old new (out.Text s) given (ap (test_output graph) (text_seen v s e)) (text_shown graph v s e) left is
+
+  module _ (less : ℕ) where
+    pub list_spelt : (items : Vec Value Global) (found : Vec Out Global) → v ≡ value.List items → less ≡ old - 1 → ListSpelt graph (values_view items.items) (Ok found) less new → ValueSpelt graph (view v) (Ok (out.List found)) old new
+    list_spelt items found e first h = record {
+      live = ap (test_output graph) (list_seen v items e) ∙ h.live;
+      room = list_room graph v old less new first items e h.room;
+      shown = λ some. list_shown graph v items found e (h.shown some);
+      err = tt;
+    }
+
+    pub list_refused : (items : Vec Value Global) (fault : Fault) → v ≡ value.List items → ListSpelt graph (values_view items.items) (Err fault) less new → ValueSpelt graph (view v) (Err fault) old new
+    list_refused items fault e h = refused (λ other. ap (test_output graph) (list_seen v items e) ∙ h.err other)
+
+    pub map_spelt : (entries : BTreeMap (String Global) Value) (found : BTreeMap (String Global) Out) → v ≡ value.Map entries → less ≡ old - 1 → MapSpelt graph (entries_view entries.entries) (Ok found) less new → ValueSpelt graph (view v) (Ok (out.Map found)) old new
+    map_spelt entries found e first h = record {
+      live = ap (test_output graph) (map_seen v entries e) ∙ h.live;
+      room = map_room graph v old less new first entries e h.room;
+      shown = λ some. map_shown graph v entries found e (h.shown some);
+      err = tt;
+    }
+
+    pub map_refused : (entries : BTreeMap (String Global) Value) (fault : Fault) → v ≡ value.Map entries → MapSpelt graph (entries_view entries.entries) (Err fault) less new → ValueSpelt graph (view v) (Err fault) old new
+    map_refused entries fault e h = refused (λ other. ap (test_output graph) (map_seen v entries e) ∙ h.err other)

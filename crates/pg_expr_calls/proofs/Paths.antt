@@ -1,6 +1,6 @@
 -- Where a path ends.
-use Rattle.std.proofs.Common.{◌≡◌, ℕ, List, [], ◌∷◌, length, refl, arith}
-use Rattle.pg_meaning.specs.Functions.{path_nodes, nodes_behind, path_relationships, relationships_behind}
+use Rattle.std.proofs.Common.{◌≡◌, ℕ, ◌<◌, List, [], ◌∷◌, length, refl, arith}
+use Rattle.pg_meaning.specs.Functions.{path_nodes, nodes_behind, path_relationships}
 use Rattle.pg_meaning.specs.Value.{no_items}
 use Rattle.pg_expr_calls.proofs.Joins.{none_more}
 
@@ -12,12 +12,9 @@ pub nodes_behind_end : (ids : List ℕ) → length ids ≡ 0 → nodes_behind id
 nodes_behind_end [] h = refl
 nodes_behind_end (x ∷ ids) h = absurd (omega arith)
 
-pub relationships_end : (ids : List ℕ) → length ids ≡ 0 → path_relationships ids ≡ no_items
+pub relationships_end : (ids : List ℕ) → length ids < 2 → path_relationships ids ≡ no_items
 relationships_end [] h = refl
-relationships_end (x ∷ ids) h = absurd (omega arith)
+relationships_end (x ∷ []) h = refl
+relationships_end (x ∷ y ∷ ids) h = absurd (omega arith)
 
-pub relationships_behind_end : (ids : List ℕ) → length ids ≡ 0 → relationships_behind ids ≡ no_items
-relationships_behind_end [] h = refl
-relationships_behind_end (x ∷ ids) h = absurd (omega arith)
-
-pub ruleset path_ends = (none_more, nodes_end, nodes_behind_end, relationships_end, relationships_behind_end)
+pub ruleset path_ends = (none_more, nodes_end, nodes_behind_end, relationships_end)

@@ -1,8 +1,9 @@
 //! The functions of one value, which is neither null nor deleted.
 
 ghost use Rattle.std.specs.Prelude.{◌≡◌, ◌≢◌, ◌<◌, ◌≤◌, ◌^◌, ◌-◌, IfOk, IfErr, Ok, Err, pos, length, count_by, string_bytes};
+ghost use Rattle.pg_meaning.specs.Answer.{Answer};
 ghost use Rattle.pg_meaning.specs.Functions.{size_of, length_of, head_of, last_of, string_of, integer_of, integer_in, absolute_of, is_first_byte, item_at, digits_of, count_of, path_relationships};
-ghost use Rattle.pg_meaning.specs.Value.{integer, null};
+ghost use Rattle.pg_meaning.specs.Value.{integer, null, text};
 ghost use Rattle.pg_meaning.specs.declared.fault.Fault.TheVariants.{OutOfMemory};
 ghost use Rattle.pg_value_core.specs.View.{view, values_view};
 
@@ -117,18 +118,25 @@ pub(crate) fn null() -> Value
 }
 
 /// A text that spells the value.
-#[tactic(auto, using(crate::proofs::Spelling::digits_spelled))]
 pub fn to_text(alloc: Global, v: Value) -> Result<Value, Fault>
     ensures ok { IfOk result (λ u. string_of (view v) ≡ Ok (view u)) }
     ensures err { IfErr result (λ e. e ≢ OutOfMemory → string_of (view v) ≡ Err e) }
 {
     match v.into_parts() {
-        Parts::Int(i) => Ok(Value::Text(digits(alloc, i)?)),
-        Parts::Bool(true) => Ok(Value::Text(String::from_str(alloc, "true")?)),
-        Parts::Bool(false) => Ok(Value::Text(String::from_str(alloc, "false")?)),
+        Parts::Int(i) => as_text(digits(alloc, i)),
+        Parts::Bool(true) => as_text(String::from_str(alloc, "true")),
+        Parts::Bool(false) => as_text(String::from_str(alloc, "false")),
         Parts::Text(text) => Ok(Value::Text(text)),
         _ => Err(Fault::TypeFault),
     }
+}
+
+// A text that was made, as a value.
+fn as_text(made: Result<String, AllocError>) -> Result<Value, Fault>
+    ensures ok { (answer : Answer) → IfOk made (λ s. answer ≡ Ok (text (string_bytes s))) → IfOk result (λ u. answer ≡ Ok (view u)) }
+    ensures err { IfErr result (λ e. e ≡ OutOfMemory) }
+{
+    Ok(Value::Text(made?))
 }
 
 #[tactic(auto, using(crate::proofs::Spelling::digits_spelled))]

@@ -72,9 +72,9 @@ fn path_nodes(alloc: Global, ids: &[u64]) -> Result<Vec<Value>, AllocError>
 {
     let mut nodes = Vec::new(alloc);
     let mut rest = ids;
-    while let Some((node, behind)) = rest.split_first() {
+    while let [node, behind @ ..] = rest {
         push_node(&mut nodes, *node)?;
-        let Some((_, later)) = behind.split_first() else {
+        let [_, later @ ..] = behind else {
             return Ok(nodes);
         };
         rest = later;
@@ -99,10 +99,7 @@ fn path_relationships(alloc: Global, ids: &[u64]) -> Result<Vec<Value>, AllocErr
 {
     let mut relationships = Vec::new(alloc);
     let mut rest = ids;
-    while let Some((_, behind)) = rest.split_first() {
-        let Some((relationship, later)) = behind.split_first() else {
-            return Ok(relationships);
-        };
+    while let [_, relationship, later @ ..] = rest {
         push_relationship(&mut relationships, *relationship)?;
         rest = later;
     }

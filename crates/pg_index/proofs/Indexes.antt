@@ -1,5 +1,5 @@
 -- Keys that an order has as one have one set.
-use Rattle.std.proofs.Common.{◌≡◌, ℕ, Bool, true, false, cond, inl, inr, None, Ordering, refl, sym, ap, subst, ◌∙◌}
+use Rattle.std.proofs.Common.{◌≡◌, ℕ, Bool, true, false, cond, inl, inr, Some, None, Ordering, refl, sym, ap, subst, ◌∙◌}
 use Rattle.std.proofs.lemmas.Bool.{cases_eq}
 use Rattle.std.specs.BTreeMap.{BTreeMap, get, get_by, is_at}
 use Rattle.std.specs.Cmp.{IsTotalOrder, Equal-is}
@@ -31,3 +31,12 @@ module _ {K : Type 0} {R : K → K → Ordering} (o : IsTotalOrder R) where
       by_test : (b : Bool) → is_at (R key) q ≡ b → ids_at R old q ≡ cond b (map.remove (ids_at R old key) id) (ids_at R old q)
       by_test true is = ap the_ids (tied_alike old.sets key q is ∙ none) ∙ sym (ap (λ found. map.remove (the_ids found) id) none ∙ without_nothing id)
       by_test false is = refl
+
+  -- a set that is put back leaves all sets as they were
+  pub same_set : (old new : Index K) (key : K) (was is : Ids) → Some was ≡ get R old.sets key → is ≡ was → ((q : K) → get R new.sets q ≡ cond (is_at (R key) q) (Some is) (get R old.sets q))
+      → (q : K) → ids_at R new q ≡ ids_at R old q
+  same_set old new key was is there same found q = ap the_ids (found q ∙ by_test (is_at (R key) q) refl)
+    where
+      by_test : (b : Bool) → is_at (R key) q ≡ b → cond b (Some is) (get R old.sets q) ≡ get R old.sets q
+      by_test true at = ap Some same ∙ there ∙ sym (tied_alike old.sets key q at)
+      by_test false at = refl

@@ -1,5 +1,6 @@
 //! Which rows are the first of equivalent ones.
-ghost use Rattle.std.specs.Prelude.{◌≡◌, [], length, IfOk};
+ghost use Rattle.std.specs.Prelude.{◌≡◌, [], length, map, IfOk};
+ghost use Rattle.pg_value_core.specs.View.{view};
 ghost use Rattle.pg_rows.specs.Tables.{table, first_places, EachBelow};
 
 use crate::table::Rows;
@@ -12,10 +13,21 @@ pub fn distinct(rows: &Rows, alloc: Global) -> Result<Vec<usize>, AllocError>
     ensures places { IfOk result (λ places. places.items ≡ first_places [] 0 (table rows.now)) }
     ensures below { IfOk result (λ places. EachBelow (length (table rows.now)) places.items) }
 {
-    let mut seen: IndexSet<&[Value]> = IndexSet::new(alloc);
+    let mut seen = IndexSet::new(alloc);
+    unseen(rows, &mut seen, alloc)
+}
+
+// The places of rows that were not seen, of equivalent ones the first alone.
+fn unseen<'a>(
+    rows: &'a Rows,
+    seen: &mut IndexSet<&'a [Value]>,
+    alloc: Global,
+) -> Result<Vec<usize>, AllocError>
+    ensures { IfOk result (λ places. places.items ≡ first_places (map (λ r. map view r.now) seen.old.keys) 0 (table rows.now)) }
+{
     let mut places = Vec::new(alloc);
     for at in 0..rows.len() {
-        let (_, is_new) = seen.insert_full(rows.row(at))?;
+        let is_new = seen.insert(rows.row(at))?;
         if is_new {
             places.push(at)?;
         }

@@ -14,20 +14,20 @@ use std::cmp::Ordering;
 fn order_first(a: &[Value], b: &[Value]) -> Ordering
     ensures { result ≡ value_order (first_or_null (map view a.now)) (first_or_null (map view b.now)) }
 {
-    match (a.first(), b.first()) {
-        (Some(x), Some(y)) => order(x, y),
-        (Some(x), None) => order(x, &Value::Null),
-        (None, Some(y)) => order(&Value::Null, y),
-        (None, None) => Ordering::Equal,
+    match (a, b) {
+        ([x, ..], [y, ..]) => order(x, y),
+        ([x, ..], []) => order(x, &Value::Null),
+        ([], [y, ..]) => order(&Value::Null, y),
+        ([], []) => Ordering::Equal,
     }
 }
 
 fn others(values: &[Value]) -> &[Value]
     ensures { map view result.now ≡ other_values (map view values.now) }
 {
-    match values.split_first() {
-        Some((_, rest)) => rest,
-        None => values,
+    match values {
+        [_, rest @ ..] => rest,
+        [] => values,
     }
 }
 

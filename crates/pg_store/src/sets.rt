@@ -233,8 +233,7 @@ fn note_values(
             continue;
         };
         if !is_sought(node, &Wanted::Valued(index.label, index.key, value)) {
-            let value = value.copy(alloc)?;
-            dust.push((Place::Valued(index.label, index.key, value), id))?;
+            note_value(alloc, dust, index, value, id)?;
         }
     }
     Ok(())
@@ -253,9 +252,21 @@ fn note_arrivals(
             continue;
         };
         if !index.has(value, id) {
-            let value = value.copy(alloc)?;
-            dust.push((Place::Valued(index.label, index.key, value), id))?;
+            note_value(alloc, dust, index, value, id)?;
         }
     }
+    Ok(())
+}
+
+// Notes an id under a value of an index.
+fn note_value(
+    alloc: Global,
+    dust: &mut Vec<(Place, u64)>,
+    index: &PropertyIndex,
+    value: &Value,
+    id: u64,
+) -> Result<(), AllocError> {
+    let value = value.copy(alloc)?;
+    dust.push((Place::Valued(index.label, index.key, value), id))?;
     Ok(())
 }

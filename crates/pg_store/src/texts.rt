@@ -68,8 +68,15 @@ fn label_strings<K: TextSet>(
     ensures { IfOk result (λ texts. map_list string_bytes texts.items ≡ label_texts names.now labels.now) }
 {
     let texts = labels.texts(alloc, names)?;
+    strings_of(alloc, &texts)
+}
+
+// These texts, in memory of their own.
+fn strings_of(alloc: Global, texts: &[&str]) -> Result<Vec<String>, AllocError>
+    ensures { IfOk result (λ strings. map_list string_bytes strings.items ≡ map_list (λ t. t.now) texts.now) }
+{
     let mut strings = Vec::with_capacity(alloc, texts.len())?;
-    for text in &texts {
+    for text in texts {
         strings.push(String::from_str(alloc, text)?)?;
     }
     Ok(strings)

@@ -5,8 +5,8 @@ use Rattle.pg_value_core.specs.View.{values_view}
 use Rattle.pg_expr_calls.proofs.parts.path_nodes.Given as goal
 
 -- the nodes so far and those that are left make all
-abbrev pub invariant-loop-node : goal.invariant-loop-node
-invariant-loop-node l = appended (values_view l.nodes.items) (path_nodes l.rest) ≡ path_nodes l.ids
+abbrev pub invariant-loop-rest : goal.invariant-loop-rest
+invariant-loop-rest l = appended (values_view l.nodes.items) (path_nodes l.rest) ≡ path_nodes l.ids
 
-abbrev pub decreases-loop-node : goal.decreases-loop-node
-decreases-loop-node l = length l.rest
+abbrev pub decreases-loop-rest : goal.decreases-loop-rest
+decreases-loop-rest l = length l.rest

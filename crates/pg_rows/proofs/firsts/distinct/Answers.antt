@@ -1,29 +1,16 @@
-use Rattle.std.proofs.Common.{◌≡◌, ◌+◌, ◌++◌, ◌∷◌, [], length, drop, sym, ap, subst, ◌∙◌, arith}
+use Rattle.std.proofs.Common.{◌≡◌, [], length, sym, subst, arith}
+use Rattle.std.proofs.lemmas.Result.{IfOk-weaker}
+use Rattle.std.specs.Result.{IfOk}
 use Rattle.pg_rows.specs.Tables.{table, first_places, EachBelow}
-use Rattle.pg_rows.proofs.Occurrences.{seen_of, new_row, seen_row, fresh, known, ended}
+use Rattle.pg_rows.proofs.Occurrences.{seen_of}
 use Rattle.pg_rows.proofs.Places.{firsts_below}
-use Rattle.pg_rows.proofs.firsts.distinct.Goals.{then-is_new+in_ok-push, else-is_new}
 use Rattle.pg_rows.proofs.firsts.distinct.Goals as goal
 
-pub loop-at-preserved : goal.loop-at-preserved
-loop-at-preserved c = elim c.if-is_new.branch [
-  | then-is_new+in_ok-push w ↦
-      let rs = table c.args.rows.now in
-      let at = c.loop-at.at in
-      let p : c.if-is_new.places.items ≡ c.loop-at.places.items ++ at ∷ [] = ap (λ v. v.items) w.places-is ∙ w.in_ok-push.ensures.items in
-      (λ i. p i ++ first_places (seen_of (c.in_ok-is_new.ensures.keys i)) (at + 1) (drop (at + 1) rs))
-      ∙ new_row rs at c.loop-at.places.items c.row.result c.loop-at.seen.keys c.row.ensures (fresh _ _ c.in_ok-is_new.ensures.added w.if-is_new.true)
-      ∙ c.loop-at.invariant
-  | else-is_new w ↦
-      let rs = table c.args.rows.now in
-      let at = c.loop-at.at in
-      (λ i. (w.places-is i).items ++ first_places (seen_of (c.in_ok-is_new.ensures.keys i)) (at + 1) (drop (at + 1) rs))
-      ∙ seen_row rs at c.loop-at.places.items c.row.result c.loop-at.seen.keys c.row.ensures (known _ _ c.in_ok-is_new.ensures.added w.if-is_new.false)
-      ∙ c.loop-at.invariant
-]
-
 pub returns-clause-places : goal.returns-clause-places
-returns-clause-places c = ended (table c.args.rows.now) c.loop-at.at c.loop-at.places.items (seen_of c.loop-at.seen.keys) (omega (arith, c.len-at-end.ensures, c.loop-at.auto.at-end)) ∙ c.loop-at.invariant
+returns-clause-places c =
+    subst (λ ks. IfOk c.unseen.result (λ places. places.items ≡ first_places (seen_of ks) 0 (table c.args.rows.now))) c.new-seen.ensures.empty c.unseen.ensures
 
 pub returns-clause-below : goal.returns-clause-below
-returns-clause-below c = subst (EachBelow (length (table c.args.rows.now))) (sym (returns-clause-places c)) (firsts_below (length (table c.args.rows.now)) [] (table c.args.rows.now) 0 (omega arith))
+returns-clause-below c =
+    let rs = table c.args.rows.now in
+    IfOk-weaker c.unseen.result _ _ (λ places e. subst (EachBelow (length rs)) (sym e) (firsts_below (length rs) [] rs 0 (omega arith))) (returns-clause-places c)

@@ -1,4 +1,5 @@
 pub mod AnswerLemmas
+mod CopyLemmas
 mod FinishedLemmas
 mod IndexLemmas
 pub mod OutcomeLemmas

@@ -1,5 +1,5 @@
 //! The indexes of a tenant as texts, in the order of their bytes.
-ghost use Rattle.std.specs.Prelude.{◌≡◌, ◌++◌, filter, IfOk, OnOk, string_bytes};
+ghost use Rattle.std.specs.Prelude.{◌≡◌, ◌++◌, ◌∷◌, [], filter, IfOk, OnOk, string_bytes};
 ghost use Rattle.pg_plan.specs.Catalogue.{catalogue_view};
 ghost use Rattle.pg_meaning.specs.Plans as spec;
 ghost use Rattle.pg_tenant.specs.Indexes.{is_same, is_on_side as on_side, stands_before, with_index as with_one, without_index as without_one};
@@ -54,11 +54,16 @@ fn index_of(alloc: Global, label: &str, key: &str) -> Result<(String, String), A
     Ok((label, key))
 }
 
-fn copied(alloc: Global, index: &(String, String)) -> Result<(String, String), AllocError>
-    ensures label { IfOk result (λ copy. string_bytes copy.0 ≡ string_bytes index.now.0) }
-    ensures key { IfOk result (λ copy. string_bytes copy.1 ≡ string_bytes index.now.1) }
+/// Copies an index to the end of the list.
+fn push_copy(
+    alloc: Global,
+    indexes: &mut Catalogue,
+    index: &(String, String),
+) -> Result<(), AllocError>
+    ensures { OnOk result (catalogue_view indexes.new.items ≡ catalogue_view indexes.old.items ++ (string_bytes index.now.0, string_bytes index.now.1) ∷ []) }
 {
-    index_of(alloc, index.0.as_str(), index.1.as_str())
+    indexes.push(index_of(alloc, index.0.as_str(), index.1.as_str())?)?;
+    Ok(())
 }
 
 /// Copies the indexes that stand before this one, or else those that don't.
@@ -74,7 +79,7 @@ fn push_side(
 {
     for index in catalogue {
         if is_on_side(index, label, key, before) {
-            indexes.push(copied(alloc, index)?)?;
+            push_copy(alloc, indexes, index)?;
         }
     }
     Ok(())
@@ -102,7 +107,7 @@ pub fn copy_indexes(alloc: Global, catalogue: &Catalogue) -> Result<Catalogue, A
 {
     let mut indexes = Vec::with_capacity(alloc, catalogue.len())?;
     for index in catalogue {
-        indexes.push(copied(alloc, index)?)?;
+        push_copy(alloc, &mut indexes, index)?;
     }
     Ok(indexes)
 }
@@ -119,7 +124,7 @@ pub(crate) fn without_index(
     let mut indexes = Vec::new(alloc);
     for index in catalogue {
         if !is_index(index, label, key) {
-            indexes.push(copied(alloc, index)?)?;
+            push_copy(alloc, &mut indexes, index)?;
         }
     }
     Ok(indexes)

@@ -1,5 +1,4 @@
 pub mod AnswerLemmas
-mod CopyLemmas
 mod FinishedLemmas
 mod IndexLemmas
 pub mod OutcomeLemmas

@@ -1,5 +1,5 @@
 //! The indexes of a tenant as texts, in the order of their bytes.
-ghost use Rattle.std.specs.Prelude.{◌≡◌, ◌++◌, ◌∷◌, [], filter, IfOk, OnOk, string_bytes};
+ghost use Rattle.std.specs.Prelude.{◌≡◌, ◌++◌, filter, IfOk, OnOk, string_bytes};
 ghost use Rattle.pg_plan.specs.Catalogue.{catalogue_view};
 ghost use Rattle.pg_meaning.specs.Plans as spec;
 ghost use Rattle.pg_tenant.specs.Indexes.{is_same, is_on_side as on_side, stands_before, with_index as with_one, without_index as without_one};
@@ -54,16 +54,11 @@ fn index_of(alloc: Global, label: &str, key: &str) -> Result<(String, String), A
     Ok((label, key))
 }
 
-/// Copies an index to the end of the list.
-fn push_copy(
-    alloc: Global,
-    indexes: &mut Catalogue,
-    index: &(String, String),
-) -> Result<(), AllocError>
-    ensures { OnOk result (catalogue_view indexes.new.items ≡ catalogue_view indexes.old.items ++ (string_bytes index.now.0, string_bytes index.now.1) ∷ []) }
+fn copied(alloc: Global, index: &(String, String)) -> Result<(String, String), AllocError>
+    ensures label { IfOk result (λ copy. string_bytes copy.0 ≡ string_bytes index.now.0) }
+    ensures key { IfOk result (λ copy. string_bytes copy.1 ≡ string_bytes index.now.1) }
 {
-    indexes.push(index_of(alloc, index.0.as_str(), index.1.as_str())?)?;
-    Ok(())
+    index_of(alloc, index.0.as_str(), index.1.as_str())
 }
 
 /// Copies the indexes that stand before this one, or else those that don't.
@@ -79,7 +74,7 @@ fn push_side(
 {
     for index in catalogue {
         if is_on_side(index, label, key, before) {
-            push_copy(alloc, indexes, index)?;
+            indexes.push(copied(alloc, index)?)?;
         }
     }
     Ok(())
@@ -107,7 +102,7 @@ pub fn copy_indexes(alloc: Global, catalogue: &Catalogue) -> Result<Catalogue, A
 {
     let mut indexes = Vec::with_capacity(alloc, catalogue.len())?;
     for index in catalogue {
-        push_copy(alloc, &mut indexes, index)?;
+        indexes.push(copied(alloc, index)?)?;
     }
     Ok(indexes)
 }
@@ -124,7 +119,7 @@ pub(crate) fn without_index(
     let mut indexes = Vec::new(alloc);
     for index in catalogue {
         if !is_index(index, label, key) {
-            push_copy(alloc, &mut indexes, index)?;
+            indexes.push(copied(alloc, index)?)?;
         }
     }
     Ok(indexes)

@@ -155,3 +155,11 @@ module _ {A : Type 0} (number : A → ℕ) where
   pub any_placed : (k : ℕ) (xs : List A) (found : Result ℕ ℕ) → IsPlace number k xs found → is_ok found ≡ list_any (λ x. number x == k) xs
   any_placed k xs (Ok i) at = sym (any_found k xs i at.0 at.1)
   any_placed k xs (Err i) at = sym (any_missing k xs i at.1)
+
+-- a number that is there, put again
+pub put_itself : (a : ℕ) (xs : List ℕ) (i : ℕ) → Rises (λ n. n) xs → i < length xs → HoldsAt (λ y. nat_cmp y a ≡ Equal) xs i → put (λ n. n) a xs ≡ xs
+put_itself a [] i rises inside at = absurd (omega arith)
+put_itself a (x ∷ xs) zero rises inside at = rw (level a x (sym (equal _ _ (at x)))) (ap (λ n. n ∷ xs) (sym (equal x a (at x))))
+put_itself a (x ∷ xs) (suc i) rises inside at =
+    let past : x < a = subst (λ n. x < n) (equal _ _ (at x)) (at_all (λ n. n) (λ y. x < y) xs i x rises.0 (omega arith)) in
+    rw (above a x past) (ap (λ ys. x ∷ ys) (put_itself a xs i rises.1 (omega arith) at))

@@ -4,5 +4,6 @@ pub mod ValueCode
 pub mod Content
 pub mod Removed
 pub mod Links
+pub mod Labels
 pub mod Refinement
 pub mod Stored

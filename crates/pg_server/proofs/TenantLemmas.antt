@@ -41,6 +41,10 @@ pub length_mapped : {X Y : Type 0} (f : X → Y) (xs : List X) → length (map f
 length_mapped f [] = refl
 length_mapped f (x ∷ xs) = ap suc (length_mapped f xs)
 
+-- a place among the states is one among the tenants
+pub is_tenant : {T S K : Type 0} (seen : Seen T S) (tenants : List (Tenant T)) (shared : Shared S K) (states : List State) (place : ℕ) → states_of seen tenants shared ≡ states → place < length states → place < length tenants
+is_tenant seen tenants shared states place same lt = subst (λ n. place < n) (ap length (sym same) ∙ length_mapped (λ t. state_of seen t shared) tenants) lt
+
 -- the state of the tenant at a place
 pub state_found : {T S K : Type 0} (seen : Seen T S) (tenants : List (Tenant T)) (shared : Shared S K) (t : ℕ) (was : Tenant T) → t < length tenants → was ≡ get_or tenants t was
     → state_of seen was shared ≡ state_in (states_of seen tenants shared) t

@@ -1,4 +1,4 @@
-use Rattle.std.proofs.Common.{◌≡◌, ◌<◌, Ok, Vec, String, Global, arith, length, rules, string_bytes, ap, subst, sym, inl, ◌∙◌}
+use Rattle.std.proofs.Common.{◌≡◌, ◌<◌, Ok, Vec, String, Global, length, rules, string_bytes, ap, subst, sym, inl, ◌∙◌}
 use Rattle.pg_plan.specs.Catalogue.{catalogue_view}
 use Rattle.pg_cache.proofs.Seen.{look_up_is_seen}
 use Rattle.pg_cache.specs.Cache.{CacheSeen, IsLookUp, cache_seen, key_of}
@@ -9,11 +9,11 @@ use Rattle.pg_plan.specs.Reading.{tested_length}
 use Rattle.pg_server.specs.Handles.{AddsNames}
 use Rattle.pg_server.specs.State.{ServerState, state_in}
 use Rattle.pg_server.specs.Step.{reply_of}
-use Rattle.pg_server.specs.Tenants.{state_of, states_of}
+use Rattle.pg_server.specs.Tenants.{states_of}
 use Rattle.pg_server.proofs.LookUpLemmas.{looked_up}
 use Rattle.pg_server.proofs.NameLemmas.{names_stay}
 use Rattle.pg_server.proofs.PlanLemmas.{replies, refuses}
-use Rattle.pg_server.proofs.TenantLemmas.{indexes_at, length_mapped}
+use Rattle.pg_server.proofs.TenantLemmas.{is_tenant, indexes_at}
 use Rattle.pg_tenant.specs.Indexes.{indexes_of}
 use Rattle.pg_value_core.specs.Given.{parameters_view}
 use Rattle.pg_server.proofs.HoldLemmas.{state_seen}
@@ -32,7 +32,7 @@ returns-in-Err-clause-cache g c =
     let text = string_bytes c.args.text in
     let tenants = c.self.inside.tenants.items in
     let short : tested_length text ≡ Ok tt = search rules in
-    let lt : c.args.place < length tenants = omega (arith, c.requires, ap (λ (s : ServerState). length s.tenants) (ap state_seen c.self.view_is), length_mapped (λ x. state_of seen x c.self.inside.shared.stores) tenants) in
+    let lt : c.args.place < length tenants = is_tenant seen tenants c.self.inside.shared.stores c.args.self.now.state.tenants c.args.place (ap (λ (s : ServerState). s.tenants) (ap state_seen c.self.view_is)) c.requires in
     let copied : c.in_ok-indexes.indexes.value ≡ c.index.result.now.indexes.value = search rules in
     let own : indexes_of c.in_ok-indexes.indexes ≡ (state_in c.args.self.now.state.tenants c.args.place).indexes =
     ap (λ (v : Vec (String Global × String Global) Global). catalogue_view v.items) copied
@@ -54,7 +54,7 @@ returns-in-Ok-clause-tenants g c =
     let text = string_bytes c.args.text in
     let tenants = c.self.inside.tenants.items in
     let short : tested_length text ≡ Ok tt = search rules in
-    let lt : c.args.place < length tenants = omega (arith, c.requires, ap (λ (s : ServerState). length s.tenants) (ap state_seen c.self.view_is), length_mapped (λ x. state_of seen x c.self.inside.shared.stores) tenants) in
+    let lt : c.args.place < length tenants = is_tenant seen tenants c.self.inside.shared.stores c.args.self.now.state.tenants c.args.place (ap (λ (s : ServerState). s.tenants) (ap state_seen c.self.view_is)) c.requires in
     let copied : c.in_ok-indexes.indexes.value ≡ c.index.result.now.indexes.value = search rules in
     let own : indexes_of c.in_ok-indexes.indexes ≡ (state_in c.args.self.now.state.tenants c.args.place).indexes =
     ap (λ (v : Vec (String Global × String Global) Global). catalogue_view v.items) copied
@@ -71,7 +71,7 @@ returns-in-Ok-clause-cache g c =
     let text = string_bytes c.args.text in
     let tenants = c.self.inside.tenants.items in
     let short : tested_length text ≡ Ok tt = search rules in
-    let lt : c.args.place < length tenants = omega (arith, c.requires, ap (λ (s : ServerState). length s.tenants) (ap state_seen c.self.view_is), length_mapped (λ x. state_of seen x c.self.inside.shared.stores) tenants) in
+    let lt : c.args.place < length tenants = is_tenant seen tenants c.self.inside.shared.stores c.args.self.now.state.tenants c.args.place (ap (λ (s : ServerState). s.tenants) (ap state_seen c.self.view_is)) c.requires in
     let copied : c.in_ok-indexes.indexes.value ≡ c.index.result.now.indexes.value = search rules in
     let own : indexes_of c.in_ok-indexes.indexes ≡ (state_in c.args.self.now.state.tenants c.args.place).indexes =
     ap (λ (v : Vec (String Global × String Global) Global). catalogue_view v.items) copied

@@ -35,12 +35,6 @@ pub all_pairs : {X : Type 0} (P : X → Type 0) (R : X → X → Type 0) → ((x
 all_pairs P R f [] h = tt
 all_pairs P R f (x ∷ xs) h = (all_weaker P (R x) (λ y p. f x y h.0 p) xs h.1, all_pairs P R f xs h.1)
 
-same_some : {X : Type 0} (x y : X) → Some x ≡ Some y → x ≡ y
-same_some x y e = ap (λ o. elim o [ Some z ↦ z | None ↦ x ]) e
-
-same_node : (m n : ℕ) → node m ≡ node n → m ≡ n
-same_node m n e = ap (λ v. elim v [ node k ↦ k | _ ↦ m ]) e
-
 -- ---- counting
 
 grown_by_one : (b c k : ℕ) → b ≡ c + k → b + 1 ≡ c + (k + 1)
@@ -72,9 +66,6 @@ one_more_before others new old h = omega arith
 
 from_start : (n c k : ℕ) → n ≡ c + k → c ≤ n
 from_start n c k e = omega arith
-
-lower : (m c n k : ℕ) → m < c → n ≡ c + k → m < n
-lower m c n k l e = omega arith
 
 -- ---- how far
 

@@ -14,9 +14,6 @@ use Rattle.pg_meaning.specs.Walks.{bound_value}
 
 -- ---- one more name
 
-none_is_not : {X : Type 0} (o : Option X) (x : X) → o ≡ None → o ≡ Some x → ⊥
-none_is_not o x e f = cc
-
 found_before : (q name : List ℕ) (v w : Value) (row : Row) → value_in q row ≡ Some w → value_in q (row ++ (name, v) ∷ []) ≡ Some w
 found_before q name v w [] h = cc
 found_before q name v w (b ∷ row) h =

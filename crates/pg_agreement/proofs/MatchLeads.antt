@@ -25,7 +25,7 @@ use Rattle.pg_meaning.specs.declared.lexemes.Keyword.TheVariants as k
 use Rattle.pg_meaning.specs.declared.logic.Tri.{Tri}
 use Rattle.pg_meaning.specs.declared.logic.Tri.TheVariants.{True, False, Null}
 use Rattle.pg_meaning.specs.declared.operators.Operator.TheVariants.{And, Equal}
-use Rattle.pg_agreement.proofs.MatchStates.{by_bool, none_some, same_node_id}
+use Rattle.pg_agreement.proofs.MatchStates.{by_bool, none_some}
 
 -- n.k = c
 abbrev pub lead_expression : Name → Name → Expression → Expression
@@ -69,11 +69,6 @@ module _ (parameters : Entries) (graph : Graph) (here : Row) where
     pub element : Node
     pub reads : value_in name here ≡ Some (node id)
     pub present : node_at graph id ≡ Some element
-
-  stands_same : (name : List ℕ) (s t : Stands name) → s.element ≡ t.element
-  stands_same name s t =
-      let ids : s.id ≡ t.id = same_node_id s.id t.id (same_some (node s.id) (node t.id) (sym s.reads ∙ t.reads)) in
-      same_some s.element t.element (sym s.present ∙ ap (node_at graph) ids ∙ t.present)
 
   -- what the graph has there, compared with the constant
   abbrev pub lead_truth : (f : Fixed) → Stands f.name → Tri

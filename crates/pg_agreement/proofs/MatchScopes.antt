@@ -37,9 +37,6 @@ among_front : (q u : List ℕ) (names : Names) → u ≡ q → is_among (u ∷ n
 among_front q u names e = ap (λ b. b || is_among names q) (subst (λ k. bytes_eq q k ≡ true) (sym e) (text_itself q))
 
 module _ (outer : Names) (q : List ℕ) where
-  Faultless : Used → List Part → Type 0
-  Faultless used parts = parts_faults matching outer used parts ≡ []
-
   -- ---- a name that a relationship or path has
 
   with_grows : (v : Option Name) (names : Names) → is_among names q ≡ true → is_among (with_variable v names) q ≡ true

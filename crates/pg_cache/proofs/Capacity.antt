@@ -1,5 +1,5 @@
 -- No look-up changes how many plans the cache holds at most.
-use Rattle.std.proofs.Common.{◌≡◌, Option, Some, None, Result, Ok, Err, refl, ap, inl, inr}
+use Rattle.std.proofs.Common.{◌≡◌, Option, Some, None, Result, Ok, Err, ap, inl, inr}
 use Rattle.std.specs.declared.alloc.Global.{Global}
 use Rattle.std.specs.declared.rc.Rc.{Rc}
 use Rattle.pg_cache.specs.Cache.{Key, Cache, kept, IsHit, IsMiss}
@@ -16,7 +16,3 @@ module _ (old new : Cache) (key : Key) where
       → (kept old key ≡ None → IsMiss old new key answer) → new.capacity ≡ old.capacity
   by_kept None answer is hit miss = after_a_miss answer (miss is)
   by_kept (Some plan) answer is hit miss = ap (λ (c : Cache). c.capacity) (hit plan is).left
-
-  pub capacity_stays : (answer : Result (Rc Plan Global) Fault) → ((plan : Plan) → kept old key ≡ Some plan → IsHit old new key plan answer)
-      → (kept old key ≡ None → IsMiss old new key answer) → new.capacity ≡ old.capacity
-  capacity_stays answer hit miss = by_kept (kept old key) answer refl hit miss

@@ -1,17 +1,13 @@
 -- What stands in a row under a name, and in a list at a place.
-use Rattle.std.proofs.Common.{◌≡◌, ℕ, List, map, Option, Some, None, Bor, length, get_or, ◌<◌, ◌≤◌, refl, ap, ◌∙◌}
+use Rattle.std.proofs.Common.{◌≡◌, ℕ, List, map, Some, None, length, get_or, ◌<◌, ◌≤◌, refl, ap, ◌∙◌}
 use Rattle.std.proofs.lemmas.Option.{slice_get-map, slice_get_past, slice_get_read}
 use Rattle.std.specs.Option.{option_and_then}
-use Rattle.std.specs.Prelude.{bytes_eq, option_copied, option_map, position, slice_get}
+use Rattle.std.specs.Prelude.{bytes_eq, option_map, position, slice_get}
 use Rattle.pg_meaning.specs.Rows.{value_in}
 use Rattle.pg_rows.proofs.NamedRows.{values_stand}
 use Rattle.pg_rows.specs.Named.{row_of}
 use Rattle.pg_value_core.specs.View.{view}
 use Rattle.pg_value_core.specs.declared.value.Value.{Value}
-
-pub through : (r : Option (Bor Value)) → option_map (λ v. view v.now) r ≡ option_map view (option_copied r)
-through None = refl
-through (Some v) = refl
 
 module _ (name : List ℕ) (names : List (List ℕ)) (row : List Value) where
   pub no_column : position (bytes_eq name) names ≡ None → value_in name (row_of names (map view row)) ≡ None

@@ -1,3 +1,2 @@
-pub mod Elements
 pub mod Ranges
 pub mod Sums

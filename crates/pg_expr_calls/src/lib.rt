@@ -11,7 +11,7 @@ mod parts;
 mod ranges;
 mod texts;
 
-pub use access::{index_list, index_map, index_other, item_of, property, value_at, value_at_text};
+pub use access::value_at;
 pub use arithmetic::{divide, minus, modulo, negative, positive, times};
 pub use chains::{compared, conjunction, disjunction, exclusive};
 pub use functions::{absolute, head, last, length, size, to_integer, to_text};

@@ -10,7 +10,7 @@ use Rattle.pg_meaning.specs.Tokens.{Token}
 use Rattle.pg_meaning.specs.Tree.{Expression, Item, SortItem, Projection}
 use Rattle.pg_meaning.specs.Grammar.{Mark, key, sign, flag, keyed, further, commas, optional_marks, item_marks, items_marks, order_marks, projection_marks, Fit, HasColumns, IsWellFormed, Each as EachOf}
 use Rattle.pg_meaning.specs.Parse as parse
-use Rattle.pg_meaning.specs.Parse.{Parser, ◌>>=◌, ◌>>◌, pure, maybe, sees_symbol, sees_keyword, is_symbol, is_keyword, eat_symbol, eat_keyword, start_of, star_of, many, comma_and, separated, ordering, projection, here}
+use Rattle.pg_meaning.specs.Parse.{Parser, ◌>>=◌, ◌>>◌, pure, maybe, sees_symbol, sees_keyword, is_symbol, is_keyword, eat_symbol, start_of, star_of, many, comma_and, separated, ordering, projection, here}
 use Rattle.pg_grammar.specs.Rules.{Exactly, Exact, ExpressionsOpen}
 use Rattle.pg_grammar.proofs.Combinators.{Marked, Fitting, Free, Items, AfterItems, fitting, restated, step, made, here_then, items_exact, further_exact, eat_symbol_exact, eat_keyword_exact, ending}
 use Rattle.pg_grammar.proofs.Conditions.{whole_exact}
@@ -40,10 +40,6 @@ from_skip p = optional_marks (keyed k.Skip) p.skip ++ from_limit p
 
 abbrev from_order : Projection → List Mark
 from_order p = order_marks p.order ++ from_skip p
-
--- where the star's place isn't said
-abbrev from_star : Projection → List Mark
-from_star p = flag (is_some p.star) (sign s.Star) ++ (column_marks (is_some p.star) p.items ++ from_order p)
 
 abbrev from_columns : Projection → List Mark
 from_columns p = items_marks p.star p.items ++ from_order p

@@ -16,14 +16,6 @@ both : (a b : Bool) → T a → T b → T (a && b)
 both true b p q = q
 both false b p q = p
 
-left : (a b : Bool) → T (a && b) → T a
-left true b h = tt
-left false b h = h
-
-right : (a b : Bool) → T (a && b) → T b
-right true b h = h
-right false b h = absurd h
-
 turned : {A : Type 0} (b : Bool) (o : Option A) → cond b None o ≡ cond (not b) o None
 turned true o = refl
 turned false o = refl

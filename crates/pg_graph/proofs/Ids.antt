@@ -33,9 +33,6 @@ is_less a b h = less a b (less_of (nat_cmp a b) h)
 same_number : (k : ℕ) → (k == k) ≡ true
 same_number k = grind (arith, nat_tests)
 
-not_above : (x k : ℕ) → x < k → (x == k) ≡ false
-not_above x k h = grind (arith, nat_tests)
-
 not_below : (x k : ℕ) → k < x → (x == k) ≡ false
 not_below x k h = grind (arith, nat_tests)
 

@@ -72,19 +72,6 @@ module _ {X : Type 0} where
         ∙ sym (get_inserted_other (without_ids m ids) k v q ne ∙ get_without m ids q)
   ])
 
-  both_none : (b : Bool) → cond {A = Option X} b None None ≡ None
-  both_none true = refl
-  both_none false = refl
-
-  pub without_removed : (m : FinMap nat_cmp X) (ids : Ids) (k : ℕ) → without_ids (map.remove m k) ids ≡ map.remove (without_ids m ids) k
-  without_removed m ids k = same_numbered _ _ (λ q. elim (cases_eq q k) [
-    | inl same ↦ subst (λ n. map.get (without_ids (map.remove m k) ids) n ≡ map.get (map.remove (without_ids m ids) k) n) (sym same)
-        (get_without (map.remove m k) ids k ∙ ap (cond (has_id ids k) None) (get_removed m k) ∙ both_none (has_id ids k) ∙ sym (get_removed (without_ids m ids) k))
-    | inr ne ↦
-        get_without (map.remove m k) ids q ∙ ap (cond (has_id ids q) None) (get_removed_other m k q ne)
-        ∙ sym (get_removed_other (without_ids m ids) k q ne ∙ get_without m ids q)
-  ])
-
   -- one id more in the set
   pub without_more : (m : FinMap nat_cmp X) (ids : Ids) (k : ℕ) → without_ids m (map.insert ids k tt) ≡ map.remove (without_ids m ids) k
   without_more m ids k = same_numbered _ _ (λ q. elim (cases_eq q k) [
@@ -187,16 +174,3 @@ none_where {X} p m h = each (map.entries m) (all_entries (λ k a. p a ≡ false)
     each : (es : List (ℕ × X)) → AllByRecursion (λ e. p e.1 ≡ false) es → ids_in p es ≡ []
     each [] all = refl
     each (e ∷ es) all = ap (λ b. map_list {B = ℕ} (λ (e : ℕ × X). e.0) (cond b (e ∷ filter (λ e. p e.1) es) (filter (λ e. p e.1) es))) all.0 ∙ each es all.1
-
--- each id of those that pass is there
-pub ids_there : {X : Type 0} (p : X → Bool) (m : FinMap nat_cmp X) → AllByRecursion (λ k. IsSome (map.get m k)) (ids_where p m)
-ids_there {X} p m = each (map.entries m) (all_entries (λ k a. IsSome (map.get m k)) m (λ k a h. ap is_some h))
-  where
-    each : (es : List (ℕ × X)) → AllByRecursion (λ e. IsSome (map.get m e.0)) es → AllByRecursion (λ k. IsSome (map.get m k)) (ids_in p es)
-    each [] all = tt
-    each (e ∷ es) all = by_test (p e.1) (each es all.1)
-      where
-        by_test : (b : Bool) → AllByRecursion (λ k. IsSome (map.get m k)) (ids_in p es)
-            → AllByRecursion (λ k. IsSome (map.get m k)) (map_list {B = ℕ} (λ (e : ℕ × X). e.0) (cond b (e ∷ filter (λ e. p e.1) es) (filter (λ e. p e.1) es)))
-        by_test true rest = (all.0, rest)
-        by_test false rest = rest

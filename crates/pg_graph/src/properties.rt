@@ -91,14 +91,6 @@ fn copy_entries(
 }
 
 impl Properties {
-    pub fn new(alloc: Global) -> Self
-        ensures { result ≡ map.empty }
-    {
-        Properties {
-            entries: Vec::new(alloc),
-        }
-    }
-
     /// No properties yet, with room for so many.
     pub fn with_capacity(alloc: Global, count: usize) -> Result<Self, AllocError>
         ensures { IfOk result (λ p. p ≡ map.empty) }

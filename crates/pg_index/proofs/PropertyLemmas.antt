@@ -88,15 +88,6 @@ module _ (old new : PropertyIndex) (value : Value) (id : ℕ) where
             absurd (cc)
       ]
 
--- a node has the label and a value under the key, or is not found
-pub found_labelled : (a : Bool) (b : Bool) → a ≡ true → (a && b) ≡ b
-found_labelled true b h = refl
-found_labelled false b h = absurd cc
-
-pub found_unlabelled : (a : Bool) (b : Bool) → a ≡ false → (a && b) ≡ false
-found_unlabelled true b h = absurd cc
-found_unlabelled false b h = refl
-
 -- ---- several indexes
 
 and_both : (a b : Bool) → a ≡ true → b ≡ true → (a && b) ≡ true

@@ -1,12 +1,9 @@
 -- What a body means, once it is known whether it is UTF-8.
-use Rattle.std.proofs.Common.{◌≡◌, ℕ, List, Bool, true, false, Option, Some, None, option_map, option_and_then, IfOk, cond, refl, sym}
+use Rattle.std.proofs.Common.{◌≡◌, ℕ, List, Bool, true, false, Option, None, option_and_then, cond, refl}
 use Rattle.std.specs.Str.{IsUtf8, is_utf8}
-use Rattle.std.specs.Option.{ok_or}
 use Rattle.std.proofs.lemmas.Str.{is_utf8-from_IsUtf8, IsUtf8-from_is_utf8}
 use Rattle.serde_json.specs.Read.{read}
-use Rattle.pg_json.specs.Bodies.{request_view}
-use Rattle.pg_json.specs.Requests.{Request, request_of, meaning}
-use Rattle.pg_json.specs.declared.request.RequestBody.{RequestBody}
+use Rattle.pg_json.specs.Requests.{request_of, meaning}
 
 pub meaning-utf8 : (body : List ℕ) → IsUtf8 body → meaning body ≡ option_and_then request_of (read body)
 unfolding meaning
@@ -19,8 +16,3 @@ none_unless false o h = refl
 pub meaning-not_utf8 : (body : List ℕ) → ¬ (IsUtf8 body) → meaning body ≡ None
 unfolding meaning
 meaning-not_utf8 body h = none_unless (is_utf8 body) _ (λ e. h (IsUtf8-from_is_utf8 body e))
-
--- what is found is the request that is meant
-pub found_is_meant : {E : Type 0} (m : Option Request) (found : Option RequestBody) (e : E) → option_map request_view found ≡ m → IfOk (ok_or found e) (λ r. m ≡ Some (request_view r))
-found_is_meant m None e h = tt
-found_is_meant m (Some r) e h = sym h

@@ -7,7 +7,7 @@ use Rattle.std.specs.Str.{bytes_eq}
 use Rattle.serde_json.specs.Data.{object, string, put}
 use Rattle.pg_meaning.specs.Value.{Entries}
 use Rattle.pg_json.proofs.Given.{parameters_back}
-use Rattle.pg_json.specs.Fields.{text_keys, members_of_fields, members_with, object_giving, parameters_of, HaveDepth, asked, asked_with}
+use Rattle.pg_json.specs.Fields.{text_keys, members_of_fields, members_with, parameters_of, HaveDepth, asked, asked_with}
 use Rattle.pg_json.specs.declared.fields.Fields.{Fields}
 use Rattle.pg_json.specs.Requests.{Request, request_of, is_one_of}
 
@@ -17,16 +17,6 @@ put_op s None None None (Some c) = refl
 put_op s None None (Some b) token = refl
 put_op s None (Some p) text token = refl
 put_op s (Some a) ps text token = refl
-
-pub put_params : (es : Entries) (op : Option (List ℕ)) (ps : Option Entries) (text token : Option (List ℕ)) → put (codes "params") (object_giving es) (members_of_fields op ps text token) ≡ members_of_fields op (Some es) text token
-put_params es None None None None = refl
-put_params es None None None (Some c) = refl
-put_params es None None (Some b) token = refl
-put_params es None (Some p) text token = refl
-put_params es (Some a) None None None = refl
-put_params es (Some a) None None (Some c) = refl
-put_params es (Some a) None (Some b) token = refl
-put_params es (Some a) (Some p) text token = refl
 
 pub put_text : (s : List ℕ) (op : Option (List ℕ)) (ps : Option Entries) (text token : Option (List ℕ)) → put (codes "text") (string s) (members_of_fields op ps text token) ≡ members_of_fields op ps (Some s) token
 put_text s None None None None = refl

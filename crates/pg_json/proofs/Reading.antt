@@ -102,10 +102,6 @@ pub one_more_item : (vs : List Value) (v : Value) (r : Option (Items × List Tok
 one_more_item vs v None = refl
 one_more_item vs v (Some p) = ap (λ ds. Some (ds, p.1)) (items_push vs v p.0)
 
-pub none_before : (r : Option (Items × List Token)) → r ≡ parse_map (λ a. a) r
-none_before None = refl
-none_before (Some p) = refl
-
 pub given_push : (n : ℕ) (vs : List Value) (v : Value) → AreGiven n (values_view vs) → IsGiven n (view v) → AreGiven n (values_view (vs ++ v ∷ []))
 given_push n [] v h g = (g, tt)
 given_push n (w ∷ vs) v h g = (h.0, given_push n vs v h.1 g)
@@ -120,11 +116,6 @@ whole_read o d e = let j = converted_some of_json o d [] e in ap whole j.1 ∙ j
 
 pub whole_and_more : (o : Option (json.Json × List Token)) (d : Data) (t : Token) (r : List Token) → converted of_json o ≡ Some (d, t ∷ r) → whole o ≡ None
 whole_and_more o d t r e = ap whole (converted_some of_json o d (t ∷ r) e).1
-
-pub whole_refused : (o : Option (json.Json × List Token)) → converted of_json o ≡ None → whole o ≡ None
-whole_refused None e = refl
-whole_refused (Some (j, [])) e = refused [] (of_json j) e
-whole_refused (Some (j, t ∷ r)) e = refl
 
 -- ---- the object that a whole text is
 

@@ -63,13 +63,6 @@ impl ReplyBytes {
             Body::Made(bytes) => bytes.as_slice(),
         }
     }
-
-    pub fn len(&self) -> usize
-        ensures value { result ≡ length self.now }
-        ensures within { result ≤ max_reply }
-    {
-        self.as_slice().len()
-    }
 }
 
 /// The reply to a request that is carried out and has nothing to tell. It takes no memory.

@@ -68,10 +68,6 @@ pub name_some : (t more : List ℕ) (o : Front (List ℕ)) → behind_text [] o 
 name_some t more None e h = absurd cc
 name_some t more (Some p) e h = name_by false t more p e (filled t h) ∙ e
 
-pub name_none : (o : Front (List ℕ)) → behind_text [] o ≡ None → behind_text [] (nonempty o) ≡ None
-name_none None e = refl
-name_none (Some p) e = absurd cc
-
 pub named_some : (f : List ℕ → Lexeme) (o : Front (List ℕ)) (t more : List ℕ) → behind_text [] (nonempty o) ≡ Some (t, more) → named f o ≡ Some (f t, more)
 named_some f None t more e = absurd cc
 named_some f (Some p) t more e = at (is_empty p.0) e

@@ -54,14 +54,6 @@ by_dollar false false false true g h = absurd cc
 by_dollar false false false false true h = (refl, refl, refl, refl, refl)
 by_dollar false false false false false h = absurd cc
 
-by_other : (b d e f g : Bool) → class_by b d e f g ≡ other → (b ≡ false) × (d ≡ false) × (e ≡ false) × (f ≡ false) × (g ≡ false)
-by_other true d e f g h = absurd cc
-by_other false true e f g h = absurd cc
-by_other false false true f g h = absurd cc
-by_other false false false true g h = absurd cc
-by_other false false false false true h = absurd cc
-by_other false false false false false h = (refl, refl, refl, refl, refl)
-
 pub letter_begins : (c : ℕ) → class c ≡ letter → begins_word c ≡ true
 letter_begins c h = by_letter (begins_word c) (is_digit c) (eqb c 96) (eqb c 39 || eqb c 34) (eqb c 36) h
 

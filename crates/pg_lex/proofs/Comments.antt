@@ -3,9 +3,6 @@ use Rattle.std.proofs.Common.{◌≡◌, ◌≢◌, ℕ, Bool, true, false, eqb,
 use Rattle.std.proofs.lemmas.Bool.{eqb-true, eqb-false}
 use Rattle.pg_meaning.specs.Tokens.{comment_from, Starts}
 
-abbrev found : List ℕ → Option (List ℕ)
-found more = Some more
-
 -- no star and slash stand in it
 abbrev pub NoEnd : List ℕ → Type 0
 NoEnd xs = (a b : List ℕ) → xs ≢ a ++ 42 ∷ 47 ∷ b

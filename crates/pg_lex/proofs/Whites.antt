@@ -57,9 +57,6 @@ white_8 c = white_7 c || eqb c 8239
 abbrev white_9 : ℕ → Bool
 white_9 c = white_8 c || eqb c 8287
 
-abbrev white_10 : ℕ → Bool
-white_10 c = white_9 c || eqb c 12288
-
 none : (c : ℕ) → is_whitespace c ≡ true → begins_none c ≡ true
 unfolding unicode_ident
 none c = (either (white_9 c) (eqb c 12288) (either (white_8 c) (eqb c 8287) (either (white_7 c) (eqb c 8239) (either (white_6 c) (eqb c 8233) (either (white_5 c) (eqb c 8232) (either (white_4 c) ((ltb 8191 c && ltb c 8203)) (either (white_3 c) (eqb c 5760) (either (white_2 c) (eqb c 160) (either (white_1 c) (eqb c 133) (either (white_0 c) (eqb c 32) (in_range c 9 5 refl) (at_code c 32 refl)) (at_code c 133 refl)) (at_code c 160 refl)) (at_code c 5760 refl)) (in_range c 8192 11 refl)) (at_code c 8232 refl)) (at_code c 8233 refl)) (at_code c 8239 refl)) (at_code c 8287 refl)) (at_code c 12288 refl))

@@ -19,7 +19,7 @@ impl Model for Room {
 }
 
 impl Room {
-    ghost use Rattle.std.specs.Prelude.{◌≡◌, ◌≤◌, ◌+◌, OnErr, OnOk};
+    ghost use Rattle.std.specs.Prelude.{◌≡◌, ◌+◌, OnErr, OnOk};
     ghost use Rattle.pg_meaning.specs.Graph.{Graph, element_count};
     ghost use Rattle.pg_meaning.specs.Meters.{Setting, test_room};
     ghost use Rattle.pg_meter.specs.Quotas.{Elements};
@@ -41,11 +41,5 @@ impl Room {
         }
         self.elements += 1;
         Ok(())
-    }
-
-    pub fn elements(&self) -> u64
-        ensures { result ≡ self.now.elements }
-    {
-        self.elements
     }
 }

@@ -35,11 +35,6 @@ of_and x [] h = absurd cc
 of_and x ((op.And, e) ∷ os) h = ap (λ es. x ∷ expression_view e ∷ es) (operands_are os)
 of_and x ((_, e) ∷ os) h = absurd cc
 
-pub of_others : (x : tree.Expression) (os : List (Operator × Code)) → is_and os ≡ false → conditions.conjuncts (tree.chain x (operands_of (map operand_view os))) ≡ tree.chain x (operands_of (map operand_view os)) ∷ []
-of_others x [] h = refl
-of_others x ((op.And, e) ∷ os) h = absurd cc
-of_others x ((_, e) ∷ os) h = refl
-
 -- ---- n.k
 
 pub pair_both : {a b : Option (List ℕ)} {n k : List ℕ} → Some n ≡ a → Some k ≡ b → Some (n, k) ≡ pair_of a b

@@ -5,7 +5,7 @@ use Rattle.pg_meaning.specs.Answer.{◌>>=◌}
 use Rattle.pg_meaning.specs.Conditions.{condition}
 use Rattle.pg_meaning.specs.Graph.{Graph}
 use Rattle.pg_meaning.specs.Meters.{Setting}
-use Rattle.pg_meaning.specs.Projections.{Projected, limited, passing_rows, skipped}
+use Rattle.pg_meaning.specs.Projections.{Projected, limited, passing_rows}
 use Rattle.pg_meaning.specs.Rows.{Row}
 use Rattle.pg_meaning.specs.Tree.{Expression}
 use Rattle.pg_meaning.specs.Value.{Value}
@@ -19,10 +19,6 @@ use Rattle.pg_project.specs.Parts.{stands}
 pub limited_map : {X Y : Type 0} (f : X → Y) (n : Option ℕ) (xs : List X) → limited n (map f xs) ≡ map f (limited n xs)
 limited_map f None xs = refl
 limited_map f (Some n) xs = take-map f n xs
-
-pub skipped_map : {X Y : Type 0} (f : X → Y) (n : Option ℕ) (xs : List X) → skipped n (map f xs) ≡ map f (skipped n xs)
-skipped_map f None xs = refl
-skipped_map f (Some n) xs = drop-map f n xs
 
 pub cut_map : {X Y : Type 0} (f : X → Y) (c : Cut) (xs : List X) → limited c.limit (drop c.skip (map f xs)) ≡ map f (limited c.limit (drop c.skip xs))
 cut_map f c xs = ap (limited c.limit) (drop-map f c.skip xs) ∙ limited_map f c.limit (drop c.skip xs)

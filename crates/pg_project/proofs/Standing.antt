@@ -21,10 +21,6 @@ no_pairs : {X Y : Type 0} (xs : List X) → zip {K = X} {X = Y} xs [] ≡ []
 no_pairs [] = refl
 no_pairs (x ∷ xs) = refl
 
-none_taken : {X : Type 0} (n : ℕ) → take {A = X} n [] ≡ []
-none_taken zero = refl
-none_taken (suc n) = refl
-
 none_dropped : {X : Type 0} (n : ℕ) → drop {A = X} n [] ≡ []
 none_dropped zero = refl
 none_dropped (suc n) = refl

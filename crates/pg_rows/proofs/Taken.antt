@@ -7,7 +7,7 @@ use Rattle.pg_value_core.specs.View.{view}
 use Rattle.pg_value_core.specs.declared.value.Value.{Value}
 use Rattle.pg_value_core.specs.declared.value.Value.TheVariants.{Null}
 use Rattle.pg_rows.proofs.Moved.{drop_at, rows_at, rows_set, length_nulls, seen_left, seen_moved}
-use Rattle.pg_rows.proofs.Tabled.{drop_drop, length_rows, row_within}
+use Rattle.pg_rows.proofs.Tabled.{drop_drop, length_rows}
 use Rattle.pg_rows.specs.Left.{first_row, rows_left}
 use Rattle.pg_rows.specs.Tables.{rows_of, table}
 use Rattle.pg_rows.specs.declared.left.RowsLeft.{RowsLeft}
@@ -34,9 +34,6 @@ row_taken w n p old vs row start h l r v none =
     taken w n p (map view old) h (length-map old view ∙ l)
     ∙ ap (λ us. us ∷ drop (p + 1) (rows_of w n (take (p * w) (map view old) ++ (replicate w null ++ drop (p * w + w) (map view old))))) (sym (ap (map view) (r ∙ ap (λ us. us ++ take w (drop (p * w) old)) none) ∙ seen_moved (p * w) w [] old))
     ∙ ap (λ us. map view row ∷ drop (p + 1) (rows_of w n us)) (sym (ap (map view) v ∙ seen_left (p * w) (p * w + w) w old))
-
-pub row_fits : (r : Rows) (p : ℕ) → p < r.count → p * r.width + r.width ≤ length r.values.items
-row_fits r p h = subst (λ n. p * r.width + r.width ≤ n) (sym r.sized) (row_within p r.count r.width h)
 
 pub none_left : (r : Rows) (at : ℕ) → r.count ≤ at → drop at (table r) ≡ []
 none_left r at h = drop_all at (table r) (subst (λ n. n ≤ at) (sym (length_rows r.width r.count (map view r.values.items))) h)

@@ -15,7 +15,7 @@ pub struct Rows {
 ghost use Rattle.std.specs.Prelude.{◌≡◌, ◌*◌, length};
 
 impl Rows {
-    ghost use Rattle.std.specs.Prelude.{◌≡◌, ◌<◌, ◌++◌, ◌∷◌, [], Some, map, length, slice_get, take, drop, OnOk, OnErr, IfOk};
+    ghost use Rattle.std.specs.Prelude.{◌≡◌, ◌<◌, ◌++◌, ◌∷◌, [], Some, map, length, slice_get, OnOk, OnErr, IfOk};
     ghost use Rattle.pg_value_core.specs.View.{view};
     ghost use Rattle.pg_rows.specs.Tables.{table, EachBelow, moved_rows};
 
@@ -97,26 +97,6 @@ impl Rows {
         &self.values[start..start + self.width]
     }
 
-    /// No rows, in the memory that there was.
-    pub fn clear(&mut self)
-        ensures rows { table self.new ≡ [] }
-        ensures width { self.new.width ≡ self.old.width }
-    {
-        self.values.clear();
-        self.count = 0;
-    }
-
-    /// At most the first rows.
-    pub fn truncate(&mut self, count: usize)
-        ensures rows { table self.new ≡ take count (table self.old) }
-        ensures width { self.new.width ≡ self.old.width }
-    {
-        if count < self.count {
-            self.values.truncate(count * self.width);
-            self.count = count;
-        }
-    }
-
     /// The rows of these places, in their order; each is moved, and leaves nulls.
     pub fn pick(&mut self, places: &[usize], alloc: Global) -> Result<Rows, AllocError>
         requires { EachBelow (length (table self.old)) places.now }
@@ -137,21 +117,5 @@ impl Rows {
             width: self.width,
             count: places.len(),
         })
-    }
-
-    /// Moves all rows of the other to the end.
-    pub fn append(&mut self, other: &mut Rows) -> Result<(), AllocError>
-        requires { other.old.width ≡ self.old.width }
-        ensures rows { OnOk result (table self.new ≡ table self.old ++ table other.old) }
-        ensures other { OnOk result (table other.new ≡ []) }
-        ensures width { self.new.width ≡ self.old.width }
-    {
-        let Some(count) = self.count.checked_add(other.count) else {
-            return Err(AllocError);
-        };
-        self.values.append(&mut other.values)?;
-        self.count = count;
-        other.count = 0;
-        Ok(())
     }
 }

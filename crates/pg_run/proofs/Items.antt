@@ -32,9 +32,6 @@ pub record ItemsSpelt (way : Way) (all rest : List Value) (found : List Out) : T
   pub shown : way.items (values_view all) ≡ outs_before found (way.items (values_view rest))
 
 module _ (way : Way) where
-  pub no_item_spelt : (all : List Value) → ItemsSpelt way all all []
-  no_item_spelt all = record { tests = refl; shown = refl }
-
   pub one_item_spelt : (all rest more : List Value) (found : List Out) (v : Value) (out : Out) → ItemsSpelt way all rest found → rest ≡ v ∷ more
       → way.test (view v) ≡ Ok tt → data_of out ≡ way.one (view v) → ItemsSpelt way all more (found ++ out ∷ [])
   one_item_spelt all rest more found v out so_far is live same = record {
@@ -69,9 +66,6 @@ pub record ItemsWithin (graph : Graph) (start room : ℕ) (all rest : List Value
   pub shown : room ≢ 0 → printed_items graph (values_view all) ≡ outs_before found (printed_items graph (values_view rest))
 
 module _ (graph : Graph) (start : ℕ) where
-  pub no_item_within : (all : List Value) → ItemsWithin graph start start all all []
-  no_item_within all = record { tests = refl; counted = refl; shown = λ some. refl }
-
   pub one_item_within : (room next : ℕ) (all rest more : List Value) (found : List Out) (v : Value) (out : Out) → ItemsWithin graph start room all rest found → rest ≡ v ∷ more
       → test_output graph (view v) ≡ Ok tt → next ≡ room - 1 - least (printed graph (view v)) → (next ≢ 0 → data_of out ≡ printed graph (view v)) → ItemsWithin graph start next all more (found ++ out ∷ [])
   one_item_within room next all rest more found v out so_far is live left same = record {

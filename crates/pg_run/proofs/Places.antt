@@ -46,9 +46,6 @@ module _ (graph : Graph) where
     pub counted : start - items_least (path_items graph all) ≡ room - items_least (shown_from is_node rest)
     pub shown : room ≢ 0 → path_items graph all ≡ outs_before found (shown_from is_node rest)
 
-  pub no_place_spelt : (start : ℕ) (all : List ℕ) → PlacesSpelt start start true all all []
-  no_place_spelt start all = record { tests = refl; counted = refl; shown = λ some. refl }
-
   module _ (start room : ℕ) where
     pub one_place_spelt : (next : ℕ) (is_node : Bool) (all rest more : List ℕ) (found : List Out) (n : ℕ) (out : Out) → PlacesSpelt start room is_node all rest found → rest ≡ n ∷ more
         → test_place graph is_node n ≡ Ok tt → next ≡ room - 1 - least (shown_place graph is_node n) → (next ≢ 0 → data_of out ≡ shown_place graph is_node n)

@@ -235,9 +235,6 @@ module _ (graph : Graph) (start : Telling) where
   all_values_told all rest t found so_far is columns rows h =
       subst (λ vs. IsTelling graph columns rows vs found t) (sym (so_far.parts ∙ ap (λ vs. so_far.done ++ vs) is ∙ nothing_behind so_far.done)) (so_far.telling columns rows h)
 
-  pub no_row_told : (all : List (List Value)) → RowsTold graph all all start start
-  no_row_told all = record { done = []; parts = refl; telling = λ columns h. h }
-
   pub one_row_told : (all rest more : List (List Value)) (t new : Telling) (values : List Value) → RowsTold graph all rest start t → rest ≡ values ∷ more
       → ((columns : Items) (rows : List (List Value)) → IsTelling graph columns rows [] [] t → IsTelling graph columns (rows ++ values ∷ []) [] [] new)
       → RowsTold graph all more start new

@@ -1,12 +1,11 @@
--- The two ways in which values are spelt out: over a graph, with a test of each element, and as they are stored.
+-- How values are spelt out where no element is tested: as they are stored.
 use Rattle.std.proofs.Common.{◌≡◌, ℕ, List, Result, Ok, refl}
 use Rattle.serde_json.specs.Data.{Data, Items, no_items, item, Members, no_members, member}
 use Rattle.pg_meaning.specs.Answer.{◌>>◌}
-use Rattle.pg_meaning.specs.Graph.{Graph}
-use Rattle.pg_meaning.specs.Queries.{test_output, test_items, test_entries}
+use Rattle.pg_meaning.specs.Queries.{test_items}
 use Rattle.pg_meaning.specs.Value.{Value, Values, no_items as no_values, item as value, Entries, no_entries, entry}
 use Rattle.pg_meaning.specs.declared.fault.Fault.{Fault}
-use Rattle.pg_run.specs.Printed.{printed, printed_items, printed_members, stored_data, stored_items, stored_members}
+use Rattle.pg_run.specs.Printed.{stored_data, stored_items, stored_members}
 
 pub record Way : Type 0 where
   pub one : Value → Data
@@ -23,24 +22,6 @@ pub record Way : Type 0 where
   pub test_items_more : (v : Value) (vs : Values) → test_items (value v vs) ≡ (test v >> test_items vs)
   pub test_members_end : test_members no_entries ≡ Ok tt
   pub test_members_more : (k : List ℕ) (v : Value) (es : Entries) → test_members (entry k v es) ≡ (test v >> test_members es)
-
-abbrev pub over : Graph → Way
-over graph = record {
-  one = printed graph;
-  items = printed_items graph;
-  members = printed_members graph;
-  test = test_output graph;
-  test_items = test_items graph;
-  test_members = test_entries graph;
-  items_end = refl;
-  items_more = λ v vs. refl;
-  members_end = refl;
-  members_more = λ k v es. refl;
-  test_items_end = refl;
-  test_items_more = λ v vs. refl;
-  test_members_end = refl;
-  test_members_more = λ k v es. refl;
-}
 
 abbrev pub as_stored : Way
 as_stored = record {

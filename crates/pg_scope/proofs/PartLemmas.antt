@@ -52,9 +52,6 @@ parts_same mode outer u v (x ∷ xs) s =
 
 -- ---- walks
 
-pub passes_none : {mode : Mode} {outer : Names} {u : Used} {first : Option Found} → Passes mode outer [] u first u first
-passes_none = record { is = λ rest. refl }
-
 pub passes_in_turn : {mode : Mode} {outer : Names} {u v w : Used} {first next last : Option Found} {xs ys : List Part} → Passes mode outer xs u first v next → Passes mode outer ys v next w last
     → Passes mode outer (xs ++ ys) u first w last
 passes_in_turn {mode} {outer} {u} {v} {w} {first} {next} {last} {xs} {ys} g h = record {

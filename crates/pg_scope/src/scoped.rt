@@ -13,12 +13,6 @@ pub struct Scoped {
 }
 
 impl Scoped {
-    pub fn query(&self) -> &Query
-        ensures { result.now ≡ self.now.query }
-    {
-        &self.query
-    }
-
     pub fn into_query(self) -> Query
         ensures { result ≡ self.query }
     {

@@ -20,9 +20,6 @@ json-utf8 bytes h = rw (is_utf8-from_IsUtf8 bytes h)
 pub configuration-not_utf8 : (bytes : List ℕ) → ¬ (IsUtf8 bytes) → configuration bytes ≡ Err NotJson
 configuration-not_utf8 bytes h = ap (λ j. then_read (or_fault NotJson j) settings_of_data) (none_unless (is_utf8 bytes) _ (λ e. h (IsUtf8-from_is_utf8 bytes e)))
 
-pub configuration-not_json : (bytes : List ℕ) → IsUtf8 bytes → read bytes ≡ None → configuration bytes ≡ Err NotJson
-configuration-not_json bytes h none = ap (λ j. then_read (or_fault NotJson j) settings_of_data) (json-utf8 bytes h ∙ none)
-
 pub configuration-json : (bytes : List ℕ) (d : Data) → IsUtf8 bytes → read bytes ≡ Some d → configuration bytes ≡ settings_of_data d
 configuration-json bytes d h found = ap (λ j. then_read (or_fault NotJson j) settings_of_data) (json-utf8 bytes h ∙ found)
 

@@ -7,7 +7,7 @@ use Rattle.pg_cache.specs.Cache.{CacheSeen, Key}
 use Rattle.pg_json.specs.Refusals.{refusal_text}
 use Rattle.pg_json.specs.Requests.{Request, meaning}
 use Rattle.pg_meaning.specs.declared.fault.Fault.{Fault}
-use Rattle.pg_meaning.specs.declared.fault.Fault.TheVariants.{BadRequest, FrameTooLong, OutOfMemory}
+use Rattle.pg_meaning.specs.declared.fault.Fault.TheVariants.{BadRequest, OutOfMemory}
 use Rattle.pg_server.specs.Handles.{AddsNames, Handles, LooksUp, key_asked}
 use Rattle.pg_server.specs.Runs.{Means, asked, is_short, is_want_of_memory}
 use Rattle.pg_server.specs.Settings.{all_tokens}
@@ -15,7 +15,7 @@ use Rattle.pg_server.specs.State.{ServerState, settings_of, state_at}
 use Rattle.pg_server.specs.Step.{Answers}
 use Rattle.pg_server.proofs.LookUpLemmas.{capacity_kept}
 use Rattle.pg_server.proofs.NameLemmas.{names_stay}
-use Rattle.pg_server.proofs.StepLemmas.{answered, asked_is, too_long, unread}
+use Rattle.pg_server.proofs.StepLemmas.{answered, asked_is, unread}
 use Rattle.pg_value.specs.Texts.{comes_again}
 
 -- a request that was read
@@ -45,13 +45,3 @@ handled_unread server body reply e short told kind none = record { run = unread 
         let other : e ≢ OutOfMemory = λ same. true≢false (sym ((bytes_eq-Decides reply (refusal_text OutOfMemory)).1 (told ∙ ap refusal_text same)) ∙ is) in
         let nothing : asked body ≡ None = ap (λ b. cond b (meaning body) None) short ∙ none other in
         subst (λ r. LooksUp (option_and_then (key_asked server.tenants) r) reply server.cache server.cache) (sym nothing) refl
-
--- a body that is too long
-pub handled_too_long : (server : ServerState) (body reply : List ℕ) → is_short body ≡ false → reply ≡ refusal_text FrameTooLong → Handles server body reply server
-handled_too_long server body reply long told =
-    let nothing : asked body ≡ None = ap (λ b. cond b (meaning body) None) long in
-    record {
-      run = too_long server body reply long told;
-      cache = subst (λ r. LooksUp (option_and_then (key_asked server.tenants) r) reply server.cache server.cache) (sym nothing) refl;
-      names = names_stay reply server.names;
-    }

@@ -48,10 +48,6 @@ module _ (t : ℕ) (tenants : List State) (token text : List ℕ) (parameters : 
   pub no_key : (e : Fault) → tested_length text ≡ Err e → key_at t tenants (query token text parameters) ≡ None
   no_key e h = ap key (stopped (nat_le (length text) greatest_text) e h)
 
-  -- a text that is too long is looked up nowhere
-  pub not_looked_up : (e : Fault) (reply : List ℕ) (old new : CacheSeen) → tested_length text ≡ Err e → new ≡ old → LooksUp (key_at t tenants (query token text parameters)) reply old new
-  not_looked_up e reply old new h same = subst (λ k. LooksUp k reply old new) (sym (no_key e h)) same
-
   pub looked_up : (reply : List ℕ) (old new : CacheSeen) → tested_length text ≡ Ok tt → IsLookUp old new (text, (state_in tenants t).indexes) ⊎ ((reply ≡ refusal_text OutOfMemory) × (new ≡ old))
       → LooksUp (key_at t tenants (query token text parameters)) reply old new
   looked_up reply old new h did = subst (λ k. LooksUp k reply old new) (sym (a_key h)) did

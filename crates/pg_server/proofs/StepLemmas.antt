@@ -1,5 +1,5 @@
 -- One request is a run of one exchange.
-use Rattle.std.proofs.Common.{◌≡◌, ◌≢◌, ℕ, ◌<◌, List, [], ◌∷◌, Bool, true, false, cond, length, arith, get_or, Option, Some, None, Err, refl, sym, ap, ◌∙◌, subst, inl, inr}
+use Rattle.std.proofs.Common.{◌≡◌, ◌≢◌, ℕ, ◌<◌, List, [], ◌∷◌, Bool, true, false, cond, length, arith, get_or, Option, Some, None, refl, sym, ap, ◌∙◌, subst, inl, inr}
 use Rattle.std.specs.Prelude.{◌&&◌, not, nat_eq, position, slice_set}
 use Rattle.std.proofs.Math.Seq.{map-set_same}
 use Rattle.std.proofs.lemmas.Bool.Decides.{Decides-eqb, not_from_Decides}
@@ -13,7 +13,7 @@ use Rattle.pg_json.specs.Refusals.{refusal_text}
 use Rattle.pg_json.specs.Requests.{Request, query, status, create_index, drop_index, meaning}
 use Rattle.pg_meaning.specs.Graph.{IsGraph}
 use Rattle.pg_meaning.specs.declared.fault.Fault.{Fault}
-use Rattle.pg_meaning.specs.declared.fault.Fault.TheVariants.{FrameTooLong, BadRequest, UnknownToken, OutOfMemory}
+use Rattle.pg_meaning.specs.declared.fault.Fault.TheVariants.{BadRequest, UnknownToken, OutOfMemory}
 use Rattle.pg_server.specs.Exchange.{Exchange}
 use Rattle.pg_server.specs.Runs.{Runs, SoloRun, Means, IsStrangers, IsStrangersReply, own, asked, token_of, shows_one_of, is_short, is_want_of_memory, fault_of_request}
 use Rattle.pg_meaning.specs.Names.{is_among}
@@ -21,7 +21,7 @@ use Rattle.pg_value.specs.Texts.{comes_again}
 use Rattle.pg_server.specs.Settings.{all_tokens, token_texts}
 use Rattle.pg_server.specs.Solo.{solo}
 use Rattle.pg_server.specs.State.{State, ServerState, state_at, tokens_of, settings_of, no_state, no_settings}
-use Rattle.pg_server.specs.Step.{Answers, RepliesAt, StepAt, place_of}
+use Rattle.pg_server.specs.Step.{Answers, StepAt, place_of}
 use Rattle.pg_server.proofs.DistinctLemmas.{others_lack}
 use Rattle.pg_server.proofs.ReplyLemmas.{settings_stay, refused_keeps}
 use Rattle.pg_server.proofs.RunLemmas.{settings_at}
@@ -165,24 +165,6 @@ unread server body reply e short told kind none = by_memory (is_want_of_memory r
         let nothing : asked body ≡ None = ap (λ b. cond b (meaning body) None) short ∙ none other in
         left_alone server body reply (λ _. (λ long. cc, λ _. inl (told ∙ ap refusal_text (kind other) ∙ ap (λ r. refusal_text (fault_of_request r)) (sym (none other)))))
         (λ t. ap (λ r. shows_one_of (tokens_of (state_at server t)) r && not (is_want_of_memory reply)) nothing)
-
--- a body that is too long
-pub too_long : (server : ServerState) (body reply : List ℕ) → is_short body ≡ false → reply ≡ refusal_text FrameTooLong → Runs server (record { body = body; reply = reply } ∷ []) server
-too_long server body reply long told =
-    let nothing : asked body ≡ None = ap (λ b. cond b (meaning body) None) long in
-    left_alone server body reply (λ _. (λ _. told, λ short. absurd (true≢false (sym short ∙ long))))
-    (λ t. ap (λ r. shows_one_of (tokens_of (state_at server t)) r && not (is_want_of_memory reply)) nothing)
-
--- a tenant that refuses a request is as it was
-pub refused_step : (t : ℕ) (old new : List State) (request : Request) (e : Fault) → RepliesAt t old request (Err e) new → StepAt (Some t) old request (refusal_text e) new
-refused_step t old new request e step = by_memory (is_want_of_memory (refusal_text e)) refl
-  where
-    by_memory : (b : Bool) → is_want_of_memory (refusal_text e) ≡ b → StepAt (Some t) old request (refusal_text e) new
-    by_memory true is = inl ((bytes_eq-Decides (refusal_text e) (refusal_text OutOfMemory)).0 is, step.0)
-    by_memory false is =
-        let other : e ≢ OutOfMemory = λ same. true≢false (sym ((bytes_eq-Decides (refusal_text e) (refusal_text OutOfMemory)).1 (ap refusal_text same)) ∙ is) in
-        let told = step.1 other in
-        inr (told.0, step.0 ∙ sym (ap (slice_set old t) told.1 ∙ set-get_or old t no_state))
 
 -- a tenant that is found is one of them
 pub place_below : (token : List ℕ) (tenants : List State) (t : ℕ) → place_of token tenants ≡ Some t → t < length tenants

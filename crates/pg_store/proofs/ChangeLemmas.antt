@@ -98,9 +98,6 @@ module _ {T S : Type 0} (seen : Seen T S) where
     pub grown_fit : Grows (has_in store.sets) (has_in sets) → IsFit seen with_sets shared
     grown_fit grows = record { fits = fit.fits; well = fit.well; journal = fit.journal; covered = grown_covered (has_in store.sets) (has_in sets) grows store.journal.items (state_of seen store shared) fit.covered }
 
-    pub grown_marks : KeepsMarks seen store shared with_sets shared
-    grown_marks = marks_alike store with_sets shared shared refl refl refl
-
   -- names that grew
   module _ {K : Type 0} (store : Store T) (shared : Shared S K) (names : List (List ℕ)) (keeps : KeepsNames shared.names names) (fit : IsFit seen store shared) where
     abbrev pub renamed : Shared S K

@@ -27,10 +27,6 @@ module _ (names : List (List ℕ)) where
       let rest = can_undo_pop es e s h.2 in
       (rest.0, rest.1, (subst (CanUndoOne x) (undone_last es e s) h.0, subst (λ (t : State). IsWell names (undo_one x t)) (undone_last es e s) h.1, rest.2))
 
-  pub well_then : (es : List Entry) (s : State) → IsWell names s → CanUndo names es s → IsWell names (undone es s)
-  well_then [] s well h = well
-  well_then (e ∷ es) s well h = h.1
-
   pub can_undo_drop : (n : ℕ) (es : List Entry) (s : State) → CanUndo names es s → CanUndo names (drop n es) s
   can_undo_drop zero es s h = h
   can_undo_drop (suc n) [] s h = tt

@@ -1,5 +1,5 @@
 //! The nodes of a graph, one after the other.
-ghost use Rattle.std.specs.Prelude.{◌≡◌, ◌∷◌, [], map as map_list, IfSome, IfNone, IfOk};
+ghost use Rattle.std.specs.Prelude.{◌≡◌, ◌∷◌, [], IfSome, IfNone};
 ghost use Rattle.pg_meaning.specs.Graph.{ids_of, nodes_with_label};
 ghost use Rattle.pg_meaning.specs.Walks.{with_value};
 ghost use Rattle.pg_store.specs.Stores.{graph_of_store, IsFit};
@@ -10,7 +10,6 @@ use crate::store::Store;
 use crate::wanted::{Wanted, is_sought};
 use pg_graph::Tables;
 use pg_value_core::{NodeId, Value};
-use std::alloc::{AllocError, Global};
 use std::collections::btree_map::Keys;
 use std::marker::Model;
 
@@ -49,17 +48,6 @@ impl<'a, T: Tables> Nodes<'a, T> {
             }
         }
         None
-    }
-
-    /// All ids that are still to come.
-    pub fn collect(mut self, alloc: Global) -> Result<Vec<NodeId>, AllocError>
-        ensures { IfOk result (λ ids. map_list (λ id. id.0) ids.items ≡ self.entry) }
-    {
-        let mut ids = Vec::new(alloc);
-        while let Some(id) = self.next() {
-            ids.push(id)?;
-        }
-        Ok(ids)
     }
 }
 

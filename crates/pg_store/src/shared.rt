@@ -23,16 +23,4 @@ impl<X: SharedPart> Shared<X> {
         let names = Names::new(alloc);
         Shared { names, tables }
     }
-
-    pub fn names(&self) -> &Names<X::Texts>
-        ensures { result.now ≡ self.now.names }
-    {
-        &self.names
-    }
-
-    pub fn tables(&self) -> &X
-        ensures { result.now ≡ self.now.tables }
-    {
-        &self.tables
-    }
 }

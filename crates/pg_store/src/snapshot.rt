@@ -1,7 +1,6 @@
 //! A store lent with the part that all tenants share, to read: seen as its graph.
 ghost use Rattle.std.specs.Option.{option_map};
-ghost use Rattle.std.specs.Prelude.{◌≡◌, ◌<◌, ◌^◌, true, map as map_list, IfOk};
-ghost use Rattle.pg_graph.specs.Stored.{has_label, property_at, rel_property_at};
+ghost use Rattle.std.specs.Prelude.{◌≡◌, ◌<◌, ◌^◌, true, IfOk};
 ghost use Rattle.pg_meaning.specs.Graph.{both, element_count, has_node, has_relationship, ids_of, incident, incoming, node_at, nodes_with_label, outgoing, relationship_at};
 ghost use Rattle.pg_meaning.specs.Walks.{with_value};
 ghost use Rattle.pg_store.specs.Stores.{graph_of_store, IsFit, node_texts_view, rel_texts_view};
@@ -96,30 +95,6 @@ impl<'a, T: Tables> Snapshot<'a, T> {
         self.store.rel_view(self.shared, id)
     }
 
-    /// Whether there is a node of this id with the label.
-    pub fn has_label(&self, id: NodeId, label: &str) -> bool
-        ensures { result ≡ has_label self.now id.0 label.now }
-    {
-        match self.node(id) {
-            Some(node) => node.has_label(label),
-            None => false,
-        }
-    }
-
-    /// What a node has under a key, if there is such a node.
-    pub fn property(&self, id: NodeId, key: &str) -> Option<&'a Value>
-        ensures { option_map (λ v. view v.now) result ≡ property_at self.now id.0 key.now }
-    {
-        self.node(id)?.property(key)
-    }
-
-    /// What a relationship has under a key, if there is such a relationship.
-    pub fn rel_property(&self, id: RelId, key: &str) -> Option<&'a Value>
-        ensures { option_map (λ v. view v.now) result ≡ rel_property_at self.now id.0 key.now }
-    {
-        self.rel(id)?.property(key)
-    }
-
     /// What a node holds, if there is such a node.
     pub fn node_texts(&self, alloc: Global, id: NodeId) -> Result<Option<NodeTexts>, AllocError>
         ensures { IfOk result (λ found. option_map node_texts_view found ≡ node_at self.now id.0) }
@@ -138,20 +113,6 @@ impl<'a, T: Tables> Snapshot<'a, T> {
             Some(rel) => Ok(Some(rel.texts(alloc)?)),
             None => Ok(None),
         }
-    }
-
-    /// The ids of all nodes, rising.
-    pub fn node_ids(&self, alloc: Global) -> Result<Vec<NodeId>, AllocError>
-        ensures { IfOk result (λ ids. map_list (λ id. id.0) ids.items ≡ ids_of self.now.nodes) }
-    {
-        self.nodes().collect(alloc)
-    }
-
-    /// The ids of the nodes with a label, rising.
-    pub fn nodes_with_label(&self, alloc: Global, label: &str) -> Result<Vec<NodeId>, AllocError>
-        ensures { IfOk result (λ ids. map_list (λ id. id.0) ids.items ≡ nodes_with_label self.now label.now) }
-    {
-        self.nodes_labelled(label).collect(alloc)
     }
 
     /// The nodes, ids rising.

@@ -158,11 +158,6 @@ module _ (text : List ℕ) (whole : Parser Expression) where
   with_less : Shrinks whole → (ts us : List Token) (c : Clause) → with_clause text whole ts ≡ Some (c, us) → length us < length ts
   with_less h ts us c e = (with_eats text h).left ts us c e
 
-  pub with_fails : (o : Outcome (List Clause)) (found : List Clause) (updates : Bool) (ts : List Token) → LeftParts o found updates ts → sees_keyword k.With ts ≡ true → with_clause text whole ts ≡ None → o ≡ None
-  with_fails o found updates ts left seen e =
-      let go = λ (r : Outcome Clause). and_then r (λ d. onward left.turns (found ++ d ∷ [])) in
-      left.is ∙ ap (λ (b : Bool). pick b (go (with_clause text whole ts)) (last text whole found updates ts)) seen ∙ ap go e
-
   pub next_read : Shrinks whole → (o : Outcome (List Clause)) (found more next : List Clause) (updates writes : Bool) (ts us vs : List Token) (c : Clause) → LeftParts o found updates ts → sees_keyword k.With ts ≡ true → with_clause text whole ts ≡ Some (c, us)
       → more ≡ found ++ c ∷ [] → part whole more us ≡ Some ((next, writes), vs) → LeftParts o next writes vs
   next_read h o found more next updates writes ts us vs c left seen e is p =
@@ -180,7 +175,3 @@ module _ (text : List ℕ) (whole : Parser Expression) where
       let one = with_less h ts us c e in
       let two = (part_shrinks h found).left us vs (next, writes) p in
       omega arith
-
-  pub parts_end : (o : Outcome (List Clause)) (found : List Clause) (updates : Bool) (ts : List Token) → LeftParts o found updates ts → sees_keyword k.With ts ≡ false → o ≡ last text whole found updates ts
-  parts_end o found updates ts left unseen =
-      left.is ∙ ap (λ (b : Bool). pick b (and_then (with_clause text whole ts) (λ d. onward left.turns (found ++ d ∷ []))) (last text whole found updates ts)) unseen

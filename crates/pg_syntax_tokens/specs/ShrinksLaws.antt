@@ -5,7 +5,7 @@ use Rattle.pg_meaning.specs.declared.lexemes.Symbol.{Symbol}
 use Rattle.pg_meaning.specs.declared.lexemes.Symbol.TheVariants as s
 use Rattle.pg_meaning.specs.Tokens.{Token, Lexeme}
 use Rattle.pg_meaning.specs.Parse as parse
-use Rattle.pg_meaning.specs.Parse.{Parser, Outcome, Test, and_then, ◌>>=◌, ◌>>◌, ◌<$>◌, pure, refuse, branch, sees, rest, eat, expect, token, with_rest, many_from, many, maybe, comma_and, separated, sees_symbol}
+use Rattle.pg_meaning.specs.Parse.{Parser, Test, ◌>>=◌, ◌>>◌, ◌<$>◌, pure, refuse, branch, sees, rest, eat, expect, token, with_rest, many_from, many, maybe, comma_and, separated, sees_symbol}
 use Rattle.pg_grammar.proofs.Generic.{some, same_some, chosen, bind_some}
 use Rattle.pg_syntax_tokens.specs.Shrinks.{Shrinks, Eats}
 
@@ -14,9 +14,6 @@ eats_shrinks h = record { left = λ ts us x e. let less = h.left ts us x e in om
 
 pub pure_shrinks : {A : Type 0} (a : A) → Shrinks (pure a)
 pure_shrinks a = record { left = λ ts us x e. let same = same_some a x ts us e in omega (arith, ap length same.1) }
-
-pub refuse_eats : {A : Type 0} → Eats (refuse {A = A})
-refuse_eats = record { left = λ ts us x e. absurd cc }
 
 pub refuse_shrinks : {A : Type 0} → Shrinks (refuse {A = A})
 refuse_shrinks = record { left = λ ts us x e. absurd cc }
@@ -39,9 +36,6 @@ branch_eats {A} b {p} {q} h g = record { left = λ ts us x e. elim (chosen (b ts
 
 pub mapped_shrinks : {A B : Type 0} (f : A → B) {p : Parser A} → Shrinks p → Shrinks (f <$> p)
 mapped_shrinks f h = bind_shrinks h (λ x. pure_shrinks (f x))
-
-pub mapped_eats : {A B : Type 0} (f : A → B) {p : Parser A} → Eats p → Eats (f <$> p)
-mapped_eats f h = bind_eats h (λ x. pure_shrinks (f x))
 
 -- ---- one token
 

@@ -3,5 +3,4 @@ mod FinishedLemmas
 mod IndexLemmas
 pub mod OutcomeLemmas
 mod RepliedLemmas
-pub mod ReplyLemmas
 mod SettledLemmas

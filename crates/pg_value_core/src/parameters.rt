@@ -2,12 +2,10 @@
 ghost use Rattle.std.specs.Prelude.{◌≡◌};
 ghost use Rattle.std.specs.Option.{option_map};
 ghost use Rattle.pg_meaning.specs.Entries.{at_key};
-ghost use Rattle.pg_meaning.specs.Value.{no_entries};
 ghost use Rattle.pg_value_core.specs.Given.{parameters_view};
 ghost use Rattle.pg_value_core.specs.View.{view, entries_view};
 
 use crate::value::Value;
-use std::alloc::Global;
 use std::collections::BTreeMap;
 
 /// Values under the names by which a query's text asks for them.
@@ -17,14 +15,6 @@ pub struct Parameters {
 }
 
 impl Parameters {
-    pub fn new(alloc: Global) -> Self
-        ensures { parameters_view result ≡ no_entries }
-    {
-        Parameters {
-            values: BTreeMap::new(alloc),
-        }
-    }
-
     /// The values of a map, in its own memory.
     pub fn from_map(values: BTreeMap<String, Value>) -> Self
         ensures { parameters_view result ≡ entries_view values.entries }

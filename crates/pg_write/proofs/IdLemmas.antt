@@ -17,9 +17,6 @@ use Rattle.pg_write.specs.Gathered.{put_live, put_all, Rises}
 
 -- ---- members
 
-apart_below : (m n : ℕ) → m < n → (m == n) ≡ false
-apart_below m n h = grind (arith, nat_tests)
-
 apart_above : (m n : ℕ) → n < m → (m == n) ≡ false
 apart_above m n h = grind (arith, nat_tests)
 

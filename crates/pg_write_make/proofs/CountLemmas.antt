@@ -35,12 +35,6 @@ count_alike xs ys (p ∷ ns) e = by_case (λ vs ws same. count_alike vs ws ns sa
         ap (λ b. elim b [ true ↦ count_nodes xs ns | false ↦ 1 + count_nodes (name ∷ xs) ns ]) (e name)
         ∙ by_test rest name (is_among ys name)
 
-or_turned : (a b : Bool) → (a || b) ≡ (b || a)
-or_turned true true = refl
-or_turned true false = refl
-or_turned false true = refl
-or_turned false false = refl
-
 or_both : (a b c : Bool) → (a || (b || c)) ≡ ((b || (a || c)))
 or_both true true c = refl
 or_both true false c = refl

@@ -1,6 +1,6 @@
 -- The names that whole trails bind are those of the paths.
 use Rattle.std.proofs.Common.{◌≡◌, ◌≤◌, ◌+◌, ℕ, List, [], ◌∷◌, ◌++◌, map, flat_map, length, take, Option, Some, None, Ok, refl, sym, ap, subst, ◌∙◌, arith}
-use Rattle.std.proofs.lemmas.List.{length-append, length-map}
+use Rattle.std.proofs.lemmas.List.{length-map}
 use Rattle.std.proofs.Math.Seq.{take-append_seam}
 use Rattle.pg_meaning.specs.Graph.{Graph}
 use Rattle.pg_meaning.specs.Meters.{Setting}
@@ -108,9 +108,3 @@ pub first_kept : (ps : List PathPattern) (names after : List (List ℕ)) → aft
 first_kept ps names after is =
     let e = more_names ps names in
     ap (take (length names)) (is ∙ e.1) ∙ take-append_seam names e.0
-
-pub not_fewer : (ps : List PathPattern) (names after : List (List ℕ)) → after ≡ add_path_names ps names → length names ≤ length after
-not_fewer ps names after is =
-    let e = more_names ps names in
-    let all : length after ≡ length names + length e.0 = ap length (is ∙ e.1) ∙ length-append names e.0 in
-    omega (arith, all)

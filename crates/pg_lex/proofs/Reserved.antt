@@ -75,25 +75,14 @@ worded_word (c ∷ cs) w more e =
     let h = same_pair (utf8 (word_at c cs)) w (after continues_word cs) more e in
     ap (λ (o : Option Keyword). both (worded (utf8 (word_at c cs)) o) (after continues_word cs)) (sym (keyword_same (word_at c cs))) ∙ rw (h.0, h.1) refl
 
--- ---- keywords that a word is not
+-- ---- one keyword and those behind it
 
-abbrev AreOthers : List (List ℕ × Keyword) → List ℕ → Type 0
-AreOthers [] w = Unit {0}
-AreOthers (p ∷ ps) w = (w ≡ map to_ascii_lowercase p.0 → ⊥) × AreOthers ps w
+pub found : (k w : List ℕ) (x : Keyword) (ps : List (List ℕ × Keyword)) → w ≡ k → keyword_among ((k, x) ∷ ps) w ≡ Some x
+found k w x ps e = ap (λ t. pick t x (keyword_among ps w)) ((bytes_eq-Decides k w).1 (sym e))
 
-abbrev are_lower : List (List ℕ × Keyword) → Bool
-are_lower [] = true
-are_lower (p ∷ ps) = bytes_eq (map to_ascii_lowercase p.0) p.0 && are_lower ps
-
-passed_one : (p : List ℕ × Keyword) (w : List ℕ) (o : Option Keyword) → bytes_eq (map to_ascii_lowercase p.0) p.0 ≡ true → (w ≡ map to_ascii_lowercase p.0 → ⊥) → pick (bytes_eq p.0 w) p.1 o ≡ o
-passed_one p w o low other = at (bytes_eq p.0 w) refl
+pub passed : (k w : List ℕ) (x : Keyword) (ps : List (List ℕ × Keyword)) → (w ≡ k → ⊥) → keyword_among ((k, x) ∷ ps) w ≡ keyword_among ps w
+passed k w x ps other = at (bytes_eq k w) refl
   where
-    at : (x : Bool) → bytes_eq p.0 w ≡ x → pick x p.1 o ≡ o
-    at true e = absurd (other (sym ((bytes_eq-Decides p.0 w).0 e) ∙ sym ((bytes_eq-Decides (map to_ascii_lowercase p.0) p.0).0 low)))
+    at : (t : Bool) → bytes_eq k w ≡ t → pick t x (keyword_among ps w) ≡ keyword_among ps w
+    at true e = absurd (other (sym ((bytes_eq-Decides k w).0 e)))
     at false e = refl
-
-pub passed_by : (ps rest : List (List ℕ × Keyword)) (w : List ℕ) → AreOthers ps w → are_lower ps ≡ true → keyword_among (ps ++ rest) w ≡ keyword_among rest w
-passed_by [] rest w h low = refl
-passed_by (p ∷ ps) rest w h low =
-    let a = and_parts (bytes_eq (map to_ascii_lowercase p.0) p.0) (are_lower ps) low in
-    passed_one p w (keyword_among (ps ++ rest) w) a.0 h.0 ∙ passed_by ps rest w h.1 a.1

@@ -1,4 +1,3 @@
-pub mod Keywords
 pub mod Scans
 pub mod Turns
 pub mod View

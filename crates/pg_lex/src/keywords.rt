@@ -1,153 +1,70 @@
 //! Which words are reserved.
 
-ghost use Rattle.std.specs.Prelude.{◌≡◌};
+ghost use Rattle.std.specs.Prelude.{◌≡◌, map};
+ghost use Rattle.std.specs.Str.{str_to_ascii_lowercase};
 ghost use Rattle.pg_meaning.specs.Tokens as spec;
-ghost use Rattle.pg_lex.specs.Keywords as part;
 
 use pg_meaning::Keyword;
+
+const KEYWORDS: [(&str, Keyword); 40] = [
+    ("and", Keyword::And),
+    ("as", Keyword::As),
+    ("asc", Keyword::Asc),
+    ("ascending", Keyword::Ascending),
+    ("by", Keyword::By),
+    ("case", Keyword::Case),
+    ("contains", Keyword::Contains),
+    ("create", Keyword::Create),
+    ("delete", Keyword::Delete),
+    ("desc", Keyword::Desc),
+    ("descending", Keyword::Descending),
+    ("detach", Keyword::Detach),
+    ("distinct", Keyword::Distinct),
+    ("else", Keyword::Else),
+    ("end", Keyword::End),
+    ("ends", Keyword::Ends),
+    ("false", Keyword::False),
+    ("in", Keyword::In),
+    ("is", Keyword::Is),
+    ("limit", Keyword::Limit),
+    ("match", Keyword::Match),
+    ("merge", Keyword::Merge),
+    ("not", Keyword::Not),
+    ("null", Keyword::Null),
+    ("on", Keyword::On),
+    ("optional", Keyword::Optional),
+    ("or", Keyword::Or),
+    ("order", Keyword::Order),
+    ("remove", Keyword::Remove),
+    ("return", Keyword::Return),
+    ("set", Keyword::Set),
+    ("skip", Keyword::Skip),
+    ("starts", Keyword::Starts),
+    ("then", Keyword::Then),
+    ("true", Keyword::True),
+    ("unwind", Keyword::Unwind),
+    ("when", Keyword::When),
+    ("where", Keyword::Where),
+    ("with", Keyword::With),
+    ("xor", Keyword::Xor),
+];
+
+/// The keyword of those that a word is, whatever the ASCII case of either.
+fn keyword_among(keywords: &[(&str, Keyword)], word: &str) -> Option<Keyword>
+    ensures { result ≡ spec.keyword_among (map (λ p. (str_to_ascii_lowercase p.0.now, p.1)) keywords.now) (str_to_ascii_lowercase word.now) }
+{
+    for (text, keyword) in keywords {
+        if word.eq_ignore_ascii_case(text) {
+            return Some(*keyword);
+        }
+    }
+    None
+}
 
 /// The keyword that a word is, whatever its ASCII case.
 #[tactic(auto, unfolding(pg_meaning::specs::Tokens::keyword_of, pg_meaning::specs::Tokens::keywords))]
 pub(crate) fn keyword_of(word: &str) -> Option<Keyword>
     ensures { result ≡ spec.keyword_of word.now }
 {
-    if word.eq_ignore_ascii_case("and") {
-        Some(Keyword::And)
-    } else if word.eq_ignore_ascii_case("as") {
-        Some(Keyword::As)
-    } else if word.eq_ignore_ascii_case("asc") {
-        Some(Keyword::Asc)
-    } else if word.eq_ignore_ascii_case("ascending") {
-        Some(Keyword::Ascending)
-    } else if word.eq_ignore_ascii_case("by") {
-        Some(Keyword::By)
-    } else {
-        from_case(word)
-    }
-}
-
-fn from_case(word: &str) -> Option<Keyword>
-    ensures { result ≡ part.reserved part.from_case word.now }
-{
-    if word.eq_ignore_ascii_case("case") {
-        Some(Keyword::Case)
-    } else if word.eq_ignore_ascii_case("contains") {
-        Some(Keyword::Contains)
-    } else if word.eq_ignore_ascii_case("create") {
-        Some(Keyword::Create)
-    } else if word.eq_ignore_ascii_case("delete") {
-        Some(Keyword::Delete)
-    } else if word.eq_ignore_ascii_case("desc") {
-        Some(Keyword::Desc)
-    } else {
-        from_descending(word)
-    }
-}
-
-fn from_descending(word: &str) -> Option<Keyword>
-    ensures { result ≡ part.reserved part.from_descending word.now }
-{
-    if word.eq_ignore_ascii_case("descending") {
-        Some(Keyword::Descending)
-    } else if word.eq_ignore_ascii_case("detach") {
-        Some(Keyword::Detach)
-    } else if word.eq_ignore_ascii_case("distinct") {
-        Some(Keyword::Distinct)
-    } else if word.eq_ignore_ascii_case("else") {
-        Some(Keyword::Else)
-    } else if word.eq_ignore_ascii_case("end") {
-        Some(Keyword::End)
-    } else {
-        from_ends(word)
-    }
-}
-
-fn from_ends(word: &str) -> Option<Keyword>
-    ensures { result ≡ part.reserved part.from_ends word.now }
-{
-    if word.eq_ignore_ascii_case("ends") {
-        Some(Keyword::Ends)
-    } else if word.eq_ignore_ascii_case("false") {
-        Some(Keyword::False)
-    } else if word.eq_ignore_ascii_case("in") {
-        Some(Keyword::In)
-    } else if word.eq_ignore_ascii_case("is") {
-        Some(Keyword::Is)
-    } else if word.eq_ignore_ascii_case("limit") {
-        Some(Keyword::Limit)
-    } else {
-        from_match(word)
-    }
-}
-
-fn from_match(word: &str) -> Option<Keyword>
-    ensures { result ≡ part.reserved part.from_match word.now }
-{
-    if word.eq_ignore_ascii_case("match") {
-        Some(Keyword::Match)
-    } else if word.eq_ignore_ascii_case("merge") {
-        Some(Keyword::Merge)
-    } else if word.eq_ignore_ascii_case("not") {
-        Some(Keyword::Not)
-    } else if word.eq_ignore_ascii_case("null") {
-        Some(Keyword::Null)
-    } else if word.eq_ignore_ascii_case("on") {
-        Some(Keyword::On)
-    } else {
-        from_optional(word)
-    }
-}
-
-fn from_optional(word: &str) -> Option<Keyword>
-    ensures { result ≡ part.reserved part.from_optional word.now }
-{
-    if word.eq_ignore_ascii_case("optional") {
-        Some(Keyword::Optional)
-    } else if word.eq_ignore_ascii_case("or") {
-        Some(Keyword::Or)
-    } else if word.eq_ignore_ascii_case("order") {
-        Some(Keyword::Order)
-    } else if word.eq_ignore_ascii_case("remove") {
-        Some(Keyword::Remove)
-    } else if word.eq_ignore_ascii_case("return") {
-        Some(Keyword::Return)
-    } else {
-        from_set(word)
-    }
-}
-
-fn from_set(word: &str) -> Option<Keyword>
-    ensures { result ≡ part.reserved part.from_set word.now }
-{
-    if word.eq_ignore_ascii_case("set") {
-        Some(Keyword::Set)
-    } else if word.eq_ignore_ascii_case("skip") {
-        Some(Keyword::Skip)
-    } else if word.eq_ignore_ascii_case("starts") {
-        Some(Keyword::Starts)
-    } else if word.eq_ignore_ascii_case("then") {
-        Some(Keyword::Then)
-    } else if word.eq_ignore_ascii_case("true") {
-        Some(Keyword::True)
-    } else {
-        from_unwind(word)
-    }
-}
-
-fn from_unwind(word: &str) -> Option<Keyword>
-    ensures { result ≡ part.reserved part.from_unwind word.now }
-{
-    if word.eq_ignore_ascii_case("unwind") {
-        Some(Keyword::Unwind)
-    } else if word.eq_ignore_ascii_case("when") {
-        Some(Keyword::When)
-    } else if word.eq_ignore_ascii_case("where") {
-        Some(Keyword::Where)
-    } else if word.eq_ignore_ascii_case("with") {
-        Some(Keyword::With)
-    } else if word.eq_ignore_ascii_case("xor") {
-        Some(Keyword::Xor)
-    } else {
-        None
-    }
+    keyword_among(&KEYWORDS, word)
 }

@@ -8,7 +8,7 @@ ghost use Rattle.pg_meaning.specs.Parse as parse;
 ghost use Rattle.pg_meaning.specs.Tree as tree;
 ghost use Rattle.pg_syntax_tokens.specs.Gives.{Gives, GivesValue, same};
 ghost use Rattle.pg_syntax_tokens.specs.ShrinksLaws.{eats_shrinks};
-ghost use Rattle.pg_syntax_expressions.specs.ShrinksExpressions.{link_eats};
+ghost use Rattle.pg_syntax_expressions.specs.ShrinksExpressions.{chain_shrinks, link_eats};
 ghost use Rattle.pg_syntax_tree.specs.View.{expression_view, operand_view};
 
 use pg_lex::Lexeme;
@@ -144,17 +144,32 @@ fn chained(
     Ok(Expression::Chain(Box::new(alloc, first)?, operands))
 }
 
-#[tactic(auto, unfolding(pg_meaning::specs::Parse::chain))]
-pub(crate) fn chain<O: Expressions>(
-    level: u8,
-    operand: &O,
-    tokens: &mut Tokens<'_, '_>,
-) -> Result<Expression, ParseError>
-    requires { O.ready operand.now }
-    ensures { Gives expression_view (parse.chain level (O.parser operand.now) (tokens_view tokens.old.rest.now)) result tokens.new.rest.now }
-{
-    let alloc = operand.alloc();
-    let first = operand.expression(tokens)?;
-    let operands = pieces(alloc, &Link { level, operand }, tokens)?;
-    chained(alloc, first, operands)
+/// Operands with operators of one level between.
+#[derive(Drop)]
+pub(crate) struct Chain<O: Drop> {
+    pub level: u8,
+    pub operand: O,
+}
+
+impl<O: Expressions + Drop> Expressions for Chain<O> {
+    ghost parser = { λ c. parse.chain c.level (O.parser c.operand) };
+
+    ghost ready = { λ c. O.ready c.operand };
+
+    ghost shrinks = { λ c. chain_shrinks c.level (O.shrinks c.operand) };
+
+    fn alloc(&self) -> Global {
+        self.operand.alloc()
+    }
+
+    #[tactic(auto, unfolding(pg_meaning::specs::Parse::chain))]
+    fn expression(&self, tokens: &mut Tokens<'_, '_>) -> Result<Expression, ParseError> {
+        let first = self.operand.expression(tokens)?;
+        let link = Link {
+            level: self.level,
+            operand: &self.operand,
+        };
+        let operands = pieces(self.alloc(), &link, tokens)?;
+        chained(self.alloc(), first, operands)
+    }
 }

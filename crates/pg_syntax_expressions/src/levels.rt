@@ -9,11 +9,11 @@ ghost use Rattle.pg_meaning.specs.Tree as tree;
 ghost use Rattle.pg_syntax_tokens.specs.Gives.{Gives, GivesValue, same};
 ghost use Rattle.pg_syntax_expressions.specs.Parts.{test_view, test_behind, word_and_with};
 ghost use Rattle.pg_syntax_tokens.specs.ShrinksLaws.{eats_shrinks, keyword_eats};
-ghost use Rattle.pg_syntax_expressions.specs.ShrinksExpressions.{sign_eats, test_eats, unary_shrinks, product_shrinks, sum_shrinks, predicate_shrinks, comparison_shrinks, negation_shrinks, conjunction_shrinks, exclusion_shrinks, disjunction_shrinks};
+ghost use Rattle.pg_syntax_expressions.specs.ShrinksExpressions.{sign_eats, test_eats, unary_shrinks, predicate_shrinks, negation_shrinks};
 ghost use Rattle.pg_syntax_tree.specs.View.{expression_view};
 
 use crate::atoms::post;
-use crate::chains::chain;
+use crate::chains::Chain;
 use pg_meaning::{Keyword, Symbol, TextTest};
 use pg_syntax_tokens::{Expressions, ParseError, Row, Rule, Tokens, pieces};
 use pg_syntax_tree::{Expression, Test};
@@ -85,46 +85,6 @@ impl<'w, W: Expressions> Expressions for Unary<'w, W> {
         let signs = pieces(self.alloc(), &Sign, tokens)?;
         let operand = post(self.0, tokens)?;
         signed(self.alloc(), signs, operand)
-    }
-}
-
-#[derive(Drop)]
-struct Product<'w, W>(&'w W);
-
-impl<'w, W: Expressions> Expressions for Product<'w, W> {
-    ghost parser = { λ p. parse.product (W.parser p.0.now) };
-
-    ghost ready = { λ p. W.ready p.0.now };
-
-    ghost shrinks = { λ p. product_shrinks (W.shrinks p.0.now) };
-
-    fn alloc(&self) -> Global {
-        self.0.alloc()
-    }
-
-    #[tactic(auto, unfolding(pg_meaning::specs::Parse::product))]
-    fn expression(&self, tokens: &mut Tokens<'_, '_>) -> Result<Expression, ParseError> {
-        chain(8, &Unary(self.0), tokens)
-    }
-}
-
-#[derive(Drop)]
-struct Sum<'w, W>(&'w W);
-
-impl<'w, W: Expressions> Expressions for Sum<'w, W> {
-    ghost parser = { λ s. parse.sum (W.parser s.0.now) };
-
-    ghost ready = { λ s. W.ready s.0.now };
-
-    ghost shrinks = { λ s. sum_shrinks (W.shrinks s.0.now) };
-
-    fn alloc(&self) -> Global {
-        self.0.alloc()
-    }
-
-    #[tactic(auto, unfolding(pg_meaning::specs::Parse::sum))]
-    fn expression(&self, tokens: &mut Tokens<'_, '_>) -> Result<Expression, ParseError> {
-        chain(7, &Product(self.0), tokens)
     }
 }
 
@@ -267,32 +227,19 @@ impl<'w, W: Expressions> Expressions for Predicate<'w, W> {
         self.0.alloc()
     }
 
-    #[tactic(auto, unfolding(pg_meaning::specs::Parse::predicate))]
+    #[tactic(auto, unfolding(pg_meaning::specs::Parse::predicate, pg_meaning::specs::Parse::sum, pg_meaning::specs::Parse::product))]
     fn expression(&self, tokens: &mut Tokens<'_, '_>) -> Result<Expression, ParseError> {
-        let sum = Sum(self.0);
+        let product = Chain {
+            level: 8,
+            operand: Unary(self.0),
+        };
+        let sum = Chain {
+            level: 7,
+            operand: product,
+        };
         let first = sum.expression(tokens)?;
         let tests = pieces(self.alloc(), &OneTest(&sum), tokens)?;
         tested(self.alloc(), first, tests)
-    }
-}
-
-#[derive(Drop)]
-struct Comparison<'w, W>(&'w W);
-
-impl<'w, W: Expressions> Expressions for Comparison<'w, W> {
-    ghost parser = { λ c. parse.comparison (W.parser c.0.now) };
-
-    ghost ready = { λ c. W.ready c.0.now };
-
-    ghost shrinks = { λ c. comparison_shrinks (W.shrinks c.0.now) };
-
-    fn alloc(&self) -> Global {
-        self.0.alloc()
-    }
-
-    #[tactic(auto, unfolding(pg_meaning::specs::Parse::comparison))]
-    fn expression(&self, tokens: &mut Tokens<'_, '_>) -> Result<Expression, ParseError> {
-        chain(5, &Predicate(self.0), tokens)
     }
 }
 
@@ -340,7 +287,7 @@ fn negated(alloc: Global, nots: Vec<()>, operand: Expression) -> Result<Expressi
 
 /// NOTs before a comparison.
 #[derive(Drop)]
-struct Negation<'w, W>(&'w W);
+pub(crate) struct Negation<'w, W>(pub &'w W);
 
 impl<'w, W: Expressions> Expressions for Negation<'w, W> {
     ghost parser = { λ n. parse.negation (W.parser n.0.now) };
@@ -353,69 +300,14 @@ impl<'w, W: Expressions> Expressions for Negation<'w, W> {
         self.0.alloc()
     }
 
+    #[tactic(auto, unfolding(pg_meaning::specs::Parse::comparison))]
     fn expression(&self, tokens: &mut Tokens<'_, '_>) -> Result<Expression, ParseError> {
         let nots = pieces(self.alloc(), &Not, tokens)?;
-        let operand = Comparison(self.0).expression(tokens)?;
+        let comparison = Chain {
+            level: 5,
+            operand: Predicate(self.0),
+        };
+        let operand = comparison.expression(tokens)?;
         negated(self.alloc(), nots, operand)
-    }
-}
-
-#[derive(Drop)]
-struct Conjunction<'w, W>(&'w W);
-
-impl<'w, W: Expressions> Expressions for Conjunction<'w, W> {
-    ghost parser = { λ c. parse.conjunction (W.parser c.0.now) };
-
-    ghost ready = { λ c. W.ready c.0.now };
-
-    ghost shrinks = { λ c. conjunction_shrinks (W.shrinks c.0.now) };
-
-    fn alloc(&self) -> Global {
-        self.0.alloc()
-    }
-
-    #[tactic(auto, unfolding(pg_meaning::specs::Parse::conjunction))]
-    fn expression(&self, tokens: &mut Tokens<'_, '_>) -> Result<Expression, ParseError> {
-        chain(3, &Negation(self.0), tokens)
-    }
-}
-
-#[derive(Drop)]
-struct Exclusion<'w, W>(&'w W);
-
-impl<'w, W: Expressions> Expressions for Exclusion<'w, W> {
-    ghost parser = { λ e. parse.exclusion (W.parser e.0.now) };
-
-    ghost ready = { λ e. W.ready e.0.now };
-
-    ghost shrinks = { λ e. exclusion_shrinks (W.shrinks e.0.now) };
-
-    fn alloc(&self) -> Global {
-        self.0.alloc()
-    }
-
-    #[tactic(auto, unfolding(pg_meaning::specs::Parse::exclusion))]
-    fn expression(&self, tokens: &mut Tokens<'_, '_>) -> Result<Expression, ParseError> {
-        chain(2, &Conjunction(self.0), tokens)
-    }
-}
-
-#[derive(Drop)]
-pub(crate) struct Disjunction<'w, W>(pub &'w W);
-
-impl<'w, W: Expressions> Expressions for Disjunction<'w, W> {
-    ghost parser = { λ d. parse.disjunction (W.parser d.0.now) };
-
-    ghost ready = { λ d. W.ready d.0.now };
-
-    ghost shrinks = { λ d. disjunction_shrinks (W.shrinks d.0.now) };
-
-    fn alloc(&self) -> Global {
-        self.0.alloc()
-    }
-
-    #[tactic(auto, unfolding(pg_meaning::specs::Parse::disjunction))]
-    fn expression(&self, tokens: &mut Tokens<'_, '_>) -> Result<Expression, ParseError> {
-        chain(1, &Exclusion(self.0), tokens)
     }
 }

@@ -8,7 +8,8 @@ ghost use Rattle.pg_syntax_expressions.specs.Nests.{Nests};
 ghost use Rattle.pg_syntax_expressions.specs.ShrinksExpressions.{expr_shrinks};
 ghost use Rattle.pg_syntax_tree.specs.View.{expression_view};
 
-use crate::levels::Disjunction;
+use crate::chains::Chain;
+use crate::levels::Negation;
 use pg_syntax_tokens::{Expressions, ParseError, Rule, Tokens};
 use pg_syntax_tree::Expression;
 use std::alloc::Global;
@@ -39,7 +40,7 @@ impl<F: Fn(Global, &mut Tokens<'_, '_>, usize) -> Result<Expression, ParseError>
 }
 
 /// An expression with brackets nested less deep than the number.
-#[tactic(auto, unfolding(pg_meaning::specs::Parse::expr))]
+#[tactic(auto, unfolding(pg_meaning::specs::Parse::expr, pg_meaning::specs::Parse::disjunction, pg_meaning::specs::Parse::exclusion, pg_meaning::specs::Parse::conjunction))]
 pub fn expression(
     alloc: Global,
     tokens: &mut Tokens<'_, '_>,
@@ -55,7 +56,19 @@ pub fn expression(
         depth: depth - 1,
         read: expression,
     };
-    Disjunction(&nesting).expression(tokens)
+    let conjunction = Chain {
+        level: 3,
+        operand: Negation(&nesting),
+    };
+    let exclusion = Chain {
+        level: 2,
+        operand: conjunction,
+    };
+    let disjunction = Chain {
+        level: 1,
+        operand: exclusion,
+    };
+    disjunction.expression(tokens)
 }
 
 /// Expressions to a depth.

@@ -11,14 +11,14 @@ abbrev nots : parse.Parser (List (Unit {0}))
 nots = parse.many (parse.sees_keyword k.Not) (parse.keyword k.Not) []
 
 pub returns-in_err-nots : goal.returns-in_err-nots
-unfolding parse.negation
+unfolding parse.negation parse.comparison
 returns-in_err-nots g c =
     let whole = g.W.Expressions.parser c.args.self.now.0.now in
     let ts = tokens_view c.args.tokens.now.rest.now in
     fails expression_view (nots ts) (parse.negation whole ts) c.from_residual.result c.in_err-nots.field-0.0 _ c.from_residual.ensures.1 (first_fails nots (parse.comparison whole) parse.negated ts) c.in_err-nots.ensures
 
 pub returns-in_err-operand : goal.returns-in_err-operand
-unfolding parse.negation
+unfolding parse.negation parse.comparison
 returns-in_err-operand g c =
     let whole = g.W.Expressions.parser c.args.self.now.0.now in
     let ts = tokens_view c.args.tokens.now.rest.now in
@@ -27,7 +27,7 @@ returns-in_err-operand g c =
     (second_fails nots (parse.comparison whole) parse.negated ts us _ c.in_ok-nots.ensures) c.in_err-operand.ensures
 
 pub returns : goal.returns
-unfolding parse.negation
+unfolding parse.negation parse.comparison
 returns g c =
     let whole = g.W.Expressions.parser c.args.self.now.0.now in
     let ts = tokens_view c.args.tokens.now.rest.now in

@@ -74,16 +74,6 @@ fn unwind_clause(
     Ok(Clause::Unwind(list, variable))
 }
 
-#[tactic(auto, unfolding(pg_meaning::specs::Parse::reading))]
-fn reading(alloc: Global, tokens: &mut Tokens<'_, '_>, depth: usize) -> Result<Clause, ParseError>
-    ensures { Gives clause_view (parse.reading (parse.expr depth) (tokens_view tokens.old.rest.now)) result tokens.new.rest.now }
-{
-    if tokens.sees_keyword(Keyword::Unwind) {
-        return unwind_clause(alloc, tokens, depth);
-    }
-    match_clause(alloc, tokens, depth)
-}
-
 #[derive(Drop)]
 pub(crate) struct ReadingClauses {
     pub alloc: Global,
@@ -101,8 +91,12 @@ impl Rule for ReadingClauses {
 
     ghost shrinks = { λ r. eats_shrinks (reading_eats (expr_shrinks r.depth)) };
 
+    #[tactic(auto, unfolding(pg_meaning::specs::Parse::reading))]
     fn read(&self, tokens: &mut Tokens<'_, '_>) -> Result<Clause, ParseError> {
-        reading(self.alloc, tokens, self.depth)
+        if tokens.sees_keyword(Keyword::Unwind) {
+            return unwind_clause(self.alloc, tokens, self.depth);
+        }
+        match_clause(self.alloc, tokens, self.depth)
     }
 }
 
@@ -161,14 +155,6 @@ fn set_target(
     Ok(SetItem::Labels(target, labels(alloc, tokens)?))
 }
 
-#[tactic(auto, unfolding(pg_meaning::specs::Parse::set_item))]
-fn set_item(alloc: Global, tokens: &mut Tokens<'_, '_>, depth: usize) -> Result<SetItem, ParseError>
-    ensures { Gives set_item_view (parse.set_item (parse.expr depth) (tokens_view tokens.old.rest.now)) result tokens.new.rest.now }
-{
-    let target = tokens.var(alloc)?;
-    set_target(alloc, tokens, depth, target)
-}
-
 #[derive(Drop)]
 struct SetItems {
     alloc: Global,
@@ -186,8 +172,10 @@ impl Rule for SetItems {
 
     ghost shrinks = { λ r. eats_shrinks (set_item_eats (expr_shrinks r.depth)) };
 
+    #[tactic(auto, unfolding(pg_meaning::specs::Parse::set_item))]
     fn read(&self, tokens: &mut Tokens<'_, '_>) -> Result<SetItem, ParseError> {
-        set_item(self.alloc, tokens, self.depth)
+        let target = tokens.var(self.alloc)?;
+        set_target(self.alloc, tokens, self.depth, target)
     }
 }
 
@@ -206,14 +194,6 @@ fn remove_target(
     Ok(RemoveItem::Labels(target, labels(alloc, tokens)?))
 }
 
-#[tactic(auto, unfolding(pg_meaning::specs::Parse::remove_item))]
-fn remove_item(alloc: Global, tokens: &mut Tokens<'_, '_>) -> Result<RemoveItem, ParseError>
-    ensures { Gives remove_item_view (parse.remove_item (tokens_view tokens.old.rest.now)) result tokens.new.rest.now }
-{
-    let target = tokens.var(alloc)?;
-    remove_target(alloc, tokens, target)
-}
-
 #[derive(Drop)]
 struct RemoveItems {
     alloc: Global,
@@ -230,8 +210,10 @@ impl Rule for RemoveItems {
 
     ghost shrinks = { λ _. eats_shrinks remove_item_eats };
 
+    #[tactic(auto, unfolding(pg_meaning::specs::Parse::remove_item))]
     fn read(&self, tokens: &mut Tokens<'_, '_>) -> Result<RemoveItem, ParseError> {
-        remove_item(self.alloc, tokens)
+        let target = tokens.var(self.alloc)?;
+        remove_target(self.alloc, tokens, target)
     }
 }
 
@@ -346,25 +328,6 @@ fn delete_clause(
     Ok(Clause::Delete(is_detach, deleted))
 }
 
-#[tactic(auto, unfolding(pg_meaning::specs::Parse::updating))]
-fn updating(alloc: Global, tokens: &mut Tokens<'_, '_>, depth: usize) -> Result<Clause, ParseError>
-    ensures { Gives clause_view (parse.updating (parse.expr depth) (tokens_view tokens.old.rest.now)) result tokens.new.rest.now }
-{
-    if tokens.sees_keyword(Keyword::Create) {
-        return create_clause(alloc, tokens, depth);
-    }
-    if tokens.sees_keyword(Keyword::Merge) {
-        return merge_clause(alloc, tokens, depth);
-    }
-    if tokens.sees_keyword(Keyword::Set) {
-        return set_clause(alloc, tokens, depth);
-    }
-    if tokens.sees_keyword(Keyword::Remove) {
-        return remove_clause(alloc, tokens);
-    }
-    delete_clause(alloc, tokens, depth)
-}
-
 #[derive(Drop)]
 pub(crate) struct UpdatingClauses {
     pub alloc: Global,
@@ -382,8 +345,21 @@ impl Rule for UpdatingClauses {
 
     ghost shrinks = { λ r. eats_shrinks (updating_eats (expr_shrinks r.depth)) };
 
+    #[tactic(auto, unfolding(pg_meaning::specs::Parse::updating))]
     fn read(&self, tokens: &mut Tokens<'_, '_>) -> Result<Clause, ParseError> {
-        updating(self.alloc, tokens, self.depth)
+        if tokens.sees_keyword(Keyword::Create) {
+            return create_clause(self.alloc, tokens, self.depth);
+        }
+        if tokens.sees_keyword(Keyword::Merge) {
+            return merge_clause(self.alloc, tokens, self.depth);
+        }
+        if tokens.sees_keyword(Keyword::Set) {
+            return set_clause(self.alloc, tokens, self.depth);
+        }
+        if tokens.sees_keyword(Keyword::Remove) {
+            return remove_clause(self.alloc, tokens);
+        }
+        delete_clause(self.alloc, tokens, self.depth)
     }
 }
 

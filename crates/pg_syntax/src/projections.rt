@@ -167,19 +167,6 @@ fn direction(tokens: &mut Tokens<'_, '_>) -> Option<Sort>
     Some(found)
 }
 
-#[tactic(auto, unfolding(pg_meaning::specs::Parse::sort_item))]
-fn sort_item(
-    alloc: Global,
-    tokens: &mut Tokens<'_, '_>,
-    depth: usize,
-) -> Result<SortItem, ParseError>
-    ensures { Gives sort_item_view (parse.sort_item (parse.expr depth) (tokens_view tokens.old.rest.now)) result tokens.new.rest.now }
-{
-    let key = expression(alloc, tokens, depth)?;
-    let direction = direction(tokens);
-    Ok(SortItem { key, direction })
-}
-
 #[derive(Drop)]
 struct SortItems {
     alloc: Global,
@@ -197,8 +184,11 @@ impl Rule for SortItems {
 
     ghost shrinks = { λ r. sort_item_shrinks (expr_shrinks r.depth) };
 
+    #[tactic(auto, unfolding(pg_meaning::specs::Parse::sort_item))]
     fn read(&self, tokens: &mut Tokens<'_, '_>) -> Result<SortItem, ParseError> {
-        sort_item(self.alloc, tokens, self.depth)
+        let key = expression(self.alloc, tokens, self.depth)?;
+        let direction = direction(tokens);
+        Ok(SortItem { key, direction })
     }
 }
 

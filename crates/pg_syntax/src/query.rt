@@ -106,17 +106,8 @@ fn query(
     }
 }
 
-/// The tree of all the tokens.
-#[tactic(auto, unfolding(pg_meaning::specs::Parse::query_of))]
-fn read(alloc: Global, text: &str, tokens: &[Token<'_>]) -> Result<Query, ParseError>
-    requires { is_too_deep (tokens_view tokens.now) ≡ false }
-    ensures { GivesValue query_view (parse.query_of text.now (tokens_view tokens.now)) result }
-{
-    let mut left = Tokens { rest: tokens };
-    query(alloc, text, &mut left, tokens.len())
-}
-
 /// The tree of the tokens, unless they nest too deep.
+#[tactic(auto, unfolding(pg_meaning::specs::Parse::query_of))]
 fn answer(alloc: Global, text: &str, tokens: &[Token<'_>]) -> Result<Query, Fault>
     ensures answers { Answers query_view (read_tokens text.now (Some (tokens_view tokens.now))) result }
     ensures deep { is_too_deep (tokens_view tokens.now) ≡ true → result ≡ Err Fault.TooDeep }
@@ -124,7 +115,8 @@ fn answer(alloc: Global, text: &str, tokens: &[Token<'_>]) -> Result<Query, Faul
     if is_too_deep(tokens) {
         return Err(Fault::TooDeep);
     }
-    Ok(read(alloc, text, tokens)?)
+    let mut left = Tokens { rest: tokens };
+    Ok(query(alloc, text, &mut left, tokens.len())?)
 }
 
 /// The tree of a text's tokens. The tokens are tested for their depth first, so that no recursion

@@ -20,24 +20,6 @@ use pg_syntax_tokens::{
 use pg_syntax_tree::{Expression, Literal, Name, Suffix};
 use std::alloc::{AllocError, Global};
 
-/// Expressions and the closing sign.
-#[tactic(auto, unfolding(pg_meaning::specs::Parse::listed))]
-fn listed<W: Expressions>(
-    close: Symbol,
-    whole: &W,
-    tokens: &mut Tokens<'_, '_>,
-) -> Result<Vec<Expression>, ParseError>
-    requires { W.ready whole.now }
-    ensures { Gives (λ v. map expression_view v.items) (parse.listed close (W.parser whole.now) (tokens_view tokens.old.rest.now)) result tokens.new.rest.now }
-{
-    if tokens.eat(close) {
-        return Ok(Vec::new(whole.alloc()));
-    }
-    let found = separated(whole.alloc(), &Each(whole), tokens)?;
-    tokens.expect(close)?;
-    Ok(found)
-}
-
 /// A key of a map and its value.
 #[derive(Drop)]
 struct MapPair<'w, W>(&'w W);
@@ -283,11 +265,18 @@ fn word_atom<W: Expressions>(
     Ok(Expression::Variable(name))
 }
 
+/// What stands behind the opening bracket of a list.
+#[tactic(auto, unfolding(pg_meaning::specs::Parse::listed))]
 fn list<W: Expressions>(whole: &W, tokens: &mut Tokens<'_, '_>) -> Result<Expression, ParseError>
     requires { W.ready whole.now }
     ensures { Gives expression_view (list_behind (W.parser whole.now) (tokens_view tokens.old.rest.now)) result tokens.new.rest.now }
 {
-    Ok(Expression::ListLiteral(listed(Symbol::CloseBracket, whole, tokens)?))
+    if tokens.eat(Symbol::CloseBracket) {
+        return Ok(Expression::ListLiteral(Vec::new(whole.alloc())));
+    }
+    let found = separated(whole.alloc(), &Each(whole), tokens)?;
+    tokens.expect(Symbol::CloseBracket)?;
+    Ok(Expression::ListLiteral(found))
 }
 
 fn parentheses<W: Expressions>(

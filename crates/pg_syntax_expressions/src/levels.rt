@@ -138,29 +138,6 @@ fn test_by_with<O: Expressions>(
     test_of(test, right, tokens)
 }
 
-#[tactic(auto, unfolding(pg_meaning::specs::Parse::one_test))]
-fn one_test<O: Expressions>(
-    right: &O,
-    tokens: &mut Tokens<'_, '_>,
-) -> Result<Test<Expression>, ParseError>
-    requires { O.ready right.now }
-    ensures { Gives test_view (parse.one_test (O.parser right.now) (tokens_view tokens.old.rest.now)) result tokens.new.rest.now }
-{
-    if tokens.sees_keyword(Keyword::Starts) {
-        return test_by_with(Keyword::Starts, TextTest::StartsWith, right, tokens);
-    }
-    if tokens.sees_keyword(Keyword::Ends) {
-        return test_by_with(Keyword::Ends, TextTest::EndsWith, right, tokens);
-    }
-    if tokens.sees_keyword(Keyword::Contains) {
-        return test_by(Keyword::Contains, TextTest::Contains, right, tokens);
-    }
-    if tokens.sees_keyword(Keyword::In) {
-        return test_by(Keyword::In, TextTest::In, right, tokens);
-    }
-    null_test(tokens)
-}
-
 /// A test, with sums on its right side.
 #[derive(Drop)]
 struct OneTest<'o, O>(&'o O);
@@ -178,8 +155,21 @@ impl<'o, O: Expressions> Rule for OneTest<'o, O> {
 
     ghost shrinks = { λ t. eats_shrinks (test_eats (O.shrinks t.0.now)) };
 
+    #[tactic(auto, unfolding(pg_meaning::specs::Parse::one_test))]
     fn read(&self, tokens: &mut Tokens<'_, '_>) -> Result<Test<Expression>, ParseError> {
-        one_test(self.0, tokens)
+        if tokens.sees_keyword(Keyword::Starts) {
+            return test_by_with(Keyword::Starts, TextTest::StartsWith, self.0, tokens);
+        }
+        if tokens.sees_keyword(Keyword::Ends) {
+            return test_by_with(Keyword::Ends, TextTest::EndsWith, self.0, tokens);
+        }
+        if tokens.sees_keyword(Keyword::Contains) {
+            return test_by(Keyword::Contains, TextTest::Contains, self.0, tokens);
+        }
+        if tokens.sees_keyword(Keyword::In) {
+            return test_by(Keyword::In, TextTest::In, self.0, tokens);
+        }
+        null_test(tokens)
     }
 }
 

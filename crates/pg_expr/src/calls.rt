@@ -215,18 +215,9 @@ fn head<'a>(argument: Found<'a>) -> Result<Found<'a>, Fault>
     ensures err { IfErr result (λ e. head_of (found_view argument.entry) ≡ Err e) }
 {
     match argument {
-        Found::Lent(value) => head_lent(value),
+        Found::Lent(Value::List(items)) => Ok(item_at(items, 0)),
+        Found::Lent(_) => Err(Fault::TypeFault),
         Found::Made(value) => Ok(Found::Made(values::head(value)?)),
-    }
-}
-
-fn head_lent<'a>(value: &'a Value) -> Result<Found<'a>, Fault>
-    ensures ok { IfOk result (λ f. head_of (view value.now) ≡ Ok (found_view f)) }
-    ensures err { IfErr result (λ e. head_of (view value.now) ≡ Err e) }
-{
-    match value {
-        Value::List(items) => Ok(item_at(items, 0)),
-        _ => Err(Fault::TypeFault),
     }
 }
 
@@ -235,18 +226,9 @@ fn last<'a>(argument: Found<'a>) -> Result<Found<'a>, Fault>
     ensures err { IfErr result (λ e. last_of (found_view argument.entry) ≡ Err e) }
 {
     match argument {
-        Found::Lent(value) => last_lent(value),
+        Found::Lent(Value::List(items)) => Ok(last_item(items)),
+        Found::Lent(_) => Err(Fault::TypeFault),
         Found::Made(value) => Ok(Found::Made(values::last(value)?)),
-    }
-}
-
-fn last_lent<'a>(value: &'a Value) -> Result<Found<'a>, Fault>
-    ensures ok { IfOk result (λ f. last_of (view value.now) ≡ Ok (found_view f)) }
-    ensures err { IfErr result (λ e. last_of (view value.now) ≡ Err e) }
-{
-    match value {
-        Value::List(items) => Ok(last_item(items)),
-        _ => Err(Fault::TypeFault),
     }
 }
 

@@ -79,20 +79,12 @@ pub(crate) fn compared<'a>(
     ensures { After others.entry result (λ ps. truth_compared (found_view first.entry) (pairs_view ps.items)) found_view }
 {
     match others {
-        Ok(pairs) => compared_value(&first, &pairs),
+        Ok(pairs) => {
+            let truth = all_compared(&first, &pairs)?;
+            Ok(Found::Made(value_of(truth)))
+        }
         Err(fault) => Err(fault),
     }
-}
-
-fn compared_value<'a>(
-    first: &Found<'_>,
-    others: &Vec<(Operator, Found<'_>)>,
-) -> Result<Found<'a>, Fault>
-    ensures ok { IfOk result (λ f. truth_compared (found_view first.now) (pairs_view others.now.items) ≡ Ok (found_view f)) }
-    ensures err { IfErr result (λ e. truth_compared (found_view first.now) (pairs_view others.now.items) ≡ Err e) }
-{
-    let truth = all_compared(first, others)?;
-    Ok(Found::Made(value_of(truth)))
 }
 
 /// Each neighbour with the next.
@@ -115,15 +107,9 @@ pub(crate) fn is_chosen(subject: &Option<Found<'_>>, v: Found<'_>) -> Result<boo
     ensures ok { IfOk result (λ b. is_chosen (option_map found_view subject.now) (found_view v.entry) ≡ Ok b) }
     ensures err { IfErr result (λ e. is_chosen (option_map found_view subject.now) (found_view v.entry) ≡ Err e) }
 {
-    Ok(is_true(condition_of(subject, &v)?))
-}
-
-fn condition_of(subject: &Option<Found<'_>>, v: &Found<'_>) -> Result<Tri, Fault>
-    ensures { result ≡ condition_of (option_map found_view subject.now) (found_view v.now) }
-{
     match subject {
-        Some(subject) => Ok(eq3(subject.look(), v.look())),
-        None => truth_of(v.look()),
+        Some(subject) => Ok(is_true(eq3(subject.look(), v.look()))),
+        None => Ok(is_true(truth_of(v.look())?)),
     }
 }
 
@@ -149,17 +135,7 @@ fn tested_value<'a>(test: TextTest, v: &Value, w: &Value) -> Result<Found<'a>, F
         TextTest::StartsWith => Ok(Found::Made(values::begins_with(v, w))),
         TextTest::EndsWith => Ok(Found::Made(values::finishes_with(v, w))),
         TextTest::Contains => Ok(Found::Made(values::contains(v, w))),
-        TextTest::In => Ok(Found::Made(member(v, w)?)),
-    }
-}
-
-fn member(v: &Value, w: &Value) -> Result<Value, Fault>
-    ensures ok { IfOk result (λ u. membership (view v.now) (view w.now) ≡ Ok (view u)) }
-    ensures err { IfErr result (λ e. membership (view v.now) (view w.now) ≡ Err e) }
-{
-    match is_in(v, w) {
-        Ok(t) => Ok(value_of(t)),
-        Err(fault) => Err(fault),
+        TextTest::In => Ok(Found::Made(value_of(is_in(v, w)?))),
     }
 }
 
@@ -179,17 +155,12 @@ pub(crate) fn negated<'a>(count: usize, v: Result<Found<'_>, Fault>) -> Result<F
     ensures { After v.entry result (λ u. all_negated count (found_view u)) found_view }
 {
     match v {
-        Ok(found) => negated_value(count, found.look()),
+        Ok(found) => {
+            let truth = truth_of(found.look())?;
+            Ok(Found::Made(value_of(turned(count, truth))))
+        }
         Err(fault) => Err(fault),
     }
-}
-
-fn negated_value<'a>(count: usize, v: &Value) -> Result<Found<'a>, Fault>
-    ensures ok { IfOk result (λ f. all_negated count (view v.now) ≡ Ok (found_view f)) }
-    ensures err { IfErr result (λ e. all_negated count (view v.now) ≡ Err e) }
-{
-    let truth = truth_of(v)?;
-    Ok(Found::Made(value_of(turned(count, truth))))
 }
 
 fn turned(count: usize, t: Tri) -> Tri

@@ -57,12 +57,6 @@ fn entry<'a>(entries: &'a BTreeMap<String, Value>, key: &str) -> Found<'a>
     lent_or_null(entries.get(key))
 }
 
-fn entry_of_text<'a>(entries: &'a BTreeMap<String, Value>, key: &String) -> Found<'a>
-    ensures { found_view result ≡ value_at (string_bytes key.now) (entries_view entries.now.entries) }
-{
-    entry(entries, key.as_str())
-}
-
 /// `v.key`.
 pub(crate) fn property<'a, T: Tables>(
     graph: &Snapshot<'a, T>,
@@ -123,23 +117,11 @@ pub(crate) fn index<'a, T: Tables>(
     ensures { After place.entry result (λ i. indexed graph.now (found_view value.entry) (found_view i)) found_view }
 {
     match place {
-        Ok(at) => index_at(alloc, graph, value, at.look()),
+        Ok(at) => match value {
+            Found::Lent(value) => index_lent(graph, value, at.look()),
+            Found::Made(value) => index_made(alloc, graph, value, at.look()),
+        },
         Err(fault) => Err(fault),
-    }
-}
-
-fn index_at<'a, T: Tables>(
-    alloc: Global,
-    graph: &Snapshot<'a, T>,
-    value: Found<'a>,
-    place: &Value,
-) -> Result<Found<'a>, Fault>
-    ensures ok { IfOk result (λ f. indexed graph.now (found_view value.entry) (view place.now) ≡ Ok (found_view f)) }
-    ensures err { IfErr result (λ e. e ≢ OutOfMemory → indexed graph.now (found_view value.entry) (view place.now) ≡ Err e) }
-{
-    match value {
-        Found::Lent(value) => index_lent(graph, value, place),
-        Found::Made(value) => index_made(alloc, graph, value, place),
     }
 }
 
@@ -154,7 +136,7 @@ fn index_lent<'a, T: Tables>(
     match (value, place) {
         (Value::Null, _) | (_, Value::Null) => Ok(null()),
         (Value::List(items), Value::Int(at)) => Ok(item_lent(items, *at)),
-        (Value::Map(entries), Value::Text(key)) => Ok(entry_of_text(entries, key)),
+        (Value::Map(entries), Value::Text(key)) => Ok(entry(entries, key.as_str())),
         (Value::Node(id), Value::Text(key)) => node_property(graph, *id, key.as_str()),
         (Value::Rel(id), Value::Text(key)) => relationship_property(graph, *id, key.as_str()),
         _ => Err(Fault::TypeFault),

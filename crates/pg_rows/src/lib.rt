@@ -13,6 +13,7 @@ mod table;
 pub use columns::Columns;
 pub use firsts::distinct;
 pub use left::RowsLeft;
+pub use moves::{copy_of, copy_row};
 pub use named::Table;
 pub use sorts::sort;
 pub use table::Rows;

@@ -1,5 +1,5 @@
 //! Values moved from one list to another.
-ghost use Rattle.std.specs.Prelude.{◌≡◌, ◌+◌, ◌≤◌, ◌++◌, length, map, take, drop, replicate, OnOk};
+ghost use Rattle.std.specs.Prelude.{◌≡◌, ◌+◌, ◌≤◌, ◌++◌, length, map, take, drop, replicate, IfOk, OnOk};
 ghost use Rattle.pg_value_core.specs.View.{view};
 ghost use Rattle.pg_value_core.specs.declared.value.Value.TheVariants.{Null};
 
@@ -28,11 +28,7 @@ pub(crate) fn move_row(
 
 /// Copies a row to the end of the values; where memory is wanted, a part of it may stand there.
 #[tactic(auto, using(crate::proofs::Copied::still_before))]
-pub(crate) fn copy_row(
-    alloc: Global,
-    row: &[Value],
-    values: &mut Vec<Value>,
-) -> Result<(), AllocError>
+pub fn copy_row(alloc: Global, row: &[Value], values: &mut Vec<Value>) -> Result<(), AllocError>
     ensures copied { OnOk result (map view values.new.items ≡ map view values.old.items ++ map view row.now) }
     ensures before { take (length values.old.items) values.new.items ≡ values.old.items }
     ensures len { OnOk result (length values.new.items ≡ length values.old.items + length row.now) }
@@ -41,4 +37,14 @@ pub(crate) fn copy_row(
         values.push(value.copy(alloc)?)?;
     }
     Ok(())
+}
+
+/// A row in memory of its own.
+pub fn copy_of(alloc: Global, row: &[Value]) -> Result<Vec<Value>, AllocError>
+    ensures values { IfOk result (λ copy. map view copy.items ≡ map view row.now) }
+    ensures len { IfOk result (λ copy. length copy.items ≡ length row.now) }
+{
+    let mut copy = Vec::with_capacity(alloc, row.len())?;
+    copy_row(alloc, row, &mut copy)?;
+    Ok(copy)
 }

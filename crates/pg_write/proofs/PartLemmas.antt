@@ -46,6 +46,12 @@ module _ (graph : Graph) (pairs_of : Value → Result Pairs Fault) (change : Pai
   pub pairs_refused : (value : Answer) (e : Fault) → storable_pairs pairs_of value ≡ Err e → set_pairs graph pairs_of change value target ≡ Err e
   pairs_refused value e is = set_by_pairs value ∙ ap (λ r. r >>= applied) is
 
+  pub value_refused : (value : Answer) (e : Fault) → value ≡ Err e → set_pairs graph pairs_of change value target ≡ Err e
+  value_refused value e is = pairs_refused value e (ap (storable_pairs pairs_of) is)
+
+  pub pairs_read : (value : Answer) (v : Value) (r : Result Pairs Fault) → value ≡ Ok v → pairs_of v ≡ r → (value >>= pairs_of) ≡ r
+  pairs_read value v r is gives = ap (λ a. a >>= pairs_of) is ∙ gives
+
   joined : (value : Answer) → storable_pairs pairs_of value ≡ ((value >>= pairs_of) >>= tested)
   joined (Ok v) = refl
   joined (Err e) = refl

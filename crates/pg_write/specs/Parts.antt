@@ -1,22 +1,23 @@
 -- The parts of the definitions of SET and REMOVE.
-use Rattle.std.specs.Prelude.{ℕ, List, [], ◌∷◌, filter, not, Result, Ok}
+use Rattle.std.specs.Prelude.{ℕ, Bool, true, false, List, [], ◌∷◌, filter, not, Result, Ok}
 use Rattle.pg_meaning.specs.Answer.{Answer, ◌>>=◌, ◌>>◌}
-use Rattle.pg_meaning.specs.Entries.{without_key}
+use Rattle.pg_meaning.specs.Entries.{set_keys, without_key}
 use Rattle.pg_meaning.specs.Graph.{Graph}
 use Rattle.pg_meaning.specs.Names.{is_among}
 use Rattle.pg_meaning.specs.Patterns.{texts_of}
 use Rattle.pg_meaning.specs.Tree.{Name, RemoveItem, remove_property, remove_labels}
-use Rattle.pg_meaning.specs.Updates.{Target, mapping_pairs, test_storable, change_properties, change_labels}
-use Rattle.pg_meaning.specs.Value.{Value}
+use Rattle.pg_meaning.specs.Updates.{Target, test_storable, change_properties, change_labels}
+use Rattle.pg_meaning.specs.Value.{Entries, Value, no_entries}
 use Rattle.pg_meaning.specs.declared.fault.Fault.{Fault}
 
 -- the value under one key
 abbrev pub one_pair : List ℕ → Value → Result (List (List ℕ × Value)) Fault
 one_pair key v = Ok ((key, v) ∷ [])
 
--- the pairs of what has to be a map
-abbrev pub map_pairs : Answer → Result (List (List ℕ × Value)) Fault
-map_pairs value = value >>= mapping_pairs
+-- an element's entries with those of a map, in their place or beside them
+abbrev pub put_map : (is_whole : Bool) → List (List ℕ × Value) → Entries → Entries
+put_map true pairs es = set_keys pairs no_entries
+put_map false pairs es = set_keys pairs es
 
 -- the pairs of a value, where all may be stored
 abbrev pub storable_pairs : (Value → Result (List (List ℕ × Value)) Fault) → Answer → Result (List (List ℕ × Value)) Fault

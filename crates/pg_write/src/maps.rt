@@ -1,23 +1,22 @@
 //! The entries of a map as keys and values.
-ghost use Rattle.std.specs.Prelude.{◌≡◌, ◌≢◌, IfOk, IfErr, Ok, Err, map, string_bytes};
+ghost use Rattle.std.specs.Prelude.{◌≡◌, ◌≢◌, IfOk, IfErr, Ok, Err};
 ghost use Rattle.pg_meaning.specs.Updates.{mapping_pairs};
 ghost use Rattle.pg_meaning.specs.Value.{entries_of};
 ghost use Rattle.pg_meaning.specs.declared.fault.Fault.TheVariants.{OutOfMemory};
 ghost use Rattle.pg_store.specs.Stores.{pairs_of};
 ghost use Rattle.pg_value_core.specs.View.{view, entries_view};
-ghost use Rattle.pg_write.specs.Maps.{keys_of, values_of, joined};
+ghost use Rattle.pg_write.specs.Maps.{joined};
 
 use pg_value_core::{Fault, Parts, Value};
 use std::alloc::{AllocError, Global};
 use std::collections::BTreeMap;
 
-/// The keys of a map and its values, each moved out.
+// The entries of a map, told apart.
 fn split(
     alloc: Global,
     entries: BTreeMap<String, Value>,
 ) -> Result<(Vec<String>, Vec<Value>), AllocError>
-    ensures keys { IfOk result (λ parts. map string_bytes parts.0.items ≡ keys_of entries.entries) }
-    ensures values { IfOk result (λ parts. map view parts.1.items ≡ values_of entries.entries) }
+    ensures { IfOk result (λ parts. entries_of (entries_view entries.entries) ≡ joined parts.0.items parts.1.items) }
 {
     let mut keys = Vec::with_capacity(alloc, entries.len())?;
     let mut values = Vec::with_capacity(alloc, entries.len())?;
@@ -28,23 +27,13 @@ fn split(
     Ok((keys, values))
 }
 
-/// The entries of a map, told apart.
-fn parts(
-    alloc: Global,
-    entries: BTreeMap<String, Value>,
-) -> Result<(Vec<String>, Vec<Value>), AllocError>
-    ensures { IfOk result (λ parts. entries_of (entries_view entries.entries) ≡ joined parts.0.items parts.1.items) }
-{
-    split(alloc, entries)
-}
-
 /// The keys and the values of what has to be a map.
 pub(crate) fn map_parts(alloc: Global, value: Value) -> Result<(Vec<String>, Vec<Value>), Fault>
     ensures ok { IfOk result (λ parts. mapping_pairs (view value) ≡ Ok (joined parts.0.items parts.1.items)) }
     ensures err { IfErr result (λ e. e ≢ OutOfMemory → mapping_pairs (view value) ≡ Err e) }
 {
     match value.into_parts() {
-        Parts::Map(entries) => Ok(parts(alloc, entries)?),
+        Parts::Map(entries) => Ok(split(alloc, entries)?),
         _ => Err(Fault::TypeFault),
     }
 }

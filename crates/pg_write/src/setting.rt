@@ -3,8 +3,7 @@ ghost use Rattle.std.specs.Prelude.{◌≡◌, ◌≢◌, ◌<◌, OnOk, IfOk, I
 ghost use Rattle.pg_meaning.specs.Answer.{each_step};
 ghost use Rattle.pg_meaning.specs.Entries.{set_keys};
 ghost use Rattle.pg_meaning.specs.Meters.{Setting};
-ghost use Rattle.pg_meaning.specs.Updates.{mapping_pairs, test_storable, set_pairs, set_item, set_row, set_clause};
-ghost use Rattle.pg_meaning.specs.Value.{no_entries};
+ghost use Rattle.pg_meaning.specs.Updates.{mapping_pairs, set_pairs, set_item, set_row, set_clause};
 ghost use Rattle.pg_meaning.specs.declared.fault.Fault.TheVariants.{OutOfMemory};
 ghost use Rattle.pg_rows.specs.Named.{rows_named};
 ghost use Rattle.pg_rows.specs.States.{Suits, seen, state_of};
@@ -14,8 +13,7 @@ ghost use Rattle.pg_syntax_tree.specs.View.{set_item_view};
 ghost use Rattle.pg_value_core.specs.Given.{parameters_view};
 ghost use Rattle.pg_value_core.specs.Gives.{Gives};
 ghost use Rattle.pg_write.specs.Items.{item_of, changed_by};
-ghost use Rattle.pg_write.specs.Maps.{joined};
-ghost use Rattle.pg_write.specs.Parts.{map_pairs, one_pair, storable_pairs};
+ghost use Rattle.pg_write.specs.Parts.{one_pair, put_map, storable_pairs};
 ghost use Rattle.pg_write.specs.Targets.{target_view, IsThere};
 ghost use Rattle.pg_write_make.specs.Changed.{Changed};
 ghost use Rattle.pg_write_make.specs.Scenes.{given, row_in, parameters_in, reading};
@@ -52,35 +50,6 @@ fn key_value<'a, T: Tables>(
     Ok(pairs)
 }
 
-// The entries of a map that an expression gives.
-fn map_value<T: Tables>(
-    scene: &Scene<'_>,
-    graph: &Snapshot<'_, T>,
-    row: &[Value],
-    value: &Prepared<'_>,
-) -> Result<(Vec<String>, Vec<Value>), Fault>
-    ensures ok { IfOk result (λ parts. map_pairs (given scene.now graph.now row.now value.now) ≡ Ok (joined parts.0.items parts.1.items)) }
-    ensures err { IfErr result (λ e. e ≢ OutOfMemory → map_pairs (given scene.now graph.now row.now value.now) ≡ Err e) }
-{
-    let value = scene.evaluate(graph, row, value)?;
-    map_parts(scene.alloc, value)
-}
-
-// The entries of a map, where all may be stored.
-fn storable_entries<'a>(
-    alloc: Global,
-    keys: &'a Vec<String>,
-    values: Vec<Value>,
-) -> Result<Vec<(&'a str, Value)>, Fault>
-    ensures pairs { IfOk result (λ pairs. pairs_of pairs.items ≡ joined keys.now.items values.items) }
-    ensures ok { OnOk result (test_storable (joined keys.now.items values.items) ≡ Ok tt) }
-    ensures err { IfErr result (λ e. e ≢ OutOfMemory → test_storable (joined keys.now.items values.items) ≡ Err e) }
-{
-    let pairs = join(alloc, keys, values)?;
-    test_storable(&pairs)?;
-    Ok(pairs)
-}
-
 // Gives a target a value under one key.
 fn set_key<T: Tables>(
     scene: &Scene<'_>,
@@ -102,46 +71,30 @@ fn set_key<T: Tables>(
     Ok(())
 }
 
-// Gives a target the entries of a map in the place of its own properties.
-fn set_all<T: Tables>(
+// Gives a target the entries of a map, in the place of its own properties or beside them.
+fn set_map<T: Tables>(
     scene: &Scene<'_>,
     store: &mut Store<T>,
     shared: &mut Shared<T::Shared>,
     row: &[Value],
     value: &Prepared<'_>,
     target: Target,
+    is_whole: bool,
 ) -> Result<(), Fault>
     requires fit { IsFit T.seen store.old shared.old }
     requires there { IsThere (graph_of_store T.seen store.old shared.old) (target_view target) }
-    ensures ok { OnOk result (set_pairs (graph_of_store T.seen store.old shared.old) mapping_pairs (λ ps es. set_keys ps no_entries) (given scene.now (graph_of_store T.seen store.old shared.old) row.now value.now) (target_view target) ≡ Ok (graph_of_store T.seen store.new shared.new)) }
-    ensures err { IfErr result (λ e. e ≢ OutOfMemory → set_pairs (graph_of_store T.seen store.old shared.old) mapping_pairs (λ ps es. set_keys ps no_entries) (given scene.now (graph_of_store T.seen store.old shared.old) row.now value.now) (target_view target) ≡ Err e) }
+    ensures ok { OnOk result (set_pairs (graph_of_store T.seen store.old shared.old) mapping_pairs (put_map is_whole) (given scene.now (graph_of_store T.seen store.old shared.old) row.now value.now) (target_view target) ≡ Ok (graph_of_store T.seen store.new shared.new)) }
+    ensures err { IfErr result (λ e. e ≢ OutOfMemory → set_pairs (graph_of_store T.seen store.old shared.old) mapping_pairs (put_map is_whole) (given scene.now (graph_of_store T.seen store.old shared.old) row.now value.now) (target_view target) ≡ Err e) }
     ensures changed { Changed T.seen store.old shared.old store.new shared.new }
 {
-    let (keys, values) = map_value(scene, &store.graph(shared), row, value)?;
-    let pairs = storable_entries(scene.alloc, &keys, values)?;
-    replace_properties(scene.alloc, store, shared, target, pairs)?;
-    Ok(())
-}
-
-// Gives a target the entries of a map beside its own properties.
-fn set_more<T: Tables>(
-    scene: &Scene<'_>,
-    store: &mut Store<T>,
-    shared: &mut Shared<T::Shared>,
-    row: &[Value],
-    value: &Prepared<'_>,
-    target: Target,
-) -> Result<(), Fault>
-    requires fit { IsFit T.seen store.old shared.old }
-    requires there { IsThere (graph_of_store T.seen store.old shared.old) (target_view target) }
-    ensures ok { OnOk result (set_pairs (graph_of_store T.seen store.old shared.old) mapping_pairs set_keys (given scene.now (graph_of_store T.seen store.old shared.old) row.now value.now) (target_view target) ≡ Ok (graph_of_store T.seen store.new shared.new)) }
-    ensures err { IfErr result (λ e. e ≢ OutOfMemory → set_pairs (graph_of_store T.seen store.old shared.old) mapping_pairs set_keys (given scene.now (graph_of_store T.seen store.old shared.old) row.now value.now) (target_view target) ≡ Err e) }
-    ensures changed { Changed T.seen store.old shared.old store.new shared.new }
-{
-    let (keys, values) = map_value(scene, &store.graph(shared), row, value)?;
-    let pairs = storable_entries(scene.alloc, &keys, values)?;
-    put_properties(scene.alloc, store, shared, target, pairs)?;
-    Ok(())
+    let value = scene.evaluate(&store.graph(shared), row, value)?;
+    let (keys, values) = map_parts(scene.alloc, value)?;
+    let pairs = join(scene.alloc, &keys, values)?;
+    test_storable(&pairs)?;
+    if is_whole {
+        return Ok(replace_properties(scene.alloc, store, shared, target, pairs)?);
+    }
+    Ok(put_properties(scene.alloc, store, shared, target, pairs)?)
 }
 
 // Changes a target that is there.
@@ -161,8 +114,8 @@ fn change<T: Tables>(
 {
     match change {
         ReadyChange::Key(key, value) => set_key(scene, store, shared, row, key, value, target),
-        ReadyChange::All(value) => set_all(scene, store, shared, row, value, target),
-        ReadyChange::More(value) => set_more(scene, store, shared, row, value, target),
+        ReadyChange::All(value) => set_map(scene, store, shared, row, value, target, true),
+        ReadyChange::More(value) => set_map(scene, store, shared, row, value, target, false),
         ReadyChange::Labels(labels) => put_labels(scene.alloc, store, shared, target, labels),
     }
 }

@@ -3,6 +3,7 @@ use Rattle.std.specs.Prelude.{String, string_bytes}
 use Rattle.std.specs.declared.alloc.Global.{Global}
 use Rattle.pg_value_core.specs.View.{view}
 use Rattle.pg_value_core.specs.declared.value.Value.{Value}
+use Rattle.pg_write.proofs.MapLemmas.{moved_joined}
 use Rattle.pg_write.proofs.MovedLemmas.{one_moved, all_moved}
 use Rattle.pg_write.specs.Maps.{keys_of, values_of}
 use Rattle.pg_write.proofs.maps.split.Goals as goal
@@ -22,7 +23,6 @@ returns c =
     let l = c.loop-key in
     let entries = c.args.entries.entries in
     let none = c.in-None.ensures.steps.0 in
-    record {
-      keys = all_moved string_bytes (λ (e : String Global × Value). string_bytes e.0) l.keys.items l.key-iterator (keys_of entries) l.invariant.keys none;
-      values = all_moved view (λ (e : String Global × Value). view e.1) l.values.items l.key-iterator (values_of entries) l.invariant.values none;
-    }
+    moved_joined entries l.keys.items l.values.items
+    (all_moved string_bytes (λ (e : String Global × Value). string_bytes e.0) l.keys.items l.key-iterator (keys_of entries) l.invariant.keys none)
+    (all_moved view (λ (e : String Global × Value). view e.1) l.values.items l.key-iterator (values_of entries) l.invariant.values none)

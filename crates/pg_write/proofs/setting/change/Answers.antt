@@ -22,8 +22,8 @@ returns-in-Key g c =
       changed = c.set_key.ensures.changed;
     }
 
-pub set_all-requires : goal.set_all-requires
-set_all-requires g c = record { fit = c.requires.fit; there = c.requires.there }
+pub set_map-requires : goal.set_map-requires
+set_map-requires g c = record { fit = c.requires.fit; there = c.requires.there }
 
 pub returns-in-All : goal.returns-in-All
 returns-in-All g c =
@@ -31,13 +31,13 @@ returns-in-All g c =
     let scene = c.args.scene.now in
     let by = λ (change : ReadyChange). changed_by scene.names.now (parameters_in scene) (row_in scene c.args.row.now) (graph_of_store seen c.args.store.now c.args.shared.now) change (target_view c.args.target) in
     record {
-      ok = ok_through c.set_all.result (by c.args.change.now) (by (All c.in-All.value)) (Ok (graph_of_store seen c.set_all.new.store c.set_all.new.shared)) (ap by c.in-All.is) c.set_all.ensures.ok;
-      err = err_through c.set_all.result (by c.args.change.now) (by (All c.in-All.value)) (ap by c.in-All.is) c.set_all.ensures.err;
-      changed = c.set_all.ensures.changed;
+      ok = ok_through c.set_map.result (by c.args.change.now) (by (All c.in-All.value)) (Ok (graph_of_store seen c.set_map.new.store c.set_map.new.shared)) (ap by c.in-All.is) c.set_map.ensures.ok;
+      err = err_through c.set_map.result (by c.args.change.now) (by (All c.in-All.value)) (ap by c.in-All.is) c.set_map.ensures.err;
+      changed = c.set_map.ensures.changed;
     }
 
-pub set_more-requires : goal.set_more-requires
-set_more-requires g c = record { fit = c.requires.fit; there = c.requires.there }
+pub set_map-requires-in-More : goal.set_map-requires-in-More
+set_map-requires-in-More g c = record { fit = c.requires.fit; there = c.requires.there }
 
 pub returns-in-More : goal.returns-in-More
 returns-in-More g c =
@@ -45,9 +45,9 @@ returns-in-More g c =
     let scene = c.args.scene.now in
     let by = λ (change : ReadyChange). changed_by scene.names.now (parameters_in scene) (row_in scene c.args.row.now) (graph_of_store seen c.args.store.now c.args.shared.now) change (target_view c.args.target) in
     record {
-      ok = ok_through c.set_more.result (by c.args.change.now) (by (More c.in-More.value)) (Ok (graph_of_store seen c.set_more.new.store c.set_more.new.shared)) (ap by c.in-More.is) c.set_more.ensures.ok;
-      err = err_through c.set_more.result (by c.args.change.now) (by (More c.in-More.value)) (ap by c.in-More.is) c.set_more.ensures.err;
-      changed = c.set_more.ensures.changed;
+      ok = ok_through c.set_map-in-More.result (by c.args.change.now) (by (More c.in-More.value)) (Ok (graph_of_store seen c.set_map-in-More.new.store c.set_map-in-More.new.shared)) (ap by c.in-More.is) c.set_map-in-More.ensures.ok;
+      err = err_through c.set_map-in-More.result (by c.args.change.now) (by (More c.in-More.value)) (ap by c.in-More.is) c.set_map-in-More.ensures.err;
+      changed = c.set_map-in-More.ensures.changed;
     }
 
 pub put_labels-requires : goal.put_labels-requires

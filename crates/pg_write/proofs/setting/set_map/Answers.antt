@@ -1,0 +1,140 @@
+use Rattle.std.proofs.Common.{◌≡◌, true, false, Ok, Err, refl, sym, ap, subst, ◌∙◌}
+use Rattle.std.proofs.lemmas.Result.{IfOk-from_err}
+use Rattle.pg_expr.proofs.ExitLemmas.{fault_passed}
+use Rattle.pg_meaning.specs.Updates.{mapping_pairs, set_pairs}
+use Rattle.pg_meaning.specs.declared.fault.Fault.TheVariants.{OutOfMemory}
+use Rattle.pg_store.specs.Stores.{graph_of_store, pairs_of}
+use Rattle.pg_value_core.specs.View.{view}
+use Rattle.pg_write.proofs.PartLemmas.{value_refused, map_refused, entries_refused, map_set, pairs_read}
+use Rattle.pg_write.specs.Parts.{put_map}
+use Rattle.pg_write.specs.Targets.{target_view}
+use Rattle.pg_write_make.proofs.ChangedLemmas.{unchanged}
+use Rattle.pg_write_make.specs.Scenes.{given}
+use Rattle.pg_write.proofs.setting.set_map.Goals as goal
+
+pub returns-in_err-value : goal.returns-in_err-value
+returns-in_err-value g c =
+    let graph = graph_of_store g.T.Tables.seen c.args.store.now c.args.shared.now in
+    let read = given c.args.scene.now graph c.args.row.now c.args.value.now in
+    let change = put_map c.args.is_whole in
+    let set = set_pairs graph mapping_pairs change read (target_view c.args.target) in
+    record {
+      ok = IfOk-from_err c.from_residual.result (λ u. set ≡ Ok graph) c.from_residual.ensures.0;
+      err =
+          fault_passed set c.in_err-value.field-0.0 c.from_residual.result c.from_residual.ensures.1
+          (λ other. value_refused graph mapping_pairs change (target_view c.args.target) read c.in_err-value.field-0.0
+          (ap (λ read. given c.args.scene.now read c.args.row.now c.args.value.now) (sym c.graph.ensures) ∙ c.in_err-value.ensures.err other));
+      changed = unchanged g.T.Tables.seen c.args.store.now c.args.shared.now c.requires.fit;
+    }
+
+pub returns-in_err-keys : goal.returns-in_err-keys
+returns-in_err-keys g c =
+    let graph = graph_of_store g.T.Tables.seen c.args.store.now c.args.shared.now in
+    let read = given c.args.scene.now graph c.args.row.now c.args.value.now in
+    let change = put_map c.args.is_whole in
+    let target = target_view c.args.target in
+    let set = set_pairs graph mapping_pairs change read target in
+    let is = ap (λ read. given c.args.scene.now read c.args.row.now c.args.value.now) (sym c.graph.ensures) ∙ c.in_ok-value.ensures.ok in
+    let result = c.from_residual-in_err-keys in
+    record {
+      ok = IfOk-from_err result.result (λ u. set ≡ Ok graph) result.ensures.0;
+      err = fault_passed set c.in_err-keys.field-0.0 result.result result.ensures.1 (λ other. map_refused graph mapping_pairs change target read c.in_err-keys.field-0.0 (pairs_read graph mapping_pairs change target read (view c.in_ok-value.value) (Err c.in_err-keys.field-0.0) is (c.in_err-keys.ensures.err other)));
+      changed = unchanged g.T.Tables.seen c.args.store.now c.args.shared.now c.requires.fit;
+    }
+
+pub returns-in_err-pairs : goal.returns-in_err-pairs
+returns-in_err-pairs g c =
+    let graph = graph_of_store g.T.Tables.seen c.args.store.now c.args.shared.now in
+    let read = given c.args.scene.now graph c.args.row.now c.args.value.now in
+    let change = put_map c.args.is_whole in
+    let target = target_view c.args.target in
+    let set = set_pairs graph mapping_pairs change read target in
+    let result = c.from_residual-in_err-pairs in
+    record {
+      ok = IfOk-from_err result.result (λ u. set ≡ Ok graph) result.ensures.0;
+      err = fault_passed set OutOfMemory result.result result.ensures.1 (λ other. absurd (other refl));
+      changed = unchanged g.T.Tables.seen c.args.store.now c.args.shared.now c.requires.fit;
+    }
+
+pub returns-in_err-test_storable : goal.returns-in_err-test_storable
+returns-in_err-test_storable g c =
+    let graph = graph_of_store g.T.Tables.seen c.args.store.now c.args.shared.now in
+    let read = given c.args.scene.now graph c.args.row.now c.args.value.now in
+    let change = put_map c.args.is_whole in
+    let target = target_view c.args.target in
+    let set = set_pairs graph mapping_pairs change read target in
+    let pairs = pairs_of c.in_ok-pairs.pairs.items in
+    let is = ap (λ read. given c.args.scene.now read c.args.row.now c.args.value.now) (sym c.graph.ensures) ∙ c.in_ok-value.ensures.ok in
+    let are = pairs_read graph mapping_pairs change target read (view c.in_ok-value.value) (Ok pairs) is (c.in_ok-keys.ensures.ok ∙ ap Ok (sym c.in_ok-pairs.ensures)) in
+    let result = c.from_residual-in_err-test_storable in
+    record {
+      ok = IfOk-from_err result.result (λ u. set ≡ Ok graph) result.ensures.0;
+      err =
+          fault_passed set c.in_err-test_storable.field-0.0 result.result result.ensures.1
+          (λ other. entries_refused graph mapping_pairs change target read pairs c.in_err-test_storable.field-0.0 are c.in_err-test_storable.ensures.err);
+      changed = unchanged g.T.Tables.seen c.args.store.now c.args.shared.now c.requires.fit;
+    }
+
+pub replace_properties-requires : goal.replace_properties-requires
+replace_properties-requires g c = record { fit = c.requires.fit; there = c.requires.there }
+
+pub put_properties-requires : goal.put_properties-requires
+put_properties-requires g c = record { fit = c.requires.fit; there = c.requires.there }
+
+pub returns-in_err-replace_properties : goal.returns-in_err-replace_properties
+returns-in_err-replace_properties g c =
+    let seen = g.T.Tables.seen in
+    let graph = graph_of_store seen c.args.store.now c.args.shared.now in
+    let set = set_pairs graph mapping_pairs (put_map c.args.is_whole) (given c.args.scene.now graph c.args.row.now c.args.value.now) (target_view c.args.target) in
+    let result = c.from_residual-in_err-replace_properties in
+    record {
+      ok = IfOk-from_err result.result (λ u. set ≡ Ok (graph_of_store seen c.replace_properties.new.store c.replace_properties.new.shared)) result.ensures.0;
+      err = fault_passed set OutOfMemory result.result result.ensures.1 (λ other. absurd (other refl));
+      changed = c.replace_properties.ensures.changed;
+    }
+
+pub returns-in_err-put_properties : goal.returns-in_err-put_properties
+returns-in_err-put_properties g c =
+    let seen = g.T.Tables.seen in
+    let graph = graph_of_store seen c.args.store.now c.args.shared.now in
+    let set = set_pairs graph mapping_pairs (put_map c.args.is_whole) (given c.args.scene.now graph c.args.row.now c.args.value.now) (target_view c.args.target) in
+    let result = c.from_residual-in_err-put_properties in
+    record {
+      ok = IfOk-from_err result.result (λ u. set ≡ Ok (graph_of_store seen c.put_properties.new.store c.put_properties.new.shared)) result.ensures.0;
+      err = fault_passed set OutOfMemory result.result result.ensures.1 (λ other. absurd (other refl));
+      changed = c.put_properties.ensures.changed;
+    }
+
+pub returns-then-is_whole : goal.returns-then-is_whole
+returns-then-is_whole g c =
+    let seen = g.T.Tables.seen in
+    let graph = graph_of_store seen c.args.store.now c.args.shared.now in
+    let read = given c.args.scene.now graph c.args.row.now c.args.value.now in
+    let change = put_map true in
+    let target = target_view c.args.target in
+    let after = graph_of_store seen c.replace_properties.new.store c.replace_properties.new.shared in
+    let pairs = pairs_of c.in_ok-pairs.pairs.items in
+    let is = ap (λ read. given c.args.scene.now read c.args.row.now c.args.value.now) (sym c.graph.ensures) ∙ c.in_ok-value.ensures.ok in
+    let are = pairs_read graph mapping_pairs change target read (view c.in_ok-value.value) (Ok pairs) is (c.in_ok-keys.ensures.ok ∙ ap Ok (sym c.in_ok-pairs.ensures)) in
+    record {
+      ok = subst (λ whole. set_pairs graph mapping_pairs (put_map whole) read target ≡ Ok after) (sym c.if-is_whole.true) (map_set graph mapping_pairs change target read pairs are c.in_ok-test_storable.ensures.ok ∙ ap Ok c.in_ok-replace_properties.ensures.ok);
+      err = tt;
+      changed = c.replace_properties.ensures.changed;
+    }
+
+pub returns : goal.returns
+returns g c =
+    let seen = g.T.Tables.seen in
+    let graph = graph_of_store seen c.args.store.now c.args.shared.now in
+    let read = given c.args.scene.now graph c.args.row.now c.args.value.now in
+    let change = put_map false in
+    let target = target_view c.args.target in
+    let after = graph_of_store seen c.put_properties.new.store c.put_properties.new.shared in
+    let pairs = pairs_of c.in_ok-pairs.pairs.items in
+    let is = ap (λ read. given c.args.scene.now read c.args.row.now c.args.value.now) (sym c.graph.ensures) ∙ c.in_ok-value.ensures.ok in
+    let are = pairs_read graph mapping_pairs change target read (view c.in_ok-value.value) (Ok pairs) is (c.in_ok-keys.ensures.ok ∙ ap Ok (sym c.in_ok-pairs.ensures)) in
+    record {
+      ok = subst (λ whole. set_pairs graph mapping_pairs (put_map whole) read target ≡ Ok after) (sym c.if-is_whole.false) (map_set graph mapping_pairs change target read pairs are c.in_ok-test_storable.ensures.ok ∙ ap Ok c.in_ok-put_properties.ensures.ok);
+      err = tt;
+      changed = c.put_properties.ensures.changed;
+    }

@@ -50,12 +50,15 @@ module _ (o : Outcome) (room id : Result (Unit {0}) Fault) (make : Entries → G
   no_properties e given = λ i. made_if (given i) room id make
 
   module _ (properties : Entries) (given : o ≡ Ok properties) where
-    pub no_room : (e : Fault) → room ≡ Err e → made_if o room id make ≡ Err e
-    no_room e full = λ i. made_if (given i) (full i) id make
+    first_both : (room id : Result (Unit {0}) Fault) (r : Result Graph Fault) → (room >> (id >> r)) ≡ ((room >> id) >> r)
+    first_both (Ok u) id r = refl
+    first_both (Err e) id r = refl
 
-    module _ (free : room ≡ Ok tt) where
-      pub no_id : (e : Fault) → id ≡ Err e → made_if o room id make ≡ Err e
-      no_id e last = λ i. made_if (given i) (free i) (last i) make
+    by_tests : made_if o room id make ≡ ((room >> id) >> Ok (make properties))
+    by_tests = (λ i. made_if (given i) room id make) ∙ first_both room id (Ok (make properties))
 
-      pub all_there : (after : Graph) → id ≡ Ok tt → after ≡ make properties → made_if o room id make ≡ Ok after
-      all_there after next made = (λ i. made_if (given i) (free i) (next i) make) ∙ ap Ok (sym made)
+    pub none_new : (e : Fault) → (room >> id) ≡ Err e → made_if o room id make ≡ Err e
+    none_new e refused = by_tests ∙ ap (λ tests. tests >> Ok (make properties)) refused
+
+    pub all_there : (after : Graph) → (room >> id) ≡ Ok tt → after ≡ make properties → made_if o room id make ≡ Ok after
+    all_there after passed made = by_tests ∙ ap (λ tests. tests >> Ok (make properties)) passed ∙ ap Ok (sym made)

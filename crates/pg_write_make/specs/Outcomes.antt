@@ -30,6 +30,9 @@ outcome_view (Err e) = Err e
 abbrev pub room_for : (max_elements : ℕ) → Graph → Result (Unit {0}) Fault
 room_for max_elements graph = unless (nat_lt (element_count graph) max_elements) ElementQuota
 
+abbrev pub room_and_id : (max_elements next : ℕ) → Graph → Result (Unit {0}) Fault
+room_and_id max_elements next graph = room_for max_elements graph >> test_counter next
+
 -- a node that is new in the graph
 abbrev pub node_added : (max_elements : ℕ) → Outcome → NodePattern → Graph → Result Graph Fault
 node_added max_elements outcome n graph = do

@@ -10,7 +10,7 @@ ghost use Rattle.pg_meaning.specs.Entries.{set_keys};
 ghost use Rattle.pg_meaning.specs.Value.{no_entries};
 ghost use Rattle.pg_syntax_tree.specs.View.{node_view, relationship_view};
 ghost use Rattle.pg_write_make.specs.Changed.{Changed};
-ghost use Rattle.pg_write_make.specs.Outcomes.{node_added, relationship_of, outcome_view, room_for};
+ghost use Rattle.pg_write_make.specs.Outcomes.{node_added, relationship_of, outcome_view, room_and_id};
 
 use crate::texts::{label_texts, type_text};
 use pg_graph::Tables;
@@ -33,13 +33,15 @@ fn test_counter(next: u64) -> Result<(), Fault>
     Ok(())
 }
 
-// Whether there is room for one more element.
-fn test_room<T: Tables>(graph: &Snapshot<'_, T>, max_elements: u64) -> Result<(), Fault>
+// Whether there is room for one more element, and an id for it.
+fn test_new<T: Tables>(graph: &Snapshot<'_, T>, max_elements: u64, next: u64) -> Result<(), Fault>
     requires { max_elements ≤ 2 ^ 63 }
-    ensures is { result ≡ room_for max_elements graph.now }
+    ensures is { result ≡ room_and_id max_elements next graph.now }
     ensures left { OnOk result (element_count graph.now < 2 ^ 63) }
+    ensures below { OnOk result (next < greatest_id) }
 {
-    Room::new(graph.elements(), max_elements).take()
+    Room::new(graph.elements(), max_elements).take()?;
+    test_counter(next)
 }
 
 /// Adds a node, as the pattern says and with these properties, or what stands in their place.
@@ -60,8 +62,7 @@ pub(crate) fn add_node<T: Tables>(
     ensures changed { Changed T.seen store.old shared.old store.new shared.new }
 {
     let properties = outcome?;
-    test_room(&store.graph(shared), max_elements)?;
-    test_counter(store.next_ids().node)?;
+    test_new(&store.graph(shared), max_elements, store.next_ids().node)?;
     let labels = label_texts(alloc, &pattern.labels)?;
     Ok(store.create_node(alloc, shared, &labels, properties)?)
 }
@@ -116,7 +117,6 @@ pub(crate) fn add_relationship<T: Tables>(
     ensures changed { Changed T.seen store.old shared.old store.new shared.new }
 {
     let properties = outcome?;
-    test_room(&store.graph(shared), max_elements)?;
-    test_counter(store.next_ids().rel)?;
+    test_new(&store.graph(shared), max_elements, store.next_ids().rel)?;
     Ok(add_between(alloc, store, shared, pattern, left, right, properties)?)
 }

@@ -1,5 +1,5 @@
 //! What the expressions of paths give at a row, kept until their elements are made.
-ghost use Rattle.std.specs.Prelude.{◌≡◌, IfOk, IfErr, map};
+ghost use Rattle.std.specs.Prelude.{◌≡◌, ◌++◌, OnOk, IfOk, IfErr, map};
 ghost use Rattle.pg_meaning.specs.declared.fault.Fault.TheVariants.{OutOfMemory};
 ghost use Rattle.pg_syntax_tree.specs.View.{node_view, path_view, relationship_view};
 ghost use Rattle.pg_write_make.specs.Lent.{kept_view, paths_view};
@@ -13,23 +13,6 @@ use pg_graph::Tables;
 use pg_store::Snapshot;
 use pg_syntax_tree::{NodePattern, PathPattern, RelationshipPattern};
 use pg_value_core::{Fault, Value};
-
-// What the expressions of the nodes behind the first give, each kept.
-fn node_outcomes<'a, T: Tables>(
-    scene: &Scene<'a>,
-    graph: &Snapshot<'_, T>,
-    row: &[Value],
-    hops: &'a Vec<(RelationshipPattern, NodePattern)>,
-) -> Result<Vec<Result<Vec<(&'a str, Value)>, Fault>>, Fault>
-    ensures ok { IfOk result (λ kept. outcomes_view kept.items ≡ map (node_outcome (reading (parameters_in scene.now)) graph.now (row_in scene.now row.now)) (others_view hops.now.items)) }
-    ensures err { IfErr result (λ e. e ≡ OutOfMemory) }
-{
-    let mut kept = Vec::with_capacity(scene.alloc, hops.len())?;
-    for hop in hops {
-        kept.push(outcome(scene, graph, row, &hop.1.properties)?)?;
-    }
-    Ok(kept)
-}
 
 // What the expressions of a relationship give, kept.
 fn relationship_outcome<'a, T: Tables>(
@@ -47,21 +30,24 @@ fn relationship_outcome<'a, T: Tables>(
     }
 }
 
-// What the expressions of relationships give, each kept.
-fn relationship_outcomes<'a, T: Tables>(
+// What the expressions of the nodes behind the first give and those of the relationships, each kept.
+fn keep_hops<'a, T: Tables>(
     scene: &Scene<'a>,
     graph: &Snapshot<'_, T>,
     row: &[Value],
     hops: &'a Vec<(RelationshipPattern, NodePattern)>,
-) -> Result<Vec<Result<Vec<(&'a str, Value)>, Fault>>, Fault>
-    ensures ok { IfOk result (λ kept. outcomes_view kept.items ≡ map (relationship_outcome (reading (parameters_in scene.now)) graph.now (row_in scene.now row.now)) (relationships_view hops.now.items)) }
+    nodes: &mut Vec<Result<Vec<(&'a str, Value)>, Fault>>,
+    relationships: &mut Vec<Result<Vec<(&'a str, Value)>, Fault>>,
+) -> Result<(), Fault>
+    ensures nodes { OnOk result (outcomes_view nodes.new.items ≡ outcomes_view nodes.old.items ++ map (node_outcome (reading (parameters_in scene.now)) graph.now (row_in scene.now row.now)) (others_view hops.now.items)) }
+    ensures relationships { OnOk result (outcomes_view relationships.new.items ≡ outcomes_view relationships.old.items ++ map (relationship_outcome (reading (parameters_in scene.now)) graph.now (row_in scene.now row.now)) (relationships_view hops.now.items)) }
     ensures err { IfErr result (λ e. e ≡ OutOfMemory) }
 {
-    let mut kept = Vec::with_capacity(scene.alloc, hops.len())?;
     for hop in hops {
-        kept.push(relationship_outcome(scene, graph, row, &hop.0)?)?;
+        nodes.push(outcome(scene, graph, row, &hop.1.properties)?)?;
+        relationships.push(relationship_outcome(scene, graph, row, &hop.0)?)?;
     }
-    Ok(kept)
+    Ok(())
 }
 
 /// What the expressions of a path's nodes give, and those of its relationships.
@@ -81,10 +67,21 @@ fn kept_of<'a, T: Tables>(
     ensures ok { IfOk result (λ kept. kept_view kept ≡ path_outcomes (reading (parameters_in scene.now)) graph.now (row_in scene.now row.now) (path_view path.now)) }
     ensures err { IfErr result (λ e. e ≡ OutOfMemory) }
 {
+    let first = outcome(scene, graph, row, &path.first.properties)?;
+    let mut nodes = Vec::new(scene.alloc);
+    let mut relationships = Vec::new(scene.alloc);
+    keep_hops(
+        scene,
+        graph,
+        row,
+        &path.hops,
+        &mut nodes,
+        &mut relationships,
+    )?;
     Ok(Kept {
-        first: outcome(scene, graph, row, &path.first.properties)?,
-        nodes: node_outcomes(scene, graph, row, &path.hops)?,
-        relationships: relationship_outcomes(scene, graph, row, &path.hops)?,
+        first,
+        nodes,
+        relationships,
     })
 }
 

@@ -10,8 +10,8 @@ use Rattle.pg_meaning.specs.declared.fault.Fault.TheVariants.{OutOfMemory}
 use Rattle.pg_store.specs.Stores.{graph_of_store, pairs_of}
 use Rattle.pg_syntax_tree.specs.View.{node_view}
 use Rattle.pg_write_make.proofs.ChangedLemmas.{one_change, unchanged}
-use Rattle.pg_write_make.proofs.RoomLemmas.{all_there, few_elements, id_left, no_id, no_properties, no_room}
-use Rattle.pg_write_make.specs.Outcomes.{outcome_view, room_for}
+use Rattle.pg_write_make.proofs.RoomLemmas.{all_there, few_elements, id_left, none_new, no_properties}
+use Rattle.pg_write_make.specs.Outcomes.{outcome_view, room_and_id, room_for}
 use Rattle.pg_write_make.proofs.elements.add_node.Goals as goal
 
 pub returns-in_err-properties-clause-ok : goal.returns-in_err-properties-clause-ok
@@ -29,35 +29,20 @@ returns-in_err-properties-clause-err g c =
 pub returns-in_err-properties-clause-changed : goal.returns-in_err-properties-clause-changed
 returns-in_err-properties-clause-changed g c = unchanged g.T.Tables.seen c.args.store.now c.args.shared.now c.requires.fit
 
-pub returns-in_err-test_room-clause-ok : goal.returns-in_err-test_room-clause-ok
-returns-in_err-test_room-clause-ok g c = IfOk-from_err c.from_residual-in_err-test_room.result _ c.from_residual-in_err-test_room.ensures.0
+pub returns-in_err-test_new-clause-ok : goal.returns-in_err-test_new-clause-ok
+returns-in_err-test_new-clause-ok g c = IfOk-from_err c.from_residual-in_err-test_new.result _ c.from_residual-in_err-test_new.ensures.0
 
-pub returns-in_err-test_room-clause-id : goal.returns-in_err-test_room-clause-id
-returns-in_err-test_room-clause-id g c = IfOk-from_err c.from_residual-in_err-test_room.result _ c.from_residual-in_err-test_room.ensures.0
+pub returns-in_err-test_new-clause-id : goal.returns-in_err-test_new-clause-id
+returns-in_err-test_new-clause-id g c = IfOk-from_err c.from_residual-in_err-test_new.result _ c.from_residual-in_err-test_new.ensures.0
 
-pub returns-in_err-test_room-clause-err : goal.returns-in_err-test_room-clause-err
-returns-in_err-test_room-clause-err g c =
+pub returns-in_err-test_new-clause-err : goal.returns-in_err-test_new-clause-err
+returns-in_err-test_new-clause-err g c =
     let graph = graph_of_store g.T.Tables.seen c.args.store.now c.args.shared.now in
     let make : Entries → Graph = λ es. add_node (texts_of (node_view c.args.pattern.now).labels) es graph in
-    fault_passed _ c.in_err-test_room.field-0.0 c.from_residual-in_err-test_room.result c.from_residual-in_err-test_room.ensures.1 (λ other. no_room (outcome_view c.args.outcome) (room_for c.args.max_elements graph) (test_counter graph.next_node) make (set_keys (pairs_of c.in_ok-properties.properties.items) no_entries) (ap outcome_view c.in_ok-properties.was) c.in_err-test_room.field-0.0 (sym (c.in_err-test_room.ensures.is ∙ ap (room_for c.args.max_elements) c.graph.ensures)))
+    fault_passed _ c.in_err-test_new.field-0.0 c.from_residual-in_err-test_new.result c.from_residual-in_err-test_new.ensures.1 (λ other. none_new (outcome_view c.args.outcome) (room_for c.args.max_elements graph) (test_counter graph.next_node) make (set_keys (pairs_of c.in_ok-properties.properties.items) no_entries) (ap outcome_view c.in_ok-properties.was) c.in_err-test_new.field-0.0 (sym (c.in_err-test_new.ensures.is ∙ (λ i. room_and_id c.args.max_elements (c.next_ids.ensures.node c.args.shared.now i) (c.graph.ensures i)))))
 
-pub returns-in_err-test_room-clause-changed : goal.returns-in_err-test_room-clause-changed
-returns-in_err-test_room-clause-changed g c = unchanged g.T.Tables.seen c.args.store.now c.args.shared.now c.requires.fit
-
-pub returns-in_err-test_counter-clause-ok : goal.returns-in_err-test_counter-clause-ok
-returns-in_err-test_counter-clause-ok g c = IfOk-from_err c.from_residual-in_err-test_counter.result _ c.from_residual-in_err-test_counter.ensures.0
-
-pub returns-in_err-test_counter-clause-id : goal.returns-in_err-test_counter-clause-id
-returns-in_err-test_counter-clause-id g c = IfOk-from_err c.from_residual-in_err-test_counter.result _ c.from_residual-in_err-test_counter.ensures.0
-
-pub returns-in_err-test_counter-clause-err : goal.returns-in_err-test_counter-clause-err
-returns-in_err-test_counter-clause-err g c =
-    let graph = graph_of_store g.T.Tables.seen c.args.store.now c.args.shared.now in
-    let make : Entries → Graph = λ es. add_node (texts_of (node_view c.args.pattern.now).labels) es graph in
-    fault_passed _ c.in_err-test_counter.field-0.0 c.from_residual-in_err-test_counter.result c.from_residual-in_err-test_counter.ensures.1 (λ other. no_id (outcome_view c.args.outcome) (room_for c.args.max_elements graph) (test_counter graph.next_node) make (set_keys (pairs_of c.in_ok-properties.properties.items) no_entries) (ap outcome_view c.in_ok-properties.was) (sym (c.in_ok-test_room.ensures.is ∙ ap (room_for c.args.max_elements) c.graph.ensures)) c.in_err-test_counter.field-0.0 (sym (c.in_err-test_counter.ensures.is ∙ ap test_counter (c.next_ids.ensures.node c.args.shared.now))))
-
-pub returns-in_err-test_counter-clause-changed : goal.returns-in_err-test_counter-clause-changed
-returns-in_err-test_counter-clause-changed g c = unchanged g.T.Tables.seen c.args.store.now c.args.shared.now c.requires.fit
+pub returns-in_err-test_new-clause-changed : goal.returns-in_err-test_new-clause-changed
+returns-in_err-test_new-clause-changed g c = unchanged g.T.Tables.seen c.args.store.now c.args.shared.now c.requires.fit
 
 pub returns-in_err-labels-clause-ok : goal.returns-in_err-labels-clause-ok
 returns-in_err-labels-clause-ok g c = IfOk-from_err c.from_residual-in_err-labels.result _ c.from_residual-in_err-labels.ensures.0
@@ -87,17 +72,17 @@ pub create_node-requires-clause-fit : goal.create_node-requires-clause-fit
 create_node-requires-clause-fit g c = c.requires.fit
 
 pub create_node-requires-clause-room : goal.create_node-requires-clause-room
-create_node-requires-clause-room g c = id_left c.next_ids.result.node c.args.store.now.next.node (ap (λ ids. ids.node) c.next_ids.ensures.is) c.in_ok-test_counter.ensures.below
+create_node-requires-clause-room g c = id_left c.next_ids.result.node c.args.store.now.next.node (ap (λ ids. ids.node) c.next_ids.ensures.is) c.in_ok-test_new.ensures.below
 
 pub create_node-requires-clause-count : goal.create_node-requires-clause-count
-create_node-requires-clause-count g c = few_elements g.T.Tables.seen c.args.store.now c.args.shared.now c.graph.result c.requires.fit c.graph.ensures c.in_ok-test_room.ensures.left
+create_node-requires-clause-count g c = few_elements g.T.Tables.seen c.args.store.now c.args.shared.now c.graph.result c.requires.fit c.graph.ensures c.in_ok-test_new.ensures.left
 
 pub returns-clause-ok : goal.returns-clause-ok
 returns-clause-ok g c =
     let graph = graph_of_store g.T.Tables.seen c.args.store.now c.args.shared.now in
     let make : Entries → Graph = λ es. add_node (texts_of (node_view c.args.pattern.now).labels) es graph in
-    all_there (outcome_view c.args.outcome) (room_for c.args.max_elements graph) (test_counter graph.next_node) make (set_keys (pairs_of c.in_ok-properties.properties.items) no_entries) (ap outcome_view c.in_ok-properties.was) (sym (c.in_ok-test_room.ensures.is ∙ ap (room_for c.args.max_elements) c.graph.ensures)) (graph_of_store g.T.Tables.seen c.create_node.new.self c.create_node.new.shared)
-    (sym (c.in_ok-test_counter.ensures.is ∙ ap test_counter (c.next_ids.ensures.node c.args.shared.now))) (c.in_ok-create_node.ensures.changes.says ∙ ap (λ ls. add_node ls (set_keys (pairs_of c.in_ok-properties.properties.items) no_entries) graph) c.in_ok-labels.ensures)
+    all_there (outcome_view c.args.outcome) (room_for c.args.max_elements graph) (test_counter graph.next_node) make (set_keys (pairs_of c.in_ok-properties.properties.items) no_entries) (ap outcome_view c.in_ok-properties.was) (graph_of_store g.T.Tables.seen c.create_node.new.self c.create_node.new.shared)
+    (sym (c.in_ok-test_new.ensures.is ∙ (λ i. room_and_id c.args.max_elements (c.next_ids.ensures.node c.args.shared.now i) (c.graph.ensures i)))) (c.in_ok-create_node.ensures.changes.says ∙ ap (λ ls. add_node ls (set_keys (pairs_of c.in_ok-properties.properties.items) no_entries) graph) c.in_ok-labels.ensures)
 
 pub returns-clause-id : goal.returns-clause-id
 returns-clause-id g c = c.in_ok-create_node.ensures.id

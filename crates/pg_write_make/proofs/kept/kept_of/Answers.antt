@@ -1,4 +1,4 @@
-use Rattle.std.proofs.Common.{map}
+use Rattle.std.proofs.Common.{◌++◌, map, ap, ◌∙◌}
 use Rattle.pg_syntax_tree.specs.View.{node_view}
 use Rattle.pg_write_make.proofs.LoopLemmas.{parts_kept}
 use Rattle.pg_write_make.specs.Makings.{others_view, outcomes_view, relationships_view}
@@ -11,7 +11,10 @@ returns-clause-ok g c =
     let path = c.args.path.now in
     let setting = reading (parameters_in c.args.scene.now) in
     let row = row_in c.args.scene.now c.args.row.now in
-    parts_kept (outcome_view c.in_ok-outcome.field-0) (node_outcome setting c.args.graph.now row (node_view path.first))
-    (outcomes_view c.in_ok-node_outcomes.field-0.items) (map (node_outcome setting c.args.graph.now row) (others_view path.hops.items))
-    (outcomes_view c.in_ok-relationship_outcomes.field-0.items) (map (relationship_outcome setting c.args.graph.now row) (relationships_view path.hops.items))
-    c.in_ok-outcome.ensures.kept c.in_ok-node_outcomes.ensures.ok c.in_ok-relationship_outcomes.ensures.ok
+    let nodes = map (node_outcome setting c.args.graph.now row) (others_view path.hops.items) in
+    let relationships = map (relationship_outcome setting c.args.graph.now row) (relationships_view path.hops.items) in
+    parts_kept (outcome_view c.in_ok-first.first) (node_outcome setting c.args.graph.now row (node_view path.first))
+    (outcomes_view c.keep_hops.new.nodes.items) nodes (outcomes_view c.keep_hops.new.relationships.items) relationships
+    c.in_ok-first.ensures.kept
+    (c.in_ok-keep_hops.ensures.nodes ∙ ap (λ os. outcomes_view os ++ nodes) c.new-nodes.ensures.items)
+    (c.in_ok-keep_hops.ensures.relationships ∙ ap (λ os. outcomes_view os ++ relationships) c.new-relationships.ensures.items)

@@ -1,11 +1,14 @@
 use Rattle.std.proofs.Common.{◌≡◌, length, map, refl, sym, ap, ◌∙◌, arith}
 use Rattle.std.proofs.lemmas.List.{length-map}
-use Rattle.std.proofs.lemmas.Result.{err_from_is_err_and}
+use Rattle.std.proofs.lemmas.Result.{IfOk-from_err, err_from_is_err_and}
+use Rattle.pg_expr.proofs.ExitLemmas.{fault_passed}
 use Rattle.pg_meaning.specs.Updates.{set_row}
+use Rattle.pg_meaning.specs.declared.fault.Fault.TheVariants.{OutOfMemory}
 use Rattle.pg_rows.specs.Tables.{table}
 use Rattle.pg_store.specs.Stores.{graph_of_store}
 use Rattle.pg_value_core.specs.View.{view}
 use Rattle.pg_write.specs.Items.{item_of}
+use Rattle.pg_write_make.proofs.ChangedLemmas.{unchanged}
 use Rattle.pg_write_make.specs.Scenes.{parameters_in, reading, row_in}
 use Rattle.pg_write.proofs.MergeLemmas.{row_done, row_fault, row_refused}
 use Rattle.pg_write.specs.Ready.{items_in, names_in, setting_in}
@@ -49,3 +52,54 @@ returns-clause-ok g c =
     (graph_of_store g.T.Tables.seen c.set_row.new.store c.set_row.new.shared) (table c.push.new.self) c.spend.new.self.used (c.in_ok-spend.ensures.spends s refl)
     (ap (λ vs. set_row (reading (parameters_in m.scene)) items graph (row_in m.scene vs)) (sym c.deref.ensures.value) ∙ c.in_ok-set_row.ensures.ok)
     c.in_ok-push.ensures.rows
+
+pub returns-in_err-spend-clause-ok : goal.returns-in_err-spend-clause-ok
+returns-in_err-spend-clause-ok g c = IfOk-from_err c.from_residual.result _ c.from_residual.ensures.0
+
+pub returns-in_err-spend-clause-width : goal.returns-in_err-spend-clause-width
+returns-in_err-spend-clause-width g c = refl
+
+pub returns-in_err-spend-clause-changed : goal.returns-in_err-spend-clause-changed
+returns-in_err-spend-clause-changed g c = unchanged g.T.Tables.seen c.args.store.now c.args.shared.now c.requires.fit
+
+pub returns-in_err-spend-clause-limit : goal.returns-in_err-spend-clause-limit
+returns-in_err-spend-clause-limit g c = c.spend.ensures.limit
+
+pub returns-in_err-set_row-clause-ok : goal.returns-in_err-set_row-clause-ok
+returns-in_err-set_row-clause-ok g c = IfOk-from_err c.from_residual-in_err-set_row.result _ c.from_residual-in_err-set_row.ensures.0
+
+pub returns-in_err-set_row-clause-width : goal.returns-in_err-set_row-clause-width
+returns-in_err-set_row-clause-width g c = refl
+
+pub returns-in_err-set_row-clause-changed : goal.returns-in_err-set_row-clause-changed
+returns-in_err-set_row-clause-changed g c = c.set_row.ensures.changed
+
+pub returns-in_err-set_row-clause-limit : goal.returns-in_err-set_row-clause-limit
+returns-in_err-set_row-clause-limit g c = c.spend.ensures.limit
+
+pub returns-in_err-push-clause-ok : goal.returns-in_err-push-clause-ok
+returns-in_err-push-clause-ok g c = IfOk-from_err c.from_residual-in_err-push.result _ c.from_residual-in_err-push.ensures.0
+
+pub returns-in_err-push-clause-err : goal.returns-in_err-push-clause-err
+returns-in_err-push-clause-err g c = fault_passed _ OutOfMemory c.from_residual-in_err-push.result c.from_residual-in_err-push.ensures.1 (λ other. absurd (other refl))
+
+pub returns-in_err-push-clause-width : goal.returns-in_err-push-clause-width
+returns-in_err-push-clause-width g c = c.push.ensures.width
+
+pub returns-in_err-push-clause-changed : goal.returns-in_err-push-clause-changed
+returns-in_err-push-clause-changed g c = c.set_row.ensures.changed
+
+pub returns-in_err-push-clause-limit : goal.returns-in_err-push-clause-limit
+returns-in_err-push-clause-limit g c = c.spend.ensures.limit
+
+pub returns-clause-err : goal.returns-clause-err
+returns-clause-err g c = tt
+
+pub returns-clause-width : goal.returns-clause-width
+returns-clause-width g c = c.push.ensures.width
+
+pub returns-clause-changed : goal.returns-clause-changed
+returns-clause-changed g c = c.set_row.ensures.changed
+
+pub returns-clause-limit : goal.returns-clause-limit
+returns-clause-limit g c = c.spend.ensures.limit

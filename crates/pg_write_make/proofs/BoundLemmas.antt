@@ -118,16 +118,16 @@ module _ (max : ℕ) (o : Outcome) (n : NodePattern) (m : Making) where
   of_new_fault e h k = ap of h ∙ ap (λ r. r >>= λ (after : Graph). Ok (with_new n m after)) k
 
 -- the node of a variable that is bound nowhere, from what making it gives
-pub placed : (max : ℕ) (o : Outcome) (n : NodePattern) (before after : Graph) (row named more : Row) (r : Result NodeId Fault) → node_found (bound_value (node_name n) (row ++ named)) ≡ Ok None
-    → IfOk r (λ id. (rs : Row) (ids : List ℕ) → bound_value (node_name n) (rs ++ named) ≡ None → node_after max o n (record { graph = before; bound = rs ++ named; ids = ids }) ≡ Ok (record { graph = after; bound = rs ++ more; ids = ids ++ id.0 ∷ [] }))
-    → IfOk r (λ id. (ids : List ℕ) → node_of max o n (record { graph = before; bound = row ++ named; ids = ids }) ≡ Ok (record { graph = after; bound = row ++ more; ids = ids ++ id.0 ∷ [] }))
-placed max o n before after row named more (Ok id) found made = λ ids. of_new max o n (record { graph = before; bound = row ++ named; ids = ids }) (record { graph = after; bound = row ++ more; ids = ids ++ id.0 ∷ [] }) found (made row ids (none_found (bound_value (node_name n) (row ++ named)) found))
-placed max o n before after row named more (Err e) found made = tt
+pub placed : (max : ℕ) (o : Outcome) (n : NodePattern) (before after : Graph) (row named more : Row) (ids all : List ℕ) (r : Result (Unit {0}) Fault) → node_found (bound_value (node_name n) (row ++ named)) ≡ Ok None
+    → IfOk r (λ u. (rs : Row) → bound_value (node_name n) (rs ++ named) ≡ None → node_after max o n (record { graph = before; bound = rs ++ named; ids = ids }) ≡ Ok (record { graph = after; bound = rs ++ more; ids = all }))
+    → IfOk r (λ u. node_of max o n (record { graph = before; bound = row ++ named; ids = ids }) ≡ Ok (record { graph = after; bound = row ++ more; ids = all }))
+placed max o n before after row named more ids all (Ok u) found made = of_new max o n (record { graph = before; bound = row ++ named; ids = ids }) (record { graph = after; bound = row ++ more; ids = all }) found (made row (none_found (bound_value (node_name n) (row ++ named)) found))
+placed max o n before after row named more ids all (Err e) found made = tt
 
-pub placed_not : {X : Type 0} (max : ℕ) (o : Outcome) (n : NodePattern) (before : Graph) (bound : Row) (r : Result X Fault) → node_found (bound_value (node_name n) bound) ≡ Ok None → IfErr r (λ e. e ≢ OutOfMemory → node_added max o n before ≡ Err e)
-    → IfErr r (λ e. e ≢ OutOfMemory → (ids : List ℕ) → node_of max o n (record { graph = before; bound = bound; ids = ids }) ≡ Err e)
-placed_not max o n before bound (Ok x) found made = tt
-placed_not max o n before bound (Err e) found made = λ other ids. of_new_fault max o n (record { graph = before; bound = bound; ids = ids }) e found (made other)
+pub placed_not : {X : Type 0} (max : ℕ) (o : Outcome) (n : NodePattern) (before : Graph) (bound : Row) (ids : List ℕ) (r : Result X Fault) → node_found (bound_value (node_name n) bound) ≡ Ok None → IfErr r (λ e. e ≢ OutOfMemory → node_added max o n before ≡ Err e)
+    → IfErr r (λ e. e ≢ OutOfMemory → node_of max o n (record { graph = before; bound = bound; ids = ids }) ≡ Err e)
+placed_not max o n before bound ids (Ok x) found made = tt
+placed_not max o n before bound ids (Err e) found made = λ other. of_new_fault max o n (record { graph = before; bound = bound; ids = ids }) e found (made other)
 
 -- a new node is bound behind what is bound already
 pub new_bound : (max : ℕ) (o : Outcome) (n : NodePattern) (before after : Graph) (named more : Row) (id : ℕ) → node_added max o n before ≡ Ok after → id ≡ before.next_node

@@ -8,7 +8,7 @@ ghost use Rattle.pg_rows.specs.Tables.{table};
 ghost use Rattle.pg_store.specs.Stores.{graph_of_store, IsFit};
 ghost use Rattle.pg_value_core.specs.View.{view};
 ghost use Rattle.pg_write_make.specs.Bindings.{match_bindings, named, EndsWith};
-ghost use Rattle.pg_write_make.specs.Creations.{row_created, row_made, rows_created};
+ghost use Rattle.pg_write_make.specs.Creations.{row_made, rows_created};
 ghost use Rattle.pg_write_make.specs.Lent.{paths_view, trail_view};
 ghost use Rattle.pg_write_make.specs.Changed.{Changed};
 ghost use Rattle.pg_write_make.specs.Scenes.{parameters_in, row_in};
@@ -70,29 +70,6 @@ pub fn make_row<T: Tables>(
     Ok(bound_row(scene, &store.graph(shared), row, paths, &trails)?)
 }
 
-// Makes the paths at a row, where its bound nodes are there.
-#[tactic(auto, using(crate::proofs::ChangedLemmas::unchanged))]
-fn create_row<T: Tables>(
-    scene: &Scene<'_>,
-    store: &mut Store<T>,
-    shared: &mut Shared<T::Shared>,
-    max_elements: u64,
-    row: Vec<Value>,
-    paths: &[PathPattern],
-) -> Result<Vec<Value>, Fault>
-    requires fit { IsFit T.seen store.old shared.old }
-    requires quota { max_elements ≤ 2 ^ 63 }
-    requires within { length row.items ≤ length scene.now.names.now }
-    requires names { add_path_names (paths_view paths.now) (take (length row.items) scene.now.names.now) ≡ scene.now.names.now }
-    ensures ok { IfOk result (λ values. row_created (parameters_in scene.now) max_elements (paths_view paths.now) (graph_of_store T.seen store.old shared.old) (row_in scene.now row.items) ≡ Ok (graph_of_store T.seen store.new shared.new, row_of scene.now.names.now (map view values.items))) }
-    ensures whole { IfOk result (λ values. length values.items ≡ length scene.now.names.now) }
-    ensures err { IfErr result (λ e. e ≢ OutOfMemory → row_created (parameters_in scene.now) max_elements (paths_view paths.now) (graph_of_store T.seen store.old shared.old) (row_in scene.now row.items) ≡ Err e) }
-    ensures changed { Changed T.seen store.old shared.old store.new shared.new }
-{
-    test_paths(scene, &store.graph(shared), &row, paths)?;
-    make_row(scene, store, shared, max_elements, row, paths)
-}
-
 /// Makes the paths at each row, in the graph of the rows before, and gives the rows with their new
 /// variables. The names are those behind the clause.
 #[tactic(auto, using(crate::proofs::ChangedLemmas::unchanged, crate::proofs::ChangedLemmas::changed_then))]
@@ -116,7 +93,8 @@ pub(crate) fn create_rows<T: Tables>(
     let mut made = Rows::new(scene.alloc, scene.names.len());
     let mut left = rows.into_left();
     while let Some(row) = left.next_row(scene.alloc)? {
-        made.push(create_row(scene, store, shared, max_elements, row, paths)?)?;
+        test_paths(scene, &store.graph(shared), &row, paths)?;
+        made.push(make_row(scene, store, shared, max_elements, row, paths)?)?;
     }
     Ok(made)
 }

@@ -1,7 +1,6 @@
 //! The nodes of a path at a row: those that are bound, and new ones.
 ghost use Rattle.std.specs.Map.{lookup};
-ghost use Rattle.std.specs.Prelude.{◌≡◌, ◌≢◌, ◌≤◌, ◌^◌, ◌++◌, ◌∷◌, [], ℕ, List, true, false, OnOk, IfOk, IfErr, Ok, Err, Some, None, IsSome, map, option_map, bytes_eq};
-ghost use Rattle.pg_meaning.specs.Graph.{has_node};
+ghost use Rattle.std.specs.Prelude.{◌≡◌, ◌≢◌, ◌≤◌, ◌^◌, ◌++◌, ◌∷◌, [], ℕ, List, false, OnOk, IfOk, IfErr, Ok, Err, Some, None, IsSome, map, option_map, bytes_eq};
 ghost use Rattle.pg_meaning.specs.Patterns.{node_name, nodes_of, text_of};
 ghost use Rattle.pg_meaning.specs.Reading.{test_bound, test_nodes};
 ghost use Rattle.pg_meaning.specs.Rows.{Row, value_in};
@@ -103,51 +102,23 @@ fn make_new_node<'a, T: Tables>(
     pattern: &'a NodePattern,
     outcome: Result<Vec<(&str, Value)>, Fault>,
     named: &mut Vec<(&'a str, NodeId)>,
-) -> Result<NodeId, Fault>
+    ids: &mut Vec<NodeId>,
+) -> Result<(), Fault>
     requires fit { IsFit T.seen store.old shared.old }
     requires quota { max_elements ≤ 2 ^ 63 }
-    ensures ok { IfOk result (λ id. (row : Row) (ids : List ℕ) → bound_value (node_name (node_view pattern.now)) (row ++ bindings named.old.items) ≡ None → node_after max_elements (outcome_view outcome.entry) (node_view pattern.now) (record { graph = graph_of_store T.seen store.old shared.old; bound = row ++ bindings named.old.items; ids = ids }) ≡ Ok (record { graph = graph_of_store T.seen store.new shared.new; bound = row ++ bindings named.new.items; ids = ids ++ id.0 ∷ [] })) }
+    ensures ok { OnOk result ((row : Row) → bound_value (node_name (node_view pattern.now)) (row ++ bindings named.old.items) ≡ None → node_after max_elements (outcome_view outcome.entry) (node_view pattern.now) (making_of (graph_of_store T.seen store.old shared.old) row named.old.items ids.old.items) ≡ Ok (making_of (graph_of_store T.seen store.new shared.new) row named.new.items ids.new.items)) }
     ensures err { IfErr result (λ e. e ≢ OutOfMemory → node_added max_elements (outcome_view outcome.entry) (node_view pattern.now) (graph_of_store T.seen store.old shared.old) ≡ Err e) }
     ensures changed { Changed T.seen store.old shared.old store.new shared.new }
     ensures grows { OnOk result (Grows (graph_of_store T.seen store.old shared.old) (graph_of_store T.seen store.new shared.new)) }
-    ensures there { IfOk result (λ id. has_node (graph_of_store T.seen store.new shared.new) id.0 ≡ true) }
-    ensures bound { OnOk result (AreThere (graph_of_store T.seen store.old shared.old) (named_ids named.old.items) → AreThere (graph_of_store T.seen store.new shared.new) (named_ids named.new.items)) }
+    ensures there { OnOk result (AllThere (graph_of_store T.seen store.old shared.old) named.old.items ids.old.items → AllThere (graph_of_store T.seen store.new shared.new) named.new.items ids.new.items) }
 {
     let id = add_node(scene.alloc, store, shared, max_elements, pattern, outcome)?;
     bind_new(named, &pattern.variable, id)?;
-    Ok(id)
+    ids.push(id)?;
+    Ok(())
 }
 
-// The node of a pattern, bound or new.
-#[tactic(auto, using(crate::proofs::ChangedLemmas::unchanged, crate::proofs::BoundLemmas::found_there, crate::proofs::BoundLemmas::none_found, crate::proofs::BoundLemmas::of_found, crate::proofs::BoundLemmas::of_new, crate::proofs::BoundLemmas::of_fault, crate::proofs::BoundLemmas::of_new_fault, crate::proofs::GrowthLemmas::grows_not))]
-fn place_node<'a, T: Tables>(
-    scene: &Scene<'_>,
-    store: &mut Store<T>,
-    shared: &mut Shared<T::Shared>,
-    max_elements: u64,
-    row: &[Value],
-    pattern: &'a NodePattern,
-    outcome: Result<Vec<(&str, Value)>, Fault>,
-    named: &mut Vec<(&'a str, NodeId)>,
-) -> Result<NodeId, Fault>
-    requires fit { IsFit T.seen store.old shared.old }
-    requires quota { max_elements ≤ 2 ^ 63 }
-    requires tested { test_bound false (graph_of_store T.seen store.old shared.old) (bound_value (node_name (node_view pattern.now)) (row_in scene.now row.now)) ≡ Ok tt }
-    requires there { AreThere (graph_of_store T.seen store.old shared.old) (named_ids named.old.items) }
-    ensures ok { IfOk result (λ id. (ids : List ℕ) → node_of max_elements (outcome_view outcome.entry) (node_view pattern.now) (record { graph = graph_of_store T.seen store.old shared.old; bound = row_in scene.now row.now ++ bindings named.old.items; ids = ids }) ≡ Ok (record { graph = graph_of_store T.seen store.new shared.new; bound = row_in scene.now row.now ++ bindings named.new.items; ids = ids ++ id.0 ∷ [] })) }
-    ensures err { IfErr result (λ e. e ≢ OutOfMemory → (ids : List ℕ) → node_of max_elements (outcome_view outcome.entry) (node_view pattern.now) (record { graph = graph_of_store T.seen store.old shared.old; bound = row_in scene.now row.now ++ bindings named.old.items; ids = ids }) ≡ Err e) }
-    ensures changed { Changed T.seen store.old shared.old store.new shared.new }
-    ensures grows { OnOk result (Grows (graph_of_store T.seen store.old shared.old) (graph_of_store T.seen store.new shared.new)) }
-    ensures there { IfOk result (λ id. has_node (graph_of_store T.seen store.new shared.new) id.0 ≡ true) }
-    ensures bound { OnOk result (AreThere (graph_of_store T.seen store.new shared.new) (named_ids named.new.items)) }
-{
-    match find_bound(scene, row, named, &pattern.variable)? {
-        Some(id) => Ok(id),
-        None => make_new_node(scene, store, shared, max_elements, pattern, outcome, named),
-    }
-}
-
-// The node of a pattern, behind the ids of those before.
+// The node of a pattern, bound or new, behind the ids of those before.
 #[tactic(auto, using(crate::proofs::BoundLemmas::pushed_id, crate::proofs::GrowthLemmas::there_grows, crate::proofs::GrowthLemmas::there_push))]
 fn make_node<'a, T: Tables>(
     scene: &Scene<'_>,
@@ -170,18 +141,22 @@ fn make_node<'a, T: Tables>(
     ensures grows { OnOk result (Grows (graph_of_store T.seen store.old shared.old) (graph_of_store T.seen store.new shared.new)) }
     ensures there { OnOk result (AllThere (graph_of_store T.seen store.new shared.new) named.new.items ids.new.items) }
 {
-    let id = place_node(
-        scene,
-        store,
-        shared,
-        max_elements,
-        row,
-        pattern,
-        outcome,
-        named,
-    )?;
-    ids.push(id)?;
-    Ok(())
+    match find_bound(scene, row, named, &pattern.variable)? {
+        Some(id) => {
+            ids.push(id)?;
+            Ok(())
+        }
+        None => make_new_node(
+            scene,
+            store,
+            shared,
+            max_elements,
+            pattern,
+            outcome,
+            named,
+            ids,
+        ),
+    }
 }
 
 // The nodes behind the first.

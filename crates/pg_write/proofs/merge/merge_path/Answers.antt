@@ -1,5 +1,5 @@
 use Rattle.std.proofs.Common.{◌≡◌, ◌∷◌, [], Ok, length, map, take, refl, sym, ap, ◌∙◌}
-use Rattle.std.proofs.lemmas.Result.{err_from_is_err_and}
+use Rattle.std.proofs.lemmas.Result.{IfOk-from_err, err_from_is_err_and}
 use Rattle.pg_match.proofs.Found.{rows_wide}
 use Rattle.pg_match_rows.specs.Parts.{parts_of}
 use Rattle.pg_match_stages.specs.View.{anchor_view}
@@ -94,3 +94,12 @@ returns-clause-changed g c = c.merge_columns.ensures.changed
 
 pub returns-clause-limit : goal.returns-clause-limit
 returns-clause-limit g c = c.merge_columns.ensures.limit
+
+pub returns-in_err-count-clause-names : goal.returns-in_err-count-clause-names
+returns-in_err-count-clause-names g c = IfOk-from_err c.from_residual.result _ c.from_residual.ensures.0
+
+pub returns-in_err-bindings-clause-names : goal.returns-in_err-bindings-clause-names
+returns-in_err-bindings-clause-names g c = IfOk-from_err c.from_residual-in_err-bindings.result _ c.from_residual-in_err-bindings.ensures.0
+
+pub returns-in_err-merged-clause-names : goal.returns-in_err-merged-clause-names
+returns-in_err-merged-clause-names g c = IfOk-from_err c.from_residual-in_err-merged.result _ c.from_residual-in_err-merged.ensures.0

@@ -1,11 +1,12 @@
 -- The different values so far, as the program and as the definitions tell them apart.
-use Rattle.std.proofs.Common.{◌≡◌, ◌||◌, Bool, true, false, cond, List, [], ◌∷◌, ◌++◌, map, Result, Ok, Err, Some, refl, sym, ap, ◌∙◌}
+use Rattle.std.proofs.Common.{◌≡◌, ◌||◌, Bool, true, false, cond, List, [], ◌∷◌, ◌++◌, map, Result, Ok, Err, Option, Some, None, refl, sym, ap, ◌∙◌}
 use Rattle.std.specs.List.{list_any}
 use Rattle.std.specs.Ordering.{on, eq_by_cmp}
 use Rattle.indexmap.specs.IndexSet.{insert_key}
-use Rattle.pg_project.specs.Summaries.{Held, Taken, held_with, other_with}
+use Rattle.pg_project.specs.Summaries.{Counts, Held, Taken, held_with, is_null, other_with, taken_with}
 use Rattle.pg_meaning.specs.Answer.{◌>>=◌}
 use Rattle.pg_meaning.specs.Order.{value_order, is_equivalent}
+use Rattle.pg_meaning.specs.Value.{Value as Datum}
 use Rattle.pg_meaning.specs.declared.fault.Fault.{Fault}
 use Rattle.pg_value_core.specs.View.{view}
 use Rattle.pg_value_core.specs.declared.value.Value.{Value}
@@ -21,15 +22,22 @@ pub view_append : (ks : List Value) (v : Value) → map view (ks ++ v ∷ []) �
 view_append [] v = refl
 view_append (k ∷ ks) v = ap (λ vs. view k ∷ vs) (view_append ks v)
 
-module _ (ks : List Value) (h : Held) (v : Value) where
-  abbrev chosen : Bool → Result Taken Fault
-  chosen b = cond b (Ok (record { different = Some (map view ks); held = h })) (held_with h (view v) >>= λ g. Ok (record { different = Some (map view ks ++ view v ∷ []); held = g }))
+pub null_seen : (o : Option (List Datum)) (v : Datum) → is_null v ≡ true → Counts o o v false
+null_seen o v e h = ap (λ b. cond b (Ok (record { different = o; held = h })) (other_with o h v)) e
 
-  pub known : list_any (same v) ks ≡ true → other_with (Some (map view ks)) h (view v) ≡ Ok (record { different = Some (map view ks); held = h })
-  known e = ap chosen (sym (any_same v ks) ∙ e)
+others_with : (o after : Option (List Datum)) (v : Datum) (counts : Bool) → is_null v ≡ false
+    → ((h : Held) → other_with o h v ≡ cond counts (held_with h v >>= λ g. Ok (record { different = after; held = g })) (Ok (record { different = after; held = h }))) → Counts o after v counts
+others_with o after v counts e others h = ap (λ b. cond b (Ok (record { different = o; held = h })) (other_with o h v)) e ∙ others h
 
-  pub refused : (f : Fault) → list_any (same v) ks ≡ false → held_with h (view v) ≡ Err f → other_with (Some (map view ks)) h (view v) ≡ Err f
-  refused f e k = ap chosen (sym (any_same v ks) ∙ e) ∙ ap (λ a. a >>= λ g. Ok (record { different = Some (map view ks ++ view v ∷ []); held = g })) k
+pub all_count : (v : Datum) → is_null v ≡ false → Counts None None v true
+all_count v e = others_with None None v true e (λ h. refl)
+
+module _ (ks : List Value) (v : Value) (other : is_null (view v) ≡ false) where
+  abbrev chosen : Held → Bool → Result Taken Fault
+  chosen h b = cond b (Ok (record { different = Some (map view ks); held = h })) (held_with h (view v) >>= λ g. Ok (record { different = Some (map view ks ++ view v ∷ []); held = g }))
+
+  pub known : list_any (same v) ks ≡ true → Counts (Some (map view ks)) (Some (map view ks)) (view v) false
+  known e = others_with (Some (map view ks)) (Some (map view ks)) (view v) false other (λ h. ap (chosen h) (sym (any_same v ks) ∙ e))
 
   put_behind : (w : Value) (us : List Value) → view w ≡ view v → us ≡ insert_key same ks w → list_any (same v) ks ≡ false → map view us ≡ map view ks ++ view v ∷ []
   put_behind w us s u e =
@@ -38,8 +46,19 @@ module _ (ks : List Value) (h : Held) (v : Value) where
       ∙ view_append ks w
       ∙ ap (λ d. map view ks ++ d ∷ []) s
 
-  pub taken : (g : Held) (w : Value) (us : List Value) → view w ≡ view v → us ≡ insert_key same ks w → list_any (same v) ks ≡ false → held_with h (view v) ≡ Ok g → other_with (Some (map view ks)) h (view v) ≡ Ok (record { different = Some (map view us); held = g })
-  taken g w us s u e k =
-      ap chosen (sym (any_same v ks) ∙ e)
-      ∙ ap (λ a. a >>= λ x. Ok (record { different = Some (map view ks ++ view v ∷ []); held = x })) k
-      ∙ ap (λ vs. Ok (record { different = Some vs; held = g })) (sym (put_behind w us s u e))
+  pub fresh : (w : Value) (us : List Value) → view w ≡ view v → us ≡ insert_key same ks w → list_any (same v) ks ≡ false → Counts (Some (map view ks)) (Some (map view us)) (view v) true
+  fresh w us s u e =
+      others_with (Some (map view ks)) (Some (map view us)) (view v) true other
+      (λ h.
+      ap (chosen h) (sym (any_same v ks) ∙ e)
+      ∙ ap (λ vs. held_with h (view v) >>= λ g. Ok (record { different = Some vs; held = g })) (sym (put_behind w us s u e)))
+
+module _ (before after : Option (List Datum)) (h : Held) (v : Datum) where
+  pub passed_over : Counts before after v false → taken_with (record { different = before; held = h }) v ≡ Ok (record { different = after; held = h })
+  passed_over is = is h
+
+  pub taken : (g : Held) → Counts before after v true → held_with h v ≡ Ok g → taken_with (record { different = before; held = h }) v ≡ Ok (record { different = after; held = g })
+  taken g is e = is h ∙ ap (λ r. r >>= λ x. Ok (record { different = after; held = x })) e
+
+  pub refused : (f : Fault) → Counts before after v true → held_with h v ≡ Err f → taken_with (record { different = before; held = h }) v ≡ Err f
+  refused f is e = is h ∙ ap (λ r. r >>= λ x. Ok (record { different = after; held = x })) e

@@ -2,7 +2,7 @@
 use Rattle.std.proofs.Common.{◌≡◌, ℕ, zero, suc, ◌+◌, ◌<◌, ◌||◌, ◌&&◌, Bool, true, false, not, cond, List, [], ◌∷◌, ◌++◌, map, length, get_or, set, Result, Ok, Err, refl, sym, ap, ◌∙◌, arith}
 use Rattle.indexmap.specs.IndexSet.{insert_key}
 use Rattle.std.proofs.lemmas.Cmp.{eq_by_cmp_equiv}
-use Rattle.std.proofs.lemmas.List.{get_or-map, map-set, length-map}
+use Rattle.std.proofs.lemmas.List.{get_or-map, map-set, length-append, length-map}
 use Rattle.std.specs.Cmp.Lexicographic.{pointwise}
 use Rattle.std.specs.Global.{Vec}
 use Rattle.std.specs.List.{list_any, position_or_len}
@@ -191,3 +191,9 @@ module _ (at : Answers) (aggregates : List Aggregate) (key : Vec Value) (ks more
 
   pub refused : (now : List (Vec Taken)) (old : Vec Taken) (f : Fault) → into ≡ put now old → all_taken_in at aggregates (takens_view old.items) ≡ Err f → into ≡ Err f
   refused now old f e h = e ∙ ap (λ a. a >>= λ ts. Ok (groups_of (keys_view more) (set (seen now) n ts))) h
+
+  pub paired_known : (now : List (Vec Taken)) → list_any (same_keys key) ks ≡ true → now ≡ tss → length more ≡ length now
+  paired_known now h is = ap length (kept_keys ∙ ap (λ b. cond b ks (ks ++ key ∷ [])) h) ∙ paired ∙ sym (ap length is)
+
+  pub paired_new : (now : List (Vec Taken)) (first : Vec Taken) → list_any (same_keys key) ks ≡ false → now ≡ tss ++ first ∷ [] → length more ≡ length now
+  paired_new now first h is = ap length (kept_keys ∙ ap (λ b. cond b ks (ks ++ key ∷ [])) h) ∙ length-append ks (key ∷ []) ∙ ap (λ n. n + 1) paired ∙ sym (ap length is ∙ length-append tss (first ∷ []))

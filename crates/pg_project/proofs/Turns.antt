@@ -1,11 +1,11 @@
 -- One answer after the other, from what is there and what is left.
 use Rattle.std.proofs.Common.{◌≡◌, ◌⊎◌, inl, inr, ℕ, zero, suc, ◌+◌, ◌<◌, ◌≤◌, min, Bool, true, false, List, [], ◌∷◌, ◌++◌, map, length, take, drop, get_or, set, Result, Ok, Err, Some, refl, sym, ap, ◌∙◌, arith, add-one, append-nil}
 use Rattle.std.proofs.Math.Seq.{drop-cons}
-use Rattle.std.proofs.lemmas.List.{append_assoc, take_more_set, take-set-le, drop-set-lt, length-set}
+use Rattle.std.proofs.lemmas.List.{append_assoc, take_more_set, drop-set-lt}
 use Rattle.std.proofs.lemmas.Bool.{leb-true, leb-false}
 use Rattle.std.specs.Prelude.{slice_get, nat_le}
-use Rattle.pg_project.specs.Kept.{Answers, taken_in, all_taken_in}
-use Rattle.pg_project.specs.Summaries.{Taken}
+use Rattle.pg_project.specs.Kept.{Answers, argument_given, taken_in, all_taken_in}
+use Rattle.pg_project.specs.Summaries.{Taken, taken_with}
 use Rattle.pg_meaning.specs.Aggregates.{Aggregate}
 use Rattle.pg_meaning.specs.Answer.{◌>>=◌, each_answer, each_step}
 use Rattle.pg_meaning.specs.declared.fault.Fault.{Fault}
@@ -63,29 +63,39 @@ module _ {X Y P Z : Type 0} (at : X → Result Y Fault) (see : P → X) (view : 
 -- ---- aggregates left to right, each in the place of what was kept before
 
 module _ {A Z : Type 0} (at : Answers) (see : A → Aggregate) (view : Z → Taken) where
-  pub next_taken : (bs : List A) (ts : List Z) (i : ℕ) (a : A) (t w u : Z) → i < length bs → i < length ts → a ≡ get_or bs i a → t ≡ get_or ts i t → taken_in at (see a) (view t) ≡ Ok (view u)
+  pub next_taken : (bs : List A) (ts : List Z) (i : ℕ) (a : A) (t u : Z) → i < length bs → i < length ts → a ≡ get_or bs i a → t ≡ get_or ts i t → taken_in at (see a) (view t) ≡ Ok (view u)
       → after (map view (take i ts)) (all_taken_in at (map see (drop i bs)) (map view (drop i ts)))
-      ≡ after (map view (take (i + 1) (set (set ts i w) i u))) (all_taken_in at (map see (drop (i + 1) bs)) (map view (drop (i + 1) (set (set ts i w) i u))))
-  next_taken bs ts i a t w u in_bs in_ts a-is t-is e =
+      ≡ after (map view (take (i + 1) (set ts i u))) (all_taken_in at (map see (drop (i + 1) bs)) (map view (drop (i + 1) (set ts i u))))
+  next_taken bs ts i a t u in_bs in_ts a-is t-is e =
       (λ j. after (map view (take i ts)) (all_taken_in at (map see (here bs i a in_bs a-is j)) (map view (here ts i t in_ts t-is j))))
       ∙ ap (λ r. after (map view (take i ts)) (r >>= λ v. all_taken_in at (map see (drop (i + 1) bs)) (map view (drop (i + 1) ts)) >>= λ vs. Ok (v ∷ vs))) e
       ∙ put_behind (map view (take i ts)) (view u) (all_taken_in at (map see (drop (i + 1) bs)) (map view (drop (i + 1) ts)))
       ∙ (λ j. after (sym front j) (all_taken_in at (map see (drop (i + 1) bs)) (map view (sym back j))))
     where
-      within : i < length (set ts i w)
-      within = omega (arith, length-set ts i w)
+      front : map view (take (i + 1) (set ts i u)) ≡ map view (take i ts) ++ view u ∷ []
+      front = ap (map view) (take_more_set ts i u in_ts) ∙ map_behind view (take i ts) u
 
-      front : map view (take (i + 1) (set (set ts i w) i u)) ≡ map view (take i ts) ++ view u ∷ []
-      front = ap (map view) (take_more_set (set ts i w) i u within ∙ ap (λ xs. xs ++ u ∷ []) (take-set-le i ts i w (omega arith))) ∙ map_behind view (take i ts) u
-
-      back : drop (i + 1) (set (set ts i w) i u) ≡ drop (i + 1) ts
-      back = drop-set-lt (i + 1) (set ts i w) i u (omega arith) ∙ drop-set-lt (i + 1) ts i w (omega arith)
+      back : drop (i + 1) (set ts i u) ≡ drop (i + 1) ts
+      back = drop-set-lt (i + 1) ts i u (omega arith)
 
   pub fault_taken : (bs : List A) (ts : List Z) (i : ℕ) (a : A) (t : Z) (f : Fault) → i < length bs → i < length ts → a ≡ get_or bs i a → t ≡ get_or ts i t → taken_in at (see a) (view t) ≡ Err f
       → after (map view (take i ts)) (all_taken_in at (map see (drop i bs)) (map view (drop i ts))) ≡ Err f
   fault_taken bs ts i a t f in_bs in_ts a-is t-is e =
       (λ j. after (map view (take i ts)) (all_taken_in at (map see (here bs i a in_bs a-is j)) (map view (here ts i t in_ts t-is j))))
       ∙ ap (λ r. after (map view (take i ts)) (r >>= λ v. all_taken_in at (map see (drop (i + 1) bs)) (map view (drop (i + 1) ts)) >>= λ vs. Ok (v ∷ vs))) e
+
+  some_there : (ts : List Z) (i : ℕ) → i < length ts → 0 < length (drop i ts)
+  some_there [] i h = absurd (omega (arith, h))
+  some_there (t ∷ ts) zero h = omega (arith)
+  some_there (t ∷ ts) (suc i) h = some_there ts i (omega arith)
+
+  pub fault_of_argument : (bs : List A) (ts : List Z) (i : ℕ) (a : A) (f : Fault) → i < length bs → i < length ts → a ≡ get_or bs i a → argument_given at (see a) ≡ Err f
+      → after (map view (take i ts)) (all_taken_in at (map see (drop i bs)) (map view (drop i ts))) ≡ Err f
+  fault_of_argument bs ts i a f in_bs in_ts a-is e = (λ j. after (map view (take i ts)) (all_taken_in at (map see (here bs i a in_bs a-is j)) (map view (drop i ts)))) ∙ by (drop i ts) (some_there ts i in_ts)
+    where
+      by : (us : List Z) → 0 < length us → after (map view (take i ts)) (all_taken_in at (map see (a ∷ drop (i + 1) bs)) (map view us)) ≡ Err f
+      by [] h = absurd (omega (arith, h))
+      by (u ∷ us) h = ap (λ r. after (map view (take i ts)) ((r >>= taken_with (view u)) >>= λ v. all_taken_in at (map see (drop (i + 1) bs)) (map view us) >>= λ vs. Ok (v ∷ vs))) e
 
   nothing_left : (bs : List Aggregate) (ts : List Taken) → (bs ≡ []) ⊎ (ts ≡ []) → all_taken_in at bs ts ≡ Ok ts
   nothing_left [] ts h = refl

@@ -1,5 +1,5 @@
 -- The groups of the program, as data.
-use Rattle.std.specs.Prelude.{List, [], ◌∷◌, map}
+use Rattle.std.specs.Prelude.{◌≡◌, length, List, [], ◌∷◌, map}
 use Rattle.pg_project.specs.Kept.{Kept}
 use Rattle.pg_project.specs.Summaries.{Taken}
 use Rattle.pg_project.specs.Views.{takens_view}
@@ -14,3 +14,7 @@ groups_of (k ∷ ks) (ts ∷ tss) = record { key = k; taken = ts } ∷ groups_of
 
 abbrev pub groups_view : Groups → List Kept
 groups_view g = groups_of (keys_view g.keys.keys) (map (λ ts. takens_view ts.items) g.taken.items)
+
+-- each group has what is kept of its aggregates
+abbrev pub Paired : Groups → Type 0
+Paired g = length g.keys.keys ≡ length g.taken.items

@@ -1,5 +1,5 @@
 -- What is kept of the values that an aggregate has taken in.
-use Rattle.std.specs.Prelude.{Bool, true, false, cond, ◌&&◌, List, [], ◌∷◌, ◌++◌, length, fold, Result, Ok, Err, Option, Some, None, ℤ, pos, ◌+ℤ◌}
+use Rattle.std.specs.Prelude.{◌≡◌, Bool, true, false, cond, ◌&&◌, List, [], ◌∷◌, ◌++◌, length, fold, Result, Ok, Err, Option, Some, None, ℤ, pos, ◌+ℤ◌}
 use Rattle.std.specs.List.{list_any}
 use Rattle.pg_meaning.specs.Aggregates.{Summary, counting, summing, least, greatest, collecting, Aggregate, total, lesser, greater}
 use Rattle.pg_meaning.specs.Answer.{◌>>=◌}
@@ -94,3 +94,7 @@ is_null v = false
 -- with one value more; null counts as none
 abbrev pub taken_with : Taken → Value → Result Taken Fault
 taken_with t v = cond (is_null v) (Ok t) (other_with t.different t.held v)
+
+-- whether a value counts beside the different values before, and those after it
+abbrev pub Counts : (before after : Option (List Value)) → Value → Bool → Type 0
+Counts before after v counts = (h : Held) → taken_with (record { different = before; held = h }) v ≡ cond counts (held_with h v >>= λ g. Ok (record { different = after; held = g })) (Ok (record { different = after; held = h }))

@@ -1,5 +1,4 @@
 //! Groups of rows, in the order of their first rows.
-ghost use Rattle.std.specs.Prelude.{◌≡◌, length};
 
 use crate::items::{Aggregate, Items};
 use crate::site::Site;
@@ -16,21 +15,21 @@ use std::alloc::{AllocError, Global};
 pub(crate) struct Groups {
     pub(crate) keys: IndexSet<Vec<Value>>,
     pub(crate) taken: Vec<Vec<Taken>>,
-    ghost paired: { length keys.keys ≡ length taken.items },
 }
 
 impl Groups {
-    ghost use Rattle.std.specs.Prelude.{◌≡◌, ℕ, List, map, IfOk};
+    ghost use Rattle.std.specs.Prelude.{◌≡◌, ◌≢◌, ℕ, List, map, IfErr, IfOk, OnOk, Ok, Err};
+    ghost use Rattle.pg_meaning.specs.declared.fault.Fault.TheVariants.{OutOfMemory};
     ghost use Rattle.pg_project.specs.Kept.{first_kept, into_kept};
-    ghost use Rattle.pg_project.specs.KeptGroups.{groups_view};
+    ghost use Rattle.pg_project.specs.KeptGroups.{Paired, groups_view};
     ghost use Rattle.pg_project.specs.ReadyItems.{aggregates_view, keys_of};
     ghost use Rattle.pg_project.specs.Sites.{answers};
-    ghost use Rattle.pg_value_core.specs.Gives.{Gives};
     ghost use Rattle.pg_value_core.specs.View.{view};
 
     /// No groups yet; with aggregates alone there is one, also over no rows.
     pub(crate) fn new(alloc: Global, items: &Items<'_>) -> Result<Groups, AllocError>
-        ensures { (names : List (List ℕ)) → IfOk result (λ g. groups_view g ≡ first_kept (keys_of names items.now.keys.items) (aggregates_view names items.now.aggregates.items)) }
+        ensures groups { (names : List (List ℕ)) → IfOk result (λ g. groups_view g ≡ first_kept (keys_of names items.now.keys.items) (aggregates_view names items.now.aggregates.items)) }
+        ensures paired { IfOk result (λ g. Paired g) }
     {
         let mut keys = IndexSet::new(alloc);
         let mut taken = Vec::new(alloc);
@@ -41,25 +40,23 @@ impl Groups {
         Ok(Groups { keys, taken })
     }
 
-    /// With a row of this key; a new group comes last.
-    pub(crate) fn with_row<T: Tables>(
-        self,
+    /// Takes in a row of this key; a new group comes last.
+    pub(crate) fn take_row<T: Tables>(
+        &mut self,
         site: &Site<'_>,
         graph: &Snapshot<'_, T>,
         aggregates: &Vec<Aggregate<'_>>,
         key: Vec<Value>,
-    ) -> Result<Groups, Fault>
-        ensures { Gives result (into_kept (answers site.now graph.now) (aggregates_view site.now.names.now aggregates.now.items) (map view key.items) (groups_view self)) groups_view }
+    ) -> Result<(), Fault>
+        requires { Paired self.old }
+        ensures ok { OnOk result (into_kept (answers site.now graph.now) (aggregates_view site.now.names.now aggregates.now.items) (map view key.items) (groups_view self.old) ≡ Ok (groups_view self.new)) }
+        ensures paired { OnOk result (Paired self.new) }
+        ensures err { IfErr result (λ e. e ≢ OutOfMemory → into_kept (answers site.now graph.now) (aggregates_view site.now.names.now aggregates.now.items) (map view key.items) (groups_view self.old) ≡ Err e) }
     {
-        let Groups {
-            mut keys,
-            mut taken,
-        } = self;
-        let (number, is_new) = keys.insert_full(key)?;
+        let (number, is_new) = self.keys.insert_full(key)?;
         if is_new {
-            taken.push(begun(site.alloc, aggregates)?)?;
+            self.taken.push(begun(site.alloc, aggregates)?)?;
         }
-        take_in_all(site, graph, aggregates, &mut taken[number])?;
-        Ok(Groups { keys, taken })
+        take_in_all(site, graph, aggregates, &mut self.taken[number])
     }
 }

@@ -1,16 +1,17 @@
 //! What is kept of an aggregate in a group.
-ghost use Rattle.std.specs.Prelude.{◌≡◌, Some, map};
-ghost use Rattle.pg_project.specs.Summaries.{begun, is_null, needs_different, other_with, taken_with};
-ghost use Rattle.pg_project.specs.Views.{held_view, taken_view};
+ghost use Rattle.std.specs.Prelude.{◌≡◌, ◌≢◌, IfErr, IfOk, OnOk, Ok, Err, map, option_map};
+ghost use Rattle.pg_meaning.specs.declared.fault.Fault.TheVariants.{OutOfMemory};
+ghost use Rattle.pg_project.specs.Summaries.{begun, Counts, is_null, needs_different, taken_with};
+ghost use Rattle.pg_project.specs.Views.{taken_view};
 ghost use Rattle.pg_scope.specs.Calls.{summary_view};
-ghost use Rattle.pg_value_core.specs.Gives.{Gives};
 ghost use Rattle.pg_value_core.specs.View.{view};
 
 use crate::held::Held;
 use indexmap::IndexSet;
 use pg_scope::Summary;
 use pg_value_core::{Fault, Value};
-use std::alloc::Global;
+use std::alloc::{AllocError, Global};
+use std::mem;
 
 /// What is kept of the values taken in, and where DISTINCT needs them the different values so far.
 #[derive(Drop)]
@@ -39,14 +40,6 @@ fn is_null(value: &Value) -> bool
 }
 
 impl Taken {
-    /// What stands where a summary was taken out.
-    pub(crate) fn nothing() -> Taken {
-        Taken {
-            different: None,
-            held: Held::Count(0),
-        }
-    }
-
     /// No values yet.
     pub(crate) fn new(alloc: Global, summary: Summary, distinct: bool) -> Taken
         ensures { taken_view result ≡ begun (summary_view summary) distinct }
@@ -62,43 +55,37 @@ impl Taken {
         }
     }
 
-    /// With one value more; null counts as none.
-    pub(crate) fn with(self, alloc: Global, value: Value) -> Result<Taken, Fault>
-        ensures { Gives result (taken_with (taken_view self) (view value)) taken_view }
+    /// Takes in one value more, if it counts.
+    pub(crate) fn take(&mut self, alloc: Global, value: Value) -> Result<(), Fault>
+        ensures ok { OnOk result (taken_with (taken_view self.old) (view value) ≡ Ok (taken_view self.new)) }
+        ensures err { IfErr result (λ e. e ≢ OutOfMemory → taken_with (taken_view self.old) (view value) ≡ Err e) }
     {
-        if is_null(&value) {
-            return Ok(self);
+        if !counts(alloc, &mut self.different, &value)? {
+            return Ok(());
         }
-        let Taken { different, held } = self;
-        match different {
-            Some(different) => with_different(alloc, different, held, value),
-            None => Ok(Taken {
-                different: None,
-                held: held.with(value)?,
-            }),
-        }
+        let held = mem::replace(&mut self.held, Held::Count(0));
+        self.held = held.with(value)?;
+        Ok(())
     }
 }
 
-/// With one value more, unless an equivalent one was taken in.
-fn with_different(
+/// Whether the value counts: null doesn't, nor does one that is equivalent to one of the different values.
+fn counts(
     alloc: Global,
-    mut different: IndexSet<Value>,
-    held: Held,
-    value: Value,
-) -> Result<Taken, Fault>
-    ensures { Gives result (other_with (Some (map view different.keys)) (held_view held) (view value)) taken_view }
+    different: &mut Option<IndexSet<Value>>,
+    value: &Value,
+) -> Result<bool, AllocError>
+    ensures { IfOk result (λ b. Counts (option_map (λ s. map view s.keys) different.old) (option_map (λ s. map view s.keys) different.new) (view value.now) b) }
 {
-    if different.contains(&value) {
-        return Ok(Taken {
-            different: Some(different),
-            held,
-        });
+    if is_null(value) {
+        return Ok(false);
+    }
+    let Some(different) = different else {
+        return Ok(true);
+    };
+    if different.contains(value) {
+        return Ok(false);
     }
     different.insert(value.copy(alloc)?)?;
-    let held = held.with(value)?;
-    Ok(Taken {
-        different: Some(different),
-        held,
-    })
+    Ok(true)
 }

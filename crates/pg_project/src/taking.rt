@@ -5,7 +5,7 @@ ghost use Rattle.pg_project.specs.Kept.{all_taken_in, argument_given};
 ghost use Rattle.pg_project.specs.Kept as kept;
 ghost use Rattle.pg_project.specs.ReadyItems.{aggregate_view, aggregates_view};
 ghost use Rattle.pg_project.specs.Sites.{answers};
-ghost use Rattle.pg_project.specs.Views.{taken_view, takens_view};
+ghost use Rattle.pg_project.specs.Views.{takens_view, taken_view};
 ghost use Rattle.pg_value_core.specs.Gives.{Gives};
 ghost use Rattle.pg_value_core.specs.View.{view};
 
@@ -17,7 +17,6 @@ use pg_graph::Tables;
 use pg_store::Snapshot;
 use pg_value_core::{Fault, Value};
 use std::alloc::{AllocError, Global};
-use std::mem;
 
 /// No values yet of each aggregate.
 pub(crate) fn begun(
@@ -54,19 +53,6 @@ pub(crate) fn argument_value<T: Tables>(
     }
 }
 
-/// What is kept, with the value of the aggregate's argument taken in.
-fn take_in<T: Tables>(
-    site: &Site<'_>,
-    graph: &Snapshot<'_, T>,
-    aggregate: &Aggregate<'_>,
-    taken: Taken,
-) -> Result<Taken, Fault>
-    ensures { Gives result (kept.taken_in (answers site.now graph.now) (aggregate_view site.now.names.now aggregate.now) (taken_view taken)) taken_view }
-{
-    let value = argument_value(site, graph, aggregate)?;
-    taken.with(site.alloc, value)
-}
-
 /// Takes the row into the aggregates of a group, left to right.
 pub(crate) fn take_in_all<T: Tables>(
     site: &Site<'_>,
@@ -79,8 +65,8 @@ pub(crate) fn take_in_all<T: Tables>(
 {
     let count = aggregates.len().min(taken.len());
     for at in 0..count {
-        let before = mem::replace(&mut taken[at], Taken::nothing());
-        taken[at] = take_in(site, graph, &aggregates[at], before)?;
+        let value = argument_value(site, graph, &aggregates[at])?;
+        taken[at].take(site.alloc, value)?;
     }
     Ok(())
 }

@@ -33,7 +33,7 @@ pub fn prepare_each<'a>(
 }
 
 /// The values of the expressions at a row, left to right, taken into a list that is empty.
-fn push_values<T: Tables>(
+pub(crate) fn push_values<T: Tables>(
     alloc: Global,
     ready: &Vec<Prepared<'_>>,
     names: &Columns,

@@ -10,34 +10,41 @@ use Rattle.pg_value_core.specs.View.{view}
 use Rattle.pg_project.proofs.ExitLemmas.{fault_given, memory_given}
 use Rattle.pg_project.proofs.rows.groups_of_rows.Goals as goal
 
-pub returns-in_err-groups-2 : goal.returns-in_err-groups-2
-returns-in_err-groups-2 g c =
+pub returns-in_err-take_row : goal.returns-in_err-take_row
+returns-in_err-take_row g c =
     let es = expressions_view c.args.expressions.now.items in
     let at = answers_at (parameters_view c.args.parameters.now) c.args.graph.now c.args.names.now in
     let refused : (f : Fault) → kept_row (at (map view c.row.result.now)) es (groups_view c.loop-at.groups) ≡ Err f
     → kept_rows (parameters_view c.args.parameters.now) c.args.graph.now c.args.names.now es (first_kept (keys_in es) (aggregates_in es)) (table c.args.rows.now) ≡ Err f =
-    λ f h. c.loop-at.invariant ∙ step_fault (λ gs r. kept_row (at r) es gs) (table c.args.rows.now) c.loop-at.at (map view c.row.result.now) c.row.ensures (groups_view c.loop-at.groups) f h in
-    fault_given _ groups_view c.in_err-groups-2.field-0.0 c.from_residual-in_err-groups-2.result c.from_residual-in_err-groups-2.ensures.1 (λ other. refused c.in_err-groups-2.field-0.0 (c.in_err-groups-2.ensures.err other))
+    λ f h. c.loop-at.invariant.0 ∙ step_fault (λ gs r. kept_row (at r) es gs) (table c.args.rows.now) c.loop-at.at (map view c.row.result.now) c.row.ensures (groups_view c.loop-at.groups) f h in
+    fault_given _ groups_view c.in_err-take_row.field-0.0 c.from_residual-in_err-take_row.result c.from_residual-in_err-take_row.ensures.1 (λ other. refused c.in_err-take_row.field-0.0 (c.in_err-take_row.ensures.err other))
 
 pub loop-at-preserved : goal.loop-at-preserved
 loop-at-preserved g c =
     let es = expressions_view c.args.expressions.now.items in
-    let at = answers_at (parameters_view c.args.parameters.now) c.args.graph.now c.args.names.now in
-    c.loop-at.invariant ∙ step_on (λ gs r. kept_row (at r) es gs) (table c.args.rows.now) c.loop-at.at (map view c.row.result.now) c.row.ensures (groups_view c.loop-at.groups) (groups_view c.in_ok-groups-2.groups) c.in_ok-groups-2.ensures.ok
+    let at = answers_at (parameters_view c.args.parameters.now) c.args.graph.now c.args.names.now in (
+      c.loop-at.invariant.0 ∙ step_on (λ gs r. kept_row (at r) es gs) (table c.args.rows.now) c.loop-at.at (map view c.row.result.now) c.row.ensures (groups_view c.loop-at.groups) (groups_view c.take_row.new.groups) c.in_ok-take_row.ensures.ok,
+      c.in_ok-take_row.ensures.paired,
+    )
 
 pub returns-in_err-groups : goal.returns-in_err-groups
 returns-in_err-groups g c = memory_given _ groups_view c.from_residual.result c.from_residual.ensures.1
 
 pub loop-at-init : goal.loop-at-init
 loop-at-init g c =
-    let es = expressions_view c.args.expressions.now.items in
-    ap (λ gs. kept_rows (parameters_view c.args.parameters.now) c.args.graph.now c.args.names.now es gs (table c.args.rows.now)) (sym (c.in_ok-groups.ensures c.args.names.now ∙ (λ i. first_kept (c.requires.keys i) (c.requires.aggregates i))))
+    let es = expressions_view c.args.expressions.now.items in (
+      ap (λ gs. kept_rows (parameters_view c.args.parameters.now) c.args.graph.now c.args.names.now es gs (table c.args.rows.now)) (sym (c.in_ok-groups.ensures.groups c.args.names.now ∙ (λ i. first_kept (c.requires.keys i) (c.requires.aggregates i)))),
+      c.in_ok-groups.ensures.paired,
+    )
 
 pub returns : goal.returns
 returns g c =
     let es = expressions_view c.args.expressions.now.items in
     let none = none_left (table c.args.rows.now) c.loop-at.at (subst (λ n. n ≤ c.loop-at.at) c.len-at-end.ensures c.loop-at-test.false) in
     record {
-      ok = c.loop-at.invariant ∙ ap (kept_rows (parameters_view c.args.parameters.now) c.args.graph.now c.args.names.now es (groups_view c.loop-at.groups)) none;
+      ok = c.loop-at.invariant.0 ∙ ap (kept_rows (parameters_view c.args.parameters.now) c.args.graph.now c.args.names.now es (groups_view c.loop-at.groups)) none;
       err = tt;
     }
+
+pub take_row-requires-clause-paired : goal.take_row-requires-clause-paired
+take_row-requires-clause-paired g c = c.loop-at.invariant.1

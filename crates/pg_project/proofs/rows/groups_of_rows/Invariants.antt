@@ -1,7 +1,7 @@
 use Rattle.std.proofs.Common.{◌≡◌, drop}
 use Rattle.pg_project.specs.Items.{aggregates_in, expressions_view, keys_in}
 use Rattle.pg_project.specs.Kept.{first_kept, kept_rows}
-use Rattle.pg_project.specs.KeptGroups.{groups_view}
+use Rattle.pg_project.specs.KeptGroups.{Paired, groups_view}
 use Rattle.pg_rows.specs.Tables.{table}
 use Rattle.pg_value_core.specs.Given.{parameters_view}
 use Rattle.pg_project.proofs.rows.groups_of_rows.Given as goal
@@ -9,5 +9,6 @@ use Rattle.pg_project.proofs.rows.groups_of_rows.Given as goal
 abbrev pub invariant-loop-at : goal.invariant-loop-at
 invariant-loop-at g l =
     let es = expressions_view l.expressions.items in
-    kept_rows (parameters_view l.parameters) l.graph l.names es (first_kept (keys_in es) (aggregates_in es)) (table l.rows)
-    ≡ kept_rows (parameters_view l.parameters) l.graph l.names es (groups_view l.groups) (drop l.at (table l.rows))
+    (kept_rows (parameters_view l.parameters) l.graph l.names es (first_kept (keys_in es) (aggregates_in es)) (table l.rows)
+    ≡ kept_rows (parameters_view l.parameters) l.graph l.names es (groups_view l.groups) (drop l.at (table l.rows)))
+    × Paired l.groups

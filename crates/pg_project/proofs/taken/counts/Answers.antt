@@ -1,0 +1,19 @@
+use Rattle.std.proofs.Common.{map, option_map, sym, ap, ◌∙◌}
+use Rattle.pg_project.proofs.Different.{fresh, known}
+use Rattle.pg_project.specs.Summaries.{taken_with}
+use Rattle.pg_value_core.specs.View.{view}
+use Rattle.pg_project.proofs.taken.counts.Goals as goal
+
+pub returns-then-contains : goal.returns-then-contains
+returns-then-contains c =
+    let value = c.args.value.now in
+    λ h.
+    ap (λ o. taken_with (record { different = option_map (λ s. map view s.keys) o; held = h }) (view value)) c.in-Some.is
+    ∙ known c.in-Some.different.keys value (sym c.is_null.ensures ∙ c.if-is_null.false) (sym c.contains.ensures ∙ c.if-contains.true) h
+
+pub returns : goal.returns
+returns c =
+    let value = c.args.value.now in
+    λ h.
+    ap (λ o. taken_with (record { different = option_map (λ s. map view s.keys) o; held = h }) (view value)) c.in-Some.is
+    ∙ fresh c.in-Some.different.keys value (sym c.is_null.ensures ∙ c.if-is_null.false) c.in_ok-copy.field-0 c.insert.new.self.keys c.in_ok-copy.ensures c.in_ok-insert.ensures.keys (sym c.contains.ensures ∙ c.if-contains.false) h

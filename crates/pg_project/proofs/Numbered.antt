@@ -7,7 +7,7 @@ use Rattle.std.specs.Cmp.Lexicographic.{pointwise}
 use Rattle.std.specs.Global.{Vec}
 use Rattle.std.specs.List.{list_any, position_or_len}
 use Rattle.std.specs.Ordering.{on, eq_by_cmp}
-use Rattle.pg_project.specs.Kept.{Kept, Answers, all_taken_in, begun, into_kept}
+use Rattle.pg_project.specs.Kept.{Kept, Answers, all_taken_in, begun, first_kept, into_kept}
 use Rattle.pg_project.specs.KeptGroups.{groups_of}
 use Rattle.pg_project.specs.Summaries as kept
 use Rattle.pg_project.specs.Views.{takens_view}
@@ -17,6 +17,7 @@ use Rattle.pg_meaning.specs.Answer.{◌>>=◌}
 use Rattle.pg_meaning.specs.Order.{value_order}
 use Rattle.pg_meaning.specs.OrderLaws.{order_total}
 use Rattle.pg_meaning.specs.Projections.{same_values}
+use Rattle.pg_meaning.specs.Tree.{Expression}
 use Rattle.pg_meaning.specs.Value.{Value as Datum}
 use Rattle.pg_meaning.specs.declared.fault.Fault.{Fault}
 use Rattle.pg_rows.proofs.Grouped.{same_as, number_is}
@@ -197,3 +198,15 @@ module _ (at : Answers) (aggregates : List Aggregate) (key : Vec Value) (ks more
 
   pub paired_new : (now : List (Vec Taken)) (first : Vec Taken) → list_any (same_keys key) ks ≡ false → now ≡ tss ++ first ∷ [] → length more ≡ length now
   paired_new now first h is = ap length (kept_keys ∙ ap (λ b. cond b ks (ks ++ key ∷ [])) h) ∙ length-append ks (key ∷ []) ∙ ap (λ n. n + 1) paired ∙ sym (ap length is ∙ length-append tss (first ∷ []))
+
+-- ---- the groups before any row
+
+pub one_group : (aggregates : List Aggregate) (ks more : List (Vec Value)) (tss now : List (Vec Taken)) (key : Vec Value) (first : Vec Taken) → ks ≡ [] → tss ≡ [] → more ≡ insert_key same_keys ks key → now ≡ tss ++ first ∷ [] → key.items ≡ [] → takens_view first.items ≡ begun aggregates
+    → groups_of (keys_view more) (seen now) ≡ first_kept [] aggregates
+one_group aggregates ks more tss now key first none nothing kept is bare begins =
+    (λ i. groups_of (keys_view ((kept ∙ ap (λ us. insert_key same_keys us key) none) i)) (seen ((is ∙ ap (λ us. us ++ first ∷ []) nothing) i)))
+    ∙ (λ i. record { key = map view (bare i); taken = begins i } ∷ [])
+
+pub no_group : (aggregates : List Aggregate) (es : List Expression) → 0 < length es → first_kept es aggregates ≡ []
+no_group aggregates [] h = absurd (omega (arith, h))
+no_group aggregates (e ∷ es) h = refl

@@ -69,7 +69,7 @@ fn in_byte_order<'a>(alloc: Global, scope: &'a Columns) -> Result<Vec<&'a str>, 
 fn variables(alloc: Global, names: &Columns) -> Result<Vec<Expression>, AllocError>
     ensures { IfOk result (λ found. trees_in found.items ≡ variable_trees names.now) }
 {
-    let mut found = Vec::with_capacity(alloc, names.len())?;
+    let mut found = Vec::new(alloc);
     for at in 0..names.len() {
         found.push(Expression::Variable(Name {
             text: String::from_str(alloc, names.name(at))?,
@@ -136,7 +136,7 @@ impl<'a> ProjectionColumns<'a> {
         ensures trees { IfOk result (λ found. columns_view self.now ≡ columns_of self.now.names (expressions_view found.items)) }
         ensures len { IfOk result (λ found. length found.items ≡ length self.now.names) }
     {
-        let mut found = Vec::with_capacity(alloc, self.names.len())?;
+        let mut found = Vec::new(alloc);
         push_starred(&mut found, &self.starred)?;
         push_values(&mut found, self.items)?;
         Ok(found)

@@ -1,6 +1,7 @@
 //! Groups of rows, in the order of their first rows.
 
 use crate::items::{Aggregate, Items};
+use crate::made::push_made;
 use crate::site::Site;
 use crate::taken::Taken;
 use crate::taking::{begun, take_in_all};
@@ -31,13 +32,15 @@ impl Groups {
         ensures groups { (names : List (List ℕ)) → IfOk result (λ g. groups_view g ≡ first_kept (keys_of names items.now.keys.items) (aggregates_view names items.now.aggregates.items)) }
         ensures paired { IfOk result (λ g. Paired g) }
     {
-        let mut keys = IndexSet::new(alloc);
-        let mut taken = Vec::new(alloc);
+        let mut groups = Groups {
+            keys: IndexSet::new(alloc),
+            taken: Vec::new(alloc),
+        };
         if items.keys.is_empty() {
-            keys.insert(Vec::new(alloc))?;
-            taken.push(begun(alloc, &items.aggregates)?)?;
+            groups.keys.insert(Vec::new(alloc))?;
+            push_made(&mut groups.taken, begun(alloc, &items.aggregates))?;
         }
-        Ok(Groups { keys, taken })
+        Ok(groups)
     }
 
     /// Takes in a row of this key; a new group comes last.
@@ -55,7 +58,7 @@ impl Groups {
     {
         let (number, is_new) = self.keys.insert_full(key)?;
         if is_new {
-            self.taken.push(begun(site.alloc, aggregates)?)?;
+            push_made(&mut self.taken, begun(site.alloc, aggregates))?;
         }
         take_in_all(site, graph, aggregates, &mut self.taken[number])
     }

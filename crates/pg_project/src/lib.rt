@@ -10,6 +10,7 @@ mod groups;
 mod held;
 mod items;
 mod lists;
+mod made;
 mod parts;
 mod passing;
 mod project;

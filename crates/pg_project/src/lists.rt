@@ -108,7 +108,6 @@ pub(crate) fn unwound(
 }
 
 /// Takes in a row for each of the items; the last takes the row itself.
-#[tactic(auto, using(crate::proofs::Unwinding::items_more))]
 fn push_items(
     alloc: Global,
     found: &mut Rows,
@@ -139,7 +138,7 @@ fn push_copies(
     ensures rows { OnOk result (table found.new ≡ table found.old ++ with_items has_column (map view row.now.items) (map view items.items)) }
     ensures width { found.new.width ≡ found.old.width }
 {
-    let mut copy = Vec::with_capacity(alloc, found.width())?;
+    let mut copy = Vec::new(alloc);
     for item in items {
         copy_row(alloc, row, &mut copy)?;
         push_item(found, &mut copy, item, has_column)?;

@@ -98,7 +98,7 @@ fn first_rows<T: Tables>(
     ensures err { IfErr result (λ e. e ≢ OutOfMemory → passing_given (parameters_view parameters.now) graph.now names.now (condition_of names.now wanted.now) width (take most (rows_left left)) ≡ Err e) }
 {
     let mut found = Rows::new(alloc, width);
-    let mut values = Vec::with_capacity(alloc, width)?;
+    let mut values = Vec::new(alloc);
     let mut more = most;
     while more > 0 {
         let Some(row) = left.look() else {

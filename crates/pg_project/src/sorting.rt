@@ -13,6 +13,7 @@ ghost use Rattle.pg_syntax_tree.specs.View.{expression_view, sort_item_view};
 ghost use Rattle.pg_value_core.specs.Given.{parameters_view};
 ghost use Rattle.pg_value_core.specs.View.{view};
 
+use crate::made::push_made;
 use pg_expr::{Prepared, evaluate, prepare};
 use pg_graph::Tables;
 use pg_item_index::same_expression;
@@ -66,8 +67,7 @@ pub(crate) fn ordered_rows<T: Tables>(
     }
     let sources = sources(alloc, items, order, names)?;
     let keys = keys(alloc, &sources, names, &rows, parameters, graph)?;
-    let descending = descending(alloc, order)?;
-    Ok(sorted_rows(alloc, &keys, &descending, rows)?)
+    Ok(sorted_rows(alloc, &keys, order, rows)?)
 }
 
 /// The rows in the order of their keys.
@@ -75,13 +75,14 @@ pub(crate) fn ordered_rows<T: Tables>(
 fn sorted_rows(
     alloc: Global,
     keys: &Rows,
-    descending: &Vec<bool>,
+    order: &Vec<SortItem>,
     mut rows: Rows,
 ) -> Result<Rows, AllocError>
     requires { length (table keys.now) ≡ length (table rows) }
-    ensures rows { IfOk result (λ found. table found ≡ rows_at_places (table rows) (sorted_places descending.now.items (table keys.now))) }
+    ensures rows { IfOk result (λ found. table found ≡ rows_at_places (table rows) (sorted_places (directions (map sort_item_view order.now.items)) (table keys.now))) }
     ensures width { IfOk result (λ found. found.width ≡ rows.width) }
 {
+    let descending = descending(alloc, order)?;
     let places = sort(keys, descending.as_slice(), alloc)?;
     rows.pick(&places, alloc)
 }
@@ -90,7 +91,7 @@ fn sorted_rows(
 fn descending(alloc: Global, order: &Vec<SortItem>) -> Result<Vec<bool>, AllocError>
     ensures { IfOk result (λ found. found.items ≡ directions (map sort_item_view order.now.items)) }
 {
-    let mut found = Vec::with_capacity(alloc, order.len())?;
+    let mut found = Vec::new(alloc);
     for item in order {
         found.push(is_descending(item.direction))?;
     }
@@ -116,9 +117,9 @@ fn sources<'a>(
     ensures sources { IfOk result (λ found. sources_view names.now found.items ≡ map (λ o. key_of (expressions_view items.now.items) o.key) (map sort_item_view order.now.items)) }
     ensures len { IfOk result (λ found. length found.items ≡ length order.now.items) }
 {
-    let mut found = Vec::with_capacity(alloc, order.len())?;
+    let mut found = Vec::new(alloc);
     for item in order {
-        found.push(sort_key(alloc, items, &item.key, names)?)?;
+        push_made(&mut found, sort_key(alloc, items, &item.key, names))?;
     }
     Ok(found)
 }
@@ -165,7 +166,7 @@ fn keys<T: Tables>(
     ensures err { IfErr result (λ e. e ≢ OutOfMemory → all_keys_given (parameters_view parameters.now) graph.now names.now (sources_view names.now sources.now.items) (table rows.now) ≡ Err e) }
 {
     let mut found = Rows::new(alloc, sources.len());
-    let mut keys = Vec::with_capacity(alloc, sources.len())?;
+    let mut keys = Vec::new(alloc);
     for at in 0..rows.len() {
         push_keys(
             alloc,

@@ -5,7 +5,7 @@ ghost use Rattle.pg_project.specs.Kept.{all_taken_in, argument_given};
 ghost use Rattle.pg_project.specs.Kept as kept;
 ghost use Rattle.pg_project.specs.ReadyItems.{aggregate_view, aggregates_view};
 ghost use Rattle.pg_project.specs.Sites.{answers};
-ghost use Rattle.pg_project.specs.Views.{takens_view, taken_view};
+ghost use Rattle.pg_project.specs.Views.{takens_view};
 ghost use Rattle.pg_value_core.specs.Gives.{Gives};
 ghost use Rattle.pg_value_core.specs.View.{view};
 
@@ -25,7 +25,7 @@ pub(crate) fn begun(
 ) -> Result<Vec<Taken>, AllocError>
     ensures { (names : List (List ℕ)) → IfOk result (λ ts. takens_view ts.items ≡ kept.begun (aggregates_view names aggregates.now.items)) }
 {
-    let mut begun = Vec::with_capacity(alloc, aggregates.len())?;
+    let mut begun = Vec::new(alloc);
     for aggregate in aggregates {
         begun.push(Taken::new(alloc, aggregate.summary, aggregate.distinct))?;
     }

@@ -8,6 +8,7 @@ ghost use Rattle.pg_rows.specs.Tables.{table};
 ghost use Rattle.pg_value_core.specs.Given.{parameters_view};
 ghost use Rattle.pg_value_core.specs.View.{view};
 
+use crate::made::push_made;
 use pg_expr::{Prepared, evaluate, prepare};
 use pg_graph::Tables;
 use pg_rows::{Columns, Rows, RowsLeft};
@@ -25,9 +26,9 @@ pub fn prepare_each<'a>(
     ensures trees { IfOk result (λ ready. trees_of names.now ready.items ≡ expressions_view expressions.now.items) }
     ensures len { IfOk result (λ ready. length ready.items ≡ length expressions.now.items) }
 {
-    let mut ready = Vec::with_capacity(alloc, expressions.len())?;
+    let mut ready = Vec::new(alloc);
     for expression in expressions {
-        ready.push(prepare(alloc, expression, names)?)?;
+        push_made(&mut ready, prepare(alloc, expression, names))?;
     }
     Ok(ready)
 }
@@ -86,7 +87,7 @@ pub(crate) fn wide_rows<T: Tables>(
     ensures err { IfErr result (λ e. e ≢ OutOfMemory → wide_rows_given (parameters_view parameters.now) graph.now names.now (trees_of names.now ready.now.items) keeps (table rows) ≡ Err e) }
 {
     let mut found = Rows::new(alloc, width);
-    let mut values = Vec::with_capacity(alloc, width)?;
+    let mut values = Vec::new(alloc);
     let mut left = rows.into_left();
     while let Some(row) = left.look() {
         push_values(alloc, ready, names, row, parameters, graph, &mut values)?;

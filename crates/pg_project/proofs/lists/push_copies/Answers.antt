@@ -8,21 +8,15 @@ use Rattle.pg_rows.specs.Tables.{table}
 use Rattle.pg_value_core.specs.View.{view}
 use Rattle.pg_project.proofs.lists.push_copies.Goals as goal
 
-pub returns-in_err-copy-clause-rows : goal.returns-in_err-copy-clause-rows
-returns-in_err-copy-clause-rows c = IfOk-from_err c.from_residual.result _ c.from_residual.ensures.0
-
-pub returns-in_err-copy-clause-width : goal.returns-in_err-copy-clause-width
-returns-in_err-copy-clause-width c = refl
-
 pub loop-item-init : goal.loop-item-init
 loop-item-init c = (
   (λ i. table c.args.found.now ++ with_items c.args.has_column (map view c.args.row.now.items) (map view (c.into_iter-item-iterator.ensures.into_iter_gives.0 i))),
   refl,
-  c.in_ok-copy.ensures.items,
+  c.new-copy.ensures.items,
 )
 
 pub returns-in_err-copy_row-clause-rows : goal.returns-in_err-copy_row-clause-rows
-returns-in_err-copy_row-clause-rows c = IfOk-from_err c.from_residual-in_err-copy_row.result _ c.from_residual-in_err-copy_row.ensures.0
+returns-in_err-copy_row-clause-rows c = IfOk-from_err c.from_residual.result _ c.from_residual.ensures.0
 
 pub returns-in_err-copy_row-clause-width : goal.returns-in_err-copy_row-clause-width
 returns-in_err-copy_row-clause-width c = c.loop-item.invariant.1

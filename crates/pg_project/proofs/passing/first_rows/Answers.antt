@@ -28,10 +28,10 @@ returns-in_err-condition-clause-err g c =
     let more : 0 < l.more = omega arith in
     let refused : (e : Fault) → condition wanted (row_of names row) ps graph ≡ Err e → whole ≡ Err e =
     λ e h. one_ends ps graph names wanted c.args.width whole (table l.found) l.more (rows_left l.left) (drop 1 (rows_left l.left)) row e more next h l.invariant.0 in
-    fault_passed whole c.in_err-condition.field-0.0 c.from_residual-in_err-condition.result c.from_residual-in_err-condition.ensures.1 (λ other. refused c.in_err-condition.field-0.0 (c.in_err-condition.ensures.err other))
+    fault_passed whole c.in_err-condition.field-0.0 c.from_residual.result c.from_residual.ensures.1 (λ other. refused c.in_err-condition.field-0.0 (c.in_err-condition.ensures.err other))
 
-pub loop-more-preserved-in-Continue-branch-4 : goal.loop-more-preserved-in-Continue-branch-4
-loop-more-preserved-in-Continue-branch-4 g c =
+pub loop-more-preserved-in-Continue-branch-3 : goal.loop-more-preserved-in-Continue-branch-3
+loop-more-preserved-in-Continue-branch-3 g c =
     let l = c.loop-more in
     let ps = parameters_view c.args.parameters.now in
     let graph = c.args.graph.now in
@@ -82,20 +82,11 @@ returns-clause-ok g c =
     let whole = passing_given ps c.args.graph.now names wanted c.args.width (take c.args.most (rows_left c.args.left)) in
     no_more ps c.args.graph.now names wanted c.args.width whole (table l.found) l.more (rows_left l.left) (omega arith) l.invariant.0
 
-pub returns-in_err-values-clause-ok : goal.returns-in_err-values-clause-ok
-returns-in_err-values-clause-ok g c = IfOk-from_err c.from_residual.result _ c.from_residual.ensures.0
-
-pub returns-in_err-values-clause-width : goal.returns-in_err-values-clause-width
-returns-in_err-values-clause-width g c = IfOk-from_err c.from_residual.result _ c.from_residual.ensures.0
-
-pub returns-in_err-values-clause-err : goal.returns-in_err-values-clause-err
-returns-in_err-values-clause-err g c = memory_passed _ c.from_residual.result c.from_residual.ensures.1
-
 pub returns-in_err-condition-clause-ok : goal.returns-in_err-condition-clause-ok
-returns-in_err-condition-clause-ok g c = IfOk-from_err c.from_residual-in_err-condition.result _ c.from_residual-in_err-condition.ensures.0
+returns-in_err-condition-clause-ok g c = IfOk-from_err c.from_residual.result _ c.from_residual.ensures.0
 
 pub returns-in_err-condition-clause-width : goal.returns-in_err-condition-clause-width
-returns-in_err-condition-clause-width g c = IfOk-from_err c.from_residual-in_err-condition.result _ c.from_residual-in_err-condition.ensures.0
+returns-in_err-condition-clause-width g c = IfOk-from_err c.from_residual.result _ c.from_residual.ensures.0
 
 pub returns-in_err-pass_first-clause-ok : goal.returns-in_err-pass_first-clause-ok
 returns-in_err-pass_first-clause-ok g c = IfOk-from_err c.from_residual-in_err-pass_first.result _ c.from_residual-in_err-pass_first.ensures.0
@@ -122,7 +113,7 @@ loop-more-init g c =
       none_before (table c.new-found.result) (given (take c.args.most (rows_left c.args.left))) c.new-found.ensures.rows,
       c.new-found.ensures.width,
       c.requires,
-      c.in_ok-values.ensures.items,
+      c.new-values.ensures.items,
     )
 
 pub returns-in_default-clause-ok : goal.returns-in_default-clause-ok

@@ -94,3 +94,15 @@ returns-in_err-columns-clause-names g c = IfOk-from_err c.from_residual-in_err-c
 
 pub returns-in_err-found-clause-names : goal.returns-in_err-found-clause-names
 returns-in_err-found-clause-names g c = IfOk-from_err c.from_residual-in_err-found.result _ c.from_residual-in_err-found.ensures.0
+
+pub returns-in_err-spend-clause-limit : goal.returns-in_err-spend-clause-limit
+returns-in_err-spend-clause-limit g c = c.spend.ensures.limit
+
+pub returns-in_err-columns-clause-limit : goal.returns-in_err-columns-clause-limit
+returns-in_err-columns-clause-limit g c = c.spend.ensures.limit
+
+pub returns-in_err-found-clause-limit : goal.returns-in_err-found-clause-limit
+returns-in_err-found-clause-limit g c = c.spend.ensures.limit
+
+pub returns-clause-limit : goal.returns-clause-limit
+returns-clause-limit g c = c.spend.ensures.limit

@@ -18,7 +18,7 @@ returns-in_err-push_keys-clause-err g c =
     let f = keys_given (parameters_view c.args.parameters.now) c.args.graph.now c.args.names.now (sources_view c.args.names.now c.args.sources.now.items) in
     let refused : (e : Fault) → f (map view c.row.result.now) ≡ Err e → all_keys_given (parameters_view c.args.parameters.now) c.args.graph.now c.args.names.now (sources_view c.args.names.now c.args.sources.now.items) (table c.args.rows.now) ≡ Err e =
     λ e h. one_fault f (table c.args.rows.now) (table l.found) l.at (map view c.row.result.now) e l.invariant.0 c.row.ensures h in
-    fault_passed _ c.in_err-push_keys.field-0.0 c.from_residual-in_err-push_keys.result c.from_residual-in_err-push_keys.ensures.1 (λ other. refused c.in_err-push_keys.field-0.0 (c.in_err-push_keys.ensures.err other))
+    fault_passed _ c.in_err-push_keys.field-0.0 c.from_residual.result c.from_residual.ensures.1 (λ other. refused c.in_err-push_keys.field-0.0 (c.in_err-push_keys.ensures.err other))
 
 pub loop-at-preserved : goal.loop-at-preserved
 loop-at-preserved g c =
@@ -32,20 +32,11 @@ loop-at-preserved g c =
       c.in_ok-push_from.ensures.emptied,
     )
 
-pub returns-in_err-keys-clause-ok : goal.returns-in_err-keys-clause-ok
-returns-in_err-keys-clause-ok g c = IfOk-from_err c.from_residual.result _ c.from_residual.ensures.0
-
-pub returns-in_err-keys-clause-len : goal.returns-in_err-keys-clause-len
-returns-in_err-keys-clause-len g c = IfOk-from_err c.from_residual.result _ c.from_residual.ensures.0
-
-pub returns-in_err-keys-clause-err : goal.returns-in_err-keys-clause-err
-returns-in_err-keys-clause-err g c = memory_passed _ c.from_residual.result c.from_residual.ensures.1
-
 pub returns-in_err-push_keys-clause-ok : goal.returns-in_err-push_keys-clause-ok
-returns-in_err-push_keys-clause-ok g c = IfOk-from_err c.from_residual-in_err-push_keys.result _ c.from_residual-in_err-push_keys.ensures.0
+returns-in_err-push_keys-clause-ok g c = IfOk-from_err c.from_residual.result _ c.from_residual.ensures.0
 
 pub returns-in_err-push_keys-clause-len : goal.returns-in_err-push_keys-clause-len
-returns-in_err-push_keys-clause-len g c = IfOk-from_err c.from_residual-in_err-push_keys.result _ c.from_residual-in_err-push_keys.ensures.0
+returns-in_err-push_keys-clause-len g c = IfOk-from_err c.from_residual.result _ c.from_residual.ensures.0
 
 pub returns-in_err-push_from-clause-ok : goal.returns-in_err-push_from-clause-ok
 returns-in_err-push_from-clause-ok g c = IfOk-from_err c.from_residual-in_err-push_from.result _ c.from_residual-in_err-push_from.ensures.0
@@ -64,7 +55,7 @@ loop-at-init g c = (
   none_before (table c.new-found.result) (all_keys_given (parameters_view c.args.parameters.now) c.args.graph.now c.args.names.now (sources_view c.args.names.now c.args.sources.now.items) (table c.args.rows.now)) c.new-found.ensures.rows,
   ap length c.new-found.ensures.rows,
   c.new-found.ensures.width ∙ c.len.ensures ∙ c.args.sources.now.ok.0,
-  c.in_ok-keys.ensures.items,
+  c.new-keys.ensures.items,
 )
 
 pub row-requires : goal.row-requires

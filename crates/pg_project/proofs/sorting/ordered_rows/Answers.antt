@@ -8,10 +8,9 @@ use Rattle.pg_project.proofs.SortPlaces.{ordered_fails, ordered_done, ordered_un
 use Rattle.pg_project.specs.Items.{expressions_view}
 use Rattle.pg_project.specs.Given.{all_keys_given, ordered_given}
 use Rattle.pg_project.specs.Sources.{sources_view}
-use Rattle.pg_rows.specs.Tables.{table, rows_at_places}
+use Rattle.pg_rows.specs.Tables.{table}
 use Rattle.pg_syntax_tree.specs.View.{sort_item_view}
 use Rattle.pg_value_core.specs.Given.{parameters_view}
-use Rattle.pg_rows.specs.Sorts.{sorted_places}
 use Rattle.pg_project.proofs.sorting.ordered_rows.Goals as goal
 
 pub returns-in_err-keys-clause-err : goal.returns-in_err-keys-clause-err
@@ -47,15 +46,6 @@ returns-in_err-sorted_rows-clause-width g c = IfOk-from_err c.from_residual-in_e
 pub returns-in_err-sorted_rows-clause-err : goal.returns-in_err-sorted_rows-clause-err
 returns-in_err-sorted_rows-clause-err g c = memory_passed _ c.from_residual-in_err-sorted_rows.result c.from_residual-in_err-sorted_rows.ensures.1
 
-pub returns-in_err-descending-clause-ok : goal.returns-in_err-descending-clause-ok
-returns-in_err-descending-clause-ok g c = IfOk-from_err c.from_residual-in_err-descending.result _ c.from_residual-in_err-descending.ensures.0
-
-pub returns-in_err-descending-clause-width : goal.returns-in_err-descending-clause-width
-returns-in_err-descending-clause-width g c = IfOk-from_err c.from_residual-in_err-descending.result _ c.from_residual-in_err-descending.ensures.0
-
-pub returns-in_err-descending-clause-err : goal.returns-in_err-descending-clause-err
-returns-in_err-descending-clause-err g c = memory_passed _ c.from_residual-in_err-descending.result c.from_residual-in_err-descending.ensures.1
-
 pub returns-clause-err : goal.returns-clause-err
 returns-clause-err g c = tt
 
@@ -80,7 +70,7 @@ returns-clause-ok g c =
     let keys = table c.in_ok-keys.keys in
     ordered_done (parameters_view c.args.parameters.now) c.args.graph.now c.args.names.now (expressions_view c.args.items.now.items) c.args.order.now.items rows keys (table c.in_ok-sorted_rows.field-0) some
     (ap (λ ks. all_keys_given (parameters_view c.args.parameters.now) c.args.graph.now c.args.names.now ks rows) (sym c.in_ok-sources.ensures.sources) ∙ c.in_ok-keys.ensures.ok)
-    (c.in_ok-sorted_rows.ensures.rows ∙ ap (λ ds. rows_at_places rows (sorted_places ds keys)) c.in_ok-descending.ensures)
+    c.in_ok-sorted_rows.ensures.rows
 
 pub returns-clause-width : goal.returns-clause-width
 returns-clause-width g c = c.in_ok-sorted_rows.ensures.width

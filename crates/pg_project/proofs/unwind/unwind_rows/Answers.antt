@@ -1,4 +1,4 @@
-use Rattle.std.proofs.Common.{◌≡◌, length, map, position, bytes_eq, is_none, Ok, Err, sym, ap, subst, ◌∙◌}
+use Rattle.std.proofs.Common.{◌≡◌, length, map, position, bytes_eq, is_none, Ok, Err, refl, sym, ap, subst, ◌∙◌}
 use Rattle.std.proofs.lemmas.List.{length-map}
 use Rattle.std.specs.List.{AllByRecursion}
 use Rattle.pg_expr.specs.Prepared.{tree_of}
@@ -119,3 +119,24 @@ returns-in_err-spend-clause-names g c = IfOk-from_err c.from_residual-in_err-spe
 
 pub returns-in_err-unwound_table-clause-names : goal.returns-in_err-unwound_table-clause-names
 returns-in_err-unwound_table-clause-names g c = IfOk-from_err c.from_residual-in_err-unwound_table.result _ c.from_residual-in_err-unwound_table.ensures.0
+
+pub returns-in_err-prepared-clause-limit : goal.returns-in_err-prepared-clause-limit
+returns-in_err-prepared-clause-limit g c = refl
+
+pub returns-in_err-lists-clause-limit : goal.returns-in_err-lists-clause-limit
+returns-in_err-lists-clause-limit g c = refl
+
+pub returns-in_err-total_length-clause-limit : goal.returns-in_err-total_length-clause-limit
+returns-in_err-total_length-clause-limit g c = refl
+
+pub returns-in_err-spend-clause-limit : goal.returns-in_err-spend-clause-limit
+returns-in_err-spend-clause-limit g c = c.spend.ensures.limit
+
+pub returns-in_err-unwound_table-clause-limit : goal.returns-in_err-unwound_table-clause-limit
+returns-in_err-unwound_table-clause-limit g c = c.spend.ensures.limit
+
+pub returns-clause-limit : goal.returns-clause-limit
+returns-clause-limit g c = c.spend.ensures.limit
+
+pub unwound_table-requires : goal.unwound_table-requires
+unwound_table-requires g c = c.split-names.ensures.width ∙ sym (ap length c.split-names.ensures.names)

@@ -1,5 +1,8 @@
-use Rattle.std.proofs.Common.{ap, ◌∙◌}
+use Rattle.std.proofs.Common.{is_none, length, sym, ap, ◌∙◌}
 use Rattle.std.proofs.lemmas.Result.{IfOk-from_err}
+use Rattle.pg_project.proofs.UnwoundLemmas.{one_wider, told_none}
+use Rattle.pg_project.specs.Unwound.{lists_view, rows_unwound, with_column}
+use Rattle.pg_rows.specs.Tables.{table}
 use Rattle.pg_project.proofs.unwind.unwound_table.Goals as goal
 
 pub returns-in_err-add-clause-names : goal.returns-in_err-add-clause-names
@@ -19,3 +22,14 @@ returns-clause-names c = ap (λ t. t.names) c.new.ensures ∙ c.in_ok-add.ensure
 
 pub new-requires : goal.new-requires
 new-requires c = c.in_ok-found.ensures.width ∙ c.len.ensures
+
+pub returns-clause-rows : goal.returns-clause-rows
+returns-clause-rows c =
+    ap (λ t. t.rows) c.new.ensures ∙ c.in_ok-found.ensures.rows ∙ ap (λ b. rows_unwound b (table c.args.rows) (lists_view c.args.lists.items)) (told_none c.find.result c.is_none-has_column.result c.is_none-has_column.ensures ∙ ap is_none c.find.ensures)
+
+pub unwound-requires : goal.unwound-requires
+unwound-requires c =
+    c.len.ensures
+    ∙ ap length c.in_ok-add.ensures.added
+    ∙ one_wider c.args.name.now c.args.names
+    ∙ (λ i. with_column (sym (told_none c.find.result c.is_none-has_column.result c.is_none-has_column.ensures ∙ ap is_none c.find.ensures) i) (sym c.requires i))

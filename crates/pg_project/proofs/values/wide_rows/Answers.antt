@@ -11,15 +11,6 @@ use Rattle.pg_value_core.specs.Given.{parameters_view}
 use Rattle.pg_value_core.specs.View.{view}
 use Rattle.pg_project.proofs.values.wide_rows.Goals as goal
 
-pub returns-in_err-values-clause-ok : goal.returns-in_err-values-clause-ok
-returns-in_err-values-clause-ok g c = IfOk-from_err c.from_residual.result _ c.from_residual.ensures.0
-
-pub returns-in_err-values-clause-width : goal.returns-in_err-values-clause-width
-returns-in_err-values-clause-width g c = IfOk-from_err c.from_residual.result _ c.from_residual.ensures.0
-
-pub returns-in_err-values-clause-err : goal.returns-in_err-values-clause-err
-returns-in_err-values-clause-err g c = memory_passed _ c.from_residual.result c.from_residual.ensures.1
-
 pub loop-row-init : goal.loop-row-init
 loop-row-init g c =
     let names = c.args.names.now in
@@ -27,17 +18,17 @@ loop-row-init g c =
       ap given (sym c.into_left-left.ensures.rows) ∙ none_before (table c.new-found.result) (given (rows_left c.into_left-left.result)) c.new-found.ensures.rows,
       c.new-found.ensures.width,
       c.into_left-left.ensures.width,
-      c.in_ok-values.ensures.items,
+      c.new-values.ensures.items,
     )
 
 pub push_values-requires : goal.push_values-requires
 push_values-requires g c = c.loop-row.invariant.3
 
 pub returns-in_err-push_values-clause-ok : goal.returns-in_err-push_values-clause-ok
-returns-in_err-push_values-clause-ok g c = IfOk-from_err c.from_residual-in_err-push_values.result _ c.from_residual-in_err-push_values.ensures.0
+returns-in_err-push_values-clause-ok g c = IfOk-from_err c.from_residual.result _ c.from_residual.ensures.0
 
 pub returns-in_err-push_values-clause-width : goal.returns-in_err-push_values-clause-width
-returns-in_err-push_values-clause-width g c = IfOk-from_err c.from_residual-in_err-push_values.result _ c.from_residual-in_err-push_values.ensures.0
+returns-in_err-push_values-clause-width g c = IfOk-from_err c.from_residual.result _ c.from_residual.ensures.0
 
 pub returns-in_err-push_values-clause-err : goal.returns-in_err-push_values-clause-err
 returns-in_err-push_values-clause-err g c =
@@ -45,7 +36,7 @@ returns-in_err-push_values-clause-err g c =
     let names = c.args.names.now in
     let es = trees_of names c.args.ready.now.items in
     let left = rows_left c.loop-row.left in
-    fault_passed _ c.in_err-push_values.field-0.0 c.from_residual-in_err-push_values.result c.from_residual-in_err-push_values.ensures.1
+    fault_passed _ c.in_err-push_values.field-0.0 c.from_residual.result c.from_residual.ensures.1
     (λ other. wide_fault ps c.args.graph.now names es c.args.keeps (wide_rows_given ps c.args.graph.now names es c.args.keeps (table c.args.rows)) (table c.loop-row.found)
     left (drop 1 left) (map view c.in-Some.row.now) c.in_err-push_values.field-0.0 c.in-Some.ensures.row (c.in_err-push_values.ensures.err other) c.loop-row.invariant.0)
 

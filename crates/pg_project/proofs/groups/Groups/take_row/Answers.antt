@@ -1,7 +1,7 @@
 use Rattle.std.proofs.Common.{◌≡◌, ◌≢◌, Err, sym, ap, ◌∙◌, length}
 use Rattle.std.specs.List.{list_any}
 use Rattle.std.proofs.lemmas.List.{length-set}
-use Rattle.std.proofs.lemmas.Result.{IfOk-from_err, IfErr-weaker, on_ok_weaker}
+use Rattle.std.proofs.lemmas.Result.{IfOk-at_ok, IfOk-from_err, IfErr-weaker, on_ok_weaker}
 use Rattle.pg_project.proofs.ExitLemmas.{memory_passed}
 use Rattle.pg_project.proofs.Numbered.{put_known, put_new, paired_known, paired_new, taken, refused, into, put, same_keys}
 use Rattle.indexmap.specs.IndexSet.{insert_key}
@@ -13,7 +13,7 @@ use Rattle.pg_project.specs.Sites.{answers}
 use Rattle.pg_project.specs.declared.groups.Groups.{Groups}
 use Rattle.pg_rows.proofs.Occurrences.{fresh, known}
 use Rattle.pg_project.proofs.groups.Groups.take_row.Goals as goal
-use Rattle.pg_project.proofs.groups.Groups.take_row.Goals.{then-is_new+in_ok-begun+in_ok-push, else-is_new}
+use Rattle.pg_project.proofs.groups.Groups.take_row.Goals.{then-is_new+in_ok-push_made, else-is_new}
 
 pub returns-in_err-number : goal.returns-in_err-number
 returns-in_err-number g c = record {
@@ -22,18 +22,11 @@ returns-in_err-number g c = record {
   err = memory_passed _ c.from_residual.result c.from_residual.ensures.1;
 }
 
-pub returns-in_err-begun : goal.returns-in_err-begun
-returns-in_err-begun g c = record {
-  ok = IfOk-from_err c.from_residual-in_err-begun.result _ c.from_residual-in_err-begun.ensures.0;
-  paired = IfOk-from_err c.from_residual-in_err-begun.result _ c.from_residual-in_err-begun.ensures.0;
-  err = memory_passed _ c.from_residual-in_err-begun.result c.from_residual-in_err-begun.ensures.1;
-}
-
-pub returns-in_err-push : goal.returns-in_err-push
-returns-in_err-push g c = record {
-  ok = IfOk-from_err c.from_residual-in_err-push.result _ c.from_residual-in_err-push.ensures.0;
-  paired = IfOk-from_err c.from_residual-in_err-push.result _ c.from_residual-in_err-push.ensures.0;
-  err = memory_passed _ c.from_residual-in_err-push.result c.from_residual-in_err-push.ensures.1;
+pub returns-in_err-push_made : goal.returns-in_err-push_made
+returns-in_err-push_made g c = record {
+  ok = IfOk-from_err c.from_residual-in_err-push_made.result _ c.from_residual-in_err-push_made.ensures.0;
+  paired = IfOk-from_err c.from_residual-in_err-push_made.result _ c.from_residual-in_err-push_made.ensures.0;
+  err = memory_passed _ c.from_residual-in_err-push_made.result c.from_residual-in_err-push_made.ensures.1;
 }
 
 pub returns : goal.returns
@@ -51,17 +44,17 @@ returns g c =
     let there = list_any (same_keys key) ks in
     let kept_keys : more ≡ insert_key same_keys ks key =
     elim c.if-is_new.branch [
-      | then-is_new+in_ok-begun+in_ok-push w ↦ ap (λ (v : Groups). v.keys.keys) w.self-is
+      | then-is_new+in_ok-push_made w ↦ ap (λ (v : Groups). v.keys.keys) w.self-is
       | else-is_new w ↦ ap (λ (v : Groups). v.keys.keys) w.self-is
     ] ∙ e.keys in
     let stands : into at aggregates key ks more tss c.requires kept_keys n e.index ≡ put at aggregates key ks more tss c.requires kept_keys n e.index now old =
     elim c.if-is_new.branch [
-      | then-is_new+in_ok-begun+in_ok-push w ↦ put_new at aggregates key ks more tss c.requires kept_keys n e.index now old w.in_ok-begun.field-0 (fresh there c.in_ok-number.is_new e.added w.if-is_new.true) (ap (λ (v : Groups). v.taken.items) w.self-is ∙ w.in_ok-push.ensures.items) (w.in_ok-begun.ensures c.args.site.now.names.now) c.index_mut.ensures.value
+      | then-is_new+in_ok-push_made w ↦ put_new at aggregates key ks more tss c.requires kept_keys n e.index now old w.in_ok-push_made.ensures.0 (fresh there c.in_ok-number.is_new e.added w.if-is_new.true) (ap (λ (v : Groups). v.taken.items) w.self-is ∙ w.in_ok-push_made.ensures.2) (IfOk-at_ok _ w.in_ok-push_made.ensures.1 (w.begun.ensures c.args.site.now.names.now)) c.index_mut.ensures.value
       | else-is_new w ↦ put_known at aggregates key ks more tss c.requires kept_keys n e.index now old (known there c.in_ok-number.is_new e.added w.if-is_new.false) (ap (λ (v : Groups). v.taken.items) w.self-is) c.index_mut.ensures.value
     ] in
     let paired : length more ≡ length now =
     elim c.if-is_new.branch [
-      | then-is_new+in_ok-begun+in_ok-push w ↦ paired_new at aggregates key ks more tss c.requires kept_keys n e.index now w.in_ok-begun.field-0 (fresh there c.in_ok-number.is_new e.added w.if-is_new.true) (ap (λ (v : Groups). v.taken.items) w.self-is ∙ w.in_ok-push.ensures.items)
+      | then-is_new+in_ok-push_made w ↦ paired_new at aggregates key ks more tss c.requires kept_keys n e.index now w.in_ok-push_made.ensures.0 (fresh there c.in_ok-number.is_new e.added w.if-is_new.true) (ap (λ (v : Groups). v.taken.items) w.self-is ∙ w.in_ok-push_made.ensures.2)
       | else-is_new w ↦ paired_known at aggregates key ks more tss c.requires kept_keys n e.index now (known there c.in_ok-number.is_new e.added w.if-is_new.false) (ap (λ (v : Groups). v.taken.items) w.self-is)
     ] in
     let result = c.take_in_all.result in

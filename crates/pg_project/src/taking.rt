@@ -25,7 +25,7 @@ pub(crate) fn begun(
 ) -> Result<Vec<Taken>, AllocError>
     ensures { (names : List (List ℕ)) → IfOk result (λ ts. takens_view ts.items ≡ kept.begun (aggregates_view names aggregates.now.items)) }
 {
-    let mut begun = Vec::new(alloc);
+    let mut begun = Vec::with_capacity(alloc, aggregates.len())?;
     for aggregate in aggregates {
         begun.push(Taken::new(alloc, aggregate.summary, aggregate.distinct))?;
     }

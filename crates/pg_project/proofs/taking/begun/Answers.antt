@@ -7,11 +7,14 @@ use Rattle.pg_project.specs.ReadyItems.{aggregates_view}
 use Rattle.pg_project.specs.Views.{taken_view, takens_view}
 use Rattle.pg_project.proofs.taking.begun.Goals as goal
 
+pub returns-in_err-begun : goal.returns-in_err-begun
+returns-in_err-begun c = λ names. IfOk-from_err c.from_residual.result _ c.from_residual.ensures.0
+
 pub loop-aggregate-init : goal.loop-aggregate-init
-loop-aggregate-init c = λ names. ap (λ ts. takens_view ts ++ begun (aggregates_view names c.args.aggregates.now.items)) c.new-begun.ensures.items
+loop-aggregate-init c = λ names. ap (λ ts. takens_view ts ++ begun (aggregates_view names c.args.aggregates.now.items)) c.in_ok-begun.ensures.items
 
 pub returns-in_err-push : goal.returns-in_err-push
-returns-in_err-push c = λ names. IfOk-from_err c.from_residual.result _ c.from_residual.ensures.0
+returns-in_err-push c = λ names. IfOk-from_err c.from_residual-in_err-push.result _ c.from_residual-in_err-push.ensures.0
 
 pub loop-aggregate-preserved : goal.loop-aggregate-preserved
 loop-aggregate-preserved c = λ names.

@@ -1,9 +1,9 @@
 -- The data of an element, and its tokens, written in three steps.
 use Rattle.std.proofs.Common.{◌≡◌, List, ◌++◌, [], ◌∷◌, String, Vec, BTreeMap, Global, string_bytes, codes, decimal, rules, sym, ap, ◌∙◌, append_assoc}
 use Rattle.json.specs.Token.{Token, begin_object, end_object, key, number}
-use Rattle.json.specs.Tree.{json_tokens, members_tokens}
+use Rattle.json.specs.Tree.{json_tokens}
 use Rattle.serde_json.specs.Data.{array, object, string}
-use Rattle.serde_json.specs.Written.{outline, members_outline}
+use Rattle.serde_json.specs.Written.{outline}
 use Rattle.pg_value_core.specs.declared.ids.NodeId.{NodeId}
 use Rattle.pg_value_core.specs.declared.ids.RelId.{RelId}
 use Rattle.pg_value_core.specs.declared.out.Out.{Out, Text, List as OutList, Map as OutMap, Node, Rel, Path, the_lemmas}
@@ -30,18 +30,18 @@ data_rel id kind start end ps = search (rules, the_lemmas)
 pub data_path : (elements : Vec Out Global) → data_of (Path elements) ≡ path_data (outs elements.items)
 data_path elements = search (rules, the_lemmas)
 
--- what stands before the members, these, and what stands behind them
+-- what stands before the properties or the elements, these, and what stands behind them
 pub around : (a b c d before inside behind : List Token) → b ≡ a ++ before → c ≡ b ++ inside → d ≡ c ++ behind → d ≡ a ++ (before ++ (inside ++ behind))
 around a b c d before inside behind first second third =
     third ∙ ap (λ ts. ts ++ behind) (second ∙ ap (λ ts. ts ++ inside) first) ∙ append_assoc (a ++ before) inside behind ∙ append_assoc a before (inside ++ behind)
 
 pub node_written : (a b c d : List Token) (id : NodeId) (labels : Vec (String Global) Global) (ps : BTreeMap (String Global) Out)
-    → b ≡ a ++ node_begun id.0 (text_items labels.items) → c ≡ b ++ members_tokens (members_outline (named_outs ps.entries)) → d ≡ c ++ end_object ∷ []
+    → b ≡ a ++ node_begun id.0 (text_items labels.items) → c ≡ b ++ json_tokens (outline (object (named_outs ps.entries))) → d ≡ c ++ end_object ∷ []
     → d ≡ a ++ json_tokens (outline (data_of (Node id labels ps)))
 node_written a b c d id labels ps first second third =
     let named : List Token = json_tokens (outline (array (text_items labels.items))) in
-    let opened : List Token = key (codes "properties") ∷ begin_object ∷ [] in
-    let inside : List Token = members_tokens (members_outline (named_outs ps.entries)) in
+    let opened : List Token = key (codes "properties") ∷ [] in
+    let inside : List Token = json_tokens (outline (object (named_outs ps.entries))) in
     around a b c d (node_begun id.0 (text_items labels.items)) inside (end_object ∷ []) first second third
     ∙ ap (λ ts. a ++ (begin_object ∷ key (codes "$node") ∷ number (decimal id.0) ∷ key (codes "labels") ∷ ts)) (append_assoc named opened (inside ++ (end_object ∷ [])))
     ∙ ap (λ d. a ++ json_tokens (outline d)) (sym (data_node id labels ps))

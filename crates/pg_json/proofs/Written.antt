@@ -1,34 +1,26 @@
 -- The tokens of lists and maps, a part at a time.
 use Rattle.std.proofs.Common.{◌≡◌, ◌+◌, ◌<◌, ◌≤◌, ℕ, List, ◌++◌, [], ◌∷◌, length, map, drop, get_or, String, Vec, BTreeMap, Global, string_bytes, sym, ap, ◌∙◌, append_assoc}
 use Rattle.std.proofs.lemmas.List.{drop_more, drop_all}
-use Rattle.json.specs.Token.{Token, begin_object, begin_array, end_array, key}
+use Rattle.json.specs.Token.{Token, end_array, key}
 use Rattle.json.specs.Tree.{json_tokens, items_tokens, members_tokens}
-use Rattle.serde_json.specs.Data.{Data}
+use Rattle.serde_json.specs.Data.{Data, array, object}
 use Rattle.serde_json.specs.Written.{outline, items_outline, members_outline}
 use Rattle.pg_value_core.specs.declared.out.Out.{Out, List as OutList, Map as OutMap}
 use Rattle.pg_json.specs.Replies.{items_of, data_of, outs, named_outs}
 use Rattle.pg_json.proofs.Elements.{data_list, data_map}
 
-abbrev pub written_items : List Out → List Token
-written_items es = items_tokens (items_outline (outs es))
-
 abbrev pub written_members : List (String Global × Out) → List Token
 written_members ms = members_tokens (members_outline (named_outs ms))
 
-pub list_written : (a b d : List Token) (items : Vec Out Global) (es : List Out) → es ≡ items.items → b ≡ a ++ begin_array ∷ [] → d ≡ b ++ written_items es
+pub list_written : (a d : List Token) (items : Vec Out Global) (es : List Out) → es ≡ items.items → d ≡ a ++ json_tokens (outline (array (outs es)))
     → d ≡ a ++ json_tokens (outline (data_of (OutList items)))
-list_written a b d items es same first second =
-    second ∙ ap (λ ts. ts ++ written_items es) first
-    ∙ append_assoc a (begin_array ∷ []) (written_items es)
-    ∙ ap (λ xs. a ++ (begin_array ∷ written_items xs)) same
+list_written a d items es same all =
+    all ∙ ap (λ xs. a ++ json_tokens (outline (array (outs xs)))) same
     ∙ ap (λ shown. a ++ json_tokens (outline shown)) (sym (data_list items))
 
-pub map_written : (a b d : List Token) (members : BTreeMap (String Global) Out) → b ≡ a ++ begin_object ∷ [] → d ≡ b ++ written_members members.entries
+pub map_written : (a d : List Token) (members : BTreeMap (String Global) Out) → d ≡ a ++ json_tokens (outline (object (named_outs members.entries)))
     → d ≡ a ++ json_tokens (outline (data_of (OutMap members)))
-map_written a b d members first second =
-    second ∙ ap (λ ts. ts ++ written_members members.entries) first
-    ∙ append_assoc a (begin_object ∷ []) (written_members members.entries)
-    ∙ ap (λ shown. a ++ json_tokens (outline shown)) (sym (data_map members))
+map_written a d members all = all ∙ ap (λ shown. a ++ json_tokens (outline shown)) (sym (data_map members))
 
 -- a list whose items are seen as data in one way
 module _ {X : Type 0} (shown : X → Data) where

@@ -143,30 +143,28 @@ pub(crate) fn request_with(alloc: Global, found: Fields<'_>) -> Result<RequestBo
     ensures kind { IfErr result (λ e. e ≢ OutOfMemory → e ≡ BadRequest) }
     ensures refused { IfErr result (λ e. e ≢ OutOfMemory → asked_with found.entry ≡ None) }
 {
-    let Some(op) = found.op else {
+    let Fields {
+        op: Some(op),
+        parameters,
+        text,
+        token: Some(token),
+    } = found
+    else {
         return Err(Fault::BadRequest);
     };
-    let Some(token) = found.token else {
-        return Err(Fault::BadRequest);
-    };
-    match found.text {
-        Some(text) => if op == "query" {
+    match text {
+        Some(text) if op == "query" => {
             query_with(
                 alloc,
                 token,
                 text,
-                found.parameters.unwrap_or(BTreeMap::new(alloc)),
+                parameters.unwrap_or(BTreeMap::new(alloc)),
             )
-        } else {
-            Err(Fault::BadRequest)
-        },
-        None => if op == "status" && found.parameters.is_none() {
-            Ok(RequestBody::Status {
-                token: String::from_str(alloc, token)?,
-            })
-        } else {
-            Err(Fault::BadRequest)
-        },
+        }
+        None if op == "status" && parameters.is_none() => Ok(RequestBody::Status {
+            token: String::from_str(alloc, token)?,
+        }),
+        _ => Err(Fault::BadRequest),
     }
 }
 

@@ -1,14 +1,14 @@
 //! The parameters of a query, read token by token.
 ghost use Rattle.std.specs.Prelude.{◌≡◌, ◌<◌, ◌+◌, ◌∷◌, ℕ, List, length, Some, IfOk, OnOk, map};
-ghost use Rattle.json.specs.Json.{value, items, members};
+ghost use Rattle.json.specs.Json.{value, members};
 ghost use Rattle.json.specs.Token as tokens;
 ghost use Rattle.json.specs.Reads.{token_of};
 ghost use Rattle.serde_json.specs.Data.{no_members};
-ghost use Rattle.serde_json.specs.Read.{of_json, of_items, of_members, converted};
+ghost use Rattle.serde_json.specs.Read.{of_json, of_members, converted};
 ghost use Rattle.pg_meaning.specs.Measure.{greatest_depth};
 ghost use Rattle.pg_json.specs.Fields.{object_giving};
-ghost use Rattle.pg_json.specs.Given.{data_giving, items_giving, members_giving, IsGiven, AreGiven, EntriesAreGiven};
-ghost use Rattle.pg_value_core.specs.View.{view, values_view, entries_view};
+ghost use Rattle.pg_json.specs.Given.{data_giving, members_giving, IsGiven, EntriesAreGiven};
+ghost use Rattle.pg_value_core.specs.View.{view, entries_view};
 
 use crate::number::whole_number;
 use crate::unread::Unread;
@@ -48,7 +48,14 @@ fn read(alloc: Global, reader: &mut Reader<'_>, room: usize) -> Result<Value, Un
         return Err(Unread::Unclear);
     }
     match reader.next() {
-        Some(Token::BeginArray) => Ok(Value::List(read_items(alloc, reader, room - 1)?)),
+        Some(Token::BeginArray) => {
+            let mut found = Vec::new(alloc);
+            'items: while !reader.take_end_array() {
+                let item = read(alloc, reader, room - 1)?;
+                found.push(item)?;
+            }
+            Ok(Value::List(found))
+        }
         Some(Token::BeginObject) => Ok(Value::Map(read_members(alloc, reader, room - 1)?)),
         Some(token) => scalar(alloc, token),
         None => Err(Unread::Unclear),
@@ -70,20 +77,6 @@ fn scalar(alloc: Global, token: Token<'_>) -> Result<Value, Unread>
         Token::String(text) => Ok(Value::Text(String::from_str(alloc, text)?)),
         _ => Err(Unread::Unclear),
     }
-}
-
-#[cycle(read)]
-fn read_items(alloc: Global, reader: &mut Reader<'_>, room: usize) -> Result<Vec<Value>, Unread>
-    ensures ok { IfOk result (λ v. converted of_items (items (value (room + 61)) (length reader.old) reader.old) ≡ Some (items_giving (values_view v.items), reader.new)) }
-    ensures given { IfOk result (λ v. AreGiven room (values_view v.items)) }
-    ensures shorter { OnOk result (length reader.new < length reader.old) }
-{
-    let mut found = Vec::new(alloc);
-    'items: while !reader.take_end_array() {
-        let item = read(alloc, reader, room)?;
-        found.push(item)?;
-    }
-    Ok(found)
 }
 
 #[cycle(read)]

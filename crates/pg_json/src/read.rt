@@ -51,20 +51,12 @@ fn read_slowly(alloc: Global, text: &str) -> Result<RequestBody, Fault>
     ensures refused { IfErr result (λ e. e ≢ OutOfMemory → option_and_then request_of (read text.now) ≡ None) }
 {
     match Value::from_str(alloc, text) {
-        Ok(value) => request_from(alloc, value),
+        Ok(value) => match value {
+            Value::Object(members) => object_from(alloc, members),
+            _other => Err(Fault::BadRequest),
+        },
         Err(e) if e.is_memory() => Err(Fault::OutOfMemory),
         Err(_) => Err(Fault::BadRequest),
-    }
-}
-
-fn request_from(alloc: Global, value: Value) -> Result<RequestBody, Fault>
-    ensures ok { IfOk result (λ r. request_of (view value) ≡ Some (request_view r)) }
-    ensures kind { IfErr result (λ e. e ≢ OutOfMemory → e ≡ BadRequest) }
-    ensures refused { IfErr result (λ e. e ≢ OutOfMemory → request_of (view value) ≡ None) }
-{
-    match value {
-        Value::Object(members) => object_from(alloc, members),
-        _other => Err(Fault::BadRequest),
     }
 }
 
@@ -235,12 +227,7 @@ fn take_name(members: &mut Map<String, Value>, name: &str) -> Option<String>
     ensures text { option_map string_bytes result ≡ name_at name.now (members_view members.old.entries) }
     ensures others { (k : List ℕ) → k ≢ name.now → get_member k (members_view members.new.entries) ≡ get_member k (members_view members.old.entries) }
 {
-    if_any(take_text(members, name)?)
-}
-
-fn if_any(text: String) -> Option<String>
-    ensures { option_map string_bytes result ≡ spec_if_any (string_bytes text) }
-{
+    let text = take_text(members, name)?;
     if text.is_empty() { None } else { Some(text) }
 }
 
@@ -248,7 +235,10 @@ fn take_text(members: &mut Map<String, Value>, name: &str) -> Option<String>
     ensures text { option_map string_bytes result ≡ spec_text_at name.now (members_view members.old.entries) }
     ensures others { (k : List ℕ) → k ≢ name.now → get_member k (members_view members.new.entries) ≡ get_member k (members_view members.old.entries) }
 {
-    text_from(take(members, name)?)
+    match take(members, name)? {
+        Value::String(text) => Some(text),
+        _ => None,
+    }
 }
 
 fn take(members: &mut Map<String, Value>, name: &str) -> Option<Value>
@@ -256,15 +246,6 @@ fn take(members: &mut Map<String, Value>, name: &str) -> Option<Value>
     ensures others { (k : List ℕ) → k ≢ name.now → get_member k (members_view members.new.entries) ≡ get_member k (members_view members.old.entries) }
 {
     members.remove(name)
-}
-
-fn text_from(value: Value) -> Option<String>
-    ensures { option_map string_bytes result ≡ as_str (view value) }
-{
-    match value {
-        Value::String(text) => Some(text),
-        _ => None,
-    }
 }
 
 fn has_only(members: &Map<String, Value>, names: &[&str]) -> bool

@@ -35,8 +35,7 @@ impl RowsReply {
     pub fn name(&mut self, column: &str) -> Result<(), AllocError>
         ensures { (names : List (List ℕ)) → HasNamed self.old names → OnOk result (HasNamed self.new (names ++ column.now ∷ [])) }
     {
-        self.to.string(column)?;
-        Ok(())
+        self.to.string(column)
     }
 
     /// All columns are named, and there is no row yet.
@@ -45,17 +44,14 @@ impl RowsReply {
     {
         self.to.end_array()?;
         self.to.key("rows")?;
-        self.to.begin_array()?;
-        Ok(())
+        self.to.begin_array()
     }
 
     /// One row more.
     pub fn push(&mut self, row: &[Out]) -> Result<(), AllocError>
         ensures { (columns : Items) (rows : List Items) → HasWritten self.old columns rows → OnOk result (HasWritten self.new columns (rows ++ outs row.now ∷ [])) }
     {
-        self.to.begin_array()?;
-        write_items(row, &mut self.to)?;
-        Ok(())
+        write_items(row, &mut self.to)
     }
 
     /// The whole reply, which may be no longer than 16 MiB.

@@ -1,9 +1,9 @@
 //! A value's tokens.
 ghost use Rattle.std.specs.Prelude.{◌≡◌, ◌++◌, ◌∷◌, [], OnOk, codes, decimal};
-ghost use Rattle.json.specs.Tree.{json_tokens, items_tokens, members_tokens};
-ghost use Rattle.json.specs.Token.{key as key_token, number as number_token, string as string_token, begin_object, begin_array};
-ghost use Rattle.serde_json.specs.Data.{array};
-ghost use Rattle.serde_json.specs.Written.{outline, items_outline, members_outline};
+ghost use Rattle.json.specs.Tree.{json_tokens};
+ghost use Rattle.json.specs.Token.{key as key_token, number as number_token, begin_object};
+ghost use Rattle.serde_json.specs.Data.{array, object};
+ghost use Rattle.serde_json.specs.Written.{outline};
 ghost use Rattle.pg_json.specs.Replies.{data_of, outs, named_outs, text_items};
 ghost use Rattle.pg_json.specs.Elements.{node_begun, rel_begun, rel_ended};
 
@@ -22,14 +22,8 @@ fn write(value: &Out, to: &mut Writer) -> Result<(), AllocError>
         Out::Bool(b) => to.boolean(*b),
         Out::Int(i) => to.i64(*i),
         Out::Text(text) => to.string(text),
-        Out::List(items) => {
-            to.begin_array()?;
-            write_items(items, to)
-        }
-        Out::Map(members) => {
-            to.begin_object()?;
-            write_members(members, to)
-        }
+        Out::List(items) => write_items(items, to),
+        Out::Map(members) => write_members(members, to),
         Out::Node {
             id,
             labels,
@@ -58,24 +52,24 @@ fn write(value: &Out, to: &mut Writer) -> Result<(), AllocError>
     }
 }
 
-/// The items and the closing bracket.
 #[cycle(write)]
 pub(crate) fn write_items(items: &[Out], to: &mut Writer) -> Result<(), AllocError>
-    ensures ok { OnOk result (to.new.tokens ≡ to.old.tokens ++ items_tokens (items_outline (outs items.now))) }
+    ensures ok { OnOk result (to.new.tokens ≡ to.old.tokens ++ json_tokens (outline (array (outs items.now)))) }
     ensures before { to.new.before ≡ to.old.before }
 {
+    to.begin_array()?;
     for item in items {
         write(item, to)?;
     }
     to.end_array()
 }
 
-/// The members and the closing bracket.
 #[cycle(write)]
 fn write_members(members: &BTreeMap<String, Out>, to: &mut Writer) -> Result<(), AllocError>
-    ensures ok { OnOk result (to.new.tokens ≡ to.old.tokens ++ members_tokens (members_outline (named_outs members.now.entries))) }
+    ensures ok { OnOk result (to.new.tokens ≡ to.old.tokens ++ json_tokens (outline (object (named_outs members.now.entries)))) }
     ensures before { to.new.before ≡ to.old.before }
 {
+    to.begin_object()?;
     for (key, member) in members.iter() {
         to.key(key)?;
         write(member, to)?;
@@ -91,7 +85,7 @@ fn begin_node(id: NodeId, labels: &[String], to: &mut Writer) -> Result<(), Allo
     to.begin_object()?;
     write_natural("$node", id.0, to)?;
     write_labels(labels, to)?;
-    begin_properties(to)
+    to.key("properties")
 }
 
 /// What stands before a relationship's properties.
@@ -102,7 +96,7 @@ fn begin_rel(id: RelId, end: NodeId, to: &mut Writer) -> Result<(), AllocError>
     to.begin_object()?;
     write_natural("$rel", id.0, to)?;
     write_natural("end", end.0, to)?;
-    begin_properties(to)
+    to.key("properties")
 }
 
 /// What stands behind a relationship's properties.
@@ -111,25 +105,17 @@ fn end_rel(start: NodeId, kind: &str, to: &mut Writer) -> Result<(), AllocError>
     ensures before { to.new.before ≡ to.old.before }
 {
     write_natural("start", start.0, to)?;
-    write_type(kind, to)?;
+    to.key("type")?;
+    to.string(kind)?;
     to.end_object()
 }
 
-fn begin_properties(to: &mut Writer) -> Result<(), AllocError>
-    ensures ok { OnOk result (to.new.tokens ≡ to.old.tokens ++ key_token (codes "properties") ∷ begin_object ∷ []) }
-    ensures before { to.new.before ≡ to.old.before }
-{
-    to.key("properties")?;
-    to.begin_object()
-}
-
 fn begin_path(to: &mut Writer) -> Result<(), AllocError>
-    ensures ok { OnOk result (to.new.tokens ≡ to.old.tokens ++ begin_object ∷ key_token (codes "$path") ∷ begin_array ∷ []) }
+    ensures ok { OnOk result (to.new.tokens ≡ to.old.tokens ++ begin_object ∷ key_token (codes "$path") ∷ []) }
     ensures before { to.new.before ≡ to.old.before }
 {
     to.begin_object()?;
-    to.key("$path")?;
-    to.begin_array()
+    to.key("$path")
 }
 
 fn write_labels(labels: &[String], to: &mut Writer) -> Result<(), AllocError>
@@ -149,14 +135,6 @@ fn write_texts(texts: &[String], to: &mut Writer) -> Result<(), AllocError>
         to.string(text)?;
     }
     to.end_array()
-}
-
-fn write_type(kind: &str, to: &mut Writer) -> Result<(), AllocError>
-    ensures ok { OnOk result (to.new.tokens ≡ to.old.tokens ++ key_token (codes "type") ∷ string_token kind.now ∷ []) }
-    ensures before { to.new.before ≡ to.old.before }
-{
-    to.key("type")?;
-    to.string(kind)
 }
 
 pub(crate) fn write_natural(name: &str, n: u64, to: &mut Writer) -> Result<(), AllocError>

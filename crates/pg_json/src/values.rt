@@ -1,10 +1,10 @@
 //! From JSON data to the values of parameters.
 ghost use Rattle.std.specs.Prelude.{◌≡◌, ◌≢◌, None, Some, IfOk, IfErr, OnOk, string_bytes};
-ghost use Rattle.serde_json.specs.View.{view as data_view, items_view, members_view};
+ghost use Rattle.serde_json.specs.View.{view as data_view, members_view};
 ghost use Rattle.pg_meaning.specs.Entries.{put};
-ghost use Rattle.pg_json.specs.Given.{value_within, values_within, entries_within};
+ghost use Rattle.pg_json.specs.Given.{value_within, entries_within};
 ghost use Rattle.pg_meaning.specs.declared.fault.Fault.TheVariants.{BadRequest, OutOfMemory};
-ghost use Rattle.pg_value_core.specs.View.{view, values_view, entries_view};
+ghost use Rattle.pg_value_core.specs.View.{view, entries_view};
 
 use pg_meaning::Fault;
 use pg_value_core::Value;
@@ -30,23 +30,16 @@ fn value_from(alloc: Global, given: &Data, room: usize) -> Result<Value, Fault>
             None => Err(Fault::BadRequest),
         },
         Data::String(text) => Ok(Value::Text(String::from_str(alloc, text.as_str())?)),
-        Data::Array(items) => Ok(Value::List(items_from(alloc, items, room - 1)?)),
+        Data::Array(items) => {
+            let mut values = Vec::with_capacity(alloc, items.len())?;
+            for item in items {
+                let value = value_from(alloc, item, room - 1)?;
+                values.push(value)?;
+            }
+            Ok(Value::List(values))
+        }
         Data::Object(members) => Ok(Value::Map(entries_from(alloc, members, room - 1)?)),
     }
-}
-
-#[cycle(convert)]
-fn items_from(alloc: Global, items: &Vec<Data>, room: usize) -> Result<Vec<Value>, Fault>
-    ensures ok { IfOk result (λ v. values_within room (items_view items.now.items) ≡ Some (values_view v.items)) }
-    ensures kind { IfErr result (λ e. e ≢ OutOfMemory → e ≡ BadRequest) }
-    ensures refused { IfErr result (λ e. e ≢ OutOfMemory → values_within room (items_view items.now.items) ≡ None) }
-{
-    let mut values = Vec::with_capacity(alloc, items.len())?;
-    for item in items {
-        let value = value_from(alloc, item, room)?;
-        values.push(value)?;
-    }
-    Ok(values)
 }
 
 /// The values at these members' names.

@@ -18,17 +18,6 @@ read-returns-in-Some-clause-ok t c =
     let is : c.args.reader.now ≡ token_of c.in-Some.token ∷ c.next.new.self = grind arith in
     rw is (c.scalar.ensures.ok (c.args.room + 61) c.next.new.self)
 
-pub read-returns-in_ok-read_items-in-Some-BeginArray-clause-ok : goal.read-returns-in_ok-read_items-in-Some-BeginArray-clause-ok
-read-returns-in_ok-read_items-in-Some-BeginArray-clause-ok t c =
-    let d = c.args.room + 61 in
-    let rest = c.next.new.self in
-    let is : c.args.reader.now ≡ Token.begin_array ∷ rest = grind arith in
-    let lower : d - 1 ≡ c.args.room - 1 + 61 = omega arith in
-    let opened = ap (converted of_json) (ap (value d) is ∙ value-begin_array d rest (omega arith)) ∙ converted-array (items (value (d - 1)) (length rest) rest) in
-    let found = c.in_ok-read_items-in-Some-BeginArray in
-    let seen : data_giving (view (List found.field-0)) ≡ array _ = search (rules, the_lemmas) in
-    opened ∙ ap (λ n. parse_map array (converted of_items (items (value n) (length rest) rest))) lower ∙ ap (parse_map array) found.ensures.ok ∙ ap (λ j. Some (j, c.read_items.new.reader)) (sym seen)
-
 pub read-returns-in_ok-read_members-in-Some-BeginObject-clause-ok : goal.read-returns-in_ok-read_members-in-Some-BeginObject-clause-ok
 read-returns-in_ok-read_members-in-Some-BeginObject-clause-ok t c =
     let d = c.args.room + 61 in
@@ -40,33 +29,40 @@ read-returns-in_ok-read_members-in-Some-BeginObject-clause-ok t c =
     let seen : data_giving (view (Map found.field-0)) ≡ object _ = search (rules, the_lemmas) in
     opened ∙ ap (λ n. parse_map object (converted (λ ms. of_members ms no_members) (members (value n) (length rest) rest))) lower ∙ ap (parse_map object) found.ensures.ok ∙ ap (λ j. Some (j, c.read_members.new.reader)) (sym seen)
 
-pub read_items-items-preserved : goal.read_items-items-preserved
-read_items-items-preserved t c =
-    let room = c.args.room in
+pub read-items-preserved : goal.read-items-preserved
+read-items-preserved t c =
+    let room = c.args.room - 1 in
     let p = value (room + 61) in
     let l = c.items in
     let n = l.invariant.0 in
     let going : (after_end_array l.reader ≡ None) × (c.take_end_array.new.self ≡ l.reader) = grind arith in
-    let done = c.in_ok-item.ensures in
-    let v = c.in_ok-item.item in
+    let done = c.in_ok-item-in-Some-BeginArray.ensures in
+    let v = c.in_ok-item-in-Some-BeginArray.item in
     let r = c.read.new.reader in
     let less : length r < length l.reader = rw (← going.1) done.shorter in
     let turn = item_read p n l.reader r (data_giving (view v)) (omega (arith, l.invariant.1)) going.0 (rw (← going.1) done.ok) in (
       n - 1,
       omega (arith, l.invariant.1),
       l.invariant.2 ∙ ap (parse_map (items_before l.found.items)) turn ∙ one_more_item l.found.items v _
-          ∙ ap (λ vs. parse_map (items_before vs) (converted of_items (items p (n - 1) r))) (sym c.in_ok-push.ensures.items),
+          ∙ ap (λ vs. parse_map (items_before vs) (converted of_items (items p (n - 1) r))) (sym c.in_ok-push-in-Some-BeginArray.ensures.items),
       omega (arith, l.invariant.3),
-      subst (λ vs. AreGiven room (values_view vs)) (sym c.in_ok-push.ensures.items) (given_push room l.found.items v l.invariant.4 done.given),
+      subst (λ vs. AreGiven room (values_view vs)) (sym c.in_ok-push-in-Some-BeginArray.ensures.items) (given_push room l.found.items v l.invariant.4 done.given),
     )
 
-pub read_items-returns-clause-ok : goal.read_items-returns-clause-ok
-read_items-returns-clause-ok t c =
-    let p = value (c.args.room + 61) in
+pub read-returns-after-items-clause-ok : goal.read-returns-after-items-clause-ok
+read-returns-after-items-clause-ok t c =
+    let d = c.args.room + 61 in
+    let rest = c.next.new.self in
+    let is : c.args.reader.now ≡ Token.begin_array ∷ rest = grind arith in
+    let lower : d - 1 ≡ c.args.room - 1 + 61 = omega arith in
+    let opened = ap (converted of_json) (ap (value d) is ∙ value-begin_array d rest (omega arith)) ∙ converted-array (items (value (d - 1)) (length rest) rest) in
+    let p = value (c.args.room - 1 + 61) in
     let l = c.items in
     let n = l.invariant.0 in
     let r = c.take_end_array.new.self in
-    l.invariant.2 ∙ ap (parse_map (items_before l.found.items)) (items_over p n l.reader r l.invariant.1 (grind arith)) ∙ ap (λ ds. Some (ds, r)) (items_before-no_items l.found.items)
+    let all = l.invariant.2 ∙ ap (parse_map (items_before l.found.items)) (items_over p n l.reader r l.invariant.1 (grind arith)) ∙ ap (λ ds. Some (ds, r)) (items_before-no_items l.found.items) in
+    let seen : data_giving (view (List l.found)) ≡ array _ = search (rules, the_lemmas) in
+    opened ∙ ap (λ n. parse_map array (converted of_items (items (value n) (length rest) rest))) lower ∙ ap (parse_map array) all ∙ ap (λ j. Some (j, r)) (sym seen)
 
 pub read_members-returns-in-Ok-None-clause-ok : goal.read_members-returns-in-Ok-None-clause-ok
 read_members-returns-in-Ok-None-clause-ok t c =

@@ -1,4 +1,4 @@
-use Rattle.std.proofs.Common.{◌≡◌, ℕ, ◌+◌, ◌*◌, ◌≤◌, length}
+use Rattle.std.proofs.Common.{◌≡◌, ℕ, ◌+◌, ◌-◌, ◌*◌, ◌≤◌, length}
 use Rattle.json.specs.Json.{items, members, value, parse_map}
 use Rattle.serde_json.specs.Data.{no_members}
 use Rattle.serde_json.specs.Read.{of_items, of_members, converted}
@@ -10,21 +10,18 @@ use Rattle.pg_json.proofs.parameters.+read.Given as goal
 abbrev pub decreases-read : goal.decreases-read
 decreases-read l = 2 * l.room
 
-abbrev pub decreases-read_items : goal.decreases-read_items
-decreases-read_items l = 2 * l.room + 1
-
 abbrev pub decreases-read_members : goal.decreases-read_members
 decreases-read_members l = 2 * l.room + 1
 
-abbrev pub invariant-read_items-items : goal.invariant-read_items-items
-invariant-read_items-items l =
+abbrev pub invariant-read-items : goal.invariant-read-items
+invariant-read-items l =
     (n : ℕ) × (length l.reader ≤ n)
-    × (converted of_items (items (value (l.room + 61)) (length l.initial.reader) l.initial.reader) ≡ parse_map (items_before l.found.items) (converted of_items (items (value (l.room + 61)) n l.reader)))
+    × (converted of_items (items (value (l.room - 1 + 61)) (length l.initial.reader) l.initial.reader) ≡ parse_map (items_before l.found.items) (converted of_items (items (value (l.room - 1 + 61)) n l.reader)))
     × (length l.reader ≤ length l.initial.reader)
-    × AreGiven l.room (values_view l.found.items)
+    × AreGiven (l.room - 1) (values_view l.found.items)
 
-abbrev pub decreases-read_items-items : goal.decreases-read_items-items
-decreases-read_items-items l = length l.reader
+abbrev pub decreases-read-items : goal.decreases-read-items
+decreases-read-items l = length l.reader
 
 abbrev pub invariant-read_members-members : goal.invariant-read_members-members
 invariant-read_members-members l =

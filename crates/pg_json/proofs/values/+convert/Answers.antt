@@ -1,6 +1,6 @@
 use Rattle.std.proofs.lemmas.List.{drop_more}
 use Rattle.std.proofs.lemmas.Result.{IfOk-from_err}
-use Rattle.std.proofs.Common.{◌≡◌, ◌≢◌, ◌+◌, drop, length, arith, Some, None, [], ◌∷◌, ◌++◌, refl, sym, ap, subst, ◌∙◌, append_assoc, append-nil}
+use Rattle.std.proofs.Common.{◌≡◌, ◌≢◌, ◌+◌, ◌-◌, drop, arith, Some, None, [], ◌∷◌, ◌++◌, refl, sym, ap, subst, ◌∙◌, append_assoc, append-nil}
 use Rattle.std.specs.List.Sorted.{IsStrictlySortedBy}
 use Rattle.std.specs.Map.{keys_of}
 use Rattle.std.specs.String.{string_cmp}
@@ -37,39 +37,29 @@ entries_from-returns-clause-ok t c =
     let all : c.args.members.now.entries ≡ l.invariant.0 = l.invariant.1 ∙ ap (λ es. l.invariant.0 ++ es) c.in-None.ensures.steps.0 ∙ append-nil l.invariant.0 in
     ap (λ es. entries_within c.args.room (members_view es)) all ∙ l.invariant.2
 
-pub items_from-loop-item-preserved : goal.items_from-loop-item-preserved
-items_from-loop-item-preserved t c =
+pub value_from-loop-item-preserved : goal.value_from-loop-item-preserved
+value_from-loop-item-preserved t c =
     let l = c.loop-item in
-    let room = c.args.room in
+    let room = c.args.room - 1 in
     let xs = c.deref-item-items.result.now in
     let x = c.item-item.result in
     let here : drop l.item-index xs ≡ x ∷ drop (l.item-index + 1) xs = drop_more xs l.item-index x (omega arith) ∙ ap (λ y. y ∷ drop (l.item-index + 1) xs) (sym c.item-item.is) in
-    let same : c.args.items.now.items ≡ xs = sym c.deref-item-items.ensures.value in
-    let v = c.in_ok-value.value in
+    let v = c.in_ok-value-in-Array.value in
     l.invariant
-    ∙ ap (λ ys. after l.values.items (values_within room (items_view (drop l.item-index ys)))) same
-    ∙ one_more_value room l.values.items x (drop l.item-index xs) (drop (l.item-index + 1) xs) v here c.in_ok-value.ensures.ok
-    ∙ ap (λ ys. after (l.values.items ++ v ∷ []) (values_within room (items_view (drop (l.item-index + 1) ys)))) (sym same)
-    ∙ ap (λ vs. after vs (values_within room (items_view (drop (l.item-index + 1) c.args.items.now.items)))) (sym c.in_ok-push.ensures.items)
+    ∙ one_more_value room l.values.items x (drop l.item-index xs) (drop (l.item-index + 1) xs) v here c.in_ok-value-in-Array.ensures.ok
+    ∙ ap (λ vs. after vs (values_within room (items_view (drop (l.item-index + 1) xs)))) (sym c.in_ok-push-in-Array.ensures.items)
 
-pub items_from-returns-clause-ok : goal.items_from-returns-clause-ok
-items_from-returns-clause-ok t c =
+pub value_from-returns-in_err-value-in-Array-clause-refused : goal.value_from-returns-in_err-value-in-Array-clause-refused
+value_from-returns-in_err-value-in-Array-clause-refused t c =
     let l = c.loop-item in
-    let same : c.args.items.now.items ≡ c.deref-item-items.result.now = sym c.deref-item-items.ensures.value in
-    l.invariant ∙ all_values c.args.room l.values.items l.item-index c.args.items.now.items (omega (arith, ap length same, c.loop-item-test.false))
-
-pub items_from-returns-in_err-value-clause-refused : goal.items_from-returns-in_err-value-clause-refused
-items_from-returns-in_err-value-clause-refused t c =
-    let l = c.loop-item in
-    let room = c.args.room in
+    let room = c.args.room - 1 in
     let xs = c.deref-item-items.result.now in
     let x = c.item-item.result in
     let here : drop l.item-index xs ≡ x ∷ drop (l.item-index + 1) xs = drop_more xs l.item-index x (omega arith) ∙ ap (λ y. y ∷ drop (l.item-index + 1) xs) (sym c.item-item.is) in
-    let same : c.args.items.now.items ≡ xs = sym c.deref-item-items.ensures.value in
-    fault_passed (λ e. e ≢ OutOfMemory → values_within room (items_view c.args.items.now.items) ≡ None) c.in_err-value.field-0.0 c.from_residual-in_err-value.result c.from_residual-in_err-value.ensures.1
-    (λ other. l.invariant
-    ∙ ap (λ ys. after l.values.items (values_within room (items_view (drop l.item-index ys)))) same
-    ∙ no_value room l.values.items x (drop l.item-index xs) (drop (l.item-index + 1) xs) here (c.in_err-value.ensures.refused other))
+    let same : c.in-Array.items.items ≡ xs = sym c.deref-item-items.ensures.value in
+    fault_passed (λ e. e ≢ OutOfMemory → value_within c.args.room (data_view c.args.given.now) ≡ None) c.in_err-value-in-Array.field-0.0 c.from_residual-in_err-value-in-Array.result c.from_residual-in_err-value-in-Array.ensures.1
+    (λ other. rw c.in-Array.is (list_refused c.args.room c.if-room-eq0.false c.in-Array.items
+    (ap (λ ys. values_within room (items_view ys)) same ∙ l.invariant ∙ no_value room l.values.items x (drop l.item-index xs) (drop (l.item-index + 1) xs) here (c.in_err-value-in-Array.ensures.refused other))))
 
 pub entries_from-returns-in_err-value-clause-refused : goal.entries_from-returns-in_err-value-clause-refused
 entries_from-returns-in_err-value-clause-refused t c =
@@ -95,29 +85,29 @@ entries_from-returns-in_err-enter-clause-kind t c = fault_passed (λ e. e ≢ Ou
 pub entries_from-returns-in_err-enter-clause-refused : goal.entries_from-returns-in_err-enter-clause-refused
 entries_from-returns-in_err-enter-clause-refused t c = fault_passed (λ e. e ≢ OutOfMemory → entries_within c.args.room (members_view c.args.members.now.entries) ≡ None) OutOfMemory c.from_residual-in_err-enter.result c.from_residual-in_err-enter.ensures.1 (λ other. absurd (other refl))
 
-pub items_from-returns-in_err-values-clause-ok : goal.items_from-returns-in_err-values-clause-ok
-items_from-returns-in_err-values-clause-ok t c = IfOk-from_err c.from_residual.result _ c.from_residual.ensures.0
+pub value_from-returns-in_err-values-in-Array-clause-ok : goal.value_from-returns-in_err-values-in-Array-clause-ok
+value_from-returns-in_err-values-in-Array-clause-ok t c = IfOk-from_err c.from_residual-in_err-values-in-Array.result _ c.from_residual-in_err-values-in-Array.ensures.0
 
-pub items_from-returns-in_err-values-clause-kind : goal.items_from-returns-in_err-values-clause-kind
-items_from-returns-in_err-values-clause-kind t c = fault_passed (λ e. e ≢ OutOfMemory → e ≡ BadRequest) OutOfMemory c.from_residual.result c.from_residual.ensures.1 (λ other. absurd (other refl))
+pub value_from-returns-in_err-values-in-Array-clause-kind : goal.value_from-returns-in_err-values-in-Array-clause-kind
+value_from-returns-in_err-values-in-Array-clause-kind t c = fault_passed (λ e. e ≢ OutOfMemory → e ≡ BadRequest) OutOfMemory c.from_residual-in_err-values-in-Array.result c.from_residual-in_err-values-in-Array.ensures.1 (λ other. absurd (other refl))
 
-pub items_from-returns-in_err-values-clause-refused : goal.items_from-returns-in_err-values-clause-refused
-items_from-returns-in_err-values-clause-refused t c = fault_passed (λ e. e ≢ OutOfMemory → values_within c.args.room (items_view c.args.items.now.items) ≡ None) OutOfMemory c.from_residual.result c.from_residual.ensures.1 (λ other. absurd (other refl))
+pub value_from-returns-in_err-values-in-Array-clause-refused : goal.value_from-returns-in_err-values-in-Array-clause-refused
+value_from-returns-in_err-values-in-Array-clause-refused t c = fault_passed (λ e. e ≢ OutOfMemory → value_within c.args.room (data_view c.args.given.now) ≡ None) OutOfMemory c.from_residual-in_err-values-in-Array.result c.from_residual-in_err-values-in-Array.ensures.1 (λ other. absurd (other refl))
 
-pub items_from-returns-in_err-value-clause-ok : goal.items_from-returns-in_err-value-clause-ok
-items_from-returns-in_err-value-clause-ok t c = IfOk-from_err c.from_residual-in_err-value.result _ c.from_residual-in_err-value.ensures.0
+pub value_from-returns-in_err-value-in-Array-clause-ok : goal.value_from-returns-in_err-value-in-Array-clause-ok
+value_from-returns-in_err-value-in-Array-clause-ok t c = IfOk-from_err c.from_residual-in_err-value-in-Array.result _ c.from_residual-in_err-value-in-Array.ensures.0
 
-pub items_from-returns-in_err-value-clause-kind : goal.items_from-returns-in_err-value-clause-kind
-items_from-returns-in_err-value-clause-kind t c = fault_passed (λ e. e ≢ OutOfMemory → e ≡ BadRequest) c.in_err-value.field-0.0 c.from_residual-in_err-value.result c.from_residual-in_err-value.ensures.1 c.in_err-value.ensures.kind
+pub value_from-returns-in_err-value-in-Array-clause-kind : goal.value_from-returns-in_err-value-in-Array-clause-kind
+value_from-returns-in_err-value-in-Array-clause-kind t c = fault_passed (λ e. e ≢ OutOfMemory → e ≡ BadRequest) c.in_err-value-in-Array.field-0.0 c.from_residual-in_err-value-in-Array.result c.from_residual-in_err-value-in-Array.ensures.1 c.in_err-value-in-Array.ensures.kind
 
-pub items_from-returns-in_err-push-clause-ok : goal.items_from-returns-in_err-push-clause-ok
-items_from-returns-in_err-push-clause-ok t c = IfOk-from_err c.from_residual-in_err-push.result _ c.from_residual-in_err-push.ensures.0
+pub value_from-returns-in_err-push-in-Array-clause-ok : goal.value_from-returns-in_err-push-in-Array-clause-ok
+value_from-returns-in_err-push-in-Array-clause-ok t c = IfOk-from_err c.from_residual-in_err-push-in-Array.result _ c.from_residual-in_err-push-in-Array.ensures.0
 
-pub items_from-returns-in_err-push-clause-kind : goal.items_from-returns-in_err-push-clause-kind
-items_from-returns-in_err-push-clause-kind t c = fault_passed (λ e. e ≢ OutOfMemory → e ≡ BadRequest) OutOfMemory c.from_residual-in_err-push.result c.from_residual-in_err-push.ensures.1 (λ other. absurd (other refl))
+pub value_from-returns-in_err-push-in-Array-clause-kind : goal.value_from-returns-in_err-push-in-Array-clause-kind
+value_from-returns-in_err-push-in-Array-clause-kind t c = fault_passed (λ e. e ≢ OutOfMemory → e ≡ BadRequest) OutOfMemory c.from_residual-in_err-push-in-Array.result c.from_residual-in_err-push-in-Array.ensures.1 (λ other. absurd (other refl))
 
-pub items_from-returns-in_err-push-clause-refused : goal.items_from-returns-in_err-push-clause-refused
-items_from-returns-in_err-push-clause-refused t c = fault_passed (λ e. e ≢ OutOfMemory → values_within c.args.room (items_view c.args.items.now.items) ≡ None) OutOfMemory c.from_residual-in_err-push.result c.from_residual-in_err-push.ensures.1 (λ other. absurd (other refl))
+pub value_from-returns-in_err-push-in-Array-clause-refused : goal.value_from-returns-in_err-push-in-Array-clause-refused
+value_from-returns-in_err-push-in-Array-clause-refused t c = fault_passed (λ e. e ≢ OutOfMemory → value_within c.args.room (data_view c.args.given.now) ≡ None) OutOfMemory c.from_residual-in_err-push-in-Array.result c.from_residual-in_err-push-in-Array.ensures.1 (λ other. absurd (other refl))
 
 pub value_from-returns-in_err-from_str-in-String-clause-ok : goal.value_from-returns-in_err-from_str-in-String-clause-ok
 value_from-returns-in_err-from_str-in-String-clause-ok t c = IfOk-from_err c.from_residual.result _ c.from_residual.ensures.0
@@ -128,30 +118,24 @@ value_from-returns-in_err-from_str-in-String-clause-kind t c = fault_passed (λ 
 pub value_from-returns-in_err-from_str-in-String-clause-refused : goal.value_from-returns-in_err-from_str-in-String-clause-refused
 value_from-returns-in_err-from_str-in-String-clause-refused t c = fault_passed (λ e. e ≢ OutOfMemory → value_within c.args.room (data_view c.args.given.now) ≡ None) OutOfMemory c.from_residual.result c.from_residual.ensures.1 (λ other. absurd (other refl))
 
-pub value_from-returns-in_err-items_from-in-Array-clause-ok : goal.value_from-returns-in_err-items_from-in-Array-clause-ok
-value_from-returns-in_err-items_from-in-Array-clause-ok t c = IfOk-from_err c.from_residual-in_err-items_from-in-Array.result _ c.from_residual-in_err-items_from-in-Array.ensures.0
-
-pub value_from-returns-in_err-items_from-in-Array-clause-kind : goal.value_from-returns-in_err-items_from-in-Array-clause-kind
-value_from-returns-in_err-items_from-in-Array-clause-kind t c = fault_passed (λ e. e ≢ OutOfMemory → e ≡ BadRequest) c.in_err-items_from-in-Array.field-0.0 c.from_residual-in_err-items_from-in-Array.result c.from_residual-in_err-items_from-in-Array.ensures.1 c.in_err-items_from-in-Array.ensures.kind
-
 pub value_from-returns-in_err-entries_from-in-Object-clause-ok : goal.value_from-returns-in_err-entries_from-in-Object-clause-ok
 value_from-returns-in_err-entries_from-in-Object-clause-ok t c = IfOk-from_err c.from_residual-in_err-entries_from-in-Object.result _ c.from_residual-in_err-entries_from-in-Object.ensures.0
 
 pub value_from-returns-in_err-entries_from-in-Object-clause-kind : goal.value_from-returns-in_err-entries_from-in-Object-clause-kind
 value_from-returns-in_err-entries_from-in-Object-clause-kind t c = fault_passed (λ e. e ≢ OutOfMemory → e ≡ BadRequest) c.in_err-entries_from-in-Object.field-0.0 c.from_residual-in_err-entries_from-in-Object.result c.from_residual-in_err-entries_from-in-Object.ensures.1 c.in_err-entries_from-in-Object.ensures.kind
 
-pub value_from-returns-in_ok-items_from-in-Array-clause-ok : goal.value_from-returns-in_ok-items_from-in-Array-clause-ok
-value_from-returns-in_ok-items_from-in-Array-clause-ok t c =
-    rw c.in-Array.is (list_within c.args.room c.if-room-eq0.false c.in-Array.items c.in_ok-items_from-in-Array.field-0 c.in_ok-items_from-in-Array.ensures.ok)
+pub value_from-returns-after-loop-item-clause-ok : goal.value_from-returns-after-loop-item-clause-ok
+value_from-returns-after-loop-item-clause-ok t c =
+    let l = c.loop-item in
+    let room = c.args.room - 1 in
+    let xs = c.deref-item-items.result.now in
+    let same : c.in-Array.items.items ≡ xs = sym c.deref-item-items.ensures.value in
+    rw c.in-Array.is (list_within c.args.room c.if-room-eq0.false c.in-Array.items l.values
+    (ap (λ ys. values_within room (items_view ys)) same ∙ l.invariant ∙ all_values room l.values.items l.item-index xs c.loop-item-test.false))
 
 pub value_from-returns-in_ok-entries_from-in-Object-clause-ok : goal.value_from-returns-in_ok-entries_from-in-Object-clause-ok
 value_from-returns-in_ok-entries_from-in-Object-clause-ok t c =
     rw c.in-Object.is (map_within c.args.room c.if-room-eq0.false c.in-Object.members c.in_ok-entries_from-in-Object.field-0 c.in_ok-entries_from-in-Object.ensures.ok)
-
-pub value_from-returns-in_err-items_from-in-Array-clause-refused : goal.value_from-returns-in_err-items_from-in-Array-clause-refused
-value_from-returns-in_err-items_from-in-Array-clause-refused t c =
-    fault_passed (λ e. e ≢ OutOfMemory → value_within c.args.room (data_view c.args.given.now) ≡ None) c.in_err-items_from-in-Array.field-0.0 c.from_residual-in_err-items_from-in-Array.result c.from_residual-in_err-items_from-in-Array.ensures.1
-    (λ other. rw c.in-Array.is (list_refused c.args.room c.if-room-eq0.false c.in-Array.items (c.in_err-items_from-in-Array.ensures.refused other)))
 
 pub value_from-returns-in_err-entries_from-in-Object-clause-refused : goal.value_from-returns-in_err-entries_from-in-Object-clause-refused
 value_from-returns-in_err-entries_from-in-Object-clause-refused t c =

@@ -1,4 +1,4 @@
-use Rattle.std.proofs.Common.{◌≡◌, List, ◌++◌, Some, String, Global, drop}
+use Rattle.std.proofs.Common.{◌≡◌, ◌-◌, List, ◌++◌, Some, String, Global, drop}
 use Rattle.serde_json.specs.View.{items_view, members_view}
 use Rattle.serde_json.specs.declared.value.Value.{Value}
 use Rattle.pg_json.specs.Given.{values_within, entries_within}
@@ -7,8 +7,8 @@ use Rattle.pg_value_core.specs.View.{entries_view}
 use Rattle.pg_json.proofs.values.+convert.Given as goal
 
 -- what is converted and what is left are the whole
-abbrev pub invariant-items_from-loop-item : goal.invariant-items_from-loop-item
-invariant-items_from-loop-item l = values_within l.room (items_view l.items.items) ≡ after l.values.items (values_within l.room (items_view (drop l.item-index l.items.items)))
+abbrev pub invariant-value_from-loop-item : goal.invariant-value_from-loop-item
+invariant-value_from-loop-item l = values_within (l.room - 1) (items_view l.item-items) ≡ after l.values.items (values_within (l.room - 1) (items_view (drop l.item-index l.item-items)))
 
 abbrev pub invariant-entries_from-loop-key : goal.invariant-entries_from-loop-key
 invariant-entries_from-loop-key l =

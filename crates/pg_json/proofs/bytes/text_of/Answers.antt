@@ -4,150 +4,150 @@ use Rattle.serde_json.proofs.OnLiterals.{serde_json_on_literals}
 use Rattle.pg_json.specs.Refusals.{refusal_text}
 use Rattle.pg_json.proofs.bytes.text_of.Goals as goal
 
-pub returns-in-FrameTooLong-clause-text : goal.returns-in-FrameTooLong-clause-text
+pub returns-in-FrameTooLong : goal.returns-in-FrameTooLong
 unfolding serde_json_on_literals digits refusal_text
-returns-in-FrameTooLong-clause-text c = rw c.in-FrameTooLong.is refl
+returns-in-FrameTooLong c = rw c.in-FrameTooLong.is refl
 
-pub returns-in-BadRequest-clause-text : goal.returns-in-BadRequest-clause-text
+pub returns-in-BadRequest : goal.returns-in-BadRequest
 unfolding serde_json_on_literals digits refusal_text
-returns-in-BadRequest-clause-text c = rw c.in-BadRequest.is refl
+returns-in-BadRequest c = rw c.in-BadRequest.is refl
 
-pub returns-in-UnknownToken-clause-text : goal.returns-in-UnknownToken-clause-text
+pub returns-in-UnknownToken : goal.returns-in-UnknownToken
 unfolding serde_json_on_literals digits refusal_text
-returns-in-UnknownToken-clause-text c = rw c.in-UnknownToken.is refl
+returns-in-UnknownToken c = rw c.in-UnknownToken.is refl
 
-pub returns-in-ReadOnly-clause-text : goal.returns-in-ReadOnly-clause-text
+pub returns-in-ReadOnly : goal.returns-in-ReadOnly
 unfolding serde_json_on_literals digits refusal_text
-returns-in-ReadOnly-clause-text c = rw c.in-ReadOnly.is refl
+returns-in-ReadOnly c = rw c.in-ReadOnly.is refl
 
-pub returns-in-TextTooLong-clause-text : goal.returns-in-TextTooLong-clause-text
+pub returns-in-TextTooLong : goal.returns-in-TextTooLong
 unfolding serde_json_on_literals digits refusal_text
-returns-in-TextTooLong-clause-text c = rw c.in-TextTooLong.is refl
+returns-in-TextTooLong c = rw c.in-TextTooLong.is refl
 
-pub returns-in-BadLexeme-clause-text : goal.returns-in-BadLexeme-clause-text
+pub returns-in-BadLexeme : goal.returns-in-BadLexeme
 unfolding serde_json_on_literals digits refusal_text
-returns-in-BadLexeme-clause-text c = rw c.in-BadLexeme.is refl
+returns-in-BadLexeme c = rw c.in-BadLexeme.is refl
 
-pub returns-in-BadSyntax-clause-text : goal.returns-in-BadSyntax-clause-text
+pub returns-in-BadSyntax : goal.returns-in-BadSyntax
 unfolding serde_json_on_literals digits refusal_text
-returns-in-BadSyntax-clause-text c = rw c.in-BadSyntax.is refl
+returns-in-BadSyntax c = rw c.in-BadSyntax.is refl
 
-pub returns-in-TooDeep-clause-text : goal.returns-in-TooDeep-clause-text
+pub returns-in-TooDeep : goal.returns-in-TooDeep
 unfolding serde_json_on_literals digits refusal_text
-returns-in-TooDeep-clause-text c = rw c.in-TooDeep.is refl
+returns-in-TooDeep c = rw c.in-TooDeep.is refl
 
-pub returns-in-UndefinedVariable-clause-text : goal.returns-in-UndefinedVariable-clause-text
+pub returns-in-UndefinedVariable : goal.returns-in-UndefinedVariable
 unfolding serde_json_on_literals digits refusal_text
-returns-in-UndefinedVariable-clause-text c = rw c.in-UndefinedVariable.is refl
+returns-in-UndefinedVariable c = rw c.in-UndefinedVariable.is refl
 
-pub returns-in-VariableAlreadyBound-clause-text : goal.returns-in-VariableAlreadyBound-clause-text
+pub returns-in-VariableAlreadyBound : goal.returns-in-VariableAlreadyBound
 unfolding serde_json_on_literals digits refusal_text
-returns-in-VariableAlreadyBound-clause-text c = rw c.in-VariableAlreadyBound.is refl
+returns-in-VariableAlreadyBound c = rw c.in-VariableAlreadyBound.is refl
 
-pub returns-in-BadAggregate-clause-text : goal.returns-in-BadAggregate-clause-text
+pub returns-in-BadAggregate : goal.returns-in-BadAggregate
 unfolding serde_json_on_literals digits refusal_text
-returns-in-BadAggregate-clause-text c = rw c.in-BadAggregate.is refl
+returns-in-BadAggregate c = rw c.in-BadAggregate.is refl
 
-pub returns-in-BadPattern-clause-text : goal.returns-in-BadPattern-clause-text
+pub returns-in-BadPattern : goal.returns-in-BadPattern
 unfolding serde_json_on_literals digits refusal_text
-returns-in-BadPattern-clause-text c = rw c.in-BadPattern.is refl
+returns-in-BadPattern c = rw c.in-BadPattern.is refl
 
-pub returns-in-UnknownFunction-clause-text : goal.returns-in-UnknownFunction-clause-text
+pub returns-in-UnknownFunction : goal.returns-in-UnknownFunction
 unfolding serde_json_on_literals digits refusal_text
-returns-in-UnknownFunction-clause-text c = rw c.in-UnknownFunction.is refl
+returns-in-UnknownFunction c = rw c.in-UnknownFunction.is refl
 
-pub returns-in-DuplicateColumn-clause-text : goal.returns-in-DuplicateColumn-clause-text
+pub returns-in-DuplicateColumn : goal.returns-in-DuplicateColumn
 unfolding serde_json_on_literals digits refusal_text
-returns-in-DuplicateColumn-clause-text c = rw c.in-DuplicateColumn.is refl
+returns-in-DuplicateColumn c = rw c.in-DuplicateColumn.is refl
 
-pub returns-in-MissingParameter-clause-text : goal.returns-in-MissingParameter-clause-text
+pub returns-in-MissingParameter : goal.returns-in-MissingParameter
 unfolding serde_json_on_literals digits refusal_text
-returns-in-MissingParameter-clause-text c = rw c.in-MissingParameter.is refl
+returns-in-MissingParameter c = rw c.in-MissingParameter.is refl
 
-pub returns-in-TypeFault-clause-text : goal.returns-in-TypeFault-clause-text
+pub returns-in-TypeFault : goal.returns-in-TypeFault
 unfolding serde_json_on_literals digits refusal_text
-returns-in-TypeFault-clause-text c = rw c.in-TypeFault.is refl
+returns-in-TypeFault c = rw c.in-TypeFault.is refl
 
-pub returns-in-Overflow-clause-text : goal.returns-in-Overflow-clause-text
+pub returns-in-Overflow : goal.returns-in-Overflow
 unfolding serde_json_on_literals digits refusal_text
-returns-in-Overflow-clause-text c = rw c.in-Overflow.is refl
+returns-in-Overflow c = rw c.in-Overflow.is refl
 
-pub returns-in-DivisionByZero-clause-text : goal.returns-in-DivisionByZero-clause-text
+pub returns-in-DivisionByZero : goal.returns-in-DivisionByZero
 unfolding serde_json_on_literals digits refusal_text
-returns-in-DivisionByZero-clause-text c = rw c.in-DivisionByZero.is refl
+returns-in-DivisionByZero c = rw c.in-DivisionByZero.is refl
 
-pub returns-in-ValueTooLarge-clause-text : goal.returns-in-ValueTooLarge-clause-text
+pub returns-in-ValueTooLarge : goal.returns-in-ValueTooLarge
 unfolding serde_json_on_literals digits refusal_text
-returns-in-ValueTooLarge-clause-text c = rw c.in-ValueTooLarge.is refl
+returns-in-ValueTooLarge c = rw c.in-ValueTooLarge.is refl
 
-pub returns-in-NotStorable-clause-text : goal.returns-in-NotStorable-clause-text
+pub returns-in-NotStorable : goal.returns-in-NotStorable
 unfolding serde_json_on_literals digits refusal_text
-returns-in-NotStorable-clause-text c = rw c.in-NotStorable.is refl
+returns-in-NotStorable c = rw c.in-NotStorable.is refl
 
-pub returns-in-MergeNull-clause-text : goal.returns-in-MergeNull-clause-text
+pub returns-in-MergeNull : goal.returns-in-MergeNull
 unfolding serde_json_on_literals digits refusal_text
-returns-in-MergeNull-clause-text c = rw c.in-MergeNull.is refl
+returns-in-MergeNull c = rw c.in-MergeNull.is refl
 
-pub returns-in-NodeStillConnected-clause-text : goal.returns-in-NodeStillConnected-clause-text
+pub returns-in-NodeStillConnected : goal.returns-in-NodeStillConnected
 unfolding serde_json_on_literals digits refusal_text
-returns-in-NodeStillConnected-clause-text c = rw c.in-NodeStillConnected.is refl
+returns-in-NodeStillConnected c = rw c.in-NodeStillConnected.is refl
 
-pub returns-in-DeletedEntity-clause-text : goal.returns-in-DeletedEntity-clause-text
+pub returns-in-DeletedEntity : goal.returns-in-DeletedEntity
 unfolding serde_json_on_literals digits refusal_text
-returns-in-DeletedEntity-clause-text c = rw c.in-DeletedEntity.is refl
+returns-in-DeletedEntity c = rw c.in-DeletedEntity.is refl
 
-pub returns-in-NegativeCount-clause-text : goal.returns-in-NegativeCount-clause-text
+pub returns-in-NegativeCount : goal.returns-in-NegativeCount
 unfolding serde_json_on_literals digits refusal_text
-returns-in-NegativeCount-clause-text c = rw c.in-NegativeCount.is refl
+returns-in-NegativeCount c = rw c.in-NegativeCount.is refl
 
-pub returns-in-StepQuota-clause-text : goal.returns-in-StepQuota-clause-text
+pub returns-in-StepQuota : goal.returns-in-StepQuota
 unfolding serde_json_on_literals digits refusal_text
-returns-in-StepQuota-clause-text c = rw c.in-StepQuota.is refl
+returns-in-StepQuota c = rw c.in-StepQuota.is refl
 
-pub returns-in-ElementQuota-clause-text : goal.returns-in-ElementQuota-clause-text
+pub returns-in-ElementQuota : goal.returns-in-ElementQuota
 unfolding serde_json_on_literals digits refusal_text
-returns-in-ElementQuota-clause-text c = rw c.in-ElementQuota.is refl
+returns-in-ElementQuota c = rw c.in-ElementQuota.is refl
 
-pub returns-in-IdsExhausted-clause-text : goal.returns-in-IdsExhausted-clause-text
+pub returns-in-IdsExhausted : goal.returns-in-IdsExhausted
 unfolding serde_json_on_literals digits refusal_text
-returns-in-IdsExhausted-clause-text c = rw c.in-IdsExhausted.is refl
+returns-in-IdsExhausted c = rw c.in-IdsExhausted.is refl
 
-pub returns-in-IndexExists-clause-text : goal.returns-in-IndexExists-clause-text
+pub returns-in-IndexExists : goal.returns-in-IndexExists
 unfolding serde_json_on_literals digits refusal_text
-returns-in-IndexExists-clause-text c = rw c.in-IndexExists.is refl
+returns-in-IndexExists c = rw c.in-IndexExists.is refl
 
-pub returns-in-NoSuchIndex-clause-text : goal.returns-in-NoSuchIndex-clause-text
+pub returns-in-NoSuchIndex : goal.returns-in-NoSuchIndex
 unfolding serde_json_on_literals digits refusal_text
-returns-in-NoSuchIndex-clause-text c = rw c.in-NoSuchIndex.is refl
+returns-in-NoSuchIndex c = rw c.in-NoSuchIndex.is refl
 
-pub returns-in-TooManyIndexes-clause-text : goal.returns-in-TooManyIndexes-clause-text
+pub returns-in-TooManyIndexes : goal.returns-in-TooManyIndexes
 unfolding serde_json_on_literals digits refusal_text
-returns-in-TooManyIndexes-clause-text c = rw c.in-TooManyIndexes.is refl
+returns-in-TooManyIndexes c = rw c.in-TooManyIndexes.is refl
 
-pub returns-in-ReplyTooLong-clause-text : goal.returns-in-ReplyTooLong-clause-text
+pub returns-in-ReplyTooLong : goal.returns-in-ReplyTooLong
 unfolding serde_json_on_literals digits refusal_text
-returns-in-ReplyTooLong-clause-text c = rw c.in-ReplyTooLong.is refl
+returns-in-ReplyTooLong c = rw c.in-ReplyTooLong.is refl
 
-pub returns-in-TenantBusy-clause-text : goal.returns-in-TenantBusy-clause-text
+pub returns-in-TenantBusy : goal.returns-in-TenantBusy
 unfolding serde_json_on_literals digits refusal_text
-returns-in-TenantBusy-clause-text c = rw c.in-TenantBusy.is refl
+returns-in-TenantBusy c = rw c.in-TenantBusy.is refl
 
-pub returns-in-NoTransaction-clause-text : goal.returns-in-NoTransaction-clause-text
+pub returns-in-NoTransaction : goal.returns-in-NoTransaction
 unfolding serde_json_on_literals digits refusal_text
-returns-in-NoTransaction-clause-text c = rw c.in-NoTransaction.is refl
+returns-in-NoTransaction c = rw c.in-NoTransaction.is refl
 
-pub returns-in-TransactionOpen-clause-text : goal.returns-in-TransactionOpen-clause-text
+pub returns-in-TransactionOpen : goal.returns-in-TransactionOpen
 unfolding serde_json_on_literals digits refusal_text
-returns-in-TransactionOpen-clause-text c = rw c.in-TransactionOpen.is refl
+returns-in-TransactionOpen c = rw c.in-TransactionOpen.is refl
 
-pub returns-in-NoSuchPage-clause-text : goal.returns-in-NoSuchPage-clause-text
+pub returns-in-NoSuchPage : goal.returns-in-NoSuchPage
 unfolding serde_json_on_literals digits refusal_text
-returns-in-NoSuchPage-clause-text c = rw c.in-NoSuchPage.is refl
+returns-in-NoSuchPage c = rw c.in-NoSuchPage.is refl
 
-pub returns-in-HeldRowsQuota-clause-text : goal.returns-in-HeldRowsQuota-clause-text
+pub returns-in-HeldRowsQuota : goal.returns-in-HeldRowsQuota
 unfolding serde_json_on_literals digits refusal_text
-returns-in-HeldRowsQuota-clause-text c = rw c.in-HeldRowsQuota.is refl
+returns-in-HeldRowsQuota c = rw c.in-HeldRowsQuota.is refl
 
-pub returns-in-OutOfMemory-clause-text : goal.returns-in-OutOfMemory-clause-text
+pub returns-in-OutOfMemory : goal.returns-in-OutOfMemory
 unfolding serde_json_on_literals digits refusal_text
-returns-in-OutOfMemory-clause-text c = rw c.in-OutOfMemory.is refl
+returns-in-OutOfMemory c = rw c.in-OutOfMemory.is refl

@@ -12,8 +12,8 @@ use Rattle.pg_json.proofs.Strangers.{strange_member, no_key}
 use Rattle.pg_value_core.specs.View.{entries_view}
 use Rattle.pg_json.proofs.fields.take_fields.Goals as goal
 
-pub members-preserved-then-is_parameters_key : goal.members-preserved-then-is_parameters_key
-members-preserved-then-is_parameters_key c =
+pub members-preserved-then-eq : goal.members-preserved-then-eq
+members-preserved-then-eq c =
     let p = value 126 in
     let l = c.members in
     let n = l.invariant.0 in

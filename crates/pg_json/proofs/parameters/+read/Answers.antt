@@ -1,16 +1,15 @@
-use Rattle.std.proofs.Common.{◌≡◌, ◌+◌, ◌-◌, ◌<◌, ◌∷◌, length, Some, None, string_bytes, sym, ap, subst, ◌∙◌, arith, rules, to_z, of_z, w64, option_map}
+use Rattle.std.proofs.Common.{◌≡◌, ◌+◌, ◌-◌, ◌<◌, ◌∷◌, length, Some, None, string_bytes, sym, ap, subst, ◌∙◌, arith, rules}
 use Rattle.json.specs.Token.{Token}
 use Rattle.json.specs.Reads.{token_of}
 use Rattle.json.specs.Json.{parse_map, after_end_array, read_key, items, members, value}
-use Rattle.json.proofs.Grammar.{value_is, value-begin_array, value-begin_object, read_key-shorter}
-use Rattle.serde_json.specs.Data.{Data, null, boolean, number, string, array, object, put, no_members}
-use Rattle.serde_json.specs.Find.{of_integer}
+use Rattle.json.proofs.Grammar.{value-begin_array, value-begin_object, read_key-shorter}
+use Rattle.serde_json.specs.Data.{array, object, put, no_members}
 use Rattle.serde_json.specs.Read.{of_json, of_items, of_members, converted}
 use Rattle.pg_json.specs.Given.{data_giving, members_giving, AreGiven, EntriesAreGiven}
 use Rattle.pg_json.proofs.Given.{members_giving-put, given_put}
 use Rattle.pg_json.proofs.Reading.{converted-array, converted-object, item_read, items_over, member_read, members_over, items_before, items_before-no_items, one_more_item, given_push}
 use Rattle.pg_value_core.specs.View.{view, values_view, entries_view}
-use Rattle.pg_value_core.specs.declared.value.Value.{Null, Bool, Int, Text, List, Map, the_lemmas}
+use Rattle.pg_value_core.specs.declared.value.Value.{List, Map, the_lemmas}
 use Rattle.pg_json.proofs.parameters.+read.Goals as goal
 
 pub read-returns-in-Some-clause-ok : goal.read-returns-in-Some-clause-ok

@@ -50,9 +50,6 @@ module _ (graph : Graph) (v : Value) (old new : ℕ) where
       err = tt;
     }
 
-    pub list_refused : (items : Vec Value Global) (fault : Fault) → v ≡ value.List items → ListSpelt graph (values_view items.items) (Err fault) less new → ValueSpelt graph (view v) (Err fault) old new
-    list_refused items fault e h = refused (λ other. ap (test_output graph) (list_seen v items e) ∙ h.err other)
-
     pub map_spelt : (entries : BTreeMap (String Global) Value) (found : BTreeMap (String Global) Out) → v ≡ value.Map entries → less ≡ old - 1 → MapSpelt graph (entries_view entries.entries) (Ok found) less new → ValueSpelt graph (view v) (Ok (out.Map found)) old new
     map_spelt entries found e first h = record {
       live = ap (test_output graph) (map_seen v entries e) ∙ h.live;

@@ -15,32 +15,27 @@ use pg_store::Snapshot;
 use pg_value_core::{Fault, NodeId, Out, Path, RelId};
 use std::alloc::Global;
 
-pub(crate) fn spell_node<T: Tables>(
+/// A node, or else a relationship.
+pub(crate) fn spell_element<T: Tables>(
     alloc: Global,
     graph: &Snapshot<'_, T>,
-    id: NodeId,
+    is_node: bool,
+    id: u64,
     room: &mut usize,
 ) -> Result<Out, Fault>
-    ensures { DataSpelt (test_present (has_node graph.now id.0)) (shown_node graph.now id.0 (node_at graph.now id.0)) result room.old room.new }
+    ensures { DataSpelt (test_place graph.now is_node id) (shown_place graph.now is_node id) result room.old room.new }
 {
-    if *room == 0 {
-        return nothing_shown(graph.has_node(id));
+    if is_node {
+        if *room == 0 {
+            return nothing_shown(graph.has_node(NodeId(id)));
+        }
+        Ok(within(whole_node(alloc, graph, NodeId(id))?, room))
+    } else {
+        if *room == 0 {
+            return nothing_shown(graph.has_rel(RelId(id)));
+        }
+        Ok(within(whole_rel(alloc, graph, RelId(id))?, room))
     }
-    Ok(within(whole_node(alloc, graph, id)?, room))
-}
-
-pub(crate) fn spell_rel<T: Tables>(
-    alloc: Global,
-    graph: &Snapshot<'_, T>,
-    id: RelId,
-    room: &mut usize,
-) -> Result<Out, Fault>
-    ensures { DataSpelt (test_present (has_relationship graph.now id.0)) (shown_relationship graph.now id.0 (relationship_at graph.now id.0)) result room.old room.new }
-{
-    if *room == 0 {
-        return nothing_shown(graph.has_rel(id));
-    }
-    Ok(within(whole_rel(alloc, graph, id)?, room))
 }
 
 /// The test of an element that there is no room for.
@@ -100,25 +95,8 @@ pub(crate) fn spell_path<T: Tables>(
     let mut is_node = true;
     for id in &path.0 {
         *room = room.saturating_sub(1);
-        found.push(spell_place(alloc, graph, is_node, *id, room)?)?;
+        found.push(spell_element(alloc, graph, is_node, *id, room)?)?;
         is_node = !is_node;
     }
     Ok(Out::Path(found))
-}
-
-// A node's or a relationship's place in a path.
-fn spell_place<T: Tables>(
-    alloc: Global,
-    graph: &Snapshot<'_, T>,
-    is_node: bool,
-    id: u64,
-    room: &mut usize,
-) -> Result<Out, Fault>
-    ensures { DataSpelt (test_place graph.now is_node id) (shown_place graph.now is_node id) result room.old room.new }
-{
-    if is_node {
-        spell_node(alloc, graph, NodeId(id), room)
-    } else {
-        spell_rel(alloc, graph, RelId(id), room)
-    }
 }

@@ -1,8 +1,8 @@
 //! Values over a store, spelt out as long as there is room for them.
-ghost use Rattle.pg_run.specs.Spelt.{ValueSpelt, ListSpelt, MapSpelt};
-ghost use Rattle.pg_value_core.specs.View.{view, values_view, entries_view};
+ghost use Rattle.pg_run.specs.Spelt.{ValueSpelt, MapSpelt};
+ghost use Rattle.pg_value_core.specs.View.{view, entries_view};
 
-use crate::elements::{spell_node, spell_path, spell_rel};
+use crate::elements::{spell_element, spell_path};
 use crate::room::within;
 use pg_graph::Tables;
 use pg_store::Snapshot;
@@ -28,33 +28,21 @@ pub(crate) fn spell<T: Tables>(
         Parts::Text(text) => Ok(within(Out::Text(text), room)),
         Parts::List(items) => {
             *room = room.saturating_sub(1);
-            Ok(Out::List(spell_items(alloc, graph, items, room)?))
+            let mut found = Vec::with_capacity(alloc, items.len())?;
+            for item in items {
+                *room = room.saturating_sub(1);
+                found.push(spell(alloc, graph, item, room)?)?;
+            }
+            Ok(Out::List(found))
         }
         Parts::Map(entries) => {
             *room = room.saturating_sub(1);
             Ok(Out::Map(spell_entries(alloc, graph, entries, room)?))
         }
-        Parts::Node(id) => spell_node(alloc, graph, id, room),
-        Parts::Rel(id) => spell_rel(alloc, graph, id, room),
+        Parts::Node(id) => spell_element(alloc, graph, true, id.0, room),
+        Parts::Rel(id) => spell_element(alloc, graph, false, id.0, room),
         Parts::Path(path) => spell_path(alloc, graph, path, room),
     }
-}
-
-#[cycle(spell)]
-pub(crate) fn spell_items<T: Tables>(
-    alloc: Global,
-    graph: &Snapshot<'_, T>,
-    items: Vec<Value>,
-    room: &mut usize,
-) -> Result<Vec<Out>, Fault>
-    ensures { ListSpelt graph.now (values_view items.items) result room.old room.new }
-{
-    let mut found = Vec::with_capacity(alloc, items.len())?;
-    for item in items {
-        *room = room.saturating_sub(1);
-        found.push(spell(alloc, graph, item, room)?)?;
-    }
-    Ok(found)
 }
 
 #[cycle(spell)]

@@ -1,8 +1,8 @@
 //! Values that are stored, spelt out: they hold no element.
 ghost use Rattle.std.specs.Prelude.{◌≡◌, IfOk};
-ghost use Rattle.pg_json.specs.Replies.{data_of, outs, named_outs};
-ghost use Rattle.pg_run.specs.Printed.{stored_data, stored_items, stored_members};
-ghost use Rattle.pg_value_core.specs.View.{view, values_view, entries_view};
+ghost use Rattle.pg_json.specs.Replies.{data_of, named_outs};
+ghost use Rattle.pg_run.specs.Printed.{stored_data, stored_members};
+ghost use Rattle.pg_value_core.specs.View.{view, entries_view};
 
 use pg_value_core::{Out, Parts, Value};
 use std::alloc::{AllocError, Global};
@@ -16,21 +16,16 @@ fn spell_stored(alloc: Global, value: Value) -> Result<Out, AllocError>
         Parts::Bool(b) => Ok(Out::Bool(b)),
         Parts::Int(i) => Ok(Out::Int(i)),
         Parts::Text(text) => Ok(Out::Text(text)),
-        Parts::List(items) => Ok(Out::List(spell_stored_items(alloc, items)?)),
+        Parts::List(items) => {
+            let mut found = Vec::with_capacity(alloc, items.len())?;
+            for item in items {
+                found.push(spell_stored(alloc, item)?)?;
+            }
+            Ok(Out::List(found))
+        }
         Parts::Map(entries) => Ok(Out::Map(spell_stored_entries(alloc, entries)?)),
         Parts::Null | Parts::Node(_) | Parts::Rel(_) | Parts::Path(_) => Ok(Out::Null),
     }
-}
-
-#[cycle(stored)]
-fn spell_stored_items(alloc: Global, items: Vec<Value>) -> Result<Vec<Out>, AllocError>
-    ensures { IfOk result (λ found. outs found.items ≡ stored_items (values_view items.items)) }
-{
-    let mut found = Vec::with_capacity(alloc, items.len())?;
-    for item in items {
-        found.push(spell_stored(alloc, item)?)?;
-    }
-    Ok(found)
 }
 
 /// The properties of an element.

@@ -18,13 +18,13 @@ returns-in_err-found g c =
     let p = err_from_is_err_and c.from_residual.result c.from_residual.ensures.1 in
     rw (p.1, p.2) (refused (λ other. absurd (other refl)))
 
-pub returns-in_err-spell_place : goal.returns-in_err-spell_place
-returns-in_err-spell_place g c =
-    let p = err_from_is_err_and c.from_residual-in_err-spell_place.result c.from_residual-in_err-spell_place.ensures.1 in
+pub returns-in_err-spell_element : goal.returns-in_err-spell_element
+returns-in_err-spell_element g c =
+    let p = err_from_is_err_and c.from_residual-in_err-spell_element.result c.from_residual-in_err-spell_element.ensures.1 in
     let ids = c.deref-id-items.result.now in
     let i = c.loop-id.id-index in
     rw (p.1, p.2) (refused (λ other. ap (test_ids c.args.graph.now) (sym c.deref-id-items.ensures.value)
-    ∙ one_place_refused c.args.graph.now _ _ c.loop-id.is_node ids (drop i ids) (drop (i + 1) ids) c.loop-id.found.items (get_or ids i 0) _ c.loop-id.invariant (drop_more ids i 0 c.loop-id-test.true) (c.in_err-spell_place.ensures.err other)))
+    ∙ one_place_refused c.args.graph.now _ _ c.loop-id.is_node ids (drop i ids) (drop (i + 1) ids) c.loop-id.found.items (get_or ids i 0) _ c.loop-id.invariant (drop_more ids i 0 c.loop-id-test.true) (c.in_err-spell_element.ensures.err other)))
 
 pub returns-in_err-push : goal.returns-in_err-push
 returns-in_err-push g c =
@@ -36,8 +36,8 @@ loop-id-preserved g c =
     let graph = c.args.graph.now in
     let ids = c.deref-id-items.result.now in
     rw c.in_ok-push.ensures.items
-    (one_place_spelt graph _ _ _ c.loop-id.is_node ids (drop c.loop-id.id-index ids) (drop (c.loop-id.id-index + 1) ids) c.loop-id.found.items _ c.in_ok-spell_place.field-0
-    c.loop-id.invariant (drop_more ids c.loop-id.id-index 0 c.loop-id-test.true) c.in_ok-spell_place.ensures.live (search (rules, c.in_ok-spell_place.ensures.room)) c.in_ok-spell_place.ensures.shown)
+    (one_place_spelt graph _ _ _ c.loop-id.is_node ids (drop c.loop-id.id-index ids) (drop (c.loop-id.id-index + 1) ids) c.loop-id.found.items _ c.in_ok-spell_element.field-0
+    c.loop-id.invariant (drop_more ids c.loop-id.id-index 0 c.loop-id-test.true) c.in_ok-spell_element.ensures.live (search (rules, c.in_ok-spell_element.ensures.room)) c.in_ok-spell_element.ensures.shown)
 
 pub returns : goal.returns
 returns g c =

@@ -1,15 +1,16 @@
-use Rattle.std.proofs.Common.{rules, ◌-◌, refl, ap, subst, sym, ◌∙◌}
+use Rattle.std.proofs.Common.{rules, Ok, ◌-◌, refl, ap, subst, sym, ◌∙◌}
 use Rattle.std.proofs.lemmas.Result.{err_from_is_err_and}
 use Rattle.pg_json.specs.Room.{least}
+use Rattle.pg_meaning.specs.Queries.{test_output, test_items}
 use Rattle.pg_meaning.specs.Value.{Value as Datum}
 use Rattle.pg_run.proofs.Items.{one_item_within, all_items_within}
 use Rattle.pg_run.proofs.Members.{no_member_within, one_member_within, all_members_within}
-use Rattle.pg_run.proofs.Spelts.{refused, null_spelt, bool_spelt, int_spelt, text_spelt, list_spelt, list_refused, map_spelt, map_refused}
-use Rattle.pg_run.proofs.ValueLemmas.{node_seen, rel_seen, path_seen, item_refused, entry_refused}
+use Rattle.pg_run.proofs.Spelts.{refused, null_spelt, bool_spelt, int_spelt, text_spelt, list_spelt, map_spelt, map_refused}
+use Rattle.pg_run.proofs.ValueLemmas.{list_seen, node_seen, rel_seen, path_seen, item_refused, entry_refused}
 use Rattle.pg_run.specs.Printed.{printed}
-use Rattle.pg_run.specs.Spelt.{ValueSpelt}
+use Rattle.pg_run.specs.Spelt.{ValueSpelt, ListSpelt}
 use Rattle.pg_value_core.specs.Parts.{value_of}
-use Rattle.pg_value_core.specs.View.{view}
+use Rattle.pg_value_core.specs.View.{view, values_view}
 use Rattle.pg_run.proofs.spelling.+spell.Goals as goal
 
 pub spell-returns-in-Null : goal.spell-returns-in-Null
@@ -24,14 +25,6 @@ spell-returns-in-Int g t c = int_spelt c.args.graph.now c.args.value c.args.room
 pub spell-returns-in-Text : goal.spell-returns-in-Text
 spell-returns-in-Text g t c = text_spelt c.args.graph.now c.args.value c.args.room.now c.within-in-Text.new.room c.within-in-Text.result c.in-Text.text (sym c.into_parts.ensures ∙ ap value_of c.in-Text.is) c.within-in-Text.ensures.room c.within-in-Text.ensures.out
 
-pub spell-returns-in_err-spell_items-in-List : goal.spell-returns-in_err-spell_items-in-List
-spell-returns-in_err-spell_items-in-List g t c =
-    let p = err_from_is_err_and c.from_residual.result c.from_residual.ensures.1 in
-    rw (p.1, p.2) (list_refused c.args.graph.now c.args.value c.args.room.now c.spell_items.new.room c.saturating_sub.result c.in-List.items _ (sym c.into_parts.ensures ∙ ap value_of c.in-List.is) c.in_err-spell_items-in-List.ensures)
-
-pub spell-returns-in_ok-spell_items-in-List : goal.spell-returns-in_ok-spell_items-in-List
-spell-returns-in_ok-spell_items-in-List g t c = list_spelt c.args.graph.now c.args.value c.args.room.now c.spell_items.new.room c.saturating_sub.result c.in-List.items c.in_ok-spell_items-in-List.field-0 (sym c.into_parts.ensures ∙ ap value_of c.in-List.is) c.saturating_sub.ensures c.in_ok-spell_items-in-List.ensures
-
 pub spell-returns-in_err-spell_entries-in-Map : goal.spell-returns-in_err-spell_entries-in-Map
 spell-returns-in_err-spell_entries-in-Map g t c =
     let p = err_from_is_err_and c.from_residual-in_err-spell_entries-in-Map.result c.from_residual-in_err-spell_entries-in-Map.ensures.1 in
@@ -41,37 +34,13 @@ pub spell-returns-in_ok-spell_entries-in-Map : goal.spell-returns-in_ok-spell_en
 spell-returns-in_ok-spell_entries-in-Map g t c = map_spelt c.args.graph.now c.args.value c.args.room.now c.spell_entries.new.room c.saturating_sub-in-Map.result c.in-Map.entries c.in_ok-spell_entries-in-Map.field-0 (sym c.into_parts.ensures ∙ ap value_of c.in-Map.is) c.saturating_sub-in-Map.ensures c.in_ok-spell_entries-in-Map.ensures
 
 pub spell-returns-in-Node : goal.spell-returns-in-Node
-spell-returns-in-Node g t c = subst (λ (v : Datum). ValueSpelt c.args.graph.now v c.spell_node.result c.args.room.now c.spell_node.new.room) (sym (node_seen c.args.value c.in-Node.id (sym c.into_parts.ensures ∙ ap value_of c.in-Node.is))) c.spell_node.ensures
+spell-returns-in-Node g t c = subst (λ (v : Datum). ValueSpelt c.args.graph.now v c.spell_element.result c.args.room.now c.spell_element.new.room) (sym (node_seen c.args.value c.in-Node.id (sym c.into_parts.ensures ∙ ap value_of c.in-Node.is))) c.spell_element.ensures
 
 pub spell-returns-in-Rel : goal.spell-returns-in-Rel
-spell-returns-in-Rel g t c = subst (λ (v : Datum). ValueSpelt c.args.graph.now v c.spell_rel.result c.args.room.now c.spell_rel.new.room) (sym (rel_seen c.args.value c.in-Rel.id (sym c.into_parts.ensures ∙ ap value_of c.in-Rel.is))) c.spell_rel.ensures
+spell-returns-in-Rel g t c = subst (λ (v : Datum). ValueSpelt c.args.graph.now v c.spell_element-in-Rel.result c.args.room.now c.spell_element-in-Rel.new.room) (sym (rel_seen c.args.value c.in-Rel.id (sym c.into_parts.ensures ∙ ap value_of c.in-Rel.is))) c.spell_element-in-Rel.ensures
 
 pub spell-returns-in-Path : goal.spell-returns-in-Path
 spell-returns-in-Path g t c = subst (λ (v : Datum). ValueSpelt c.args.graph.now v c.spell_path.result c.args.room.now c.spell_path.new.room) (sym (path_seen c.args.value c.in-Path.path (sym c.into_parts.ensures ∙ ap value_of c.in-Path.is))) c.spell_path.ensures
-
-pub spell_items-returns-in_err-found : goal.spell_items-returns-in_err-found
-spell_items-returns-in_err-found g t c =
-    let p = err_from_is_err_and c.from_residual.result c.from_residual.ensures.1 in
-    rw (p.1, p.2) (refused (λ other. absurd (other refl)))
-
-pub spell_items-returns-in_err-spell : goal.spell_items-returns-in_err-spell
-spell_items-returns-in_err-spell g t c =
-    let p = err_from_is_err_and c.from_residual-in_err-spell.result c.from_residual-in_err-spell.ensures.1 in
-    rw (p.1, p.2) (refused (λ other. item_refused c.args.graph.now _ _ _ _ _ _ c.in-Some.item _ c.loop-item.invariant c.in-Some.ensures.steps.0 (c.in_err-spell.ensures.err other)))
-
-pub spell_items-returns-in_err-push : goal.spell_items-returns-in_err-push
-spell_items-returns-in_err-push g t c =
-    let p = err_from_is_err_and c.from_residual-in_err-push.result c.from_residual-in_err-push.ensures.1 in
-    rw (p.1, p.2) (refused (λ other. absurd (other refl)))
-
-pub spell_items-loop-item-preserved : goal.spell_items-loop-item-preserved
-spell_items-loop-item-preserved g t c =
-    rw c.in_ok-push.ensures.items
-    (one_item_within c.args.graph.now _ _ _ _ _ _ _ c.in-Some.item c.in_ok-spell.field-0 c.loop-item.invariant c.in-Some.ensures.steps.0 c.in_ok-spell.ensures.live
-    (c.in_ok-spell.ensures.room ∙ ap (λ r. r - least (printed c.args.graph.now (view c.in-Some.item))) c.saturating_sub.ensures) c.in_ok-spell.ensures.shown)
-
-pub spell_items-returns : goal.spell_items-returns
-spell_items-returns g t c = all_items_within c.args.graph.now _ _ _ _ c.loop-item.found c.loop-item.invariant (sym c.loop-item.item-iterator.rest.ok.0 ∙ c.in-None.ensures.steps.0)
 
 pub spell_entries-loop-key-init : goal.spell_entries-loop-key-init
 spell_entries-loop-key-init g t c = rw (c.into_iter-key-iterator.ensures.into_iter_gives.0, c.new-found.ensures.empty) (no_member_within c.args.graph.now c.args.room.now c.args.entries.entries)
@@ -94,3 +63,33 @@ spell_entries-loop-key-preserved g t c =
 
 pub spell_entries-returns : goal.spell_entries-returns
 spell_entries-returns g t c = all_members_within c.args.graph.now _ _ _ _ c.loop-key.found c.loop-key.invariant c.in-None.ensures.steps.0
+
+pub spell-loop-item-preserved : goal.spell-loop-item-preserved
+spell-loop-item-preserved g t c =
+    rw c.in_ok-push-in-List.ensures.items
+    (one_item_within c.args.graph.now _ _ _ _ _ _ _ c.in-Some.item c.in_ok-spell-in-List.field-0 c.loop-item.invariant c.in-Some.ensures.steps.0 c.in_ok-spell-in-List.ensures.live
+    (c.in_ok-spell-in-List.ensures.room ∙ ap (λ r. r - least (printed c.args.graph.now (view c.in-Some.item))) c.saturating_sub-in-loop-item.ensures) c.in_ok-spell-in-List.ensures.shown)
+
+pub spell-returns-in_err-found-in-List : goal.spell-returns-in_err-found-in-List
+spell-returns-in_err-found-in-List g t c =
+    let p = err_from_is_err_and c.from_residual.result c.from_residual.ensures.1 in
+    rw (p.1, p.2) (refused (λ other. absurd (other refl)))
+
+pub spell-returns-in_err-spell-in-List : goal.spell-returns-in_err-spell-in-List
+spell-returns-in_err-spell-in-List g t c =
+    let p = err_from_is_err_and c.from_residual-in_err-spell-in-List.result c.from_residual-in_err-spell-in-List.ensures.1 in
+    let graph = c.args.graph.now in
+    rw (p.1, p.2) (refused (λ other. ap (test_output graph) (list_seen c.args.value c.in-List.items (sym c.into_parts.ensures ∙ ap value_of c.in-List.is))
+    ∙ ap (λ vs. test_items graph (values_view vs)) (sym c.into_iter-item-iterator.ensures.into_iter_gives.0)
+    ∙ item_refused graph _ _ _ _ _ _ c.in-Some.item _ c.loop-item.invariant c.in-Some.ensures.steps.0 (c.in_err-spell-in-List.ensures.err other)))
+
+pub spell-returns-in_err-push-in-List : goal.spell-returns-in_err-push-in-List
+spell-returns-in_err-push-in-List g t c =
+    let p = err_from_is_err_and c.from_residual-in_err-push-in-List.result c.from_residual-in_err-push-in-List.ensures.1 in
+    rw (p.1, p.2) (refused (λ other. absurd (other refl)))
+
+pub spell-returns-in-None : goal.spell-returns-in-None
+spell-returns-in-None g t c =
+    list_spelt c.args.graph.now c.args.value c.args.room.now c.loop-item.room c.saturating_sub.result c.in-List.items c.loop-item.found (sym c.into_parts.ensures ∙ ap value_of c.in-List.is) c.saturating_sub.ensures
+    (subst (λ vs. ListSpelt c.args.graph.now (values_view vs) (Ok c.loop-item.found) c.saturating_sub.result c.loop-item.room) c.into_iter-item-iterator.ensures.into_iter_gives.0
+    (all_items_within c.args.graph.now _ _ _ _ c.loop-item.found c.loop-item.invariant (sym c.loop-item.item-iterator.rest.ok.0 ∙ c.in-None.ensures.steps.0)))

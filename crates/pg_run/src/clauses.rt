@@ -37,28 +37,7 @@ pub(crate) fn run_clauses<T: Tables>(
     ensures limit { meter.new.limit ≡ meter.old.limit }
     ensures changed { Changed T.seen store.old shared.old store.new shared.new }
 {
-    let table = Table::begin(given.alloc)?;
-    run_from(given, clauses, plan, store, shared, table, meter)
-}
-
-/// The rows after the clauses that are left.
-fn run_from<T: Tables>(
-    given: &Given<'_>,
-    clauses: &[Clause],
-    plan: &[Vec<Anchor>],
-    store: &mut Store<T>,
-    shared: &mut Shared<T::Shared>,
-    mut table: Table,
-    meter: &mut Meter,
-) -> Result<Table, Fault>
-    requires fit { IsFit T.seen store.old shared.old }
-    requires quota { given.now.max_elements ≤ 2 ^ 63 }
-    requires planned { IsPlanFrom (seen table).names (map clause_view clauses.now) (plan_view plan.now) }
-    ensures gives { Gives result (clauses_run (parameters_view given.now.parameters.now) (quota_of meter.old.limit given.now.max_elements) (seen table).names (plan_view plan.now) (map clause_view clauses.now) (state_of (graph_of_store T.seen store.old shared.old) (seen table) meter.old.used)) (λ t. state_of (graph_of_store T.seen store.new shared.new) (seen t) meter.new.used) }
-    ensures names { IfOk result (λ t. (seen t).names ≡ fold scope_after (seen table).names (map clause_view clauses.now)) }
-    ensures limit { meter.new.limit ≡ meter.old.limit }
-    ensures changed { Changed T.seen store.old shared.old store.new shared.new }
-{
+    let mut table = Table::begin(given.alloc)?;
     let mut left = plan;
     for clause in clauses {
         let (anchors, later) = anchors_first(left);

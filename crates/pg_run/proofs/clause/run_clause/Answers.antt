@@ -1,10 +1,11 @@
-use Rattle.std.proofs.Common.{◌≡◌, ℕ, List, Result, rules, refl, sym, subst}
+use Rattle.std.proofs.Common.{◌≡◌, ℕ, List, Result, refl, sym, subst}
 use Rattle.std.specs.Prelude.{IfOk}
+use Rattle.pg_meaning.specs.Graph.{Graph}
 use Rattle.pg_meaning.specs.Meters.{Setting, State}
 use Rattle.pg_meaning.specs.Queries.{clause_step}
 use Rattle.pg_meaning.specs.Scopes.{scope_after}
 use Rattle.pg_meaning.specs.declared.fault.Fault.{Fault}
-use Rattle.pg_rows.specs.States.{seen, state_of}
+use Rattle.pg_rows.specs.States.{Named, seen, state_of}
 use Rattle.pg_rows.specs.declared.named.Table.{Table}
 use Rattle.pg_run.proofs.Settings.{suits_own}
 use Rattle.pg_run.specs.Runs.{anchors_view, setting_of}
@@ -24,10 +25,17 @@ module _ (whole part : Clause) (is : whole ≡ part) (r : Result Table Fault) wh
   named_of : (names : List (List ℕ)) → IfOk r (λ t. (seen t).names ≡ scope_after names (clause_view part)) → IfOk r (λ t. (seen t).names ≡ scope_after names (clause_view whole))
   named_of names h = subst (λ c. IfOk r (λ t. (seen t).names ≡ scope_after names (clause_view c))) (sym is) h
 
+  on_graph : (s : Setting) (t : Named) (before after : ℕ) (lent graph : Graph) → lent ≡ graph
+      → Gives r (clause_step s (clause_view part) (state_of lent t before)) (λ made. state_of lent (seen made) after) → Gives r (clause_step s (clause_view whole) (state_of graph t before)) (λ made. state_of graph (seen made) after)
+  on_graph s t before after lent graph same h =
+      given_of s (state_of graph t before) (λ made. state_of graph (seen made) after)
+      (subst (λ (x : Graph). Gives r (clause_step s (clause_view part) (state_of x t before)) (λ made. state_of x (seen made) after)) same h)
+
 pub returns-in-Match-clause-gives : goal.returns-in-Match-clause-gives
 returns-in-Match-clause-gives g c =
-    let given = c.match_rows.ensures.gives (setting_of (parameters_view c.args.given.now.parameters.now) c.args.meter.now.limit c.args.given.now.max_elements c.args.table.names (anchors_view c.args.anchors.now)) (suits_own (parameters_view c.args.given.now.parameters.now) c.args.meter.now.limit c.args.given.now.max_elements c.args.table.names (anchors_view c.args.anchors.now)) refl in
-    search rules
+    let s = setting_of (parameters_view c.args.given.now.parameters.now) c.args.meter.now.limit c.args.given.now.max_elements c.args.table.names (anchors_view c.args.anchors.now) in
+    on_graph c.args.clause.now _ c.in-Match.is c.match_rows.result s (seen c.args.table) c.args.meter.now.used c.match_rows.new.meter.used c.graph.result _ c.graph.ensures
+    (c.match_rows.ensures.gives s (suits_own (parameters_view c.args.given.now.parameters.now) c.args.meter.now.limit c.args.given.now.max_elements c.args.table.names (anchors_view c.args.anchors.now)) refl)
 
 pub returns-in-Match-clause-names : goal.returns-in-Match-clause-names
 returns-in-Match-clause-names g c = named_of c.args.clause.now _ c.in-Match.is c.match_rows.result c.args.table.names c.match_rows.ensures.names
@@ -40,8 +48,9 @@ returns-in-Match-clause-changed g c = unchanged g.T.Tables.seen c.args.store.now
 
 pub returns-in-Unwind-clause-gives : goal.returns-in-Unwind-clause-gives
 returns-in-Unwind-clause-gives g c =
-    let given = c.unwind_rows.ensures.unwinds (setting_of (parameters_view c.args.given.now.parameters.now) c.args.meter.now.limit c.args.given.now.max_elements c.args.table.names (anchors_view c.args.anchors.now)) (suits_own (parameters_view c.args.given.now.parameters.now) c.args.meter.now.limit c.args.given.now.max_elements c.args.table.names (anchors_view c.args.anchors.now)) in
-    search rules
+    let s = setting_of (parameters_view c.args.given.now.parameters.now) c.args.meter.now.limit c.args.given.now.max_elements c.args.table.names (anchors_view c.args.anchors.now) in
+    on_graph c.args.clause.now _ c.in-Unwind.is c.unwind_rows.result s (seen c.args.table) c.args.meter.now.used c.unwind_rows.new.meter.used c.graph-in-Unwind.result _ c.graph-in-Unwind.ensures
+    (c.unwind_rows.ensures.unwinds s (suits_own (parameters_view c.args.given.now.parameters.now) c.args.meter.now.limit c.args.given.now.max_elements c.args.table.names (anchors_view c.args.anchors.now)))
 
 pub returns-in-Unwind-clause-names : goal.returns-in-Unwind-clause-names
 returns-in-Unwind-clause-names g c = named_of c.args.clause.now _ c.in-Unwind.is c.unwind_rows.result c.args.table.names c.unwind_rows.ensures.names
@@ -54,8 +63,9 @@ returns-in-Unwind-clause-changed g c = unchanged g.T.Tables.seen c.args.store.no
 
 pub returns-in-With-clause-gives : goal.returns-in-With-clause-gives
 returns-in-With-clause-gives g c =
-    let given = c.project_with.ensures.gives (setting_of (parameters_view c.args.given.now.parameters.now) c.args.meter.now.limit c.args.given.now.max_elements c.args.table.names (anchors_view c.args.anchors.now)) (suits_own (parameters_view c.args.given.now.parameters.now) c.args.meter.now.limit c.args.given.now.max_elements c.args.table.names (anchors_view c.args.anchors.now)) in
-    search rules
+    let s = setting_of (parameters_view c.args.given.now.parameters.now) c.args.meter.now.limit c.args.given.now.max_elements c.args.table.names (anchors_view c.args.anchors.now) in
+    on_graph c.args.clause.now _ c.in-With.is c.project_with.result s (seen c.args.table) c.args.meter.now.used c.project_with.new.meter.used c.graph-in-With.result _ c.graph-in-With.ensures
+    (c.project_with.ensures.gives s (suits_own (parameters_view c.args.given.now.parameters.now) c.args.meter.now.limit c.args.given.now.max_elements c.args.table.names (anchors_view c.args.anchors.now)))
 
 pub returns-in-With-clause-names : goal.returns-in-With-clause-names
 returns-in-With-clause-names g c = named_of c.args.clause.now _ c.in-With.is c.project_with.result c.args.table.names c.project_with.ensures.names
@@ -68,8 +78,9 @@ returns-in-With-clause-changed g c = unchanged g.T.Tables.seen c.args.store.now 
 
 pub returns-in-Return-clause-gives : goal.returns-in-Return-clause-gives
 returns-in-Return-clause-gives g c =
-    let given = c.project_return.ensures.gives (setting_of (parameters_view c.args.given.now.parameters.now) c.args.meter.now.limit c.args.given.now.max_elements c.args.table.names (anchors_view c.args.anchors.now)) (suits_own (parameters_view c.args.given.now.parameters.now) c.args.meter.now.limit c.args.given.now.max_elements c.args.table.names (anchors_view c.args.anchors.now)) in
-    search rules
+    let s = setting_of (parameters_view c.args.given.now.parameters.now) c.args.meter.now.limit c.args.given.now.max_elements c.args.table.names (anchors_view c.args.anchors.now) in
+    on_graph c.args.clause.now _ c.in-Return.is c.project_return.result s (seen c.args.table) c.args.meter.now.used c.project_return.new.meter.used c.graph-in-Return.result _ c.graph-in-Return.ensures
+    (c.project_return.ensures.gives s (suits_own (parameters_view c.args.given.now.parameters.now) c.args.meter.now.limit c.args.given.now.max_elements c.args.table.names (anchors_view c.args.anchors.now)))
 
 pub returns-in-Return-clause-names : goal.returns-in-Return-clause-names
 returns-in-Return-clause-names g c = named_of c.args.clause.now _ c.in-Return.is c.project_return.result c.args.table.names c.project_return.ensures.names
@@ -154,3 +165,24 @@ returns-in-Delete-clause-limit g c = c.delete_elements.ensures.limit
 
 pub returns-in-Delete-clause-changed : goal.returns-in-Delete-clause-changed
 returns-in-Delete-clause-changed g c = c.delete_elements.ensures.changed
+
+pub create_paths-requires-clause-fit : goal.create_paths-requires-clause-fit
+create_paths-requires-clause-fit g c = c.requires.fit
+
+pub create_paths-requires-clause-quota : goal.create_paths-requires-clause-quota
+create_paths-requires-clause-quota g c = c.requires.quota
+
+pub merge_path-requires-clause-fit : goal.merge_path-requires-clause-fit
+merge_path-requires-clause-fit g c = c.requires.fit
+
+pub merge_path-requires-clause-quota : goal.merge_path-requires-clause-quota
+merge_path-requires-clause-quota g c = c.requires.quota
+
+pub set_rows-requires : goal.set_rows-requires
+set_rows-requires g c = record { fit = c.requires.fit }
+
+pub remove_rows-requires : goal.remove_rows-requires
+remove_rows-requires g c = record { fit = c.requires.fit }
+
+pub delete_elements-requires : goal.delete_elements-requires
+delete_elements-requires g c = record { fit = c.requires.fit }

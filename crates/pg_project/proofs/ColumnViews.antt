@@ -92,6 +92,18 @@ view_names c =
     let long : length values ≡ length items = length-map (map item_view items) (λ (i : Item). i.value) ∙ length-map items item_view in
     names_are c.names (trees ++ values) (c.paired ∙ sym (length-append trees values ∙ (λ i. length-map c.starred.items expression_view i + long i)))
 
+pub all_named : (c : ProjectionColumns) (found : List (Bor Code)) → expressions_view found ≡ trees_in c.starred.items ++ values_in_items (map item_view c.items.now.items) → length found ≡ length c.names
+all_named c found all =
+    let items = c.items.now.items in
+    let trees = trees_in c.starred.items in
+    let values = values_in_items (map item_view items) in
+    let long : length values ≡ length items = length-map (map item_view items) (λ (i : Item). i.value) ∙ length-map items item_view in
+    sym (length-map found (λ x. expression_view x.now))
+    ∙ ap length all
+    ∙ length-append trees values
+    ∙ (λ i. length-map c.starred.items expression_view i + long i)
+    ∙ sym c.paired
+
 -- trees are put behind others, one after the other of a list that is lent
 module _ {S : Type 0} (lent ss : List S) (same : lent ≡ ss) (left : List S → List Expression) (i : ℕ) (found : List (Bor Code)) (whole : List Expression) (so_far : expressions_view found ++ left (drop i ss) ≡ whole) where
   pub tree_pushed : (s : S) → i < length lent → s ≡ get_or lent i s → (more : List (Bor Code)) (e : Bor Code) → more ≡ found ++ e ∷ [] → left (s ∷ drop (i + 1) ss) ≡ expression_view e.now ∷ left (drop (i + 1) ss)

@@ -1,5 +1,5 @@
 -- The different values so far, as the program and as the definitions tell them apart.
-use Rattle.std.proofs.Common.{◌≡◌, ◌||◌, Bool, true, false, cond, List, [], ◌∷◌, ◌++◌, map, Result, Ok, Err, Option, Some, None, refl, sym, ap, ◌∙◌}
+use Rattle.std.proofs.Common.{◌≡◌, ◌||◌, Bool, true, false, cond, List, [], ◌∷◌, ◌++◌, map, Result, Ok, Err, Option, Some, refl, sym, ap, ◌∙◌}
 use Rattle.std.specs.List.{list_any}
 use Rattle.std.specs.Ordering.{on, eq_by_cmp}
 use Rattle.indexmap.specs.IndexSet.{insert_key}
@@ -28,9 +28,6 @@ null_seen o v e h = ap (λ b. cond b (Ok (record { different = o; held = h })) (
 others_with : (o after : Option (List Datum)) (v : Datum) (counts : Bool) → is_null v ≡ false
     → ((h : Held) → other_with o h v ≡ cond counts (held_with h v >>= λ g. Ok (record { different = after; held = g })) (Ok (record { different = after; held = h }))) → Counts o after v counts
 others_with o after v counts e others h = ap (λ b. cond b (Ok (record { different = o; held = h })) (other_with o h v)) e ∙ others h
-
-pub all_count : (v : Datum) → is_null v ≡ false → Counts None None v true
-all_count v e = others_with None None v true e (λ h. refl)
 
 module _ (ks : List Value) (v : Value) (other : is_null (view v) ≡ false) where
   abbrev chosen : Held → Bool → Result Taken Fault

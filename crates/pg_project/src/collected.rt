@@ -33,7 +33,6 @@ impl Collected {
     ghost use Rattle.std.specs.Prelude.{◌≡◌, [], map, min, ◌+◌, max, ◌^◌, ◌-◌};
     ghost use Rattle.pg_project.specs.Summaries.{collected};
     ghost use Rattle.pg_meaning.specs.Measure.{items_weight, items_depth, weight_of, depth_of};
-    ghost use Rattle.pg_meaning.specs.Value.{list, values_of};
     ghost use Rattle.pg_value_core.specs.Gives.{Gives};
     ghost use Rattle.pg_value_core.specs.View.{view};
 
@@ -63,11 +62,5 @@ impl Collected {
             weight: heavier,
             depth: deeper,
         })
-    }
-
-    pub(crate) fn into_list(self) -> Value
-        ensures { view result ≡ list (values_of (map view self.items.items)) }
-    {
-        Value::List(self.items)
     }
 }

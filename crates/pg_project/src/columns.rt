@@ -49,20 +49,20 @@ fn star_names(alloc: Global, scope: &Columns, star: Option<usize>) -> Result<Col
     if star.is_none() {
         return Ok(names);
     }
-    for text in &in_byte_order(alloc, scope)? {
+    for text in in_byte_order(alloc, scope)? {
         names.push(alloc, text)?;
     }
     Ok(names)
 }
 
-fn in_byte_order<'a>(alloc: Global, scope: &'a Columns) -> Result<Vec<&'a str>, AllocError>
-    ensures { IfOk result (λ texts. texts_of texts.items ≡ in_byte_order scope.now) }
+fn in_byte_order<'a>(alloc: Global, scope: &'a Columns) -> Result<BTreeSet<&'a str>, AllocError>
+    ensures { IfOk result (λ texts. texts_of texts.keys ≡ in_byte_order scope.now) }
 {
     let mut texts = BTreeSet::new(alloc);
     for at in 0..scope.len() {
         texts.insert(scope.name(at))?;
     }
-    texts.into_iter().collect(alloc)
+    Ok(texts)
 }
 
 /// The variables of these names.
@@ -124,44 +124,20 @@ impl<'a> ProjectionColumns<'a> {
         &self.names
     }
 
-    /// The names of the columns.
-    pub(crate) fn into_names(self) -> Columns
-        ensures { result ≡ self.entry.names }
-    {
-        self.names
-    }
-
     /// What the columns hold, in turn.
     pub fn expressions(&self, alloc: Global) -> Result<Vec<&Expression>, AllocError>
         ensures trees { IfOk result (λ found. columns_view self.now ≡ columns_of self.now.names (expressions_view found.items)) }
         ensures len { IfOk result (λ found. length found.items ≡ length self.now.names) }
     {
         let mut found = Vec::new(alloc);
-        push_starred(&mut found, &self.starred)?;
-        push_values(&mut found, self.items)?;
+        for expression in &self.starred {
+            found.push(expression)?;
+        }
+        for item in self.items {
+            found.push(&item.value)?;
+        }
         Ok(found)
     }
-}
-
-fn push_starred<'a>(
-    found: &mut Vec<&'a Expression>,
-    starred: &'a Vec<Expression>,
-) -> Result<(), AllocError>
-    ensures { OnOk result (expressions_view found.new.items ≡ expressions_view found.old.items ++ trees_in starred.now.items) }
-{
-    for expression in starred {
-        found.push(expression)?;
-    }
-    Ok(())
-}
-
-fn push_values<'a>(found: &mut Vec<&'a Expression>, items: &'a Vec<Item>) -> Result<(), AllocError>
-    ensures { OnOk result (expressions_view found.new.items ≡ expressions_view found.old.items ++ map (λ i. i.value) (map item_view items.now.items)) }
-{
-    for item in items {
-        found.push(&item.value)?;
-    }
-    Ok(())
 }
 
 /// The names of the columns, and behind them those of the earlier variables unless they are hidden.

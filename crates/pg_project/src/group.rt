@@ -1,10 +1,7 @@
 //! Grouping and aggregates.
-ghost use Rattle.std.specs.Prelude.{◌≡◌, ℕ, List, IfOk, length, map};
-ghost use Rattle.pg_meaning.specs.Meters.{Setting};
-ghost use Rattle.pg_meaning.specs.Projections.{grouped};
-ghost use Rattle.pg_project.specs.Items.{columns_of, expressions_view, of_columns};
+ghost use Rattle.std.specs.Prelude.{◌≡◌, IfOk, length};
+ghost use Rattle.pg_project.specs.Items.{expressions_view};
 ghost use Rattle.pg_project.specs.Kept.{rows_given};
-ghost use Rattle.pg_rows.specs.Named.{rows_named};
 ghost use Rattle.pg_rows.specs.Tables.{table};
 ghost use Rattle.pg_value_core.specs.Given.{parameters_view};
 ghost use Rattle.pg_value_core.specs.Gives.{Gives};
@@ -21,20 +18,6 @@ use std::alloc::Global;
 
 /// The rows of groups: for each group a row with a value for each of the expressions.
 pub(crate) fn group_rows<T: Tables>(
-    alloc: Global,
-    items: &Vec<&Expression>,
-    names: &Columns,
-    rows: Rows,
-    parameters: &Parameters,
-    graph: &Snapshot<'_, T>,
-) -> Result<Rows, Fault>
-    ensures groups { (s : Setting) (columns : List (List ℕ)) → s.parameters ≡ parameters_view parameters.now → length columns ≡ length items.now.items → Gives result (grouped s graph.now (columns_of columns (expressions_view items.now.items)) (rows_named names.now (table rows))) (λ found. map (of_columns columns) (table found)) }
-    ensures width { IfOk result (λ found. found.width ≡ length items.now.items) }
-{
-    told_groups(alloc, items, names, &rows, parameters, graph)
-}
-
-fn told_groups<T: Tables>(
     alloc: Global,
     items: &Vec<&Expression>,
     names: &Columns,

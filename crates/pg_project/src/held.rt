@@ -1,8 +1,7 @@
 //! What is kept of the values that an aggregate has taken in.
-ghost use Rattle.std.specs.Prelude.{◌≡◌, ◌+ℤ◌, [], Ok, option_map, pos};
+ghost use Rattle.std.specs.Prelude.{◌≡◌, [], Ok, option_map};
 ghost use Rattle.pg_meaning.specs.Aggregates.{lesser, greater};
-ghost use Rattle.pg_project.specs.Summaries.{added, better, held_of, held_with, told, value_or_null};
-ghost use Rattle.pg_project.specs.Summaries as kept;
+ghost use Rattle.pg_project.specs.Summaries.{better, held_of, held_with, told};
 ghost use Rattle.pg_project.specs.Views.{held_view};
 ghost use Rattle.pg_scope.specs.Calls.{summary_view};
 ghost use Rattle.pg_value_core.specs.Gives.{Gives};
@@ -50,12 +49,22 @@ impl Held {
     }
 
     /// With one value more.
+    #[tactic(auto, using(crate::proofs::Ranges::in_range, crate::proofs::Ranges::out_of_range))]
     pub(crate) fn with(self, value: Value) -> Result<Held, Fault>
         ensures { Gives result (held_with (held_view self) (view value)) held_view }
     {
         match self {
-            Held::Count(count) => counted(count),
-            Held::Sum(sum) => with_summand(sum, &value),
+            Held::Count(count) => match count.checked_add(1) {
+                Some(more) => Ok(Held::Count(more)),
+                None => Err(Fault::OutOfMemory),
+            },
+            Held::Sum(sum) => match &value {
+                Value::Int(summand) => match sum.checked_add(*summand) {
+                    Some(more) => Ok(Held::Sum(more)),
+                    None => Err(Fault::Overflow),
+                },
+                _ => Err(Fault::TypeFault),
+            },
             Held::Lowest(best) => Ok(Held::Lowest(Some(lesser(best, value)))),
             Held::Highest(best) => Ok(Held::Highest(Some(greater(best, value)))),
             Held::Values(values) => Ok(Held::Values(values.with(value)?)),
@@ -69,32 +78,12 @@ impl Held {
         match self {
             Held::Count(count) => Value::Int(count),
             Held::Sum(sum) => Value::Int(sum),
-            Held::Lowest(best) => or_null(best),
-            Held::Highest(best) => or_null(best),
-            Held::Values(values) => values.into_list(),
+            Held::Lowest(best) | Held::Highest(best) => match best {
+                Some(value) => value,
+                None => Value::Null,
+            },
+            Held::Values(values) => Value::List(values.items),
         }
-    }
-}
-
-fn counted(count: i64) -> Result<Held, Fault>
-    ensures { Gives result (Ok (kept.count (count +ℤ pos 1))) held_view }
-{
-    match count.checked_add(1) {
-        Some(more) => Ok(Held::Count(more)),
-        None => Err(Fault::OutOfMemory),
-    }
-}
-
-#[tactic(auto, using(crate::proofs::Ranges::in_range, crate::proofs::Ranges::out_of_range))]
-fn with_summand(sum: i64, value: &Value) -> Result<Held, Fault>
-    ensures { Gives result (added sum (view value.now)) held_view }
-{
-    match value {
-        Value::Int(summand) => match sum.checked_add(*summand) {
-            Some(more) => Ok(Held::Sum(more)),
-            None => Err(Fault::Overflow),
-        },
-        _ => Err(Fault::TypeFault),
     }
 }
 
@@ -125,14 +114,5 @@ fn greater(best: Option<Value>, value: Value) -> Value
             }
         }
         None => value,
-    }
-}
-
-fn or_null(value: Option<Value>) -> Value
-    ensures { view result ≡ value_or_null (option_map view value) }
-{
-    match value {
-        Some(value) => value,
-        None => Value::Null,
     }
 }

@@ -1,17 +1,15 @@
 //! The lists that UNWIND goes over, and the rows that it makes of them.
 ghost use Rattle.std.specs.Prelude.{◌≡◌, ◌≢◌, ◌∷◌, [], ◌++◌, length, map, sum, IfOk, IfErr, OnOk, Ok, Err};
 ghost use Rattle.pg_expr.specs.Prepared.{tree_of};
-ghost use Rattle.pg_meaning.specs.Reading.{unwound};
-ghost use Rattle.pg_meaning.specs.Value.{list};
 ghost use Rattle.pg_meaning.specs.declared.fault.Fault.TheVariants.{OutOfMemory};
 ghost use Rattle.pg_project.specs.Unwound.{list_given, lists_given, lists_view, rows_unwound, with_column, with_item, with_items};
 ghost use Rattle.pg_rows.specs.Tables.{table};
 ghost use Rattle.pg_value_core.specs.Given.{parameters_view};
-ghost use Rattle.pg_value_core.specs.View.{view, values_view};
+ghost use Rattle.pg_value_core.specs.View.{view};
 
 use pg_expr::{Prepared, evaluate};
 use pg_graph::Tables;
-use pg_rows::{Columns, Rows};
+use pg_rows::{Columns, Rows, copy_row};
 use pg_store::Snapshot;
 use pg_value_core::{Fault, Parameters, Parts, Value};
 use std::alloc::{AllocError, Global};
@@ -30,7 +28,7 @@ pub(crate) fn lists_at<T: Tables>(
     ensures len { IfOk result (λ lists. length lists.items ≡ length (table rows.now)) }
     ensures err { IfErr result (λ e. e ≢ OutOfMemory → lists_given (parameters_view parameters.now) graph.now (tree_of names.now prepared.now) names.now (table rows.now) ≡ Err e) }
 {
-    let mut lists = Vec::with_capacity(alloc, rows.len())?;
+    let mut lists = Vec::new(alloc);
     for at in 0..rows.len() {
         lists.push(list_at(alloc, prepared, names, rows.row(at), parameters, graph)?)?;
     }
@@ -50,24 +48,11 @@ fn list_at<T: Tables>(
     ensures err { IfErr result (λ e. e ≢ OutOfMemory → list_given (parameters_view parameters.now) graph.now (tree_of names.now prepared.now) names.now (map view row.now) ≡ Err e) }
 {
     let value = evaluate(alloc, prepared, names, row, parameters, graph)?;
-    items_in(alloc, value)
-}
-
-fn items_in(alloc: Global, value: Value) -> Result<Vec<Value>, Fault>
-    ensures ok { IfOk result (λ items. unwound (view value) ≡ Ok (map view items.items)) }
-    ensures err { IfErr result (λ e. unwound (view value) ≡ Err e) }
-{
     match value.into_parts() {
         Parts::Null => Ok(Vec::new(alloc)),
-        Parts::List(items) => Ok(items_of(items)),
+        Parts::List(items) => Ok(items),
         _ => Err(Fault::TypeFault),
     }
-}
-
-fn items_of(items: Vec<Value>) -> Vec<Value>
-    ensures { unwound (list (values_view items.items)) ≡ Ok (map view result.items) }
-{
-    items
 }
 
 /// How many items the lists have together.
@@ -130,12 +115,12 @@ fn push_items(
 fn push_copies(
     alloc: Global,
     found: &mut Rows,
-    row: &Vec<Value>,
+    row: &[Value],
     items: Vec<Value>,
     has_column: bool,
 ) -> Result<(), AllocError>
-    requires { found.old.width ≡ with_column has_column (length row.now.items) }
-    ensures rows { OnOk result (table found.new ≡ table found.old ++ with_items has_column (map view row.now.items) (map view items.items)) }
+    requires { found.old.width ≡ with_column has_column (length row.now) }
+    ensures rows { OnOk result (table found.new ≡ table found.old ++ with_items has_column (map view row.now) (map view items.items)) }
     ensures width { found.new.width ≡ found.old.width }
 {
     let mut copy = Vec::new(alloc);
@@ -162,16 +147,4 @@ fn push_item(
         row.push(item)?;
     }
     found.push_from(row)
-}
-
-/// A copy of the row in a list that is empty.
-fn copy_row(alloc: Global, row: &Vec<Value>, copy: &mut Vec<Value>) -> Result<(), AllocError>
-    requires { copy.old.items ≡ [] }
-    ensures values { OnOk result (map view copy.new.items ≡ map view row.now.items) }
-    ensures len { OnOk result (length copy.new.items ≡ length row.now.items) }
-{
-    for value in row {
-        copy.push(value.copy(alloc)?)?;
-    }
-    Ok(())
 }

@@ -1,24 +1,23 @@
 //! SKIP, LIMIT and WHERE behind the other parts of a projection.
-ghost use Rattle.std.specs.Prelude.{◌≡◌, ◌≢◌, ◌<◌, ◌≤◌, [], true, None, drop, length, map, take, option_map, unwrap_or, IfOk, IfErr, OnOk, Ok, Err};
+ghost use Rattle.std.specs.Prelude.{◌≡◌, ◌≢◌, ◌<◌, ◌≤◌, true, None, take, option_map, unwrap_or, IfOk, IfErr, Ok, Err};
 ghost use Rattle.pg_expr.specs.Prepared.{condition_of};
 ghost use Rattle.pg_meaning.specs.Conditions.{condition};
 ghost use Rattle.pg_meaning.specs.declared.fault.Fault.TheVariants.{OutOfMemory};
 ghost use Rattle.pg_project.specs.Cuts.{LetsIn, cut_view};
 ghost use Rattle.pg_project.specs.Given.{cut_of, passing_given};
-ghost use Rattle.pg_rows.specs.Left.{first_row, rows_left};
+ghost use Rattle.pg_rows.specs.Left.{rows_left};
 ghost use Rattle.pg_rows.specs.Named.{row_of};
 ghost use Rattle.pg_rows.specs.Tables.{table};
 ghost use Rattle.pg_syntax_tree.specs.View.{expression_view};
 ghost use Rattle.pg_value_core.specs.Given.{parameters_view};
-ghost use Rattle.pg_value_core.specs.View.{view};
 
 use pg_expr::{PreparedCondition, condition};
 use pg_graph::Tables;
 use pg_rows::{Columns, Rows, RowsLeft};
 use pg_store::Snapshot;
 use pg_syntax_tree::Expression;
-use pg_value_core::{Fault, Parameters, Value};
-use std::alloc::{AllocError, Global};
+use pg_value_core::{Fault, Parameters};
+use std::alloc::Global;
 
 /// How many rows SKIP leaves out, and how many LIMIT lets in.
 #[derive(Clone, Copy)]
@@ -65,20 +64,10 @@ pub(crate) fn passing_rows<T: Tables>(
     ensures width { IfOk result (λ found. found.width ≡ width) }
     ensures err { IfErr result (λ e. e ≢ OutOfMemory → passing_given (parameters_view parameters.now) graph.now names.now (condition_of names.now wanted.now) width (cut_of (cut_view cut) (table rows)) ≡ Err e) }
 {
-    let most = most_rows(cut.limit, rows.len() as u64);
+    let most = cut.limit.unwrap_or(rows.len() as u64);
     let mut left = rows.into_left();
     left.skip(cut.skip);
     first_rows(alloc, most, wanted, names, left, width, parameters, graph)
-}
-
-/// As many rows as LIMIT lets in, and all where there is none.
-fn most_rows(limit: Option<u64>, all: u64) -> u64
-    ensures { result ≡ unwrap_or limit all }
-{
-    match limit {
-        Some(most) => most,
-        None => all,
-    }
 }
 
 /// The first values of those of the next rows, at most so many, that meet the condition.
@@ -106,26 +95,12 @@ fn first_rows<T: Tables>(
         };
         more -= 1;
         if condition(alloc, wanted, names, row, parameters, graph)? {
-            pass_first(&mut left, width, &mut values)?;
+            left.next_into(&mut values)?;
+            values.truncate(width);
             found.push_from(&mut values)?;
         } else {
             left.skip(1);
         }
     }
     Ok(found)
-}
-
-/// Moves the first values of the next row into a list that is empty.
-fn pass_first(left: &mut RowsLeft, width: usize, values: &mut Vec<Value>) -> Result<(), AllocError>
-    requires row { 0 < length (rows_left left.old) }
-    requires wide { width ≤ left.old.rows.width }
-    requires empty { values.old.items ≡ [] }
-    ensures values { OnOk result (map view values.new.items ≡ take width (first_row (rows_left left.old))) }
-    ensures len { OnOk result (length values.new.items ≡ width) }
-    ensures rows { OnOk result (rows_left left.new ≡ drop 1 (rows_left left.old)) }
-    ensures width { left.new.rows.width ≡ left.old.rows.width }
-{
-    left.next_into(values)?;
-    values.truncate(width);
-    Ok(())
 }

@@ -19,14 +19,5 @@ loop-at-preserved c =
 pub returns-in_err-insert : goal.returns-in_err-insert
 returns-in_err-insert c = IfOk-from_err c.from_residual.result _ c.from_residual.ensures.0
 
-pub collect-requires-clause-can : goal.collect-requires-clause-can
-collect-requires-clause-can c = tt
-
-pub collect-requires-clause-finite : goal.collect-requires-clause-finite
-collect-requires-clause-finite c = tt
-
-pub collect-requires-clause-can_collect : goal.collect-requires-clause-can_collect
-collect-requires-clause-can_collect c = λ xs t yields. tt
-
 pub loop-at-init : goal.loop-at-init
 loop-at-init c = ap (λ keys. put_texts c.args.scope.now (texts_of keys)) c.new-texts.ensures.empty

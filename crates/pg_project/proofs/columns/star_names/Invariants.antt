@@ -1,6 +1,7 @@
-use Rattle.std.proofs.Common.{◌≡◌, take}
+use Rattle.std.proofs.Common.{◌≡◌, ◌++◌}
+use Rattle.pg_meaning.specs.Names.{in_byte_order}
 use Rattle.pg_project.specs.Columns.{texts_of}
 use Rattle.pg_project.proofs.columns.star_names.Given as goal
 
 abbrev pub invariant-loop-text : goal.invariant-loop-text
-invariant-loop-text l = l.names ≡ texts_of (take l.text-index l.text-items)
+invariant-loop-text l = l.names ++ texts_of l.text-iterator ≡ in_byte_order l.scope

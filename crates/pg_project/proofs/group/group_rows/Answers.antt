@@ -1,23 +1,52 @@
-use Rattle.std.proofs.Common.{map, ◌∙◌, sym}
+use Rattle.std.proofs.Common.{length, map, Ok, sym, ap, ◌∙◌}
 use Rattle.std.proofs.lemmas.List.{length-map}
-use Rattle.pg_project.proofs.Grouping.{gives, fails}
-use Rattle.pg_project.proofs.Lifts.{through}
-use Rattle.pg_project.specs.Items.{columns_of, expressions_view, of_columns}
-use Rattle.pg_project.specs.Kept.{rows_given}
-use Rattle.pg_meaning.specs.Projections.{grouped}
-use Rattle.pg_rows.specs.Named.{rows_named}
+use Rattle.std.proofs.lemmas.Result.{IfOk-from_err}
+use Rattle.pg_project.proofs.ExitLemmas.{fault_given, memory_given}
+use Rattle.pg_project.specs.Items.{expressions_view, is_aggregate, item_of}
+use Rattle.pg_project.specs.Kept.{Kept, kept_values, merged, told_each}
+use Rattle.pg_project.specs.KeptGroups.{groups_view}
+use Rattle.pg_meaning.specs.Answer.{◌>>=◌}
 use Rattle.pg_rows.specs.Tables.{table}
 use Rattle.pg_syntax_tree.specs.View.{expression_view}
-use Rattle.pg_value_core.specs.Given.{parameters_view}
 use Rattle.pg_project.proofs.group.group_rows.Goals as goal
 
-pub returns-clause-groups : goal.returns-clause-groups
-returns-clause-groups g c =
-    λ s columns suits counted.
-    let parameters = parameters_view c.args.parameters.now in
-    let graph = c.args.graph.now in
-    let names = c.args.names.now in
-    let es = expressions_view c.args.items.now.items in
-    let long = counted ∙ sym (length-map c.args.items.now.items (λ e. expression_view e.now)) in
-    through c.told_groups.result (rows_given parameters graph names es (table c.args.rows)) (grouped s graph (columns_of columns es) (rows_named names (table c.args.rows))) table (map (of_columns columns))
-    (gives s graph names columns es long parameters suits (table c.args.rows)) (fails s graph names columns es long parameters suits (table c.args.rows)) c.told_groups.ensures.rows
+pub groups_of_rows-requires : goal.groups_of_rows-requires
+groups_of_rows-requires g c =
+    let made = c.in_ok-ready.ensures in
+    record { keys = made.keys; aggregates = made.aggregates; kinds = made.kinds }
+
+pub returns-in_err-ready-clause-rows : goal.returns-in_err-ready-clause-rows
+returns-in_err-ready-clause-rows g c = memory_given _ table c.from_residual.result c.from_residual.ensures.1
+
+pub returns-in_err-ready-clause-width : goal.returns-in_err-ready-clause-width
+returns-in_err-ready-clause-width g c = IfOk-from_err c.from_residual.result _ c.from_residual.ensures.0
+
+pub returns-in_err-groups-clause-rows : goal.returns-in_err-groups-clause-rows
+returns-in_err-groups-clause-rows g c =
+    let values = kept_values (expressions_view c.args.items.now.items) in
+    fault_given _ table c.in_err-groups.field-0.0 c.from_residual-in_err-groups.result c.from_residual-in_err-groups.ensures.1 (λ other. ap (λ a. a >>= λ gs. Ok (map values gs)) (c.in_err-groups.ensures.err other))
+
+pub returns-in_err-groups-clause-width : goal.returns-in_err-groups-clause-width
+returns-in_err-groups-clause-width g c = IfOk-from_err c.from_residual-in_err-groups.result _ c.from_residual-in_err-groups.ensures.0
+
+pub returns-in_err-told_rows-clause-rows : goal.returns-in_err-told_rows-clause-rows
+returns-in_err-told_rows-clause-rows g c = memory_given _ table c.from_residual-in_err-told_rows.result c.from_residual-in_err-told_rows.ensures.1
+
+pub returns-in_err-told_rows-clause-width : goal.returns-in_err-told_rows-clause-width
+returns-in_err-told_rows-clause-width g c = IfOk-from_err c.from_residual-in_err-told_rows.result _ c.from_residual-in_err-told_rows.ensures.0
+
+pub returns-clause-rows : goal.returns-clause-rows
+returns-clause-rows g c =
+    let values = kept_values (expressions_view c.args.items.now.items) in
+    let groups = groups_view c.in_ok-groups.groups in
+    record {
+      ok =
+          ap (λ a. a >>= λ gs. Ok (map values gs)) c.in_ok-groups.ensures.ok
+          ∙ ap Ok (sym (c.in_ok-told_rows.ensures.rows ∙ ap (λ kinds. map (λ (k : Kept). merged kinds k.key (told_each k.taken)) groups) c.in_ok-ready.ensures.kinds));
+      err = tt;
+    }
+
+pub returns-clause-width : goal.returns-clause-width
+returns-clause-width g c =
+    let items = c.args.items.now.items in
+    c.in_ok-told_rows.ensures.width ∙ ap length c.in_ok-ready.ensures.kinds ∙ length-map (expressions_view items) (λ e. is_aggregate (item_of e)) ∙ length-map items (λ e. expression_view e.now)

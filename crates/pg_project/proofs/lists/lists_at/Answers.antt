@@ -19,7 +19,7 @@ returns-in_err-list_at-clause-err g c =
     let f = list_given (parameters_view c.args.parameters.now) c.args.graph.now (tree_of c.args.names.now c.args.prepared.now) c.args.names.now in
     let refused : (e : Fault) → f (map view c.row.result.now) ≡ Err e → lists_given (parameters_view c.args.parameters.now) c.args.graph.now (tree_of c.args.names.now c.args.prepared.now) c.args.names.now (table c.args.rows.now) ≡ Err e =
     λ e h. one_fault f (table c.args.rows.now) (lists_view l.lists.items) l.at (map view c.row.result.now) e l.invariant.0 c.row.ensures h in
-    fault_passed _ c.in_err-list_at.field-0.0 c.from_residual-in_err-list_at.result c.from_residual-in_err-list_at.ensures.1 (λ other. refused c.in_err-list_at.field-0.0 (c.in_err-list_at.ensures.err other))
+    fault_passed _ c.in_err-list_at.field-0.0 c.from_residual.result c.from_residual.ensures.1 (λ other. refused c.in_err-list_at.field-0.0 (c.in_err-list_at.ensures.err other))
 
 pub loop-at-preserved : goal.loop-at-preserved
 loop-at-preserved g c =
@@ -32,20 +32,11 @@ loop-at-preserved g c =
       ap length c.in_ok-push.ensures.items ∙ length-append l.lists.items (list ∷ []) ∙ ap (λ n. n + 1) l.invariant.1,
     )
 
-pub returns-in_err-lists-clause-ok : goal.returns-in_err-lists-clause-ok
-returns-in_err-lists-clause-ok g c = IfOk-from_err c.from_residual.result _ c.from_residual.ensures.0
-
-pub returns-in_err-lists-clause-len : goal.returns-in_err-lists-clause-len
-returns-in_err-lists-clause-len g c = IfOk-from_err c.from_residual.result _ c.from_residual.ensures.0
-
-pub returns-in_err-lists-clause-err : goal.returns-in_err-lists-clause-err
-returns-in_err-lists-clause-err g c = memory_passed _ c.from_residual.result c.from_residual.ensures.1
-
 pub returns-in_err-list_at-clause-ok : goal.returns-in_err-list_at-clause-ok
-returns-in_err-list_at-clause-ok g c = IfOk-from_err c.from_residual-in_err-list_at.result _ c.from_residual-in_err-list_at.ensures.0
+returns-in_err-list_at-clause-ok g c = IfOk-from_err c.from_residual.result _ c.from_residual.ensures.0
 
 pub returns-in_err-list_at-clause-len : goal.returns-in_err-list_at-clause-len
-returns-in_err-list_at-clause-len g c = IfOk-from_err c.from_residual-in_err-list_at.result _ c.from_residual-in_err-list_at.ensures.0
+returns-in_err-list_at-clause-len g c = IfOk-from_err c.from_residual.result _ c.from_residual.ensures.0
 
 pub returns-in_err-push-clause-ok : goal.returns-in_err-push-clause-ok
 returns-in_err-push-clause-ok g c = IfOk-from_err c.from_residual-in_err-push.result _ c.from_residual-in_err-push.ensures.0
@@ -58,9 +49,9 @@ returns-in_err-push-clause-err g c = memory_passed _ c.from_residual-in_err-push
 
 pub loop-at-init : goal.loop-at-init
 loop-at-init g c =
-    let made = c.in_ok-lists.lists.items in (
-      none_before (lists_view made) (lists_given (parameters_view c.args.parameters.now) c.args.graph.now (tree_of c.args.names.now c.args.prepared.now) c.args.names.now (table c.args.rows.now)) (ap lists_view c.in_ok-lists.ensures.items),
-      ap length c.in_ok-lists.ensures.items,
+    let made = c.new-lists.result.items in (
+      none_before (lists_view made) (lists_given (parameters_view c.args.parameters.now) c.args.graph.now (tree_of c.args.names.now c.args.prepared.now) c.args.names.now (table c.args.rows.now)) (ap lists_view c.new-lists.ensures.items),
+      ap length c.new-lists.ensures.items,
     )
 
 pub returns-clause-err : goal.returns-clause-err

@@ -20,7 +20,7 @@ returns-clause-rows c =
     on_ok_weaker c.push_item.result
     (λ pushed.
     pushed
-    ∙ ap (λ rows. rows ++ with_item has_column row (view last) ∷ []) c.in_ok-push_copies.ensures.rows
+    ∙ ap (λ rows. rows ++ with_item has_column row (view last) ∷ []) (c.in_ok-push_copies.ensures.rows ∙ ap (λ vs. before ++ with_items has_column (map view vs) (map view others)) c.deref.ensures.value)
     ∙ items_more before has_column row (map view others) (view last)
     ∙ ap (λ vs. before ++ with_items has_column row vs) (sym (ap (map view) c.in-Some.ensures.items ∙ map-append view others (last ∷ []))))
     c.push_item.ensures.rows

@@ -1,4 +1,5 @@
 use Rattle.std.proofs.Common.{◌≡◌, ◌-◌, ◌<◌, ◌≤◌, ◌∷◌, [], ◌++◌, drop, map, take, Ok, Err, true, false, sym, ap, subst, ◌∙◌, arith}
+use Rattle.std.proofs.lemmas.List.{take-map}
 use Rattle.std.proofs.lemmas.Result.{IfOk-from_err}
 use Rattle.pg_expr.specs.Prepared.{condition_of}
 use Rattle.pg_meaning.specs.Conditions.{condition}
@@ -7,6 +8,7 @@ use Rattle.pg_project.proofs.Conditions.{one_passes, one_stays_out, one_ends, no
 use Rattle.pg_expr.proofs.ExitLemmas.{fault_passed}
 use Rattle.pg_project.proofs.ExitLemmas.{memory_passed}
 use Rattle.pg_project.proofs.InTurn.{after, none_before}
+use Rattle.pg_project.proofs.WideRows.{some_left}
 use Rattle.pg_project.specs.Given.{passing_given}
 use Rattle.pg_rows.specs.Left.{first_row, rows_left}
 use Rattle.pg_rows.specs.Named.{row_of}
@@ -30,6 +32,9 @@ returns-in_err-condition-clause-err g c =
     λ e h. one_ends ps graph names wanted c.args.width whole (table l.found) l.more (rows_left l.left) (drop 1 (rows_left l.left)) row e more next h l.invariant.0 in
     fault_passed whole c.in_err-condition.field-0.0 c.from_residual.result c.from_residual.ensures.1 (λ other. refused c.in_err-condition.field-0.0 (c.in_err-condition.ensures.err other))
 
+pub next_into-requires : goal.next_into-requires
+next_into-requires g c = let left = rows_left c.loop-more.left in some_left left (drop 1 left) (map view c.in-Some.row.now) c.in-Some.ensures.row
+
 pub loop-more-preserved-in-Continue-branch-3 : goal.loop-more-preserved-in-Continue-branch-3
 loop-more-preserved-in-Continue-branch-3 g c =
     let l = c.loop-more in
@@ -43,13 +48,16 @@ loop-more-preserved-in-Continue-branch-3 g c =
     let next : rows_left l.left ≡ row ∷ drop 1 (rows_left l.left) = c.in-Some.ensures.row in
     let more : 0 < l.more = omega arith in
     let passes : condition wanted (row_of names row) ps graph ≡ Ok true = c.in_ok-condition.ensures.ok ∙ ap Ok c.if-branch.true in
-    let pushed : table c.push_from.new.self ≡ table l.found ++ take width row ∷ [] =
-    c.in_ok-push_from.ensures.rows ∙ ap (λ r. table l.found ++ r ∷ []) (c.in_ok-pass_first.ensures.values ∙ ap (λ rs. take width (first_row rs)) next) in (
+    let first : map view c.truncate.new.self.items ≡ take width row =
+    ap (map view) c.truncate.ensures.items
+    ∙ sym (take-map view width c.next_into.new.values.items)
+    ∙ ap (take width) (c.in_ok-next_into.ensures.values ∙ ap (λ vs. map view vs ++ first_row (rows_left l.left)) l.invariant.3 ∙ ap first_row next) in
+    let pushed : table c.push_from.new.self ≡ table l.found ++ take width row ∷ [] = c.in_ok-push_from.ensures.rows ∙ ap (λ r. table l.found ++ r ∷ []) first in (
       one_passes ps graph names wanted width whole (table l.found) l.more (rows_left l.left) (drop 1 (rows_left l.left)) row more next passes l.invariant.0
           ∙ ap (λ d. after d (passing_given ps graph names wanted width (take (l.more - 1) (drop 1 (rows_left l.left))))) (sym pushed)
-          ∙ ap (λ rs. after (table c.push_from.new.self) (passing_given ps graph names wanted width (take (l.more - 1) rs))) (sym c.in_ok-pass_first.ensures.rows),
+          ∙ ap (λ rs. after (table c.push_from.new.self) (passing_given ps graph names wanted width (take (l.more - 1) rs))) (sym c.in_ok-next_into.ensures.rows),
       c.in_ok-push_from.ensures.width ∙ l.invariant.1,
-      subst (λ n. width ≤ n) (sym c.in_ok-pass_first.ensures.width) l.invariant.2,
+      subst (λ n. width ≤ n) (sym c.in_ok-next_into.ensures.width) l.invariant.2,
       c.in_ok-push_from.ensures.emptied,
     )
 
@@ -88,14 +96,14 @@ returns-in_err-condition-clause-ok g c = IfOk-from_err c.from_residual.result _ 
 pub returns-in_err-condition-clause-width : goal.returns-in_err-condition-clause-width
 returns-in_err-condition-clause-width g c = IfOk-from_err c.from_residual.result _ c.from_residual.ensures.0
 
-pub returns-in_err-pass_first-clause-ok : goal.returns-in_err-pass_first-clause-ok
-returns-in_err-pass_first-clause-ok g c = IfOk-from_err c.from_residual-in_err-pass_first.result _ c.from_residual-in_err-pass_first.ensures.0
+pub returns-in_err-next_into-clause-ok : goal.returns-in_err-next_into-clause-ok
+returns-in_err-next_into-clause-ok g c = IfOk-from_err c.from_residual-in_err-next_into.result _ c.from_residual-in_err-next_into.ensures.0
 
-pub returns-in_err-pass_first-clause-width : goal.returns-in_err-pass_first-clause-width
-returns-in_err-pass_first-clause-width g c = IfOk-from_err c.from_residual-in_err-pass_first.result _ c.from_residual-in_err-pass_first.ensures.0
+pub returns-in_err-next_into-clause-width : goal.returns-in_err-next_into-clause-width
+returns-in_err-next_into-clause-width g c = IfOk-from_err c.from_residual-in_err-next_into.result _ c.from_residual-in_err-next_into.ensures.0
 
-pub returns-in_err-pass_first-clause-err : goal.returns-in_err-pass_first-clause-err
-returns-in_err-pass_first-clause-err g c = memory_passed _ c.from_residual-in_err-pass_first.result c.from_residual-in_err-pass_first.ensures.1
+pub returns-in_err-next_into-clause-err : goal.returns-in_err-next_into-clause-err
+returns-in_err-next_into-clause-err g c = memory_passed _ c.from_residual-in_err-next_into.result c.from_residual-in_err-next_into.ensures.1
 
 pub returns-in_err-push_from-clause-ok : goal.returns-in_err-push_from-clause-ok
 returns-in_err-push_from-clause-ok g c = IfOk-from_err c.from_residual-in_err-push_from.result _ c.from_residual-in_err-push_from.ensures.0

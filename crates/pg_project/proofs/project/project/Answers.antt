@@ -50,7 +50,7 @@ returns-clause-gives g c = λ s suits.
     let are : columns_view c.in_ok-columns.columns ≡ wanted = c.in_ok-columns.ensures ∙ ap (λ ns. naming_columns c.args.naming ns p) (c.split-names.ensures.names ∙ sym suits.scope_is) in
     let spent : spend s used (length t.rows) ≡ Ok c.spend.new.self.used =
     ap (spend s used) (sym (c.len.ensures ∙ ap length c.split-names.ensures.rows)) ∙ c.in_ok-spend.ensures.spends s suits.steps_are in
-    let made : named_rows (seen c.new.result) ≡ rows_named c.in_ok-columns.columns.names (table c.in_ok-found.found) = ap named_rows c.new.ensures ∙ ap (λ ns. rows_named ns (table c.in_ok-found.found)) c.into_names.ensures in
+    let made : named_rows (seen c.new.result) ≡ rows_named c.in_ok-columns.columns.names (table c.in_ok-found.found) = ap named_rows c.new.ensures in
     record {
       ok =
           all_projected s graph wanted p where_ t used c.spend.new.self.used spent (seen c.new.result)
@@ -64,7 +64,6 @@ pub returns-clause-names : goal.returns-clause-names
 returns-clause-names g c =
     let p = projection_view c.args.projection.now in
     ap (λ t. t.names) c.new.ensures
-    ∙ c.into_names.ensures
     ∙ sym (view_names c.in_ok-columns.columns)
     ∙ ap column_names (c.in_ok-columns.ensures ∙ ap (λ ns. naming_columns c.args.naming ns p) c.split-names.ensures.names)
 

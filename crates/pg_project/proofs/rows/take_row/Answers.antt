@@ -1,10 +1,10 @@
-use Rattle.std.proofs.Common.{◌≡◌, ◌≢◌, IfErr, OnOk, Ok, Err, map, sym, ap, subst, ◌∙◌}
+use Rattle.std.proofs.Common.{rules, ◌≡◌, ◌≢◌, IfErr, OnOk, Ok, Err, map, sym, ap, subst, ◌∙◌}
 use Rattle.pg_project.proofs.RowLemmas.{with_key, without_key}
 use Rattle.pg_project.specs.Items.{expressions_view}
 use Rattle.pg_project.specs.Kept.{into_kept}
 use Rattle.pg_project.specs.KeptGroups.{groups_view}
 use Rattle.pg_project.specs.Sites.{answers}
-use Rattle.pg_meaning.specs.Answer.{each_answer}
+use Rattle.pg_meaning.specs.Answer.{◌>>◌, each_answer}
 use Rattle.pg_meaning.specs.declared.fault.Fault.TheVariants.{OutOfMemory}
 use Rattle.pg_value_core.specs.View.{view}
 use Rattle.pg_project.proofs.rows.take_row.Goals as goal
@@ -22,13 +22,29 @@ returns-in-Ok g c =
       err = subst (λ answer. IfErr c.take_row.result (λ e. e ≢ OutOfMemory → answer ≡ Err e)) (sym is) c.take_row.ensures.err;
     }
 
-pub returns-in-Err : goal.returns-in-Err
-returns-in-Err g c =
+pub returns-in-Err-test_items : goal.returns-in-Err-test_items
+returns-in-Err-test_items g c =
     let at = answers c.args.site.now c.args.graph.now in
+    let es = expressions_view c.args.expressions.now.items in
+    let fault = c.in-Err.fault in
+    let differs : fault ≢ OutOfMemory = search rules in
     record {
       ok = tt;
       paired = tt;
       err = λ other.
-          without_key at (expressions_view c.args.expressions.now.items) (groups_view c.args.groups.now) c.in-Err.fault (ap (each_answer at) (sym c.requires.ready.keys) ∙ c.in-Err.ensures.err (c.first_fault.ensures.memory other))
-          ∙ c.first_fault.ensures.first other;
+          without_key at es (groups_view c.args.groups.now) fault (ap (each_answer at) (sym c.requires.ready.keys) ∙ c.in-Err.ensures.err differs)
+          ∙ ap (λ tested. tested >> Err fault) (c.in-Err-test_items.ensures.err other);
+    }
+
+pub returns-in-Ok-test_items : goal.returns-in-Ok-test_items
+returns-in-Ok-test_items g c =
+    let at = answers c.args.site.now c.args.graph.now in
+    let es = expressions_view c.args.expressions.now.items in
+    let fault = c.in-Err.fault in
+    record {
+      ok = tt;
+      paired = tt;
+      err = λ other.
+          without_key at es (groups_view c.args.groups.now) fault (ap (each_answer at) (sym c.requires.ready.keys) ∙ c.in-Err.ensures.err other)
+          ∙ ap (λ tested. tested >> Err fault) c.in-Ok-test_items.ensures.ok;
     }

@@ -1,5 +1,5 @@
 //! SKIP, LIMIT and WHERE behind the other parts of a projection.
-ghost use Rattle.std.specs.Prelude.{◌≡◌, ◌≢◌, ◌<◌, ◌≤◌, true, None, take, option_map, unwrap_or, IfOk, IfErr, Ok, Err};
+ghost use Rattle.std.specs.Prelude.{◌≡◌, ◌≢◌, ◌≤◌, true, None, take, option_map, unwrap_or, IfOk, IfErr, Ok, Err};
 ghost use Rattle.pg_expr.specs.Prepared.{condition_of};
 ghost use Rattle.pg_meaning.specs.Conditions.{condition};
 ghost use Rattle.pg_meaning.specs.declared.fault.Fault.TheVariants.{OutOfMemory};

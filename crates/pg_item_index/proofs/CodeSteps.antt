@@ -1,7 +1,7 @@
 -- One item more of a list whose bytes are put behind those that were found.
-use Rattle.std.proofs.Common.{◌≡◌, ℕ, ◌+◌, ◌<◌, ◌≤◌, List, [], ◌∷◌, map, length, drop, get_or, Vec, Box, Global, refl, sym, ap, subst, ◌∙◌}
-use Rattle.std.proofs.lemmas.List.{drop_all, drop_more}
-use Rattle.pg_item_index.specs.Codes.{byte_of_form, with_byte, with_text, with_pairs, byte_of_operator, with_expression, with_expressions, with_whens, with_operands, with_tests, with_suffixes, with_test, with_suffix}
+use Rattle.std.proofs.Common.{◌≡◌, ℕ, ◌+◌, ◌<◌, ◌≤◌, List, [], ◌∷◌, ◌++◌, map, length, drop, get_or, Vec, Box, Global, refl, sym, ap, subst, ◌∙◌}
+use Rattle.std.proofs.lemmas.List.{append-nil, append_assoc, drop_all, drop_more}
+use Rattle.pg_item_index.specs.Codes.{byte_of_form, with_byte, with_bytes, with_text, with_pairs, byte_of_operator, with_expression, with_expressions, with_whens, with_operands, with_tests, with_suffixes, with_test, with_suffix}
 use Rattle.pg_meaning.specs.Parse.{expressions_of, operands_of, pairs_of, whens_of}
 use Rattle.pg_meaning.specs.Tree as tree
 use Rattle.pg_meaning.specs.declared.operators.Operator.{Operator}
@@ -17,6 +17,10 @@ use Rattle.pg_syntax_tree.specs.declared.expression.Suffix.{Suffix}
 use Rattle.pg_syntax_tree.specs.declared.expression.Suffix.TheVariants as suffix
 use Rattle.pg_syntax_tree.specs.declared.expression.Test.{Test}
 use Rattle.pg_syntax_tree.specs.declared.expression.Test.TheVariants as test
+
+pub bytes_are : (bs code : List ℕ) → with_bytes bs code ≡ code ++ bs
+bytes_are [] code = sym (append-nil code)
+bytes_are (b ∷ bs) code = bytes_are bs (with_byte b code) ∙ append_assoc code (b ∷ []) bs
 
 -- how a list is written: item by item
 pub record Written (X : Type 0) : Type 0 where

@@ -18,36 +18,17 @@ fn add_byte(code: &mut Vec<u8>, byte: u8) -> Result<(), AllocError>
     Ok(code.push(byte)?)
 }
 
-fn add_bytes(code: &mut Vec<u8>, bytes: &[u8]) -> Result<(), AllocError>
-    ensures { OnOk result (code.new.items ≡ spec.with_bytes bytes.now code.old.items) }
-{
-    for byte in bytes {
-        code.push(*byte)?;
-    }
-    Ok(())
-}
-
 fn add_text(code: &mut Vec<u8>, text: &str) -> Result<(), AllocError>
     ensures { OnOk result (code.new.items ≡ spec.with_text text.now code.old.items) }
 {
-    add_bytes(code, text.as_bytes())?;
-    add_byte(code, 255)
-}
-
-/// The text in small letters, as far as it is ASCII.
-fn add_lowercase(code: &mut Vec<u8>, text: &str) -> Result<(), AllocError>
-    ensures { OnOk result (code.new.items ≡ spec.with_text (str_to_ascii_lowercase text.now) code.old.items) }
-{
-    for byte in text.as_bytes() {
-        code.push(byte.to_ascii_lowercase())?;
-    }
+    code.extend_from_slice(text.as_bytes())?;
     add_byte(code, 255)
 }
 
 fn add_number(code: &mut Vec<u8>, number: u64) -> Result<(), AllocError>
     ensures { OnOk result (code.new.items ≡ spec.with_number number code.old.items) }
 {
-    add_bytes(code, &number.to_le_bytes())
+    Ok(code.extend_from_slice(&number.to_le_bytes())?)
 }
 
 fn add_flag(code: &mut Vec<u8>, flag: bool) -> Result<(), AllocError>
@@ -80,16 +61,6 @@ fn add_names(code: &mut Vec<u8>, names: &Vec<Name>) -> Result<(), AllocError>
 }
 
 /// An integer below zero stands for no tree that a text has.
-fn add_integer(code: &mut Vec<u8>, integer: i64) -> Result<(), AllocError>
-    ensures { OnOk result (code.new.items ≡ spec.with_integer integer code.old.items) }
-{
-    if integer < 0 {
-        return Ok(());
-    }
-    add_byte(code, 3)?;
-    add_number(code, integer as u64)
-}
-
 fn add_literal(code: &mut Vec<u8>, literal: &Literal) -> Result<(), AllocError>
     ensures { OnOk result (code.new.items ≡ spec.with_literal (literal_view literal.now) code.old.items) }
 {
@@ -99,7 +70,13 @@ fn add_literal(code: &mut Vec<u8>, literal: &Literal) -> Result<(), AllocError>
             add_byte(code, 2)?;
             add_flag(code, *boolean)
         }
-        Literal::Integer(integer) => add_integer(code, *integer),
+        Literal::Integer(integer) => {
+            if *integer < 0 {
+                return Ok(());
+            }
+            add_byte(code, 3)?;
+            add_number(code, *integer as u64)
+        }
         Literal::Text(text) => {
             add_byte(code, 4)?;
             add_text(code, text.as_str())
@@ -139,11 +116,14 @@ fn byte_of_test(test: TextTest) -> u8
     }
 }
 
-/// What a call has before its arguments.
+/// What a call has before its arguments: the name in small letters, as far as it is ASCII.
 fn add_call(code: &mut Vec<u8>, name: &Name, star: bool, distinct: bool) -> Result<(), AllocError>
     ensures { OnOk result (code.new.items ≡ spec.with_flag distinct (spec.with_flag star (spec.with_text (str_to_ascii_lowercase (name_view name.now).text) code.old.items))) }
 {
-    add_lowercase(code, name.text.as_str())?;
+    for byte in name.text.as_bytes() {
+        code.push(byte.to_ascii_lowercase())?;
+    }
+    add_byte(code, 255)?;
     add_flag(code, star)?;
     add_flag(code, distinct)
 }
@@ -277,50 +257,36 @@ fn add_operands(
 fn add_tests(code: &mut Vec<u8>, tests: &Vec<Test<Expression>>) -> Result<(), AllocError>
     ensures { OnOk result (code.new.items ≡ spec.with_tests (tests_of (map test_view tests.now.items)) code.old.items) }
 {
-    for i in 0..tests.len() {
-        add_test(code, &tests[i])?;
+    for test in tests {
+        match test {
+            Test::Text(comparison, operand) => {
+                add_byte(code, byte_of_test(*comparison))?;
+                add_expression(code, operand)?;
+            }
+            Test::IsNull(negated) => {
+                add_byte(code, 5)?;
+                add_flag(code, *negated)?;
+            }
+        }
     }
     add_byte(code, 0)
-}
-
-#[cycle(codes)]
-fn add_test(code: &mut Vec<u8>, test: &Test<Expression>) -> Result<(), AllocError>
-    ensures { OnOk result (code.new.items ≡ spec.with_test test.now code.old.items) }
-{
-    match test {
-        Test::Text(test, operand) => {
-            add_byte(code, byte_of_test(*test))?;
-            add_expression(code, operand)
-        }
-        Test::IsNull(negated) => {
-            add_byte(code, 5)?;
-            add_flag(code, *negated)
-        }
-    }
 }
 
 #[cycle(codes)]
 fn add_suffixes(code: &mut Vec<u8>, suffixes: &Vec<Suffix<Expression>>) -> Result<(), AllocError>
     ensures { OnOk result (code.new.items ≡ spec.with_suffixes (suffixes_of (map suffix_view suffixes.now.items)) code.old.items) }
 {
-    for i in 0..suffixes.len() {
-        add_suffix(code, &suffixes[i])?;
+    for suffix in suffixes {
+        match suffix {
+            Suffix::Property(name) => {
+                add_byte(code, 1)?;
+                add_text(code, name.text.as_str())?;
+            }
+            Suffix::Index(index) => {
+                add_byte(code, 2)?;
+                add_expression(code, index)?;
+            }
+        }
     }
     add_byte(code, 0)
-}
-
-#[cycle(codes)]
-fn add_suffix(code: &mut Vec<u8>, suffix: &Suffix<Expression>) -> Result<(), AllocError>
-    ensures { OnOk result (code.new.items ≡ spec.with_suffix suffix.now code.old.items) }
-{
-    match suffix {
-        Suffix::Property(name) => {
-            add_byte(code, 1)?;
-            add_text(code, name.text.as_str())
-        }
-        Suffix::Index(index) => {
-            add_byte(code, 2)?;
-            add_expression(code, index)
-        }
-    }
 }

@@ -1,9 +1,8 @@
 //! Items found by their expressions.
-ghost use Rattle.std.specs.Prelude.{◌≡◌, ◌++◌, ◌∷◌, [], ℕ, Vec, IfOk, OnOk, map, if◌then◌else◌, bytes_eq};
-ghost use Rattle.std.specs.declared.alloc.Global.{Global};
+ghost use Rattle.std.specs.Prelude.{◌≡◌, [], IfOk, map};
 ghost use Rattle.std.specs.List.{list_any};
 ghost use Rattle.pg_item_index.specs.Codes.{with_expression};
-ghost use Rattle.pg_item_index.specs.Index.{group, IsIndex};
+ghost use Rattle.pg_item_index.specs.Index.{IsIndex};
 ghost use Rattle.pg_meaning.specs.Trees.{same_expression};
 ghost use Rattle.pg_syntax_tree.specs.View.{expression_view, item_view};
 
@@ -24,24 +23,6 @@ fn code_of(alloc: Global, expression: &Expression) -> Result<Vec<u8>, AllocError
     Ok(code)
 }
 
-/// Puts an expression behind those that have its bytes.
-fn add<'a>(
-    alloc: Global,
-    index: &mut ItemIndex<'a>,
-    code: Vec<u8>,
-    expression: &'a Expression,
-) -> Result<(), AllocError>
-    ensures { OnOk result ((k : Vec ℕ Global) → group index.new k.items ≡ (if bytes_eq code.items k.items then group index.old k.items ++ expression_view expression.now ∷ [] else group index.old k.items)) }
-{
-    let mut found = match index.remove(&code) {
-        Some(found) => found,
-        None => Vec::new(alloc),
-    };
-    found.push(expression)?;
-    index.insert(code, found)?;
-    Ok(())
-}
-
 /// The expressions of the items, each under its bytes.
 pub fn index_of<'a>(alloc: Global, items: &'a Vec<Item>) -> Result<ItemIndex<'a>, AllocError>
     ensures { IfOk result (λ index. IsIndex index (map item_view items.now.items)) }
@@ -49,7 +30,12 @@ pub fn index_of<'a>(alloc: Global, items: &'a Vec<Item>) -> Result<ItemIndex<'a>
     let mut index = BTreeMap::new(alloc);
     for item in items {
         let code = code_of(alloc, &item.value)?;
-        add(alloc, &mut index, code, &item.value)?;
+        let mut found = match index.remove(&code) {
+            Some(found) => found,
+            None => Vec::new(alloc),
+        };
+        found.push(&item.value)?;
+        index.insert(code, found)?;
     }
     Ok(index)
 }

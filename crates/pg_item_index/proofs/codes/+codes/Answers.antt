@@ -1,6 +1,6 @@
-use Rattle.std.proofs.Common.{◌≡◌, ◌<◌, ◌≤◌, ℕ, length, get_or, List, [], ◌∷◌, ◌++◌, map, refl, subst, ap, ◌∙◌}
+use Rattle.std.proofs.Common.{◌≡◌, ◌<◌, ℕ, length, get_or, List, [], ◌∷◌, ◌++◌, map, Vec, Global, refl, sym, subst, ap, ◌∙◌}
 use Rattle.std.specs.Prelude.{OnOk}
-use Rattle.pg_item_index.specs.Codes.{byte_of_form, with_byte, with_text, with_literal, with_expression, with_expressions, with_pairs, with_perhaps, with_whens, with_operands, with_tests, with_suffixes, with_names}
+use Rattle.pg_item_index.specs.Codes.{byte_of_form, with_byte, with_text, with_flag, with_literal, with_test, with_suffix, with_expression, with_expressions, with_pairs, with_perhaps, with_whens, with_operands, with_tests, with_suffixes, with_names}
 use Rattle.pg_meaning.specs.Parse.{expressions_of, operands_of, pairs_of, whens_of}
 use Rattle.pg_syntax_tree.specs.View.{expression_view, literal_view, name_view, names_view, operand_view, pair_view, suffixes_of, tests_of, when_view, suffix_view, test_view, perhaps_view}
 use Rattle.pg_syntax_tree.specs.declared.expression.Expression.{Expression}
@@ -127,19 +127,35 @@ add_operands-loop-operand-preserved t c =
     let x = c.operand-item.result in
     lemma.written_here lemma.operands xs l.operand-index x inside (c.operand-item.is ∙ ap (λ ys. get_or ys l.operand-index x) items) (c.in_ok-add_expression.ensures ∙ ap (with_expression (expression_view x.1)) (c.in_ok-add_byte.ensures ∙ ap (λ b. with_byte b l.code.items) c.byte_of_operator.ensures)) l.invariant
 
-pub add_tests-loop-i-preserved : goal.add_tests-loop-i-preserved
-add_tests-loop-i-preserved t c =
-    let l = c.loop-i in
+pub add_tests-loop-test-preserved : goal.add_tests-loop-test-preserved
+add_tests-loop-test-preserved t c =
+    let l = c.loop-test in
     let xs = c.args.tests.now.items in
-    let inside : l.i < length xs = subst (λ n. l.i < n) (c.len-i-end.ensures ∙ c.args.tests.now.ok.0) c.loop-i-test.true in
-    lemma.written_here lemma.tests xs l.i c.index.result.now inside c.index.ensures c.in_ok-add_test.ensures l.invariant
+    let items = c.deref-test-items.ensures.value in
+    let inside : l.test-index < length xs = subst (λ ys. l.test-index < length ys) items c.loop-test-test.true in
+    let x = c.test-item.result in
+    let written : c.match-test.code.items ≡ with_test x l.code.items = elim c.match-test.branch [
+      | goal.add_tests-in-Text+in_ok-add_byte-in-Text+in_ok-add_expression-in-Text w ↦ ap (λ (v : Vec ℕ Global). v.items) w.code-is ∙ w.in_ok-add_expression-in-Text.ensures
+          ∙ ap (with_expression (expression_view w.in-Text.operand)) (w.in_ok-add_byte-in-Text.ensures ∙ ap (λ b. with_byte b l.code.items) w.byte_of_test.ensures) ∙ ap (λ y. with_test y l.code.items) (sym w.in-Text.is)
+      | goal.add_tests-in-IsNull+in_ok-add_byte-in-IsNull+in_ok-add_flag-in-IsNull w ↦ ap (λ (v : Vec ℕ Global). v.items) w.code-is ∙ w.in_ok-add_flag-in-IsNull.ensures
+          ∙ ap (with_flag w.in-IsNull.negated) w.in_ok-add_byte-in-IsNull.ensures ∙ ap (λ y. with_test y l.code.items) (sym w.in-IsNull.is)
+    ] in
+    lemma.written_here lemma.tests xs l.test-index x inside (c.test-item.is ∙ ap (λ ys. get_or ys l.test-index x) items) written l.invariant
 
-pub add_suffixes-loop-i-preserved : goal.add_suffixes-loop-i-preserved
-add_suffixes-loop-i-preserved t c =
-    let l = c.loop-i in
+pub add_suffixes-loop-suffix-preserved : goal.add_suffixes-loop-suffix-preserved
+add_suffixes-loop-suffix-preserved t c =
+    let l = c.loop-suffix in
     let xs = c.args.suffixes.now.items in
-    let inside : l.i < length xs = subst (λ n. l.i < n) (c.len-i-end.ensures ∙ c.args.suffixes.now.ok.0) c.loop-i-test.true in
-    lemma.written_here lemma.suffixes xs l.i c.index.result.now inside c.index.ensures c.in_ok-add_suffix.ensures l.invariant
+    let items = c.deref-suffix-items.ensures.value in
+    let inside : l.suffix-index < length xs = subst (λ ys. l.suffix-index < length ys) items c.loop-suffix-test.true in
+    let x = c.suffix-item.result in
+    let written : c.match-suffix.code.items ≡ with_suffix x l.code.items = elim c.match-suffix.branch [
+      | goal.add_suffixes-in-Property+in_ok-add_byte-in-Property+in_ok-add_text-in-Property w ↦ ap (λ (v : Vec ℕ Global). v.items) w.code-is ∙ w.in_ok-add_text-in-Property.ensures
+          ∙ ap (λ (s : List ℕ). with_text s w.add_byte.new.code.items) w.as_str.ensures.value ∙ ap (with_text (name_view w.in-Property.name).text) w.in_ok-add_byte-in-Property.ensures ∙ ap (λ y. with_suffix y l.code.items) (sym w.in-Property.is)
+      | goal.add_suffixes-in-Index+in_ok-add_byte-in-Index+in_ok-add_expression-in-Index w ↦ ap (λ (v : Vec ℕ Global). v.items) w.code-is ∙ w.in_ok-add_expression-in-Index.ensures
+          ∙ ap (with_expression (expression_view w.in-Index.index)) w.in_ok-add_byte-in-Index.ensures ∙ ap (λ y. with_suffix y l.code.items) (sym w.in-Index.is)
+    ] in
+    lemma.written_here lemma.suffixes xs l.suffix-index x inside (c.suffix-item.is ∙ ap (λ ys. get_or ys l.suffix-index x) items) written l.invariant
 
 pub add_all-returns : goal.add_all-returns
 add_all-returns t c =
@@ -171,16 +187,14 @@ add_operands-returns t c =
 
 pub add_tests-returns : goal.add_tests-returns
 add_tests-returns t c =
-    let l = c.loop-i in
-    let last = c.add_byte in
-    let xs = c.args.tests.now.items in
-    let past = subst (λ n. n ≤ l.i) (c.len-i-end.ensures ∙ c.args.tests.now.ok.0) c.loop-i-test.false in
-    subst (λ (code : List ℕ). OnOk last.result (last.new.code.items ≡ code)) (lemma.written_all lemma.tests xs xs l.i refl past l.invariant) last.ensures
+    let l = c.loop-test in
+    let last = c.add_byte-2 in
+    subst (λ (code : List ℕ). OnOk last.result (last.new.code.items ≡ code))
+    (lemma.written_all lemma.tests c.deref-test-items.result.now c.args.tests.now.items l.test-index c.deref-test-items.ensures.value c.loop-test-test.false l.invariant) last.ensures
 
 pub add_suffixes-returns : goal.add_suffixes-returns
 add_suffixes-returns t c =
-    let l = c.loop-i in
-    let last = c.add_byte in
-    let xs = c.args.suffixes.now.items in
-    let past = subst (λ n. n ≤ l.i) (c.len-i-end.ensures ∙ c.args.suffixes.now.ok.0) c.loop-i-test.false in
-    subst (λ (code : List ℕ). OnOk last.result (last.new.code.items ≡ code)) (lemma.written_all lemma.suffixes xs xs l.i refl past l.invariant) last.ensures
+    let l = c.loop-suffix in
+    let last = c.add_byte-2 in
+    subst (λ (code : List ℕ). OnOk last.result (last.new.code.items ≡ code))
+    (lemma.written_all lemma.suffixes c.deref-suffix-items.result.now c.args.suffixes.now.items l.suffix-index c.deref-suffix-items.ensures.value c.loop-suffix-test.false l.invariant) last.ensures

@@ -16,8 +16,8 @@ invariant-add_whens-loop-when l = with_whens (whens_of (map when_view (drop l.wh
 abbrev pub invariant-add_operands-loop-operand : goal.invariant-add_operands-loop-operand
 invariant-add_operands-loop-operand l = with_operands (operands_of (map operand_view (drop l.operand-index l.operands.items))) l.code.items ≡ with_operands (operands_of (map operand_view l.operands.items)) l.fn.code.items
 
-abbrev pub invariant-add_tests-loop-i : goal.invariant-add_tests-loop-i
-invariant-add_tests-loop-i l = with_tests (tests_of (map test_view (drop l.i l.tests.items))) l.code.items ≡ with_tests (tests_of (map test_view l.tests.items)) l.fn.code.items
+abbrev pub invariant-add_tests-loop-test : goal.invariant-add_tests-loop-test
+invariant-add_tests-loop-test l = with_tests (tests_of (map test_view (drop l.test-index l.tests.items))) l.code.items ≡ with_tests (tests_of (map test_view l.tests.items)) l.fn.code.items
 
-abbrev pub invariant-add_suffixes-loop-i : goal.invariant-add_suffixes-loop-i
-invariant-add_suffixes-loop-i l = with_suffixes (suffixes_of (map suffix_view (drop l.i l.suffixes.items))) l.code.items ≡ with_suffixes (suffixes_of (map suffix_view l.suffixes.items)) l.fn.code.items
+abbrev pub invariant-add_suffixes-loop-suffix : goal.invariant-add_suffixes-loop-suffix
+invariant-add_suffixes-loop-suffix l = with_suffixes (suffixes_of (map suffix_view (drop l.suffix-index l.suffixes.items))) l.code.items ≡ with_suffixes (suffixes_of (map suffix_view l.suffixes.items)) l.fn.code.items

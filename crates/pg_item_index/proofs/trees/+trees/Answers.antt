@@ -1,4 +1,4 @@
-use Rattle.std.proofs.Common.{arith, ◌<◌, ◌≤◌, ◌≡◌, length, refl, sym, subst, ◌∙◌}
+use Rattle.std.proofs.Common.{◌<◌, ◌≤◌, ◌≡◌, length, refl, sym, subst, ◌∙◌}
 use Rattle.pg_syntax_tree.proofs.Views.{map_is, case_is, chain_is, tests_is, suffixes_is}
 use Rattle.pg_item_index.proofs.OtherForms as other
 use Rattle.pg_item_index.proofs.TreeLemmas as lemma

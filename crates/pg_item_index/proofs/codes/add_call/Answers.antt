@@ -2,8 +2,8 @@ use Rattle.std.proofs.Common.{◌≡◌, ◌+◌, ◌++◌, ◌∷◌, [], ℕ, 
 use Rattle.std.proofs.lemmas.List.{at_drop_more, at_drop_all}
 use Rattle.std.specs.Prelude.{OnOk}
 use Rattle.std.specs.Str.{str_to_ascii_lowercase}
-use Rattle.pg_item_index.specs.Codes.{with_byte, with_bytes}
-use Rattle.pg_item_index.proofs.codes.add_lowercase.Goals as goal
+use Rattle.pg_item_index.specs.Codes.{with_byte, with_bytes, with_flag}
+use Rattle.pg_item_index.proofs.codes.add_call.Goals as goal
 
 pub loop-byte-preserved : goal.loop-byte-preserved
 loop-byte-preserved c =
@@ -19,7 +19,8 @@ loop-byte-preserved c =
 pub returns : goal.returns
 returns c =
     let l = c.loop-byte in
-    let last = c.add_byte in
+    let last = c.add_flag-2 in
     let done = sym (at_drop_all (λ ys. with_bytes (str_to_ascii_lowercase ys) l.code.items) c.as_bytes-byte-items.result.now l.byte-index c.loop-byte-test.false)
     ∙ ap (λ ys. with_bytes (str_to_ascii_lowercase (drop l.byte-index ys)) l.code.items) c.as_bytes-byte-items.ensures.value ∙ l.invariant in
-    subst (λ (code : List ℕ). OnOk last.result (last.new.code.items ≡ with_byte 255 code)) done last.ensures
+    let starred = c.in_ok-add_flag.ensures ∙ ap (with_flag c.args.star) (c.in_ok-add_byte.ensures ∙ ap (with_byte 255) done) in
+    subst (λ (code : List ℕ). OnOk last.result (last.new.code.items ≡ with_flag c.args.distinct code)) starred last.ensures

@@ -1,3 +1,4 @@
+pub mod CallLemmas
 pub mod FirstLemmas
 pub mod NameLemmas
 pub mod PartLemmas

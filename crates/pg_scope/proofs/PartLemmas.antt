@@ -1,15 +1,17 @@
 -- The walk over the parts of the paths of a clause.
-use Rattle.std.proofs.Common.{◌≡◌, ℕ, ◌+◌, ◌<◌, ◌≤◌, length, get_or, drop, Bool, not, List, [], ◌∷◌, ◌++◌, Option, Some, None, Result, Ok, Err, IfOk, refl, sym, ap, subst, ◌∙◌, append_assoc, append-nil}
+use Rattle.std.proofs.Common.{◌≡◌, ℕ, ◌+◌, ◌<◌, ◌≤◌, length, get_or, drop, Bool, not, List, [], ◌∷◌, ◌++◌, Option, Some, None, option_map, Result, Ok, Err, IfOk, refl, sym, ap, subst, ◌∙◌, append_assoc, append-nil}
 use Rattle.std.specs.Prelude.{◌||◌, ◌&&◌, bytes_eq}
 use Rattle.std.specs.declared.alloc.AllocError.{AllocError}
 use Rattle.pg_meaning.specs.Names.{Names, is_among}
-use Rattle.pg_meaning.specs.StaticFaults.{Found, Mode, Part, path_part, node_part, relationship_part, Used, used_with, with_variable, relationship_variable, is_used, is_matching, is_described, new_faults, node_variable_faults, properties_faults, relationship_faults, found_if, least, part_faults, parts_faults}
+use Rattle.pg_meaning.specs.StaticFaults.{Found, Mode, Part, path_part, path_variable_part, node_part, relationship_part, Used, used_with, with_variable, relationship_variable, is_used, is_matching, is_described, new_faults, node_variable_faults, properties_faults, relationship_faults, found_if, least, part_faults, parts_faults}
 use Rattle.pg_meaning.specs.Tree.{Name, NodePattern, RelationshipPattern}
 use Rattle.pg_meaning.specs.declared.fault.Fault.TheVariants.{VariableAlreadyBound}
 use Rattle.pg_scope.proofs.FirstLemmas.{item_here, items_end, least_joined, least_of_none}
 use Rattle.pg_scope.specs.First.{IsFirst}
 use Rattle.pg_scope.specs.Names.{HasSame}
 use Rattle.pg_scope.specs.Used.{Passes, nothing_used}
+use Rattle.pg_syntax_tree.specs.View.{name_view}
+use Rattle.pg_syntax_tree.specs.declared.expression.Name.{Name as ProgramName}
 
 record SameUsed (u v : Used) : Type 0 where
   nodes : HasSame u.nodes v.nodes
@@ -77,6 +79,10 @@ same ns = record { is = λ name. refl }
 pub passes_variable : (mode : Mode) {outer : Names} {u : Used} {n : Name} {others : Names} {first next : Option Found} → IsFirst first (new_faults outer u (Some n)) next
     → HasSame others (n.text ∷ u.others) → Passes mode outer (path_part n ∷ []) u first (record u { others = others }) next
 passes_variable mode {outer} {u} {n} {others} {first} {next} e s = passes_part mode outer u (record u { others = others }) first next (path_part n) e (record { nodes = same u.nodes; others = s })
+
+pub no_variable : (mode : Mode) (outer : Names) {u : Used} {first : Option Found} (v : Option ProgramName) → ((n : ProgramName) → v ≡ Some n → ⊥) → Passes mode outer (path_variable_part (option_map name_view v)) u first u first
+no_variable mode outer None other = record { is = λ rest. refl }
+no_variable mode outer (Some n) other = absurd (other n refl)
 
 pub passes_node : {mode : Mode} {outer : Names} {u : Used} {is_whole : Bool} {x : NodePattern} {nodes : Names} {first next : Option Found}
     → IsFirst first (part_faults mode outer u (node_part is_whole x)) next → HasSame nodes (with_variable x.variable u.nodes) → Passes mode outer (node_part is_whole x ∷ []) u first (record u { nodes = nodes }) next

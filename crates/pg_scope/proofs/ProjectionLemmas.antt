@@ -17,6 +17,7 @@ use Rattle.pg_meaning.specs.Tree.{Expression, Item, SortItem, Projection}
 use Rattle.pg_meaning.specs.Tree as tree
 use Rattle.pg_meaning.specs.Trees.{same_expression}
 use Rattle.pg_meaning.specs.declared.fault.Fault.TheVariants.{UndefinedVariable}
+use Rattle.pg_scope.proofs.FirstLemmas.{no_more}
 use Rattle.pg_scope.proofs.SameLemmas.{expression_same, if_any_same, items_same}
 use Rattle.pg_scope.proofs.ScopeLemmas.{same_self, among_both}
 use Rattle.pg_scope.specs.Columns.{column_of, narrow, sorts, starred, IsTail}
@@ -245,6 +246,13 @@ module _ (naming : Naming) (scope : Names) (p : Projection) where
       ∙ ap (λ fs. whole (item_faults (column_of naming) scope (column_names (star_columns scope p.star)) p.items) fs (faults_if_any ns condition)) (sorts_same p.items ns visible s p.order ∙ sorts_are p.order)
       ∙ ap (λ fs. whole (item_faults (column_of naming) scope (column_names (star_columns scope p.star)) p.items) (flat_map (sort_faults columns visible) p.order) fs) (if_any_same ns visible s condition) in
       subst (λ fs. IsFirst first fs last) moved given
+
+-- a sort that stands for no item, and one that does
+pub sort_seen : (items : List Item) (names : Names) (x : SortItem) {first next : Option Found} → false ≡ list_any (λ (i : Item). same_expression i.value x.key) items → IsFirst first (faults_of names x.key) next → IsFirst first (sorts items names x) next
+sort_seen items names x {first} {next} other h = subst (λ b. IsFirst first (without names x b) next) other h
+
+pub sort_passed : (items : List Item) (names : Names) (x : SortItem) {first : Option Found} → true ≡ list_any (λ (i : Item). same_expression i.value x.key) items → IsFirst first (sorts items names x) first
+sort_passed items names x {first} same = subst (λ b. IsFirst first (without names x b) first) same (no_more first)
 
 -- ---- the same names bring the same faults
 

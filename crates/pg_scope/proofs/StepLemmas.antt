@@ -1,5 +1,5 @@
 -- Past a clause.
-use Rattle.std.proofs.Common.{◌≡◌, ℕ, List, [], ◌∷◌, ◌++◌, Option, Some, None, refl, sym, ap, subst, ◌∙◌}
+use Rattle.std.proofs.Common.{◌≡◌, map, option_map, ℕ, List, [], ◌∷◌, ◌++◌, Option, Some, None, refl, sym, ap, subst, ◌∙◌}
 use Rattle.std.specs.Prelude.{flat_map, bytes_eq, ◌||◌}
 use Rattle.pg_meaning.specs.Names.{Names, is_among, add_name}
 use Rattle.pg_meaning.specs.Patterns.{add_path_names}
@@ -12,12 +12,18 @@ use Rattle.pg_meaning.specs.StaticFaults.{elsewhere, Mode, matching, creating, m
 use Rattle.pg_meaning.specs.Scopes.{scope_after}
 use Rattle.std.proofs.lemmas.Bool.{false≢true}
 use Rattle.std.proofs.lemmas.Slice.Eq.{bytes_eq-Decides}
+use Rattle.pg_scope.proofs.FirstLemmas.{in_turn, least_of_none}
 use Rattle.pg_scope.proofs.ProjectionLemmas.{names_same, projection_same}
-use Rattle.pg_scope.specs.Steps.{Steps}
+use Rattle.pg_scope.specs.Steps.{Steps, faults_before, faults_behind}
 use Rattle.pg_scope.specs.Used.{nothing_used}
 use Rattle.pg_scope.specs.declared.columns.Naming.TheVariants.{Variable, Source}
 use Rattle.pg_scope.proofs.SameLemmas.{expression_same, if_any_same, parts_same}
 use Rattle.pg_scope.proofs.ScopeLemmas.{among_added, paths_same, same_in_turn}
+use Rattle.pg_syntax_tree.specs.View.{clause_view, expression_view, on_view}
+use Rattle.pg_syntax_tree.specs.declared.clauses.Clause.{Clause as ProgramClause}
+use Rattle.pg_syntax_tree.specs.declared.clauses.Clause.TheVariants as clause
+use Rattle.pg_syntax_tree.specs.declared.clauses.Projection.{Projection as ProgramProjection}
+use Rattle.pg_syntax_tree.specs.declared.expression.Expression.{Expression as ProgramExpression}
 use Rattle.pg_scope.specs.First.{IsFirst}
 use Rattle.pg_scope.specs.Names.{HasSame}
 
@@ -39,6 +45,23 @@ pub ons_seen : {ns ms : Names} (os : List (Bool × List SetItem)) {first next : 
     → IsFirst first (flat_map (λ o. flat_map (set_faults ms) o.1) os) next
 ons_seen {ns} {ms} os {first} {next} s h =
     subst (λ fs. IsFirst first fs next) (each_same (λ (o : Bool × List SetItem). flat_map (set_faults ns) o.1) (λ (o : Bool × List SetItem). flat_map (set_faults ms) o.1) (λ o. each_same (set_faults ns) (set_faults ms) (set_same ns ms s) o.1) os) h
+
+nothing_behind : {first next last : Option Found} {fs : List Found} → IsFirst first fs next → IsFirst next [] last → IsFirst first fs last
+nothing_behind {first} {next} {last} {fs} e h = subst (IsFirst first fs) (sym (h.is ∙ least_of_none next)) e
+
+-- a clause that is neither WITH nor RETURN, from its two parts
+pub stepped : {ns ms : Names} {first next last : Option Found} (x : ProgramClause)
+    → ((p : ProgramProjection) (condition : Option ProgramExpression) → x ≡ clause.With p condition → ⊥) → ((p : ProgramProjection) → x ≡ clause.Return p → ⊥)
+    → IsFirst first (faults_before ns (clause_view x)) next → HasSame ms (scope_after ns (clause_view x)) → IsFirst next (faults_behind ms (clause_view x)) last → Steps ns (clause_view x) first last ms
+stepped (clause.Match is_optional ps condition) w r e s h = record { faults = in_turn e (if_any_seen (option_map expression_view condition) s h); names_behind = s }
+stepped (clause.Unwind x n) w r e s h = record { faults = nothing_behind e h; names_behind = s }
+stepped (clause.Create ps) w r e s h = record { faults = nothing_behind e h; names_behind = s }
+stepped (clause.Merge p os) w r e s h = record { faults = in_turn e (ons_seen (map on_view os.items) s h); names_behind = s }
+stepped (clause.Set xs) w r e s h = record { faults = nothing_behind e h; names_behind = s }
+stepped (clause.Remove xs) w r e s h = record { faults = nothing_behind e h; names_behind = s }
+stepped (clause.Delete is_detach xs) w r e s h = record { faults = nothing_behind e h; names_behind = s }
+stepped (clause.With p condition) w r e s h = absurd (w p condition refl)
+stepped (clause.Return p) w r e s h = absurd (r p refl)
 
 pub name_added : {new old : Names} {key : List ℕ} (text : List ℕ) → HasSame new (key ∷ old) → key ≡ text → HasSame new (add_name old text)
 name_added {new} {old} {key} text s is = record { is = λ n. s.is n ∙ ap (λ k. bytes_eq n k || is_among old n) is ∙ sym (among_added old text n) }

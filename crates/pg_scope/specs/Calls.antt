@@ -1,5 +1,7 @@
 -- The data that the program's functions and aggregates stand for.
-use Rattle.std.specs.Prelude.{ℕ, Bool, not, ◌&&◌, List, [], ◌∷◌, ◌++◌, codes}
+use Rattle.std.specs.Prelude.{◌≡◌, ℕ, Bool, not, ◌&&◌, List, ◌++◌, Option, bytes_eq}
+use Rattle.std.specs.Map.{lookup}
+use Rattle.std.specs.Str.{str_to_ascii_lowercase}
 use Rattle.pg_meaning.specs.Aggregates as summary
 use Rattle.pg_meaning.specs.Functions as function
 use Rattle.pg_meaning.specs.StaticFaults.{Role, is_elsewhere, is_aggregate, is_known, Found, found_if}
@@ -37,19 +39,11 @@ summary_view Least = summary.least
 summary_view Greatest = summary.greatest
 summary_view Collecting = summary.collecting
 
--- ---- the functions from one on
-
-abbrev pub from_coalesce : List (List ℕ × function.Function)
-from_coalesce =
-    (codes "coalesce", function.coalesce) ∷ (codes "range", function.range) ∷ (codes "tostring", function.to_string) ∷ (codes "tointeger", function.to_integer)
-    ∷ (codes "abs", function.abs) ∷ (codes "startnode", function.start_node) ∷ (codes "endnode", function.end_node) ∷ []
-
-abbrev pub from_length : List (List ℕ × function.Function)
-from_length =
-    (codes "length", function.length) ∷ (codes "nodes", function.nodes) ∷ (codes "relationships", function.relationships) ∷ (codes "head", function.head)
-    ∷ (codes "last", function.last) ∷ from_coalesce
-
 -- the faults of a call itself, with so many arguments
 abbrev pub own_faults : Role → Name → (star distinct : Bool) → ℕ → List Found
 own_faults role n star distinct count =
     found_if (is_aggregate n && is_elsewhere role) n.place BadAggregate ++ found_if (not (is_known n star distinct count)) n.place UnknownFunction
+
+-- what stands in a table beside a name, in any case of its ASCII letters
+pub record IsNamed {X : Type 0} (name : List ℕ) (known : List (List ℕ × X)) (found : Option X) : Type 0 where
+  pub is : found ≡ lookup (bytes_eq (str_to_ascii_lowercase name)) known

@@ -1,17 +1,15 @@
 //! The names behind a clause.
-ghost use Rattle.std.specs.Prelude.{[], ◌∷◌, map, IfOk};
-ghost use Rattle.pg_meaning.specs.Names.{add_name};
-ghost use Rattle.pg_meaning.specs.Patterns.{add_path_names};
+ghost use Rattle.std.specs.Prelude.{IfOk};
 ghost use Rattle.pg_meaning.specs.Scopes.{column_names, projection_columns, scope_after};
 ghost use Rattle.pg_scope.specs.Columns.{column_of};
 ghost use Rattle.pg_scope.specs.Names.{names_in, HasSame};
-ghost use Rattle.pg_syntax_tree.specs.View.{clause_view, name_view, path_view, projection_view};
+ghost use Rattle.pg_syntax_tree.specs.View.{clause_view, projection_view};
 
 use crate::columns::Naming;
 use crate::items::add_columns;
 use crate::names::{Names, add};
 use crate::scopes::{add_path, add_paths};
-use pg_syntax_tree::{Clause, Name, PathPattern, Projection};
+use pg_syntax_tree::{Clause, Projection};
 use std::alloc::{AllocError, Global};
 use std::collections::BTreeSet;
 
@@ -33,49 +31,27 @@ fn behind_projection<'a>(
     Ok(names)
 }
 
-fn behind_unwind<'a>(mut scope: Names<'a>, name: &'a Name) -> Result<Names<'a>, AllocError>
-    ensures { IfOk result (λ names. HasSame (names_in names) (add_name (names_in scope.entry) (name_view name.now).text)) }
-{
-    add(&mut scope, name.text.as_str())?;
-    Ok(scope)
-}
-
-fn behind_paths<'a>(
-    mut scope: Names<'a>,
-    paths: &'a Vec<PathPattern>,
-) -> Result<Names<'a>, AllocError>
-    ensures { IfOk result (λ names. HasSame (names_in names) (add_path_names (map path_view paths.now.items) (names_in scope.entry))) }
-{
-    add_paths(&mut scope, paths)?;
-    Ok(scope)
-}
-
-fn behind_merge<'a>(mut scope: Names<'a>, path: &'a PathPattern) -> Result<Names<'a>, AllocError>
-    ensures { IfOk result (λ names. HasSame (names_in names) (add_path_names (path_view path.now ∷ []) (names_in scope.entry))) }
-{
-    add_path(&mut scope, path)?;
-    Ok(scope)
-}
-
 /// The names in scope behind a clause, from those before it.
 pub fn names_behind<'a>(
     alloc: Global,
-    scope: Names<'a>,
+    mut scope: Names<'a>,
     clause: &'a Clause,
 ) -> Result<Names<'a>, AllocError>
     ensures { IfOk result (λ names. HasSame (names_in names) (scope_after (names_in scope.entry) (clause_view clause.now))) }
 {
     match clause {
-        Clause::Match(_, paths, _) | Clause::Create(paths) => behind_paths(scope, paths),
-        Clause::Unwind(_, name) => behind_unwind(scope, name),
-        Clause::Merge(path, _) => behind_merge(scope, path),
-        Clause::With(projection, _) => behind_projection(
-            alloc,
-            Naming::Variable,
-            scope,
-            projection,
-        ),
-        Clause::Return(projection) => behind_projection(alloc, Naming::Source, scope, projection),
-        Clause::Set(_) | Clause::Remove(_) | Clause::Delete(_, _) => Ok(scope),
+        Clause::Match(_, paths, _) | Clause::Create(paths) => add_paths(&mut scope, paths)?,
+        Clause::Unwind(_, name) => {
+            add(&mut scope, name.text.as_str())?;
+        }
+        Clause::Merge(path, _) => add_path(&mut scope, path)?,
+        Clause::With(projection, _) => {
+            return behind_projection(alloc, Naming::Variable, scope, projection);
+        }
+        Clause::Return(projection) => {
+            return behind_projection(alloc, Naming::Source, scope, projection);
+        }
+        Clause::Set(_) | Clause::Remove(_) | Clause::Delete(_, _) => {}
     }
+    Ok(scope)
 }

@@ -1,11 +1,10 @@
 //! Functions and aggregates by their names, whatever the ASCII case, and what they take.
-ghost use Rattle.std.specs.Prelude.{◌≡◌, is_some, option_map};
-ghost use Rattle.std.specs.Map.{lookup};
-ghost use Rattle.std.specs.Str.{bytes_eq, str_to_ascii_lowercase};
+ghost use Rattle.std.specs.Prelude.{◌≡◌, is_some, map, option_map};
+ghost use Rattle.std.specs.Str.{str_to_ascii_lowercase};
 ghost use Rattle.pg_meaning.specs.Aggregates.{aggregate_named};
 ghost use Rattle.pg_meaning.specs.Functions as meaning;
 ghost use Rattle.pg_meaning.specs.StaticFaults as spec;
-ghost use Rattle.pg_scope.specs.Calls.{function_view, summary_view, from_length, from_coalesce};
+ghost use Rattle.pg_scope.specs.Calls.{IsNamed, function_view, summary_view};
 ghost use Rattle.pg_syntax_tree.specs.View.{name_view};
 
 use pg_syntax_tree::Name;
@@ -42,89 +41,57 @@ pub enum Summary {
     Collecting,
 }
 
-/// Whether a name is a known one, which is written in small letters.
-fn is(name: &str, known: &str) -> bool
-    ensures { result ≡ bytes_eq (str_to_ascii_lowercase name.now) (str_to_ascii_lowercase known.now) }
+const FUNCTIONS: [(&str, Function); 18] = [
+    ("id", Function::Id),
+    ("labels", Function::Labels),
+    ("type", Function::Type),
+    ("keys", Function::Keys),
+    ("properties", Function::Properties),
+    ("size", Function::Size),
+    ("length", Function::Length),
+    ("nodes", Function::Nodes),
+    ("relationships", Function::Relationships),
+    ("head", Function::Head),
+    ("last", Function::Last),
+    ("coalesce", Function::Coalesce),
+    ("range", Function::Range),
+    ("tostring", Function::ToString),
+    ("tointeger", Function::ToInteger),
+    ("abs", Function::Abs),
+    ("startnode", Function::StartNode),
+    ("endnode", Function::EndNode),
+];
+
+const SUMMARIES: [(&str, Summary); 5] = [
+    ("count", Summary::Counting),
+    ("sum", Summary::Summing),
+    ("min", Summary::Least),
+    ("max", Summary::Greatest),
+    ("collect", Summary::Collecting),
+];
+
+/// What stands beside the name, whatever the ASCII case of either.
+fn named<T: Copy>(known: &[(&str, T)], name: &str) -> Option<T>
+    ensures { IsNamed name.now (map (λ p. (str_to_ascii_lowercase p.0.now, p.1)) known.now) result }
 {
-    name.eq_ignore_ascii_case(known)
+    for (text, value) in known {
+        if name.eq_ignore_ascii_case(text) {
+            return Some(*value);
+        }
+    }
+    None
 }
 
 pub fn function_named(name: &str) -> Option<Function>
     ensures { option_map function_view result ≡ meaning.function_named name.now }
 {
-    if is(name, "id") {
-        Some(Function::Id)
-    } else if is(name, "labels") {
-        Some(Function::Labels)
-    } else if is(name, "type") {
-        Some(Function::Type)
-    } else if is(name, "keys") {
-        Some(Function::Keys)
-    } else if is(name, "properties") {
-        Some(Function::Properties)
-    } else if is(name, "size") {
-        Some(Function::Size)
-    } else {
-        from_length(name)
-    }
-}
-
-fn from_length(name: &str) -> Option<Function>
-    ensures { option_map function_view result ≡ lookup (bytes_eq (str_to_ascii_lowercase name.now)) from_length }
-{
-    if is(name, "length") {
-        Some(Function::Length)
-    } else if is(name, "nodes") {
-        Some(Function::Nodes)
-    } else if is(name, "relationships") {
-        Some(Function::Relationships)
-    } else if is(name, "head") {
-        Some(Function::Head)
-    } else if is(name, "last") {
-        Some(Function::Last)
-    } else {
-        from_coalesce(name)
-    }
-}
-
-fn from_coalesce(name: &str) -> Option<Function>
-    ensures { option_map function_view result ≡ lookup (bytes_eq (str_to_ascii_lowercase name.now)) from_coalesce }
-{
-    if is(name, "coalesce") {
-        Some(Function::Coalesce)
-    } else if is(name, "range") {
-        Some(Function::Range)
-    } else if is(name, "tostring") {
-        Some(Function::ToString)
-    } else if is(name, "tointeger") {
-        Some(Function::ToInteger)
-    } else if is(name, "abs") {
-        Some(Function::Abs)
-    } else if is(name, "startnode") {
-        Some(Function::StartNode)
-    } else if is(name, "endnode") {
-        Some(Function::EndNode)
-    } else {
-        None
-    }
+    named(&FUNCTIONS, name)
 }
 
 pub fn summary_named(name: &str) -> Option<Summary>
     ensures { option_map summary_view result ≡ aggregate_named name.now }
 {
-    if is(name, "count") {
-        Some(Summary::Counting)
-    } else if is(name, "sum") {
-        Some(Summary::Summing)
-    } else if is(name, "min") {
-        Some(Summary::Least)
-    } else if is(name, "max") {
-        Some(Summary::Greatest)
-    } else if is(name, "collect") {
-        Some(Summary::Collecting)
-    } else {
-        None
-    }
+    named(&SUMMARIES, name)
 }
 
 /// Whether a function takes so many arguments.

@@ -1,41 +1,22 @@
 //! The static faults of paths.
-ghost use Rattle.std.specs.Prelude.{◌≡◌, [], ◌∷◌, map, flat_map, IfOk, option_map};
+ghost use Rattle.std.specs.Prelude.{◌≡◌, [], ◌∷◌, map, flat_map, IfOk};
 ghost use Rattle.pg_meaning.specs.StaticFaults as spec;
 ghost use Rattle.pg_meaning.specs.Tokens.{is_empty};
 ghost use Rattle.pg_scope.specs.First.{IsFirst};
 ghost use Rattle.pg_scope.specs.Modes.{mode_view};
 ghost use Rattle.pg_scope.specs.Names.{names_in};
 ghost use Rattle.pg_scope.specs.Used.{used_in, Passes};
-ghost use Rattle.pg_syntax_tree.specs.View.{hop_view, name_view, node_view, path_view, relationship_view};
+ghost use Rattle.pg_syntax_tree.specs.View.{hop_view, node_view, path_view};
 
 use crate::found::Found;
 use crate::modes::Mode;
-use crate::names::Names;
+use crate::names::{Names, add};
 use crate::patterns::{fault_in_new, fault_in_node_variable, fault_in_relationship_variable};
 use crate::properties::fault_in_properties;
 use crate::relationships::fault_in_relationship;
 use crate::used::{Used, add_relationship_variable, add_variable};
-use pg_syntax_tree::{Name, NodePattern, PathPattern, RelationshipPattern};
+use pg_syntax_tree::{NodePattern, PathPattern, RelationshipPattern};
 use std::alloc::{AllocError, Global};
-
-/// Past the variable of a path.
-fn pass_variable<'a>(
-    outer: &Names<'a>,
-    used: &mut Used<'a>,
-    variable: &'a Option<Name>,
-    first: Option<Found>,
-) -> Result<Option<Found>, AllocError>
-    ensures { IfOk result (λ found. (mode : spec.Mode) → Passes mode (names_in outer.now) (spec.path_variable_part (option_map name_view variable.now)) (used_in used.old) first (used_in used.new) found) }
-{
-    match variable {
-        Some(name) => {
-            let first = fault_in_new(outer, used, name, first);
-            add_variable(&mut used.others, variable)?;
-            Ok(first)
-        }
-        None => Ok(first),
-    }
-}
 
 /// Past a node.
 fn pass_node<'a>(
@@ -55,23 +36,6 @@ fn pass_node<'a>(
     Ok(first)
 }
 
-/// Past a relationship.
-fn pass_relationship<'a>(
-    alloc: Global,
-    mode: Mode,
-    outer: &Names<'a>,
-    used: &mut Used<'a>,
-    relationship: &'a RelationshipPattern,
-    first: Option<Found>,
-) -> Result<Option<Found>, AllocError>
-    ensures { IfOk result (λ found. Passes (mode_view mode) (names_in outer.now) (spec.relationship_part (relationship_view relationship.now) ∷ []) (used_in used.old) first (used_in used.new) found) }
-{
-    let first = fault_in_relationship_variable(outer, used, relationship, first);
-    let first = fault_in_relationship(alloc, mode, outer, relationship, first)?;
-    add_relationship_variable(&mut used.others, relationship)?;
-    Ok(first)
-}
-
 /// Past the hops of a path.
 fn pass_hops<'a>(
     alloc: Global,
@@ -84,7 +48,9 @@ fn pass_hops<'a>(
     ensures { IfOk result (λ found. Passes (mode_view mode) (names_in outer.now) (flat_map spec.hop_parts (map hop_view hops.now.items)) (used_in used.old) first (used_in used.new) found) }
 {
     for (relationship, node) in hops {
-        first = pass_relationship(alloc, mode, outer, used, relationship, first)?;
+        first = fault_in_relationship_variable(outer, used, relationship, first);
+        first = fault_in_relationship(alloc, mode, outer, relationship, first)?;
+        add_relationship_variable(&mut used.others, relationship)?;
         first = pass_node(alloc, mode, outer, used, false, node, first)?;
     }
     Ok(first)
@@ -104,11 +70,14 @@ fn pass_path<'a>(
     outer: &Names<'a>,
     used: &mut Used<'a>,
     path: &'a PathPattern,
-    first: Option<Found>,
+    mut first: Option<Found>,
 ) -> Result<Option<Found>, AllocError>
     ensures { IfOk result (λ found. Passes (mode_view mode) (names_in outer.now) (spec.path_parts (path_view path.now)) (used_in used.old) first (used_in used.new) found) }
 {
-    let first = pass_variable(outer, used, &path.variable, first)?;
+    if let Some(name) = &path.variable {
+        first = fault_in_new(outer, used, name, first);
+        add(&mut used.others, name.text.as_str())?;
+    }
     let is_whole = is_one_node(path);
     let first = pass_node(alloc, mode, outer, used, is_whole, &path.first, first)?;
     pass_hops(alloc, mode, outer, used, &path.hops, first)

@@ -1,6 +1,5 @@
 //! The static faults of WITH and RETURN.
 ghost use Rattle.std.specs.Prelude.{◌≡◌, map, flat_map, IfOk, option_map};
-ghost use Rattle.pg_item_index.specs.Index.{IsIndex};
 ghost use Rattle.pg_meaning.specs.Scopes.{column_names, projection_columns};
 ghost use Rattle.pg_meaning.specs.StaticFaults as spec;
 ghost use Rattle.pg_scope.specs.Columns.{column_of, narrow, sorts, IsTail};
@@ -14,7 +13,7 @@ use crate::expressions::{Role, fault_in_expression};
 use crate::found::Found;
 use crate::items::{add_columns, fault_in_items};
 use crate::names::Names;
-use pg_item_index::{ItemIndex, index_of, is_item};
+use pg_item_index::{index_of, is_item};
 use pg_syntax_tree::{Expression, Item, Projection, SortItem};
 use std::alloc::{AllocError, Global};
 use std::collections::BTreeSet;
@@ -47,25 +46,7 @@ fn fault_if_seen<'a>(
     }
 }
 
-/// The first fault, with those of a sort that stands for no item.
-fn fault_in_sort<'a>(
-    alloc: Global,
-    visible: &Names<'a>,
-    items: &'a Vec<Item>,
-    index: &ItemIndex<'a>,
-    sort: &'a SortItem,
-    first: Option<Found>,
-) -> Result<Option<Found>, AllocError>
-    requires { IsIndex index.now (map item_view items.now.items) }
-    ensures { IfOk result (λ found. IsFirst first (sorts (map item_view items.now.items) (names_in visible.now) (sort_item_view sort.now)) found) }
-{
-    if is_item(alloc, index, items, &sort.key)? {
-        Ok(first)
-    } else {
-        Ok(fault_in_expression(visible, Role::Elsewhere, &sort.key, first))
-    }
-}
-
+/// The first fault, with those of the sorts that stand for no item.
 fn fault_in_sorts<'a>(
     alloc: Global,
     visible: &Names<'a>,
@@ -75,27 +56,16 @@ fn fault_in_sorts<'a>(
 ) -> Result<Option<Found>, AllocError>
     ensures { IfOk result (λ found. IsFirst first (flat_map (sorts (map item_view items.now.items) (names_in visible.now)) (map sort_item_view order.now.items)) found) }
 {
+    if order.is_empty() {
+        return Ok(first);
+    }
     let index = index_of(alloc, items)?;
     for sort in order {
-        first = fault_in_sort(alloc, visible, items, &index, sort, first)?;
+        if !is_item(alloc, &index, items, &sort.key)? {
+            first = fault_in_expression(visible, Role::Elsewhere, &sort.key, first);
+        }
     }
     Ok(first)
-}
-
-/// The first fault, with those of the sorts, if there are some.
-fn fault_in_order<'a>(
-    alloc: Global,
-    visible: &Names<'a>,
-    items: &'a Vec<Item>,
-    order: &'a Vec<SortItem>,
-    first: Option<Found>,
-) -> Result<Option<Found>, AllocError>
-    ensures { IfOk result (λ found. IsFirst first (flat_map (sorts (map item_view items.now.items) (names_in visible.now)) (map sort_item_view order.now.items)) found) }
-{
-    match order.as_slice() {
-        [] => Ok(first),
-        _ => fault_in_sorts(alloc, visible, items, order, first),
-    }
 }
 
 /// The first fault, with those of what stands behind the items, where some names are visible.
@@ -108,7 +78,7 @@ fn fault_in_tail<'a>(
 ) -> Result<Option<Found>, AllocError>
     ensures { IfOk result (λ found. IsTail (projection_view projection.now) (seen condition.entry) (names_in visible.now) first found) }
 {
-    let first = fault_in_order(alloc, visible, &projection.items, &projection.order, first)?;
+    let first = fault_in_sorts(alloc, visible, &projection.items, &projection.order, first)?;
     let nothing = BTreeSet::new(alloc);
     let first = fault_if_any(&nothing, &projection.skip, first);
     let first = fault_if_any(&nothing, &projection.limit, first);
@@ -137,12 +107,13 @@ pub(crate) fn fault_in_projection<'a>(
     let items = &projection.items;
     let mut columns = BTreeSet::new(alloc);
     let first = fault_in_items(naming, &scope, star, items, &mut columns, first)?;
-    if is_narrow(projection) {
-        let found = fault_in_tail(alloc, &columns, projection, condition, first)?;
-        return Ok((found, columns));
-    }
-    add_columns(naming, &mut scope, items)?;
-    let found = fault_in_tail(alloc, &scope, projection, condition, first)?;
+    let visible = if is_narrow(projection) {
+        &columns
+    } else {
+        add_columns(naming, &mut scope, items)?;
+        &scope
+    };
+    let found = fault_in_tail(alloc, visible, projection, condition, first)?;
     if star {
         Ok((found, scope))
     } else {

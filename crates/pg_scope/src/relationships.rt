@@ -47,25 +47,6 @@ fn is_fixed(detail: &Option<Detail>) -> bool
     }
 }
 
-fn fault_in_detail<'a>(
-    alloc: Global,
-    mode: Mode,
-    outer: &Names<'a>,
-    place: usize,
-    detail: &'a Option<Detail>,
-    first: Option<Found>,
-) -> Result<Option<Found>, AllocError>
-    ensures { IfOk result (λ found. IsFirst first (spec.detail_faults (mode_view mode) (names_in outer.now) place (option_map detail_view detail.now)) found) }
-{
-    match detail {
-        Some(detail) => {
-            let first = noted(is_free(&detail.range), place, Fault::BadPattern, first);
-            fault_in_properties(alloc, mode, outer, place, &detail.properties, first)
-        }
-        None => Ok(first),
-    }
-}
-
 /// Whether a clause that makes relationships can't make this one.
 fn is_unfixed(mode: Mode, detail: &Option<Detail>) -> bool
     ensures { result ≡ not (spec.is_matching (mode_view mode)) && not (spec.is_fixed (option_map detail_view detail.now)) }
@@ -95,5 +76,11 @@ pub(crate) fn fault_in_relationship<'a>(
     let first = noted(unfixed, place, Fault::BadPattern, first);
     let undirected = is_undirected(mode, relationship);
     let first = noted(undirected, place, Fault::BadPattern, first);
-    fault_in_detail(alloc, mode, outer, place, &relationship.detail, first)
+    match &relationship.detail {
+        Some(detail) => {
+            let first = noted(is_free(&detail.range), place, Fault::BadPattern, first);
+            fault_in_properties(alloc, mode, outer, place, &detail.properties, first)
+        }
+        None => Ok(first),
+    }
 }

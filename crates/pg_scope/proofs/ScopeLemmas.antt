@@ -1,5 +1,5 @@
 -- Names that are brought into scope.
-use Rattle.std.proofs.Common.{◌≡◌, ℕ, Bool, true, false, cond, List, [], ◌∷◌, ◌++◌, Option, Some, None, refl, sym, ap, subst, ◌∙◌}
+use Rattle.std.proofs.Common.{◌≡◌, ℕ, Bool, true, false, not, cond, List, [], ◌∷◌, ◌++◌, Option, Some, None, refl, sym, ap, subst, ◌∙◌}
 use Rattle.std.specs.Prelude.{◌||◌, bytes_eq}
 use Rattle.std.proofs.lemmas.Slice.Eq.{bytes_eq-Decides}
 use Rattle.pg_meaning.specs.Names.{Names, is_among, add_name}
@@ -21,6 +21,21 @@ among_both (x ∷ ns) ms n = ap (λ b. bytes_eq n x || b) (among_both ns ms n) �
     or_assoc : (a b c : Bool) → (a || (b || c)) ≡ ((a || b) || c)
     or_assoc true b c = refl
     or_assoc false b c = refl
+
+-- a name stood in one of two lists, by whether it is new in the first
+pub stood_there : (ns ms : Names) (n : List ℕ) {new again : Bool} → new ≡ not (is_among ns n) → new ≡ false → again ≡ true → again ≡ is_among (ns ++ ms) n
+stood_there ns ms n added old is = is ∙ ap (λ b. b || is_among ms n) (sym (there (is_among ns n) (sym added ∙ old))) ∙ sym (among_both ns ms n)
+  where
+    there : (b : Bool) → not b ≡ false → b ≡ true
+    there true e = refl
+    there false e = sym e
+
+pub stood_or : (ns ms : Names) (n : List ℕ) {new again : Bool} → new ≡ not (is_among ns n) → new ≡ true → again ≡ is_among ms n → again ≡ is_among (ns ++ ms) n
+stood_or ns ms n added fresh is = is ∙ ap (λ b. b || is_among ms n) (sym (absent (is_among ns n) (sym added ∙ fresh))) ∙ sym (among_both ns ms n)
+  where
+    absent : (b : Bool) → not b ≡ true → b ≡ false
+    absent true e = sym e
+    absent false e = refl
 
 -- a name is there, or it is put at the end
 pub among_added : (ns : Names) (x n : List ℕ) → is_among (add_name ns x) n ≡ (bytes_eq n x || is_among ns n)

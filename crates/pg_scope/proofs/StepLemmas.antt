@@ -1,7 +1,7 @@
 -- Past a clause.
 use Rattle.std.proofs.Common.{◌≡◌, map, option_map, ℕ, List, [], ◌∷◌, ◌++◌, Option, Some, None, refl, sym, ap, subst, ◌∙◌}
 use Rattle.std.specs.Prelude.{flat_map, bytes_eq, ◌||◌}
-use Rattle.pg_meaning.specs.Names.{Names, is_among, add_name}
+use Rattle.pg_meaning.specs.Names.{Names, is_among}
 use Rattle.pg_meaning.specs.Patterns.{add_path_names}
 use Rattle.pg_meaning.specs.StaticFaults.{Found, faults_if_any, set_faults, faults_of, target_faults, found_if}
 use Rattle.pg_meaning.specs.Tree.{Expression, SetItem, RemoveItem, Name, PathPattern, Clause}
@@ -62,9 +62,6 @@ stepped (clause.Remove xs) w r e s h = record { faults = nothing_behind e h; nam
 stepped (clause.Delete is_detach xs) w r e s h = record { faults = nothing_behind e h; names_behind = s }
 stepped (clause.With p condition) w r e s h = absurd (w p condition refl)
 stepped (clause.Return p) w r e s h = absurd (r p refl)
-
-pub name_added : {new old : Names} {key : List ℕ} (text : List ℕ) → HasSame new (key ∷ old) → key ≡ text → HasSame new (add_name old text)
-name_added {new} {old} {key} text s is = record { is = λ n. s.is n ∙ ap (λ k. bytes_eq n k || is_among old n) is ∙ sym (among_added old text n) }
 
 -- ---- the same names bring the same faults, and stay so
 

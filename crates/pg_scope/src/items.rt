@@ -23,21 +23,6 @@ fn is_starred<'a>(scope: &Names<'a>, star: bool, name: &'a str) -> bool
     star && is_among(scope, name)
 }
 
-/// Puts a name among the columns; whether it stood there, or `*` stands for it.
-#[tactic(auto, using(crate::proofs::ScopeLemmas::among_both))]
-fn stood<'a>(
-    scope: &Names<'a>,
-    star: bool,
-    columns: &mut Names<'a>,
-    name: &'a str,
-) -> Result<bool, AllocError>
-    ensures stood { IfOk result (λ again. again ≡ is_among (names_in columns.old ++ starred star (names_in scope.now)) name.now) }
-    ensures names { OnOk result (HasSame (names_in columns.new) (name.now ∷ names_in columns.old)) }
-{
-    let new = add(columns, name)?;
-    Ok(!new || is_starred(scope, star, name))
-}
-
 /// The first fault, with those of the items, whose names become the columns.
 pub(crate) fn fault_in_items<'a>(
     naming: Naming,
@@ -52,7 +37,9 @@ pub(crate) fn fault_in_items<'a>(
     ensures names { OnOk result (HasSame (names_in columns.new) (column_names (map (column_of naming) (map item_view items.now.items)))) }
 {
     for item in items {
-        let again = stood(scope, star, columns, column_name(naming, item))?;
+        let name = column_name(naming, item);
+        let new = add(columns, name)?;
+        let again = !new || is_starred(scope, star, name);
         first = noted(again, item.start, Fault::DuplicateColumn, first);
         first = fault_in_expression(scope, Role::WholeItem, &item.value, first);
     }

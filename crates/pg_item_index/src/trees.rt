@@ -17,7 +17,6 @@ fn same_name(a: &Name, b: &Name) -> bool
     a.text == b.text
 }
 
-#[tactic(auto, using(crate::proofs::TreeLemmas::other_names))]
 fn same_names(a: &Vec<Name>, b: &Vec<Name>) -> bool
     ensures { result ≡ spec.same_names (names_view a.now.items) (names_view b.now.items) }
 {

@@ -1,10 +1,11 @@
 use Rattle.std.proofs.Common.{◌≡◌, ◌<◌, ℕ, length, get_or, List, [], ◌∷◌, ◌++◌, map, Vec, Global, refl, sym, subst, ap, ◌∙◌}
 use Rattle.std.specs.Prelude.{OnOk}
-use Rattle.pg_item_index.specs.Codes.{byte_of_form, with_byte, with_text, with_flag, with_literal, with_test, with_suffix, with_expression, with_expressions, with_pairs, with_perhaps, with_whens, with_operands, with_tests, with_suffixes, with_names}
+use Rattle.std.specs.Str.{str_to_ascii_lowercase}
+use Rattle.pg_item_index.specs.Codes.{byte_of_form, with_byte, with_text, with_number, with_flag, with_flags, with_literal, with_test, with_suffix, with_expression, with_expressions, with_pairs, with_perhaps, with_whens, with_operands, with_tests, with_suffixes, with_names}
 use Rattle.pg_meaning.specs.Parse.{expressions_of, operands_of, pairs_of, whens_of}
 use Rattle.pg_syntax_tree.specs.View.{expression_view, literal_view, name_view, names_view, operand_view, pair_view, suffixes_of, tests_of, when_view, suffix_view, test_view, perhaps_view}
 use Rattle.pg_syntax_tree.specs.declared.expression.Expression.{Expression}
-use Rattle.pg_syntax_tree.proofs.Views.{map_is, case_is, chain_is, tests_is, suffixes_is}
+use Rattle.pg_syntax_tree.proofs.Views.{map_is, call_is, case_is, chain_is, negation_is, signs_is, tests_is, suffixes_is}
 use Rattle.pg_item_index.proofs.CodeSteps as lemma
 use Rattle.pg_item_index.proofs.codes.+codes.Goals as goal
 
@@ -91,6 +92,32 @@ add_expression-returns-in_ok-add_expression-in-Tests t c =
     let begun = c.in_ok-add_byte.ensures ∙ ap (λ (b : ℕ). with_byte b c.args.code.now.items) (c.byte_of_form.ensures ∙ ap (λ (e : Expression). byte_of_form (expression_view e)) x.is ∙ ap byte_of_form (tests_is x.first x.tests)) in
     let before = c.in_ok-add_expression-in-Tests.ensures ∙ ap (with_expression (expression_view c.deref-in-Tests.result.now)) begun ∙ ap (λ (y : Expression). with_expression (expression_view y) (c.args.code.now.items ++ 12 ∷ [])) c.deref-in-Tests.ensures in
     rw (x.is, tests_is x.first x.tests) (subst (λ (l : List ℕ). OnOk last.result (last.new.code.items ≡ with_tests (tests_of (map test_view x.tests.items)) l)) before last.ensures)
+
+pub add_expression-returns-in_ok-add_call-in-Call : goal.add_expression-returns-in_ok-add_call-in-Call
+add_expression-returns-in_ok-add_call-in-Call t c =
+    let x = c.in-Call in
+    let last = c.add_all-in-Call in
+    let begun = c.in_ok-add_byte.ensures ∙ ap (λ (b : ℕ). with_byte b c.args.code.now.items) (c.byte_of_form.ensures ∙ ap (λ (e : Expression). byte_of_form (expression_view e)) x.is ∙ ap byte_of_form (call_is x.name x.star x.distinct x.arguments)) in
+    let before = c.in_ok-add_call-in-Call.ensures ∙ ap (λ (l : List ℕ). with_flag x.distinct (with_flag x.star (with_text (str_to_ascii_lowercase (name_view x.name).text) l))) begun in
+    rw (x.is, call_is x.name x.star x.distinct x.arguments) (subst (λ (l : List ℕ). OnOk last.result (last.new.code.items ≡ with_expressions (expressions_of (map expression_view x.arguments.items)) l)) before last.ensures)
+
+pub add_expression-returns-in_ok-add_number-in-Negation : goal.add_expression-returns-in_ok-add_number-in-Negation
+add_expression-returns-in_ok-add_number-in-Negation t c =
+    let x = c.in-Negation in
+    let last = c.add_expression-in-Negation in
+    let begun = c.in_ok-add_byte.ensures ∙ ap (λ (b : ℕ). with_byte b c.args.code.now.items) (c.byte_of_form.ensures ∙ ap (λ (e : Expression). byte_of_form (expression_view e)) x.is ∙ ap byte_of_form (negation_is x.count x.operand)) in
+    let before = c.in_ok-add_number-in-Negation.ensures ∙ ap (with_number x.count) begun in
+    let whole = subst (λ (l : List ℕ). OnOk last.result (last.new.code.items ≡ with_expression (expression_view c.deref-in-Negation.result.now) l)) before last.ensures in
+    rw (x.is, negation_is x.count x.operand) (subst (λ (y : Expression). OnOk last.result (last.new.code.items ≡ with_expression (expression_view y) (with_number x.count (c.args.code.now.items ++ 10 ∷ [])))) c.deref-in-Negation.ensures whole)
+
+pub add_expression-returns-in_ok-add_flags-in-Signs : goal.add_expression-returns-in_ok-add_flags-in-Signs
+add_expression-returns-in_ok-add_flags-in-Signs t c =
+    let x = c.in-Signs in
+    let last = c.add_expression-in-Signs in
+    let begun = c.in_ok-add_byte.ensures ∙ ap (λ (b : ℕ). with_byte b c.args.code.now.items) (c.byte_of_form.ensures ∙ ap (λ (e : Expression). byte_of_form (expression_view e)) x.is ∙ ap byte_of_form (signs_is x.signs x.operand)) in
+    let before = c.in_ok-add_flags-in-Signs.ensures ∙ ap (with_flags x.signs.items) begun in
+    let whole = subst (λ (l : List ℕ). OnOk last.result (last.new.code.items ≡ with_expression (expression_view c.deref-in-Signs.result.now) l)) before last.ensures in
+    rw (x.is, signs_is x.signs x.operand) (subst (λ (y : Expression). OnOk last.result (last.new.code.items ≡ with_expression (expression_view y) (with_flags x.signs.items (c.args.code.now.items ++ 11 ∷ [])))) c.deref-in-Signs.ensures whole)
 
 pub add_pairs-loop-pair-preserved : goal.add_pairs-loop-pair-preserved
 add_pairs-loop-pair-preserved t c =

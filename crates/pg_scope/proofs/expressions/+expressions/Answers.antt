@@ -158,6 +158,9 @@ fault_in_expression-returns-in-ListLiteral t c = rw c.in-ListLiteral.is (rw (lis
 pub fault_in_perhaps-returns-in-Some : goal.fault_in_perhaps-returns-in-Some
 fault_in_perhaps-returns-in-Some t c = rw c.in-Some.is (rw c.deref.ensures at c.fault_in_expression.ensures)
 
+pub fault_in_perhaps-returns-in-None : goal.fault_in_perhaps-returns-in-None
+fault_in_perhaps-returns-in-None t c = rw c.in-None.is (no_more _)
+
 pub fault_in_expression-returns-in-Parentheses : goal.fault_in_expression-returns-in-Parentheses
 fault_in_expression-returns-in-Parentheses t c =
     let inner = c.in-Parentheses.inner in

@@ -5,7 +5,6 @@ use Rattle.std.specs.Prelude.{◌≢◌, ◌&&◌}
 use Rattle.std.specs.Bool.{beq}
 use Rattle.pg_meaning.specs.Parse.{expressions_of, operands_of, pairs_of, whens_of}
 use Rattle.pg_meaning.specs.Trees.{same_name, same_names, same_flags, same_operator, same_expression, same_expressions, same_pairs, same_whens, same_operands, same_tests, same_suffixes}
-use Rattle.pg_meaning.specs.Tree as tree
 use Rattle.pg_meaning.specs.declared.operators.Operator.{Operator}
 use Rattle.pg_item_index.specs.Trees.{is_same_test, is_same_suffix}
 use Rattle.pg_syntax_tree.specs.View.{expression_view, name_view, names_view, pair_view, suffixes_of, tests_of, when_view, operand_view, test_view, suffix_view}
@@ -30,10 +29,6 @@ and_else b e h = h ∙ e ∙ ap (λ x. x && b) (sym e)
 -- what was found of two expressions, by where they stand
 pub same_there : {v : Bool} {a b x y : Expression} → v ≡ same_expression (expression_view x) (expression_view y) → x ≡ a → y ≡ b → v ≡ same_expression (expression_view a) (expression_view b)
 same_there {v} {a} {b} {x} {y} h e f = h ∙ ap (λ z. same_expression (expression_view z) (expression_view y)) e ∙ ap (λ z. same_expression (expression_view a) (expression_view z)) f
-
--- what was found of two expressions, by what they are
-pub seen_same : (a b : Expression) {v : Bool} (d e : tree.Expression) → expression_view a ≡ d → expression_view b ≡ e → v ≡ same_expression d e → v ≡ same_expression (expression_view a) (expression_view b)
-seen_same a b d e x y h = h ∙ sym (ap (λ z. same_expression z e) x) ∙ sym (ap (same_expression (expression_view a)) y)
 
 -- how two lists are compared: item by item
 pub record Compared (X : Type 0) : Type 0 where

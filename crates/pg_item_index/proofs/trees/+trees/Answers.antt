@@ -1,49 +1,8 @@
-use Rattle.std.proofs.Common.{◌<◌, ◌≤◌, ◌≡◌, length, refl, sym, ap, subst, ◌∙◌}
-use Rattle.pg_syntax_tree.proofs.Views.{map_is, call_is, signs_is, case_is, chain_is, tests_is, suffixes_is}
-use Rattle.pg_syntax_tree.specs.View.{expression_view}
-use Rattle.pg_item_index.proofs.CodeSteps as steps
+use Rattle.std.proofs.Common.{◌<◌, ◌≤◌, ◌≡◌, length, refl, sym, subst, ◌∙◌}
+use Rattle.pg_syntax_tree.proofs.Views.{map_is, case_is, chain_is, tests_is, suffixes_is}
 use Rattle.pg_item_index.proofs.OtherForms as other
 use Rattle.pg_item_index.proofs.TreeLemmas as lemma
 use Rattle.pg_item_index.proofs.trees.+trees.Goals as goal
-
-pub same_expression-returns-in-Literal-b : goal.same_expression-returns-in-Literal-b
-same_expression-returns-in-Literal-b t c = let x = c.in-Literal in let y = c.in-Literal-b in lemma.seen_same c.args.a.now c.args.b.now _ _ (steps.literal_seen x.a x.is) (steps.literal_seen y.b y.is) c.same_literal.ensures
-
-pub same_expression-returns-in-Parameter-b : goal.same_expression-returns-in-Parameter-b
-same_expression-returns-in-Parameter-b t c = let x = c.in-Parameter in let y = c.in-Parameter-b in lemma.seen_same c.args.a.now c.args.b.now _ _ (steps.parameter_seen x.a x.is) (steps.parameter_seen y.b y.is) c.same_name.ensures
-
-pub same_expression-returns-in-Variable-b : goal.same_expression-returns-in-Variable-b
-same_expression-returns-in-Variable-b t c = let x = c.in-Variable in let y = c.in-Variable-b in lemma.seen_same c.args.a.now c.args.b.now _ _ (steps.variable_seen x.a x.is) (steps.variable_seen y.b y.is) c.same_name-in-Variable-b.ensures
-
-pub same_expression-returns-in-ListLiteral-b : goal.same_expression-returns-in-ListLiteral-b
-same_expression-returns-in-ListLiteral-b t c = let x = c.in-ListLiteral in let y = c.in-ListLiteral-b in lemma.seen_same c.args.a.now c.args.b.now _ _ (steps.list_literal_seen x.a x.is) (steps.list_literal_seen y.b y.is) c.same_all.ensures
-
-pub same_expression-returns-in-Parentheses-b : goal.same_expression-returns-in-Parentheses-b
-same_expression-returns-in-Parentheses-b t c = let x = c.in-Parentheses in let y = c.in-Parentheses-b in lemma.seen_same c.args.a.now c.args.b.now _ _ (steps.parentheses_seen x.a x.is) (steps.parentheses_seen y.b y.is) (lemma.same_there c.same_expression.ensures c.deref.ensures c.deref-in-Parentheses-b.ensures)
-
-pub same_expression-returns-then-same_call : goal.same_expression-returns-then-same_call
-same_expression-returns-then-same_call t c =
-    let x = c.in-Call in
-    let y = c.in-Call-b in
-    lemma.seen_same c.args.a.now c.args.b.now _ _ (ap expression_view x.is ∙ call_is x.a x.star x.distinct x.xs) (ap expression_view y.is ∙ call_is y.b y.with_star y.with_distinct y.ys) (lemma.and_then (sym c.same_call.ensures ∙ c.if-same_call.true) c.same_all-then-same_call.ensures)
-
-pub same_expression-returns-else-same_call : goal.same_expression-returns-else-same_call
-same_expression-returns-else-same_call t c =
-    let x = c.in-Call in
-    let y = c.in-Call-b in
-    lemma.seen_same c.args.a.now c.args.b.now _ _ (ap expression_view x.is ∙ call_is x.a x.star x.distinct x.xs) (ap expression_view y.is ∙ call_is y.b y.with_star y.with_distinct y.ys) (lemma.and_else _ (sym c.same_call.ensures ∙ c.if-same_call.false) c.same_call.ensures)
-
-pub same_expression-returns-then-same_flags : goal.same_expression-returns-then-same_flags
-same_expression-returns-then-same_flags t c =
-    let x = c.in-Signs in
-    let y = c.in-Signs-b in
-    lemma.seen_same c.args.a.now c.args.b.now _ _ (ap expression_view x.is ∙ signs_is x.xs x.a) (ap expression_view y.is ∙ signs_is y.ys y.b) (lemma.and_then (sym c.same_flags.ensures ∙ c.if-same_flags.true) (lemma.same_there c.same_expression-then-same_flags.ensures c.deref-then-same_flags.ensures c.deref-then-same_flags-2.ensures))
-
-pub same_expression-returns-else-same_flags : goal.same_expression-returns-else-same_flags
-same_expression-returns-else-same_flags t c =
-    let x = c.in-Signs in
-    let y = c.in-Signs-b in
-    lemma.seen_same c.args.a.now c.args.b.now _ _ (ap expression_view x.is ∙ signs_is x.xs x.a) (ap expression_view y.is ∙ signs_is y.ys y.b) (lemma.and_else _ (sym c.same_flags.ensures ∙ c.if-same_flags.false) c.same_flags.ensures)
 
 pub same_expression-returns-in-MapLiteral-b : goal.same_expression-returns-in-MapLiteral-b
 same_expression-returns-in-MapLiteral-b t c = let x = c.in-MapLiteral in let y = c.in-MapLiteral-b in rw x.is (rw y.is (rw (map_is x.a) (rw (map_is y.b) c.same_pairs.ensures)))

@@ -3,6 +3,7 @@ pub mod Applied
 pub mod ChainLemmas
 pub mod Comparisons
 pub mod Conjuncts
+pub mod ElementLemmas
 pub mod ExitLemmas
 pub mod Integers
 pub mod LabelLemmas

@@ -140,9 +140,19 @@ module _ (s : Site) (g : Graph) where
       → given s g (expression_view (expression.Suffixes x ss ls)) ≡ Err e
   failed_suffixes x ss ls e h = ap (λ t. given s g t) (suffixes_is x ss ls) ∙ ap (λ r. r >>= λ u. given_reads s g u (suffixes_of (map suffix_view ss.items)) (names_view ls.items)) h
 
-  pub failed_subject : (subject : Option (Box Expression Global)) (ws : Vec (Expression × Expression) Global) (otherwise : Option (Box Expression Global)) (e : Fault)
-      → given_perhaps s g (perhaps_view subject) ≡ Err e → given s g (expression_view (expression.Case subject ws otherwise)) ≡ Err e
-  failed_subject subject ws otherwise e h = ap (λ t. given s g t) (case_is subject ws otherwise) ∙ ap (λ r. r >>= λ v. true_of s g v ws.items >>= λ o. given_otherwise s g o (perhaps_view otherwise)) h
+  pub failed_subject : (subject : Option (Box Expression Global)) (ws : Vec (Expression × Expression) Global) (otherwise : Option (Box Expression Global)) (x : Box Expression Global) (e : Fault)
+      → subject ≡ Some x → given s g (expression_view x.value) ≡ Err e → given s g (expression_view (expression.Case subject ws otherwise)) ≡ Err e
+  failed_subject subject ws otherwise x e is h =
+      ap (λ t. given s g t) (case_is subject ws otherwise)
+      ∙ ap (λ o. given_perhaps s g (perhaps_view o) >>= λ v. true_of s g v ws.items >>= λ c. given_otherwise s g c (perhaps_view otherwise)) is
+      ∙ ap (λ r. (r >>= λ u. Ok (Some u)) >>= λ v. true_of s g v ws.items >>= λ c. given_otherwise s g c (perhaps_view otherwise)) h
+
+  pub given_subject : {subject : Option (Box Expression Global)} (x : Box Expression Global) (v : Datum) → subject ≡ Some x → given s g (expression_view x.value) ≡ Ok v
+      → given_perhaps s g (perhaps_view subject) ≡ Ok (Some v)
+  given_subject x v is h = ap (λ o. given_perhaps s g (perhaps_view o)) is ∙ ap (λ r. r >>= λ u. Ok (Some u)) h
+
+  pub no_subject : {subject : Option (Box Expression Global)} → subject ≡ None → given_perhaps s g (perhaps_view subject) ≡ Ok None
+  no_subject is = ap (λ o. given_perhaps s g (perhaps_view o)) is
 
   module _ (v : Datum) (os : tree.Operands) where
     abbrev by_kind : Bool → Answer

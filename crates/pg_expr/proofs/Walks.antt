@@ -1,7 +1,7 @@
 -- The parts of an expression one after the other: what is found so far, and what is left.
-use Rattle.std.proofs.Common.{◌≡◌, ℕ, ◌≤◌, Bool, true, false, List, [], ◌∷◌, ◌++◌, map, length, drop, Option, Some, Result, Ok, Err, refl, sym, ap, subst, ◌∙◌}
+use Rattle.std.proofs.Common.{◌≡◌, ℕ, ◌≤◌, Bool, true, false, List, [], ◌∷◌, ◌++◌, map, length, drop, Option, Some, None, Result, Ok, Err, refl, sym, ap, subst, ◌∙◌}
 use Rattle.std.proofs.lemmas.List.{drop_all}
-use Rattle.std.specs.Prelude.{◌≢◌, Box, Vec, IfOk, IfErr, string_bytes}
+use Rattle.std.specs.Prelude.{◌≢◌, Box, Vec, IfOk, IfErr, option_map, string_bytes, unwrap_or}
 use Rattle.std.specs.declared.alloc.Global.{Global}
 use Rattle.pg_expr.specs.Calls.{given_call}
 use Rattle.pg_expr.specs.Operators.{is_chosen}
@@ -16,7 +16,7 @@ use Rattle.pg_meaning.specs.Functions.{is_null}
 use Rattle.pg_meaning.specs.Graph.{Graph}
 use Rattle.pg_meaning.specs.Logic.{is_true}
 use Rattle.pg_meaning.specs.Parse.{expressions_of, operands_of, pairs_of, whens_of}
-use Rattle.pg_meaning.specs.Value.{Value as Datum, Values, no_items, item, Entries}
+use Rattle.pg_meaning.specs.Value.{Value as Datum, Values, null, no_items, item, Entries}
 use Rattle.pg_meaning.specs.declared.fault.Fault.{Fault}
 use Rattle.pg_meaning.specs.declared.fault.Fault.TheVariants.{OutOfMemory}
 use Rattle.pg_meaning.specs.declared.logic.Tri.{Tri}
@@ -68,6 +68,10 @@ append_nothing (p ∷ ps) = ap (λ qs. p ∷ qs) (append_nothing ps)
 in_turn : (a : Answer) (f h : Datum → Answer) → (a >>= f >>= h) ≡ (a >>= λ v. f v >>= h)
 in_turn (Ok v) f h = refl
 in_turn (Err e) f h = refl
+
+as_given : (a : Answer) → ((a >>= λ v. Ok (Some v)) >>= λ o. Ok (unwrap_or o null)) ≡ a
+as_given (Ok v) = refl
+as_given (Err e) = refl
 
 by_truth : (q : Result Tri Fault) (x y : Result (Option Datum) Fault) → (q >>= λ t. elim (is_true t) [ true ↦ x | false ↦ y ]) ≡ ((q >>= λ t. Ok (is_true t)) >>= λ b. elim b [ true ↦ x | false ↦ y ])
 by_truth (Ok True) x y = refl
@@ -192,11 +196,21 @@ module _ (s : Site) (g : Graph) where
     in_case : given s g (expression_view (expression.Case subject ws otherwise)) ≡ (true_of v ws.items >>= λ o. given_otherwise s g o (perhaps_view otherwise))
     in_case = ap (λ e. given s g e) (case_is subject ws otherwise) ∙ ap (λ r. r >>= λ u. true_of u ws.items >>= λ o. given_otherwise s g o (perhaps_view otherwise)) h
 
-    pub of_case : (o : Option Datum) → true_of v ws.items ≡ Ok o → given s g (expression_view (expression.Case subject ws otherwise)) ≡ given_otherwise s g o (perhaps_view otherwise)
-    of_case o k = in_case ∙ ap (λ r. r >>= λ z. given_otherwise s g z (perhaps_view otherwise)) k
-
     pub failed_case : (e : Fault) → true_of v ws.items ≡ Err e → given s g (expression_view (expression.Case subject ws otherwise)) ≡ Err e
     failed_case e k = in_case ∙ ap (λ r. r >>= λ z. given_otherwise s g z (perhaps_view otherwise)) k
+
+    module _ (o : Option Found) (k : true_of v ws.items ≡ Ok (option_map found_view o)) where
+      in_choice : (p : Option Found) → o ≡ p → given s g (expression_view (expression.Case subject ws otherwise)) ≡ given_otherwise s g (option_map found_view p) (perhaps_view otherwise)
+      in_choice p is = in_case ∙ ap (λ r. r >>= λ z. given_otherwise s g z (perhaps_view otherwise)) k ∙ ap (λ z. given_otherwise s g (option_map found_view z) (perhaps_view otherwise)) is
+
+      pub chosen_case : (f : Found) → o ≡ Some f → given s g (expression_view (expression.Case subject ws otherwise)) ≡ Ok (found_view f)
+      chosen_case f is = in_choice (Some f) is
+
+      pub otherwise_case : (x : Box Expression Global) → o ≡ None → otherwise ≡ Some x → given s g (expression_view (expression.Case subject ws otherwise)) ≡ given s g (expression_view x.value)
+      otherwise_case x is there = in_choice None is ∙ ap (λ z. given_otherwise s g None (perhaps_view z)) there ∙ as_given (given s g (expression_view x.value))
+
+      pub null_case : o ≡ None → otherwise ≡ None → given s g (expression_view (expression.Case subject ws otherwise)) ≡ Ok null
+      null_case is none = in_choice None is ∙ ap (λ z. given_otherwise s g None (perhaps_view z)) none
 
 -- one answer in the place of an equal one
 pub ok_by : {X : Type 0} (result : Result X Fault) (seen : X → Datum) {a b : Answer} → a ≡ b → IfOk result (λ x. b ≡ Ok (seen x)) → IfOk result (λ x. a ≡ Ok (seen x))

@@ -1,5 +1,6 @@
 //! What functions give: deleted elements among the arguments first, then null, then the function, then the limits.
 ghost use Rattle.std.specs.Prelude.{◌≡◌, ◌≢◌, IfOk, IfErr, IfSome, IfNone, Ok, Err, true, false, ◌-◌};
+ghost use Rattle.pg_expr.specs.After.{After};
 ghost use Rattle.pg_expr.specs.Calls.{is_range, looks, IsNotOne};
 ghost use Rattle.pg_expr.specs.Sites.{found_view, founds_view};
 ghost use Rattle.pg_meaning.specs.Expressions.{fault_of_name};
@@ -11,7 +12,7 @@ ghost use Rattle.pg_meaning.specs.declared.fault.Fault.TheVariants.{OutOfMemory}
 ghost use Rattle.pg_scope.specs.Calls.{function_view};
 ghost use Rattle.pg_value_core.specs.View.{view, values_view};
 
-use crate::elements::{keys, kind, labels, number, properties, source, target};
+use crate::elements::{end_node, keys, kind, labels, number, properties};
 use crate::made::made;
 use crate::ranges::range_of;
 use crate::reads::item_at;
@@ -46,16 +47,16 @@ pub(crate) fn is_null(v: &Found<'_>) -> bool
     matches!(v.look(), Value::Null)
 }
 
-/// What a function gives at its arguments.
+/// What a function gives at its arguments, or the fault that was found in their place.
 pub(crate) fn applied<'a, T: Tables>(
     alloc: Global,
     graph: &Snapshot<'a, T>,
     function: Function,
-    arguments: Vec<Found<'a>>,
+    arguments: Result<Vec<Found<'a>>, Fault>,
 ) -> Result<Found<'a>, Fault>
-    ensures ok { IfOk result (λ f. applied graph.now (function_view function) (founds_view arguments.entry.items) ≡ Ok (found_view f)) }
-    ensures err { IfErr result (λ e. e ≢ OutOfMemory → applied graph.now (function_view function) (founds_view arguments.entry.items) ≡ Err e) }
+    ensures { After arguments.entry result (λ fs. applied graph.now (function_view function) (founds_view fs.items)) found_view }
 {
+    let arguments = arguments?;
     if has_deleted(graph, &arguments) {
         return Err(Fault::DeletedEntity);
     }
@@ -150,22 +151,8 @@ fn at_one<'a, T: Tables>(
         Function::Last => last(argument),
         Function::Coalesce => Ok(argument),
         Function::ToString => to_text(alloc, argument),
-        _ => made_at_look(alloc, graph, function, argument.look()),
+        _ => Ok(Found::Made(at_look(alloc, graph, function, argument.look())?)),
     }
-}
-
-fn made_at_look<'a, T: Tables>(
-    alloc: Global,
-    graph: &Snapshot<'_, T>,
-    function: Function,
-    v: &Value,
-) -> Result<Found<'a>, Fault>
-    requires there { is_deleted graph.now (view v.now) ≡ false }
-    requires looks { looks (function_view function) ≡ true }
-    ensures ok { IfOk result (λ f. function_at graph.now (function_view function) (item (view v.now) no_items) ≡ Ok (found_view f)) }
-    ensures err { IfErr result (λ e. e ≢ OutOfMemory → function_at graph.now (function_view function) (item (view v.now) no_items) ≡ Err e) }
-{
-    Ok(Found::Made(at_look(alloc, graph, function, v)?))
 }
 
 /// What a function of one argument gives that only looks at it.
@@ -191,8 +178,8 @@ fn at_look<T: Tables>(
         Function::Relationships => values::relationships(alloc, v),
         Function::ToInteger => values::to_integer(v),
         Function::Abs => values::absolute(v),
-        Function::StartNode => source(graph, v),
-        Function::EndNode => target(graph, v),
+        Function::StartNode => end_node(graph, v, false),
+        Function::EndNode => end_node(graph, v, true),
         Function::Properties
         | Function::Head
         | Function::Last

@@ -1,8 +1,8 @@
 //! What functions tell of an element, and of a map.
 ghost use Rattle.std.specs.Prelude.{◌≡◌, ◌≢◌, IfOk, IfErr, Ok, Err, false, true, map, pos};
-ghost use Rattle.pg_expr.specs.Elements.{element_properties, properties_given, keys_given};
+ghost use Rattle.pg_expr.specs.Elements.{element_properties, properties_given, keys_given, node_at_end};
 ghost use Rattle.pg_expr.specs.Sites.{found_view};
-ghost use Rattle.pg_meaning.specs.Functions.{id_of, labels_of, type_of, start_node_of, end_node_of, is_deleted, texts};
+ghost use Rattle.pg_meaning.specs.Functions.{id_of, labels_of, type_of, is_deleted, texts};
 ghost use Rattle.pg_meaning.specs.Graph.{has_node, has_relationship};
 ghost use Rattle.pg_meaning.specs.Order.{keys_of};
 ghost use Rattle.pg_meaning.specs.Value.{integer, node, relationship};
@@ -85,31 +85,27 @@ pub(crate) fn kind<T: Tables>(
     }
 }
 
-/// The first node of a relationship.
-pub(crate) fn source<T: Tables>(graph: &Snapshot<'_, T>, v: &Value) -> Result<Value, Fault>
-    ensures ok { IfOk result (λ u. start_node_of graph.now (view v.now) ≡ Ok (view u)) }
-    ensures err { IfErr result (λ e. start_node_of graph.now (view v.now) ≡ Err e) }
+/// The first node of a relationship, or its last.
+pub(crate) fn end_node<T: Tables>(
+    graph: &Snapshot<'_, T>,
+    v: &Value,
+    is_last: bool,
+) -> Result<Value, Fault>
+    ensures ok { IfOk result (λ u. node_at_end is_last graph.now (view v.now) ≡ Ok (view u)) }
+    ensures err { IfErr result (λ e. node_at_end is_last graph.now (view v.now) ≡ Err e) }
 {
-    match v {
-        Value::Rel(id) => match graph.rel(*id) {
-            Some(relationship) => Ok(Value::Node(relationship.source())),
-            None => Err(Fault::DeletedEntity),
-        },
-        _ => Err(Fault::TypeFault),
-    }
-}
-
-/// The last node of a relationship.
-pub(crate) fn target<T: Tables>(graph: &Snapshot<'_, T>, v: &Value) -> Result<Value, Fault>
-    ensures ok { IfOk result (λ u. end_node_of graph.now (view v.now) ≡ Ok (view u)) }
-    ensures err { IfErr result (λ e. end_node_of graph.now (view v.now) ≡ Err e) }
-{
-    match v {
-        Value::Rel(id) => match graph.rel(*id) {
-            Some(relationship) => Ok(Value::Node(relationship.target())),
-            None => Err(Fault::DeletedEntity),
-        },
-        _ => Err(Fault::TypeFault),
+    let Value::Rel(id) = v else {
+        return Err(Fault::TypeFault);
+    };
+    match graph.rel(*id) {
+        Some(relationship) => {
+            if is_last {
+                Ok(Value::Node(relationship.target()))
+            } else {
+                Ok(Value::Node(relationship.source()))
+            }
+        }
+        None => Err(Fault::DeletedEntity),
     }
 }
 

@@ -1,25 +1,24 @@
 //! What an expression gives at a row: operands left to right, and the first fault decides.
-ghost use Rattle.std.specs.Prelude.{map, option_map, string_bytes};
-ghost use Rattle.pg_expr.specs.Calls.{given_call};
+ghost use Rattle.std.specs.Prelude.{map, option_map};
 ghost use Rattle.pg_expr.specs.Prepared.{tree_of};
-ghost use Rattle.pg_expr.specs.Sites.{found_view, founds_view, pairs_view, given, given_each, given_map, given_first, given_perhaps, given_otherwise, given_true, given_chain, given_chained, given_operands, given_tests, given_reads};
+ghost use Rattle.pg_expr.specs.Sites.{found_view, founds_view, pairs_view, given, given_each, given_map, given_first, given_true, given_chain, given_operands, given_tests, given_reads};
 ghost use Rattle.pg_meaning.specs.Expressions.{evaluate};
 ghost use Rattle.pg_meaning.specs.Parse.{expressions_of, operands_of, pairs_of, whens_of};
 ghost use Rattle.pg_rows.specs.Named.{row_of};
-ghost use Rattle.pg_syntax_tree.specs.View.{expression_view, pair_view, when_view, operand_view, test_view, tests_of, suffix_view, suffixes_of, perhaps_view, names_view};
+ghost use Rattle.pg_syntax_tree.specs.View.{expression_view, pair_view, when_view, operand_view, test_view, tests_of, suffix_view, suffixes_of, names_view};
 ghost use Rattle.pg_value_core.specs.Given.{parameters_view};
 ghost use Rattle.pg_value_core.specs.Gives.{Gives};
 ghost use Rattle.pg_value_core.specs.View.{view};
 
 use crate::atoms::{literal_found, parameter, variable};
 use crate::calls::{applied, call_fault, is_coalesce, is_null};
-use crate::made::{list_of, map_of, put};
+use crate::made::{list_of, made, put};
 use crate::operators::{
     all_signed, begins_comparison, combined, compared, is_chosen, negated, null_tested, tested,
 };
 use crate::prepared::Prepared;
 use crate::reads::{index, labels, property};
-use crate::site::{Found, Site, null, or_null};
+use crate::site::{Found, Site, null};
 use pg_graph::Tables;
 use pg_meaning::Operator;
 use pg_rows::Columns;
@@ -67,15 +66,39 @@ pub(crate) fn find<'a, T: Tables>(
         Expression::ListLiteral(items) => list_of(site.alloc, each(site, graph, items)),
         Expression::MapLiteral(pairs) => mapping(site, graph, pairs),
         Expression::Parentheses(inner) => find(site, graph, inner),
-        Expression::Call(name, _, _, arguments) => call(site, graph, name, arguments),
+        Expression::Call(name, _, _, arguments) => match function_named(name.text.as_str()) {
+            Some(function) => {
+                if is_coalesce(function) {
+                    first_given(site, graph, arguments)
+                } else {
+                    applied(site.alloc, graph, function, each(site, graph, arguments))
+                }
+            }
+            None => Err(call_fault(name.text.as_str())),
+        },
         Expression::Case(subject, whens, otherwise) => {
-            let subject = perhaps(site, graph, subject)?;
-            let chosen = choose(site, graph, subject, whens)?;
-            or_otherwise(site, graph, chosen, otherwise)
+            let chosen = {
+                let tested = match subject {
+                    Some(inner) => Some(find(site, graph, inner)?),
+                    None => None,
+                };
+                first_true(site, graph, &tested, whens)?
+            };
+            match chosen {
+                Some(found) => Ok(found),
+                None => match otherwise {
+                    Some(inner) => find(site, graph, inner),
+                    None => Ok(null()),
+                },
+            }
         }
         Expression::Chain(first, operands) => {
             let found = find(site, graph, first)?;
-            chain(site, graph, found, operands)
+            if begins_comparison(operands) {
+                compared(found, each_operand(site, graph, operands))
+            } else {
+                joined(site, graph, found, operands)
+            }
         }
         Expression::Negation(count, inner) => negated(*count, find(site, graph, inner)),
         Expression::Signs(signs, inner) => all_signed(signs, find(site, graph, inner)),
@@ -120,26 +143,7 @@ fn mapping<'a, T: Tables>(
         let next = find(site, graph, value)?;
         entries = put(site.alloc, entries, key, next)?;
     }
-    map_of(entries)
-}
-
-#[cycle(find)]
-fn call<'a, T: Tables>(
-    site: &Site<'a>,
-    graph: &Snapshot<'a, T>,
-    name: &Name,
-    arguments: &Vec<Expression>,
-) -> Result<Found<'a>, Fault>
-    ensures { Gives result (given_call site.now graph.now (string_bytes name.now.text) (expressions_of (map expression_view arguments.now.items))) found_view }
-{
-    let Some(function) = function_named(name.text.as_str()) else {
-        return Err(call_fault(name.text.as_str()));
-    };
-    if is_coalesce(function) {
-        return first_given(site, graph, arguments);
-    }
-    let found = each(site, graph, arguments)?;
-    applied(site.alloc, graph, function, found)
+    made(Found::Made(Value::Map(entries)))
 }
 
 /// The first that isn't null, and the rest isn't evaluated.
@@ -160,32 +164,6 @@ fn first_given<'a, T: Tables>(
     Ok(null())
 }
 
-#[cycle(find)]
-fn perhaps<'a, T: Tables>(
-    site: &Site<'a>,
-    graph: &Snapshot<'a, T>,
-    expression: &Option<Box<Expression>>,
-) -> Result<Option<Found<'a>>, Fault>
-    ensures { Gives result (given_perhaps site.now graph.now (perhaps_view expression.now)) (option_map found_view) }
-{
-    match expression {
-        Some(inner) => Ok(Some(find(site, graph, inner)?)),
-        None => Ok(None),
-    }
-}
-
-#[cycle(find)]
-fn choose<'a, T: Tables>(
-    site: &Site<'a>,
-    graph: &Snapshot<'a, T>,
-    subject: Option<Found<'a>>,
-    whens: &Vec<(Expression, Expression)>,
-) -> Result<Option<Found<'a>>, Fault>
-    ensures { Gives result (given_true site.now graph.now (option_map found_view subject.entry) (whens_of (map when_view whens.now.items))) (option_map found_view) }
-{
-    first_true(site, graph, &subject, whens)
-}
-
 /// The result behind the first true condition alone.
 #[cycle(find)]
 fn first_true<'a, T: Tables>(
@@ -203,40 +181,6 @@ fn first_true<'a, T: Tables>(
         }
     }
     Ok(None)
-}
-
-/// What was chosen, else what ELSE gives, else null.
-#[cycle(find)]
-fn or_otherwise<'a, T: Tables>(
-    site: &Site<'a>,
-    graph: &Snapshot<'a, T>,
-    chosen: Option<Found<'a>>,
-    otherwise: &Option<Box<Expression>>,
-) -> Result<Found<'a>, Fault>
-    ensures { Gives result (given_otherwise site.now graph.now (option_map found_view chosen.entry) (perhaps_view otherwise.now)) found_view }
-{
-    if let Some(found) = chosen {
-        return Ok(found);
-    }
-    let found = perhaps(site, graph, otherwise)?;
-    Ok(or_null(found))
-}
-
-/// A chain of comparisons evaluates all its operands first.
-#[cycle(find)]
-fn chain<'a, T: Tables>(
-    site: &Site<'a>,
-    graph: &Snapshot<'a, T>,
-    first: Found<'a>,
-    operands: &Vec<(Operator, Expression)>,
-) -> Result<Found<'a>, Fault>
-    ensures { Gives result (given_chained site.now graph.now (found_view first.entry) (operands_of (map operand_view operands.now.items))) found_view }
-{
-    if begins_comparison(operands) {
-        compared(first, each_operand(site, graph, operands))
-    } else {
-        joined(site, graph, first, operands)
-    }
 }
 
 /// A chain of logic or arithmetic groups to the left.

@@ -1,11 +1,10 @@
 //! What an expression makes, within the limits of weight and depth.
-ghost use Rattle.std.specs.Prelude.{◌≡◌, ◌≢◌, ◌^◌, ◌-◌, min, IfOk, IfErr, Ok, Err, string_bytes};
+ghost use Rattle.std.specs.Prelude.{◌≡◌, IfOk, IfErr, Ok, Err, string_bytes};
 ghost use Rattle.pg_expr.specs.After.{After};
 ghost use Rattle.pg_expr.specs.Sites.{found_view, founds_view};
 ghost use Rattle.pg_meaning.specs.Entries.{put};
-ghost use Rattle.pg_meaning.specs.Measure.{made, is_within_limits, items_weight, items_depth};
-ghost use Rattle.pg_meaning.specs.Value.{list, mapping};
-ghost use Rattle.pg_meaning.specs.declared.fault.Fault.TheVariants.{OutOfMemory};
+ghost use Rattle.pg_meaning.specs.Measure.{made, is_within_limits};
+ghost use Rattle.pg_meaning.specs.Value.{list};
 ghost use Rattle.pg_value_core.specs.View.{values_view, entries_view};
 
 use crate::site::Found;
@@ -32,24 +31,14 @@ pub(crate) fn made<'a>(found: Found<'a>) -> Result<Found<'a>, Fault>
     }
 }
 
-/// A list of what was found, or the fault that was found in its place.
+/// A list of what was found, which is copied only where the list is within the limits, or the fault in its place.
 pub(crate) fn list_of<'a>(
     alloc: Global,
     found: Result<Vec<Found<'a>>, Fault>,
 ) -> Result<Found<'a>, Fault>
     ensures { After found.entry result (λ fs. made (list (founds_view fs.items))) found_view }
 {
-    match found {
-        Ok(items) => list_within(alloc, items),
-        Err(fault) => Err(fault),
-    }
-}
-
-/// A list where it is within the limits; only then is what was found copied.
-fn list_within<'a>(alloc: Global, found: Vec<Found<'a>>) -> Result<Found<'a>, Fault>
-    ensures ok { IfOk result (λ f. made (list (founds_view found.entry.items)) ≡ Ok (found_view f)) }
-    ensures err { IfErr result (λ e. e ≢ OutOfMemory → made (list (founds_view found.entry.items)) ≡ Err e) }
-{
+    let found = found?;
     if !are_within_limits(&found) {
         return Err(Fault::ValueTooLarge);
     }
@@ -60,29 +49,13 @@ fn list_within<'a>(alloc: Global, found: Vec<Found<'a>>) -> Result<Found<'a>, Fa
 fn are_within_limits(found: &Vec<Found<'_>>) -> bool
     ensures { result ≡ is_within_limits (list (founds_view found.now.items)) }
 {
-    let weight = weight_of_all(found);
-    let depth = depth_of_all(found);
-    weight < GREATEST_WEIGHT && depth < GREATEST_DEPTH
-}
-
-fn weight_of_all(found: &Vec<Found<'_>>) -> u64
-    ensures { result ≡ min (items_weight (founds_view found.now.items)) (2 ^ 64 - 1) }
-{
     let mut total = 0u64;
-    for item in found {
-        total = total.saturating_add(weight(item.look()));
-    }
-    total
-}
-
-fn depth_of_all(found: &Vec<Found<'_>>) -> u64
-    ensures { result ≡ min (items_depth (founds_view found.now.items)) (2 ^ 64 - 1) }
-{
     let mut most = 0u64;
     for item in found {
+        total = total.saturating_add(weight(item.look()));
         most = most.max(depth(item.look()));
     }
-    most
+    total < GREATEST_WEIGHT && most < GREATEST_DEPTH
 }
 
 fn take_all(alloc: Global, found: Vec<Found<'_>>) -> Result<Vec<Value>, AllocError>
@@ -109,12 +82,4 @@ pub(crate) fn put(
     let name = String::from_str(alloc, key.text.as_str())?;
     drop(entries.insert(name, value)?);
     Ok(entries)
-}
-
-/// A map of what was found, where it is within the limits.
-pub(crate) fn map_of<'a>(entries: BTreeMap<String, Value>) -> Result<Found<'a>, Fault>
-    ensures ok { IfOk result (λ f. made (mapping (entries_view entries.entries)) ≡ Ok (found_view f)) }
-    ensures err { IfErr result (λ e. made (mapping (entries_view entries.entries)) ≡ Err e) }
-{
-    made(Found::Made(Value::Map(entries)))
 }

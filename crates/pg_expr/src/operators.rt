@@ -121,22 +121,14 @@ pub(crate) fn tested<'a>(
 ) -> Result<Found<'a>, Fault>
     ensures { After w.entry result (λ u. tested test (found_view v.entry) (found_view u)) found_view }
 {
-    match w {
-        Ok(right) => tested_value(test, v.look(), right.look()),
-        Err(fault) => Err(fault),
-    }
-}
-
-fn tested_value<'a>(test: TextTest, v: &Value, w: &Value) -> Result<Found<'a>, Fault>
-    ensures ok { IfOk result (λ f. tested test (view v.now) (view w.now) ≡ Ok (found_view f)) }
-    ensures err { IfErr result (λ e. tested test (view v.now) (view w.now) ≡ Err e) }
-{
-    match test {
-        TextTest::StartsWith => Ok(Found::Made(values::begins_with(v, w))),
-        TextTest::EndsWith => Ok(Found::Made(values::finishes_with(v, w))),
-        TextTest::Contains => Ok(Found::Made(values::contains(v, w))),
-        TextTest::In => Ok(Found::Made(value_of(is_in(v, w)?))),
-    }
+    let right = w?;
+    let value = match test {
+        TextTest::StartsWith => values::begins_with(v.look(), right.look()),
+        TextTest::EndsWith => values::finishes_with(v.look(), right.look()),
+        TextTest::Contains => values::contains(v.look(), right.look()),
+        TextTest::In => value_of(is_in(v.look(), right.look())?),
+    };
+    Ok(Found::Made(value))
 }
 
 /// IS NULL, and IS NOT NULL where it is negated.
@@ -219,9 +211,12 @@ pub(crate) fn is_true(t: Tri) -> bool
     matches!(t, Tri::True)
 }
 
-fn is_comparison(operator: Operator) -> bool
-    ensures { result ≡ is_comparison operator }
+pub(crate) fn begins_comparison(operands: &Vec<(Operator, Expression)>) -> bool
+    ensures { result ≡ begins_comparison (operands_of (map operand_view operands.now.items)) }
 {
+    let Some((operator, _)) = operands.first() else {
+        return false;
+    };
     match operator {
         Operator::Equal
         | Operator::NotEqual
@@ -230,14 +225,5 @@ fn is_comparison(operator: Operator) -> bool
         | Operator::Greater
         | Operator::GreaterOrEqual => true,
         _ => false,
-    }
-}
-
-pub(crate) fn begins_comparison(operands: &Vec<(Operator, Expression)>) -> bool
-    ensures { result ≡ begins_comparison (operands_of (map operand_view operands.now.items)) }
-{
-    match operands.first() {
-        Some((operator, _)) => is_comparison(*operator),
-        None => false,
     }
 }

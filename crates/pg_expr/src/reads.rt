@@ -57,7 +57,7 @@ fn entry<'a>(entries: &'a BTreeMap<String, Value>, key: &str) -> Found<'a>
     lent_or_null(entries.get(key))
 }
 
-/// `v.key`.
+/// `v.key`; what stands in a map that was made moves out of it.
 pub(crate) fn property<'a, T: Tables>(
     graph: &Snapshot<'a, T>,
     value: Found<'a>,
@@ -67,43 +67,20 @@ pub(crate) fn property<'a, T: Tables>(
     ensures err { IfErr result (λ e. property_of graph.now (found_view value.entry) key.now ≡ Err e) }
 {
     match value {
-        Found::Lent(value) => property_lent(graph, value, key),
-        Found::Made(value) => property_made(graph, value, key),
-    }
-}
-
-fn property_lent<'a, T: Tables>(
-    graph: &Snapshot<'a, T>,
-    value: &'a Value,
-    key: &str,
-) -> Result<Found<'a>, Fault>
-    ensures ok { IfOk result (λ f. property_of graph.now (view value.now) key.now ≡ Ok (found_view f)) }
-    ensures err { IfErr result (λ e. property_of graph.now (view value.now) key.now ≡ Err e) }
-{
-    match value {
-        Value::Null => Ok(null()),
-        Value::Map(entries) => Ok(entry(entries, key)),
-        Value::Node(id) => node_property(graph, *id, key),
-        Value::Rel(id) => relationship_property(graph, *id, key),
-        _ => Err(Fault::TypeFault),
-    }
-}
-
-/// What stands in a map moves out of it.
-fn property_made<'a, T: Tables>(
-    graph: &Snapshot<'a, T>,
-    value: Value,
-    key: &str,
-) -> Result<Found<'a>, Fault>
-    ensures ok { IfOk result (λ f. property_of graph.now (view value) key.now ≡ Ok (found_view f)) }
-    ensures err { IfErr result (λ e. property_of graph.now (view value) key.now ≡ Err e) }
-{
-    match value.into_parts() {
-        Parts::Null => Ok(null()),
-        Parts::Map(entries) => Ok(Found::Made(value_at(entries, key))),
-        Parts::Node(id) => node_property(graph, id, key),
-        Parts::Rel(id) => relationship_property(graph, id, key),
-        _ => Err(Fault::TypeFault),
+        Found::Lent(value) => match value {
+            Value::Null => Ok(null()),
+            Value::Map(entries) => Ok(entry(entries, key)),
+            Value::Node(id) => node_property(graph, *id, key),
+            Value::Rel(id) => relationship_property(graph, *id, key),
+            _ => Err(Fault::TypeFault),
+        },
+        Found::Made(value) => match value.into_parts() {
+            Parts::Null => Ok(null()),
+            Parts::Map(entries) => Ok(Found::Made(value_at(entries, key))),
+            Parts::Node(id) => node_property(graph, id, key),
+            Parts::Rel(id) => relationship_property(graph, id, key),
+            _ => Err(Fault::TypeFault),
+        },
     }
 }
 

@@ -60,12 +60,3 @@ pub(crate) fn lent_or_null<'a>(value: Option<&'a Value>) -> Found<'a>
         None => null(),
     }
 }
-
-pub(crate) fn or_null<'a>(found: Option<Found<'a>>) -> Found<'a>
-    ensures { found_view result ≡ unwrap_or (option_map found_view found.entry) null }
-{
-    match found {
-        Some(found) => found,
-        None => null(),
-    }
-}

@@ -1,40 +1,45 @@
 use Rattle.std.proofs.Common.{Ok, sym, ap, ◌∙◌}
+use Rattle.pg_expr.proofs.AfterLemmas.{after_value}
 use Rattle.pg_expr.proofs.Applied.{when_deleted, when_null, when_whole}
 use Rattle.pg_expr.proofs.Turns.{fault_gives, gives_by, told}
-use Rattle.pg_expr.specs.Sites.{found_view, founds_view}
+use Rattle.pg_expr.specs.Sites.{founds_view}
 use Rattle.pg_meaning.specs.Answer.{◌>>=◌}
-use Rattle.pg_meaning.specs.Functions.{applied}
 use Rattle.pg_meaning.specs.Measure.{made}
 use Rattle.pg_scope.specs.Calls.{function_view}
-use Rattle.pg_value_core.specs.Gives.{Gives}
 use Rattle.pg_expr.proofs.calls.applied.Goals as goal
 
 pub returns-then-has_deleted : goal.returns-then-has_deleted
-returns-then-has_deleted g c = record {
-  ok = tt;
-  err = λ other. when_deleted c.args.graph.now (function_view c.args.function) (founds_view c.args.arguments.items) (sym c.has_deleted.ensures ∙ c.if-has_deleted.true);
-}
+returns-then-has_deleted g c =
+    let fs = c.in_ok-arguments.arguments in
+    after_value c.args.arguments fs c.in_ok-arguments.was
+    record {
+      ok = tt;
+      err = λ other. when_deleted c.args.graph.now (function_view c.args.function) (founds_view fs.items) (sym c.has_deleted.ensures ∙ c.if-has_deleted.true);
+    }
 
 pub returns-then-has_null : goal.returns-then-has_null
-returns-then-has_null g c = record {
-  ok = when_null c.args.graph.now (function_view c.args.function) (founds_view c.args.arguments.items) (sym c.has_deleted.ensures ∙ c.if-has_deleted.false) (sym c.has_null.ensures ∙ c.if-has_null.true)
-      ∙ ap Ok (sym c.null.ensures);
-  err = tt;
-}
+returns-then-has_null g c =
+    let fs = c.in_ok-arguments.arguments in
+    after_value c.args.arguments fs c.in_ok-arguments.was
+    record {
+      ok = when_null c.args.graph.now (function_view c.args.function) (founds_view fs.items) (sym c.has_deleted.ensures ∙ c.if-has_deleted.false) (sym c.has_null.ensures ∙ c.if-has_null.true)
+          ∙ ap Ok (sym c.null.ensures);
+      err = tt;
+    }
 
 pub returns-in_err-value : goal.returns-in_err-value
 returns-in_err-value g c =
-    let f = function_view c.args.function in
-    let vs = founds_view c.args.arguments.items in
-    let given : Gives c.from_residual.result (applied c.args.graph.now f vs) found_view = fault_gives c.in_err-value.field-0.0 c.from_residual.result c.from_residual.ensures.1
-    (λ n. when_whole c.args.graph.now f vs (sym c.has_deleted.ensures ∙ c.if-has_deleted.false) (sym c.has_null.ensures ∙ c.if-has_null.false) ∙ ap (λ r. r >>= made) (c.in_err-value.ensures.err n)) in
-    record { ok = given.ok; err = given.err }
+    let fs = c.in_ok-arguments.arguments in
+    after_value c.args.arguments fs c.in_ok-arguments.was
+    (fault_gives c.in_err-value.field-0.0 c.from_residual-in_err-value.result c.from_residual-in_err-value.ensures.1
+    (λ n. when_whole c.args.graph.now (function_view c.args.function) (founds_view fs.items) (sym c.has_deleted.ensures ∙ c.if-has_deleted.false) (sym c.has_null.ensures ∙ c.if-has_null.false)
+    ∙ ap (λ r. r >>= made) (c.in_err-value.ensures.err n)))
 
 pub returns : goal.returns
 returns g c =
-    let f = function_view c.args.function in
-    let vs = founds_view c.args.arguments.items in
-    let given : Gives c.made.result (applied c.args.graph.now f vs) found_view = gives_by c.made.result
-    (when_whole c.args.graph.now f vs (sym c.has_deleted.ensures ∙ c.if-has_deleted.false) (sym c.has_null.ensures ∙ c.if-has_null.false) ∙ ap (λ r. r >>= made) c.in_ok-value.ensures.ok)
-    (told c.made.result c.made.ensures.ok c.made.ensures.err) in
-    record { ok = given.ok; err = given.err }
+    let fs = c.in_ok-arguments.arguments in
+    after_value c.args.arguments fs c.in_ok-arguments.was
+    (gives_by c.made.result
+    (when_whole c.args.graph.now (function_view c.args.function) (founds_view fs.items) (sym c.has_deleted.ensures ∙ c.if-has_deleted.false) (sym c.has_null.ensures ∙ c.if-has_null.false)
+    ∙ ap (λ r. r >>= made) c.in_ok-value.ensures.ok)
+    (told c.made.result c.made.ensures.ok c.made.ensures.err))

@@ -60,4 +60,4 @@ returns-in-Abs g c =
 pub returns-in-StartNode : goal.returns-in-StartNode
 returns-in-StartNode g c =
     let same = ap (λ f. function_at c.args.graph.now (function_view f) (item (view c.args.v.now) no_items)) c.in-StartNode.is in
-    record { ok = ok_by c.source.result view same c.source.ensures.ok; err = err_by c.source.result same (told {seen = view} c.source.result c.source.ensures.ok c.source.ensures.err).err }
+    record { ok = ok_by c.end_node.result view same c.end_node.ensures.ok; err = err_by c.end_node.result same (told {seen = view} c.end_node.result c.end_node.ensures.ok c.end_node.ensures.err).err }

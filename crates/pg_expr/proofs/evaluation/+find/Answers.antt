@@ -1,12 +1,11 @@
-use Rattle.std.proofs.Common.{◌≡◌, Some, Ok, Err, ◌+◌, ◌∷◌, drop, map, sym, ap, ◌∙◌, arith, length}
-use Rattle.std.proofs.lemmas.Result.{IfOk-from_err, err_from_is_err_and}
-use Rattle.std.specs.Prelude.{option_map, string_bytes, unwrap_or}
+use Rattle.std.proofs.Common.{◌≡◌, Some, Ok, Err, ◌+◌, ◌∷◌, drop, map, refl, sym, ap, ◌∙◌, arith, length}
+use Rattle.std.specs.Prelude.{option_map, string_bytes}
 use Rattle.pg_expr.proofs.AfterLemmas.{after}
 use Rattle.pg_expr.proofs.Turns as turn
 use Rattle.pg_expr.proofs.Turns.{fault_gives, no_memory, gives_by, told}
-use Rattle.pg_expr.proofs.Walks.{ok_by, err_by, of_call, of_chain, of_suffixes, of_case, failed_case, joined, joined_pairs, each_of, pairs_given, first_of, true_of, chain_of, operands_given, tests_given, suffixes_given, next_item, no_more_items, next_pair, next_null, next_given, next_unmet, failed_when, met_value, met_fault, next_unknown, next_operand, no_more_operands, next_text_test, failed_text_test, next_index, failed_index}
+use Rattle.pg_expr.proofs.Walks.{ok_by, err_by, of_call, of_chain, of_suffixes, chosen_case, otherwise_case, null_case, failed_case, joined, joined_pairs, each_of, pairs_given, first_of, true_of, chain_of, operands_given, tests_given, suffixes_given, next_item, no_more_items, next_pair, next_null, next_given, next_unmet, failed_when, met_value, met_fault, next_unknown, next_operand, no_more_operands, next_text_test, failed_text_test, next_index, failed_index}
 use Rattle.pg_expr.specs.Operators.{all_negated, truth_compared}
-use Rattle.pg_expr.specs.Sites.{found_view, founds_view, pairs_view, given, given_operands, given_otherwise, given_perhaps, row_at, parameters_at}
+use Rattle.pg_expr.specs.Sites.{found_view, founds_view, pairs_view, given, given_operands, given_perhaps, row_at, parameters_at}
 use Rattle.pg_meaning.specs.Answer.{◌>>=◌}
 use Rattle.pg_meaning.specs.Expressions.{all_signed, indexed, labelled, or_fault, property_of, tested}
 use Rattle.pg_meaning.specs.Entries.{at_key}
@@ -19,6 +18,7 @@ use Rattle.pg_meaning.specs.Value.{list, mapping, null}
 use Rattle.pg_meaning.specs.declared.fault.Fault.TheVariants.{MissingParameter, UndefinedVariable}
 use Rattle.pg_scope.proofs.FirstLemmas.{item_here, items_end}
 use Rattle.pg_scope.specs.Calls.{function_view}
+use Rattle.pg_value_core.proofs.Forms.{map_seen}
 use Rattle.pg_syntax_tree.proofs.Views.{negation_is, signs_is}
 use Rattle.pg_syntax_tree.specs.View.{expression_view, names_view, operand_view, perhaps_view}
 use Rattle.pg_syntax_tree.specs.declared.expression.Suffix.TheVariants as suffix
@@ -67,26 +67,6 @@ each_operand-returns g t c =
       err = tt;
     }
 
-pub find-returns-in-Call : goal.find-returns-in-Call
-find-returns-in-Call g t c =
-    let s = c.args.site.now in
-    let graph = c.args.graph.now in
-    let a = c.in-Call in
-    record {
-      ok = ok_by c.call.result found_view (ap (λ e. given s graph (expression_view e)) a.is ∙ of_call s graph a.name a.field-1 a.field-2 a.arguments) c.call.ensures.ok;
-      err = err_by c.call.result (ap (λ e. given s graph (expression_view e)) a.is ∙ of_call s graph a.name a.field-1 a.field-2 a.arguments) c.call.ensures.err;
-    }
-
-pub find-returns-in_ok-found-in-Chain : goal.find-returns-in_ok-found-in-Chain
-find-returns-in_ok-found-in-Chain g t c =
-    let s = c.args.site.now in
-    let graph = c.args.graph.now in
-    let a = c.in-Chain in
-    record {
-      ok = ok_by c.chain.result found_view (ap (λ e. given s graph (expression_view e)) a.is ∙ of_chain s graph a.first a.operands (found_view c.in_ok-found-in-Chain.found) (rw c.deref-in-Chain.ensures at c.in_ok-found-in-Chain.ensures.ok)) c.chain.ensures.ok;
-      err = err_by c.chain.result (ap (λ e. given s graph (expression_view e)) a.is ∙ of_chain s graph a.first a.operands (found_view c.in_ok-found-in-Chain.found) (rw c.deref-in-Chain.ensures at c.in_ok-found-in-Chain.ensures.ok)) c.chain.ensures.err;
-    }
-
 pub find-returns-in_ok-found-in-Suffixes : goal.find-returns-in_ok-found-in-Suffixes
 find-returns-in_ok-found-in-Suffixes g t c =
     let s = c.args.site.now in
@@ -95,35 +75,6 @@ find-returns-in_ok-found-in-Suffixes g t c =
     record {
       ok = ok_by c.read.result found_view (ap (λ e. given s graph (expression_view e)) a.is ∙ of_suffixes s graph a.inner a.suffixes a.names (found_view c.in_ok-found-in-Suffixes.found) (rw c.deref-in-Suffixes.ensures at c.in_ok-found-in-Suffixes.ensures.ok)) c.read.ensures.ok;
       err = err_by c.read.result (ap (λ e. given s graph (expression_view e)) a.is ∙ of_suffixes s graph a.inner a.suffixes a.names (found_view c.in_ok-found-in-Suffixes.found) (rw c.deref-in-Suffixes.ensures at c.in_ok-found-in-Suffixes.ensures.ok)) c.read.ensures.err;
-    }
-
-pub find-returns-in_ok-chosen-in-Case : goal.find-returns-in_ok-chosen-in-Case
-find-returns-in_ok-chosen-in-Case g t c =
-    let s = c.args.site.now in
-    let graph = c.args.graph.now in
-    let a = c.in-Case in
-    record {
-      ok = ok_by c.or_otherwise.result found_view
-          (ap (λ e. given s graph (expression_view e)) a.is
-          ∙ of_case s graph a.subject a.whens a.otherwise (option_map found_view c.in_ok-subject-in-Case.subject) c.in_ok-subject-in-Case.ensures.ok (option_map found_view c.in_ok-chosen-in-Case.chosen) c.in_ok-chosen-in-Case.ensures.ok)
-          c.or_otherwise.ensures.ok;
-      err = err_by c.or_otherwise.result
-          (ap (λ e. given s graph (expression_view e)) a.is
-          ∙ of_case s graph a.subject a.whens a.otherwise (option_map found_view c.in_ok-subject-in-Case.subject) c.in_ok-subject-in-Case.ensures.ok (option_map found_view c.in_ok-chosen-in-Case.chosen) c.in_ok-chosen-in-Case.ensures.ok)
-          c.or_otherwise.ensures.err;
-    }
-
-pub find-returns-in_err-chosen-in-Case : goal.find-returns-in_err-chosen-in-Case
-find-returns-in_err-chosen-in-Case g t c =
-    let s = c.args.site.now in
-    let graph = c.args.graph.now in
-    let a = c.in-Case in
-    let p = err_from_is_err_and c.from_residual-in_err-chosen-in-Case.result c.from_residual-in_err-chosen-in-Case.ensures.1 in
-    record {
-      ok = IfOk-from_err c.from_residual-in_err-chosen-in-Case.result (λ f. given s graph (expression_view c.args.expression.now) ≡ Ok (found_view f)) c.from_residual-in_err-chosen-in-Case.ensures.0;
-      err = rw (p.1, p.2)
-          (λ n. ap (λ e. given s graph (expression_view e)) a.is
-          ∙ failed_case s graph a.subject a.whens a.otherwise (option_map found_view c.in_ok-subject-in-Case.subject) c.in_ok-subject-in-Case.ensures.ok c.in_err-chosen-in-Case.field-0.0 (c.in_err-chosen-in-Case.ensures.err n));
     }
 
 pub find-returns-in-Negation : goal.find-returns-in-Negation
@@ -230,35 +181,11 @@ mapping-loop-key-preserved g t c =
 pub mapping-returns : goal.mapping-returns
 mapping-returns g t c =
     let l = c.loop-key in
-    gives_by c.map_of.result
+    gives_by c.made.result
     (ap (λ r. r >>= λ es. made (mapping es))
-    (l.invariant ∙ ap (pairs_given c.args.site.now c.args.graph.now (entries_view l.entries.entries)) (items_end c.loop-key-test.false c.deref-key-items.ensures.value)))
-    (told c.map_of.result c.map_of.ensures.ok c.map_of.ensures.err)
-
-pub call-returns-then-is_coalesce : goal.call-returns-then-is_coalesce
-call-returns-then-is_coalesce g t c =
-    let es = expressions_of (map expression_view c.args.arguments.now.items) in
-    let named = ap function_named (sym c.as_str.ensures.value) ∙ sym c.function_named.ensures ∙ ap (option_map function_view) c.in-Some.is in
-    gives_by c.first_given.result (turn.coalesced c.args.site.now c.args.graph.now (string_bytes c.args.name.now.text) es (function_view c.in-Some.function) named (sym c.is_coalesce.ensures ∙ c.if-is_coalesce.true)) c.first_given.ensures
-
-pub call-returns-in_err-found : goal.call-returns-in_err-found
-call-returns-in_err-found g t c =
-    let s = c.args.site.now in
-    let graph = c.args.graph.now in
-    let es = expressions_of (map expression_view c.args.arguments.now.items) in
-    let named = ap function_named (sym c.as_str.ensures.value) ∙ sym c.function_named.ensures ∙ ap (option_map function_view) c.in-Some.is in
-    fault_gives c.in_err-found.field-0.0 c.from_residual.result c.from_residual.ensures.1
-    (λ n. turn.called s graph (string_bytes c.args.name.now.text) es (function_view c.in-Some.function) named (sym c.is_coalesce.ensures ∙ c.if-is_coalesce.false) ∙ ap (λ r. r >>= applied graph (function_view c.in-Some.function)) (c.in_err-found.ensures.err n))
-
-pub call-returns : goal.call-returns
-call-returns g t c =
-    let s = c.args.site.now in
-    let graph = c.args.graph.now in
-    let es = expressions_of (map expression_view c.args.arguments.now.items) in
-    let named = ap function_named (sym c.as_str.ensures.value) ∙ sym c.function_named.ensures ∙ ap (option_map function_view) c.in-Some.is in
-    gives_by c.applied.result
-    (turn.called s graph (string_bytes c.args.name.now.text) es (function_view c.in-Some.function) named (sym c.is_coalesce.ensures ∙ c.if-is_coalesce.false) ∙ ap (λ r. r >>= applied graph (function_view c.in-Some.function)) c.in_ok-found.ensures.ok)
-    record { ok = c.applied.ensures.ok; err = c.applied.ensures.err }
+    (l.invariant ∙ ap (pairs_given c.args.site.now c.args.graph.now (entries_view l.entries.entries)) (items_end c.loop-key-test.false c.deref-key-items.ensures.value))
+    ∙ ap made (sym (map_seen l.entries refl)))
+    (told c.made.result c.made.ensures.ok c.made.ensures.err)
 
 pub first_given-returns-in_err-next : goal.first_given-returns-in_err-next
 first_given-returns-in_err-next g t c =
@@ -300,31 +227,6 @@ first_given-returns g t c =
       ok = c.loop-item.invariant ∙ ap (first_of c.args.site.now c.args.graph.now) (items_end c.loop-item-test.false c.deref-item-items.ensures.value) ∙ ap Ok (sym c.null.ensures);
       err = tt;
     }
-
-pub perhaps-returns-in_err-find-in-Some : goal.perhaps-returns-in_err-find-in-Some
-perhaps-returns-in_err-find-in-Some g t c =
-    let s = c.args.site.now in
-    let graph = c.args.graph.now in
-    fault_gives c.in_err-find-in-Some.field-0.0 c.from_residual.result c.from_residual.ensures.1
-    (λ n. ap (λ o. given_perhaps s graph (perhaps_view o)) c.in-Some.is
-    ∙ ap (λ r. r >>= λ v. Ok (Some v)) (turn.boxed s graph c.deref.ensures (c.in_err-find-in-Some.ensures.err n)))
-
-pub perhaps-returns-in_ok-find-in-Some : goal.perhaps-returns-in_ok-find-in-Some
-perhaps-returns-in_ok-find-in-Some g t c =
-    let s = c.args.site.now in
-    let graph = c.args.graph.now in
-    record {
-      ok = ap (λ o. given_perhaps s graph (perhaps_view o)) c.in-Some.is ∙ ap (λ r. r >>= λ v. Ok (Some v)) (turn.boxed s graph c.deref.ensures c.in_ok-find-in-Some.ensures.ok);
-      err = tt;
-    }
-
-pub perhaps-returns-in-None : goal.perhaps-returns-in-None
-perhaps-returns-in-None g t c =
-    record { ok = ap (λ o. given_perhaps c.args.site.now c.args.graph.now (perhaps_view o)) c.in-None.is; err = tt }
-
-pub choose-returns : goal.choose-returns
-choose-returns g t c =
-    c.first_true.ensures
 
 pub first_true-returns-in_err-tested : goal.first_true-returns-in_err-tested
 first_true-returns-in_err-tested g t c =
@@ -398,45 +300,6 @@ first_true-returns g t c =
       ok = c.loop-condition.invariant ∙ ap (true_of c.args.site.now c.args.graph.now (option_map found_view c.args.subject.now)) (items_end c.loop-condition-test.false c.deref-condition-items.ensures.value);
       err = tt;
     }
-
-pub or_otherwise-returns-in-Some : goal.or_otherwise-returns-in-Some
-or_otherwise-returns-in-Some g t c =
-    let s = c.args.site.now in
-    let graph = c.args.graph.now in
-    record { ok = ap (λ o. given_otherwise s graph (option_map found_view o) (perhaps_view c.args.otherwise.now)) c.in-Some.is; err = tt }
-
-pub or_otherwise-returns-in_err-found : goal.or_otherwise-returns-in_err-found
-or_otherwise-returns-in_err-found g t c =
-    let s = c.args.site.now in
-    let graph = c.args.graph.now in
-    fault_gives c.in_err-found.field-0.0 c.from_residual.result c.from_residual.ensures.1
-    (λ n. ap (λ o. given_otherwise s graph (option_map found_view o) (perhaps_view c.args.otherwise.now)) c.in_default.is
-    ∙ ap (λ r. r >>= λ o. Ok (unwrap_or o null)) (c.in_err-found.ensures.err n))
-
-pub or_otherwise-returns : goal.or_otherwise-returns
-or_otherwise-returns g t c =
-    let s = c.args.site.now in
-    let graph = c.args.graph.now in
-    record {
-      ok = ap (λ o. given_otherwise s graph (option_map found_view o) (perhaps_view c.args.otherwise.now)) c.in_default.is
-          ∙ ap (λ r. r >>= λ o. Ok (unwrap_or o null)) c.in_ok-found.ensures.ok
-          ∙ ap Ok (sym c.or_null.ensures);
-      err = tt;
-    }
-
-pub chain-returns-then-begins_comparison : goal.chain-returns-then-begins_comparison
-chain-returns-then-begins_comparison g t c =
-    let s = c.args.site.now in
-    let graph = c.args.graph.now in
-    let v = found_view c.args.first in
-    let os = operands_of (map operand_view c.args.operands.now.items) in
-    gives_by c.compared.result (turn.of_comparisons s graph v os (sym c.begins_comparison.ensures ∙ c.if-begins_comparison.true))
-    (after c.each_operand.result (given_operands s graph os) (λ ps. pairs_view ps.items) (truth_compared v) c.compared.result found_view c.each_operand.ensures.ok c.each_operand.ensures.err c.compared.ensures)
-
-pub chain-returns-else-begins_comparison : goal.chain-returns-else-begins_comparison
-chain-returns-else-begins_comparison g t c =
-    let os = operands_of (map operand_view c.args.operands.now.items) in
-    gives_by c.joined.result (turn.of_others c.args.site.now c.args.graph.now (found_view c.args.first) os (sym c.begins_comparison.ensures ∙ c.if-begins_comparison.false)) c.joined.ensures
 
 pub joined-returns-in_err-right : goal.joined-returns-in_err-right
 joined-returns-in_err-right g t c =
@@ -646,10 +509,125 @@ find-returns-in_err-found-in-Suffixes g t c =
     fault_gives c.in_err-found-in-Suffixes.field-0.0 c.from_residual-in_err-found-in-Suffixes.result c.from_residual-in_err-found-in-Suffixes.ensures.1
     (λ n. ap (λ e. given s graph (expression_view e)) a.is ∙ turn.failed_suffixes s graph a.inner a.suffixes a.names c.in_err-found-in-Suffixes.field-0.0 (turn.boxed s graph c.deref-in-Suffixes.ensures (c.in_err-found-in-Suffixes.ensures.err n)))
 
-pub find-returns-in_err-subject-in-Case : goal.find-returns-in_err-subject-in-Case
-find-returns-in_err-subject-in-Case g t c =
+pub find-returns-then-is_coalesce : goal.find-returns-then-is_coalesce
+find-returns-then-is_coalesce g t c =
+    let s = c.args.site.now in
+    let graph = c.args.graph.now in
+    let a = c.in-Call in
+    let es = expressions_of (map expression_view a.arguments.items) in
+    let named = ap function_named (sym c.as_str-in-Call.ensures.value) ∙ sym c.function_named.ensures ∙ ap (option_map function_view) c.in-Some.is in
+    gives_by c.first_given.result
+    (ap (λ e. given s graph (expression_view e)) a.is ∙ of_call s graph a.name a.field-1 a.field-2 a.arguments
+    ∙ turn.coalesced s graph (string_bytes a.name.text) es (function_view c.in-Some.function) named (sym c.is_coalesce.ensures ∙ c.if-is_coalesce.true))
+    c.first_given.ensures
+
+pub find-returns-else-is_coalesce : goal.find-returns-else-is_coalesce
+find-returns-else-is_coalesce g t c =
+    let s = c.args.site.now in
+    let graph = c.args.graph.now in
+    let a = c.in-Call in
+    let es = expressions_of (map expression_view a.arguments.items) in
+    let named = ap function_named (sym c.as_str-in-Call.ensures.value) ∙ sym c.function_named.ensures ∙ ap (option_map function_view) c.in-Some.is in
+    let f = function_view c.in-Some.function in
+    gives_by c.applied.result
+    (ap (λ e. given s graph (expression_view e)) a.is ∙ of_call s graph a.name a.field-1 a.field-2 a.arguments
+    ∙ turn.called s graph (string_bytes a.name.text) es f named (sym c.is_coalesce.ensures ∙ c.if-is_coalesce.false))
+    (after c.each-else-is_coalesce.result (each_of s graph a.arguments.items) (λ fs. founds_view fs.items) (λ vs. applied graph f vs) c.applied.result found_view c.each-else-is_coalesce.ensures.ok c.each-else-is_coalesce.ensures.err c.applied.ensures)
+
+pub find-returns-then-begins_comparison : goal.find-returns-then-begins_comparison
+find-returns-then-begins_comparison g t c =
+    let s = c.args.site.now in
+    let graph = c.args.graph.now in
+    let a = c.in-Chain in
+    let v = found_view c.in_ok-found-in-Chain.found in
+    let os = operands_of (map operand_view a.operands.items) in
+    gives_by c.compared.result
+    (ap (λ e. given s graph (expression_view e)) a.is
+    ∙ of_chain s graph a.first a.operands v (turn.boxed s graph c.deref-in-Chain.ensures c.in_ok-found-in-Chain.ensures.ok)
+    ∙ turn.of_comparisons s graph v os (sym c.begins_comparison.ensures ∙ c.if-begins_comparison.true))
+    (after c.each_operand.result (given_operands s graph os) (λ ps. pairs_view ps.items) (truth_compared v) c.compared.result found_view c.each_operand.ensures.ok c.each_operand.ensures.err c.compared.ensures)
+
+pub find-returns-else-begins_comparison : goal.find-returns-else-begins_comparison
+find-returns-else-begins_comparison g t c =
+    let s = c.args.site.now in
+    let graph = c.args.graph.now in
+    let a = c.in-Chain in
+    let v = found_view c.in_ok-found-in-Chain.found in
+    gives_by c.joined.result
+    (ap (λ e. given s graph (expression_view e)) a.is
+    ∙ of_chain s graph a.first a.operands v (turn.boxed s graph c.deref-in-Chain.ensures c.in_ok-found-in-Chain.ensures.ok)
+    ∙ turn.of_others s graph v (operands_of (map operand_view a.operands.items)) (sym c.begins_comparison.ensures ∙ c.if-begins_comparison.false))
+    c.joined.ensures
+
+pub find-returns-in_err-find-in-Some-subject : goal.find-returns-in_err-find-in-Some-subject
+find-returns-in_err-find-in-Some-subject g t c =
     let s = c.args.site.now in
     let graph = c.args.graph.now in
     let a = c.in-Case in
-    fault_gives c.in_err-subject-in-Case.field-0.0 c.from_residual.result c.from_residual.ensures.1
-    (λ n. ap (λ e. given s graph (expression_view e)) a.is ∙ turn.failed_subject s graph a.subject a.whens a.otherwise c.in_err-subject-in-Case.field-0.0 (c.in_err-subject-in-Case.ensures.err n))
+    let e = c.in_err-find-in-Some-subject in
+    fault_gives e.field-0.0 c.from_residual.result c.from_residual.ensures.1
+    (λ n. ap (λ e. given s graph (expression_view e)) a.is
+    ∙ turn.failed_subject s graph a.subject a.whens a.otherwise c.in-Some-subject.inner e.field-0.0 c.in-Some-subject.is (turn.boxed s graph c.deref-in-Some-subject.ensures (e.ensures.err n)))
+
+pub find-returns-in_err-chosen-in-Case : goal.find-returns-in_err-chosen-in-Case
+find-returns-in_err-chosen-in-Case g t c =
+    let s = c.args.site.now in
+    let graph = c.args.graph.now in
+    let a = c.in-Case in
+    let e = c.in_err-chosen-in-Case in
+    let v = option_map found_view c.match-subject.tested in
+    let there : given_perhaps s graph (perhaps_view a.subject) ≡ Ok v = elim c.match-subject.branch [
+      | goal.find-in-Some-subject+in_ok-find-in-Some-subject w ↦ turn.given_subject s graph w.in-Some-subject.inner (found_view w.in_ok-find-in-Some-subject.field-0) w.in-Some-subject.is (turn.boxed s graph w.deref-in-Some-subject.ensures w.in_ok-find-in-Some-subject.ensures.ok) ∙ ap (λ o. Ok (option_map found_view o)) (sym w.tested-is)
+      | goal.find-in-None-subject w ↦ turn.no_subject s graph w.in-None-subject.is ∙ ap (λ o. Ok (option_map found_view o)) (sym w.tested-is)
+    ] in
+    fault_gives e.field-0.0 c.from_residual-in_err-chosen-in-Case.result c.from_residual-in_err-chosen-in-Case.ensures.1
+    (λ n. ap (λ e. given s graph (expression_view e)) a.is ∙ failed_case s graph a.subject a.whens a.otherwise v there e.field-0.0 (e.ensures.err n))
+
+pub find-returns-in-Some-chosen : goal.find-returns-in-Some-chosen
+find-returns-in-Some-chosen g t c =
+    let s = c.args.site.now in
+    let graph = c.args.graph.now in
+    let a = c.in-Case in
+    let o = c.in_ok-chosen-in-Case in
+    let v = option_map found_view c.match-subject.tested in
+    let there : given_perhaps s graph (perhaps_view a.subject) ≡ Ok v = elim c.match-subject.branch [
+      | goal.find-in-Some-subject+in_ok-find-in-Some-subject w ↦ turn.given_subject s graph w.in-Some-subject.inner (found_view w.in_ok-find-in-Some-subject.field-0) w.in-Some-subject.is (turn.boxed s graph w.deref-in-Some-subject.ensures w.in_ok-find-in-Some-subject.ensures.ok) ∙ ap (λ o. Ok (option_map found_view o)) (sym w.tested-is)
+      | goal.find-in-None-subject w ↦ turn.no_subject s graph w.in-None-subject.is ∙ ap (λ o. Ok (option_map found_view o)) (sym w.tested-is)
+    ] in
+    record {
+      ok = ap (λ e. given s graph (expression_view e)) a.is ∙ chosen_case s graph a.subject a.whens a.otherwise v there o.chosen o.ensures.ok c.in-Some-chosen.found c.in-Some-chosen.is;
+      err = tt;
+    }
+
+pub find-returns-in-Some-otherwise : goal.find-returns-in-Some-otherwise
+find-returns-in-Some-otherwise g t c =
+    let s = c.args.site.now in
+    let graph = c.args.graph.now in
+    let a = c.in-Case in
+    let o = c.in_ok-chosen-in-Case in
+    let v = option_map found_view c.match-subject.tested in
+    let there : given_perhaps s graph (perhaps_view a.subject) ≡ Ok v = elim c.match-subject.branch [
+      | goal.find-in-Some-subject+in_ok-find-in-Some-subject w ↦ turn.given_subject s graph w.in-Some-subject.inner (found_view w.in_ok-find-in-Some-subject.field-0) w.in-Some-subject.is (turn.boxed s graph w.deref-in-Some-subject.ensures w.in_ok-find-in-Some-subject.ensures.ok) ∙ ap (λ o. Ok (option_map found_view o)) (sym w.tested-is)
+      | goal.find-in-None-subject w ↦ turn.no_subject s graph w.in-None-subject.is ∙ ap (λ o. Ok (option_map found_view o)) (sym w.tested-is)
+    ] in
+    gives_by c.find-in-Some-otherwise.result
+    (ap (λ e. given s graph (expression_view e)) a.is
+    ∙ otherwise_case s graph a.subject a.whens a.otherwise v there o.chosen o.ensures.ok c.in-Some-otherwise.inner c.in-None-chosen.is c.in-Some-otherwise.is
+    ∙ ap (λ x. given s graph (expression_view x)) (sym c.deref-in-Some-otherwise.ensures))
+    c.find-in-Some-otherwise.ensures
+
+pub find-returns-in-None-otherwise : goal.find-returns-in-None-otherwise
+find-returns-in-None-otherwise g t c =
+    let s = c.args.site.now in
+    let graph = c.args.graph.now in
+    let a = c.in-Case in
+    let o = c.in_ok-chosen-in-Case in
+    let v = option_map found_view c.match-subject.tested in
+    let there : given_perhaps s graph (perhaps_view a.subject) ≡ Ok v = elim c.match-subject.branch [
+      | goal.find-in-Some-subject+in_ok-find-in-Some-subject w ↦ turn.given_subject s graph w.in-Some-subject.inner (found_view w.in_ok-find-in-Some-subject.field-0) w.in-Some-subject.is (turn.boxed s graph w.deref-in-Some-subject.ensures w.in_ok-find-in-Some-subject.ensures.ok) ∙ ap (λ o. Ok (option_map found_view o)) (sym w.tested-is)
+      | goal.find-in-None-subject w ↦ turn.no_subject s graph w.in-None-subject.is ∙ ap (λ o. Ok (option_map found_view o)) (sym w.tested-is)
+    ] in
+    record {
+      ok = ap (λ e. given s graph (expression_view e)) a.is ∙ null_case s graph a.subject a.whens a.otherwise v there o.chosen o.ensures.ok c.in-None-chosen.is c.in-None-otherwise.is ∙ ap Ok (sym c.null.ensures);
+      err = tt;
+    }

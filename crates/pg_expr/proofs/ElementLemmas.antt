@@ -1,0 +1,40 @@
+-- What has properties, by what it is.
+use Rattle.std.proofs.Common.{◌≡◌, BTreeMap, String, Global, Result, Ok, Err, IfOk, IfErr, refl, sym, ap, subst, ◌∙◌}
+use Rattle.pg_expr.specs.Elements.{element_properties, properties_given, keys_given}
+use Rattle.pg_meaning.specs.Answer.{Answer, ◌>>=◌}
+use Rattle.pg_meaning.specs.Functions.{properties_of, texts}
+use Rattle.pg_meaning.specs.Graph.{Graph}
+use Rattle.pg_meaning.specs.Order.{keys_of}
+use Rattle.pg_meaning.specs.Value.{Value as Datum, mapping}
+use Rattle.pg_meaning.specs.declared.fault.Fault.{Fault}
+use Rattle.pg_meaning.specs.declared.fault.Fault.TheVariants.{OutOfMemory}
+use Rattle.pg_value_core.proofs.Forms.{map_seen}
+use Rattle.pg_value_core.specs.Gives.{Gives}
+use Rattle.pg_value_core.specs.View.{view, view_step, entries_view}
+use Rattle.pg_value_core.specs.declared.value.Value.{Value}
+use Rattle.pg_value_core.specs.declared.value.Value.TheFolds.{fold-roll-Value}
+use Rattle.pg_value_core.specs.declared.value.Value.TheOpen.{Value-F}
+use Rattle.pg_value_core.specs.declared.value.Value.TheVariants.{Map}
+use Rattle.pg_value_core.specs.declared.value.Value.TheViews.{out-Value, roll-Value, roll-out-Value, rolls-Map}
+
+module _ (g : Graph) (v : Value) where
+  element_part : (part : Value-F Value) → roll-Value part ≡ v → ((m : BTreeMap (String Global) Value) → v ≡ Map m → ⊥) → properties_of g (view v) ≡ element_properties g (view v)
+  element_part (Value-F.Map m) same none = absurd (none m (sym same ∙ rolls-Map m))
+  element_part part same none = subst (λ u. properties_of g u ≡ element_properties g u) (sym (fold-roll-Value Datum view_step part) ∙ ap view same) refl
+
+  pub of_element : ((m : BTreeMap (String Global) Value) → v ≡ Map m → ⊥) → properties_of g (view v) ≡ element_properties g (view v)
+  of_element none = element_part (out-Value v) (roll-out-Value v) none
+
+  pub map_keys : (m : BTreeMap (String Global) Value) → v ≡ Map m → keys_given g (view v) ≡ Ok (texts (keys_of (entries_view m.entries)))
+  map_keys m is = ap (keys_given g) (map_seen m is)
+
+  module _ (d : Datum) (is : view v ≡ d) where
+    pub map_properties : (m : BTreeMap (String Global) Value) → v ≡ Map m → properties_given g d ≡ Ok d
+    map_properties m h = subst (λ u. properties_given g u ≡ Ok u) (sym (map_seen m h) ∙ is) refl
+
+    pub element_given : ((m : BTreeMap (String Global) Value) → v ≡ Map m → ⊥) → properties_given g d ≡ (element_properties g (view v) >>= λ es. Ok (mapping es))
+    element_given none = ap (properties_given g) (sym is) ∙ ap (λ r. r >>= λ es. Ok (mapping es)) (of_element none)
+
+pub keys_told : {answer : Answer} (ts : Datum) (result : Result Value Fault) → IfOk result (λ u. view u ≡ ts) → IfErr result (λ e. e ≡ OutOfMemory) → answer ≡ Ok ts → Gives result answer view
+keys_told ts (Ok u) h k same = record { ok = same ∙ ap Ok (sym h); err = tt }
+keys_told ts (Err e) h k same = record { ok = tt; err = λ other. absurd (other k) }

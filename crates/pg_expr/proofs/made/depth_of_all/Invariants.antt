@@ -1,9 +1,0 @@
-use Rattle.std.proofs.Common.{◌≡◌, ◌^◌, ◌-◌, ◌≤◌, min, max, drop}
-use Rattle.pg_meaning.specs.Measure.{items_depth}
-use Rattle.pg_expr.specs.Sites.{founds_view}
-use Rattle.pg_expr.proofs.made.depth_of_all.Given as goal
-
--- the most so far and the most of what is left make the most of all
-abbrev pub invariant-loop-item : goal.invariant-loop-item
-invariant-loop-item l =
-    (l.most ≤ 2 ^ 64 - 1) × (min (max l.most (items_depth (founds_view (drop l.item-index l.item-items)))) (2 ^ 64 - 1) ≡ min (items_depth (founds_view l.item-items)) (2 ^ 64 - 1))

@@ -2,7 +2,6 @@
 
 ghost use Rattle.std.specs.Prelude.{◌≡◌, IfOk, IfErr, Ok, Err, true, false};
 ghost use Rattle.pg_meaning.specs.Arithmetic.{minus, times, divide, modulo, signed};
-ghost use Rattle.pg_meaning.specs.Value.{integer};
 ghost use Rattle.pg_value_core.specs.View.{view};
 
 use pg_value_core::{Fault, Value};
@@ -40,56 +39,45 @@ pub fn times(v: &Value, w: &Value) -> Result<Value, Fault>
 }
 
 /// `v / w`, truncated toward zero.
+#[tactic(auto, using(crate::proofs::Checked::in_division))]
 pub fn divide(v: &Value, w: &Value) -> Result<Value, Fault>
     ensures ok { IfOk result (λ u. divide (view v.now) (view w.now) ≡ Ok (view u)) }
     ensures err { IfErr result (λ e. divide (view v.now) (view w.now) ≡ Err e) }
 {
     match (v, w) {
         (Value::Null, _) | (_, Value::Null) => Ok(Value::Null),
-        (Value::Int(x), Value::Int(y)) => divide_integers(*x, *y),
+        (Value::Int(x), Value::Int(y)) => {
+            if *y == 0 {
+                return Err(Fault::DivisionByZero);
+            }
+            match x.checked_div(*y) {
+                Some(n) => Ok(Value::Int(n)),
+                None => Err(Fault::Overflow),
+            }
+        }
         _ => Err(Fault::TypeFault),
     }
 }
 
-#[tactic(auto, using(crate::proofs::Checked::in_division))]
-fn divide_integers(x: i64, y: i64) -> Result<Value, Fault>
-    ensures ok { IfOk result (λ u. divide (integer x) (integer y) ≡ Ok (view u)) }
-    ensures err { IfErr result (λ e. divide (integer x) (integer y) ≡ Err e) }
-{
-    if y == 0 {
-        return Err(Fault::DivisionByZero);
-    }
-    match x.checked_div(y) {
-        Some(n) => Ok(Value::Int(n)),
-        None => Err(Fault::Overflow),
-    }
-}
-
-/// What `v / w` leaves of `v`, with the sign of `v`.
+/// What `v / w` leaves of `v`, with the sign of `v`: by -1 it is 0, also where the quotient is out of range.
+#[tactic(auto, using(crate::proofs::Checked::in_remainder))]
 pub fn modulo(v: &Value, w: &Value) -> Result<Value, Fault>
     ensures ok { IfOk result (λ u. modulo (view v.now) (view w.now) ≡ Ok (view u)) }
     ensures err { IfErr result (λ e. modulo (view v.now) (view w.now) ≡ Err e) }
 {
     match (v, w) {
         (Value::Null, _) | (_, Value::Null) => Ok(Value::Null),
-        (Value::Int(x), Value::Int(y)) => remainder(*x, *y),
+        (Value::Int(x), Value::Int(y)) => {
+            if *y == 0 {
+                return Err(Fault::DivisionByZero);
+            }
+            if *y == -1 {
+                return Ok(Value::Int(0));
+            }
+            Ok(Value::Int(*x % *y))
+        }
         _ => Err(Fault::TypeFault),
     }
-}
-
-/// The remainder by -1 is 0, also where the quotient is out of range.
-#[tactic(auto, using(crate::proofs::Checked::in_remainder))]
-fn remainder(x: i64, y: i64) -> Result<Value, Fault>
-    ensures ok { IfOk result (λ u. modulo (integer x) (integer y) ≡ Ok (view u)) }
-    ensures err { IfErr result (λ e. modulo (integer x) (integer y) ≡ Err e) }
-{
-    if y == 0 {
-        return Err(Fault::DivisionByZero);
-    }
-    if y == -1 {
-        return Ok(Value::Int(0));
-    }
-    Ok(Value::Int(x % y))
 }
 
 /// `-v`.

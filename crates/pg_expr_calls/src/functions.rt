@@ -169,15 +169,9 @@ pub fn to_integer(v: &Value) -> Result<Value, Fault>
 {
     match v {
         Value::Int(i) => Ok(Value::Int(*i)),
-        Value::Text(text) => Ok(integer_in_text(text)),
+        Value::Text(text) => Ok(integer_in(text.as_str())),
         _ => Err(Fault::TypeFault),
     }
-}
-
-fn integer_in_text(text: &String) -> Value
-    ensures { view result ≡ integer_in (string_bytes text.now) }
-{
-    integer_in(text.as_str())
 }
 
 fn integer_in(text: &str) -> Value

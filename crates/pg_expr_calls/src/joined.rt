@@ -1,6 +1,6 @@
 //! What `+` gives: sums, joined texts, and lists joined or with one item more.
 
-ghost use Rattle.std.specs.Prelude.{◌≡◌, ◌≢◌, IfOk, IfErr, Ok, Err, true, ◌++◌, string_bytes};
+ghost use Rattle.std.specs.Prelude.{◌≡◌, ◌≢◌, IfOk, IfErr, Ok, Err, true, string_bytes};
 ghost use Rattle.pg_expr_calls.specs.Sums.{have_no_sum};
 ghost use Rattle.pg_meaning.specs.Arithmetic.{plus, appended};
 ghost use Rattle.pg_meaning.specs.Measure.{made};
@@ -39,12 +39,15 @@ fn integer_plus(x: i64, w: Value) -> Result<Value, Fault>
     }
 }
 
-fn text_plus(s: String, w: Value) -> Result<Value, Fault>
+fn text_plus(mut s: String, w: Value) -> Result<Value, Fault>
     ensures ok { IfOk result (λ u. plus (text (string_bytes s)) (view w) ≡ Ok (view u)) }
     ensures err { IfErr result (λ e. e ≢ OutOfMemory → plus (text (string_bytes s)) (view w) ≡ Err e) }
 {
     match w.into_parts() {
-        Parts::Text(t) => join_texts(s, t.as_str()),
+        Parts::Text(t) => {
+            s.push_str(t.as_str())?;
+            made(Value::Text(s))
+        }
         w => other_plus(Value::Text(s), w.into_value()),
     }
 }
@@ -71,14 +74,6 @@ fn other_plus(v: Value, w: Value) -> Result<Value, Fault>
         Parts::List(ys) => prepend(v, ys),
         _ => Err(Fault::TypeFault),
     }
-}
-
-fn join_texts(mut s: String, t: &str) -> Result<Value, Fault>
-    ensures ok { IfOk result (λ u. made (text (string_bytes s ++ t.now)) ≡ Ok (view u)) }
-    ensures err { IfErr result (λ e. e ≢ OutOfMemory → made (text (string_bytes s ++ t.now)) ≡ Err e) }
-{
-    s.push_str(t)?;
-    made(Value::Text(s))
 }
 
 fn join_lists(mut xs: Vec<Value>, mut ys: Vec<Value>) -> Result<Value, Fault>

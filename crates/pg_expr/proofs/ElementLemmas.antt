@@ -1,21 +1,24 @@
 -- What has properties, by what it is.
-use Rattle.std.proofs.Common.{◌≡◌, BTreeMap, String, Global, Result, Ok, Err, IfOk, IfErr, refl, sym, ap, subst, ◌∙◌}
+use Rattle.std.proofs.Common.{◌≡◌, ℕ, List, BTreeMap, String, Global, Result, Ok, Err, IfOk, IfErr, refl, sym, ap, subst, ◌∙◌}
 use Rattle.pg_expr.specs.Elements.{element_properties, properties_given, keys_given}
 use Rattle.pg_meaning.specs.Answer.{Answer, ◌>>=◌}
+use Rattle.pg_meaning.specs.Expressions.{property_of}
 use Rattle.pg_meaning.specs.Functions.{properties_of, texts}
 use Rattle.pg_meaning.specs.Graph.{Graph}
 use Rattle.pg_meaning.specs.Order.{keys_of}
 use Rattle.pg_meaning.specs.Value.{Value as Datum, mapping}
 use Rattle.pg_meaning.specs.declared.fault.Fault.{Fault}
-use Rattle.pg_meaning.specs.declared.fault.Fault.TheVariants.{OutOfMemory}
+use Rattle.pg_meaning.specs.declared.fault.Fault.TheVariants.{OutOfMemory, TypeFault}
 use Rattle.pg_value_core.proofs.Forms.{map_seen}
 use Rattle.pg_value_core.specs.Gives.{Gives}
 use Rattle.pg_value_core.specs.View.{view, view_step, entries_view}
+use Rattle.pg_value_core.specs.declared.ids.NodeId.{NodeId}
+use Rattle.pg_value_core.specs.declared.ids.RelId.{RelId}
 use Rattle.pg_value_core.specs.declared.value.Value.{Value}
 use Rattle.pg_value_core.specs.declared.value.Value.TheFolds.{fold-roll-Value}
 use Rattle.pg_value_core.specs.declared.value.Value.TheOpen.{Value-F}
-use Rattle.pg_value_core.specs.declared.value.Value.TheVariants.{Map}
-use Rattle.pg_value_core.specs.declared.value.Value.TheViews.{out-Value, roll-Value, roll-out-Value, rolls-Map}
+use Rattle.pg_value_core.specs.declared.value.Value.TheVariants.{Null, Map, Node, Rel}
+use Rattle.pg_value_core.specs.declared.value.Value.TheViews.{out-Value, roll-Value, roll-out-Value, rolls-Null, rolls-Map, rolls-Node, rolls-Rel}
 
 module _ (g : Graph) (v : Value) where
   element_part : (part : Value-F Value) → roll-Value part ≡ v → ((m : BTreeMap (String Global) Value) → v ≡ Map m → ⊥) → properties_of g (view v) ≡ element_properties g (view v)
@@ -38,3 +41,15 @@ module _ (g : Graph) (v : Value) where
 pub keys_told : {answer : Answer} (ts : Datum) (result : Result Value Fault) → IfOk result (λ u. view u ≡ ts) → IfErr result (λ e. e ≡ OutOfMemory) → answer ≡ Ok ts → Gives result answer view
 keys_told ts (Ok u) h k same = record { ok = same ∙ ap Ok (sym h); err = tt }
 keys_told ts (Err e) h k same = record { ok = tt; err = λ other. absurd (other k) }
+
+-- what is null, a map, a node or a relationship has properties, and no other value has
+module _ (g : Graph) (k : List ℕ) (v : Value) (some : v ≡ Null → ⊥) (map : (m : BTreeMap (String Global) Value) → v ≡ Map m → ⊥) (node : (n : NodeId) → v ≡ Node n → ⊥) (rel : (r : RelId) → v ≡ Rel r → ⊥) where
+  no_part : (part : Value-F Value) → roll-Value part ≡ v → property_of g (view v) k ≡ Err TypeFault
+  no_part Value-F.Null same = absurd (some (sym same ∙ rolls-Null))
+  no_part (Value-F.Map m) same = absurd (map m (sym same ∙ rolls-Map m))
+  no_part (Value-F.Node n) same = absurd (node n (sym same ∙ rolls-Node n))
+  no_part (Value-F.Rel r) same = absurd (rel r (sym same ∙ rolls-Rel r))
+  no_part part same = ap (λ u. property_of g u k) (sym (ap view same) ∙ fold-roll-Value Datum view_step part)
+
+  pub no_property : property_of g (view v) k ≡ Err TypeFault
+  no_property = no_part (out-Value v) (roll-out-Value v)

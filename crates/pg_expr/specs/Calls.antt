@@ -4,7 +4,7 @@ use Rattle.pg_expr.specs.Sites.{given_each, given_first}
 use Rattle.pg_expr.specs.declared.site.Site.{Site}
 use Rattle.pg_meaning.specs.Answer.{Answer, ◌>>=◌}
 use Rattle.pg_meaning.specs.Expressions.{is_coalesce, fault_of_name}
-use Rattle.pg_meaning.specs.Functions.{Function, function_named, applied, of_one, integers_of, range_over}
+use Rattle.pg_meaning.specs.Functions.{Function, function_named, applied, of_one, head_of, last_of, integers_of, range_over}
 use Rattle.pg_meaning.specs.Functions as function
 use Rattle.pg_meaning.specs.Graph.{Graph}
 use Rattle.pg_meaning.specs.Tree as tree
@@ -39,3 +39,8 @@ looks f = true
 -- no function of one value takes so many
 abbrev pub IsNotOne : Values → Type 0
 IsNotOne vs = (f : Value → Answer) → of_one f vs ≡ Err UnknownFunction
+
+-- the first item of a list, or its last
+abbrev pub item_at_end : (is_last : Bool) → Value → Answer
+item_at_end false v = head_of v
+item_at_end true v = last_of v

@@ -1,11 +1,11 @@
 //! What functions give: deleted elements among the arguments first, then null, then the function, then the limits.
 ghost use Rattle.std.specs.Prelude.{◌≡◌, ◌≢◌, IfOk, IfErr, IfSome, IfNone, Ok, Err, true, false, ◌-◌};
 ghost use Rattle.pg_expr.specs.After.{After};
-ghost use Rattle.pg_expr.specs.Calls.{is_range, looks, IsNotOne};
+ghost use Rattle.pg_expr.specs.Calls.{is_range, item_at_end, looks, IsNotOne};
 ghost use Rattle.pg_expr.specs.Sites.{found_view, founds_view};
 ghost use Rattle.pg_meaning.specs.Expressions.{fault_of_name};
 ghost use Rattle.pg_meaning.specs.Expressions as meaning;
-ghost use Rattle.pg_meaning.specs.Functions.{applied, function_at, has_deleted, has_null, is_deleted, is_null, head_of, last_of, string_of};
+ghost use Rattle.pg_meaning.specs.Functions.{applied, function_at, has_deleted, has_null, is_deleted, is_null, string_of};
 ghost use Rattle.pg_meaning.specs.Functions as functions;
 ghost use Rattle.pg_meaning.specs.Value.{item, no_items};
 ghost use Rattle.pg_meaning.specs.declared.fault.Fault.TheVariants.{OutOfMemory};
@@ -147,8 +147,8 @@ fn at_one<'a, T: Tables>(
 {
     match function {
         Function::Properties => properties(alloc, graph, argument),
-        Function::Head => head(argument),
-        Function::Last => last(argument),
+        Function::Head => end_item(argument, false),
+        Function::Last => end_item(argument, true),
         Function::Coalesce => Ok(argument),
         Function::ToString => to_text(alloc, argument),
         _ => Ok(Found::Made(at_look(alloc, graph, function, argument.look())?)),
@@ -197,25 +197,28 @@ fn to_text<'a>(alloc: Global, argument: Found<'a>) -> Result<Found<'a>, Fault>
     Ok(Found::Made(values::to_text(alloc, value)?))
 }
 
-fn head<'a>(argument: Found<'a>) -> Result<Found<'a>, Fault>
-    ensures ok { IfOk result (λ f. head_of (found_view argument.entry) ≡ Ok (found_view f)) }
-    ensures err { IfErr result (λ e. head_of (found_view argument.entry) ≡ Err e) }
+/// The first item of a list, or its last.
+fn end_item<'a>(argument: Found<'a>, is_last: bool) -> Result<Found<'a>, Fault>
+    ensures ok { IfOk result (λ f. item_at_end is_last (found_view argument.entry) ≡ Ok (found_view f)) }
+    ensures err { IfErr result (λ e. item_at_end is_last (found_view argument.entry) ≡ Err e) }
 {
     match argument {
-        Found::Lent(Value::List(items)) => Ok(item_at(items, 0)),
+        Found::Lent(Value::List(items)) => {
+            if is_last {
+                Ok(last_item(items))
+            } else {
+                Ok(item_at(items, 0))
+            }
+        }
         Found::Lent(_) => Err(Fault::TypeFault),
-        Found::Made(value) => Ok(Found::Made(values::head(value)?)),
-    }
-}
-
-fn last<'a>(argument: Found<'a>) -> Result<Found<'a>, Fault>
-    ensures ok { IfOk result (λ f. last_of (found_view argument.entry) ≡ Ok (found_view f)) }
-    ensures err { IfErr result (λ e. last_of (found_view argument.entry) ≡ Err e) }
-{
-    match argument {
-        Found::Lent(Value::List(items)) => Ok(last_item(items)),
-        Found::Lent(_) => Err(Fault::TypeFault),
-        Found::Made(value) => Ok(Found::Made(values::last(value)?)),
+        Found::Made(value) => {
+            let item = if is_last {
+                values::last(value)?
+            } else {
+                values::head(value)?
+            };
+            Ok(Found::Made(item))
+        }
     }
 }
 

@@ -121,12 +121,14 @@ pub(crate) fn tested<'a>(
 ) -> Result<Found<'a>, Fault>
     ensures { After w.entry result (λ u. tested test (found_view v.entry) (found_view u)) found_view }
 {
-    let right = w?;
+    let found = w?;
+    let left = v.look();
+    let right = found.look();
     let value = match test {
-        TextTest::StartsWith => values::begins_with(v.look(), right.look()),
-        TextTest::EndsWith => values::finishes_with(v.look(), right.look()),
-        TextTest::Contains => values::contains(v.look(), right.look()),
-        TextTest::In => value_of(is_in(v.look(), right.look())?),
+        TextTest::StartsWith => values::begins_with(left, right),
+        TextTest::EndsWith => values::finishes_with(left, right),
+        TextTest::Contains => values::contains(left, right),
+        TextTest::In => value_of(is_in(left, right)?),
     };
     Ok(Found::Made(value))
 }

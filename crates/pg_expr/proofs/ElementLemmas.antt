@@ -3,7 +3,7 @@ use Rattle.std.proofs.Common.{◌≡◌, ℕ, List, BTreeMap, String, Global, Re
 use Rattle.pg_expr.specs.Elements.{element_properties, properties_given, keys_given}
 use Rattle.pg_meaning.specs.Answer.{Answer, ◌>>=◌}
 use Rattle.pg_meaning.specs.Expressions.{property_of}
-use Rattle.pg_meaning.specs.Functions.{properties_of, texts}
+use Rattle.pg_meaning.specs.Functions.{labels_of, properties_of, texts, type_of}
 use Rattle.pg_meaning.specs.Graph.{Graph}
 use Rattle.pg_meaning.specs.Order.{keys_of}
 use Rattle.pg_meaning.specs.Value.{Value as Datum, mapping}
@@ -53,3 +53,30 @@ module _ (g : Graph) (k : List ℕ) (v : Value) (some : v ≡ Null → ⊥) (map
 
   pub no_property : property_of g (view v) k ≡ Err TypeFault
   no_property = no_part (out-Value v) (roll-out-Value v)
+
+-- what no node and no relationship has
+module _ (v : Value) where
+  module _ (node : (n : NodeId) → v ≡ Node n → ⊥) where
+    unlabelled_part : (g : Graph) (part : Value-F Value) → roll-Value part ≡ v → labels_of g (view v) ≡ Err TypeFault
+    unlabelled_part g (Value-F.Node n) same = absurd (node n (sym same ∙ rolls-Node n))
+    unlabelled_part g part same = ap (labels_of g) (sym (ap view same) ∙ fold-roll-Value Datum view_step part)
+
+    pub no_labels : (g : Graph) → labels_of g (view v) ≡ Err TypeFault
+    no_labels g = unlabelled_part g (out-Value v) (roll-out-Value v)
+
+  module _ (rel : (r : RelId) → v ≡ Rel r → ⊥) where
+    untyped_part : (g : Graph) (part : Value-F Value) → roll-Value part ≡ v → type_of g (view v) ≡ Err TypeFault
+    untyped_part g (Value-F.Rel r) same = absurd (rel r (sym same ∙ rolls-Rel r))
+    untyped_part g part same = ap (type_of g) (sym (ap view same) ∙ fold-roll-Value Datum view_step part)
+
+    pub no_type : (g : Graph) → type_of g (view v) ≡ Err TypeFault
+    no_type g = untyped_part g (out-Value v) (roll-out-Value v)
+
+  module _ (node : (n : NodeId) → v ≡ Node n → ⊥) (rel : (r : RelId) → v ≡ Rel r → ⊥) where
+    bare_part : (g : Graph) (part : Value-F Value) → roll-Value part ≡ v → element_properties g (view v) ≡ Err TypeFault
+    bare_part g (Value-F.Node n) same = absurd (node n (sym same ∙ rolls-Node n))
+    bare_part g (Value-F.Rel r) same = absurd (rel r (sym same ∙ rolls-Rel r))
+    bare_part g part same = ap (element_properties g) (sym (ap view same) ∙ fold-roll-Value Datum view_step part)
+
+    pub no_properties : (g : Graph) → element_properties g (view v) ≡ Err TypeFault
+    no_properties g = bare_part g (out-Value v) (roll-out-Value v)

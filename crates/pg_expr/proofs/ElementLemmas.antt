@@ -1,9 +1,9 @@
 -- What has properties, by what it is.
-use Rattle.std.proofs.Common.{◌≡◌, ℕ, List, BTreeMap, String, Global, Result, Ok, Err, IfOk, IfErr, refl, sym, ap, subst, ◌∙◌}
-use Rattle.pg_expr.specs.Elements.{element_properties, properties_given, keys_given}
+use Rattle.std.proofs.Common.{◌≡◌, ℕ, Bool, true, false, List, BTreeMap, String, Global, Result, Ok, Err, IfOk, IfErr, refl, sym, ap, subst, ◌∙◌}
+use Rattle.pg_expr.specs.Elements.{element_properties, properties_given, keys_given, node_at_end}
 use Rattle.pg_meaning.specs.Answer.{Answer, ◌>>=◌}
 use Rattle.pg_meaning.specs.Expressions.{property_of}
-use Rattle.pg_meaning.specs.Functions.{labels_of, properties_of, texts, type_of}
+use Rattle.pg_meaning.specs.Functions.{id_of, labels_of, properties_of, texts, type_of}
 use Rattle.pg_meaning.specs.Graph.{Graph}
 use Rattle.pg_meaning.specs.Order.{keys_of}
 use Rattle.pg_meaning.specs.Value.{Value as Datum, mapping}
@@ -69,6 +69,14 @@ module _ (v : Value) where
     untyped_part g (Value-F.Rel r) same = absurd (rel r (sym same ∙ rolls-Rel r))
     untyped_part g part same = ap (type_of g) (sym (ap view same) ∙ fold-roll-Value Datum view_step part)
 
+    endless_part : (is_last : Bool) (g : Graph) (part : Value-F Value) → roll-Value part ≡ v → node_at_end is_last g (view v) ≡ Err TypeFault
+    endless_part is_last g (Value-F.Rel r) same = absurd (rel r (sym same ∙ rolls-Rel r))
+    endless_part false g part same = ap (node_at_end false g) (sym (ap view same) ∙ fold-roll-Value Datum view_step part)
+    endless_part true g part same = ap (node_at_end true g) (sym (ap view same) ∙ fold-roll-Value Datum view_step part)
+
+    pub no_end : (is_last : Bool) (g : Graph) → node_at_end is_last g (view v) ≡ Err TypeFault
+    no_end is_last g = endless_part is_last g (out-Value v) (roll-out-Value v)
+
     pub no_type : (g : Graph) → type_of g (view v) ≡ Err TypeFault
     no_type g = untyped_part g (out-Value v) (roll-out-Value v)
 
@@ -80,3 +88,11 @@ module _ (v : Value) where
 
     pub no_properties : (g : Graph) → element_properties g (view v) ≡ Err TypeFault
     no_properties g = bare_part g (out-Value v) (roll-out-Value v)
+
+    unnumbered_part : (part : Value-F Value) → roll-Value part ≡ v → id_of (view v) ≡ Err TypeFault
+    unnumbered_part (Value-F.Node n) same = absurd (node n (sym same ∙ rolls-Node n))
+    unnumbered_part (Value-F.Rel r) same = absurd (rel r (sym same ∙ rolls-Rel r))
+    unnumbered_part part same = ap id_of (sym (ap view same) ∙ fold-roll-Value Datum view_step part)
+
+    pub no_number : id_of (view v) ≡ Err TypeFault
+    no_number = unnumbered_part (out-Value v) (roll-out-Value v)

@@ -1,19 +1,18 @@
 -- The definitions of SET and REMOVE, from what their parts give.
-use Rattle.std.proofs.Common.{◌≡◌, ◌≢◌, ℕ, true, false, List, [], ◌∷◌, Some, Result, Ok, Err, refl, sym, ap, ◌∙◌}
+use Rattle.std.proofs.Common.{◌≡◌, ◌≢◌, ℕ, true, false, List, [], ◌∷◌, Result, Ok, Err, refl, sym, ap, ◌∙◌}
 use Rattle.pg_meaning.specs.Answer.{Answer, ◌>>=◌, ◌>>◌}
-use Rattle.pg_meaning.specs.Graph.{Graph, has_node, has_relationship}
+use Rattle.pg_meaning.specs.Graph.{Graph}
 use Rattle.pg_meaning.specs.Rows.{Row}
 use Rattle.pg_meaning.specs.Tree as tree
-use Rattle.pg_meaning.specs.Updates.{Target, nothing, at_node, at_relationship, is_nothing, target_value, target_of, on_target, set_item, set_pairs, test_storable, change_properties}
-use Rattle.pg_meaning.specs.Value.{Value, node, relationship, Entries}
+use Rattle.pg_meaning.specs.Updates.{Target, nothing, is_nothing, target_of, on_target, set_item, set_pairs, test_storable, change_properties}
+use Rattle.pg_meaning.specs.Value.{Value, Entries}
 use Rattle.pg_meaning.specs.declared.fault.Fault.{Fault}
-use Rattle.pg_meaning.specs.declared.fault.Fault.TheVariants.{DeletedEntity}
 use Rattle.pg_write.specs.Items.{item_with, changed_by}
 use Rattle.pg_write.specs.Parts.{one_pair, storable_pairs}
 use Rattle.pg_write.specs.Targets.{target_view}
 use Rattle.pg_write_make.specs.Scenes.{reading}
 use Rattle.pg_write.specs.declared.items.ReadyChange.{ReadyChange}
-use Rattle.pg_write.specs.declared.items.ReadyChange.TheVariants.{Key, All, More, Labels}
+use Rattle.pg_write.specs.declared.items.ReadyChange.TheVariants.{Key, Map, Labels}
 use Rattle.pg_write.specs.declared.targets.Target.{Target as Code}
 use Rattle.pg_write.specs.declared.targets.Target.TheVariants.{Nothing, Node, Rel}
 
@@ -74,8 +73,8 @@ one_pair_tested key given v is pairs same = ap (storable_pairs (one_pair key)) i
 module _ (names : List (List ℕ)) (parameters : Entries) (row : Row) (graph : Graph) (n : tree.Name) where
   item_is : (c : ReadyChange) → set_item (reading parameters) row graph (item_with names n c) ≡ on_target graph row n (changed_by names parameters row graph c)
   item_is (Key k v) = refl
-  item_is (All v) = refl
-  item_is (More v) = refl
+  item_is (Map v true) = refl
+  item_is (Map v false) = refl
   item_is (Labels ls) = refl
 
   abbrev on_found : (Target → Result Graph Fault) → Target → Result Graph Fault
@@ -98,16 +97,3 @@ pub not_nothing : (t : Code) → t ≢ Nothing → is_nothing (target_view t) �
 not_nothing Nothing h = absurd (h refl)
 not_nothing (Node id) h = refl
 not_nothing (Rel id) h = refl
-
-module _ (graph : Graph) (n : ℕ) where
-  pub node_there : has_node graph n ≡ true → target_value graph (Some (node n)) ≡ Ok (at_node n)
-  node_there h = ap (λ b. elim b [ true ↦ Ok (at_node n) | false ↦ Err DeletedEntity ]) h
-
-  pub node_gone : has_node graph n ≡ false → target_value graph (Some (node n)) ≡ Err DeletedEntity
-  node_gone h = ap (λ b. elim b [ true ↦ Ok (at_node n) | false ↦ Err DeletedEntity ]) h
-
-  pub relationship_there : has_relationship graph n ≡ true → target_value graph (Some (relationship n)) ≡ Ok (at_relationship n)
-  relationship_there h = ap (λ b. elim b [ true ↦ Ok (at_relationship n) | false ↦ Err DeletedEntity ]) h
-
-  pub relationship_gone : has_relationship graph n ≡ false → target_value graph (Some (relationship n)) ≡ Err DeletedEntity
-  relationship_gone h = ap (λ b. elim b [ true ↦ Ok (at_relationship n) | false ↦ Err DeletedEntity ]) h

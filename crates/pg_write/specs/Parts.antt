@@ -3,7 +3,7 @@ use Rattle.std.specs.Prelude.{ℕ, Bool, true, false, List, [], ◌∷◌, filte
 use Rattle.pg_meaning.specs.Answer.{Answer, ◌>>=◌, ◌>>◌}
 use Rattle.pg_meaning.specs.Entries.{set_keys, without_key}
 use Rattle.pg_meaning.specs.Graph.{Graph}
-use Rattle.pg_meaning.specs.Names.{is_among}
+use Rattle.pg_meaning.specs.Names.{is_among, put_texts}
 use Rattle.pg_meaning.specs.Patterns.{texts_of}
 use Rattle.pg_meaning.specs.Tree.{Name, RemoveItem, remove_property, remove_labels}
 use Rattle.pg_meaning.specs.Updates.{Target, test_storable, change_properties, change_labels}
@@ -18,6 +18,11 @@ one_pair key v = Ok ((key, v) ∷ [])
 abbrev pub put_map : (is_whole : Bool) → List (List ℕ × Value) → Entries → Entries
 put_map true pairs es = set_keys pairs no_entries
 put_map false pairs es = set_keys pairs es
+
+-- an element's labels with these, or without them
+abbrev pub labels_by : (is_put : Bool) → List (List ℕ) → List (List ℕ) → List (List ℕ)
+labels_by true texts labels = put_texts texts labels
+labels_by false texts labels = filter (λ l. not (is_among texts l)) labels
 
 -- the pairs of a value, where all may be stored
 abbrev pub storable_pairs : (Value → Result (List (List ℕ × Value)) Fault) → Answer → Result (List (List ℕ × Value)) Fault

@@ -30,32 +30,10 @@ fn spend_for(meter: &mut Meter, doomed: &Doomed) -> Result<(), Fault>
     meter.spend(steps as u64)
 }
 
-// Takes out what the expressions name at all rows, at a step for each element.
-#[tactic(auto, using(pg_write_make::proofs::ChangedLemmas::unchanged))]
-fn delete_at_rows<T: Tables>(
-    alloc: Global,
-    is_detach: bool,
-    elements: &Vec<Expression>,
-    parameters: &Parameters,
-    store: &mut Store<T>,
-    shared: &Shared<T::Shared>,
-    table: &Table,
-    meter: &mut Meter,
-) -> Result<(), Fault>
-    requires fit { IsFit T.seen store.old shared.now }
-    ensures gives { (s : Setting) → Suits s (parameters_view parameters.now) meter.old.limit (seen table.now).names → Gives result (delete_clause s is_detach (map expression_view elements.now.items) (state_of (graph_of_store T.seen store.old shared.now) (seen table.now) meter.old.used)) (λ _. state_of (graph_of_store T.seen store.new shared.now) (seen table.now) meter.new.used) }
-    ensures limit { meter.new.limit ≡ meter.old.limit }
-    ensures changed { Changed T.seen store.old shared.now store.new shared.now }
-{
-    let graph = store.graph(shared);
-    let doomed = gather(alloc, is_detach, elements, parameters, &graph, table)?;
-    spend_for(meter, &doomed)?;
-    take_out(store, shared, &doomed)
-}
-
 /// Takes out the elements that the expressions name at all rows, at a step for each; with DETACH
 /// the relationships at their nodes too. The rows stay. An error leaves a part of it done, and the
 /// caller takes that back.
+#[tactic(auto, using(pg_write_make::proofs::ChangedLemmas::unchanged))]
 pub fn delete_elements<T: Tables>(
     alloc: Global,
     is_detach: bool,
@@ -72,8 +50,9 @@ pub fn delete_elements<T: Tables>(
     ensures limit { meter.new.limit ≡ meter.old.limit }
     ensures changed { Changed T.seen store.old shared.now store.new shared.now }
 {
-    delete_at_rows(
-        alloc, is_detach, elements, parameters, store, shared, &table, meter,
-    )?;
+    let graph = store.graph(shared);
+    let doomed = gather(alloc, is_detach, elements, parameters, &graph, &table)?;
+    spend_for(meter, &doomed)?;
+    take_out(store, shared, &doomed)?;
     Ok(table)
 }

@@ -36,21 +36,6 @@ fn prepare_all<'a>(
     Ok(ready)
 }
 
-// What one expression gives at a row.
-fn gather_value<T: Tables>(
-    doomed: &mut Doomed,
-    scene: &Scene<'_>,
-    graph: &Snapshot<'_, T>,
-    row: &[Value],
-    element: &Prepared<'_>,
-) -> Result<(), Fault>
-    ensures ok { OnOk result (put_given (parameters_in scene.now) graph.now (row_in scene.now row.now) doomed.old (tree_of scene.now.names.now element.now) ≡ Ok doomed.new) }
-    ensures err { IfErr result (λ e. e ≢ OutOfMemory → put_given (parameters_in scene.now) graph.now (row_in scene.now row.now) doomed.old (tree_of scene.now.names.now element.now) ≡ Err e) }
-{
-    let value = scene.evaluate(graph, row, element)?;
-    doomed.put_value(graph, &value)
-}
-
 // What all expressions give at a row.
 fn gather_row<T: Tables>(
     doomed: &mut Doomed,
@@ -63,7 +48,8 @@ fn gather_row<T: Tables>(
     ensures err { IfErr result (λ e. e ≢ OutOfMemory → put_row (parameters_in scene.now) graph.now (map (tree_of scene.now.names.now) elements.now.items) doomed.old (row_in scene.now row.now) ≡ Err e) }
 {
     for element in elements {
-        gather_value(doomed, scene, graph, row, element)?;
+        let value = scene.evaluate(graph, row, element)?;
+        doomed.put_value(graph, &value)?;
     }
     Ok(())
 }

@@ -1,5 +1,5 @@
 //! Items of SET made ready, once a clause, for its rows.
-ghost use Rattle.std.specs.Prelude.{◌≡◌, IfOk, map};
+ghost use Rattle.std.specs.Prelude.{◌≡◌, ◌++◌, IfOk, OnOk, map};
 ghost use Rattle.pg_syntax_tree.specs.View.{set_item_view};
 ghost use Rattle.pg_write.specs.Items.{item_of};
 
@@ -8,12 +8,11 @@ use pg_rows::Columns;
 use pg_syntax_tree::{Name, SetItem};
 use std::alloc::{AllocError, Global};
 
-/// What an item sets.
+/// What an item sets: a key, a map in the place of what is there or beside it, or labels.
 #[derive(Clone, Copy)]
 pub(crate) enum ReadyChange<'a> {
     Key(&'a Name, Prepared<'a>),
-    All(Prepared<'a>),
-    More(Prepared<'a>),
+    Map(Prepared<'a>, bool),
     Labels(&'a Vec<Name>),
 }
 
@@ -35,24 +34,28 @@ fn ready_set<'a>(
         SetItem::Property(target, key, value) => {
             (target, ReadyChange::Key(key, prepare(alloc, value, names)?))
         }
-        SetItem::All(target, value) => (target, ReadyChange::All(prepare(alloc, value, names)?)),
-        SetItem::More(target, value) => (target, ReadyChange::More(prepare(alloc, value, names)?)),
+        SetItem::All(target, value) => {
+            (target, ReadyChange::Map(prepare(alloc, value, names)?, true))
+        }
+        SetItem::More(target, value) => {
+            (target, ReadyChange::Map(prepare(alloc, value, names)?, false))
+        }
         SetItem::Labels(target, labels) => (target, ReadyChange::Labels(labels)),
     };
     Ok(ReadySet { target, change })
 }
 
-/// The items, with their expressions made ready.
-pub(crate) fn ready_sets<'a>(
+/// Puts the items, with their expressions made ready, behind others.
+pub(crate) fn push_ready<'a>(
     alloc: Global,
     names: &Columns,
     items: &'a Vec<SetItem>,
-) -> Result<Vec<ReadySet<'a>>, AllocError>
-    ensures { IfOk result (λ ready. map (item_of names.now) ready.items ≡ map set_item_view items.now.items) }
+    ready: &mut Vec<ReadySet<'a>>,
+) -> Result<(), AllocError>
+    ensures { OnOk result (map (item_of names.now) ready.new.items ≡ map (item_of names.now) ready.old.items ++ map set_item_view items.now.items) }
 {
-    let mut ready = Vec::with_capacity(alloc, items.len())?;
     for item in items {
         ready.push(ready_set(alloc, names, item)?)?;
     }
-    Ok(ready)
+    Ok(())
 }

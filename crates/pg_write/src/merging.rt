@@ -7,7 +7,7 @@ ghost use Rattle.pg_syntax_tree.specs.View.{on_view, path_view};
 ghost use Rattle.pg_write.specs.Items.{item_of};
 ghost use Rattle.pg_write.specs.Ready.{IsReady, Means};
 
-use crate::items::{ReadySet, ready_sets};
+use crate::items::{ReadySet, push_ready};
 use pg_match_rows::{Part, Patterns};
 use pg_match_stages::Anchor;
 use pg_rows::Columns;
@@ -56,8 +56,7 @@ pub(crate) fn items_on<'a>(
     let mut ready = Vec::new(alloc);
     for part in parts {
         if part.create == on_create {
-            let mut items = ready_sets(alloc, names, &part.items)?;
-            ready.append(&mut items)?;
+            push_ready(alloc, names, &part.items, &mut ready)?;
         }
     }
     Ok(ready)

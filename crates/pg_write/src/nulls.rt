@@ -29,30 +29,15 @@ fn hops_want_null(hops: &Vec<(HopWanted<'_>, NodeWanted<'_>)>) -> bool
     false
 }
 
-fn wants_null(path: &PathWanted<'_>) -> bool
-    ensures { result ≡ wants_null (wanted_path path.now) }
-{
-    has_null(&path.first.properties) || hops_want_null(&path.hops)
-}
-
-fn want_null(paths: &[PathWanted<'_>]) -> bool
-    ensures { result ≡ list_any wants_null (map_list wanted_path paths.now) }
-{
-    for path in paths {
-        if wants_null(path) {
-            return true;
-        }
-    }
-    false
-}
-
 /// A fault where a property's value is null.
 pub(crate) fn test_not_null(paths: &[PathWanted<'_>]) -> Result<(), Fault>
     ensures ok { OnOk result (test_not_null (map_list wanted_path paths.now) ≡ Ok tt) }
     ensures err { IfErr result (λ e. test_not_null (map_list wanted_path paths.now) ≡ Err e) }
 {
-    if want_null(paths) {
-        return Err(Fault::MergeNull);
+    for path in paths {
+        if has_null(&path.first.properties) || hops_want_null(&path.hops) {
+            return Err(Fault::MergeNull);
+        }
     }
     Ok(())
 }

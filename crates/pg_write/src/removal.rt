@@ -15,18 +15,12 @@ use pg_value_core::{Fault, NodeId, RelId};
 use std::alloc::AllocError;
 use std::collections::BTreeSet;
 
-fn is_connected<T: Tables>(graph: &Snapshot<'_, T>, node: NodeId) -> bool
-    ensures { result ≡ is_connected graph.now node.0 }
-{
-    graph.incident(node).next().is_some()
-}
-
 // Whether none of the nodes has a relationship.
 fn test_unconnected<T: Tables>(graph: &Snapshot<'_, T>, nodes: &BTreeSet<u64>) -> Result<(), Fault>
     ensures { result ≡ test_unconnected graph.now nodes.now.keys }
 {
     for node in nodes {
-        if is_connected(graph, NodeId(*node)) {
+        if graph.incident(NodeId(*node)).next().is_some() {
             return Err(Fault::NodeStillConnected);
         }
     }

@@ -1,13 +1,10 @@
 //! REMOVE: row by row, item by item, each in the graph of those before.
 ghost use Rattle.std.specs.Prelude.{◌≡◌, ◌≢◌, OnOk, IfErr, Ok, Err, map, string_bytes};
-ghost use Rattle.pg_meaning.specs.Answer.{each_step};
 ghost use Rattle.pg_meaning.specs.Meters.{Setting};
 ghost use Rattle.pg_meaning.specs.Entries.{without_key};
 ghost use Rattle.pg_meaning.specs.Updates.{change_properties, remove_item, remove_row, remove_clause};
 ghost use Rattle.pg_meaning.specs.declared.fault.Fault.TheVariants.{OutOfMemory};
-ghost use Rattle.pg_rows.specs.Named.{rows_named};
 ghost use Rattle.pg_rows.specs.States.{Suits, seen, state_of};
-ghost use Rattle.pg_rows.specs.Tables.{table};
 ghost use Rattle.pg_store.specs.Stores.{graph_of_store, IsFit};
 ghost use Rattle.pg_syntax_tree.specs.View.{name_view, remove_item_view};
 ghost use Rattle.pg_value_core.specs.Given.{parameters_view};
@@ -17,11 +14,11 @@ ghost use Rattle.pg_write.specs.Targets.{target_view, IsThere};
 ghost use Rattle.pg_write_make.specs.Changed.{Changed};
 ghost use Rattle.pg_write_make.specs.Scenes.{row_in};
 
-use crate::changes::{put_properties, take_labels};
+use crate::changes::{change_labels, put_properties};
 use crate::targets::{Target, target_of};
 use pg_graph::Tables;
 use pg_meter::Meter;
-use pg_rows::{Rows, Table};
+use pg_rows::Table;
 use pg_store::{Shared, Store};
 use pg_syntax_tree::{Name, RemoveItem};
 use pg_value_core::{Fault, Parameters, Value};
@@ -34,26 +31,6 @@ fn target_name(item: &RemoveItem) -> &Name
     match item {
         RemoveItem::Property(target, _) => target,
         RemoveItem::Labels(target, _) => target,
-    }
-}
-
-// Changes a target that is there.
-fn remove_from<T: Tables>(
-    alloc: Global,
-    store: &mut Store<T>,
-    shared: &mut Shared<T::Shared>,
-    item: &RemoveItem,
-    target: Target,
-) -> Result<(), Fault>
-    requires fit { IsFit T.seen store.old shared.old }
-    requires there { IsThere (graph_of_store T.seen store.old shared.old) (target_view target) }
-    ensures ok { OnOk result (removed_by (remove_item_view item.now) (graph_of_store T.seen store.old shared.old) (target_view target) ≡ Ok (graph_of_store T.seen store.new shared.new)) }
-    ensures err { IfErr result (λ e. e ≢ OutOfMemory → removed_by (remove_item_view item.now) (graph_of_store T.seen store.old shared.old) (target_view target) ≡ Err e) }
-    ensures changed { Changed T.seen store.old shared.old store.new shared.new }
-{
-    match item {
-        RemoveItem::Property(_, key) => take_key(alloc, store, shared, key, target),
-        RemoveItem::Labels(_, labels) => take_labels(alloc, store, shared, target, labels),
     }
 }
 
@@ -74,8 +51,7 @@ fn take_key<T: Tables>(
 {
     let mut pairs = Vec::with_capacity(alloc, 1)?;
     pairs.push((key.text.as_str(), Value::Null))?;
-    put_properties(alloc, store, shared, target, pairs)?;
-    Ok(())
+    Ok(put_properties(alloc, store, shared, target, pairs, false)?)
 }
 
 // One item at one row.
@@ -93,7 +69,12 @@ fn remove_item<T: Tables>(
 {
     match target_of(&store.graph(shared), scene, row, target_name(item))? {
         Target::Nothing => Ok(()),
-        target => remove_from(scene.alloc, store, shared, item, target),
+        target => match item {
+            RemoveItem::Property(_, key) => take_key(scene.alloc, store, shared, key, target),
+            RemoveItem::Labels(_, labels) => {
+                change_labels(scene.alloc, store, shared, target, labels, false)
+            }
+        },
     }
 }
 
@@ -112,25 +93,6 @@ fn remove_row<T: Tables>(
 {
     for item in items {
         remove_item(scene, store, shared, row, item)?;
-    }
-    Ok(())
-}
-
-// All items at all rows.
-fn remove_rows<T: Tables>(
-    scene: &Scene<'_>,
-    store: &mut Store<T>,
-    shared: &mut Shared<T::Shared>,
-    rows: &Rows,
-    items: &Vec<RemoveItem>,
-) -> Result<(), Fault>
-    requires fit { IsFit T.seen store.old shared.old }
-    ensures ok { OnOk result (each_step (remove_row (map remove_item_view items.now.items)) (graph_of_store T.seen store.old shared.old) (rows_named scene.now.names.now (table rows.now)) ≡ Ok (graph_of_store T.seen store.new shared.new)) }
-    ensures err { IfErr result (λ e. e ≢ OutOfMemory → each_step (remove_row (map remove_item_view items.now.items)) (graph_of_store T.seen store.old shared.old) (rows_named scene.now.names.now (table rows.now)) ≡ Err e) }
-    ensures changed { Changed T.seen store.old shared.old store.new shared.new }
-{
-    for at in 0..rows.len() {
-        remove_row(scene, store, shared, rows.row(at), items)?;
     }
     Ok(())
 }
@@ -157,5 +119,9 @@ pub fn remove_items<T: Tables>(
         names: table.names(),
         parameters,
     };
-    remove_rows(&scene, store, shared, table.rows(), items)
+    let rows = table.rows();
+    for at in 0..rows.len() {
+        remove_row(&scene, store, shared, rows.row(at), items)?;
+    }
+    Ok(())
 }

@@ -18,8 +18,8 @@ ghost use Rattle.pg_write.specs.Targets.{target_view, IsThere};
 ghost use Rattle.pg_write_make.specs.Changed.{Changed};
 ghost use Rattle.pg_write_make.specs.Scenes.{given, row_in, parameters_in, reading};
 
-use crate::changes::{put_labels, put_properties, replace_properties};
-use crate::items::{ReadyChange, ReadySet, ready_sets};
+use crate::changes::{change_labels, put_properties};
+use crate::items::{ReadyChange, ReadySet, push_ready};
 use crate::maps::{join, map_parts};
 use crate::targets::{Target, target_of};
 use pg_expr::Prepared;
@@ -31,24 +31,6 @@ use pg_syntax_tree::{Name, SetItem};
 use pg_value_core::{Fault, Parameters, Value};
 use pg_write_make::{Scene, spend_for_rows, test_storable};
 use std::alloc::Global;
-
-// The value for one key, which may be stored.
-fn key_value<'a, T: Tables>(
-    scene: &Scene<'_>,
-    graph: &Snapshot<'_, T>,
-    row: &[Value],
-    key: &'a Name,
-    value: &Prepared<'_>,
-) -> Result<Vec<(&'a str, Value)>, Fault>
-    ensures ok { IfOk result (λ pairs. storable_pairs (one_pair (string_bytes key.now.text)) (given scene.now graph.now row.now value.now) ≡ Ok (pairs_of pairs.items)) }
-    ensures err { IfErr result (λ e. e ≢ OutOfMemory → storable_pairs (one_pair (string_bytes key.now.text)) (given scene.now graph.now row.now value.now) ≡ Err e) }
-{
-    let value = scene.evaluate(graph, row, value)?;
-    let mut pairs = Vec::with_capacity(scene.alloc, 1)?;
-    pairs.push((key.text.as_str(), value))?;
-    test_storable(&pairs)?;
-    Ok(pairs)
-}
 
 // Gives a target a value under one key.
 fn set_key<T: Tables>(
@@ -66,9 +48,11 @@ fn set_key<T: Tables>(
     ensures err { IfErr result (λ e. e ≢ OutOfMemory → set_pairs (graph_of_store T.seen store.old shared.old) (one_pair (string_bytes key.now.text)) set_keys (given scene.now (graph_of_store T.seen store.old shared.old) row.now value.now) (target_view target) ≡ Err e) }
     ensures changed { Changed T.seen store.old shared.old store.new shared.new }
 {
-    let pairs = key_value(scene, &store.graph(shared), row, key, value)?;
-    put_properties(scene.alloc, store, shared, target, pairs)?;
-    Ok(())
+    let value = scene.evaluate(&store.graph(shared), row, value)?;
+    let mut pairs = Vec::with_capacity(scene.alloc, 1)?;
+    pairs.push((key.text.as_str(), value))?;
+    test_storable(&pairs)?;
+    Ok(put_properties(scene.alloc, store, shared, target, pairs, false)?)
 }
 
 // Gives a target the entries of a map, in the place of its own properties or beside them.
@@ -91,33 +75,7 @@ fn set_map<T: Tables>(
     let (keys, values) = map_parts(scene.alloc, value)?;
     let pairs = join(scene.alloc, &keys, values)?;
     test_storable(&pairs)?;
-    if is_whole {
-        return Ok(replace_properties(scene.alloc, store, shared, target, pairs)?);
-    }
-    Ok(put_properties(scene.alloc, store, shared, target, pairs)?)
-}
-
-// Changes a target that is there.
-fn change<T: Tables>(
-    scene: &Scene<'_>,
-    store: &mut Store<T>,
-    shared: &mut Shared<T::Shared>,
-    row: &[Value],
-    change: &ReadyChange<'_>,
-    target: Target,
-) -> Result<(), Fault>
-    requires fit { IsFit T.seen store.old shared.old }
-    requires there { IsThere (graph_of_store T.seen store.old shared.old) (target_view target) }
-    ensures ok { OnOk result (changed_by scene.now.names.now (parameters_in scene.now) (row_in scene.now row.now) (graph_of_store T.seen store.old shared.old) change.now (target_view target) ≡ Ok (graph_of_store T.seen store.new shared.new)) }
-    ensures err { IfErr result (λ e. e ≢ OutOfMemory → changed_by scene.now.names.now (parameters_in scene.now) (row_in scene.now row.now) (graph_of_store T.seen store.old shared.old) change.now (target_view target) ≡ Err e) }
-    ensures changed { Changed T.seen store.old shared.old store.new shared.new }
-{
-    match change {
-        ReadyChange::Key(key, value) => set_key(scene, store, shared, row, key, value, target),
-        ReadyChange::All(value) => set_map(scene, store, shared, row, value, target, true),
-        ReadyChange::More(value) => set_map(scene, store, shared, row, value, target, false),
-        ReadyChange::Labels(labels) => put_labels(scene.alloc, store, shared, target, labels),
-    }
+    Ok(put_properties(scene.alloc, store, shared, target, pairs, is_whole)?)
 }
 
 // One item at one row. On null nothing is evaluated.
@@ -135,7 +93,15 @@ fn set_item<T: Tables>(
 {
     match target_of(&store.graph(shared), scene, row, item.target)? {
         Target::Nothing => Ok(()),
-        target => change(scene, store, shared, row, &item.change, target),
+        target => match &item.change {
+            ReadyChange::Key(key, value) => set_key(scene, store, shared, row, key, value, target),
+            ReadyChange::Map(value, is_whole) => {
+                set_map(scene, store, shared, row, value, target, *is_whole)
+            }
+            ReadyChange::Labels(labels) => {
+                change_labels(scene.alloc, store, shared, target, labels, true)
+            }
+        },
     }
 }
 
@@ -195,7 +161,8 @@ pub fn set_items<T: Tables>(
     ensures limit { meter.new.limit ≡ meter.old.limit }
 {
     spend_for_rows(meter, table.rows().len(), items.len())?;
-    let ready = ready_sets(alloc, table.names(), items)?;
+    let mut ready = Vec::new(alloc);
+    push_ready(alloc, table.names(), items, &mut ready)?;
     let scene = Scene {
         alloc,
         names: table.names(),

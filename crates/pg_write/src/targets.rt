@@ -21,41 +21,6 @@ pub(crate) enum Target {
     Rel(RelId),
 }
 
-fn node_target<T: Tables>(graph: &Snapshot<'_, T>, id: NodeId) -> Result<Target, Fault>
-    ensures ok { IfOk result (λ t. target_value graph.now (Some (node id.0)) ≡ Ok (target_view t)) }
-    ensures err { IfErr result (λ e. target_value graph.now (Some (node id.0)) ≡ Err e) }
-    ensures there { IfOk result (λ t. IsThere graph.now (target_view t)) }
-{
-    if graph.has_node(id) {
-        return Ok(Target::Node(id));
-    }
-    Err(Fault::DeletedEntity)
-}
-
-fn rel_target<T: Tables>(graph: &Snapshot<'_, T>, id: RelId) -> Result<Target, Fault>
-    ensures ok { IfOk result (λ t. target_value graph.now (Some (relationship id.0)) ≡ Ok (target_view t)) }
-    ensures err { IfErr result (λ e. target_value graph.now (Some (relationship id.0)) ≡ Err e) }
-    ensures there { IfOk result (λ t. IsThere graph.now (target_view t)) }
-{
-    if graph.has_rel(id) {
-        return Ok(Target::Rel(id));
-    }
-    Err(Fault::DeletedEntity)
-}
-
-fn target_value<T: Tables>(graph: &Snapshot<'_, T>, value: &Value) -> Result<Target, Fault>
-    ensures ok { IfOk result (λ t. target_value graph.now (Some (view value.now)) ≡ Ok (target_view t)) }
-    ensures err { IfErr result (λ e. target_value graph.now (Some (view value.now)) ≡ Err e) }
-    ensures there { IfOk result (λ t. IsThere graph.now (target_view t)) }
-{
-    match value {
-        Value::Null => Ok(Target::Nothing),
-        Value::Node(id) => node_target(graph, *id),
-        Value::Rel(id) => rel_target(graph, *id),
-        _ => Err(Fault::TypeFault),
-    }
-}
-
 /// The element under a name in a row.
 pub(crate) fn target_of<T: Tables>(
     graph: &Snapshot<'_, T>,
@@ -67,8 +32,14 @@ pub(crate) fn target_of<T: Tables>(
     ensures err { IfErr result (λ e. target_of graph.now (row_in scene.now row.now) (name_view name.now) ≡ Err e) }
     ensures there { IfOk result (λ t. IsThere graph.now (target_view t)) }
 {
-    match scene.find(row, name.text.as_str()) {
-        Some(value) => target_value(graph, value),
-        None => Err(Fault::TypeFault),
+    let Some(value) = scene.find(row, name.text.as_str()) else {
+        return Err(Fault::TypeFault);
+    };
+    match value {
+        Value::Null => Ok(Target::Nothing),
+        Value::Node(id) if graph.has_node(*id) => Ok(Target::Node(*id)),
+        Value::Rel(id) if graph.has_rel(*id) => Ok(Target::Rel(*id)),
+        Value::Node(_) | Value::Rel(_) => Err(Fault::DeletedEntity),
+        _ => Err(Fault::TypeFault),
     }
 }

@@ -1,14 +1,16 @@
 use Rattle.std.proofs.Common.{Ok, Err, length, map, refl, sym, ap, ◌∙◌}
 use Rattle.std.proofs.lemmas.Result.{err_from_is_err_and}
 use Rattle.pg_match_stages.specs.View.{wanted_path}
+use Rattle.pg_meaning.specs.Answer.{each_step}
+use Rattle.pg_meaning.specs.Updates.{merged_row}
 use Rattle.pg_rows.specs.Named.{rows_named}
 use Rattle.pg_rows.specs.Tables.{table}
 use Rattle.pg_store.specs.Stores.{graph_of_store}
 use Rattle.pg_write_make.proofs.ChangedLemmas.{unchanged}
 use Rattle.pg_write_make.specs.Scenes.{row_in}
 use Rattle.pg_write.proofs.ExitLemmas.{err_through, ok_through}
-use Rattle.pg_write.proofs.MergeLemmas.{asked_fault, asked_here, asked_there, found_there, spent_fault, spent_then, spent_there, tested_there}
-use Rattle.pg_write.specs.Mergings.{row_merged, rows_merged}
+use Rattle.pg_write.proofs.MergeLemmas.{asked_fault, asked_here, asked_there, found_there, none_found, some_found, spent_fault, spent_then, spent_there, tested_there}
+use Rattle.pg_write.specs.Mergings.{row_made, row_merged, rows_merged}
 use Rattle.pg_write.specs.Ready.{created_in, matched_in, names_in, path_in, setting_in, state_in}
 use Rattle.pg_write.proofs.merged_rows.merge_row.Goals as goal
 
@@ -79,29 +81,90 @@ returns-in_err-found-clause-changed g c = unchanged g.T.Tables.seen c.args.store
 pub returns-in_err-found-clause-limit : goal.returns-in_err-found-clause-limit
 returns-in_err-found-clause-limit g c = c.find_rows.ensures.limit
 
-pub merge_found-requires-clause-fit : goal.merge_found-requires-clause-fit
-merge_found-requires-clause-fit g c = c.requires.fit
-
-pub merge_found-requires-clause-quota : goal.merge_found-requires-clause-quota
-merge_found-requires-clause-quota g c = c.requires.quota
-
-pub merge_found-requires-clause-ready : goal.merge_found-requires-clause-ready
-merge_found-requires-clause-ready g c = c.requires.ready
-
-pub merge_found-requires-clause-bound : goal.merge_found-requires-clause-bound
-merge_found-requires-clause-bound g c = c.requires.bound
-
-pub merge_found-requires-clause-wide : goal.merge_found-requires-clause-wide
-merge_found-requires-clause-wide g c = c.requires.wide
-
-pub merge_found-requires-clause-found : goal.merge_found-requires-clause-found
-merge_found-requires-clause-found g c = c.in_ok-found.ensures.width ∙ sym c.requires.wide
-
-pub merge_found-requires-clause-tested : goal.merge_found-requires-clause-tested
-merge_found-requires-clause-tested g c =
+pub make_merged-requires : goal.make_merged-requires
+make_merged-requires g c =
     let m = c.args.merging.now in
-    tested_there (setting_in m 0) (path_in m) (created_in m) (matched_in m) (graph_of_store g.T.Tables.seen c.args.store.now c.args.shared.now) (rows_named (names_in m) (table c.args.merged.now)) c.args.meter.now.used (row_in m.scene c.args.row.items)
-    c.graph.result (row_in m.scene c.deref.result.now) c.graph.ensures (ap (row_in m.scene) c.deref.ensures.value) (Ok tt) c.in_ok-wanted.ensures.tested
+    record {
+      fit = c.requires.fit;
+      quota = c.requires.quota;
+      ready = c.requires.ready;
+      bound = c.requires.bound;
+      wide = c.requires.wide;
+      tested =
+          tested_there (setting_in m 0) (path_in m) (created_in m) (matched_in m) (graph_of_store g.T.Tables.seen c.args.store.now c.args.shared.now) (rows_named (names_in m) (table c.args.merged.now)) c.args.meter.now.used (row_in m.scene c.args.row.items)
+          c.graph.result (row_in m.scene c.deref.result.now) c.graph.ensures (ap (row_in m.scene) c.deref.ensures.value) (Ok tt) c.in_ok-wanted.ensures.tested;
+    }
+
+pub keep_matched-requires : goal.keep_matched-requires
+keep_matched-requires g c = record { fit = c.requires.fit; wide = c.in_ok-found.ensures.width ∙ sym c.requires.wide }
+
+pub returns-then-len-eq0-clause-ok : goal.returns-then-len-eq0-clause-ok
+returns-then-len-eq0-clause-ok g c =
+    let m = c.args.merging.now in
+    let s = setting_in m c.args.meter.now.limit in
+    let graph = graph_of_store g.T.Tables.seen c.args.store.now c.args.shared.now in
+    let rows = rows_named (names_in m) (table c.args.merged.now) in
+    let row = row_in m.scene c.args.row.items in
+    let wanted = map wanted_path c.in_ok-wanted.wanted.items in
+    let given = map wanted_path c.deref-3.result.now in
+    let found = rows_named (names_in m) (table c.in_ok-found.found) in
+    let steps = c.find_rows.new.meter.used in
+    let own = row_in m.scene c.deref-2.result.now in
+    let same = ap (row_in m.scene) c.deref-2.ensures.value in
+    let are = ap (map wanted_path) c.deref-3.ensures.value in
+    let first =
+    spent_then s (path_in m) (created_in m) (matched_in m) graph rows c.args.meter.now.used row wanted
+    (asked_there s (path_in m) (created_in m) (matched_in m) graph rows c.args.meter.now.used row c.graph.result (row_in m.scene c.deref.result.now) c.graph.ensures (ap (row_in m.scene) c.deref.ensures.value) (Ok wanted)
+    c.in_ok-wanted.ensures.ok)
+    steps found
+    (spent_there s (path_in m) (created_in m) (matched_in m) graph rows c.args.meter.now.used row c.graph-2.result own c.graph-2.ensures same given wanted are (Ok steps) c.in_ok-found.ensures.spends)
+    (found_there s (path_in m) (created_in m) (matched_in m) graph rows c.args.meter.now.used row c.graph-2.result own c.graph-2.ensures same given wanted are found c.in_ok-found.ensures.rows)
+    ∙ ap (λ k. rows_merged (setting_in m k) (path_in m) (created_in m) (matched_in m) (state_in m graph c.args.merged.now steps) row found) (sym c.in_ok-found.ensures.limit) in
+    let then = setting_in m c.find_rows.new.meter.limit in
+    let state = state_in m graph c.args.merged.now steps in
+    ok_through c.make_merged.result
+    (row_merged s (path_in m) (created_in m) (matched_in m) (state_in m graph c.args.merged.now c.args.meter.now.used) row)
+    (row_made then (path_in m) (created_in m) state row)
+    (Ok (state_in m (graph_of_store g.T.Tables.seen c.make_merged.new.store c.make_merged.new.shared) c.make_merged.new.merged c.make_merged.new.meter.used))
+    (first ∙ none_found then (path_in m) (created_in m) (matched_in m) state row (names_in m) (table c.in_ok-found.found) (sym c.len.ensures ∙ c.if-len-eq0.true)) c.make_merged.ensures.ok
+
+pub returns-then-len-eq0-clause-err : goal.returns-then-len-eq0-clause-err
+returns-then-len-eq0-clause-err g c =
+    let m = c.args.merging.now in
+    let s = setting_in m c.args.meter.now.limit in
+    let graph = graph_of_store g.T.Tables.seen c.args.store.now c.args.shared.now in
+    let rows = rows_named (names_in m) (table c.args.merged.now) in
+    let row = row_in m.scene c.args.row.items in
+    let wanted = map wanted_path c.in_ok-wanted.wanted.items in
+    let given = map wanted_path c.deref-3.result.now in
+    let found = rows_named (names_in m) (table c.in_ok-found.found) in
+    let steps = c.find_rows.new.meter.used in
+    let own = row_in m.scene c.deref-2.result.now in
+    let same = ap (row_in m.scene) c.deref-2.ensures.value in
+    let are = ap (map wanted_path) c.deref-3.ensures.value in
+    let first =
+    spent_then s (path_in m) (created_in m) (matched_in m) graph rows c.args.meter.now.used row wanted
+    (asked_there s (path_in m) (created_in m) (matched_in m) graph rows c.args.meter.now.used row c.graph.result (row_in m.scene c.deref.result.now) c.graph.ensures (ap (row_in m.scene) c.deref.ensures.value) (Ok wanted)
+    c.in_ok-wanted.ensures.ok)
+    steps found
+    (spent_there s (path_in m) (created_in m) (matched_in m) graph rows c.args.meter.now.used row c.graph-2.result own c.graph-2.ensures same given wanted are (Ok steps) c.in_ok-found.ensures.spends)
+    (found_there s (path_in m) (created_in m) (matched_in m) graph rows c.args.meter.now.used row c.graph-2.result own c.graph-2.ensures same given wanted are found c.in_ok-found.ensures.rows)
+    ∙ ap (λ k. rows_merged (setting_in m k) (path_in m) (created_in m) (matched_in m) (state_in m graph c.args.merged.now steps) row found) (sym c.in_ok-found.ensures.limit) in
+    let then = setting_in m c.find_rows.new.meter.limit in
+    let state = state_in m graph c.args.merged.now steps in
+    err_through c.make_merged.result
+    (row_merged s (path_in m) (created_in m) (matched_in m) (state_in m graph c.args.merged.now c.args.meter.now.used) row)
+    (row_made then (path_in m) (created_in m) state row)
+    (first ∙ none_found then (path_in m) (created_in m) (matched_in m) state row (names_in m) (table c.in_ok-found.found) (sym c.len.ensures ∙ c.if-len-eq0.true)) c.make_merged.ensures.err
+
+pub returns-then-len-eq0-clause-width : goal.returns-then-len-eq0-clause-width
+returns-then-len-eq0-clause-width g c = c.make_merged.ensures.width
+
+pub returns-then-len-eq0-clause-changed : goal.returns-then-len-eq0-clause-changed
+returns-then-len-eq0-clause-changed g c = c.make_merged.ensures.changed
+
+pub returns-then-len-eq0-clause-limit : goal.returns-then-len-eq0-clause-limit
+returns-then-len-eq0-clause-limit g c = c.make_merged.ensures.limit ∙ c.find_rows.ensures.limit
 
 pub returns-clause-ok : goal.returns-clause-ok
 returns-clause-ok g c =
@@ -125,11 +188,13 @@ returns-clause-ok g c =
     (spent_there s (path_in m) (created_in m) (matched_in m) graph rows c.args.meter.now.used row c.graph-2.result own c.graph-2.ensures same given wanted are (Ok steps) c.in_ok-found.ensures.spends)
     (found_there s (path_in m) (created_in m) (matched_in m) graph rows c.args.meter.now.used row c.graph-2.result own c.graph-2.ensures same given wanted are found c.in_ok-found.ensures.rows)
     ∙ ap (λ k. rows_merged (setting_in m k) (path_in m) (created_in m) (matched_in m) (state_in m graph c.args.merged.now steps) row found) (sym c.in_ok-found.ensures.limit) in
-    ok_through c.merge_found.result
+    let then = setting_in m c.find_rows.new.meter.limit in
+    let state = state_in m graph c.args.merged.now steps in
+    ok_through c.keep_matched.result
     (row_merged s (path_in m) (created_in m) (matched_in m) (state_in m graph c.args.merged.now c.args.meter.now.used) row)
-    (rows_merged (setting_in m c.find_rows.new.meter.limit) (path_in m) (created_in m) (matched_in m) (state_in m graph c.args.merged.now steps) row found)
-    (Ok (state_in m (graph_of_store g.T.Tables.seen c.merge_found.new.store c.merge_found.new.shared) c.merge_found.new.merged c.merge_found.new.meter.used))
-    first c.merge_found.ensures.ok
+    (each_step (merged_row then (matched_in m)) state found)
+    (Ok (state_in m (graph_of_store g.T.Tables.seen c.keep_matched.new.store c.keep_matched.new.shared) c.keep_matched.new.merged c.keep_matched.new.meter.used))
+    (first ∙ some_found then (path_in m) (created_in m) (matched_in m) state row (names_in m) (table c.in_ok-found.found) (λ none. c.if-len-eq0.false (c.len.ensures ∙ none))) c.keep_matched.ensures.ok
 
 pub returns-clause-err : goal.returns-clause-err
 returns-clause-err g c =
@@ -153,16 +218,18 @@ returns-clause-err g c =
     (spent_there s (path_in m) (created_in m) (matched_in m) graph rows c.args.meter.now.used row c.graph-2.result own c.graph-2.ensures same given wanted are (Ok steps) c.in_ok-found.ensures.spends)
     (found_there s (path_in m) (created_in m) (matched_in m) graph rows c.args.meter.now.used row c.graph-2.result own c.graph-2.ensures same given wanted are found c.in_ok-found.ensures.rows)
     ∙ ap (λ k. rows_merged (setting_in m k) (path_in m) (created_in m) (matched_in m) (state_in m graph c.args.merged.now steps) row found) (sym c.in_ok-found.ensures.limit) in
-    err_through c.merge_found.result
+    let then = setting_in m c.find_rows.new.meter.limit in
+    let state = state_in m graph c.args.merged.now steps in
+    err_through c.keep_matched.result
     (row_merged s (path_in m) (created_in m) (matched_in m) (state_in m graph c.args.merged.now c.args.meter.now.used) row)
-    (rows_merged (setting_in m c.find_rows.new.meter.limit) (path_in m) (created_in m) (matched_in m) (state_in m graph c.args.merged.now steps) row found)
-    first c.merge_found.ensures.err
+    (each_step (merged_row then (matched_in m)) state found)
+    (first ∙ some_found then (path_in m) (created_in m) (matched_in m) state row (names_in m) (table c.in_ok-found.found) (λ none. c.if-len-eq0.false (c.len.ensures ∙ none))) c.keep_matched.ensures.err
 
 pub returns-clause-width : goal.returns-clause-width
-returns-clause-width g c = c.merge_found.ensures.width
+returns-clause-width g c = c.keep_matched.ensures.width
 
 pub returns-clause-changed : goal.returns-clause-changed
-returns-clause-changed g c = c.merge_found.ensures.changed
+returns-clause-changed g c = c.keep_matched.ensures.changed
 
 pub returns-clause-limit : goal.returns-clause-limit
-returns-clause-limit g c = c.merge_found.ensures.limit ∙ c.find_rows.ensures.limit
+returns-clause-limit g c = c.keep_matched.ensures.limit ∙ c.find_rows.ensures.limit

@@ -4,10 +4,7 @@ use Rattle.pg_expr.proofs.ExitLemmas.{fault_passed}
 use Rattle.pg_meaning.specs.Updates.{remove_item, target_of}
 use Rattle.pg_store.specs.Stores.{graph_of_store}
 use Rattle.pg_syntax_tree.specs.View.{remove_item_view}
-use Rattle.pg_write.proofs.ExitLemmas.{ok_through, err_through}
-use Rattle.pg_write.proofs.PartLemmas.{not_nothing}
-use Rattle.pg_write.proofs.RemoveLemmas.{nothing_removed, target_removed, target_refused}
-use Rattle.pg_write.specs.Parts.{removed_by}
+use Rattle.pg_write.proofs.RemoveLemmas.{nothing_removed, target_refused}
 use Rattle.pg_write.specs.Targets.{target_view}
 use Rattle.pg_write_make.proofs.ChangedLemmas.{unchanged}
 use Rattle.pg_write_make.specs.Scenes.{row_in}
@@ -38,19 +35,4 @@ returns-in-Nothing g c =
           ((λ i. target_of (sym c.graph.ensures i) row (sym c.target_name.ensures i)) ∙ c.in_ok-target.ensures.ok ∙ ap (λ t. Ok (target_view t)) c.in-Nothing.is);
       err = tt;
       changed = unchanged g.T.Tables.seen c.args.store.now c.args.shared.now c.requires.fit;
-    }
-
-pub returns-in_default : goal.returns-in_default
-returns-in_default g c =
-    let graph = graph_of_store g.T.Tables.seen c.args.store.now c.args.shared.now in
-    let row = row_in c.args.scene.now c.args.row.now in
-    let item = remove_item_view c.args.item.now in
-    let target = target_view c.in_ok-target.target in
-    let first =
-    target_removed row graph item target
-    ((λ i. target_of (sym c.graph.ensures i) row (sym c.target_name.ensures i)) ∙ c.in_ok-target.ensures.ok) (not_nothing c.in_ok-target.target c.in_default.not-Nothing) in
-    record {
-      ok = ok_through c.remove_from.result (remove_item row graph item) (removed_by item graph target) (Ok (graph_of_store g.T.Tables.seen c.remove_from.new.store c.remove_from.new.shared)) first c.remove_from.ensures.ok;
-      err = err_through c.remove_from.result (remove_item row graph item) (removed_by item graph target) first c.remove_from.ensures.err;
-      changed = c.remove_from.ensures.changed;
     }

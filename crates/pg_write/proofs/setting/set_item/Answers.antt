@@ -7,6 +7,8 @@ use Rattle.pg_write.proofs.ExitLemmas.{ok_through, err_through}
 use Rattle.pg_write.proofs.PartLemmas.{not_nothing, nothing_set, target_refused, target_set}
 use Rattle.pg_write.specs.Items.{changed_by, item_of}
 use Rattle.pg_write.specs.Targets.{target_view}
+use Rattle.pg_write.specs.declared.items.ReadyChange.{ReadyChange}
+use Rattle.pg_write.specs.declared.items.ReadyChange.TheVariants.{Key, Map}
 use Rattle.pg_write_make.proofs.ChangedLemmas.{unchanged}
 use Rattle.pg_write_make.specs.Scenes.{parameters_in, reading, row_in}
 use Rattle.pg_write.proofs.setting.set_item.Goals as goal
@@ -37,32 +39,44 @@ returns-in-Nothing-clause-ok g c =
 pub returns-in-Nothing-clause-changed : goal.returns-in-Nothing-clause-changed
 returns-in-Nothing-clause-changed g c = unchanged g.T.Tables.seen c.args.store.now c.args.shared.now c.requires.fit
 
-pub returns-in_default-clause-ok : goal.returns-in_default-clause-ok
-returns-in_default-clause-ok g c =
+pub returns-in-Key : goal.returns-in-Key
+returns-in-Key g c =
+    let seen = g.T.Tables.seen in
     let scene = c.args.scene.now in
-    let graph = graph_of_store g.T.Tables.seen c.args.store.now c.args.shared.now in
+    let graph = graph_of_store seen c.args.store.now c.args.shared.now in
     let row = row_in scene c.args.row.now in
     let name = name_view c.args.item.now.target.now in
     let target = target_view c.in_ok-target.target in
     let change = c.args.item.now.change in
-    ok_through c.change.result (set_item (reading (parameters_in scene)) row graph (item_of scene.names.now c.args.item.now)) (changed_by scene.names.now (parameters_in scene) row graph change target)
-    (Ok (graph_of_store g.T.Tables.seen c.change.new.store c.change.new.shared))
-    (target_set scene.names.now (parameters_in scene) row graph name change target
-    (ap (λ read. target_of read row name) (sym c.graph.ensures) ∙ c.in_ok-target.ensures.ok) (not_nothing c.in_ok-target.target c.in_default.not-Nothing))
-    c.change.ensures.ok
+    let by = λ (change : ReadyChange). changed_by scene.names.now (parameters_in scene) row graph change target in
+    let whole = set_item (reading (parameters_in scene)) row graph (item_of scene.names.now c.args.item.now) in
+    let first =
+    target_set scene.names.now (parameters_in scene) row graph name change target
+    (ap (λ read. target_of read row name) (sym c.graph.ensures) ∙ c.in_ok-target.ensures.ok) (not_nothing c.in_ok-target.target c.in_default.not-Nothing)
+    ∙ ap by c.in-Key.is in
+    record {
+      ok = ok_through c.set_key.result whole (by (Key c.in-Key.key c.in-Key.value)) (Ok (graph_of_store seen c.set_key.new.store c.set_key.new.shared)) first c.set_key.ensures.ok;
+      err = err_through c.set_key.result whole (by (Key c.in-Key.key c.in-Key.value)) first c.set_key.ensures.err;
+      changed = c.set_key.ensures.changed;
+    }
 
-pub returns-in_default-clause-err : goal.returns-in_default-clause-err
-returns-in_default-clause-err g c =
+pub returns-in-Map : goal.returns-in-Map
+returns-in-Map g c =
+    let seen = g.T.Tables.seen in
     let scene = c.args.scene.now in
-    let graph = graph_of_store g.T.Tables.seen c.args.store.now c.args.shared.now in
+    let graph = graph_of_store seen c.args.store.now c.args.shared.now in
     let row = row_in scene c.args.row.now in
     let name = name_view c.args.item.now.target.now in
     let target = target_view c.in_ok-target.target in
     let change = c.args.item.now.change in
-    err_through c.change.result (set_item (reading (parameters_in scene)) row graph (item_of scene.names.now c.args.item.now)) (changed_by scene.names.now (parameters_in scene) row graph change target)
-    (target_set scene.names.now (parameters_in scene) row graph name change target
-    (ap (λ read. target_of read row name) (sym c.graph.ensures) ∙ c.in_ok-target.ensures.ok) (not_nothing c.in_ok-target.target c.in_default.not-Nothing))
-    c.change.ensures.err
-
-pub returns-in_default-clause-changed : goal.returns-in_default-clause-changed
-returns-in_default-clause-changed g c = c.change.ensures.changed
+    let by = λ (change : ReadyChange). changed_by scene.names.now (parameters_in scene) row graph change target in
+    let whole = set_item (reading (parameters_in scene)) row graph (item_of scene.names.now c.args.item.now) in
+    let first =
+    target_set scene.names.now (parameters_in scene) row graph name change target
+    (ap (λ read. target_of read row name) (sym c.graph.ensures) ∙ c.in_ok-target.ensures.ok) (not_nothing c.in_ok-target.target c.in_default.not-Nothing)
+    ∙ ap by c.in-Map.is in
+    record {
+      ok = ok_through c.set_map.result whole (by (Map c.in-Map.value c.in-Map.is_whole)) (Ok (graph_of_store seen c.set_map.new.store c.set_map.new.shared)) first c.set_map.ensures.ok;
+      err = err_through c.set_map.result whole (by (Map c.in-Map.value c.in-Map.is_whole)) first c.set_map.ensures.err;
+      changed = c.set_map.ensures.changed;
+    }

@@ -1,4 +1,4 @@
-use Rattle.std.proofs.Common.{length, map, refl, ap, arith, ◌∙◌}
+use Rattle.std.proofs.Common.{◌++◌, length, map, refl, ap, arith, ◌∙◌}
 use Rattle.pg_meaning.specs.Updates.{set_clause}
 use Rattle.pg_meaning.specs.declared.fault.Fault.TheVariants.{OutOfMemory}
 use Rattle.pg_rows.specs.States.{seen, state_of}
@@ -9,6 +9,7 @@ use Rattle.pg_value_core.specs.Given.{parameters_view}
 use Rattle.pg_write.proofs.ClauseLemmas.{set_gives, set_stops}
 use Rattle.pg_write.proofs.ExitLemmas.{gives_fault}
 use Rattle.pg_write_make.proofs.ChangedLemmas.{unchanged}
+use Rattle.pg_write.specs.Items.{item_of}
 use Rattle.pg_write.proofs.setting.set_items.Goals as goal
 
 pub returns-in_err-spend_for_rows-clause-answer : goal.returns-in_err-spend_for_rows-clause-answer
@@ -24,15 +25,15 @@ returns-in_err-spend_for_rows-clause-answer g c = λ s suits.
 pub returns-in_err-spend_for_rows-clause-changed : goal.returns-in_err-spend_for_rows-clause-changed
 returns-in_err-spend_for_rows-clause-changed g c = unchanged g.T.Tables.seen c.args.store.now c.args.shared.now c.requires.fit
 
-pub returns-in_err-ready-clause-answer : goal.returns-in_err-ready-clause-answer
-returns-in_err-ready-clause-answer g c = λ s suits.
+pub returns-in_err-push_ready-clause-answer : goal.returns-in_err-push_ready-clause-answer
+returns-in_err-push_ready-clause-answer g c = λ s suits.
     let t = seen c.args.table.now in
     let graph = graph_of_store g.T.Tables.seen c.args.store.now c.args.shared.now in
-    gives_fault c.from_residual-in_err-ready.result OutOfMemory (set_clause s (map set_item_view c.args.items.now.items) (state_of graph t c.args.meter.now.used)) (λ _. state_of graph t c.spend_for_rows.new.meter.used) c.from_residual-in_err-ready.ensures.1
+    gives_fault c.from_residual-in_err-push_ready.result OutOfMemory (set_clause s (map set_item_view c.args.items.now.items) (state_of graph t c.args.meter.now.used)) (λ _. state_of graph t c.spend_for_rows.new.meter.used) c.from_residual-in_err-push_ready.ensures.1
     (λ other. absurd (other refl))
 
-pub returns-in_err-ready-clause-changed : goal.returns-in_err-ready-clause-changed
-returns-in_err-ready-clause-changed g c = unchanged g.T.Tables.seen c.args.store.now c.args.shared.now c.requires.fit
+pub returns-in_err-push_ready-clause-changed : goal.returns-in_err-push_ready-clause-changed
+returns-in_err-push_ready-clause-changed g c = unchanged g.T.Tables.seen c.args.store.now c.args.shared.now c.requires.fit
 
 pub returns-clause-answer : goal.returns-clause-answer
 returns-clause-answer g c = λ s suits.
@@ -43,7 +44,7 @@ returns-clause-answer g c = λ s suits.
     (c.len.ensures ∙ ap length c.rows.ensures.rows) (omega (arith, c.len-2.ensures, c.args.items.now.ok.0))
     c.names.result.now c.names-2.result.now c.names.ensures c.names-2.ensures
     (table c.rows-2.result.now) c.rows-2.ensures.rows
-    c.in_ok-ready.ready.items c.in_ok-ready.ensures
+    c.push_ready.new.ready.items (c.in_ok-push_ready.ensures ∙ ap (λ rs. map (item_of c.names.result.now) rs ++ map set_item_view c.args.items.now.items) c.new-ready.ensures.items)
     (c.in_ok-spend_for_rows.ensures.spends s suits.steps_are)
     c.set_rows.result c.set_rows.ensures.ok c.set_rows.ensures.err
 

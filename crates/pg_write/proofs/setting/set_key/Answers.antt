@@ -1,48 +1,116 @@
-use Rattle.std.proofs.Common.{Ok, refl, sym, ap, ◌∙◌}
-use Rattle.std.proofs.lemmas.Result.{err_from_is_err_and}
+use Rattle.std.proofs.Common.{◌≡◌, ◌++◌, ◌∷◌, [], Ok, refl, sym, ap, ◌∙◌}
+use Rattle.std.proofs.lemmas.Result.{IfOk-from_err}
 use Rattle.std.specs.Prelude.{string_bytes}
+use Rattle.pg_expr.proofs.ExitLemmas.{fault_passed}
 use Rattle.pg_meaning.specs.Entries.{set_keys}
+use Rattle.pg_meaning.specs.Updates.{set_pairs}
+use Rattle.pg_meaning.specs.declared.fault.Fault.TheVariants.{OutOfMemory}
 use Rattle.pg_store.specs.Stores.{graph_of_store, pairs_of}
-use Rattle.pg_write.proofs.PartLemmas.{pairs_refused, pairs_set}
-use Rattle.pg_write.specs.Parts.{one_pair, storable_pairs}
+use Rattle.pg_value_core.specs.View.{view}
+use Rattle.pg_write.proofs.PartLemmas.{value_refused, entries_refused, map_set, pairs_read}
+use Rattle.pg_write.specs.Parts.{one_pair}
 use Rattle.pg_write.specs.Targets.{target_view}
 use Rattle.pg_write_make.proofs.ChangedLemmas.{unchanged}
 use Rattle.pg_write_make.specs.Scenes.{given}
 use Rattle.pg_write.proofs.setting.set_key.Goals as goal
 
-pub returns-in_err-pairs-clause-err : goal.returns-in_err-pairs-clause-err
-returns-in_err-pairs-clause-err g c =
+pub returns-in_err-value : goal.returns-in_err-value
+returns-in_err-value g c =
     let graph = graph_of_store g.T.Tables.seen c.args.store.now c.args.shared.now in
     let one = one_pair (string_bytes c.args.key.now.text) in
-    let p = err_from_is_err_and c.from_residual.result c.from_residual.ensures.1 in
-    rw (p.1, p.2)
-    (λ other. pairs_refused graph one set_keys (target_view c.args.target) (given c.args.scene.now graph c.args.row.now c.args.value.now) c.in_err-pairs.field-0.0
-    (ap (λ read. storable_pairs one (given c.args.scene.now read c.args.row.now c.args.value.now)) (sym c.graph.ensures) ∙ c.in_err-pairs.ensures.err other))
+    let read = given c.args.scene.now graph c.args.row.now c.args.value.now in
+    let target = target_view c.args.target in
+    let set = set_pairs graph one set_keys read target in
+    record {
+      ok = IfOk-from_err c.from_residual.result (λ u. set ≡ Ok graph) c.from_residual.ensures.0;
+      err =
+          fault_passed set c.in_err-value.field-0.0 c.from_residual.result c.from_residual.ensures.1
+          (λ other. value_refused graph one set_keys target read c.in_err-value.field-0.0
+          (ap (λ read. given c.args.scene.now read c.args.row.now c.args.value.now) (sym c.graph.ensures) ∙ c.in_err-value.ensures.err other));
+      changed = unchanged g.T.Tables.seen c.args.store.now c.args.shared.now c.requires.fit;
+    }
 
-pub returns-in_err-pairs-clause-changed : goal.returns-in_err-pairs-clause-changed
-returns-in_err-pairs-clause-changed g c = unchanged g.T.Tables.seen c.args.store.now c.args.shared.now c.requires.fit
-
-pub put_properties-requires-clause-fit : goal.put_properties-requires-clause-fit
-put_properties-requires-clause-fit g c = c.requires.fit
-
-pub put_properties-requires-clause-there : goal.put_properties-requires-clause-there
-put_properties-requires-clause-there g c = c.requires.there
-
-pub returns-in_err-put_properties-clause-err : goal.returns-in_err-put_properties-clause-err
-returns-in_err-put_properties-clause-err g c =
-    let p = err_from_is_err_and c.from_residual-in_err-put_properties.result c.from_residual-in_err-put_properties.ensures.1 in
-    rw (p.1, p.2) (λ other. absurd (other refl))
-
-pub returns-in_err-put_properties-clause-changed : goal.returns-in_err-put_properties-clause-changed
-returns-in_err-put_properties-clause-changed g c = c.put_properties.ensures.changed
-
-pub returns-clause-ok : goal.returns-clause-ok
-returns-clause-ok g c =
+pub returns-in_err-pairs : goal.returns-in_err-pairs
+returns-in_err-pairs g c =
     let graph = graph_of_store g.T.Tables.seen c.args.store.now c.args.shared.now in
     let one = one_pair (string_bytes c.args.key.now.text) in
-    pairs_set graph one set_keys (target_view c.args.target) (given c.args.scene.now graph c.args.row.now c.args.value.now) (pairs_of c.in_ok-pairs.pairs.items)
-    (ap (λ read. storable_pairs one (given c.args.scene.now read c.args.row.now c.args.value.now)) (sym c.graph.ensures) ∙ c.in_ok-pairs.ensures.ok)
-    ∙ ap Ok c.in_ok-put_properties.ensures.ok
+    let read = given c.args.scene.now graph c.args.row.now c.args.value.now in
+    let target = target_view c.args.target in
+    let set = set_pairs graph one set_keys read target in
+    let result = c.from_residual-in_err-pairs in
+    record {
+      ok = IfOk-from_err result.result (λ u. set ≡ Ok graph) result.ensures.0;
+      err = fault_passed set OutOfMemory result.result result.ensures.1 (λ other. absurd (other refl));
+      changed = unchanged g.T.Tables.seen c.args.store.now c.args.shared.now c.requires.fit;
+    }
 
-pub returns-clause-changed : goal.returns-clause-changed
-returns-clause-changed g c = c.put_properties.ensures.changed
+pub returns-in_err-push : goal.returns-in_err-push
+returns-in_err-push g c =
+    let graph = graph_of_store g.T.Tables.seen c.args.store.now c.args.shared.now in
+    let one = one_pair (string_bytes c.args.key.now.text) in
+    let read = given c.args.scene.now graph c.args.row.now c.args.value.now in
+    let target = target_view c.args.target in
+    let set = set_pairs graph one set_keys read target in
+    let result = c.from_residual-in_err-push in
+    record {
+      ok = IfOk-from_err result.result (λ u. set ≡ Ok graph) result.ensures.0;
+      err = fault_passed set OutOfMemory result.result result.ensures.1 (λ other. absurd (other refl));
+      changed = unchanged g.T.Tables.seen c.args.store.now c.args.shared.now c.requires.fit;
+    }
+
+pub returns-in_err-test_storable : goal.returns-in_err-test_storable
+returns-in_err-test_storable g c =
+    let graph = graph_of_store g.T.Tables.seen c.args.store.now c.args.shared.now in
+    let one = one_pair (string_bytes c.args.key.now.text) in
+    let read = given c.args.scene.now graph c.args.row.now c.args.value.now in
+    let target = target_view c.args.target in
+    let set = set_pairs graph one set_keys read target in
+    let is = ap (λ read. given c.args.scene.now read c.args.row.now c.args.value.now) (sym c.graph.ensures) ∙ c.in_ok-value.ensures.ok in
+    let value = c.in_ok-value.value in
+    let pairs = pairs_of c.push.new.self.items in
+    let same =
+    ap pairs_of c.in_ok-push.ensures.items ∙ ap (λ ps. pairs_of (ps ++ (c.as_str.result, value) ∷ [])) c.in_ok-pairs.ensures.items ∙ ap (λ key. (key, view value) ∷ []) c.as_str.ensures.value in
+    let are = pairs_read graph one set_keys target read (view value) (Ok pairs) is (ap Ok (sym same)) in
+    let result = c.from_residual-in_err-test_storable in
+    record {
+      ok = IfOk-from_err result.result (λ u. set ≡ Ok graph) result.ensures.0;
+      err =
+          fault_passed set c.in_err-test_storable.field-0.0 result.result result.ensures.1
+          (λ other. entries_refused graph one set_keys target read pairs c.in_err-test_storable.field-0.0 are c.in_err-test_storable.ensures.err);
+      changed = unchanged g.T.Tables.seen c.args.store.now c.args.shared.now c.requires.fit;
+    }
+
+pub put_properties-requires : goal.put_properties-requires
+put_properties-requires g c = record { fit = c.requires.fit; there = c.requires.there }
+
+pub returns-in_err-put_properties : goal.returns-in_err-put_properties
+returns-in_err-put_properties g c =
+    let graph = graph_of_store g.T.Tables.seen c.args.store.now c.args.shared.now in
+    let one = one_pair (string_bytes c.args.key.now.text) in
+    let read = given c.args.scene.now graph c.args.row.now c.args.value.now in
+    let target = target_view c.args.target in
+    let set = set_pairs graph one set_keys read target in
+    let result = c.from_residual-in_err-put_properties in
+    record {
+      ok = IfOk-from_err result.result (λ u. set ≡ Ok (graph_of_store g.T.Tables.seen c.put_properties.new.store c.put_properties.new.shared)) result.ensures.0;
+      err = fault_passed set OutOfMemory result.result result.ensures.1 (λ other. absurd (other refl));
+      changed = c.put_properties.ensures.changed;
+    }
+
+pub returns : goal.returns
+returns g c =
+    let graph = graph_of_store g.T.Tables.seen c.args.store.now c.args.shared.now in
+    let one = one_pair (string_bytes c.args.key.now.text) in
+    let read = given c.args.scene.now graph c.args.row.now c.args.value.now in
+    let target = target_view c.args.target in
+    let is = ap (λ read. given c.args.scene.now read c.args.row.now c.args.value.now) (sym c.graph.ensures) ∙ c.in_ok-value.ensures.ok in
+    let value = c.in_ok-value.value in
+    let pairs = pairs_of c.push.new.self.items in
+    let same =
+    ap pairs_of c.in_ok-push.ensures.items ∙ ap (λ ps. pairs_of (ps ++ (c.as_str.result, value) ∷ [])) c.in_ok-pairs.ensures.items ∙ ap (λ key. (key, view value) ∷ []) c.as_str.ensures.value in
+    let are = pairs_read graph one set_keys target read (view value) (Ok pairs) is (ap Ok (sym same)) in
+    record {
+      ok = map_set graph one set_keys target read pairs are c.in_ok-test_storable.ensures.ok ∙ ap Ok c.in_ok-put_properties.ensures.ok;
+      err = tt;
+      changed = c.put_properties.ensures.changed;
+    }

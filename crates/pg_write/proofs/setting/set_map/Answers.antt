@@ -1,4 +1,4 @@
-use Rattle.std.proofs.Common.{◌≡◌, true, false, Ok, Err, refl, sym, ap, subst, ◌∙◌}
+use Rattle.std.proofs.Common.{◌≡◌, Ok, Err, refl, sym, ap, ◌∙◌}
 use Rattle.std.proofs.lemmas.Result.{IfOk-from_err}
 use Rattle.pg_expr.proofs.ExitLemmas.{fault_passed}
 use Rattle.pg_meaning.specs.Updates.{mapping_pairs, set_pairs}
@@ -75,23 +75,8 @@ returns-in_err-test_storable g c =
       changed = unchanged g.T.Tables.seen c.args.store.now c.args.shared.now c.requires.fit;
     }
 
-pub replace_properties-requires : goal.replace_properties-requires
-replace_properties-requires g c = record { fit = c.requires.fit; there = c.requires.there }
-
 pub put_properties-requires : goal.put_properties-requires
 put_properties-requires g c = record { fit = c.requires.fit; there = c.requires.there }
-
-pub returns-in_err-replace_properties : goal.returns-in_err-replace_properties
-returns-in_err-replace_properties g c =
-    let seen = g.T.Tables.seen in
-    let graph = graph_of_store seen c.args.store.now c.args.shared.now in
-    let set = set_pairs graph mapping_pairs (put_map c.args.is_whole) (given c.args.scene.now graph c.args.row.now c.args.value.now) (target_view c.args.target) in
-    let result = c.from_residual-in_err-replace_properties in
-    record {
-      ok = IfOk-from_err result.result (λ u. set ≡ Ok (graph_of_store seen c.replace_properties.new.store c.replace_properties.new.shared)) result.ensures.0;
-      err = fault_passed set OutOfMemory result.result result.ensures.1 (λ other. absurd (other refl));
-      changed = c.replace_properties.ensures.changed;
-    }
 
 pub returns-in_err-put_properties : goal.returns-in_err-put_properties
 returns-in_err-put_properties g c =
@@ -105,36 +90,17 @@ returns-in_err-put_properties g c =
       changed = c.put_properties.ensures.changed;
     }
 
-pub returns-then-is_whole : goal.returns-then-is_whole
-returns-then-is_whole g c =
-    let seen = g.T.Tables.seen in
-    let graph = graph_of_store seen c.args.store.now c.args.shared.now in
-    let read = given c.args.scene.now graph c.args.row.now c.args.value.now in
-    let change = put_map true in
-    let target = target_view c.args.target in
-    let after = graph_of_store seen c.replace_properties.new.store c.replace_properties.new.shared in
-    let pairs = pairs_of c.in_ok-pairs.pairs.items in
-    let is = ap (λ read. given c.args.scene.now read c.args.row.now c.args.value.now) (sym c.graph.ensures) ∙ c.in_ok-value.ensures.ok in
-    let are = pairs_read graph mapping_pairs change target read (view c.in_ok-value.value) (Ok pairs) is (c.in_ok-keys.ensures.ok ∙ ap Ok (sym c.in_ok-pairs.ensures)) in
-    record {
-      ok = subst (λ whole. set_pairs graph mapping_pairs (put_map whole) read target ≡ Ok after) (sym c.if-is_whole.true) (map_set graph mapping_pairs change target read pairs are c.in_ok-test_storable.ensures.ok ∙ ap Ok c.in_ok-replace_properties.ensures.ok);
-      err = tt;
-      changed = c.replace_properties.ensures.changed;
-    }
-
 pub returns : goal.returns
 returns g c =
-    let seen = g.T.Tables.seen in
-    let graph = graph_of_store seen c.args.store.now c.args.shared.now in
+    let graph = graph_of_store g.T.Tables.seen c.args.store.now c.args.shared.now in
     let read = given c.args.scene.now graph c.args.row.now c.args.value.now in
-    let change = put_map false in
+    let change = put_map c.args.is_whole in
     let target = target_view c.args.target in
-    let after = graph_of_store seen c.put_properties.new.store c.put_properties.new.shared in
     let pairs = pairs_of c.in_ok-pairs.pairs.items in
     let is = ap (λ read. given c.args.scene.now read c.args.row.now c.args.value.now) (sym c.graph.ensures) ∙ c.in_ok-value.ensures.ok in
     let are = pairs_read graph mapping_pairs change target read (view c.in_ok-value.value) (Ok pairs) is (c.in_ok-keys.ensures.ok ∙ ap Ok (sym c.in_ok-pairs.ensures)) in
     record {
-      ok = subst (λ whole. set_pairs graph mapping_pairs (put_map whole) read target ≡ Ok after) (sym c.if-is_whole.false) (map_set graph mapping_pairs change target read pairs are c.in_ok-test_storable.ensures.ok ∙ ap Ok c.in_ok-put_properties.ensures.ok);
+      ok = map_set graph mapping_pairs change target read pairs are c.in_ok-test_storable.ensures.ok ∙ ap Ok c.in_ok-put_properties.ensures.ok;
       err = tt;
       changed = c.put_properties.ensures.changed;
     }

@@ -6,7 +6,7 @@ use Rattle.pg_rows.specs.Tables.{table}
 use Rattle.pg_store.specs.Stores.{graph_of_store}
 use Rattle.pg_syntax_tree.specs.View.{remove_item_view}
 use Rattle.pg_write_make.specs.Changed.{Changed}
-use Rattle.pg_write.proofs.removing.remove_rows.Given as goal
+use Rattle.pg_write.proofs.removing.remove_items.Given as goal
 
 abbrev pub invariant-loop-at : goal.invariant-loop-at
 invariant-loop-at g l =

@@ -1,23 +1,24 @@
-use Rattle.std.proofs.Common.{◌≡◌, Ok, refl, sym, ap, subst, ◌∙◌}
+use Rattle.std.proofs.Common.{◌≡◌, false, Ok, refl, sym, ap, subst, ◌∙◌}
 use Rattle.std.proofs.lemmas.Result.{IfOk-from_err}
 use Rattle.pg_expr.proofs.ExitLemmas.{fault_passed}
 use Rattle.pg_meaning.specs.Graph.{Node as Element, change_node}
-use Rattle.pg_meaning.specs.Names.{Names, put_texts}
+use Rattle.pg_meaning.specs.Names.{Names}
 use Rattle.pg_meaning.specs.Patterns.{texts_of}
 use Rattle.pg_meaning.specs.Updates.{change_labels}
 use Rattle.pg_meaning.specs.declared.fault.Fault.TheVariants.{OutOfMemory}
 use Rattle.pg_store.specs.Stores.{graph_of_store}
 use Rattle.pg_syntax_tree.specs.View.{names_view}
+use Rattle.pg_write.specs.Parts.{labels_by}
 use Rattle.pg_write.specs.Targets.{target_view, IsThere}
 use Rattle.pg_write.specs.declared.targets.Target.{Target}
 use Rattle.pg_write_make.proofs.ChangedLemmas.{unchanged, one_change}
-use Rattle.pg_write.proofs.changes.put_labels.Goals as goal
+use Rattle.pg_write.proofs.changes.change_labels.Goals as goal
 
 pub returns-in-Nothing : goal.returns-in-Nothing
 returns-in-Nothing g c =
     let graph = graph_of_store g.T.Tables.seen c.args.store.now c.args.shared.now in
     record {
-      ok = ap (λ (t : Target). change_labels (put_texts (texts_of (names_view c.args.labels.now.items))) (target_view t) graph) c.in-Nothing.is;
+      ok = ap (λ (t : Target). change_labels (labels_by c.args.is_put (texts_of (names_view c.args.labels.now.items))) (target_view t) graph) c.in-Nothing.is;
       err = tt;
       changed = unchanged g.T.Tables.seen c.args.store.now c.args.shared.now c.requires.fit;
     }
@@ -27,14 +28,14 @@ returns-in-Rel g c =
     let graph = graph_of_store g.T.Tables.seen c.args.store.now c.args.shared.now in
     record {
       ok = tt;
-      err = λ other. ap (λ (t : Target). change_labels (put_texts (texts_of (names_view c.args.labels.now.items))) (target_view t) graph) c.in-Rel.is;
+      err = λ other. ap (λ (t : Target). change_labels (labels_by c.args.is_put (texts_of (names_view c.args.labels.now.items))) (target_view t) graph) c.in-Rel.is;
       changed = unchanged g.T.Tables.seen c.args.store.now c.args.shared.now c.requires.fit;
     }
 
 pub returns-in_err-texts-in-Node : goal.returns-in_err-texts-in-Node
 returns-in_err-texts-in-Node g c =
     let graph = graph_of_store g.T.Tables.seen c.args.store.now c.args.shared.now in
-    let given = change_labels (put_texts (texts_of (names_view c.args.labels.now.items))) (target_view c.args.target) graph in
+    let given = change_labels (labels_by c.args.is_put (texts_of (names_view c.args.labels.now.items))) (target_view c.args.target) graph in
     record {
       ok = IfOk-from_err c.from_residual.result (λ u. given ≡ Ok graph) c.from_residual.ensures.0;
       err = fault_passed given OutOfMemory c.from_residual.result c.from_residual.ensures.1 (λ other. absurd (other refl));
@@ -51,22 +52,23 @@ returns-in_err-add_labels-in-Node g c =
     let seen = g.T.Tables.seen in
     let call = c.add_labels in
     let result = c.from_residual-in_err-add_labels-in-Node in
-    let given = change_labels (put_texts (texts_of (names_view c.args.labels.now.items))) (target_view c.args.target) (graph_of_store seen c.args.store.now c.args.shared.now) in
+    let given = change_labels (labels_by c.args.is_put (texts_of (names_view c.args.labels.now.items))) (target_view c.args.target) (graph_of_store seen c.args.store.now c.args.shared.now) in
     record {
       ok = IfOk-from_err result.result (λ u. given ≡ Ok (graph_of_store seen call.new.self call.new.shared)) result.ensures.0;
       err = fault_passed given OutOfMemory result.result result.ensures.1 (λ other. absurd (other refl));
       changed = one_change seen c.args.store.now c.args.shared.now call.new.self call.new.shared call.result _ call.ensures.changes call.ensures.marks;
     }
 
-pub returns-in_ok-add_labels-in-Node : goal.returns-in_ok-add_labels-in-Node
-returns-in_ok-add_labels-in-Node g c =
+pub returns-in_ok-remove_labels-in-Node : goal.returns-in_ok-remove_labels-in-Node
+returns-in_ok-remove_labels-in-Node g c =
     let seen = g.T.Tables.seen in
     let graph = graph_of_store seen c.args.store.now c.args.shared.now in
-    let call = c.add_labels in
+    let call = c.remove_labels in
+    let texts = texts_of (names_view c.args.labels.now.items) in
     record {
       ok =
-          ap (λ (t : Target). change_labels (put_texts (texts_of (names_view c.args.labels.now.items))) (target_view t) graph) c.in-Node.is
-          ∙ ap Ok (sym (c.in_ok-add_labels-in-Node.ensures.changes.says ∙ ap (λ (ts : Names). change_node (λ (e : Element). record e { labels = put_texts ts e.labels }) c.in-Node.id.0 graph) c.in_ok-texts-in-Node.ensures));
+          (λ i. change_labels (labels_by (c.if-is_put.false i) texts) (target_view (c.in-Node.is i)) graph)
+          ∙ ap Ok (sym (c.in_ok-remove_labels-in-Node.ensures.changes.says ∙ ap (λ (ts : Names). change_node (λ (e : Element). record e { labels = labels_by false ts e.labels }) c.in-Node.id.0 graph) c.in_ok-texts-in-Node.ensures));
       err = tt;
       changed = one_change seen c.args.store.now c.args.shared.now call.new.self call.new.shared call.result _ call.ensures.changes call.ensures.marks;
     }

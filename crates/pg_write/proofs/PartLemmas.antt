@@ -1,5 +1,5 @@
 -- The definitions of SET and REMOVE, from what their parts give.
-use Rattle.std.proofs.Common.{◌≡◌, ◌≢◌, ℕ, true, false, List, [], ◌∷◌, Result, Ok, Err, refl, sym, ap, ◌∙◌}
+use Rattle.std.proofs.Common.{◌≡◌, ◌≢◌, ℕ, true, false, List, Result, Ok, Err, refl, ap, ◌∙◌}
 use Rattle.pg_meaning.specs.Answer.{Answer, ◌>>=◌, ◌>>◌}
 use Rattle.pg_meaning.specs.Graph.{Graph}
 use Rattle.pg_meaning.specs.Rows.{Row}
@@ -8,7 +8,7 @@ use Rattle.pg_meaning.specs.Updates.{Target, nothing, is_nothing, target_of, on_
 use Rattle.pg_meaning.specs.Value.{Value, Entries}
 use Rattle.pg_meaning.specs.declared.fault.Fault.{Fault}
 use Rattle.pg_write.specs.Items.{item_with, changed_by}
-use Rattle.pg_write.specs.Parts.{one_pair, storable_pairs}
+use Rattle.pg_write.specs.Parts.{storable_pairs}
 use Rattle.pg_write.specs.Targets.{target_view}
 use Rattle.pg_write_make.specs.Scenes.{reading}
 use Rattle.pg_write.specs.declared.items.ReadyChange.{ReadyChange}
@@ -63,10 +63,6 @@ module _ (graph : Graph) (pairs_of : Value → Result Pairs Fault) (change : Pai
 
   pub entries_refused : (value : Answer) (pairs : Pairs) (e : Fault) → (value >>= pairs_of) ≡ Ok pairs → test_storable pairs ≡ Err e → set_pairs graph pairs_of change value target ≡ Err e
   entries_refused value pairs e is err = pairs_refused value e (joined value ∙ ap (λ r. r >>= tested) is ∙ ap (λ r. r >> Ok pairs) err)
-
--- the value under one key
-pub one_pair_tested : (key : List ℕ) (given : Answer) (v : Value) → given ≡ Ok v → (pairs : Pairs) → pairs ≡ (key, v) ∷ [] → storable_pairs (one_pair key) given ≡ tested pairs
-one_pair_tested key given v is pairs same = ap (storable_pairs (one_pair key)) is ∙ ap tested (sym same)
 
 -- ---- an item, from its target
 

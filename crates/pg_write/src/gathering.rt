@@ -8,7 +8,7 @@ ghost use Rattle.pg_rows.specs.States.{named_rows, seen};
 ghost use Rattle.pg_rows.specs.Tables.{table};
 ghost use Rattle.pg_syntax_tree.specs.View.{expression_view};
 ghost use Rattle.pg_value_core.specs.Given.{parameters_view};
-ghost use Rattle.pg_write.specs.Gathered.{put_given, put_row, gathered};
+ghost use Rattle.pg_write.specs.Gathered.{put_row, gathered};
 ghost use Rattle.pg_write_make.specs.Scenes.{row_in, parameters_in};
 
 use crate::doomed::Doomed;

@@ -1,66 +1,29 @@
 //! MERGE.
-ghost use Rattle.std.specs.Prelude.{◌≡◌, ◌≢◌, ◌≤◌, ◌^◌, ◌∷◌, [], IfOk, IfErr, Ok, Err, length, map, take};
-ghost use Rattle.pg_match_rows.specs.Parts.{parts_of};
+ghost use Rattle.std.specs.Prelude.{◌≡◌, ◌≤◌, ◌^◌, ◌∷◌, [], IfOk, length, map};
 ghost use Rattle.pg_match_stages.specs.View.{anchor_view};
-ghost use Rattle.pg_meaning.specs.Answer.{each_step};
 ghost use Rattle.pg_meaning.specs.Meters.{Setting};
 ghost use Rattle.pg_meaning.specs.Patterns.{add_path_names};
-ghost use Rattle.pg_meaning.specs.Updates.{count_new, merge_clause};
-ghost use Rattle.pg_meaning.specs.declared.fault.Fault.TheVariants.{OutOfMemory};
-ghost use Rattle.pg_rows.specs.Named.{rows_named};
+ghost use Rattle.pg_meaning.specs.Updates.{merge_clause};
 ghost use Rattle.pg_rows.specs.States.{Suits, seen, state_of};
-ghost use Rattle.pg_rows.specs.Tables.{table};
 ghost use Rattle.pg_store.specs.Stores.{graph_of_store, IsFit};
 ghost use Rattle.pg_syntax_tree.specs.View.{on_view, path_view};
 ghost use Rattle.pg_value_core.specs.Given.{parameters_view};
 ghost use Rattle.pg_value_core.specs.Gives.{Gives};
-ghost use Rattle.pg_write.specs.Mergings.{row_merged};
-ghost use Rattle.pg_write.specs.Ready.{created_said, matched_said, path_said, setting_given};
 ghost use Rattle.pg_write_make.specs.Changed.{Changed};
 
 use crate::merged_rows::merge_rows;
 use crate::merging::{Merge, prepare};
 use pg_graph::Tables;
-use pg_match_rows::{Part, bind_names};
+use pg_match_rows::bind_names;
 use pg_match_stages::Anchor;
 use pg_meter::Meter;
-use pg_rows::{Columns, Rows, Table};
+use pg_rows::Table;
 use pg_store::{Shared, Store};
 use pg_syntax_tree::{On, PathPattern};
 use pg_value_core::{Fault, Parameters};
 use pg_write_make::count_new;
 use std::alloc::Global;
 use std::slice::from_ref;
-
-// MERGE over columns of which so many were there before it.
-fn merge_columns<'a, T: Tables>(
-    merge: &Merge<'a>,
-    names: &'a Columns,
-    bound: usize,
-    count: usize,
-    parts: Vec<Part>,
-    store: &mut Store<T>,
-    shared: &mut Shared<T::Shared>,
-    rows: Rows,
-    meter: &mut Meter,
-) -> Result<Rows, Fault>
-    requires fit { IsFit T.seen store.old shared.old }
-    requires quota { merge.now.max_elements ≤ 2 ^ 63 }
-    requires within { bound ≤ length names.now }
-    requires names { add_path_names (path_said merge.now ∷ []) (take bound names.now) ≡ names.now }
-    requires parts { parts.items ≡ parts_of (take bound names.now) (path_said merge.now ∷ []) }
-    requires count { count ≡ count_new (take bound names.now) (path_said merge.now ∷ []) }
-    requires anchors { length merge.now.anchors.now ≡ 1 }
-    requires wide { rows.width ≡ bound }
-    ensures ok { IfOk result (λ merged. each_step (row_merged (setting_given merge.now (take bound names.now) meter.old.limit) (path_said merge.now) (created_said merge.now) (matched_said merge.now)) (record { graph = graph_of_store T.seen store.old shared.old; rows = []; steps = meter.old.used }) (rows_named names.now (table rows)) ≡ Ok (record { graph = graph_of_store T.seen store.new shared.new; rows = rows_named names.now (table merged); steps = meter.new.used })) }
-    ensures width { IfOk result (λ merged. merged.width ≡ length names.now) }
-    ensures err { IfErr result (λ e. e ≢ OutOfMemory → each_step (row_merged (setting_given merge.now (take bound names.now) meter.old.limit) (path_said merge.now) (created_said merge.now) (matched_said merge.now)) (record { graph = graph_of_store T.seen store.old shared.old; rows = []; steps = meter.old.used }) (rows_named names.now (table rows)) ≡ Err e) }
-    ensures changed { Changed T.seen store.old shared.old store.new shared.new }
-    ensures limit { meter.new.limit ≡ meter.old.limit }
-{
-    let merging = prepare(merge, names, bound, count, parts)?;
-    merge_rows(&merging, store, shared, rows, meter)
-}
 
 /// Finds the path at each row, or makes it, in the graph of the rows before, and sets what the items
 /// of its kind say at each resulting row. An error leaves a part of it done, and the caller takes
@@ -97,8 +60,9 @@ pub fn merge_path<'a, T: Tables>(
     let bound = names.len();
     let count = count_new(alloc, &names, from_ref(path))?;
     let bindings = bind_names(alloc, from_ref(path), &mut names)?;
-    let merged = merge_columns(
-        &merge, &names, bound, count, bindings, store, shared, rows, meter,
-    )?;
+    let merged = {
+        let merging = prepare(&merge, &names, bound, count, bindings)?;
+        merge_rows(&merging, store, shared, rows, meter)?
+    };
     Ok(Table::new(names, merged))
 }

@@ -2,7 +2,7 @@
 ghost use Rattle.std.specs.List.{list_any};
 ghost use Rattle.std.specs.Prelude.{◌≡◌, ◌||◌, OnOk, IfErr, Ok, Err, map as map_list};
 ghost use Rattle.pg_match_stages.specs.View.{wanted_hop_and_node, wanted_pairs, wanted_path};
-ghost use Rattle.pg_meaning.specs.Updates.{has_null, test_not_null, wants_null};
+ghost use Rattle.pg_meaning.specs.Updates.{has_null, test_not_null};
 
 use pg_match_stages::{HopWanted, NodeWanted, PathWanted};
 use pg_value_core::{Fault, Value};

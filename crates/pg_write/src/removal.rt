@@ -2,7 +2,7 @@
 ghost use Rattle.std.specs.Prelude.{◌≡◌, ◌≢◌, [], IsTrue, OnOk, IfErr, Ok, Err};
 ghost use Rattle.std.specs.List.{AllByRecursion};
 ghost use Rattle.pg_meaning.specs.Graph.{both, has_node, has_relationship, incident, remove_elements};
-ghost use Rattle.pg_meaning.specs.Updates.{is_connected, test_unconnected};
+ghost use Rattle.pg_meaning.specs.Updates.{test_unconnected};
 ghost use Rattle.pg_meaning.specs.declared.fault.Fault.TheVariants.{OutOfMemory};
 ghost use Rattle.pg_store.specs.Stores.{graph_of_store, IsFit};
 ghost use Rattle.pg_write.specs.Gathered.{taken_out, AreThere, Rises};

@@ -9,7 +9,7 @@ ghost use Rattle.pg_store.specs.Stores.{graph_of_store, IsFit};
 ghost use Rattle.pg_syntax_tree.specs.View.{name_view, remove_item_view};
 ghost use Rattle.pg_value_core.specs.Given.{parameters_view};
 ghost use Rattle.pg_value_core.specs.Gives.{Gives};
-ghost use Rattle.pg_write.specs.Parts.{remove_target, removed_by};
+ghost use Rattle.pg_write.specs.Parts.{remove_target};
 ghost use Rattle.pg_write.specs.Targets.{target_view, IsThere};
 ghost use Rattle.pg_write_make.specs.Changed.{Changed};
 ghost use Rattle.pg_write_make.specs.Scenes.{row_in};

@@ -1,5 +1,5 @@
 //! SET: row by row, item by item, each in the graph of those before.
-ghost use Rattle.std.specs.Prelude.{◌≡◌, ◌≢◌, ◌<◌, OnOk, IfOk, IfErr, Ok, Err, map, string_bytes, length};
+ghost use Rattle.std.specs.Prelude.{◌≡◌, ◌≢◌, ◌<◌, OnOk, IfErr, Ok, Err, map, string_bytes, length};
 ghost use Rattle.pg_meaning.specs.Answer.{each_step};
 ghost use Rattle.pg_meaning.specs.Entries.{set_keys};
 ghost use Rattle.pg_meaning.specs.Meters.{Setting};
@@ -8,12 +8,12 @@ ghost use Rattle.pg_meaning.specs.declared.fault.Fault.TheVariants.{OutOfMemory}
 ghost use Rattle.pg_rows.specs.Named.{rows_named};
 ghost use Rattle.pg_rows.specs.States.{Suits, seen, state_of};
 ghost use Rattle.pg_rows.specs.Tables.{table};
-ghost use Rattle.pg_store.specs.Stores.{graph_of_store, pairs_of, IsFit};
+ghost use Rattle.pg_store.specs.Stores.{graph_of_store, IsFit};
 ghost use Rattle.pg_syntax_tree.specs.View.{set_item_view};
 ghost use Rattle.pg_value_core.specs.Given.{parameters_view};
 ghost use Rattle.pg_value_core.specs.Gives.{Gives};
-ghost use Rattle.pg_write.specs.Items.{item_of, changed_by};
-ghost use Rattle.pg_write.specs.Parts.{one_pair, put_map, storable_pairs};
+ghost use Rattle.pg_write.specs.Items.{item_of};
+ghost use Rattle.pg_write.specs.Parts.{one_pair, put_map};
 ghost use Rattle.pg_write.specs.Targets.{target_view, IsThere};
 ghost use Rattle.pg_write_make.specs.Changed.{Changed};
 ghost use Rattle.pg_write_make.specs.Scenes.{given, row_in, parameters_in, reading};
@@ -26,7 +26,7 @@ use pg_expr::Prepared;
 use pg_graph::Tables;
 use pg_meter::Meter;
 use pg_rows::{Rows, Table};
-use pg_store::{Shared, Snapshot, Store};
+use pg_store::{Shared, Store};
 use pg_syntax_tree::{Name, SetItem};
 use pg_value_core::{Fault, Parameters, Value};
 use pg_write_make::{Scene, spend_for_rows, test_storable};

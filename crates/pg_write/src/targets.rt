@@ -1,9 +1,7 @@
 //! What an item of SET or REMOVE changes.
-ghost use Rattle.std.specs.Prelude.{◌≡◌, IfOk, IfErr, Ok, Err, Some};
-ghost use Rattle.pg_meaning.specs.Updates.{target_of, target_value};
-ghost use Rattle.pg_meaning.specs.Value.{node, relationship};
+ghost use Rattle.std.specs.Prelude.{◌≡◌, IfOk, IfErr, Ok, Err};
+ghost use Rattle.pg_meaning.specs.Updates.{target_of};
 ghost use Rattle.pg_syntax_tree.specs.View.{name_view};
-ghost use Rattle.pg_value_core.specs.View.{view};
 ghost use Rattle.pg_write.specs.Targets.{target_view, IsThere};
 ghost use Rattle.pg_write_make.specs.Scenes.{row_in};
 

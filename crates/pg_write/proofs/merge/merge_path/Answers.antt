@@ -1,4 +1,4 @@
-use Rattle.std.proofs.Common.{◌≡◌, ◌∷◌, [], Ok, length, map, take, refl, sym, ap, ◌∙◌}
+use Rattle.std.proofs.Common.{◌≡◌, ◌≤◌, ◌^◌, ◌∷◌, [], Ok, Err, length, map, take, refl, sym, ap, subst, ◌∙◌}
 use Rattle.std.proofs.lemmas.Result.{IfOk-from_err, err_from_is_err_and}
 use Rattle.pg_match.proofs.Found.{rows_wide}
 use Rattle.pg_match_rows.specs.Parts.{parts_of}
@@ -13,25 +13,45 @@ use Rattle.pg_value_core.specs.Given.{parameters_view}
 use Rattle.pg_write.proofs.ExitLemmas.{gives_fault}
 use Rattle.pg_write_make.proofs.ChangedLemmas.{unchanged}
 use Rattle.pg_write.proofs.MergeClauseLemmas.{clause_is, first_kept, not_fewer}
+use Rattle.pg_write.proofs.ReadyLemmas.{said_err, said_ok}
 use Rattle.pg_write.proofs.merge.merge_path.Goals as goal
 
-pub merge_columns-requires : goal.merge_columns-requires
-merge_columns-requires g c =
+pub prepare-requires : goal.prepare-requires
+prepare-requires g c =
     let p = path_view c.args.path.now in
     let names = c.split-names.result.0 in
     let after = c.bind_names.new.names in
     let is : after ≡ add_path_names (p ∷ []) names = c.in_ok-bindings.ensures.names ∙ ap (λ ps. add_path_names (map path_view ps) names) c.from_ref-2.ensures.value in
     let kept : take c.len-bound.result after ≡ names = first_kept p names after c.len-bound.result is c.len-bound.ensures in
     record {
-      fit = c.requires.fit;
-      quota = c.requires.quota;
       within = not_fewer p names after c.len-bound.result is c.len-bound.ensures;
       names = ap (add_path_names (p ∷ [])) kept ∙ sym is;
       parts = c.in_ok-bindings.ensures.parts ∙ (λ i. parts_of (sym kept i) (map path_view (c.from_ref-2.ensures.value i)));
       count = c.in_ok-count.ensures ∙ (λ i. count_new (sym kept i) (map path_view (c.from_ref.ensures.value i)));
       anchors = c.requires.anchors;
-      wide = c.split-names.ensures.width ∙ ap length (sym c.split-names.ensures.names) ∙ sym c.len-bound.ensures;
     }
+
+pub merge_rows-requires : goal.merge_rows-requires
+merge_rows-requires g c =
+    let means = c.in_ok-merging.ensures.means in
+    record {
+      fit = c.requires.fit;
+      quota = subst (λ n. n ≤ 2 ^ 63) (sym means.most) c.requires.quota;
+      ready = c.in_ok-merging.ensures.ready;
+      bound = c.split-names.ensures.width ∙ ap length (sym c.split-names.ensures.names) ∙ sym c.len-bound.ensures ∙ sym means.bound_is;
+    }
+
+pub returns-in_err-merging-clause-gives : goal.returns-in_err-merging-clause-gives
+returns-in_err-merging-clause-gives g c = λ s suits most at. gives_fault c.from_residual-in_err-merging.result _ _ _ c.from_residual-in_err-merging.ensures.1 (λ other. absurd (other refl))
+
+pub returns-in_err-merging-clause-changed : goal.returns-in_err-merging-clause-changed
+returns-in_err-merging-clause-changed g c = unchanged g.T.Tables.seen c.args.store.now c.args.shared.now c.requires.fit
+
+pub returns-in_err-merging-clause-limit : goal.returns-in_err-merging-clause-limit
+returns-in_err-merging-clause-limit g c = refl
+
+pub returns-in_err-merging-clause-names : goal.returns-in_err-merging-clause-names
+returns-in_err-merging-clause-names g c = IfOk-from_err c.from_residual-in_err-merging.result _ c.from_residual-in_err-merging.ensures.0
 
 pub returns-in_err-merged-clause-gives : goal.returns-in_err-merged-clause-gives
 returns-in_err-merged-clause-gives g c = λ s suits most at.
@@ -46,7 +66,7 @@ returns-in_err-merged-clause-gives g c = λ s suits most at.
     clause_is s p (map on_view c.args.parts.now.items) graph (seen c.args.table) c.args.meter.now.used (parameters_view c.args.parameters.now) c.args.meter.now.limit c.args.max_elements (map anchor_view c.args.anchors.now) after names (table c.split-names.result.1)
     suits.parameters_are suits.steps_are most suits.scope_is at c.split-names.ensures.names (ap (λ k. take k after) (sym c.len-bound.ensures) ∙ kept)
     (rows_wide c.split-names.result.1 (length names) (c.split-names.ensures.width ∙ ap length (sym c.split-names.ensures.names))) c.split-names.ensures.rows (take c.len-bound.result after) kept in
-    rw (e.1, e.2) (record { ok = tt; err = λ other. whole ∙ c.in_err-merged.ensures.err other })
+    rw (e.1, e.2) (record { ok = tt; err = λ other. whole ∙ said_err _ after c.len-bound.result c.in_ok-merging.merging c.in_ok-merging.ensures.means c.args.meter.now.limit graph c.args.meter.now.used (table c.split-names.result.1) (Err c.in_err-merged.field-0.0) c.in_err-merged.ensures.err other })
 
 pub returns-clause-gives : goal.returns-clause-gives
 returns-clause-gives g c = λ s suits most at.
@@ -61,7 +81,7 @@ returns-clause-gives g c = λ s suits most at.
     suits.parameters_are suits.steps_are most suits.scope_is at c.split-names.ensures.names (ap (λ k. take k after) (sym c.len-bound.ensures) ∙ kept)
     (rows_wide c.split-names.result.1 (length names) (c.split-names.ensures.width ∙ ap length (sym c.split-names.ensures.names))) c.split-names.ensures.rows (take c.len-bound.result after) kept in
     record {
-      ok = whole ∙ c.in_ok-merged.ensures.ok ∙ ap (λ t. Ok (state_of (graph_of_store g.T.Tables.seen c.merge_columns.new.store c.merge_columns.new.shared) t c.merge_columns.new.meter.used)) (sym c.new.ensures);
+      ok = whole ∙ said_ok _ after c.len-bound.result c.in_ok-merging.merging c.in_ok-merging.ensures.means c.args.meter.now.limit graph c.args.meter.now.used (table c.split-names.result.1) (graph_of_store g.T.Tables.seen c.merge_rows.new.store c.merge_rows.new.shared) c.merge_rows.new.meter.used (Ok c.in_ok-merged.merged) c.in_ok-merged.ensures.ok ∙ ap (λ t. Ok (state_of (graph_of_store g.T.Tables.seen c.merge_rows.new.store c.merge_rows.new.shared) t c.merge_rows.new.meter.used)) (sym c.new.ensures);
       err = tt;
     }
 
@@ -84,16 +104,16 @@ pub returns-in_err-bindings-clause-limit : goal.returns-in_err-bindings-clause-l
 returns-in_err-bindings-clause-limit g c = refl
 
 pub returns-in_err-merged-clause-changed : goal.returns-in_err-merged-clause-changed
-returns-in_err-merged-clause-changed g c = c.merge_columns.ensures.changed
+returns-in_err-merged-clause-changed g c = c.merge_rows.ensures.changed
 
 pub returns-in_err-merged-clause-limit : goal.returns-in_err-merged-clause-limit
-returns-in_err-merged-clause-limit g c = c.merge_columns.ensures.limit
+returns-in_err-merged-clause-limit g c = c.merge_rows.ensures.limit
 
 pub returns-clause-changed : goal.returns-clause-changed
-returns-clause-changed g c = c.merge_columns.ensures.changed
+returns-clause-changed g c = c.merge_rows.ensures.changed
 
 pub returns-clause-limit : goal.returns-clause-limit
-returns-clause-limit g c = c.merge_columns.ensures.limit
+returns-clause-limit g c = c.merge_rows.ensures.limit
 
 pub returns-in_err-count-clause-names : goal.returns-in_err-count-clause-names
 returns-in_err-count-clause-names g c = IfOk-from_err c.from_residual.result _ c.from_residual.ensures.0

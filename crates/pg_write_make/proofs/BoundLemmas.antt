@@ -4,7 +4,7 @@ use Rattle.std.proofs.lemmas.List.{map-append}
 use Rattle.std.proofs.lemmas.Option.{slice_get_read}
 use Rattle.std.specs.Borrow.{Bor}
 use Rattle.std.specs.Map.{lookup}
-use Rattle.std.specs.Prelude.{◌≢◌, IfErr, IfOk, bytes_eq}
+use Rattle.std.specs.Prelude.{◌≢◌, IfOk, bytes_eq}
 use Rattle.pg_meaning.specs.Answer.{◌>>=◌, ◌>>◌, unless}
 use Rattle.pg_meaning.specs.Graph.{Graph, has_node}
 use Rattle.pg_meaning.specs.Patterns.{node_name, nodes_of}
@@ -123,11 +123,6 @@ pub placed : (max : ℕ) (o : Outcome) (n : NodePattern) (before after : Graph) 
     → IfOk r (λ u. node_of max o n (record { graph = before; bound = row ++ named; ids = ids }) ≡ Ok (record { graph = after; bound = row ++ more; ids = all }))
 placed max o n before after row named more ids all (Ok u) found made = of_new max o n (record { graph = before; bound = row ++ named; ids = ids }) (record { graph = after; bound = row ++ more; ids = all }) found (made row (none_found (bound_value (node_name n) (row ++ named)) found))
 placed max o n before after row named more ids all (Err e) found made = tt
-
-pub placed_not : {X : Type 0} (max : ℕ) (o : Outcome) (n : NodePattern) (before : Graph) (bound : Row) (ids : List ℕ) (r : Result X Fault) → node_found (bound_value (node_name n) bound) ≡ Ok None → IfErr r (λ e. e ≢ OutOfMemory → node_added max o n before ≡ Err e)
-    → IfErr r (λ e. e ≢ OutOfMemory → node_of max o n (record { graph = before; bound = bound; ids = ids }) ≡ Err e)
-placed_not max o n before bound ids (Ok x) found made = tt
-placed_not max o n before bound ids (Err e) found made = λ other. of_new_fault max o n (record { graph = before; bound = bound; ids = ids }) e found (made other)
 
 -- a new node is bound behind what is bound already
 pub new_bound : (max : ℕ) (o : Outcome) (n : NodePattern) (before after : Graph) (named more : Row) (id : ℕ) → node_added max o n before ≡ Ok after → id ≡ before.next_node

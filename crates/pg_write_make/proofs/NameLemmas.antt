@@ -36,13 +36,6 @@ zip_push [] more (w ∷ vs) n v h = absurd (omega (arith, h))
 zip_push (x ∷ xs) more [] n v h = absurd (omega (arith, h))
 zip_push (x ∷ xs) more (w ∷ vs) n v h = ap (λ (r : Row). (x, w) ∷ r) (zip_push xs more vs n v (omega (arith, h)))
 
-first_names : (xs more : Texts) (vs : List Value) → length xs ≡ length vs → names_in (row_of (xs ++ more) vs) ≡ xs
-first_names [] [] [] h = refl
-first_names [] (m ∷ more) [] h = refl
-first_names [] more (w ∷ vs) h = absurd (omega (arith, h))
-first_names (x ∷ xs) more [] h = absurd (omega (arith, h))
-first_names (x ∷ xs) more (w ∷ vs) h = ap (λ ys. x ∷ ys) (first_names xs more vs (omega (arith, h)))
-
 names_len : (names : Texts) (vs : List Value) → length vs ≤ length names → length (names_in (row_of names vs)) ≡ length vs
 names_len [] [] h = refl
 names_len [] (v ∷ vs) h = absurd (omega (arith, h))

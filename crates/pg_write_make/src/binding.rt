@@ -1,21 +1,13 @@
 //! The variables that a row gets behind its own.
-ghost use Rattle.std.specs.Prelude.{◌≡◌, OnOk, length, map, is_some};
-ghost use Rattle.pg_meaning.specs.Rows.{value_in};
+ghost use Rattle.std.specs.Prelude.{◌≡◌, OnOk, length, map};
 ghost use Rattle.pg_rows.specs.Named.{row_of};
 ghost use Rattle.pg_value_core.specs.View.{view};
 ghost use Rattle.pg_write_make.specs.Bindings.{bind_each, EndsWith};
 ghost use Rattle.pg_write_make.specs.Lent.{bindings_view};
-ghost use Rattle.pg_write_make.specs.Scenes.{row_in};
 
 use crate::scene::Scene;
 use pg_value_core::Value;
 use std::alloc::AllocError;
-
-fn is_bound(scene: &Scene<'_>, row: &[Value], name: &str) -> bool
-    ensures { result ≡ is_some (value_in name.now (row_in scene.now row.now)) }
-{
-    scene.find(row, name).is_some()
-}
 
 /// Binds variables in turn, each that isn't bound yet, in the columns behind the values.
 #[tactic(auto, using(crate::proofs::NameLemmas::bound_already, crate::proofs::NameLemmas::binds_one, crate::proofs::NameLemmas::all_bound))]
@@ -29,7 +21,7 @@ pub(crate) fn bind_all(
     ensures whole { OnOk result (length values.new.items ≡ length scene.now.names.now) }
 {
     for (name, value) in bindings {
-        if !is_bound(scene, values, name) {
+        if scene.find(values, name).is_none() {
             values.push(value)?;
         }
     }

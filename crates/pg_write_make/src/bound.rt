@@ -1,13 +1,9 @@
 //! The bound nodes of a pattern, which have to be there.
 ghost use Rattle.std.specs.Prelude.{◌≡◌, false};
-ghost use Rattle.pg_meaning.specs.Answer.{unless};
-ghost use Rattle.pg_meaning.specs.Graph.{has_node};
 ghost use Rattle.pg_meaning.specs.Patterns.{node_name, nodes_of};
 ghost use Rattle.pg_meaning.specs.Reading.{test_bound, test_nodes, test_paths};
 ghost use Rattle.pg_meaning.specs.Walks.{bound_value};
-ghost use Rattle.pg_meaning.specs.declared.fault.Fault.TheVariants.{DeletedEntity};
 ghost use Rattle.pg_syntax_tree.specs.View.{node_view, path_view};
-ghost use Rattle.pg_value_core.specs.View.{view};
 ghost use Rattle.pg_write_make.specs.Lent.{paths_view};
 ghost use Rattle.pg_write_make.specs.Makings.{others_view};
 ghost use Rattle.pg_write_make.specs.Scenes.{row_in};
@@ -16,25 +12,7 @@ use crate::scene::Scene;
 use pg_graph::Tables;
 use pg_store::Snapshot;
 use pg_syntax_tree::{NodePattern, PathPattern, RelationshipPattern};
-use pg_value_core::{Fault, NodeId, Value};
-
-fn test_value<T: Tables>(graph: &Snapshot<'_, T>, value: &Value) -> Result<(), Fault>
-    ensures { result ≡ test_bound false graph.now (Some (view value.now)) }
-{
-    match value {
-        Value::Node(id) => test_there(graph, *id),
-        _ => Err(Fault::TypeFault),
-    }
-}
-
-fn test_there<T: Tables>(graph: &Snapshot<'_, T>, id: NodeId) -> Result<(), Fault>
-    ensures { result ≡ unless (has_node graph.now id.0) DeletedEntity }
-{
-    if graph.has_node(id) {
-        return Ok(());
-    }
-    Err(Fault::DeletedEntity)
-}
+use pg_value_core::{Fault, Value};
 
 fn test_node<T: Tables>(
     scene: &Scene<'_>,
@@ -48,7 +26,9 @@ fn test_node<T: Tables>(
         return Ok(());
     };
     match scene.find(row, name.text.as_str()) {
-        Some(value) => test_value(graph, value),
+        Some(Value::Node(id)) if graph.has_node(*id) => Ok(()),
+        Some(Value::Node(_)) => Err(Fault::DeletedEntity),
+        Some(_) => Err(Fault::TypeFault),
         None => Ok(()),
     }
 }

@@ -1,48 +1,28 @@
 //! What is made at a row, row after row.
 ghost use Rattle.std.specs.Prelude.{◌≡◌, ◌≢◌, ◌≤◌, ◌^◌, false, IfOk, IfErr, Ok, Err, length, map, take};
-ghost use Rattle.pg_meaning.specs.Patterns.{add_path_names, bind_match};
+ghost use Rattle.pg_meaning.specs.Patterns.{add_path_names};
 ghost use Rattle.pg_meaning.specs.Reading.{test_paths};
 ghost use Rattle.pg_meaning.specs.declared.fault.Fault.TheVariants.{OutOfMemory};
 ghost use Rattle.pg_rows.specs.Named.{row_of, rows_named};
 ghost use Rattle.pg_rows.specs.Tables.{table};
 ghost use Rattle.pg_store.specs.Stores.{graph_of_store, IsFit};
 ghost use Rattle.pg_value_core.specs.View.{view};
-ghost use Rattle.pg_write_make.specs.Bindings.{match_bindings, named, EndsWith};
 ghost use Rattle.pg_write_make.specs.Creations.{row_made, rows_created};
-ghost use Rattle.pg_write_make.specs.Lent.{paths_view, trail_view};
+ghost use Rattle.pg_write_make.specs.Lent.{paths_view};
 ghost use Rattle.pg_write_make.specs.Changed.{Changed};
 ghost use Rattle.pg_write_make.specs.Scenes.{parameters_in, row_in};
 
 use crate::binding::bind_all;
 use crate::bound::test_paths;
 use crate::kept::kept_values;
-use crate::paths::{Trail, make_paths};
+use crate::paths::make_paths;
 use crate::scene::Scene;
 use crate::trails::row_bindings;
 use pg_graph::Tables;
 use pg_rows::Rows;
-use pg_store::{Shared, Snapshot, Store};
+use pg_store::{Shared, Store};
 use pg_syntax_tree::PathPattern;
 use pg_value_core::{Fault, Value};
-use std::alloc::AllocError;
-
-// The row with the variables of what was made at it.
-#[tactic(auto, using(crate::proofs::BindingLemmas::match_bound, crate::proofs::TrailLemmas::bind_named))]
-fn bound_row<T: Tables>(
-    scene: &Scene<'_>,
-    graph: &Snapshot<'_, T>,
-    mut row: Vec<Value>,
-    paths: &[PathPattern],
-    trails: &Vec<Trail>,
-) -> Result<Vec<Value>, AllocError>
-    requires { EndsWith scene.now.names.now (map view row.items) (named (match_bindings graph.now (paths_view paths.now) (map trail_view trails.now.items))) }
-    ensures bound { IfOk result (λ values. row_of scene.now.names.now (map view values.items) ≡ bind_match graph.now (paths_view paths.now) (map trail_view trails.now.items) (row_in scene.now row.items)) }
-    ensures whole { IfOk result (λ values. length values.items ≡ length scene.now.names.now) }
-{
-    let bindings = row_bindings(scene.alloc, graph, paths, trails)?;
-    bind_all(scene, &mut row, bindings)?;
-    Ok(row)
-}
 
 /// Makes the paths at a row whose bound nodes are there, and gives the row with its new variables.
 /// The names are those behind the clause.
@@ -67,7 +47,10 @@ pub fn make_row<T: Tables>(
 {
     let kept = kept_values(scene, &store.graph(shared), &row, paths)?;
     let trails = make_paths(scene, store, shared, max_elements, &row, paths, kept)?;
-    Ok(bound_row(scene, &store.graph(shared), row, paths, &trails)?)
+    let bindings = row_bindings(scene.alloc, &store.graph(shared), paths, &trails)?;
+    let mut values = row;
+    bind_all(scene, &mut values, bindings)?;
+    Ok(values)
 }
 
 /// Makes the paths at each row, in the graph of the rows before, and gives the rows with their new

@@ -3,7 +3,7 @@ ghost use Rattle.std.specs.Map.{lookup};
 ghost use Rattle.std.specs.Prelude.{◌≡◌, ◌≢◌, ◌≤◌, ◌^◌, ◌++◌, ◌∷◌, [], ℕ, List, false, OnOk, IfOk, IfErr, Ok, Err, Some, None, IsSome, map, option_map, bytes_eq};
 ghost use Rattle.pg_meaning.specs.Patterns.{node_name, nodes_of, text_of};
 ghost use Rattle.pg_meaning.specs.Reading.{test_bound, test_nodes};
-ghost use Rattle.pg_meaning.specs.Rows.{Row, value_in};
+ghost use Rattle.pg_meaning.specs.Rows.{value_in};
 ghost use Rattle.pg_meaning.specs.Value.{node};
 ghost use Rattle.pg_meaning.specs.Walks.{bound_value};
 ghost use Rattle.pg_meaning.specs.declared.fault.Fault.TheVariants.{OutOfMemory};
@@ -12,7 +12,7 @@ ghost use Rattle.pg_syntax_tree.specs.View.{name_view, node_view, path_view};
 ghost use Rattle.pg_value_core.specs.View.{view};
 ghost use Rattle.pg_write_make.specs.Changed.{Changed};
 ghost use Rattle.pg_write_make.specs.Makings.{bindings, making_of, named_ids, others_view, outcomes_view, AllThere, AreThere, Grows};
-ghost use Rattle.pg_write_make.specs.Outcomes.{node_added, node_after, node_found, node_of, nodes_made, outcome_view};
+ghost use Rattle.pg_write_make.specs.Outcomes.{node_found, node_of, nodes_made, outcome_view};
 ghost use Rattle.pg_write_make.specs.Scenes.{row_in};
 
 use crate::elements::add_node;
@@ -92,34 +92,8 @@ fn bind_new<'a>(
     Ok(())
 }
 
-// A node that is new at the row.
-#[tactic(auto, using(crate::proofs::ChangedLemmas::unchanged, crate::proofs::BoundLemmas::bound_last, crate::proofs::GrowthLemmas::added_grows, crate::proofs::GrowthLemmas::added_there, crate::proofs::GrowthLemmas::there_grows, crate::proofs::GrowthLemmas::there_push))]
-fn make_new_node<'a, T: Tables>(
-    scene: &Scene<'_>,
-    store: &mut Store<T>,
-    shared: &mut Shared<T::Shared>,
-    max_elements: u64,
-    pattern: &'a NodePattern,
-    outcome: Result<Vec<(&str, Value)>, Fault>,
-    named: &mut Vec<(&'a str, NodeId)>,
-    ids: &mut Vec<NodeId>,
-) -> Result<(), Fault>
-    requires fit { IsFit T.seen store.old shared.old }
-    requires quota { max_elements ≤ 2 ^ 63 }
-    ensures ok { OnOk result ((row : Row) → bound_value (node_name (node_view pattern.now)) (row ++ bindings named.old.items) ≡ None → node_after max_elements (outcome_view outcome.entry) (node_view pattern.now) (making_of (graph_of_store T.seen store.old shared.old) row named.old.items ids.old.items) ≡ Ok (making_of (graph_of_store T.seen store.new shared.new) row named.new.items ids.new.items)) }
-    ensures err { IfErr result (λ e. e ≢ OutOfMemory → node_added max_elements (outcome_view outcome.entry) (node_view pattern.now) (graph_of_store T.seen store.old shared.old) ≡ Err e) }
-    ensures changed { Changed T.seen store.old shared.old store.new shared.new }
-    ensures grows { OnOk result (Grows (graph_of_store T.seen store.old shared.old) (graph_of_store T.seen store.new shared.new)) }
-    ensures there { OnOk result (AllThere (graph_of_store T.seen store.old shared.old) named.old.items ids.old.items → AllThere (graph_of_store T.seen store.new shared.new) named.new.items ids.new.items) }
-{
-    let id = add_node(scene.alloc, store, shared, max_elements, pattern, outcome)?;
-    bind_new(named, &pattern.variable, id)?;
-    ids.push(id)?;
-    Ok(())
-}
-
 // The node of a pattern, bound or new, behind the ids of those before.
-#[tactic(auto, using(crate::proofs::BoundLemmas::pushed_id, crate::proofs::GrowthLemmas::there_grows, crate::proofs::GrowthLemmas::there_push))]
+#[tactic(auto, using(crate::proofs::ChangedLemmas::unchanged, crate::proofs::BoundLemmas::bound_last, crate::proofs::BoundLemmas::pushed_id, crate::proofs::GrowthLemmas::added_grows, crate::proofs::GrowthLemmas::added_there, crate::proofs::GrowthLemmas::there_grows, crate::proofs::GrowthLemmas::there_push))]
 fn make_node<'a, T: Tables>(
     scene: &Scene<'_>,
     store: &mut Store<T>,
@@ -146,16 +120,12 @@ fn make_node<'a, T: Tables>(
             ids.push(id)?;
             Ok(())
         }
-        None => make_new_node(
-            scene,
-            store,
-            shared,
-            max_elements,
-            pattern,
-            outcome,
-            named,
-            ids,
-        ),
+        None => {
+            let new = add_node(scene.alloc, store, shared, max_elements, pattern, outcome)?;
+            bind_new(named, &pattern.variable, new)?;
+            ids.push(new)?;
+            Ok(())
+        }
     }
 }
 

@@ -1,5 +1,4 @@
 //! Which values a property may have.
-ghost use Rattle.std.specs.List.{list_all};
 ghost use Rattle.std.specs.Prelude.{◌≡◌, OnOk, IfErr, Ok, Err};
 ghost use Rattle.pg_meaning.specs.Updates.{is_plain, are_plain, may_be_set, test_storable};
 ghost use Rattle.pg_store.specs.Stores.{pairs_of};
@@ -12,22 +11,12 @@ pub fn test_storable(pairs: &Vec<(&str, Value)>) -> Result<(), Fault>
     ensures ok { OnOk result (test_storable (pairs_of pairs.now.items) ≡ Ok tt) }
     ensures err { IfErr result (λ e. test_storable (pairs_of pairs.now.items) ≡ Err e) }
 {
-    if are_storable(pairs) {
-        return Ok(());
-    }
-    Err(Fault::NotStorable)
-}
-
-/// Whether each value may be given to a property.
-fn are_storable(pairs: &Vec<(&str, Value)>) -> bool
-    ensures { result ≡ list_all (λ p. may_be_set p.1) (pairs_of pairs.now.items) }
-{
     for pair in pairs {
         if !may_be_set(&pair.1) {
-            return false;
+            return Err(Fault::NotStorable);
         }
     }
-    true
+    Ok(())
 }
 
 /// A boolean, an integer, a text, a list of such, or null, which takes a property away.

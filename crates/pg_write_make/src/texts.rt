@@ -1,11 +1,11 @@
 //! The texts of names in the tree.
-ghost use Rattle.std.specs.Prelude.{◌≡◌, IfOk, map};
+ghost use Rattle.std.specs.Prelude.{◌≡◌, IfOk};
 ghost use Rattle.pg_meaning.specs.Patterns.{texts_of as meant_texts, types_of};
 ghost use Rattle.pg_meaning.specs.Updates.{first_text};
 ghost use Rattle.pg_store.specs.Stores.{texts_of};
-ghost use Rattle.pg_syntax_tree.specs.View.{names_view, relationship_view, type_view};
+ghost use Rattle.pg_syntax_tree.specs.View.{names_view, relationship_view};
 
-use pg_syntax_tree::{Name, RelationshipPattern, TypeName};
+use pg_syntax_tree::{Name, RelationshipPattern};
 use std::alloc::{AllocError, Global};
 
 /// The texts of labels, as they stand.
@@ -24,16 +24,10 @@ pub(crate) fn type_text(pattern: &RelationshipPattern) -> &str
     ensures { result.now ≡ first_text (types_of (relationship_view pattern.now)) }
 {
     match &pattern.detail {
-        Some(detail) => first_type(&detail.types),
-        None => "",
-    }
-}
-
-fn first_type(types: &Vec<TypeName>) -> &str
-    ensures { result.now ≡ first_text (map (λ t. t.1.text) (map type_view types.now.items)) }
-{
-    match types.first() {
-        Some(kind) => kind.name.text.as_str(),
+        Some(detail) => match detail.types.first() {
+            Some(kind) => kind.name.text.as_str(),
+            None => "",
+        },
         None => "",
     }
 }

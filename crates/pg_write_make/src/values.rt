@@ -58,17 +58,7 @@ fn parameter_values<'a>(scene: &Scene<'a>, name: &Name) -> Result<Vec<(&'a str, 
     ensures err { IfErr result (λ e. e ≢ OutOfMemory → mapping_pairs (value_at (string_bytes name.now.text) (parameters_in scene.now)) ≡ Err e) }
 {
     match scene.parameters.get(name.text.as_str()) {
-        Some(value) => map_pairs(scene.alloc, value),
-        None => Err(Fault::TypeFault),
-    }
-}
-
-fn map_pairs<'a>(alloc: Global, value: &'a Value) -> Result<Vec<(&'a str, Value)>, Fault>
-    ensures ok { IfOk result (λ pairs. mapping_pairs (view value.now) ≡ Ok (pairs_of pairs.items)) }
-    ensures err { IfErr result (λ e. e ≢ OutOfMemory → mapping_pairs (view value.now) ≡ Err e) }
-{
-    match value {
-        Value::Map(entries) => Ok(copy_pairs(alloc, entries)?),
+        Some(Value::Map(entries)) => Ok(copy_pairs(scene.alloc, entries)?),
         _ => Err(Fault::TypeFault),
     }
 }

@@ -1,25 +1,29 @@
-use Rattle.std.proofs.Common.{false, map, sym, ap, refl, ◌∙◌}
+use Rattle.std.proofs.Common.{false, List, map, sym, ap, subst, refl, ◌∙◌}
 use Rattle.std.proofs.lemmas.Result.{err_from_is_err_and}
 use Rattle.pg_meaning.specs.Reading.{test_paths}
 use Rattle.pg_rows.specs.Named.{row_of}
 use Rattle.pg_store.specs.Stores.{graph_of_store}
 use Rattle.pg_value_core.specs.View.{view}
+use Rattle.pg_write_make.proofs.BindingLemmas.{match_bound}
 use Rattle.pg_write_make.proofs.CreatedRowLemmas.{paths_refused, row_bound}
 use Rattle.pg_write_make.proofs.ShapeLemmas.{ready_row}
+use Rattle.pg_write_make.proofs.TrailLemmas.{bind_named}
+use Rattle.pg_write_make.specs.Bindings.{Binding, bind_each, match_bindings, EndsWith}
 use Rattle.pg_write_make.specs.Lent.{kept_view, paths_view, trail_view}
 use Rattle.pg_write_make.proofs.ChangedLemmas.{unchanged}
 use Rattle.pg_write_make.specs.Outcomes.{path_outcomes, paths_made}
 use Rattle.pg_write_make.specs.Scenes.{parameters_in, reading, row_in}
 use Rattle.pg_write_make.proofs.creation.make_row.Goals as goal
 
-pub bound_row-requires : goal.bound_row-requires
-bound_row-requires g c =
-    ready_row c.args.max_elements (reading (parameters_in c.args.scene.now)) c.graph.result (graph_of_store g.T.Tables.seen c.args.store.now c.args.shared.now)
+pub bind_all-requires : goal.bind_all-requires
+bind_all-requires g c =
+    subst (λ (bs : List Binding). EndsWith c.args.scene.now.names.now (map view c.args.row.items) bs) (sym c.in_ok-bindings.ensures)
+    (ready_row c.args.max_elements (reading (parameters_in c.args.scene.now)) c.graph.result (graph_of_store g.T.Tables.seen c.args.store.now c.args.shared.now)
     (graph_of_store g.T.Tables.seen c.make_paths.new.store c.make_paths.new.shared) c.graph-2.result c.args.scene.now.names.now c.args.row.items
     (map kept_view c.in_ok-kept.kept.items) (paths_view c.args.paths.now) (map trail_view c.in_ok-trails.trails.items)
     c.requires.within c.requires.names c.graph.ensures c.graph-2.ensures
     (c.in_ok-kept.ensures.ok ∙ ap (λ values. map (path_outcomes (reading (parameters_in c.args.scene.now)) c.graph.result (row_in c.args.scene.now values)) (paths_view c.args.paths.now)) c.deref.ensures.value)
-    (ap (λ values. paths_made c.args.max_elements (map kept_view c.in_ok-kept.kept.items) (paths_view c.args.paths.now) (graph_of_store g.T.Tables.seen c.args.store.now c.args.shared.now, row_in c.args.scene.now values)) (sym c.deref-2.ensures.value) ∙ c.in_ok-trails.ensures.ok)
+    (ap (λ values. paths_made c.args.max_elements (map kept_view c.in_ok-kept.kept.items) (paths_view c.args.paths.now) (graph_of_store g.T.Tables.seen c.args.store.now c.args.shared.now, row_in c.args.scene.now values)) (sym c.deref-2.ensures.value) ∙ c.in_ok-trails.ensures.ok))
 
 pub returns-in_err-kept-clause-err : goal.returns-in_err-kept-clause-err
 returns-in_err-kept-clause-err g c =
@@ -49,13 +53,21 @@ returns-in_err-trails-clause-err g c =
 pub returns-in_err-trails-clause-changed : goal.returns-in_err-trails-clause-changed
 returns-in_err-trails-clause-changed g c = c.make_paths.ensures.changed
 
-pub returns-in_err-bound_row-clause-err : goal.returns-in_err-bound_row-clause-err
-returns-in_err-bound_row-clause-err g c =
-    let p = err_from_is_err_and c.from_residual-in_err-bound_row.result c.from_residual-in_err-bound_row.ensures.1 in
+pub returns-in_err-bindings-clause-err : goal.returns-in_err-bindings-clause-err
+returns-in_err-bindings-clause-err g c =
+    let p = err_from_is_err_and c.from_residual-in_err-bindings.result c.from_residual-in_err-bindings.ensures.1 in
     rw (p.1, p.2) (λ other. absurd (other refl))
 
-pub returns-in_err-bound_row-clause-changed : goal.returns-in_err-bound_row-clause-changed
-returns-in_err-bound_row-clause-changed g c = c.make_paths.ensures.changed
+pub returns-in_err-bindings-clause-changed : goal.returns-in_err-bindings-clause-changed
+returns-in_err-bindings-clause-changed g c = c.make_paths.ensures.changed
+
+pub returns-in_err-bind_all-clause-err : goal.returns-in_err-bind_all-clause-err
+returns-in_err-bind_all-clause-err g c =
+    let p = err_from_is_err_and c.from_residual-in_err-bind_all.result c.from_residual-in_err-bind_all.ensures.1 in
+    rw (p.1, p.2) (λ other. absurd (other refl))
+
+pub returns-in_err-bind_all-clause-changed : goal.returns-in_err-bind_all-clause-changed
+returns-in_err-bind_all-clause-changed g c = c.make_paths.ensures.changed
 
 pub returns-clause-ok : goal.returns-clause-ok
 returns-clause-ok g c =
@@ -63,12 +75,17 @@ returns-clause-ok g c =
     let ps = paths_view c.args.paths.now in
     let graph = graph_of_store g.T.Tables.seen c.args.store.now c.args.shared.now in
     let kept = c.in_ok-kept.ensures.ok ∙ ap (λ values. map (path_outcomes (reading (parameters_in scene)) c.graph.result (row_in scene values)) ps) c.deref.ensures.value in
+    let trails = map trail_view c.in_ok-trails.trails.items in
+    let row = row_in scene c.args.row.items in
+    let bound =
+    c.in_ok-bind_all.ensures.bound ∙ ap (λ (bs : List Binding). bind_each bs row) c.in_ok-bindings.ensures
+    ∙ bind_named (match_bindings c.graph-2.result ps trails) row ∙ sym (match_bound c.graph-2.result ps trails row) in
     row_bound (parameters_in scene) c.args.max_elements ps c.graph.result graph (row_in scene c.deref-2.result.now) (row_in scene c.args.row.items) (map kept_view c.in_ok-kept.kept.items)
     c.graph.ensures (ap (row_in scene) c.deref-2.ensures.value) kept (graph_of_store g.T.Tables.seen c.make_paths.new.store c.make_paths.new.shared) c.graph-2.result (map trail_view c.in_ok-trails.trails.items)
-    (row_of scene.names.now (map view c.in_ok-bound_row.field-0.items)) c.in_ok-trails.ensures.ok c.graph-2.ensures c.in_ok-bound_row.ensures.bound
+    (row_of scene.names.now (map view c.bind_all.new.values.items)) c.in_ok-trails.ensures.ok c.graph-2.ensures bound
 
 pub returns-clause-whole : goal.returns-clause-whole
-returns-clause-whole g c = c.in_ok-bound_row.ensures.whole
+returns-clause-whole g c = c.in_ok-bind_all.ensures.whole
 
 pub returns-clause-changed : goal.returns-clause-changed
 returns-clause-changed g c = c.make_paths.ensures.changed

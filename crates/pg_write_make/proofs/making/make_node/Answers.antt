@@ -1,6 +1,7 @@
 use Rattle.std.proofs.Common.{List, ℕ, ◌++◌, Result, Ok, option_map, sym, ap, subst, ◌∙◌, refl}
-use Rattle.std.proofs.lemmas.Result.{err_from_is_err_and, IfOk-from_err, IfOk-weaker}
+use Rattle.std.proofs.lemmas.Result.{err_from_is_err_and, IfOk-from_err}
 use Rattle.pg_expr.proofs.ExitLemmas.{fault_passed}
+use Rattle.pg_meaning.specs.Graph.{has_node}
 use Rattle.pg_meaning.specs.Patterns.{node_name}
 use Rattle.pg_meaning.specs.Updates.{Making}
 use Rattle.pg_meaning.specs.declared.fault.Fault.{Fault}
@@ -8,10 +9,10 @@ use Rattle.pg_meaning.specs.declared.fault.Fault.TheVariants.{OutOfMemory}
 use Rattle.pg_store.specs.Stores.{graph_of_store}
 use Rattle.pg_syntax_tree.specs.View.{node_view}
 use Rattle.pg_value_core.specs.declared.ids.NodeId.{NodeId}
-use Rattle.pg_write_make.proofs.BoundLemmas.{found_there, of_fault, of_found, placed, placed_not, pushed_id}
+use Rattle.pg_write_make.proofs.BoundLemmas.{found_there, new_bound, of_fault, of_found, of_new_fault, placed, pushed_id}
 use Rattle.pg_write_make.proofs.ChangedLemmas.{unchanged}
-use Rattle.pg_write_make.proofs.GrowthLemmas.{there_push}
-use Rattle.pg_write_make.specs.Makings.{bindings, making_of, node_ids, AreThere}
+use Rattle.pg_write_make.proofs.GrowthLemmas.{added_grows, added_there, bound_there, there_grows, there_push}
+use Rattle.pg_write_make.specs.Makings.{bindings, making_of, named_ids, node_ids, AreThere}
 use Rattle.pg_write_make.specs.Outcomes.{outcome_view}
 use Rattle.pg_write_make.specs.Scenes.{row_in}
 use Rattle.pg_write_make.proofs.making.make_node.Goals as goal
@@ -78,31 +79,99 @@ returns-in_ok-push-in-Some-clause-there g c =
       made = subst (λ (ns : List ℕ). AreThere before ns) (sym (pushed_id c.args.ids.now.items c.push.new.self.items c.in-Some.id c.in_ok-push-in-Some.ensures.items)) (there_push before (node_ids c.args.ids.now.items) c.in-Some.id.0 c.requires.there.made there);
     }
 
-pub make_new_node-requires-clause-fit : goal.make_new_node-requires-clause-fit
-make_new_node-requires-clause-fit g c = c.requires.fit
+pub add_node-requires-clause-fit : goal.add_node-requires-clause-fit
+add_node-requires-clause-fit g c = c.requires.fit
 
-pub make_new_node-requires-clause-quota : goal.make_new_node-requires-clause-quota
-make_new_node-requires-clause-quota g c = c.requires.quota
+pub add_node-requires-clause-quota : goal.add_node-requires-clause-quota
+add_node-requires-clause-quota g c = c.requires.quota
 
-pub returns-in-None-clause-ok : goal.returns-in-None-clause-ok
-returns-in-None-clause-ok g c =
+pub returns-in_err-new-in-None-clause-ok : goal.returns-in_err-new-in-None-clause-ok
+returns-in_err-new-in-None-clause-ok g c = IfOk-from_err c.from_residual-in_err-new-in-None.result _ c.from_residual-in_err-new-in-None.ensures.0
+
+pub returns-in_err-new-in-None-clause-grows : goal.returns-in_err-new-in-None-clause-grows
+returns-in_err-new-in-None-clause-grows g c = IfOk-from_err c.from_residual-in_err-new-in-None.result _ c.from_residual-in_err-new-in-None.ensures.0
+
+pub returns-in_err-new-in-None-clause-there : goal.returns-in_err-new-in-None-clause-there
+returns-in_err-new-in-None-clause-there g c = IfOk-from_err c.from_residual-in_err-new-in-None.result _ c.from_residual-in_err-new-in-None.ensures.0
+
+pub returns-in_err-new-in-None-clause-err : goal.returns-in_err-new-in-None-clause-err
+returns-in_err-new-in-None-clause-err g c =
     let row = row_in c.args.scene.now c.args.row.now in
     let before = graph_of_store g.T.Tables.seen c.args.store.now c.args.shared.now in
-    let after = graph_of_store g.T.Tables.seen c.make_new_node.new.store c.make_new_node.new.shared in
-    placed c.args.max_elements (outcome_view c.args.outcome) (node_view c.args.pattern.now) before after row (bindings c.args.named.now.items) (bindings c.make_new_node.new.named.items)
-    (node_ids c.args.ids.now.items) (node_ids c.make_new_node.new.ids.items) c.make_new_node.result (c.in_ok-id.ensures.ok ∙ ap (λ o. Ok (option_map (λ (i : NodeId). i.0) o)) c.in-None.is) c.make_new_node.ensures.ok
+    let p = err_from_is_err_and c.from_residual-in_err-new-in-None.result c.from_residual-in_err-new-in-None.ensures.1 in
+    rw (p.1, p.2) (λ other. of_new_fault c.args.max_elements (outcome_view c.args.outcome) (node_view c.args.pattern.now) (making_of before row c.args.named.now.items c.args.ids.now.items) c.in_err-new-in-None.field-0.0 (c.in_ok-id.ensures.ok ∙ ap (λ o. Ok (option_map (λ (i : NodeId). i.0) o)) c.in-None.is) (c.in_err-new-in-None.ensures.err other))
 
-pub returns-in-None-clause-err : goal.returns-in-None-clause-err
-returns-in-None-clause-err g c =
+pub returns-in_err-new-in-None-clause-changed : goal.returns-in_err-new-in-None-clause-changed
+returns-in_err-new-in-None-clause-changed g c = c.add_node.ensures.changed
+
+pub returns-in_err-bind_new-in-None-clause-ok : goal.returns-in_err-bind_new-in-None-clause-ok
+returns-in_err-bind_new-in-None-clause-ok g c = IfOk-from_err c.from_residual-in_err-bind_new-in-None.result _ c.from_residual-in_err-bind_new-in-None.ensures.0
+
+pub returns-in_err-bind_new-in-None-clause-grows : goal.returns-in_err-bind_new-in-None-clause-grows
+returns-in_err-bind_new-in-None-clause-grows g c = IfOk-from_err c.from_residual-in_err-bind_new-in-None.result _ c.from_residual-in_err-bind_new-in-None.ensures.0
+
+pub returns-in_err-bind_new-in-None-clause-there : goal.returns-in_err-bind_new-in-None-clause-there
+returns-in_err-bind_new-in-None-clause-there g c = IfOk-from_err c.from_residual-in_err-bind_new-in-None.result _ c.from_residual-in_err-bind_new-in-None.ensures.0
+
+pub returns-in_err-bind_new-in-None-clause-err : goal.returns-in_err-bind_new-in-None-clause-err
+returns-in_err-bind_new-in-None-clause-err g c = fault_passed _ OutOfMemory c.from_residual-in_err-bind_new-in-None.result c.from_residual-in_err-bind_new-in-None.ensures.1 (λ other. absurd (other refl))
+
+pub returns-in_err-bind_new-in-None-clause-changed : goal.returns-in_err-bind_new-in-None-clause-changed
+returns-in_err-bind_new-in-None-clause-changed g c = c.add_node.ensures.changed
+
+pub returns-in_err-push-in-None-clause-ok : goal.returns-in_err-push-in-None-clause-ok
+returns-in_err-push-in-None-clause-ok g c = IfOk-from_err c.from_residual-in_err-push-in-None.result _ c.from_residual-in_err-push-in-None.ensures.0
+
+pub returns-in_err-push-in-None-clause-grows : goal.returns-in_err-push-in-None-clause-grows
+returns-in_err-push-in-None-clause-grows g c = IfOk-from_err c.from_residual-in_err-push-in-None.result _ c.from_residual-in_err-push-in-None.ensures.0
+
+pub returns-in_err-push-in-None-clause-there : goal.returns-in_err-push-in-None-clause-there
+returns-in_err-push-in-None-clause-there g c = IfOk-from_err c.from_residual-in_err-push-in-None.result _ c.from_residual-in_err-push-in-None.ensures.0
+
+pub returns-in_err-push-in-None-clause-err : goal.returns-in_err-push-in-None-clause-err
+returns-in_err-push-in-None-clause-err g c = fault_passed _ OutOfMemory c.from_residual-in_err-push-in-None.result c.from_residual-in_err-push-in-None.ensures.1 (λ other. absurd (other refl))
+
+pub returns-in_err-push-in-None-clause-changed : goal.returns-in_err-push-in-None-clause-changed
+returns-in_err-push-in-None-clause-changed g c = c.add_node.ensures.changed
+
+pub returns-in_ok-push-in-None-clause-ok : goal.returns-in_ok-push-in-None-clause-ok
+returns-in_ok-push-in-None-clause-ok g c =
     let row = row_in c.args.scene.now c.args.row.now in
     let before = graph_of_store g.T.Tables.seen c.args.store.now c.args.shared.now in
-    placed_not c.args.max_elements (outcome_view c.args.outcome) (node_view c.args.pattern.now) before (row ++ bindings c.args.named.now.items) (node_ids c.args.ids.now.items) c.make_new_node.result (c.in_ok-id.ensures.ok ∙ ap (λ o. Ok (option_map (λ (i : NodeId). i.0) o)) c.in-None.is) c.make_new_node.ensures.err
+    let after = graph_of_store g.T.Tables.seen c.add_node.new.store c.add_node.new.shared in
+    let named = bindings c.args.named.now.items in
+    let more = bindings c.bind_new.new.named.items in
+    let ids = node_ids c.args.ids.now.items in
+    let found = (c.in_ok-id.ensures.ok ∙ ap (λ o. Ok (option_map (λ (i : NodeId). i.0) o)) c.in-None.is) in
+    let n = node_view c.args.pattern.now in
+    placed c.args.max_elements (outcome_view c.args.outcome) n before after row named more ids (node_ids c.push-in-None.new.self.items) (Ok tt) found
+    (λ rs free.
+    new_bound c.args.max_elements (outcome_view c.args.outcome) n before after named more c.in_ok-new-in-None.new.0 c.in_ok-new-in-None.ensures.ok c.in_ok-new-in-None.ensures.id (λ none. ap bindings (c.in_ok-bind_new-in-None.ensures.none none)) c.in_ok-bind_new-in-None.ensures.bound
+    rs ids free
+    ∙ ap (λ (ns : List ℕ). Ok (record { graph = after; bound = rs ++ more; ids = ns })) (sym (pushed_id c.args.ids.now.items c.push-in-None.new.self.items c.in_ok-new-in-None.new c.in_ok-push-in-None.ensures.items)))
 
-pub returns-in-None-clause-changed : goal.returns-in-None-clause-changed
-returns-in-None-clause-changed g c = c.make_new_node.ensures.changed
+pub returns-in_ok-push-in-None-clause-err : goal.returns-in_ok-push-in-None-clause-err
+returns-in_ok-push-in-None-clause-err g c = tt
 
-pub returns-in-None-clause-grows : goal.returns-in-None-clause-grows
-returns-in-None-clause-grows g c = c.make_new_node.ensures.grows
+pub returns-in_ok-push-in-None-clause-changed : goal.returns-in_ok-push-in-None-clause-changed
+returns-in_ok-push-in-None-clause-changed g c = c.add_node.ensures.changed
 
-pub returns-in-None-clause-there : goal.returns-in-None-clause-there
-returns-in-None-clause-there g c = IfOk-weaker c.make_new_node.result _ _ (λ x there. there c.requires.there) c.make_new_node.ensures.there
+pub returns-in_ok-push-in-None-clause-grows : goal.returns-in_ok-push-in-None-clause-grows
+returns-in_ok-push-in-None-clause-grows g c =
+    let before = graph_of_store g.T.Tables.seen c.args.store.now c.args.shared.now in
+    let after = graph_of_store g.T.Tables.seen c.add_node.new.store c.add_node.new.shared in
+    added_grows c.args.max_elements (outcome_view c.args.outcome) (node_view c.args.pattern.now) before after c.in_ok-new-in-None.ensures.ok
+
+pub returns-in_ok-push-in-None-clause-there : goal.returns-in_ok-push-in-None-clause-there
+returns-in_ok-push-in-None-clause-there g c =
+    let before = graph_of_store g.T.Tables.seen c.args.store.now c.args.shared.now in
+    let after = graph_of_store g.T.Tables.seen c.add_node.new.store c.add_node.new.shared in
+    let ids = node_ids c.args.ids.now.items in
+    let grows = added_grows c.args.max_elements (outcome_view c.args.outcome) (node_view c.args.pattern.now) before after c.in_ok-new-in-None.ensures.ok in
+    let now = ap (has_node after) c.in_ok-new-in-None.ensures.id ∙ added_there c.args.max_elements (outcome_view c.args.outcome) (node_view c.args.pattern.now) before after c.in_ok-new-in-None.ensures.ok in
+    record {
+      bound =
+          bound_there (node_name (node_view c.args.pattern.now)) before after (named_ids c.args.named.now.items) (named_ids c.bind_new.new.named.items) c.in_ok-new-in-None.new.0 grows now
+          (λ none. ap named_ids (c.in_ok-bind_new-in-None.ensures.none none)) c.in_ok-bind_new-in-None.ensures.ids c.requires.there.bound;
+      made = subst (λ (ns : List ℕ). AreThere after ns) (sym (pushed_id c.args.ids.now.items c.push-in-None.new.self.items c.in_ok-new-in-None.new c.in_ok-push-in-None.ensures.items)) (there_push after ids c.in_ok-new-in-None.new.0 (there_grows before after ids grows c.requires.there.made) now);
+    }

@@ -6,7 +6,7 @@ ghost use Rattle.pg_meaning.specs.Value.{entries_of, no_entries};
 ghost use Rattle.pg_meaning.specs.declared.fault.Fault.TheVariants.{OutOfMemory};
 ghost use Rattle.pg_store.specs.Stores.{pairs_of};
 ghost use Rattle.pg_syntax_tree.specs.View.{properties_view};
-ghost use Rattle.pg_value_core.specs.View.{view, entries_view};
+ghost use Rattle.pg_value_core.specs.View.{entries_view};
 ghost use Rattle.pg_write_make.specs.Outcomes.{outcome_view};
 ghost use Rattle.pg_write_make.specs.Scenes.{row_in, parameters_in, reading};
 ghost use Rattle.pg_write_make.specs.Values.{pairs_given, pairs_wanted, element_pairs};

@@ -8,7 +8,7 @@ use Rattle.pg_write.proofs.PartLemmas.{not_nothing, nothing_set, target_refused,
 use Rattle.pg_write.specs.Items.{changed_by, item_of}
 use Rattle.pg_write.specs.Targets.{target_view}
 use Rattle.pg_write.specs.declared.items.ReadyChange.{ReadyChange}
-use Rattle.pg_write.specs.declared.items.ReadyChange.TheVariants.{Key, Map}
+use Rattle.pg_write.specs.declared.items.ReadyChange.TheVariants.{Key, Map, Labels}
 use Rattle.pg_write_make.proofs.ChangedLemmas.{unchanged}
 use Rattle.pg_write_make.specs.Scenes.{parameters_in, reading, row_in}
 use Rattle.pg_write.proofs.setting.set_item.Goals as goal
@@ -79,4 +79,25 @@ returns-in-Map g c =
       ok = ok_through c.set_map.result whole (by (Map c.in-Map.value c.in-Map.is_whole)) (Ok (graph_of_store seen c.set_map.new.store c.set_map.new.shared)) first c.set_map.ensures.ok;
       err = err_through c.set_map.result whole (by (Map c.in-Map.value c.in-Map.is_whole)) first c.set_map.ensures.err;
       changed = c.set_map.ensures.changed;
+    }
+
+pub returns-in-Labels : goal.returns-in-Labels
+returns-in-Labels g c =
+    let seen = g.T.Tables.seen in
+    let scene = c.args.scene.now in
+    let graph = graph_of_store seen c.args.store.now c.args.shared.now in
+    let row = row_in scene c.args.row.now in
+    let name = name_view c.args.item.now.target.now in
+    let target = target_view c.in_ok-target.target in
+    let change = c.args.item.now.change in
+    let by = λ (change : ReadyChange). changed_by scene.names.now (parameters_in scene) row graph change target in
+    let whole = set_item (reading (parameters_in scene)) row graph (item_of scene.names.now c.args.item.now) in
+    let first =
+    target_set scene.names.now (parameters_in scene) row graph name change target
+    (ap (λ read. target_of read row name) (sym c.graph.ensures) ∙ c.in_ok-target.ensures.ok) (not_nothing c.in_ok-target.target c.in_default.not-Nothing)
+    ∙ ap by c.in-Labels.is in
+    record {
+      ok = ok_through c.change_labels.result whole (by (Labels c.in-Labels.labels)) (Ok (graph_of_store seen c.change_labels.new.store c.change_labels.new.shared)) first c.change_labels.ensures.ok;
+      err = err_through c.change_labels.result whole (by (Labels c.in-Labels.labels)) first c.change_labels.ensures.err;
+      changed = c.change_labels.ensures.changed;
     }

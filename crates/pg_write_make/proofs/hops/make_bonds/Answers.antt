@@ -1,7 +1,10 @@
 use Rattle.std.proofs.Common.{◌≡◌, List, Ok, sym, ap, ◌∙◌}
 use Rattle.pg_store.specs.Stores.{graph_of_store}
 use Rattle.pg_value_core.specs.declared.ids.NodeId.{NodeId}
+use Rattle.pg_value_core.specs.declared.ids.RelId.{RelId}
+use Rattle.pg_write_make.proofs.ChangedLemmas.{unchanged}
 use Rattle.pg_write_make.proofs.LoopLemmas.{err_onto, next_there, ok_onto}
+use Rattle.pg_write_make.proofs.TrailLemmas.{none_there}
 use Rattle.pg_write_make.specs.Makings.{node_ids, outcomes_view, relationship_ids, relationships_view}
 use Rattle.pg_write_make.specs.Outcomes.{bonds_made, hops_made}
 use Rattle.pg_write_make.proofs.hops.make_bonds.Goals as goal
@@ -42,3 +45,26 @@ returns-in-Some-clause-changed g c = c.make_hops.ensures.changed
 
 pub returns-in-Some-clause-grows : goal.returns-in-Some-clause-grows
 returns-in-Some-clause-grows g c = c.make_hops.ensures.grows
+
+pub make_hops-requires-clause-fit : goal.make_hops-requires-clause-fit
+make_hops-requires-clause-fit g c = c.requires.fit
+
+pub make_hops-requires-clause-quota : goal.make_hops-requires-clause-quota
+make_hops-requires-clause-quota g c = c.requires.quota
+
+pub returns-in-None-clause-ok : goal.returns-in-None-clause-ok
+returns-in-None-clause-ok g c =
+    let before = graph_of_store g.T.Tables.seen c.args.store.now c.args.shared.now in
+    let os = outcomes_view c.args.outcomes.items in
+    let rs = relationships_view c.args.hops.now.items in
+    ap (λ (ns : List NodeId). bonds_made c.args.max_elements os rs (node_ids ns) before) (sym c.deref.ensures.value ∙ none_there c.deref.result.now c.in-None.ensures.cases)
+    ∙ ap (λ (ids : List RelId). Ok (before, relationship_ids ids)) (sym c.new.ensures.items)
+
+pub returns-in-None-clause-err : goal.returns-in-None-clause-err
+returns-in-None-clause-err g c = tt
+
+pub returns-in-None-clause-changed : goal.returns-in-None-clause-changed
+returns-in-None-clause-changed g c = unchanged g.T.Tables.seen c.args.store.now c.args.shared.now c.requires.fit
+
+pub returns-in-None-clause-grows : goal.returns-in-None-clause-grows
+returns-in-None-clause-grows g c = λ n there. there

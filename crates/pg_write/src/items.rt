@@ -35,10 +35,16 @@ fn ready_set<'a>(
             (target, ReadyChange::Key(key, prepare(alloc, value, names)?))
         }
         SetItem::All(target, value) => {
-            (target, ReadyChange::Map(prepare(alloc, value, names)?, true))
+            (
+                target,
+                ReadyChange::Map(prepare(alloc, value, names)?, true),
+            )
         }
         SetItem::More(target, value) => {
-            (target, ReadyChange::Map(prepare(alloc, value, names)?, false))
+            (
+                target,
+                ReadyChange::Map(prepare(alloc, value, names)?, false),
+            )
         }
         SetItem::Labels(target, labels) => (target, ReadyChange::Labels(labels)),
     };

@@ -69,14 +69,21 @@ keyword_taken x ts us e =
     let h = taken (sees_keyword x ts) (rest ts) ts us e in
     (h.0, ap (λ (b : Bool). pick b (some tt (rest ts)) None) h.0 ∙ ap (λ (r : List Token). some tt r) h.1)
 
-pub maybe_taken : {A : Type 0} (x : Keyword) (p : Parser A) (ts us : List Token) → parse.eat_keyword x ts ≡ Some (true, us) → maybe (sees_keyword x) (parse.keyword x >> p) ts ≡ and_then (p us) (λ a. pure (Some a))
+maybe_taken : {A : Type 0} (x : Keyword) (p : Parser A) (ts us : List Token) → parse.eat_keyword x ts ≡ Some (true, us) → maybe (sees_keyword x) (parse.keyword x >> p) ts ≡ and_then (p us) (λ a. pure (Some a))
 maybe_taken {A} x p ts us e =
     let h = keyword_taken x ts us e in
     branch_yes (sees_keyword x) (Some <$> (parse.keyword x >> p)) (pure None) ts h.0 ∙ ap (λ (o : Outcome (Unit {0})). and_then (and_then o (λ u. p)) (λ a. pure (Some a))) h.1
 
-pub maybe_left : {A : Type 0} (x : Keyword) (p : Parser A) (ts us : List Token) → parse.eat_keyword x ts ≡ Some (false, us) → maybe (sees_keyword x) p ts ≡ Some (None, us)
+maybe_left : {A : Type 0} (x : Keyword) (p : Parser A) (ts us : List Token) → parse.eat_keyword x ts ≡ Some (false, us) → maybe (sees_keyword x) p ts ≡ Some (None, us)
 unfolding parse.eat_keyword
 maybe_left x p ts us e = let h = left (sees_keyword x ts) (rest ts) ts us e in branch_no (sees_keyword x) (Some <$> p) (pure None) ts h.0 ∙ ap (λ (r : List Token). some None r) h.1
+
+pub maybe_seen : {A : Type 0} (begins : Test) (p : Parser A) (b : Bool) (ts : List Token) → begins ts ≡ b → maybe begins p ts ≡ maybe (λ _. b) p ts
+maybe_seen begins p b ts e = ap (λ (c : Bool). pick c ((Some <$> p) ts) (pure None ts)) e
+
+pub maybe_eaten : {A : Type 0} (x : Keyword) (p : Parser A) (b : Bool) (ts us : List Token) → parse.eat_keyword x ts ≡ Some (b, us) → maybe (sees_keyword x) (parse.keyword x >> p) ts ≡ maybe (λ _. b) p us
+maybe_eaten x p true ts us e = maybe_taken x p ts us e
+maybe_eaten x p false ts us e = maybe_left x (parse.keyword x >> p) ts us e
 
 -- ---- two parsers in turn
 

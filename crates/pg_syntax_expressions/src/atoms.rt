@@ -7,7 +7,7 @@ ghost use Rattle.pg_meaning.specs.Parse as parse;
 ghost use Rattle.pg_meaning.specs.Parse.{pairs_of};
 ghost use Rattle.pg_meaning.specs.Tree as tree;
 ghost use Rattle.pg_syntax_tokens.specs.Gives.{Gives, GivesValue};
-ghost use Rattle.pg_syntax_expressions.specs.Parts.{suffix_view, perhaps_view, else_of, leaf_by, literal_by, list_behind, one_or_more, parentheses_behind};
+ghost use Rattle.pg_syntax_expressions.specs.Parts.{suffix_view, perhaps_view, leaf_by, list_behind, one_or_more, parentheses_behind};
 ghost use Rattle.pg_syntax_tokens.specs.ShrinksLaws.{eats_shrinks};
 ghost use Rattle.pg_syntax_expressions.specs.ShrinksExpressions.{map_pair_eats, suffix_eats, when_eats};
 ghost use Rattle.pg_syntax_tree.specs.View.{expression_view, name_view, names_view, pair_view, when_view};
@@ -124,30 +124,16 @@ impl<'w, W: Expressions> Row for When<'w, W> {
     }
 }
 
-/// What stands between CASE and WHEN, if something does.
-fn subject<W: Expressions>(
+/// An expression, if one begins.
+fn perhaps<W: Expressions>(
+    begins: bool,
     whole: &W,
     tokens: &mut Tokens<'_, '_>,
 ) -> Result<Option<Box<Expression>>, ParseError>
     requires { W.ready whole.now }
-    ensures { Gives perhaps_view (parse.maybe (parse.not_yet k.When) (W.parser whole.now) (tokens_view tokens.old.rest.now)) result tokens.new.rest.now }
+    ensures { Gives perhaps_view (parse.maybe (λ _. begins) (W.parser whole.now) (tokens_view tokens.old.rest.now)) result tokens.new.rest.now }
 {
-    if tokens.sees_keyword(Keyword::When) {
-        return Ok(None);
-    }
-    let found = whole.expression(tokens)?;
-    Ok(Some(Box::new(whole.alloc(), found)?))
-}
-
-/// ELSE with its result, if it is there.
-fn otherwise<W: Expressions>(
-    whole: &W,
-    tokens: &mut Tokens<'_, '_>,
-) -> Result<Option<Box<Expression>>, ParseError>
-    requires { W.ready whole.now }
-    ensures { Gives perhaps_view (parse.maybe (parse.sees_keyword k.Else) (else_of (W.parser whole.now)) (tokens_view tokens.old.rest.now)) result tokens.new.rest.now }
-{
-    if !tokens.eat_keyword(Keyword::Else) {
+    if !begins {
         return Ok(None);
     }
     let found = whole.expression(tokens)?;
@@ -173,9 +159,9 @@ fn case<W: Expressions>(whole: &W, tokens: &mut Tokens<'_, '_>) -> Result<Expres
     requires { W.ready whole.now }
     ensures { Gives expression_view (parse.case (W.parser whole.now) (tokens_view tokens.old.rest.now)) result tokens.new.rest.now }
 {
-    let subject = subject(whole, tokens)?;
+    let subject = perhaps(!tokens.sees_keyword(Keyword::When), whole, tokens)?;
     let whens = one_or_more(whole.alloc(), &When(whole), tokens)?;
-    let otherwise = otherwise(whole, tokens)?;
+    let otherwise = perhaps(tokens.eat_keyword(Keyword::Else), whole, tokens)?;
     tokens.expect_keyword(Keyword::End)?;
     Ok(Expression::Case(subject, whens, otherwise))
 }
@@ -234,20 +220,6 @@ fn suffixed(
         return Ok(first);
     }
     Ok(Expression::Suffixes(Box::new(alloc, first)?, suffixes, labels))
-}
-
-/// The literal that the lexeme is.
-fn literal_of(alloc: Global, lexeme: &Lexeme<'_>) -> Result<Expression, ParseError>
-    ensures { GivesValue expression_view (option_map tree.literal (literal_by (lexeme_view lexeme.now))) result }
-{
-    Ok(Expression::Literal(match lexeme {
-        Lexeme::Integer(number) => Literal::Integer(number.value as i64),
-        Lexeme::Text(text) => Literal::Text(String::from_str(alloc, text.as_str())?),
-        Lexeme::Keyword(Keyword::True, _) => Literal::Boolean(true),
-        Lexeme::Keyword(Keyword::False, _) => Literal::Boolean(false),
-        Lexeme::Keyword(Keyword::Null, _) => Literal::Null,
-        _ => return Err(ParseError::BadSyntax),
-    }))
 }
 
 /// A variable, or a call.
@@ -313,7 +285,16 @@ fn leaf_of(alloc: Global, place: usize, lexeme: &Lexeme<'_>) -> Result<Expressio
         Lexeme::QuotedName(name) => {
             Ok(Expression::Variable(name_at(alloc, name.as_str(), true, place)?))
         }
-        _ => literal_of(alloc, lexeme),
+        Lexeme::Integer(number) => {
+            Ok(Expression::Literal(Literal::Integer(number.value as i64)))
+        }
+        Lexeme::Text(text) => {
+            Ok(Expression::Literal(Literal::Text(String::from_str(alloc, text.as_str())?)))
+        }
+        Lexeme::Keyword(Keyword::True, _) => Ok(Expression::Literal(Literal::Boolean(true))),
+        Lexeme::Keyword(Keyword::False, _) => Ok(Expression::Literal(Literal::Boolean(false))),
+        Lexeme::Keyword(Keyword::Null, _) => Ok(Expression::Literal(Literal::Null)),
+        _ => Err(ParseError::BadSyntax),
     }
 }
 
@@ -338,19 +319,6 @@ fn atom_by<W: Expressions>(
     }
 }
 
-fn plain_atom<W: Expressions>(
-    whole: &W,
-    tokens: &mut Tokens<'_, '_>,
-) -> Result<Expression, ParseError>
-    requires { W.ready whole.now }
-    ensures { Gives expression_view (parse.plain_atom (W.parser whole.now) (tokens_view tokens.old.rest.now)) result tokens.new.rest.now }
-{
-    let Some(token) = tokens.take() else {
-        return Err(ParseError::BadSyntax);
-    };
-    atom_by(token.start, &token.lexeme, whole, tokens)
-}
-
 fn atom<W: Expressions>(whole: &W, tokens: &mut Tokens<'_, '_>) -> Result<Expression, ParseError>
     requires { W.ready whole.now }
     ensures { Gives expression_view (parse.atom (W.parser whole.now) (tokens_view tokens.old.rest.now)) result tokens.new.rest.now }
@@ -358,7 +326,10 @@ fn atom<W: Expressions>(whole: &W, tokens: &mut Tokens<'_, '_>) -> Result<Expres
     if tokens.sees(Symbol::OpenBrace) {
         return Ok(Expression::MapLiteral(map_pairs(whole, tokens)?));
     }
-    plain_atom(whole, tokens)
+    let Some(token) = tokens.take() else {
+        return Err(ParseError::BadSyntax);
+    };
+    atom_by(token.start, &token.lexeme, whole, tokens)
 }
 
 /// An atom with properties, indexes and labels behind it.

@@ -6,7 +6,7 @@ ghost use Rattle.pg_meaning.specs.declared.operators.Operator.{Operator};
 ghost use Rattle.pg_meaning.specs.Grammar.{operator_level};
 ghost use Rattle.pg_meaning.specs.Parse as parse;
 ghost use Rattle.pg_meaning.specs.Tree as tree;
-ghost use Rattle.pg_syntax_tokens.specs.Gives.{Gives, GivesValue, same};
+ghost use Rattle.pg_syntax_tokens.specs.Gives.{GivesValue};
 ghost use Rattle.pg_syntax_tokens.specs.ShrinksLaws.{eats_shrinks};
 ghost use Rattle.pg_syntax_expressions.specs.ShrinksExpressions.{chain_shrinks, link_eats};
 ghost use Rattle.pg_syntax_tree.specs.View.{expression_view, operand_view};
@@ -66,31 +66,6 @@ fn operator_at(lexeme: &Lexeme<'_>, level: u8) -> Option<Operator>
     }
 }
 
-fn sees_operator(tokens: &Tokens<'_, '_>, level: u8) -> bool
-    ensures { result ≡ parse.begins_operator level (tokens_view tokens.now.rest.now) }
-{
-    match tokens.rest {
-        [] => false,
-        [token, ..] => operator_at(&token.lexeme, level).is_some(),
-    }
-}
-
-#[tactic(auto, unfolding(pg_meaning::specs::Parse::operator))]
-fn operator(tokens: &mut Tokens<'_, '_>, level: u8) -> Result<Operator, ParseError>
-    ensures { Gives same (parse.operator level (tokens_view tokens.old.rest.now)) result tokens.new.rest.now }
-{
-    let [token, rest @ ..] = tokens.rest else {
-        return Err(ParseError::BadSyntax);
-    };
-    match operator_at(&token.lexeme, level) {
-        Some(operator) => {
-            tokens.rest = rest;
-            Ok(operator)
-        }
-        None => Err(ParseError::BadSyntax),
-    }
-}
-
 /// An operator and the operand behind it.
 #[derive(Drop)]
 struct Link<'o, O> {
@@ -111,8 +86,15 @@ impl<'o, O: Expressions> Rule for Link<'o, O> {
 
     ghost shrinks = { λ l. eats_shrinks (link_eats l.level (O.shrinks l.operand.now)) };
 
+    #[tactic(auto, unfolding(pg_meaning::specs::Parse::operator))]
     fn read(&self, tokens: &mut Tokens<'_, '_>) -> Result<(Operator, Expression), ParseError> {
-        let operator = operator(tokens, self.level)?;
+        let [token, rest @ ..] = tokens.rest else {
+            return Err(ParseError::BadSyntax);
+        };
+        let Some(operator) = operator_at(&token.lexeme, self.level) else {
+            return Err(ParseError::BadSyntax);
+        };
+        tokens.rest = rest;
         let operand = self.operand.expression(tokens)?;
         Ok((operator, operand))
     }
@@ -126,7 +108,10 @@ impl<'o, O: Expressions> Row for Link<'o, O> {
     ghost takes = { λ l. link_eats l.level (O.shrinks l.operand.now) };
 
     fn begins(&self, tokens: &Tokens<'_, '_>) -> bool {
-        sees_operator(tokens, self.level)
+        match tokens.rest {
+            [] => false,
+            [token, ..] => operator_at(&token.lexeme, self.level).is_some(),
+        }
     }
 }
 

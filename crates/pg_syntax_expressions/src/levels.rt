@@ -7,7 +7,7 @@ ghost use Rattle.pg_meaning.specs.declared.operators.TextTest.TheVariants as tes
 ghost use Rattle.pg_meaning.specs.Parse as parse;
 ghost use Rattle.pg_meaning.specs.Tree as tree;
 ghost use Rattle.pg_syntax_tokens.specs.Gives.{Gives, GivesValue, same};
-ghost use Rattle.pg_syntax_expressions.specs.Parts.{test_view, test_behind, word_and_with};
+ghost use Rattle.pg_syntax_expressions.specs.Parts.{test_view, words_of};
 ghost use Rattle.pg_syntax_tokens.specs.ShrinksLaws.{eats_shrinks, keyword_eats};
 ghost use Rattle.pg_syntax_expressions.specs.ShrinksExpressions.{sign_eats, test_eats, unary_shrinks, predicate_shrinks, negation_shrinks};
 ghost use Rattle.pg_syntax_tree.specs.View.{expression_view};
@@ -97,45 +97,22 @@ fn null_test(tokens: &mut Tokens<'_, '_>) -> Result<Test<Expression>, ParseError
     Ok(Test::IsNull(negated))
 }
 
-/// A test with a right side, behind its keywords.
-fn test_of<O: Expressions>(
-    test: TextTest,
-    right: &O,
-    tokens: &mut Tokens<'_, '_>,
-) -> Result<Test<Expression>, ParseError>
-    requires { O.ready right.now }
-    ensures { Gives test_view (test_behind test (O.parser right.now) (tokens_view tokens.old.rest.now)) result tokens.new.rest.now }
-{
-    Ok(Test::Text(test, right.expression(tokens)?))
-}
-
-/// A test with a right side, behind a keyword.
+/// A test with a right side, behind a keyword, and behind WITH where that belongs to it.
 fn test_by<O: Expressions>(
     word: Keyword,
+    with: bool,
     test: TextTest,
     right: &O,
     tokens: &mut Tokens<'_, '_>,
 ) -> Result<Test<Expression>, ParseError>
     requires { O.ready right.now }
-    ensures { Gives test_view (parse.test_by test (parse.keyword word) (O.parser right.now) (tokens_view tokens.old.rest.now)) result tokens.new.rest.now }
+    ensures { Gives test_view (parse.test_by test (words_of word with) (O.parser right.now) (tokens_view tokens.old.rest.now)) result tokens.new.rest.now }
 {
     tokens.expect_keyword(word)?;
-    test_of(test, right, tokens)
-}
-
-/// The same, with WITH behind the keyword.
-fn test_by_with<O: Expressions>(
-    word: Keyword,
-    test: TextTest,
-    right: &O,
-    tokens: &mut Tokens<'_, '_>,
-) -> Result<Test<Expression>, ParseError>
-    requires { O.ready right.now }
-    ensures { Gives test_view (parse.test_by test (word_and_with word) (O.parser right.now) (tokens_view tokens.old.rest.now)) result tokens.new.rest.now }
-{
-    tokens.expect_keyword(word)?;
-    tokens.expect_keyword(Keyword::With)?;
-    test_of(test, right, tokens)
+    if with {
+        tokens.expect_keyword(Keyword::With)?;
+    }
+    Ok(Test::Text(test, right.expression(tokens)?))
 }
 
 /// A test, with sums on its right side.
@@ -158,16 +135,16 @@ impl<'o, O: Expressions> Rule for OneTest<'o, O> {
     #[tactic(auto, unfolding(pg_meaning::specs::Parse::one_test))]
     fn read(&self, tokens: &mut Tokens<'_, '_>) -> Result<Test<Expression>, ParseError> {
         if tokens.sees_keyword(Keyword::Starts) {
-            return test_by_with(Keyword::Starts, TextTest::StartsWith, self.0, tokens);
+            return test_by(Keyword::Starts, true, TextTest::StartsWith, self.0, tokens);
         }
         if tokens.sees_keyword(Keyword::Ends) {
-            return test_by_with(Keyword::Ends, TextTest::EndsWith, self.0, tokens);
+            return test_by(Keyword::Ends, true, TextTest::EndsWith, self.0, tokens);
         }
         if tokens.sees_keyword(Keyword::Contains) {
-            return test_by(Keyword::Contains, TextTest::Contains, self.0, tokens);
+            return test_by(Keyword::Contains, false, TextTest::Contains, self.0, tokens);
         }
         if tokens.sees_keyword(Keyword::In) {
-            return test_by(Keyword::In, TextTest::In, self.0, tokens);
+            return test_by(Keyword::In, false, TextTest::In, self.0, tokens);
         }
         null_test(tokens)
     }

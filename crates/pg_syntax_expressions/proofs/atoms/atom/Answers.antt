@@ -1,4 +1,4 @@
-use Rattle.std.proofs.Common.{sym, ◌∙◌}
+use Rattle.std.proofs.Common.{sym, ap, ◌∙◌}
 use Rattle.pg_lex.specs.View.{tokens_view}
 use Rattle.pg_meaning.specs.Parse as parse
 use Rattle.pg_meaning.specs.Parse.{Parser, ◌<$>◌}
@@ -30,8 +30,17 @@ returns-then-sees g c =
     (branch_yes (parse.sees_symbol s.OpenBrace) (map_atom whole) (parse.plain_atom whole) ts (sym c.sees.ensures ∙ c.if-sees.true)
     ∙ goes_on (parse.map_pairs whole) (λ x. parse.pure (tree.map_literal x)) ts (tokens_view c.map_pairs.new.tokens.rest.now) _ c.in_ok-map_pairs.ensures)
 
+pub returns-in_default : goal.returns-in_default
+unfolding parse.atom
+returns-in_default g c =
+    let whole = g.W.Expressions.parser c.args.whole.now in
+    let ts = tokens_view c.args.tokens.now.rest.now in
+    let taken = rw c.in_default.is at c.take.ensures in
+    branch_no (parse.sees_symbol s.OpenBrace) (map_atom whole) (parse.plain_atom whole) ts (sym c.sees.ensures ∙ c.if-sees.false) ∙ ap (λ l. parse.plain_atom whole (tokens_view l)) taken.0
+
 pub returns : goal.returns
 unfolding parse.atom
 returns g c =
     let whole = g.W.Expressions.parser c.args.whole.now in
-    rw (branch_no (parse.sees_symbol s.OpenBrace) (map_atom whole) (parse.plain_atom whole) (tokens_view c.args.tokens.now.rest.now) (sym c.sees.ensures ∙ c.if-sees.false)) c.plain_atom.ensures
+    let taken = rw c.in-Some.is at c.take.ensures in
+    rw (branch_no (parse.sees_symbol s.OpenBrace) (map_atom whole) (parse.plain_atom whole) (tokens_view c.args.tokens.now.rest.now) (sym c.sees.ensures ∙ c.if-sees.false)) (rw taken c.atom_by.ensures)

@@ -1,9 +1,8 @@
 -- One call of `handle`: each tenant's run, and what becomes of the cache of plans and of the names.
-use Rattle.std.proofs.Common.{◌≡◌, ◌≢◌, ℕ, List, [], Bool, true, false, cond, Option, Some, None, refl, sym, ap, ◌∙◌, subst, inr}
+use Rattle.std.proofs.Common.{◌≡◌, ◌≢◌, ℕ, List, [], Bool, true, false, cond, Some, None, refl, sym, ap, ◌∙◌, subst}
 use Rattle.std.specs.Prelude.{option_and_then}
 use Rattle.std.proofs.lemmas.Bool.{true≢false}
 use Rattle.std.proofs.lemmas.Slice.Eq.{bytes_eq-Decides}
-use Rattle.pg_cache.specs.Cache.{CacheSeen, Key}
 use Rattle.pg_json.specs.Refusals.{refusal_text}
 use Rattle.pg_json.specs.Requests.{Request, meaning}
 use Rattle.pg_meaning.specs.declared.fault.Fault.{Fault}
@@ -13,7 +12,7 @@ use Rattle.pg_server.specs.Runs.{Means, asked, is_short, is_want_of_memory}
 use Rattle.pg_server.specs.Settings.{all_tokens}
 use Rattle.pg_server.specs.State.{ServerState, settings_of, state_at}
 use Rattle.pg_server.specs.Step.{Answers}
-use Rattle.pg_server.proofs.LookUpLemmas.{capacity_kept}
+use Rattle.pg_server.proofs.LookUpLemmas.{capacity_kept, nothing_looked_up}
 use Rattle.pg_server.proofs.NameLemmas.{names_stay}
 use Rattle.pg_server.proofs.StepLemmas.{answered, asked_is, unread}
 use Rattle.pg_value.specs.Texts.{comes_again}
@@ -28,11 +27,6 @@ handled old new body reply request distinct all_mean short means step looks name
       cache = subst (λ r. LooksUp (option_and_then (key_asked old.tenants) r) reply old.cache new.cache) (sym (asked_is body request short means)) looks;
       names = names;
     }
-
--- where nothing was asked, or there was no memory, the cache stays
-nothing_looked_up : (key : Option Key) (reply : List ℕ) (cache : CacheSeen) → reply ≡ refusal_text OutOfMemory → LooksUp key reply cache cache
-nothing_looked_up None reply cache is = refl
-nothing_looked_up (Some key) reply cache is = inr (is, refl)
 
 -- a body that isn't read
 pub handled_unread : (server : ServerState) (body reply : List ℕ) (e : Fault) → is_short body ≡ true → reply ≡ refusal_text e → (e ≢ OutOfMemory → e ≡ BadRequest)

@@ -28,6 +28,11 @@ module _ (old new : CacheSeen) where
   capacity_kept (Some key) reply (inl h) = by_look_up key h (has_key old key) refl
   capacity_kept (Some key) reply (inr h) = ap (λ (c : CacheSeen). c.capacity) h.1
 
+-- where there was no memory, the cache stays
+pub nothing_looked_up : (key : Option Key) (reply : List ℕ) (cache : CacheSeen) → reply ≡ refusal_text OutOfMemory → LooksUp key reply cache cache
+nothing_looked_up None reply cache is = refl
+nothing_looked_up (Some key) reply cache is = inr (is, refl)
+
 -- ---- a query's key
 
 passed : (b : Bool) → unless b TextTooLong ≡ Ok tt → b ≡ true
@@ -45,9 +50,12 @@ module _ (t : ℕ) (tenants : List State) (token text : List ℕ) (parameters : 
   pub a_key : tested_length text ≡ Ok tt → key_at t tenants (query token text parameters) ≡ Some (text, (state_in tenants t).indexes)
   a_key h = ap key (passed (nat_le (length text) greatest_text) h)
 
-  pub no_key : (e : Fault) → tested_length text ≡ Err e → key_at t tenants (query token text parameters) ≡ None
+  no_key : (e : Fault) → tested_length text ≡ Err e → key_at t tenants (query token text parameters) ≡ None
   no_key e h = ap key (stopped (nat_le (length text) greatest_text) e h)
 
   pub looked_up : (reply : List ℕ) (old new : CacheSeen) → tested_length text ≡ Ok tt → IsLookUp old new (text, (state_in tenants t).indexes) ⊎ ((reply ≡ refusal_text OutOfMemory) × (new ≡ old))
       → LooksUp (key_at t tenants (query token text parameters)) reply old new
   looked_up reply old new h did = subst (λ k. LooksUp k reply old new) (sym (a_key h)) did
+
+  pub not_looked_up : (reply : List ℕ) (cache : CacheSeen) (e : Fault) → tested_length text ≡ Err e → LooksUp (key_at t tenants (query token text parameters)) reply cache cache
+  not_looked_up reply cache e h = subst (λ k. LooksUp k reply cache cache) (sym (no_key e h)) refl

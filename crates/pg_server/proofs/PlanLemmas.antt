@@ -1,5 +1,5 @@
 -- What a tenant's answer is for the whole server, and that the plan of a text for the tenant's indexes answers for the text.
-use Rattle.std.proofs.Common.{◌≡◌, ◌≢◌, ℕ, ◌<◌, ◌≤◌, List, length, get_or, set, Result, Ok, Err, inl, inr, sym, ap, subst, ◌∙◌}
+use Rattle.std.proofs.Common.{◌≡◌, ◌≢◌, ℕ, ◌<◌, ◌≤◌, List, length, get_or, set, Result, Ok, Err, inl, inr, refl, sym, ap, subst, ◌∙◌}
 use Rattle.std.specs.Prelude.{IfOk, IfErr, OnErr}
 use Rattle.std.proofs.lemmas.Bool.Decides.{leb_tells}
 use Rattle.std.proofs.lemmas.List.{set-get_or}
@@ -143,3 +143,11 @@ module _ (t : ℕ) (token text : List ℕ) (parameters : Entries) where
       ap (λ (a : Answered). (with_graph (state_in old t) a).state) (refused_outcome (state_in old t) e short (is other)),
     ),
   )
+
+  -- a text that is too long
+  pub refuses_long : (old : List State) (e : Fault) → tested_length text ≡ Err e → RepliesAt t old (query token text parameters) (Err e) old
+  refuses_long old e long =
+      let s = state_in old t in
+      let is : query_answered s token text parameters ≡ refused s.graph e =
+      ap (λ r. answered s.graph ((r >> text_checked text) >>= query_outcome (may_write s.settings token) s.settings.max_steps s.settings.max_elements parameters s.indexes s.graph)) long in
+      (refl, λ other. (sym (ap (λ (a : Answered). a.reply) is), ap (λ (a : Answered). (with_graph s a).state) is))

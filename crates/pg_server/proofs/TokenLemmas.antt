@@ -1,5 +1,5 @@
 -- The map from tokens to tenants, made from the last tenant to the first.
-use Rattle.std.proofs.Common.{◌≡◌, ℕ, suc, ◌+◌, ◌<◌, List, [], ◌∷◌, Bool, true, false, cond, length, get_or, drop, map, Option, Some, option_map, bytes_eq, refl, sym, ap, ◌∙◌, add-one, drop-cons}
+use Rattle.std.proofs.Common.{◌≡◌, ℕ, suc, ◌+◌, ◌<◌, List, ◌∷◌, Bool, true, false, cond, length, get_or, drop, map, Option, Some, option_map, bytes_eq, refl, sym, ap, ◌∙◌, add-one, drop-cons}
 use Rattle.std.specs.Prelude.{◌||◌}
 use Rattle.pg_meaning.specs.Names.{is_among}
 use Rattle.pg_names.proofs.Interned.{equal_bytes, same_bytes}

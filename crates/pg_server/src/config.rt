@@ -142,21 +142,14 @@ fn in_range(number: i64, least: u64, most: u64) -> Result<u64, ConfigFault>
 fn has_token_twice(alloc: Global, tenants: &[TenantSettings]) -> Result<bool, AllocError>
     ensures { IfOk result (λ b. b ≡ seen_again [] (all_tokens tenants.now)) }
 {
-    let texts = token_texts(alloc, tenants)?;
-    comes_again(alloc, &texts)
-}
-
-/// The texts of all tokens, tenant after tenant.
-fn token_texts<'a>(alloc: Global, tenants: &'a [TenantSettings]) -> Result<Vec<&'a str>, AllocError>
-    ensures { IfOk result (λ v. map (λ t. t.now) v.items ≡ all_tokens tenants.now) }
-{
     let mut texts = Vec::new(alloc);
     for tenant in tenants {
         push_texts(&mut texts, tenant)?;
     }
-    Ok(texts)
+    comes_again(alloc, &texts)
 }
 
+/// Puts the texts of the tenant's tokens behind the others.
 fn push_texts<'a>(texts: &mut Vec<&'a str>, tenant: &'a TenantSettings) -> Result<(), AllocError>
     ensures { OnOk result (map (λ t. t.now) texts.new.items ≡ map (λ t. t.now) texts.old.items ++ texts_of tenant.now) }
 {

@@ -1,5 +1,5 @@
 //! The server: tenants, and the requests that reach them.
-ghost use Rattle.std.specs.Prelude.{◌≡◌, ◌≢◌, ◌<◌, ◌≤◌, ℕ, List, [], length, string_bytes, Some, IfOk, IfErr};
+ghost use Rattle.std.specs.Prelude.{◌≡◌, ◌≢◌, ◌<◌, ◌≤◌, ℕ, List, length, string_bytes, Some, IfOk, IfErr};
 ghost use Rattle.pg_cache.specs.Cache.{cache_seen};
 ghost use Rattle.pg_json.specs.Bodies.{request_view};
 ghost use Rattle.pg_json.specs.Refusals.{refusal_text};
@@ -16,7 +16,6 @@ ghost use Rattle.pg_server.specs.Solo.{limited, status_text};
 ghost use Rattle.pg_server.specs.State.{opening_server, state_at};
 ghost use Rattle.pg_server.specs.Step.{Answers, StepAt, RepliesAt, RunsPlan, reply_of};
 ghost use Rattle.pg_server.specs.Tenants.{AreOpening};
-ghost use Rattle.pg_tenant.specs.Indexes.{indexes_of};
 ghost use Rattle.pg_value_core.specs.Given.{parameters_view};
 
 use crate::config::Config;
@@ -32,7 +31,7 @@ use pg_cache::PlanCache;
 use pg_graph::Tables;
 use pg_json::{ReplyBytes, RequestBody, RequestScratch, read_request, refusal, write_status};
 use pg_meaning::Fault;
-use pg_plan::{Catalogue, Plan, check_length};
+use pg_plan::{Plan, check_length};
 use pg_store::Store;
 use pg_value_core::Parameters;
 use std::alloc::{AllocError, Global};
@@ -323,7 +322,7 @@ fn opening_tenants<T: Tables>(
     let mut tenants = Vec::with_capacity(alloc, settings.len())?;
     for one in settings {
         let owner = tenants.len() as u32;
-        let indexes = no_indexes(alloc)?;
+        let indexes = Rc::new(alloc, Vec::new(alloc))?;
         tenants.push(Tenant {
             settings: one,
             store: Store::new(alloc, owner),
@@ -331,12 +330,6 @@ fn opening_tenants<T: Tables>(
         })?;
     }
     Ok(tenants)
-}
-
-fn no_indexes(alloc: Global) -> Result<Rc<Catalogue>, AllocError>
-    ensures { IfOk result (λ list. indexes_of list ≡ []) }
-{
-    Ok(Rc::new(alloc, Vec::new(alloc))?)
 }
 
 // The length is a parameter, so that no proof computes a list of a million bytes.

@@ -101,7 +101,8 @@ pub(crate) fn write_frame<W: Write>(
 {
     let header = (body.len() as u32).to_be_bytes();
     if buffer.len() < 4 + body.len() {
-        return write_parts(writer, &header, body);
+        write_whole(writer, &header)?;
+        return write_whole(writer, body);
     }
     join(buffer, &header, body);
     write_whole(writer, &buffer[..4 + body.len()])
@@ -115,16 +116,4 @@ fn join(buffer: &mut [u8], front: &[u8], back: &[u8])
     let end = front.len() + back.len();
     buffer[..front.len()].copy_from_slice(front);
     buffer[front.len()..end].copy_from_slice(back);
-}
-
-fn write_parts<W: Write>(
-    writer: &mut Counted<W>,
-    front: &[u8],
-    back: &[u8],
-) -> Result<(), DeviceFault>
-    ensures { Sends (W.contents (inner_of writer.old)) (W.contents (inner_of writer.new))
-        (faults_of writer.old) (faults_of writer.new) (front.now ++ back.now) result }
-{
-    write_whole(writer, front)?;
-    write_whole(writer, back)
 }

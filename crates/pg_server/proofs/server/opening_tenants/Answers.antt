@@ -11,12 +11,12 @@ overflow_cast-owner g c = omega (arith, few_begun g.T.Tables.seen _ _ _ c.loop-o
 
 pub loop-one-preserved : goal.loop-one-preserved
 loop-one-preserved g c =
-    let opens : Opens g.T.Tables.seen (record { settings = c.in-Some.one; store = c.new.result; indexes = c.in_ok-indexes.indexes }) (length c.loop-one.tenants.items) =
-    subst (Opens g.T.Tables.seen (record { settings = c.in-Some.one; store = c.new.result; indexes = c.in_ok-indexes.indexes })) (search rules) (record {
-      own = c.new.ensures.owner;
-      fit = λ shared distinct unused. fit_of_parts g.T.Tables.seen c.new.result (record { names = shared.names; tables = shared.tables }) (c.new.ensures.fit (record { names = shared.names; tables = shared.tables }) distinct unused);
-      empty = λ shared unused. c.new.ensures.empty (record { names = shared.names; tables = shared.tables }) unused;
-      indexless = c.in_ok-indexes.ensures;
+    let opens : Opens g.T.Tables.seen (record { settings = c.in-Some.one; store = c.new-in-loop-one-2.result; indexes = c.in_ok-indexes.indexes }) (length c.loop-one.tenants.items) =
+    subst (Opens g.T.Tables.seen (record { settings = c.in-Some.one; store = c.new-in-loop-one-2.result; indexes = c.in_ok-indexes.indexes })) (search rules) (record {
+      own = c.new-in-loop-one-2.ensures.owner;
+      fit = λ shared distinct unused. fit_of_parts g.T.Tables.seen c.new-in-loop-one-2.result (record { names = shared.names; tables = shared.tables }) (c.new-in-loop-one-2.ensures.fit (record { names = shared.names; tables = shared.tables }) distinct unused);
+      empty = λ shared unused. c.new-in-loop-one-2.ensures.empty (record { names = shared.names; tables = shared.tables }) unused;
+      indexless = search rules;
     }) in
     one_begun g.T.Tables.seen _ _ _ _ _ _ _ c.loop-one.invariant c.in-Some.ensures.steps.0 c.in_ok-push.ensures.items refl opens
 

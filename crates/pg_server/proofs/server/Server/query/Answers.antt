@@ -1,4 +1,5 @@
-use Rattle.std.proofs.Common.{◌≡◌, ◌<◌, Ok, Vec, String, Global, length, rules, string_bytes, ap, subst, sym, inl, ◌∙◌}
+use Rattle.std.proofs.Common.{◌≡◌, ◌<◌, Err, Ok, Vec, String, Global, length, rules, string_bytes, refl, ap, subst, sym, inl, ◌∙◌}
+use Rattle.std.proofs.lemmas.Result.{err_from_is_err_and}
 use Rattle.pg_plan.specs.Catalogue.{catalogue_view}
 use Rattle.pg_cache.proofs.Seen.{look_up_is_seen}
 use Rattle.pg_cache.specs.Cache.{CacheSeen, IsLookUp, cache_seen, key_of}
@@ -10,9 +11,9 @@ use Rattle.pg_server.specs.Handles.{AddsNames}
 use Rattle.pg_server.specs.State.{ServerState, state_in}
 use Rattle.pg_server.specs.Step.{reply_of}
 use Rattle.pg_server.specs.Tenants.{states_of}
-use Rattle.pg_server.proofs.LookUpLemmas.{looked_up}
+use Rattle.pg_server.proofs.LookUpLemmas.{looked_up, not_looked_up, nothing_looked_up}
 use Rattle.pg_server.proofs.NameLemmas.{names_stay}
-use Rattle.pg_server.proofs.PlanLemmas.{replies, refuses}
+use Rattle.pg_server.proofs.PlanLemmas.{replies, refuses, refuses_long}
 use Rattle.pg_server.proofs.TenantLemmas.{is_tenant, indexes_at}
 use Rattle.pg_tenant.specs.Indexes.{indexes_of}
 use Rattle.pg_value_core.specs.Given.{parameters_view}
@@ -87,3 +88,32 @@ returns-in-Ok-clause-cache g c =
 pub returns-in-Ok-clause-names : goal.returns-in-Ok-clause-names
 returns-in-Ok-clause-names g c =
     subst (λ (s : ServerState). AddsNames (reply_of c.run_plan.result) s.names c.run_plan.new.self.state.names) (ap state_seen c.self.view_is) c.run_plan.ensures.names
+
+pub returns-in_err-check_length-clause-tenants : goal.returns-in_err-check_length-clause-tenants
+returns-in_err-check_length-clause-tenants g c =
+    let text = string_bytes c.args.text in
+    let long : tested_length text ≡ Err c.in_err-check_length.field-0.0 = search rules in
+    let p = err_from_is_err_and c.from_residual.result c.from_residual.ensures.1 in
+    rw (p.1, p.2) (refuses_long c.args.place c.args.token.now text (parameters_view c.args.parameters.now) c.args.self.now.state.tenants c.in_err-check_length.field-0.0 long)
+
+pub returns-in_err-check_length-clause-cache : goal.returns-in_err-check_length-clause-cache
+returns-in_err-check_length-clause-cache g c =
+    let text = string_bytes c.args.text in
+    let long : tested_length text ≡ Err c.in_err-check_length.field-0.0 = search rules in
+    not_looked_up c.args.place c.args.self.now.state.tenants c.args.token.now text (parameters_view c.args.parameters.now) (reply_of c.from_residual.result) c.args.self.now.state.cache c.in_err-check_length.field-0.0 long
+
+pub returns-in_err-check_length-clause-names : goal.returns-in_err-check_length-clause-names
+returns-in_err-check_length-clause-names g c = names_stay (reply_of c.from_residual.result) c.args.self.now.state.names
+
+pub returns-in_err-indexes-clause-tenants : goal.returns-in_err-indexes-clause-tenants
+returns-in_err-indexes-clause-tenants g c =
+    let p = err_from_is_err_and c.from_residual-in_err-indexes.result c.from_residual-in_err-indexes.ensures.1 in
+    rw (p.1, p.2) (refl, λ other. absurd (other refl))
+
+pub returns-in_err-indexes-clause-cache : goal.returns-in_err-indexes-clause-cache
+returns-in_err-indexes-clause-cache g c =
+    let p = err_from_is_err_and c.from_residual-in_err-indexes.result c.from_residual-in_err-indexes.ensures.1 in
+    nothing_looked_up _ (reply_of c.from_residual-in_err-indexes.result) c.args.self.now.state.cache (ap reply_of p.1 ∙ ap refusal_text p.2)
+
+pub returns-in_err-indexes-clause-names : goal.returns-in_err-indexes-clause-names
+returns-in_err-indexes-clause-names g c = names_stay (reply_of c.from_residual-in_err-indexes.result) c.args.self.now.state.names

@@ -1,8 +1,10 @@
-use Rattle.std.proofs.Common.{◌+◌, ◌++◌, ℕ, List, Bor, append_assoc, drop, map, refl, ap, sym, ◌∙◌}
+use Rattle.std.proofs.Common.{◌≡◌, ◌+◌, ◌++◌, ℕ, List, [], Bor, append_assoc, drop, map, refl, ap, subst, sym, ◌∙◌}
+use Rattle.std.specs.Prelude.{IfOk}
 use Rattle.std.proofs.lemmas.List.{append-nil}
 use Rattle.pg_server.specs.Settings.{all_tokens, token_texts}
+use Rattle.pg_value.specs.Texts.{comes_again}
 use Rattle.pg_server.proofs.FoundLemmas.{item_here, none_left}
-use Rattle.pg_server.proofs.config.token_texts.Goals as goal
+use Rattle.pg_server.proofs.config.has_token_twice.Goals as goal
 
 pub loop-tenant-init : goal.loop-tenant-init
 loop-tenant-init c = sym (ap (λ ts. map (λ (t : Bor (List ℕ)). t.now) ts ++ all_tokens c.args.tenants.now) c.new-texts.ensures.items)
@@ -22,4 +24,5 @@ pub returns : goal.returns
 returns c =
     let l = c.loop-tenant in
     let texts = map (λ (t : Bor (List ℕ)). t.now) l.texts.items in
-    sym (l.invariant ∙ ap (λ ts. texts ++ all_tokens ts) (none_left c.args.tenants.now c.args.tenants.now l.tenant-index refl c.loop-tenant-test.false) ∙ append-nil texts)
+    let all : all_tokens c.args.tenants.now ≡ texts = l.invariant ∙ ap (λ ts. texts ++ all_tokens ts) (none_left c.args.tenants.now c.args.tenants.now l.tenant-index refl c.loop-tenant-test.false) ∙ append-nil texts in
+    subst (λ ts. IfOk c.comes_again.result (λ b. b ≡ comes_again [] ts)) (ap (map (λ (t : Bor (List ℕ)). t.now)) c.deref.ensures.value ∙ sym all) c.comes_again.ensures

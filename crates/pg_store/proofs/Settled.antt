@@ -108,9 +108,6 @@ module _ {T S : Type 0} (seen : Seen T S) where
         keeps = keeps_trans old.tables now.tables new.tables before.tables shared.tables after.tables was.keeps keeps;
       }
 
-  pub settles_then : {K : Type 0} (old now new : Store T) (before shared after : Shared S K) → Settles seen old before now shared → Settles seen now shared new after → Settles seen old before new after
-  settles_then old now new before shared after p q = record { fit = q.fit; journal = q.journal; graph = q.graph ∙ p.graph; names = q.names ∙ p.names; keeps = keeps_trans old.tables now.tables new.tables before.tables shared.tables after.tables p.keeps q.keeps }
-
 pub fewer : {X : Type 0} (m : FinMap nat_cmp X) (k : ℕ) (v : X) → map.get m k ≡ Some v → map.len (map.remove m k) < map.len m
 fewer m k v is =
     let less = map.len-remove nat_cmp_total m k ∙ ap (λ o. cond (is_some o) (map.len m - 1) (map.len m)) is in

@@ -36,21 +36,6 @@ impl<T: Tables> Store<T> {
         self.node(shared, id).unwrap().copy(alloc)
     }
 
-    // The properties of a relationship that is there, in memory of their own.
-    fn rel_copy(
-        &self,
-        alloc: Global,
-        shared: &Shared<T::Shared>,
-        id: RelId,
-    ) -> Result<Properties, AllocError>
-        requires fit { IsFit T.seen self.now shared.now }
-        requires there { has_relationship (graph_of_store T.seen self.now shared.now) id.0 ≡ true }
-        ensures copy { IfOk result (λ ps. option_map (λ r. r.properties) (map.get (live (state_of T.seen self.now shared.now)).rels id.0) ≡ Some ps) }
-        ensures keys { IfOk result (λ ps. AreNamed shared.now.names (map.keys ps)) }
-    {
-        self.rel(shared, id).unwrap().properties.copy(alloc)
-    }
-
     // Gives a node another record, whose names are in the table.
     fn change_node(
         &mut self,
@@ -133,7 +118,7 @@ impl<T: Tables> Store<T> {
         ensures changes { Changes T.seen self.old shared.old self.new shared.new result (λ start end. OnOk result (end ≡ change_node (λ e. record e { properties = set_keys (pairs_of properties.entry.items) no_entries }) id.0 start)) }
         ensures marks { KeepsMarks T.seen self.old shared.old self.new shared.new }
     {
-        let NodeRecord { labels, .. } = self.node_copy(alloc, shared, id)?;
+        let labels = self.node(shared, id).unwrap().labels.copy(alloc)?;
         let properties = properties_of(alloc, &mut shared.names, properties)?;
         self.change_node(shared, id, NodeRecord { labels, properties })
     }
@@ -193,7 +178,7 @@ impl<T: Tables> Store<T> {
         ensures changes { Changes T.seen self.old shared.old self.new shared.new result (λ start end. OnOk result (end ≡ change_relationship (λ e. record e { properties = set_keys (pairs_of properties.entry.items) e.properties }) id.0 start)) }
         ensures marks { KeepsMarks T.seen self.old shared.old self.new shared.new }
     {
-        let before = self.rel_copy(alloc, shared, id)?;
+        let before = self.rel(shared, id).unwrap().properties.copy(alloc)?;
         let properties = more_properties(&mut shared.names, before, properties)?;
         self.change_rel(shared, id, properties)
     }

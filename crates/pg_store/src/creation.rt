@@ -11,10 +11,10 @@ ghost use Rattle.pg_store.specs.Journal.{live};
 ghost use Rattle.pg_store.specs.Stores.{graph_of_store, state_of, IsFit, KeepsMarks, KeepsShared, texts_of, pairs_of};
 
 use crate::journal::Entry;
-use crate::names::{labels_of, properties_of};
+use crate::names::{more_labels, properties_of};
 use crate::shared::Shared;
 use crate::store::Store;
-use pg_graph::{NodeRecord, RelRecord, Tables};
+use pg_graph::{Labels, NodeRecord, RelRecord, Tables};
 use pg_value_core::{NodeId, RelId, Value};
 use std::alloc::{AllocError, Global};
 
@@ -35,7 +35,7 @@ impl<T: Tables> Store<T> {
         ensures changes { Changes T.seen self.old shared.old self.new shared.new result (λ start end. OnOk result (end ≡ add_node (texts_of labels.now.items) (set_keys (pairs_of properties.entry.items) no_entries) start)) }
         ensures marks { KeepsMarks T.seen self.old shared.old self.new shared.new }
     {
-        let labels = labels_of(alloc, &mut shared.names, labels)?;
+        let labels = more_labels(&mut shared.names, Labels::new(alloc), labels)?;
         let properties = properties_of(alloc, &mut shared.names, properties)?;
         self.add_node(shared, NodeRecord { labels, properties })
     }

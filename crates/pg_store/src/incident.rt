@@ -3,10 +3,8 @@ ghost use Rattle.std.specs.Prelude.{◌≡◌, ◌∷◌, [], IfSome, IfNone};
 ghost use Rattle.pg_graph.specs.Links.{numbers};
 ghost use Rattle.pg_graph.specs.Removed.{live_ids};
 ghost use Rattle.pg_meaning.specs.Graph.{both, incident, incoming, outgoing};
-ghost use Rattle.pg_store.specs.Stores.{graph_of_store, IsFit};
 
-use crate::shared::Shared;
-use crate::store::Store;
+use crate::snapshot::Snapshot;
 use pg_graph::{ById, Tables};
 use pg_value_core::{NodeId, RelId};
 use std::cmp::Ordering;
@@ -95,58 +93,43 @@ impl<'a> Incident<'a> {
     }
 }
 
-impl<T: Tables> Store<T> {
+impl<'a, T: Tables> Snapshot<'a, T> {
     /// The relationships from a node, rising.
-    pub(crate) fn outgoing<'a>(
-        &'a self,
-        shared: &'a Shared<T::Shared>,
-        node: NodeId,
-    ) -> Incident<'a>
-        requires fit { IsFit T.seen self.now shared.now }
-        ensures { result ≡ incident outgoing node.0 (graph_of_store T.seen self.now shared.now) }
+    pub fn outgoing(&self, node: NodeId) -> Incident<'a>
+        ensures { result ≡ incident outgoing node.0 self.now }
     {
         Incident {
             ids: Merged {
-                outgoing: self.tables.outgoing(&shared.tables, node),
+                outgoing: self.store.tables.outgoing(&self.shared.tables, node),
                 incoming: &[],
             },
-            gone: &self.gone_rels,
+            gone: &self.store.gone_rels,
         }
     }
 
     /// The relationships to a node, rising.
-    pub(crate) fn incoming<'a>(
-        &'a self,
-        shared: &'a Shared<T::Shared>,
-        node: NodeId,
-    ) -> Incident<'a>
-        requires fit { IsFit T.seen self.now shared.now }
-        ensures { result ≡ incident incoming node.0 (graph_of_store T.seen self.now shared.now) }
+    pub fn incoming(&self, node: NodeId) -> Incident<'a>
+        ensures { result ≡ incident incoming node.0 self.now }
     {
         Incident {
             ids: Merged {
                 outgoing: &[],
-                incoming: self.tables.incoming(&shared.tables, node),
+                incoming: self.store.tables.incoming(&self.shared.tables, node),
             },
-            gone: &self.gone_rels,
+            gone: &self.store.gone_rels,
         }
     }
 
-    /// The relationships at a node, rising, each once.
-    pub(crate) fn incident<'a>(
-        &'a self,
-        shared: &'a Shared<T::Shared>,
-        node: NodeId,
-    ) -> Incident<'a>
-        requires fit { IsFit T.seen self.now shared.now }
-        ensures { result ≡ incident both node.0 (graph_of_store T.seen self.now shared.now) }
+    /// The relationships at a node, whichever way they go, rising, a self-loop once.
+    pub fn incident(&self, node: NodeId) -> Incident<'a>
+        ensures { result ≡ incident both node.0 self.now }
     {
         Incident {
             ids: Merged {
-                outgoing: self.tables.outgoing(&shared.tables, node),
-                incoming: self.tables.incoming(&shared.tables, node),
+                outgoing: self.store.tables.outgoing(&self.shared.tables, node),
+                incoming: self.store.tables.incoming(&self.shared.tables, node),
             },
-            gone: &self.gone_rels,
+            gone: &self.store.gone_rels,
         }
     }
 }

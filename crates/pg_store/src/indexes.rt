@@ -60,31 +60,12 @@ impl<T: Tables> Store<T> {
     {
         let label = shared.names.intern(label)?;
         let key = shared.names.intern(key)?;
-        self.index_by(alloc, shared, label, key)
-    }
-
-    // Keeps an index of a label and a key, if there is none yet.
-    fn index_by(
-        &mut self,
-        alloc: Global,
-        shared: &Shared<T::Shared>,
-        label: NameId,
-        key: NameId,
-    ) -> Result<(), AllocError>
-        requires fit { IsFit T.seen self.old shared.now }
-        requires no_mark { self.old.journal.items ≡ [] }
-        ensures there { OnOk result (has_pair (label, key) (pairs_of self.new.sets.indexes.items) ≡ true) }
-        ensures graph { graph_of_store T.seen self.new shared.now ≡ graph_of_store T.seen self.old shared.now }
-        ensures fit { IsFit T.seen self.new shared.now }
-        ensures state { state_of T.seen self.new shared.now ≡ state_of T.seen self.old shared.now }
-        ensures journal { self.new.journal ≡ self.old.journal }
-        ensures tables { self.new.tables ≡ self.old.tables }
-    {
         if index_of(self.sets.indexes.as_slice(), label, key).is_some() {
             return Ok(());
         }
         let index = self.filled_index(alloc, shared, label, key)?;
-        self.sets.keep(index)
+        self.sets.indexes.push(index)?;
+        Ok(())
     }
 
     // An index that has the nodes that there are.
@@ -101,30 +82,13 @@ impl<T: Tables> Store<T> {
         ensures all { IfOk result (λ x. (i : ℕ) (n : NodeRecord) (v : code.Value) → map.get (state_of T.seen self.now shared.now).content.nodes i ≡ Some n → is_found_by label key v n ≡ true → finds x v i ≡ true) }
     {
         let mut index = PropertyIndex::new(alloc, label, key);
-        let mut ids = self.sets.get(&Some(label)).ids();
+        let mut ids = self.sets.labelled(label).ids();
         while let Some(id) = ids.next() {
-            self.put_in(shared, &mut index, NodeId(*id))?;
+            if let Some(node) = self.tables.node(&shared.tables, NodeId(*id)) {
+                index.cover(node, *id)?;
+            }
         }
         Ok(index)
-    }
-
-    // Puts a node's id into an index, if there is such a node.
-    fn put_in(
-        &self,
-        shared: &Shared<T::Shared>,
-        index: &mut PropertyIndex,
-        id: NodeId,
-    ) -> Result<(), AllocError>
-        requires { T.seen.fits self.now.tables shared.now.tables }
-        ensures label { index.new.label ≡ index.old.label }
-        ensures key { index.new.key ≡ index.old.key }
-        ensures grown { (v : code.Value) (i : ℕ) → finds index.old v i ≡ true → finds index.new v i ≡ true }
-        ensures ok { OnOk result ((n : NodeRecord) (v : code.Value) → map.get (T.seen.content self.now.tables shared.now.tables).nodes id.0 ≡ Some n → is_found_by index.old.label index.old.key v n ≡ true → finds index.new v id.0 ≡ true) }
-    {
-        match self.tables.node(&shared.tables, id) {
-            Some(node) => index.cover(node, id.0),
-            None => Ok(()),
-        }
     }
 
     /// Keeps an index no longer. It takes no memory.

@@ -7,7 +7,7 @@ ghost use Rattle.pg_store.specs.Stores.{graph_of_store, graph_at, state_of, IsFi
 
 use crate::shared::Shared;
 use crate::store::Store;
-use crate::wanted::{Place, is_sought};
+use crate::wanted::is_sought;
 use pg_graph::{NodeRecord, Properties, Tables};
 use pg_value_core::{NodeId, RelId};
 
@@ -51,18 +51,6 @@ impl<T: Tables> Store<T> {
         ensures names { shared.new.names ≡ take mark.names shared.old.names }
         ensures marks { (earlier : Mark) → earlier.journal ≤ mark.journal → earlier.names ≤ mark.names → graph_at T.seen self.new shared.new earlier ≡ graph_at T.seen self.old shared.old earlier }
         ensures there { (earlier : Mark) → earlier.journal ≤ mark.journal → earlier.names ≤ mark.names → HasMark T.seen self.old shared.old earlier → HasMark T.seen self.new shared.new earlier }
-        ensures fit { IsFit T.seen self.new shared.new }
-        ensures keeps { Keeps T.seen self.old.tables shared.old.tables self.new.tables shared.new.tables }
-    {
-        self.return_to(shared, mark);
-    }
-
-    // Brings the moment of the mark back, with sets of ids that may have more.
-    fn return_to(&mut self, shared: &mut Shared<T::Shared>, mark: Mark)
-        requires fit { IsFit T.seen self.old shared.old }
-        requires mark { HasMark T.seen self.old shared.old mark }
-        ensures back { IsBack T.seen mark self.old shared.old self.new shared.new }
-        ensures names { shared.new.names ≡ take mark.names shared.old.names }
         ensures fit { IsFit T.seen self.new shared.new }
         ensures keeps { Keeps T.seen self.old.tables shared.old.tables self.new.tables shared.new.tables }
     {
@@ -151,24 +139,13 @@ impl<T: Tables> Store<T> {
         ensures swept { Settles T.seen self.old shared.now self.new shared.now }
         ensures state { state_of T.seen self.new shared.now ≡ state_of T.seen self.old shared.now }
     {
-        while let Some((place, id)) = self.sets.next_dust() {
-            self.sweep_from(shared, &place, id);
-        }
-    }
-
-    // Takes an id from a place where it no longer belongs.
-    fn sweep_from(&mut self, shared: &Shared<T::Shared>, place: &Place, id: u64)
-        requires fit { IsFit T.seen self.old shared.now }
-        requires journal { self.old.journal.items ≡ [] }
-        ensures swept { Settles T.seen self.old shared.now self.new shared.now }
-        ensures state { state_of T.seen self.new shared.now ≡ state_of T.seen self.old shared.now }
-        ensures dust { self.new.sets.dust ≡ self.old.sets.dust }
-    {
-        if !is_sought(
-            self.tables.node(&shared.tables, NodeId(id)),
-            &place.wanted(),
-        ) {
-            self.sets.forget(place, id);
+        while let Some((place, id)) = self.sets.dust.pop() {
+            if !is_sought(
+                self.tables.node(&shared.tables, NodeId(id)),
+                &place.wanted(),
+            ) {
+                self.sets.forget(&place, id);
+            }
         }
     }
 

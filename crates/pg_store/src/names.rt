@@ -13,21 +13,6 @@ use pg_names::{Names, TextSet};
 use pg_value_core::Value;
 use std::alloc::{AllocError, Global};
 
-// The labels of these texts.
-pub(crate) fn labels_of<K: TextSet>(
-    alloc: Global,
-    names: &mut Names<K>,
-    texts: &Vec<&str>,
-) -> Result<Labels, AllocError>
-    requires { AreDistinct names.old }
-    ensures labels { IfOk result (λ labels. label_texts names.new labels ≡ in_byte_order (texts_of texts.now.items)) }
-    ensures named { IfOk result (λ labels. AreNamed names.new labels) }
-    ensures keeps { KeepsNames names.old names.new }
-    ensures distinct { AreDistinct names.new }
-{
-    more_labels(names, Labels::new(alloc), texts)
-}
-
 // The labels with those of these texts.
 pub(crate) fn more_labels<K: TextSet>(
     names: &mut Names<K>,

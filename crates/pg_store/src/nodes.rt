@@ -2,10 +2,10 @@
 ghost use Rattle.std.specs.Prelude.{◌≡◌, ◌∷◌, [], IfSome, IfNone};
 ghost use Rattle.pg_meaning.specs.Graph.{ids_of, nodes_with_label};
 ghost use Rattle.pg_meaning.specs.Walks.{with_value};
-ghost use Rattle.pg_store.specs.Stores.{graph_of_store, IsFit};
 ghost use Rattle.pg_value_core.specs.View.{view};
 
 use crate::shared::Shared;
+use crate::snapshot::Snapshot;
 use crate::store::Store;
 use crate::wanted::{Wanted, is_sought};
 use pg_graph::Tables;
@@ -51,75 +51,62 @@ impl<'a, T: Tables> Nodes<'a, T> {
     }
 }
 
-impl<T: Tables> Store<T> {
+impl<'a, T: Tables> Snapshot<'a, T> {
     /// The nodes, ids rising.
-    pub(crate) fn nodes<'a>(&'a self, shared: &'a Shared<T::Shared>) -> Nodes<'a, T>
-        requires fit { IsFit T.seen self.now shared.now }
-        ensures { result ≡ ids_of (graph_of_store T.seen self.now shared.now).nodes }
+    pub fn nodes(&self) -> Nodes<'a, T>
+        ensures { result ≡ ids_of self.now.nodes }
     {
         Nodes {
-            store: self,
-            shared,
+            store: self.store,
+            shared: self.shared,
             wanted: Wanted::All,
-            ids: self.sets.get(&None).ids(),
+            ids: self.store.sets.all.ids(),
         }
     }
 
     /// The nodes with a label, ids rising.
-    pub(crate) fn nodes_labelled<'a>(
-        &'a self,
-        shared: &'a Shared<T::Shared>,
-        label: &str,
-    ) -> Nodes<'a, T>
-        requires fit { IsFit T.seen self.now shared.now }
-        ensures { result ≡ nodes_with_label (graph_of_store T.seen self.now shared.now) label.now }
+    pub fn nodes_labelled(&self, label: &str) -> Nodes<'a, T>
+        ensures { result ≡ nodes_with_label self.now label.now }
     {
-        match shared.names.find(label) {
-            Some(name) => Nodes {
-                store: self,
-                shared,
-                wanted: Wanted::Labelled(name),
-                ids: self.sets.get(&Some(name)).ids(),
-            },
-            None => self.no_nodes(shared),
+        let Some(name) = self.shared.names.find(label) else {
+            return self.no_nodes();
+        };
+        Nodes {
+            store: self.store,
+            shared: self.shared,
+            wanted: Wanted::Labelled(name),
+            ids: self.store.sets.labelled(name).ids(),
+        }
+    }
+
+    /// The nodes with a label that have a value under a key, ids rising. An index serves where there
+    /// is one.
+    pub fn nodes_valued(&self, label: &str, key: &str, value: &'a Value) -> Nodes<'a, T>
+        ensures { result ≡ with_value self.now label.now key.now (view value.now) }
+    {
+        let Some(label) = self.shared.names.find(label) else {
+            return self.no_nodes();
+        };
+        let Some(key) = self.shared.names.find(key) else {
+            return self.no_nodes();
+        };
+        Nodes {
+            store: self.store,
+            shared: self.shared,
+            wanted: Wanted::Valued(label, key, value),
+            ids: self.store.sets.valued(label, key, value).ids(),
         }
     }
 
     // No nodes.
-    fn no_nodes<'a>(&'a self, shared: &'a Shared<T::Shared>) -> Nodes<'a, T>
-        requires { T.seen.fits self.now.tables shared.now.tables }
+    fn no_nodes(&self) -> Nodes<'a, T>
         ensures { result ≡ [] }
     {
         Nodes {
-            store: self,
-            shared,
+            store: self.store,
+            shared: self.shared,
             wanted: Wanted::All,
-            ids: self.sets.none().ids(),
-        }
-    }
-
-    /// The nodes with a label that have a value under a key, ids rising.
-    pub(crate) fn nodes_valued<'a>(
-        &'a self,
-        shared: &'a Shared<T::Shared>,
-        label: &str,
-        key: &str,
-        value: &'a Value,
-    ) -> Nodes<'a, T>
-        requires fit { IsFit T.seen self.now shared.now }
-        ensures { result ≡ with_value (graph_of_store T.seen self.now shared.now) label.now key.now (view value.now) }
-    {
-        let Some(label) = shared.names.find(label) else {
-            return self.no_nodes(shared);
-        };
-        match shared.names.find(key) {
-            Some(key) => Nodes {
-                store: self,
-                shared,
-                wanted: Wanted::Valued(label, key, value),
-                ids: self.sets.valued(label, key, value).ids(),
-            },
-            None => self.no_nodes(shared),
+            ids: self.store.sets.none.ids(),
         }
     }
 }

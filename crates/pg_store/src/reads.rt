@@ -1,9 +1,8 @@
 //! What is read of a tenant's graph.
 ghost use Rattle.std.specs.Prelude.{◌≡◌, option_copied};
 ghost use Rattle.std.specs.FinMap as map;
-ghost use Rattle.pg_meaning.specs.Graph.{has_node, has_relationship};
 ghost use Rattle.pg_store.specs.Journal.{live};
-ghost use Rattle.pg_store.specs.Stores.{graph_of_store, state_of, IsFit};
+ghost use Rattle.pg_store.specs.Stores.{state_of};
 
 use crate::shared::Shared;
 use crate::store::Store;
@@ -39,19 +38,5 @@ impl<T: Tables> Store<T> {
             return None;
         }
         self.tables.rel(&shared.tables, id)
-    }
-
-    pub(crate) fn has_node(&self, shared: &Shared<T::Shared>, id: NodeId) -> bool
-        requires fit { IsFit T.seen self.now shared.now }
-        ensures { result ≡ has_node (graph_of_store T.seen self.now shared.now) id.0 }
-    {
-        self.node(shared, id).is_some()
-    }
-
-    pub(crate) fn has_rel(&self, shared: &Shared<T::Shared>, id: RelId) -> bool
-        requires fit { IsFit T.seen self.now shared.now }
-        ensures { result ≡ has_relationship (graph_of_store T.seen self.now shared.now) id.0 }
-    {
-        self.rel(shared, id).is_some()
     }
 }

@@ -21,7 +21,7 @@ pub struct Sets {
     pub(crate) labels: Index<u64>,
     pub(crate) indexes: Vec<PropertyIndex>,
     pub(crate) dust: Vec<(Place, u64)>,
-    none: ById<()>,
+    pub(crate) none: ById<()>,
     ghost none_is_empty: { none ≡ map.empty },
 }
 
@@ -44,17 +44,8 @@ impl Sets {
         }
     }
 
-    // The ids of all nodes, or of those with a label, and perhaps of others.
-    pub(crate) fn get(&self, key: &Option<NameId>) -> &ById<()>
-        ensures { (i : ℕ) → has_id result.now i ≡ has_in self.now (key_of key.now) i }
-    {
-        match key {
-            Some(label) => self.labelled(*label),
-            None => &self.all,
-        }
-    }
-
-    fn labelled(&self, label: NameId) -> &ById<()>
+    // The ids of the nodes with a label, and perhaps of others.
+    pub(crate) fn labelled(&self, label: NameId) -> &ById<()>
         ensures { result.now ≡ ids_at nat_cmp self.now.labels label }
     {
         match self.labels.get(&label.as_u64()) {
@@ -63,31 +54,16 @@ impl Sets {
         }
     }
 
-    // No ids.
-    pub(crate) fn none(&self) -> &ById<()>
-        ensures { result.now ≡ map.empty }
-    {
-        &self.none
-    }
-
-    // Puts an id into a set, from which it is to be swept if it does not belong there.
-    fn cover(&mut self, key: &Option<NameId>, id: u64) -> Result<(), AllocError>
+    // Puts an id under a label. What is new there is swept if it does not belong.
+    fn cover_label(&mut self, label: NameId, id: u64) -> Result<(), AllocError>
         ensures grown { (k : Key) (i : ℕ) → has_in self.old k i ≡ true → has_in self.new k i ≡ true }
-        ensures ok { OnOk result (has_in self.new (key_of key.now) id ≡ true) }
+        ensures ok { OnOk result (has_in self.new (with_label label) id ≡ true) }
     {
-        if self.get(key).get(id).is_some() {
+        if self.labelled(label).get(id).is_some() {
             return Ok(());
         }
-        match key {
-            Some(label) => {
-                self.dust.push((Place::Labelled(*label), id))?;
-                self.labels.cover(label.as_u64(), id)
-            }
-            None => {
-                self.dust.push((Place::All, id))?;
-                self.all.insert(id, ())
-            }
-        }
+        self.dust.push((Place::Labelled(label), id))?;
+        self.labels.cover(label.as_u64(), id)
     }
 
     // Puts a node's id into the set of all nodes and into those of its labels.
@@ -95,21 +71,14 @@ impl Sets {
         ensures grown { (k : Key) (i : ℕ) → has_in self.old k i ≡ true → has_in self.new k i ≡ true }
         ensures ok { OnOk result ((n : NodeRecord) (k : Option ℕ) → n.labels ≡ labels.now → has_number k n ≡ true → has_in self.new (key_of k) id ≡ true) }
     {
-        self.cover(&None, id)?;
         for label in labels.as_slice() {
-            self.cover(&Some(*label), id)?;
+            self.cover_label(*label, id)?;
         }
-        Ok(())
-    }
-
-    // Puts a node's id into each property index where it belongs.
-    fn cover_values(&mut self, node: &NodeRecord, id: u64) -> Result<(), AllocError>
-        ensures grown { (k : Key) (i : ℕ) → has_in self.old k i ≡ true → has_in self.new k i ≡ true }
-        ensures ok { OnOk result ((label key : ℕ) (v : code.Value) → belongs (with_value label key v) node.now ≡ true → has_in self.new (with_value label key v) id ≡ true) }
-    {
-        let indexes = self.indexes.as_slice();
-        note_arrivals(self.alloc, &mut self.dust, indexes, node, id)?;
-        cover_each(self.indexes.as_mut_slice(), node, id)
+        if self.all.get(id).is_some() {
+            return Ok(());
+        }
+        self.dust.push((Place::All, id))?;
+        self.all.insert(id, ())
     }
 
     // Puts a node's id into each set and each property index where it belongs.
@@ -118,7 +87,9 @@ impl Sets {
         ensures ok { OnOk result ((k : Key) → belongs k node.now ≡ true → has_in self.new k id ≡ true) }
     {
         self.cover_labels(&node.labels, id)?;
-        self.cover_values(node, id)
+        let indexes = self.indexes.as_slice();
+        note_arrivals(self.alloc, &mut self.dust, indexes, node, id)?;
+        cover_each(self.indexes.as_mut_slice(), node, id)
     }
 
     // The ids of an index under a value, where there is such an index, or those of the label; and
@@ -133,17 +104,6 @@ impl Sets {
             },
             None => self.labelled(label),
         }
-    }
-
-    // Keeps one index more.
-    pub(crate) fn keep(&mut self, index: PropertyIndex) -> Result<(), AllocError>
-        ensures all { self.new.all ≡ self.old.all }
-        ensures labels { self.new.labels ≡ self.old.labels }
-        ensures ok { OnOk result (self.new.indexes.items ≡ self.old.indexes.items ++ index ∷ []) }
-        ensures err { OnErr result (self.new.indexes.items ≡ self.old.indexes.items) }
-    {
-        self.indexes.push(index)?;
-        Ok(())
     }
 
     // Keeps no index of the label and the key.
@@ -173,19 +133,13 @@ impl Sets {
         if node.is_none() {
             self.dust.push((Place::All, id))?;
         }
-        note_labels(&mut self.dust, was, node, id)?;
+        for label in was.labels.as_slice() {
+            if !is_sought(node, &Wanted::Labelled(*label)) {
+                self.dust.push((Place::Labelled(*label), id))?;
+            }
+        }
         let indexes = self.indexes.as_slice();
         note_values(self.alloc, &mut self.dust, indexes, was, node, id)
-    }
-
-    // Where an id is that may no longer belong there, if that is still to be seen of one.
-    pub(crate) fn next_dust(&mut self) -> Option<(Place, u64)>
-        ensures all { self.new.all ≡ self.old.all }
-        ensures labels { self.new.labels ≡ self.old.labels }
-        ensures indexes { self.new.indexes ≡ self.old.indexes }
-        ensures fewer { IfSome result (λ _. length self.new.dust.items < length self.old.dust.items) }
-    {
-        self.dust.pop()
     }
 
     // Takes an id from where it was kept.
@@ -201,21 +155,6 @@ impl Sets {
             }
         }
     }
-}
-
-// Notes the labels that a node has and that it will not have when it is another one, or gone.
-fn note_labels(
-    dust: &mut Vec<(Place, u64)>,
-    was: &NodeRecord,
-    node: Option<&NodeRecord>,
-    id: u64,
-) -> Result<(), AllocError> {
-    for label in was.labels.as_slice() {
-        if !is_sought(node, &Wanted::Labelled(*label)) {
-            dust.push((Place::Labelled(*label), id))?;
-        }
-    }
-    Ok(())
 }
 
 // Notes the values by which indexes find a node, and by which it will not be found when it is

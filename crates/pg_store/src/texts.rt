@@ -26,53 +26,8 @@ pub struct RelTexts {
     pub properties: BTreeMap<String, Value>,
 }
 
-pub(crate) fn texts_of_node<K: TextSet>(
-    alloc: Global,
-    names: &Names<K>,
-    node: &NodeRecord,
-) -> Result<NodeTexts, AllocError>
-    requires labels { AreNamed names.now node.now.labels }
-    requires keys { AreNamed names.now (map.keys node.now.properties) }
-    ensures { IfOk result (λ texts. node_texts_view texts ≡ node_of names.now node.now) }
-{
-    let labels = label_strings(alloc, names, &node.labels)?;
-    let properties = node.properties.by_text(alloc, names)?;
-    Ok(NodeTexts { labels, properties })
-}
-
-pub(crate) fn texts_of_rel<K: TextSet>(
-    alloc: Global,
-    names: &Names<K>,
-    rel: &RelRecord,
-) -> Result<RelTexts, AllocError>
-    requires kind { rel.now.kind < length names.now }
-    requires keys { AreNamed names.now (map.keys rel.now.properties) }
-    ensures { IfOk result (λ texts. rel_texts_view texts ≡ relationship_of names.now rel.now) }
-{
-    let kind = String::from_str(alloc, names.text(rel.kind))?;
-    let properties = rel.properties.by_text(alloc, names)?;
-    Ok(RelTexts {
-        kind,
-        source: rel.source,
-        target: rel.target,
-        properties,
-    })
-}
-
-fn label_strings<K: TextSet>(
-    alloc: Global,
-    names: &Names<K>,
-    labels: &Labels,
-) -> Result<Vec<String>, AllocError>
-    requires { AreNamed names.now labels.now }
-    ensures { IfOk result (λ texts. map_list string_bytes texts.items ≡ label_texts names.now labels.now) }
-{
-    let texts = labels.texts(alloc, names)?;
-    strings_of(alloc, &texts)
-}
-
 // These texts, in memory of their own.
-fn strings_of(alloc: Global, texts: &[&str]) -> Result<Vec<String>, AllocError>
+pub(crate) fn strings_of(alloc: Global, texts: &[&str]) -> Result<Vec<String>, AllocError>
     ensures { IfOk result (λ strings. map_list string_bytes strings.items ≡ map_list (λ t. t.now) texts.now) }
 {
     let mut strings = Vec::with_capacity(alloc, texts.len())?;

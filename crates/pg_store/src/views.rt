@@ -4,12 +4,12 @@ ghost use Rattle.std.specs.Option.{option_map};
 ghost use Rattle.pg_meaning.specs.Entries.{at_key};
 ghost use Rattle.pg_meaning.specs.Graph.{node_at, relationship_at};
 ghost use Rattle.pg_meaning.specs.Names.{is_among};
-ghost use Rattle.pg_store.specs.Stores.{graph_of_store, IsFit, node_texts_view, rel_texts_view};
+ghost use Rattle.pg_store.specs.Stores.{node_texts_view, rel_texts_view};
 ghost use Rattle.pg_value_core.specs.View.{view};
 
 use crate::shared::Shared;
-use crate::store::Store;
-use crate::texts::{NodeTexts, RelTexts, texts_of_node, texts_of_rel};
+use crate::snapshot::Snapshot;
+use crate::texts::{NodeTexts, RelTexts, strings_of};
 use pg_graph::{NodeRecord, RelRecord, Tables};
 use pg_value_core::{NodeId, RelId, Value};
 use std::alloc::{AllocError, Global};
@@ -62,7 +62,9 @@ impl<'a, T: Tables> NodeView<'a, T> {
     pub fn texts(&self, alloc: Global) -> Result<NodeTexts, AllocError>
         ensures { IfOk result (λ texts. node_texts_view texts ≡ self.now) }
     {
-        texts_of_node(alloc, &self.shared.names, self.record)
+        let labels = strings_of(alloc, &self.labels(alloc)?)?;
+        let properties = self.record.properties.by_text(alloc, &self.shared.names)?;
+        Ok(NodeTexts { labels, properties })
     }
 }
 
@@ -125,23 +127,25 @@ impl<'a, T: Tables> RelView<'a, T> {
     pub fn texts(&self, alloc: Global) -> Result<RelTexts, AllocError>
         ensures { IfOk result (λ texts. rel_texts_view texts ≡ self.now) }
     {
-        texts_of_rel(alloc, &self.shared.names, self.record)
+        let kind = String::from_str(alloc, self.kind())?;
+        let properties = self.record.properties.by_text(alloc, &self.shared.names)?;
+        Ok(RelTexts {
+            kind,
+            source: self.record.source,
+            target: self.record.target,
+            properties,
+        })
     }
 }
 
-impl<T: Tables> Store<T> {
+impl<'a, T: Tables> Snapshot<'a, T> {
     /// A node, if it is there.
-    pub(crate) fn node_view<'a>(
-        &'a self,
-        shared: &'a Shared<T::Shared>,
-        id: NodeId,
-    ) -> Option<NodeView<'a, T>>
-        requires fit { IsFit T.seen self.now shared.now }
-        ensures { result ≡ node_at (graph_of_store T.seen self.now shared.now) id.0 }
+    pub fn node(&self, id: NodeId) -> Option<NodeView<'a, T>>
+        ensures { result ≡ node_at self.now id.0 }
     {
-        match self.node(shared, id) {
+        match self.store.node(self.shared, id) {
             Some(node) => Some(NodeView {
-                shared,
+                shared: self.shared,
                 record: node,
             }),
             None => None,
@@ -149,17 +153,12 @@ impl<T: Tables> Store<T> {
     }
 
     /// A relationship, if it is there.
-    pub(crate) fn rel_view<'a>(
-        &'a self,
-        shared: &'a Shared<T::Shared>,
-        id: RelId,
-    ) -> Option<RelView<'a, T>>
-        requires fit { IsFit T.seen self.now shared.now }
-        ensures { result ≡ relationship_at (graph_of_store T.seen self.now shared.now) id.0 }
+    pub fn rel(&self, id: RelId) -> Option<RelView<'a, T>>
+        ensures { result ≡ relationship_at self.now id.0 }
     {
-        match self.rel(shared, id) {
+        match self.store.rel(self.shared, id) {
             Some(rel) => Some(RelView {
-                shared,
+                shared: self.shared,
                 record: rel,
             }),
             None => None,

@@ -1,10 +1,22 @@
-use Rattle.std.proofs.Common.{◌==◌, ◌+◌, ◌∷◌, drop, sym, ap, ◌∙◌}
-use Rattle.std.proofs.lemmas.List.{at_drop_more}
+use Rattle.std.proofs.Common.{◌≡◌, ◌≤◌, ◌==◌, ◌+◌, ◌∷◌, ℕ, List, Option, Some, None, true, false, length, drop, refl, sym, ap, ◌∙◌}
+use Rattle.std.proofs.lemmas.List.{at_drop_more, at_drop_all}
+use Rattle.std.proofs.lemmas.Result.{on_ok_weaker}
 use Rattle.std.specs.List.{list_any}
-use Rattle.pg_store.proofs.CoverLemmas.{grows_on}
-use Rattle.pg_store.proofs.SetLemmas.{labels_on}
+use Rattle.pg_graph.specs.Stored.{has_number}
+use Rattle.pg_graph.specs.declared.records.NodeRecord.{NodeRecord}
+use Rattle.pg_store.proofs.CoverLemmas.{Has, grows_on}
+use Rattle.pg_store.proofs.SetLemmas.{all_grows, all_there, labels_on}
+use Rattle.pg_store.proofs.Stores.{id_is_among}
 use Rattle.pg_store.proofs.sets.Sets.cover_labels.Goals as goal
-use Rattle.pg_store.specs.Covers.{every, has_in}
+use Rattle.pg_store.specs.Covers.{every, with_label, key_of, has_in}
+
+-- with no label to come, and among all
+numbered : (has : Has) (id : ℕ) (items labels : List ℕ) (i : ℕ) → items ≡ labels → length items ≤ i → has every id ≡ true
+    → ((m : ℕ) → list_any (λ n. n == m) items ≡ true → list_any (λ n. n == m) (drop i items) ≡ false → has (with_label m) id ≡ true)
+    → (n : NodeRecord) (k : Option ℕ) → n.labels ≡ labels → has_number k n ≡ true → has (key_of k) id ≡ true
+numbered has id items labels i same end all each n None is number = all
+numbered has id items labels i same end all each n (Some m) is number =
+    each m (ap (list_any (λ n. n == m)) (same ∙ sym is) ∙ number) (at_drop_all (λ xs. list_any (λ n. n == m) xs) items i end)
 
 pub loop-label-preserved : goal.loop-label-preserved
 loop-label-preserved c =
@@ -12,11 +24,31 @@ loop-label-preserved c =
     let items = c.as_slice-label-items.result.now in
     let i = c.loop-label.label-index in
     let more = drop (i + 1) items in
-    let grows = c.cover-in-loop-label.ensures.grown in
+    let grows = c.cover_label.ensures.grown in
     record {
-      grown = grows_on (has_in c.args.self.now) (has_in c.loop-label.self) (has_in c.cover-in-loop-label.new.self) was.grown grows;
-      all = grows every c.args.id was.all;
-      labels = labels_on (has_in c.loop-label.self) (has_in c.cover-in-loop-label.new.self) c.args.id c.label-item.result items more grows c.in_ok-cover-2.ensures.ok
+      grown = grows_on (has_in c.args.self.now) (has_in c.loop-label.self) (has_in c.cover_label.new.self) was.grown grows;
+      labels = labels_on (has_in c.loop-label.self) (has_in c.cover_label.new.self) c.args.id c.label-item.result items more grows c.in_ok-cover_label.ensures.ok
           (λ m among none. was.labels m among (at_drop_more (λ xs. list_any (λ n. n == m) xs) items i c.label-item.result c.loop-label-test.true ∙ sym (ap (λ x. list_any (λ n. n == m) (x ∷ more)) c.label-item.is) ∙ none));
       items = was.items;
+    }
+
+pub returns-then-is_some : goal.returns-then-is_some
+returns-then-is_some c =
+    let l = c.loop-label in
+    record {
+      grown = l.invariant.grown;
+      ok = numbered (has_in l.self) c.args.id c.as_slice-label-items.result.now c.args.labels.now l.label-index l.invariant.items c.loop-label-test.false
+          (id_is_among l.self.all c.args.id c.get.result c.get.ensures ∙ sym c.is_some.ensures ∙ c.if-is_some.true) l.invariant.labels;
+    }
+
+pub returns : goal.returns
+returns c =
+    let l = c.loop-label in
+    let new = record l.self { all = c.insert.new.self; dust = c.push.new.self } in
+    let grows = all_grows l.self new c.args.id refl refl c.insert.result c.insert.ensures.ok c.insert.ensures.err in
+    record {
+      grown = grows_on (has_in c.args.self.now) (has_in l.self) (has_in new) l.invariant.grown grows;
+      ok = on_ok_weaker c.insert.result (λ all. numbered (has_in new) c.args.id c.as_slice-label-items.result.now c.args.labels.now l.label-index l.invariant.items c.loop-label-test.false all
+          (λ m among none. grows (with_label m) c.args.id (l.invariant.labels m among none)))
+          (all_there l.self new c.args.id refl refl c.insert.result c.insert.ensures.ok);
     }

@@ -1,5 +1,7 @@
-use Rattle.std.proofs.Common.{sym, ap, subst, ◌∙◌}
+use Rattle.std.proofs.Common.{false, sym, ap, subst, ◌∙◌}
 use Rattle.std.proofs.lemmas.Result.{IfOk-from_err}
+use Rattle.std.specs.Option.{option_map_or}
+use Rattle.pg_graph.specs.Removed.{Ids, has_id}
 use Rattle.pg_index.specs.Properties.{is_found_by}
 use Rattle.pg_store.proofs.CoverLemmas.{covers_now}
 use Rattle.pg_store.proofs.Filling.{IsFilled, filled_first, filled_on}
@@ -15,26 +17,41 @@ loop-id-init g c =
       label = c.new-index.ensures.label;
       key = c.new-index.ensures.key;
       filled = subst (IsFilled s.content.nodes c.args.label c.args.key c.new-index.result) (sym c.ids-ids.ensures.ids)
-          (filled_first s.content.nodes c.args.label c.args.key c.new-index.result c.get.result.now
-          (λ i n at number. c.get.ensures i ∙ covers_now (has_in store.sets) store.journal.items s c.requires.fit.covered (with_label c.args.label) i n at number));
+          (filled_first s.content.nodes c.args.label c.args.key c.new-index.result c.labelled.result.now
+          (λ i n at number. ap (λ (ids : Ids). has_id ids i) c.labelled.ensures ∙ covers_now (has_in store.sets) store.journal.items s c.requires.fit.covered (with_label c.args.label) i n at number));
     }
 
 pub loop-id-preserved : goal.loop-id-preserved
 loop-id-preserved g c =
-    let store = c.args.self.now in
-    let s = state_of g.T.Tables.seen store c.args.shared.now in
+    let s = state_of g.T.Tables.seen c.args.self.now c.args.shared.now in
     let was = c.loop-id.invariant in
     let index = c.loop-id.index in
     record {
-      label = c.put_in.ensures.label ∙ was.label;
-      key = c.put_in.ensures.key ∙ was.key;
-      filled = filled_on s.content.nodes c.args.label c.args.key index c.put_in.new.index c.in-Some.id.now c.next.new.self c.put_in.ensures.grown
-          (λ n v at found. c.in_ok-put_in.ensures.ok n v at (ap (λ l. is_found_by l index.key v n) was.label ∙ ap (λ k. is_found_by c.args.label k v n) was.key ∙ found))
+      label = was.label;
+      key = was.key;
+      filled = filled_on s.content.nodes c.args.label c.args.key index index c.in-Some.id.now c.next.new.self (λ v i h. h)
+          (λ n v at found. let none = c.in_default-node.ensures in absurd (cc (at, none)))
           (subst (IsFilled s.content.nodes c.args.label c.args.key index) c.in-Some.ensures.steps was.filled);
     }
 
-pub returns-in_err-put_in : goal.returns-in_err-put_in
-returns-in_err-put_in g c =
+pub loop-id-preserved-in-Continue-1 : goal.loop-id-preserved-in-Continue-1
+loop-id-preserved-in-Continue-1 g c =
+    let s = state_of g.T.Tables.seen c.args.self.now c.args.shared.now in
+    let was = c.loop-id.invariant in
+    let index = c.loop-id.index in
+    record {
+      label = c.cover.ensures.label ∙ was.label;
+      key = c.cover.ensures.key ∙ was.key;
+      filled = filled_on s.content.nodes c.args.label c.args.key index c.cover.new.self c.in-Some.id.now c.next.new.self c.cover.ensures.grown
+          (λ n v at found.
+          c.in_ok-cover.ensures.ok v
+          (ap (λ o. option_map_or (is_found_by index.label index.key v) o false) (c.in-Some-node.ensures ∙ at)
+          ∙ ap (λ l. is_found_by l index.key v n) was.label ∙ ap (λ k. is_found_by c.args.label k v n) was.key ∙ found))
+          (subst (IsFilled s.content.nodes c.args.label c.args.key index) c.in-Some.ensures.steps was.filled);
+    }
+
+pub returns-in_err-cover : goal.returns-in_err-cover
+returns-in_err-cover g c =
     let failed = c.from_residual in
     record {
       label = IfOk-from_err failed.result _ failed.ensures.0;

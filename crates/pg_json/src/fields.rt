@@ -147,33 +147,14 @@ pub(crate) fn request_with(alloc: Global, found: Fields<'_>) -> Result<RequestBo
         return Err(Fault::BadRequest);
     };
     match text {
-        Some(text) if op == "query" => {
-            query_with(
-                alloc,
-                token,
-                text,
-                parameters.unwrap_or(BTreeMap::new(alloc)),
-            )
-        }
+        Some(text) if op == "query" => Ok(RequestBody::Query {
+            token: String::from_str(alloc, token)?,
+            text: String::from_str(alloc, text)?,
+            parameters: Parameters::from_map(parameters.unwrap_or(BTreeMap::new(alloc))),
+        }),
         None if op == "status" && parameters.is_none() => Ok(RequestBody::Status {
             token: String::from_str(alloc, token)?,
         }),
         _ => Err(Fault::BadRequest),
     }
-}
-
-fn query_with(
-    alloc: Global,
-    token: &str,
-    text: &str,
-    parameters: BTreeMap<String, Value>,
-) -> Result<RequestBody, Fault>
-    ensures ok { IfOk result (λ r. request_view r ≡ query token.now text.now (entries_view parameters.entries)) }
-    ensures kind { IfErr result (λ e. e ≡ OutOfMemory) }
-{
-    Ok(RequestBody::Query {
-        token: String::from_str(alloc, token)?,
-        text: String::from_str(alloc, text)?,
-        parameters: Parameters::from_map(parameters),
-    })
 }

@@ -1,4 +1,5 @@
 use Rattle.std.proofs.Common.{◌≡◌, ◌+◌, ◌-◌, ◌<◌, ◌∷◌, length, Some, None, string_bytes, sym, ap, subst, ◌∙◌, arith, rules}
+use Rattle.std.proofs.lemmas.Result.{IfOk-from_err}
 use Rattle.json.specs.Token.{Token}
 use Rattle.json.specs.Reads.{token_of}
 use Rattle.json.specs.Json.{parse_map, after_end_array, read_key, items, members, value}
@@ -98,3 +99,57 @@ read_members-members-preserved t c =
       omega (arith, l.invariant.3),
       subst (EntriesAreGiven room) (sym entered) (given_put room (string_bytes c.in_ok-key.key) (view v) es done.given l.invariant.4),
     )
+
+pub read-returns-in_err-item-in-Some-BeginArray-clause-ok : goal.read-returns-in_err-item-in-Some-BeginArray-clause-ok
+read-returns-in_err-item-in-Some-BeginArray-clause-ok t c = IfOk-from_err c.from_residual.result _ c.from_residual.ensures.0
+
+pub read-returns-in_err-item-in-Some-BeginArray-clause-given : goal.read-returns-in_err-item-in-Some-BeginArray-clause-given
+read-returns-in_err-item-in-Some-BeginArray-clause-given t c = IfOk-from_err c.from_residual.result _ c.from_residual.ensures.0
+
+pub read-returns-in_err-item-in-Some-BeginArray-clause-shorter : goal.read-returns-in_err-item-in-Some-BeginArray-clause-shorter
+read-returns-in_err-item-in-Some-BeginArray-clause-shorter t c = IfOk-from_err c.from_residual.result _ c.from_residual.ensures.0
+
+pub read-returns-in_err-push-in-Some-BeginArray-clause-ok : goal.read-returns-in_err-push-in-Some-BeginArray-clause-ok
+read-returns-in_err-push-in-Some-BeginArray-clause-ok t c = IfOk-from_err c.from_residual-in_err-push-in-Some-BeginArray.result _ c.from_residual-in_err-push-in-Some-BeginArray.ensures.0
+
+pub read-returns-in_err-push-in-Some-BeginArray-clause-given : goal.read-returns-in_err-push-in-Some-BeginArray-clause-given
+read-returns-in_err-push-in-Some-BeginArray-clause-given t c = IfOk-from_err c.from_residual-in_err-push-in-Some-BeginArray.result _ c.from_residual-in_err-push-in-Some-BeginArray.ensures.0
+
+pub read-returns-in_err-push-in-Some-BeginArray-clause-shorter : goal.read-returns-in_err-push-in-Some-BeginArray-clause-shorter
+read-returns-in_err-push-in-Some-BeginArray-clause-shorter t c = IfOk-from_err c.from_residual-in_err-push-in-Some-BeginArray.result _ c.from_residual-in_err-push-in-Some-BeginArray.ensures.0
+
+pub read-returns-in_err-read_members-in-Some-BeginObject-clause-ok : goal.read-returns-in_err-read_members-in-Some-BeginObject-clause-ok
+read-returns-in_err-read_members-in-Some-BeginObject-clause-ok t c = IfOk-from_err c.from_residual-in_err-read_members-in-Some-BeginObject.result _ c.from_residual-in_err-read_members-in-Some-BeginObject.ensures.0
+
+pub read-returns-in_err-read_members-in-Some-BeginObject-clause-given : goal.read-returns-in_err-read_members-in-Some-BeginObject-clause-given
+read-returns-in_err-read_members-in-Some-BeginObject-clause-given t c = IfOk-from_err c.from_residual-in_err-read_members-in-Some-BeginObject.result _ c.from_residual-in_err-read_members-in-Some-BeginObject.ensures.0
+
+pub read-returns-in_err-read_members-in-Some-BeginObject-clause-shorter : goal.read-returns-in_err-read_members-in-Some-BeginObject-clause-shorter
+read-returns-in_err-read_members-in-Some-BeginObject-clause-shorter t c = IfOk-from_err c.from_residual-in_err-read_members-in-Some-BeginObject.result _ c.from_residual-in_err-read_members-in-Some-BeginObject.ensures.0
+
+pub read_members-returns-in_err-key-clause-ok : goal.read_members-returns-in_err-key-clause-ok
+read_members-returns-in_err-key-clause-ok t c = IfOk-from_err c.from_residual.result _ c.from_residual.ensures.0
+
+pub read_members-returns-in_err-key-clause-given : goal.read_members-returns-in_err-key-clause-given
+read_members-returns-in_err-key-clause-given t c = IfOk-from_err c.from_residual.result _ c.from_residual.ensures.0
+
+pub read_members-returns-in_err-key-clause-shorter : goal.read_members-returns-in_err-key-clause-shorter
+read_members-returns-in_err-key-clause-shorter t c = IfOk-from_err c.from_residual.result _ c.from_residual.ensures.0
+
+pub read_members-returns-in_err-value-clause-ok : goal.read_members-returns-in_err-value-clause-ok
+read_members-returns-in_err-value-clause-ok t c = IfOk-from_err c.from_residual-in_err-value.result _ c.from_residual-in_err-value.ensures.0
+
+pub read_members-returns-in_err-value-clause-given : goal.read_members-returns-in_err-value-clause-given
+read_members-returns-in_err-value-clause-given t c = IfOk-from_err c.from_residual-in_err-value.result _ c.from_residual-in_err-value.ensures.0
+
+pub read_members-returns-in_err-value-clause-shorter : goal.read_members-returns-in_err-value-clause-shorter
+read_members-returns-in_err-value-clause-shorter t c = IfOk-from_err c.from_residual-in_err-value.result _ c.from_residual-in_err-value.ensures.0
+
+pub read_members-returns-in_err-put_entry-clause-ok : goal.read_members-returns-in_err-put_entry-clause-ok
+read_members-returns-in_err-put_entry-clause-ok t c = IfOk-from_err c.from_residual-in_err-put_entry.result _ c.from_residual-in_err-put_entry.ensures.0
+
+pub read_members-returns-in_err-put_entry-clause-given : goal.read_members-returns-in_err-put_entry-clause-given
+read_members-returns-in_err-put_entry-clause-given t c = IfOk-from_err c.from_residual-in_err-put_entry.result _ c.from_residual-in_err-put_entry.ensures.0
+
+pub read_members-returns-in_err-put_entry-clause-shorter : goal.read_members-returns-in_err-put_entry-clause-shorter
+read_members-returns-in_err-put_entry-clause-shorter t c = IfOk-from_err c.from_residual-in_err-put_entry.result _ c.from_residual-in_err-put_entry.ensures.0

@@ -1,5 +1,5 @@
 -- The values of lists and members, as far as they are converted.
-use Rattle.std.proofs.Common.{◌≡◌, ◌≢◌, ◌≤◌, ◌-◌, ℕ, drop, length, List, [], ◌∷◌, ◌++◌, Option, Some, None, option_map, option_and_then, Less, Greater, Vec, BTreeMap, String, Global, rules, arith, lt-ltb, string_bytes, string_cmp, refl, sym, ap, ◌∙◌}
+use Rattle.std.proofs.Common.{◌≡◌, Bool, ◌≢◌, ◌≤◌, ◌-◌, ℕ, drop, length, List, [], ◌∷◌, ◌++◌, Option, Some, None, option_map, option_and_then, Less, Greater, Vec, BTreeMap, String, Global, rules, arith, lt-ltb, string_bytes, string_cmp, refl, sym, ap, ◌∙◌}
 use Rattle.std.proofs.lemmas.Cmp.{nat_list_cmp_total}
 use Rattle.std.proofs.lemmas.List.{drop_all}
 use Rattle.std.specs.List.{AllByRecursion}
@@ -8,14 +8,14 @@ use Rattle.std.specs.Map.{keys_of}
 use Rattle.std.specs.Ordering.{ordering_reverse}
 use Rattle.serde_json.specs.View.{view as data_view, items_view, members_view}
 use Rattle.serde_json.specs.Data as json
-use Rattle.serde_json.specs.declared.value.Value.{Value as Data, Array, Object, the_lemmas as data_lemmas}
+use Rattle.serde_json.specs.declared.value.Value.{Value as Data, Null as DataNull, Bool as DataBool, String as DataString, Array, Object, the_lemmas as data_lemmas}
 use Rattle.serde_json.proofs.Views.{Entry}
 use Rattle.pg_meaning.specs.Entries.{put}
 use Rattle.pg_meaning.specs.Order.{text_order}
-use Rattle.pg_meaning.specs.Value.{Value as Datum, Values, no_items, item, Entries, entry, list, mapping}
+use Rattle.pg_meaning.specs.Value.{Value as Datum, Values, no_items, item, Entries, entry, null, boolean, text, list, mapping}
 use Rattle.pg_json.specs.Given.{value_within, values_within, entries_within, if_room}
 use Rattle.pg_value_core.specs.View.{view, values_view, entries_view}
-use Rattle.pg_value_core.specs.declared.value.Value.{Value, List as ListValue, Map as MapValue, the_lemmas}
+use Rattle.pg_value_core.specs.declared.value.Value.{Value, Null as NullValue, Bool as BoolValue, Text as TextValue, List as ListValue, Map as MapValue, the_lemmas}
 
 -- ---- lists
 
@@ -109,7 +109,42 @@ view_list vs = search (rules, the_lemmas)
 view_map : (es : BTreeMap (String Global) Value) → view (MapValue es) ≡ mapping (entries_view es.entries)
 view_map es = search (rules, the_lemmas)
 
+pub no_room : (d : json.Data) → value_within 0 d ≡ None
+no_room json.null = refl
+no_room (json.boolean b) = refl
+no_room (json.number x) = refl
+no_room (json.string s) = refl
+no_room (json.array ds) = refl
+no_room (json.object ms) = refl
+
+data_null : data_view DataNull ≡ json.null
+data_null = search (rules, data_lemmas)
+
+data_bool : (b : Bool) → data_view (DataBool b) ≡ json.boolean b
+data_bool b = search (rules, data_lemmas)
+
+data_string : (s : String Global) → data_view (DataString s) ≡ json.string (string_bytes s)
+data_string s = search (rules, data_lemmas)
+
+view_null : view NullValue ≡ null
+view_null = search (rules, the_lemmas)
+
+view_bool : (b : Bool) → view (BoolValue b) ≡ boolean b
+view_bool b = search (rules, the_lemmas)
+
+view_text : (s : String Global) → view (TextValue s) ≡ text (string_bytes s)
+view_text s = search (rules, the_lemmas)
+
 module _ (n : ℕ) (some : n ≢ 0) where
+  pub null_within : value_within n (data_view DataNull) ≡ Some (view NullValue)
+  null_within = rw (data_null, view_null) (has_room n (Some null) some)
+
+  pub bool_within : (b : Bool) → value_within n (data_view (DataBool b)) ≡ Some (view (BoolValue b))
+  bool_within b = rw (data_bool b, view_bool b) (has_room n (Some (boolean b)) some)
+
+  pub text_within : (given copy : String Global) → string_bytes copy ≡ string_bytes given → value_within n (data_view (DataString given)) ≡ Some (view (TextValue copy))
+  text_within given copy same = rw (data_string given, view_text copy) (has_room n (Some (text (string_bytes given))) some ∙ ap (λ bytes. Some (text bytes)) (sym same))
+
   pub list_within : (ds : Vec Data Global) (vs : Vec Value Global) → values_within (n - 1) (items_view ds.items) ≡ Some (values_view vs.items) → value_within n (data_view (Array ds)) ≡ Some (view (ListValue vs))
   list_within ds vs h = rw (data_array ds, view_list vs) (has_room n (option_map list (values_within (n - 1) (items_view ds.items))) some ∙ ap (option_map list) h)
 

@@ -1,14 +1,20 @@
 -- The data of an element, and its tokens, written in three steps.
-use Rattle.std.proofs.Common.{◌≡◌, List, ◌++◌, [], ◌∷◌, String, Vec, BTreeMap, Global, string_bytes, codes, decimal, rules, sym, ap, ◌∙◌, append_assoc}
+use Rattle.std.proofs.Common.{◌≡◌, Bool, List, ◌++◌, [], ◌∷◌, String, Vec, BTreeMap, Global, string_bytes, codes, decimal, rules, sym, ap, ◌∙◌, append_assoc}
 use Rattle.json.specs.Token.{Token, begin_object, end_object, key, number}
 use Rattle.json.specs.Tree.{json_tokens}
-use Rattle.serde_json.specs.Data.{array, object, string}
+use Rattle.serde_json.specs.Data.{null, boolean, array, object, string}
 use Rattle.serde_json.specs.Written.{outline}
 use Rattle.pg_value_core.specs.declared.ids.NodeId.{NodeId}
 use Rattle.pg_value_core.specs.declared.ids.RelId.{RelId}
-use Rattle.pg_value_core.specs.declared.out.Out.{Out, Text, List as OutList, Map as OutMap, Node, Rel, Path, the_lemmas}
+use Rattle.pg_value_core.specs.declared.out.Out.{Out, Null, Bool as OutBool, Text, List as OutList, Map as OutMap, Node, Rel, Path, the_lemmas}
 use Rattle.pg_json.specs.Elements.{node_begun}
 use Rattle.pg_json.specs.Replies.{data_of, outs, named_outs, node_data, rel_data, path_data, text_items}
+
+pub data_null : data_of Null ≡ null
+data_null = search (rules, the_lemmas)
+
+pub data_bool : (b : Bool) → data_of (OutBool b) ≡ boolean b
+data_bool b = search (rules, the_lemmas)
 
 pub data_text : (text : String Global) → data_of (Text text) ≡ string (string_bytes text)
 data_text text = search (rules, the_lemmas)

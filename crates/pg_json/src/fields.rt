@@ -5,7 +5,7 @@ ghost use Rattle.serde_json.specs.Data.{string, put};
 ghost use Rattle.serde_json.specs.Read.{read, of_members, converted};
 ghost use Rattle.pg_json.specs.Bodies.{request_view};
 ghost use Rattle.pg_json.specs.Fields.{members_with, object_giving, parameters_of, asked_with, name_keys, text_keys, HaveDepth, IsGlance, IsGlanceOfMembers};
-ghost use Rattle.pg_json.specs.Requests.{is_one_of, query};
+ghost use Rattle.pg_json.specs.Requests.{is_one_of};
 ghost use Rattle.pg_value_core.specs.View.{entries_view};
 ghost use Rattle.pg_meaning.specs.declared.fault.Fault.TheVariants.{BadRequest, OutOfMemory};
 

@@ -1,5 +1,4 @@
-use Rattle.std.proofs.Common.{◌≡◌, ◌∷◌, Some, ap, ◌∙◌, sym, rules, to_z, of_z, w64, option_map}
-use Rattle.json.specs.Json.{value}
+use Rattle.std.proofs.Common.{◌≡◌, Some, ap, ◌∙◌, sym, rules, to_z, of_z, w64, option_map}
 use Rattle.json.proofs.Grammar.{value_is}
 use Rattle.serde_json.specs.Data.{Data, null, boolean, number, string}
 use Rattle.serde_json.specs.Find.{of_integer}

@@ -7,7 +7,7 @@ use Rattle.serde_json.specs.Written.{outline}
 use Rattle.pg_value_core.specs.declared.out.Out.{Out}
 use Rattle.pg_json.specs.Elements.{rel_begun, rel_ended}
 use Rattle.pg_json.specs.Replies.{data_of, outs, named_outs}
-use Rattle.pg_json.proofs.Elements.{around, data_path, data_rel, node_written}
+use Rattle.pg_json.proofs.Elements.{around, data_null, data_bool, data_text, data_path, data_rel, node_written}
 use Rattle.pg_json.proofs.Written.{list_written, map_written, written_list, written_members, item_written, items_written, member_written}
 use Rattle.pg_json.proofs.Writing.{two_steps}
 use Rattle.pg_json.proofs.value.+write.Goals as goal
@@ -193,3 +193,24 @@ write_members-returns-clause-ok t c =
 
 pub write_members-returns-clause-before : goal.write_members-returns-clause-before
 write_members-returns-clause-before t c = c.end_object.ensures.room.0 ∙ c.loop-key.invariant.before ∙ c.begin_object.ensures.room.0
+
+pub write-returns-in-Null-clause-ok : goal.write-returns-in-Null-clause-ok
+write-returns-in-Null-clause-ok t c =
+    rw c.in-Null.is
+    (on_ok_weaker c.null.result
+    (λ last. last ∙ ap (λ d. c.args.to.now.tokens ++ json_tokens (outline d)) (sym data_null))
+    c.null.ensures.ok)
+
+pub write-returns-in-Bool-clause-ok : goal.write-returns-in-Bool-clause-ok
+write-returns-in-Bool-clause-ok t c =
+    rw c.in-Bool.is
+    (on_ok_weaker c.boolean.result
+    (λ last. last ∙ ap (λ d. c.args.to.now.tokens ++ json_tokens (outline d)) (sym (data_bool c.in-Bool.b)))
+    c.boolean.ensures.ok)
+
+pub write-returns-in-Text-clause-ok : goal.write-returns-in-Text-clause-ok
+write-returns-in-Text-clause-ok t c =
+    rw c.in-Text.is
+    (on_ok_weaker c.string.result
+    (λ last. last ∙ ap (λ s. c.args.to.now.tokens ++ Token.string s ∷ []) c.deref.ensures ∙ ap (λ d. c.args.to.now.tokens ++ json_tokens (outline d)) (sym (data_text c.in-Text.text)))
+    c.string.ensures.ok)

@@ -1,6 +1,6 @@
 use Rattle.std.proofs.lemmas.List.{drop_more}
 use Rattle.std.proofs.lemmas.Result.{IfOk-from_err}
-use Rattle.std.proofs.Common.{◌≡◌, ◌≢◌, ◌+◌, ◌-◌, drop, arith, Some, None, [], ◌∷◌, ◌++◌, refl, sym, ap, subst, ◌∙◌, append_assoc, append-nil}
+use Rattle.std.proofs.Common.{◌≡◌, ◌≢◌, string_bytes, rules, ◌+◌, ◌-◌, drop, arith, Some, None, [], ◌∷◌, ◌++◌, refl, sym, ap, subst, ◌∙◌, append_assoc, append-nil}
 use Rattle.std.specs.List.Sorted.{IsStrictlySortedBy}
 use Rattle.std.specs.Map.{keys_of}
 use Rattle.std.specs.String.{string_cmp}
@@ -8,7 +8,7 @@ use Rattle.serde_json.specs.View.{items_view, members_view}
 use Rattle.serde_json.proofs.Views.{Entry}
 use Rattle.pg_meaning.specs.Entries.{put}
 use Rattle.pg_json.specs.Given.{values_within, entries_within}
-use Rattle.pg_json.proofs.Converting.{one_more_value, no_value, all_values, after, one_more_entry, refused_entries, list_within, list_refused, map_within, map_refused}
+use Rattle.pg_json.proofs.Converting.{one_more_value, no_value, all_values, after, one_more_entry, refused_entries, no_room, null_within, bool_within, text_within, list_within, list_refused, map_within, map_refused}
 use Rattle.pg_value_core.specs.View.{view, entries_view}
 use Rattle.pg_json.proofs.Exits.{fault_passed}
 use Rattle.pg_meaning.specs.declared.fault.Fault.TheVariants.{BadRequest, OutOfMemory}
@@ -141,3 +141,17 @@ pub value_from-returns-in_err-entries_from-in-Object-clause-refused : goal.value
 value_from-returns-in_err-entries_from-in-Object-clause-refused t c =
     fault_passed (λ e. e ≢ OutOfMemory → value_within c.args.room (data_view c.args.given.now) ≡ None) c.in_err-entries_from-in-Object.field-0.0 c.from_residual-in_err-entries_from-in-Object.result c.from_residual-in_err-entries_from-in-Object.ensures.1
     (λ other. rw c.in-Object.is (map_refused c.args.room c.if-room-eq0.false c.in-Object.members (c.in_err-entries_from-in-Object.ensures.refused other)))
+
+pub value_from-returns-then-room-eq0-clause-refused : goal.value_from-returns-then-room-eq0-clause-refused
+value_from-returns-then-room-eq0-clause-refused t c other = ap (λ n. value_within n (data_view c.args.given.now)) c.if-room-eq0.true ∙ no_room (data_view c.args.given.now)
+
+pub value_from-returns-in-Null-clause-ok : goal.value_from-returns-in-Null-clause-ok
+value_from-returns-in-Null-clause-ok t c = rw c.in-Null.is (null_within c.args.room c.if-room-eq0.false)
+
+pub value_from-returns-in-Bool-clause-ok : goal.value_from-returns-in-Bool-clause-ok
+value_from-returns-in-Bool-clause-ok t c = rw c.in-Bool.is (bool_within c.args.room c.if-room-eq0.false c.in-Bool.b)
+
+pub value_from-returns-in_ok-from_str-in-String-clause-ok : goal.value_from-returns-in_ok-from_str-in-String-clause-ok
+value_from-returns-in_ok-from_str-in-String-clause-ok t c =
+    let copied : string_bytes c.in_ok-from_str-in-String.field-0 ≡ string_bytes c.in-String.text = search rules in
+    rw c.in-String.is (text_within c.args.room c.if-room-eq0.false c.in-String.text c.in_ok-from_str-in-String.field-0 copied)

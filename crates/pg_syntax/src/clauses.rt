@@ -5,14 +5,14 @@ ghost use Rattle.pg_lex.specs.View.{tokens_view};
 ghost use Rattle.pg_meaning.specs.Parse as parse;
 ghost use Rattle.pg_meaning.specs.declared.lexemes.Keyword.TheVariants as k;
 ghost use Rattle.pg_meaning.specs.Tree as tree;
-ghost use Rattle.pg_syntax_tokens.specs.Gives.{Gives, same};
+ghost use Rattle.pg_syntax_tokens.specs.Gives.{Gives};
 ghost use Rattle.pg_syntax.specs.Pieces as pieces;
 ghost use Rattle.pg_syntax_tokens.specs.ShrinksLaws.{eats_shrinks};
 ghost use Rattle.pg_syntax_expressions.specs.ShrinksExpressions.{expr_shrinks};
 ghost use Rattle.pg_syntax.specs.ShrinksClauses.{reading_eats, set_item_eats, remove_item_eats, on_items_eats, updating_eats};
 ghost use Rattle.pg_syntax_tree.specs.View.{name_view, expression_view, set_item_view, remove_item_view, on_view, clause_view};
 
-use crate::patterns::{Paths, path};
+use crate::patterns::Paths;
 use pg_meaning::{Keyword, Symbol};
 use pg_syntax_expressions::{Whole, expression};
 use pg_syntax_tokens::{ParseError, Row, Rule, Tokens, labels, pieces, separated};
@@ -45,35 +45,6 @@ pub(crate) fn alias(alloc: Global, tokens: &mut Tokens<'_, '_>) -> Result<Name, 
 
 // ---- clauses that read
 
-#[tactic(auto, unfolding(pg_meaning::specs::Parse::match_clause))]
-fn match_clause(
-    alloc: Global,
-    tokens: &mut Tokens<'_, '_>,
-    depth: usize,
-) -> Result<Clause, ParseError>
-    ensures { Gives clause_view (parse.match_clause (parse.expr depth) (tokens_view tokens.old.rest.now)) result tokens.new.rest.now }
-{
-    let is_optional = tokens.eat_keyword(Keyword::Optional);
-    tokens.expect_keyword(Keyword::Match)?;
-    let paths = separated(alloc, &Paths { alloc, depth }, tokens)?;
-    let condition = expression_behind(alloc, tokens, depth, Keyword::Where)?;
-    Ok(Clause::Match(is_optional, paths, condition))
-}
-
-#[tactic(auto, unfolding(pg_meaning::specs::Parse::unwind_clause))]
-fn unwind_clause(
-    alloc: Global,
-    tokens: &mut Tokens<'_, '_>,
-    depth: usize,
-) -> Result<Clause, ParseError>
-    ensures { Gives clause_view (parse.unwind_clause (parse.expr depth) (tokens_view tokens.old.rest.now)) result tokens.new.rest.now }
-{
-    tokens.expect_keyword(Keyword::Unwind)?;
-    let list = expression(alloc, tokens, depth)?;
-    let variable = alias(alloc, tokens)?;
-    Ok(Clause::Unwind(list, variable))
-}
-
 #[derive(Drop)]
 pub(crate) struct ReadingClauses {
     pub alloc: Global,
@@ -91,12 +62,20 @@ impl Rule for ReadingClauses {
 
     ghost shrinks = { λ r. eats_shrinks (reading_eats (expr_shrinks r.depth)) };
 
-    #[tactic(auto, unfolding(pg_meaning::specs::Parse::reading))]
+    #[tactic(auto, unfolding(pg_meaning::specs::Parse::reading, pg_meaning::specs::Parse::match_clause, pg_meaning::specs::Parse::unwind_clause))]
     fn read(&self, tokens: &mut Tokens<'_, '_>) -> Result<Clause, ParseError> {
+        let alloc = self.alloc;
+        let depth = self.depth;
         if tokens.sees_keyword(Keyword::Unwind) {
-            return unwind_clause(self.alloc, tokens, self.depth);
+            tokens.expect_keyword(Keyword::Unwind)?;
+            let list = expression(alloc, tokens, depth)?;
+            return Ok(Clause::Unwind(list, alias(alloc, tokens)?));
         }
-        match_clause(self.alloc, tokens, self.depth)
+        let is_optional = tokens.eat_keyword(Keyword::Optional);
+        tokens.expect_keyword(Keyword::Match)?;
+        let paths = separated(alloc, &Paths { alloc, depth }, tokens)?;
+        let condition = expression_behind(alloc, tokens, depth, Keyword::Where)?;
+        Ok(Clause::Match(is_optional, paths, condition))
     }
 }
 
@@ -115,45 +94,6 @@ impl Row for ReadingClauses {
 }
 
 // ---- clauses that write
-
-/// What stands behind the target and its dot.
-fn set_property(
-    alloc: Global,
-    tokens: &mut Tokens<'_, '_>,
-    depth: usize,
-    target: Name,
-) -> Result<SetItem, ParseError>
-    ensures { Gives set_item_view (pieces.set_property (parse.expr depth) (name_view target) (tokens_view tokens.old.rest.now)) result tokens.new.rest.now }
-{
-    tokens.expect(Symbol::Dot)?;
-    let key = tokens.name(alloc)?;
-    tokens.expect(Symbol::Equal)?;
-    let value = expression(alloc, tokens, depth)?;
-    Ok(SetItem::Property(target, key, value))
-}
-
-/// What stands behind the target.
-fn set_target(
-    alloc: Global,
-    tokens: &mut Tokens<'_, '_>,
-    depth: usize,
-    target: Name,
-) -> Result<SetItem, ParseError>
-    ensures { Gives set_item_view (pieces.set_target (parse.expr depth) (name_view target) (tokens_view tokens.old.rest.now)) result tokens.new.rest.now }
-{
-    if tokens.sees(Symbol::Dot) {
-        return set_property(alloc, tokens, depth, target);
-    }
-    if tokens.sees(Symbol::Equal) {
-        tokens.expect(Symbol::Equal)?;
-        return Ok(SetItem::All(target, expression(alloc, tokens, depth)?));
-    }
-    if tokens.sees(Symbol::PlusEqual) {
-        tokens.expect(Symbol::PlusEqual)?;
-        return Ok(SetItem::More(target, expression(alloc, tokens, depth)?));
-    }
-    Ok(SetItem::Labels(target, labels(alloc, tokens)?))
-}
 
 #[derive(Drop)]
 struct SetItems {
@@ -174,24 +114,26 @@ impl Rule for SetItems {
 
     #[tactic(auto, unfolding(pg_meaning::specs::Parse::set_item))]
     fn read(&self, tokens: &mut Tokens<'_, '_>) -> Result<SetItem, ParseError> {
-        let target = tokens.var(self.alloc)?;
-        set_target(self.alloc, tokens, self.depth, target)
+        let alloc = self.alloc;
+        let depth = self.depth;
+        let target = tokens.var(alloc)?;
+        if tokens.sees(Symbol::Dot) {
+            tokens.expect(Symbol::Dot)?;
+            let key = tokens.name(alloc)?;
+            tokens.expect(Symbol::Equal)?;
+            let value = expression(alloc, tokens, depth)?;
+            return Ok(SetItem::Property(target, key, value));
+        }
+        if tokens.sees(Symbol::Equal) {
+            tokens.expect(Symbol::Equal)?;
+            return Ok(SetItem::All(target, expression(alloc, tokens, depth)?));
+        }
+        if tokens.sees(Symbol::PlusEqual) {
+            tokens.expect(Symbol::PlusEqual)?;
+            return Ok(SetItem::More(target, expression(alloc, tokens, depth)?));
+        }
+        Ok(SetItem::Labels(target, labels(alloc, tokens)?))
     }
-}
-
-/// What stands behind the target.
-fn remove_target(
-    alloc: Global,
-    tokens: &mut Tokens<'_, '_>,
-    target: Name,
-) -> Result<RemoveItem, ParseError>
-    ensures { Gives remove_item_view (pieces.remove_target (name_view target) (tokens_view tokens.old.rest.now)) result tokens.new.rest.now }
-{
-    if tokens.sees(Symbol::Dot) {
-        tokens.expect(Symbol::Dot)?;
-        return Ok(RemoveItem::Property(target, tokens.name(alloc)?));
-    }
-    Ok(RemoveItem::Labels(target, labels(alloc, tokens)?))
 }
 
 #[derive(Drop)]
@@ -210,23 +152,14 @@ impl Rule for RemoveItems {
 
     ghost shrinks = { λ _. eats_shrinks remove_item_eats };
 
-    #[tactic(auto, unfolding(pg_meaning::specs::Parse::remove_item))]
+    #[tactic(auto, unfolding(pg_meaning::specs::Parse::remove_item, pg_meaning::specs::Parse::symbol, pg_meaning::specs::Parse::eat_symbol))]
     fn read(&self, tokens: &mut Tokens<'_, '_>) -> Result<RemoveItem, ParseError> {
         let target = tokens.var(self.alloc)?;
-        remove_target(self.alloc, tokens, target)
+        if tokens.eat(Symbol::Dot) {
+            return Ok(RemoveItem::Property(target, tokens.name(self.alloc)?));
+        }
+        Ok(RemoveItem::Labels(target, labels(self.alloc, tokens)?))
     }
-}
-
-/// Whether the event is CREATE; else it is MATCH.
-fn event(tokens: &mut Tokens<'_, '_>) -> Result<bool, ParseError>
-    ensures { Gives same (parse.event (tokens_view tokens.old.rest.now)) result tokens.new.rest.now }
-{
-    if tokens.sees_keyword(Keyword::Create) {
-        tokens.expect_keyword(Keyword::Create)?;
-        return Ok(true);
-    }
-    tokens.expect_keyword(Keyword::Match)?;
-    Ok(false)
 }
 
 /// ON CREATE or ON MATCH, with what is set.
@@ -252,7 +185,13 @@ impl Rule for Events {
         let alloc = self.alloc;
         let depth = self.depth;
         tokens.expect_keyword(Keyword::On)?;
-        let create = event(tokens)?;
+        let create = tokens.sees_keyword(Keyword::Create);
+        let event = if create {
+            Keyword::Create
+        } else {
+            Keyword::Match
+        };
+        tokens.expect_keyword(event)?;
         tokens.expect_keyword(Keyword::Set)?;
         let items = separated(alloc, &SetItems { alloc, depth }, tokens)?;
         Ok(On { create, items })
@@ -269,63 +208,6 @@ impl Row for Events {
     fn begins(&self, tokens: &Tokens<'_, '_>) -> bool {
         tokens.sees_keyword(Keyword::On)
     }
-}
-
-fn create_clause(
-    alloc: Global,
-    tokens: &mut Tokens<'_, '_>,
-    depth: usize,
-) -> Result<Clause, ParseError>
-    ensures { Gives clause_view (pieces.create_clause (parse.expr depth) (tokens_view tokens.old.rest.now)) result tokens.new.rest.now }
-{
-    tokens.expect_keyword(Keyword::Create)?;
-    Ok(Clause::Create(separated(alloc, &Paths { alloc, depth }, tokens)?))
-}
-
-#[tactic(auto, unfolding(pg_meaning::specs::Parse::merge_clause))]
-fn merge_clause(
-    alloc: Global,
-    tokens: &mut Tokens<'_, '_>,
-    depth: usize,
-) -> Result<Clause, ParseError>
-    ensures { Gives clause_view (parse.merge_clause (parse.expr depth) (tokens_view tokens.old.rest.now)) result tokens.new.rest.now }
-{
-    tokens.expect_keyword(Keyword::Merge)?;
-    let path = path(alloc, tokens, depth)?;
-    let events = pieces(alloc, &Events { alloc, depth }, tokens)?;
-    Ok(Clause::Merge(path, events))
-}
-
-fn set_clause(
-    alloc: Global,
-    tokens: &mut Tokens<'_, '_>,
-    depth: usize,
-) -> Result<Clause, ParseError>
-    ensures { Gives clause_view (pieces.set_clause (parse.expr depth) (tokens_view tokens.old.rest.now)) result tokens.new.rest.now }
-{
-    tokens.expect_keyword(Keyword::Set)?;
-    Ok(Clause::Set(separated(alloc, &SetItems { alloc, depth }, tokens)?))
-}
-
-fn remove_clause(alloc: Global, tokens: &mut Tokens<'_, '_>) -> Result<Clause, ParseError>
-    ensures { Gives clause_view (pieces.remove_clause (tokens_view tokens.old.rest.now)) result tokens.new.rest.now }
-{
-    tokens.expect_keyword(Keyword::Remove)?;
-    Ok(Clause::Remove(separated(alloc, &RemoveItems { alloc }, tokens)?))
-}
-
-#[tactic(auto, unfolding(pg_meaning::specs::Parse::delete_clause))]
-fn delete_clause(
-    alloc: Global,
-    tokens: &mut Tokens<'_, '_>,
-    depth: usize,
-) -> Result<Clause, ParseError>
-    ensures { Gives clause_view (parse.delete_clause (parse.expr depth) (tokens_view tokens.old.rest.now)) result tokens.new.rest.now }
-{
-    let is_detach = tokens.eat_keyword(Keyword::Detach);
-    tokens.expect_keyword(Keyword::Delete)?;
-    let deleted = separated(alloc, &Whole { alloc, depth }, tokens)?;
-    Ok(Clause::Delete(is_detach, deleted))
 }
 
 #[derive(Drop)]
@@ -345,21 +227,30 @@ impl Rule for UpdatingClauses {
 
     ghost shrinks = { λ r. eats_shrinks (updating_eats (expr_shrinks r.depth)) };
 
-    #[tactic(auto, unfolding(pg_meaning::specs::Parse::updating))]
+    #[tactic(auto, unfolding(pg_meaning::specs::Parse::updating, pg_meaning::specs::Parse::merge_clause, pg_meaning::specs::Parse::delete_clause))]
     fn read(&self, tokens: &mut Tokens<'_, '_>) -> Result<Clause, ParseError> {
+        let alloc = self.alloc;
+        let depth = self.depth;
         if tokens.sees_keyword(Keyword::Create) {
-            return create_clause(self.alloc, tokens, self.depth);
+            tokens.expect_keyword(Keyword::Create)?;
+            return Ok(Clause::Create(separated(alloc, &Paths { alloc, depth }, tokens)?));
         }
         if tokens.sees_keyword(Keyword::Merge) {
-            return merge_clause(self.alloc, tokens, self.depth);
+            tokens.expect_keyword(Keyword::Merge)?;
+            let path = Paths { alloc, depth }.read(tokens)?;
+            return Ok(Clause::Merge(path, pieces(alloc, &Events { alloc, depth }, tokens)?));
         }
         if tokens.sees_keyword(Keyword::Set) {
-            return set_clause(self.alloc, tokens, self.depth);
+            tokens.expect_keyword(Keyword::Set)?;
+            return Ok(Clause::Set(separated(alloc, &SetItems { alloc, depth }, tokens)?));
         }
         if tokens.sees_keyword(Keyword::Remove) {
-            return remove_clause(self.alloc, tokens);
+            tokens.expect_keyword(Keyword::Remove)?;
+            return Ok(Clause::Remove(separated(alloc, &RemoveItems { alloc }, tokens)?));
         }
-        delete_clause(self.alloc, tokens, self.depth)
+        let is_detach = tokens.eat_keyword(Keyword::Detach);
+        tokens.expect_keyword(Keyword::Delete)?;
+        Ok(Clause::Delete(is_detach, separated(alloc, &Whole { alloc, depth }, tokens)?))
     }
 }
 

@@ -10,7 +10,7 @@ ghost use Rattle.pg_syntax.specs.Pieces as pieces;
 ghost use Rattle.pg_syntax_tokens.specs.ShrinksLaws.{eats_shrinks};
 ghost use Rattle.pg_syntax_expressions.specs.ShrinksExpressions.{expr_shrinks};
 ghost use Rattle.pg_syntax.specs.ShrinksPatterns.{other_type_eats, hop_eats, path_shrinks};
-ghost use Rattle.pg_syntax_tree.specs.View.{name_view, properties_view, node_view, type_view, range_view, detail_view, relationship_view, hop_view, path_view};
+ghost use Rattle.pg_syntax_tree.specs.View.{properties_view, node_view, type_view, range_view, detail_view, hop_view, path_view};
 
 use pg_meaning::Symbol;
 use pg_syntax_expressions::{Whole, map_pairs};
@@ -18,7 +18,7 @@ use pg_syntax_tokens::{
     ParseError, Row, Rule, Tokens, labels_if_any, many, pieces, start_of, variable,
 };
 use pg_syntax_tree::{
-    Detail, Name, NodePattern, PathPattern, Properties, Range, RelationshipPattern, TypeName,
+    Detail, NodePattern, PathPattern, Properties, Range, RelationshipPattern, TypeName,
 };
 use std::alloc::Global;
 
@@ -95,23 +95,17 @@ impl Row for OtherType {
 }
 
 #[tactic(auto, unfolding(pg_meaning::specs::Parse::types))]
-fn types(alloc: Global, tokens: &mut Tokens<'_, '_>) -> Result<Vec<TypeName>, ParseError>
-    ensures { Gives (λ v. map type_view v.items) (parse.types (tokens_view tokens.old.rest.now)) result tokens.new.rest.now }
-{
-    tokens.expect(Symbol::Colon)?;
-    let name = tokens.name(alloc)?;
-    let mut found = Vec::new(alloc);
-    found.push(TypeName { colon: true, name })?;
-    many(&OtherType { alloc }, tokens, found)
-}
-
 fn types_if_any(alloc: Global, tokens: &mut Tokens<'_, '_>) -> Result<Vec<TypeName>, ParseError>
     ensures { Gives (λ v. map type_view v.items) (pieces.types_if_any (tokens_view tokens.old.rest.now)) result tokens.new.rest.now }
 {
     if !tokens.sees(Symbol::Colon) {
         return Ok(Vec::new(alloc));
     }
-    types(alloc, tokens)
+    tokens.expect(Symbol::Colon)?;
+    let name = tokens.name(alloc)?;
+    let mut found = Vec::new(alloc);
+    found.push(TypeName { colon: true, name })?;
+    many(&OtherType { alloc }, tokens, found)
 }
 
 fn integer_if_any(tokens: &mut Tokens<'_, '_>) -> Result<Option<u64>, ParseError>
@@ -123,54 +117,25 @@ fn integer_if_any(tokens: &mut Tokens<'_, '_>) -> Result<Option<u64>, ParseError
     Ok(Some(tokens.integer()?))
 }
 
-/// What stands behind the dots of a range, if they are there.
-fn upper_end(tokens: &mut Tokens<'_, '_>, dots: bool) -> Result<Option<u64>, ParseError>
-    ensures { Gives same (pieces.upper_end dots (tokens_view tokens.old.rest.now)) result tokens.new.rest.now }
-{
-    if !dots {
-        return Ok(None);
-    }
-    integer_if_any(tokens)
-}
-
 #[tactic(auto, unfolding(pg_meaning::specs::Parse::range))]
-fn range(tokens: &mut Tokens<'_, '_>) -> Result<Range, ParseError>
-    ensures { Gives range_view (parse.range (tokens_view tokens.old.rest.now)) result tokens.new.rest.now }
-{
-    tokens.expect(Symbol::Star)?;
-    let lower = integer_if_any(tokens)?;
-    let dots = tokens.eat(Symbol::TwoDots);
-    let upper = upper_end(tokens, dots)?;
-    Ok(Range { lower, dots, upper })
-}
-
 fn range_if_any(tokens: &mut Tokens<'_, '_>) -> Result<Option<Range>, ParseError>
     ensures { Gives (option_map range_view) (parse.maybe (parse.sees_symbol s.Star) parse.range (tokens_view tokens.old.rest.now)) result tokens.new.rest.now }
 {
     if !tokens.sees(Symbol::Star) {
         return Ok(None);
     }
-    Ok(Some(range(tokens)?))
+    tokens.expect(Symbol::Star)?;
+    let lower = integer_if_any(tokens)?;
+    let dots = tokens.eat(Symbol::TwoDots);
+    let upper = if dots {
+        integer_if_any(tokens)?
+    } else {
+        None
+    };
+    Ok(Some(Range { lower, dots, upper }))
 }
 
 #[tactic(auto, unfolding(pg_meaning::specs::Parse::detail))]
-fn detail(alloc: Global, tokens: &mut Tokens<'_, '_>, depth: usize) -> Result<Detail, ParseError>
-    ensures { Gives detail_view (parse.detail (parse.expr depth) (tokens_view tokens.old.rest.now)) result tokens.new.rest.now }
-{
-    tokens.expect(Symbol::OpenBracket)?;
-    let variable = variable(alloc, tokens)?;
-    let types = types_if_any(alloc, tokens)?;
-    let range = range_if_any(tokens)?;
-    let properties = properties(alloc, tokens, depth)?;
-    tokens.expect(Symbol::CloseBracket)?;
-    Ok(Detail {
-        variable,
-        types,
-        range,
-        properties,
-    })
-}
-
 fn detail_if_any(
     alloc: Global,
     tokens: &mut Tokens<'_, '_>,
@@ -181,29 +146,18 @@ fn detail_if_any(
     if !tokens.sees(Symbol::OpenBracket) {
         return Ok(None);
     }
-    Ok(Some(detail(alloc, tokens, depth)?))
-}
-
-#[tactic(auto, unfolding(pg_meaning::specs::Parse::relationship, pg_meaning::specs::Parse::here))]
-fn relationship(
-    alloc: Global,
-    tokens: &mut Tokens<'_, '_>,
-    depth: usize,
-) -> Result<RelationshipPattern, ParseError>
-    ensures { Gives relationship_view (parse.relationship (parse.expr depth) (tokens_view tokens.old.rest.now)) result tokens.new.rest.now }
-{
-    let place = start_of(tokens.rest);
-    let left_head = tokens.eat(Symbol::Less);
-    tokens.expect(Symbol::Minus)?;
-    let detail = detail_if_any(alloc, tokens, depth)?;
-    tokens.expect(Symbol::Minus)?;
-    let right_head = tokens.eat(Symbol::Greater);
-    Ok(RelationshipPattern {
-        place,
-        left_head,
-        detail,
-        right_head,
-    })
+    tokens.expect(Symbol::OpenBracket)?;
+    let variable = variable(alloc, tokens)?;
+    let types = types_if_any(alloc, tokens)?;
+    let range = range_if_any(tokens)?;
+    let properties = properties(alloc, tokens, depth)?;
+    tokens.expect(Symbol::CloseBracket)?;
+    Ok(Some(Detail {
+        variable,
+        types,
+        range,
+        properties,
+    }))
 }
 
 /// A relationship and the node behind it.
@@ -224,13 +178,24 @@ impl Rule for Hop {
 
     ghost shrinks = { λ h. eats_shrinks (hop_eats (expr_shrinks h.depth)) };
 
+    #[tactic(auto, unfolding(pg_meaning::specs::Parse::relationship, pg_meaning::specs::Parse::here))]
     fn read(
         &self,
         tokens: &mut Tokens<'_, '_>,
     ) -> Result<(RelationshipPattern, NodePattern), ParseError> {
-        let relationship = relationship(self.alloc, tokens, self.depth)?;
-        let node = node(self.alloc, tokens, self.depth)?;
-        Ok((relationship, node))
+        let place = start_of(tokens.rest);
+        let left_head = tokens.eat(Symbol::Less);
+        tokens.expect(Symbol::Minus)?;
+        let detail = detail_if_any(self.alloc, tokens, self.depth)?;
+        tokens.expect(Symbol::Minus)?;
+        let right_head = tokens.eat(Symbol::Greater);
+        let relationship = RelationshipPattern {
+            place,
+            left_head,
+            detail,
+            right_head,
+        };
+        Ok((relationship, node(self.alloc, tokens, self.depth)?))
     }
 }
 
@@ -244,35 +209,6 @@ impl Row for Hop {
     fn begins(&self, tokens: &Tokens<'_, '_>) -> bool {
         tokens.sees(Symbol::Less) || tokens.sees(Symbol::Minus)
     }
-}
-
-fn path_variable(alloc: Global, tokens: &mut Tokens<'_, '_>) -> Result<Option<Name>, ParseError>
-    ensures { Gives (option_map name_view) (parse.maybe parse.begins_var parse.path_variable (tokens_view tokens.old.rest.now)) result tokens.new.rest.now }
-{
-    if !tokens.sees_var() {
-        return Ok(None);
-    }
-    let name = tokens.var(alloc)?;
-    tokens.expect(Symbol::Equal)?;
-    Ok(Some(name))
-}
-
-#[tactic(auto, unfolding(pg_meaning::specs::Parse::path))]
-pub(crate) fn path(
-    alloc: Global,
-    tokens: &mut Tokens<'_, '_>,
-    depth: usize,
-) -> Result<PathPattern, ParseError>
-    ensures { Gives path_view (parse.path (parse.expr depth) (tokens_view tokens.old.rest.now)) result tokens.new.rest.now }
-{
-    let variable = path_variable(alloc, tokens)?;
-    let first = node(alloc, tokens, depth)?;
-    let hops = pieces(alloc, &Hop { alloc, depth }, tokens)?;
-    Ok(PathPattern {
-        variable,
-        first,
-        hops,
-    })
 }
 
 /// Paths, as pieces of a row.
@@ -293,7 +229,23 @@ impl Rule for Paths {
 
     ghost shrinks = { λ p. path_shrinks (expr_shrinks p.depth) };
 
+    #[tactic(auto, unfolding(pg_meaning::specs::Parse::path))]
     fn read(&self, tokens: &mut Tokens<'_, '_>) -> Result<PathPattern, ParseError> {
-        path(self.alloc, tokens, self.depth)
+        let alloc = self.alloc;
+        let depth = self.depth;
+        let variable = if tokens.sees_var() {
+            let name = tokens.var(alloc)?;
+            tokens.expect(Symbol::Equal)?;
+            Some(name)
+        } else {
+            None
+        };
+        let first = node(alloc, tokens, depth)?;
+        let hops = pieces(alloc, &Hop { alloc, depth }, tokens)?;
+        Ok(PathPattern {
+            variable,
+            first,
+            hops,
+        })
     }
 }

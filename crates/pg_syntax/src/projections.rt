@@ -1,7 +1,7 @@
 //! WITH and RETURN.
 
 ghost use Rattle.std.specs.Prelude.{◌≡◌, Some, IfOk, map, option_map, string_bytes, is_some};
-ghost use Rattle.pg_lex.specs.View.{lexeme_view, tokens_view};
+ghost use Rattle.pg_lex.specs.View.{tokens_view};
 ghost use Rattle.pg_meaning.specs.Parse as parse;
 ghost use Rattle.pg_meaning.specs.declared.lexemes.Keyword.TheVariants as k;
 ghost use Rattle.pg_meaning.specs.Tree as tree;
@@ -53,52 +53,14 @@ fn alias_if_any(alloc: Global, tokens: &mut Tokens<'_, '_>) -> Result<Option<Nam
     Ok(Some(alias(alloc, tokens)?))
 }
 
-#[tactic(auto, unfolding(pg_meaning::specs::Parse::return_item))]
-fn return_item(
-    alloc: Global,
-    text: &str,
-    tokens: &mut Tokens<'_, '_>,
-    depth: usize,
-) -> Result<Item, ParseError>
-    ensures { Gives item_view (parse.return_item text.now (parse.expr depth) (tokens_view tokens.old.rest.now)) result tokens.new.rest.now }
-{
-    let old = tokens.rest;
-    let value = expression(alloc, tokens, depth)?;
-    let start = start_of(old);
-    let source = source_of(alloc, text, start, finish_between(old, tokens.rest))?;
-    let alias = alias_if_any(alloc, tokens)?;
-    Ok(Item {
-        start,
-        source,
-        value,
-        alias,
-    })
-}
-
 /// Whether WITH may have it as an item.
-fn may_stand(item: &Item) -> bool
-    ensures { result ≡ parse.may_stand (expression_view item.now.value) (option_map name_view item.now.alias) }
+fn may_stand(value: &Expression, alias: &Option<Name>) -> bool
+    ensures { result ≡ parse.may_stand (expression_view value.now) (option_map name_view alias.now) }
 {
-    match (&item.value, &item.alias) {
+    match (value, alias) {
         (_, Some(_)) | (Expression::Variable(_), None) => true,
         _ => false,
     }
-}
-
-#[tactic(auto, unfolding(pg_meaning::specs::Parse::with_item))]
-fn with_item(
-    alloc: Global,
-    text: &str,
-    tokens: &mut Tokens<'_, '_>,
-    depth: usize,
-) -> Result<Item, ParseError>
-    ensures { Gives item_view (parse.with_item text.now (parse.expr depth) (tokens_view tokens.old.rest.now)) result tokens.new.rest.now }
-{
-    let item = return_item(alloc, text, tokens, depth)?;
-    if !may_stand(&item) {
-        return Err(ParseError::BadSyntax);
-    }
-    Ok(item)
 }
 
 /// Items of WITH, or of RETURN.
@@ -121,11 +83,23 @@ impl<'t> Rule for Items<'t> {
 
     ghost shrinks = { λ r. item_shrinks r.of_with r.text.now (expr_shrinks r.depth) };
 
+    #[tactic(auto, unfolding(pg_meaning::specs::Parse::return_item, pg_meaning::specs::Parse::with_item))]
     fn read(&self, tokens: &mut Tokens<'_, '_>) -> Result<Item, ParseError> {
-        if self.of_with {
-            return with_item(self.alloc, self.text, tokens, self.depth);
+        let old = tokens.rest;
+        let value = expression(self.alloc, tokens, self.depth)?;
+        let start = start_of(old);
+        let finish = finish_between(old, tokens.rest);
+        let source = source_of(self.alloc, self.text, start, finish)?;
+        let alias = alias_if_any(self.alloc, tokens)?;
+        if self.of_with && !may_stand(&value, &alias) {
+            return Err(ParseError::BadSyntax);
         }
-        return_item(self.alloc, self.text, tokens, self.depth)
+        Ok(Item {
+            start,
+            source,
+            value,
+            alias,
+        })
     }
 }
 
@@ -143,18 +117,6 @@ fn item_row(
     separated(piece.alloc, piece, tokens)
 }
 
-fn direction_of(lexeme: &Lexeme<'_>) -> Option<Sort>
-    ensures { result ≡ parse.direction_of (lexeme_view lexeme.now) }
-{
-    match lexeme {
-        Lexeme::Keyword(Keyword::Asc, _) => Some(Sort::Asc),
-        Lexeme::Keyword(Keyword::Ascending, _) => Some(Sort::Ascending),
-        Lexeme::Keyword(Keyword::Desc, _) => Some(Sort::Desc),
-        Lexeme::Keyword(Keyword::Descending, _) => Some(Sort::Descending),
-        _ => None,
-    }
-}
-
 #[tactic(auto, unfolding(pg_meaning::specs::Parse::direction))]
 fn direction(tokens: &mut Tokens<'_, '_>) -> Option<Sort>
     ensures { parse.maybe (parse.sees (λ l. is_some (parse.direction_of l))) parse.direction (tokens_view tokens.old.rest.now) ≡ Some (result, tokens_view tokens.new.rest.now) }
@@ -162,7 +124,13 @@ fn direction(tokens: &mut Tokens<'_, '_>) -> Option<Sort>
     let [token, rest @ ..] = tokens.rest else {
         return None;
     };
-    let found = direction_of(&token.lexeme)?;
+    let found = match &token.lexeme {
+        Lexeme::Keyword(Keyword::Asc, _) => Sort::Asc,
+        Lexeme::Keyword(Keyword::Ascending, _) => Sort::Ascending,
+        Lexeme::Keyword(Keyword::Desc, _) => Sort::Desc,
+        Lexeme::Keyword(Keyword::Descending, _) => Sort::Descending,
+        _ => return None,
+    };
     tokens.rest = rest;
     Some(found)
 }

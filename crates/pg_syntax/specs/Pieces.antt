@@ -38,15 +38,6 @@ set_target whole n =
 abbrev pub remove_target : Name → Parser RemoveItem
 remove_target n = branch (sees_symbol s.Dot) (do symbol s.Dot; m ← parse.name; pure (tree.remove_property n m)) (tree.remove_labels n <$> parse.labels)
 
-abbrev pub create_clause : Parser Expression → Parser Clause
-create_clause whole = keyword k.Create >> (tree.create <$> separated (parse.path whole))
-
-abbrev pub set_clause : Parser Expression → Parser Clause
-set_clause whole = keyword k.Set >> (tree.set_items <$> separated (parse.set_item whole))
-
-abbrev pub remove_clause : Parser Clause
-remove_clause = keyword k.Remove >> (tree.remove_items <$> separated parse.remove_item)
-
 -- an expression behind its keyword, if that is there
 abbrev pub behind : Keyword → Parser Expression → Parser (Option Expression)
 behind x whole = maybe (sees_keyword x) (keyword x >> whole)

@@ -20,6 +20,7 @@ use pg_syntax_tree::{Clause, Expression, Name, On, RemoveItem, SetItem};
 use std::alloc::Global;
 
 /// The keyword and its expression, if it stands next.
+#[tactic(auto, unfolding(pg_meaning::specs::Parse::keyword, pg_meaning::specs::Parse::eat_keyword))]
 pub(crate) fn expression_behind(
     alloc: Global,
     tokens: &mut Tokens<'_, '_>,
@@ -28,10 +29,9 @@ pub(crate) fn expression_behind(
 ) -> Result<Option<Expression>, ParseError>
     ensures { Gives (option_map expression_view) (pieces.behind keyword (parse.expr depth) (tokens_view tokens.old.rest.now)) result tokens.new.rest.now }
 {
-    if !tokens.sees_keyword(keyword) {
+    if !tokens.eat_keyword(keyword) {
         return Ok(None);
     }
-    tokens.expect_keyword(keyword)?;
     Ok(Some(expression(alloc, tokens, depth)?))
 }
 
@@ -112,24 +112,21 @@ impl Rule for SetItems {
 
     ghost shrinks = { λ r. eats_shrinks (set_item_eats (expr_shrinks r.depth)) };
 
-    #[tactic(auto, unfolding(pg_meaning::specs::Parse::set_item))]
+    #[tactic(auto, unfolding(pg_meaning::specs::Parse::set_item, pg_meaning::specs::Parse::symbol, pg_meaning::specs::Parse::eat_symbol))]
     fn read(&self, tokens: &mut Tokens<'_, '_>) -> Result<SetItem, ParseError> {
         let alloc = self.alloc;
         let depth = self.depth;
         let target = tokens.var(alloc)?;
-        if tokens.sees(Symbol::Dot) {
-            tokens.expect(Symbol::Dot)?;
+        if tokens.eat(Symbol::Dot) {
             let key = tokens.name(alloc)?;
             tokens.expect(Symbol::Equal)?;
             let value = expression(alloc, tokens, depth)?;
             return Ok(SetItem::Property(target, key, value));
         }
-        if tokens.sees(Symbol::Equal) {
-            tokens.expect(Symbol::Equal)?;
+        if tokens.eat(Symbol::Equal) {
             return Ok(SetItem::All(target, expression(alloc, tokens, depth)?));
         }
-        if tokens.sees(Symbol::PlusEqual) {
-            tokens.expect(Symbol::PlusEqual)?;
+        if tokens.eat(Symbol::PlusEqual) {
             return Ok(SetItem::More(target, expression(alloc, tokens, depth)?));
         }
         Ok(SetItem::Labels(target, labels(alloc, tokens)?))

@@ -94,14 +94,13 @@ impl Row for OtherType {
     }
 }
 
-#[tactic(auto, unfolding(pg_meaning::specs::Parse::types))]
+#[tactic(auto, unfolding(pg_meaning::specs::Parse::types, pg_meaning::specs::Parse::symbol, pg_meaning::specs::Parse::eat_symbol))]
 fn types_if_any(alloc: Global, tokens: &mut Tokens<'_, '_>) -> Result<Vec<TypeName>, ParseError>
     ensures { Gives (λ v. map type_view v.items) (pieces.types_if_any (tokens_view tokens.old.rest.now)) result tokens.new.rest.now }
 {
-    if !tokens.sees(Symbol::Colon) {
+    if !tokens.eat(Symbol::Colon) {
         return Ok(Vec::new(alloc));
     }
-    tokens.expect(Symbol::Colon)?;
     let name = tokens.name(alloc)?;
     let mut found = Vec::new(alloc);
     found.push(TypeName { colon: true, name })?;
@@ -117,14 +116,13 @@ fn integer_if_any(tokens: &mut Tokens<'_, '_>) -> Result<Option<u64>, ParseError
     Ok(Some(tokens.integer()?))
 }
 
-#[tactic(auto, unfolding(pg_meaning::specs::Parse::range))]
+#[tactic(auto, unfolding(pg_meaning::specs::Parse::range, pg_meaning::specs::Parse::symbol, pg_meaning::specs::Parse::eat_symbol))]
 fn range_if_any(tokens: &mut Tokens<'_, '_>) -> Result<Option<Range>, ParseError>
     ensures { Gives (option_map range_view) (parse.maybe (parse.sees_symbol s.Star) parse.range (tokens_view tokens.old.rest.now)) result tokens.new.rest.now }
 {
-    if !tokens.sees(Symbol::Star) {
+    if !tokens.eat(Symbol::Star) {
         return Ok(None);
     }
-    tokens.expect(Symbol::Star)?;
     let lower = integer_if_any(tokens)?;
     let dots = tokens.eat(Symbol::TwoDots);
     let upper = if dots {

@@ -160,6 +160,7 @@ impl Rule for SortItems {
     }
 }
 
+#[tactic(auto, unfolding(pg_meaning::specs::Parse::keyword, pg_meaning::specs::Parse::eat_keyword))]
 fn ordering(
     alloc: Global,
     tokens: &mut Tokens<'_, '_>,
@@ -167,10 +168,9 @@ fn ordering(
 ) -> Result<Vec<SortItem>, ParseError>
     ensures { Gives (λ v. map sort_item_view v.items) (parse.ordering (parse.expr depth) (tokens_view tokens.old.rest.now)) result tokens.new.rest.now }
 {
-    if !tokens.sees_keyword(Keyword::Order) {
+    if !tokens.eat_keyword(Keyword::Order) {
         return Ok(Vec::new(alloc));
     }
-    tokens.expect_keyword(Keyword::Order)?;
     tokens.expect_keyword(Keyword::By)?;
     separated(alloc, &SortItems { alloc, depth }, tokens)
 }

@@ -36,7 +36,7 @@ pub(crate) fn expression_behind(
 }
 
 /// AS and a variable.
-pub(crate) fn alias(alloc: Global, tokens: &mut Tokens<'_, '_>) -> Result<Name, ParseError>
+fn alias(alloc: Global, tokens: &mut Tokens<'_, '_>) -> Result<Name, ParseError>
     ensures { Gives name_view (parse.alias (tokens_view tokens.old.rest.now)) result tokens.new.rest.now }
 {
     tokens.expect_keyword(Keyword::As)?;
@@ -62,12 +62,11 @@ impl Rule for ReadingClauses {
 
     ghost shrinks = { λ r. eats_shrinks (reading_eats (expr_shrinks r.depth)) };
 
-    #[tactic(auto, unfolding(pg_meaning::specs::Parse::reading, pg_meaning::specs::Parse::match_clause, pg_meaning::specs::Parse::unwind_clause))]
+    #[tactic(auto, unfolding(pg_meaning::specs::Parse::reading, pg_meaning::specs::Parse::match_clause, pg_meaning::specs::Parse::unwind_clause, pg_meaning::specs::Parse::keyword, pg_meaning::specs::Parse::eat_keyword))]
     fn read(&self, tokens: &mut Tokens<'_, '_>) -> Result<Clause, ParseError> {
         let alloc = self.alloc;
         let depth = self.depth;
-        if tokens.sees_keyword(Keyword::Unwind) {
-            tokens.expect_keyword(Keyword::Unwind)?;
+        if tokens.eat_keyword(Keyword::Unwind) {
             let list = expression(alloc, tokens, depth)?;
             return Ok(Clause::Unwind(list, alias(alloc, tokens)?));
         }
@@ -224,25 +223,21 @@ impl Rule for UpdatingClauses {
 
     ghost shrinks = { λ r. eats_shrinks (updating_eats (expr_shrinks r.depth)) };
 
-    #[tactic(auto, unfolding(pg_meaning::specs::Parse::updating, pg_meaning::specs::Parse::merge_clause, pg_meaning::specs::Parse::delete_clause))]
+    #[tactic(auto, unfolding(pg_meaning::specs::Parse::updating, pg_meaning::specs::Parse::merge_clause, pg_meaning::specs::Parse::delete_clause, pg_meaning::specs::Parse::keyword, pg_meaning::specs::Parse::eat_keyword))]
     fn read(&self, tokens: &mut Tokens<'_, '_>) -> Result<Clause, ParseError> {
         let alloc = self.alloc;
         let depth = self.depth;
-        if tokens.sees_keyword(Keyword::Create) {
-            tokens.expect_keyword(Keyword::Create)?;
+        if tokens.eat_keyword(Keyword::Create) {
             return Ok(Clause::Create(separated(alloc, &Paths { alloc, depth }, tokens)?));
         }
-        if tokens.sees_keyword(Keyword::Merge) {
-            tokens.expect_keyword(Keyword::Merge)?;
+        if tokens.eat_keyword(Keyword::Merge) {
             let path = Paths { alloc, depth }.read(tokens)?;
             return Ok(Clause::Merge(path, pieces(alloc, &Events { alloc, depth }, tokens)?));
         }
-        if tokens.sees_keyword(Keyword::Set) {
-            tokens.expect_keyword(Keyword::Set)?;
+        if tokens.eat_keyword(Keyword::Set) {
             return Ok(Clause::Set(separated(alloc, &SetItems { alloc, depth }, tokens)?));
         }
-        if tokens.sees_keyword(Keyword::Remove) {
-            tokens.expect_keyword(Keyword::Remove)?;
+        if tokens.eat_keyword(Keyword::Remove) {
             return Ok(Clause::Remove(separated(alloc, &RemoveItems { alloc }, tokens)?));
         }
         let is_detach = tokens.eat_keyword(Keyword::Detach);

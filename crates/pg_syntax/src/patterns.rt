@@ -133,7 +133,7 @@ fn range_if_any(tokens: &mut Tokens<'_, '_>) -> Result<Option<Range>, ParseError
     Ok(Some(Range { lower, dots, upper }))
 }
 
-#[tactic(auto, unfolding(pg_meaning::specs::Parse::detail))]
+#[tactic(auto, unfolding(pg_meaning::specs::Parse::detail, pg_meaning::specs::Parse::symbol, pg_meaning::specs::Parse::eat_symbol))]
 fn detail_if_any(
     alloc: Global,
     tokens: &mut Tokens<'_, '_>,
@@ -141,10 +141,9 @@ fn detail_if_any(
 ) -> Result<Option<Detail>, ParseError>
     ensures { Gives (option_map detail_view) (parse.maybe (parse.sees_symbol s.OpenBracket) (parse.detail (parse.expr depth)) (tokens_view tokens.old.rest.now)) result tokens.new.rest.now }
 {
-    if !tokens.sees(Symbol::OpenBracket) {
+    if !tokens.eat(Symbol::OpenBracket) {
         return Ok(None);
     }
-    tokens.expect(Symbol::OpenBracket)?;
     let variable = variable(alloc, tokens)?;
     let types = types_if_any(alloc, tokens)?;
     let range = range_if_any(tokens)?;

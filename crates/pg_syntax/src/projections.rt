@@ -11,7 +11,7 @@ ghost use Rattle.pg_syntax_expressions.specs.ShrinksExpressions.{expr_shrinks};
 ghost use Rattle.pg_syntax.specs.ShrinksClauses.{item_shrinks, sort_item_shrinks};
 ghost use Rattle.pg_syntax_tree.specs.View.{name_view, expression_view, item_view, sort_item_view, projection_view, clause_view};
 
-use crate::clauses::{alias, expression_behind};
+use crate::clauses::expression_behind;
 use pg_lex::{Lexeme, Token};
 use pg_meaning::{Keyword, Sort, Symbol};
 use pg_syntax_expressions::expression;
@@ -44,13 +44,14 @@ fn source_of(alloc: Global, text: &str, start: usize, finish: usize) -> Result<S
     Ok(String::from_str(alloc, source)?)
 }
 
+#[tactic(auto, unfolding(pg_meaning::specs::Parse::keyword, pg_meaning::specs::Parse::eat_keyword))]
 fn alias_if_any(alloc: Global, tokens: &mut Tokens<'_, '_>) -> Result<Option<Name>, ParseError>
     ensures { Gives (option_map name_view) (parse.maybe (parse.sees_keyword k.As) parse.alias (tokens_view tokens.old.rest.now)) result tokens.new.rest.now }
 {
-    if !tokens.sees_keyword(Keyword::As) {
+    if !tokens.eat_keyword(Keyword::As) {
         return Ok(None);
     }
-    Ok(Some(alias(alloc, tokens)?))
+    Ok(Some(tokens.var(alloc)?))
 }
 
 /// Whether WITH may have it as an item.

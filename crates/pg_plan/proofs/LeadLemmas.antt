@@ -37,15 +37,6 @@ of_and x ((_, e) ∷ os) h = absurd cc
 
 -- ---- n.k
 
-pub pair_both : {a b : Option (List ℕ)} {n k : List ℕ} → Some n ≡ a → Some k ≡ b → Some (n, k) ≡ pair_of a b
-pair_both {a} {b} {n} {k} e h = ap (pair_of (Some n)) h ∙ ap (λ v. pair_of v b) e
-
-pub pair_left : {a : Option (List ℕ)} (b : Option (List ℕ)) → None ≡ a → None ≡ pair_of a b
-pair_left b e = ap (λ v. pair_of v b) e
-
-pub pair_right : {a b : Option (List ℕ)} {n : List ℕ} → Some n ≡ a → None ≡ b → None ≡ pair_of a b
-pair_right {a} {b} {n} e h = ap (pair_of (Some n)) h ∙ ap (λ v. pair_of v b) e
-
 pub labelled : (x : tree.Expression) (xs : List (Suffix tree.Expression)) (ls : List Label) → 1 ≤ length ls → None ≡ property_of x xs (names_view ls)
 labelled x xs [] h = absurd (omega (arith, h))
 labelled x xs (l ∷ ls) h = refl

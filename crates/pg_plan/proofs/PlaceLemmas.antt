@@ -60,13 +60,6 @@ some_nodes {names} {new} {old} {ns} {rest} {all} left more = record {
       ∙ ap (λ b. b || is_among names name) (sym (names_joined ns rest name)) ∙ left.is name;
 }
 
-pub first_and_hops : {named new old : Names} {n : NodePattern} {ns : List NodePattern} → HasSame named (with_variable n.variable old) → HasMore named ns new → HasMore old (n ∷ ns) new
-first_and_hops {named} {new} {old} {n} {ns} s more = record {
-  is = λ name. more.is name ∙ ap (λ b. is_among (plans.node_names ns) name || b) (s.is name ∙ with_one n.variable old name)
-      ∙ or_turned (is_among (plans.node_names ns) name) (stands n.variable name) (is_among old name)
-      ∙ ap (λ b. b || is_among old name) (sym (added_one n.variable (plans.node_names ns) name));
-}
-
 pub all_left : (old : Names) (all : List NodePattern) → AreLeft old all old all
 all_left old all = record { is = λ name. refl }
 

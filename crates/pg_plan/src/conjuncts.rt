@@ -1,24 +1,12 @@
 //! The top-level conjuncts of a condition.
-ghost use Rattle.std.specs.Prelude.{◌≡◌, [], ◌∷◌, ◌++◌, IfOk, OnOk, option_map};
-ghost use Rattle.pg_meaning.specs.Conditions.{conjuncts, conjuncts_of};
+ghost use Rattle.std.specs.Prelude.{◌≡◌, [], ◌∷◌, IfOk, option_map};
+ghost use Rattle.pg_meaning.specs.Conditions.{conjuncts_of};
 ghost use Rattle.pg_syntax_tree.specs.View.{expression_view};
 ghost use Rattle.pg_plan.specs.Leads.{expressions_in, operands_in, is_and};
 
 use pg_meaning::Operator;
 use pg_syntax_tree::Expression;
 use std::alloc::{AllocError, Global};
-
-fn push_operands<'a>(
-    conjuncts: &mut Vec<&'a Expression>,
-    operands: &'a Vec<(Operator, Expression)>,
-) -> Result<(), AllocError>
-    ensures { OnOk result (expressions_in conjuncts.new.items ≡ expressions_in conjuncts.old.items ++ operands_in operands.now.items) }
-{
-    for (_, operand) in operands {
-        conjuncts.push(operand)?;
-    }
-    Ok(())
-}
 
 /// Whether the operators of a chain are AND; those of one chain are of one level.
 fn are_and(operands: &Vec<(Operator, Expression)>) -> bool
@@ -39,7 +27,9 @@ fn all_operands<'a>(
 {
     let mut conjuncts = Vec::new(alloc);
     conjuncts.push(first)?;
-    push_operands(&mut conjuncts, operands)?;
+    for (_, operand) in operands {
+        conjuncts.push(operand)?;
+    }
     Ok(conjuncts)
 }
 
@@ -51,9 +41,16 @@ fn alone(alloc: Global, condition: &Expression) -> Result<Vec<&Expression>, Allo
     Ok(conjuncts)
 }
 
-fn conjuncts_in(alloc: Global, condition: &Expression) -> Result<Vec<&Expression>, AllocError>
-    ensures { IfOk result (λ es. expressions_in es.items ≡ conjuncts (expression_view condition.now)) }
+/// The operands of an AND that is the whole condition, or else the whole condition.
+pub(crate) fn conjuncts_of<'a>(
+    alloc: Global,
+    condition: &'a Option<Expression>,
+) -> Result<Vec<&'a Expression>, AllocError>
+    ensures { IfOk result (λ es. expressions_in es.items ≡ conjuncts_of (option_map expression_view condition.now)) }
 {
+    let Some(condition) = condition else {
+        return Ok(Vec::new(alloc));
+    };
     match condition {
         Expression::Chain(first, operands) => {
             if are_and(operands) {
@@ -63,18 +60,5 @@ fn conjuncts_in(alloc: Global, condition: &Expression) -> Result<Vec<&Expression
             }
         }
         _ => alone(alloc, condition),
-    }
-}
-
-/// The operands of an AND that is the whole condition, or else the whole condition.
-pub(crate) fn conjuncts_of<'a>(
-    alloc: Global,
-    condition: &'a Option<Expression>,
-) -> Result<Vec<&'a Expression>, AllocError>
-    ensures { IfOk result (λ es. expressions_in es.items ≡ conjuncts_of (option_map expression_view condition.now)) }
-{
-    match condition {
-        Some(condition) => conjuncts_in(alloc, condition),
-        None => Ok(Vec::new(alloc)),
     }
 }

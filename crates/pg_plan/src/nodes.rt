@@ -3,11 +3,11 @@ ghost use Rattle.std.specs.Prelude.{◌≡◌, map, flat_map, IfOk, OnOk};
 ghost use Rattle.pg_meaning.specs.Patterns.{nodes_of};
 ghost use Rattle.pg_meaning.specs.Plans as spec;
 ghost use Rattle.pg_scope.specs.Names.{names_in};
-ghost use Rattle.pg_syntax_tree.specs.View.{hop_view, path_view};
-ghost use Rattle.pg_plan.specs.Places.{nodes_in, hop_nodes, HasMore, HasNames};
+ghost use Rattle.pg_syntax_tree.specs.View.{path_view};
+ghost use Rattle.pg_plan.specs.Places.{nodes_in, HasMore, HasNames};
 
 use pg_scope::{Names, add_variable};
-use pg_syntax_tree::{NodePattern, PathPattern, RelationshipPattern};
+use pg_syntax_tree::{NodePattern, PathPattern};
 use std::alloc::{AllocError, Global};
 use std::collections::BTreeSet;
 
@@ -26,23 +26,14 @@ pub(crate) fn nodes_of<'a>(
     Ok(nodes)
 }
 
-fn add_hop_nodes<'a>(
-    names: &mut Names<'a>,
-    hops: &'a Vec<(RelationshipPattern, NodePattern)>,
-) -> Result<(), AllocError>
-    ensures { OnOk result (HasMore (names_in names.old) (hop_nodes hops.now.items) (names_in names.new)) }
-{
-    for (_, node) in hops {
-        add_variable(names, &node.variable)?;
-    }
-    Ok(())
-}
-
 fn add_path_nodes<'a>(names: &mut Names<'a>, path: &'a PathPattern) -> Result<(), AllocError>
     ensures { OnOk result (HasMore (names_in names.old) (nodes_of (path_view path.now)) (names_in names.new)) }
 {
     add_variable(names, &path.first.variable)?;
-    add_hop_nodes(names, &path.hops)
+    for (_, node) in &path.hops {
+        add_variable(names, &node.variable)?;
+    }
+    Ok(())
 }
 
 /// The variables of all nodes of the paths.

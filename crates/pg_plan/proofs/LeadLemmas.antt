@@ -17,7 +17,7 @@ use Rattle.pg_syntax_tree.specs.declared.expression.Expression.{Expression as Co
 use Rattle.pg_syntax_tree.specs.declared.expression.Name.{Name as Label}
 use Rattle.pg_syntax_tree.specs.declared.expression.Suffix.{Suffix}
 use Rattle.pg_syntax_tree.specs.declared.expression.Suffix.TheVariants as suffix
-use Rattle.pg_plan.specs.Leads.{operands_in, is_and, only_key, pair_of, property_of, property_in, is_equality, right_side, fixed_to, fixed_in, new_of, then_leads, leads_from}
+use Rattle.pg_plan.specs.Leads.{operands_in, is_and, only_key, property_of, property_in, is_equality, right_side, fixed_to, fixed_in, new_of, then_leads, leads_from}
 
 pub several_suffixes : (xs : List (Suffix Code)) → 2 ≤ length xs → None ≡ only_key (map suffix_view xs)
 several_suffixes [] h = absurd (omega (arith, h))

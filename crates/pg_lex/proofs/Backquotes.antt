@@ -1,5 +1,5 @@
 -- Names in backquotes.
-use Rattle.std.proofs.Common.{◌≡◌, ℕ, Bool, true, false, cond, eqb, List, [], ◌∷◌, ◌++◌, Option, Some, None, refl, sym, ap, ◌∙◌, append_assoc, encode_utf8, length, length-append, arith}
+use Rattle.std.proofs.Common.{◌≡◌, ℕ, Bool, true, false, cond, eqb, List, [], ◌∷◌, ◌++◌, Option, Some, None, refl, sym, ap, ◌∙◌, append_assoc, append-nil, encode_utf8, length, length-append, arith}
 use Rattle.std.proofs.lemmas.Bool.{eqb-true}
 use Rattle.std.proofs.lemmas.Str.{length-encode, len_utf8_bounds}
 use Rattle.pg_meaning.specs.Tokens.{Front, quoted_from, put, named, Lexeme, is_empty, utf8, utf8_of}
@@ -36,7 +36,16 @@ quoted_more t n r b m c o h e f g =
     let step : quoted_from false r ≡ put c (quoted_from false m) = ap (quoted_from false) e ∙ quoted_step c b ∙ ap (λ (x : Option (List ℕ)). one_more c x b) f in
     rw g (sym (behind_put t c (quoted_from false m)) ∙ ap (behind_text t) (sym step) ∙ h)
 
+pub ended : (t r b : List ℕ) (c : ℕ) (o : Front (List ℕ)) → behind_text t (quoted_from false r) ≡ behind_text [] o → r ≡ c ∷ b → past_front c b ≡ None → behind_text [] o ≡ Some (t, b)
+ended t r b c o h e f =
+    let step : quoted_from false r ≡ Some ([], b) = ap (quoted_from false) e ∙ quoted_step c b ∙ ap (λ (x : Option (List ℕ)). one_more c x b) f in
+    sym h ∙ ap (behind_text t) step ∙ ap (λ (l : List ℕ). both l b) (append-nil t)
+
 -- ---- at least one character
+
+pub unended : (t r : List ℕ) (o : Front (List ℕ)) → behind_text t (quoted_from false r) ≡ behind_text [] o → r ≡ [] → behind_text [] (nonempty o) ≡ None
+unended t r None h e = refl
+unended t r (Some p) h e = let bad = sym (ap (λ (l : List ℕ). behind_text t (quoted_from false l)) e) ∙ h in absurd cc
 
 empty_short : (l : List ℕ) → length l ≡ 0 → is_empty l ≡ true
 empty_short [] h = refl

@@ -1,4 +1,5 @@
 pub mod Backquotes
+pub mod Classed
 pub mod Classes
 pub mod Comes
 pub mod Comments

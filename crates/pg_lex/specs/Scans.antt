@@ -93,17 +93,11 @@ natural_of (c ∷ cs) = if not (c == 48) || is_empty cs then small_value (c ∷ 
 abbrev pub value : Natural → ℕ
 value n = n.value
 
-abbrev pub bytes : Bor (List ℕ) → List ℕ
-bytes text = text.now
-
 abbrev pub content : String Global → List ℕ
 content text = string_bytes text
 
 abbrev pub same : ℕ → ℕ
 same c = c
-
-abbrev pub same_symbol : Symbol → Symbol
-same_symbol x = x
 
 -- a symbol of one sign
 abbrev pub sign_of : ℕ → Option Symbol

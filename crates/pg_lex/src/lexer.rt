@@ -7,17 +7,19 @@ ghost use Rattle.pg_lex.specs.View.{next_view, lexeme_view, tokens_view};
 
 use crate::class::class;
 use crate::gaps::slash;
-use crate::names::{quoted_name, quoted_parameter};
-use crate::numbers::{digits_parameter, integer};
-use crate::strings::string;
+use crate::keywords::keyword_of;
+use crate::names::name;
+use crate::numbers::{after_digits, integer};
+use crate::strings::content;
 use crate::symbols::symbol;
-use crate::text::split_first;
+use crate::text::{before, split_first};
 use crate::token::{Class, Lexeme, Next, Token};
-use crate::words::{word_lexeme, word_parameter};
+use crate::words::after_word;
 use pg_meaning::Fault;
 use std::alloc::{AllocError, Global};
 
 /// The parameter behind a dollar.
+#[tactic(auto, using(crate::proofs::Backquotes::named_some, crate::proofs::Backquotes::named_none))]
 fn parameter(alloc: Global, text: &str) -> Result<Option<(Lexeme<'_>, &str)>, AllocError>
     ensures { IfOk result (λ o. scan.Fronts lexeme_view (spec.parameter_at (spec.characters text.now)) o) }
 {
@@ -25,14 +27,26 @@ fn parameter(alloc: Global, text: &str) -> Result<Option<(Lexeme<'_>, &str)>, Al
         return Ok(None);
     };
     match class(first) {
-        Class::Letter => Ok(word_parameter(text)),
-        Class::Digit => Ok(digits_parameter(text)),
-        Class::Backquote => quoted_parameter(alloc, behind),
+        Class::Letter => {
+            let rest = after_word(behind);
+            let word = before(text, rest);
+            Ok(Some((Lexeme::Parameter(word), rest)))
+        }
+        Class::Digit => {
+            let rest = after_digits(behind);
+            let digits = before(text, rest);
+            Ok(Some((Lexeme::Parameter(digits), rest)))
+        }
+        Class::Backquote => match name(alloc, behind)? {
+            Some((name, rest)) => Ok(Some((Lexeme::QuotedParameter(name), rest))),
+            None => Ok(None),
+        },
         _ => Ok(None),
     }
 }
 
 /// The lexeme at the front of a text.
+#[tactic(auto, using(crate::proofs::Backquotes::named_some, crate::proofs::Backquotes::named_none))]
 fn lexeme(alloc: Global, text: &str) -> Result<Option<(Lexeme<'_>, &str)>, AllocError>
     ensures { IfOk result (λ o. scan.Fronts lexeme_view (spec.lexeme_at (spec.characters text.now)) o) }
 {
@@ -40,10 +54,23 @@ fn lexeme(alloc: Global, text: &str) -> Result<Option<(Lexeme<'_>, &str)>, Alloc
         return Ok(None);
     };
     match class(first) {
-        Class::Letter => Ok(word_lexeme(text)),
+        Class::Letter => {
+            let rest = after_word(behind);
+            let word = before(text, rest);
+            match keyword_of(word) {
+                Some(keyword) => Ok(Some((Lexeme::Keyword(keyword, word), rest))),
+                None => Ok(Some((Lexeme::Word(word), rest))),
+            }
+        }
         Class::Digit => Ok(integer(text)),
-        Class::Backquote => quoted_name(alloc, behind),
-        Class::Quotation => string(alloc, first, behind),
+        Class::Backquote => match name(alloc, behind)? {
+            Some((name, rest)) => Ok(Some((Lexeme::QuotedName(name), rest))),
+            None => Ok(None),
+        },
+        Class::Quotation => match content(alloc, first, behind)? {
+            Some((content, rest)) => Ok(Some((Lexeme::Text(content), rest))),
+            None => Ok(None),
+        },
         Class::Dollar => parameter(alloc, behind),
         Class::Other => Ok(symbol(text)),
     }

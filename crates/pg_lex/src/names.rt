@@ -3,10 +3,8 @@
 ghost use Rattle.std.specs.Prelude.{◌≡◌, ◌≤◌, IfOk, IfSome, [], length, false, true};
 ghost use Rattle.pg_meaning.specs.Tokens as spec;
 ghost use Rattle.pg_lex.specs.Scans as scan;
-ghost use Rattle.pg_lex.specs.View.{lexeme_view};
 
 use crate::text::split_first;
-use crate::token::Lexeme;
 use std::alloc::{AllocError, Global};
 
 /// The text behind a character in backquotes, of which a backquote is written twice. None is the end of the name.
@@ -23,59 +21,22 @@ fn past(first: char, behind: &str) -> Option<&str>
     }
 }
 
-/// What stands in backquotes, behind the first of them, and the text behind the last.
-fn quoted(alloc: Global, text: &str) -> Result<Option<(String, &str)>, AllocError>
-    ensures { IfOk result (λ o. scan.Fronts scan.content (scan.behind_text [] (spec.quoted_from false (spec.characters text.now))) o) }
+/// What stands in backquotes, behind the first of them, and the text behind the last, where it is at least one character.
+#[tactic(auto, using(crate::proofs::Backquotes::unended))]
+pub(crate) fn name(alloc: Global, text: &str) -> Result<Option<(String, &str)>, AllocError>
+    ensures { IfOk result (λ o. scan.Fronts scan.content (scan.behind_text [] (scan.nonempty (spec.quoted_from false (spec.characters text.now)))) o) }
 {
     let mut name = String::new(alloc);
     let mut rest = text;
     while let Some((first, behind)) = split_first(rest) {
         let Some(more) = past(first, behind) else {
+            if name.is_empty() {
+                return Ok(None);
+            }
             return Ok(Some((name, behind)));
         };
         name.push(first)?;
         rest = more;
     }
     Ok(None)
-}
-
-/// The same where it is at least one character.
-fn name(alloc: Global, text: &str) -> Result<Option<(String, &str)>, AllocError>
-    ensures { IfOk result (λ o. scan.Fronts scan.content (scan.behind_text [] (scan.nonempty (spec.quoted_from false (spec.characters text.now)))) o) }
-{
-    let Some((name, rest)) = quoted(alloc, text)? else {
-        return Ok(None);
-    };
-    if name.is_empty() {
-        return Ok(None);
-    }
-    Ok(Some((name, rest)))
-}
-
-/// The quoted name behind its first backquote.
-#[tactic(auto, using(crate::proofs::Backquotes::named_some, crate::proofs::Backquotes::named_none))]
-pub(crate) fn quoted_name(
-    alloc: Global,
-    text: &str,
-) -> Result<Option<(Lexeme<'_>, &str)>, AllocError>
-    ensures { IfOk result (λ o. scan.Fronts lexeme_view (spec.named spec.quoted_name (spec.quoted_from false (spec.characters text.now))) o) }
-{
-    match name(alloc, text)? {
-        Some((name, rest)) => Ok(Some((Lexeme::QuotedName(name), rest))),
-        None => Ok(None),
-    }
-}
-
-/// The parameter behind its dollar and a first backquote.
-#[tactic(auto, using(crate::proofs::Backquotes::named_some, crate::proofs::Backquotes::named_none))]
-pub(crate) fn quoted_parameter(
-    alloc: Global,
-    text: &str,
-) -> Result<Option<(Lexeme<'_>, &str)>, AllocError>
-    ensures { IfOk result (λ o. scan.Fronts lexeme_view (spec.named (spec.parameter true) (spec.quoted_from false (spec.characters text.now))) o) }
-{
-    match name(alloc, text)? {
-        Some((name, rest)) => Ok(Some((Lexeme::QuotedParameter(name), rest))),
-        None => Ok(None),
-    }
 }

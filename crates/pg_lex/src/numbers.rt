@@ -12,7 +12,7 @@ use crate::token::{Lexeme, Natural};
 const GREATEST: u64 = 9223372036854775807;
 
 /// The text behind the digits at its front.
-fn after_digits(text: &str) -> &str
+pub(crate) fn after_digits(text: &str) -> &str
     ensures { spec.characters result.now ≡ spec.after spec.is_digit (spec.characters text.now) }
 {
     let mut rest = text;
@@ -23,16 +23,6 @@ fn after_digits(text: &str) -> &str
         rest = behind;
     }
     rest
-}
-
-/// The digits at the front.
-fn digits(text: &str) -> Option<(&str, &str)>
-    requires { spec.Starts spec.is_digit (spec.characters text.now) ≡ true }
-    ensures { scan.Fronts scan.bytes (scan.digits_front (spec.characters text.now)) result }
-{
-    let (_first, behind) = split_first(text)?;
-    let rest = after_digits(behind);
-    Some((before(text, rest), rest))
 }
 
 /// The value of digits, unless it is too large.
@@ -74,18 +64,11 @@ pub(crate) fn integer(text: &str) -> Option<(Lexeme<'_>, &str)>
     requires { spec.Starts spec.is_digit (spec.characters text.now) ≡ true }
     ensures { scan.Fronts lexeme_view (scan.integer_front (spec.characters text.now)) result }
 {
-    let (digits, rest) = digits(text)?;
+    let (_first, behind) = split_first(text)?;
+    let rest = after_digits(behind);
     if word_follows(rest) {
         return None;
     }
+    let digits = before(text, rest);
     Some((Lexeme::Integer(numeral(digits.as_bytes())?), rest))
-}
-
-/// A parameter behind its dollar, of which the name is digits.
-pub(crate) fn digits_parameter(text: &str) -> Option<(Lexeme<'_>, &str)>
-    requires { spec.Starts spec.is_digit (spec.characters text.now) ≡ true }
-    ensures { scan.Fronts lexeme_view (scan.parameter_front (scan.digits_front (spec.characters text.now))) result }
-{
-    let (name, rest) = digits(text)?;
-    Some((Lexeme::Parameter(name), rest))
 }

@@ -3,10 +3,8 @@
 ghost use Rattle.std.specs.Prelude.{◌≡◌, ◌<◌, ◌≤◌, IfOk, IfSome, [], length};
 ghost use Rattle.pg_meaning.specs.Tokens as spec;
 ghost use Rattle.pg_lex.specs.Scans as scan;
-ghost use Rattle.pg_lex.specs.View.{lexeme_view};
 
 use crate::text::split_first;
-use crate::token::Lexeme;
 use std::alloc::{AllocError, Global};
 
 fn hexadecimal(text: &str) -> Option<(u32, &str)>
@@ -78,7 +76,11 @@ fn meant(first: char, behind: &str) -> Option<(char, &str)>
 }
 
 /// The content of a string behind its first quote, and the text behind its last.
-fn content(alloc: Global, quote: char, text: &str) -> Result<Option<(String, &str)>, AllocError>
+pub(crate) fn content(
+    alloc: Global,
+    quote: char,
+    text: &str,
+) -> Result<Option<(String, &str)>, AllocError>
     ensures { IfOk result (λ o. scan.Fronts scan.content (scan.behind_text [] (spec.string_from quote spec.outside (spec.characters text.now))) o) }
 {
     let mut content = String::new(alloc);
@@ -94,18 +96,4 @@ fn content(alloc: Global, quote: char, text: &str) -> Result<Option<(String, &st
         rest = more;
     }
     Ok(None)
-}
-
-/// The string behind its first quote.
-pub(crate) fn string(
-    alloc: Global,
-    quote: char,
-    text: &str,
-) -> Result<Option<(Lexeme<'_>, &str)>, AllocError>
-    ensures { IfOk result (λ o. scan.Fronts lexeme_view (spec.made spec.string (spec.string_from quote spec.outside (spec.characters text.now))) o) }
-{
-    match content(alloc, quote, text)? {
-        Some((content, rest)) => Ok(Some((Lexeme::Text(content), rest))),
-        None => Ok(None),
-    }
 }

@@ -49,22 +49,15 @@ fn pair_of(c: char, d: char) -> Option<Symbol>
     }
 }
 
-/// The pair of signs at the front.
-fn pair(text: &str) -> Option<(Symbol, &str)>
-    ensures { scan.Fronts scan.same_symbol (scan.pair_front (spec.characters text.now)) result }
-{
-    let (first, behind) = split_first(text)?;
-    let (second, rest) = split_first(behind)?;
-    Some((pair_of(first, second)?, rest))
-}
-
 /// The longest symbol at the front.
 pub(crate) fn symbol(text: &str) -> Option<(Lexeme<'_>, &str)>
     ensures { scan.Fronts lexeme_view (spec.symbol_among spec.symbols (spec.characters text.now)) result }
 {
-    if let Some((symbol, rest)) = pair(text) {
-        return Some((Lexeme::Symbol(symbol), rest));
-    }
     let (first, behind) = split_first(text)?;
+    if let Some((second, rest)) = split_first(behind) {
+        if let Some(symbol) = pair_of(first, second) {
+            return Some((Lexeme::Symbol(symbol), rest));
+        }
+    }
     Some((Lexeme::Symbol(sign_of(first)?), behind))
 }

@@ -1,4 +1,4 @@
-use Rattle.std.proofs.Common.{◌≡◌, ℕ, map, drop}
+use Rattle.std.proofs.Common.{◌≡◌, map, drop}
 use Rattle.std.specs.Str.{str_to_ascii_lowercase}
 use Rattle.pg_meaning.specs.Tokens as spec
 use Rattle.pg_lex.proofs.keywords.keyword_among.Given as goal

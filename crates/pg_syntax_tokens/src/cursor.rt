@@ -18,24 +18,11 @@ pub struct Tokens<'t, 'a> {
 }
 
 #[tactic(auto, unfolding(pg_meaning::specs::Parse::same_symbol))]
-fn same_symbol(a: Symbol, b: Symbol) -> bool
-    ensures { result ≡ spec.same_symbol a b }
-{
-    a == b
-}
-
-#[tactic(auto, unfolding(pg_meaning::specs::Parse::same_keyword))]
-fn same_keyword(a: Keyword, b: Keyword) -> bool
-    ensures { result ≡ spec.same_keyword a b }
-{
-    a == b
-}
-
 pub(crate) fn is_symbol(lexeme: &Lexeme<'_>, symbol: Symbol) -> bool
     ensures { result ≡ spec.is_symbol symbol (lexeme_view lexeme.now) }
 {
     match lexeme {
-        Lexeme::Symbol(found) => same_symbol(*found, symbol),
+        Lexeme::Symbol(found) => *found == symbol,
         _ => false,
     }
 }
@@ -59,13 +46,14 @@ impl<'t, 'a> Tokens<'t, 'a> {
         }
     }
 
+    #[tactic(auto, unfolding(pg_meaning::specs::Parse::same_keyword))]
     pub fn sees_keyword(&self, keyword: Keyword) -> bool
         ensures { result ≡ spec.sees_keyword keyword (tokens_view self.now.rest.now) }
     {
         match self.rest {
             [] => false,
             [token, ..] => match token.lexeme {
-                Lexeme::Keyword(found, _) => same_keyword(found, keyword),
+                Lexeme::Keyword(found, _) => found == keyword,
                 _ => false,
             },
         }

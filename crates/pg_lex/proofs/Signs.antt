@@ -4,6 +4,7 @@ use Rattle.std.proofs.lemmas.Bool.{eqb-true, eqb-false, eq-eqb, ne_eqb}
 use Rattle.pg_meaning.specs.declared.lexemes.Symbol.{Symbol}
 use Rattle.pg_meaning.specs.declared.lexemes.Symbol.TheVariants as s
 use Rattle.pg_meaning.specs.Tokens.{Front, Lexeme, symbol, symbols, symbol_text, symbol_among, behind}
+use Rattle.pg_lex.proofs.Pairs.{both, same_pair}
 use Rattle.pg_lex.specs.Scans.{with_rest, sign_of, pair_of, pair_front}
 
 eqb_sym : (a b : ℕ) → eqb a b ≡ eqb b a
@@ -95,6 +96,15 @@ sign_alone c = alone pairs (map (λ p. p.1) signs) c (refl, (refl, (refl, (refl,
 
 -- ---- the longest
 
+pair_found : (cs more : List ℕ) (x : Symbol) → pair_front cs ≡ both x more → symbol_among symbols cs ≡ Some (symbol x, more)
+pair_found [] more x e = absurd cc
+pair_found (c ∷ []) more x e = absurd cc
+pair_found (c ∷ d ∷ cs) more x e = pairs_same c d cs ∙ at (pair_of c d) e
+  where
+    at : (o : Option Symbol) → with_rest cs o ≡ both x more → found_or cs (found (d ∷ cs) (sign_of c)) o ≡ Some (symbol x, more)
+    at None h = absurd cc
+    at (Some y) h = let p = same_pair y x cs more h in rw (p.0, p.1) refl
+
 no_pair : (cs b : List ℕ) (c : ℕ) → cs ≡ c ∷ b → pair_front cs ≡ None → symbol_among symbols cs ≡ found b (sign_of c)
 no_pair cs [] c e h = ap (λ (l : List ℕ). symbol_among symbols l) e ∙ sign_alone c
 no_pair cs (d ∷ b) c e h = ap (λ (l : List ℕ). symbol_among symbols l) e ∙ pairs_same c d b ∙ at (pair_of c d) (sym (ap pair_front e) ∙ h)
@@ -111,3 +121,6 @@ sign_alone_stands cs b c e f = rw (e, f) refl
 
 pub no_pair_stands : (cs b more : List ℕ) (c d : ℕ) → cs ≡ c ∷ b → b ≡ d ∷ more → None ≡ pair_of c d → pair_front cs ≡ None
 no_pair_stands cs b more c d e f h = rw (e, f) (ap (λ (o : Option Symbol). with_rest more o) (sym h))
+
+pub pair_stands : (cs b more : List ℕ) (c d : ℕ) (x : Symbol) → cs ≡ c ∷ b → b ≡ d ∷ more → Some x ≡ pair_of c d → symbol_among symbols cs ≡ Some (symbol x, more)
+pair_stands cs b more c d x e f h = pair_found cs more x (rw (e, f) (ap (λ (o : Option Symbol). with_rest more o) (sym h)))

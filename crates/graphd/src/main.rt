@@ -33,60 +33,45 @@ fn main(rt: HostRuntime) -> ExitCode {
 fn run_words(rt: &HostRuntime) -> Result<End, ProgramFault> {
     let words: Vec<String> = env::args(rt)?.skip(1).collect(rt.alloc())?;
     match command_of(&words) {
-        Some(Command::Run { config }) => serve_standard(rt, new_server(rt, config)?),
-        Some(
-            Command::Serve {
-                config,
-                port,
-                count,
-            },
-        ) => serve_port(rt, new_server(rt, config)?, port, count),
+        Some(command) => serve(rt, command),
         None => Err(ProgramFault::Usage),
     }
 }
 
-/// A server of the configuration at a path. Its memory is left to the end of the process: to let go
-/// of each record would only take time.
-fn new_server(
-    rt: &HostRuntime,
-    path: &str,
-) -> Result<ManuallyDrop<Server<RandomState, PooledTables<IndexedTexts>>>, ProgramFault> {
-    let bytes = read_file(rt, path)?;
-    let config = Config::read(rt.alloc(), &bytes)?;
+/// Serves standard input to standard output until its end, or so many connections at a port of this machine.
+fn serve(rt: &HostRuntime, command: Command<'_>) -> Result<End, ProgramFault> {
+    let path = match command {
+        Command::Run { config } => config,
+        Command::Serve { config, .. } => config,
+    };
+    let config = read_config(rt, path)?;
     let Ok(hasher) = RandomState::new(rt) else {
         return Err(ProgramFault::NoRandomNumbers);
     };
-    Ok(ManuallyDrop::new(Server::new(rt.alloc(), config, hasher)?))
-}
-
-fn read_file(rt: &HostRuntime, path: &str) -> Result<Vec<u8>, ProgramFault> {
-    match fs::read(rt, path) {
-        Ok(bytes) => Ok(bytes),
-        Err(e) if e.kind() == io::ErrorKind::OutOfMemory => Err(ProgramFault::OutOfMemory),
-        Err(_) => Err(ProgramFault::Unreadable),
+    // Its memory is left to the end of the process: to let go of each record would only take time.
+    let mut server: ManuallyDrop<Server<RandomState, PooledTables<IndexedTexts>>> =
+        ManuallyDrop::new(Server::new(rt.alloc(), config, hasher)?);
+    match command {
+        Command::Run { .. } => {
+            let mut reader = Counted::new(BufReader::new(rt.alloc(), rt.reader())?);
+            let mut writer = Counted::new(io::writer(rt));
+            Ok(server.run(&mut reader, &mut writer, u64::MAX))
+        }
+        Command::Serve { port, count, .. } => {
+            let Ok(listener) = TcpListener::bind(rt, (Ipv4Addr::LOCALHOST, port)) else {
+                return Err(ServeFault::Accept.into());
+            };
+            serve_on(&listener, &mut server, count)?;
+            Ok(End::Done)
+        }
     }
 }
 
-/// Serves standard input to standard output, until its end.
-fn serve_standard(
-    rt: &HostRuntime,
-    mut server: ManuallyDrop<Server<RandomState, PooledTables<IndexedTexts>>>,
-) -> Result<End, ProgramFault> {
-    let mut reader = Counted::new(BufReader::new(rt.alloc(), rt.reader())?);
-    let mut writer = Counted::new(io::writer(rt));
-    Ok(server.run(&mut reader, &mut writer, u64::MAX))
-}
-
-/// Serves so many connections at a port of this machine.
-fn serve_port(
-    rt: &HostRuntime,
-    mut server: ManuallyDrop<Server<RandomState, PooledTables<IndexedTexts>>>,
-    port: u16,
-    count: u64,
-) -> Result<End, ProgramFault> {
-    let Ok(listener) = TcpListener::bind(rt, (Ipv4Addr::LOCALHOST, port)) else {
-        return Err(ServeFault::Accept.into());
-    };
-    serve_on(&listener, &mut server, count)?;
-    Ok(End::Done)
+/// The configuration at a path.
+fn read_config(rt: &HostRuntime, path: &str) -> Result<Config, ProgramFault> {
+    match fs::read(rt, path) {
+        Ok(bytes) => Ok(Config::read(rt.alloc(), &bytes)?),
+        Err(e) if e.kind() == io::ErrorKind::OutOfMemory => Err(ProgramFault::OutOfMemory),
+        Err(_) => Err(ProgramFault::Unreadable),
+    }
 }

@@ -11,7 +11,6 @@ ghost use Rattle.pg_value_core.specs.Given.{parameters_view};
 ghost use Rattle.pg_value_core.specs.Gives.{Gives};
 ghost use Rattle.pg_write_make.specs.Changed.{Changed};
 
-use crate::updates::{remove_rows, set_rows};
 use pg_graph::Tables;
 use pg_match::match_rows;
 use pg_match_stages::Anchor;
@@ -21,7 +20,7 @@ use pg_rows::Table;
 use pg_store::{Shared, Store};
 use pg_syntax_tree::Clause;
 use pg_value_core::{Fault, Parameters};
-use pg_write::{delete_elements, merge_path};
+use pg_write::{delete_elements, merge_path, remove_items, set_items};
 use pg_write_make::create_paths;
 use std::alloc::Global;
 
@@ -111,8 +110,16 @@ pub(crate) fn run_clause<T: Tables>(
             table,
             meter,
         ),
-        Clause::Set(items) => set_rows(given, items, store, shared, table, meter),
-        Clause::Remove(items) => remove_rows(given, items, store, shared, table, meter),
+        Clause::Set(items) => {
+            let parameters = given.parameters;
+            set_items(given.alloc, items, parameters, store, shared, &table, meter)?;
+            Ok(table)
+        }
+        Clause::Remove(items) => {
+            let parameters = given.parameters;
+            remove_items(given.alloc, items, parameters, store, shared, &table, meter)?;
+            Ok(table)
+        }
         Clause::Delete(is_detach, elements) => delete_elements(
             given.alloc,
             *is_detach,

@@ -13,7 +13,6 @@ mod spelling;
 mod stored;
 mod tables;
 mod telling;
-mod updates;
 
 pub use clause::Given;
 pub use running::answer_clauses;

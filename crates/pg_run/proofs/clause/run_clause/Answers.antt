@@ -1,4 +1,5 @@
-use Rattle.std.proofs.Common.{◌≡◌, ℕ, List, Result, refl, sym, subst}
+use Rattle.std.proofs.Common.{◌≡◌, ℕ, List, Result, Ok, refl, sym, subst}
+use Rattle.std.proofs.lemmas.Result.{IfOk-from_err}
 use Rattle.std.specs.Prelude.{IfOk}
 use Rattle.pg_meaning.specs.Graph.{Graph}
 use Rattle.pg_meaning.specs.Meters.{Setting, State}
@@ -14,6 +15,7 @@ use Rattle.pg_syntax_tree.specs.View.{clause_view}
 use Rattle.pg_syntax_tree.specs.declared.clauses.Clause.{Clause}
 use Rattle.pg_value_core.specs.Given.{parameters_view}
 use Rattle.pg_value_core.specs.Gives.{Gives}
+use Rattle.pg_write.proofs.ExitLemmas.{gives_fault}
 use Rattle.pg_write_make.proofs.ChangedLemmas.{unchanged}
 use Rattle.pg_run.proofs.clause.run_clause.Goals as goal
 
@@ -121,35 +123,65 @@ returns-in-Merge-clause-limit g c = c.merge_path.ensures.limit
 pub returns-in-Merge-clause-changed : goal.returns-in-Merge-clause-changed
 returns-in-Merge-clause-changed g c = c.merge_path.ensures.changed
 
-pub returns-in-Set-clause-gives : goal.returns-in-Set-clause-gives
-returns-in-Set-clause-gives g c =
+pub returns-in_err-set_items-in-Set-clause-gives : goal.returns-in_err-set_items-in-Set-clause-gives
+returns-in_err-set_items-in-Set-clause-gives g c =
     let s = setting_of (parameters_view c.args.given.now.parameters.now) c.args.meter.now.limit c.args.given.now.max_elements c.args.table.names (anchors_view c.args.anchors.now) in
-    given_of c.args.clause.now _ c.in-Set.is c.set_rows.result s (state_of (graph_of_store g.T.Tables.seen c.args.store.now c.args.shared.now) (seen c.args.table) c.args.meter.now.used) _
-    (c.set_rows.ensures.gives s (suits_own (parameters_view c.args.given.now.parameters.now) c.args.meter.now.limit c.args.given.now.max_elements c.args.table.names (anchors_view c.args.anchors.now)))
+    given_of c.args.clause.now _ c.in-Set.is c.from_residual.result s (state_of (graph_of_store g.T.Tables.seen c.args.store.now c.args.shared.now) (seen c.args.table) c.args.meter.now.used) _
+    (gives_fault c.from_residual.result _ _ _ c.from_residual.ensures.1 (c.in_err-set_items-in-Set.ensures.answer s (suits_own (parameters_view c.args.given.now.parameters.now) c.args.meter.now.limit c.args.given.now.max_elements c.args.table.names (anchors_view c.args.anchors.now))).err)
 
-pub returns-in-Set-clause-names : goal.returns-in-Set-clause-names
-returns-in-Set-clause-names g c = named_of c.args.clause.now _ c.in-Set.is c.set_rows.result c.args.table.names c.set_rows.ensures.names
+pub returns-in_err-set_items-in-Set-clause-names : goal.returns-in_err-set_items-in-Set-clause-names
+returns-in_err-set_items-in-Set-clause-names g c = IfOk-from_err c.from_residual.result (λ t. (seen t).names ≡ scope_after c.args.table.names (clause_view c.args.clause.now)) c.from_residual.ensures.0
 
-pub returns-in-Set-clause-limit : goal.returns-in-Set-clause-limit
-returns-in-Set-clause-limit g c = c.set_rows.ensures.limit
+pub returns-in_err-set_items-in-Set-clause-limit : goal.returns-in_err-set_items-in-Set-clause-limit
+returns-in_err-set_items-in-Set-clause-limit g c = c.set_items.ensures.limit
 
-pub returns-in-Set-clause-changed : goal.returns-in-Set-clause-changed
-returns-in-Set-clause-changed g c = c.set_rows.ensures.changed
+pub returns-in_err-set_items-in-Set-clause-changed : goal.returns-in_err-set_items-in-Set-clause-changed
+returns-in_err-set_items-in-Set-clause-changed g c = c.set_items.ensures.changed
 
-pub returns-in-Remove-clause-gives : goal.returns-in-Remove-clause-gives
-returns-in-Remove-clause-gives g c =
+pub returns-in_ok-set_items-in-Set-clause-gives : goal.returns-in_ok-set_items-in-Set-clause-gives
+returns-in_ok-set_items-in-Set-clause-gives g c =
     let s = setting_of (parameters_view c.args.given.now.parameters.now) c.args.meter.now.limit c.args.given.now.max_elements c.args.table.names (anchors_view c.args.anchors.now) in
-    given_of c.args.clause.now _ c.in-Remove.is c.remove_rows.result s (state_of (graph_of_store g.T.Tables.seen c.args.store.now c.args.shared.now) (seen c.args.table) c.args.meter.now.used) _
-    (c.remove_rows.ensures.gives s (suits_own (parameters_view c.args.given.now.parameters.now) c.args.meter.now.limit c.args.given.now.max_elements c.args.table.names (anchors_view c.args.anchors.now)))
+    given_of c.args.clause.now _ c.in-Set.is (Ok c.args.table) s (state_of (graph_of_store g.T.Tables.seen c.args.store.now c.args.shared.now) (seen c.args.table) c.args.meter.now.used) _
+    (record { ok = (c.in_ok-set_items-in-Set.ensures.answer s (suits_own (parameters_view c.args.given.now.parameters.now) c.args.meter.now.limit c.args.given.now.max_elements c.args.table.names (anchors_view c.args.anchors.now))).ok; err = tt })
 
-pub returns-in-Remove-clause-names : goal.returns-in-Remove-clause-names
-returns-in-Remove-clause-names g c = named_of c.args.clause.now _ c.in-Remove.is c.remove_rows.result c.args.table.names c.remove_rows.ensures.names
+pub returns-in_ok-set_items-in-Set-clause-names : goal.returns-in_ok-set_items-in-Set-clause-names
+returns-in_ok-set_items-in-Set-clause-names g c = named_of c.args.clause.now _ c.in-Set.is (Ok c.args.table) c.args.table.names refl
 
-pub returns-in-Remove-clause-limit : goal.returns-in-Remove-clause-limit
-returns-in-Remove-clause-limit g c = c.remove_rows.ensures.limit
+pub returns-in_ok-set_items-in-Set-clause-limit : goal.returns-in_ok-set_items-in-Set-clause-limit
+returns-in_ok-set_items-in-Set-clause-limit g c = c.set_items.ensures.limit
 
-pub returns-in-Remove-clause-changed : goal.returns-in-Remove-clause-changed
-returns-in-Remove-clause-changed g c = c.remove_rows.ensures.changed
+pub returns-in_ok-set_items-in-Set-clause-changed : goal.returns-in_ok-set_items-in-Set-clause-changed
+returns-in_ok-set_items-in-Set-clause-changed g c = c.set_items.ensures.changed
+
+pub returns-in_err-remove_items-in-Remove-clause-gives : goal.returns-in_err-remove_items-in-Remove-clause-gives
+returns-in_err-remove_items-in-Remove-clause-gives g c =
+    let s = setting_of (parameters_view c.args.given.now.parameters.now) c.args.meter.now.limit c.args.given.now.max_elements c.args.table.names (anchors_view c.args.anchors.now) in
+    given_of c.args.clause.now _ c.in-Remove.is c.from_residual-in_err-remove_items-in-Remove.result s (state_of (graph_of_store g.T.Tables.seen c.args.store.now c.args.shared.now) (seen c.args.table) c.args.meter.now.used) _
+    (gives_fault c.from_residual-in_err-remove_items-in-Remove.result _ _ _ c.from_residual-in_err-remove_items-in-Remove.ensures.1 (c.in_err-remove_items-in-Remove.ensures.answer s (suits_own (parameters_view c.args.given.now.parameters.now) c.args.meter.now.limit c.args.given.now.max_elements c.args.table.names (anchors_view c.args.anchors.now))).err)
+
+pub returns-in_err-remove_items-in-Remove-clause-names : goal.returns-in_err-remove_items-in-Remove-clause-names
+returns-in_err-remove_items-in-Remove-clause-names g c = IfOk-from_err c.from_residual-in_err-remove_items-in-Remove.result (λ t. (seen t).names ≡ scope_after c.args.table.names (clause_view c.args.clause.now)) c.from_residual-in_err-remove_items-in-Remove.ensures.0
+
+pub returns-in_err-remove_items-in-Remove-clause-limit : goal.returns-in_err-remove_items-in-Remove-clause-limit
+returns-in_err-remove_items-in-Remove-clause-limit g c = c.remove_items.ensures.limit
+
+pub returns-in_err-remove_items-in-Remove-clause-changed : goal.returns-in_err-remove_items-in-Remove-clause-changed
+returns-in_err-remove_items-in-Remove-clause-changed g c = c.remove_items.ensures.changed
+
+pub returns-in_ok-remove_items-in-Remove-clause-gives : goal.returns-in_ok-remove_items-in-Remove-clause-gives
+returns-in_ok-remove_items-in-Remove-clause-gives g c =
+    let s = setting_of (parameters_view c.args.given.now.parameters.now) c.args.meter.now.limit c.args.given.now.max_elements c.args.table.names (anchors_view c.args.anchors.now) in
+    given_of c.args.clause.now _ c.in-Remove.is (Ok c.args.table) s (state_of (graph_of_store g.T.Tables.seen c.args.store.now c.args.shared.now) (seen c.args.table) c.args.meter.now.used) _
+    (record { ok = (c.in_ok-remove_items-in-Remove.ensures.answer s (suits_own (parameters_view c.args.given.now.parameters.now) c.args.meter.now.limit c.args.given.now.max_elements c.args.table.names (anchors_view c.args.anchors.now))).ok; err = tt })
+
+pub returns-in_ok-remove_items-in-Remove-clause-names : goal.returns-in_ok-remove_items-in-Remove-clause-names
+returns-in_ok-remove_items-in-Remove-clause-names g c = named_of c.args.clause.now _ c.in-Remove.is (Ok c.args.table) c.args.table.names refl
+
+pub returns-in_ok-remove_items-in-Remove-clause-limit : goal.returns-in_ok-remove_items-in-Remove-clause-limit
+returns-in_ok-remove_items-in-Remove-clause-limit g c = c.remove_items.ensures.limit
+
+pub returns-in_ok-remove_items-in-Remove-clause-changed : goal.returns-in_ok-remove_items-in-Remove-clause-changed
+returns-in_ok-remove_items-in-Remove-clause-changed g c = c.remove_items.ensures.changed
 
 pub returns-in-Delete-clause-gives : goal.returns-in-Delete-clause-gives
 returns-in-Delete-clause-gives g c =
@@ -178,11 +210,11 @@ merge_path-requires-clause-fit g c = c.requires.fit
 pub merge_path-requires-clause-quota : goal.merge_path-requires-clause-quota
 merge_path-requires-clause-quota g c = c.requires.quota
 
-pub set_rows-requires : goal.set_rows-requires
-set_rows-requires g c = record { fit = c.requires.fit }
+pub set_items-requires : goal.set_items-requires
+set_items-requires g c = record { fit = c.requires.fit }
 
-pub remove_rows-requires : goal.remove_rows-requires
-remove_rows-requires g c = record { fit = c.requires.fit }
+pub remove_items-requires : goal.remove_items-requires
+remove_items-requires g c = record { fit = c.requires.fit }
 
 pub delete_elements-requires : goal.delete_elements-requires
 delete_elements-requires g c = record { fit = c.requires.fit }

@@ -43,6 +43,13 @@ returns_last (tree.delete d es ∷ cs) p = returns_last cs p
 returns_last (tree.with_rows q w ∷ cs) p = returns_last cs p
 returns_last (return_rows q ∷ cs) p = refl
 
+-- what is said of the reply to clauses that end in RETURN, of the reply to all
+pub whole_reply : (r : Result (List ℕ) Fault) (run : List Clause → Result State Fault) (before all : List Clause) (b : Bool) (p : Projection) (left : Graph) → all ≡ before ++ return_rows p ∷ [] → b ≡ returns all
+    → Replies r (run (before ++ return_rows p ∷ [])) true (fold scope_after [] (before ++ return_rows p ∷ [])) left → Replies r (run all) b (fold scope_after [] all) left
+whole_reply r run before all b p left same told h =
+    subst (λ xs. Replies r (run xs) b (fold scope_after [] xs) left) (sym same)
+    (subst (λ x. Replies r (run (before ++ return_rows p ∷ [])) x (fold scope_after [] (before ++ return_rows p ∷ [])) left) (sym (told ∙ ap returns same ∙ returns_last before p)) h)
+
 pub names_last : (scope : Names) (before : List Clause) (c : Clause) → fold scope_after scope (before ++ c ∷ []) ≡ scope_after (fold scope_after scope before) c
 names_last scope [] c = refl
 names_last scope (b ∷ bs) c = names_last (scope_after scope b) bs c

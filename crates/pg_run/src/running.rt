@@ -1,15 +1,14 @@
 //! All clauses of a query, and the reply of the rows that they leave.
-ghost use Rattle.std.specs.Prelude.{◌≡◌, ◌≤◌, ◌^◌, ◌++◌, ◌∷◌, [], true, fold, length, map, take, IfSome};
+ghost use Rattle.std.specs.Prelude.{◌≡◌, ◌≤◌, ◌^◌, [], fold, map};
 ghost use Rattle.pg_meaning.specs.Plans.{IsPlanFrom};
 ghost use Rattle.pg_meaning.specs.Queries.{returns as any_returns};
 ghost use Rattle.pg_meaning.specs.Scopes.{scope_after};
-ghost use Rattle.pg_meaning.specs.Tree.{return_rows};
 ghost use Rattle.pg_run.specs.Returning.{replied};
 ghost use Rattle.pg_run.specs.Running.{ran, Replies};
 ghost use Rattle.pg_rows.specs.States.{seen, state_of};
 ghost use Rattle.pg_run.specs.Runs.{plan_view};
 ghost use Rattle.pg_store.specs.Stores.{graph_of_store, IsFit};
-ghost use Rattle.pg_syntax_tree.specs.View.{clause_view, projection_view};
+ghost use Rattle.pg_syntax_tree.specs.View.{clause_view};
 ghost use Rattle.pg_value_core.specs.Given.{parameters_view};
 ghost use Rattle.pg_value_core.specs.Gives.{Gives};
 ghost use Rattle.pg_write_make.specs.Changed.{Changed};
@@ -25,7 +24,7 @@ use pg_match_stages::Anchor;
 use pg_meter::Meter;
 use pg_rows::{Columns, Table};
 use pg_store::{Shared, Snapshot, Store};
-use pg_syntax_tree::{Clause, Projection};
+use pg_syntax_tree::Clause;
 use pg_value_core::Fault;
 use std::alloc::Global;
 
@@ -47,79 +46,24 @@ pub fn answer_clauses<T: Tables>(
     ensures replies { Replies result (ran (parameters_view given.now.parameters.now) meter.old.limit given.now.max_elements (graph_of_store T.seen store.old shared.old) meter.old.used (plan_view plan.now) (map clause_view clauses.now)) returns (fold scope_after [] (map clause_view clauses.now)) (graph_of_store T.seen store.new shared.new) }
     ensures changed { Changed T.seen store.old shared.old store.new shared.new }
 {
-    match last_return(clauses) {
-        Some((before, projection)) => {
-            answer_return(given, before, projection, plan, store, shared, meter)
-        }
-        None => answer_rows(given, clauses, plan, returns, store, shared, meter),
-    }
-}
-
-/// The same, where RETURN stands behind these clauses.
-fn answer_return<T: Tables>(
-    given: &Given<'_>,
-    before: &[Clause],
-    projection: &Projection,
-    plan: &[Vec<Anchor>],
-    store: &mut Store<T>,
-    shared: &mut Shared<T::Shared>,
-    meter: &mut Meter,
-) -> Result<ReplyBytes, Fault>
-    requires fit { IsFit T.seen store.old shared.old }
-    requires quota { given.now.max_elements ≤ 2 ^ 63 }
-    requires planned { IsPlanFrom [] (map clause_view before.now ++ return_rows (projection_view projection.now) ∷ []) (plan_view plan.now) }
-    ensures replies { Replies result (ran (parameters_view given.now.parameters.now) meter.old.limit given.now.max_elements (graph_of_store T.seen store.old shared.old) meter.old.used (plan_view plan.now) (map clause_view before.now ++ return_rows (projection_view projection.now) ∷ [])) true (fold scope_after [] (map clause_view before.now ++ return_rows (projection_view projection.now) ∷ [])) (graph_of_store T.seen store.new shared.new) }
-    ensures changed { Changed T.seen store.old shared.old store.new shared.new }
-{
-    let anchors = first_anchors(plan, before.len());
-    let table = run_clauses(given, before, anchors, store, shared, meter)?;
-    let graph = store.graph(shared);
-    return_reply(
-        given.alloc,
-        projection,
-        given.parameters,
-        &graph,
-        table,
-        meter,
-    )
-}
-
-/// The same, where all clauses are run as they stand.
-fn answer_rows<T: Tables>(
-    given: &Given<'_>,
-    clauses: &[Clause],
-    plan: &[Vec<Anchor>],
-    returns: bool,
-    store: &mut Store<T>,
-    shared: &mut Shared<T::Shared>,
-    meter: &mut Meter,
-) -> Result<ReplyBytes, Fault>
-    requires fit { IsFit T.seen store.old shared.old }
-    requires quota { given.now.max_elements ≤ 2 ^ 63 }
-    requires planned { IsPlanFrom [] (map clause_view clauses.now) (plan_view plan.now) }
-    ensures replies { Replies result (ran (parameters_view given.now.parameters.now) meter.old.limit given.now.max_elements (graph_of_store T.seen store.old shared.old) meter.old.used (plan_view plan.now) (map clause_view clauses.now)) returns (fold scope_after [] (map clause_view clauses.now)) (graph_of_store T.seen store.new shared.new) }
-    ensures changed { Changed T.seen store.old shared.old store.new shared.new }
-{
-    let table = run_clauses(given, clauses, plan, store, shared, meter)?;
-    let graph = store.graph(shared);
-    reply_of(given.alloc, &graph, returns, table, meter.used())
-}
-
-/// The anchors of so many clauses.
-fn first_anchors(plan: &[Vec<Anchor>], count: usize) -> &[Vec<Anchor>]
-    requires { count ≤ length plan.now }
-    ensures { result.now ≡ take count plan.now }
-{
-    &plan[..count]
-}
-
-/// RETURN where it is the last clause, and the clauses before it.
-fn last_return(clauses: &[Clause]) -> Option<(&[Clause], &Projection)>
-    ensures { IfSome result (λ p. map clause_view clauses.now ≡ map clause_view p.0.now ++ return_rows (projection_view p.1.now) ∷ []) }
-{
     match clauses.split_last() {
-        Some((Clause::Return(projection), before)) => Some((before, projection)),
-        _ => None,
+        Some((Clause::Return(projection), before)) => {
+            let anchors = &plan[..before.len()];
+            let table = run_clauses(given, before, anchors, store, shared, meter)?;
+            return_reply(
+                given.alloc,
+                projection,
+                given.parameters,
+                &store.graph(shared),
+                table,
+                meter,
+            )
+        }
+        _ => {
+            let table = run_clauses(given, clauses, plan, store, shared, meter)?;
+            let graph = store.graph(shared);
+            reply_of(given.alloc, &graph, returns, table, meter.used())
+        }
     }
 }
 

@@ -1,28 +1,87 @@
-use Rattle.std.proofs.Common.{[], ◌++◌, ◌∷◌, map, sym, ap, subst, ◌∙◌}
+use Rattle.std.proofs.Common.{◌≡◌, List, Result, Ok, true, [], ◌++◌, ◌∷◌, length, map, sym, ap, subst, ◌∙◌}
+use Rattle.std.proofs.lemmas.List.{length-map, length-take-le, map-append}
+use Rattle.std.proofs.lemmas.Result.{err_from_is_err_and}
 use Rattle.std.specs.Prelude.{fold}
-use Rattle.pg_meaning.specs.Plans.{IsPlanFrom}
-use Rattle.pg_meaning.specs.Queries.{returns}
+use Rattle.pg_meaning.specs.Graph.{Graph}
+use Rattle.pg_meaning.specs.Meters.{State}
+use Rattle.pg_meaning.specs.Plans.{IsPlanFrom, Plan}
+use Rattle.pg_meaning.specs.Queries.{clauses_run}
 use Rattle.pg_meaning.specs.Scopes.{scope_after}
 use Rattle.pg_meaning.specs.Tree.{return_rows}
-use Rattle.pg_run.proofs.ReplyLemmas.{returns_last}
+use Rattle.pg_meaning.specs.declared.fault.Fault.{Fault}
+use Rattle.pg_run.proofs.ReplyLemmas.{planned_slice, replies, replies_fault, slice_is, whole_reply, within_plan}
 use Rattle.pg_run.specs.Running.{Replies, ran}
-use Rattle.pg_run.specs.Runs.{plan_view}
+use Rattle.pg_rows.specs.States.{seen, state_of}
+use Rattle.pg_run.specs.Runs.{anchors_view, plan_view, quota_of}
 use Rattle.pg_store.specs.Stores.{graph_of_store}
 use Rattle.pg_syntax_tree.specs.View.{clause_view, projection_view}
+use Rattle.pg_syntax_tree.specs.declared.clauses.Clause.{Clause}
+use Rattle.pg_syntax_tree.specs.declared.clauses.Projection.{Projection}
 use Rattle.pg_value_core.specs.Given.{parameters_view}
 use Rattle.pg_run.proofs.running.answer_clauses.Goals as goal
 
-pub answer_return-requires-clause-planned : goal.answer_return-requires-clause-planned
-answer_return-requires-clause-planned g c =
-    let same = rw c.in-Some.is at c.last_return.ensures in
-    subst (λ cs. IsPlanFrom [] cs (plan_view c.args.plan.now)) same c.requires.planned
+last_is : (all before : List Clause) (last : Clause) (p : Projection) → all ≡ before ++ last ∷ [] → last ≡ Clause.Return p → map clause_view all ≡ map clause_view before ++ return_rows (projection_view p) ∷ []
+last_is all before last p split is =
+    ap (map clause_view) (split ∙ ap (λ x. before ++ x ∷ []) is) ∙ map-append clause_view before (Clause.Return p ∷ [])
 
-pub returns-in-Some-clause-replies : goal.returns-in-Some-clause-replies
-returns-in-Some-clause-replies g c =
-    let same = rw c.in-Some.is at c.last_return.ensures in
-    let cs = map clause_view c.in-Some.before.now in
-    let p = projection_view c.in-Some.projection.now in
-    let left = graph_of_store g.T.Tables.seen c.answer_return.new.store c.answer_return.new.shared in
-    let told = c.requires.returning ∙ ap returns same ∙ returns_last cs p in
-    subst (λ xs. Replies c.answer_return.result (ran (parameters_view c.args.given.now.parameters.now) c.args.meter.now.limit c.args.given.now.max_elements (graph_of_store g.T.Tables.seen c.args.store.now c.args.shared.now) c.args.meter.now.used (plan_view c.args.plan.now) xs) c.args.returns (fold scope_after [] xs) left) (sym same)
-    (subst (λ b. Replies c.answer_return.result (ran (parameters_view c.args.given.now.parameters.now) c.args.meter.now.limit c.args.given.now.max_elements (graph_of_store g.T.Tables.seen c.args.store.now c.args.shared.now) c.args.meter.now.used (plan_view c.args.plan.now) (cs ++ return_rows p ∷ [])) b (fold scope_after [] (cs ++ return_rows p ∷ [])) left) (sym told) c.answer_return.ensures.replies)
+pub slice_bounds-anchors-end : goal.slice_bounds-anchors-end
+slice_bounds-anchors-end g c =
+    let before = c.in-Some-Return-default.before.now in
+    let p = c.in-Some-Return-default.projection in
+    let same = last_is c.args.clauses.now before c.in-Some-Return-default.field-0-0.now p c.in-Some-Return-default.ensures.cases.0 c.in-Some-Return-default.field-0-0-is in
+    let planned = subst (λ xs. IsPlanFrom [] xs (plan_view c.args.plan.now)) same c.requires.planned in
+    sym (length-take-le (length before) c.args.plan.now
+    (within_plan (λ anchors. anchors_view anchors.items) (map clause_view before) (return_rows (projection_view p)) c.args.plan.now planned (length before) (sym (length-map before clause_view))))
+
+pub run_clauses-requires-clause-planned : goal.run_clauses-requires-clause-planned
+run_clauses-requires-clause-planned g c =
+    let before = c.in-Some-Return-default.before.now in
+    let p = c.in-Some-Return-default.projection in
+    let same = last_is c.args.clauses.now before c.in-Some-Return-default.field-0-0.now p c.in-Some-Return-default.ensures.cases.0 c.in-Some-Return-default.field-0-0-is in
+    let planned = subst (λ xs. IsPlanFrom [] xs (plan_view c.args.plan.now)) same c.requires.planned in
+    planned_slice (λ anchors. anchors_view anchors.items) (map clause_view before) (return_rows (projection_view p)) c.args.plan.now planned (length before) (sym (length-map before clause_view))
+
+pub returns-in_err-table-in-Some-Return-default-clause-replies : goal.returns-in_err-table-in-Some-Return-default-clause-replies
+returns-in_err-table-in-Some-Return-default-clause-replies g c =
+    let before = c.in-Some-Return-default.before.now in
+    let ps = parameters_view c.args.given.now.parameters.now in
+    let limit = c.args.meter.now.limit in
+    let elements = c.args.given.now.max_elements in
+    let quota = quota_of limit elements in
+    let cs = map clause_view before in
+    let p = projection_view c.in-Some-Return-default.projection in
+    let plan = plan_view c.args.plan.now in
+    let start = graph_of_store g.T.Tables.seen c.args.store.now c.args.shared.now in
+    let used = c.args.meter.now.used in
+    let begin = state_of start (record { names = []; rows = [] ∷ [] }) used in
+    let same = last_is c.args.clauses.now before c.in-Some-Return-default.field-0-0.now c.in-Some-Return-default.projection c.in-Some-Return-default.ensures.cases.0 c.in-Some-Return-default.field-0-0-is in
+    let planned = subst (λ xs. IsPlanFrom [] xs plan) same c.requires.planned in
+    let slice = slice_is (λ anchors. anchors_view anchors.items) cs (return_rows p) c.args.plan.now planned (length before) (sym (length-map before clause_view)) in
+    let left = graph_of_store g.T.Tables.seen c.run_clauses.new.store c.run_clauses.new.shared in
+    let q = err_from_is_err_and c.from_residual.result c.from_residual.ensures.1 in
+    rw (q.1, q.2)
+    (whole_reply _ (ran ps limit elements start used plan) cs (map clause_view c.args.clauses.now) c.args.returns p left same c.requires.returning
+    (replies_fault ps quota plan cs p begin c.in_err-table-in-Some-Return-default.field-0.0 left (λ other. sym (ap (λ (x : Plan). clauses_run ps quota [] x cs begin) slice) ∙ c.in_err-table-in-Some-Return-default.ensures.gives.err other)))
+
+pub returns-in_ok-table-in-Some-Return-default-clause-replies : goal.returns-in_ok-table-in-Some-Return-default-clause-replies
+returns-in_ok-table-in-Some-Return-default-clause-replies g c =
+    let before = c.in-Some-Return-default.before.now in
+    let ps = parameters_view c.args.given.now.parameters.now in
+    let limit = c.args.meter.now.limit in
+    let elements = c.args.given.now.max_elements in
+    let quota = quota_of limit elements in
+    let cs = map clause_view before in
+    let p = projection_view c.in-Some-Return-default.projection in
+    let plan = plan_view c.args.plan.now in
+    let start = graph_of_store g.T.Tables.seen c.args.store.now c.args.shared.now in
+    let used = c.args.meter.now.used in
+    let begin = state_of start (record { names = []; rows = [] ∷ [] }) used in
+    let same = last_is c.args.clauses.now before c.in-Some-Return-default.field-0-0.now c.in-Some-Return-default.projection c.in-Some-Return-default.ensures.cases.0 c.in-Some-Return-default.field-0-0-is in
+    let planned = subst (λ xs. IsPlanFrom [] xs plan) same c.requires.planned in
+    let slice = slice_is (λ anchors. anchors_view anchors.items) cs (return_rows p) c.args.plan.now planned (length before) (sym (length-map before clause_view)) in
+    let t = seen c.in_ok-table-in-Some-Return-default.table in
+    let spent = c.run_clauses.new.meter.used in
+    let ran_so = sym (ap (λ (x : Plan). clauses_run ps quota [] x cs begin) slice) ∙ c.in_ok-table-in-Some-Return-default.ensures.gives.ok ∙ ap (λ (x : Graph). let r : Result State Fault = Ok (state_of x t spent) in r) (sym c.graph.ensures) in
+    whole_reply c.return_reply.result (ran ps limit elements start used plan) cs (map clause_view c.args.clauses.now) c.args.returns p (graph_of_store g.T.Tables.seen c.run_clauses.new.store c.run_clauses.new.shared) same c.requires.returning
+    (subst (λ (x : Graph). Replies c.return_reply.result (clauses_run ps quota [] plan (cs ++ return_rows p ∷ []) begin) true (fold scope_after [] (cs ++ return_rows p ∷ [])) x) c.graph.ensures
+    (replies ps quota plan cs p begin c.graph.result t spent c.run_clauses.new.meter.limit c.return_reply.result ran_so c.in_ok-table-in-Some-Return-default.ensures.names (sym c.run_clauses.ensures.limit) c.return_reply.ensures))

@@ -242,7 +242,10 @@ impl Rule for UpdatingClauses {
         }
         let is_detach = tokens.eat_keyword(Keyword::Detach);
         tokens.expect_keyword(Keyword::Delete)?;
-        Ok(Clause::Delete(is_detach, separated(alloc, &Whole { alloc, depth }, tokens)?))
+        Ok(Clause::Delete(
+            is_detach,
+            separated(alloc, &Whole { alloc, depth }, tokens)?,
+        ))
     }
 }
 

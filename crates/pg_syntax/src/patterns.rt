@@ -125,11 +125,7 @@ fn range_if_any(tokens: &mut Tokens<'_, '_>) -> Result<Option<Range>, ParseError
     }
     let lower = integer_if_any(tokens)?;
     let dots = tokens.eat(Symbol::TwoDots);
-    let upper = if dots {
-        integer_if_any(tokens)?
-    } else {
-        None
-    };
+    let upper = if dots { integer_if_any(tokens)? } else { None };
     Ok(Some(Range { lower, dots, upper }))
 }
 

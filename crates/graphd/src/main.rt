@@ -49,8 +49,9 @@ fn serve(rt: &HostRuntime, command: Command<'_>) -> Result<End, ProgramFault> {
         return Err(ProgramFault::NoRandomNumbers);
     };
     // Its memory is left to the end of the process: to let go of each record would only take time.
-    let mut server: ManuallyDrop<Server<RandomState, PooledTables<IndexedTexts>>> =
-        ManuallyDrop::new(Server::new(rt.alloc(), config, hasher)?);
+    let mut server: ManuallyDrop<Server<PooledTables<IndexedTexts>>> = ManuallyDrop::new(
+        Server::new(rt.alloc(), config, hasher)?,
+    );
     match command {
         Command::Run { .. } => {
             let mut reader = Counted::new(BufReader::new(rt.alloc(), rt.reader())?);

@@ -2,12 +2,12 @@
 use crate::text_set::TextSet;
 use indexmap::IndexSet;
 use std::alloc::{AllocError, Global};
-use std::hash::BuildHasherDefault;
+use std::hash::RandomState;
 
-/// Texts at their places, found by their hash.
+/// Texts at their places, found by their hash, whose keys nobody knows who chooses the texts.
 #[derive(Drop)]
 pub struct IndexedTexts {
-    texts: IndexSet<String>,
+    texts: IndexSet<String, RandomState>,
 }
 
 impl TextSet for IndexedTexts {
@@ -15,9 +15,9 @@ impl TextSet for IndexedTexts {
 
     ghost texts = { λ set. map string_bytes set.texts.keys };
 
-    fn new(alloc: Global) -> Self {
+    fn new(alloc: Global, hasher: RandomState) -> Self {
         IndexedTexts {
-            texts: IndexSet::with_hasher(alloc, BuildHasherDefault::new()),
+            texts: IndexSet::with_hasher(alloc, hasher),
         }
     }
 

@@ -7,6 +7,7 @@ ghost use Rattle.pg_names.specs.Names.{AreDistinct, AreNumbered, KeepsNames, Nam
 use crate::name_id::NameId;
 use crate::text_set::TextSet;
 use std::alloc::{AllocError, Global};
+use std::hash::RandomState;
 use std::marker::Model;
 
 /// Texts by their numbers, from 0 on. New ones go to the end, and only the last ones can be cut off. They stand in a set of any type that
@@ -14,6 +15,7 @@ use std::marker::Model;
 #[derive(Drop)]
 pub struct Names<K: TextSet> {
     alloc: Global,
+    hasher: RandomState,
     texts: K,
 }
 
@@ -32,13 +34,19 @@ impl<K: TextSet> Model for Names<K> {
 }
 
 impl<K: TextSet> Names<K> {
-    pub fn new(alloc: Global) -> Self
+    pub fn new(alloc: Global, hasher: RandomState) -> Self
         ensures { result ≡ [] }
     {
         Names {
             alloc,
-            texts: K::new(alloc),
+            hasher,
+            texts: K::new(alloc, hasher),
         }
+    }
+
+    /// What makes the hashers of the set, for other tables whose keys a stranger chooses.
+    pub fn hasher(&self) -> RandomState {
+        self.hasher
     }
 
     /// The number of a text, which the table then has.

@@ -5,13 +5,15 @@ ghost use Rattle.std.specs.Str.{bytes_eq};
 ghost use Rattle.pg_names.specs.Names.{AreDistinct, with_name};
 
 use std::alloc::{AllocError, Global};
+use std::hash::RandomState;
 
 /// Texts at their places, from 0 on, each once.
 pub trait TextSet: Drop {
     /// The texts in order.
     ghost texts: { Self → List (List ℕ) };
 
-    fn new(alloc: Global) -> Self
+    /// No texts. Where the set has a hash table, its hashers are those of `hasher`, of which no text's place tells anything.
+    fn new(alloc: Global, hasher: RandomState) -> Self
         ensures { texts result ≡ [] };
 
     /// The place of a text.

@@ -10,11 +10,12 @@ use pg_graph::Tables;
 use pg_store::Snapshot;
 use pg_value_core::{Fault, Value};
 use std::alloc::{AllocError, Global};
+use std::hash::RandomState;
 
 /// The key of each group, and what is kept of each aggregate in it.
 #[derive(Drop)]
 pub(crate) struct Groups {
-    pub(crate) keys: IndexSet<Vec<Value>>,
+    pub(crate) keys: IndexSet<Vec<Value>, RandomState>,
     pub(crate) taken: Vec<Vec<Taken>>,
 }
 
@@ -28,17 +29,21 @@ impl Groups {
     ghost use Rattle.pg_value_core.specs.View.{view};
 
     /// No groups yet; with aggregates alone there is one, also over no rows.
-    pub(crate) fn new(alloc: Global, items: &Items<'_>) -> Result<Groups, AllocError>
+    pub(crate) fn new(
+        alloc: Global,
+        hasher: RandomState,
+        items: &Items<'_>,
+    ) -> Result<Groups, AllocError>
         ensures groups { (names : List (List ℕ)) → IfOk result (λ g. groups_view g ≡ first_kept (keys_of names items.now.keys.items) (aggregates_view names items.now.aggregates.items)) }
         ensures paired { IfOk result (λ g. Paired g) }
     {
         let mut groups = Groups {
-            keys: IndexSet::new(alloc),
+            keys: IndexSet::with_hasher(alloc, hasher),
             taken: Vec::new(alloc),
         };
         if items.keys.is_empty() {
             groups.keys.insert(Vec::new(alloc))?;
-            push_made(&mut groups.taken, begun(alloc, &items.aggregates))?;
+            push_made(&mut groups.taken, begun(alloc, hasher, &items.aggregates))?;
         }
         Ok(groups)
     }
@@ -58,7 +63,10 @@ impl Groups {
     {
         let (number, is_new) = self.keys.insert_full(key)?;
         if is_new {
-            push_made(&mut self.taken, begun(site.alloc, aggregates))?;
+            push_made(
+                &mut self.taken,
+                begun(site.alloc, graph.hasher(), aggregates),
+            )?;
         }
         take_in_all(site, graph, aggregates, &mut self.taken[number])
     }

@@ -23,6 +23,7 @@ use pg_store::Snapshot;
 use pg_syntax_tree::{Expression, SortItem};
 use pg_value_core::{Fault, Parameters, Value};
 use std::alloc::{AllocError, Global};
+use std::hash::RandomState;
 
 /// What a sort goes by: the value of an item, or that of an expression.
 #[derive(Clone, Copy)]
@@ -35,6 +36,7 @@ pub(crate) enum SortKey<'a> {
 #[tactic(auto, using(crate::proofs::Moves::firsts_moved))]
 pub(crate) fn distinct_rows(
     alloc: Global,
+    hasher: RandomState,
     is_distinct: bool,
     mut rows: Rows,
 ) -> Result<Rows, AllocError>
@@ -44,7 +46,7 @@ pub(crate) fn distinct_rows(
     if !is_distinct {
         return Ok(rows);
     }
-    let places = distinct(&rows, alloc)?;
+    let places = distinct(&rows, alloc, hasher)?;
     rows.pick(&places, alloc)
 }
 

@@ -11,12 +11,13 @@ use indexmap::IndexSet;
 use pg_scope::Summary;
 use pg_value_core::{Fault, Value};
 use std::alloc::{AllocError, Global};
+use std::hash::RandomState;
 use std::mem;
 
 /// What is kept of the values taken in, and where DISTINCT needs them the different values so far.
 #[derive(Drop)]
 pub(crate) struct Taken {
-    pub(crate) different: Option<IndexSet<Value>>,
+    pub(crate) different: Option<IndexSet<Value, RandomState>>,
     pub(crate) held: Held,
 }
 
@@ -41,11 +42,11 @@ fn is_null(value: &Value) -> bool
 
 impl Taken {
     /// No values yet.
-    pub(crate) fn new(alloc: Global, summary: Summary, distinct: bool) -> Taken
+    pub(crate) fn new(alloc: Global, hasher: RandomState, summary: Summary, distinct: bool) -> Taken
         ensures { taken_view result ≡ begun (summary_view summary) distinct }
     {
         let different = if distinct && needs_different(summary) {
-            Some(IndexSet::new(alloc))
+            Some(IndexSet::with_hasher(alloc, hasher))
         } else {
             None
         };
@@ -72,7 +73,7 @@ impl Taken {
 /// Whether the value counts: null doesn't, nor does one that is equivalent to one of the different values.
 fn counts(
     alloc: Global,
-    different: &mut Option<IndexSet<Value>>,
+    different: &mut Option<IndexSet<Value, RandomState>>,
     value: &Value,
 ) -> Result<bool, AllocError>
     ensures { IfOk result (λ b. Counts (option_map (λ s. map view s.keys) different.old) (option_map (λ s. map view s.keys) different.new) (view value.now) b) }

@@ -17,17 +17,19 @@ use pg_graph::Tables;
 use pg_store::Snapshot;
 use pg_value_core::{Fault, Value};
 use std::alloc::{AllocError, Global};
+use std::hash::RandomState;
 
 /// No values yet of each aggregate.
 pub(crate) fn begun(
     alloc: Global,
+    hasher: RandomState,
     aggregates: &Vec<Aggregate<'_>>,
 ) -> Result<Vec<Taken>, AllocError>
     ensures { (names : List (List ℕ)) → IfOk result (λ ts. takens_view ts.items ≡ kept.begun (aggregates_view names aggregates.now.items)) }
 {
     let mut begun = Vec::with_capacity(alloc, aggregates.len())?;
     for aggregate in aggregates {
-        begun.push(Taken::new(alloc, aggregate.summary, aggregate.distinct))?;
+        begun.push(Taken::new(alloc, hasher, aggregate.summary, aggregate.distinct))?;
     }
     Ok(begun)
 }

@@ -8,13 +8,12 @@ use crate::end::End;
 use crate::serve_fault::ServeFault;
 use crate::server::Server;
 use pg_graph::Tables;
-use std::hash::BuildHasher;
 use std::net::{TcpListener, TcpStream};
 
 /// Serves so many connections over the same tenants, each until its end, whatever that is.
-pub fn serve_on<S: BuildHasher + Drop, T: Tables>(
+pub fn serve_on<T: Tables>(
     listener: &TcpListener,
-    server: &mut Server<S, T>,
+    server: &mut Server<T>,
     count: u64,
 ) -> Result<(), ServeFault>
     ensures ok { OnOk result (ServesInTurn count server.old.state server.new.state) }
@@ -30,10 +29,7 @@ pub fn serve_on<S: BuildHasher + Drop, T: Tables>(
 }
 
 /// Serves one connection, by one run of the server.
-fn serve_connection<S: BuildHasher + Drop, T: Tables>(
-    stream: &TcpStream,
-    server: &mut Server<S, T>,
-) -> End
+fn serve_connection<T: Tables>(stream: &TcpStream, server: &mut Server<T>) -> End
     ensures { Serves None None None None server.old.state server.new.state endless result }
 {
     // A socket that can't be told to send at once serves all the same.

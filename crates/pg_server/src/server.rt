@@ -35,22 +35,22 @@ use pg_plan::{Plan, check_length};
 use pg_store::Store;
 use pg_value_core::Parameters;
 use std::alloc::{AllocError, Global};
-use std::hash::BuildHasher;
+use std::hash::RandomState;
 use std::io::{Read, Write};
 use std::marker::Model;
 use std::rc::Rc;
 
 /// The tenants of a configuration, over what they share.
 #[derive(Drop)]
-pub struct Server<S: BuildHasher + Drop, T: Tables> {
+pub struct Server<T: Tables> {
     alloc: Global,
     scratch: RequestScratch,
-    shared: Shared<S, T>,
+    shared: Shared<T>,
     tokens: TokenPlaces,
     tenants: Vec<Tenant<T>>,
 }
 
-impl<S: BuildHasher + Drop, T: Tables> Model for Server<S, T> {
+impl<T: Tables> Model for Server<T> {
     ghost use Rattle.pg_cache.specs.Cache.{cache_seen};
     ghost use Rattle.pg_server.specs.State.{ServerSeen};
     ghost use Rattle.pg_server.specs.StateCode.{server_code};
@@ -65,9 +65,10 @@ impl<S: BuildHasher + Drop, T: Tables> Model for Server<S, T> {
     ghost invariant = { λ s. AreTenants T.seen s.tokens s.tenants.items s.shared.stores };
 }
 
-impl<S: BuildHasher + Drop, T: Tables> Server<S, T> {
-    /// A server with the tenants of this configuration, each with the empty graph and no index.
-    pub fn new(alloc: Global, config: Config, hasher: S) -> Result<Self, AllocError>
+impl<T: Tables> Server<T> {
+    /// A server with the tenants of this configuration, each with the empty graph and no index. Its hash tables are keyed by `hasher`, so
+    /// that nobody who sends requests can choose what falls together in them. No clause speaks of it, so no reply depends on it.
+    pub fn new(alloc: Global, config: Config, hasher: RandomState) -> Result<Self, AllocError>
         ensures state { IfOk result (λ s. s.state ≡ opening_server config) }
         ensures unused { IfOk result (λ s. (owner : ℕ) → T.seen.is_unused owner s.tables) }
         ensures tenants { IfOk result (λ s. HoldTenants T.seen s) }
@@ -81,7 +82,7 @@ impl<S: BuildHasher + Drop, T: Tables> Server<S, T> {
             scratch: RequestScratch::new(alloc),
             shared: Shared {
                 cache,
-                stores: pg_store::Shared::new(alloc, T::new_shared(alloc)),
+                stores: pg_store::Shared::new(alloc, hasher, T::new_shared(alloc)),
             },
             tokens,
             tenants,
@@ -90,7 +91,7 @@ impl<S: BuildHasher + Drop, T: Tables> Server<S, T> {
 
     /// What all tenants share: the plans that are kept, and the names and the part of the tables over which each tenant
     /// holds its graph.
-    pub fn shared(&self) -> &Shared<S, T>
+    pub fn shared(&self) -> &Shared<T>
         ensures cache { cache_seen result.now.cache ≡ self.now.state.cache }
         ensures stores { result.now.stores ≡ shared_of self.now }
         ensures tenants { HoldTenants T.seen self.now }
@@ -279,7 +280,7 @@ impl<S: BuildHasher + Drop, T: Tables> Server<S, T> {
     }
 }
 
-impl<S: BuildHasher + Drop, T: Tables> Service for Server<S, T> {
+impl<T: Tables> Service for Server<T> {
     ghost answers = { λ old body reply new. Handles old.state body reply new.state };
 
     fn answer(&mut self, body: &[u8]) -> ReplyBytes {

@@ -1,11 +1,11 @@
 //! What all tenants share.
 use pg_cache::PlanCache;
 use pg_graph::Tables;
-use std::hash::BuildHasher;
+use std::hash::RandomState;
 
 /// The plans of all tenants' queries, their names, and what is shared of their tables.
 #[derive(Drop)]
-pub struct Shared<S: BuildHasher + Drop, T: Tables> {
-    pub cache: PlanCache<S>,
+pub struct Shared<T: Tables> {
+    pub cache: PlanCache<RandomState>,
     pub stores: pg_store::Shared<T::Shared>,
 }

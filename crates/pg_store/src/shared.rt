@@ -5,6 +5,7 @@ ghost use Rattle.pg_names.specs.Names.{AreDistinct};
 use pg_graph::SharedPart;
 use pg_names::Names;
 use std::alloc::Global;
+use std::hash::RandomState;
 
 /// What the stores of all tenants share: the texts of names, and the part that their tables share.
 #[derive(Drop)]
@@ -14,13 +15,13 @@ pub struct Shared<X: SharedPart> {
 }
 
 impl<X: SharedPart> Shared<X> {
-    /// A part for tables, and no names.
-    pub fn new(alloc: Global, tables: X) -> Self
+    /// A part for tables, and no names. The hashers of the names, and of the tables in which queries gather values, are those of `hasher`.
+    pub fn new(alloc: Global, hasher: RandomState, tables: X) -> Self
         ensures names { result.names ≡ [] }
         ensures distinct { AreDistinct result.names }
         ensures tables { result.tables ≡ tables }
     {
-        let names = Names::new(alloc);
+        let names = Names::new(alloc, hasher);
         Shared { names, tables }
     }
 }

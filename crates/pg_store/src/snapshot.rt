@@ -10,6 +10,7 @@ use crate::texts::{NodeTexts, RelTexts};
 use pg_graph::{NextIds, Tables};
 use pg_value_core::{NodeId, RelId};
 use std::alloc::{AllocError, Global};
+use std::hash::RandomState;
 use std::marker::Model;
 
 /// A tenant's graph, to read.
@@ -47,6 +48,11 @@ impl<T: Tables> Store<T> {
 }
 
 impl<'a, T: Tables> Snapshot<'a, T> {
+    /// What makes the hashers of the shared names, for tables in which a query gathers values.
+    pub fn hasher(&self) -> RandomState {
+        self.shared.names.hasher()
+    }
+
     /// How many nodes and relationships there are.
     pub fn elements(&self) -> u64
         ensures { result ≡ element_count self.now }

@@ -8,7 +8,7 @@ use Rattle.pg_rows.proofs.firsts.distinct.Goals as goal
 
 pub returns-clause-places : goal.returns-clause-places
 returns-clause-places c =
-    subst (λ ks. IfOk c.unseen.result (λ places. places.items ≡ first_places (seen_of ks) 0 (table c.args.rows.now))) c.new-seen.ensures.empty c.unseen.ensures
+    subst (λ ks. IfOk c.unseen.result (λ places. places.items ≡ first_places (seen_of ks) 0 (table c.args.rows.now))) c.with_hasher-seen.ensures.empty c.unseen.ensures
 
 pub returns-clause-below : goal.returns-clause-below
 returns-clause-below c =

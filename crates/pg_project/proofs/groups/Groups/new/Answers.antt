@@ -21,12 +21,12 @@ returns-clause-groups c =
       | then-is_empty+in_ok-insert+in_ok-push_made w ↦
           let none : length keys ≡ 0 = grind (arith, nat_tests, w.if-is_empty.ensures) in
           ap groups_view w.groups-is
-          ∙ one_group aggregates c.new.result.keys w.insert.new.self.keys c.new-2.result.items w.push_made.new.list.items w.new-then-is_empty.result w.in_ok-push_made.ensures.0 c.new.ensures.empty c.new-2.ensures.items w.in_ok-insert.ensures.keys w.in_ok-push_made.ensures.2 w.new-then-is_empty.ensures.items
+          ∙ one_group aggregates c.with_hasher.result.keys w.insert.new.self.keys c.new.result.items w.push_made.new.list.items w.new-then-is_empty.result w.in_ok-push_made.ensures.0 c.with_hasher.ensures.empty c.new.ensures.items w.in_ok-insert.ensures.keys w.in_ok-push_made.ensures.2 w.new-then-is_empty.ensures.items
           (IfOk-at_ok _ w.in_ok-push_made.ensures.1 (w.begun.ensures names))
           ∙ sym (ap (λ ks. first_kept (keys_of names ks) aggregates) (nil_from_length keys none))
       | else-is_empty w ↦
           let some : 0 < length keys = grind (arith, nat_tests, w.if-is_empty.ensures) in
           ap groups_view w.groups-is
-          ∙ ap (λ ks. groups_of (keys_view ks) (map (λ ts. takens_view ts.items) c.new-2.result.items)) c.new.ensures.empty
+          ∙ ap (λ ks. groups_of (keys_view ks) (map (λ ts. takens_view ts.items) c.new.result.items)) c.with_hasher.ensures.empty
           ∙ sym (no_group aggregates (keys_of names keys) (let long = length-map keys (tree_of names) in omega (arith, long, some)))
     ]

@@ -1,9 +1,10 @@
 -- What one step of an evaluation gives: a fault that is passed on, the next value, and what a part of an expression decides.
-use Rattle.std.proofs.Common.{◌≡◌, ◌≢◌, ℕ, Bool, true, false, List, [], ◌∷◌, map, Option, Some, None, Result, Ok, Err, IsErrAnd, refl, sym, ap, subst, ◌∙◌}
+use Rattle.std.proofs.Common.{◌≡◌, ◌≢◌, ◌<◌, ◌≤◌, ℕ, arith, get_or, length, Bool, true, false, List, [], ◌∷◌, map, Option, Some, None, Result, Ok, Err, IsErrAnd, refl, sym, ap, subst, ◌∙◌}
 use Rattle.std.specs.Prelude.{Box, Vec, IfOk, IfErr, string_bytes}
 use Rattle.std.specs.declared.alloc.Global.{Global}
 use Rattle.pg_expr.proofs.Walks.{joined, joined_pairs, each_of, pairs_given, first_of, true_of, chain_of, operands_given, tests_given, suffixes_given}
 use Rattle.pg_expr.specs.Calls.{given_call}
+use Rattle.pg_expr.specs.Operators.{truth_compared}
 use Rattle.pg_expr.specs.Sites.{found_view, founds_view, pairs_view, given, given_each, given_map, given_first, given_compared, given_chain, given_chained, given_tests, given_perhaps, given_otherwise, given_reads, row_at, parameters_at}
 use Rattle.pg_expr.specs.declared.site.Found.{Found}
 use Rattle.pg_expr.specs.declared.site.Site.{Site}
@@ -61,6 +62,20 @@ none_before (Err e) = refl
 no_pairs_before : (r : Result (List (Operator × Datum)) Fault) → r ≡ joined_pairs [] r
 no_pairs_before (Ok ps) = refl
 no_pairs_before (Err e) = refl
+
+single : (os : List (Operator × Expression)) (p q : Operator × Expression) → 1 ≤ length os → length os < 2 → p ≡ get_or os 0 p → q ≡ get_or os 0 q → operands_of (map operand_view os) ≡ tree.operand p.0 (expression_view q.1) tree.no_operands
+single [] p q least below is there = absurd (omega arith)
+single (x ∷ []) p q least below is there = ap (λ r. tree.operand r.0 (expression_view x.1) tree.no_operands) (sym is) ∙ ap (λ r. tree.operand p.0 (expression_view r.1) tree.no_operands) (sym there)
+single (x ∷ y ∷ os) p q least below is there = absurd (omega arith)
+
+-- a chain with one operand
+pub one_left : (os all : List (Operator × Expression)) (p q : Operator × Expression) → os ≡ all → 1 ≤ length os → length os < 2 → p ≡ get_or os 0 p → q ≡ get_or os 0 q
+    → operands_of (map operand_view all) ≡ tree.operand p.0 (expression_view q.1) tree.no_operands
+one_left os all p q same least below is there = ap (λ qs. operands_of (map operand_view qs)) (sym same) ∙ single os p q least below is there
+
+pub one_operand : (v : Datum) (o : Operator) (a : Answer) → ((a >>= λ w. Ok ((o, w) ∷ [])) >>= λ ps. truth_compared v ps) ≡ (a >>= λ w. truth_compared v ((o, w) ∷ []))
+one_operand v o (Ok w) = refl
+one_operand v o (Err e) = refl
 
 module _ (s : Site) (g : Graph) where
   pub first_item : (fs : List Found) (xs : List Expression) → fs ≡ [] → each_of s g xs ≡ joined (founds_view fs) (each_of s g xs)

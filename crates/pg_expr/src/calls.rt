@@ -48,6 +48,7 @@ pub(crate) fn is_null(v: &Found<'_>) -> bool
 }
 
 /// What a function gives at its arguments, or the fault that was found in their place.
+#[inline(never)]
 pub(crate) fn applied<'a, T: Tables>(
     alloc: Global,
     graph: &Snapshot<'a, T>,

@@ -1,7 +1,8 @@
 //! What an expression gives at a row: operands left to right, and the first fault decides.
-ghost use Rattle.std.specs.Prelude.{map, option_map};
+ghost use Rattle.std.specs.Prelude.{map, option_map, string_bytes};
+ghost use Rattle.pg_expr.specs.Calls.{given_call};
 ghost use Rattle.pg_expr.specs.Prepared.{tree_of};
-ghost use Rattle.pg_expr.specs.Sites.{found_view, founds_view, pairs_view, given, given_each, given_map, given_first, given_true, given_chain, given_operands, given_tests, given_reads};
+ghost use Rattle.pg_expr.specs.Sites.{found_view, founds_view, pairs_view, given, given_each, given_map, given_first, given_true, given_chain, given_chained, given_operands, given_tests, given_reads};
 ghost use Rattle.pg_meaning.specs.Expressions.{evaluate};
 ghost use Rattle.pg_meaning.specs.Parse.{expressions_of, operands_of, pairs_of, whens_of};
 ghost use Rattle.pg_rows.specs.Named.{row_of};
@@ -14,7 +15,8 @@ use crate::atoms::{literal_found, parameter, variable};
 use crate::calls::{applied, call_fault, is_coalesce, is_null};
 use crate::made::{list_of, made, put};
 use crate::operators::{
-    all_signed, begins_comparison, combined, compared, is_chosen, negated, null_tested, tested,
+    all_signed, begins_comparison, combined, compared, compared_once, is_chosen, negated,
+    null_tested, tested,
 };
 use crate::prepared::Prepared;
 use crate::reads::{index, labels, property};
@@ -66,16 +68,7 @@ pub(crate) fn find<'a, T: Tables>(
         Expression::ListLiteral(items) => list_of(site.alloc, each(site, graph, items)),
         Expression::MapLiteral(pairs) => mapping(site, graph, pairs),
         Expression::Parentheses(inner) => find(site, graph, inner),
-        Expression::Call(name, _, _, arguments) => match function_named(name.text.as_str()) {
-            Some(function) => {
-                if is_coalesce(function) {
-                    first_given(site, graph, arguments)
-                } else {
-                    applied(site.alloc, graph, function, each(site, graph, arguments))
-                }
-            }
-            None => Err(call_fault(name.text.as_str())),
-        },
+        Expression::Call(name, _, _, arguments) => call(site, graph, name, arguments),
         Expression::Case(subject, whens, otherwise) => {
             let chosen = {
                 let tested = match subject {
@@ -94,11 +87,7 @@ pub(crate) fn find<'a, T: Tables>(
         }
         Expression::Chain(first, operands) => {
             let found = find(site, graph, first)?;
-            if begins_comparison(operands) {
-                compared(found, each_operand(site, graph, operands))
-            } else {
-                joined(site, graph, found, operands)
-            }
+            chain(site, graph, found, operands)
         }
         Expression::Negation(count, inner) => negated(*count, find(site, graph, inner)),
         Expression::Signs(signs, inner) => all_signed(signs, find(site, graph, inner)),
@@ -114,6 +103,7 @@ pub(crate) fn find<'a, T: Tables>(
 }
 
 #[cycle(find)]
+#[inline(never)]
 fn each<'a, T: Tables>(
     site: &Site<'a>,
     graph: &Snapshot<'a, T>,
@@ -131,6 +121,7 @@ fn each<'a, T: Tables>(
 
 /// Of a key twice the later value stays.
 #[cycle(find)]
+#[inline(never)]
 fn mapping<'a, T: Tables>(
     site: &Site<'a>,
     graph: &Snapshot<'a, T>,
@@ -146,8 +137,29 @@ fn mapping<'a, T: Tables>(
     made(Found::Made(Value::Map(entries)))
 }
 
+#[cycle(find)]
+#[inline(never)]
+fn call<'a, T: Tables>(
+    site: &Site<'a>,
+    graph: &Snapshot<'a, T>,
+    name: &Name,
+    arguments: &Vec<Expression>,
+) -> Result<Found<'a>, Fault>
+    ensures { Gives result (given_call site.now graph.now (string_bytes name.now.text) (expressions_of (map expression_view arguments.now.items))) found_view }
+{
+    let Some(function) = function_named(name.text.as_str()) else {
+        return Err(call_fault(name.text.as_str()));
+    };
+    if is_coalesce(function) {
+        first_given(site, graph, arguments)
+    } else {
+        applied(site.alloc, graph, function, each(site, graph, arguments))
+    }
+}
+
 /// The first that isn't null, and the rest isn't evaluated.
 #[cycle(find)]
+#[inline(never)]
 fn first_given<'a, T: Tables>(
     site: &Site<'a>,
     graph: &Snapshot<'a, T>,
@@ -166,6 +178,7 @@ fn first_given<'a, T: Tables>(
 
 /// The result behind the first true condition alone.
 #[cycle(find)]
+#[inline(never)]
 fn first_true<'a, T: Tables>(
     site: &Site<'a>,
     graph: &Snapshot<'a, T>,
@@ -183,8 +196,29 @@ fn first_true<'a, T: Tables>(
     Ok(None)
 }
 
+/// A chain of comparisons evaluates all its operands first.
+#[cycle(find)]
+#[inline(never)]
+fn chain<'a, T: Tables>(
+    site: &Site<'a>,
+    graph: &Snapshot<'a, T>,
+    first: Found<'a>,
+    operands: &Vec<(Operator, Expression)>,
+) -> Result<Found<'a>, Fault>
+    ensures { Gives result (given_chained site.now graph.now (found_view first.entry) (operands_of (map operand_view operands.now.items))) found_view }
+{
+    if !begins_comparison(operands) {
+        return joined(site, graph, first, operands);
+    }
+    match operands.as_slice() {
+        [(operator, operand)] => compared_once(*operator, first, find(site, graph, operand)),
+        _ => compared(first, each_operand(site, graph, operands)),
+    }
+}
+
 /// A chain of logic or arithmetic groups to the left.
 #[cycle(find)]
+#[inline(never)]
 fn joined<'a, T: Tables>(
     site: &Site<'a>,
     graph: &Snapshot<'a, T>,
@@ -202,6 +236,7 @@ fn joined<'a, T: Tables>(
 }
 
 #[cycle(find)]
+#[inline(never)]
 fn each_operand<'a, T: Tables>(
     site: &Site<'a>,
     graph: &Snapshot<'a, T>,
@@ -218,6 +253,7 @@ fn each_operand<'a, T: Tables>(
 }
 
 #[cycle(find)]
+#[inline(never)]
 fn pass_tests<'a, T: Tables>(
     site: &Site<'a>,
     graph: &Snapshot<'a, T>,
@@ -238,6 +274,7 @@ fn pass_tests<'a, T: Tables>(
 
 /// Properties and indexes one behind the other, then labels.
 #[cycle(find)]
+#[inline(never)]
 fn read<'a, T: Tables>(
     site: &Site<'a>,
     graph: &Snapshot<'a, T>,

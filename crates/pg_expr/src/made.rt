@@ -32,6 +32,7 @@ pub(crate) fn made<'a>(found: Found<'a>) -> Result<Found<'a>, Fault>
 }
 
 /// A list of what was found, which is copied only where the list is within the limits, or the fault in its place.
+#[inline(never)]
 pub(crate) fn list_of<'a>(
     alloc: Global,
     found: Result<Vec<Found<'a>>, Fault>,
@@ -69,6 +70,7 @@ fn take_all(alloc: Global, found: Vec<Found<'_>>) -> Result<Vec<Value>, AllocErr
 }
 
 /// The entries with one more; of a key twice the later value stays.
+#[inline(never)]
 pub(crate) fn put(
     alloc: Global,
     entries: BTreeMap<String, Value>,

@@ -1,5 +1,5 @@
 //! What operators, signs and tests give at values that were found.
-ghost use Rattle.std.specs.Prelude.{◌≡◌, ◌≢◌, IfOk, IfErr, Ok, Err, false, map, option_map};
+ghost use Rattle.std.specs.Prelude.{◌≡◌, ◌≢◌, IfOk, IfErr, Ok, Err, false, [], ◌∷◌, map, option_map};
 ghost use Rattle.pg_expr.specs.After.{After};
 ghost use Rattle.pg_expr.specs.Operators.{all_negated, is_chosen, takes_operands, truth_compared};
 ghost use Rattle.pg_expr.specs.Sites.{found_view, pairs_view};
@@ -20,6 +20,7 @@ use pg_value_core::{Fault, Tri, Value};
 use std::alloc::Global;
 
 /// Logic and arithmetic; a comparison is neither.
+#[inline(never)]
 pub(crate) fn combined<'a>(
     alloc: Global,
     operator: Operator,
@@ -66,12 +67,42 @@ fn sum<'a>(alloc: Global, v: Found<'a>, w: Found<'a>) -> Result<Found<'a>, Fault
     ensures ok { IfOk result (λ f. plus (found_view v.entry) (found_view w.entry) ≡ Ok (found_view f)) }
     ensures err { IfErr result (λ e. e ≢ OutOfMemory → plus (found_view v.entry) (found_view w.entry) ≡ Err e) }
 {
+    match (v.look(), w.look()) {
+        (Value::Int(x), Value::Int(y)) => Ok(Found::Made(values::sum(*x, *y)?)),
+        _ => sum_taken(alloc, v, w),
+    }
+}
+
+#[inline(never)]
+fn sum_taken<'a>(alloc: Global, v: Found<'a>, w: Found<'a>) -> Result<Found<'a>, Fault>
+    ensures ok { IfOk result (λ f. plus (found_view v.entry) (found_view w.entry) ≡ Ok (found_view f)) }
+    ensures err { IfErr result (λ e. e ≢ OutOfMemory → plus (found_view v.entry) (found_view w.entry) ≡ Err e) }
+{
     let left = v.take(alloc)?;
     let right = w.take(alloc)?;
     Ok(Found::Made(values::plus(left, right)?))
 }
 
+/// A value compared with one other, or the fault that was found in its place.
+#[inline(never)]
+pub(crate) fn compared_once<'a>(
+    operator: Operator,
+    v: Found<'_>,
+    w: Result<Found<'_>, Fault>,
+) -> Result<Found<'a>, Fault>
+    ensures { After w.entry result (λ u. truth_compared (found_view v.entry) ((operator, found_view u) ∷ [])) found_view }
+{
+    match w {
+        Ok(found) => {
+            let truth = values::compared(operator, v.look(), found.look())?;
+            Ok(Found::Made(value_of(truth)))
+        }
+        Err(fault) => Err(fault),
+    }
+}
+
 /// A chain of comparisons whose operands were all evaluated before, or the fault of one of them.
+#[inline(never)]
 pub(crate) fn compared<'a>(
     first: Found<'_>,
     others: Result<Vec<(Operator, Found<'_>)>, Fault>,
@@ -114,6 +145,7 @@ pub(crate) fn is_chosen(subject: &Option<Found<'_>>, v: Found<'_>) -> Result<boo
 }
 
 /// `v STARTS WITH w` and its like, or the fault that was found in the place of `w`.
+#[inline(never)]
 pub(crate) fn tested<'a>(
     test: TextTest,
     v: Found<'_>,
@@ -145,6 +177,7 @@ pub(crate) fn null_tested<'a>(is_negated: bool, v: Found<'_>) -> Found<'a>
 }
 
 /// NOT, so many times, or the fault that was found in the place of the value.
+#[inline(never)]
 pub(crate) fn negated<'a>(count: usize, v: Result<Found<'_>, Fault>) -> Result<Found<'a>, Fault>
     ensures { After v.entry result (λ u. all_negated count (found_view u)) found_view }
 {
@@ -168,6 +201,7 @@ fn turned(count: usize, t: Tri) -> Tri
 }
 
 /// The signs before a value, or the fault that was found in its place.
+#[inline(never)]
 pub(crate) fn all_signed<'a>(
     signs: &Vec<bool>,
     v: Result<Found<'a>, Fault>,

@@ -58,6 +58,7 @@ fn entry<'a>(entries: &'a BTreeMap<String, Value>, key: &str) -> Found<'a>
 }
 
 /// `v.key`; what stands in a map that was made moves out of it.
+#[inline(never)]
 pub(crate) fn property<'a, T: Tables>(
     graph: &Snapshot<'a, T>,
     value: Found<'a>,
@@ -85,6 +86,7 @@ pub(crate) fn property<'a, T: Tables>(
 }
 
 /// `v[i]`, or the fault that was found in the place of `i`.
+#[inline(never)]
 pub(crate) fn index<'a, T: Tables>(
     alloc: Global,
     graph: &Snapshot<'a, T>,
@@ -179,6 +181,7 @@ pub(crate) fn labels<'a, T: Tables>(
     }
 }
 
+#[inline(never)]
 fn node_labels<'a, T: Tables>(
     graph: &Snapshot<'a, T>,
     id: NodeId,

@@ -25,16 +25,24 @@ pub fn plus(v: Value, w: Value) -> Result<Value, Fault>
     }
 }
 
+/// The sum of two integers.
 #[tactic(auto, using(crate::proofs::Checked::in_sum))]
+pub fn sum(x: i64, y: i64) -> Result<Value, Fault>
+    ensures ok { IfOk result (λ u. plus (integer x) (integer y) ≡ Ok (view u)) }
+    ensures err { IfErr result (λ e. plus (integer x) (integer y) ≡ Err e) }
+{
+    match x.checked_add(y) {
+        Some(n) => Ok(Value::Int(n)),
+        None => Err(Fault::Overflow),
+    }
+}
+
 fn integer_plus(x: i64, w: Value) -> Result<Value, Fault>
     ensures ok { IfOk result (λ u. plus (integer x) (view w) ≡ Ok (view u)) }
     ensures err { IfErr result (λ e. e ≢ OutOfMemory → plus (integer x) (view w) ≡ Err e) }
 {
     match w.into_parts() {
-        Parts::Int(y) => match x.checked_add(y) {
-            Some(n) => Ok(Value::Int(n)),
-            None => Err(Fault::Overflow),
-        },
+        Parts::Int(y) => sum(x, y),
         w => other_plus(Value::Int(x), w.into_value()),
     }
 }

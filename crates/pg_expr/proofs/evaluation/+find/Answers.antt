@@ -1,11 +1,11 @@
-use Rattle.std.proofs.Common.{◌≡◌, Some, Ok, Err, ◌+◌, ◌∷◌, drop, map, refl, sym, ap, ◌∙◌, arith, length}
+use Rattle.std.proofs.Common.{◌≡◌, Some, Ok, Err, ◌+◌, [], ◌∷◌, get_or, drop, map, refl, sym, ap, ◌∙◌, arith, length}
 use Rattle.std.specs.Prelude.{option_map, string_bytes}
 use Rattle.pg_expr.proofs.AfterLemmas.{after}
 use Rattle.pg_expr.proofs.Turns as turn
 use Rattle.pg_expr.proofs.Turns.{fault_gives, no_memory, gives_by, told}
 use Rattle.pg_expr.proofs.Walks.{ok_by, err_by, of_call, of_chain, of_suffixes, chosen_case, otherwise_case, null_case, failed_case, joined, joined_pairs, each_of, pairs_given, first_of, true_of, chain_of, operands_given, tests_given, suffixes_given, next_item, no_more_items, next_pair, next_null, next_given, next_unmet, failed_when, met_value, met_fault, next_unknown, next_operand, no_more_operands, next_text_test, failed_text_test, next_index, failed_index}
 use Rattle.pg_expr.specs.Operators.{all_negated, truth_compared}
-use Rattle.pg_expr.specs.Sites.{found_view, founds_view, pairs_view, given, given_operands, given_perhaps, row_at, parameters_at}
+use Rattle.pg_expr.specs.Sites.{found_view, founds_view, pairs_view, given, given_compared, given_operands, given_perhaps, row_at, parameters_at}
 use Rattle.pg_meaning.specs.Answer.{◌>>=◌}
 use Rattle.pg_meaning.specs.Expressions.{all_signed, indexed, labelled, or_fault, property_of, tested}
 use Rattle.pg_meaning.specs.Entries.{at_key}
@@ -509,65 +509,15 @@ find-returns-in_err-found-in-Suffixes g t c =
     fault_gives c.in_err-found-in-Suffixes.field-0.0 c.from_residual-in_err-found-in-Suffixes.result c.from_residual-in_err-found-in-Suffixes.ensures.1
     (λ n. ap (λ e. given s graph (expression_view e)) a.is ∙ turn.failed_suffixes s graph a.inner a.suffixes a.names c.in_err-found-in-Suffixes.field-0.0 (turn.boxed s graph c.deref-in-Suffixes.ensures (c.in_err-found-in-Suffixes.ensures.err n)))
 
-pub find-returns-then-is_coalesce : goal.find-returns-then-is_coalesce
-find-returns-then-is_coalesce g t c =
-    let s = c.args.site.now in
-    let graph = c.args.graph.now in
-    let a = c.in-Call in
-    let es = expressions_of (map expression_view a.arguments.items) in
-    let named = ap function_named (sym c.as_str-in-Call.ensures.value) ∙ sym c.function_named.ensures ∙ ap (option_map function_view) c.in-Some.is in
-    gives_by c.first_given.result
-    (ap (λ e. given s graph (expression_view e)) a.is ∙ of_call s graph a.name a.field-1 a.field-2 a.arguments
-    ∙ turn.coalesced s graph (string_bytes a.name.text) es (function_view c.in-Some.function) named (sym c.is_coalesce.ensures ∙ c.if-is_coalesce.true))
-    c.first_given.ensures
-
-pub find-returns-else-is_coalesce : goal.find-returns-else-is_coalesce
-find-returns-else-is_coalesce g t c =
-    let s = c.args.site.now in
-    let graph = c.args.graph.now in
-    let a = c.in-Call in
-    let es = expressions_of (map expression_view a.arguments.items) in
-    let named = ap function_named (sym c.as_str-in-Call.ensures.value) ∙ sym c.function_named.ensures ∙ ap (option_map function_view) c.in-Some.is in
-    let f = function_view c.in-Some.function in
-    gives_by c.applied.result
-    (ap (λ e. given s graph (expression_view e)) a.is ∙ of_call s graph a.name a.field-1 a.field-2 a.arguments
-    ∙ turn.called s graph (string_bytes a.name.text) es f named (sym c.is_coalesce.ensures ∙ c.if-is_coalesce.false))
-    (after c.each-else-is_coalesce.result (each_of s graph a.arguments.items) (λ fs. founds_view fs.items) (λ vs. applied graph f vs) c.applied.result found_view c.each-else-is_coalesce.ensures.ok c.each-else-is_coalesce.ensures.err c.applied.ensures)
-
-pub find-returns-then-begins_comparison : goal.find-returns-then-begins_comparison
-find-returns-then-begins_comparison g t c =
-    let s = c.args.site.now in
-    let graph = c.args.graph.now in
-    let a = c.in-Chain in
-    let v = found_view c.in_ok-found-in-Chain.found in
-    let os = operands_of (map operand_view a.operands.items) in
-    gives_by c.compared.result
-    (ap (λ e. given s graph (expression_view e)) a.is
-    ∙ of_chain s graph a.first a.operands v (turn.boxed s graph c.deref-in-Chain.ensures c.in_ok-found-in-Chain.ensures.ok)
-    ∙ turn.of_comparisons s graph v os (sym c.begins_comparison.ensures ∙ c.if-begins_comparison.true))
-    (after c.each_operand.result (given_operands s graph os) (λ ps. pairs_view ps.items) (truth_compared v) c.compared.result found_view c.each_operand.ensures.ok c.each_operand.ensures.err c.compared.ensures)
-
-pub find-returns-else-begins_comparison : goal.find-returns-else-begins_comparison
-find-returns-else-begins_comparison g t c =
-    let s = c.args.site.now in
-    let graph = c.args.graph.now in
-    let a = c.in-Chain in
-    let v = found_view c.in_ok-found-in-Chain.found in
-    gives_by c.joined.result
-    (ap (λ e. given s graph (expression_view e)) a.is
-    ∙ of_chain s graph a.first a.operands v (turn.boxed s graph c.deref-in-Chain.ensures c.in_ok-found-in-Chain.ensures.ok)
-    ∙ turn.of_others s graph v (operands_of (map operand_view a.operands.items)) (sym c.begins_comparison.ensures ∙ c.if-begins_comparison.false))
-    c.joined.ensures
-
-pub find-returns-in_err-find-in-Some-subject : goal.find-returns-in_err-find-in-Some-subject
-find-returns-in_err-find-in-Some-subject g t c =
+pub find-returns-in_err-find-in-Some : goal.find-returns-in_err-find-in-Some
+find-returns-in_err-find-in-Some g t c =
     let s = c.args.site.now in
     let graph = c.args.graph.now in
     let a = c.in-Case in
-    let e = c.in_err-find-in-Some-subject in
+    let e = c.in_err-find-in-Some in
     fault_gives e.field-0.0 c.from_residual.result c.from_residual.ensures.1
     (λ n. ap (λ e. given s graph (expression_view e)) a.is
-    ∙ turn.failed_subject s graph a.subject a.whens a.otherwise c.in-Some-subject.inner e.field-0.0 c.in-Some-subject.is (turn.boxed s graph c.deref-in-Some-subject.ensures (e.ensures.err n)))
+    ∙ turn.failed_subject s graph a.subject a.whens a.otherwise c.in-Some.inner e.field-0.0 c.in-Some.is (turn.boxed s graph c.deref-in-Some.ensures (e.ensures.err n)))
 
 pub find-returns-in_err-chosen-in-Case : goal.find-returns-in_err-chosen-in-Case
 find-returns-in_err-chosen-in-Case g t c =
@@ -577,8 +527,8 @@ find-returns-in_err-chosen-in-Case g t c =
     let e = c.in_err-chosen-in-Case in
     let v = option_map found_view c.match-subject.tested in
     let there : given_perhaps s graph (perhaps_view a.subject) ≡ Ok v = elim c.match-subject.branch [
-      | goal.find-in-Some-subject+in_ok-find-in-Some-subject w ↦ turn.given_subject s graph w.in-Some-subject.inner (found_view w.in_ok-find-in-Some-subject.field-0) w.in-Some-subject.is (turn.boxed s graph w.deref-in-Some-subject.ensures w.in_ok-find-in-Some-subject.ensures.ok) ∙ ap (λ o. Ok (option_map found_view o)) (sym w.tested-is)
-      | goal.find-in-None-subject w ↦ turn.no_subject s graph w.in-None-subject.is ∙ ap (λ o. Ok (option_map found_view o)) (sym w.tested-is)
+      | goal.find-in-Some+in_ok-find-in-Some w ↦ turn.given_subject s graph w.in-Some.inner (found_view w.in_ok-find-in-Some.field-0) w.in-Some.is (turn.boxed s graph w.deref-in-Some.ensures w.in_ok-find-in-Some.ensures.ok) ∙ ap (λ o. Ok (option_map found_view o)) (sym w.tested-is)
+      | goal.find-in-None w ↦ turn.no_subject s graph w.in-None.is ∙ ap (λ o. Ok (option_map found_view o)) (sym w.tested-is)
     ] in
     fault_gives e.field-0.0 c.from_residual-in_err-chosen-in-Case.result c.from_residual-in_err-chosen-in-Case.ensures.1
     (λ n. ap (λ e. given s graph (expression_view e)) a.is ∙ failed_case s graph a.subject a.whens a.otherwise v there e.field-0.0 (e.ensures.err n))
@@ -591,8 +541,8 @@ find-returns-in-Some-chosen g t c =
     let o = c.in_ok-chosen-in-Case in
     let v = option_map found_view c.match-subject.tested in
     let there : given_perhaps s graph (perhaps_view a.subject) ≡ Ok v = elim c.match-subject.branch [
-      | goal.find-in-Some-subject+in_ok-find-in-Some-subject w ↦ turn.given_subject s graph w.in-Some-subject.inner (found_view w.in_ok-find-in-Some-subject.field-0) w.in-Some-subject.is (turn.boxed s graph w.deref-in-Some-subject.ensures w.in_ok-find-in-Some-subject.ensures.ok) ∙ ap (λ o. Ok (option_map found_view o)) (sym w.tested-is)
-      | goal.find-in-None-subject w ↦ turn.no_subject s graph w.in-None-subject.is ∙ ap (λ o. Ok (option_map found_view o)) (sym w.tested-is)
+      | goal.find-in-Some+in_ok-find-in-Some w ↦ turn.given_subject s graph w.in-Some.inner (found_view w.in_ok-find-in-Some.field-0) w.in-Some.is (turn.boxed s graph w.deref-in-Some.ensures w.in_ok-find-in-Some.ensures.ok) ∙ ap (λ o. Ok (option_map found_view o)) (sym w.tested-is)
+      | goal.find-in-None w ↦ turn.no_subject s graph w.in-None.is ∙ ap (λ o. Ok (option_map found_view o)) (sym w.tested-is)
     ] in
     record {
       ok = ap (λ e. given s graph (expression_view e)) a.is ∙ chosen_case s graph a.subject a.whens a.otherwise v there o.chosen o.ensures.ok c.in-Some-chosen.found c.in-Some-chosen.is;
@@ -607,8 +557,8 @@ find-returns-in-Some-otherwise g t c =
     let o = c.in_ok-chosen-in-Case in
     let v = option_map found_view c.match-subject.tested in
     let there : given_perhaps s graph (perhaps_view a.subject) ≡ Ok v = elim c.match-subject.branch [
-      | goal.find-in-Some-subject+in_ok-find-in-Some-subject w ↦ turn.given_subject s graph w.in-Some-subject.inner (found_view w.in_ok-find-in-Some-subject.field-0) w.in-Some-subject.is (turn.boxed s graph w.deref-in-Some-subject.ensures w.in_ok-find-in-Some-subject.ensures.ok) ∙ ap (λ o. Ok (option_map found_view o)) (sym w.tested-is)
-      | goal.find-in-None-subject w ↦ turn.no_subject s graph w.in-None-subject.is ∙ ap (λ o. Ok (option_map found_view o)) (sym w.tested-is)
+      | goal.find-in-Some+in_ok-find-in-Some w ↦ turn.given_subject s graph w.in-Some.inner (found_view w.in_ok-find-in-Some.field-0) w.in-Some.is (turn.boxed s graph w.deref-in-Some.ensures w.in_ok-find-in-Some.ensures.ok) ∙ ap (λ o. Ok (option_map found_view o)) (sym w.tested-is)
+      | goal.find-in-None w ↦ turn.no_subject s graph w.in-None.is ∙ ap (λ o. Ok (option_map found_view o)) (sym w.tested-is)
     ] in
     gives_by c.find-in-Some-otherwise.result
     (ap (λ e. given s graph (expression_view e)) a.is
@@ -624,10 +574,77 @@ find-returns-in-None-otherwise g t c =
     let o = c.in_ok-chosen-in-Case in
     let v = option_map found_view c.match-subject.tested in
     let there : given_perhaps s graph (perhaps_view a.subject) ≡ Ok v = elim c.match-subject.branch [
-      | goal.find-in-Some-subject+in_ok-find-in-Some-subject w ↦ turn.given_subject s graph w.in-Some-subject.inner (found_view w.in_ok-find-in-Some-subject.field-0) w.in-Some-subject.is (turn.boxed s graph w.deref-in-Some-subject.ensures w.in_ok-find-in-Some-subject.ensures.ok) ∙ ap (λ o. Ok (option_map found_view o)) (sym w.tested-is)
-      | goal.find-in-None-subject w ↦ turn.no_subject s graph w.in-None-subject.is ∙ ap (λ o. Ok (option_map found_view o)) (sym w.tested-is)
+      | goal.find-in-Some+in_ok-find-in-Some w ↦ turn.given_subject s graph w.in-Some.inner (found_view w.in_ok-find-in-Some.field-0) w.in-Some.is (turn.boxed s graph w.deref-in-Some.ensures w.in_ok-find-in-Some.ensures.ok) ∙ ap (λ o. Ok (option_map found_view o)) (sym w.tested-is)
+      | goal.find-in-None w ↦ turn.no_subject s graph w.in-None.is ∙ ap (λ o. Ok (option_map found_view o)) (sym w.tested-is)
     ] in
     record {
       ok = ap (λ e. given s graph (expression_view e)) a.is ∙ null_case s graph a.subject a.whens a.otherwise v there o.chosen o.ensures.ok c.in-None-chosen.is c.in-None-otherwise.is ∙ ap Ok (sym c.null.ensures);
       err = tt;
     }
+
+pub find-returns-in_ok-found-in-Chain : goal.find-returns-in_ok-found-in-Chain
+find-returns-in_ok-found-in-Chain g t c =
+    let s = c.args.site.now in
+    let graph = c.args.graph.now in
+    let a = c.in-Chain in
+    gives_by c.chain.result
+    (ap (λ e. given s graph (expression_view e)) a.is
+    ∙ of_chain s graph a.first a.operands (found_view c.in_ok-found-in-Chain.found) (turn.boxed s graph c.deref-in-Chain.ensures c.in_ok-found-in-Chain.ensures.ok))
+    c.chain.ensures
+
+pub find-returns-in-Call : goal.find-returns-in-Call
+find-returns-in-Call g t c =
+    let s = c.args.site.now in
+    let graph = c.args.graph.now in
+    let a = c.in-Call in
+    gives_by c.call.result (ap (λ e. given s graph (expression_view e)) a.is ∙ of_call s graph a.name a.field-1 a.field-2 a.arguments) c.call.ensures
+
+pub call-returns-then-is_coalesce : goal.call-returns-then-is_coalesce
+call-returns-then-is_coalesce g t c =
+    let es = expressions_of (map expression_view c.args.arguments.now.items) in
+    let named = ap function_named (sym c.as_str.ensures.value) ∙ sym c.function_named.ensures ∙ ap (option_map function_view) c.in-Some.is in
+    gives_by c.first_given.result
+    (turn.coalesced c.args.site.now c.args.graph.now (string_bytes c.args.name.now.text) es (function_view c.in-Some.function) named (sym c.is_coalesce.ensures ∙ c.if-is_coalesce.true))
+    c.first_given.ensures
+
+pub call-returns-else-is_coalesce : goal.call-returns-else-is_coalesce
+call-returns-else-is_coalesce g t c =
+    let s = c.args.site.now in
+    let graph = c.args.graph.now in
+    let items = c.args.arguments.now.items in
+    let named = ap function_named (sym c.as_str.ensures.value) ∙ sym c.function_named.ensures ∙ ap (option_map function_view) c.in-Some.is in
+    let f = function_view c.in-Some.function in
+    gives_by c.applied.result
+    (turn.called s graph (string_bytes c.args.name.now.text) (expressions_of (map expression_view items)) f named (sym c.is_coalesce.ensures ∙ c.if-is_coalesce.false))
+    (after c.each.result (each_of s graph items) (λ fs. founds_view fs.items) (λ vs. applied graph f vs) c.applied.result found_view c.each.ensures.ok c.each.ensures.err c.applied.ensures)
+
+pub chain-returns-then-not-begins_comparison : goal.chain-returns-then-not-begins_comparison
+chain-returns-then-not-begins_comparison g t c =
+    let os = operands_of (map operand_view c.args.operands.now.items) in
+    gives_by c.joined.result (turn.of_others c.args.site.now c.args.graph.now (found_view c.args.first) os (sym c.begins_comparison.ensures ∙ c.if-not-begins_comparison.true)) c.joined.ensures
+
+pub chain-returns-in-len1 : goal.chain-returns-in-len1
+chain-returns-in-len1 g t c =
+    let s = c.args.site.now in
+    let graph = c.args.graph.now in
+    let v = found_view c.args.first in
+    let os = operands_of (map operand_view c.args.operands.now.items) in
+    let items = c.as_slice.result.now in
+    let p = get_or items 0 c.index-operator-0.result in
+    let q = get_or items 0 c.index-operand-0.result in
+    let operand = expression_view q.1 in
+    gives_by c.compared_once.result
+    (turn.of_comparisons s graph v os (sym c.begins_comparison.ensures ∙ c.if-not-begins_comparison.false)
+    ∙ ap (given_compared s graph v) (turn.one_left items c.args.operands.now.items p q c.as_slice.ensures.value c.in-len1.len_at_least c.in-len1.len_below (ap (get_or items 0) c.index-operator-0.is) (ap (get_or items 0) c.index-operand-0.is))
+    ∙ turn.one_operand v p.0 (given s graph operand))
+    (after c.find.result (given s graph operand) found_view (λ w. truth_compared v ((p.0, w) ∷ [])) c.compared_once.result found_view c.find.ensures.ok c.find.ensures.err c.compared_once.ensures)
+
+pub chain-returns-in_default : goal.chain-returns-in_default
+chain-returns-in_default g t c =
+    let s = c.args.site.now in
+    let graph = c.args.graph.now in
+    let v = found_view c.args.first in
+    let os = operands_of (map operand_view c.args.operands.now.items) in
+    gives_by c.compared.result
+    (turn.of_comparisons s graph v os (sym c.begins_comparison.ensures ∙ c.if-not-begins_comparison.false))
+    (after c.each_operand.result (given_operands s graph os) (λ ps. pairs_view ps.items) (truth_compared v) c.compared.result found_view c.each_operand.ensures.ok c.each_operand.ensures.err c.compared.ensures)

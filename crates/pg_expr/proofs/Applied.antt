@@ -1,16 +1,18 @@
 -- A call's tests in their order.
-use Rattle.std.proofs.Common.{◌≡◌, true, false, List, [], ◌∷◌, ◌++◌, length, Ok, Err, refl, ap, sym, subst, Bool, arith}
+use Rattle.std.proofs.Common.{◌≡◌, ℤ, pos, true, false, List, [], ◌∷◌, ◌++◌, length, Result, Ok, Err, refl, ap, sym, subst, Bool, arith, ◌∙◌}
 use Rattle.std.specs.Prelude.{◌≢◌}
-use Rattle.pg_expr.specs.Calls.{is_range, IsNotOne}
+use Rattle.pg_expr.specs.Calls.{given_range, is_range, IsNotOne}
 use Rattle.pg_expr.specs.Sites.{found_view, founds_view}
 use Rattle.pg_expr.specs.declared.site.Found.{Found}
 use Rattle.pg_meaning.specs.Answer.{Answer, ◌>>=◌}
-use Rattle.pg_meaning.specs.Functions.{Function, applied, function_at, has_deleted, has_null}
+use Rattle.pg_meaning.specs.Functions.{Function, applied, function_at, has_deleted, has_null, integers_of, range_over}
 use Rattle.pg_meaning.specs.Functions as function
 use Rattle.pg_meaning.specs.Graph.{Graph}
 use Rattle.pg_meaning.specs.Measure.{made}
 use Rattle.pg_meaning.specs.Value.{Values, null, item, no_items}
 use Rattle.pg_meaning.specs.declared.fault.Fault.TheVariants.{DeletedEntity, UnknownFunction}
+use Rattle.pg_meaning.specs.declared.fault.Fault.{Fault}
+use Rattle.pg_expr_calls.proofs.RangeSizes.{made_range}
 
 module _ (g : Graph) (f : Function) (vs : Values) where
   abbrev whole : Answer
@@ -65,3 +67,19 @@ pub one_left : (fs rest : List Found) (x : Found) → fs ≡ rest ++ x ∷ [] �
 one_left fs [] x e h = ap founds_view e
 one_left fs (y ∷ []) x e h = let both = ap length e in absurd (omega arith)
 one_left fs (y ∷ z ∷ rest) x e h = let both = ap length e in absurd (omega arith)
+
+-- ---- range
+
+over_made : (is : List ℤ) → (range_over is >>= made) ≡ range_over is
+over_made [] = refl
+over_made (a ∷ []) = refl
+over_made (a ∷ b ∷ []) = made_range a b (pos 1)
+over_made (a ∷ b ∷ c ∷ []) = made_range a b c
+over_made (a ∷ b ∷ c ∷ d ∷ is) = refl
+
+pub ranged : (r : Result (List ℤ) Fault) → ((r >>= range_over) >>= made) ≡ (r >>= range_over)
+ranged (Ok is) = over_made is
+ranged (Err e) = refl
+
+pub range_when_whole : (g : Graph) (vs : Values) → has_deleted g vs ≡ false → has_null vs ≡ false → applied g function.range vs ≡ given_range vs
+range_when_whole g vs h k = when_whole g function.range vs h k ∙ ranged (integers_of vs)

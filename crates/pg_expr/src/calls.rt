@@ -64,6 +64,9 @@ pub(crate) fn applied<'a, T: Tables>(
     if has_null(&arguments) {
         return Ok(null());
     }
+    if matches!(function, Function::Range) {
+        return range_of(alloc, &arguments);
+    }
     let value = at_all(alloc, graph, function, arguments)?;
     made(value)
 }
@@ -108,13 +111,11 @@ fn at_all<'a, T: Tables>(
     function: Function,
     arguments: Vec<Found<'a>>,
 ) -> Result<Found<'a>, Fault>
-    requires { has_deleted graph.now (founds_view arguments.items) ≡ false }
+    requires there { has_deleted graph.now (founds_view arguments.items) ≡ false }
+    requires one { is_range (function_view function) ≡ false }
     ensures ok { IfOk result (λ f. function_at graph.now (function_view function) (founds_view arguments.entry.items) ≡ Ok (found_view f)) }
     ensures err { IfErr result (λ e. e ≢ OutOfMemory → function_at graph.now (function_view function) (founds_view arguments.entry.items) ≡ Err e) }
 {
-    if matches!(function, Function::Range) {
-        return range_of(alloc, &arguments);
-    }
     match only(arguments) {
         Some(argument) => at_one(alloc, graph, function, argument),
         None => Err(Fault::UnknownFunction),
@@ -135,6 +136,7 @@ fn only(arguments: Vec<Found<'_>>) -> Option<Found<'_>>
 }
 
 /// What a function of one argument gives.
+#[inline(never)]
 fn at_one<'a, T: Tables>(
     alloc: Global,
     graph: &Snapshot<'a, T>,
@@ -157,6 +159,7 @@ fn at_one<'a, T: Tables>(
 }
 
 /// What a function of one argument gives that only looks at it.
+#[inline(never)]
 fn at_look<T: Tables>(
     alloc: Global,
     graph: &Snapshot<'_, T>,
@@ -190,6 +193,7 @@ fn at_look<T: Tables>(
     }
 }
 
+#[inline(never)]
 fn to_text<'a>(alloc: Global, argument: Found<'a>) -> Result<Found<'a>, Fault>
     ensures ok { IfOk result (λ f. string_of (found_view argument.entry) ≡ Ok (found_view f)) }
     ensures err { IfErr result (λ e. e ≢ OutOfMemory → string_of (found_view argument.entry) ≡ Err e) }
@@ -199,6 +203,7 @@ fn to_text<'a>(alloc: Global, argument: Found<'a>) -> Result<Found<'a>, Fault>
 }
 
 /// The first item of a list, or its last.
+#[inline(never)]
 fn end_item<'a>(argument: Found<'a>, is_last: bool) -> Result<Found<'a>, Fault>
     ensures ok { IfOk result (λ f. item_at_end is_last (found_view argument.entry) ≡ Ok (found_view f)) }
     ensures err { IfErr result (λ e. item_at_end is_last (found_view argument.entry) ≡ Err e) }

@@ -37,6 +37,7 @@ pub(crate) fn number<T: Tables>(graph: &Snapshot<'_, T>, v: &Value) -> Result<Va
 }
 
 /// The labels of a node, in byte order.
+#[inline(never)]
 pub(crate) fn labels<T: Tables>(
     alloc: Global,
     graph: &Snapshot<'_, T>,
@@ -68,6 +69,7 @@ fn text_list(alloc: Global, all: &Vec<&str>) -> Result<Value, AllocError>
 }
 
 /// The type of a relationship.
+#[inline(never)]
 pub(crate) fn kind<T: Tables>(
     alloc: Global,
     graph: &Snapshot<'_, T>,
@@ -132,6 +134,7 @@ fn element_properties<T: Tables>(
 }
 
 /// The properties of an element or a map, as a map.
+#[inline(never)]
 pub(crate) fn properties<'a, T: Tables>(
     alloc: Global,
     graph: &Snapshot<'a, T>,
@@ -147,6 +150,7 @@ pub(crate) fn properties<'a, T: Tables>(
 }
 
 /// The keys of what has properties, in byte order.
+#[inline(never)]
 pub(crate) fn keys<T: Tables>(
     alloc: Global,
     graph: &Snapshot<'_, T>,

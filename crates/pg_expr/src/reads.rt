@@ -57,7 +57,7 @@ fn entry<'a>(entries: &'a BTreeMap<String, Value>, key: &str) -> Found<'a>
     lent_or_null(entries.get(key))
 }
 
-/// `v.key`; what stands in a map that was made moves out of it.
+/// `v.key`.
 #[inline(never)]
 pub(crate) fn property<'a, T: Tables>(
     graph: &Snapshot<'a, T>,
@@ -75,13 +75,26 @@ pub(crate) fn property<'a, T: Tables>(
             Value::Rel(id) => relationship_property(graph, *id, key),
             _ => Err(Fault::TypeFault),
         },
-        Found::Made(value) => match value.into_parts() {
-            Parts::Null => Ok(null()),
-            Parts::Map(entries) => Ok(Found::Made(value_at(entries, key))),
-            Parts::Node(id) => node_property(graph, id, key),
-            Parts::Rel(id) => relationship_property(graph, id, key),
-            _ => Err(Fault::TypeFault),
-        },
+        Found::Made(value) => property_made(graph, value, key),
+    }
+}
+
+/// What stands in a map that was made moves out of it.
+#[inline(never)]
+fn property_made<'a, T: Tables>(
+    graph: &Snapshot<'a, T>,
+    value: Value,
+    key: &str,
+) -> Result<Found<'a>, Fault>
+    ensures ok { IfOk result (λ f. property_of graph.now (view value) key.now ≡ Ok (found_view f)) }
+    ensures err { IfErr result (λ e. property_of graph.now (view value) key.now ≡ Err e) }
+{
+    match value.into_parts() {
+        Parts::Null => Ok(null()),
+        Parts::Map(entries) => Ok(Found::Made(value_at(entries, key))),
+        Parts::Node(id) => node_property(graph, id, key),
+        Parts::Rel(id) => relationship_property(graph, id, key),
+        _ => Err(Fault::TypeFault),
     }
 }
 
@@ -163,6 +176,7 @@ fn index_made<'a, T: Tables>(
 }
 
 /// Whether there are all the labels.
+#[inline(never)]
 pub(crate) fn labels<'a, T: Tables>(
     graph: &Snapshot<'a, T>,
     value: Found<'a>,

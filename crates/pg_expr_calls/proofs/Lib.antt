@@ -6,5 +6,6 @@ pub mod Spelling
 pub mod Numerals
 pub mod Paths
 pub mod RangeCounts
+pub mod RangeSizes
 pub mod RangeSteps
 pub mod Sums

@@ -23,7 +23,7 @@ pub fn integers_from(
     requires { AllFit count start step }
     ensures { IfOk result (λ vs. values_view vs.items ≡ integers_from count start step) }
 {
-    let mut items = Vec::new(alloc);
+    let mut items = Vec::with_capacity(alloc, count as usize)?;
     let mut next = start;
     for _k in 0..count {
         push_integer(&mut items, next)?;

@@ -33,6 +33,7 @@ fn weight_items(items: &Vec<Value>) -> u64
 }
 
 #[cycle(weight)]
+#[inline(never)]
 fn weight_entries(entries: &BTreeMap<String, Value>) -> u64
     ensures { result ≡ min (entries_weight (entries_view entries.now.entries)) (2 ^ 64 - 1) }
 {
@@ -69,6 +70,7 @@ fn depth_items(items: &Vec<Value>) -> u64
 }
 
 #[cycle(depth)]
+#[inline(never)]
 fn depth_entries(entries: &BTreeMap<String, Value>) -> u64
     ensures { result ≡ min (entries_depth (entries_view entries.now.entries)) (2 ^ 64 - 1) }
 {

@@ -2,14 +2,14 @@
 
 ghost use Rattle.std.specs.Prelude.{◌≡◌};
 ghost use Rattle.pg_meaning.specs.Answer.{◌>>=◌ as and_then};
-ghost use Rattle.pg_meaning.specs.Equality.{is_in3};
+ghost use Rattle.pg_meaning.specs.Equality.{eq3, is_in3};
 ghost use Rattle.pg_meaning.specs.Expressions.{is_in};
 ghost use Rattle.pg_meaning.specs.Logic.{value_of};
 ghost use Rattle.pg_value.specs.Membership.{membership};
 ghost use Rattle.pg_value_core.specs.View.{view, values_view};
 
 use crate::equality::eq3;
-use crate::logic::or;
+use crate::logic::{or, truth};
 use pg_value_core::{Fault, Tri, Value};
 
 /// Whether the value is in the list; a null may be any list, and no other type has members.
@@ -31,10 +31,22 @@ fn is_in_items(value: &Value, items: &Vec<Value>) -> Tri
 {
     let mut any = Tri::False;
     for item in items {
-        any = or(any, eq3(value, item));
+        any = or(any, equals(value, item));
         if let Tri::True = any {
             return Tri::True;
         }
     }
     any
+}
+
+/// `eq3`, whose common cases are told in place, since a list may be long.
+#[inline(always)]
+fn equals(value: &Value, item: &Value) -> Tri
+    ensures { result ≡ eq3 (view value.now) (view item.now) }
+{
+    match (value, item) {
+        (Value::Int(x), Value::Int(y)) => truth(*x == *y),
+        (Value::Text(x), Value::Text(y)) => truth(x == y),
+        _ => eq3(value, item),
+    }
 }

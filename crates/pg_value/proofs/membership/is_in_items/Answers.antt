@@ -9,7 +9,7 @@ use Rattle.pg_value.proofs.membership.is_in_items.Goals as goal
 pub loop-item-preserved : goal.loop-item-preserved
 loop-item-preserved c =
     let l = c.loop-item in
-    is_in_step l.any c.or-any.result c.args.value.now c.deref-item-items.result.now l.item-index c.item-item.result c.loop-item-test.true c.item-item.is (c.or-any.ensures ∙ ap (or3 l.any) c.eq3.ensures)
+    is_in_step l.any c.or-any.result c.args.value.now c.deref-item-items.result.now l.item-index c.item-item.result c.loop-item-test.true c.item-item.is (c.or-any.ensures ∙ ap (or3 l.any) c.equals.ensures)
     ∙ l.invariant
 
 pub returns-in-True : goal.returns-in-True
@@ -18,7 +18,7 @@ returns-in-True c =
     let items = c.deref-item-items.result.now in
     let left = is_in3 (view c.args.value.now) (values_view (drop (l.item-index + 1) items)) in
     sym (or_true left) ∙ ap (λ any. or3 any left) (sym c.in-True.is)
-    ∙ is_in_step l.any c.or-any.result c.args.value.now items l.item-index c.item-item.result c.loop-item-test.true c.item-item.is (c.or-any.ensures ∙ ap (or3 l.any) c.eq3.ensures)
+    ∙ is_in_step l.any c.or-any.result c.args.value.now items l.item-index c.item-item.result c.loop-item-test.true c.item-item.is (c.or-any.ensures ∙ ap (or3 l.any) c.equals.ensures)
     ∙ l.invariant ∙ ap (λ vs. is_in3 (view c.args.value.now) (values_view vs)) c.deref-item-items.ensures.value
 
 pub returns : goal.returns

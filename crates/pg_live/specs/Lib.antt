@@ -1,0 +1,5 @@
+pub mod Live
+pub mod LiveCode
+pub mod Settled
+pub mod Opening
+pub mod Held

@@ -1,0 +1,6 @@
+//! The graphs of all tenants over what they share, of which one is at work.
+#![tactic(auto)]
+
+mod live_graph;
+
+pub use live_graph::LiveGraph;

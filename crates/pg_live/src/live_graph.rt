@@ -15,6 +15,7 @@ use pg_graph::{NextIds, Tables};
 use pg_store::{Mark, Shared, Snapshot, Store};
 use pg_value_core::{NodeId, RelId, Value};
 use std::alloc::{AllocError, Global};
+use std::hash::RandomState;
 use std::marker::Model;
 use std::mem::swap;
 
@@ -44,15 +45,15 @@ impl<T: Tables> Model for LiveGraph<T> {
 }
 
 impl<T: Tables> LiveGraph<T> {
-    /// So many empty graphs, of which the first is at work.
-    pub fn new(alloc: Global, count: usize) -> Result<Self, AllocError>
+    /// So many empty graphs, of which the first is at work. The keys of hash tables are those of `hasher`.
+    pub fn new(alloc: Global, hasher: RandomState, count: usize) -> Result<Self, AllocError>
         requires some { 0 < count }
         requires few { count < 2 ^ 32 }
         ensures graphs { IfOk result (λ l. graphs_of l ≡ replicate count empty_graph) }
         ensures names { IfOk result (λ l. l.names ≡ []) }
         ensures unused { IfOk result (λ l. (owner : ℕ) → T.seen.is_unused owner l.tables) }
     {
-        let shared = Shared::new(alloc, T::new_shared(alloc));
+        let shared = Shared::new(alloc, hasher, T::new_shared(alloc));
         let mut others = empty_stores(alloc, count)?;
         let mut store = Store::new(alloc, count as u32);
         swap(&mut store, &mut others[0]);

@@ -5,6 +5,7 @@ mod command;
 mod fault;
 mod outcome;
 mod records;
+mod stack;
 
 use command::{Command, command_of};
 use fault::ProgramFault;
@@ -12,6 +13,7 @@ use outcome::{line_of, status_of};
 use pg_names::IndexedTexts;
 use pg_pool::PooledTables;
 use pg_server::{Config, Counted, End, ServeFault, Server, serve_on};
+use stack::{STACK_PAGES, take_stack};
 use std::hash::RandomState;
 use std::io::BufReader;
 use std::mem::ManuallyDrop;
@@ -32,6 +34,10 @@ fn main(rt: HostRuntime) -> ExitCode {
 /// Does what the words of the command line ask for.
 fn run_words(rt: &HostRuntime) -> Result<End, ProgramFault> {
     let words: Vec<String> = env::args(rt)?.skip(1).collect(rt.alloc())?;
+    // (their number is what no compiler knows)
+    if !take_stack(STACK_PAGES, words.len() as u64) {
+        return Err(ProgramFault::OutOfMemory);
+    }
     match command_of(&words) {
         Some(command) => serve(rt, command),
         None => Err(ProgramFault::Usage),

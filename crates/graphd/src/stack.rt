@@ -1,0 +1,27 @@
+//! The stack that requests need, taken before the first of them comes: where memory has run out, the system ends a
+//! program whose stack has no page to grow by, and can't refuse it that page.
+
+/// How many pages of stack are taken, 2 MiB: what the deepest text takes (`tools/deepest_texts --least`) and a quarter
+/// more. With a stack that is smaller the program ends at its start, and not at such a text.
+pub(crate) const STACK_PAGES: u32 = 512;
+
+/// Writes and reads so many pages of the stack, with any number in them. From then on they are the program's.
+#[inline(never)]
+pub(crate) fn take_stack(pages: u32, filling: u64) -> bool {
+    let page = [filling; 512];
+    if pages > 1 && !take_stack(pages - 1, filling) {
+        return false;
+    }
+    are_all(&page, filling)
+}
+
+/// Whether all numbers are this one. It stands apart so that no compiler sees that they are.
+#[inline(never)]
+fn are_all(numbers: &[u64], wanted: u64) -> bool {
+    for number in numbers {
+        if *number != wanted {
+            return false;
+        }
+    }
+    true
+}

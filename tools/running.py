@@ -1,0 +1,71 @@
+"""A graphd that runs, asked frame by frame, with its memory looked at or limited."""
+import json
+import resource
+import struct
+import subprocess
+from pathlib import Path
+
+from graphd_program import Failed
+
+
+def body(token, text, parameters=None):
+    """The body of a query."""
+    asked = {"op": "query", "token": token, "text": text}
+    if parameters:
+        asked["params"] = parameters
+    return json.dumps(asked, separators=(",", ":")).encode()
+
+
+def configuration(folder, cache, tenants):
+    """The path of a configuration: of each tenant its name, which begins its tokens, and its quotas of steps and elements."""
+    path = Path(folder) / "config.json"
+    found = []
+    for name, max_steps, max_elements in tenants:
+        tokens = [{"token": name + "1", "rights": "write"}, {"token": name + "2", "rights": "read"}]
+        found.append({"name": name, "max_steps": max_steps, "max_elements": max_elements, "tokens": tokens})
+    path.write_text(json.dumps({"cache": cache, "tenants": found}))
+    return path
+
+
+class Run:
+    """A program that runs, perhaps within so many bytes of addresses, and what it has used."""
+
+    def __init__(self, command, addresses=None):
+        limits = {"preexec_fn": lambda: resource.setrlimit(resource.RLIMIT_AS, (addresses, addresses))} if addresses else {}
+        self.child = subprocess.Popen(command, stdin=subprocess.PIPE, stdout=subprocess.PIPE, **limits)
+        self.about = Path("/proc") / str(self.child.pid)
+
+    def ask(self, request):
+        try:
+            self.child.stdin.write(struct.pack(">I", len(request)) + request)
+            self.child.stdin.flush()
+        except BrokenPipeError:
+            raise Failed("graphd ended while it was asked") from None
+        return self.take(int.from_bytes(self.take(4), "big"))
+
+    def take(self, count):
+        taken = self.child.stdout.read(count)
+        if len(taken) < count:
+            raise Failed(f"graphd ended while it was asked, with status {self.child.wait()}")
+        return taken
+
+    def held(self, word):
+        """So many KiB, as the system tells it under a word."""
+        return int((self.about / "status").read_text().split(word + ":")[1].split()[0])
+
+    def seconds(self):
+        """The processor time that it has had."""
+        return int((self.about / "schedstat").read_text().split()[0]) / 1e9
+
+    def forget_peak(self):
+        (self.about / "clear_refs").write_text("5")
+
+    def close(self):
+        """Lets it end, or stops it where it has more to do."""
+        try:
+            self.child.stdin.close()
+            self.child.stdout.close()
+            self.child.wait(timeout=10)
+        except (BrokenPipeError, subprocess.TimeoutExpired):
+            self.child.kill()
+            self.child.wait()

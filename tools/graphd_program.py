@@ -53,6 +53,27 @@ def program():
     return PROGRAM
 
 
+def bodies(output):
+    """The bodies of whole frames, and what is left behind them."""
+    found = []
+    while len(output) >= 4 and len(output) >= 4 + int.from_bytes(output[:4], "big"):
+        length = int.from_bytes(output[:4], "big")
+        found.append(output[4 : 4 + length])
+        output = output[4 + length :]
+    return found, output
+
+
+def fault_of(done, more, rest):
+    """What is wrong with the end of a run that was to end well: its status, what it told, so many replies more than requests, or bytes
+    behind the last whole one. None where nothing is."""
+    told = done.stderr.decode(errors="replace").strip()
+    if done.returncode or told:
+        return f"graphd ended with status {done.returncode}" + (f" and told: {told[-2000:]}" if told else "")
+    if more > 0 or rest:
+        return f"graphd wrote {max(more, 0)} replies and {len(rest)} bytes more than it was asked for"
+    return None
+
+
 class Session:
     """A running graphd, which answers a frame at a time."""
 

@@ -74,6 +74,15 @@ def fault_of(done, more, rest):
     return None
 
 
+def fault_of_child(child):
+    """The same of a child whose replies were all taken: it is let end."""
+    if child.stdin is None:
+        return f"graphd ended with status {child.wait()} before"
+    child.stdin.close()
+    rest, told = child.stdout.read(), child.stderr.read()
+    return fault_of(subprocess.CompletedProcess([], child.wait(), rest, told), 0, rest)
+
+
 class Session:
     """A running graphd, which answers a frame at a time."""
 
@@ -103,6 +112,10 @@ class Session:
         self.child.stdin = None
         told = self.child.communicate()[1].decode(errors="replace").strip()
         return told or f"graphd ended with status {self.child.returncode} and told nothing"
+
+    def fault(self):
+        """Lets graphd end, and says what is wrong with its end, or None."""
+        return fault_of_child(self.child)
 
     def close(self):
         """Lets graphd end, and gives its status."""

@@ -53,6 +53,36 @@ def program():
     return PROGRAM
 
 
+def bodies(output):
+    """The bodies of whole frames, and what is left behind them."""
+    found = []
+    while len(output) >= 4 and len(output) >= 4 + int.from_bytes(output[:4], "big"):
+        length = int.from_bytes(output[:4], "big")
+        found.append(output[4 : 4 + length])
+        output = output[4 + length :]
+    return found, output
+
+
+def fault_of(done, more, rest):
+    """What is wrong with the end of a run that was to end well: its status, what it told, so many replies more than requests, or bytes
+    behind the last whole one. None where nothing is."""
+    told = done.stderr.decode(errors="replace").strip()
+    if done.returncode or told:
+        return f"graphd ended with status {done.returncode}" + (f" and told: {told[-2000:]}" if told else "")
+    if more > 0 or rest:
+        return f"graphd wrote {max(more, 0)} replies and {len(rest)} bytes more than it was asked for"
+    return None
+
+
+def fault_of_child(child):
+    """The same of a child whose replies were all taken: it is let end."""
+    if child.stdin is None:
+        return f"graphd ended with status {child.wait()} before"
+    child.stdin.close()
+    rest, told = child.stdout.read(), child.stderr.read()
+    return fault_of(subprocess.CompletedProcess([], child.wait(), rest, told), 0, rest)
+
+
 class Session:
     """A running graphd, which answers a frame at a time."""
 
@@ -82,6 +112,10 @@ class Session:
         self.child.stdin = None
         told = self.child.communicate()[1].decode(errors="replace").strip()
         return told or f"graphd ended with status {self.child.returncode} and told nothing"
+
+    def fault(self):
+        """Lets graphd end, and says what is wrong with its end, or None."""
+        return fault_of_child(self.child)
 
     def close(self):
         """Lets graphd end, and gives its status."""

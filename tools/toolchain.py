@@ -4,6 +4,7 @@ import hashlib
 import importlib.machinery
 import importlib.util
 import os
+import re
 import shutil
 
 
@@ -15,6 +16,8 @@ def load():
 
 
 rt = load()
+# what the prover says where a proof names what is gone: a goal, a step of a body, a definition
+GONE = re.compile(r"has no `[^`]+` that can be named|has no field|is not in scope|has no `|was not admitted|is no name")
 
 
 def texts_of(crate):

@@ -80,7 +80,7 @@ class Lines:
     def refused(self, fault, where):
         place = fault.place
         at = {"line": place.line, "column": place.column, "why": place.why} if place else {}
-        self._line({"code": fault.code, "error": fault.name, **at})
+        self._line({"code": fault.code, "error": fault.name, **at, **({"where": where} if where else {})})
 
     def _line(self, told):
         print(json.dumps(told, ensure_ascii=False), flush=True)

@@ -116,6 +116,36 @@ class Requests(unittest.TestCase):
                 graph.query("RETURN 1 / 0")
             self.assertIsNone(refused.exception.place)
 
+    def test_faults_of_texts_are_told(self):
+        # a text, the number of its fault, line and column, and a part of what is told
+        told = [
+            ("MATCH (n RETURN n", 7, 1, 10, "RETURN can't stand here: wanted is ':', '{' or ')'"),
+            ("RETURN 1 +", 7, 1, 11, "the text ends: wanted is an expression"),
+            ("MATCH (n)\r\nRETRUN n", 7, 2, 1, "did you mean RETURN?"),
+            ("RETURN 1.5", 7, 1, 10, "no fractions"),
+            ("RETURN 1 == 1", 7, 1, 11, "equal is ="),
+            ("RETURN 1 != 1", 6, 1, 10, "unequal is <>"),
+            ("MATCH (n) WHERE n.k =~ 'a' RETURN n", 6, 1, 22, "no regular expressions"),
+            ("RETURN 'a\\x'", 6, 1, 10, "no such escape"),
+            ("RETURN 'a", 6, 1, 8, "isn't closed"),
+            ("RETURN 007", 6, 1, 8, "leading zero"),
+            ("RETURN " + "(" * 65 + "1" + ")" * 65, 8, 1, 72, "64 deep"),
+            ("MATCH (n)\n RETURN m", 9, 2, 9, "the variable m isn't in scope"),
+            ("UNWIND [1] AS x UNWIND [2] AS x RETURN x", 10, 1, 31, "of this name already"),
+            ("RETURN count(*) + 1", 11, 1, 8, "name it by WITH"),
+            ("MATCH (a)-[:T*]->(b) RETURN b", 12, 1, 10, "upper bound"),
+            ("CREATE (a)-[:T]-(b)", 12, 1, 11, "one direction"),
+            ("RETURN sise([])", 13, 1, 8, "did you mean size?"),
+            ("RETURN range(1)", 13, 1, 8, "range takes 2 to 3 arguments"),
+            ("RETURN 1 AS x, 2 AS x", 14, 1, 16, "of this name already"),
+            ("RETURN $x, $y", 15, 1, 8, "the parameter $x has no value"),
+        ]
+        for text, *wanted, part in told:
+            found = graphd.fault_of(text)
+            self.assertEqual([found.code, found.line, found.column], wanted, text)
+            self.assertIn(part, found.why)
+        self.assertIsNone(graphd.fault_of("MATCH (n) RETURN $x", ["x"]))
+
     def test_each_refusal_has_a_class(self):
         for code, kind in graphd.REFUSALS.items():
             self.assertEqual((kind.code, kind.name, getattr(graphd, kind.name)), (code, kind.__name__, kind))

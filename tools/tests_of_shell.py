@@ -78,6 +78,7 @@ class Scripts(unittest.TestCase):
         status, told, _ = shell(CONFIG, "a1", text="RETURN;\nRETURN 1")
         lines = told.splitlines()
         self.assertEqual((status, len(lines), json.loads(lines[0])["error"]), (1, 2, "BadSyntax"))
+        self.assertEqual(json.loads(lines[0])["where"], "standard input: statement 1, line 1")
 
     def test_a_refusal_shows_its_place(self):
         status, _, told = shell(CONFIG, "a1", "-c", "RETURN 1;\nMATCH (n)\n  RETRUN n;", "--format", "table")
@@ -287,6 +288,13 @@ class Typed(unittest.TestCase):
                 typed.type(":quit\n")
                 self.assertEqual(typed.ended(), 0)
             self.assertEqual((made / ".graphsh_history").read_text().splitlines(), ["RETURN 1 AS x, 'a  b' AS y;", ":quit"])
+
+    def test_long_tables_are_paged(self):
+        for words, wanted in (([], "paged:98 "), (["--no-pager"], "\n98 ")):
+            with Terminal(CONFIG, "a1", *words, PAGER="sed s/^/paged:/") as typed:
+                typed.wait_for(PROMPT)
+                typed.type("UNWIND range(1, 98) AS x RETURN x, 1 AS y;\n")
+                self.assertIn(wanted, typed.wait_for(r"98 rows, "))
 
     def test_keywords_are_completed(self):
         with Terminal(CONFIG, "a1") as typed:

@@ -30,11 +30,11 @@ def _length(header: bytes) -> int:
 
 
 class Connection:
-    """One stream of requests and replies. `is_lost` tells that it can't be used again, `reopens` whether another one would serve the same
-    graphs."""
+    """One stream of requests and replies. `is_lost` tells that it can't be used again, and `may_reopen` that a request which wasn't sent
+    may be sent over another one: the server closed this one, and serves the same graphs over all."""
 
     is_lost = False
-    reopens = True
+    may_reopen = False
 
     def exchange(self, body: bytes, timeout: Optional[float]) -> bytes:
         """The body of the reply to a request's body. `timeout` is in seconds, None for none."""
@@ -90,7 +90,7 @@ class SocketConnection(Connection):
     def exchange(self, body: bytes, timeout: Optional[float]) -> bytes:
         until = None if timeout is None else time.monotonic() + timeout
         if self.is_lost or self._has_ended():
-            self.is_lost = True
+            self.is_lost = self.may_reopen = True
             raise NotSent("the server had closed the connection")
         self.is_lost = True
         self._send(framed(body), until)
@@ -121,6 +121,7 @@ class SocketConnection(Connection):
         except socket.timeout:
             raise NotSent("the server takes no request in time") from None
         except OSError as fault:
+            self.may_reopen = True
             raise NotSent(f"the connection ended before the request was sent: {_told(fault)}") from None
 
     def _take(self, count: int, until: Optional[float]) -> bytes:
@@ -155,8 +156,6 @@ class ProgramConnection(Connection):
     reply is dropped when it comes, and the next request is answered by its own. The program runs in a session of its own, so an
     interrupt typed at a terminal doesn't end it.
     """
-
-    reopens = False
 
     def __init__(self, command: Sequence[str]) -> None:
         pipe = subprocess.PIPE

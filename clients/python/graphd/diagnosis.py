@@ -8,7 +8,7 @@ import difflib
 from typing import Collection, Dict, List, NamedTuple, Optional, Sequence, Tuple
 
 from . import reader
-from .lexemes import KEYWORDS, Token, Unreadable
+from .lexemes import BAD_LEXEME, KEYWORDS, Token, Unreadable
 from .reader import AGGREGATES, ARGUMENTS, BAD_SYNTAX, MISSING_PARAMETER, TEXT_TOO_LONG, UNDEFINED, UNKNOWN_FUNCTION
 
 CLAUSES = ["OPTIONAL MATCH", "MATCH", "UNWIND", "CREATE", "MERGE", "SET", "REMOVE", "DETACH DELETE", "DELETE", "WITH", "RETURN"]
@@ -37,7 +37,6 @@ INSTEAD: Dict[str, str] = {
     "shortestpath": "there is no shortestPath: MATCH p = (a)-[*1..6]-(b) .. ORDER BY length(p) LIMIT 1",
     "allshortestpaths": "there is no allShortestPaths: MATCH p = (a)-[*1..6]-(b) .. ORDER BY length(p)",
     "elementid": "there is no elementId: id(n) gives the id, a whole number",
-    "exists(": "write n.k IS NOT NULL",
     "timestamp": "the time comes as a parameter: an answer follows from the request and the graph alone",
     "datetime": "there are no dates and times: pass a number or a text such as '2024-05-31', which sorts as dates do",
     "date": "there are no dates and times: pass a number or a text such as '2024-05-31', which sorts as dates do",
@@ -49,6 +48,10 @@ INSTEAD: Dict[str, str] = {
 }
 OF_TEXTS = "toupper tolower upper lower split substring replace trim ltrim rtrim left right reverse".split()
 INSTEAD.update((name, "texts are computed in the client: store what you look for as a property of its own") for name in OF_TEXTS)
+
+
+# signs that the language lacks, with the character before each or a blank
+SIGNS = {"!=": "unequal is <>", "=~": "there are no regular expressions: STARTS WITH, ENDS WITH, CONTAINS"}
 
 
 class Place(NamedTuple):
@@ -138,6 +141,7 @@ def fault_of(text: str, given: Sequence[str] = ()) -> Optional[Place]:
         tokens = reader.tokens_of(text)
     except Unreadable as fault:
         why = f"the text is above {reader.LONGEST_TEXT} bytes" if fault.number == TEXT_TOO_LONG else fault.why
+        why = SIGNS.get(text[max(0, fault.place - 1) : fault.place + 2].strip(), why) if fault.number == BAD_LEXEME else why
         return _place(text, fault.number, fault.place, 1, why)
     reader.allow_calls()
     watched = Watched(text, tokens)
@@ -150,7 +154,7 @@ def fault_of(text: str, given: Sequence[str] = ()) -> Optional[Place]:
         return _of_scope(text, tokens, *min(faults))
     for token in tokens:
         if token.kind == "parameter" and token.value not in given:
-            return _of_token(text, MISSING_PARAMETER, token, f"the parameter ${token.value} has no value")
+            return _of_token(text, MISSING_PARAMETER, token, f"the parameter ${token.value} has no value: give it with the request, in the shell by :param")
     return None
 
 
@@ -166,9 +170,8 @@ def _of_grammar(text: str, watched: Watched) -> Place:
     token, wanted = watched.tokens[at], _grouped(watched.wanted)
     seen = text[token.place : token.end]
     met = "the text ends" if token.kind == "end" else f"{_cut(seen)} can't stand here"
-    advice = _instead(watched.tokens, at) or _meant(seen, watched.wanted)
-    told = f"wanted is {_listed(wanted)}" if wanted else ""
-    return _of_token(text, BAD_SYNTAX, token, "; ".join(part for part in (met, advice, told) if part))
+    advice = _instead(watched.tokens, at) or _meant(seen, watched.wanted) or (f"wanted is {_listed(wanted)}" if wanted else "")
+    return _of_token(text, BAD_SYNTAX, token, f"{met}: {advice}" if advice else met)
 
 
 def _cut(seen: str) -> str:
@@ -185,7 +188,8 @@ def _grouped(wanted: List[str]) -> List[str]:
     return found
 
 
-def _listed(words: List[str]) -> str:
+def _listed(wanted: List[str]) -> str:
+    words = [what if any(map(str.isalpha, what)) else f"'{what}'" for what in wanted]
     return words[0] if len(words) == 1 else f"{', '.join(words[:-1])} or {words[-1]}"
 
 
@@ -195,8 +199,11 @@ def _instead(tokens: List[Token], at: int) -> str:
         advice = INSTEAD.get(str(token.value).lower()) if token.kind == "word" else None
         if advice:
             return advice
-    if at > 0 and tokens[at].value == "=" and tokens[at - 1].value in ("=", "!"):
+    before = tokens[at - 1] if at > 0 else tokens[at]
+    if tokens[at][:2] == before[:2] == ("symbol", "="):
         return "equal is =, unequal <>"
+    if tokens[at].kind == "integer" and before[:2] == ("symbol", "."):
+        return "there are no fractions: whole numbers in a smaller unit"
     return ""
 
 
@@ -212,18 +219,16 @@ ABOUT = {
     reader.ALREADY_BOUND: "there is a variable of this name already",
     reader.BAD_AGGREGATE: "an aggregate may only be a whole item of WITH or RETURN: name it by WITH, and compute with the name",
     reader.DUPLICATE_COLUMN: "there is a column of this name already: name one by AS",
-    reader.BAD_PATTERN: "a range has an upper bound of at most 16; CREATE and MERGE need one type and no range, CREATE one direction; a "
-    "parameter for all properties stands in CREATE alone; a key stands once",
 }
 
 
-def _of_scope(text: str, tokens: List[Token], place: int, code: int) -> Place:
+def _of_scope(text: str, tokens: List[Token], place: int, code: int, why: str) -> Place:
     token = next(token for token in tokens if token.place <= place < token.end)
     if code == UNDEFINED:
         return _of_token(text, code, token, _undefined(tokens, token))
     if code == UNKNOWN_FUNCTION:
         return _of_token(text, code, token, _unknown_function(text[token.place : token.end]))
-    return _of_token(text, code, token, ABOUT[code])
+    return _of_token(text, code, token, why or ABOUT[code])
 
 
 def _undefined(tokens: List[Token], token: Token) -> str:
@@ -241,9 +246,11 @@ def _unknown_function(name: str) -> str:
         return f"{name} takes one argument" + (", or *" if low == "count" else "")
     if low in ARGUMENTS:
         return f"{name} takes {_count(*ARGUMENTS[low])}, without DISTINCT and *"
+    advice = INSTEAD.get(low, "")
     near = difflib.get_close_matches(low, [*ARGUMENTS, *AGGREGATES], 1, 0.75)
-    advice = INSTEAD.get(low) or (f"did you mean {near[0]}?" if near else "")
-    return f"there is no function {name}" + (f": {advice}" if advice else "")
+    if near and not advice:
+        advice = f"did you mean {near[0]}?"
+    return advice if advice.startswith("there ") else f"there is no function {name}" + (f": {advice}" if advice else "")
 
 
 def _count(least: int, greatest: Optional[int]) -> str:

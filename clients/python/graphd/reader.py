@@ -554,15 +554,19 @@ def is_aggregate(expr: Expr) -> bool:
     return expr.kind == "call" and expr.value[0] in AGGREGATES
 
 
+# place, number, and what is wrong where the number says too little
+Fault = Tuple[int, int, str]
+
+
 class Checker:
-    """Gathers the faults of clauses, each as its place and number."""
+    """Gathers the faults of clauses, each as its place, its number and, where the number says too little, what is wrong."""
 
     def __init__(self) -> None:
         self.scope: Set[str] = set()
-        self.faults: List[Tuple[int, int]] = []
+        self.faults: List[Fault] = []
 
-    def fault(self, place: int, number: int) -> None:
-        self.faults.append((place, number))
+    def fault(self, place: int, number: int, why: str = "") -> None:
+        self.faults.append((place, number, why))
 
     def expression(self, expr: Expr, scope: Set[str], may_aggregate: bool = False) -> None:
         if expr.kind == "variable" and expr.value not in scope:
@@ -643,22 +647,22 @@ class Checker:
         if rel.variable:
             self.bind_once(rel.variable, nodes, others)
         if rel.range and (rel.range[1] is None or rel.range[1] > GREATEST_BOUND):
-            self.fault(rel.place, BAD_PATTERN)
+            self.fault(rel.place, BAD_PATTERN, f"a range has an upper bound, of at most {GREATEST_BOUND}: [*1..{GREATEST_BOUND}]")
         if kind != "MATCH" and (rel.range or len(rel.types) != 1):
-            self.fault(rel.place, BAD_PATTERN)
+            self.fault(rel.place, BAD_PATTERN, f"a relationship of {kind} has one type, and no range: -[:TYPE]->")
         if kind == "CREATE" and sum(rel.heads) != 1:
-            self.fault(rel.place, BAD_PATTERN)
+            self.fault(rel.place, BAD_PATTERN, "a relationship of CREATE has one direction: -[:TYPE]-> or <-[:TYPE]-")
 
     def properties(self, element: Any, kind: str) -> None:
         properties = element.properties
         if properties is None:
             return
         if properties.parameter is not None and kind != "CREATE":
-            self.fault(element.place, BAD_PATTERN)
+            self.fault(element.place, BAD_PATTERN, f"a parameter for all properties stands in CREATE alone: {{key: ${properties.parameter}.key}}")
         seen: Set[str] = set()
         for key in properties.keys:
             if key.name in seen:
-                self.fault(key.place, BAD_PATTERN)
+                self.fault(key.place, BAD_PATTERN, f"the key {key.name} stands here twice")
             seen.add(key.name)
         for value in properties.values:
             self.expression(value, self.scope)
@@ -694,7 +698,7 @@ class Checker:
         return columns
 
 
-def static_faults(clauses: List[Clause]) -> List[Tuple[int, int]]:
+def static_faults(clauses: List[Clause]) -> List[Fault]:
     checker = Checker()
     for clause in clauses:
         checker.clause(clause)

@@ -28,9 +28,12 @@ class Requests:
     def query(self, text: str, params: Optional[Mapping[str, Parameter]] = None, /, **named: Parameter) -> Result:
         """Asks a query. Its parameters `$name` are given as a dict, by name, or both ways.
 
-        Raises a TypeError or a ValueError, and sends nothing, where a parameter is no value of graphd's.
+        Raises a TypeError or a ValueError, and sends nothing, where the text is none or a parameter is no value of graphd's.
         """
         given = _together(params, named)
+        if not isinstance(text, str):
+            raise TypeError(f"a query is a text, and not of type {type(text).__name__}")
+        check_parameter("the query", text)
         for name, value in given.items():
             check_parameter(name, value)
         request: Dict[str, Any] = {"op": "query", "text": text}
@@ -154,7 +157,7 @@ class Session(Requests):
         try:
             return connection.exchange(body, self.timeout)
         except NotSent:
-            if not connection.reopens:
+            if not connection.may_reopen:
                 raise
             connection.close()
             self._connection = connection = self._opened()
@@ -204,7 +207,7 @@ class Pool(Requests):
         try:
             return connection.exchange(body, self.timeout)
         except NotSent:
-            if kept is None:
+            if not connection.may_reopen:
                 raise
             connection.close()
             connection = self._opened()

@@ -1,6 +1,8 @@
 """Tests of the client library."""
 import contextlib
+import io
 import json
+import re
 import shutil
 import signal
 import socket
@@ -296,6 +298,18 @@ class Connections(unittest.TestCase):
 
 
 class Package(unittest.TestCase):
+    def test_the_examples_of_its_page(self):
+        page = (ROOT / "clients" / "python" / "README.md").read_text()
+        blocks = re.findall(r"```python\n(.*?)```", page, re.DOTALL)
+        with gateway(CONFIG) as server:
+            for block in blocks:
+                told = io.StringIO()
+                with contextlib.redirect_stdout(told):
+                    exec(block.replace("7687", str(server.port)), {})
+                self.assertTrue(told.getvalue())
+        self.assertEqual(len(blocks), 3)
+        self.assertIn("9 UndefinedVariable 2 8 the variable servce isn't in scope here: did you mean service?", told.getvalue())
+
     def test_types(self):
         if shutil.which("mypy") is None:
             self.skipTest("mypy isn't there")

@@ -148,6 +148,24 @@ class Requests(unittest.TestCase):
             self.assertIn(part, found.why)
         self.assertIsNone(graphd.fault_of("MATCH (n) RETURN $x", ["x"]))
 
+    def test_faults_of_long_texts_are_told_soon(self):
+        began = time.monotonic()
+        long = "a" * 30_000
+        for text, code in [
+            ("RETURN " + "1 + " * 15_000 + "x", 9),
+            ("RETURN " + "1 + " * 7_000 + "1 AS a ORDER BY " + "1 + " * 7_000 + "x", 9),
+            (f"UNWIND [1] AS {long}b RETURN {long}c", 9),
+            (f"RETURN {long}x(1)", 13),
+            (f"RETURN 1 {long}", 7),
+            ("UNWIND [" + ", ".join(f"a{n}" for n in range(8_000)) + "] AS x RETURN 1", 9),
+            ("RETURN " + "[" * 60_000, 8),
+            ("RETURN '" + "a" * 60_000, 6),
+            ("RETURN " + "1" * 60_000, 6),
+            ("RETURN x" + ".y" * 30_000, 9),
+        ]:
+            self.assertEqual(graphd.fault_of(text).code, code, text[:40])
+        self.assertLess(time.monotonic() - began, 20)
+
     def test_each_refusal_has_a_class(self):
         for code, kind in graphd.REFUSALS.items():
             self.assertEqual((kind.code, kind.name, getattr(graphd, kind.name)), (code, kind.__name__, kind))

@@ -17,6 +17,8 @@ OPERATORS += ["STARTS WITH", "ENDS WITH", "CONTAINS", "IN", "IS NULL", "IS NOT N
 AN_EXPRESSION, A_NAME = "an expression", "a name"
 KINDS = {"word": A_NAME, "quoted": A_NAME, "keyword": A_NAME, "end": "the end", "integer": "a number", "parameter": "a parameter"}
 
+LONGEST_WORD, MOST_WORDS = 40, 1000  # letters of words that are compared, and how many words
+
 # what people who know Cypher write first, by the word that the reader stops at or before, and what to write instead
 INSTEAD: Dict[str, str] = {
     "union": "there is no UNION: send two requests",
@@ -154,7 +156,7 @@ def fault_of(text: str, given: Sequence[str] = ()) -> Optional[Place]:
         return _of_scope(text, tokens, *min(faults))
     for token in tokens:
         if token.kind == "parameter" and token.value not in given:
-            return _of_token(text, MISSING_PARAMETER, token, f"the parameter ${token.value} has no value: give it with the request, in the shell by :param")
+            return _of_token(text, MISSING_PARAMETER, token, f"the parameter ${_cut(str(token.value))} has no value: give it with the request, in the shell by :param")
     return None
 
 
@@ -207,10 +209,17 @@ def _instead(tokens: List[Token], at: int) -> str:
     return ""
 
 
+def _near(word: str, words: Collection[str]) -> str:
+    """A question after the word that is most like this one, where one is. Long words, and all but the first thousand, aren't looked at,
+    since to compare takes time of the product of their lengths."""
+    short = [it for it in words if len(it) <= LONGEST_WORD and it != word][:MOST_WORDS]
+    near = difflib.get_close_matches(word, short, 1, 0.7) if len(word) <= LONGEST_WORD else []
+    return f"did you mean {near[0]}?" if near else ""
+
+
 def _meant(seen: str, wanted: List[str]) -> str:
     words = sorted({word for what in wanted for word in what.split() if word in KEYWORDS})
-    near = difflib.get_close_matches(seen.upper(), words, 1, 0.7) if seen.isalpha() and seen.upper() not in words else []
-    return f"did you mean {near[0]}?" if near else ""
+    return _near(seen.upper(), words) if seen.isalpha() and seen.upper() not in words else ""
 
 
 # Scope
@@ -234,10 +243,9 @@ def _of_scope(text: str, tokens: List[Token], place: int, code: int, why: str) -
 def _undefined(tokens: List[Token], token: Token) -> str:
     if token.value == "*":
         return "there is no variable that * could stand for"
-    others = {other.value for other in tokens if other.kind in ("word", "quoted") and other.value != token.value}
-    near = difflib.get_close_matches(str(token.value), sorted(others), 1, 0.75)
-    told = f"the variable {token.value} isn't in scope here"
-    return f"{told}: did you mean {near[0]}?" if near else f"{told}: WITH passes on only what it names"
+    others = dict.fromkeys(other.value for other in tokens if other.kind in ("word", "quoted"))
+    near = _near(str(token.value), others)
+    return f"the variable {_cut(str(token.value))} isn't in scope here: {near or 'WITH passes on only what it names'}"
 
 
 def _unknown_function(name: str) -> str:
@@ -246,11 +254,8 @@ def _unknown_function(name: str) -> str:
         return f"{name} takes one argument" + (", or *" if low == "count" else "")
     if low in ARGUMENTS:
         return f"{name} takes {_count(*ARGUMENTS[low])}, without DISTINCT and *"
-    advice = INSTEAD.get(low, "")
-    near = difflib.get_close_matches(low, [*ARGUMENTS, *AGGREGATES], 1, 0.75)
-    if near and not advice:
-        advice = f"did you mean {near[0]}?"
-    return advice if advice.startswith("there ") else f"there is no function {name}" + (f": {advice}" if advice else "")
+    advice = INSTEAD.get(low) or _near(low, [*ARGUMENTS, *AGGREGATES, *INSTEAD])
+    return advice if advice.startswith("there ") else f"there is no function {_cut(name)}" + (f": {advice}" if advice else "")
 
 
 def _count(least: int, greatest: Optional[int]) -> str:

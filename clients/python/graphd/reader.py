@@ -52,8 +52,15 @@ class Expr(NamedTuple):
     parts: Tuple[Any, ...] = ()
 
     def tree(self) -> Tuple[Any, ...]:
-        """The expression without its places, so that equal ones compare so."""
-        return self.kind, self.value, tuple(part.tree() for part in self.parts)
+        """The expression without its places, so that equal ones compare so: its parts in text order, each with the number of its own
+        parts. (A sum of many terms is deeper than Python calls.)"""
+        found: List[Any] = []
+        left: List[Expr] = [self]
+        while left:
+            expr = left.pop()
+            found.append((expr.kind, expr.value, len(expr.parts)))
+            left += reversed(expr.parts)
+        return tuple(found)
 
 
 class Variable(NamedTuple):
@@ -569,16 +576,18 @@ class Checker:
         self.faults.append((place, number, why))
 
     def expression(self, expr: Expr, scope: Set[str], may_aggregate: bool = False) -> None:
-        if expr.kind == "variable" and expr.value not in scope:
-            self.fault(expr.place, UNDEFINED)
-        if is_aggregate(expr) and not may_aggregate:
-            self.fault(expr.place, BAD_AGGREGATE)
-        if expr.kind == "call":
-            name, is_star, is_distinct = expr.value
-            if not fits_call(name, is_star, is_distinct, len(expr.parts)):
-                self.fault(expr.place, UNKNOWN_FUNCTION)
-        for part in expr.parts:
-            self.expression(part, scope)
+        left = [expr]
+        while left:
+            part = left.pop()
+            if part.kind == "variable" and part.value not in scope:
+                self.fault(part.place, UNDEFINED)
+            if is_aggregate(part) and not (may_aggregate and part is expr):
+                self.fault(part.place, BAD_AGGREGATE)
+            if part.kind == "call":
+                name, is_star, is_distinct = part.value
+                if not fits_call(name, is_star, is_distinct, len(part.parts)):
+                    self.fault(part.place, UNKNOWN_FUNCTION)
+            left += part.parts
 
     def clause(self, clause: Clause) -> None:
         if clause.kind in ("WITH", "RETURN"):

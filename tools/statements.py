@@ -78,13 +78,14 @@ class Splitter:
     def _close(self, line, at):
         """The place behind what is open, where it is closed in this line."""
         mark = self._inside[0]
-        # a backslash at a line's end belongs to what follows, so what is open is read again with each line but for what can't matter
-        closed = _CLOSING[mark].match(self._open + line[at:])
+        # (what an earlier line leaves over stands before this one, and only at its beginning)
+        seen, begin = (self._open + line, 0) if self._open else (line, at)
+        closed = _CLOSING[mark].match(seen, begin)
         if closed is None:
             self._keep(line[at:])
-            self._open = _beginning(mark, self._open + line[at:])
+            self._open = _beginning(mark, seen[begin:])
             return len(line)
-        end = at + closed.end() - len(self._open)
+        end = closed.end() - len(self._open)
         self._keep(line[at:end])
         self._inside, self._open = None, ""
         return end

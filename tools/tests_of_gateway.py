@@ -90,15 +90,15 @@ class Gateways(unittest.TestCase):
         self.assertIn("cut off: a frame above 1 MiB", server.told)
 
     def test_a_client_that_doesnt_read_is_ended(self):
-        with gateway(CONFIG, "--patience", "0.5") as server:
+        with gateway(CONFIG, "--patience", "2") as server:
             before = server.sockets()
             with connected(server) as deaf:
                 deaf.setsockopt(socket.SOL_SOCKET, socket.SO_RCVBUF, 4096)
                 # a reply above what the system keeps of it
                 body = {"op": "query", "token": "a1", "text": "UNWIND range(1, 14) AS i RETURN $x", "params": {"x": "x" * 1_000_000}}
                 deaf.sendall(framed(json.dumps(body).encode()))
-                until = time.monotonic() + 10
-                while server.sockets() > before and time.monotonic() < until or time.monotonic() < until - 9:
+                until = time.monotonic() + 20
+                while server.sockets() > before and time.monotonic() < until or time.monotonic() < until - 17:
                     time.sleep(0.1)
                 self.assertEqual(server.sockets(), before)
         self.assertIn("cut off: a reply that isn't taken", server.told)
@@ -127,7 +127,7 @@ class Gateways(unittest.TestCase):
                     graphd.connect(server.port, token).query(text)
                     done.append(token)
 
-                busy = [threading.Thread(target=ask, args=("t0", f"RETURN 1 {SLOW}")) for _ in range(4)]
+                busy = [threading.Thread(target=ask, args=("t0", f"RETURN 1 {SLOW}")) for _ in range(5)]
                 for thread in busy:
                     thread.start()
                 time.sleep(LATE / 3)
@@ -135,8 +135,8 @@ class Gateways(unittest.TestCase):
                 other.start()
                 for thread in [*busy, other]:
                     thread.join(20)
-        # (one of t0 was asked, and one waited before t1 came)
-        self.assertIn("t1", done[:3])
+        # (one of t0 was asked and one came before t1; one more may pass before t1 has come on a busy machine)
+        self.assertIn("t1", done[:4])
 
     def test_one_client_too_many_is_told(self):
         with gateway(CONFIG, "--clients", "1") as server:

@@ -2,6 +2,7 @@
 import contextlib
 import io
 import json
+import pickle
 import re
 import shutil
 import signal
@@ -170,6 +171,8 @@ class Requests(unittest.TestCase):
         for code, kind in graphd.REFUSALS.items():
             self.assertEqual((kind.code, kind.name, getattr(graphd, kind.name)), (code, kind.__name__, kind))
             self.assertTrue(kind.advice and kind.__doc__)
+            copied = pickle.loads(pickle.dumps(kind().of_query("RETURN", ["x"])))
+            self.assertEqual((type(copied), copied.code, copied.text, copied.given), (kind, code, "RETURN", ("x",)))
 
     def test_parameters_are_tested_first(self):
         deep = []
@@ -276,7 +279,7 @@ class Connections(unittest.TestCase):
                 with graph:
                     with self.assertRaises(graphd.TimedOut):
                         graph.query(f"RETURN 1 AS x {SLOW}")
-                    time.sleep(LATE)
+                    graph.timeout = 20
                     self.assertEqual(graph.query("RETURN 2 AS x").value(), 2)
 
     def test_a_connection_that_the_server_closed_is_opened_anew(self):

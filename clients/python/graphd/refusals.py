@@ -41,7 +41,7 @@ class Refused(GraphdError):
         self.name = type(self).name if name is None else name
         self.text: Optional[str] = None
         self.given: Tuple[str, ...] = ()
-        super().__init__(f"{self.name} ({self.code})")
+        super().__init__(self.code, self.name)
 
     @property
     def place(self) -> Optional[Place]:
@@ -62,259 +62,259 @@ class Refused(GraphdError):
 
 
 class FrameTooLong(Refused):
-    """Refusal 1: the request is above 1 MiB: send large data as parameters of several requests."""
+    """Refusal 1. What to do is its `advice`."""
 
     code, name = 1, "FrameTooLong"
     advice = "the request is above 1 MiB: send large data as parameters of several requests"
 
 
 class BadRequest(Refused):
-    """Refusal 2: the request is none that graphd reads: a parameter that isn't a whole number of 64 bits, a text, true, false, null, a list or a map of these, or one deeper than 64."""
+    """Refusal 2. What to do is its `advice`."""
 
     code, name = 2, "BadRequest"
     advice = "the request is none that graphd reads: a parameter that isn't a whole number of 64 bits, a text, true, false, null, a list or a map of these, or one deeper than 64"
 
 
 class UnknownToken(Refused):
-    """Refusal 3: no session has this token: see the configuration's tokens."""
+    """Refusal 3. What to do is its `advice`."""
 
     code, name = 3, "UnknownToken"
     advice = "no session has this token: see the configuration's tokens"
 
 
 class ReadOnly(Refused):
-    """Refusal 4: this token may only read: use one with the right to write."""
+    """Refusal 4. What to do is its `advice`."""
 
     code, name = 4, "ReadOnly"
     advice = "this token may only read: use one with the right to write"
 
 
 class TextTooLong(Refused):
-    """Refusal 5: the text is above 65,536 bytes: send data as parameters, in several requests."""
+    """Refusal 5. What to do is its `advice`."""
 
     code, name = 5, "TextTooLong"
     advice = "the text is above 65,536 bytes: send data as parameters, in several requests"
 
 
 class BadLexeme(Refused):
-    """Refusal 6: a character, string, name or number that isn't one of the language's: look for a missing quote, an unknown escape or a number with a leading zero."""
+    """Refusal 6. What to do is its `advice`."""
 
     code, name = 6, "BadLexeme"
     advice = "a character, string, name or number that isn't one of the language's: look for a missing quote, an unknown escape or a number with a leading zero"
 
 
 class BadSyntax(Refused):
-    """Refusal 7: the text can't be read as a query: look at what stands behind the last clause that is right."""
+    """Refusal 7. What to do is its `advice`."""
 
     code, name = 7, "BadSyntax"
     advice = "the text can't be read as a query: look at what stands behind the last clause that is right"
 
 
 class TooDeep(Refused):
-    """Refusal 8: brackets, CASE, NOT or signs are nested more than 64 deep."""
+    """Refusal 8. What to do is its `advice`."""
 
     code, name = 8, "TooDeep"
     advice = "brackets, CASE, NOT or signs are nested more than 64 deep"
 
 
 class UndefinedVariable(Refused):
-    """Refusal 9: a variable that isn't in scope: WITH passes on only what it names."""
+    """Refusal 9. What to do is its `advice`."""
 
     code, name = 9, "UndefinedVariable"
     advice = "a variable that isn't in scope: WITH passes on only what it names"
 
 
 class VariableAlreadyBound(Refused):
-    """Refusal 10: a variable that is there already: take another name, or leave out its labels and properties."""
+    """Refusal 10. What to do is its `advice`."""
 
     code, name = 10, "VariableAlreadyBound"
     advice = "a variable that is there already: take another name, or leave out its labels and properties"
 
 
 class BadAggregate(Refused):
-    """Refusal 11: count, sum, min, max and collect may only be a whole item: give the aggregate a name by WITH and compute with that."""
+    """Refusal 11. What to do is its `advice`."""
 
     code, name = 11, "BadAggregate"
     advice = "count, sum, min, max and collect may only be a whole item: give the aggregate a name by WITH and compute with that"
 
 
 class BadPattern(Refused):
-    """Refusal 12: a pattern that isn't allowed here: a range needs an upper bound of at most 16, what CREATE makes one type and one direction."""
+    """Refusal 12. What to do is its `advice`."""
 
     code, name = 12, "BadPattern"
     advice = "a pattern that isn't allowed here: a range needs an upper bound of at most 16, what CREATE makes one type and one direction"
 
 
 class UnknownFunction(Refused):
-    """Refusal 13: no such function, or another number of arguments."""
+    """Refusal 13. What to do is its `advice`."""
 
     code, name = 13, "UnknownFunction"
     advice = "no such function, or another number of arguments"
 
 
 class DuplicateColumn(Refused):
-    """Refusal 14: two columns of one name: give one of them another by AS."""
+    """Refusal 14. What to do is its `advice`."""
 
     code, name = 14, "DuplicateColumn"
     advice = "two columns of one name: give one of them another by AS"
 
 
 class MissingParameter(Refused):
-    """Refusal 15: a parameter of the text has no value: set it by :param."""
+    """Refusal 15. What to do is its `advice`."""
 
     code, name = 15, "MissingParameter"
     advice = "a parameter of the text has no value: set it by :param"
 
 
 class TypeFault(Refused):
-    """Refusal 16: a value of a kind that its place doesn't take."""
+    """Refusal 16. What to do is its `advice`."""
 
     code, name = 16, "TypeFault"
     advice = "a value of a kind that its place doesn't take"
 
 
 class Overflow(Refused):
-    """Refusal 17: a number beyond 64 bits signed."""
+    """Refusal 17. What to do is its `advice`."""
 
     code, name = 17, "Overflow"
     advice = "a number beyond 64 bits signed"
 
 
 class DivisionByZero(Refused):
-    """Refusal 18: a division by zero."""
+    """Refusal 18. What to do is its `advice`."""
 
     code, name = 18, "DivisionByZero"
     advice = "a division by zero"
 
 
 class ValueTooLarge(Refused):
-    """Refusal 19: a value that is too large (1 MiB) or too deep (64)."""
+    """Refusal 19. What to do is its `advice`."""
 
     code, name = 19, "ValueTooLarge"
     advice = "a value that is too large (1 MiB) or too deep (64)"
 
 
 class NotStorable(Refused):
-    """Refusal 20: only true, false, whole numbers, texts and lists of these are stored."""
+    """Refusal 20. What to do is its `advice`."""
 
     code, name = 20, "NotStorable"
     advice = "only true, false, whole numbers, texts and lists of these are stored"
 
 
 class MergeNull(Refused):
-    """Refusal 21: MERGE can't look for a property that is null: test it before."""
+    """Refusal 21. What to do is its `advice`."""
 
     code, name = 21, "MergeNull"
     advice = "MERGE can't look for a property that is null: test it before"
 
 
 class NodeStillConnected(Refused):
-    """Refusal 22: a node that still has relationships: use DETACH DELETE."""
+    """Refusal 22. What to do is its `advice`."""
 
     code, name = 22, "NodeStillConnected"
     advice = "a node that still has relationships: use DETACH DELETE"
 
 
 class DeletedEntity(Refused):
-    """Refusal 23: an element that was deleted before in the same query."""
+    """Refusal 23. What to do is its `advice`."""
 
     code, name = 23, "DeletedEntity"
     advice = "an element that was deleted before in the same query"
 
 
 class NegativeCount(Refused):
-    """Refusal 24: SKIP and LIMIT take no negative number."""
+    """Refusal 24. What to do is its `advice`."""
 
     code, name = 24, "NegativeCount"
     advice = "SKIP and LIMIT take no negative number"
 
 
 class StepQuota(Refused):
-    """Refusal 25: the request needs more steps than its tenant may take: ask for less, or raise max_steps."""
+    """Refusal 25. What to do is its `advice`."""
 
     code, name = 25, "StepQuota"
     advice = "the request needs more steps than its tenant may take: ask for less, or raise max_steps"
 
 
 class ElementQuota(Refused):
-    """Refusal 26: the tenant may have no more elements: delete some, or raise max_elements."""
+    """Refusal 26. What to do is its `advice`."""
 
     code, name = 26, "ElementQuota"
     advice = "the tenant may have no more elements: delete some, or raise max_elements"
 
 
 class IdsExhausted(Refused):
-    """Refusal 27: the tenant has given out all ids."""
+    """Refusal 27. What to do is its `advice`."""
 
     code, name = 27, "IdsExhausted"
     advice = "the tenant has given out all ids"
 
 
 class IndexExists(Refused):
-    """Refusal 28: this index is there already."""
+    """Refusal 28. What to do is its `advice`."""
 
     code, name = 28, "IndexExists"
     advice = "this index is there already"
 
 
 class NoSuchIndex(Refused):
-    """Refusal 29: there is no such index."""
+    """Refusal 29. What to do is its `advice`."""
 
     code, name = 29, "NoSuchIndex"
     advice = "there is no such index"
 
 
 class TooManyIndexes(Refused):
-    """Refusal 30: a tenant has 16 indexes at most: drop one."""
+    """Refusal 30. What to do is its `advice`."""
 
     code, name = 30, "TooManyIndexes"
     advice = "a tenant has 16 indexes at most: drop one"
 
 
 class ReplyTooLong(Refused):
-    """Refusal 31: the reply is above 16 MiB and the query was undone: return less, with SKIP and LIMIT."""
+    """Refusal 31. What to do is its `advice`."""
 
     code, name = 31, "ReplyTooLong"
     advice = "the reply is above 16 MiB and the query was undone: return less, with SKIP and LIMIT"
 
 
 class TenantBusy(Refused):
-    """Refusal 40: another session of the tenant has a transaction open."""
+    """Refusal 40. What to do is its `advice`."""
 
     code, name = 40, "TenantBusy"
     advice = "another session of the tenant has a transaction open"
 
 
 class NoTransaction(Refused):
-    """Refusal 41: no transaction is open."""
+    """Refusal 41. What to do is its `advice`."""
 
     code, name = 41, "NoTransaction"
     advice = "no transaction is open"
 
 
 class TransactionOpen(Refused):
-    """Refusal 42: not while a transaction is open."""
+    """Refusal 42. What to do is its `advice`."""
 
     code, name = 42, "TransactionOpen"
     advice = "not while a transaction is open"
 
 
 class NoSuchPage(Refused):
-    """Refusal 43: this session holds no such page."""
+    """Refusal 43. What to do is its `advice`."""
 
     code, name = 43, "NoSuchPage"
     advice = "this session holds no such page"
 
 
 class HeldRowsQuota(Refused):
-    """Refusal 44: the tenant may hold no more rows: pull or drop pages that are held."""
+    """Refusal 44. What to do is its `advice`."""
 
     code, name = 44, "HeldRowsQuota"
     advice = "the tenant may hold no more rows: pull or drop pages that are held"
 
 
 class OutOfMemory(Refused):
-    """Refusal 99: the server found no memory; the request changed nothing, and can be sent again."""
+    """Refusal 99. What to do is its `advice`."""
 
     code, name = 99, "OutOfMemory"
     advice = "the server found no memory; the request changed nothing, and can be sent again"

@@ -127,6 +127,14 @@ class Requests(unittest.TestCase):
             ("MATCH (n)\r\nRETRUN n", 7, 2, 1, "did you mean RETURN?"),
             ("RETURN 1.5", 7, 1, 10, "no fractions"),
             ("RETURN 1 == 1", 7, 1, 11, "equal is ="),
+            ("MATCH (n:A|B) RETURN n", 7, 1, 11, "no choice"),
+            ("RETURN [x IN [1] WHERE x > 1]", 7, 1, 18, "no list comprehensions"),
+            ("RETURN [x IN [1] | x]", 7, 1, 18, "no list comprehensions"),
+            ("WITH [1] AS l RETURN l[0..1]", 7, 1, 25, "no slices"),
+            ("MATCH (a), (b) WHERE (a)-->(b) RETURN a", 7, 1, 27, "a pattern is no condition"),
+            ("MATCH (a), (b) WHERE NOT (a)-[:T]->(b) RETURN a", 7, 1, 31, "a pattern is no condition"),
+            ("CREATE (n) MATCH (m) RETURN m", 7, 1, 12, "WITH stands between"),
+            ("CALL db.labels()", 7, 1, 1, "no procedures"),
             ("RETURN 1 != 1", 6, 1, 10, "unequal is <>"),
             ("MATCH (n) WHERE n.k =~ 'a' RETURN n", 6, 1, 22, "no regular expressions"),
             ("RETURN 'a\\x'", 6, 1, 10, "no such escape"),
@@ -150,7 +158,7 @@ class Requests(unittest.TestCase):
         self.assertIsNone(graphd.fault_of("MATCH (n) RETURN $x", ["x"]))
 
     def test_faults_of_long_texts_are_told_soon(self):
-        began = time.monotonic()
+        began = time.process_time()
         long = "a" * 30_000
         for text, code in [
             ("RETURN " + "1 + " * 15_000 + "x", 9),
@@ -165,7 +173,7 @@ class Requests(unittest.TestCase):
             ("RETURN x" + ".y" * 30_000, 9),
         ]:
             self.assertEqual(graphd.fault_of(text).code, code, text[:40])
-        self.assertLess(time.monotonic() - began, 20)
+        self.assertLess(time.process_time() - began, 20)
 
     def test_each_refusal_has_a_class(self):
         for code, kind in graphd.REFUSALS.items():

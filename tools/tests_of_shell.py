@@ -51,9 +51,9 @@ class Statements(unittest.TestCase):
         self.assertEqual(len(found), 5)
 
     def test_long_lines_take_time_of_their_length(self):
-        began = time.monotonic()
+        began = time.process_time()
         self.assertEqual(len(statements("RETURN 'a', \"b\" /* c */;" * 50_000)), 50_000)
-        self.assertLess(time.monotonic() - began, 15)
+        self.assertLess(time.process_time() - began, 15)
 
     def test_long_texts_take_time_of_their_length(self):
         with folder() as made:

@@ -52,6 +52,19 @@ OF_TEXTS = "toupper tolower upper lower split substring replace trim ltrim rtrim
 INSTEAD.update((name, "texts are computed in the client: store what you look for as a property of its own") for name in OF_TEXTS)
 
 
+NO_PATTERN = "a pattern is no condition: one more path in MATCH, or OPTIONAL MATCH and IS NULL"
+# forms of Cypher: a token, the one before it, what was wanted there (each may be blank, for any) and what wasn't, and what to write instead
+SHAPES: List[Tuple[Tuple[str, ...], str, str, str, str]] = [
+    (("=",), "=", "", "nothing", "equal is =, unequal <>"),
+    (("integer",), ".", "", "nothing", "there are no fractions: whole numbers in a smaller unit"),
+    (("|",), "", ")", "nothing", "a node has all of its labels and no choice: WHERE n:A OR n:B"),
+    (("|", "WHERE"), "", "]", "nothing", "there are no list comprehensions: UNWIND list AS x WITH x WHERE .. RETURN collect(x)"),
+    (("..",), "", "]", "nothing", "there are no slices: UNWIND range(1, 2) AS i RETURN collect(l[i])"),
+    ((">",), "-", AN_EXPRESSION, "nothing", NO_PATTERN),
+    ((":",), "[", "", "nothing", NO_PATTERN),
+    (("MATCH", "OPTIONAL", "UNWIND"), "", "WITH", "MATCH", "WITH stands between a clause that changes and one that reads"),
+]
+
 # signs that the language lacks, with the character before each or a blank
 SIGNS = {"!=": "unequal is <>", "=~": "there are no regular expressions: STARTS WITH, ENDS WITH, CONTAINS"}
 
@@ -172,7 +185,7 @@ def _of_grammar(text: str, watched: Watched) -> Place:
     token, wanted = watched.tokens[at], _grouped(watched.wanted)
     seen = text[token.place : token.end]
     met = "the text ends" if token.kind == "end" else f"{_cut(seen)} can't stand here"
-    advice = _instead(watched.tokens, at) or _meant(seen, watched.wanted) or (f"wanted is {_listed(wanted)}" if wanted else "")
+    advice = _instead(watched.tokens, at) or _of_shape(watched, at) or _meant(seen, watched.wanted) or (f"wanted is {_listed(wanted)}" if wanted else "")
     return _of_token(text, BAD_SYNTAX, token, f"{met}: {advice}" if advice else met)
 
 
@@ -201,12 +214,20 @@ def _instead(tokens: List[Token], at: int) -> str:
         advice = INSTEAD.get(str(token.value).lower()) if token.kind == "word" else None
         if advice:
             return advice
-    before = tokens[at - 1] if at > 0 else tokens[at]
-    if tokens[at][:2] == before[:2] == ("symbol", "="):
-        return "equal is =, unequal <>"
-    if tokens[at].kind == "integer" and before[:2] == ("symbol", "."):
-        return "there are no fractions: whole numbers in a smaller unit"
     return ""
+
+
+def _of_shape(watched: Watched, at: int) -> str:
+    """What to write instead of a form that Cypher has elsewhere, told by the token, the one before it and what was wanted."""
+    here, before = (_mark(watched.tokens[place]) if place >= 0 else "" for place in (at, at - 1))
+    for marks, behind, wanted, unwanted, advice in SHAPES:
+        if here in marks and behind in (before, "") and wanted in (*watched.wanted, "") and unwanted not in watched.wanted:
+            return advice
+    return ""
+
+
+def _mark(token: Token) -> str:
+    return str(token.value) if token.kind in ("symbol", "keyword") else token.kind
 
 
 def _near(word: str, words: Collection[str]) -> str:

@@ -10,7 +10,7 @@ import graphd
 from graphd.lexemes import KEYWORDS, Unreadable, lexemes
 from graphd.reader import AGGREGATES, ARGUMENTS
 from shell import HELP, QUITS, Stopped
-from statements import Splitter, Statement
+from statements import Splitter
 
 HISTORY = Path.home() / ".graphsh_history"
 COMMANDS = re.findall(r":[a-z]+", HELP)

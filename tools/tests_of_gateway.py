@@ -11,7 +11,7 @@ import unittest
 import client_path  # (finds the package graphd)
 import graphd
 from graphd_program import ROOT
-from tests_of_clients import CONFIG, LATE, SLOW, command, configuration, elements, environment, folder, gateway, slowed
+from tests_of_clients import CONFIG, LATE, SECONDS, SLOW, command, configuration, elements, environment, folder, gateway, slowed
 
 CLIENTS, REQUESTS = 50, 20
 
@@ -25,7 +25,7 @@ def asked(text, token="a1"):
 
 
 def connected(server):
-    return socket.create_connection(("127.0.0.1", server.port), 20)
+    return socket.create_connection(("127.0.0.1", server.port), SECONDS)
 
 
 def is_ended(client, seconds):
@@ -65,7 +65,7 @@ class Gateways(unittest.TestCase):
                 for client in clients:
                     client.start()
                 for client in clients:
-                    client.join(60)
+                    client.join(SECONDS)
             expected = script(graphd.start(command(config), "t0"))
             self.assertEqual(len(found), CLIENTS)
             for replies in found.values():
@@ -76,7 +76,7 @@ class Gateways(unittest.TestCase):
             with connected(server) as slow:
                 slow.sendall(struct.pack(">I", 10) + b"{")
                 graphd.connect(server.port, "a1").query("CREATE (:P)")
-                self.assertTrue(is_ended(slow, 10))
+                self.assertTrue(is_ended(slow, 30))
             with connected(server) as long:
                 long.sendall(struct.pack(">I", 1_048_577))
                 told = b"".join(iter(lambda: long.recv(100), b""))
@@ -109,10 +109,10 @@ class Gateways(unittest.TestCase):
                 known.sendall(asked("RETURN 1"))
                 stranger.sendall(asked("RETURN 1", "nobody"))
                 self.assertEqual(json.loads(stranger.recv(1000)[4:])["error"], "UnknownToken")
-                self.assertTrue(is_ended(stranger, 8))
-                self.assertTrue(is_ended(silent, 8))
+                self.assertTrue(is_ended(stranger, 30))
+                self.assertTrue(is_ended(silent, 30))
                 time.sleep(0.6)
-                known.settimeout(5)
+                known.settimeout(30)
                 known.recv(1000)
                 known.sendall(asked("RETURN 2 AS x"))
                 self.assertEqual(json.loads(known.recv(1000)[4:])["rows"], [[2]])
@@ -134,7 +134,7 @@ class Gateways(unittest.TestCase):
                 other = threading.Thread(target=ask, args=("t1", "RETURN 1"))
                 other.start()
                 for thread in [*busy, other]:
-                    thread.join(20)
+                    thread.join(SECONDS)
         # (one of t0 was asked and one came before t1; one more may pass before t1 has come on a busy machine)
         self.assertIn("t1", done[:4])
 
@@ -144,14 +144,14 @@ class Gateways(unittest.TestCase):
                 first.sendall(asked("RETURN 1"))
                 first.recv(1000)
                 with connected(server) as second:
-                    self.assertTrue(is_ended(second, 5))
+                    self.assertTrue(is_ended(second, 30))
         self.assertIn("turned away: 1 clients are there", server.told)
 
 
 class Loaders(unittest.TestCase):
     def load(self, name, port):
         run = [sys.executable, str(ROOT / "examples" / name / "load.py"), str(port)]
-        done = subprocess.run(run, capture_output=True, text=True, timeout=40, env=environment())
+        done = subprocess.run(run, capture_output=True, text=True, timeout=SECONDS, env=environment())
         return done.returncode, done.stdout, done.stderr
 
     def load_twice(self, name):
@@ -176,7 +176,7 @@ class Loaders(unittest.TestCase):
         with socket.create_server(("127.0.0.1", 0)) as listener:
             port = listener.getsockname()[1]
         run = f'"$0" {ROOT}/tools/gateway {ROOT}/examples/parts/config.json --port {port} & "$0" {ROOT}/examples/parts/load.py {port}; status=$?; kill $!; wait; exit $status'
-        done = subprocess.run(["sh", "-c", run, sys.executable], capture_output=True, text=True, timeout=40, env=environment())
+        done = subprocess.run(["sh", "-c", run, sys.executable], capture_output=True, text=True, timeout=SECONDS, env=environment())
         self.assertEqual((done.returncode, done.stdout.splitlines()[-1]), (0, "353 elements"), done.stderr)
 
     def test_no_server_is_told(self):

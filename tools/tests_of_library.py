@@ -16,7 +16,7 @@ import unittest
 import client_path  # (finds the package graphd)
 import graphd
 from graphd_program import ROOT
-from tests_of_clients import CONFIG, LATE, SLOW, command, configuration, folder, gateway, slowed
+from tests_of_clients import CONFIG, LATE, SECONDS, SLOW, command, folder, gateway, slowed
 
 
 @contextlib.contextmanager
@@ -49,7 +49,7 @@ def in_threads(count, work):
     for thread in threads:
         thread.start()
     for thread in threads:
-        thread.join(20)
+        thread.join(SECONDS)
         if thread.is_alive():
             faults.append(TimeoutError("a thread still waits"))
     return faults

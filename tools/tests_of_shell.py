@@ -2,6 +2,7 @@
 import json
 import os
 import shutil
+import signal
 import subprocess
 import sys
 import time
@@ -12,7 +13,7 @@ import graphd
 import tables
 from graphd_program import ROOT
 from statements import Open, Splitter, statements
-from tests_of_clients import CONFIG, PROMPT, SHELL, SLOW, Given, Terminal, configuration, elements, environment, folder, gateway, shell, slowed
+from tests_of_clients import CONFIG, PROMPT, SECONDS, SHELL, SLOW, Given, Terminal, configuration, elements, environment, folder, gateway, shell, slowed
 
 
 def texts(text):
@@ -59,7 +60,7 @@ class Statements(unittest.TestCase):
         with folder() as made:
             file = made / "long.cypher"
             file.write_text("RETURN 1 AS x\n" + "// a line\n" * 4000 + ";\n")
-            self.assertEqual(shell(CONFIG, "a1", "--file", file, seconds=20)[0], 0)
+            self.assertEqual(shell(CONFIG, "a1", "--file", file, seconds=60)[0], 0)
 
 
 class Scripts(unittest.TestCase):
@@ -178,9 +179,22 @@ class Scripts(unittest.TestCase):
             child = subprocess.Popen(run, stdout=subprocess.PIPE, stderr=subprocess.PIPE, env=environment())
             child.stdout.readline()
             child.stdout.close()
-            fault = child.communicate(timeout=40)[1].decode()
+            fault = child.communicate(timeout=SECONDS)[1].decode()
             self.assertEqual((child.returncode, fault), (1, ""))
             self.assertLess(elements(server.port, "t0"), 250)
+
+    def test_an_interrupt_of_a_file(self):
+        with folder() as made, gateway(CONFIG, "--program", str(slowed(made))) as server:
+            file = made / "a.cypher"
+            file.write_text(f"CREATE (:P);\nRETURN 1 AS x {SLOW};\nCREATE (:P);\n")
+            run = [*SHELL, "--port", str(server.port), "a1", "--file", str(file)]
+            child = subprocess.Popen(run, stdout=subprocess.PIPE, stderr=subprocess.PIPE, env=environment())
+            child.stdout.readline()
+            time.sleep(0.3)
+            child.send_signal(signal.SIGINT)
+            told = child.communicate(timeout=SECONDS)[1].decode()
+            self.assertEqual((child.returncode, elements(server.port)), (130, 1))
+            self.assertIn("at statement 2; what the server has begun goes on", told)
 
     def test_indexes_of_labels_with_blanks(self):
         text = ":index `My Label` `a``b`\n:index :Other(key)\n:status\n:unindex `My Label` `a``b`\n:status\n"
@@ -236,9 +250,12 @@ class Typed(unittest.TestCase):
             typed.type("CREATE (:P);\n")
             typed.wait_for(r"1 step")
             typed.wait_for(PROMPT)
-            typed.type("RETURN 'half\x03")
-            typed.wait_for(PROMPT)
+            typed.type("RETURN 'half")
+            typed.wait_for("half")
+            # (Python's readline misses an interrupt in the moment before it waits for a key)
             time.sleep(0.3)
+            typed.type("\x03")
+            typed.wait_for(PROMPT)
             typed.type("MATCH (n) RETURN count(n) AS count_of_n;\n")
             self.assertIn("\n1\r\n1 row", typed.wait_for(r"1 row, "))
 
@@ -322,7 +339,7 @@ class Programs(unittest.TestCase):
         kept = {name: value for name, value in environment().items() if name not in ("GRAPHD_PROGRAM", "PATH")}
         sent = '{"op":"status","token":"a1"}\n'
         run = [sys.executable, str(made / "tools" / words[0]), *map(str, words[1:])]
-        done = subprocess.run(run, input=sent, capture_output=True, text=True, timeout=40, env={**kept, **variables})
+        done = subprocess.run(run, input=sent, capture_output=True, text=True, timeout=SECONDS, env={**kept, **variables})
         return done.returncode, done.stdout, done.stderr
 
     def test_which_program_is_taken(self):

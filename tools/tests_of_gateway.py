@@ -95,13 +95,24 @@ class Gateways(unittest.TestCase):
             with connected(server) as deaf:
                 deaf.setsockopt(socket.SOL_SOCKET, socket.SO_RCVBUF, 4096)
                 # a reply above what the system keeps of it
-                body = {"op": "query", "token": "a1", "text": "UNWIND range(1, 14) AS i RETURN $x", "params": {"x": "x" * 1_000_000}}
+                body = {"op": "query", "token": "a1", "text": "UNWIND range(1, 8) AS i RETURN $x", "params": {"x": "x" * 1_000_000}}
                 deaf.sendall(framed(json.dumps(body).encode()))
                 until = time.monotonic() + 20
                 while server.sockets() > before and time.monotonic() < until or time.monotonic() < until - 17:
                     time.sleep(0.1)
                 self.assertEqual(server.sockets(), before)
         self.assertIn("cut off: a reply that isn't taken", server.told)
+
+    def test_a_client_that_doesnt_read_keeps_no_gateway(self):
+        body = {"op": "query", "token": "a1", "text": "UNWIND range(1, 8) AS i RETURN $x", "params": {"x": "x" * 1_000_000}}
+        with gateway(CONFIG, "--patience", "100") as server:
+            deaf = connected(server)
+            deaf.setsockopt(socket.SOL_SOCKET, socket.SO_RCVBUF, 4096)
+            deaf.sendall(framed(json.dumps(body).encode()))
+            self.assertEqual(elements(server.port), 0)
+            began = time.monotonic()
+        self.assertLess(time.monotonic() - began, 60)
+        deaf.close()
 
     def test_only_a_known_token_may_stay_idle(self):
         with gateway(CONFIG, "--patience", "0.6") as server:

@@ -172,5 +172,13 @@ class Terminal:
 PROMPT = r"graphd> $"
 
 
+def comes(holds):
+    """Whether it comes to hold."""
+    until = time.monotonic() + SECONDS
+    while not holds() and time.monotonic() < until:
+        time.sleep(0.05)
+    return holds()
+
+
 def elements(port, token="a1"):
     return graphd.connect(port, token).status().elements

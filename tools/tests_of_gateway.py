@@ -11,7 +11,7 @@ import unittest
 import client_path  # (finds the package graphd)
 import graphd
 from graphd_program import ROOT
-from tests_of_clients import CONFIG, LATE, SECONDS, SLOW, command, configuration, elements, environment, folder, gateway, slowed
+from tests_of_clients import CONFIG, LATE, SECONDS, SLOW, comes, command, configuration, elements, environment, folder, gateway, slowed
 
 CLIENTS, REQUESTS = 50, 20
 
@@ -97,10 +97,8 @@ class Gateways(unittest.TestCase):
                 # a reply above what the system keeps of it
                 body = {"op": "query", "token": "a1", "text": "UNWIND range(1, 8) AS i RETURN $x", "params": {"x": "x" * 1_000_000}}
                 deaf.sendall(framed(json.dumps(body).encode()))
-                until = time.monotonic() + 20
-                while server.sockets() > before and time.monotonic() < until or time.monotonic() < until - 17:
-                    time.sleep(0.1)
-                self.assertEqual(server.sockets(), before)
+                self.assertTrue(comes(lambda: server.sockets() > before))
+                self.assertTrue(comes(lambda: server.sockets() == before))
         self.assertIn("cut off: a reply that isn't taken", server.told)
 
     def test_a_client_that_doesnt_read_keeps_no_gateway(self):

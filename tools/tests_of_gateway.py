@@ -95,14 +95,14 @@ class Gateways(unittest.TestCase):
             with connected(server) as deaf:
                 deaf.setsockopt(socket.SOL_SOCKET, socket.SO_RCVBUF, 4096)
                 # a reply above what the system keeps of it
-                body = {"op": "query", "token": "a1", "text": "UNWIND range(1, 8) AS i RETURN $x", "params": {"x": "x" * 1_000_000}}
+                body = {"op": "query", "token": "a1", "text": "UNWIND range(1, 5) AS i RETURN $x", "params": {"x": "x" * 1_000_000}}
                 deaf.sendall(framed(json.dumps(body).encode()))
                 self.assertTrue(comes(lambda: server.sockets() > before))
                 self.assertTrue(comes(lambda: server.sockets() == before))
         self.assertIn("cut off: a reply that isn't taken", server.told)
 
     def test_a_client_that_doesnt_read_keeps_no_gateway(self):
-        body = {"op": "query", "token": "a1", "text": "UNWIND range(1, 8) AS i RETURN $x", "params": {"x": "x" * 1_000_000}}
+        body = {"op": "query", "token": "a1", "text": "UNWIND range(1, 5) AS i RETURN $x", "params": {"x": "x" * 1_000_000}}
         with gateway(CONFIG, "--patience", "100") as server:
             deaf = connected(server)
             deaf.setsockopt(socket.SOL_SOCKET, socket.SO_RCVBUF, 4096)

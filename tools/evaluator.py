@@ -4,14 +4,15 @@
 """
 from __future__ import annotations
 
-import reader
+import client_path  # (finds the package graphd)
 from evaluator_expressions import DELETED_ENTITY, Evaluator, record
 from evaluator_patterns import Graph, Search, direction_of
 from evaluator_values import (
     DEEPEST, GREATEST, HEAVIEST, TYPE_FAULT, VALUE_TOO_LARGE, Fault, Node, Path, Rel, checked, code, depth, in_bytes,
     is_element, kind, order, sort_key, storable, want, weight,
 )
-from reader_lexemes import Refused
+from graphd import reader
+from graphd.lexemes import Unreadable
 
 NOT_STORABLE, MERGE_NULL, NODE_STILL_CONNECTED = 20, 21, 22
 NEGATIVE_COUNT, STEP_QUOTA, ELEMENT_QUOTA, IDS_EXHAUSTED = 24, 25, 26, 27
@@ -34,7 +35,7 @@ class Tenant:
                 raise Fault(reader.MISSING_PARAMETER)
             run = Run(self.graph.copy(), params, self.max_steps, self.max_elements)
             told = run.query(clauses)
-        except (Fault, Refused) as refused:
+        except (Fault, Unreadable) as refused:
             return {"code": refused.args[0]}
         self.graph = run.graph
         return told

@@ -12,6 +12,7 @@ PROGRAM = CRATE / "out" / "graphd"
 # written by the toolchain once the program was proved and built
 STAMP = CRATE / "out" / "graphd.stamp"
 LOG = CRATE / "out" / "build.log"
+USAGE = b"usage: graphd run"
 
 
 class Failed(Exception):
@@ -25,7 +26,8 @@ def sources():
 
 
 def is_built():
-    if not (PROGRAM.is_file() and STAMP.is_file()):
+    """Whether the tree has a program that is newer than its texts, with the toolchain's stamp or without."""
+    if not PROGRAM.is_file():
         return False
     built = PROGRAM.stat().st_mtime
     return all(source.stat().st_mtime <= built for source in sources())
@@ -34,22 +36,38 @@ def is_built():
 def build():
     """Builds the program, which proves it and all below it first."""
     if shutil.which("rt") is None:
-        raise Failed("the Rattle toolchain's command 'rt' is not on the PATH, so graphd can't be built")
+        raise Failed("graphd isn't built, and the Rattle toolchain's command 'rt' is not on the PATH; --program or GRAPHD_PROGRAM names one that is")
     print(f"building graphd: all of it is proved first, which takes minutes (log: {LOG})", file=sys.stderr)
     LOG.parent.mkdir(exist_ok=True)
     with open(LOG, "wb") as log:
         # Without words the program only tells its usage.
         status = subprocess.run(["rt", "run"], cwd=CRATE, stdin=subprocess.DEVNULL, stdout=log, stderr=log)
-    if not (PROGRAM.is_file() and STAMP.is_file()):
+    if not (PROGRAM.is_file() and STAMP.is_file()) or USAGE not in LOG.read_bytes():
         end = LOG.read_text(errors="replace").splitlines()[-15:]
         raise Failed("\n".join([f"graphd was not built (rt run ended with {status.returncode}):", *end]))
     os.utime(PROGRAM)
 
 
-def program():
-    """The path of the built program."""
-    if not is_built():
+def add_program(parser):
+    """The word --program, which every tool takes that runs graphd."""
+    parser.add_argument("--program", metavar="PATH", help="a built graphd; else the one that GRAPHD_PROGRAM names, else this tree's")
+
+
+def program(named=None, builds=True):
+    """The path of the program: the named one, else that of GRAPHD_PROGRAM, else this tree's. That one is built first where it is older
+    than its texts, but never for a service, which takes what is there."""
+    named = named or os.environ.get("GRAPHD_PROGRAM")
+    if named:
+        path = Path(named).expanduser().resolve()
+        if not (path.is_file() and os.access(path, os.X_OK)):
+            raise Failed(f"{named} is no program")
+        return path
+    if builds and not is_built():
         build()
+    if not PROGRAM.is_file():
+        raise Failed(f"graphd isn't built: build it by 'rt run' in {CRATE}, or name one by --program or GRAPHD_PROGRAM")
+    if not is_built():
+        print(f"{PROGRAM} is older than its texts", file=sys.stderr)
     return PROGRAM
 
 
@@ -86,8 +104,8 @@ def fault_of_child(child):
 class Session:
     """A running graphd, which answers a frame at a time."""
 
-    def __init__(self, config):
-        command = [str(program()), "run", str(config)]
+    def __init__(self, config, named=None):
+        command = [str(program(named)), "run", str(config)]
         pipe = subprocess.PIPE
         self.child = subprocess.Popen(command, stdin=pipe, stdout=pipe, stderr=pipe)
 

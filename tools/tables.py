@@ -4,6 +4,7 @@ import re
 import shutil
 import unicodedata
 
+import client_path  # (finds the package graphd)
 from graphd import Node, Path, Relationship
 
 SHORT = 12  # columns of a terminal that a shortened value may always take
@@ -98,25 +99,44 @@ def _padded(text, room):
     return text + " " * (room - width(text))
 
 
+def rooms(wanted, free):
+    """How many columns of a terminal each column of a table gets: those that take less than their share leave the rest to the others."""
+    given, left = [0] * len(wanted), free
+    for count, place in zip(range(len(wanted), 0, -1), sorted(range(len(wanted)), key=wanted.__getitem__)):
+        given[place] = min(wanted[place], max(SHORT, left // count))
+        left -= given[place]
+    return given
+
+
 def lines(columns, rows, whole):
     """The lines of a table with aligned columns; values are cut where not all of them is wanted."""
+    cells = [[safe(column) for column in columns], *([shown(value) for value in row] for row in rows)]
+    wanted = [max(width(line[place]) for line in cells) for place in range(len(columns))]
     free = shutil.get_terminal_size().columns - 3 * (len(columns) - 1)
-    room = max(SHORT, free // len(columns))
-    cut = (lambda text: text) if whole else (lambda text: shortened(text, room))
-    cells = [[cut(safe(column)) for column in columns]]
-    cells += [[cut(shown(value)) for value in row] for row in rows]
-    rooms = [max(width(line[place]) for line in cells) for place in range(len(columns))]
-    told = [" | ".join(_padded(cell, room) for cell, room in zip(line, rooms)).rstrip() for line in cells]
-    return [told[0], "-+-".join("-" * room for room in rooms), *told[1:]]
+    given = wanted if whole else rooms(wanted, free)
+    cut = [[shortened(cell, room) for cell, room in zip(line, given)] for line in cells]
+    told = [" | ".join(_padded(cell, room) for cell, room in zip(line, given)).rstrip() for line in cut]
+    return [told[0], "-+-".join("-" * room for room in given), *told[1:]]
+
+
+def upright(columns, rows):
+    """The lines of a table with each value on a line of its own."""
+    names = [safe(column) for column in columns]
+    room = max(map(width, names), default=0)
+    told = []
+    for number, row in enumerate(rows, 1):
+        told.append(f"row {number}")
+        told += (f"  {_padded(name, room)} | {shown(value)}" for name, value in zip(names, row))
+    return told
 
 
 def counted(count, word):
     return f"{count} {word}" if count == 1 else f"{count} {word}s"
 
 
-def result(told, whole):
+def result(told, whole, is_upright=False):
     """The lines of what a query answers: its rows, if it has columns, and what they cost."""
-    table = lines(told.columns, told.rows, whole) if told.columns else []
+    table = upright(told.columns, told.rows) if is_upright else lines(told.columns, told.rows, whole) if told.columns else []
     return [*table, f"{counted(len(told.rows), 'row')}, {counted(told.steps, 'step')}"]
 
 

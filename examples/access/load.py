@@ -2,14 +2,16 @@
 """Loads who belongs to which group, and which group may read which folder, into a server that listens.
 
     examples/access/load.py PORT
+
+To load again makes nothing twice.
 """
 import sys
 from pathlib import Path
 
 sys.dont_write_bytecode = True
-sys.path.insert(0, str(Path(__file__).resolve().parents[2] / "clients" / "python"))
+sys.path.insert(0, str(Path(__file__).resolve().parents[1]))
 
-import graphd
+import loading
 
 # each group with the group that it belongs to
 GROUPS = {
@@ -54,36 +56,32 @@ def users():
 
 def load(graph):
     groups = [*GROUPS, *PROJECTS]
-    graph.query("UNWIND $names AS name CREATE (:Group {name: name})", names=groups)
+    graph.query("UNWIND $names AS name MERGE (:Group {name: name})", names=groups)
     inside = [[group, above] for group, above in GROUPS.items() if above]
     graph.query(
-        "UNWIND $rows AS row MATCH (g:Group {name: row[0]}), (h:Group {name: row[1]}) CREATE (g)-[:IN]->(h)",
+        "UNWIND $rows AS row MATCH (g:Group {name: row[0]}), (h:Group {name: row[1]}) MERGE (g)-[:IN]->(h)",
         rows=inside,
     )
-    graph.query("UNWIND $names AS name CREATE (:User {name: name})", names=[name for name, _ in users()])
+    graph.query("UNWIND $names AS name MERGE (:User {name: name})", names=[name for name, _ in users()])
     graph.query(
-        "UNWIND $rows AS row MATCH (u:User {name: row[0]}), (g:Group {name: row[1]}) CREATE (u)-[:IN]->(g)",
+        "UNWIND $rows AS row MATCH (u:User {name: row[0]}), (g:Group {name: row[1]}) MERGE (u)-[:IN]->(g)",
         rows=[[name, group] for name, groups in users() for group in groups],
     )
-    graph.query("UNWIND $paths AS path CREATE (:Folder {path: path})", paths=list(FOLDERS))
+    graph.query("UNWIND $paths AS path MERGE (:Folder {path: path})", paths=list(FOLDERS))
     graph.query(
-        "UNWIND $rows AS row MATCH (f:Folder {path: row[0]}), (g:Folder {path: row[1]}) CREATE (f)-[:LIES_IN]->(g)",
+        "UNWIND $rows AS row MATCH (f:Folder {path: row[0]}), (g:Folder {path: row[1]}) MERGE (f)-[:LIES_IN]->(g)",
         rows=[[folder, above] for folder, above in FOLDERS.items() if above],
     )
     documents = [[f"{folder}/{number}", folder] for folder in FOLDERS if folder != "/" for number in range(1, DOCUMENTS + 1)]
     graph.query(
-        "UNWIND $rows AS row MATCH (f:Folder {path: row[1]}) CREATE (:Document {path: row[0]})-[:LIES_IN]->(f)",
+        "UNWIND $rows AS row MATCH (f:Folder {path: row[1]}) MERGE (:Document {path: row[0]})-[:LIES_IN]->(f)",
         rows=documents,
     )
     graph.query(
-        "UNWIND $rows AS row MATCH (g:Group {name: row[0]}), (f:Folder {path: row[1]}) CREATE (g)-[:MAY_READ]->(f)",
+        "UNWIND $rows AS row MATCH (g:Group {name: row[0]}), (f:Folder {path: row[1]}) MERGE (g)-[:MAY_READ]->(f)",
         rows=[list(row) for row in MAY_READ],
     )
 
 
 if __name__ == "__main__":
-    if len(sys.argv) != 2:
-        sys.exit(__doc__)
-    with graphd.connect(int(sys.argv[1]), "access-writes") as server:
-        load(server)
-        print(f"{server.status().elements} elements")
+    loading.main(load, "access-writes", __doc__)

@@ -2,14 +2,16 @@
 """Loads the network of an office building into a server that listens.
 
     examples/devices/load.py PORT
+
+To load again makes nothing twice.
 """
 import sys
 from pathlib import Path
 
 sys.dont_write_bytecode = True
-sys.path.insert(0, str(Path(__file__).resolve().parents[2] / "clients" / "python"))
+sys.path.insert(0, str(Path(__file__).resolve().parents[1]))
 
-import graphd
+import loading
 
 FLOORS = 6
 SWITCHES = 4  # on each floor
@@ -49,17 +51,17 @@ def devices():
 
 def load(graph):
     graph.query(
-        "UNWIND $rows AS row CREATE (s:Switch {name: row[0], floor: row[1]})",
+        "UNWIND $rows AS row MERGE (s:Switch {name: row[0]}) SET s.floor = row[1]",
         rows=list(switches()),
     )
     graph.query("MATCH (s:Switch {floor: 0}) SET s:Core")
-    link = "CREATE (a)-[:FEEDS {gbit: row[2]}]->(b)"
+    link = "MERGE (a)-[l:FEEDS]->(b) SET l.gbit = row[2]"
     graph.query(
         f"UNWIND $rows AS row MATCH (a:Switch {{name: row[0]}}), (b:Switch {{name: row[1]}}) {link}",
         rows=list(uplinks()),
     )
     graph.query(
-        "UNWIND $rows AS row CREATE (:Device {name: row[0], kind: row[1], version: row[2]})",
+        "UNWIND $rows AS row MERGE (d:Device {name: row[0]}) SET d.kind = row[1], d.version = row[2]",
         rows=[[name, kind, version] for name, kind, version, _ in devices()],
     )
     graph.query(
@@ -69,8 +71,4 @@ def load(graph):
 
 
 if __name__ == "__main__":
-    if len(sys.argv) != 2:
-        sys.exit(__doc__)
-    with graphd.connect(int(sys.argv[1]), "devices-writes") as server:
-        load(server)
-        print(f"{server.status().elements} elements")
+    loading.main(load, "devices-writes", __doc__)

@@ -2,14 +2,16 @@
 """Loads the pages of a documentation, what they link to and what they are about, into a server that listens.
 
     examples/links/load.py PORT
+
+To load again makes nothing twice.
 """
 import sys
 from pathlib import Path
 
 sys.dont_write_bytecode = True
-sys.path.insert(0, str(Path(__file__).resolve().parents[2] / "clients" / "python"))
+sys.path.insert(0, str(Path(__file__).resolve().parents[1]))
 
-import graphd
+import loading
 
 SECTIONS = {
     "start": ["install", "first-steps", "upgrade", "licence", "faq", "support"],
@@ -67,22 +69,18 @@ def links_within(section, names):
 
 
 def load(graph):
-    graph.query("UNWIND $rows AS row CREATE (:Page {path: row[0], title: row[1], reads: row[2]})", rows=list(pages()))
+    graph.query("UNWIND $rows AS row MERGE (p:Page {path: row[0]}) SET p.title = row[1], p.reads = row[2]", rows=list(pages()))
     distinct = sorted(set(links()))
     graph.query(
-        "UNWIND $rows AS row MATCH (a:Page {path: row[0]}), (b:Page {path: row[1]}) CREATE (a)-[:LINKS_TO]->(b)",
+        "UNWIND $rows AS row MATCH (a:Page {path: row[0]}), (b:Page {path: row[1]}) MERGE (a)-[:LINKS_TO]->(b)",
         rows=[list(row) for row in distinct],
     )
-    graph.query("UNWIND $names AS name CREATE (:Tag {name: name})", names=list(TAGS))
+    graph.query("UNWIND $names AS name MERGE (:Tag {name: name})", names=list(TAGS))
     graph.query(
-        "UNWIND $rows AS row MATCH (t:Tag {name: row[0]}), (p:Page) WHERE p.path ENDS WITH row[1] CREATE (p)-[:ABOUT]->(t)",
+        "UNWIND $rows AS row MATCH (t:Tag {name: row[0]}), (p:Page) WHERE p.path ENDS WITH row[1] MERGE (p)-[:ABOUT]->(t)",
         rows=[[tag, f"/{name}"] for tag, names in TAGS.items() for name in names],
     )
 
 
 if __name__ == "__main__":
-    if len(sys.argv) != 2:
-        sys.exit(__doc__)
-    with graphd.connect(int(sys.argv[1]), "links-writes") as server:
-        load(server)
-        print(f"{server.status().elements} elements")
+    loading.main(load, "links-writes", __doc__)

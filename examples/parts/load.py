@@ -2,14 +2,16 @@
 """Loads what bicycles are made of, and what is in stock, into a server that listens.
 
     examples/parts/load.py PORT
+
+To load again makes nothing twice.
 """
 import sys
 from pathlib import Path
 
 sys.dont_write_bytecode = True
-sys.path.insert(0, str(Path(__file__).resolve().parents[2] / "clients" / "python"))
+sys.path.insert(0, str(Path(__file__).resolve().parents[1]))
 
-import graphd
+import loading
 
 MODELS = ["city", "tour", "race", "cargo", "child", "fold"]
 SUPPLIERS = ["Arendt", "Bjelke", "Cordes", "Dahl", "Ekholm"]
@@ -72,22 +74,18 @@ def made():
 
 def load(graph):
     graph.query(
-        "UNWIND $rows AS row CREATE (:Part:Bought {number: row[0], cost: row[1], supplier: row[2], stock: row[3]})",
+        "UNWIND $rows AS row MERGE (p:Part {number: row[0]}) SET p:Bought, p.cost = row[1], p.supplier = row[2], p.stock = row[3]",
         rows=list(bought()),
     )
-    graph.query("UNWIND $numbers AS number CREATE (:Part {number: number})", numbers=[number for number, _ in made()])
+    graph.query("UNWIND $numbers AS number MERGE (:Part {number: number})", numbers=[number for number, _ in made()])
     graph.query("MATCH (p:Part) WHERE p.number STARTS WITH 'bike-' SET p:Product")
     rows = [[number, part, quantity] for number, needs in made() for part, quantity in needs.items()]
     graph.query(
         "UNWIND $rows AS row MATCH (a:Part {number: row[0]}), (b:Part {number: row[1]})"
-        " CREATE (a)-[:NEEDS {quantity: row[2]}]->(b)",
+        " MERGE (a)-[r:NEEDS]->(b) SET r.quantity = row[2]",
         rows=rows,
     )
 
 
 if __name__ == "__main__":
-    if len(sys.argv) != 2:
-        sys.exit(__doc__)
-    with graphd.connect(int(sys.argv[1]), "parts-writes") as server:
-        load(server)
-        print(f"{server.status().elements} elements")
+    loading.main(load, "parts-writes", __doc__)

@@ -1,0 +1,279 @@
+"""Sessions: what a client asks a server by."""
+from __future__ import annotations
+
+import json
+import ssl as tls
+import threading
+from typing import Any, Callable, Dict, List, Mapping, Optional, Sequence, Type, TypeVar, Union
+from urllib.parse import urlsplit
+
+from .answers import Result, Row, Status
+from .connections import MAX_BODY, Address, Connection, ProgramConnection
+from .refusals import FrameTooLong, NotGraphd, NotSent, Refused, refusal
+from .values import Parameter, check_parameter, value_of
+
+PORT = 7687
+Self = TypeVar("Self", bound="Session")
+
+
+class Requests:
+    """The requests that a token may make. Each takes effect whole or not at all, and raises a Refused where the server refuses it, a
+    ConnectionLost where no reply came."""
+
+    def __init__(self, token: str) -> None:
+        if not isinstance(token, str):
+            raise TypeError(f"a token is a text, and not of type {type(token).__name__}")
+        self.token = token
+
+    def query(self, text: str, params: Optional[Mapping[str, Parameter]] = None, /, **named: Parameter) -> Result:
+        """Asks a query. Its parameters `$name` are given as a dict, by name, or both ways.
+
+        Raises a TypeError or a ValueError, and sends nothing, where the text is none or a parameter is no value of graphd's.
+        """
+        given = _together(params, named)
+        if not isinstance(text, str):
+            raise TypeError(f"a query is a text, and not of type {type(text).__name__}")
+        check_parameter("the query", text)
+        for name, value in given.items():
+            check_parameter(name, value)
+        request: Dict[str, Any] = {"op": "query", "text": text}
+        if given:
+            request["params"] = given
+        try:
+            told = self.ask(request)
+        except Refused as fault:
+            raise fault.of_query(text, given) from None
+        return _shaped(_result, told)
+
+    def status(self) -> Status:
+        """What the tenant has and may have. Costs no steps."""
+        return _shaped(_status, self.ask({"op": "status"}))
+
+    def create_index(self, label: str, key: str) -> None:
+        """Keeps the nodes with the label findable by this property, at most 16 such pairs. Raises IndexExists where it is there."""
+        self.ask({"op": "create_index", "label": label, "key": key})
+
+    def drop_index(self, label: str, key: str) -> None:
+        """Takes an index back. Raises NoSuchIndex where it isn't there."""
+        self.ask({"op": "drop_index", "label": label, "key": key})
+
+    def ask(self, request: Mapping[str, Any]) -> Dict[str, Any]:
+        """Sends a request, to which its token is added, and gives the reply's object."""
+        body = json.dumps({**request, "token": self.token}, ensure_ascii=False, separators=(",", ":"))
+        sent = body.encode("utf-8", "surrogatepass")
+        if len(sent) > MAX_BODY:
+            # (a server answers it likewise, and then ends the connection)
+            raise FrameTooLong()
+        reply = self.exchange(sent)
+        try:
+            told = json.loads(reply)
+            code = told["code"]
+        except (ValueError, TypeError, KeyError):
+            raise NotGraphd(f"a reply that isn't graphd's: {reply[:80]!r}") from None
+        if code != 0:
+            raise refusal(code, told.get("error", "Refused"))
+        answered: Dict[str, Any] = told
+        return answered
+
+    def exchange(self, body: bytes) -> bytes:
+        """The reply's body to a request's body, both as bytes."""
+        raise NotImplementedError
+
+
+def _together(params: Optional[Mapping[str, Parameter]], named: Mapping[str, Parameter]) -> Dict[str, Parameter]:
+    twice = sorted(set(params or {}) & set(named))
+    if twice:
+        raise ValueError(f"the parameter {twice[0]} is given twice")
+    return {**(params or {}), **named}
+
+
+Shape = TypeVar("Shape")
+
+
+def _shaped(shape: Callable[[Dict[str, Any]], Shape], told: Dict[str, Any]) -> Shape:
+    try:
+        return shape(told)
+    except (KeyError, TypeError, ValueError):
+        raise NotGraphd("a reply of another form than graphd's") from None
+
+
+def _result(told: Dict[str, Any]) -> Result:
+    columns: List[str] = told["columns"]
+    return Result(columns, [Row(columns, [value_of(value) for value in row]) for row in told["rows"]], told["steps"])
+
+
+def _status(told: Dict[str, Any]) -> Status:
+    names = ("elements", "max_elements", "max_steps", "next_node", "next_rel")
+    return Status(indexes=[(label, key) for label, key in told["indexes"]], **{name: told[name] for name in names})
+
+
+class Session(Requests):
+    """A session of a tenant: what `connect` and `start` give.
+
+    It holds one connection for the length of a `with` block, and outside of one takes one for each request. Threads may share it: over
+    a connection that is held they take turns. `timeout` is how many seconds a reply may take, None for any time.
+    """
+
+    def __init__(self, token: str, opened: Callable[[], Connection], timeout: Optional[float] = None) -> None:
+        super().__init__(token)
+        self.timeout = timeout
+        self._opened = opened
+        self._connection: Optional[Connection] = None
+        self._blocks = 0  # the with blocks that are open, one in the other
+        self._turn = threading.RLock()
+
+    def __enter__(self: Self) -> Self:
+        with self._turn:
+            if self._connection is None:
+                self._connection = self._opened()
+            self._blocks += 1
+        return self
+
+    def __exit__(self, kind: Optional[Type[BaseException]], fault: Optional[BaseException], trace: object) -> None:
+        with self._turn:
+            self._blocks -= 1
+            if self._blocks <= 0:
+                self.close()
+
+    def close(self) -> None:
+        """Lets the connection go, if one is open."""
+        with self._turn:
+            connection, self._connection, self._blocks = self._connection, None, 0
+        if connection is not None:
+            connection.close()
+
+    def exchange(self, body: bytes) -> bytes:
+        """The reply's body to a request's body, both as bytes. A request is sent again only where it wasn't sent whole."""
+        with self._turn:
+            if self._connection is not None:
+                return self._exchange_held(self._connection, body)
+        connection = self._opened()
+        try:
+            return connection.exchange(body, self.timeout)
+        finally:
+            connection.close()
+
+    def _exchange_held(self, connection: Connection, body: bytes) -> bytes:
+        try:
+            return connection.exchange(body, self.timeout)
+        except NotSent:
+            if not connection.may_reopen:
+                raise
+            connection.close()
+            self._connection = connection = self._opened()
+            return connection.exchange(body, self.timeout)
+
+
+class Pool(Requests):
+    """Requests of one token, over at most `size` connections that any number of threads share. A request waits until one is free, for
+    `timeout` seconds at most, and as long for its reply. What `pool` gives; a `with` block closes all connections at its end."""
+
+    def __init__(self, token: str, opened: Callable[[], Connection], size: int, timeout: Optional[float] = None) -> None:
+        super().__init__(token)
+        if size < 1:
+            raise ValueError("a pool has one connection at least")
+        self.timeout = timeout
+        self._opened = opened
+        self._free = threading.Semaphore(size)
+        self._idle: List[Connection] = []
+        self._lock = threading.Lock()
+
+    def __enter__(self) -> "Pool":
+        return self
+
+    def __exit__(self, kind: Optional[Type[BaseException]], fault: Optional[BaseException], trace: object) -> None:
+        self.close()
+
+    def close(self) -> None:
+        """Lets all connections go that no request is using."""
+        with self._lock:
+            idle, self._idle = self._idle, []
+        for connection in idle:
+            connection.close()
+
+    def exchange(self, body: bytes) -> bytes:
+        """The reply's body to a request's body, both as bytes. A request is sent again only where it wasn't sent whole."""
+        if not self._free.acquire(timeout=self.timeout):
+            raise NotSent(f"no connection of the pool was free within {self.timeout:g} seconds")
+        try:
+            return self._exchange(body)
+        finally:
+            self._free.release()
+
+    def _exchange(self, body: bytes) -> bytes:
+        with self._lock:
+            kept = self._idle.pop() if self._idle else None
+        connection = kept or self._opened()
+        try:
+            return connection.exchange(body, self.timeout)
+        except NotSent:
+            if not connection.may_reopen:
+                raise
+            connection.close()
+            connection = self._opened()
+            return connection.exchange(body, self.timeout)
+        finally:
+            self._give_back(connection)
+
+    def _give_back(self, connection: Connection) -> None:
+        if connection.is_lost:
+            connection.close()
+            return
+        with self._lock:
+            self._idle.append(connection)
+
+
+def _address(where: Union[int, str], host: str, ssl: Union[bool, tls.SSLContext, None], wait: float) -> Address:
+    port: Optional[int]
+    if isinstance(where, str):
+        told = urlsplit(where if "://" in where else f"graphd://{where}")
+        if told.scheme not in ("graphd", "graphds") or not told.hostname or told.username or told.path.strip("/") or told.query:
+            raise ValueError(f"{where}: an address is graphd://HOST:PORT, or graphds://HOST:PORT for TLS")
+        host, port, ssl = told.hostname, told.port or PORT, ssl or told.scheme == "graphds"
+    else:
+        port = where
+    if not 1 <= port <= 65535:
+        raise ValueError(f"{port} is no port: ports are 1 to 65535")
+    context = ssl if isinstance(ssl, tls.SSLContext) else tls.create_default_context() if ssl else None
+    return Address(host, port, context, wait)
+
+
+def connect(
+    where: Union[int, str],
+    token: str,
+    host: str = "127.0.0.1",
+    timeout: Optional[float] = 60.0,
+    *,
+    ssl: Union[bool, tls.SSLContext, None] = None,
+    wait: float = 0.0,
+) -> Session:
+    """A session of a server that listens. Connects when it is first used.
+
+    `where` is a port, or an address "graphd://host:port", or "graphds://host:port" for TLS. `timeout` is how many seconds connecting
+    and each reply may take, None for any time. `ssl` is True for TLS with the system's certificates, or a context. `wait` is for how
+    many seconds to try where no server listens yet. Raises a ValueError for an address or a port that is none.
+    """
+    address = _address(where, host, ssl, wait)
+    return Session(token, lambda: address.opened(timeout), timeout)
+
+
+def pool(
+    where: Union[int, str],
+    token: str,
+    host: str = "127.0.0.1",
+    timeout: Optional[float] = 60.0,
+    *,
+    size: int = 8,
+    ssl: Union[bool, tls.SSLContext, None] = None,
+    wait: float = 0.0,
+) -> Pool:
+    """Like `connect`, with at most `size` connections that threads share. A server that takes one connection at a time (`graphd serve`)
+    answers one request of a pool of one; behind a gateway a pool may be as large as the gateway's number of clients."""
+    address = _address(where, host, ssl, wait)
+    return Pool(token, lambda: address.opened(timeout), size, timeout)
+
+
+def start(command: Sequence[str], token: str, timeout: Optional[float] = None) -> Session:
+    """A session of a server that the client starts, as `["graphd", "run", "config.json"]`. It keeps its graphs as long as it runs, which
+    is for the length of a `with` block."""
+    return Session(token, lambda: ProgramConnection(command), timeout)

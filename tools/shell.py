@@ -1,0 +1,227 @@
+"""A session with its commands and parameters, and how statements are run."""
+import json
+import re
+import sys
+import time
+from pathlib import Path
+
+import client_path  # (finds the package graphd)
+import dumps
+import graphd
+import replies
+import tables
+from graphd.diagnosis import names_of_parameters
+from graphd.values import check_parameter
+from statements import Open, Splitter
+
+HELP = """\
+:status                      what the tenant has and may have
+:schema                      labels, types and keys, and how many have them
+:index LABEL KEY             keeps nodes findable by a property; :unindex LABEL KEY takes it back
+:param NAME VALUE            sets the parameter $NAME to a JSON value; :param alone lists all
+:unparam NAME                takes a parameter back
+:format NAME                 table, vertical, json or csv
+:whole                       shows long values whole, or shortened again
+:source FILE                 runs a file of statements (also :run FILE)
+:dump FILE                   writes the tenant's graph as statements; :restore FILE runs them on an empty tenant
+:clear                       drops the statement that is being typed
+:help, :quit                 also without the colon
+A query ends with a semicolon. Ctrl-C drops what is typed, or stops waiting for an answer."""
+QUITS = (":quit", ":exit", ":q", "quit", "exit")
+# an index's label and key, in backquotes or without, also as :status tells them
+WORDS = re.compile(r"`((?:[^`]|``)+)`|([^\s`]+)")
+PAIR = re.compile(r":?(`(?:[^`]|``)+`|[^`()\s]+)\((`(?:[^`]|``)+`|[^`()\s]+)\)\Z")
+
+
+class Stopped(Exception):
+    """The run of a file ends here: what is told of it."""
+
+
+class Interrupted(Stopped):
+    """The person stopped it."""
+
+
+class Shell:
+    """What a person or a script asks a session by. `refused` counts what didn't succeed."""
+
+    def __init__(self, session, answers, fails_fast=False):
+        self.session, self.answers = session, answers
+        self.parameters = {}
+        self.refused = 0
+        self.fails_fast = fails_fast
+
+    def statement(self, statement, where=""):
+        """Runs a query or a command. False where the shell is to end."""
+        before = self.refused
+        try:
+            if statement.text in QUITS or statement.text.rstrip("; ") in QUITS:
+                return False
+            self._run(statement)
+        except graphd.Refused as fault:
+            self.refused += 1
+            self.answers.refused(fault, where)
+        except BrokenPipeError:
+            raise
+        except (TypeError, ValueError, OSError, graphd.NotGraphd, graphd.TimedOut) as fault:
+            self.tell(fault, where)
+        if self.fails_fast and self.refused > before:
+            raise Stopped(f"stopped at {where}" if where else "stopped")
+        return True
+
+    def tell(self, fault, where=""):
+        """Tells of a fault that isn't the server's, and counts it."""
+        self.refused += 1
+        reason = f"{fault.filename}: {fault.strerror}" if isinstance(fault, OSError) and fault.filename else fault
+        print(f"{where or 'graphsh'}: {tables.safe(str(reason))}", file=sys.stderr, flush=True)
+
+    def _run(self, statement):
+        if statement.is_command():
+            self.command(statement.text)
+        else:
+            self.query(statement.text)
+
+    def query(self, text):
+        begin = time.perf_counter()
+        given = {name: self.parameters[name] for name in names_of_parameters(text) if name in self.parameters}
+        result = self.session.query(text, given)
+        self.answers.result(result, time.perf_counter() - begin)
+
+    def command(self, text):
+        word, rest = re.fullmatch(r"(\S*)\s*(.*?)[;\s]*", text, re.DOTALL).groups()
+        commands = {
+            ":status": lambda: self.answers.status(self.session.status()),
+            ":schema": lambda: self.answers.done("\n".join(dumps.schema(self.session))),
+            ":index": lambda: self.index(self.session.create_index, word, rest),
+            ":unindex": lambda: self.index(self.session.drop_index, word, rest),
+            ":param": lambda: self.param(rest),
+            ":params": lambda: self.param(""),
+            ":unparam": lambda: self.parameters.pop(_parameter(rest), None),
+            ":format": lambda: self.format(rest),
+            ":whole": self.turn_whole,
+            ":source": lambda: self.run_file(rest),
+            ":run": lambda: self.run_file(rest),
+            ":dump": lambda: self.dump(rest),
+            ":restore": lambda: self.restore(rest),
+            ":clear": lambda: None,
+            ":help": lambda: print(HELP, flush=True),
+        }
+        if word not in commands:
+            raise ValueError(f"no command {word}; :help tells them all")
+        commands[word]()
+
+    def index(self, change, word, rest):
+        pair = PAIR.match(rest)
+        found = WORDS.findall(" ".join(pair.groups()) if pair else rest)
+        names = [quoted.replace("``", "`") or plain for quoted, plain in found]
+        if len(names) != 2:
+            raise ValueError(f"an index has a label and a key: {word} LABEL KEY; names with blanks stand in backquotes")
+        change(*names)
+        self.answers.done()
+
+    def param(self, rest):
+        name, _, value = rest.partition(" ")
+        if not name:
+            for known, given in self.parameters.items():
+                print(f"${tables.safe(known)} = {tables.shown(given)}")
+        elif not value.strip():
+            raise ValueError("a parameter has a name and a JSON value: :param NAME VALUE")
+        else:
+            self.set_parameter(_parameter(name), value)
+
+    def set_parameter(self, name, value):
+        """Sets a parameter to the value of a JSON text, where graphd has this value."""
+        try:
+            read = json.loads(value)
+        except ValueError as fault:
+            raise ValueError(f"${name}: no JSON value: {fault}; texts stand in double quotes") from None
+        check_parameter(f"${name}", read)
+        self.parameters[name] = read
+
+    def format(self, name):
+        if name not in replies.FORMATS:
+            raise ValueError(f"a format is one of {', '.join(replies.FORMATS)}")
+        self.answers = replies.FORMATS[name]()
+
+    def turn_whole(self):
+        self.answers.whole = not self.answers.whole
+        print("long values are shown whole" if self.answers.whole else "long values are shortened")
+
+    # files
+
+    def run_file(self, path):
+        """Runs a file of statements, or as far as one stops it."""
+        if not path:
+            raise ValueError("a file is wanted")
+        file = Path(path).expanduser()
+        with open(file, "rb") as lines:
+            self.run_lines(lines, path)
+
+    def run_lines(self, lines, name):
+        """Runs the statements of lines of bytes, each as soon as it has ended. False where the shell is to end."""
+        splitter, count = Splitter(), 0
+        try:
+            for line in _decoded(lines):
+                for statement in splitter.feed(line):
+                    count += 1
+                    if not self._of_file(statement, name, count):
+                        return False
+            return all([self._of_file(statement, name, count + 1) for statement in splitter.rest()])
+        except (Open, UnicodeError) as fault:
+            self.tell(f"{name}: {fault}")
+        except KeyboardInterrupt:
+            raise Interrupted(f"stopped in {name} at statement {count}; what the server has begun goes on") from None
+        return True
+
+    def _of_file(self, statement, name, count):
+        return self.statement(statement, f"{name}: statement {count}, line {statement.line}")
+
+    def dump(self, path):
+        if not path:
+            raise ValueError("a file is wanted")
+        nodes, relationships = dumps.write(self.session, Path(path).expanduser())
+        self.answers.done(f"{tables.counted(nodes, 'node')} and {tables.counted(relationships, 'relationship')} written")
+
+    def restore(self, path):
+        """Runs a dump, quietly, on a tenant without elements."""
+        there = self.session.status().elements
+        if there:
+            raise ValueError(f"the tenant has {tables.counted(there, 'element')} already: a dump is restored on an empty one")
+        quiet = Shell(self.session, _Quiet(self.answers), fails_fast=True)
+        try:
+            quiet.run_file(path)
+        except Stopped as fault:
+            raise ValueError(f"{fault}; what was restored before is there") from None
+        if quiet.refused:
+            raise ValueError(f"{path} wasn't restored whole")
+        self.answers.done(f"{tables.counted(self.session.status().elements, 'element')} restored")
+
+
+class _Quiet:
+    """Tells refusals alone."""
+
+    whole = True
+
+    def __init__(self, answers):
+        self.refused = answers.refused
+
+    def result(self, result, seconds):
+        pass
+
+    status = done = lambda self, *told: None
+
+
+def _parameter(word):
+    """The name of a parameter as it is typed, with $ or without, with backquotes or without."""
+    name = word.strip()
+    name = name[1:] if name.startswith("$") else name
+    return name[1:-1].replace("``", "`") if len(name) > 2 and name[0] == name[-1] == "`" else name
+
+
+def _decoded(lines):
+    """The lines as texts, the first without a mark of the order of bytes."""
+    for number, line in enumerate(lines, 1):
+        try:
+            text = line.decode("utf-8-sig" if number == 1 else "utf-8")
+        except UnicodeDecodeError as fault:
+            raise UnicodeError(f"line {number}: no text in UTF-8 (byte {fault.start + 1})") from None
+        yield text

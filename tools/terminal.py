@@ -1,0 +1,153 @@
+"""Statements typed at a terminal, with a history and completion."""
+import atexit
+import os
+import re
+import sys
+from pathlib import Path
+
+import client_path  # (finds the package graphd)
+import graphd
+from graphd.lexemes import KEYWORDS, Unreadable, lexemes
+from graphd.reader import AGGREGATES, ARGUMENTS
+from shell import HELP, QUITS, Stopped
+from statements import Splitter
+
+HISTORY = Path.home() / ".graphsh_history"
+COMMANDS = re.findall(r":[a-z]+", HELP)
+FUNCTIONS = [
+    "count", "sum", "min", "max", "collect", "id", "labels", "type", "keys", "properties", "size", "length", "nodes", "relationships",
+    "head", "last", "toString", "toInteger", "abs", "startNode", "endNode", "coalesce", "range",
+]
+ASIDE = (":help", ":clear", *QUITS[:3])
+STOPPED = "stopped waiting: the request goes on in the server, and may still take effect"
+
+
+class Terminal:
+    """What is typed, line by line, as statements for the shell."""
+
+    def __init__(self, shell, owns_server):
+        self.shell, self.owns_server = shell, owns_server
+        self.splitter = Splitter()
+        self.typed = []  # the lines of the statement that is open
+
+    def talk(self):
+        """Reads statements until the end of input or :quit."""
+        self.keep_history()
+        print("graphd shell; :help tells the commands, a query ends with a semicolon")
+        while self.turn():
+            pass
+
+    def prompt(self):
+        mark = self.splitter.mark()
+        return f"{mark + '..':>7}> " if mark else "   ...> " if self.splitter.is_open() else "graphd> "
+
+    def turn(self):
+        """One line. False where the shell is to end."""
+        try:
+            line = input(self.prompt())
+        except EOFError:
+            print()
+            return False
+        except KeyboardInterrupt:
+            print()
+            self.drop()
+            return True
+        word = line.strip().rstrip(";").strip()
+        if self.splitter.is_open() and word in ASIDE:
+            return self.aside(word)
+        if not self.splitter.is_open() and word in ("help", "quit", "exit"):
+            line = f":{word}"
+        self.typed.append(line)
+        for statement in self.splitter.feed(line + "\n"):
+            self.remember()
+            if not self.run(statement):
+                return False
+        if not self.splitter.is_open():
+            self.typed = []
+        return True
+
+    def aside(self, word):
+        """A command in the middle of a statement."""
+        if word in QUITS:
+            return False
+        if word == ":clear":
+            self.drop()
+        else:
+            print(HELP, "The statement that you type is still open: a semicolon ends it, :clear drops it.", sep="\n")
+        return True
+
+    def drop(self):
+        self.splitter.drop()
+        self.typed = []
+
+    def run(self, statement):
+        """Runs a statement. An interrupt, or a connection that is lost, ends it and not the shell."""
+        try:
+            return self.shell.statement(statement)
+        except KeyboardInterrupt:
+            print(f"\n{STOPPED}", file=sys.stderr)
+        except Stopped as fault:
+            print(fault, file=sys.stderr)
+        except graphd.ConnectionLost as fault:
+            if self.owns_server:
+                raise
+            self.shell.tell(fault)
+        return True
+
+    # history and completion
+
+    def remember(self):
+        """Keeps what was typed as one entry."""
+        text = "\n".join(self.typed).strip()
+        self.typed = []
+        if text and self.readline:
+            self.readline.add_history(_joined(text))
+
+    def keep_history(self):
+        try:
+            import readline
+        except ImportError:
+            self.readline = None
+            return
+        self.readline = readline
+        try:
+            readline.read_history_file(HISTORY)
+        except OSError:
+            pass
+        readline.set_history_length(1000)
+        readline.set_auto_history(False)
+        readline.set_completer_delims(" \t\n()[]{},;=<>+-*/%|.'\"`")
+        readline.set_completer(_completed)
+        readline.parse_and_bind("tab: complete")
+        atexit.register(_write_history, readline)
+
+
+def _joined(text):
+    """The text on one line, where that means the same."""
+    line = " ".join(part.strip() for part in text.split("\n"))
+    try:
+        same = [token[:2] for token in lexemes(line)] == [token[:2] for token in lexemes(text)]
+    except Unreadable:
+        same = "//" not in text and "\n" not in text
+    return line if same else text
+
+
+def _completed(word, number):
+    """The completion of this number: commands, keywords and functions, in the case that is typed."""
+    if word.startswith(":"):
+        found = [command for command in dict.fromkeys(COMMANDS) if command.startswith(word)]
+    else:
+        small = word.islower()
+        keywords = [keyword.lower() if small else keyword for keyword in sorted(KEYWORDS)]
+        functions = [name + "(" for name in FUNCTIONS if name.lower() in AGGREGATES or name.lower() in ARGUMENTS]
+        found = [it for it in keywords + functions if word and it.lower().startswith(word.lower())]
+    return found[number] if number < len(found) else None
+
+
+def _write_history(readline):
+    try:
+        # (texts may be secret)
+        os.close(os.open(HISTORY, os.O_CREAT | os.O_WRONLY, 0o600))
+        readline.write_history_file(HISTORY)
+    except OSError:
+        pass

@@ -1,4 +1,4 @@
-"""The program graphd, built by the repository's toolchain where it isn't built yet."""
+"""The programs graphd and graphd_listen, built by the repository's toolchain where they aren't built yet."""
 import os
 import shutil
 import struct
@@ -7,11 +7,6 @@ import sys
 from pathlib import Path
 
 ROOT = Path(__file__).resolve().parent.parent
-CRATE = ROOT / "crates" / "graphd"
-PROGRAM = CRATE / "out" / "graphd"
-# written by the toolchain once the program was proved and built
-STAMP = CRATE / "out" / "graphd.stamp"
-LOG = CRATE / "out" / "build.log"
 
 
 class Failed(Exception):
@@ -24,33 +19,36 @@ def sources():
         yield from (folder / "src").rglob("*.rt")
 
 
-def is_built():
-    if not (PROGRAM.is_file() and STAMP.is_file()):
+def is_built(path):
+    # the stamp is written by the toolchain once the program was proved and built
+    if not (path.is_file() and path.with_suffix(".stamp").is_file()):
         return False
-    built = PROGRAM.stat().st_mtime
+    built = path.stat().st_mtime
     return all(source.stat().st_mtime <= built for source in sources())
 
 
-def build():
-    """Builds the program, which proves it and all below it first."""
+def build(name, path):
+    """Builds a program, which proves it and all below it first."""
     if shutil.which("rt") is None:
-        raise Failed("the Rattle toolchain's command 'rt' is not on the PATH, so graphd can't be built")
-    print(f"building graphd: all of it is proved first, which takes minutes (log: {LOG})", file=sys.stderr)
-    LOG.parent.mkdir(exist_ok=True)
-    with open(LOG, "wb") as log:
+        raise Failed(f"the Rattle toolchain's command 'rt' is not on the PATH, so {name} can't be built")
+    told = path.with_name("build.log")
+    print(f"building {name}: all of it is proved first, which takes minutes (log: {told})", file=sys.stderr)
+    told.parent.mkdir(exist_ok=True)
+    with open(told, "wb") as log:
         # Without words the program only tells its usage.
-        status = subprocess.run(["rt", "run"], cwd=CRATE, stdin=subprocess.DEVNULL, stdout=log, stderr=log)
-    if not (PROGRAM.is_file() and STAMP.is_file()):
-        end = LOG.read_text(errors="replace").splitlines()[-15:]
-        raise Failed("\n".join([f"graphd was not built (rt run ended with {status.returncode}):", *end]))
-    os.utime(PROGRAM)
+        status = subprocess.run(["rt", "run"], cwd=ROOT / "crates" / name, stdin=subprocess.DEVNULL, stdout=log, stderr=log)
+    if not (path.is_file() and path.with_suffix(".stamp").is_file()):
+        end = told.read_text(errors="replace").splitlines()[-15:]
+        raise Failed("\n".join([f"{name} was not built (rt run ended with {status.returncode}):", *end]))
+    os.utime(path)
 
 
-def program():
-    """The path of the built program."""
-    if not is_built():
-        build()
-    return PROGRAM
+def program(name="graphd"):
+    """The path of a built program."""
+    path = ROOT / "crates" / name / "out" / name
+    if not is_built(path):
+        build(name, path)
+    return path
 
 
 class Session:

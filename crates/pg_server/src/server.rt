@@ -1,5 +1,5 @@
 //! The server: tenants, and the requests that reach them.
-ghost use Rattle.std.specs.Prelude.{◌≡◌, ◌≢◌, ◌<◌, ◌≤◌, ℕ, List, length, string_bytes, Some, option_and_then, IfOk, IfErr, IfSome};
+ghost use Rattle.std.specs.Prelude.{◌≡◌, ◌≢◌, ◌<◌, ◌≤◌, ℕ, List, length, string_bytes, Some, IfOk, IfErr, IfSome};
 ghost use Rattle.pg_cache.specs.Cache.{cache_seen};
 ghost use Rattle.pg_json.specs.Bodies.{request_view};
 ghost use Rattle.pg_json.specs.Refusals.{refusal_text};
@@ -7,7 +7,7 @@ ghost use Rattle.pg_json.specs.Requests.{query, create_index, drop_index};
 ghost use Rattle.pg_meaning.specs.declared.fault.Fault.TheVariants.{OutOfMemory};
 ghost use Rattle.pg_server.specs.Configuration.{max_tenants};
 ghost use Rattle.pg_server.specs.Counts.{inner_of, faults_of};
-ghost use Rattle.pg_server.specs.Handles.{AddsNames, CallsAreRuns, Handles, LooksUp, RefusalsKeepAll, key_asked, key_at};
+ghost use Rattle.pg_server.specs.Handles.{AddsNames, CallsAreRuns, Handles, LooksUp, RefusalsKeepAll, key_asked, key_at, tenant_asked};
 ghost use Rattle.pg_server.specs.Holds.{HoldTenants, shared_of};
 ghost use Rattle.pg_server.specs.Runs.{RefusalsKeep, TwoWorlds, asked, token_of as token_shown};
 ghost use Rattle.pg_server.specs.Served.{OneReading, read_faults, write_faults};
@@ -100,7 +100,7 @@ impl<S: BuildHasher + Drop, T: Tables> Server<S, T> {
 
     /// The place of the tenant whose token a body shows, if the body is a request and there is memory to read it.
     pub fn tenant_of(&self, body: &[u8]) -> Option<usize>
-        ensures { IfSome result (λ place. option_and_then (λ request. place_of (token_shown request) self.now.state.tenants) (asked body.now) ≡ Some place) }
+        ensures { IfSome result (λ place. tenant_asked self.now.state.tenants body.now ≡ Some place) }
     {
         match self.request_of(body) {
             Some(request) => self.place(token_of(&request)),

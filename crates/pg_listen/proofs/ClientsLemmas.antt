@@ -1,6 +1,6 @@
 -- The table of clients changes at one client at a time.
-use Rattle.std.proofs.Common.{◌≡◌, ◌≢◌, ℕ, ◌+◌, ◌≤◌, Bool, true, false, List, [], ◌∷◌, ◌++◌, Option, Some, None, refl, sym, ap, ◌∙◌, subst, append_assoc, append-nil, cond, nat_eq, arith}
-use Rattle.std.specs.Prelude.{All, ◌⊎◌}
+use Rattle.std.proofs.Common.{◌≡◌, ◌≢◌, ℕ, ◌+◌, ◌≤◌, false, List, [], ◌∷◌, ◌++◌, Option, Some, None, sym, ap, ◌∙◌, subst, append-nil, cond, nat_eq, arith}
+use Rattle.std.specs.Prelude.{All}
 use Rattle.std.proofs.Common.{inl, inr}
 use Rattle.std.proofs.lemmas.Bool.{cases_eq, false≢true}
 use Rattle.std.proofs.lemmas.Grind.{flat_map-append}
@@ -12,7 +12,6 @@ use Rattle.pg_listen.specs.Events.{Event, received_at, sent_at, exchange_at, rec
 use Rattle.pg_server.specs.Exchange.{Exchange, bodies_of, replies_of}
 use Rattle.pg_server.specs.Frames.{frame, IsShort}
 use Rattle.pg_server.specs.Served.{frames}
-use Rattle.pg_listen.specs.Frames.{BeginsTooLong}
 use Rattle.pg_listen.specs.Clients.{Stand}
 use Rattle.pg_listen.specs.Listens.{StandsAt, Converses}
 use Rattle.pg_listen.specs.Moves.{Seen, opening, refusal_of, Goes, Passes}

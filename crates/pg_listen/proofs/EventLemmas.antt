@@ -1,7 +1,7 @@
 -- Events, one after the other.
-use Rattle.std.proofs.Common.{◌≡◌, ◌≢◌, ℕ, ◌==◌, Bool, true, false, List, [], ◌∷◌, ◌++◌, Option, None, Some, refl, sym, ap, ◌∙◌, subst, append_assoc, append-nil, if◌then◌else◌, arith}
+use Rattle.std.proofs.Common.{◌≡◌, ◌≢◌, ℕ, ◌==◌, List, [], ◌∷◌, ◌++◌, Option, None, Some, refl, sym, ap, ◌∙◌, subst, append_assoc, append-nil, if◌then◌else◌, arith}
 use Rattle.std.proofs.lemmas.Grind.{flat_map-append}
-use Rattle.pg_listen.specs.Events.{Event, received, answered, sent, received_at, sent_at, exchange_at, exchange_of, carried_at, received_from, sent_to, exchanges_by, exchanges_in, carried_in, Adds, IsSilent}
+use Rattle.pg_listen.specs.Events.{Event, received, answered, sent, received_at, sent_at, exchange_at, received_from, sent_to, exchanges_by, Adds, IsSilent}
 use Rattle.pg_server.specs.Exchange.{Exchange, Chain}
 
 pub Adds-nil : (a : Option (List Event)) → Adds a a []

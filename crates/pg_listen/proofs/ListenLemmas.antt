@@ -1,13 +1,12 @@
 -- Signal by signal.
-use Rattle.std.proofs.Common.{◌≡◌, ℕ, List, [], ◌++◌, Option, refl, sym, ap, ◌∙◌, subst, append-nil}
+use Rattle.std.proofs.Common.{ℕ, List, [], ◌++◌, Option, refl, sym, subst, append-nil}
 use Rattle.std.proofs.lemmas.Grind.{flat_map-append}
 use Rattle.pg_listen.specs.Events.{Event, exchange_of, carried_at, exchanges_in, carried_in, Adds}
 use Rattle.pg_server.specs.Exchange.{Chain}
-use Rattle.pg_listen.specs.Clients.{AllStand, Keeps, Rests, AllMove, AllMoveOn}
+use Rattle.pg_listen.specs.Clients.{AllStand, Keeps, Rests, AllMoveOn}
 use Rattle.pg_listen.specs.Listens.{Listens}
-use Rattle.pg_listen.specs.Moves.{opening}
 use Rattle.pg_listen.specs.declared.clients.Clients.{Clients}
-use Rattle.pg_listen.proofs.EventLemmas.{Adds-nil, Adds-trans, Chain-trans, silent-nil}
+use Rattle.pg_listen.proofs.EventLemmas.{Adds-nil, Adds-trans, Chain-trans}
 use Rattle.pg_listen.proofs.ClientsLemmas.{opening_moments}
 
 pub Adds-more : (p q r : Option (List Event)) (events : List Event) → Adds p q events → Adds q r [] → Adds p r events

@@ -1,15 +1,14 @@
 -- A client's side goes on step by step.
-use Rattle.std.proofs.Common.{◌≡◌, ◌≢◌, ℕ, Bool, true, false, List, [], ◌∷◌, ◌++◌, Option, Result, Ok, Err, OnOk, All, ◌⊎◌, inl, inr, refl, sym, ap, ◌∙◌, subst, append_assoc, append-nil, take, drop, take-append-drop, length, ◌≤◌}
-use Rattle.std.proofs.lemmas.Grind.{flat_map-append, common_steps}
+use Rattle.std.proofs.Common.{◌≡◌, ℕ, Bool, true, false, List, [], ◌∷◌, ◌++◌, Option, Result, Ok, Err, OnOk, All, ◌⊎◌, inl, inr, refl, sym, ap, ◌∙◌, subst, append_assoc, append-nil}
+use Rattle.std.proofs.lemmas.Grind.{flat_map-append}
 use Rattle.std.proofs.lemmas.List.{map-append}
-use Rattle.std.proofs.lemmas.List.Elements.{All-nil, All-push, All-append}
-use Rattle.pg_listen.specs.Events.{Event, received, answered, sent, received_at, sent_at, exchange_at, exchange_of, carried_at, received_from, sent_to, exchanges_by, exchanges_in, carried_in, Adds, IsSilent}
+use Rattle.std.proofs.lemmas.List.Elements.{All-nil, All-append}
+use Rattle.pg_listen.specs.Events.{Event, received_at, sent_at, exchange_at, exchange_of, carried_at, received_from, sent_to, exchanges_by, carried_in, Adds}
 use Rattle.pg_server.specs.Exchange.{Exchange, bodies_of, replies_of, Chain}
 use Rattle.pg_server.specs.Frames.{frame, IsShort}
-use Rattle.pg_server.specs.Served.{frames, too_long_reply}
-use Rattle.pg_listen.specs.Frames.{BeginsTooLong}
-use Rattle.pg_listen.specs.Moves.{Seen, refusal_of, Goes, Passes, Moves, Carries, Answers, AnswersOn, CarriesOn, MovesOn}
-use Rattle.pg_listen.proofs.EventLemmas.{Adds-nil, Adds-trans, Chain-trans, here, elsewhere, silent-nil, silent-append, silent-received, silent-sent, silent-answered}
+use Rattle.pg_server.specs.Served.{frames}
+use Rattle.pg_listen.specs.Moves.{Seen, refusal_of, Goes, Passes, Moves, Carries, Answers}
+use Rattle.pg_listen.proofs.EventLemmas.{Adds-nil, Adds-trans, Chain-trans, silent-nil, silent-append}
 
 -- a refusal comes once, and last
 pub joined : (o m n : Bool) (r1 r2 : List (List ℕ)) → (o ≡ true → m ≡ true) → (m ≡ true → (n ≡ true) × (r2 ≡ [])) → (r1 ++ r2) ++ refusal_of o n ≡ (r1 ++ refusal_of o m) ++ (r2 ++ refusal_of m n)

@@ -1,14 +1,14 @@
 -- The steps of one client.
-use Rattle.std.proofs.Common.{◌≡◌, ◌≢◌, ℕ, ◌+◌, ◌≤◌, Bool, true, false, List, [], ◌∷◌, ◌++◌, Option, Result, Ok, Err, refl, sym, ap, ◌∙◌, subst, append_assoc, append-nil, take, drop, length, take-append-drop}
+use Rattle.std.proofs.Common.{◌≡◌, ℕ, ◌≤◌, Bool, true, false, List, [], ◌∷◌, ◌++◌, refl, sym, ap, ◌∙◌, subst, append-nil, take, drop, length, take-append-drop}
 use Rattle.std.specs.Prelude.{All}
 use Rattle.std.proofs.lemmas.List.Elements.{All-nil, All-push}
 use Rattle.std.proofs.lemmas.Bool.{false≢true}
-use Rattle.pg_listen.specs.Events.{Event, received, answered, sent, received_from, sent_to, exchanges_by, exchanges_in, carried_in, Adds}
-use Rattle.pg_server.specs.Exchange.{Exchange, bodies_of, replies_of, Chain}
+use Rattle.pg_listen.specs.Events.{received, answered, sent, exchanges_by}
+use Rattle.pg_server.specs.Exchange.{Exchange, bodies_of, replies_of}
 use Rattle.pg_server.specs.Frames.{frame, body_limit, IsShort}
 use Rattle.pg_server.specs.Served.{frames, too_long_reply}
 use Rattle.pg_listen.specs.Frames.{BeginsTooLong}
-use Rattle.pg_listen.specs.Moves.{Seen, refusal_of, Goes, Passes, Carries, Answers}
+use Rattle.pg_listen.specs.Moves.{Seen, refusal_of, Goes, Passes}
 use Rattle.pg_listen.proofs.MoveLemmas.{Passes-nil, single, still}
 use Rattle.pg_listen.proofs.EventLemmas.{here, silent-nil, silent-received, silent-sent, silent-answered}
 

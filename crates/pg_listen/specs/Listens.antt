@@ -1,7 +1,7 @@
 -- Listens: what serving many clients at once promises.
-use Rattle.std.specs.Prelude.{◌≡◌, ℕ, Bool, true, false, List, [], ◌++◌, Option, All}
+use Rattle.std.specs.Prelude.{◌≡◌, ℕ, true, false, List, ◌++◌, Option, All}
 use Rattle.pg_listen.specs.Events.{Event, received_from, sent_to, exchanges_by, exchanges_in, carried_in, Adds}
-use Rattle.pg_server.specs.Exchange.{Exchange, bodies_of, replies_of, Chain}
+use Rattle.pg_server.specs.Exchange.{bodies_of, replies_of, Chain}
 use Rattle.pg_server.specs.Frames.{IsShort}
 use Rattle.pg_server.specs.Served.{frames}
 use Rattle.pg_listen.specs.Frames.{BeginsTooLong}

@@ -1,7 +1,7 @@
 -- How one client's side goes on, and where it stands.
 use Rattle.std.specs.Prelude.{◌≡◌, ◌≢◌, ℕ, Bool, true, false, List, [], ◌∷◌, ◌++◌, Option, Result, OnOk, All}
 use Rattle.pg_listen.specs.Events.{Event, received_from, sent_to, exchanges_by, exchanges_in, carried_in, Adds, IsSilent}
-use Rattle.pg_server.specs.Exchange.{Exchange, bodies_of, replies_of, Chain}
+use Rattle.pg_server.specs.Exchange.{bodies_of, replies_of, Chain}
 use Rattle.pg_server.specs.Frames.{IsShort}
 use Rattle.pg_server.specs.Served.{frames, too_long_reply}
 use Rattle.pg_listen.specs.Frames.{BeginsTooLong}

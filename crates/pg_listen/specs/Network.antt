@@ -1,5 +1,5 @@
 -- What the calls of a network answer.
-use Rattle.std.specs.Prelude.{◌≡◌, ℕ, ◌<◌, ◌≤◌, List, [], ◌∷◌, length, take, Option}
+use Rattle.std.specs.Prelude.{ℕ, ◌≤◌, List, [], ◌∷◌, length, take, Option}
 use Rattle.pg_listen.specs.Events.{Event, received, sent, Adds}
 use Rattle.pg_listen.specs.declared.network.Received.{Received}
 use Rattle.pg_listen.specs.declared.network.Received.TheVariants.{Bytes, Waits, Ended, Failed as Broken}

@@ -1,4 +1,4 @@
-use Rattle.pg_listen.proofs.ListenLemmas.{Listening, nothing_yet, after_moves, listens}
+use Rattle.pg_listen.proofs.ListenLemmas.{nothing_yet, after_moves, listens}
 use Rattle.pg_listen.proofs.clients.listen.Goals as goal
 
 pub returns-in_default : goal.returns-in_default

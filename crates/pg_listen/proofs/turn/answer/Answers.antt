@@ -1,10 +1,9 @@
-use Rattle.std.proofs.Common.{true, ◌≡◌, ◌+◌, ◌≤◌, arith, length, length-take, List, [], ◌∷◌, ◌++◌, refl, sym, ap, take, drop, subst, rules, ◌∙◌, slice_range}
+use Rattle.std.proofs.Common.{true, ◌≡◌, ◌+◌, ◌≤◌, arith, length, length-take, [], ◌∷◌, ◌++◌, refl, sym, ap, take, drop, subst, ◌∙◌, slice_range}
 use Rattle.pg_listen.specs.Client.{seen}
 use Rattle.pg_listen.specs.Events.{answered}
 use Rattle.pg_server.specs.Frames.{frame, body_limit}
 use Rattle.pg_server.specs.Served.{too_long_reply}
 use Rattle.pg_listen.specs.Frames.{BeginsTooLong}
-use Rattle.pg_listen.specs.Moves.{Seen}
 use Rattle.pg_listen.proofs.StepLemmas.{went_nowhere, was_refused, was_answered}
 use Rattle.pg_listen.proofs.turn.answer.Goals as goal
 

@@ -1,4 +1,4 @@
-use Rattle.std.proofs.Common.{◌≡◌, refl, [], ap, sym, ◌∙◌, subst}
+use Rattle.std.proofs.Common.{[], subst}
 use Rattle.pg_listen.specs.Client.{seen}
 use Rattle.pg_listen.specs.Moves.{MovesOn}
 use Rattle.pg_listen.proofs.MoveLemmas.{Moves-nil}

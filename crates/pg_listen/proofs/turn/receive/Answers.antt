@@ -1,7 +1,6 @@
-use Rattle.std.proofs.Common.{◌≡◌, List, [], ◌∷◌, ◌++◌, refl, sym, ap, take, subst}
+use Rattle.std.proofs.Common.{[], ◌∷◌, ◌++◌, refl, sym, ap, take}
 use Rattle.pg_listen.specs.Client.{seen}
 use Rattle.pg_listen.specs.Events.{received}
-use Rattle.pg_listen.specs.Moves.{Seen}
 use Rattle.pg_listen.proofs.StepLemmas.{went_nowhere, was_received}
 use Rattle.pg_listen.proofs.turn.receive.Goals as goal
 

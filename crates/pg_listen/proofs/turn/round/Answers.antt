@@ -1,4 +1,4 @@
-use Rattle.std.proofs.Common.{◌≡◌, refl, [], ap, sym, ◌∙◌}
+use Rattle.std.proofs.Common.{sym, ◌∙◌}
 use Rattle.pg_listen.specs.Client.{seen}
 use Rattle.pg_listen.proofs.MoveLemmas.{answers_carries, from_answers}
 use Rattle.pg_listen.proofs.turn.round.Goals as goal

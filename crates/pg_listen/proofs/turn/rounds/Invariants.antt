@@ -1,4 +1,4 @@
-use Rattle.std.proofs.Common.{◌≡◌, ℕ, List}
+use Rattle.std.proofs.Common.{List}
 use Rattle.pg_listen.specs.Client.{seen}
 use Rattle.pg_listen.specs.Events.{Event}
 use Rattle.pg_listen.specs.Moves.{Moves}

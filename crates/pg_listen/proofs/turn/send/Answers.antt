@@ -1,7 +1,6 @@
-use Rattle.std.proofs.Common.{◌≡◌, List, [], ◌∷◌, ◌++◌, refl, sym, ap, take, drop, subst}
+use Rattle.std.proofs.Common.{[], ◌∷◌, refl, sym, ap, take, drop, subst}
 use Rattle.pg_listen.specs.Client.{seen}
 use Rattle.pg_listen.specs.Events.{sent, Adds}
-use Rattle.pg_listen.specs.Moves.{Seen}
 use Rattle.pg_listen.proofs.StepLemmas.{went_nowhere, was_sent}
 use Rattle.pg_listen.proofs.turn.send.Goals as goal
 

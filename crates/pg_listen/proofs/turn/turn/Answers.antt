@@ -1,5 +1,4 @@
-use Rattle.std.proofs.Common.{◌≡◌, refl, [], ap, sym, ◌∙◌, subst}
-use Rattle.pg_listen.specs.Client.{seen}
+use Rattle.std.proofs.Common.{sym, ◌∙◌, subst}
 use Rattle.pg_listen.specs.Moves.{Moves}
 use Rattle.pg_listen.proofs.MoveLemmas.{whatever}
 use Rattle.pg_listen.proofs.turn.turn.Goals as goal

@@ -1,5 +1,4 @@
-use Rattle.std.proofs.Common.{◌≡◌, ap, sym, ◌∙◌, nat_eq, rules}
-use Rattle.std.specs.HashMap.{get}
+use Rattle.std.proofs.Common.{rules}
 use Rattle.pg_listen.specs.Clients.{client_at}
 use Rattle.pg_listen.proofs.EventLemmas.{Adds-trans}
 use Rattle.pg_listen.proofs.ClientsLemmas.{stand_admitted, stand_skipped, at_key, at_others}

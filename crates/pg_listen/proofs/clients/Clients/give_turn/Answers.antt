@@ -1,4 +1,4 @@
-use Rattle.std.proofs.Common.{◌≡◌, sym, subst, rules, nat_eq}
+use Rattle.std.proofs.Common.{sym, subst, rules, nat_eq}
 use Rattle.std.specs.HashMap.{get}
 use Rattle.pg_listen.specs.Clients.{Stand, client_at}
 use Rattle.pg_listen.proofs.ClientsLemmas.{stand_kept, at_key, at_others}

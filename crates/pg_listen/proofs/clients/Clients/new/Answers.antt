@@ -1,5 +1,4 @@
-use Rattle.std.proofs.Common.{◌≡◌, ◌∙◌, [], ap, refl, None, rules}
-use Rattle.pg_listen.specs.Moves.{opening}
+use Rattle.std.proofs.Common.{rules}
 use Rattle.pg_listen.proofs.EventLemmas.{silent-nil}
 use Rattle.pg_listen.proofs.ClientsLemmas.{opening_moments}
 use Rattle.pg_listen.proofs.clients.Clients.new.Goals as goal

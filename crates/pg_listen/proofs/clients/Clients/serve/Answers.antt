@@ -1,4 +1,4 @@
-use Rattle.std.proofs.Common.{◌≡◌, ap, sym, ◌∙◌, [], subst, append-nil, rules, refl, nat_eq}
+use Rattle.std.proofs.Common.{sym, ◌∙◌, [], subst, append-nil, rules, refl, nat_eq}
 use Rattle.std.specs.HashMap.{get}
 use Rattle.pg_listen.specs.Clients.{Stand, client_at}
 use Rattle.pg_listen.proofs.EventLemmas.{Adds-nil}

@@ -1,4 +1,4 @@
-use Rattle.std.proofs.Common.{◌≡◌, ap, sym, ◌∙◌}
+use Rattle.std.proofs.Common.{ap, sym, ◌∙◌}
 use Rattle.pg_server.specs.State.{ServerState}
 use Rattle.pg_server.specs.Step.{place_of}
 use Rattle.pg_server.proofs.TenantLemmas.{place_seen}

@@ -76,6 +76,13 @@ impl Allowance {
         self.room > 0 && self.requests > 0 && (self.requests == REQUESTS || net.now() < self.until)
     }
 
+    /// Where it ends, no more requests are answered in this turn.
+    fn end_where(&mut self, ends: bool) {
+        if ends {
+            self.requests = 0;
+        }
+    }
+
     /// A request was answered, and the replies grew by so many bytes.
     fn spend(&mut self, bytes: usize) {
         self.requests = self.requests.saturating_sub(1);
@@ -227,7 +234,8 @@ fn round<N: Network, S: Service>(
     }
 }
 
-/// Counts the client among its tenant's once it shows a token, and then goes on as `round` does.
+/// Counts the client among its tenant's once it shows a token, and then goes on as `round` does. What it asks is answered
+/// in its tenant's turn, so that new clients of one tenant don't hold those of another.
 fn counted_round<N: Network, S: Service>(
     client: &mut Client,
     number: u64,
@@ -238,8 +246,12 @@ fn counted_round<N: Network, S: Service>(
 ) -> Result<Step, Closing>
     ensures { MovesOn S.answers number (N.trace net.old) (N.trace net.new) service.old service.new (seen client.old) (seen client.new) result }
 {
+    let had_tenant = client.has_tenant();
     match client.join(service, tenants) {
-        Ok(()) => round(client, number, net, service, allowance),
+        Ok(()) => {
+            allowance.end_where(had_tenant != client.has_tenant());
+            round(client, number, net, service, allowance)
+        }
         Err(closing) => Err(closing),
     }
 }

@@ -1,4 +1,4 @@
-"""The program graphd, built by the repository's toolchain where it isn't built yet."""
+"""The programs graphd and graphd_listen, built by the repository's toolchain where they aren't built yet."""
 import os
 import shutil
 import struct
@@ -7,12 +7,6 @@ import sys
 from pathlib import Path
 
 ROOT = Path(__file__).resolve().parent.parent
-CRATE = ROOT / "crates" / "graphd"
-PROGRAM = CRATE / "out" / "graphd"
-# written by the toolchain once the program was proved and built
-STAMP = CRATE / "out" / "graphd.stamp"
-LOG = CRATE / "out" / "build.log"
-USAGE = b"usage: graphd run"
 
 
 class Failed(Exception):
@@ -25,27 +19,29 @@ def sources():
         yield from (folder / "src").rglob("*.rt")
 
 
-def is_built():
+def is_built(path):
     """Whether the tree has a program that is newer than its texts, with the toolchain's stamp or without."""
-    if not PROGRAM.is_file():
+    if not path.is_file():
         return False
-    built = PROGRAM.stat().st_mtime
+    built = path.stat().st_mtime
     return all(source.stat().st_mtime <= built for source in sources())
 
 
-def build():
-    """Builds the program, which proves it and all below it first."""
+def build(name, path):
+    """Builds a program, which proves it and all below it first."""
     if shutil.which("rt") is None:
-        raise Failed("graphd isn't built, and the Rattle toolchain's command 'rt' is not on the PATH; --program or GRAPHD_PROGRAM names one that is")
-    print(f"building graphd: all of it is proved first, which takes minutes (log: {LOG})", file=sys.stderr)
-    LOG.parent.mkdir(exist_ok=True)
-    with open(LOG, "wb") as log:
+        raise Failed(f"{name} isn't built, and the Rattle toolchain's command 'rt' is not on the PATH; --program names one that is")
+    told = path.with_name("build.log")
+    print(f"building {name}: all of it is proved first, which takes minutes (log: {told})", file=sys.stderr)
+    told.parent.mkdir(exist_ok=True)
+    with open(told, "wb") as log:
         # Without words the program only tells its usage.
-        status = subprocess.run(["rt", "run"], cwd=CRATE, stdin=subprocess.DEVNULL, stdout=log, stderr=log)
-    if not (PROGRAM.is_file() and STAMP.is_file()) or USAGE not in LOG.read_bytes():
-        end = LOG.read_text(errors="replace").splitlines()[-15:]
-        raise Failed("\n".join([f"graphd was not built (rt run ended with {status.returncode}):", *end]))
-    os.utime(PROGRAM)
+        status = subprocess.run(["rt", "run"], cwd=ROOT / "crates" / name, stdin=subprocess.DEVNULL, stdout=log, stderr=log)
+    # (the stamp is written by the toolchain once the program was proved and built)
+    if not (path.is_file() and path.with_suffix(".stamp").is_file()):
+        end = told.read_text(errors="replace").splitlines()[-15:]
+        raise Failed("\n".join([f"{name} was not built (rt run ended with {status.returncode}):", *end]))
+    os.utime(path)
 
 
 def add_program(parser):
@@ -53,22 +49,23 @@ def add_program(parser):
     parser.add_argument("--program", metavar="PATH", help="a built graphd; else the one that GRAPHD_PROGRAM names, else this tree's")
 
 
-def program(named=None, builds=True):
-    """The path of the program: the named one, else that of GRAPHD_PROGRAM, else this tree's. That one is built first where it is older
-    than its texts, but never for a service, which takes what is there."""
-    named = named or os.environ.get("GRAPHD_PROGRAM")
+def program(named=None, builds=True, name="graphd"):
+    """The path of a program: the named one, else that of GRAPHD_PROGRAM where it is graphd, else this tree's. That one is built first where
+    it is older than its texts, but never for a service, which takes what is there."""
+    named = named or (os.environ.get("GRAPHD_PROGRAM") if name == "graphd" else None)
     if named:
         path = Path(named).expanduser().resolve()
         if not (path.is_file() and os.access(path, os.X_OK)):
             raise Failed(f"{named} is no program")
         return path
-    if builds and not is_built():
-        build()
-    if not PROGRAM.is_file():
-        raise Failed(f"graphd isn't built: build it by 'rt run' in {CRATE}, or name one by --program or GRAPHD_PROGRAM")
-    if not is_built():
-        print(f"{PROGRAM} is older than its texts", file=sys.stderr)
-    return PROGRAM
+    path = ROOT / "crates" / name / "out" / name
+    if builds and not is_built(path):
+        build(name, path)
+    if not path.is_file():
+        raise Failed(f"{name} isn't built: build it by 'rt run' in crates/{name}, or name one by --program or GRAPHD_PROGRAM")
+    if not is_built(path):
+        print(f"{path} is older than its texts", file=sys.stderr)
+    return path
 
 
 def bodies(output):

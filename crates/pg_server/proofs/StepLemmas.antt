@@ -1,6 +1,6 @@
 -- One request is a run of one exchange.
 use Rattle.std.proofs.Common.{◌≡◌, ◌≢◌, ℕ, ◌<◌, List, [], ◌∷◌, Bool, true, false, cond, length, arith, get_or, Option, Some, None, refl, sym, ap, ◌∙◌, subst, inl, inr}
-use Rattle.std.specs.Prelude.{◌&&◌, not, nat_eq, position, slice_set}
+use Rattle.std.specs.Prelude.{◌&&◌, not, nat_eq, position, slice_set, option_and_then, IfSome}
 use Rattle.std.proofs.Math.Seq.{map-set_same}
 use Rattle.std.proofs.lemmas.Bool.Decides.{Decides-eqb, not_from_Decides}
 use Rattle.std.proofs.lemmas.List.{get_or-set_same, get_or-set_other, get_or_past, set-get_or}
@@ -44,6 +44,14 @@ and_true false b h = refl
 
 pub asked_is : (body : List ℕ) (request : Request) → is_short body ≡ true → meaning body ≡ Some request → asked body ≡ Some request
 asked_is body request short means = ap (λ b. cond b (meaning body) None) short ∙ means
+
+-- where the tenant stands whose token a request shows
+pub tenant_shown : (asks : Option Request) (tenants : List State) (request : Request) (token : List ℕ) (place : Option ℕ)
+    → asks ≡ Some request → token ≡ token_of request → place ≡ place_of token tenants
+    → IfSome place (λ at. option_and_then (λ shown. place_of (token_of shown) tenants) asks ≡ Some at)
+tenant_shown asks tenants request token None is shows stands = tt
+tenant_shown asks tenants request token (Some at) is shows stands =
+    ap (λ r. option_and_then (λ shown. place_of (token_of shown) tenants) r) is ∙ ap (λ t. place_of t tenants) (sym shows) ∙ sym stands
 
 -- an exchange that is no tenant's own leaves the server as it is
 module _ (server : ServerState) (body reply : List ℕ) (strangers : IsStrangers server body → IsStrangersReply body reply) where

@@ -22,6 +22,10 @@ key_at t tenants (drop_index token label key) = None
 abbrev pub key_asked : List State → Request → Option Key
 key_asked tenants request = option_and_then (λ t. key_at t tenants request) (place_of (token_of request) tenants)
 
+-- the place of the tenant whose token a body shows
+abbrev pub tenant_asked : List State → List ℕ → Option ℕ
+tenant_asked tenants body = option_and_then (λ request. place_of (token_of request) tenants) (asked body)
+
 -- the key is looked up once; or not at all, where there was no memory for that. Nothing else changes the cache
 abbrev pub LooksUp : Option Key → (reply : List ℕ) → (old new : CacheSeen) → Type 0
 LooksUp None reply old new = new ≡ old

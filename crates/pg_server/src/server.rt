@@ -1,5 +1,5 @@
 //! The server: tenants, and the requests that reach them.
-ghost use Rattle.std.specs.Prelude.{◌≡◌, ◌≢◌, ◌<◌, ◌≤◌, ℕ, List, length, string_bytes, Some, IfOk, IfErr};
+ghost use Rattle.std.specs.Prelude.{◌≡◌, ◌≢◌, ◌<◌, ◌≤◌, ℕ, List, length, string_bytes, Some, IfOk, IfErr, IfSome};
 ghost use Rattle.pg_cache.specs.Cache.{cache_seen};
 ghost use Rattle.pg_json.specs.Bodies.{request_view};
 ghost use Rattle.pg_json.specs.Refusals.{refusal_text};
@@ -7,14 +7,14 @@ ghost use Rattle.pg_json.specs.Requests.{query, create_index, drop_index};
 ghost use Rattle.pg_meaning.specs.declared.fault.Fault.TheVariants.{OutOfMemory};
 ghost use Rattle.pg_server.specs.Configuration.{max_tenants};
 ghost use Rattle.pg_server.specs.Counts.{inner_of, faults_of};
-ghost use Rattle.pg_server.specs.Handles.{AddsNames, CallsAreRuns, Handles, LooksUp, RefusalsKeepAll, key_asked, key_at};
+ghost use Rattle.pg_server.specs.Handles.{AddsNames, CallsAreRuns, Handles, LooksUp, RefusalsKeepAll, key_asked, key_at, tenant_asked};
 ghost use Rattle.pg_server.specs.Holds.{HoldTenants, shared_of};
-ghost use Rattle.pg_server.specs.Runs.{RefusalsKeep, TwoWorlds, token_of as token_shown};
+ghost use Rattle.pg_server.specs.Runs.{RefusalsKeep, TwoWorlds, asked, token_of as token_shown};
 ghost use Rattle.pg_server.specs.Served.{OneReading, read_faults, write_faults};
 ghost use Rattle.pg_server.specs.Serves.{Serves};
 ghost use Rattle.pg_server.specs.Solo.{limited, status_text};
 ghost use Rattle.pg_server.specs.State.{opening_server, state_at};
-ghost use Rattle.pg_server.specs.Step.{Answers, StepAt, RepliesAt, RunsPlan, reply_of};
+ghost use Rattle.pg_server.specs.Step.{Answers, StepAt, RepliesAt, RunsPlan, place_of, reply_of};
 ghost use Rattle.pg_server.specs.Tenants.{AreOpening};
 ghost use Rattle.pg_value_core.specs.Given.{parameters_view};
 
@@ -97,6 +97,37 @@ impl<T: Tables> Server<T> {
         ensures tenants { HoldTenants T.seen self.now }
     {
         &self.shared
+    }
+
+    /// The place of the tenant whose token a body shows, if the body is a request and there is memory to read it.
+    pub fn tenant_of(&self, body: &[u8]) -> Option<usize>
+        ensures { IfSome result (λ place. tenant_asked self.now.state.tenants body.now ≡ Some place) }
+    {
+        match self.request_of(body) {
+            Some(request) => self.place(token_of(&request)),
+            None => None,
+        }
+    }
+
+    /// The request that a body is, if it is one and there is memory to read it.
+    fn request_of(&self, body: &[u8]) -> Option<RequestBody>
+        ensures { IfSome result (λ request. asked body.now ≡ Some (request_view request)) }
+    {
+        if body.len() > MAX_BODY {
+            return None;
+        }
+        let mut scratch = RequestScratch::new(self.alloc);
+        match read_request(self.alloc, &mut scratch, body) {
+            Ok(request) => Some(request),
+            Err(_) => None,
+        }
+    }
+
+    /// Where the tenant with this token stands.
+    fn place(&self, token: &str) -> Option<usize>
+        ensures { result ≡ place_of token.now self.now.state.tenants }
+    {
+        self.tokens.place(token)
     }
 
     /// Answers one request, from a frame's body to a reply's body.

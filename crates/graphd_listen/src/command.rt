@@ -1,0 +1,113 @@
+//! The words of the command line.
+use pg_listen::Limits;
+use std::net::SocketAddr;
+
+const MOST_CLIENTS: u64 = 65_536;
+
+const MOST_SECONDS: u64 = 86_400;
+
+/// How many bytes of replies may wait for being taken, over all clients.
+const MOST_WAITING: usize = 268_435_456;
+
+/// How many of one tenant's.
+const MOST_WAITING_OF_TENANT: usize = 33_554_432;
+
+/// What the program is asked for, with the path of its configuration.
+#[derive(Clone, Copy)]
+pub(crate) enum Command<'a> {
+    /// To look whether the configuration is good.
+    Check {
+        config: &'a str,
+    },
+    Listen {
+        config: &'a str,
+        address: SocketAddr,
+        limits: Limits,
+    },
+}
+
+/// What the options set, and nothing where one is left out.
+#[derive(Clone, Copy)]
+struct Options {
+    clients: Option<u64>,
+    patience: Option<u64>,
+    tenant_clients: Option<u64>,
+}
+
+/// The command of these words behind the program's name, if they are one.
+pub(crate) fn command_of(words: &[String]) -> Option<Command<'_>> {
+    match words {
+        [flag, config] if flag.as_str() == "--check" => Some(Command::Check {
+            config: config.as_str(),
+        }),
+        [config, address, options @ ..] => Some(Command::Listen {
+            config: config.as_str(),
+            address: address.as_str().parse().ok()?,
+            limits: limits_of(options_of(options)?),
+        }),
+        _ => None,
+    }
+}
+
+impl Options {
+    /// Sets the option of this name, unless it is set.
+    fn set(&mut self, name: &str, value: &str) -> Option<()> {
+        match name {
+            "--clients" => set_once(&mut self.clients, value, MOST_CLIENTS),
+            "--patience" => set_once(&mut self.patience, value, MOST_SECONDS),
+            "--tenant-clients" => set_once(&mut self.tenant_clients, value, MOST_CLIENTS),
+            _ => None,
+        }
+    }
+}
+
+fn set_once(option: &mut Option<u64>, value: &str, most: u64) -> Option<()> {
+    if option.is_some() {
+        return None;
+    }
+    *option = Some(number_of(value, most)?);
+    Some(())
+}
+
+/// The options in these words, each at most once.
+fn options_of(words: &[String]) -> Option<Options> {
+    let mut options = Options {
+        clients: None,
+        patience: None,
+        tenant_clients: None,
+    };
+    for pair in words.chunks(2) {
+        let [name, value] = pair else {
+            return None;
+        };
+        options.set(name.as_str(), value.as_str())?;
+    }
+    Some(options)
+}
+
+/// One or more ASCII digits as a number from one to the greatest.
+fn number_of(text: &str, most: u64) -> Option<u64> {
+    // (`parse` lets a plus stand first)
+    if text.starts_with('+') {
+        return None;
+    }
+    let number: u64 = text.parse().ok()?;
+    if number == 0 || most < number {
+        return None;
+    }
+    Some(number)
+}
+
+fn limits_of(options: Options) -> Limits {
+    let clients = options.clients.unwrap_or(1_024) as usize;
+    Limits {
+        clients,
+        tenant_clients: match options.tenant_clients {
+            Some(most) => most as usize,
+            None => clients,
+        },
+        patience: options.patience.unwrap_or(30).saturating_mul(1_000_000),
+        waiting: MOST_WAITING,
+        tenant_waiting: MOST_WAITING_OF_TENANT,
+    }
+}

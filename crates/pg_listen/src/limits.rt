@@ -1,0 +1,16 @@
+//! What clients may take.
+
+/// What clients may take.
+#[derive(Clone, Copy)]
+pub struct Limits {
+    /// How many connections there may be at once.
+    pub clients: usize,
+    /// How many of them may be one tenant's.
+    pub tenant_clients: usize,
+    /// For how many microseconds a client may be in the middle of a frame or of a reply, or show no token of a tenant.
+    pub patience: u64,
+    /// How many bytes of replies may wait for being taken, over all clients, before some are closed.
+    pub waiting: usize,
+    /// How many of one tenant's clients, before its requests wait.
+    pub tenant_waiting: usize,
+}

@@ -1,0 +1,315 @@
+//! A client's turn: a few of its requests are answered, and bytes read and sent.
+ghost use Rattle.std.specs.Prelude.{◌≡◌, false, ℕ};
+ghost use Rattle.pg_listen.specs.Client.{seen};
+ghost use Rattle.pg_listen.specs.Moves.{AnswersOn, CarriesOn, MovesOn};
+
+use crate::client::Client;
+use crate::frames::{Front, front_of, push_frame};
+use crate::network::{Closing, Network, Received, Sent};
+use crate::service::Service;
+use crate::tenants::Tenants;
+use pg_json::refusal;
+use pg_meaning::Fault;
+use std::alloc::{AllocError, Global};
+
+/// So many bytes of replies may wait for one client before no more of its requests are answered.
+const MOST_WAITING: usize = 65_536;
+
+/// So often a client may be read or sent in a turn.
+const ROUNDS: u32 = 4;
+
+/// So many requests may be answered in a turn.
+const REQUESTS: u32 = 16;
+
+/// After so many microseconds no more requests are answered in a turn.
+const MICROSECONDS: u64 = 100;
+
+/// So many bytes are read at once.
+const SCRATCH: usize = 65_536;
+
+/// How a step ended.
+#[derive(Clone, Copy)]
+pub(crate) enum Step {
+    /// There may be more to do.
+    More,
+    /// There is more to do, and the turn is over.
+    Over,
+    /// Nothing can be done now.
+    Waits,
+    /// There is more to do once fewer bytes of replies wait.
+    Held,
+}
+
+/// What a turn may still use.
+#[derive(Drop)]
+pub(crate) struct Allowance {
+    pub(crate) alloc: Global,
+    scratch: Vec<u8>,
+    requests: u32,
+    // bytes of replies
+    room: usize,
+    // when no more requests are answered
+    until: u64,
+}
+
+impl Allowance {
+    pub(crate) fn new(alloc: Global) -> Result<Allowance, AllocError> {
+        let scratch = zeros(alloc, SCRATCH)?;
+        Ok(Allowance {
+            alloc,
+            scratch,
+            requests: 0,
+            room: 0,
+            until: 0,
+        })
+    }
+
+    /// What a turn may use that begins now.
+    fn begin(&mut self, now: u64, room: usize) {
+        self.requests = REQUESTS;
+        self.room = room;
+        self.until = now.saturating_add(MICROSECONDS);
+    }
+
+    /// Whether one more request may be answered. The first one always may, where there is room for replies.
+    fn has_request<N: Network>(&self, net: &N) -> bool {
+        self.room > 0 && self.requests > 0 && (self.requests == REQUESTS || net.now() < self.until)
+    }
+
+    /// Where it ends, no more requests are answered in this turn.
+    fn end_where(&mut self, ends: bool) {
+        if ends {
+            self.requests = 0;
+        }
+    }
+
+    /// A request was answered, and the replies grew by so many bytes.
+    fn spend(&mut self, bytes: usize) {
+        self.requests = self.requests.saturating_sub(1);
+        self.room = self.room.saturating_sub(bytes);
+    }
+}
+
+// The length is a parameter, so that no proof computes a long list.
+fn zeros(alloc: Global, len: usize) -> Result<Vec<u8>, AllocError> {
+    Ok(vec![in alloc; 0u8; len]?)
+}
+
+/// Reads what is there.
+fn receive<N: Network>(
+    client: &mut Client,
+    number: u64,
+    net: &mut N,
+    scratch: &mut [u8],
+) -> Result<Step, Closing>
+    requires { client.old.refused ≡ false }
+    ensures { CarriesOn number (N.trace net.old) (N.trace net.new) (seen client.old) (seen client.new) result }
+{
+    match net.receive(number, scratch) {
+        Received::Bytes(n) => match client.inbox.push(&scratch[..n]) {
+            Ok(()) => Ok(Step::More),
+            Err(_) => Err(Closing::NoMemory),
+        },
+        Received::Waits => Ok(Step::Waits),
+        Received::Ended => Err(end_of(client)),
+        Received::Failed => Err(Closing::Failed),
+    }
+}
+
+/// Why the connection of a client is closed that sends no more.
+fn end_of(client: &Client) -> Closing {
+    if client.is_idle() {
+        Closing::Ended
+    } else {
+        Closing::Cut
+    }
+}
+
+/// Answers the frame in front, if it is whole.
+fn answer<S: Service>(client: &mut Client, service: &mut S) -> Result<Step, Closing>
+    requires { client.old.refused ≡ false }
+    ensures { (c : ℕ) → AnswersOn S.answers c service.old service.new (seen client.old) (seen client.new) result }
+{
+    match front_of(client.inbox.front()) {
+        Front::Partial => Ok(Step::Waits),
+        Front::TooLong => {
+            client.refused = true;
+            let reply = refusal(Fault::FrameTooLong);
+            match push_frame(&mut client.outbox, reply.as_slice()) {
+                Ok(()) => Ok(Step::More),
+                Err(_) => Err(Closing::NoMemory),
+            }
+        }
+        Front::Body(n) => {
+            let reply = service.answer(&client.inbox.front()[4..4 + n]);
+            client.inbox.skip(4 + n);
+            match push_frame(&mut client.outbox, reply.as_slice()) {
+                Ok(()) => Ok(Step::More),
+                Err(_) => Err(Closing::NoMemory),
+            }
+        }
+    }
+}
+
+/// Sends what waits, as far as it is taken.
+fn send<N: Network>(client: &mut Client, number: u64, net: &mut N) -> Result<Step, Closing>
+    ensures { CarriesOn number (N.trace net.old) (N.trace net.new) (seen client.old) (seen client.new) result }
+{
+    match net.send(number, client.outbox.front()) {
+        Sent::Taken(n) => {
+            client.outbox.skip(n);
+            Ok(Step::More)
+        }
+        Sent::Full => Ok(Step::Waits),
+        Sent::Failed => Err(Closing::Failed),
+    }
+}
+
+/// Answers whole frames that are there, as many as may be. Says whether it has answered one.
+fn answer_some<N: Network, S: Service>(
+    client: &mut Client,
+    net: &N,
+    service: &mut S,
+    allowance: &mut Allowance,
+) -> Result<bool, Closing>
+    ensures { (c : ℕ) → AnswersOn S.answers c service.old service.new (seen client.old) (seen client.new) result }
+{
+    let mut any = false;
+    for _answered in 0..REQUESTS {
+        let waiting = client.outbox.len();
+        if client.refused || MOST_WAITING <= waiting || !allowance.has_request(net) {
+            return Ok(any);
+        }
+        match answer(client, service) {
+            Ok(Step::More) => any = true,
+            Ok(_) => return Ok(any),
+            Err(closing) => return Err(closing),
+        }
+        allowance.spend(client.outbox.len().saturating_sub(waiting));
+        if !client.has_tenant() {
+            return Ok(any);
+        }
+    }
+    Ok(any)
+}
+
+/// Sends what waits; where nothing does and no frame is whole, reads what is there.
+fn transfer<N: Network>(
+    client: &mut Client,
+    number: u64,
+    net: &mut N,
+    allowance: &mut Allowance,
+) -> Result<Step, Closing>
+    ensures { CarriesOn number (N.trace net.old) (N.trace net.new) (seen client.old) (seen client.new) result }
+{
+    if client.outbox.len() > 0 {
+        send(client, number, net)
+    } else if client.refused {
+        Err(Closing::TooLong)
+    } else if !client.has_frame() {
+        receive(client, number, net, &mut allowance.scratch)
+    } else if allowance.room > 0 {
+        Ok(Step::Over)
+    } else {
+        Ok(Step::Held)
+    }
+}
+
+/// Answers what may be answered, and then sends or reads once.
+fn round<N: Network, S: Service>(
+    client: &mut Client,
+    number: u64,
+    net: &mut N,
+    service: &mut S,
+    allowance: &mut Allowance,
+) -> Result<Step, Closing>
+    ensures { MovesOn S.answers number (N.trace net.old) (N.trace net.new) service.old service.new (seen client.old) (seen client.new) result }
+{
+    match answer_some(client, net, service, allowance) {
+        Ok(any) => {
+            client.note_time(any, net.now());
+            transfer(client, number, net, allowance)
+        }
+        Err(closing) => Err(closing),
+    }
+}
+
+/// Counts the client among its tenant's once it shows a token, and then goes on as `round` does. What it asks is answered
+/// in its tenant's turn, so that new clients of one tenant don't hold those of another.
+fn counted_round<N: Network, S: Service>(
+    client: &mut Client,
+    number: u64,
+    net: &mut N,
+    service: &mut S,
+    tenants: &mut Tenants,
+    allowance: &mut Allowance,
+) -> Result<Step, Closing>
+    ensures { MovesOn S.answers number (N.trace net.old) (N.trace net.new) service.old service.new (seen client.old) (seen client.new) result }
+{
+    let had_tenant = client.has_tenant();
+    match client.join(service, tenants) {
+        Ok(()) => {
+            allowance.end_where(had_tenant != client.has_tenant());
+            round(client, number, net, service, allowance)
+        }
+        Err(closing) => Err(closing),
+    }
+}
+
+/// Goes on until nothing can be done for now, or the turn is over.
+fn rounds<N: Network, S: Service>(
+    client: &mut Client,
+    number: u64,
+    net: &mut N,
+    service: &mut S,
+    tenants: &mut Tenants,
+    allowance: &mut Allowance,
+) -> Result<Step, Closing>
+    ensures { MovesOn S.answers number (N.trace net.old) (N.trace net.new) service.old service.new (seen client.old) (seen client.new) result }
+{
+    for _round in 0..ROUNDS {
+        match counted_round(client, number, net, service, tenants, allowance) {
+            Ok(Step::More) => {}
+            other => return other,
+        }
+    }
+    Ok(Step::Over)
+}
+
+/// The client's turn, behind which it has another one where there is more to do.
+pub(crate) fn turn<N: Network, S: Service>(
+    client: &mut Client,
+    number: u64,
+    net: &mut N,
+    service: &mut S,
+    tenants: &mut Tenants,
+    allowance: &mut Allowance,
+) -> Result<(), Closing>
+    ensures { MovesOn S.answers number (N.trace net.old) (N.trace net.new) service.old service.new (seen client.old) (seen client.new) result }
+{
+    client.take_turn();
+    allowance.begin(net.now(), client.room(tenants));
+    match rounds(client, number, net, service, tenants, allowance) {
+        Ok(step) => end_turn(client, number, tenants, step),
+        Err(closing) => Err(closing),
+    }
+}
+
+/// Counts what waits for the client behind its turn, and gives it another one where there is more to do.
+fn end_turn(
+    client: &mut Client,
+    number: u64,
+    tenants: &mut Tenants,
+    step: Step,
+) -> Result<(), Closing>
+    ensures { seen client.new ≡ seen client.old }
+{
+    client.count(tenants);
+    let given = match step {
+        Step::More | Step::Over => client.give_turn(number, tenants),
+        Step::Held => client.hold(number, tenants),
+        Step::Waits => Ok(()),
+    };
+    client.release(tenants);
+    given.map_err(|_| Closing::NoMemory)
+}

@@ -1,9 +1,9 @@
 //! The stack that requests need, taken before the first of them comes: where memory has run out, the system ends a
 //! program whose stack has no page to grow by, and can't refuse it that page.
 
-/// How many pages of stack are taken, 2 MiB: what the deepest text takes (`tools/deepest_texts --least`) and a quarter
+/// How many pages of stack are taken, 1.25 MiB: what the deepest text takes (`tools/deepest_texts --least`) and a third
 /// more. With a stack that is smaller the program ends at its start, and not at such a text.
-pub(crate) const STACK_PAGES: u32 = 512;
+pub(crate) const STACK_PAGES: u32 = 320;
 
 /// Writes and reads so many pages of the stack, with any number in them. From then on they are the program's.
 #[inline(never)]

@@ -17,12 +17,12 @@ answer_settled result reply outcome start mid end same answer kept = by_result r
     by_result (Err e) a kept = record { ok = a.ok; told = a.told; err = a.err }
 
 -- nothing was done
-pub nothing_done : {X E : Type 0} (l : Live) (r : Result X E) → Settles l l r
+pub nothing_done : {L X E : Type 0} (l : Live L) (r : Result X E) → Settles l l r
 nothing_done l (Ok x) = record { same = tt; same_names = tt; kept = λ n t h. h; others = refl; place = refl }
 nothing_done l (Err e) = record { same = refl; same_names = refl; kept = λ n t h. h; others = refl; place = refl }
 
 -- work began anew in the same graph
-pub anew : {X E : Type 0} (old new : Live) (r : Result X E) → new.graph ≡ old.graph → OnErr r (new.names ≡ old.names) → KeepsNames old.names new.names → new.aside ≡ begun_at old.graph new.names old.aside → Settles old new r
+pub anew : {L X E : Type 0} (old new : Live L) (r : Result X E) → new.graph ≡ old.graph → OnErr r (new.names ≡ old.names) → KeepsNames old.names new.names → new.aside ≡ begun_at old.graph new.names old.aside → Settles old new r
 anew {X = X} {E = E} old new r graph names kept aside = record {
   same = by r;
   same_names = names;

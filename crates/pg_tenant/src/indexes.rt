@@ -45,6 +45,8 @@ pub fn drop_index<T: Tables>(
     key: &str,
 ) -> Result<ReplyBytes, Fault>
     ensures graph { live.new.graph ≡ live.old.graph }
+    ensures names { live.new.names ≡ live.old.names }
+    ensures tables { live.new.tables ≡ live.old.tables }
     ensures settles { Settles live.old live.new result }
     ensures indexes { IsIndexAnswer result (index_dropped may_write (indexes_of catalogue.old) label.now key.now) (indexes_of catalogue.old) (indexes_of catalogue.new) }
 {

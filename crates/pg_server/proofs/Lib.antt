@@ -9,7 +9,6 @@ pub mod HoldLemmas
 pub mod InstanceLemmas
 pub mod LookUpLemmas
 pub mod NameLemmas
-pub mod OpeningLemmas
 pub mod PlanLemmas
 pub mod ReadingLemmas
 pub mod RefusalLemmas

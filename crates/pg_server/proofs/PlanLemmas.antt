@@ -1,15 +1,16 @@
 -- What a tenant's answer is for the whole server, and that the plan of a text for the tenant's indexes answers for the text.
-use Rattle.std.proofs.Common.{◌≡◌, ◌≢◌, ℕ, ◌<◌, ◌≤◌, List, length, get_or, set, Result, Ok, Err, inl, inr, refl, sym, ap, subst, ◌∙◌}
+use Rattle.std.proofs.Common.{◌≡◌, ◌≢◌, ℕ, ◌<◌, ◌≤◌, List, length, get_or, set, Result, Ok, Err, arith, inl, inr, refl, sym, ap, subst, ◌∙◌}
 use Rattle.std.specs.Prelude.{IfOk, IfErr, OnErr}
 use Rattle.std.proofs.lemmas.Bool.Decides.{leb_tells}
-use Rattle.std.proofs.lemmas.List.{set-get_or}
-use Rattle.pg_graph.specs.Content.{Seen}
+use Rattle.std.proofs.lemmas.List.{get_or-set_same, length-set, set-get_or, set-set}
 use Rattle.pg_json.specs.Refusals.{refusal_text}
 use Rattle.pg_json.specs.Requests.{query, create_index, drop_index}
+use Rattle.pg_live.specs.Live.{Live, graphs_of}
+use Rattle.pg_live.specs.Settled.{Settles}
 use Rattle.pg_meaning.specs.Plans.{Catalogue}
 use Rattle.pg_meaning.specs.Value.{Entries}
 use Rattle.pg_meaning.specs.Answer.{◌>>=◌, ◌>>◌, unless}
-use Rattle.pg_meaning.specs.Graph.{Graph}
+use Rattle.pg_meaning.specs.Graph.{Graph, empty_graph}
 use Rattle.pg_meaning.specs.declared.fault.Fault.{Fault}
 use Rattle.pg_meaning.specs.declared.fault.Fault.TheVariants.{TextTooLong, OutOfMemory}
 use Rattle.pg_plan.specs.Plans.{IsPlanOfText}
@@ -19,96 +20,126 @@ use Rattle.pg_plan.specs.declared.plan.Plan.{Plan}
 use Rattle.pg_server.specs.Solo.{Replied, may_write, with_graph, with_indexes, query_answered}
 use Rattle.pg_server.specs.State.{State, state_in, no_state}
 use Rattle.pg_server.specs.Step.{Gives, RepliesAt, RunsPlan, plan_answered}
-use Rattle.pg_server.specs.Tenants.{state_of, states_of, AllFit}
+use Rattle.pg_server.specs.Tenants.{state_of, states_of}
 use Rattle.pg_server.specs.declared.tenant.Tenant.{Tenant}
-use Rattle.pg_server.proofs.TenantLemmas.{get_mapped, others_stay}
-use Rattle.pg_store.specs.Stores.{graph_of_store, KeepsShared}
-use Rattle.pg_store.specs.declared.shared.Shared.{Shared}
+use Rattle.pg_server.proofs.TenantLemmas.{graph_changed, state_found, tenant_changed}
 use Rattle.pg_tenant.proofs.OutcomeLemmas.{plans_answer}
 use Rattle.pg_tenant.specs.Answers.{Answered, answered, refused}
 use Rattle.pg_tenant.specs.Indexes.{index_created, index_dropped, indexes_of, IsIndexAnswer}
-use Rattle.pg_tenant.specs.Outcomes.{query_outcome}
+use Rattle.pg_tenant.specs.Outcomes.{plan_outcome, query_outcome}
+use Rattle.pg_tenant.specs.Replies.{IsAnswer}
+
+-- ---- the graph at work
+
+pub is_place : {X : Type 0} (live : Live X) (place : ℕ) → place < length (graphs_of live) → place < length live.aside.others
+is_place live place lt = omega (arith, lt, length-set live.aside.others live.aside.place live.graph)
+
+module _ {X : Type 0} (place : ℕ) (live : Live X) (at_work : live.aside.place ≡ place) where
+  pub graph_at_work : place < length (graphs_of live) → get_or (graphs_of live) place empty_graph ≡ live.graph
+  graph_at_work lt =
+      ap (λ k. get_or (graphs_of live) k empty_graph) (sym at_work)
+      ∙ get_or-set_same live.aside.others live.aside.place live.graph empty_graph (omega (arith, lt, at_work, length-set live.aside.others live.aside.place live.graph))
+
+  module _ {E : Type 0} (new : Live X) (r : Result (List ℕ) E) (settles : Settles live new r) where
+    pub graphs_after : graphs_of new ≡ set (graphs_of live) place new.graph
+    graphs_after =
+        (λ i. set (settles.others i) (settles.place i) new.graph) ∙ sym (set-set live.aside.others live.aside.place live.graph new.graph)
+        ∙ ap (λ k. set (graphs_of live) k new.graph) at_work
+
+    pub as_many_after : length (graphs_of new) ≡ length (graphs_of live)
+    as_many_after = ap length graphs_after ∙ length-set (graphs_of live) place new.graph
+
+    pub graphs_kept : place < length (graphs_of live) → new.graph ≡ live.graph → graphs_of new ≡ graphs_of live
+    graphs_kept lt same = graphs_after ∙ ap (set (graphs_of live) place) (same ∙ sym (graph_at_work lt)) ∙ set-get_or (graphs_of live) place empty_graph
 
 -- ---- one tenant's answer
 
-module _ {T S K : Type 0} (seen : Seen T S) (tenants : List (Tenant T)) (old new : Shared S K) (all : AllFit seen tenants old) (t : ℕ) (was now : Tenant T) (lt : t < length tenants)
-    (at : was ≡ get_or tenants t was) (keeps : KeepsShared seen was.store old now.store new) (settings : now.settings ≡ was.settings) where
-  abbrev before : State
-  before = state_of seen was old
-
-  abbrev after : State
-  after = state_of seen now new
-
-  abbrev old_states : List State
-  old_states = states_of seen tenants old
-
-  abbrev new_states : List State
-  new_states = states_of seen (set tenants t now) new
-
-  here : state_in old_states t ≡ before
-  here = get_mapped (λ x. state_of seen x old) tenants t was no_state lt ∙ ap (λ x. state_of seen x old) (sym at)
-
-  others : new_states ≡ set old_states t after
-  others = others_stay seen tenants old new all t was now lt at keeps settings
-
-  unchanged : after ≡ before → new_states ≡ old_states
-  unchanged is = others ∙ ap (set old_states t) (is ∙ sym here) ∙ set-get_or old_states t no_state
+module _ (old new : List State) (t : ℕ) (before after : State) (here : before ≡ state_in old t) (others : new ≡ set old t after) where
+  unchanged : after ≡ before → new ≡ old
+  unchanged is = others ∙ ap (set old t) (is ∙ here) ∙ set-get_or old t no_state
 
   -- the tenant replies so, and where it is refused it stays
   gives : (replied : Replied) (r : Result (List ℕ) Fault) → IfOk r (λ bytes. (bytes ≡ replied.reply) × (after ≡ replied.state)) → OnErr r (after ≡ before)
-      → IfErr r (λ e. e ≢ OutOfMemory → (refusal_text e ≡ replied.reply) × (replied.state ≡ before)) → Gives old_states t replied r new_states
-  gives replied (Ok bytes) ok same err = (ok.0, others ∙ ap (set old_states t) ok.1)
-  gives replied (Err e) ok same err = (unchanged same, λ other. ((err other).0, (err other).1 ∙ sym here))
+      → IfErr r (λ e. e ≢ OutOfMemory → (refusal_text e ≡ replied.reply) × (replied.state ≡ before)) → Gives old t replied r new
+  gives replied (Ok bytes) ok same err = (ok.0, others ∙ ap (set old t) ok.1)
+  gives replied (Err e) ok same err = (unchanged same, λ other. ((err other).0, (err other).1 ∙ here))
+
+module _ {X : Type 0} (tenants : List Tenant) (graphs : List Graph) (t : ℕ) (was : Tenant) (lt : t < length tenants) (at : was ≡ get_or tenants t was) (each : length graphs ≡ length tenants)
+    (mid : Live X) (turned : graphs_of mid ≡ graphs) (at_work : mid.aside.place ≡ t) where
+  abbrev before : State
+  before = state_of was mid.graph
+
+  abbrev old_states : List State
+  old_states = states_of tenants graphs
+
+  below : t < length (graphs_of mid)
+  below = omega (arith, lt, each, ap length turned)
+
+  graph_here : get_or graphs t empty_graph ≡ mid.graph
+  graph_here = ap (λ gs. get_or gs t empty_graph) (sym turned) ∙ graph_at_work t mid at_work below
+
+  pub here : before ≡ state_in old_states t
+  here = ap (state_of was) (sym graph_here) ∙ state_found tenants graphs t was lt at
 
   -- ---- a query
 
-  module _ (stays : now.indexes ≡ was.indexes) (token : List ℕ) (plan : Plan) (parameters : Entries) where
+  module _ (new : Live X) (token : List ℕ) (plan : Plan) (parameters : Entries) where
     abbrev told : Answered
     told = plan_answered before token plan parameters
 
-    abbrev with_new : (graph : Graph) → State
-    with_new graph = record before { graph = graph }
+    others : {E : Type 0} (r : Result (List ℕ) E) → Settles mid new r → states_of tenants (graphs_of new) ≡ set old_states t (state_of was new.graph)
+    others r settles =
+        ap (states_of tenants) (graphs_after t mid at_work new r settles) ∙ graph_changed tenants (graphs_of mid) t was new.graph below at
+        ∙ ap (λ gs. set (states_of tenants gs) t (state_of was new.graph)) turned
 
-    state_is : (graph : Graph) → graph_of_store seen now.store new ≡ graph → after ≡ with_new graph
-    state_is graph is = λ i. record { settings = settings i; graph = is i; indexes = indexes_of (stays i) }
+    by_result : (r : Result (List ℕ) Fault) → Settles mid new r → IsAnswer r (plan_outcome (may_write was.settings token) was.settings.max_steps was.settings.max_elements parameters mid.graph plan) mid.graph new.graph
+        → Gives old_states t (with_graph before told) r (states_of tenants (graphs_of new))
+    by_result (Ok bytes) settles answer =
+        gives old_states _ t before (state_of was new.graph) here (others (Ok bytes) settles) (with_graph before told) (Ok bytes)
+        (sym (ap (λ (a : Answered). a.reply) answer.ok), ap (state_of was) (sym (ap (λ (a : Answered). a.graph) answer.ok))) tt tt
+    by_result (Err e) settles answer =
+        gives old_states _ t before (state_of was new.graph) here (others (Err e) settles) (with_graph before told) (Err e) tt (ap (state_of was) settles.same)
+        (λ other. (sym (ap (λ (a : Answered). a.reply) (answer.err other)), ap (state_of was) (ap (λ (a : Answered). a.graph) (answer.err other))))
 
-    by_result : (r : Result (List ℕ) Fault) → IfOk r (λ bytes. told ≡ record { reply = bytes; graph = graph_of_store seen now.store new })
-        → IfErr r (λ e. e ≢ OutOfMemory → told ≡ refused before.graph e) → OnErr r (graph_of_store seen now.store new ≡ before.graph)
-        → Gives old_states t (with_graph before told) r new_states
-    by_result (Ok bytes) ok err same = gives (with_graph before told) (Ok bytes) (sym (ap (λ (a : Answered). a.reply) ok), state_is told.graph (sym (ap (λ (a : Answered). a.graph) ok))) tt tt
-    by_result (Err e) ok err same =
-        gives (with_graph before told) (Err e) tt (state_is before.graph same)
-        (λ other. (sym (ap (λ (a : Answered). a.reply) (err other)), ap with_new (ap (λ (a : Answered). a.graph) (err other))))
-
-    pub runs_plan : (r : Result (List ℕ) Fault) → IfOk r (λ bytes. told ≡ record { reply = bytes; graph = graph_of_store seen now.store new })
-        → IfErr r (λ e. e ≢ OutOfMemory → told ≡ refused before.graph e) → OnErr r (graph_of_store seen now.store new ≡ before.graph) → RunsPlan t token plan parameters old_states r new_states
-    runs_plan r ok err same = subst (λ s. Gives old_states t (with_graph s (plan_answered s token plan parameters)) r new_states) (sym here) (by_result r ok err same)
+    pub runs_plan : (r : Result (List ℕ) Fault) → Settles mid new r → IsAnswer r (plan_outcome (may_write was.settings token) was.settings.max_steps was.settings.max_elements parameters mid.graph plan) mid.graph new.graph
+        → RunsPlan t token plan parameters old_states r (states_of tenants (graphs_of new))
+    runs_plan r settles answer = subst (λ s. Gives old_states t (with_graph s (plan_answered s token plan parameters)) r (states_of tenants (graphs_of new))) here (by_result r settles answer)
 
   -- ---- an index request
 
-  module _ (same : graph_of_store seen now.store new ≡ before.graph) (outcome : Result Catalogue Fault) where
-    by_answer : (r : Result (List ℕ) Fault) → IsIndexAnswer r outcome (indexes_of was.indexes) (indexes_of now.indexes) → Gives old_states t (with_indexes before outcome) r new_states
-    by_answer (Ok bytes) answer =
+  module _ (now : Tenant) (settings : now.settings ≡ was.settings) (new : Live X) (r : Result (List ℕ) Fault) (settles : Settles mid new r) (same : new.graph ≡ mid.graph) where
+    abbrev new_states : List State
+    new_states = states_of (set tenants t now) (graphs_of new)
+
+    abbrev after : State
+    after = state_of now mid.graph
+
+    changed : new_states ≡ set old_states t after
+    changed =
+        ap (states_of (set tenants t now)) (graphs_kept t mid at_work new r settles below same ∙ turned) ∙ tenant_changed tenants graphs t now
+        ∙ ap (λ g. set old_states t (state_of now g)) graph_here
+
+    by_answer : (outcome : Result Catalogue Fault) (s : Result (List ℕ) Fault) → IsIndexAnswer s outcome (indexes_of was.indexes) (indexes_of now.indexes) → Gives old_states t (with_indexes before outcome) s new_states
+    by_answer outcome (Ok bytes) answer =
         let is = answer.ok.1 in
-        let state : after ≡ record before { indexes = indexes_of now.indexes } = λ i. record { settings = settings i; graph = same i; indexes = indexes_of now.indexes } in
-        gives (with_indexes before outcome) (Ok bytes) (answer.ok.0 ∙ sym (ap (λ o. (with_indexes before o).reply) is), state ∙ sym (ap (λ o. (with_indexes before o).state) is)) tt tt
-    by_answer (Err e) answer =
-        gives (with_indexes before outcome) (Err e) tt (λ i. record { settings = settings i; graph = same i; indexes = answer.err.0 i })
+        let state : after ≡ record before { indexes = indexes_of now.indexes } = λ i. record { settings = settings i; graph = mid.graph; indexes = indexes_of now.indexes } in
+        gives old_states new_states t before after here changed (with_indexes before outcome) (Ok bytes)
+        (answer.ok.0 ∙ sym (ap (λ o. (with_indexes before o).reply) is), state ∙ sym (ap (λ o. (with_indexes before o).state) is)) tt tt
+    by_answer outcome (Err e) answer =
+        gives old_states new_states t before after here changed (with_indexes before outcome) (Err e) tt (λ i. record { settings = settings i; graph = mid.graph; indexes = answer.err.0 i })
         (λ other. let is = answer.err.1 other in (sym (ap (λ o. (with_indexes before o).reply) is), ap (λ o. (with_indexes before o).state) is))
 
-  pub creates : (token label key : List ℕ) (r : Result (List ℕ) Fault) → graph_of_store seen now.store new ≡ before.graph
-      → IsIndexAnswer r (index_created (may_write was.settings token) (indexes_of was.indexes) label key) (indexes_of was.indexes) (indexes_of now.indexes)
-      → RepliesAt t old_states (create_index token label key) r new_states
-  creates token label key r same answer =
-      subst (λ s. Gives old_states t (with_indexes s (index_created (may_write s.settings token) s.indexes label key)) r new_states) (sym here)
-      (by_answer same (index_created (may_write was.settings token) (indexes_of was.indexes) label key) r answer)
+    pub creates : (token label key : List ℕ) → IsIndexAnswer r (index_created (may_write was.settings token) (indexes_of was.indexes) label key) (indexes_of was.indexes) (indexes_of now.indexes)
+        → RepliesAt t old_states (create_index token label key) r new_states
+    creates token label key answer =
+        subst (λ s. Gives old_states t (with_indexes s (index_created (may_write s.settings token) s.indexes label key)) r new_states) here
+        (by_answer (index_created (may_write was.settings token) (indexes_of was.indexes) label key) r answer)
 
-  pub drops : (token label key : List ℕ) (r : Result (List ℕ) Fault) → graph_of_store seen now.store new ≡ before.graph
-      → IsIndexAnswer r (index_dropped (may_write was.settings token) (indexes_of was.indexes) label key) (indexes_of was.indexes) (indexes_of now.indexes)
-      → RepliesAt t old_states (drop_index token label key) r new_states
-  drops token label key r same answer =
-      subst (λ s. Gives old_states t (with_indexes s (index_dropped (may_write s.settings token) s.indexes label key)) r new_states) (sym here)
-      (by_answer same (index_dropped (may_write was.settings token) (indexes_of was.indexes) label key) r answer)
+    pub drops : (token label key : List ℕ) → IsIndexAnswer r (index_dropped (may_write was.settings token) (indexes_of was.indexes) label key) (indexes_of was.indexes) (indexes_of now.indexes)
+        → RepliesAt t old_states (drop_index token label key) r new_states
+    drops token label key answer =
+        subst (λ s. Gives old_states t (with_indexes s (index_dropped (may_write s.settings token) s.indexes label key)) r new_states) here
+        (by_answer (index_dropped (may_write was.settings token) (indexes_of was.indexes) label key) r answer)
 
 -- ---- from the plan to the text
 

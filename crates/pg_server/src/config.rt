@@ -1,5 +1,5 @@
 //! The configuration of a server.
-ghost use Rattle.std.specs.Prelude.{◌≡◌, ◌≢◌, ◌≤◌, ℕ, ◌++◌, [], length, IfOk, IfErr, OnOk, Ok, Err, Some, None, map};
+ghost use Rattle.std.specs.Prelude.{◌≡◌, ◌≢◌, ◌<◌, ◌≤◌, ℕ, ◌++◌, [], length, IfOk, IfErr, OnOk, Ok, Err, Some, None, map};
 ghost use Rattle.std.specs.NonZero.{non_zero_usize_get};
 ghost use Rattle.pg_server.specs.Settings.{all_tokens, token_texts as texts_of};
 ghost use Rattle.pg_value.specs.Texts.{comes_again as seen_again};
@@ -22,7 +22,7 @@ const MAX_TENANTS: usize = 4_096;
 
 const MAX_QUOTA: u64 = 1_000_000_000;
 
-/// What a server begins with: a size for its plan cache, and its tenants. No two tokens are equal.
+/// What a server begins with: a size for its plan cache, and its tenants, of which there is one at least. No two tokens are equal.
 #[derive(Drop)]
 pub struct Config {
     cache: NonZeroUsize,
@@ -30,7 +30,7 @@ pub struct Config {
 }
 
 impl Model for Config {
-    ghost use Rattle.std.specs.Prelude.{◌≤◌, length};
+    ghost use Rattle.std.specs.Prelude.{◌<◌, ◌≤◌, length};
     ghost use Rattle.std.specs.NonZero.{non_zero_usize_get};
     ghost use Rattle.pg_server.specs.Settings.{Settings};
     ghost use Rattle.pg_server.specs.Configuration.{HasTokensOnce, max_tenants};
@@ -39,7 +39,7 @@ impl Model for Config {
 
     ghost view = { λ c. record { cache = non_zero_usize_get c.cache; tenants = c.tenants.items } };
 
-    ghost invariant = { λ c. HasTokensOnce c.tenants.items × (length c.tenants.items ≤ max_tenants) };
+    ghost invariant = { λ c. HasTokensOnce c.tenants.items × (0 < length c.tenants.items) × (length c.tenants.items ≤ max_tenants) };
 }
 
 impl Config {
@@ -63,6 +63,7 @@ impl Config {
         ensures cache { non_zero_usize_get result.0 ≡ self.cache }
         ensures tenants { result.1.items ≡ self.tenants }
         ensures distinct { HasTokensOnce result.1.items }
+        ensures some { 0 < length result.1.items }
         ensures few { length result.1.items ≤ max_tenants }
     {
         (self.cache, self.tenants)

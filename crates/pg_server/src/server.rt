@@ -1,11 +1,11 @@
 //! The server: tenants, and the requests that reach them.
-ghost use Rattle.std.specs.Prelude.{◌≡◌, ◌≢◌, ◌<◌, ◌≤◌, ℕ, List, length, string_bytes, Some, IfOk, IfErr, IfSome};
+ghost use Rattle.std.specs.Prelude.{◌≡◌, ◌≢◌, ◌<◌, ℕ, List, length, map, string_bytes, Some, IfOk, IfErr, IfSome};
 ghost use Rattle.pg_cache.specs.Cache.{cache_seen};
 ghost use Rattle.pg_json.specs.Bodies.{request_view};
 ghost use Rattle.pg_json.specs.Refusals.{refusal_text};
 ghost use Rattle.pg_json.specs.Requests.{query, create_index, drop_index};
+ghost use Rattle.pg_meaning.specs.Graph.{IsGraph};
 ghost use Rattle.pg_meaning.specs.declared.fault.Fault.TheVariants.{OutOfMemory};
-ghost use Rattle.pg_server.specs.Configuration.{max_tenants};
 ghost use Rattle.pg_server.specs.Counts.{inner_of, faults_of};
 ghost use Rattle.pg_server.specs.Handles.{AddsNames, CallsAreRuns, Handles, LooksUp, RefusalsKeepAll, key_asked, key_at, tenant_asked};
 ghost use Rattle.pg_server.specs.Holds.{HoldTenants, shared_of};
@@ -13,9 +13,9 @@ ghost use Rattle.pg_server.specs.Runs.{RefusalsKeep, TwoWorlds, asked, token_of 
 ghost use Rattle.pg_server.specs.Served.{OneReading, read_faults, write_faults};
 ghost use Rattle.pg_server.specs.Serves.{Serves};
 ghost use Rattle.pg_server.specs.Solo.{limited, status_text};
-ghost use Rattle.pg_server.specs.State.{opening_server, state_at};
+ghost use Rattle.pg_server.specs.State.{opening, opening_server, state_at};
 ghost use Rattle.pg_server.specs.Step.{Answers, StepAt, RepliesAt, RunsPlan, place_of, reply_of};
-ghost use Rattle.pg_server.specs.Tenants.{AreOpening};
+ghost use Rattle.pg_server.specs.Tenants.{opening_state};
 ghost use Rattle.pg_value_core.specs.Given.{parameters_view};
 
 use crate::config::Config;
@@ -30,9 +30,9 @@ use crate::wire::MAX_BODY;
 use pg_cache::PlanCache;
 use pg_graph::Tables;
 use pg_json::{ReplyBytes, RequestBody, RequestScratch, read_request, refusal, write_status};
+use pg_live::LiveGraph;
 use pg_meaning::Fault;
 use pg_plan::{Plan, check_length};
-use pg_store::Store;
 use pg_value_core::Parameters;
 use std::alloc::{AllocError, Global};
 use std::hash::RandomState;
@@ -45,13 +45,15 @@ use std::rc::Rc;
 pub struct Server<T: Tables> {
     alloc: Global,
     scratch: RequestScratch,
-    shared: Shared<T>,
+    cache: PlanCache<RandomState>,
     tokens: TokenPlaces,
-    tenants: Vec<Tenant<T>>,
+    tenants: Vec<Tenant>,
+    graphs: LiveGraph<T>,
 }
 
 impl<T: Tables> Model for Server<T> {
     ghost use Rattle.pg_cache.specs.Cache.{cache_seen};
+    ghost use Rattle.pg_live.specs.Live.{graphs_of};
     ghost use Rattle.pg_server.specs.State.{ServerSeen};
     ghost use Rattle.pg_server.specs.StateCode.{server_code};
     ghost use Rattle.pg_server.specs.Tenants.{server_seen, AreTenants};
@@ -60,14 +62,15 @@ impl<T: Tables> Model for Server<T> {
 
     ghost coded = { server_code T.Shared.code };
 
-    ghost view = { λ s. server_seen T.seen (cache_seen s.shared.cache) s.tenants.items s.shared.stores };
+    ghost view = { λ s. server_seen (cache_seen s.cache) s.tenants.items s.graphs };
 
-    ghost invariant = { λ s. AreTenants T.seen s.tokens s.tenants.items s.shared.stores };
+    ghost invariant = { λ s. AreTenants s.tokens s.tenants.items (graphs_of s.graphs) };
 }
 
 impl<T: Tables> Server<T> {
-    /// A server with the tenants of this configuration, each with the empty graph and no index. Its hash tables are keyed by `hasher`, so
-    /// that nobody who sends requests can choose what falls together in them. No clause speaks of it, so no reply depends on it.
+    /// A server with the tenants of this configuration, each with the empty graph and no index. The hash tables of the names, of the kept
+    /// plans, and of what queries tell apart (DISTINCT, groups) are keyed by `hasher`, so that nobody who sends requests can choose what falls
+    /// together in them. No clause speaks of it, so no reply depends on it.
     pub fn new(alloc: Global, config: Config, hasher: RandomState) -> Result<Self, AllocError>
         ensures state { IfOk result (λ s. s.state ≡ opening_server config) }
         ensures unused { IfOk result (λ s. (owner : ℕ) → T.seen.is_unused owner s.tables) }
@@ -76,27 +79,37 @@ impl<T: Tables> Server<T> {
         let (cache, settings) = config.into_parts();
         let cache = PlanCache::new(alloc, cache, hasher)?;
         let tokens = TokenPlaces::of(alloc, &settings)?;
-        let tenants = opening_tenants(alloc, settings)?;
+        let graphs = LiveGraph::new(alloc, hasher, settings.len())?;
+        // which ensures of any live graph what is ensured here of its graphs
+        let _ = graphs.shared();
         Ok(Server {
             alloc,
             scratch: RequestScratch::new(alloc),
-            shared: Shared {
-                cache,
-                stores: pg_store::Shared::new(alloc, hasher, T::new_shared(alloc)),
-            },
+            cache,
             tokens,
-            tenants,
+            tenants: opening_tenants(alloc, settings)?,
+            graphs,
         })
     }
 
     /// What all tenants share: the plans that are kept, and the names and the part of the tables over which each tenant
     /// holds its graph.
-    pub fn shared(&self) -> &Shared<T>
-        ensures cache { cache_seen result.now.cache ≡ self.now.state.cache }
-        ensures stores { result.now.stores ≡ shared_of self.now }
+    pub fn shared(&self) -> Shared<'_, T>
+        ensures cache { cache_seen result.cache.now ≡ self.now.state.cache }
+        ensures stores { result.stores.now ≡ shared_of self.now }
         ensures tenants { HoldTenants T.seen self.now }
     {
-        &self.shared
+        Shared {
+            cache: &self.cache,
+            stores: self.graphs.shared(),
+        }
+    }
+
+    /// Shows that each tenant's graph is one.
+    fn show_graphs(&self)
+        ensures { (t : ℕ) → IsGraph (state_at self.now.state t).graph }
+    {
+        let _ = self.graphs.shared();
     }
 
     /// The place of the tenant whose token a body shows, if the body is a request and there is memory to read it.
@@ -148,7 +161,10 @@ impl<T: Tables> Server<T> {
             return refusal(Fault::FrameTooLong);
         }
         match read_request(self.alloc, &mut self.scratch, body) {
-            Ok(request) => self.answer_request(request),
+            Ok(request) => {
+                self.show_graphs();
+                self.answer_request(request)
+            }
             Err(fault) => refusal(fault),
         }
     }
@@ -219,7 +235,7 @@ impl<T: Tables> Server<T> {
     {
         check_length(text.as_str())?;
         let indexes = self.tenants[place].indexes.clone()?;
-        match self.shared.cache.plan_for(self.alloc, text, indexes) {
+        match self.cache.plan_for(self.alloc, text, indexes) {
             Ok(plan) => self.run_plan(place, token, &plan, parameters),
             Err(fault) => Err(fault),
         }
@@ -237,23 +253,20 @@ impl<T: Tables> Server<T> {
         ensures cache { self.new.state.cache ≡ self.old.state.cache }
         ensures names { AddsNames (reply_of result) self.old.state.names self.new.state.names }
     {
-        self.tenants[place].answer_plan(
-            self.alloc,
-            &mut self.shared.stores,
-            token,
-            plan,
-            parameters,
-        )
+        self.graphs.turn_to(place);
+        self.tenants[place].answer_plan(self.alloc, &mut self.graphs, token, plan, parameters)
     }
 
     /// What a tenant has and may have.
-    fn status(&self, place: usize) -> Result<ReplyBytes, Fault>
-        requires { place < length self.now.state.tenants }
-        ensures ok { IfOk result (λ bytes. bytes ≡ limited (status_text (state_at self.now.state place))) }
-        ensures err { IfErr result (λ e. e ≢ OutOfMemory → refusal_text e ≡ limited (status_text (state_at self.now.state place))) }
+    fn status(&mut self, place: usize) -> Result<ReplyBytes, Fault>
+        requires { place < length self.old.state.tenants }
+        ensures ok { IfOk result (λ bytes. bytes ≡ limited (status_text (state_at self.old.state place))) }
+        ensures err { IfErr result (λ e. e ≢ OutOfMemory → refusal_text e ≡ limited (status_text (state_at self.old.state place))) }
+        ensures state { self.new.state ≡ self.old.state }
     {
+        self.graphs.turn_to(place);
         let tenant = &self.tenants[place];
-        let graph = tenant.store.graph(&self.shared.stores);
+        let graph = self.graphs.graph();
         let told = tenant.status(self.alloc, &graph)?;
         write_status(self.alloc, &told)
     }
@@ -270,7 +283,8 @@ impl<T: Tables> Server<T> {
         ensures cache { self.new.state.cache ≡ self.old.state.cache }
         ensures names { AddsNames (reply_of result) self.old.state.names self.new.state.names }
     {
-        self.tenants[place].create_index(self.alloc, &mut self.shared.stores, token, label, key)
+        self.graphs.turn_to(place);
+        self.tenants[place].create_index(self.alloc, &mut self.graphs, token, label, key)
     }
 
     fn drop_index(
@@ -285,7 +299,8 @@ impl<T: Tables> Server<T> {
         ensures cache { self.new.state.cache ≡ self.old.state.cache }
         ensures names { AddsNames (reply_of result) self.old.state.names self.new.state.names }
     {
-        self.tenants[place].drop_index(self.alloc, &self.shared.stores, token, label, key)
+        self.graphs.turn_to(place);
+        self.tenants[place].drop_index(self.alloc, &mut self.graphs, token, label, key)
     }
 
     /// Serves at most so many frames, and answers each whole one by `handle`.
@@ -302,10 +317,11 @@ impl<T: Tables> Server<T> {
         ensures write_faults { faults_of writer.new ≡ write_faults result (faults_of writer.old) }
     {
         let Ok(mut buffer) = zeros(self.alloc, MAX_BODY) else {
+            // as in `handle`
+            let _ = self.shared();
             return End::NoMemory;
         };
         let end = serve(self, reader, writer, &mut buffer, max_frames);
-        // as in `handle`
         let _ = self.shared();
         end
     }
@@ -343,21 +359,15 @@ fn token_of(request: &RequestBody) -> &str
     }
 }
 
-/// Each tenant with the empty graph and no index. Its place is the number by which the shared part knows it.
-fn opening_tenants<T: Tables>(
-    alloc: Global,
-    settings: Vec<TenantSettings>,
-) -> Result<Vec<Tenant<T>>, AllocError>
-    requires { length settings.items ≤ max_tenants }
-    ensures { IfOk result (λ tenants. AreOpening T.seen T.Shared.Texts settings.items tenants.items) }
+/// Each tenant with no index.
+fn opening_tenants(alloc: Global, settings: Vec<TenantSettings>) -> Result<Vec<Tenant>, AllocError>
+    ensures { IfOk result (λ tenants. map opening_state tenants.items ≡ map opening settings.items) }
 {
     let mut tenants = Vec::with_capacity(alloc, settings.len())?;
     for one in settings {
-        let owner = tenants.len() as u32;
         let indexes = Rc::new(alloc, Vec::new(alloc))?;
         tenants.push(Tenant {
             settings: one,
-            store: Store::new(alloc, owner),
             indexes,
         })?;
     }

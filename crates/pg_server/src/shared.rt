@@ -5,7 +5,7 @@ use std::hash::RandomState;
 
 /// The plans of all tenants' queries, their names, and what is shared of their tables.
 #[derive(Drop)]
-pub struct Shared<T: Tables> {
-    pub cache: PlanCache<RandomState>,
-    pub stores: pg_store::Shared<T::Shared>,
+pub struct Shared<'a, T: Tables> {
+    pub cache: &'a PlanCache<RandomState>,
+    pub stores: &'a pg_store::Shared<T::Shared>,
 }

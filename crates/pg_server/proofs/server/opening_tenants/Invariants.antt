@@ -1,6 +1,8 @@
+use Rattle.std.specs.Prelude.{◌≡◌, ◌++◌, map}
 use Rattle.std.specs.Vec.Iter.{into_iter_items}
-use Rattle.pg_server.proofs.OpeningLemmas.{BegunSoFar}
+use Rattle.pg_server.specs.State.{opening}
+use Rattle.pg_server.specs.Tenants.{opening_state}
 use Rattle.pg_server.proofs.server.opening_tenants.Given as goal
 
 abbrev pub invariant-loop-one : goal.invariant-loop-one
-invariant-loop-one g l = BegunSoFar g.T.Tables.seen l.fn.settings.items (into_iter_items l.one-iterator) l.tenants.items
+invariant-loop-one l = map opening_state l.tenants.items ++ map opening (into_iter_items l.one-iterator) ≡ map opening l.fn.settings.items

@@ -1,6 +1,7 @@
 use Rattle.std.proofs.Common.{◌≡◌, Some, None, ℕ, List, ap, subst, sym, ◌∙◌}
 use Rattle.std.specs.Prelude.{option_and_then}
 use Rattle.pg_json.specs.Bodies.{request_view}
+use Rattle.pg_live.specs.Live.{graphs_of}
 use Rattle.pg_server.specs.Handles.{LooksUp, key_at}
 use Rattle.pg_server.specs.Runs.{token_of}
 use Rattle.pg_server.specs.State.{ServerState}
@@ -16,7 +17,7 @@ pub answer_at-requires : goal.answer_at-requires
 answer_at-requires g c =
     let asked : List ℕ = token_of (request_view c.args.request) in
     let found : place_of asked c.args.self.now.state.tenants ≡ Some c.in-Some.place =
-    ap (λ (s : ServerState). place_of asked s.tenants) (sym (ap state_seen c.self.view_is)) ∙ place_seen g.T.Tables.seen c.self.inside.shared.stores asked c.self.inside.tenants.items
+    ap (λ (s : ServerState). place_of asked s.tenants) (sym (ap state_seen c.self.view_is)) ∙ place_seen asked c.self.inside.tenants.items (graphs_of c.self.inside.graphs)
     ∙ sym (c.self.invariant.told asked) ∙ ap (place_in c.self.inside.tokens) (sym c.token_of.ensures) ∙ sym c.in-Some.ensures in
     place_below asked c.args.self.now.state.tenants c.in-Some.place found
 
@@ -24,7 +25,7 @@ pub returns-in-Some : goal.returns-in-Some
 returns-in-Some g c =
     let asked : List ℕ = token_of (request_view c.args.request) in
     let found : place_of asked c.args.self.now.state.tenants ≡ Some c.in-Some.place =
-    ap (λ (s : ServerState). place_of asked s.tenants) (sym (ap state_seen c.self.view_is)) ∙ place_seen g.T.Tables.seen c.self.inside.shared.stores asked c.self.inside.tenants.items
+    ap (λ (s : ServerState). place_of asked s.tenants) (sym (ap state_seen c.self.view_is)) ∙ place_seen asked c.self.inside.tenants.items (graphs_of c.self.inside.graphs)
     ∙ sym (c.self.invariant.told asked) ∙ ap (place_in c.self.inside.tokens) (sym c.token_of.ensures) ∙ sym c.in-Some.ensures in
     record {
       tenants = subst (λ o. StepAt o c.args.self.now.state.tenants (request_view c.args.request) c.answer_at.result c.answer_at.new.self.state.tenants) (sym found) c.answer_at.ensures.tenants;
@@ -36,7 +37,7 @@ pub returns-in-None : goal.returns-in-None
 returns-in-None g c =
     let asked : List ℕ = token_of (request_view c.args.request) in
     let none : place_of asked c.args.self.now.state.tenants ≡ None =
-    ap (λ (s : ServerState). place_of asked s.tenants) (sym (ap state_seen c.self.view_is)) ∙ place_seen g.T.Tables.seen c.self.inside.shared.stores asked c.self.inside.tenants.items
+    ap (λ (s : ServerState). place_of asked s.tenants) (sym (ap state_seen c.self.view_is)) ∙ place_seen asked c.self.inside.tenants.items (graphs_of c.self.inside.graphs)
     ∙ sym (c.self.invariant.told asked) ∙ ap (place_in c.self.inside.tokens) (sym c.token_of.ensures) ∙ sym c.in-None.ensures in
     record {
       tenants = subst (λ o. StepAt o c.args.self.now.state.tenants (request_view c.args.request) c.refusal.result c.args.self.now.state.tenants) (sym none) (c.refusal.ensures, λ i. c.args.self.now.state.tenants);

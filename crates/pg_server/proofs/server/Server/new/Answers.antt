@@ -1,32 +1,35 @@
-use Rattle.std.proofs.Common.{◌≡◌, [], map, ap, sym, subst, ◌∙◌}
-use Rattle.pg_server.specs.Settings.{all_tokens}
+use Rattle.std.proofs.Common.{◌≡◌, map, arith, ap, subst, ◌∙◌}
 use Rattle.pg_cache.specs.Cache.{cache_seen}
+use Rattle.pg_live.specs.Live.{graphs_of}
 use Rattle.pg_server.specs.State.{ServerState, fresh_cache, opening}
-use Rattle.pg_server.specs.Tenants.{states_of}
+use Rattle.pg_server.specs.Tenants.{states_of, AreTenants}
 use Rattle.pg_server.specs.Tokens.{TellsTenants}
 use Rattle.pg_server.proofs.HoldLemmas.{hold_tenants}
+use Rattle.pg_server.proofs.TenantLemmas.{opening_tenants_are, opening_states}
 use Rattle.pg_server.proofs.server.Server.new.Goals as goal
-use Rattle.pg_value.specs.Texts.{comes_again}
+
+pub new-graphs-requires : goal.new-graphs-requires
+new-graphs-requires g c = record { some = omega (arith, c.len.ensures, c.into_parts-settings.ensures.some); few = omega (arith, c.len.ensures, c.into_parts-settings.ensures.few) }
 
 pub invariant_of-result : goal.invariant_of-result
 invariant_of-result g c =
-    record {
-      distinct = ap (λ ss. comes_again [] (all_tokens ss)) c.in_ok-tenants.ensures.same ∙ c.into_parts-settings.ensures.distinct;
-      told = subst (TellsTenants c.in_ok-tokens.tokens) (sym c.in_ok-tenants.ensures.same) (subst (TellsTenants c.in_ok-tokens.tokens) c.deref.ensures.value c.in_ok-tokens.ensures);
-      fit = c.in_ok-tenants.ensures.fit c.new-3.result c.new-3.ensures.distinct (λ owner. subst (g.T.Tables.seen.is_unused owner) (sym c.new-3.ensures.tables) (c.new_shared.ensures.unused owner));
-    }
+    opening_tenants_are c.in_ok-tokens.tokens c.in_ok-tenants.tenants.items c.into_parts-settings.result.1.items (graphs_of c.in_ok-graphs.graphs) c.len.result c.in_ok-tenants.ensures c.len.ensures
+    c.in_ok-graphs.ensures.graphs c.into_parts-settings.ensures.distinct (subst (TellsTenants c.in_ok-tokens.tokens) c.deref.ensures.value c.in_ok-tokens.ensures)
 
 pub returns-clause-state : goal.returns-clause-state
 returns-clause-state g c =
-    let tenants : states_of g.T.Tables.seen c.in_ok-tenants.tenants.items c.new-3.result ≡ map opening c.args.config.tenants =
-    c.in_ok-tenants.ensures.empty c.new-3.result (λ owner. subst (g.T.Tables.seen.is_unused owner) (sym c.new-3.ensures.tables) (c.new_shared.ensures.unused owner)) ∙ ap (map opening) c.into_parts-settings.ensures.tenants in
+    let tenants : states_of c.in_ok-tenants.tenants.items (graphs_of c.in_ok-graphs.graphs) ≡ map opening c.args.config.tenants =
+    opening_states c.in_ok-tenants.tenants.items c.into_parts-settings.result.1.items (graphs_of c.in_ok-graphs.graphs) c.len.result c.in_ok-tenants.ensures c.in_ok-graphs.ensures.graphs
+    ∙ ap (map opening) c.into_parts-settings.ensures.tenants in
     let cache : cache_seen c.in_ok-cache.cache ≡ fresh_cache c.args.config.cache = ap cache_seen c.in_ok-cache.ensures ∙ ap fresh_cache c.into_parts-settings.ensures.cache in
-    λ i. let s : ServerState = record { cache = cache i; names = c.new-3.ensures.names i; tenants = tenants i } in s
+    λ i. let s : ServerState = record { cache = cache i; names = c.in_ok-graphs.ensures.names i; tenants = tenants i } in s
 
 pub returns-clause-unused : goal.returns-clause-unused
-returns-clause-unused g c owner = subst (g.T.Tables.seen.is_unused owner) (sym c.new-3.ensures.tables) (c.new_shared.ensures.unused owner)
+returns-clause-unused g c owner = c.in_ok-graphs.ensures.unused owner
 
 pub returns-clause-tenants : goal.returns-clause-tenants
 returns-clause-tenants g c =
-    hold_tenants g.T.Tables.seen (cache_seen c.in_ok-cache.cache) c.in_ok-tenants.tenants.items c.new-3.result
-    (c.in_ok-tenants.ensures.fit c.new-3.result c.new-3.ensures.distinct (λ owner. subst (g.T.Tables.seen.is_unused owner) (sym c.new-3.ensures.tables) (c.new_shared.ensures.unused owner)))
+    let are : AreTenants c.in_ok-tokens.tokens c.in_ok-tenants.tenants.items (graphs_of c.in_ok-graphs.graphs) =
+    opening_tenants_are c.in_ok-tokens.tokens c.in_ok-tenants.tenants.items c.into_parts-settings.result.1.items (graphs_of c.in_ok-graphs.graphs) c.len.result c.in_ok-tenants.ensures c.len.ensures
+    c.in_ok-graphs.ensures.graphs c.into_parts-settings.ensures.distinct (subst (TellsTenants c.in_ok-tokens.tokens) c.deref.ensures.value c.in_ok-tokens.ensures) in
+    hold_tenants g.T.Tables.seen (cache_seen c.in_ok-cache.cache) c.in_ok-tenants.tenants.items c.in_ok-graphs.graphs are.each c.shared.ensures.held

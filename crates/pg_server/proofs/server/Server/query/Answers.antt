@@ -3,6 +3,7 @@ use Rattle.std.proofs.lemmas.Result.{err_from_is_err_and}
 use Rattle.pg_plan.specs.Catalogue.{catalogue_view}
 use Rattle.pg_cache.proofs.Seen.{look_up_is_seen}
 use Rattle.pg_cache.specs.Cache.{CacheSeen, IsLookUp, cache_seen, key_of}
+use Rattle.pg_live.specs.Live.{graphs_of}
 use Rattle.pg_meaning.specs.Plans.{Catalogue}
 use Rattle.pg_json.specs.Refusals.{refusal_text}
 use Rattle.pg_plan.specs.Plans.{IsPlanOfText}
@@ -24,66 +25,63 @@ pub returns-in-Err-clause-tenants : goal.returns-in-Err-clause-tenants
 returns-in-Err-clause-tenants g c =
     let text = string_bytes c.args.text in
     let short : tested_length text ≡ Ok tt = search rules in
-    let same : states_of g.T.Tables.seen c.self.inside.tenants.items c.self.inside.shared.stores ≡ c.args.self.now.state.tenants = ap (λ (s : ServerState). s.tenants) (ap state_seen c.self.view_is) in
+    let same : states_of c.self.inside.tenants.items (graphs_of c.self.inside.graphs) ≡ c.args.self.now.state.tenants = ap (λ (s : ServerState). s.tenants) (ap state_seen c.self.view_is) in
     refuses c.args.place c.args.token.now text (parameters_view c.args.parameters.now) c.args.self.now.state.tenants _ c.in-Err.fault same short c.in-Err.ensures.err
 
 pub returns-in-Err-clause-cache : goal.returns-in-Err-clause-cache
 returns-in-Err-clause-cache g c =
-    let seen = g.T.Tables.seen in
     let text = string_bytes c.args.text in
     let tenants = c.self.inside.tenants.items in
     let short : tested_length text ≡ Ok tt = search rules in
-    let lt : c.args.place < length tenants = is_tenant seen tenants c.self.inside.shared.stores c.args.self.now.state.tenants c.args.place (ap (λ (s : ServerState). s.tenants) (ap state_seen c.self.view_is)) c.requires in
+    let lt : c.args.place < length tenants = is_tenant tenants (graphs_of c.self.inside.graphs) c.args.self.now.state.tenants c.args.place (ap (λ (s : ServerState). s.tenants) (ap state_seen c.self.view_is)) c.requires in
     let copied : c.in_ok-indexes.indexes.value ≡ c.index.result.now.indexes.value = search rules in
     let own : indexes_of c.in_ok-indexes.indexes ≡ (state_in c.args.self.now.state.tenants c.args.place).indexes =
     ap (λ (v : Vec (String Global × String Global) Global). catalogue_view v.items) copied
-    ∙ indexes_at seen tenants c.self.inside.shared.stores c.args.place c.index.result.now lt c.index.ensures
+    ∙ indexes_at tenants (graphs_of c.self.inside.graphs) c.args.place c.index.result.now lt c.index.ensures
     ∙ ap (λ (s : ServerState). (state_in s.tenants c.args.place).indexes) (ap state_seen c.self.view_is) in
-    let looks : IsLookUp (cache_seen c.self.inside.shared.cache) (cache_seen c.plan_for.new.self) (key_of c.args.text c.in_ok-indexes.indexes) =
-    look_up_is_seen c.self.inside.shared.cache c.plan_for.new.self (key_of c.args.text c.in_ok-indexes.indexes) c.plan_for.result c.plan_for.ensures.ok c.plan_for.ensures.hit c.plan_for.ensures.miss in
+    let looks : IsLookUp (cache_seen c.self.inside.cache) (cache_seen c.plan_for.new.self) (key_of c.args.text c.in_ok-indexes.indexes) =
+    look_up_is_seen c.self.inside.cache c.plan_for.new.self (key_of c.args.text c.in_ok-indexes.indexes) c.plan_for.result c.plan_for.ensures.ok c.plan_for.ensures.hit c.plan_for.ensures.miss in
     looked_up c.args.place c.args.self.now.state.tenants c.args.token.now text (parameters_view c.args.parameters.now) _ c.args.self.now.state.cache _ short
     (inl (subst (λ (old : CacheSeen). IsLookUp old (cache_seen c.plan_for.new.self) (text, (state_in c.args.self.now.state.tenants c.args.place).indexes)) (ap (λ (s : ServerState). s.cache) (ap state_seen c.self.view_is))
-    (subst (λ (is : Catalogue). IsLookUp (cache_seen c.self.inside.shared.cache) (cache_seen c.plan_for.new.self) (text, is)) own looks)))
+    (subst (λ (is : Catalogue). IsLookUp (cache_seen c.self.inside.cache) (cache_seen c.plan_for.new.self) (text, is)) own looks)))
 
 pub returns-in-Err-clause-names : goal.returns-in-Err-clause-names
 returns-in-Err-clause-names g c =
-    subst (λ (s : ServerState). AddsNames (refusal_text c.in-Err.fault) s.names c.self.inside.shared.stores.names) (ap state_seen c.self.view_is) (names_stay _ c.self.inside.shared.stores.names)
+    subst (λ (s : ServerState). AddsNames (refusal_text c.in-Err.fault) s.names c.self.inside.graphs.names) (ap state_seen c.self.view_is) (names_stay _ c.self.inside.graphs.names)
 
 pub returns-in-Ok-clause-tenants : goal.returns-in-Ok-clause-tenants
 returns-in-Ok-clause-tenants g c =
-    let seen = g.T.Tables.seen in
     let text = string_bytes c.args.text in
     let tenants = c.self.inside.tenants.items in
     let short : tested_length text ≡ Ok tt = search rules in
-    let lt : c.args.place < length tenants = is_tenant seen tenants c.self.inside.shared.stores c.args.self.now.state.tenants c.args.place (ap (λ (s : ServerState). s.tenants) (ap state_seen c.self.view_is)) c.requires in
+    let lt : c.args.place < length tenants = is_tenant tenants (graphs_of c.self.inside.graphs) c.args.self.now.state.tenants c.args.place (ap (λ (s : ServerState). s.tenants) (ap state_seen c.self.view_is)) c.requires in
     let copied : c.in_ok-indexes.indexes.value ≡ c.index.result.now.indexes.value = search rules in
     let own : indexes_of c.in_ok-indexes.indexes ≡ (state_in c.args.self.now.state.tenants c.args.place).indexes =
     ap (λ (v : Vec (String Global × String Global) Global). catalogue_view v.items) copied
-    ∙ indexes_at seen tenants c.self.inside.shared.stores c.args.place c.index.result.now lt c.index.ensures
+    ∙ indexes_at tenants (graphs_of c.self.inside.graphs) c.args.place c.index.result.now lt c.index.ensures
     ∙ ap (λ (s : ServerState). (state_in s.tenants c.args.place).indexes) (ap state_seen c.self.view_is) in
-    let same : states_of seen tenants c.self.inside.shared.stores ≡ c.args.self.now.state.tenants = ap (λ (s : ServerState). s.tenants) (ap state_seen c.self.view_is) in
+    let same : states_of tenants (graphs_of c.self.inside.graphs) ≡ c.args.self.now.state.tenants = ap (λ (s : ServerState). s.tenants) (ap state_seen c.self.view_is) in
     let lent : c.deref.result.now ≡ c.in-Ok.plan.value = search rules in
     replies c.args.place c.args.token.now text (parameters_view c.args.parameters.now) c.args.self.now.state.tenants _ c.run_plan.new.self.state.tenants c.deref.result.now c.run_plan.result same short
     (subst (IsPlanOfText text (state_in c.args.self.now.state.tenants c.args.place).indexes) (sym lent) (subst (λ (is : Catalogue). IsPlanOfText text is c.in-Ok.plan.value) own c.in-Ok.ensures.ok)) c.run_plan.ensures.tenants
 
 pub returns-in-Ok-clause-cache : goal.returns-in-Ok-clause-cache
 returns-in-Ok-clause-cache g c =
-    let seen = g.T.Tables.seen in
     let text = string_bytes c.args.text in
     let tenants = c.self.inside.tenants.items in
     let short : tested_length text ≡ Ok tt = search rules in
-    let lt : c.args.place < length tenants = is_tenant seen tenants c.self.inside.shared.stores c.args.self.now.state.tenants c.args.place (ap (λ (s : ServerState). s.tenants) (ap state_seen c.self.view_is)) c.requires in
+    let lt : c.args.place < length tenants = is_tenant tenants (graphs_of c.self.inside.graphs) c.args.self.now.state.tenants c.args.place (ap (λ (s : ServerState). s.tenants) (ap state_seen c.self.view_is)) c.requires in
     let copied : c.in_ok-indexes.indexes.value ≡ c.index.result.now.indexes.value = search rules in
     let own : indexes_of c.in_ok-indexes.indexes ≡ (state_in c.args.self.now.state.tenants c.args.place).indexes =
     ap (λ (v : Vec (String Global × String Global) Global). catalogue_view v.items) copied
-    ∙ indexes_at seen tenants c.self.inside.shared.stores c.args.place c.index.result.now lt c.index.ensures
+    ∙ indexes_at tenants (graphs_of c.self.inside.graphs) c.args.place c.index.result.now lt c.index.ensures
     ∙ ap (λ (s : ServerState). (state_in s.tenants c.args.place).indexes) (ap state_seen c.self.view_is) in
-    let looks : IsLookUp (cache_seen c.self.inside.shared.cache) (cache_seen c.plan_for.new.self) (key_of c.args.text c.in_ok-indexes.indexes) =
-    look_up_is_seen c.self.inside.shared.cache c.plan_for.new.self (key_of c.args.text c.in_ok-indexes.indexes) c.plan_for.result c.plan_for.ensures.ok c.plan_for.ensures.hit c.plan_for.ensures.miss in
+    let looks : IsLookUp (cache_seen c.self.inside.cache) (cache_seen c.plan_for.new.self) (key_of c.args.text c.in_ok-indexes.indexes) =
+    look_up_is_seen c.self.inside.cache c.plan_for.new.self (key_of c.args.text c.in_ok-indexes.indexes) c.plan_for.result c.plan_for.ensures.ok c.plan_for.ensures.hit c.plan_for.ensures.miss in
     looked_up c.args.place c.args.self.now.state.tenants c.args.token.now text (parameters_view c.args.parameters.now) (reply_of c.run_plan.result) c.args.self.now.state.cache c.run_plan.new.self.state.cache short
     (inl (subst (λ (new : CacheSeen). IsLookUp c.args.self.now.state.cache new (text, (state_in c.args.self.now.state.tenants c.args.place).indexes)) (sym c.run_plan.ensures.cache)
     (subst (λ (old : CacheSeen). IsLookUp old (cache_seen c.plan_for.new.self) (text, (state_in c.args.self.now.state.tenants c.args.place).indexes)) (ap (λ (s : ServerState). s.cache) (ap state_seen c.self.view_is))
-    (subst (λ (is : Catalogue). IsLookUp (cache_seen c.self.inside.shared.cache) (cache_seen c.plan_for.new.self) (text, is)) own looks))))
+    (subst (λ (is : Catalogue). IsLookUp (cache_seen c.self.inside.cache) (cache_seen c.plan_for.new.self) (text, is)) own looks))))
 
 pub returns-in-Ok-clause-names : goal.returns-in-Ok-clause-names
 returns-in-Ok-clause-names g c =
@@ -117,3 +115,8 @@ returns-in_err-indexes-clause-cache g c =
 
 pub returns-in_err-indexes-clause-names : goal.returns-in_err-indexes-clause-names
 returns-in_err-indexes-clause-names g c = names_stay (reply_of c.from_residual-in_err-indexes.result) c.args.self.now.state.names
+
+pub index-requires : goal.index-requires
+index-requires g c =
+    subst (λ n. c.args.place < n) (sym c.self.inside.tenants.ok.0)
+    (is_tenant c.self.inside.tenants.items (graphs_of c.self.inside.graphs) c.args.self.now.state.tenants c.args.place (ap (λ (s : ServerState). s.tenants) (ap state_seen c.self.view_is)) c.requires)

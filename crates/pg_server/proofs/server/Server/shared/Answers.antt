@@ -1,4 +1,4 @@
-use Rattle.std.proofs.Common.{ap, subst}
+use Rattle.std.proofs.Common.{ap, subst, ◌∙◌}
 use Rattle.pg_cache.specs.Cache.{cache_seen}
 use Rattle.pg_server.specs.Holds.{HoldTenants, shared_of}
 use Rattle.pg_server.specs.State.{ServerState}
@@ -9,9 +9,9 @@ pub returns-clause-cache : goal.returns-clause-cache
 returns-clause-cache g c = ap (λ (s : ServerState). s.cache) (ap state_seen c.self.view_is)
 
 pub returns-clause-stores : goal.returns-clause-stores
-returns-clause-stores g c = ap shared_of c.self.view_is
+returns-clause-stores g c = c.shared.ensures.is ∙ ap shared_of c.self.view_is
 
 pub returns-clause-tenants : goal.returns-clause-tenants
 returns-clause-tenants g c =
     subst (HoldTenants g.T.Tables.seen) c.self.view_is
-    (hold_tenants g.T.Tables.seen (cache_seen c.self.inside.shared.cache) c.self.inside.tenants.items c.self.inside.shared.stores c.self.invariant.fit)
+    (hold_tenants g.T.Tables.seen (cache_seen c.self.inside.cache) c.self.inside.tenants.items c.self.inside.graphs c.self.invariant.each c.shared.ensures.held)

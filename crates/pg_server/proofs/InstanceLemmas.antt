@@ -1,7 +1,7 @@
 -- The instances of runs and configurations.
 use Rattle.std.proofs.Common.{◌≡◌, ℕ, List, [], Bool, true, false, cond, Some, refl, sym, ap, subst, ◌∙◌, inl, inr, length}
 use Rattle.std.specs.Prelude.{◌&&◌, ◌⊎◌, not, codes}
-use Rattle.std.proofs.lemmas.List.{ext_get_or}
+use Rattle.std.proofs.lemmas.List.{ext_get_or, length-map}
 use Rattle.std.proofs.lemmas.Slice.Eq.{bytes_eq-Decides}
 use Rattle.pg_json.specs.Refusals.{refusal_text}
 use Rattle.pg_json.specs.Requests.{status}
@@ -10,11 +10,10 @@ use Rattle.pg_server.specs.InstancesOfRuns.{EmptyRuns, StatusRuns, Configuration
 use Rattle.pg_server.specs.Runs.{Runs, SoloRun, asked, shows_one_of, is_want_of_memory}
 use Rattle.pg_server.specs.Solo.{solo, limited, status_text}
 use Rattle.pg_server.specs.State.{State, ServerState, state_at, tokens_of, no_state, opening}
-use Rattle.pg_server.proofs.TenantLemmas.{length_mapped}
 
 stays : (old new : ServerState) → Runs old [] new → new.tenants ≡ old.tenants
 stays old new run =
-    let as_many : length new.tenants ≡ length old.tenants = sym (length_mapped (λ (s : State). s.settings) new.tenants) ∙ ap length run.settings ∙ length_mapped (λ (s : State). s.settings) old.tenants in
+    let as_many : length new.tenants ≡ length old.tenants = sym (length-map new.tenants (λ (s : State). s.settings)) ∙ ap length run.settings ∙ length-map old.tenants (λ (s : State). s.settings) in
     ext_get_or no_state new.tenants old.tenants as_many (λ t below. run.solo t)
 
 nothing_ran : (s : ServerState) → Runs s [] s

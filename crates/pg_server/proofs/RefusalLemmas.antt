@@ -1,7 +1,7 @@
 -- A refusal leaves every tenant, and the names.
 use Rattle.std.proofs.Common.{◌≡◌, ℕ, List, [], ◌∷◌, Bool, true, false, cond, length, refl, sym, ap, ◌∙◌}
 use Rattle.std.specs.Prelude.{◌&&◌, not}
-use Rattle.std.proofs.lemmas.List.{ext_get_or}
+use Rattle.std.proofs.lemmas.List.{ext_get_or, length-map}
 use Rattle.pg_json.specs.Refusals.{refusal_text}
 use Rattle.pg_meaning.specs.declared.fault.Fault.{Fault}
 use Rattle.pg_server.specs.Exchange.{Exchange}
@@ -9,7 +9,6 @@ use Rattle.pg_server.specs.Handles.{RefusalsKeepAll}
 use Rattle.pg_server.specs.Runs.{Runs, SoloRun, shows_one_of, asked, is_want_of_memory}
 use Rattle.pg_server.specs.State.{State, ServerState, state_at, tokens_of, no_state}
 use Rattle.pg_server.proofs.ReplyLemmas.{refusals_keep}
-use Rattle.pg_server.proofs.TenantLemmas.{length_mapped}
 
 module _ (old new : ServerState) (body : List ℕ) (fault : Fault) (run : Runs old (record { body = body; reply = refusal_text fault } ∷ []) new) where
   abbrev one : Exchange
@@ -21,7 +20,7 @@ module _ (old new : ServerState) (body : List ℕ) (fault : Fault) (run : Runs o
   state_stays t false r = r
 
   as_many : length new.tenants ≡ length old.tenants
-  as_many = sym (length_mapped (λ (s : State). s.settings) new.tenants) ∙ ap length run.settings ∙ length_mapped (λ (s : State). s.settings) old.tenants
+  as_many = sym (length-map new.tenants (λ (s : State). s.settings)) ∙ ap length run.settings ∙ length-map old.tenants (λ (s : State). s.settings)
 
   pub tenants_stay : new.tenants ≡ old.tenants
   tenants_stay =

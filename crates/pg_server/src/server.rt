@@ -80,6 +80,7 @@ impl<T: Tables> Server<T> {
         let cache = PlanCache::new(alloc, cache, hasher)?;
         let tokens = TokenPlaces::of(alloc, &settings)?;
         let graphs = LiveGraph::new(alloc, hasher, settings.len())?;
+        let tenants = opening_tenants(alloc, settings)?;
         // which ensures of any live graph what is ensured here of its graphs
         let _ = graphs.shared();
         Ok(Server {
@@ -87,7 +88,7 @@ impl<T: Tables> Server<T> {
             scratch: RequestScratch::new(alloc),
             cache,
             tokens,
-            tenants: opening_tenants(alloc, settings)?,
+            tenants,
             graphs,
         })
     }

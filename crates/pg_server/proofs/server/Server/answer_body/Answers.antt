@@ -2,6 +2,7 @@ use Rattle.std.proofs.Common.{◌≡◌, ℕ, [], length, arith, false, sym, sub
 use Rattle.std.proofs.lemmas.Bool.{le-leb}
 use Rattle.pg_json.specs.Bodies.{request_view}
 use Rattle.pg_live.specs.Live.{graphs_of}
+use Rattle.pg_meaning.specs.Graph.{IsGraph}
 use Rattle.pg_server.specs.Frames.{body_limit}
 use Rattle.pg_server.specs.Handles.{AddsNames, Handles, LooksUp, key_asked}
 use Rattle.pg_server.specs.Settings.{all_tokens}
@@ -19,8 +20,10 @@ returns-in-Ok g c =
     let distinct : comes_again [] (all_tokens (settings_of c.args.self.now.state)) ≡ false =
     ap (λ (s : ServerState). comes_again [] (all_tokens (settings_of s))) (sym (ap state_seen c.self.view_is))
     ∙ ap (λ ss. comes_again [] (all_tokens ss)) (settings_seen c.self.inside.tenants.items (graphs_of c.self.inside.graphs)) ∙ c.self.invariant.distinct in
+    let graphs : (t : ℕ) → IsGraph (state_at c.args.self.now.state t).graph =
+    λ t. subst (λ (s : ServerState). IsGraph (state_at s t).graph) (ap state_seen c.self.view_is) (c.show_graphs.ensures t) in
     let request = request_view c.in-Ok.request in
-    handled c.args.self.now.state c.answer_request.new.self.state c.args.body.now c.answer_request.result request distinct (λ t. means_of (state_at c.args.self.now.state t) request (c.show_graphs.ensures t))
+    handled c.args.self.now.state c.answer_request.new.self.state c.args.body.now c.answer_request.result request distinct (λ t. means_of (state_at c.args.self.now.state t) request (graphs t))
     (le-leb (length c.args.body.now) body_limit (omega (arith, c.if-body-gt-MAX_BODY.false))) c.in-Ok.ensures.ok
     (subst (λ (s : ServerState). Answers s.tenants request c.answer_request.result c.answer_request.new.self.state.tenants) (ap state_seen c.self.view_is) c.answer_request.ensures.tenants)
     (subst (λ (s : ServerState). LooksUp (key_asked s.tenants request) c.answer_request.result s.cache c.answer_request.new.self.state.cache) (ap state_seen c.self.view_is) c.answer_request.ensures.cache)

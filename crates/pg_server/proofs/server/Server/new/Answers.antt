@@ -8,12 +8,12 @@ use Rattle.pg_server.proofs.HoldLemmas.{hold_tenants}
 use Rattle.pg_server.proofs.TenantLemmas.{opening_tenants_are, opening_states}
 use Rattle.pg_server.proofs.server.Server.new.Goals as goal
 
-pub new-graphs-requires : goal.new-graphs-requires
-new-graphs-requires g c = record { some = omega (arith, c.len.ensures, c.into_parts-settings.ensures.some); few = omega (arith, c.len.ensures, c.into_parts-settings.ensures.few) }
+pub new-requires-2 : goal.new-requires-2
+new-requires-2 g c = record { some = omega (arith, c.len.ensures, c.into_parts-settings.ensures.some); few = omega (arith, c.len.ensures, c.into_parts-settings.ensures.few) }
 
 pub invariant_of-result : goal.invariant_of-result
 invariant_of-result g c =
-    opening_tenants_are c.in_ok-tokens.tokens c.in_ok-tenants.tenants.items c.into_parts-settings.result.1.items (graphs_of c.in_ok-graphs.graphs) c.len.result c.in_ok-tenants.ensures c.len.ensures
+    opening_tenants_are c.in_ok-tokens.tokens c.in_ok-tenants.tenants.items c.into_parts-settings.result.1.items (graphs_of c.in_ok-graphs.graphs) c.len.result c.in_ok-tenants.ensures (c.len.ensures ∙ c.into_parts-settings.result.1.ok.0)
     c.in_ok-graphs.ensures.graphs c.into_parts-settings.ensures.distinct (subst (TellsTenants c.in_ok-tokens.tokens) c.deref.ensures.value c.in_ok-tokens.ensures)
 
 pub returns-clause-state : goal.returns-clause-state
@@ -30,6 +30,6 @@ returns-clause-unused g c owner = c.in_ok-graphs.ensures.unused owner
 pub returns-clause-tenants : goal.returns-clause-tenants
 returns-clause-tenants g c =
     let are : AreTenants c.in_ok-tokens.tokens c.in_ok-tenants.tenants.items (graphs_of c.in_ok-graphs.graphs) =
-    opening_tenants_are c.in_ok-tokens.tokens c.in_ok-tenants.tenants.items c.into_parts-settings.result.1.items (graphs_of c.in_ok-graphs.graphs) c.len.result c.in_ok-tenants.ensures c.len.ensures
+    opening_tenants_are c.in_ok-tokens.tokens c.in_ok-tenants.tenants.items c.into_parts-settings.result.1.items (graphs_of c.in_ok-graphs.graphs) c.len.result c.in_ok-tenants.ensures (c.len.ensures ∙ c.into_parts-settings.result.1.ok.0)
     c.in_ok-graphs.ensures.graphs c.into_parts-settings.ensures.distinct (subst (TellsTenants c.in_ok-tokens.tokens) c.deref.ensures.value c.in_ok-tokens.ensures) in
     hold_tenants g.T.Tables.seen (cache_seen c.in_ok-cache.cache) c.in_ok-tenants.tenants.items c.in_ok-graphs.graphs are.each c.shared.ensures.held

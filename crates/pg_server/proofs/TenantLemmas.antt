@@ -8,7 +8,7 @@ use Rattle.pg_meaning.specs.GraphLaws.{empty_is_graph}
 use Rattle.pg_meaning.specs.Names.{is_among}
 use Rattle.pg_names.proofs.Interned.{position_map}
 use Rattle.pg_server.specs.Settings.{TenantSettings, all_tokens, token_texts}
-use Rattle.pg_server.specs.State.{State, no_state, opening, state_in, tokens_of}
+use Rattle.pg_server.specs.State.{State, opening, state_in, tokens_of}
 use Rattle.pg_server.specs.Tenants.{opening_state, state_of, states_of, AreTenants}
 use Rattle.pg_server.specs.Tokens.{TellsTenants, tenant_of}
 use Rattle.pg_server.specs.declared.tenant.Tenant.{Tenant}

@@ -1,4 +1,4 @@
-use Rattle.std.proofs.Common.{◌≡◌, ◌<◌, length, set, arith, ap, subst, sym, ◌∙◌}
+use Rattle.std.proofs.Common.{◌<◌, length, set, arith, ap, subst, sym, ◌∙◌}
 use Rattle.std.proofs.lemmas.Result.{IfOk-weaker}
 use Rattle.pg_json.proofs.Codes.{done_is_no_refusal}
 use Rattle.pg_json.specs.Requests.{drop_index}

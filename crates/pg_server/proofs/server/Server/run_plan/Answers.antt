@@ -1,4 +1,4 @@
-use Rattle.std.proofs.Common.{◌≡◌, ◌<◌, length, arith, ap, subst, sym, ◌∙◌}
+use Rattle.std.proofs.Common.{◌<◌, length, arith, ap, subst, sym, ◌∙◌}
 use Rattle.pg_live.specs.Live.{graphs_of}
 use Rattle.pg_server.specs.State.{ServerState}
 use Rattle.pg_server.specs.Handles.{AddsNames}

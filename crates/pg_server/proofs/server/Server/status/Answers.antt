@@ -3,7 +3,7 @@ use Rattle.pg_cache.specs.Cache.{cache_seen}
 use Rattle.pg_json.specs.Replies.{tenant_text}
 use Rattle.pg_live.specs.Live.{graphs_of}
 use Rattle.pg_server.specs.Solo.{status_text}
-use Rattle.pg_server.specs.State.{State, ServerState, state_at}
+use Rattle.pg_server.specs.State.{ServerState, state_at}
 use Rattle.pg_server.specs.Tenants.{state_of, states_of}
 use Rattle.pg_server.proofs.PlanLemmas.{here, is_place}
 use Rattle.pg_server.proofs.ReplyLemmas.{written_ok, written_err}

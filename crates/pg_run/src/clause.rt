@@ -5,19 +5,17 @@ ghost use Rattle.pg_meaning.specs.Queries.{clause_step};
 ghost use Rattle.pg_meaning.specs.Scopes.{scope_after};
 ghost use Rattle.pg_rows.specs.States.{seen, state_of};
 ghost use Rattle.pg_run.specs.Runs.{anchors_view, setting_of};
-ghost use Rattle.pg_store.specs.Stores.{graph_of_store, IsFit};
 ghost use Rattle.pg_syntax_tree.specs.View.{clause_view};
 ghost use Rattle.pg_value_core.specs.Given.{parameters_view};
 ghost use Rattle.pg_value_core.specs.Gives.{Gives};
-ghost use Rattle.pg_write_make.specs.Changed.{Changed};
 
 use pg_graph::Tables;
+use pg_live::LiveGraph;
 use pg_match::match_rows;
 use pg_match_stages::Anchor;
 use pg_meter::Meter;
 use pg_project::{project_return, project_with, unwind_rows};
 use pg_rows::Table;
-use pg_store::{Shared, Store};
 use pg_syntax_tree::Clause;
 use pg_value_core::{Fault, Parameters};
 use pg_write::{delete_elements, merge_path, remove_items, set_items};
@@ -37,18 +35,16 @@ pub(crate) fn run_clause<T: Tables>(
     given: &Given<'_>,
     clause: &Clause,
     anchors: &[Anchor],
-    store: &mut Store<T>,
-    shared: &mut Shared<T::Shared>,
+    live: &mut LiveGraph<T>,
     table: Table,
     meter: &mut Meter,
 ) -> Result<Table, Fault>
-    requires fit { IsFit T.seen store.old shared.old }
     requires quota { given.now.max_elements ≤ 2 ^ 63 }
     requires planned { ArePlanned (seen table).names (clause_view clause.now) (anchors_view anchors.now) }
-    ensures gives { Gives result (clause_step (setting_of (parameters_view given.now.parameters.now) meter.old.limit given.now.max_elements (seen table).names (anchors_view anchors.now)) (clause_view clause.now) (state_of (graph_of_store T.seen store.old shared.old) (seen table) meter.old.used)) (λ t. state_of (graph_of_store T.seen store.new shared.new) (seen t) meter.new.used) }
+    ensures gives { Gives result (clause_step (setting_of (parameters_view given.now.parameters.now) meter.old.limit given.now.max_elements (seen table).names (anchors_view anchors.now)) (clause_view clause.now) (state_of live.old.graph (seen table) meter.old.used)) (λ t. state_of live.new.graph (seen t) meter.new.used) }
     ensures names { IfOk result (λ t. (seen t).names ≡ scope_after (seen table).names (clause_view clause.now)) }
     ensures limit { meter.new.limit ≡ meter.old.limit }
-    ensures changed { Changed T.seen store.old shared.old store.new shared.new }
+    ensures aside { live.new.aside ≡ live.old.aside }
 {
     match clause {
         Clause::Match(is_optional, paths, condition) => match_rows(
@@ -58,7 +54,7 @@ pub(crate) fn run_clause<T: Tables>(
             condition,
             anchors,
             given.parameters,
-            &store.graph(shared),
+            &live.graph(),
             table,
             meter,
         ),
@@ -67,7 +63,7 @@ pub(crate) fn run_clause<T: Tables>(
             list,
             name,
             given.parameters,
-            &store.graph(shared),
+            &live.graph(),
             table,
             meter,
         ),
@@ -76,7 +72,7 @@ pub(crate) fn run_clause<T: Tables>(
             projection,
             condition,
             given.parameters,
-            &store.graph(shared),
+            &live.graph(),
             table,
             meter,
         ),
@@ -84,7 +80,7 @@ pub(crate) fn run_clause<T: Tables>(
             given.alloc,
             projection,
             given.parameters,
-            &store.graph(shared),
+            &live.graph(),
             table,
             meter,
         ),
@@ -93,8 +89,7 @@ pub(crate) fn run_clause<T: Tables>(
             paths,
             given.parameters,
             given.max_elements,
-            store,
-            shared,
+            live,
             table,
             meter,
         ),
@@ -105,19 +100,18 @@ pub(crate) fn run_clause<T: Tables>(
             anchors,
             given.parameters,
             given.max_elements,
-            store,
-            shared,
+            live,
             table,
             meter,
         ),
         Clause::Set(items) => {
             let parameters = given.parameters;
-            set_items(given.alloc, items, parameters, store, shared, &table, meter)?;
+            set_items(given.alloc, items, parameters, live, &table, meter)?;
             Ok(table)
         }
         Clause::Remove(items) => {
             let parameters = given.parameters;
-            remove_items(given.alloc, items, parameters, store, shared, &table, meter)?;
+            remove_items(given.alloc, items, parameters, live, &table, meter)?;
             Ok(table)
         }
         Clause::Delete(is_detach, elements) => delete_elements(
@@ -125,8 +119,7 @@ pub(crate) fn run_clause<T: Tables>(
             *is_detach,
             elements,
             given.parameters,
-            store,
-            shared,
+            live,
             table,
             meter,
         ),

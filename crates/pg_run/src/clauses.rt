@@ -5,18 +5,16 @@ ghost use Rattle.pg_meaning.specs.Queries.{clauses_run, first_anchors, other_anc
 ghost use Rattle.pg_meaning.specs.Scopes.{scope_after};
 ghost use Rattle.pg_rows.specs.States.{seen, state_of};
 ghost use Rattle.pg_run.specs.Runs.{anchors_view, plan_view, quota_of};
-ghost use Rattle.pg_store.specs.Stores.{graph_of_store, IsFit};
 ghost use Rattle.pg_syntax_tree.specs.View.{clause_view};
 ghost use Rattle.pg_value_core.specs.Given.{parameters_view};
 ghost use Rattle.pg_value_core.specs.Gives.{Gives};
-ghost use Rattle.pg_write_make.specs.Changed.{Changed};
 
 use crate::clause::{Given, run_clause};
 use pg_graph::Tables;
+use pg_live::LiveGraph;
 use pg_match_stages::Anchor;
 use pg_meter::Meter;
 use pg_rows::Table;
-use pg_store::{Shared, Store};
 use pg_syntax_tree::Clause;
 use pg_value_core::Fault;
 
@@ -25,23 +23,21 @@ pub(crate) fn run_clauses<T: Tables>(
     given: &Given<'_>,
     clauses: &[Clause],
     plan: &[Vec<Anchor>],
-    store: &mut Store<T>,
-    shared: &mut Shared<T::Shared>,
+    live: &mut LiveGraph<T>,
     meter: &mut Meter,
 ) -> Result<Table, Fault>
-    requires fit { IsFit T.seen store.old shared.old }
     requires quota { given.now.max_elements ≤ 2 ^ 63 }
     requires planned { IsPlanFrom [] (map clause_view clauses.now) (plan_view plan.now) }
-    ensures gives { Gives result (clauses_run (parameters_view given.now.parameters.now) (quota_of meter.old.limit given.now.max_elements) [] (plan_view plan.now) (map clause_view clauses.now) (state_of (graph_of_store T.seen store.old shared.old) (record { names = []; rows = [] ∷ [] }) meter.old.used)) (λ t. state_of (graph_of_store T.seen store.new shared.new) (seen t) meter.new.used) }
+    ensures gives { Gives result (clauses_run (parameters_view given.now.parameters.now) (quota_of meter.old.limit given.now.max_elements) [] (plan_view plan.now) (map clause_view clauses.now) (state_of live.old.graph (record { names = []; rows = [] ∷ [] }) meter.old.used)) (λ t. state_of live.new.graph (seen t) meter.new.used) }
     ensures names { IfOk result (λ t. (seen t).names ≡ fold scope_after [] (map clause_view clauses.now)) }
     ensures limit { meter.new.limit ≡ meter.old.limit }
-    ensures changed { Changed T.seen store.old shared.old store.new shared.new }
+    ensures aside { live.new.aside ≡ live.old.aside }
 {
     let mut table = Table::begin(given.alloc)?;
     let mut left = plan;
     for clause in clauses {
         let (anchors, later) = anchors_first(left);
-        table = run_clause(given, clause, anchors, store, shared, table, meter)?;
+        table = run_clause(given, clause, anchors, live, table, meter)?;
         left = later;
     }
     Ok(table)

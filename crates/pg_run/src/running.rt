@@ -7,11 +7,9 @@ ghost use Rattle.pg_run.specs.Returning.{replied};
 ghost use Rattle.pg_run.specs.Running.{ran, Replies};
 ghost use Rattle.pg_rows.specs.States.{seen, state_of};
 ghost use Rattle.pg_run.specs.Runs.{plan_view};
-ghost use Rattle.pg_store.specs.Stores.{graph_of_store, IsFit};
 ghost use Rattle.pg_syntax_tree.specs.View.{clause_view};
 ghost use Rattle.pg_value_core.specs.Given.{parameters_view};
 ghost use Rattle.pg_value_core.specs.Gives.{Gives};
-ghost use Rattle.pg_write_make.specs.Changed.{Changed};
 
 use crate::clause::Given;
 use crate::clauses::run_clauses;
@@ -20,10 +18,11 @@ use crate::tables::tell_table;
 use crate::telling::Telling;
 use pg_graph::Tables;
 use pg_json::ReplyBytes;
+use pg_live::LiveGraph;
 use pg_match_stages::Anchor;
 use pg_meter::Meter;
 use pg_rows::{Columns, Table};
-use pg_store::{Shared, Snapshot, Store};
+use pg_store::Snapshot;
 use pg_syntax_tree::Clause;
 use pg_value_core::Fault;
 use std::alloc::Global;
@@ -35,33 +34,31 @@ pub fn answer_clauses<T: Tables>(
     clauses: &[Clause],
     plan: &[Vec<Anchor>],
     returns: bool,
-    store: &mut Store<T>,
-    shared: &mut Shared<T::Shared>,
+    live: &mut LiveGraph<T>,
     meter: &mut Meter,
 ) -> Result<ReplyBytes, Fault>
-    requires fit { IsFit T.seen store.old shared.old }
     requires quota { given.now.max_elements ≤ 2 ^ 63 }
     requires planned { IsPlanFrom [] (map clause_view clauses.now) (plan_view plan.now) }
     requires returning { returns ≡ any_returns (map clause_view clauses.now) }
-    ensures replies { Replies result (ran (parameters_view given.now.parameters.now) meter.old.limit given.now.max_elements (graph_of_store T.seen store.old shared.old) meter.old.used (plan_view plan.now) (map clause_view clauses.now)) returns (fold scope_after [] (map clause_view clauses.now)) (graph_of_store T.seen store.new shared.new) }
-    ensures changed { Changed T.seen store.old shared.old store.new shared.new }
+    ensures replies { Replies result (ran (parameters_view given.now.parameters.now) meter.old.limit given.now.max_elements live.old.graph meter.old.used (plan_view plan.now) (map clause_view clauses.now)) returns (fold scope_after [] (map clause_view clauses.now)) live.new.graph }
+    ensures aside { live.new.aside ≡ live.old.aside }
 {
     match clauses.split_last() {
         Some((Clause::Return(projection), before)) => {
             let anchors = &plan[..before.len()];
-            let table = run_clauses(given, before, anchors, store, shared, meter)?;
+            let table = run_clauses(given, before, anchors, live, meter)?;
             return_reply(
                 given.alloc,
                 projection,
                 given.parameters,
-                &store.graph(shared),
+                &live.graph(),
                 table,
                 meter,
             )
         }
         _ => {
-            let table = run_clauses(given, clauses, plan, store, shared, meter)?;
-            let graph = store.graph(shared);
+            let table = run_clauses(given, clauses, plan, live, meter)?;
+            let graph = live.graph();
             reply_of(given.alloc, &graph, returns, table, meter.used())
         }
     }

@@ -1,15 +1,12 @@
--- A query's answer, once its changes are kept or taken back; and a call that left the tables.
-use Rattle.std.proofs.Common.{◌≡◌, ℕ, List, Result, Ok, Err, refl, sym, subst}
-use Rattle.std.specs.Prelude.{OnOk}
-use Rattle.pg_graph.proofs.Others.{keeps_refl}
-use Rattle.pg_graph.specs.Content.{Seen, Keeps}
+-- A query's answer, once its changes are kept or taken back; and calls that left the graph.
+use Rattle.std.proofs.Common.{◌≡◌, ℕ, List, Result, Ok, Err, refl, ap, sym, subst}
+use Rattle.std.specs.Prelude.{OnErr, OnOk}
+use Rattle.pg_live.specs.Live.{Aside, Live, begun_at}
+use Rattle.pg_live.specs.Settled.{Settles}
+use Rattle.pg_names.specs.Names.{KeepsNames}
 use Rattle.pg_meaning.specs.Graph.{Graph}
 use Rattle.pg_meaning.specs.Queries.{Outcome}
 use Rattle.pg_meaning.specs.declared.fault.Fault.{Fault}
-use Rattle.pg_store.proofs.Kept.{tables_kept}
-use Rattle.pg_store.specs.Stores.{IsFit, KeepsShared}
-use Rattle.pg_store.specs.declared.shared.Shared.{Shared}
-use Rattle.pg_store.specs.declared.store.Store.{Store}
 use Rattle.pg_tenant.specs.Replies.{IsAnswer, IsReply}
 
 pub answer_settled : (result reply : Result (List ℕ) Fault) (outcome : Result Outcome Fault) (start mid end : Graph) → result ≡ reply → IsAnswer reply outcome start mid → OnOk result (end ≡ mid) → IsAnswer result outcome start end
@@ -19,6 +16,21 @@ answer_settled result reply outcome start mid end same answer kept = by_result r
     by_result (Ok bytes) a kept = record { ok = subst (IsReply start outcome bytes) (sym kept) a.ok; told = a.told; err = a.err }
     by_result (Err e) a kept = record { ok = a.ok; told = a.told; err = a.err }
 
-pub same_tables_kept : {T S K : Type 0} (seen : Seen T S) (old new : Store T) (shared : Shared S K) → IsFit seen old shared → new.tables ≡ old.tables → KeepsShared seen old shared new shared
-same_tables_kept {T = T} seen old new shared fit same =
-    tables_kept old new shared shared fit (subst (λ (t : T). Keeps seen old.tables shared.tables t shared.tables) (sym same) (keeps_refl old.tables shared.tables fit.fits)) refl
+-- nothing was done
+pub nothing_done : {X E : Type 0} (l : Live) (r : Result X E) → Settles l l r
+nothing_done l (Ok x) = record { same = tt; same_names = tt; kept = λ n t h. h; others = refl; place = refl }
+nothing_done l (Err e) = record { same = refl; same_names = refl; kept = λ n t h. h; others = refl; place = refl }
+
+-- work began anew in the same graph
+pub anew : {X E : Type 0} (old new : Live) (r : Result X E) → new.graph ≡ old.graph → OnErr r (new.names ≡ old.names) → KeepsNames old.names new.names → new.aside ≡ begun_at old.graph new.names old.aside → Settles old new r
+anew {X = X} {E = E} old new r graph names kept aside = record {
+  same = by r;
+  same_names = names;
+  kept = kept;
+  others = ap (λ (a : Aside). a.others) aside;
+  place = ap (λ (a : Aside). a.place) aside;
+}
+  where
+    by : (r : Result X E) → OnErr r (new.graph ≡ old.graph)
+    by (Ok x) = tt
+    by (Err e) = graph

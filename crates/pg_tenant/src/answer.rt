@@ -1,10 +1,9 @@
 //! What a query answers.
-ghost use Rattle.std.specs.Prelude.{◌≡◌, ◌≤◌, ◌^◌, ◌||◌, not, OnErr, Err, map, string_bytes};
+ghost use Rattle.std.specs.Prelude.{◌≡◌, ◌≤◌, ◌^◌, ◌||◌, not, Err, map, string_bytes};
 ghost use Rattle.pg_meaning.specs.declared.fault.Fault.{Fault};
+ghost use Rattle.pg_live.specs.Settled.{HasBegun, Settles};
 ghost use Rattle.pg_plan.specs.Plans.{plan_query};
 ghost use Rattle.pg_plan.specs.Updates.{updates};
-ghost use Rattle.pg_store.specs.Changes.{Changes};
-ghost use Rattle.pg_store.specs.Stores.{IsFit};
 ghost use Rattle.pg_tenant.specs.Outcomes.{all_given, early_tests, plan_outcome};
 ghost use Rattle.pg_tenant.specs.Replies.{IsAnswer};
 ghost use Rattle.pg_value_core.specs.Given.{parameters_view};
@@ -12,8 +11,8 @@ ghost use Rattle.pg_value_core.specs.Given.{parameters_view};
 use crate::query::answer_query;
 use pg_graph::Tables;
 use pg_json::ReplyBytes;
+use pg_live::LiveGraph;
 use pg_plan::Plan;
-use pg_store::{Shared, Store};
 use pg_value_core::{Fault, Parameters};
 use std::alloc::Global;
 
@@ -44,20 +43,19 @@ fn are_given(names: &Vec<String>, parameters: &Parameters) -> bool
 }
 
 /// The reply to the query of a plan, with these parameters. What it changes is kept only once the reply's bytes are made.
+#[tactic(auto, using(crate::proofs::SettledLemmas::nothing_done))]
 pub fn answer_plan<T: Tables>(
     alloc: Global,
-    store: &mut Store<T>,
-    shared: &mut Shared<T::Shared>,
+    live: &mut LiveGraph<T>,
     quota: Quota,
     may_write: bool,
     plan: &Plan,
     parameters: &Parameters,
 ) -> Result<ReplyBytes, Fault>
-    requires fit { IsFit T.seen store.old shared.old }
+    requires begun { HasBegun live.old }
     requires quota { quota.max_elements ≤ 2 ^ 63 }
-    ensures changes { Changes T.seen store.old shared.old store.new shared.new result (λ start end. IsAnswer result (plan_outcome may_write quota.max_steps quota.max_elements (parameters_view parameters.now) start plan.now) start end) }
-    // a refused query's names go with it
-    ensures names { OnErr result (shared.new.names ≡ shared.old.names) }
+    ensures answers { IsAnswer result (plan_outcome may_write quota.max_steps quota.max_elements (parameters_view parameters.now) live.old.graph plan.now) live.old.graph live.new.graph }
+    ensures settles { Settles live.old live.new result }
     // no memory is asked for before these tests are passed
     ensures early { (fault : Fault) → early_tests may_write (parameters_view parameters.now) (plan_query plan.now) ≡ Err fault → result ≡ Err fault }
 {
@@ -67,5 +65,5 @@ pub fn answer_plan<T: Tables>(
     if !are_given(plan.parameters(), parameters) {
         return Err(Fault::MissingParameter);
     }
-    answer_query(alloc, store, shared, quota, plan, parameters)
+    answer_query(alloc, live, quota, plan, parameters)
 }

@@ -1,58 +1,55 @@
 //! Index requests of one tenant.
-ghost use Rattle.std.specs.Prelude.{◌≡◌, ◌≢◌, IfOk, IfErr, OnErr, Ok, Err};
+ghost use Rattle.std.specs.Prelude.{◌≡◌, ◌≢◌, IfOk, IfErr, Ok, Err};
 ghost use Rattle.pg_plan.specs.Catalogue.{catalogue_view};
 ghost use Rattle.pg_meaning.specs.declared.fault.Fault.TheVariants.{OutOfMemory};
-ghost use Rattle.pg_store.specs.Changes.{Changes};
-ghost use Rattle.pg_store.specs.Stores.{IsFit};
-ghost use Rattle.pg_store.specs.declared.shared.Shared.{Shared};
+ghost use Rattle.pg_live.specs.Settled.{Settles};
 ghost use Rattle.pg_tenant.specs.Indexes.{index_created, index_dropped, index_tested, indexes_of, IsIndexAnswer};
 
 use crate::catalogue::{MAX_INDEXES, is_indexed, with_index, without_index};
 use pg_graph::Tables;
 use pg_json::{ReplyBytes, done};
+use pg_live::LiveGraph;
 use pg_plan::{Catalogue, check_length};
-use pg_store::{Shared, Store};
 use pg_value_core::Fault;
 use std::alloc::Global;
 use std::rc::Rc;
 
 /// Makes an index, or leaves everything as it was.
+#[tactic(auto, using(crate::proofs::SettledLemmas::nothing_done, crate::proofs::SettledLemmas::anew))]
 pub fn create_index<T: Tables>(
     alloc: Global,
-    store: &mut Store<T>,
-    shared: &mut Shared<T::Shared>,
+    live: &mut LiveGraph<T>,
     catalogue: &mut Rc<Catalogue>,
     may_write: bool,
     label: &str,
     key: &str,
 ) -> Result<ReplyBytes, Fault>
-    requires fit { IsFit T.seen store.old shared.old }
-    ensures changes { Changes T.seen store.old shared.old store.new shared.new result (λ start end. end ≡ start) }
-    ensures names { OnErr result (shared.new.names ≡ shared.old.names) }
+    ensures graph { live.new.graph ≡ live.old.graph }
+    ensures settles { Settles live.old live.new result }
     ensures indexes { IsIndexAnswer result (index_created may_write (indexes_of catalogue.old) label.now key.now) (indexes_of catalogue.old) (indexes_of catalogue.new) }
 {
     let indexes = with_one_more(alloc, catalogue, may_write, label, key)?;
-    store.add_index(alloc, shared, label, key)?;
+    live.add_index(alloc, label, key)?;
     *catalogue = indexes;
     Ok(done())
 }
 
 /// Keeps an index no longer, or leaves everything as it was.
-#[tactic(auto, using(crate::proofs::SettledLemmas::same_tables_kept))]
+#[tactic(auto, using(crate::proofs::SettledLemmas::nothing_done, crate::proofs::SettledLemmas::anew))]
 pub fn drop_index<T: Tables>(
     alloc: Global,
-    store: &mut Store<T>,
-    shared: &Shared<T::Shared>,
+    live: &mut LiveGraph<T>,
     catalogue: &mut Rc<Catalogue>,
     may_write: bool,
     label: &str,
     key: &str,
 ) -> Result<ReplyBytes, Fault>
-    ensures changes { (part : Shared T.Shared T.Shared.Texts) → IsFit T.seen store.old part → Changes T.seen store.old part store.new part result (λ start end. end ≡ start) }
+    ensures graph { live.new.graph ≡ live.old.graph }
+    ensures settles { Settles live.old live.new result }
     ensures indexes { IsIndexAnswer result (index_dropped may_write (indexes_of catalogue.old) label.now key.now) (indexes_of catalogue.old) (indexes_of catalogue.new) }
 {
     let indexes = with_one_less(alloc, catalogue, may_write, label, key)?;
-    store.drop_index(shared, label, key);
+    live.drop_index(label, key);
     *catalogue = indexes;
     Ok(done())
 }

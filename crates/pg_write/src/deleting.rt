@@ -4,19 +4,17 @@ ghost use Rattle.pg_meaning.specs.Meters.{Setting, spend};
 ghost use Rattle.pg_meaning.specs.Updates.{delete_clause};
 ghost use Rattle.pg_meter.specs.Quotas.{after_test};
 ghost use Rattle.pg_rows.specs.States.{Suits, seen, state_of};
-ghost use Rattle.pg_store.specs.Stores.{graph_of_store, IsFit};
 ghost use Rattle.pg_syntax_tree.specs.View.{expression_view};
 ghost use Rattle.pg_value_core.specs.Given.{parameters_view};
 ghost use Rattle.pg_value_core.specs.Gives.{Gives};
-ghost use Rattle.pg_write_make.specs.Changed.{Changed};
 
 use crate::doomed::Doomed;
 use crate::gathering::gather;
 use crate::removal::take_out;
 use pg_graph::Tables;
+use pg_live::LiveGraph;
 use pg_meter::Meter;
 use pg_rows::Table;
-use pg_store::{Shared, Store};
 use pg_syntax_tree::Expression;
 use pg_value_core::{Fault, Parameters};
 use std::alloc::Global;
@@ -33,26 +31,23 @@ fn spend_for(meter: &mut Meter, doomed: &Doomed) -> Result<(), Fault>
 /// Takes out the elements that the expressions name at all rows, at a step for each; with DETACH
 /// the relationships at their nodes too. The rows stay. An error leaves a part of it done, and the
 /// caller takes that back.
-#[tactic(auto, using(pg_write_make::proofs::ChangedLemmas::unchanged))]
 pub fn delete_elements<T: Tables>(
     alloc: Global,
     is_detach: bool,
     elements: &Vec<Expression>,
     parameters: &Parameters,
-    store: &mut Store<T>,
-    shared: &Shared<T::Shared>,
+    live: &mut LiveGraph<T>,
     table: Table,
     meter: &mut Meter,
 ) -> Result<Table, Fault>
-    requires fit { IsFit T.seen store.old shared.now }
-    ensures gives { (s : Setting) → Suits s (parameters_view parameters.now) meter.old.limit (seen table).names → Gives result (delete_clause s is_detach (map expression_view elements.now.items) (state_of (graph_of_store T.seen store.old shared.now) (seen table) meter.old.used)) (λ t. state_of (graph_of_store T.seen store.new shared.now) (seen t) meter.new.used) }
+    ensures gives { (s : Setting) → Suits s (parameters_view parameters.now) meter.old.limit (seen table).names → Gives result (delete_clause s is_detach (map expression_view elements.now.items) (state_of live.old.graph (seen table) meter.old.used)) (λ t. state_of live.new.graph (seen t) meter.new.used) }
     ensures names { IfOk result (λ t. (seen t).names ≡ (seen table).names) }
     ensures limit { meter.new.limit ≡ meter.old.limit }
-    ensures changed { Changed T.seen store.old shared.now store.new shared.now }
+    ensures aside { live.new.aside ≡ live.old.aside }
 {
-    let graph = store.graph(shared);
+    let graph = live.graph();
     let doomed = gather(alloc, is_detach, elements, parameters, &graph, &table)?;
     spend_for(meter, &doomed)?;
-    take_out(store, shared, &doomed)?;
+    take_out(live, &doomed)?;
     Ok(table)
 }

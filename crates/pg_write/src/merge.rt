@@ -5,20 +5,18 @@ ghost use Rattle.pg_meaning.specs.Meters.{Setting};
 ghost use Rattle.pg_meaning.specs.Patterns.{add_path_names};
 ghost use Rattle.pg_meaning.specs.Updates.{merge_clause};
 ghost use Rattle.pg_rows.specs.States.{Suits, seen, state_of};
-ghost use Rattle.pg_store.specs.Stores.{graph_of_store, IsFit};
 ghost use Rattle.pg_syntax_tree.specs.View.{on_view, path_view};
 ghost use Rattle.pg_value_core.specs.Given.{parameters_view};
 ghost use Rattle.pg_value_core.specs.Gives.{Gives};
-ghost use Rattle.pg_write_make.specs.Changed.{Changed};
 
 use crate::merged_rows::merge_rows;
 use crate::merging::{Merge, prepare};
 use pg_graph::Tables;
+use pg_live::LiveGraph;
 use pg_match_rows::bind_names;
 use pg_match_stages::Anchor;
 use pg_meter::Meter;
 use pg_rows::Table;
-use pg_store::{Shared, Store};
 use pg_syntax_tree::{On, PathPattern};
 use pg_value_core::{Fault, Parameters};
 use pg_write_make::count_new;
@@ -35,17 +33,15 @@ pub fn merge_path<'a, T: Tables>(
     anchors: &'a [Anchor],
     parameters: &'a Parameters,
     max_elements: u64,
-    store: &mut Store<T>,
-    shared: &mut Shared<T::Shared>,
+    live: &mut LiveGraph<T>,
     table: Table,
     meter: &mut Meter,
 ) -> Result<Table, Fault>
-    requires fit { IsFit T.seen store.old shared.old }
     requires quota { max_elements ≤ 2 ^ 63 }
     requires anchors { length anchors.now ≡ 1 }
-    ensures gives { (s : Setting) → Suits s (parameters_view parameters.now) meter.old.limit (seen table).names → s.quota.max_elements ≡ max_elements → s.anchors ≡ map anchor_view anchors.now → Gives result (merge_clause s (path_view path.now) (map on_view parts.now.items) (state_of (graph_of_store T.seen store.old shared.old) (seen table) meter.old.used)) (λ t. state_of (graph_of_store T.seen store.new shared.new) (seen t) meter.new.used) }
+    ensures gives { (s : Setting) → Suits s (parameters_view parameters.now) meter.old.limit (seen table).names → s.quota.max_elements ≡ max_elements → s.anchors ≡ map anchor_view anchors.now → Gives result (merge_clause s (path_view path.now) (map on_view parts.now.items) (state_of live.old.graph (seen table) meter.old.used)) (λ t. state_of live.new.graph (seen t) meter.new.used) }
     ensures names { IfOk result (λ t. (seen t).names ≡ add_path_names (path_view path.now ∷ []) (seen table).names) }
-    ensures changed { Changed T.seen store.old shared.old store.new shared.new }
+    ensures aside { live.new.aside ≡ live.old.aside }
     ensures limit { meter.new.limit ≡ meter.old.limit }
 {
     let (mut names, rows) = table.split();
@@ -62,7 +58,7 @@ pub fn merge_path<'a, T: Tables>(
     let bindings = bind_names(alloc, from_ref(path), &mut names)?;
     let merged = {
         let merging = prepare(&merge, &names, bound, count, bindings)?;
-        merge_rows(&merging, store, shared, rows, meter)?
+        merge_rows(&merging, live, rows, meter)?
     };
     Ok(Table::new(names, merged))
 }

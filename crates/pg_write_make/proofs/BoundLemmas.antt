@@ -4,7 +4,7 @@ use Rattle.std.proofs.lemmas.List.{map-append}
 use Rattle.std.proofs.lemmas.Option.{slice_get_read}
 use Rattle.std.specs.Borrow.{Bor}
 use Rattle.std.specs.Map.{lookup}
-use Rattle.std.specs.Prelude.{◌≢◌, IfOk, bytes_eq}
+use Rattle.std.specs.Prelude.{IfOk, bytes_eq}
 use Rattle.pg_meaning.specs.Answer.{◌>>=◌, ◌>>◌, unless}
 use Rattle.pg_meaning.specs.Graph.{Graph, has_node}
 use Rattle.pg_meaning.specs.Patterns.{node_name, nodes_of}
@@ -14,7 +14,7 @@ use Rattle.pg_meaning.specs.Value.{Value, null, boolean, integer, text, list, ma
 use Rattle.pg_meaning.specs.Tree.{NodePattern, PathPattern}
 use Rattle.pg_meaning.specs.Updates.{Making}
 use Rattle.pg_meaning.specs.declared.fault.Fault.{Fault}
-use Rattle.pg_meaning.specs.declared.fault.Fault.TheVariants.{DeletedEntity, OutOfMemory}
+use Rattle.pg_meaning.specs.declared.fault.Fault.TheVariants.{DeletedEntity}
 use Rattle.pg_meaning.specs.Walks.{bound_value}
 use Rattle.pg_value_core.specs.declared.ids.NodeId.{NodeId}
 use Rattle.pg_write_make.specs.Makings.{bindings, named_ids, node_ids, AreThere}

@@ -1,6 +1,5 @@
 pub mod BindingLemmas
 pub mod BoundLemmas
-pub mod ChangedLemmas
 pub mod Charges
 pub mod ClauseLemmas
 pub mod CountLemmas

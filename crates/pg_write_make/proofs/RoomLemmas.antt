@@ -2,16 +2,12 @@
 use Rattle.std.proofs.Common.{◌≡◌, ◌<◌, ◌≤◌, ◌^◌, ℕ, [], Bool, true, false, Ok, Err, Result, refl, sym, ap, subst, ◌∙◌, arith}
 use Rattle.std.specs.Prelude.{nat_lt, OnOk}
 use Rattle.std.proofs.lemmas.Bool.{ltb-true}
-use Rattle.pg_graph.specs.Content.{Seen}
 use Rattle.pg_meaning.specs.Answer.{◌>>=◌, ◌>>◌, unless}
 use Rattle.pg_meaning.specs.Graph.{Graph, element_count}
 use Rattle.pg_meaning.specs.Meters.{Setting, greatest_id}
 use Rattle.pg_meaning.specs.declared.fault.Fault.{Fault}
 use Rattle.pg_meaning.specs.Value.{Entries, no_entries}
 use Rattle.pg_meaning.specs.declared.fault.Fault.TheVariants.{ElementQuota}
-use Rattle.pg_store.specs.Stores.{graph_of_store, IsFit}
-use Rattle.pg_store.specs.declared.shared.Shared.{Shared}
-use Rattle.pg_store.specs.declared.store.Store.{Store}
 use Rattle.pg_write_make.specs.Outcomes.{Outcome, room_for}
 
 -- the setting of which the quota of elements alone is read
@@ -31,11 +27,8 @@ room_left graph max_elements few room =
     let below = ltb-true (element_count graph) max_elements (room_below (nat_lt (element_count graph) max_elements) room) in
     omega (arith, below, few)
 
-pub few_elements : {T S K : Type 0} (seen : Seen T S) (store : Store T) (shared : Shared S K) (graph : Graph) → IsFit seen store shared → graph ≡ graph_of_store seen store shared → element_count graph < 2 ^ 63 → store.elements < 2 ^ 63
-few_elements seen store shared graph fit same few =
-    let counted = fit.well.counted in
-    let fewer = subst (λ g. element_count g < 2 ^ 63) same few in
-    omega (arith, fewer, counted)
+pub few_elements : (seen graph : Graph) → seen ≡ graph → element_count seen < 2 ^ 63 → element_count graph < 2 ^ 63
+few_elements seen graph same few = subst (λ g. element_count g < 2 ^ 63) same few
 
 pub id_left : (n next : ℕ) → n ≡ next → n < greatest_id → next < 2 ^ 63
 id_left n next same below = omega (arith, same, below)

@@ -1,5 +1,4 @@
 pub mod Bindings
-pub mod Changed
 pub mod Creations
 pub mod Lent
 pub mod Makings

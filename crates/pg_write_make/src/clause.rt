@@ -4,43 +4,38 @@ ghost use Rattle.pg_meaning.specs.Meters.{Setting};
 ghost use Rattle.pg_meaning.specs.Patterns.{add_path_names};
 ghost use Rattle.pg_meaning.specs.Updates.{create_clause};
 ghost use Rattle.pg_rows.specs.States.{Suits, seen, state_of};
-ghost use Rattle.pg_store.specs.Stores.{graph_of_store, IsFit};
 ghost use Rattle.pg_syntax_tree.specs.View.{path_view};
 ghost use Rattle.pg_value_core.specs.Given.{parameters_view};
 ghost use Rattle.pg_value_core.specs.Gives.{Gives};
-ghost use Rattle.pg_write_make.specs.Changed.{Changed};
 
 use crate::charge::spend_for_rows;
 use crate::counts::count_new;
 use crate::creation::create_rows;
 use crate::scene::Scene;
 use pg_graph::Tables;
+use pg_live::LiveGraph;
 use pg_match_rows::bind_names;
 use pg_meter::Meter;
 use pg_rows::Table;
-use pg_store::{Shared, Store};
 use pg_syntax_tree::PathPattern;
 use pg_value_core::{Fault, Parameters};
 use std::alloc::Global;
 
 /// Makes the paths at each row, for a step an element, and gives the rows with their new variables.
 /// An error leaves a part of it done, and the caller takes that back.
-#[tactic(auto, using(crate::proofs::ChangedLemmas::unchanged))]
 pub fn create_paths<T: Tables>(
     alloc: Global,
     paths: &Vec<PathPattern>,
     parameters: &Parameters,
     max_elements: u64,
-    store: &mut Store<T>,
-    shared: &mut Shared<T::Shared>,
+    live: &mut LiveGraph<T>,
     table: Table,
     meter: &mut Meter,
 ) -> Result<Table, Fault>
-    requires fit { IsFit T.seen store.old shared.old }
     requires quota { max_elements ≤ 2 ^ 63 }
-    ensures gives { (s : Setting) → Suits s (parameters_view parameters.now) meter.old.limit (seen table).names → s.quota.max_elements ≡ max_elements → Gives result (create_clause s (map path_view paths.now.items) (state_of (graph_of_store T.seen store.old shared.old) (seen table) meter.old.used)) (λ t. state_of (graph_of_store T.seen store.new shared.new) (seen t) meter.new.used) }
+    ensures gives { (s : Setting) → Suits s (parameters_view parameters.now) meter.old.limit (seen table).names → s.quota.max_elements ≡ max_elements → Gives result (create_clause s (map path_view paths.now.items) (state_of live.old.graph (seen table) meter.old.used)) (λ t. state_of live.new.graph (seen t) meter.new.used) }
     ensures names { IfOk result (λ t. (seen t).names ≡ add_path_names (map path_view paths.now.items) (seen table).names) }
-    ensures changed { Changed T.seen store.old shared.old store.new shared.new }
+    ensures aside { live.new.aside ≡ live.old.aside }
     ensures limit { meter.new.limit ≡ meter.old.limit }
 {
     let (mut names, rows) = table.split();
@@ -52,6 +47,6 @@ pub fn create_paths<T: Tables>(
         names: &names,
         parameters,
     };
-    let made = create_rows(&scene, store, shared, max_elements, rows, paths)?;
+    let made = create_rows(&scene, live, max_elements, rows, paths)?;
     Ok(Table::new(names, made))
 }

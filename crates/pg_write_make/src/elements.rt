@@ -5,17 +5,17 @@ ghost use Rattle.pg_meaning.specs.Meters.{greatest_id, test_counter};
 ghost use Rattle.pg_meaning.specs.Updates.{first_text, add_between};
 ghost use Rattle.pg_meaning.specs.Patterns.{types_of, way_of};
 ghost use Rattle.pg_meaning.specs.declared.fault.Fault.TheVariants.{OutOfMemory};
-ghost use Rattle.pg_store.specs.Stores.{graph_of_store, pairs_of, IsFit};
+ghost use Rattle.pg_store.specs.Stores.{pairs_of};
 ghost use Rattle.pg_meaning.specs.Entries.{set_keys};
 ghost use Rattle.pg_meaning.specs.Value.{no_entries};
 ghost use Rattle.pg_syntax_tree.specs.View.{node_view, relationship_view};
-ghost use Rattle.pg_write_make.specs.Changed.{Changed};
 ghost use Rattle.pg_write_make.specs.Outcomes.{node_added, relationship_of, outcome_view, room_and_id};
 
 use crate::texts::{label_texts, type_text};
 use pg_graph::Tables;
+use pg_live::LiveGraph;
 use pg_meter::Room;
-use pg_store::{Shared, Snapshot, Store};
+use pg_store::Snapshot;
 use pg_syntax_tree::{NodePattern, RelationshipPattern};
 use pg_value_core::{Fault, NodeId, RelId, Value};
 use std::alloc::{AllocError, Global};
@@ -45,78 +45,71 @@ fn test_new<T: Tables>(graph: &Snapshot<'_, T>, max_elements: u64, next: u64) ->
 }
 
 /// Adds a node, as the pattern says and with these properties, or what stands in their place.
-#[tactic(auto, using(crate::proofs::ChangedLemmas::unchanged, crate::proofs::ChangedLemmas::one_change, crate::proofs::RoomLemmas::few_elements))]
+#[tactic(auto, using(crate::proofs::RoomLemmas::few_elements))]
 pub(crate) fn add_node<T: Tables>(
     alloc: Global,
-    store: &mut Store<T>,
-    shared: &mut Shared<T::Shared>,
+    live: &mut LiveGraph<T>,
     max_elements: u64,
     pattern: &NodePattern,
     outcome: Result<Vec<(&str, Value)>, Fault>,
 ) -> Result<NodeId, Fault>
-    requires fit { IsFit T.seen store.old shared.old }
     requires quota { max_elements ≤ 2 ^ 63 }
-    ensures ok { OnOk result (node_added max_elements (outcome_view outcome.entry) (node_view pattern.now) (graph_of_store T.seen store.old shared.old) ≡ Ok (graph_of_store T.seen store.new shared.new)) }
-    ensures id { IfOk result (λ id. id.0 ≡ (graph_of_store T.seen store.old shared.old).next_node) }
-    ensures err { IfErr result (λ e. e ≢ OutOfMemory → node_added max_elements (outcome_view outcome.entry) (node_view pattern.now) (graph_of_store T.seen store.old shared.old) ≡ Err e) }
-    ensures changed { Changed T.seen store.old shared.old store.new shared.new }
+    ensures ok { OnOk result (node_added max_elements (outcome_view outcome.entry) (node_view pattern.now) live.old.graph ≡ Ok live.new.graph) }
+    ensures id { IfOk result (λ id. id.0 ≡ live.old.graph.next_node) }
+    ensures err { IfErr result (λ e. e ≢ OutOfMemory → node_added max_elements (outcome_view outcome.entry) (node_view pattern.now) live.old.graph ≡ Err e) }
+    ensures aside { live.new.aside ≡ live.old.aside }
 {
     let properties = outcome?;
-    test_new(&store.graph(shared), max_elements, store.next_ids().node)?;
+    test_new(&live.graph(), max_elements, live.next_ids().node)?;
     let labels = label_texts(alloc, &pattern.labels)?;
-    Ok(store.create_node(alloc, shared, &labels, properties)?)
+    Ok(live.create_node(alloc, &labels, properties)?)
 }
 
 // Adds a relationship that goes as the heads of its pattern say.
-#[tactic(auto, using(crate::proofs::ChangedLemmas::unchanged, crate::proofs::ChangedLemmas::one_change))]
 fn add_between<T: Tables>(
     alloc: Global,
-    store: &mut Store<T>,
-    shared: &mut Shared<T::Shared>,
+    live: &mut LiveGraph<T>,
     pattern: &RelationshipPattern,
     left: NodeId,
     right: NodeId,
     properties: Vec<(&str, Value)>,
 ) -> Result<RelId, AllocError>
-    requires fit { IsFit T.seen store.old shared.old }
-    requires room { store.old.next.rel < 2 ^ 63 }
-    requires count { store.old.elements < 2 ^ 63 }
-    requires left { has_node (graph_of_store T.seen store.old shared.old) left.0 ≡ true }
-    requires right { has_node (graph_of_store T.seen store.old shared.old) right.0 ≡ true }
-    ensures ok { OnOk result (add_between (way_of (relationship_view pattern.now)) (first_text (types_of (relationship_view pattern.now))) left.0 right.0 (set_keys (pairs_of properties.entry.items) no_entries) (graph_of_store T.seen store.old shared.old) ≡ graph_of_store T.seen store.new shared.new) }
-    ensures id { IfOk result (λ id. id.0 ≡ (graph_of_store T.seen store.old shared.old).next_relationship) }
-    ensures changed { Changed T.seen store.old shared.old store.new shared.new }
+    requires room { live.old.graph.next_relationship < 2 ^ 63 }
+    requires count { element_count live.old.graph < 2 ^ 63 }
+    requires left { has_node live.old.graph left.0 ≡ true }
+    requires right { has_node live.old.graph right.0 ≡ true }
+    ensures ok { OnOk result (add_between (way_of (relationship_view pattern.now)) (first_text (types_of (relationship_view pattern.now))) left.0 right.0 (set_keys (pairs_of properties.entry.items) no_entries) live.old.graph ≡ live.new.graph) }
+    ensures id { IfOk result (λ id. id.0 ≡ live.old.graph.next_relationship) }
+    ensures aside { live.new.aside ≡ live.old.aside }
 {
     let kind = type_text(pattern);
     if pattern.left_head && !pattern.right_head {
-        store.create_rel(alloc, shared, kind, right, left, properties)
+        live.create_rel(alloc, kind, right, left, properties)
     } else {
-        store.create_rel(alloc, shared, kind, left, right, properties)
+        live.create_rel(alloc, kind, left, right, properties)
     }
 }
 
 /// Adds a relationship between two nodes, with these properties, or what stands in their place.
-#[tactic(auto, using(crate::proofs::ChangedLemmas::unchanged, crate::proofs::RoomLemmas::few_elements))]
+#[tactic(auto, using(crate::proofs::RoomLemmas::few_elements))]
 pub(crate) fn add_relationship<T: Tables>(
     alloc: Global,
-    store: &mut Store<T>,
-    shared: &mut Shared<T::Shared>,
+    live: &mut LiveGraph<T>,
     max_elements: u64,
     pattern: &RelationshipPattern,
     outcome: Result<Vec<(&str, Value)>, Fault>,
     left: NodeId,
     right: NodeId,
 ) -> Result<RelId, Fault>
-    requires fit { IsFit T.seen store.old shared.old }
     requires quota { max_elements ≤ 2 ^ 63 }
-    requires left { has_node (graph_of_store T.seen store.old shared.old) left.0 ≡ true }
-    requires right { has_node (graph_of_store T.seen store.old shared.old) right.0 ≡ true }
-    ensures ok { OnOk result (relationship_of max_elements (outcome_view outcome.entry) (relationship_view pattern.now) left.0 right.0 (graph_of_store T.seen store.old shared.old) ≡ Ok (graph_of_store T.seen store.new shared.new)) }
-    ensures id { IfOk result (λ id. id.0 ≡ (graph_of_store T.seen store.old shared.old).next_relationship) }
-    ensures err { IfErr result (λ e. e ≢ OutOfMemory → relationship_of max_elements (outcome_view outcome.entry) (relationship_view pattern.now) left.0 right.0 (graph_of_store T.seen store.old shared.old) ≡ Err e) }
-    ensures changed { Changed T.seen store.old shared.old store.new shared.new }
+    requires left { has_node live.old.graph left.0 ≡ true }
+    requires right { has_node live.old.graph right.0 ≡ true }
+    ensures ok { OnOk result (relationship_of max_elements (outcome_view outcome.entry) (relationship_view pattern.now) left.0 right.0 live.old.graph ≡ Ok live.new.graph) }
+    ensures id { IfOk result (λ id. id.0 ≡ live.old.graph.next_relationship) }
+    ensures err { IfErr result (λ e. e ≢ OutOfMemory → relationship_of max_elements (outcome_view outcome.entry) (relationship_view pattern.now) left.0 right.0 live.old.graph ≡ Err e) }
+    ensures aside { live.new.aside ≡ live.old.aside }
 {
     let properties = outcome?;
-    test_new(&store.graph(shared), max_elements, store.next_ids().rel)?;
-    Ok(add_between(alloc, store, shared, pattern, left, right, properties)?)
+    test_new(&live.graph(), max_elements, live.next_ids().rel)?;
+    Ok(add_between(alloc, live, pattern, left, right, properties)?)
 }

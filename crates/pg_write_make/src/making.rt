@@ -7,10 +7,8 @@ ghost use Rattle.pg_meaning.specs.Rows.{value_in};
 ghost use Rattle.pg_meaning.specs.Value.{node};
 ghost use Rattle.pg_meaning.specs.Walks.{bound_value};
 ghost use Rattle.pg_meaning.specs.declared.fault.Fault.TheVariants.{OutOfMemory};
-ghost use Rattle.pg_store.specs.Stores.{graph_of_store, IsFit};
 ghost use Rattle.pg_syntax_tree.specs.View.{name_view, node_view, path_view};
 ghost use Rattle.pg_value_core.specs.View.{view};
-ghost use Rattle.pg_write_make.specs.Changed.{Changed};
 ghost use Rattle.pg_write_make.specs.Makings.{bindings, making_of, named_ids, others_view, outcomes_view, AllThere, AreThere, Grows};
 ghost use Rattle.pg_write_make.specs.Outcomes.{node_found, node_of, nodes_made, outcome_view};
 ghost use Rattle.pg_write_make.specs.Scenes.{row_in};
@@ -18,7 +16,7 @@ ghost use Rattle.pg_write_make.specs.Scenes.{row_in};
 use crate::elements::add_node;
 use crate::scene::Scene;
 use pg_graph::Tables;
-use pg_store::{Shared, Store};
+use pg_live::LiveGraph;
 use pg_syntax_tree::{Name, NodePattern, PathPattern, RelationshipPattern};
 use pg_value_core::{Fault, NodeId, Value};
 use std::alloc::AllocError;
@@ -93,11 +91,10 @@ fn bind_new<'a>(
 }
 
 // The node of a pattern, bound or new, behind the ids of those before.
-#[tactic(auto, using(crate::proofs::ChangedLemmas::unchanged, crate::proofs::BoundLemmas::bound_last, crate::proofs::BoundLemmas::pushed_id, crate::proofs::GrowthLemmas::added_grows, crate::proofs::GrowthLemmas::added_there, crate::proofs::GrowthLemmas::there_grows, crate::proofs::GrowthLemmas::there_push))]
+#[tactic(auto, using(crate::proofs::BoundLemmas::bound_last, crate::proofs::BoundLemmas::pushed_id, crate::proofs::GrowthLemmas::added_grows, crate::proofs::GrowthLemmas::added_there, crate::proofs::GrowthLemmas::there_grows, crate::proofs::GrowthLemmas::there_push))]
 fn make_node<'a, T: Tables>(
     scene: &Scene<'_>,
-    store: &mut Store<T>,
-    shared: &mut Shared<T::Shared>,
+    live: &mut LiveGraph<T>,
     max_elements: u64,
     row: &[Value],
     pattern: &'a NodePattern,
@@ -105,15 +102,14 @@ fn make_node<'a, T: Tables>(
     named: &mut Vec<(&'a str, NodeId)>,
     ids: &mut Vec<NodeId>,
 ) -> Result<(), Fault>
-    requires fit { IsFit T.seen store.old shared.old }
     requires quota { max_elements ≤ 2 ^ 63 }
-    requires tested { test_bound false (graph_of_store T.seen store.old shared.old) (bound_value (node_name (node_view pattern.now)) (row_in scene.now row.now)) ≡ Ok tt }
-    requires there { AllThere (graph_of_store T.seen store.old shared.old) named.old.items ids.old.items }
-    ensures ok { OnOk result (node_of max_elements (outcome_view outcome.entry) (node_view pattern.now) (making_of (graph_of_store T.seen store.old shared.old) (row_in scene.now row.now) named.old.items ids.old.items) ≡ Ok (making_of (graph_of_store T.seen store.new shared.new) (row_in scene.now row.now) named.new.items ids.new.items)) }
-    ensures err { IfErr result (λ e. e ≢ OutOfMemory → node_of max_elements (outcome_view outcome.entry) (node_view pattern.now) (making_of (graph_of_store T.seen store.old shared.old) (row_in scene.now row.now) named.old.items ids.old.items) ≡ Err e) }
-    ensures changed { Changed T.seen store.old shared.old store.new shared.new }
-    ensures grows { OnOk result (Grows (graph_of_store T.seen store.old shared.old) (graph_of_store T.seen store.new shared.new)) }
-    ensures there { OnOk result (AllThere (graph_of_store T.seen store.new shared.new) named.new.items ids.new.items) }
+    requires tested { test_bound false live.old.graph (bound_value (node_name (node_view pattern.now)) (row_in scene.now row.now)) ≡ Ok tt }
+    requires there { AllThere live.old.graph named.old.items ids.old.items }
+    ensures ok { OnOk result (node_of max_elements (outcome_view outcome.entry) (node_view pattern.now) (making_of live.old.graph (row_in scene.now row.now) named.old.items ids.old.items) ≡ Ok (making_of live.new.graph (row_in scene.now row.now) named.new.items ids.new.items)) }
+    ensures err { IfErr result (λ e. e ≢ OutOfMemory → node_of max_elements (outcome_view outcome.entry) (node_view pattern.now) (making_of live.old.graph (row_in scene.now row.now) named.old.items ids.old.items) ≡ Err e) }
+    ensures aside { live.new.aside ≡ live.old.aside }
+    ensures grows { OnOk result (Grows live.old.graph live.new.graph) }
+    ensures there { OnOk result (AllThere live.new.graph named.new.items ids.new.items) }
 {
     match find_bound(scene, row, named, &pattern.variable)? {
         Some(id) => {
@@ -121,7 +117,7 @@ fn make_node<'a, T: Tables>(
             Ok(())
         }
         None => {
-            let new = add_node(scene.alloc, store, shared, max_elements, pattern, outcome)?;
+            let new = add_node(scene.alloc, live, max_elements, pattern, outcome)?;
             bind_new(named, &pattern.variable, new)?;
             ids.push(new)?;
             Ok(())
@@ -130,11 +126,10 @@ fn make_node<'a, T: Tables>(
 }
 
 // The nodes behind the first.
-#[tactic(auto, using(crate::proofs::ChangedLemmas::unchanged, crate::proofs::ChangedLemmas::changed_then, crate::proofs::GrowthLemmas::grows_not, crate::proofs::GrowthLemmas::grows_twice, crate::proofs::StepLemmas::node_made, crate::proofs::StepLemmas::node_refused, crate::proofs::StepLemmas::tests_left))]
+#[tactic(auto, using(crate::proofs::GrowthLemmas::grows_not, crate::proofs::GrowthLemmas::grows_twice, crate::proofs::StepLemmas::node_made, crate::proofs::StepLemmas::node_refused, crate::proofs::StepLemmas::tests_left))]
 fn make_others<'a, T: Tables>(
     scene: &Scene<'_>,
-    store: &mut Store<T>,
-    shared: &mut Shared<T::Shared>,
+    live: &mut LiveGraph<T>,
     max_elements: u64,
     row: &[Value],
     hops: &'a Vec<(RelationshipPattern, NodePattern)>,
@@ -142,23 +137,21 @@ fn make_others<'a, T: Tables>(
     named: &mut Vec<(&'a str, NodeId)>,
     ids: &mut Vec<NodeId>,
 ) -> Result<(), Fault>
-    requires fit { IsFit T.seen store.old shared.old }
     requires quota { max_elements ≤ 2 ^ 63 }
-    requires tested { test_nodes false (graph_of_store T.seen store.old shared.old) (row_in scene.now row.now) (others_view hops.now.items) ≡ Ok tt }
-    requires there { AllThere (graph_of_store T.seen store.old shared.old) named.old.items ids.old.items }
-    ensures ok { OnOk result (nodes_made max_elements (outcomes_view outcomes.entry.items) (others_view hops.now.items) (making_of (graph_of_store T.seen store.old shared.old) (row_in scene.now row.now) named.old.items ids.old.items) ≡ Ok (making_of (graph_of_store T.seen store.new shared.new) (row_in scene.now row.now) named.new.items ids.new.items)) }
-    ensures err { IfErr result (λ e. e ≢ OutOfMemory → nodes_made max_elements (outcomes_view outcomes.entry.items) (others_view hops.now.items) (making_of (graph_of_store T.seen store.old shared.old) (row_in scene.now row.now) named.old.items ids.old.items) ≡ Err e) }
-    ensures changed { Changed T.seen store.old shared.old store.new shared.new }
-    ensures grows { OnOk result (Grows (graph_of_store T.seen store.old shared.old) (graph_of_store T.seen store.new shared.new)) }
-    ensures there { OnOk result (AllThere (graph_of_store T.seen store.new shared.new) named.new.items ids.new.items) }
+    requires tested { test_nodes false live.old.graph (row_in scene.now row.now) (others_view hops.now.items) ≡ Ok tt }
+    requires there { AllThere live.old.graph named.old.items ids.old.items }
+    ensures ok { OnOk result (nodes_made max_elements (outcomes_view outcomes.entry.items) (others_view hops.now.items) (making_of live.old.graph (row_in scene.now row.now) named.old.items ids.old.items) ≡ Ok (making_of live.new.graph (row_in scene.now row.now) named.new.items ids.new.items)) }
+    ensures err { IfErr result (λ e. e ≢ OutOfMemory → nodes_made max_elements (outcomes_view outcomes.entry.items) (others_view hops.now.items) (making_of live.old.graph (row_in scene.now row.now) named.old.items ids.old.items) ≡ Err e) }
+    ensures aside { live.new.aside ≡ live.old.aside }
+    ensures grows { OnOk result (Grows live.old.graph live.new.graph) }
+    ensures there { OnOk result (AllThere live.new.graph named.new.items ids.new.items) }
 {
     let mut rest = outcomes.into_iter();
     for hop in hops {
         match rest.next() {
             Some(outcome) => make_node(
                 scene,
-                store,
-                shared,
+                live,
                 max_elements,
                 row,
                 &hop.1,
@@ -173,11 +166,10 @@ fn make_others<'a, T: Tables>(
 }
 
 /// All nodes of a path.
-#[tactic(auto, using(crate::proofs::ChangedLemmas::unchanged, crate::proofs::ChangedLemmas::changed_then, crate::proofs::GrowthLemmas::grows_twice, crate::proofs::GrowthLemmas::tests_grow, crate::proofs::GrowthLemmas::both_passed))]
+#[tactic(auto, using(crate::proofs::GrowthLemmas::grows_twice, crate::proofs::GrowthLemmas::tests_grow, crate::proofs::GrowthLemmas::both_passed))]
 pub(crate) fn make_nodes<'a, T: Tables>(
     scene: &Scene<'_>,
-    store: &mut Store<T>,
-    shared: &mut Shared<T::Shared>,
+    live: &mut LiveGraph<T>,
     max_elements: u64,
     row: &[Value],
     path: &'a PathPattern,
@@ -185,21 +177,19 @@ pub(crate) fn make_nodes<'a, T: Tables>(
     others: Vec<Result<Vec<(&str, Value)>, Fault>>,
     named: &mut Vec<(&'a str, NodeId)>,
 ) -> Result<Vec<NodeId>, Fault>
-    requires fit { IsFit T.seen store.old shared.old }
     requires quota { max_elements ≤ 2 ^ 63 }
-    requires tested { test_nodes false (graph_of_store T.seen store.old shared.old) (row_in scene.now row.now) (nodes_of (path_view path.now)) ≡ Ok tt }
-    requires there { AreThere (graph_of_store T.seen store.old shared.old) (named_ids named.old.items) }
-    ensures ok { IfOk result (λ ids. nodes_made max_elements (outcome_view first.entry ∷ outcomes_view others.entry.items) (nodes_of (path_view path.now)) (making_of (graph_of_store T.seen store.old shared.old) (row_in scene.now row.now) named.old.items []) ≡ Ok (making_of (graph_of_store T.seen store.new shared.new) (row_in scene.now row.now) named.new.items ids.items)) }
-    ensures err { IfErr result (λ e. e ≢ OutOfMemory → nodes_made max_elements (outcome_view first.entry ∷ outcomes_view others.entry.items) (nodes_of (path_view path.now)) (making_of (graph_of_store T.seen store.old shared.old) (row_in scene.now row.now) named.old.items []) ≡ Err e) }
-    ensures changed { Changed T.seen store.old shared.old store.new shared.new }
-    ensures grows { OnOk result (Grows (graph_of_store T.seen store.old shared.old) (graph_of_store T.seen store.new shared.new)) }
-    ensures there { IfOk result (λ ids. AllThere (graph_of_store T.seen store.new shared.new) named.new.items ids.items) }
+    requires tested { test_nodes false live.old.graph (row_in scene.now row.now) (nodes_of (path_view path.now)) ≡ Ok tt }
+    requires there { AreThere live.old.graph (named_ids named.old.items) }
+    ensures ok { IfOk result (λ ids. nodes_made max_elements (outcome_view first.entry ∷ outcomes_view others.entry.items) (nodes_of (path_view path.now)) (making_of live.old.graph (row_in scene.now row.now) named.old.items []) ≡ Ok (making_of live.new.graph (row_in scene.now row.now) named.new.items ids.items)) }
+    ensures err { IfErr result (λ e. e ≢ OutOfMemory → nodes_made max_elements (outcome_view first.entry ∷ outcomes_view others.entry.items) (nodes_of (path_view path.now)) (making_of live.old.graph (row_in scene.now row.now) named.old.items []) ≡ Err e) }
+    ensures aside { live.new.aside ≡ live.old.aside }
+    ensures grows { OnOk result (Grows live.old.graph live.new.graph) }
+    ensures there { IfOk result (λ ids. AllThere live.new.graph named.new.items ids.items) }
 {
     let mut ids = Vec::with_capacity(scene.alloc, path.hops.len())?;
     make_node(
         scene,
-        store,
-        shared,
+        live,
         max_elements,
         row,
         &path.first,
@@ -209,8 +199,7 @@ pub(crate) fn make_nodes<'a, T: Tables>(
     )?;
     make_others(
         scene,
-        store,
-        shared,
+        live,
         max_elements,
         row,
         &path.hops,

@@ -3,11 +3,9 @@ ghost use Rattle.std.specs.Prelude.{◌≡◌, ◌≢◌, ◌≤◌, ◌^◌, �
 ghost use Rattle.pg_meaning.specs.Patterns.{nodes_of};
 ghost use Rattle.pg_meaning.specs.Reading.{test_nodes, test_paths};
 ghost use Rattle.pg_meaning.specs.declared.fault.Fault.TheVariants.{OutOfMemory};
-ghost use Rattle.pg_store.specs.Stores.{graph_of_store, IsFit};
 ghost use Rattle.pg_syntax_tree.specs.View.{path_view};
 ghost use Rattle.pg_write_make.specs.Lent.{kept_view, paths_view, trail_view};
 ghost use Rattle.pg_write_make.specs.Makings.{bindings, named_ids, AreThere, Grows};
-ghost use Rattle.pg_write_make.specs.Changed.{Changed};
 ghost use Rattle.pg_write_make.specs.Outcomes.{path_made, paths_made};
 ghost use Rattle.pg_write_make.specs.Scenes.{row_in};
 
@@ -16,7 +14,7 @@ use crate::kept::Kept;
 use crate::making::make_nodes;
 use crate::scene::Scene;
 use pg_graph::Tables;
-use pg_store::{Shared, Store};
+use pg_live::LiveGraph;
 use pg_syntax_tree::PathPattern;
 use pg_value_core::{Fault, NodeId, RelId, Value};
 
@@ -27,31 +25,28 @@ pub(crate) struct Trail {
     pub(crate) relationships: Vec<RelId>,
 }
 
-#[tactic(auto, using(crate::proofs::ChangedLemmas::unchanged, crate::proofs::ChangedLemmas::changed_then, crate::proofs::GrowthLemmas::grows_not, crate::proofs::GrowthLemmas::grows_twice, crate::proofs::GrowthLemmas::there_grows))]
+#[tactic(auto, using(crate::proofs::GrowthLemmas::grows_not, crate::proofs::GrowthLemmas::grows_twice, crate::proofs::GrowthLemmas::there_grows))]
 fn make_path<'a, T: Tables>(
     scene: &Scene<'_>,
-    store: &mut Store<T>,
-    shared: &mut Shared<T::Shared>,
+    live: &mut LiveGraph<T>,
     max_elements: u64,
     row: &[Value],
     path: &'a PathPattern,
     kept: Kept<'_>,
     named: &mut Vec<(&'a str, NodeId)>,
 ) -> Result<Trail, Fault>
-    requires fit { IsFit T.seen store.old shared.old }
     requires quota { max_elements ≤ 2 ^ 63 }
-    requires tested { test_nodes false (graph_of_store T.seen store.old shared.old) (row_in scene.now row.now) (nodes_of (path_view path.now)) ≡ Ok tt }
-    requires there { AreThere (graph_of_store T.seen store.old shared.old) (named_ids named.old.items) }
-    ensures ok { IfOk result (λ trail. path_made max_elements (kept_view kept.entry) (path_view path.now) (graph_of_store T.seen store.old shared.old, row_in scene.now row.now ++ bindings named.old.items) ≡ Ok (graph_of_store T.seen store.new shared.new, row_in scene.now row.now ++ bindings named.new.items, trail_view trail)) }
-    ensures err { IfErr result (λ e. e ≢ OutOfMemory → path_made max_elements (kept_view kept.entry) (path_view path.now) (graph_of_store T.seen store.old shared.old, row_in scene.now row.now ++ bindings named.old.items) ≡ Err e) }
-    ensures changed { Changed T.seen store.old shared.old store.new shared.new }
-    ensures grows { OnOk result (Grows (graph_of_store T.seen store.old shared.old) (graph_of_store T.seen store.new shared.new)) }
-    ensures there { OnOk result (AreThere (graph_of_store T.seen store.new shared.new) (named_ids named.new.items)) }
+    requires tested { test_nodes false live.old.graph (row_in scene.now row.now) (nodes_of (path_view path.now)) ≡ Ok tt }
+    requires there { AreThere live.old.graph (named_ids named.old.items) }
+    ensures ok { IfOk result (λ trail. path_made max_elements (kept_view kept.entry) (path_view path.now) (live.old.graph, row_in scene.now row.now ++ bindings named.old.items) ≡ Ok (live.new.graph, row_in scene.now row.now ++ bindings named.new.items, trail_view trail)) }
+    ensures err { IfErr result (λ e. e ≢ OutOfMemory → path_made max_elements (kept_view kept.entry) (path_view path.now) (live.old.graph, row_in scene.now row.now ++ bindings named.old.items) ≡ Err e) }
+    ensures aside { live.new.aside ≡ live.old.aside }
+    ensures grows { OnOk result (Grows live.old.graph live.new.graph) }
+    ensures there { OnOk result (AreThere live.new.graph (named_ids named.new.items)) }
 {
     let nodes = make_nodes(
         scene,
-        store,
-        shared,
+        live,
         max_elements,
         row,
         path,
@@ -61,8 +56,7 @@ fn make_path<'a, T: Tables>(
     )?;
     let relationships = make_bonds(
         scene.alloc,
-        store,
-        shared,
+        live,
         max_elements,
         &path.hops,
         kept.relationships,
@@ -75,22 +69,20 @@ fn make_path<'a, T: Tables>(
 }
 
 /// Makes all paths at a row, whose bound nodes were tested.
-#[tactic(auto, using(crate::proofs::ChangedLemmas::unchanged, crate::proofs::ChangedLemmas::changed_then, crate::proofs::StepLemmas::path_done, crate::proofs::StepLemmas::path_failed, crate::proofs::StepLemmas::path_is_tested, crate::proofs::StepLemmas::paths_tested_on))]
+#[tactic(auto, using(crate::proofs::StepLemmas::path_done, crate::proofs::StepLemmas::path_failed, crate::proofs::StepLemmas::path_is_tested, crate::proofs::StepLemmas::paths_tested_on))]
 pub(crate) fn make_paths<'a, T: Tables>(
     scene: &Scene<'_>,
-    store: &mut Store<T>,
-    shared: &mut Shared<T::Shared>,
+    live: &mut LiveGraph<T>,
     max_elements: u64,
     row: &[Value],
     paths: &'a [PathPattern],
     kept: Vec<Kept<'_>>,
 ) -> Result<Vec<Trail>, Fault>
-    requires fit { IsFit T.seen store.old shared.old }
     requires quota { max_elements ≤ 2 ^ 63 }
-    requires tested { test_paths false (graph_of_store T.seen store.old shared.old) (row_in scene.now row.now) (paths_view paths.now) ≡ Ok tt }
-    ensures ok { IfOk result (λ trails. paths_made max_elements (map kept_view kept.entry.items) (paths_view paths.now) (graph_of_store T.seen store.old shared.old, row_in scene.now row.now) ≡ Ok (graph_of_store T.seen store.new shared.new, map trail_view trails.items)) }
-    ensures err { IfErr result (λ e. e ≢ OutOfMemory → paths_made max_elements (map kept_view kept.entry.items) (paths_view paths.now) (graph_of_store T.seen store.old shared.old, row_in scene.now row.now) ≡ Err e) }
-    ensures changed { Changed T.seen store.old shared.old store.new shared.new }
+    requires tested { test_paths false live.old.graph (row_in scene.now row.now) (paths_view paths.now) ≡ Ok tt }
+    ensures ok { IfOk result (λ trails. paths_made max_elements (map kept_view kept.entry.items) (paths_view paths.now) (live.old.graph, row_in scene.now row.now) ≡ Ok (live.new.graph, map trail_view trails.items)) }
+    ensures err { IfErr result (λ e. e ≢ OutOfMemory → paths_made max_elements (map kept_view kept.entry.items) (paths_view paths.now) (live.old.graph, row_in scene.now row.now) ≡ Err e) }
+    ensures aside { live.new.aside ≡ live.old.aside }
 {
     let mut trails = Vec::with_capacity(scene.alloc, paths.len())?;
     let mut named = Vec::new(scene.alloc);
@@ -99,8 +91,7 @@ pub(crate) fn make_paths<'a, T: Tables>(
         match rest.next() {
             Some(values) => trails.push(make_path(
                 scene,
-                store,
-                shared,
+                live,
                 max_elements,
                 row,
                 path,

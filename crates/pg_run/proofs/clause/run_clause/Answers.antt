@@ -10,13 +10,11 @@ use Rattle.pg_rows.specs.States.{Named, seen, state_of}
 use Rattle.pg_rows.specs.declared.named.Table.{Table}
 use Rattle.pg_run.proofs.Settings.{suits_own}
 use Rattle.pg_run.specs.Runs.{anchors_view, setting_of}
-use Rattle.pg_store.specs.Stores.{graph_of_store}
 use Rattle.pg_syntax_tree.specs.View.{clause_view}
 use Rattle.pg_syntax_tree.specs.declared.clauses.Clause.{Clause}
 use Rattle.pg_value_core.specs.Given.{parameters_view}
 use Rattle.pg_value_core.specs.Gives.{Gives}
 use Rattle.pg_write.proofs.ExitLemmas.{gives_fault}
-use Rattle.pg_write_make.proofs.ChangedLemmas.{unchanged}
 use Rattle.pg_run.proofs.clause.run_clause.Goals as goal
 
 -- what is said of a clause's kind, of the clause
@@ -36,7 +34,7 @@ module _ (whole part : Clause) (is : whole ≡ part) (r : Result Table Fault) wh
 pub returns-in-Match-clause-gives : goal.returns-in-Match-clause-gives
 returns-in-Match-clause-gives g c =
     let s = setting_of (parameters_view c.args.given.now.parameters.now) c.args.meter.now.limit c.args.given.now.max_elements c.args.table.names (anchors_view c.args.anchors.now) in
-    on_graph c.args.clause.now _ c.in-Match.is c.match_rows.result s (seen c.args.table) c.args.meter.now.used c.match_rows.new.meter.used c.graph.result _ c.graph.ensures
+    on_graph c.args.clause.now _ c.in-Match.is c.match_rows.result s (seen c.args.table) c.args.meter.now.used c.match_rows.new.meter.used c.graph.result _ c.graph.ensures.is
     (c.match_rows.ensures.gives s (suits_own (parameters_view c.args.given.now.parameters.now) c.args.meter.now.limit c.args.given.now.max_elements c.args.table.names (anchors_view c.args.anchors.now)) refl)
 
 pub returns-in-Match-clause-names : goal.returns-in-Match-clause-names
@@ -45,13 +43,13 @@ returns-in-Match-clause-names g c = named_of c.args.clause.now _ c.in-Match.is c
 pub returns-in-Match-clause-limit : goal.returns-in-Match-clause-limit
 returns-in-Match-clause-limit g c = c.match_rows.ensures.limit
 
-pub returns-in-Match-clause-changed : goal.returns-in-Match-clause-changed
-returns-in-Match-clause-changed g c = unchanged g.T.Tables.seen c.args.store.now c.args.shared.now c.requires.fit
+pub returns-in-Match-clause-aside : goal.returns-in-Match-clause-aside
+returns-in-Match-clause-aside g c = refl
 
 pub returns-in-Unwind-clause-gives : goal.returns-in-Unwind-clause-gives
 returns-in-Unwind-clause-gives g c =
     let s = setting_of (parameters_view c.args.given.now.parameters.now) c.args.meter.now.limit c.args.given.now.max_elements c.args.table.names (anchors_view c.args.anchors.now) in
-    on_graph c.args.clause.now _ c.in-Unwind.is c.unwind_rows.result s (seen c.args.table) c.args.meter.now.used c.unwind_rows.new.meter.used c.graph-in-Unwind.result _ c.graph-in-Unwind.ensures
+    on_graph c.args.clause.now _ c.in-Unwind.is c.unwind_rows.result s (seen c.args.table) c.args.meter.now.used c.unwind_rows.new.meter.used c.graph-in-Unwind.result _ c.graph-in-Unwind.ensures.is
     (c.unwind_rows.ensures.unwinds s (suits_own (parameters_view c.args.given.now.parameters.now) c.args.meter.now.limit c.args.given.now.max_elements c.args.table.names (anchors_view c.args.anchors.now)))
 
 pub returns-in-Unwind-clause-names : goal.returns-in-Unwind-clause-names
@@ -60,13 +58,13 @@ returns-in-Unwind-clause-names g c = named_of c.args.clause.now _ c.in-Unwind.is
 pub returns-in-Unwind-clause-limit : goal.returns-in-Unwind-clause-limit
 returns-in-Unwind-clause-limit g c = c.unwind_rows.ensures.limit
 
-pub returns-in-Unwind-clause-changed : goal.returns-in-Unwind-clause-changed
-returns-in-Unwind-clause-changed g c = unchanged g.T.Tables.seen c.args.store.now c.args.shared.now c.requires.fit
+pub returns-in-Unwind-clause-aside : goal.returns-in-Unwind-clause-aside
+returns-in-Unwind-clause-aside g c = refl
 
 pub returns-in-With-clause-gives : goal.returns-in-With-clause-gives
 returns-in-With-clause-gives g c =
     let s = setting_of (parameters_view c.args.given.now.parameters.now) c.args.meter.now.limit c.args.given.now.max_elements c.args.table.names (anchors_view c.args.anchors.now) in
-    on_graph c.args.clause.now _ c.in-With.is c.project_with.result s (seen c.args.table) c.args.meter.now.used c.project_with.new.meter.used c.graph-in-With.result _ c.graph-in-With.ensures
+    on_graph c.args.clause.now _ c.in-With.is c.project_with.result s (seen c.args.table) c.args.meter.now.used c.project_with.new.meter.used c.graph-in-With.result _ c.graph-in-With.ensures.is
     (c.project_with.ensures.gives s (suits_own (parameters_view c.args.given.now.parameters.now) c.args.meter.now.limit c.args.given.now.max_elements c.args.table.names (anchors_view c.args.anchors.now)))
 
 pub returns-in-With-clause-names : goal.returns-in-With-clause-names
@@ -75,13 +73,13 @@ returns-in-With-clause-names g c = named_of c.args.clause.now _ c.in-With.is c.p
 pub returns-in-With-clause-limit : goal.returns-in-With-clause-limit
 returns-in-With-clause-limit g c = c.project_with.ensures.limit
 
-pub returns-in-With-clause-changed : goal.returns-in-With-clause-changed
-returns-in-With-clause-changed g c = unchanged g.T.Tables.seen c.args.store.now c.args.shared.now c.requires.fit
+pub returns-in-With-clause-aside : goal.returns-in-With-clause-aside
+returns-in-With-clause-aside g c = refl
 
 pub returns-in-Return-clause-gives : goal.returns-in-Return-clause-gives
 returns-in-Return-clause-gives g c =
     let s = setting_of (parameters_view c.args.given.now.parameters.now) c.args.meter.now.limit c.args.given.now.max_elements c.args.table.names (anchors_view c.args.anchors.now) in
-    on_graph c.args.clause.now _ c.in-Return.is c.project_return.result s (seen c.args.table) c.args.meter.now.used c.project_return.new.meter.used c.graph-in-Return.result _ c.graph-in-Return.ensures
+    on_graph c.args.clause.now _ c.in-Return.is c.project_return.result s (seen c.args.table) c.args.meter.now.used c.project_return.new.meter.used c.graph-in-Return.result _ c.graph-in-Return.ensures.is
     (c.project_return.ensures.gives s (suits_own (parameters_view c.args.given.now.parameters.now) c.args.meter.now.limit c.args.given.now.max_elements c.args.table.names (anchors_view c.args.anchors.now)))
 
 pub returns-in-Return-clause-names : goal.returns-in-Return-clause-names
@@ -90,13 +88,13 @@ returns-in-Return-clause-names g c = named_of c.args.clause.now _ c.in-Return.is
 pub returns-in-Return-clause-limit : goal.returns-in-Return-clause-limit
 returns-in-Return-clause-limit g c = c.project_return.ensures.limit
 
-pub returns-in-Return-clause-changed : goal.returns-in-Return-clause-changed
-returns-in-Return-clause-changed g c = unchanged g.T.Tables.seen c.args.store.now c.args.shared.now c.requires.fit
+pub returns-in-Return-clause-aside : goal.returns-in-Return-clause-aside
+returns-in-Return-clause-aside g c = refl
 
 pub returns-in-Create-clause-gives : goal.returns-in-Create-clause-gives
 returns-in-Create-clause-gives g c =
     let s = setting_of (parameters_view c.args.given.now.parameters.now) c.args.meter.now.limit c.args.given.now.max_elements c.args.table.names (anchors_view c.args.anchors.now) in
-    given_of c.args.clause.now _ c.in-Create.is c.create_paths.result s (state_of (graph_of_store g.T.Tables.seen c.args.store.now c.args.shared.now) (seen c.args.table) c.args.meter.now.used) _
+    given_of c.args.clause.now _ c.in-Create.is c.create_paths.result s (state_of c.args.live.now.graph (seen c.args.table) c.args.meter.now.used) _
     (c.create_paths.ensures.gives s (suits_own (parameters_view c.args.given.now.parameters.now) c.args.meter.now.limit c.args.given.now.max_elements c.args.table.names (anchors_view c.args.anchors.now)) refl)
 
 pub returns-in-Create-clause-names : goal.returns-in-Create-clause-names
@@ -105,13 +103,13 @@ returns-in-Create-clause-names g c = named_of c.args.clause.now _ c.in-Create.is
 pub returns-in-Create-clause-limit : goal.returns-in-Create-clause-limit
 returns-in-Create-clause-limit g c = c.create_paths.ensures.limit
 
-pub returns-in-Create-clause-changed : goal.returns-in-Create-clause-changed
-returns-in-Create-clause-changed g c = c.create_paths.ensures.changed
+pub returns-in-Create-clause-aside : goal.returns-in-Create-clause-aside
+returns-in-Create-clause-aside g c = c.create_paths.ensures.aside
 
 pub returns-in-Merge-clause-gives : goal.returns-in-Merge-clause-gives
 returns-in-Merge-clause-gives g c =
     let s = setting_of (parameters_view c.args.given.now.parameters.now) c.args.meter.now.limit c.args.given.now.max_elements c.args.table.names (anchors_view c.args.anchors.now) in
-    given_of c.args.clause.now _ c.in-Merge.is c.merge_path.result s (state_of (graph_of_store g.T.Tables.seen c.args.store.now c.args.shared.now) (seen c.args.table) c.args.meter.now.used) _
+    given_of c.args.clause.now _ c.in-Merge.is c.merge_path.result s (state_of c.args.live.now.graph (seen c.args.table) c.args.meter.now.used) _
     (c.merge_path.ensures.gives s (suits_own (parameters_view c.args.given.now.parameters.now) c.args.meter.now.limit c.args.given.now.max_elements c.args.table.names (anchors_view c.args.anchors.now)) refl refl)
 
 pub returns-in-Merge-clause-names : goal.returns-in-Merge-clause-names
@@ -120,13 +118,13 @@ returns-in-Merge-clause-names g c = named_of c.args.clause.now _ c.in-Merge.is c
 pub returns-in-Merge-clause-limit : goal.returns-in-Merge-clause-limit
 returns-in-Merge-clause-limit g c = c.merge_path.ensures.limit
 
-pub returns-in-Merge-clause-changed : goal.returns-in-Merge-clause-changed
-returns-in-Merge-clause-changed g c = c.merge_path.ensures.changed
+pub returns-in-Merge-clause-aside : goal.returns-in-Merge-clause-aside
+returns-in-Merge-clause-aside g c = c.merge_path.ensures.aside
 
 pub returns-in_err-set_items-in-Set-clause-gives : goal.returns-in_err-set_items-in-Set-clause-gives
 returns-in_err-set_items-in-Set-clause-gives g c =
     let s = setting_of (parameters_view c.args.given.now.parameters.now) c.args.meter.now.limit c.args.given.now.max_elements c.args.table.names (anchors_view c.args.anchors.now) in
-    given_of c.args.clause.now _ c.in-Set.is c.from_residual.result s (state_of (graph_of_store g.T.Tables.seen c.args.store.now c.args.shared.now) (seen c.args.table) c.args.meter.now.used) _
+    given_of c.args.clause.now _ c.in-Set.is c.from_residual.result s (state_of c.args.live.now.graph (seen c.args.table) c.args.meter.now.used) _
     (gives_fault c.from_residual.result _ _ _ c.from_residual.ensures.1 (c.in_err-set_items-in-Set.ensures.answer s (suits_own (parameters_view c.args.given.now.parameters.now) c.args.meter.now.limit c.args.given.now.max_elements c.args.table.names (anchors_view c.args.anchors.now))).err)
 
 pub returns-in_err-set_items-in-Set-clause-names : goal.returns-in_err-set_items-in-Set-clause-names
@@ -135,13 +133,13 @@ returns-in_err-set_items-in-Set-clause-names g c = IfOk-from_err c.from_residual
 pub returns-in_err-set_items-in-Set-clause-limit : goal.returns-in_err-set_items-in-Set-clause-limit
 returns-in_err-set_items-in-Set-clause-limit g c = c.set_items.ensures.limit
 
-pub returns-in_err-set_items-in-Set-clause-changed : goal.returns-in_err-set_items-in-Set-clause-changed
-returns-in_err-set_items-in-Set-clause-changed g c = c.set_items.ensures.changed
+pub returns-in_err-set_items-in-Set-clause-aside : goal.returns-in_err-set_items-in-Set-clause-aside
+returns-in_err-set_items-in-Set-clause-aside g c = c.set_items.ensures.aside
 
 pub returns-in_ok-set_items-in-Set-clause-gives : goal.returns-in_ok-set_items-in-Set-clause-gives
 returns-in_ok-set_items-in-Set-clause-gives g c =
     let s = setting_of (parameters_view c.args.given.now.parameters.now) c.args.meter.now.limit c.args.given.now.max_elements c.args.table.names (anchors_view c.args.anchors.now) in
-    given_of c.args.clause.now _ c.in-Set.is (Ok c.args.table) s (state_of (graph_of_store g.T.Tables.seen c.args.store.now c.args.shared.now) (seen c.args.table) c.args.meter.now.used) _
+    given_of c.args.clause.now _ c.in-Set.is (Ok c.args.table) s (state_of c.args.live.now.graph (seen c.args.table) c.args.meter.now.used) _
     (record { ok = (c.in_ok-set_items-in-Set.ensures.answer s (suits_own (parameters_view c.args.given.now.parameters.now) c.args.meter.now.limit c.args.given.now.max_elements c.args.table.names (anchors_view c.args.anchors.now))).ok; err = tt })
 
 pub returns-in_ok-set_items-in-Set-clause-names : goal.returns-in_ok-set_items-in-Set-clause-names
@@ -150,13 +148,13 @@ returns-in_ok-set_items-in-Set-clause-names g c = named_of c.args.clause.now _ c
 pub returns-in_ok-set_items-in-Set-clause-limit : goal.returns-in_ok-set_items-in-Set-clause-limit
 returns-in_ok-set_items-in-Set-clause-limit g c = c.set_items.ensures.limit
 
-pub returns-in_ok-set_items-in-Set-clause-changed : goal.returns-in_ok-set_items-in-Set-clause-changed
-returns-in_ok-set_items-in-Set-clause-changed g c = c.set_items.ensures.changed
+pub returns-in_ok-set_items-in-Set-clause-aside : goal.returns-in_ok-set_items-in-Set-clause-aside
+returns-in_ok-set_items-in-Set-clause-aside g c = c.set_items.ensures.aside
 
 pub returns-in_err-remove_items-in-Remove-clause-gives : goal.returns-in_err-remove_items-in-Remove-clause-gives
 returns-in_err-remove_items-in-Remove-clause-gives g c =
     let s = setting_of (parameters_view c.args.given.now.parameters.now) c.args.meter.now.limit c.args.given.now.max_elements c.args.table.names (anchors_view c.args.anchors.now) in
-    given_of c.args.clause.now _ c.in-Remove.is c.from_residual-in_err-remove_items-in-Remove.result s (state_of (graph_of_store g.T.Tables.seen c.args.store.now c.args.shared.now) (seen c.args.table) c.args.meter.now.used) _
+    given_of c.args.clause.now _ c.in-Remove.is c.from_residual-in_err-remove_items-in-Remove.result s (state_of c.args.live.now.graph (seen c.args.table) c.args.meter.now.used) _
     (gives_fault c.from_residual-in_err-remove_items-in-Remove.result _ _ _ c.from_residual-in_err-remove_items-in-Remove.ensures.1 (c.in_err-remove_items-in-Remove.ensures.answer s (suits_own (parameters_view c.args.given.now.parameters.now) c.args.meter.now.limit c.args.given.now.max_elements c.args.table.names (anchors_view c.args.anchors.now))).err)
 
 pub returns-in_err-remove_items-in-Remove-clause-names : goal.returns-in_err-remove_items-in-Remove-clause-names
@@ -165,13 +163,13 @@ returns-in_err-remove_items-in-Remove-clause-names g c = IfOk-from_err c.from_re
 pub returns-in_err-remove_items-in-Remove-clause-limit : goal.returns-in_err-remove_items-in-Remove-clause-limit
 returns-in_err-remove_items-in-Remove-clause-limit g c = c.remove_items.ensures.limit
 
-pub returns-in_err-remove_items-in-Remove-clause-changed : goal.returns-in_err-remove_items-in-Remove-clause-changed
-returns-in_err-remove_items-in-Remove-clause-changed g c = c.remove_items.ensures.changed
+pub returns-in_err-remove_items-in-Remove-clause-aside : goal.returns-in_err-remove_items-in-Remove-clause-aside
+returns-in_err-remove_items-in-Remove-clause-aside g c = c.remove_items.ensures.aside
 
 pub returns-in_ok-remove_items-in-Remove-clause-gives : goal.returns-in_ok-remove_items-in-Remove-clause-gives
 returns-in_ok-remove_items-in-Remove-clause-gives g c =
     let s = setting_of (parameters_view c.args.given.now.parameters.now) c.args.meter.now.limit c.args.given.now.max_elements c.args.table.names (anchors_view c.args.anchors.now) in
-    given_of c.args.clause.now _ c.in-Remove.is (Ok c.args.table) s (state_of (graph_of_store g.T.Tables.seen c.args.store.now c.args.shared.now) (seen c.args.table) c.args.meter.now.used) _
+    given_of c.args.clause.now _ c.in-Remove.is (Ok c.args.table) s (state_of c.args.live.now.graph (seen c.args.table) c.args.meter.now.used) _
     (record { ok = (c.in_ok-remove_items-in-Remove.ensures.answer s (suits_own (parameters_view c.args.given.now.parameters.now) c.args.meter.now.limit c.args.given.now.max_elements c.args.table.names (anchors_view c.args.anchors.now))).ok; err = tt })
 
 pub returns-in_ok-remove_items-in-Remove-clause-names : goal.returns-in_ok-remove_items-in-Remove-clause-names
@@ -180,13 +178,13 @@ returns-in_ok-remove_items-in-Remove-clause-names g c = named_of c.args.clause.n
 pub returns-in_ok-remove_items-in-Remove-clause-limit : goal.returns-in_ok-remove_items-in-Remove-clause-limit
 returns-in_ok-remove_items-in-Remove-clause-limit g c = c.remove_items.ensures.limit
 
-pub returns-in_ok-remove_items-in-Remove-clause-changed : goal.returns-in_ok-remove_items-in-Remove-clause-changed
-returns-in_ok-remove_items-in-Remove-clause-changed g c = c.remove_items.ensures.changed
+pub returns-in_ok-remove_items-in-Remove-clause-aside : goal.returns-in_ok-remove_items-in-Remove-clause-aside
+returns-in_ok-remove_items-in-Remove-clause-aside g c = c.remove_items.ensures.aside
 
 pub returns-in-Delete-clause-gives : goal.returns-in-Delete-clause-gives
 returns-in-Delete-clause-gives g c =
     let s = setting_of (parameters_view c.args.given.now.parameters.now) c.args.meter.now.limit c.args.given.now.max_elements c.args.table.names (anchors_view c.args.anchors.now) in
-    given_of c.args.clause.now _ c.in-Delete.is c.delete_elements.result s (state_of (graph_of_store g.T.Tables.seen c.args.store.now c.args.shared.now) (seen c.args.table) c.args.meter.now.used) _
+    given_of c.args.clause.now _ c.in-Delete.is c.delete_elements.result s (state_of c.args.live.now.graph (seen c.args.table) c.args.meter.now.used) _
     (c.delete_elements.ensures.gives s (suits_own (parameters_view c.args.given.now.parameters.now) c.args.meter.now.limit c.args.given.now.max_elements c.args.table.names (anchors_view c.args.anchors.now)))
 
 pub returns-in-Delete-clause-names : goal.returns-in-Delete-clause-names
@@ -195,26 +193,11 @@ returns-in-Delete-clause-names g c = named_of c.args.clause.now _ c.in-Delete.is
 pub returns-in-Delete-clause-limit : goal.returns-in-Delete-clause-limit
 returns-in-Delete-clause-limit g c = c.delete_elements.ensures.limit
 
-pub returns-in-Delete-clause-changed : goal.returns-in-Delete-clause-changed
-returns-in-Delete-clause-changed g c = c.delete_elements.ensures.changed
+pub returns-in-Delete-clause-aside : goal.returns-in-Delete-clause-aside
+returns-in-Delete-clause-aside g c = c.delete_elements.ensures.aside
 
-pub create_paths-requires-clause-fit : goal.create_paths-requires-clause-fit
-create_paths-requires-clause-fit g c = c.requires.fit
-
-pub create_paths-requires-clause-quota : goal.create_paths-requires-clause-quota
-create_paths-requires-clause-quota g c = c.requires.quota
-
-pub merge_path-requires-clause-fit : goal.merge_path-requires-clause-fit
-merge_path-requires-clause-fit g c = c.requires.fit
+pub create_paths-requires : goal.create_paths-requires
+create_paths-requires g c = record { quota = c.requires.quota }
 
 pub merge_path-requires-clause-quota : goal.merge_path-requires-clause-quota
 merge_path-requires-clause-quota g c = c.requires.quota
-
-pub set_items-requires : goal.set_items-requires
-set_items-requires g c = record { fit = c.requires.fit }
-
-pub remove_items-requires : goal.remove_items-requires
-remove_items-requires g c = record { fit = c.requires.fit }
-
-pub delete_elements-requires : goal.delete_elements-requires
-delete_elements-requires g c = record { fit = c.requires.fit }

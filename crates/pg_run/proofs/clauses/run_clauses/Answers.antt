@@ -8,10 +8,8 @@ use Rattle.pg_rows.specs.States.{Named, seen, state_of}
 use Rattle.pg_run.proofs.NextClause.{next_clause, no_clause}
 use Rattle.pg_run.proofs.Planned.{first_planned, others_planned}
 use Rattle.pg_run.specs.Runs.{plan_view, quota_of, setting_of}
-use Rattle.pg_store.specs.Stores.{graph_of_store}
 use Rattle.pg_syntax_tree.specs.View.{clause_view}
 use Rattle.pg_value_core.specs.Given.{parameters_view}
-use Rattle.pg_write_make.proofs.ChangedLemmas.{changed_then, unchanged}
 use Rattle.pg_write.proofs.ExitLemmas.{gives_fault}
 use Rattle.pg_run.proofs.clauses.run_clauses.Goals as goal
 
@@ -21,15 +19,12 @@ loop-clause-init g c =
     let clauses = map clause_view c.args.clauses.now in
     let plan = plan_view c.args.plan.now in
     record {
-      left = ap (λ (t : Named). clauses_run (parameters_view c.args.given.now.parameters.now) (quota_of c.args.meter.now.limit c.args.given.now.max_elements) t.names plan clauses (state_of (graph_of_store g.T.Tables.seen c.args.store.now c.args.shared.now) t c.args.meter.now.used)) begun;
+      left = ap (λ (t : Named). clauses_run (parameters_view c.args.given.now.parameters.now) (quota_of c.args.meter.now.limit c.args.given.now.max_elements) t.names plan clauses (state_of c.args.live.now.graph t c.args.meter.now.used)) begun;
       names = ap (λ (t : Named). fold scope_after t.names clauses) begun;
       limit = refl;
       planned = subst (λ (t : Named). IsPlanFrom t.names clauses plan) (sym begun) c.requires.planned;
-      changed = unchanged g.T.Tables.seen c.args.store.now c.args.shared.now c.requires.fit;
+      aside = refl;
     }
-
-pub run_clause-requires-clause-fit : goal.run_clause-requires-clause-fit
-run_clause-requires-clause-fit g c = c.loop-clause.invariant.changed.fit
 
 pub run_clause-requires-clause-quota : goal.run_clause-requires-clause-quota
 run_clause-requires-clause-quota g c = c.requires.quota
@@ -55,8 +50,8 @@ loop-clause-preserved g c =
     let clause = clause_view c.clause-item.result in
     let i = c.loop-clause.clause-index in
     let later = map clause_view (drop (i + 1) c.args.clauses.now) in
-    let before = state_of (graph_of_store g.T.Tables.seen c.loop-clause.store c.loop-clause.shared) (seen c.loop-clause.table) c.loop-clause.meter.used in
-    let after = state_of (graph_of_store g.T.Tables.seen c.run_clause.new.store c.run_clause.new.shared) (seen c.in_ok-table-2.table) c.run_clause.new.meter.used in
+    let before = state_of c.loop-clause.live.graph (seen c.loop-clause.table) c.loop-clause.meter.used in
+    let after = state_of c.run_clause.new.live.graph (seen c.in_ok-table-2.table) c.run_clause.new.meter.used in
     let says : clause_step (setting_of parameters limit elements names (first_anchors plan)) clause before ≡ Ok after =
     subst (λ a. clause_step (setting_of parameters limit elements names a) clause before ≡ Ok after) c.anchors_first.ensures.first c.in_ok-table-2.ensures.gives.ok in
     let step = next_clause parameters limit elements names plan clause later before after says in
@@ -79,7 +74,7 @@ loop-clause-preserved g c =
       planned =
           subst (λ ns. IsPlanFrom ns later (plan_view c.anchors_first.result.1.now)) (sym c.in_ok-table-2.ensures.names)
           (subst (λ p. IsPlanFrom (scope_after names clause) later p) (sym c.anchors_first.ensures.others) (others_planned names clause later plan here));
-      changed = changed_then g.T.Tables.seen c.args.store.now c.loop-clause.store c.run_clause.new.store c.args.shared.now c.loop-clause.shared c.run_clause.new.shared c.loop-clause.invariant.changed c.run_clause.ensures.changed;
+      aside = c.run_clause.ensures.aside ∙ c.loop-clause.invariant.aside;
     }
 
 pub returns-in_err-table-2-clause-gives : goal.returns-in_err-table-2-clause-gives
@@ -92,7 +87,7 @@ returns-in_err-table-2-clause-gives g c =
     let clause = clause_view c.clause-item.result in
     let i = c.loop-clause.clause-index in
     let later = map clause_view (drop (i + 1) c.args.clauses.now) in
-    let before = state_of (graph_of_store g.T.Tables.seen c.loop-clause.store c.loop-clause.shared) (seen c.loop-clause.table) c.loop-clause.meter.used in
+    let before = state_of c.loop-clause.live.graph (seen c.loop-clause.table) c.loop-clause.meter.used in
     let split : drop i c.args.clauses.now ≡ c.clause-item.result ∷ drop (i + 1) c.args.clauses.now =
     drop_more c.args.clauses.now i c.clause-item.result c.loop-clause-test.true ∙ ap (λ x. x ∷ drop (i + 1) c.args.clauses.now) (sym c.clause-item.is) in
     gives_fault c.from_residual-in_err-table-2.result _ _ _ c.from_residual-in_err-table-2.ensures.1
@@ -104,13 +99,13 @@ returns-in_err-table-2-clause-gives g c =
 pub returns-in_err-table-2-clause-limit : goal.returns-in_err-table-2-clause-limit
 returns-in_err-table-2-clause-limit g c = c.run_clause.ensures.limit ∙ c.loop-clause.invariant.limit
 
-pub returns-in_err-table-2-clause-changed : goal.returns-in_err-table-2-clause-changed
-returns-in_err-table-2-clause-changed g c =
-    changed_then g.T.Tables.seen c.args.store.now c.loop-clause.store c.run_clause.new.store c.args.shared.now c.loop-clause.shared c.run_clause.new.shared c.loop-clause.invariant.changed c.run_clause.ensures.changed
+pub returns-in_err-table-2-clause-aside : goal.returns-in_err-table-2-clause-aside
+returns-in_err-table-2-clause-aside g c =
+    c.run_clause.ensures.aside ∙ c.loop-clause.invariant.aside
 
 pub returns-clause-gives : goal.returns-clause-gives
 returns-clause-gives g c =
-    let before = state_of (graph_of_store g.T.Tables.seen c.loop-clause.store c.loop-clause.shared) (seen c.loop-clause.table) c.loop-clause.meter.used in
+    let before = state_of c.loop-clause.live.graph (seen c.loop-clause.table) c.loop-clause.meter.used in
     record {
       ok =
           sym c.loop-clause.invariant.left
@@ -127,8 +122,8 @@ returns-clause-names g c =
 pub returns-clause-limit : goal.returns-clause-limit
 returns-clause-limit g c = c.loop-clause.invariant.limit
 
-pub returns-clause-changed : goal.returns-clause-changed
-returns-clause-changed g c = c.loop-clause.invariant.changed
+pub returns-clause-aside : goal.returns-clause-aside
+returns-clause-aside g c = c.loop-clause.invariant.aside
 
 pub returns-in_err-table-clause-gives : goal.returns-in_err-table-clause-gives
 returns-in_err-table-clause-gives g c = gives_fault c.from_residual.result _ _ _ c.from_residual.ensures.1 (λ other. absurd (other refl))
@@ -136,5 +131,5 @@ returns-in_err-table-clause-gives g c = gives_fault c.from_residual.result _ _ _
 pub returns-in_err-table-clause-limit : goal.returns-in_err-table-clause-limit
 returns-in_err-table-clause-limit g c = refl
 
-pub returns-in_err-table-clause-changed : goal.returns-in_err-table-clause-changed
-returns-in_err-table-clause-changed g c = unchanged g.T.Tables.seen c.args.store.now c.args.shared.now c.requires.fit
+pub returns-in_err-table-clause-aside : goal.returns-in_err-table-clause-aside
+returns-in_err-table-clause-aside g c = refl

@@ -13,7 +13,6 @@ use Rattle.pg_run.proofs.ReplyLemmas.{planned_slice, replies, replies_fault, sli
 use Rattle.pg_run.specs.Running.{Replies, ran}
 use Rattle.pg_rows.specs.States.{seen, state_of}
 use Rattle.pg_run.specs.Runs.{anchors_view, plan_view, quota_of}
-use Rattle.pg_store.specs.Stores.{graph_of_store}
 use Rattle.pg_syntax_tree.specs.View.{clause_view, projection_view}
 use Rattle.pg_syntax_tree.specs.declared.clauses.Clause.{Clause}
 use Rattle.pg_syntax_tree.specs.declared.clauses.Projection.{Projection}
@@ -51,13 +50,13 @@ returns-in_err-table-in-Some-Return-default-clause-replies g c =
     let cs = map clause_view before in
     let p = projection_view c.in-Some-Return-default.projection in
     let plan = plan_view c.args.plan.now in
-    let start = graph_of_store g.T.Tables.seen c.args.store.now c.args.shared.now in
+    let start = c.args.live.now.graph in
     let used = c.args.meter.now.used in
     let begin = state_of start (record { names = []; rows = [] ∷ [] }) used in
     let same = last_is c.args.clauses.now before c.in-Some-Return-default.field-0-0.now c.in-Some-Return-default.projection c.in-Some-Return-default.ensures.cases.0 c.in-Some-Return-default.field-0-0-is in
     let planned = subst (λ xs. IsPlanFrom [] xs plan) same c.requires.planned in
     let slice = slice_is (λ anchors. anchors_view anchors.items) cs (return_rows p) c.args.plan.now planned (length before) (sym (length-map before clause_view)) in
-    let left = graph_of_store g.T.Tables.seen c.run_clauses.new.store c.run_clauses.new.shared in
+    let left = c.run_clauses.new.live.graph in
     let q = err_from_is_err_and c.from_residual.result c.from_residual.ensures.1 in
     rw (q.1, q.2)
     (whole_reply _ (ran ps limit elements start used plan) cs (map clause_view c.args.clauses.now) c.args.returns p left same c.requires.returning
@@ -73,7 +72,7 @@ returns-in_ok-table-in-Some-Return-default-clause-replies g c =
     let cs = map clause_view before in
     let p = projection_view c.in-Some-Return-default.projection in
     let plan = plan_view c.args.plan.now in
-    let start = graph_of_store g.T.Tables.seen c.args.store.now c.args.shared.now in
+    let start = c.args.live.now.graph in
     let used = c.args.meter.now.used in
     let begin = state_of start (record { names = []; rows = [] ∷ [] }) used in
     let same = last_is c.args.clauses.now before c.in-Some-Return-default.field-0-0.now c.in-Some-Return-default.projection c.in-Some-Return-default.ensures.cases.0 c.in-Some-Return-default.field-0-0-is in
@@ -81,7 +80,7 @@ returns-in_ok-table-in-Some-Return-default-clause-replies g c =
     let slice = slice_is (λ anchors. anchors_view anchors.items) cs (return_rows p) c.args.plan.now planned (length before) (sym (length-map before clause_view)) in
     let t = seen c.in_ok-table-in-Some-Return-default.table in
     let spent = c.run_clauses.new.meter.used in
-    let ran_so = sym (ap (λ (x : Plan). clauses_run ps quota [] x cs begin) slice) ∙ c.in_ok-table-in-Some-Return-default.ensures.gives.ok ∙ ap (λ (x : Graph). let r : Result State Fault = Ok (state_of x t spent) in r) (sym c.graph.ensures) in
-    whole_reply c.return_reply.result (ran ps limit elements start used plan) cs (map clause_view c.args.clauses.now) c.args.returns p (graph_of_store g.T.Tables.seen c.run_clauses.new.store c.run_clauses.new.shared) same c.requires.returning
-    (subst (λ (x : Graph). Replies c.return_reply.result (clauses_run ps quota [] plan (cs ++ return_rows p ∷ []) begin) true (fold scope_after [] (cs ++ return_rows p ∷ [])) x) c.graph.ensures
+    let ran_so = sym (ap (λ (x : Plan). clauses_run ps quota [] x cs begin) slice) ∙ c.in_ok-table-in-Some-Return-default.ensures.gives.ok ∙ ap (λ (x : Graph). let r : Result State Fault = Ok (state_of x t spent) in r) (sym c.graph.ensures.is) in
+    whole_reply c.return_reply.result (ran ps limit elements start used plan) cs (map clause_view c.args.clauses.now) c.args.returns p c.run_clauses.new.live.graph same c.requires.returning
+    (subst (λ (x : Graph). Replies c.return_reply.result (clauses_run ps quota [] plan (cs ++ return_rows p ∷ []) begin) true (fold scope_after [] (cs ++ return_rows p ∷ [])) x) c.graph.ensures.is
     (replies ps quota plan cs p begin c.graph.result t spent c.run_clauses.new.meter.limit c.return_reply.result ran_so c.in_ok-table-in-Some-Return-default.ensures.names (sym c.run_clauses.ensures.limit) c.return_reply.ensures))

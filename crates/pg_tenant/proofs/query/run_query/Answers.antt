@@ -6,7 +6,6 @@ use Rattle.pg_meaning.specs.Scopes.{columns, scope_after}
 use Rattle.pg_meaning.specs.Tree.{Query}
 use Rattle.pg_plan.specs.Anchors.{plan_view}
 use Rattle.pg_plan.specs.Plans.{plan_anchors, plan_query}
-use Rattle.pg_store.specs.Stores.{graph_of_store}
 use Rattle.pg_syntax_tree.specs.View.{clause_view}
 use Rattle.pg_tenant.proofs.FinishedLemmas.{planned, answer_run, output, run}
 use Rattle.pg_tenant.proofs.RepliedLemmas.{is_answer}
@@ -17,7 +16,7 @@ pub answer_clauses-requires-clause-planned : goal.answer_clauses-requires-clause
 answer_clauses-requires-clause-planned g c =
     let clauses_are = ap (map clause_view) c.as_slice-clauses.ensures.value ∙ ap (λ (q : Query). q.clauses) c.query.ensures in
     let plan_is = ap plan_view c.as_slice-anchors.ensures.value ∙ c.anchors.ensures.anchors in
-    planned (plan_anchors c.args.plan.now) (plan_query c.args.plan.now) (parameters_view c.args.parameters.now) (graph_of_store g.T.Tables.seen c.args.store.now c.args.shared.now) c.args.quota.max_steps c.args.quota.max_elements
+    planned (plan_anchors c.args.plan.now) (plan_query c.args.plan.now) (parameters_view c.args.parameters.now) c.args.live.now.graph c.args.quota.max_steps c.args.quota.max_elements
     _ _ c.new-meter.result clauses_are plan_is c.new-meter.ensures c.anchors.ensures.begins
 
 pub answer_clauses-requires-clause-returning : goal.answer_clauses-requires-clause-returning
@@ -32,8 +31,8 @@ returns-clause-answers g c =
     let clauses = map clause_view c.as_slice-clauses.result.now in
     let clauses_are = ap (map clause_view) c.as_slice-clauses.ensures.value ∙ ap (λ (q : Query). q.clauses) c.query.ensures in
     let plan_is = ap plan_view c.as_slice-anchors.ensures.value ∙ c.anchors.ensures.anchors in
-    let before = graph_of_store g.T.Tables.seen c.args.store.now c.args.shared.now in
-    let after = graph_of_store g.T.Tables.seen c.answer_clauses.new.store c.answer_clauses.new.shared in
+    let before = c.args.live.now.graph in
+    let after = c.answer_clauses.new.live.graph in
     let told = c.returns.ensures.returns in
     let names : columns q ≡ cond c.returns.result (fold scope_after [] clauses) [] =
     c.returns.ensures.last ∙ (λ i. cond (sym told i) (fold scope_after [] (sym clauses_are i)) []) in

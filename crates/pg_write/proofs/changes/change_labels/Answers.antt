@@ -6,69 +6,65 @@ use Rattle.pg_meaning.specs.Names.{Names}
 use Rattle.pg_meaning.specs.Patterns.{texts_of}
 use Rattle.pg_meaning.specs.Updates.{change_labels}
 use Rattle.pg_meaning.specs.declared.fault.Fault.TheVariants.{OutOfMemory}
-use Rattle.pg_store.specs.Stores.{graph_of_store}
 use Rattle.pg_syntax_tree.specs.View.{names_view}
 use Rattle.pg_write.specs.Parts.{labels_by}
 use Rattle.pg_write.specs.Targets.{target_view, IsThere}
 use Rattle.pg_write.specs.declared.targets.Target.{Target}
-use Rattle.pg_write_make.proofs.ChangedLemmas.{unchanged, one_change}
 use Rattle.pg_write.proofs.changes.change_labels.Goals as goal
 
 pub returns-in-Nothing : goal.returns-in-Nothing
 returns-in-Nothing g c =
-    let graph = graph_of_store g.T.Tables.seen c.args.store.now c.args.shared.now in
+    let graph = c.args.live.now.graph in
     record {
       ok = ap (λ (t : Target). change_labels (labels_by c.args.is_put (texts_of (names_view c.args.labels.now.items))) (target_view t) graph) c.in-Nothing.is;
       err = tt;
-      changed = unchanged g.T.Tables.seen c.args.store.now c.args.shared.now c.requires.fit;
+      aside = refl;
     }
 
 pub returns-in-Rel : goal.returns-in-Rel
 returns-in-Rel g c =
-    let graph = graph_of_store g.T.Tables.seen c.args.store.now c.args.shared.now in
+    let graph = c.args.live.now.graph in
     record {
       ok = tt;
       err = λ other. ap (λ (t : Target). change_labels (labels_by c.args.is_put (texts_of (names_view c.args.labels.now.items))) (target_view t) graph) c.in-Rel.is;
-      changed = unchanged g.T.Tables.seen c.args.store.now c.args.shared.now c.requires.fit;
+      aside = refl;
     }
 
 pub returns-in_err-texts-in-Node : goal.returns-in_err-texts-in-Node
 returns-in_err-texts-in-Node g c =
-    let graph = graph_of_store g.T.Tables.seen c.args.store.now c.args.shared.now in
+    let graph = c.args.live.now.graph in
     let given = change_labels (labels_by c.args.is_put (texts_of (names_view c.args.labels.now.items))) (target_view c.args.target) graph in
     record {
       ok = IfOk-from_err c.from_residual.result (λ u. given ≡ Ok graph) c.from_residual.ensures.0;
       err = fault_passed given OutOfMemory c.from_residual.result c.from_residual.ensures.1 (λ other. absurd (other refl));
-      changed = unchanged g.T.Tables.seen c.args.store.now c.args.shared.now c.requires.fit;
+      aside = refl;
     }
 
 pub add_labels-requires : goal.add_labels-requires
 add_labels-requires g c =
-    let graph = graph_of_store g.T.Tables.seen c.args.store.now c.args.shared.now in
-    record { fit = c.requires.fit; there = subst (λ (t : Target). IsThere graph (target_view t)) c.in-Node.is c.requires.there }
+    let graph = c.args.live.now.graph in
+    record { there = subst (λ (t : Target). IsThere graph (target_view t)) c.in-Node.is c.requires.there }
 
 pub returns-in_err-add_labels-in-Node : goal.returns-in_err-add_labels-in-Node
 returns-in_err-add_labels-in-Node g c =
-    let seen = g.T.Tables.seen in
     let call = c.add_labels in
     let result = c.from_residual-in_err-add_labels-in-Node in
-    let given = change_labels (labels_by c.args.is_put (texts_of (names_view c.args.labels.now.items))) (target_view c.args.target) (graph_of_store seen c.args.store.now c.args.shared.now) in
+    let given = change_labels (labels_by c.args.is_put (texts_of (names_view c.args.labels.now.items))) (target_view c.args.target) c.args.live.now.graph in
     record {
-      ok = IfOk-from_err result.result (λ u. given ≡ Ok (graph_of_store seen call.new.self call.new.shared)) result.ensures.0;
+      ok = IfOk-from_err result.result (λ u. given ≡ Ok call.new.self.graph) result.ensures.0;
       err = fault_passed given OutOfMemory result.result result.ensures.1 (λ other. absurd (other refl));
-      changed = one_change seen c.args.store.now c.args.shared.now call.new.self call.new.shared call.result _ call.ensures.changes call.ensures.marks;
+      aside = call.ensures.aside;
     }
 
 pub returns-in_ok-remove_labels-in-Node : goal.returns-in_ok-remove_labels-in-Node
 returns-in_ok-remove_labels-in-Node g c =
-    let seen = g.T.Tables.seen in
-    let graph = graph_of_store seen c.args.store.now c.args.shared.now in
+    let graph = c.args.live.now.graph in
     let call = c.remove_labels in
     let texts = texts_of (names_view c.args.labels.now.items) in
     record {
       ok =
           (λ i. change_labels (labels_by (c.if-is_put.false i) texts) (target_view (c.in-Node.is i)) graph)
-          ∙ ap Ok (sym (c.in_ok-remove_labels-in-Node.ensures.changes.says ∙ ap (λ (ts : Names). change_node (λ (e : Element). record e { labels = labels_by false ts e.labels }) c.in-Node.id.0 graph) c.in_ok-texts-in-Node.ensures));
+          ∙ ap Ok (sym (c.in_ok-remove_labels-in-Node.ensures.ok ∙ ap (λ (ts : Names). change_node (λ (e : Element). record e { labels = labels_by false ts e.labels }) c.in-Node.id.0 graph) c.in_ok-texts-in-Node.ensures));
       err = tt;
-      changed = one_change seen c.args.store.now c.args.shared.now call.new.self call.new.shared call.result _ call.ensures.changes call.ensures.marks;
+      aside = call.ensures.aside;
     }

@@ -7,11 +7,9 @@ use Rattle.pg_meaning.specs.Patterns.{add_path_names}
 use Rattle.pg_meaning.specs.Updates.{count_new}
 use Rattle.pg_rows.specs.States.{seen, state_of}
 use Rattle.pg_rows.specs.Tables.{table}
-use Rattle.pg_store.specs.Stores.{graph_of_store}
 use Rattle.pg_syntax_tree.specs.View.{on_view, path_view}
 use Rattle.pg_value_core.specs.Given.{parameters_view}
 use Rattle.pg_write.proofs.ExitLemmas.{gives_fault}
-use Rattle.pg_write_make.proofs.ChangedLemmas.{unchanged}
 use Rattle.pg_write.proofs.MergeClauseLemmas.{clause_is, first_kept, not_fewer}
 use Rattle.pg_write.proofs.ReadyLemmas.{said_err, said_ok}
 use Rattle.pg_write.proofs.merge.merge_path.Goals as goal
@@ -35,7 +33,6 @@ pub merge_rows-requires : goal.merge_rows-requires
 merge_rows-requires g c =
     let means = c.in_ok-merging.ensures.means in
     record {
-      fit = c.requires.fit;
       quota = subst (λ n. n ≤ 2 ^ 63) (sym means.most) c.requires.quota;
       ready = c.in_ok-merging.ensures.ready;
       bound = c.split-names.ensures.width ∙ ap length (sym c.split-names.ensures.names) ∙ sym c.len-bound.ensures ∙ sym means.bound_is;
@@ -44,8 +41,8 @@ merge_rows-requires g c =
 pub returns-in_err-merging-clause-gives : goal.returns-in_err-merging-clause-gives
 returns-in_err-merging-clause-gives g c = λ s suits most at. gives_fault c.from_residual-in_err-merging.result _ _ _ c.from_residual-in_err-merging.ensures.1 (λ other. absurd (other refl))
 
-pub returns-in_err-merging-clause-changed : goal.returns-in_err-merging-clause-changed
-returns-in_err-merging-clause-changed g c = unchanged g.T.Tables.seen c.args.store.now c.args.shared.now c.requires.fit
+pub returns-in_err-merging-clause-aside : goal.returns-in_err-merging-clause-aside
+returns-in_err-merging-clause-aside g c = refl
 
 pub returns-in_err-merging-clause-limit : goal.returns-in_err-merging-clause-limit
 returns-in_err-merging-clause-limit g c = refl
@@ -57,7 +54,7 @@ pub returns-in_err-merged-clause-gives : goal.returns-in_err-merged-clause-gives
 returns-in_err-merged-clause-gives g c = λ s suits most at.
     let e = err_from_is_err_and c.from_residual-in_err-merged.result c.from_residual-in_err-merged.ensures.1 in
     let p = path_view c.args.path.now in
-    let graph = graph_of_store g.T.Tables.seen c.args.store.now c.args.shared.now in
+    let graph = c.args.live.now.graph in
     let names = c.split-names.result.0 in
     let after = c.bind_names.new.names in
     let is : after ≡ add_path_names (p ∷ []) names = c.in_ok-bindings.ensures.names ∙ ap (λ ps. add_path_names (map path_view ps) names) c.from_ref-2.ensures.value in
@@ -71,7 +68,7 @@ returns-in_err-merged-clause-gives g c = λ s suits most at.
 pub returns-clause-gives : goal.returns-clause-gives
 returns-clause-gives g c = λ s suits most at.
     let p = path_view c.args.path.now in
-    let graph = graph_of_store g.T.Tables.seen c.args.store.now c.args.shared.now in
+    let graph = c.args.live.now.graph in
     let names = c.split-names.result.0 in
     let after = c.bind_names.new.names in
     let is : after ≡ add_path_names (p ∷ []) names = c.in_ok-bindings.ensures.names ∙ ap (λ ps. add_path_names (map path_view ps) names) c.from_ref-2.ensures.value in
@@ -81,15 +78,15 @@ returns-clause-gives g c = λ s suits most at.
     suits.parameters_are suits.steps_are most suits.scope_is at c.split-names.ensures.names (ap (λ k. take k after) (sym c.len-bound.ensures) ∙ kept)
     (rows_wide c.split-names.result.1 (length names) (c.split-names.ensures.width ∙ ap length (sym c.split-names.ensures.names))) c.split-names.ensures.rows (take c.len-bound.result after) kept in
     record {
-      ok = whole ∙ said_ok _ after c.len-bound.result c.in_ok-merging.merging c.in_ok-merging.ensures.means c.args.meter.now.limit graph c.args.meter.now.used (table c.split-names.result.1) (graph_of_store g.T.Tables.seen c.merge_rows.new.store c.merge_rows.new.shared) c.merge_rows.new.meter.used (Ok c.in_ok-merged.merged) c.in_ok-merged.ensures.ok ∙ ap (λ t. Ok (state_of (graph_of_store g.T.Tables.seen c.merge_rows.new.store c.merge_rows.new.shared) t c.merge_rows.new.meter.used)) (sym c.new.ensures);
+      ok = whole ∙ said_ok _ after c.len-bound.result c.in_ok-merging.merging c.in_ok-merging.ensures.means c.args.meter.now.limit graph c.args.meter.now.used (table c.split-names.result.1) c.merge_rows.new.live.graph c.merge_rows.new.meter.used (Ok c.in_ok-merged.merged) c.in_ok-merged.ensures.ok ∙ ap (λ t. Ok (state_of c.merge_rows.new.live.graph t c.merge_rows.new.meter.used)) (sym c.new.ensures);
       err = tt;
     }
 
 pub returns-in_err-count-clause-gives : goal.returns-in_err-count-clause-gives
 returns-in_err-count-clause-gives g c = λ s suits most at. gives_fault c.from_residual.result _ _ _ c.from_residual.ensures.1 (λ other. absurd (other refl))
 
-pub returns-in_err-count-clause-changed : goal.returns-in_err-count-clause-changed
-returns-in_err-count-clause-changed g c = unchanged g.T.Tables.seen c.args.store.now c.args.shared.now c.requires.fit
+pub returns-in_err-count-clause-aside : goal.returns-in_err-count-clause-aside
+returns-in_err-count-clause-aside g c = refl
 
 pub returns-in_err-count-clause-limit : goal.returns-in_err-count-clause-limit
 returns-in_err-count-clause-limit g c = refl
@@ -97,20 +94,20 @@ returns-in_err-count-clause-limit g c = refl
 pub returns-in_err-bindings-clause-gives : goal.returns-in_err-bindings-clause-gives
 returns-in_err-bindings-clause-gives g c = λ s suits most at. gives_fault c.from_residual-in_err-bindings.result _ _ _ c.from_residual-in_err-bindings.ensures.1 (λ other. absurd (other refl))
 
-pub returns-in_err-bindings-clause-changed : goal.returns-in_err-bindings-clause-changed
-returns-in_err-bindings-clause-changed g c = unchanged g.T.Tables.seen c.args.store.now c.args.shared.now c.requires.fit
+pub returns-in_err-bindings-clause-aside : goal.returns-in_err-bindings-clause-aside
+returns-in_err-bindings-clause-aside g c = refl
 
 pub returns-in_err-bindings-clause-limit : goal.returns-in_err-bindings-clause-limit
 returns-in_err-bindings-clause-limit g c = refl
 
-pub returns-in_err-merged-clause-changed : goal.returns-in_err-merged-clause-changed
-returns-in_err-merged-clause-changed g c = c.merge_rows.ensures.changed
+pub returns-in_err-merged-clause-aside : goal.returns-in_err-merged-clause-aside
+returns-in_err-merged-clause-aside g c = c.merge_rows.ensures.aside
 
 pub returns-in_err-merged-clause-limit : goal.returns-in_err-merged-clause-limit
 returns-in_err-merged-clause-limit g c = c.merge_rows.ensures.limit
 
-pub returns-clause-changed : goal.returns-clause-changed
-returns-clause-changed g c = c.merge_rows.ensures.changed
+pub returns-clause-aside : goal.returns-clause-aside
+returns-clause-aside g c = c.merge_rows.ensures.aside
 
 pub returns-clause-limit : goal.returns-clause-limit
 returns-clause-limit g c = c.merge_rows.ensures.limit

@@ -5,9 +5,7 @@ use Rattle.pg_meaning.specs.Updates.{merged_row}
 use Rattle.pg_rows.specs.Left.{rows_left}
 use Rattle.pg_rows.specs.Named.{row_of, rows_named}
 use Rattle.pg_rows.specs.Tables.{table}
-use Rattle.pg_store.specs.Stores.{graph_of_store}
 use Rattle.pg_value_core.specs.View.{view}
-use Rattle.pg_write_make.proofs.ChangedLemmas.{changed_then, unchanged}
 use Rattle.pg_write.proofs.MergeLemmas.{one_fewer, rows_over, step_err, step_next}
 use Rattle.pg_write.specs.Ready.{matched_in, names_in, setting_in, state_in}
 use Rattle.pg_write.proofs.merged_rows.keep_matched.Goals as goal
@@ -15,13 +13,13 @@ use Rattle.pg_write.proofs.merged_rows.keep_matched.Goals as goal
 pub loop-left-init : goal.loop-left-init
 loop-left-init g c =
     let m = c.args.merging.now in
-    let start = state_in m (graph_of_store g.T.Tables.seen c.args.store.now c.args.shared.now) c.args.merged.now c.args.meter.now.used in
+    let start = state_in m c.args.live.now.graph c.args.merged.now c.args.meter.now.used in
     record {
       rest = ap (λ rs. each_step (merged_row (setting_in m c.args.meter.now.limit) (matched_in m)) start (rows_named (names_in m) rs)) (sym c.into_left-left.ensures.rows);
       width = refl;
       narrow = c.into_left-left.ensures.width;
       limit = refl;
-      changed = unchanged g.T.Tables.seen c.args.store.now c.args.shared.now c.requires.fit;
+      aside = refl;
     }
 
 pub returns-in_err-row-clause-err : goal.returns-in_err-row-clause-err
@@ -32,38 +30,34 @@ returns-in_err-row-clause-err g c =
 pub returns-in_err-row-clause-width : goal.returns-in_err-row-clause-width
 returns-in_err-row-clause-width g c = c.loop-left.invariant.width
 
-pub returns-in_err-row-clause-changed : goal.returns-in_err-row-clause-changed
-returns-in_err-row-clause-changed g c = c.loop-left.invariant.changed
+pub returns-in_err-row-clause-aside : goal.returns-in_err-row-clause-aside
+returns-in_err-row-clause-aside g c = c.loop-left.invariant.aside
 
 pub returns-in_err-row-clause-limit : goal.returns-in_err-row-clause-limit
 returns-in_err-row-clause-limit g c = c.loop-left.invariant.limit
 
-pub merged_row-requires-clause-fit : goal.merged_row-requires-clause-fit
-merged_row-requires-clause-fit g c = c.loop-left.invariant.changed.fit
-
-pub merged_row-requires-clause-wide : goal.merged_row-requires-clause-wide
-merged_row-requires-clause-wide g c = (rw c.in-Some.is at c.in_ok-row.ensures.len) ∙ c.loop-left.invariant.narrow ∙ c.requires.wide ∙ sym c.loop-left.invariant.width
+pub merged_row-requires : goal.merged_row-requires
+merged_row-requires g c = record { wide = (rw c.in-Some.is at c.in_ok-row.ensures.len) ∙ c.loop-left.invariant.narrow ∙ c.requires.wide ∙ sym c.loop-left.invariant.width }
 
 pub returns-in_err-merged_row-clause-err : goal.returns-in_err-merged_row-clause-err
 returns-in_err-merged_row-clause-err g c =
     let m = c.args.merging.now in
     let l = c.loop-left in
-    let seen = g.T.Tables.seen in
     let step = λ (limit : ℕ). merged_row (setting_in m limit) (matched_in m) in
     let first = rw c.in-Some.is at c.in_ok-row.ensures.row in
     let p = err_from_is_err_and c.from_residual-in_err-merged_row.result c.from_residual-in_err-merged_row.ensures.1 in
     rw (p.1, p.2) (λ other. step_err step l.meter.limit c.args.meter.now.limit l.invariant.limit
-    (each_step (step c.args.meter.now.limit) (state_in m (graph_of_store seen c.args.store.now c.args.shared.now) c.args.merged.now c.args.meter.now.used) (rows_named (names_in m) (table c.args.found)))
-    (state_in m (graph_of_store seen l.store l.shared) l.merged l.meter.used)
+    (each_step (step c.args.meter.now.limit) (state_in m c.args.live.now.graph c.args.merged.now c.args.meter.now.used) (rows_named (names_in m) (table c.args.found)))
+    (state_in m l.live.graph l.merged l.meter.used)
     (row_of (names_in m) (map view c.in-Some.row.items)) (rows_named (names_in m) (rows_left c.next_row.new.self)) (rows_named (names_in m) (rows_left l.left)) c.in_err-merged_row.field-0.0
     l.invariant.rest (ap (rows_named (names_in m)) first) (c.in_err-merged_row.ensures.err other))
 
 pub returns-in_err-merged_row-clause-width : goal.returns-in_err-merged_row-clause-width
 returns-in_err-merged_row-clause-width g c = c.merged_row.ensures.width ∙ c.loop-left.invariant.width
 
-pub returns-in_err-merged_row-clause-changed : goal.returns-in_err-merged_row-clause-changed
-returns-in_err-merged_row-clause-changed g c =
-    changed_then g.T.Tables.seen c.args.store.now c.loop-left.store c.merged_row.new.store c.args.shared.now c.loop-left.shared c.merged_row.new.shared c.loop-left.invariant.changed c.merged_row.ensures.changed
+pub returns-in_err-merged_row-clause-aside : goal.returns-in_err-merged_row-clause-aside
+returns-in_err-merged_row-clause-aside g c =
+    c.merged_row.ensures.aside ∙ c.loop-left.invariant.aside
 
 pub returns-in_err-merged_row-clause-limit : goal.returns-in_err-merged_row-clause-limit
 returns-in_err-merged_row-clause-limit g c = c.merged_row.ensures.limit ∙ c.loop-left.invariant.limit
@@ -75,38 +69,36 @@ pub loop-left-preserved : goal.loop-left-preserved
 loop-left-preserved g c =
     let m = c.args.merging.now in
     let l = c.loop-left in
-    let seen = g.T.Tables.seen in
     let step = λ (limit : ℕ). merged_row (setting_in m limit) (matched_in m) in
     let first = rw c.in-Some.is at c.in_ok-row.ensures.row in
     record {
       rest =
           step_next step l.meter.limit c.args.meter.now.limit l.invariant.limit
-          (each_step (step c.args.meter.now.limit) (state_in m (graph_of_store seen c.args.store.now c.args.shared.now) c.args.merged.now c.args.meter.now.used) (rows_named (names_in m) (table c.args.found)))
-          (state_in m (graph_of_store seen l.store l.shared) l.merged l.meter.used)
-          (state_in m (graph_of_store seen c.merged_row.new.store c.merged_row.new.shared) c.merged_row.new.merged c.merged_row.new.meter.used)
+          (each_step (step c.args.meter.now.limit) (state_in m c.args.live.now.graph c.args.merged.now c.args.meter.now.used) (rows_named (names_in m) (table c.args.found)))
+          (state_in m l.live.graph l.merged l.meter.used)
+          (state_in m c.merged_row.new.live.graph c.merged_row.new.merged c.merged_row.new.meter.used)
           (row_of (names_in m) (map view c.in-Some.row.items)) (rows_named (names_in m) (rows_left c.next_row.new.self)) (rows_named (names_in m) (rows_left l.left))
           l.invariant.rest (ap (rows_named (names_in m)) first) c.in_ok-merged_row.ensures.ok;
       width = c.merged_row.ensures.width ∙ l.invariant.width;
       narrow = c.next_row.ensures.width ∙ l.invariant.narrow;
       limit = c.merged_row.ensures.limit ∙ l.invariant.limit;
-      changed = changed_then seen c.args.store.now l.store c.merged_row.new.store c.args.shared.now l.shared c.merged_row.new.shared l.invariant.changed c.merged_row.ensures.changed;
+      aside = c.merged_row.ensures.aside ∙ l.invariant.aside;
     }
 
 pub returns-clause-ok : goal.returns-clause-ok
 returns-clause-ok g c =
     let m = c.args.merging.now in
     let l = c.loop-left in
-    let seen = g.T.Tables.seen in
     let step = merged_row (setting_in m c.args.meter.now.limit) (matched_in m) in
     rows_over step (names_in m)
-    (each_step step (state_in m (graph_of_store seen c.args.store.now c.args.shared.now) c.args.merged.now c.args.meter.now.used) (rows_named (names_in m) (table c.args.found)))
-    (state_in m (graph_of_store seen l.store l.shared) l.merged l.meter.used) (rows_left l.left) l.invariant.rest (rw c.in_default.is at c.in_ok-row.ensures.none)
+    (each_step step (state_in m c.args.live.now.graph c.args.merged.now c.args.meter.now.used) (rows_named (names_in m) (table c.args.found)))
+    (state_in m l.live.graph l.merged l.meter.used) (rows_left l.left) l.invariant.rest (rw c.in_default.is at c.in_ok-row.ensures.none)
 
 pub returns-clause-width : goal.returns-clause-width
 returns-clause-width g c = c.loop-left.invariant.width
 
-pub returns-clause-changed : goal.returns-clause-changed
-returns-clause-changed g c = c.loop-left.invariant.changed
+pub returns-clause-aside : goal.returns-clause-aside
+returns-clause-aside g c = c.loop-left.invariant.aside
 
 pub returns-clause-limit : goal.returns-clause-limit
 returns-clause-limit g c = c.loop-left.invariant.limit

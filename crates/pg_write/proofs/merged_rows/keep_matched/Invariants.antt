@@ -4,8 +4,6 @@ use Rattle.pg_meaning.specs.Updates.{merged_row}
 use Rattle.pg_rows.specs.Left.{rows_left}
 use Rattle.pg_rows.specs.Named.{rows_named}
 use Rattle.pg_rows.specs.Tables.{table}
-use Rattle.pg_store.specs.Stores.{graph_of_store}
-use Rattle.pg_write_make.specs.Changed.{Changed}
 use Rattle.pg_write.specs.Ready.{matched_in, names_in, setting_in, state_in}
 use Rattle.pg_write.proofs.merged_rows.keep_matched.Given as goal
 
@@ -14,12 +12,12 @@ invariant-loop-left g l =
     let m = l.merging in
     let step = merged_row (setting_in m l.fn.meter.limit) (matched_in m) in
     record {
-      rest : each_step step (state_in m (graph_of_store g.T.Tables.seen l.fn.store l.fn.shared) l.fn.merged l.fn.meter.used) (rows_named (names_in m) (table l.fn.found))
-          ≡ each_step step (state_in m (graph_of_store g.T.Tables.seen l.store l.shared) l.merged l.meter.used) (rows_named (names_in m) (rows_left l.left));
+      rest : each_step step (state_in m l.fn.live.graph l.fn.merged l.fn.meter.used) (rows_named (names_in m) (table l.fn.found))
+          ≡ each_step step (state_in m l.live.graph l.merged l.meter.used) (rows_named (names_in m) (rows_left l.left));
       width : l.merged.width ≡ l.fn.merged.width;
       narrow : l.left.rows.width ≡ l.fn.found.width;
       limit : l.meter.limit ≡ l.fn.meter.limit;
-      changed : Changed g.T.Tables.seen l.fn.store l.fn.shared l.store l.shared;
+      aside : l.live.aside ≡ l.fn.live.aside;
     }
 
 abbrev pub decreases-loop-left : goal.decreases-loop-left

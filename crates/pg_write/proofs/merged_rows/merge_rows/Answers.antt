@@ -4,9 +4,7 @@ use Rattle.pg_meaning.specs.Answer.{each_step}
 use Rattle.pg_rows.specs.Left.{rows_left}
 use Rattle.pg_rows.specs.Named.{row_of, rows_named}
 use Rattle.pg_rows.specs.Tables.{table}
-use Rattle.pg_store.specs.Stores.{graph_of_store}
 use Rattle.pg_value_core.specs.View.{view}
-use Rattle.pg_write_make.proofs.ChangedLemmas.{changed_then, unchanged}
 use Rattle.pg_write.proofs.MergeLemmas.{one_fewer, rows_begun, rows_over, step_err, step_next, with_rows}
 use Rattle.pg_write.specs.Mergings.{row_merged}
 use Rattle.pg_write.specs.Ready.{created_in, matched_in, names_in, path_in, setting_in, state_in}
@@ -17,12 +15,12 @@ loop-left-init g c =
     let m = c.args.merging.now in
     record {
       rest =
-          rows_begun (row_merged (setting_in m c.args.meter.now.limit) (path_in m) (created_in m) (matched_in m)) (names_in m) (graph_of_store g.T.Tables.seen c.args.store.now c.args.shared.now) c.args.meter.now.used
+          rows_begun (row_merged (setting_in m c.args.meter.now.limit) (path_in m) (created_in m) (matched_in m)) (names_in m) c.args.live.now.graph c.args.meter.now.used
           (table c.args.rows) (rows_left c.into_left-left.result) (table c.new-merged.result) c.into_left-left.ensures.rows c.new-merged.ensures.rows;
       width = c.new-merged.ensures.width ∙ c.len.ensures;
       narrow = c.into_left-left.ensures.width;
       limit = refl;
-      changed = unchanged g.T.Tables.seen c.args.store.now c.args.shared.now c.requires.fit;
+      aside = refl;
     }
 
 pub returns-in_err-row-clause-err : goal.returns-in_err-row-clause-err
@@ -30,14 +28,11 @@ returns-in_err-row-clause-err g c =
     let p = err_from_is_err_and c.from_residual.result c.from_residual.ensures.1 in
     rw (p.1, p.2) (λ other. absurd (other refl))
 
-pub returns-in_err-row-clause-changed : goal.returns-in_err-row-clause-changed
-returns-in_err-row-clause-changed g c = c.loop-left.invariant.changed
+pub returns-in_err-row-clause-aside : goal.returns-in_err-row-clause-aside
+returns-in_err-row-clause-aside g c = c.loop-left.invariant.aside
 
 pub returns-in_err-row-clause-limit : goal.returns-in_err-row-clause-limit
 returns-in_err-row-clause-limit g c = c.loop-left.invariant.limit
-
-pub merge_row-requires-clause-fit : goal.merge_row-requires-clause-fit
-merge_row-requires-clause-fit g c = c.loop-left.invariant.changed.fit
 
 pub merge_row-requires-clause-quota : goal.merge_row-requires-clause-quota
 merge_row-requires-clause-quota g c = c.requires.quota
@@ -55,19 +50,18 @@ pub returns-in_err-merge_row-clause-err : goal.returns-in_err-merge_row-clause-e
 returns-in_err-merge_row-clause-err g c =
     let m = c.args.merging.now in
     let l = c.loop-left in
-    let seen = g.T.Tables.seen in
     let step = λ (limit : ℕ). row_merged (setting_in m limit) (path_in m) (created_in m) (matched_in m) in
     let first = rw c.in-Some.is at c.in_ok-row.ensures.row in
     let p = err_from_is_err_and c.from_residual-in_err-merge_row.result c.from_residual-in_err-merge_row.ensures.1 in
     rw (p.1, p.2) (λ other. step_err step l.meter.limit c.args.meter.now.limit l.invariant.limit
-    (each_step (step c.args.meter.now.limit) (with_rows (graph_of_store seen c.args.store.now c.args.shared.now) [] c.args.meter.now.used) (rows_named (names_in m) (table c.args.rows)))
-    (state_in m (graph_of_store seen l.store l.shared) l.merged l.meter.used)
+    (each_step (step c.args.meter.now.limit) (with_rows c.args.live.now.graph [] c.args.meter.now.used) (rows_named (names_in m) (table c.args.rows)))
+    (state_in m l.live.graph l.merged l.meter.used)
     (row_of (names_in m) (map view c.in-Some.row.items)) (rows_named (names_in m) (rows_left c.next_row.new.self)) (rows_named (names_in m) (rows_left l.left)) c.in_err-merge_row.field-0.0
     l.invariant.rest (ap (rows_named (names_in m)) first) (c.in_err-merge_row.ensures.err other))
 
-pub returns-in_err-merge_row-clause-changed : goal.returns-in_err-merge_row-clause-changed
-returns-in_err-merge_row-clause-changed g c =
-    changed_then g.T.Tables.seen c.args.store.now c.loop-left.store c.merge_row.new.store c.args.shared.now c.loop-left.shared c.merge_row.new.shared c.loop-left.invariant.changed c.merge_row.ensures.changed
+pub returns-in_err-merge_row-clause-aside : goal.returns-in_err-merge_row-clause-aside
+returns-in_err-merge_row-clause-aside g c =
+    c.merge_row.ensures.aside ∙ c.loop-left.invariant.aside
 
 pub returns-in_err-merge_row-clause-limit : goal.returns-in_err-merge_row-clause-limit
 returns-in_err-merge_row-clause-limit g c = c.merge_row.ensures.limit ∙ c.loop-left.invariant.limit
@@ -79,38 +73,36 @@ pub loop-left-preserved : goal.loop-left-preserved
 loop-left-preserved g c =
     let m = c.args.merging.now in
     let l = c.loop-left in
-    let seen = g.T.Tables.seen in
     let step = λ (limit : ℕ). row_merged (setting_in m limit) (path_in m) (created_in m) (matched_in m) in
     let first = rw c.in-Some.is at c.in_ok-row.ensures.row in
     record {
       rest =
           step_next step l.meter.limit c.args.meter.now.limit l.invariant.limit
-          (each_step (step c.args.meter.now.limit) (with_rows (graph_of_store seen c.args.store.now c.args.shared.now) [] c.args.meter.now.used) (rows_named (names_in m) (table c.args.rows)))
-          (state_in m (graph_of_store seen l.store l.shared) l.merged l.meter.used)
-          (state_in m (graph_of_store seen c.merge_row.new.store c.merge_row.new.shared) c.merge_row.new.merged c.merge_row.new.meter.used)
+          (each_step (step c.args.meter.now.limit) (with_rows c.args.live.now.graph [] c.args.meter.now.used) (rows_named (names_in m) (table c.args.rows)))
+          (state_in m l.live.graph l.merged l.meter.used)
+          (state_in m c.merge_row.new.live.graph c.merge_row.new.merged c.merge_row.new.meter.used)
           (row_of (names_in m) (map view c.in-Some.row.items)) (rows_named (names_in m) (rows_left c.next_row.new.self)) (rows_named (names_in m) (rows_left l.left))
           l.invariant.rest (ap (rows_named (names_in m)) first) c.in_ok-merge_row.ensures.ok;
       width = c.merge_row.ensures.width ∙ l.invariant.width;
       narrow = c.next_row.ensures.width ∙ l.invariant.narrow;
       limit = c.merge_row.ensures.limit ∙ l.invariant.limit;
-      changed = changed_then seen c.args.store.now l.store c.merge_row.new.store c.args.shared.now l.shared c.merge_row.new.shared l.invariant.changed c.merge_row.ensures.changed;
+      aside = c.merge_row.ensures.aside ∙ l.invariant.aside;
     }
 
 pub returns-clause-ok : goal.returns-clause-ok
 returns-clause-ok g c =
     let m = c.args.merging.now in
     let l = c.loop-left in
-    let seen = g.T.Tables.seen in
     let step = row_merged (setting_in m c.args.meter.now.limit) (path_in m) (created_in m) (matched_in m) in
     rows_over step (names_in m)
-    (each_step step (with_rows (graph_of_store seen c.args.store.now c.args.shared.now) [] c.args.meter.now.used) (rows_named (names_in m) (table c.args.rows)))
-    (state_in m (graph_of_store seen l.store l.shared) l.merged l.meter.used) (rows_left l.left) l.invariant.rest (rw c.in_default.is at c.in_ok-row.ensures.none)
+    (each_step step (with_rows c.args.live.now.graph [] c.args.meter.now.used) (rows_named (names_in m) (table c.args.rows)))
+    (state_in m l.live.graph l.merged l.meter.used) (rows_left l.left) l.invariant.rest (rw c.in_default.is at c.in_ok-row.ensures.none)
 
 pub returns-clause-width : goal.returns-clause-width
 returns-clause-width g c = c.loop-left.invariant.width
 
-pub returns-clause-changed : goal.returns-clause-changed
-returns-clause-changed g c = c.loop-left.invariant.changed
+pub returns-clause-aside : goal.returns-clause-aside
+returns-clause-aside g c = c.loop-left.invariant.aside
 
 pub returns-clause-limit : goal.returns-clause-limit
 returns-clause-limit g c = c.loop-left.invariant.limit

@@ -3,8 +3,6 @@ use Rattle.pg_meaning.specs.Answer.{each_step}
 use Rattle.pg_rows.specs.Left.{rows_left}
 use Rattle.pg_rows.specs.Named.{rows_named}
 use Rattle.pg_rows.specs.Tables.{table}
-use Rattle.pg_store.specs.Stores.{graph_of_store}
-use Rattle.pg_write_make.specs.Changed.{Changed}
 use Rattle.pg_write.specs.Mergings.{row_merged}
 use Rattle.pg_write.specs.Ready.{created_in, matched_in, names_in, path_in, setting_in, state_in}
 use Rattle.pg_write.proofs.merged_rows.merge_rows.Given as goal
@@ -14,12 +12,12 @@ invariant-loop-left g l =
     let m = l.merging in
     let step = row_merged (setting_in m l.fn.meter.limit) (path_in m) (created_in m) (matched_in m) in
     record {
-      rest : each_step step (record { graph = graph_of_store g.T.Tables.seen l.fn.store l.fn.shared; rows = []; steps = l.fn.meter.used }) (rows_named (names_in m) (table l.fn.rows))
-          ≡ each_step step (state_in m (graph_of_store g.T.Tables.seen l.store l.shared) l.merged l.meter.used) (rows_named (names_in m) (rows_left l.left));
+      rest : each_step step (record { graph = l.fn.live.graph; rows = []; steps = l.fn.meter.used }) (rows_named (names_in m) (table l.fn.rows))
+          ≡ each_step step (state_in m l.live.graph l.merged l.meter.used) (rows_named (names_in m) (rows_left l.left));
       width : l.merged.width ≡ length (names_in m);
       narrow : l.left.rows.width ≡ l.fn.rows.width;
       limit : l.meter.limit ≡ l.fn.meter.limit;
-      changed : Changed g.T.Tables.seen l.fn.store l.fn.shared l.store l.shared;
+      aside : l.live.aside ≡ l.fn.live.aside;
     }
 
 abbrev pub decreases-loop-left : goal.decreases-loop-left

@@ -5,10 +5,8 @@ use Rattle.pg_expr.proofs.ExitLemmas.{fault_passed}
 use Rattle.pg_meaning.specs.Updates.{set_row}
 use Rattle.pg_meaning.specs.declared.fault.Fault.TheVariants.{OutOfMemory}
 use Rattle.pg_rows.specs.Tables.{table}
-use Rattle.pg_store.specs.Stores.{graph_of_store}
 use Rattle.pg_value_core.specs.View.{view}
 use Rattle.pg_write.specs.Items.{item_of}
-use Rattle.pg_write_make.proofs.ChangedLemmas.{unchanged}
 use Rattle.pg_write_make.specs.Scenes.{parameters_in, reading, row_in}
 use Rattle.pg_write.proofs.MergeLemmas.{row_done, row_fault, row_refused}
 use Rattle.pg_write.specs.Ready.{items_in, names_in, setting_in}
@@ -20,7 +18,7 @@ returns-in_err-spend-clause-err g c =
     let m = c.args.merging.now in
     let s = setting_in m c.args.meter.now.limit in
     let items = items_in m c.args.items.now.items in
-    let graph = graph_of_store g.T.Tables.seen c.args.store.now c.args.shared.now in
+    let graph = c.args.live.now.graph in
     let counted : c.len.result ≡ length c.args.items.now.items = omega (arith, c.len.ensures, c.args.items.now.ok.0) in
     let many : c.len.result ≡ length items = counted ∙ sym (length-map c.args.items.now.items (item_of (names_in m))) in
     rw (p.1, p.2)
@@ -32,7 +30,7 @@ returns-in_err-set_row-clause-err g c =
     let m = c.args.merging.now in
     let s = setting_in m c.args.meter.now.limit in
     let items = items_in m c.args.items.now.items in
-    let graph = graph_of_store g.T.Tables.seen c.args.store.now c.args.shared.now in
+    let graph = c.args.live.now.graph in
     let counted : c.len.result ≡ length c.args.items.now.items = omega (arith, c.len.ensures, c.args.items.now.ok.0) in
     let many : c.len.result ≡ length items = counted ∙ sym (length-map c.args.items.now.items (item_of (names_in m))) in
     rw (p.1, p.2)
@@ -45,11 +43,11 @@ returns-clause-ok g c =
     let m = c.args.merging.now in
     let s = setting_in m c.args.meter.now.limit in
     let items = items_in m c.args.items.now.items in
-    let graph = graph_of_store g.T.Tables.seen c.args.store.now c.args.shared.now in
+    let graph = c.args.live.now.graph in
     let counted : c.len.result ≡ length c.args.items.now.items = omega (arith, c.len.ensures, c.args.items.now.ok.0) in
     let many : c.len.result ≡ length items = counted ∙ sym (length-map c.args.items.now.items (item_of (names_in m))) in
     row_done s items graph (names_in m) (table c.args.merged.now) c.args.meter.now.used c.len.result (map view c.args.row.items) many
-    (graph_of_store g.T.Tables.seen c.set_row.new.store c.set_row.new.shared) (table c.push.new.self) c.spend.new.self.used (c.in_ok-spend.ensures.spends s refl)
+    c.set_row.new.live.graph (table c.push.new.self) c.spend.new.self.used (c.in_ok-spend.ensures.spends s refl)
     (ap (λ vs. set_row (reading (parameters_in m.scene)) items graph (row_in m.scene vs)) (sym c.deref.ensures.value) ∙ c.in_ok-set_row.ensures.ok)
     c.in_ok-push.ensures.rows
 
@@ -59,8 +57,8 @@ returns-in_err-spend-clause-ok g c = IfOk-from_err c.from_residual.result _ c.fr
 pub returns-in_err-spend-clause-width : goal.returns-in_err-spend-clause-width
 returns-in_err-spend-clause-width g c = refl
 
-pub returns-in_err-spend-clause-changed : goal.returns-in_err-spend-clause-changed
-returns-in_err-spend-clause-changed g c = unchanged g.T.Tables.seen c.args.store.now c.args.shared.now c.requires.fit
+pub returns-in_err-spend-clause-aside : goal.returns-in_err-spend-clause-aside
+returns-in_err-spend-clause-aside g c = refl
 
 pub returns-in_err-spend-clause-limit : goal.returns-in_err-spend-clause-limit
 returns-in_err-spend-clause-limit g c = c.spend.ensures.limit
@@ -71,8 +69,8 @@ returns-in_err-set_row-clause-ok g c = IfOk-from_err c.from_residual-in_err-set_
 pub returns-in_err-set_row-clause-width : goal.returns-in_err-set_row-clause-width
 returns-in_err-set_row-clause-width g c = refl
 
-pub returns-in_err-set_row-clause-changed : goal.returns-in_err-set_row-clause-changed
-returns-in_err-set_row-clause-changed g c = c.set_row.ensures.changed
+pub returns-in_err-set_row-clause-aside : goal.returns-in_err-set_row-clause-aside
+returns-in_err-set_row-clause-aside g c = c.set_row.ensures.aside
 
 pub returns-in_err-set_row-clause-limit : goal.returns-in_err-set_row-clause-limit
 returns-in_err-set_row-clause-limit g c = c.spend.ensures.limit
@@ -86,8 +84,8 @@ returns-in_err-push-clause-err g c = fault_passed _ OutOfMemory c.from_residual-
 pub returns-in_err-push-clause-width : goal.returns-in_err-push-clause-width
 returns-in_err-push-clause-width g c = c.push.ensures.width
 
-pub returns-in_err-push-clause-changed : goal.returns-in_err-push-clause-changed
-returns-in_err-push-clause-changed g c = c.set_row.ensures.changed
+pub returns-in_err-push-clause-aside : goal.returns-in_err-push-clause-aside
+returns-in_err-push-clause-aside g c = c.set_row.ensures.aside
 
 pub returns-in_err-push-clause-limit : goal.returns-in_err-push-clause-limit
 returns-in_err-push-clause-limit g c = c.spend.ensures.limit
@@ -98,8 +96,8 @@ returns-clause-err g c = tt
 pub returns-clause-width : goal.returns-clause-width
 returns-clause-width g c = c.push.ensures.width
 
-pub returns-clause-changed : goal.returns-clause-changed
-returns-clause-changed g c = c.set_row.ensures.changed
+pub returns-clause-aside : goal.returns-clause-aside
+returns-clause-aside g c = c.set_row.ensures.aside
 
 pub returns-clause-limit : goal.returns-clause-limit
 returns-clause-limit g c = c.spend.ensures.limit

@@ -1,33 +1,30 @@
-use Rattle.std.proofs.Common.{◌≡◌, ◌∷◌, [], IsTrue, sym, ap, subst, ◌∙◌}
+use Rattle.std.proofs.Common.{◌≡◌, ◌∷◌, [], IsTrue, sym, ap, subst, ◌∙◌, refl}
 use Rattle.std.proofs.lemmas.Result.{IfOk-from_err}
 use Rattle.std.specs.Prelude.{OnOk}
 use Rattle.pg_meaning.specs.Graph.{both, has_node, incident, remove_elements}
-use Rattle.pg_store.specs.Stores.{graph_of_store}
-use Rattle.pg_write_make.proofs.ChangedLemmas.{unchanged, one_change, changed_then}
 use Rattle.pg_write.proofs.RemovalLemmas.{NodesThere, NodesApart, none_left, none_outgoing, none_incoming, one_node_goes, this_one}
 use Rattle.pg_write.specs.Gathered.{Rises}
 use Rattle.pg_write.proofs.removal.remove_nodes.Goals as goal
 
 pub loop-node-init : goal.loop-node-init
 loop-node-init g c =
-    let graph = graph_of_store g.T.Tables.seen c.args.store.now c.args.shared.now in
+    let graph = c.args.live.now.graph in
     let keys_are = c.into_iter-node-iterator.ensures.into_iter_gives.0 in
     record {
       rest = ap (λ ks. remove_elements ks [] graph) keys_are;
       there = subst (NodesThere graph) (sym keys_are) c.requires.there;
       rises = subst Rises (sym keys_are) c.requires.rises;
       apart = subst (NodesApart graph) (sym keys_are) c.requires.apart;
-      changed = unchanged g.T.Tables.seen c.args.store.now c.args.shared.now c.requires.fit;
+      aside = refl;
     }
 
 pub remove_node-requires : goal.remove_node-requires
 remove_node-requires g c =
-    let graph = graph_of_store g.T.Tables.seen c.loop-node.store c.args.shared.now in
+    let graph = c.loop-node.live.graph in
     let node = c.in-Some.node.now in
     let l = c.loop-node in
     let apart = this_one (λ n. incident both n graph ≡ []) node l.node-iterator c.next.new.self c.in-Some.ensures.steps l.invariant.apart in
     record {
-      fit = l.invariant.changed.fit;
       there = this_one (λ n. IsTrue (has_node graph n)) node l.node-iterator c.next.new.self c.in-Some.ensures.steps l.invariant.there;
       no_outgoing = none_outgoing graph node apart;
       no_incoming = none_incoming graph node apart;
@@ -35,36 +32,30 @@ remove_node-requires g c =
 
 pub loop-node-preserved : goal.loop-node-preserved
 loop-node-preserved g c =
-    let seen = g.T.Tables.seen in
-    let shared = c.args.shared.now in
     let l = c.loop-node in
-    let step = one_node_goes (graph_of_store seen l.store shared) (graph_of_store seen c.remove_node.new.self shared) c.in-Some.node.now l.node-iterator c.next.new.self c.in-Some.ensures.steps c.in_ok-remove_node.ensures.changes.says l.invariant.rises l.invariant.there l.invariant.apart in
+    let step = one_node_goes l.live.graph c.remove_node.new.self.graph c.in-Some.node.now l.node-iterator c.next.new.self c.in-Some.ensures.steps c.in_ok-remove_node.ensures.ok l.invariant.rises l.invariant.there l.invariant.apart in
     record {
       rest = step.0 ∙ l.invariant.rest;
       there = step.1;
       rises = step.2;
       apart = step.3;
-      changed =
-          changed_then seen c.args.store.now l.store c.remove_node.new.self shared shared shared l.invariant.changed
-          (one_change seen l.store shared c.remove_node.new.self shared c.remove_node.result (λ start end. OnOk c.remove_node.result (end ≡ remove_elements (c.in-Some.node.now ∷ []) [] start)) c.remove_node.ensures.changes c.remove_node.ensures.marks);
+      aside =
+          c.remove_node.ensures.aside ∙ l.invariant.aside;
     }
 
 pub returns-in_err-remove_node : goal.returns-in_err-remove_node
 returns-in_err-remove_node g c =
-    let seen = g.T.Tables.seen in
-    let shared = c.args.shared.now in
     let l = c.loop-node in
     record {
-      removed = IfOk-from_err c.from_residual.result (λ u. graph_of_store seen c.remove_node.new.self shared ≡ remove_elements c.args.nodes.now.keys [] (graph_of_store seen c.args.store.now shared)) c.from_residual.ensures.0;
-      changed =
-          changed_then seen c.args.store.now l.store c.remove_node.new.self shared shared shared l.invariant.changed
-          (one_change seen l.store shared c.remove_node.new.self shared c.remove_node.result (λ start end. OnOk c.remove_node.result (end ≡ remove_elements (c.in-Some.node.now ∷ []) [] start)) c.remove_node.ensures.changes c.remove_node.ensures.marks);
+      removed = IfOk-from_err c.from_residual.result (λ u. c.remove_node.new.self.graph ≡ remove_elements c.args.nodes.now.keys [] c.args.live.now.graph) c.from_residual.ensures.0;
+      aside =
+          c.remove_node.ensures.aside ∙ l.invariant.aside;
     }
 
 pub returns : goal.returns
 returns g c =
-    let graph = graph_of_store g.T.Tables.seen c.loop-node.store c.args.shared.now in
+    let graph = c.loop-node.live.graph in
     record {
       removed = sym (none_left graph) ∙ ap (λ ns. remove_elements ns [] graph) (sym c.in-None.ensures.steps.0) ∙ c.loop-node.invariant.rest;
-      changed = c.loop-node.invariant.changed;
+      aside = c.loop-node.invariant.aside;
     }

@@ -1,6 +1,5 @@
 use Rattle.std.proofs.Common.{refl}
 use Rattle.std.proofs.lemmas.Result.{IfOk-from_err, err_from_is_err_and}
-use Rattle.pg_write_make.proofs.ChangedLemmas.{unchanged}
 use Rattle.pg_write.proofs.removing.take_key.Goals as goal
 
 pub returns-in_err-pairs : goal.returns-in_err-pairs
@@ -9,7 +8,7 @@ returns-in_err-pairs g c =
     record {
       ok = IfOk-from_err c.from_residual.result _ c.from_residual.ensures.0;
       err = rw (p.1, p.2) refl;
-      changed = unchanged g.T.Tables.seen c.args.store.now c.args.shared.now c.requires.fit;
+      aside = refl;
     }
 
 pub returns-in_err-push : goal.returns-in_err-push
@@ -19,11 +18,11 @@ returns-in_err-push g c =
     record {
       ok = IfOk-from_err result.result _ result.ensures.0;
       err = rw (p.1, p.2) refl;
-      changed = unchanged g.T.Tables.seen c.args.store.now c.args.shared.now c.requires.fit;
+      aside = refl;
     }
 
 pub put_properties-requires : goal.put_properties-requires
-put_properties-requires g c = record { fit = c.requires.fit; there = c.requires.there }
+put_properties-requires g c = record { there = c.requires.there }
 
 pub returns-in_err-put_properties : goal.returns-in_err-put_properties
 returns-in_err-put_properties g c =
@@ -32,11 +31,11 @@ returns-in_err-put_properties g c =
     record {
       ok = IfOk-from_err result.result _ result.ensures.0;
       err = rw (p.1, p.2) refl;
-      changed = c.put_properties.ensures.changed;
+      aside = c.put_properties.ensures.aside;
     }
 
 pub returns-clause-err : goal.returns-clause-err
 returns-clause-err g c = tt
 
-pub returns-clause-changed : goal.returns-clause-changed
-returns-clause-changed g c = c.put_properties.ensures.changed
+pub returns-clause-aside : goal.returns-clause-aside
+returns-clause-aside g c = c.put_properties.ensures.aside

@@ -3,19 +3,14 @@ use Rattle.std.proofs.lemmas.Result.{err_from_is_err_and}
 use Rattle.pg_meaning.specs.Updates.{set_row}
 use Rattle.pg_rows.specs.Named.{row_of}
 use Rattle.pg_rows.specs.Tables.{table}
-use Rattle.pg_store.specs.Stores.{graph_of_store}
 use Rattle.pg_value_core.specs.View.{view}
 use Rattle.pg_write.specs.Items.{item_of}
-use Rattle.pg_write_make.proofs.ChangedLemmas.{changed_then, unchanged}
 use Rattle.pg_write_make.proofs.RowLemmas.{step_fault, step_on, steps_done}
 use Rattle.pg_write_make.specs.Scenes.{parameters_in, reading}
 use Rattle.pg_write.proofs.setting.set_rows.Goals as goal
 
 pub loop-at-init : goal.loop-at-init
-loop-at-init g c = record { rest = refl; changed = unchanged g.T.Tables.seen c.args.store.now c.args.shared.now c.requires.fit }
-
-pub set_row-requires : goal.set_row-requires
-set_row-requires g c = record { fit = c.loop-at.invariant.changed.fit }
+loop-at-init g c = record { rest = refl; aside = refl }
 
 pub returns-in_err-set_row-clause-err : goal.returns-in_err-set_row-clause-err
 returns-in_err-set_row-clause-err g c =
@@ -25,22 +20,21 @@ returns-in_err-set_row-clause-err g c =
     rw (p.1, p.2)
     (λ other.
     l.invariant.rest
-    ∙ step_fault (set_row (reading (parameters_in scene)) (map (item_of scene.names.now) c.args.items.now.items)) (row_of scene.names.now) (table c.args.rows.now) l.at (graph_of_store g.T.Tables.seen l.store l.shared) c.in_err-set_row.field-0.0 (map view c.row.result.now) c.row.ensures (c.in_err-set_row.ensures.err other))
+    ∙ step_fault (set_row (reading (parameters_in scene)) (map (item_of scene.names.now) c.args.items.now.items)) (row_of scene.names.now) (table c.args.rows.now) l.at l.live.graph c.in_err-set_row.field-0.0 (map view c.row.result.now) c.row.ensures (c.in_err-set_row.ensures.err other))
 
-pub returns-in_err-set_row-clause-changed : goal.returns-in_err-set_row-clause-changed
-returns-in_err-set_row-clause-changed g c =
-    changed_then g.T.Tables.seen c.args.store.now c.loop-at.store c.set_row.new.store c.args.shared.now c.loop-at.shared c.set_row.new.shared c.loop-at.invariant.changed c.set_row.ensures.changed
+pub returns-in_err-set_row-clause-aside : goal.returns-in_err-set_row-clause-aside
+returns-in_err-set_row-clause-aside g c =
+    c.set_row.ensures.aside ∙ c.loop-at.invariant.aside
 
 pub loop-at-preserved : goal.loop-at-preserved
 loop-at-preserved g c =
     let scene = c.args.scene.now in
     let l = c.loop-at in
-    let seen = g.T.Tables.seen in
     record {
       rest =
           l.invariant.rest
-          ∙ step_on (set_row (reading (parameters_in scene)) (map (item_of scene.names.now) c.args.items.now.items)) (row_of scene.names.now) (table c.args.rows.now) l.at (graph_of_store seen l.store l.shared) (graph_of_store seen c.set_row.new.store c.set_row.new.shared) (map view c.row.result.now) c.row.ensures c.in_ok-set_row.ensures.ok;
-      changed = changed_then seen c.args.store.now l.store c.set_row.new.store c.args.shared.now l.shared c.set_row.new.shared l.invariant.changed c.set_row.ensures.changed;
+          ∙ step_on (set_row (reading (parameters_in scene)) (map (item_of scene.names.now) c.args.items.now.items)) (row_of scene.names.now) (table c.args.rows.now) l.at l.live.graph c.set_row.new.live.graph (map view c.row.result.now) c.row.ensures c.in_ok-set_row.ensures.ok;
+      aside = c.set_row.ensures.aside ∙ l.invariant.aside;
     }
 
 pub returns-clause-ok : goal.returns-clause-ok
@@ -48,7 +42,7 @@ returns-clause-ok g c =
     let scene = c.args.scene.now in
     let l = c.loop-at in
     l.invariant.rest
-    ∙ steps_done (set_row (reading (parameters_in scene)) (map (item_of scene.names.now) c.args.items.now.items)) (row_of scene.names.now) (table c.args.rows.now) l.at (graph_of_store g.T.Tables.seen l.store l.shared) (subst (λ n. n ≤ l.at) c.len-at-end.ensures c.loop-at-test.false)
+    ∙ steps_done (set_row (reading (parameters_in scene)) (map (item_of scene.names.now) c.args.items.now.items)) (row_of scene.names.now) (table c.args.rows.now) l.at l.live.graph (subst (λ n. n ≤ l.at) c.len-at-end.ensures c.loop-at-test.false)
 
-pub returns-clause-changed : goal.returns-clause-changed
-returns-clause-changed g c = c.loop-at.invariant.changed
+pub returns-clause-aside : goal.returns-clause-aside
+returns-clause-aside g c = c.loop-at.invariant.aside

@@ -6,13 +6,11 @@ use Rattle.pg_meaning.specs.declared.fault.Fault.{Fault}
 use Rattle.pg_rows.specs.Named.{rows_named}
 use Rattle.pg_rows.specs.States.{seen, state_of}
 use Rattle.pg_rows.specs.Tables.{table}
-use Rattle.pg_store.specs.Stores.{graph_of_store}
 use Rattle.pg_value_core.specs.Given.{parameters_view}
 use Rattle.pg_write_make.proofs.ClauseLemmas.{clause_done, clause_fault, clause_refused}
 use Rattle.pg_write_make.proofs.ShapeLemmas.{first_kept}
 use Rattle.pg_write_make.specs.Creations.{rows_created}
 use Rattle.pg_write_make.specs.Lent.{paths_view}
-use Rattle.pg_write_make.proofs.ChangedLemmas.{unchanged}
 use Rattle.pg_write_make.proofs.clause.create_paths.Goals as goal
 
 pub create_rows-requires-clause-names : goal.create_rows-requires-clause-names
@@ -38,7 +36,7 @@ returns-in_err-spend_for_rows-clause-gives g c =
     let p = err_from_is_err_and c.from_residual-in_err-spend_for_rows.result c.from_residual-in_err-spend_for_rows.ensures.1 in
     λ s suits most. record {
       ok = rw p.1 tt;
-      err = rw (p.1, p.2) (λ other. clause_refused s (parameters_view c.args.parameters.now) c.args.meter.now.limit c.args.max_elements t suits most ps (graph_of_store g.T.Tables.seen c.args.store.now c.args.shared.now) c.args.meter.now.used
+      err = rw (p.1, p.2) (λ other. clause_refused s (parameters_view c.args.parameters.now) c.args.meter.now.limit c.args.max_elements t suits most ps c.args.live.now.graph c.args.meter.now.used
           c.len.result c.in_ok-count.count many count c.in_err-spend_for_rows.field-0.0 (c.in_err-spend_for_rows.ensures.spends s suits.steps_are));
     }
 
@@ -52,7 +50,7 @@ returns-in_err-made-clause-gives g c =
     let ps = paths_view c.args.paths.now.items in
     let t = seen c.args.table in
     let parameters = parameters_view c.args.parameters.now in
-    let before = graph_of_store g.T.Tables.seen c.args.store.now c.args.shared.now in
+    let before = c.args.live.now.graph in
     let names = c.bind_names.new.names in
     let rows = c.split-names.result.1 in
     let named : names ≡ add_path_names ps t.names = c.in_ok-bind_names.ensures.names ∙ (λ i. add_path_names (paths_view (c.deref-2.ensures.value i)) (c.split-names.ensures.names i)) in
@@ -74,8 +72,8 @@ returns-clause-gives g c =
     let ps = paths_view c.args.paths.now.items in
     let t = seen c.args.table in
     let parameters = parameters_view c.args.parameters.now in
-    let before = graph_of_store g.T.Tables.seen c.args.store.now c.args.shared.now in
-    let after = graph_of_store g.T.Tables.seen c.create_rows.new.store c.create_rows.new.shared in
+    let before = c.args.live.now.graph in
+    let after = c.create_rows.new.live.graph in
     let names = c.bind_names.new.names in
     let rows = c.split-names.result.1 in
     let made = c.in_ok-made.made in
@@ -96,8 +94,8 @@ returns-clause-gives g c =
 pub returns-in_err-count-clause-names : goal.returns-in_err-count-clause-names
 returns-in_err-count-clause-names g c = IfOk-from_err c.from_residual.result _ c.from_residual.ensures.0
 
-pub returns-in_err-count-clause-changed : goal.returns-in_err-count-clause-changed
-returns-in_err-count-clause-changed g c = unchanged g.T.Tables.seen c.args.store.now c.args.shared.now c.requires.fit
+pub returns-in_err-count-clause-aside : goal.returns-in_err-count-clause-aside
+returns-in_err-count-clause-aside g c = refl
 
 pub returns-in_err-count-clause-limit : goal.returns-in_err-count-clause-limit
 returns-in_err-count-clause-limit g c = refl
@@ -105,8 +103,8 @@ returns-in_err-count-clause-limit g c = refl
 pub returns-in_err-spend_for_rows-clause-names : goal.returns-in_err-spend_for_rows-clause-names
 returns-in_err-spend_for_rows-clause-names g c = IfOk-from_err c.from_residual-in_err-spend_for_rows.result _ c.from_residual-in_err-spend_for_rows.ensures.0
 
-pub returns-in_err-spend_for_rows-clause-changed : goal.returns-in_err-spend_for_rows-clause-changed
-returns-in_err-spend_for_rows-clause-changed g c = unchanged g.T.Tables.seen c.args.store.now c.args.shared.now c.requires.fit
+pub returns-in_err-spend_for_rows-clause-aside : goal.returns-in_err-spend_for_rows-clause-aside
+returns-in_err-spend_for_rows-clause-aside g c = refl
 
 pub returns-in_err-spend_for_rows-clause-limit : goal.returns-in_err-spend_for_rows-clause-limit
 returns-in_err-spend_for_rows-clause-limit g c = c.spend_for_rows.ensures.limit
@@ -114,8 +112,8 @@ returns-in_err-spend_for_rows-clause-limit g c = c.spend_for_rows.ensures.limit
 pub returns-in_err-bind_names-clause-names : goal.returns-in_err-bind_names-clause-names
 returns-in_err-bind_names-clause-names g c = IfOk-from_err c.from_residual-in_err-bind_names.result _ c.from_residual-in_err-bind_names.ensures.0
 
-pub returns-in_err-bind_names-clause-changed : goal.returns-in_err-bind_names-clause-changed
-returns-in_err-bind_names-clause-changed g c = unchanged g.T.Tables.seen c.args.store.now c.args.shared.now c.requires.fit
+pub returns-in_err-bind_names-clause-aside : goal.returns-in_err-bind_names-clause-aside
+returns-in_err-bind_names-clause-aside g c = refl
 
 pub returns-in_err-bind_names-clause-limit : goal.returns-in_err-bind_names-clause-limit
 returns-in_err-bind_names-clause-limit g c = c.spend_for_rows.ensures.limit
@@ -123,14 +121,11 @@ returns-in_err-bind_names-clause-limit g c = c.spend_for_rows.ensures.limit
 pub returns-in_err-made-clause-names : goal.returns-in_err-made-clause-names
 returns-in_err-made-clause-names g c = IfOk-from_err c.from_residual-in_err-made.result _ c.from_residual-in_err-made.ensures.0
 
-pub returns-in_err-made-clause-changed : goal.returns-in_err-made-clause-changed
-returns-in_err-made-clause-changed g c = c.create_rows.ensures.changed
+pub returns-in_err-made-clause-aside : goal.returns-in_err-made-clause-aside
+returns-in_err-made-clause-aside g c = c.create_rows.ensures.aside
 
 pub returns-in_err-made-clause-limit : goal.returns-in_err-made-clause-limit
 returns-in_err-made-clause-limit g c = c.spend_for_rows.ensures.limit
-
-pub create_rows-requires-clause-fit : goal.create_rows-requires-clause-fit
-create_rows-requires-clause-fit g c = c.requires.fit
 
 pub create_rows-requires-clause-quota : goal.create_rows-requires-clause-quota
 create_rows-requires-clause-quota g c = c.requires.quota
@@ -141,8 +136,8 @@ returns-clause-names g c =
     ∙ c.in_ok-bind_names.ensures.names
     ∙ (λ i. add_path_names (paths_view (c.deref-2.ensures.value i)) (c.split-names.ensures.names i))
 
-pub returns-clause-changed : goal.returns-clause-changed
-returns-clause-changed g c = c.create_rows.ensures.changed
+pub returns-clause-aside : goal.returns-clause-aside
+returns-clause-aside g c = c.create_rows.ensures.aside
 
 pub returns-clause-limit : goal.returns-clause-limit
 returns-clause-limit g c = c.spend_for_rows.ensures.limit

@@ -4,23 +4,21 @@ use Rattle.pg_meaning.specs.Patterns.{add_path_names}
 use Rattle.pg_rows.specs.Left.{rows_left}
 use Rattle.pg_rows.specs.Named.{rows_named}
 use Rattle.pg_rows.specs.Tables.{table}
-use Rattle.pg_store.specs.Stores.{graph_of_store}
 use Rattle.pg_value_core.specs.View.{view}
 use Rattle.pg_write_make.proofs.CreatedRowLemmas.{one_fewer, row_passed, row_refused, rows_begun, rows_over, tests_read}
 use Rattle.pg_write_make.proofs.StepLemmas.{row_done, row_failed}
 use Rattle.pg_write_make.specs.Creations.{rows_created}
 use Rattle.pg_write_make.specs.Lent.{paths_view}
-use Rattle.pg_write_make.proofs.ChangedLemmas.{changed_then, unchanged}
 use Rattle.pg_write_make.specs.Scenes.{parameters_in, row_in}
 use Rattle.pg_write_make.proofs.creation.create_rows.Goals as goal
 
 pub loop-left-init : goal.loop-left-init
 loop-left-init g c = record {
-  rest = rows_begun (parameters_in c.args.scene.now) c.args.max_elements (paths_view c.args.paths.now) c.args.scene.now.names.now (graph_of_store g.T.Tables.seen c.args.store.now c.args.shared.now)
+  rest = rows_begun (parameters_in c.args.scene.now) c.args.max_elements (paths_view c.args.paths.now) c.args.scene.now.names.now c.args.live.now.graph
       (rows_left c.into_left-left.result) (table c.new-made.result) (table c.args.rows) c.into_left-left.ensures.rows c.new-made.ensures.rows;
   width = c.new-made.ensures.width ∙ c.len.ensures;
   narrow = c.into_left-left.ensures.width;
-  changed = unchanged g.T.Tables.seen c.args.store.now c.args.shared.now c.requires.fit;
+  aside = refl;
 }
 
 pub returns-in_err-row-clause-err : goal.returns-in_err-row-clause-err
@@ -28,37 +26,33 @@ returns-in_err-row-clause-err g c =
     let p = err_from_is_err_and c.from_residual.result c.from_residual.ensures.1 in
     rw (p.1, p.2) (λ other. absurd (other refl))
 
-pub returns-in_err-row-clause-changed : goal.returns-in_err-row-clause-changed
-returns-in_err-row-clause-changed g c = c.loop-left.invariant.changed
+pub returns-in_err-row-clause-aside : goal.returns-in_err-row-clause-aside
+returns-in_err-row-clause-aside g c = c.loop-left.invariant.aside
 
 pub returns-in_err-test_paths-clause-err : goal.returns-in_err-test_paths-clause-err
 returns-in_err-test_paths-clause-err g c =
     let parameters = parameters_in c.args.scene.now in
     let ps = paths_view c.args.paths.now in
     let names = c.args.scene.now.names.now in
-    let seen = g.T.Tables.seen in
-    let graph = graph_of_store seen c.loop-left.store c.loop-left.shared in
+    let graph = c.loop-left.live.graph in
     let row = row_in c.args.scene.now c.in-Some.row.items in
     let e = c.in_err-test_paths.field-0.0 in
-    let tested = tests_read c.graph.result graph (row_in c.args.scene.now c.deref.result.now) row ps (Err e) c.graph.ensures (ap (row_in c.args.scene.now) c.deref.ensures.value) c.in_err-test_paths.ensures in
+    let tested = tests_read c.graph.result graph (row_in c.args.scene.now c.deref.result.now) row ps (Err e) c.graph.ensures.is (ap (row_in c.args.scene.now) c.deref.ensures.value) c.in_err-test_paths.ensures in
     let first = rw c.in-Some.is at c.in_ok-row.ensures.row in
     let p = err_from_is_err_and c.from_residual-in_err-test_paths.result c.from_residual-in_err-test_paths.ensures.1 in
     rw (p.1, p.2) (λ other. row_failed parameters c.args.max_elements ps names (map view c.in-Some.row.items) (rows_left c.loop-left.left) (rows_left c.next_row.new.self)
     graph (table c.loop-left.made)
-    (rows_created parameters c.args.max_elements ps (graph_of_store seen c.args.store.now c.args.shared.now) (rows_named names (table c.args.rows)))
+    (rows_created parameters c.args.max_elements ps c.args.live.now.graph (rows_named names (table c.args.rows)))
     first c.loop-left.invariant.rest e (row_refused parameters c.args.max_elements ps graph row e tested))
 
-pub returns-in_err-test_paths-clause-changed : goal.returns-in_err-test_paths-clause-changed
-returns-in_err-test_paths-clause-changed g c = c.loop-left.invariant.changed
+pub returns-in_err-test_paths-clause-aside : goal.returns-in_err-test_paths-clause-aside
+returns-in_err-test_paths-clause-aside g c = c.loop-left.invariant.aside
 
 pub make_row-requires-clause-tested : goal.make_row-requires-clause-tested
 make_row-requires-clause-tested g c =
     let scene = c.args.scene.now in
-    tests_read c.graph.result (graph_of_store g.T.Tables.seen c.loop-left.store c.loop-left.shared) (row_in scene c.deref.result.now) (row_in scene c.in-Some.row.items) (paths_view c.args.paths.now) (Ok tt) c.graph.ensures
+    tests_read c.graph.result c.loop-left.live.graph (row_in scene c.deref.result.now) (row_in scene c.in-Some.row.items) (paths_view c.args.paths.now) (Ok tt) c.graph.ensures.is
     (ap (row_in scene) c.deref.ensures.value) c.in_ok-test_paths.ensures
-
-pub make_row-requires-clause-fit : goal.make_row-requires-clause-fit
-make_row-requires-clause-fit g c = c.loop-left.invariant.changed.fit
 
 pub make_row-requires-clause-quota : goal.make_row-requires-clause-quota
 make_row-requires-clause-quota g c = c.requires.quota
@@ -78,21 +72,20 @@ returns-in_err-make_row-clause-err g c =
     let parameters = parameters_in c.args.scene.now in
     let ps = paths_view c.args.paths.now in
     let names = c.args.scene.now.names.now in
-    let seen = g.T.Tables.seen in
-    let graph = graph_of_store seen c.loop-left.store c.loop-left.shared in
+    let graph = c.loop-left.live.graph in
     let row = row_in c.args.scene.now c.in-Some.row.items in
-    let tested = tests_read c.graph.result graph (row_in c.args.scene.now c.deref.result.now) row ps (Ok tt) c.graph.ensures (ap (row_in c.args.scene.now) c.deref.ensures.value) c.in_ok-test_paths.ensures in
+    let tested = tests_read c.graph.result graph (row_in c.args.scene.now c.deref.result.now) row ps (Ok tt) c.graph.ensures.is (ap (row_in c.args.scene.now) c.deref.ensures.value) c.in_ok-test_paths.ensures in
     let passed = sym (row_passed parameters c.args.max_elements ps graph row tested) in
     let first = rw c.in-Some.is at c.in_ok-row.ensures.row in
     let p = err_from_is_err_and c.from_residual-in_err-make_row.result c.from_residual-in_err-make_row.ensures.1 in
     rw (p.1, p.2) (λ other. row_failed parameters c.args.max_elements ps names (map view c.in-Some.row.items) (rows_left c.loop-left.left) (rows_left c.next_row.new.self)
-    (graph_of_store seen c.loop-left.store c.loop-left.shared) (table c.loop-left.made)
-    (rows_created parameters c.args.max_elements ps (graph_of_store seen c.args.store.now c.args.shared.now) (rows_named names (table c.args.rows)))
+    c.loop-left.live.graph (table c.loop-left.made)
+    (rows_created parameters c.args.max_elements ps c.args.live.now.graph (rows_named names (table c.args.rows)))
     first c.loop-left.invariant.rest c.in_err-make_row.field-0.0 (passed ∙ c.in_err-make_row.ensures.err other))
 
-pub returns-in_err-make_row-clause-changed : goal.returns-in_err-make_row-clause-changed
-returns-in_err-make_row-clause-changed g c =
-    changed_then g.T.Tables.seen c.args.store.now c.loop-left.store c.make_row.new.store c.args.shared.now c.loop-left.shared c.make_row.new.shared c.loop-left.invariant.changed c.make_row.ensures.changed
+pub returns-in_err-make_row-clause-aside : goal.returns-in_err-make_row-clause-aside
+returns-in_err-make_row-clause-aside g c =
+    c.make_row.ensures.aside ∙ c.loop-left.invariant.aside
 
 pub push-requires : goal.push-requires
 push-requires g c = c.in_ok-make_row.ensures.whole ∙ sym c.loop-left.invariant.width
@@ -105,21 +98,20 @@ loop-left-preserved g c =
     let parameters = parameters_in c.args.scene.now in
     let ps = paths_view c.args.paths.now in
     let names = c.args.scene.now.names.now in
-    let seen = g.T.Tables.seen in
-    let graph = graph_of_store seen c.loop-left.store c.loop-left.shared in
+    let graph = c.loop-left.live.graph in
     let row = row_in c.args.scene.now c.in-Some.row.items in
-    let tested = tests_read c.graph.result graph (row_in c.args.scene.now c.deref.result.now) row ps (Ok tt) c.graph.ensures (ap (row_in c.args.scene.now) c.deref.ensures.value) c.in_ok-test_paths.ensures in
+    let tested = tests_read c.graph.result graph (row_in c.args.scene.now c.deref.result.now) row ps (Ok tt) c.graph.ensures.is (ap (row_in c.args.scene.now) c.deref.ensures.value) c.in_ok-test_paths.ensures in
     let passed = sym (row_passed parameters c.args.max_elements ps graph row tested) in
     let first = rw c.in-Some.is at c.in_ok-row.ensures.row in
     record {
       rest = row_done parameters c.args.max_elements ps names (map view c.in-Some.row.items) (rows_left c.loop-left.left) (rows_left c.next_row.new.self)
-          (graph_of_store seen c.loop-left.store c.loop-left.shared) (table c.loop-left.made)
-          (rows_created parameters c.args.max_elements ps (graph_of_store seen c.args.store.now c.args.shared.now) (rows_named names (table c.args.rows)))
-          first c.loop-left.invariant.rest (graph_of_store seen c.make_row.new.store c.make_row.new.shared)
+          c.loop-left.live.graph (table c.loop-left.made)
+          (rows_created parameters c.args.max_elements ps c.args.live.now.graph (rows_named names (table c.args.rows)))
+          first c.loop-left.invariant.rest c.make_row.new.live.graph
           (map view c.in_ok-make_row.field-0.items) (table c.push.new.self) (passed ∙ c.in_ok-make_row.ensures.ok) c.in_ok-push.ensures.rows;
       width = c.push.ensures.width ∙ c.loop-left.invariant.width;
       narrow = c.next_row.ensures.width ∙ c.loop-left.invariant.narrow;
-      changed = changed_then seen c.args.store.now c.loop-left.store c.make_row.new.store c.args.shared.now c.loop-left.shared c.make_row.new.shared c.loop-left.invariant.changed c.make_row.ensures.changed;
+      aside = c.make_row.ensures.aside ∙ c.loop-left.invariant.aside;
     }
 
 pub returns-in_err-push-clause-err : goal.returns-in_err-push-clause-err
@@ -127,22 +119,21 @@ returns-in_err-push-clause-err g c =
     let p = err_from_is_err_and c.from_residual-in_err-push.result c.from_residual-in_err-push.ensures.1 in
     rw (p.1, p.2) (λ other. absurd (other refl))
 
-pub returns-in_err-push-clause-changed : goal.returns-in_err-push-clause-changed
-returns-in_err-push-clause-changed g c =
-    changed_then g.T.Tables.seen c.args.store.now c.loop-left.store c.make_row.new.store c.args.shared.now c.loop-left.shared c.make_row.new.shared c.loop-left.invariant.changed c.make_row.ensures.changed
+pub returns-in_err-push-clause-aside : goal.returns-in_err-push-clause-aside
+returns-in_err-push-clause-aside g c =
+    c.make_row.ensures.aside ∙ c.loop-left.invariant.aside
 
 pub returns-clause-ok : goal.returns-clause-ok
 returns-clause-ok g c =
     let parameters = parameters_in c.args.scene.now in
     let ps = paths_view c.args.paths.now in
     let names = c.args.scene.now.names.now in
-    let seen = g.T.Tables.seen in
-    rows_over parameters c.args.max_elements ps names (graph_of_store seen c.loop-left.store c.loop-left.shared) (rows_left c.loop-left.left) (table c.loop-left.made)
-    (rows_created parameters c.args.max_elements ps (graph_of_store seen c.args.store.now c.args.shared.now) (rows_named names (table c.args.rows)))
+    rows_over parameters c.args.max_elements ps names c.loop-left.live.graph (rows_left c.loop-left.left) (table c.loop-left.made)
+    (rows_created parameters c.args.max_elements ps c.args.live.now.graph (rows_named names (table c.args.rows)))
     c.loop-left.invariant.rest (rw c.in_default.is at c.in_ok-row.ensures.none)
 
 pub returns-clause-width : goal.returns-clause-width
 returns-clause-width g c = c.loop-left.invariant.width
 
-pub returns-clause-changed : goal.returns-clause-changed
-returns-clause-changed g c = c.loop-left.invariant.changed
+pub returns-clause-aside : goal.returns-clause-aside
+returns-clause-aside g c = c.loop-left.invariant.aside

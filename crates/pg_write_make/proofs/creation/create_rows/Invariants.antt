@@ -3,10 +3,8 @@ use Rattle.pg_meaning.specs.Answer.{◌>>=◌}
 use Rattle.pg_rows.specs.Left.{rows_left}
 use Rattle.pg_rows.specs.Named.{rows_named}
 use Rattle.pg_rows.specs.Tables.{table}
-use Rattle.pg_store.specs.Stores.{graph_of_store}
 use Rattle.pg_write_make.specs.Creations.{rows_created}
 use Rattle.pg_write_make.specs.Lent.{paths_view}
-use Rattle.pg_write_make.specs.Changed.{Changed}
 use Rattle.pg_write_make.specs.Scenes.{parameters_in}
 use Rattle.pg_write_make.proofs.creation.create_rows.Given as goal
 
@@ -15,11 +13,11 @@ invariant-loop-left g l =
     let names = l.scene.names.now in
     let ps = paths_view l.paths in
     record {
-      rest : rows_created (parameters_in l.scene) l.max_elements ps (graph_of_store g.T.Tables.seen l.fn.store l.fn.shared) (rows_named names (table l.fn.rows))
-          ≡ (rows_created (parameters_in l.scene) l.max_elements ps (graph_of_store g.T.Tables.seen l.store l.shared) (rows_named names (rows_left l.left)) >>= λ others. Ok (others.0, rows_named names (table l.made) ++ others.1));
+      rest : rows_created (parameters_in l.scene) l.max_elements ps l.fn.live.graph (rows_named names (table l.fn.rows))
+          ≡ (rows_created (parameters_in l.scene) l.max_elements ps l.live.graph (rows_named names (rows_left l.left)) >>= λ others. Ok (others.0, rows_named names (table l.made) ++ others.1));
       width : l.made.width ≡ length names;
       narrow : l.left.rows.width ≡ l.fn.rows.width;
-      changed : Changed g.T.Tables.seen l.fn.store l.fn.shared l.store l.shared;
+      aside : l.live.aside ≡ l.fn.live.aside;
     }
 
 abbrev pub decreases-loop-left : goal.decreases-loop-left

@@ -2,7 +2,6 @@ use Rattle.std.proofs.Common.{false, List, map, sym, ap, subst, refl, ◌∙◌}
 use Rattle.std.proofs.lemmas.Result.{err_from_is_err_and}
 use Rattle.pg_meaning.specs.Reading.{test_paths}
 use Rattle.pg_rows.specs.Named.{row_of}
-use Rattle.pg_store.specs.Stores.{graph_of_store}
 use Rattle.pg_value_core.specs.View.{view}
 use Rattle.pg_write_make.proofs.BindingLemmas.{match_bound}
 use Rattle.pg_write_make.proofs.CreatedRowLemmas.{paths_refused, row_bound}
@@ -10,7 +9,6 @@ use Rattle.pg_write_make.proofs.ShapeLemmas.{ready_row}
 use Rattle.pg_write_make.proofs.TrailLemmas.{bind_named}
 use Rattle.pg_write_make.specs.Bindings.{Binding, bind_each, match_bindings, EndsWith}
 use Rattle.pg_write_make.specs.Lent.{kept_view, paths_view, trail_view}
-use Rattle.pg_write_make.proofs.ChangedLemmas.{unchanged}
 use Rattle.pg_write_make.specs.Outcomes.{path_outcomes, paths_made}
 use Rattle.pg_write_make.specs.Scenes.{parameters_in, reading, row_in}
 use Rattle.pg_write_make.proofs.creation.make_row.Goals as goal
@@ -18,62 +16,59 @@ use Rattle.pg_write_make.proofs.creation.make_row.Goals as goal
 pub bind_all-requires : goal.bind_all-requires
 bind_all-requires g c =
     subst (λ (bs : List Binding). EndsWith c.args.scene.now.names.now (map view c.args.row.items) bs) (sym c.in_ok-bindings.ensures)
-    (ready_row c.args.max_elements (reading (parameters_in c.args.scene.now)) c.graph.result (graph_of_store g.T.Tables.seen c.args.store.now c.args.shared.now)
-    (graph_of_store g.T.Tables.seen c.make_paths.new.store c.make_paths.new.shared) c.graph-2.result c.args.scene.now.names.now c.args.row.items
+    (ready_row c.args.max_elements (reading (parameters_in c.args.scene.now)) c.graph.result c.args.live.now.graph
+    c.make_paths.new.live.graph c.graph-2.result c.args.scene.now.names.now c.args.row.items
     (map kept_view c.in_ok-kept.kept.items) (paths_view c.args.paths.now) (map trail_view c.in_ok-trails.trails.items)
-    c.requires.within c.requires.names c.graph.ensures c.graph-2.ensures
+    c.requires.within c.requires.names c.graph.ensures.is c.graph-2.ensures.is
     (c.in_ok-kept.ensures.ok ∙ ap (λ values. map (path_outcomes (reading (parameters_in c.args.scene.now)) c.graph.result (row_in c.args.scene.now values)) (paths_view c.args.paths.now)) c.deref.ensures.value)
-    (ap (λ values. paths_made c.args.max_elements (map kept_view c.in_ok-kept.kept.items) (paths_view c.args.paths.now) (graph_of_store g.T.Tables.seen c.args.store.now c.args.shared.now, row_in c.args.scene.now values)) (sym c.deref-2.ensures.value) ∙ c.in_ok-trails.ensures.ok))
+    (ap (λ values. paths_made c.args.max_elements (map kept_view c.in_ok-kept.kept.items) (paths_view c.args.paths.now) (c.args.live.now.graph, row_in c.args.scene.now values)) (sym c.deref-2.ensures.value) ∙ c.in_ok-trails.ensures.ok))
 
 pub returns-in_err-kept-clause-err : goal.returns-in_err-kept-clause-err
 returns-in_err-kept-clause-err g c =
     let p = err_from_is_err_and c.from_residual.result c.from_residual.ensures.1 in
     rw (p.1, p.2) (λ other. absurd (other c.in_err-kept.ensures.err))
 
-pub returns-in_err-kept-clause-changed : goal.returns-in_err-kept-clause-changed
-returns-in_err-kept-clause-changed g c = unchanged g.T.Tables.seen c.args.store.now c.args.shared.now c.requires.fit
-
-pub make_paths-requires-clause-fit : goal.make_paths-requires-clause-fit
-make_paths-requires-clause-fit g c = c.requires.fit
+pub returns-in_err-kept-clause-aside : goal.returns-in_err-kept-clause-aside
+returns-in_err-kept-clause-aside g c = refl
 
 pub make_paths-requires-clause-tested : goal.make_paths-requires-clause-tested
 make_paths-requires-clause-tested g c =
-    ap (λ values. test_paths false (graph_of_store g.T.Tables.seen c.args.store.now c.args.shared.now) (row_in c.args.scene.now values) (paths_view c.args.paths.now)) c.deref-2.ensures.value ∙ c.requires.tested
+    ap (λ values. test_paths false c.args.live.now.graph (row_in c.args.scene.now values) (paths_view c.args.paths.now)) c.deref-2.ensures.value ∙ c.requires.tested
 
 pub returns-in_err-trails-clause-err : goal.returns-in_err-trails-clause-err
 returns-in_err-trails-clause-err g c =
     let scene = c.args.scene.now in
     let ps = paths_view c.args.paths.now in
-    let graph = graph_of_store g.T.Tables.seen c.args.store.now c.args.shared.now in
+    let graph = c.args.live.now.graph in
     let kept = c.in_ok-kept.ensures.ok ∙ ap (λ values. map (path_outcomes (reading (parameters_in scene)) c.graph.result (row_in scene values)) ps) c.deref.ensures.value in
     let p = err_from_is_err_and c.from_residual-in_err-trails.result c.from_residual-in_err-trails.ensures.1 in
     rw (p.1, p.2) (λ other. paths_refused (parameters_in scene) c.args.max_elements ps c.graph.result graph (row_in scene c.deref-2.result.now) (row_in scene c.args.row.items) (map kept_view c.in_ok-kept.kept.items)
-    c.graph.ensures (ap (row_in scene) c.deref-2.ensures.value) kept c.in_err-trails.field-0.0 (c.in_err-trails.ensures.err other))
+    c.graph.ensures.is (ap (row_in scene) c.deref-2.ensures.value) kept c.in_err-trails.field-0.0 (c.in_err-trails.ensures.err other))
 
-pub returns-in_err-trails-clause-changed : goal.returns-in_err-trails-clause-changed
-returns-in_err-trails-clause-changed g c = c.make_paths.ensures.changed
+pub returns-in_err-trails-clause-aside : goal.returns-in_err-trails-clause-aside
+returns-in_err-trails-clause-aside g c = c.make_paths.ensures.aside
 
 pub returns-in_err-bindings-clause-err : goal.returns-in_err-bindings-clause-err
 returns-in_err-bindings-clause-err g c =
     let p = err_from_is_err_and c.from_residual-in_err-bindings.result c.from_residual-in_err-bindings.ensures.1 in
     rw (p.1, p.2) (λ other. absurd (other refl))
 
-pub returns-in_err-bindings-clause-changed : goal.returns-in_err-bindings-clause-changed
-returns-in_err-bindings-clause-changed g c = c.make_paths.ensures.changed
+pub returns-in_err-bindings-clause-aside : goal.returns-in_err-bindings-clause-aside
+returns-in_err-bindings-clause-aside g c = c.make_paths.ensures.aside
 
 pub returns-in_err-bind_all-clause-err : goal.returns-in_err-bind_all-clause-err
 returns-in_err-bind_all-clause-err g c =
     let p = err_from_is_err_and c.from_residual-in_err-bind_all.result c.from_residual-in_err-bind_all.ensures.1 in
     rw (p.1, p.2) (λ other. absurd (other refl))
 
-pub returns-in_err-bind_all-clause-changed : goal.returns-in_err-bind_all-clause-changed
-returns-in_err-bind_all-clause-changed g c = c.make_paths.ensures.changed
+pub returns-in_err-bind_all-clause-aside : goal.returns-in_err-bind_all-clause-aside
+returns-in_err-bind_all-clause-aside g c = c.make_paths.ensures.aside
 
 pub returns-clause-ok : goal.returns-clause-ok
 returns-clause-ok g c =
     let scene = c.args.scene.now in
     let ps = paths_view c.args.paths.now in
-    let graph = graph_of_store g.T.Tables.seen c.args.store.now c.args.shared.now in
+    let graph = c.args.live.now.graph in
     let kept = c.in_ok-kept.ensures.ok ∙ ap (λ values. map (path_outcomes (reading (parameters_in scene)) c.graph.result (row_in scene values)) ps) c.deref.ensures.value in
     let trails = map trail_view c.in_ok-trails.trails.items in
     let row = row_in scene c.args.row.items in
@@ -81,11 +76,11 @@ returns-clause-ok g c =
     c.in_ok-bind_all.ensures.bound ∙ ap (λ (bs : List Binding). bind_each bs row) c.in_ok-bindings.ensures
     ∙ bind_named (match_bindings c.graph-2.result ps trails) row ∙ sym (match_bound c.graph-2.result ps trails row) in
     row_bound (parameters_in scene) c.args.max_elements ps c.graph.result graph (row_in scene c.deref-2.result.now) (row_in scene c.args.row.items) (map kept_view c.in_ok-kept.kept.items)
-    c.graph.ensures (ap (row_in scene) c.deref-2.ensures.value) kept (graph_of_store g.T.Tables.seen c.make_paths.new.store c.make_paths.new.shared) c.graph-2.result (map trail_view c.in_ok-trails.trails.items)
-    (row_of scene.names.now (map view c.bind_all.new.values.items)) c.in_ok-trails.ensures.ok c.graph-2.ensures bound
+    c.graph.ensures.is (ap (row_in scene) c.deref-2.ensures.value) kept c.make_paths.new.live.graph c.graph-2.result (map trail_view c.in_ok-trails.trails.items)
+    (row_of scene.names.now (map view c.bind_all.new.values.items)) c.in_ok-trails.ensures.ok c.graph-2.ensures.is bound
 
 pub returns-clause-whole : goal.returns-clause-whole
 returns-clause-whole g c = c.in_ok-bind_all.ensures.whole
 
-pub returns-clause-changed : goal.returns-clause-changed
-returns-clause-changed g c = c.make_paths.ensures.changed
+pub returns-clause-aside : goal.returns-clause-aside
+returns-clause-aside g c = c.make_paths.ensures.aside

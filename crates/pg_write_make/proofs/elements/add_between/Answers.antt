@@ -5,9 +5,8 @@ use Rattle.pg_meaning.specs.Graph.{Graph, add_relationship}
 use Rattle.pg_meaning.specs.Patterns.{types_of, way_of, way_of_heads}
 use Rattle.pg_meaning.specs.Updates.{add_between, first_text}
 use Rattle.pg_meaning.specs.Value.{Entries, no_entries}
-use Rattle.pg_store.specs.Stores.{graph_of_store, pairs_of}
+use Rattle.pg_store.specs.Stores.{pairs_of}
 use Rattle.pg_syntax_tree.specs.View.{relationship_view}
-use Rattle.pg_write_make.proofs.ChangedLemmas.{one_change}
 use Rattle.pg_write_make.proofs.elements.add_between.Goals as goal
 use Rattle.pg_write_make.proofs.elements.add_between.Goals.{else-pattern-via-then-pattern+else-not-pattern, else-pattern-via-else-pattern}
 
@@ -29,10 +28,9 @@ module _ (type : List ℕ) (x y : ℕ) (es : Entries) (graph : Graph) where
 
 pub returns-then-not-pattern : goal.returns-then-not-pattern
 returns-then-not-pattern g c =
-    let seen = g.T.Tables.seen in
-    let before = graph_of_store seen c.args.store.now c.args.shared.now in
+    let before = c.args.live.now.graph in
     let call = c.create_rel in
-    let after = graph_of_store seen call.new.self call.new.shared in
+    let after = call.new.self.graph in
     let p = c.args.pattern.now in
     let type = first_text (types_of (relationship_view p)) in
     let left = c.args.left.0 in
@@ -41,17 +39,16 @@ returns-then-not-pattern g c =
     record {
       ok =
           IfOk-weaker call.result (λ u. after ≡ add_relationship c.type_text-kind.result.now right left es before) (λ u. add_between (way_of (relationship_view p)) type left right es before ≡ after)
-          (λ u h. turned type left right es before p.left_head p.right_head c.if-pattern.true c.if-not-pattern.true ∙ ap (λ t. add_relationship t right left es before) (sym c.type_text-kind.ensures) ∙ sym h) call.ensures.changes.says;
+          (λ u h. turned type left right es before p.left_head p.right_head c.if-pattern.true c.if-not-pattern.true ∙ ap (λ t. add_relationship t right left es before) (sym c.type_text-kind.ensures) ∙ sym h) call.ensures.ok;
       id = call.ensures.id;
-      changed = one_change seen c.args.store.now c.args.shared.now call.new.self call.new.shared call.result _ call.ensures.changes call.ensures.marks;
+      aside = call.ensures.aside;
     }
 
 pub returns-else-pattern : goal.returns-else-pattern
 returns-else-pattern g c =
-    let seen = g.T.Tables.seen in
-    let before = graph_of_store seen c.args.store.now c.args.shared.now in
+    let before = c.args.live.now.graph in
     let call = c.create_rel-else-pattern in
-    let after = graph_of_store seen call.new.self call.new.shared in
+    let after = call.new.self.graph in
     let p = c.args.pattern.now in
     let type = first_text (types_of (relationship_view p)) in
     let left = c.args.left.0 in
@@ -64,7 +61,7 @@ returns-else-pattern g c =
     record {
       ok =
           IfOk-weaker call.result (λ u. after ≡ add_relationship c.type_text-kind.result.now left right es before) (λ u. add_between (way_of (relationship_view p)) type left right es before ≡ after)
-          (λ u h. straight ∙ ap (λ t. add_relationship t left right es before) (sym c.type_text-kind.ensures) ∙ sym h) call.ensures.changes.says;
+          (λ u h. straight ∙ ap (λ t. add_relationship t left right es before) (sym c.type_text-kind.ensures) ∙ sym h) call.ensures.ok;
       id = call.ensures.id;
-      changed = one_change seen c.args.store.now c.args.shared.now call.new.self call.new.shared call.result _ call.ensures.changes call.ensures.marks;
+      aside = call.ensures.aside;
     }

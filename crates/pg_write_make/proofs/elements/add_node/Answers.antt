@@ -7,9 +7,8 @@ use Rattle.pg_meaning.specs.Meters.{test_counter}
 use Rattle.pg_meaning.specs.Patterns.{texts_of}
 use Rattle.pg_meaning.specs.Value.{Entries, no_entries}
 use Rattle.pg_meaning.specs.declared.fault.Fault.TheVariants.{OutOfMemory}
-use Rattle.pg_store.specs.Stores.{graph_of_store, pairs_of}
+use Rattle.pg_store.specs.Stores.{pairs_of}
 use Rattle.pg_syntax_tree.specs.View.{node_view}
-use Rattle.pg_write_make.proofs.ChangedLemmas.{one_change, unchanged}
 use Rattle.pg_write_make.proofs.RoomLemmas.{all_there, few_elements, id_left, none_new, no_properties}
 use Rattle.pg_write_make.specs.Outcomes.{outcome_view, room_and_id, room_for}
 use Rattle.pg_write_make.proofs.elements.add_node.Goals as goal
@@ -22,12 +21,12 @@ returns-in_err-properties-clause-id g c = IfOk-from_err c.from_residual.result _
 
 pub returns-in_err-properties-clause-err : goal.returns-in_err-properties-clause-err
 returns-in_err-properties-clause-err g c =
-    let graph = graph_of_store g.T.Tables.seen c.args.store.now c.args.shared.now in
+    let graph = c.args.live.now.graph in
     let make : Entries → Graph = λ es. add_node (texts_of (node_view c.args.pattern.now).labels) es graph in
     fault_passed _ c.in_err-properties.field-0.0 c.from_residual.result c.from_residual.ensures.1 (λ other. no_properties (outcome_view c.args.outcome) (room_for c.args.max_elements graph) (test_counter graph.next_node) make c.in_err-properties.field-0.0 (ap outcome_view c.in_err-properties.was))
 
-pub returns-in_err-properties-clause-changed : goal.returns-in_err-properties-clause-changed
-returns-in_err-properties-clause-changed g c = unchanged g.T.Tables.seen c.args.store.now c.args.shared.now c.requires.fit
+pub returns-in_err-properties-clause-aside : goal.returns-in_err-properties-clause-aside
+returns-in_err-properties-clause-aside g c = refl
 
 pub returns-in_err-test_new-clause-ok : goal.returns-in_err-test_new-clause-ok
 returns-in_err-test_new-clause-ok g c = IfOk-from_err c.from_residual-in_err-test_new.result _ c.from_residual-in_err-test_new.ensures.0
@@ -37,12 +36,12 @@ returns-in_err-test_new-clause-id g c = IfOk-from_err c.from_residual-in_err-tes
 
 pub returns-in_err-test_new-clause-err : goal.returns-in_err-test_new-clause-err
 returns-in_err-test_new-clause-err g c =
-    let graph = graph_of_store g.T.Tables.seen c.args.store.now c.args.shared.now in
+    let graph = c.args.live.now.graph in
     let make : Entries → Graph = λ es. add_node (texts_of (node_view c.args.pattern.now).labels) es graph in
-    fault_passed _ c.in_err-test_new.field-0.0 c.from_residual-in_err-test_new.result c.from_residual-in_err-test_new.ensures.1 (λ other. none_new (outcome_view c.args.outcome) (room_for c.args.max_elements graph) (test_counter graph.next_node) make (set_keys (pairs_of c.in_ok-properties.properties.items) no_entries) (ap outcome_view c.in_ok-properties.was) c.in_err-test_new.field-0.0 (sym (c.in_err-test_new.ensures.is ∙ (λ i. room_and_id c.args.max_elements (c.next_ids.ensures.node c.args.shared.now i) (c.graph.ensures i)))))
+    fault_passed _ c.in_err-test_new.field-0.0 c.from_residual-in_err-test_new.result c.from_residual-in_err-test_new.ensures.1 (λ other. none_new (outcome_view c.args.outcome) (room_for c.args.max_elements graph) (test_counter graph.next_node) make (set_keys (pairs_of c.in_ok-properties.properties.items) no_entries) (ap outcome_view c.in_ok-properties.was) c.in_err-test_new.field-0.0 (sym (c.in_err-test_new.ensures.is ∙ (λ i. room_and_id c.args.max_elements (c.next_ids.ensures.node i) (c.graph.ensures.is i)))))
 
-pub returns-in_err-test_new-clause-changed : goal.returns-in_err-test_new-clause-changed
-returns-in_err-test_new-clause-changed g c = unchanged g.T.Tables.seen c.args.store.now c.args.shared.now c.requires.fit
+pub returns-in_err-test_new-clause-aside : goal.returns-in_err-test_new-clause-aside
+returns-in_err-test_new-clause-aside g c = refl
 
 pub returns-in_err-labels-clause-ok : goal.returns-in_err-labels-clause-ok
 returns-in_err-labels-clause-ok g c = IfOk-from_err c.from_residual-in_err-labels.result _ c.from_residual-in_err-labels.ensures.0
@@ -53,8 +52,8 @@ returns-in_err-labels-clause-id g c = IfOk-from_err c.from_residual-in_err-label
 pub returns-in_err-labels-clause-err : goal.returns-in_err-labels-clause-err
 returns-in_err-labels-clause-err g c = fault_passed _ OutOfMemory c.from_residual-in_err-labels.result c.from_residual-in_err-labels.ensures.1 (λ other. absurd (other refl))
 
-pub returns-in_err-labels-clause-changed : goal.returns-in_err-labels-clause-changed
-returns-in_err-labels-clause-changed g c = unchanged g.T.Tables.seen c.args.store.now c.args.shared.now c.requires.fit
+pub returns-in_err-labels-clause-aside : goal.returns-in_err-labels-clause-aside
+returns-in_err-labels-clause-aside g c = refl
 
 pub returns-in_err-create_node-clause-ok : goal.returns-in_err-create_node-clause-ok
 returns-in_err-create_node-clause-ok g c = IfOk-from_err c.from_residual-in_err-create_node.result _ c.from_residual-in_err-create_node.ensures.0
@@ -65,24 +64,21 @@ returns-in_err-create_node-clause-id g c = IfOk-from_err c.from_residual-in_err-
 pub returns-in_err-create_node-clause-err : goal.returns-in_err-create_node-clause-err
 returns-in_err-create_node-clause-err g c = fault_passed _ OutOfMemory c.from_residual-in_err-create_node.result c.from_residual-in_err-create_node.ensures.1 (λ other. absurd (other refl))
 
-pub returns-in_err-create_node-clause-changed : goal.returns-in_err-create_node-clause-changed
-returns-in_err-create_node-clause-changed g c = one_change g.T.Tables.seen c.args.store.now c.args.shared.now c.create_node.new.self c.create_node.new.shared c.create_node.result _ c.create_node.ensures.changes c.create_node.ensures.marks
-
-pub create_node-requires-clause-fit : goal.create_node-requires-clause-fit
-create_node-requires-clause-fit g c = c.requires.fit
+pub returns-in_err-create_node-clause-aside : goal.returns-in_err-create_node-clause-aside
+returns-in_err-create_node-clause-aside g c = c.create_node.ensures.aside
 
 pub create_node-requires-clause-room : goal.create_node-requires-clause-room
-create_node-requires-clause-room g c = id_left c.next_ids.result.node c.args.store.now.next.node (ap (λ ids. ids.node) c.next_ids.ensures.is) c.in_ok-test_new.ensures.below
+create_node-requires-clause-room g c = id_left c.next_ids.result.node c.args.live.now.graph.next_node c.next_ids.ensures.node c.in_ok-test_new.ensures.below
 
 pub create_node-requires-clause-count : goal.create_node-requires-clause-count
-create_node-requires-clause-count g c = few_elements g.T.Tables.seen c.args.store.now c.args.shared.now c.graph.result c.requires.fit c.graph.ensures c.in_ok-test_new.ensures.left
+create_node-requires-clause-count g c = few_elements c.graph.result c.args.live.now.graph c.graph.ensures.is c.in_ok-test_new.ensures.left
 
 pub returns-clause-ok : goal.returns-clause-ok
 returns-clause-ok g c =
-    let graph = graph_of_store g.T.Tables.seen c.args.store.now c.args.shared.now in
+    let graph = c.args.live.now.graph in
     let make : Entries → Graph = λ es. add_node (texts_of (node_view c.args.pattern.now).labels) es graph in
-    all_there (outcome_view c.args.outcome) (room_for c.args.max_elements graph) (test_counter graph.next_node) make (set_keys (pairs_of c.in_ok-properties.properties.items) no_entries) (ap outcome_view c.in_ok-properties.was) (graph_of_store g.T.Tables.seen c.create_node.new.self c.create_node.new.shared)
-    (sym (c.in_ok-test_new.ensures.is ∙ (λ i. room_and_id c.args.max_elements (c.next_ids.ensures.node c.args.shared.now i) (c.graph.ensures i)))) (c.in_ok-create_node.ensures.changes.says ∙ ap (λ ls. add_node ls (set_keys (pairs_of c.in_ok-properties.properties.items) no_entries) graph) c.in_ok-labels.ensures)
+    all_there (outcome_view c.args.outcome) (room_for c.args.max_elements graph) (test_counter graph.next_node) make (set_keys (pairs_of c.in_ok-properties.properties.items) no_entries) (ap outcome_view c.in_ok-properties.was) c.create_node.new.self.graph
+    (sym (c.in_ok-test_new.ensures.is ∙ (λ i. room_and_id c.args.max_elements (c.next_ids.ensures.node i) (c.graph.ensures.is i)))) (c.in_ok-create_node.ensures.ok ∙ ap (λ ls. add_node ls (set_keys (pairs_of c.in_ok-properties.properties.items) no_entries) graph) c.in_ok-labels.ensures)
 
 pub returns-clause-id : goal.returns-clause-id
 returns-clause-id g c = c.in_ok-create_node.ensures.id
@@ -90,5 +86,5 @@ returns-clause-id g c = c.in_ok-create_node.ensures.id
 pub returns-clause-err : goal.returns-clause-err
 returns-clause-err g c = tt
 
-pub returns-clause-changed : goal.returns-clause-changed
-returns-clause-changed g c = one_change g.T.Tables.seen c.args.store.now c.args.shared.now c.create_node.new.self c.create_node.new.shared c.create_node.result _ c.create_node.ensures.changes c.create_node.ensures.marks
+pub returns-clause-aside : goal.returns-clause-aside
+returns-clause-aside g c = c.create_node.ensures.aside

@@ -8,9 +8,8 @@ use Rattle.pg_meaning.specs.Patterns.{types_of, way_of}
 use Rattle.pg_meaning.specs.Updates.{add_between, first_text}
 use Rattle.pg_meaning.specs.Value.{Entries, no_entries}
 use Rattle.pg_meaning.specs.declared.fault.Fault.TheVariants.{OutOfMemory}
-use Rattle.pg_store.specs.Stores.{graph_of_store, pairs_of}
+use Rattle.pg_store.specs.Stores.{pairs_of}
 use Rattle.pg_syntax_tree.specs.View.{relationship_view}
-use Rattle.pg_write_make.proofs.ChangedLemmas.{unchanged}
 use Rattle.pg_write_make.proofs.RoomLemmas.{all_there, few_elements, id_left, none_new, no_properties}
 use Rattle.pg_write_make.specs.Outcomes.{outcome_view, room_and_id, room_for}
 use Rattle.pg_write_make.proofs.elements.add_relationship.Goals as goal
@@ -23,12 +22,12 @@ returns-in_err-properties-clause-id g c = IfOk-from_err c.from_residual.result _
 
 pub returns-in_err-properties-clause-err : goal.returns-in_err-properties-clause-err
 returns-in_err-properties-clause-err g c =
-    let graph = graph_of_store g.T.Tables.seen c.args.store.now c.args.shared.now in
+    let graph = c.args.live.now.graph in
     let make : Entries → Graph = λ es. add_between (way_of (relationship_view c.args.pattern.now)) (first_text (types_of (relationship_view c.args.pattern.now))) c.args.left.0 c.args.right.0 es graph in
     fault_passed _ c.in_err-properties.field-0.0 c.from_residual.result c.from_residual.ensures.1 (λ other. no_properties (outcome_view c.args.outcome) (room_for c.args.max_elements graph) (test_counter graph.next_relationship) make c.in_err-properties.field-0.0 (ap outcome_view c.in_err-properties.was))
 
-pub returns-in_err-properties-clause-changed : goal.returns-in_err-properties-clause-changed
-returns-in_err-properties-clause-changed g c = unchanged g.T.Tables.seen c.args.store.now c.args.shared.now c.requires.fit
+pub returns-in_err-properties-clause-aside : goal.returns-in_err-properties-clause-aside
+returns-in_err-properties-clause-aside g c = refl
 
 pub returns-in_err-test_new-clause-ok : goal.returns-in_err-test_new-clause-ok
 returns-in_err-test_new-clause-ok g c = IfOk-from_err c.from_residual-in_err-test_new.result _ c.from_residual-in_err-test_new.ensures.0
@@ -38,12 +37,12 @@ returns-in_err-test_new-clause-id g c = IfOk-from_err c.from_residual-in_err-tes
 
 pub returns-in_err-test_new-clause-err : goal.returns-in_err-test_new-clause-err
 returns-in_err-test_new-clause-err g c =
-    let graph = graph_of_store g.T.Tables.seen c.args.store.now c.args.shared.now in
+    let graph = c.args.live.now.graph in
     let make : Entries → Graph = λ es. add_between (way_of (relationship_view c.args.pattern.now)) (first_text (types_of (relationship_view c.args.pattern.now))) c.args.left.0 c.args.right.0 es graph in
-    fault_passed _ c.in_err-test_new.field-0.0 c.from_residual-in_err-test_new.result c.from_residual-in_err-test_new.ensures.1 (λ other. none_new (outcome_view c.args.outcome) (room_for c.args.max_elements graph) (test_counter graph.next_relationship) make (set_keys (pairs_of c.in_ok-properties.properties.items) no_entries) (ap outcome_view c.in_ok-properties.was) c.in_err-test_new.field-0.0 (sym (c.in_err-test_new.ensures.is ∙ (λ i. room_and_id c.args.max_elements (c.next_ids.ensures.relationship c.args.shared.now i) (c.graph.ensures i)))))
+    fault_passed _ c.in_err-test_new.field-0.0 c.from_residual-in_err-test_new.result c.from_residual-in_err-test_new.ensures.1 (λ other. none_new (outcome_view c.args.outcome) (room_for c.args.max_elements graph) (test_counter graph.next_relationship) make (set_keys (pairs_of c.in_ok-properties.properties.items) no_entries) (ap outcome_view c.in_ok-properties.was) c.in_err-test_new.field-0.0 (sym (c.in_err-test_new.ensures.is ∙ (λ i. room_and_id c.args.max_elements (c.next_ids.ensures.relationship i) (c.graph.ensures.is i)))))
 
-pub returns-in_err-test_new-clause-changed : goal.returns-in_err-test_new-clause-changed
-returns-in_err-test_new-clause-changed g c = unchanged g.T.Tables.seen c.args.store.now c.args.shared.now c.requires.fit
+pub returns-in_err-test_new-clause-aside : goal.returns-in_err-test_new-clause-aside
+returns-in_err-test_new-clause-aside g c = refl
 
 pub returns-in_err-add_between-clause-ok : goal.returns-in_err-add_between-clause-ok
 returns-in_err-add_between-clause-ok g c = IfOk-from_err c.from_residual-in_err-add_between.result _ c.from_residual-in_err-add_between.ensures.0
@@ -54,17 +53,14 @@ returns-in_err-add_between-clause-id g c = IfOk-from_err c.from_residual-in_err-
 pub returns-in_err-add_between-clause-err : goal.returns-in_err-add_between-clause-err
 returns-in_err-add_between-clause-err g c = fault_passed _ OutOfMemory c.from_residual-in_err-add_between.result c.from_residual-in_err-add_between.ensures.1 (λ other. absurd (other refl))
 
-pub returns-in_err-add_between-clause-changed : goal.returns-in_err-add_between-clause-changed
-returns-in_err-add_between-clause-changed g c = c.add_between.ensures.changed
-
-pub add_between-requires-clause-fit : goal.add_between-requires-clause-fit
-add_between-requires-clause-fit g c = c.requires.fit
+pub returns-in_err-add_between-clause-aside : goal.returns-in_err-add_between-clause-aside
+returns-in_err-add_between-clause-aside g c = c.add_between.ensures.aside
 
 pub add_between-requires-clause-room : goal.add_between-requires-clause-room
-add_between-requires-clause-room g c = id_left c.next_ids.result.rel c.args.store.now.next.rel (ap (λ ids. ids.rel) c.next_ids.ensures.is) c.in_ok-test_new.ensures.below
+add_between-requires-clause-room g c = id_left c.next_ids.result.rel c.args.live.now.graph.next_relationship c.next_ids.ensures.relationship c.in_ok-test_new.ensures.below
 
 pub add_between-requires-clause-count : goal.add_between-requires-clause-count
-add_between-requires-clause-count g c = few_elements g.T.Tables.seen c.args.store.now c.args.shared.now c.graph.result c.requires.fit c.graph.ensures c.in_ok-test_new.ensures.left
+add_between-requires-clause-count g c = few_elements c.graph.result c.args.live.now.graph c.graph.ensures.is c.in_ok-test_new.ensures.left
 
 pub add_between-requires-clause-left : goal.add_between-requires-clause-left
 add_between-requires-clause-left g c = c.requires.left
@@ -74,10 +70,10 @@ add_between-requires-clause-right g c = c.requires.right
 
 pub returns-clause-ok : goal.returns-clause-ok
 returns-clause-ok g c =
-    let graph = graph_of_store g.T.Tables.seen c.args.store.now c.args.shared.now in
+    let graph = c.args.live.now.graph in
     let make : Entries → Graph = λ es. add_between (way_of (relationship_view c.args.pattern.now)) (first_text (types_of (relationship_view c.args.pattern.now))) c.args.left.0 c.args.right.0 es graph in
-    all_there (outcome_view c.args.outcome) (room_for c.args.max_elements graph) (test_counter graph.next_relationship) make (set_keys (pairs_of c.in_ok-properties.properties.items) no_entries) (ap outcome_view c.in_ok-properties.was) (graph_of_store g.T.Tables.seen c.add_between.new.store c.add_between.new.shared)
-    (sym (c.in_ok-test_new.ensures.is ∙ (λ i. room_and_id c.args.max_elements (c.next_ids.ensures.relationship c.args.shared.now i) (c.graph.ensures i)))) (sym c.in_ok-add_between.ensures.ok)
+    all_there (outcome_view c.args.outcome) (room_for c.args.max_elements graph) (test_counter graph.next_relationship) make (set_keys (pairs_of c.in_ok-properties.properties.items) no_entries) (ap outcome_view c.in_ok-properties.was) c.add_between.new.live.graph
+    (sym (c.in_ok-test_new.ensures.is ∙ (λ i. room_and_id c.args.max_elements (c.next_ids.ensures.relationship i) (c.graph.ensures.is i)))) (sym c.in_ok-add_between.ensures.ok)
 
 pub returns-clause-id : goal.returns-clause-id
 returns-clause-id g c = c.in_ok-add_between.ensures.id
@@ -85,5 +81,5 @@ returns-clause-id g c = c.in_ok-add_between.ensures.id
 pub returns-clause-err : goal.returns-clause-err
 returns-clause-err g c = tt
 
-pub returns-clause-changed : goal.returns-clause-changed
-returns-clause-changed g c = c.add_between.ensures.changed
+pub returns-clause-aside : goal.returns-clause-aside
+returns-clause-aside g c = c.add_between.ensures.aside

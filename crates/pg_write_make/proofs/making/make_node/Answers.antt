@@ -6,11 +6,9 @@ use Rattle.pg_meaning.specs.Patterns.{node_name}
 use Rattle.pg_meaning.specs.Updates.{Making}
 use Rattle.pg_meaning.specs.declared.fault.Fault.{Fault}
 use Rattle.pg_meaning.specs.declared.fault.Fault.TheVariants.{OutOfMemory}
-use Rattle.pg_store.specs.Stores.{graph_of_store}
 use Rattle.pg_syntax_tree.specs.View.{node_view}
 use Rattle.pg_value_core.specs.declared.ids.NodeId.{NodeId}
 use Rattle.pg_write_make.proofs.BoundLemmas.{found_there, new_bound, of_fault, of_found, of_new_fault, placed, pushed_id}
-use Rattle.pg_write_make.proofs.ChangedLemmas.{unchanged}
 use Rattle.pg_write_make.proofs.GrowthLemmas.{added_grows, added_there, bound_there, there_grows, there_push}
 use Rattle.pg_write_make.specs.Makings.{bindings, making_of, named_ids, node_ids, AreThere}
 use Rattle.pg_write_make.specs.Outcomes.{outcome_view}
@@ -23,12 +21,12 @@ returns-in_err-id-clause-ok g c = IfOk-from_err c.from_residual.result _ c.from_
 pub returns-in_err-id-clause-err : goal.returns-in_err-id-clause-err
 returns-in_err-id-clause-err g c =
     let row = row_in c.args.scene.now c.args.row.now in
-    let before = graph_of_store g.T.Tables.seen c.args.store.now c.args.shared.now in
+    let before = c.args.live.now.graph in
     let p = err_from_is_err_and c.from_residual.result c.from_residual.ensures.1 in
     rw (p.1, p.2) (λ other. of_fault c.args.max_elements (outcome_view c.args.outcome) (node_view c.args.pattern.now) (making_of before row c.args.named.now.items c.args.ids.now.items) c.in_err-id.field-0.0 c.in_err-id.ensures.err)
 
-pub returns-in_err-id-clause-changed : goal.returns-in_err-id-clause-changed
-returns-in_err-id-clause-changed g c = unchanged g.T.Tables.seen c.args.store.now c.args.shared.now c.requires.fit
+pub returns-in_err-id-clause-aside : goal.returns-in_err-id-clause-aside
+returns-in_err-id-clause-aside g c = refl
 
 pub returns-in_err-id-clause-grows : goal.returns-in_err-id-clause-grows
 returns-in_err-id-clause-grows g c = IfOk-from_err c.from_residual.result _ c.from_residual.ensures.0
@@ -42,8 +40,8 @@ returns-in_err-push-in-Some-clause-ok g c = IfOk-from_err c.from_residual-in_err
 pub returns-in_err-push-in-Some-clause-err : goal.returns-in_err-push-in-Some-clause-err
 returns-in_err-push-in-Some-clause-err g c = fault_passed _ OutOfMemory c.from_residual-in_err-push-in-Some.result c.from_residual-in_err-push-in-Some.ensures.1 (λ other. absurd (other refl))
 
-pub returns-in_err-push-in-Some-clause-changed : goal.returns-in_err-push-in-Some-clause-changed
-returns-in_err-push-in-Some-clause-changed g c = unchanged g.T.Tables.seen c.args.store.now c.args.shared.now c.requires.fit
+pub returns-in_err-push-in-Some-clause-aside : goal.returns-in_err-push-in-Some-clause-aside
+returns-in_err-push-in-Some-clause-aside g c = refl
 
 pub returns-in_err-push-in-Some-clause-grows : goal.returns-in_err-push-in-Some-clause-grows
 returns-in_err-push-in-Some-clause-grows g c = IfOk-from_err c.from_residual-in_err-push-in-Some.result _ c.from_residual-in_err-push-in-Some.ensures.0
@@ -54,7 +52,7 @@ returns-in_err-push-in-Some-clause-there g c = IfOk-from_err c.from_residual-in_
 pub returns-in_ok-push-in-Some-clause-ok : goal.returns-in_ok-push-in-Some-clause-ok
 returns-in_ok-push-in-Some-clause-ok g c =
     let row = row_in c.args.scene.now c.args.row.now in
-    let before = graph_of_store g.T.Tables.seen c.args.store.now c.args.shared.now in
+    let before = c.args.live.now.graph in
     let bound = row ++ bindings c.args.named.now.items in
     let made : List ℕ → Result Making Fault = λ ns. Ok (record { graph = before; bound = bound; ids = ns }) in
     of_found c.args.max_elements (outcome_view c.args.outcome) (node_view c.args.pattern.now) (making_of before row c.args.named.now.items c.args.ids.now.items) c.in-Some.id.0 (c.in_ok-id.ensures.ok ∙ ap (λ o. Ok (option_map (λ (i : NodeId). i.0) o)) c.in-Some.is)
@@ -63,8 +61,8 @@ returns-in_ok-push-in-Some-clause-ok g c =
 pub returns-in_ok-push-in-Some-clause-err : goal.returns-in_ok-push-in-Some-clause-err
 returns-in_ok-push-in-Some-clause-err g c = tt
 
-pub returns-in_ok-push-in-Some-clause-changed : goal.returns-in_ok-push-in-Some-clause-changed
-returns-in_ok-push-in-Some-clause-changed g c = unchanged g.T.Tables.seen c.args.store.now c.args.shared.now c.requires.fit
+pub returns-in_ok-push-in-Some-clause-aside : goal.returns-in_ok-push-in-Some-clause-aside
+returns-in_ok-push-in-Some-clause-aside g c = refl
 
 pub returns-in_ok-push-in-Some-clause-grows : goal.returns-in_ok-push-in-Some-clause-grows
 returns-in_ok-push-in-Some-clause-grows g c = λ n there. there
@@ -72,18 +70,15 @@ returns-in_ok-push-in-Some-clause-grows g c = λ n there. there
 pub returns-in_ok-push-in-Some-clause-there : goal.returns-in_ok-push-in-Some-clause-there
 returns-in_ok-push-in-Some-clause-there g c =
     let row = row_in c.args.scene.now c.args.row.now in
-    let before = graph_of_store g.T.Tables.seen c.args.store.now c.args.shared.now in
+    let before = c.args.live.now.graph in
     let there = found_there before (node_name (node_view c.args.pattern.now)) row c.args.named.now.items c.in-Some.id.0 c.requires.tested c.requires.there.bound (c.in_ok-id.ensures.ok ∙ ap (λ o. Ok (option_map (λ (i : NodeId). i.0) o)) c.in-Some.is) in
     record {
       bound = c.requires.there.bound;
       made = subst (λ (ns : List ℕ). AreThere before ns) (sym (pushed_id c.args.ids.now.items c.push.new.self.items c.in-Some.id c.in_ok-push-in-Some.ensures.items)) (there_push before (node_ids c.args.ids.now.items) c.in-Some.id.0 c.requires.there.made there);
     }
 
-pub add_node-requires-clause-fit : goal.add_node-requires-clause-fit
-add_node-requires-clause-fit g c = c.requires.fit
-
-pub add_node-requires-clause-quota : goal.add_node-requires-clause-quota
-add_node-requires-clause-quota g c = c.requires.quota
+pub add_node-requires : goal.add_node-requires
+add_node-requires g c = record { quota = c.requires.quota }
 
 pub returns-in_err-new-in-None-clause-ok : goal.returns-in_err-new-in-None-clause-ok
 returns-in_err-new-in-None-clause-ok g c = IfOk-from_err c.from_residual-in_err-new-in-None.result _ c.from_residual-in_err-new-in-None.ensures.0
@@ -97,12 +92,12 @@ returns-in_err-new-in-None-clause-there g c = IfOk-from_err c.from_residual-in_e
 pub returns-in_err-new-in-None-clause-err : goal.returns-in_err-new-in-None-clause-err
 returns-in_err-new-in-None-clause-err g c =
     let row = row_in c.args.scene.now c.args.row.now in
-    let before = graph_of_store g.T.Tables.seen c.args.store.now c.args.shared.now in
+    let before = c.args.live.now.graph in
     let p = err_from_is_err_and c.from_residual-in_err-new-in-None.result c.from_residual-in_err-new-in-None.ensures.1 in
     rw (p.1, p.2) (λ other. of_new_fault c.args.max_elements (outcome_view c.args.outcome) (node_view c.args.pattern.now) (making_of before row c.args.named.now.items c.args.ids.now.items) c.in_err-new-in-None.field-0.0 (c.in_ok-id.ensures.ok ∙ ap (λ o. Ok (option_map (λ (i : NodeId). i.0) o)) c.in-None.is) (c.in_err-new-in-None.ensures.err other))
 
-pub returns-in_err-new-in-None-clause-changed : goal.returns-in_err-new-in-None-clause-changed
-returns-in_err-new-in-None-clause-changed g c = c.add_node.ensures.changed
+pub returns-in_err-new-in-None-clause-aside : goal.returns-in_err-new-in-None-clause-aside
+returns-in_err-new-in-None-clause-aside g c = c.add_node.ensures.aside
 
 pub returns-in_err-bind_new-in-None-clause-ok : goal.returns-in_err-bind_new-in-None-clause-ok
 returns-in_err-bind_new-in-None-clause-ok g c = IfOk-from_err c.from_residual-in_err-bind_new-in-None.result _ c.from_residual-in_err-bind_new-in-None.ensures.0
@@ -116,8 +111,8 @@ returns-in_err-bind_new-in-None-clause-there g c = IfOk-from_err c.from_residual
 pub returns-in_err-bind_new-in-None-clause-err : goal.returns-in_err-bind_new-in-None-clause-err
 returns-in_err-bind_new-in-None-clause-err g c = fault_passed _ OutOfMemory c.from_residual-in_err-bind_new-in-None.result c.from_residual-in_err-bind_new-in-None.ensures.1 (λ other. absurd (other refl))
 
-pub returns-in_err-bind_new-in-None-clause-changed : goal.returns-in_err-bind_new-in-None-clause-changed
-returns-in_err-bind_new-in-None-clause-changed g c = c.add_node.ensures.changed
+pub returns-in_err-bind_new-in-None-clause-aside : goal.returns-in_err-bind_new-in-None-clause-aside
+returns-in_err-bind_new-in-None-clause-aside g c = c.add_node.ensures.aside
 
 pub returns-in_err-push-in-None-clause-ok : goal.returns-in_err-push-in-None-clause-ok
 returns-in_err-push-in-None-clause-ok g c = IfOk-from_err c.from_residual-in_err-push-in-None.result _ c.from_residual-in_err-push-in-None.ensures.0
@@ -131,14 +126,14 @@ returns-in_err-push-in-None-clause-there g c = IfOk-from_err c.from_residual-in_
 pub returns-in_err-push-in-None-clause-err : goal.returns-in_err-push-in-None-clause-err
 returns-in_err-push-in-None-clause-err g c = fault_passed _ OutOfMemory c.from_residual-in_err-push-in-None.result c.from_residual-in_err-push-in-None.ensures.1 (λ other. absurd (other refl))
 
-pub returns-in_err-push-in-None-clause-changed : goal.returns-in_err-push-in-None-clause-changed
-returns-in_err-push-in-None-clause-changed g c = c.add_node.ensures.changed
+pub returns-in_err-push-in-None-clause-aside : goal.returns-in_err-push-in-None-clause-aside
+returns-in_err-push-in-None-clause-aside g c = c.add_node.ensures.aside
 
 pub returns-in_ok-push-in-None-clause-ok : goal.returns-in_ok-push-in-None-clause-ok
 returns-in_ok-push-in-None-clause-ok g c =
     let row = row_in c.args.scene.now c.args.row.now in
-    let before = graph_of_store g.T.Tables.seen c.args.store.now c.args.shared.now in
-    let after = graph_of_store g.T.Tables.seen c.add_node.new.store c.add_node.new.shared in
+    let before = c.args.live.now.graph in
+    let after = c.add_node.new.live.graph in
     let named = bindings c.args.named.now.items in
     let more = bindings c.bind_new.new.named.items in
     let ids = node_ids c.args.ids.now.items in
@@ -153,19 +148,19 @@ returns-in_ok-push-in-None-clause-ok g c =
 pub returns-in_ok-push-in-None-clause-err : goal.returns-in_ok-push-in-None-clause-err
 returns-in_ok-push-in-None-clause-err g c = tt
 
-pub returns-in_ok-push-in-None-clause-changed : goal.returns-in_ok-push-in-None-clause-changed
-returns-in_ok-push-in-None-clause-changed g c = c.add_node.ensures.changed
+pub returns-in_ok-push-in-None-clause-aside : goal.returns-in_ok-push-in-None-clause-aside
+returns-in_ok-push-in-None-clause-aside g c = c.add_node.ensures.aside
 
 pub returns-in_ok-push-in-None-clause-grows : goal.returns-in_ok-push-in-None-clause-grows
 returns-in_ok-push-in-None-clause-grows g c =
-    let before = graph_of_store g.T.Tables.seen c.args.store.now c.args.shared.now in
-    let after = graph_of_store g.T.Tables.seen c.add_node.new.store c.add_node.new.shared in
+    let before = c.args.live.now.graph in
+    let after = c.add_node.new.live.graph in
     added_grows c.args.max_elements (outcome_view c.args.outcome) (node_view c.args.pattern.now) before after c.in_ok-new-in-None.ensures.ok
 
 pub returns-in_ok-push-in-None-clause-there : goal.returns-in_ok-push-in-None-clause-there
 returns-in_ok-push-in-None-clause-there g c =
-    let before = graph_of_store g.T.Tables.seen c.args.store.now c.args.shared.now in
-    let after = graph_of_store g.T.Tables.seen c.add_node.new.store c.add_node.new.shared in
+    let before = c.args.live.now.graph in
+    let after = c.add_node.new.live.graph in
     let ids = node_ids c.args.ids.now.items in
     let grows = added_grows c.args.max_elements (outcome_view c.args.outcome) (node_view c.args.pattern.now) before after c.in_ok-new-in-None.ensures.ok in
     let now = ap (has_node after) c.in_ok-new-in-None.ensures.id ∙ added_there c.args.max_elements (outcome_view c.args.outcome) (node_view c.args.pattern.now) before after c.in_ok-new-in-None.ensures.ok in

@@ -1,40 +1,35 @@
-use Rattle.std.proofs.Common.{Ok, Err}
+use Rattle.std.proofs.Common.{Ok, Err, ◌∙◌}
 use Rattle.std.proofs.lemmas.Result.{err_from_is_err_and}
-use Rattle.pg_store.specs.Stores.{graph_of_store}
 use Rattle.pg_write_make.proofs.LoopLemmas.{first_is_tested, others_tested, none_yet, all_made, first_refused}
 use Rattle.pg_write_make.proofs.GrowthLemmas.{grows_twice}
 use Rattle.pg_write_make.specs.Makings.{making_of, outcomes_view}
-use Rattle.pg_write_make.proofs.ChangedLemmas.{changed_then}
 use Rattle.pg_write_make.specs.Outcomes.{outcome_view}
 use Rattle.pg_write_make.specs.Scenes.{row_in}
 use Rattle.pg_write_make.proofs.making.make_nodes.Goals as goal
 
 pub make_node-requires-clause-tested : goal.make_node-requires-clause-tested
-make_node-requires-clause-tested g c = first_is_tested (graph_of_store g.T.Tables.seen c.args.store.now c.args.shared.now) (row_in c.args.scene.now c.args.row.now) c.args.path.now c.requires.tested
+make_node-requires-clause-tested g c = first_is_tested c.args.live.now.graph (row_in c.args.scene.now c.args.row.now) c.args.path.now c.requires.tested
 
 pub make_node-requires-clause-there : goal.make_node-requires-clause-there
-make_node-requires-clause-there g c = none_yet (graph_of_store g.T.Tables.seen c.args.store.now c.args.shared.now) c.args.named.now.items c.in_ok-ids.ids.items c.in_ok-ids.ensures.items c.requires.there
+make_node-requires-clause-there g c = none_yet c.args.live.now.graph c.args.named.now.items c.in_ok-ids.ids.items c.in_ok-ids.ensures.items c.requires.there
 
 pub returns-in_err-make_node-clause-err : goal.returns-in_err-make_node-clause-err
 returns-in_err-make_node-clause-err g c =
     let p = err_from_is_err_and c.from_residual-in_err-make_node.result c.from_residual-in_err-make_node.ensures.1 in
-    rw (p.1, p.2) (λ other. first_refused c.args.max_elements (outcome_view c.args.first) (outcomes_view c.args.others.items) c.args.path.now (graph_of_store g.T.Tables.seen c.args.store.now c.args.shared.now) (row_in c.args.scene.now c.args.row.now)
+    rw (p.1, p.2) (λ other. first_refused c.args.max_elements (outcome_view c.args.first) (outcomes_view c.args.others.items) c.args.path.now c.args.live.now.graph (row_in c.args.scene.now c.args.row.now)
     c.args.named.now.items c.in_ok-ids.ids.items c.in_ok-ids.ensures.items c.in_err-make_node.field-0.0 (c.in_err-make_node.ensures.err other))
 
-pub returns-in_err-make_node-clause-changed : goal.returns-in_err-make_node-clause-changed
-returns-in_err-make_node-clause-changed g c = c.make_node.ensures.changed
+pub returns-in_err-make_node-clause-aside : goal.returns-in_err-make_node-clause-aside
+returns-in_err-make_node-clause-aside g c = c.make_node.ensures.aside
 
 pub returns-in_err-make_node-clause-grows : goal.returns-in_err-make_node-clause-grows
 returns-in_err-make_node-clause-grows g c =
     let p = err_from_is_err_and c.from_residual-in_err-make_node.result c.from_residual-in_err-make_node.ensures.1 in
     rw p.1 tt
 
-pub make_others-requires-clause-fit : goal.make_others-requires-clause-fit
-make_others-requires-clause-fit g c = c.make_node.ensures.changed.fit
-
 pub make_others-requires-clause-tested : goal.make_others-requires-clause-tested
 make_others-requires-clause-tested g c =
-    others_tested (graph_of_store g.T.Tables.seen c.args.store.now c.args.shared.now) (graph_of_store g.T.Tables.seen c.make_node.new.store c.make_node.new.shared) (row_in c.args.scene.now c.args.row.now) c.args.path.now c.in_ok-make_node.ensures.grows c.requires.tested
+    others_tested c.args.live.now.graph c.make_node.new.live.graph (row_in c.args.scene.now c.args.row.now) c.args.path.now c.in_ok-make_node.ensures.grows c.requires.tested
 
 pub make_others-requires-clause-there : goal.make_others-requires-clause-there
 make_others-requires-clause-there g c = c.in_ok-make_node.ensures.there
@@ -43,13 +38,13 @@ pub returns-in_err-make_others-clause-err : goal.returns-in_err-make_others-clau
 returns-in_err-make_others-clause-err g c =
     let row = row_in c.args.scene.now c.args.row.now in
     let p = err_from_is_err_and c.from_residual-in_err-make_others.result c.from_residual-in_err-make_others.ensures.1 in
-    rw (p.1, p.2) (λ other. all_made c.args.max_elements (outcome_view c.args.first) (outcomes_view c.args.others.items) c.args.path.now (graph_of_store g.T.Tables.seen c.args.store.now c.args.shared.now) row
-    c.args.named.now.items c.in_ok-ids.ids.items c.in_ok-ids.ensures.items (making_of (graph_of_store g.T.Tables.seen c.make_node.new.store c.make_node.new.shared) row c.make_node.new.named.items c.make_node.new.ids.items)
+    rw (p.1, p.2) (λ other. all_made c.args.max_elements (outcome_view c.args.first) (outcomes_view c.args.others.items) c.args.path.now c.args.live.now.graph row
+    c.args.named.now.items c.in_ok-ids.ids.items c.in_ok-ids.ensures.items (making_of c.make_node.new.live.graph row c.make_node.new.named.items c.make_node.new.ids.items)
     (Err c.in_err-make_others.field-0.0) c.in_ok-make_node.ensures.ok (c.in_err-make_others.ensures.err other))
 
-pub returns-in_err-make_others-clause-changed : goal.returns-in_err-make_others-clause-changed
-returns-in_err-make_others-clause-changed g c =
-    changed_then g.T.Tables.seen c.args.store.now c.make_node.new.store c.make_others.new.store c.args.shared.now c.make_node.new.shared c.make_others.new.shared c.make_node.ensures.changed c.make_others.ensures.changed
+pub returns-in_err-make_others-clause-aside : goal.returns-in_err-make_others-clause-aside
+returns-in_err-make_others-clause-aside g c =
+    c.make_others.ensures.aside ∙ c.make_node.ensures.aside
 
 pub returns-in_err-make_others-clause-grows : goal.returns-in_err-make_others-clause-grows
 returns-in_err-make_others-clause-grows g c =
@@ -59,17 +54,17 @@ returns-in_err-make_others-clause-grows g c =
 pub returns-clause-ok : goal.returns-clause-ok
 returns-clause-ok g c =
     let row = row_in c.args.scene.now c.args.row.now in
-    all_made c.args.max_elements (outcome_view c.args.first) (outcomes_view c.args.others.items) c.args.path.now (graph_of_store g.T.Tables.seen c.args.store.now c.args.shared.now) row
-    c.args.named.now.items c.in_ok-ids.ids.items c.in_ok-ids.ensures.items (making_of (graph_of_store g.T.Tables.seen c.make_node.new.store c.make_node.new.shared) row c.make_node.new.named.items c.make_node.new.ids.items)
-    (Ok (making_of (graph_of_store g.T.Tables.seen c.make_others.new.store c.make_others.new.shared) row c.make_others.new.named.items c.make_others.new.ids.items)) c.in_ok-make_node.ensures.ok c.in_ok-make_others.ensures.ok
+    all_made c.args.max_elements (outcome_view c.args.first) (outcomes_view c.args.others.items) c.args.path.now c.args.live.now.graph row
+    c.args.named.now.items c.in_ok-ids.ids.items c.in_ok-ids.ensures.items (making_of c.make_node.new.live.graph row c.make_node.new.named.items c.make_node.new.ids.items)
+    (Ok (making_of c.make_others.new.live.graph row c.make_others.new.named.items c.make_others.new.ids.items)) c.in_ok-make_node.ensures.ok c.in_ok-make_others.ensures.ok
 
-pub returns-clause-changed : goal.returns-clause-changed
-returns-clause-changed g c =
-    changed_then g.T.Tables.seen c.args.store.now c.make_node.new.store c.make_others.new.store c.args.shared.now c.make_node.new.shared c.make_others.new.shared c.make_node.ensures.changed c.make_others.ensures.changed
+pub returns-clause-aside : goal.returns-clause-aside
+returns-clause-aside g c =
+    c.make_others.ensures.aside ∙ c.make_node.ensures.aside
 
 pub returns-clause-grows : goal.returns-clause-grows
 returns-clause-grows g c =
-    grows_twice (graph_of_store g.T.Tables.seen c.args.store.now c.args.shared.now) (graph_of_store g.T.Tables.seen c.make_node.new.store c.make_node.new.shared) (graph_of_store g.T.Tables.seen c.make_others.new.store c.make_others.new.shared)
+    grows_twice c.args.live.now.graph c.make_node.new.live.graph c.make_others.new.live.graph
     c.in_ok-make_node.ensures.grows c.in_ok-make_others.ensures.grows
 
 pub returns-clause-there : goal.returns-clause-there

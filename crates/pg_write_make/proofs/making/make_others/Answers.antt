@@ -1,13 +1,11 @@
-use Rattle.std.proofs.Common.{◌≡◌, ◌<◌, get_or, length, drop, arith, sym, ap}
+use Rattle.std.proofs.Common.{◌≡◌, ◌<◌, get_or, length, drop, arith, sym, ap, refl, ◌∙◌}
 use Rattle.std.proofs.lemmas.List.{nil_from_length}
 use Rattle.std.proofs.lemmas.Result.{err_from_is_err_and, IfOk-from_err}
 use Rattle.std.specs.Vec.Iter.{into_iter_items}
-use Rattle.pg_store.specs.Stores.{graph_of_store}
 use Rattle.pg_write_make.proofs.LoopLemmas.{at_same, within_same, past_same, node_is_tested, nodes_over, nodes_past}
 use Rattle.pg_write_make.proofs.GrowthLemmas.{grows_twice}
 use Rattle.pg_write_make.proofs.StepLemmas.{node_made, node_refused, tests_left}
 use Rattle.pg_write_make.specs.Makings.{making_of, others_view, outcomes_view}
-use Rattle.pg_write_make.proofs.ChangedLemmas.{changed_then, unchanged}
 use Rattle.pg_write_make.specs.Outcomes.{nodes_made}
 use Rattle.pg_write_make.specs.Scenes.{row_in}
 use Rattle.pg_write_make.proofs.making.make_others.Goals as goal
@@ -19,7 +17,7 @@ make_node-requires-clause-tested g c =
     let h = c.hop-item.result in
     let same = c.deref-hop-items.ensures.value in
     node_is_tested hs i h (at_same c.deref-hop-items.result.now hs i h same c.hop-item.is) (within_same c.deref-hop-items.result.now hs i same c.loop-hop-test.true)
-    (graph_of_store g.T.Tables.seen c.loop-hop.store c.loop-hop.shared) (row_in c.args.scene.now c.args.row.now) c.loop-hop.invariant.tested
+    c.loop-hop.live.graph (row_in c.args.scene.now c.args.row.now) c.loop-hop.invariant.tested
 
 pub make_node-requires-clause-there : goal.make_node-requires-clause-there
 make_node-requires-clause-there g c = c.loop-hop.invariant.there
@@ -34,25 +32,25 @@ returns-in_err-make_node-in-Some-clause-err g c =
     let p = err_from_is_err_and c.from_residual.result c.from_residual.ensures.1 in
     rw (p.1, p.2) (λ other. node_refused c.args.max_elements hs i h (at_same c.deref-hop-items.result.now hs i h same c.hop-item.is) (within_same c.deref-hop-items.result.now hs i same c.loop-hop-test.true)
     c.in-Some.outcome (into_iter_items c.loop-hop.rest) (into_iter_items c.next.new.self)
-    (making_of (graph_of_store g.T.Tables.seen c.loop-hop.store c.loop-hop.shared) row c.loop-hop.named.items c.loop-hop.ids.items)
-    (nodes_made c.args.max_elements (outcomes_view c.args.outcomes.items) (others_view hs) (making_of (graph_of_store g.T.Tables.seen c.args.store.now c.args.shared.now) row c.args.named.now.items c.args.ids.now.items))
+    (making_of c.loop-hop.live.graph row c.loop-hop.named.items c.loop-hop.ids.items)
+    (nodes_made c.args.max_elements (outcomes_view c.args.outcomes.items) (others_view hs) (making_of c.args.live.now.graph row c.args.named.now.items c.args.ids.now.items))
     c.in-Some.ensures.items c.loop-hop.invariant.rest c.in_err-make_node-in-Some.field-0.0 (c.in_err-make_node-in-Some.ensures.err other))
 
-pub returns-in_err-make_node-in-Some-clause-changed : goal.returns-in_err-make_node-in-Some-clause-changed
-returns-in_err-make_node-in-Some-clause-changed g c =
-    changed_then g.T.Tables.seen c.args.store.now c.loop-hop.store c.make_node.new.store c.args.shared.now c.loop-hop.shared c.make_node.new.shared c.loop-hop.invariant.changed c.make_node.ensures.changed
+pub returns-in_err-make_node-in-Some-clause-aside : goal.returns-in_err-make_node-in-Some-clause-aside
+returns-in_err-make_node-in-Some-clause-aside g c =
+    c.make_node.ensures.aside ∙ c.loop-hop.invariant.aside
 
 pub returns-in-None-clause-ok : goal.returns-in-None-clause-ok
 returns-in-None-clause-ok g c =
     let hs = c.args.hops.now.items in
     let row = row_in c.args.scene.now c.args.row.now in
     nodes_over c.args.max_elements (into_iter_items c.loop-hop.rest) (others_view (drop c.loop-hop.hop-index hs))
-    (making_of (graph_of_store g.T.Tables.seen c.loop-hop.store c.loop-hop.shared) row c.loop-hop.named.items c.loop-hop.ids.items)
-    (nodes_made c.args.max_elements (outcomes_view c.args.outcomes.items) (others_view hs) (making_of (graph_of_store g.T.Tables.seen c.args.store.now c.args.shared.now) row c.args.named.now.items c.args.ids.now.items))
+    (making_of c.loop-hop.live.graph row c.loop-hop.named.items c.loop-hop.ids.items)
+    (nodes_made c.args.max_elements (outcomes_view c.args.outcomes.items) (others_view hs) (making_of c.args.live.now.graph row c.args.named.now.items c.args.ids.now.items))
     c.loop-hop.invariant.rest (nil_from_length (into_iter_items c.loop-hop.rest) (let none = c.in-None.ensures.cases in omega (arith, none.0)))
 
-pub returns-in-None-clause-changed : goal.returns-in-None-clause-changed
-returns-in-None-clause-changed g c = c.loop-hop.invariant.changed
+pub returns-in-None-clause-aside : goal.returns-in-None-clause-aside
+returns-in-None-clause-aside g c = c.loop-hop.invariant.aside
 
 pub returns-in-None-clause-grows : goal.returns-in-None-clause-grows
 returns-in-None-clause-grows g c = c.loop-hop.invariant.grows
@@ -66,9 +64,9 @@ loop-hop-preserved g c =
     let i = c.loop-hop.hop-index in
     let h = c.hop-item.result in
     let row = row_in c.args.scene.now c.args.row.now in
-    let before = graph_of_store g.T.Tables.seen c.args.store.now c.args.shared.now in
-    let now = graph_of_store g.T.Tables.seen c.loop-hop.store c.loop-hop.shared in
-    let after = graph_of_store g.T.Tables.seen c.make_node.new.store c.make_node.new.shared in
+    let before = c.args.live.now.graph in
+    let now = c.loop-hop.live.graph in
+    let after = c.make_node.new.live.graph in
     let same = c.deref-hop-items.ensures.value in
     let at : h ≡ get_or hs i h = at_same c.deref-hop-items.result.now hs i h same c.hop-item.is in
     let within : i < length hs = within_same c.deref-hop-items.result.now hs i same c.loop-hop-test.true in
@@ -80,7 +78,7 @@ loop-hop-preserved g c =
       tested = tests_left c.args.max_elements hs i h at within now after row c.in_ok-make_node-in-Some.ensures.grows c.loop-hop.invariant.tested;
       there = c.in_ok-make_node-in-Some.ensures.there;
       grows = grows_twice before now after c.loop-hop.invariant.grows c.in_ok-make_node-in-Some.ensures.grows;
-      changed = changed_then g.T.Tables.seen c.args.store.now c.loop-hop.store c.make_node.new.store c.args.shared.now c.loop-hop.shared c.make_node.new.shared c.loop-hop.invariant.changed c.make_node.ensures.changed;
+      aside = c.make_node.ensures.aside ∙ c.loop-hop.invariant.aside;
     }
 
 pub returns-clause-ok : goal.returns-clause-ok
@@ -88,12 +86,12 @@ returns-clause-ok g c =
     let hs = c.args.hops.now.items in
     let row = row_in c.args.scene.now c.args.row.now in
     nodes_past c.args.max_elements (outcomes_view (into_iter_items c.loop-hop.rest)) hs c.loop-hop.hop-index
-    (making_of (graph_of_store g.T.Tables.seen c.loop-hop.store c.loop-hop.shared) row c.loop-hop.named.items c.loop-hop.ids.items)
-    (nodes_made c.args.max_elements (outcomes_view c.args.outcomes.items) (others_view hs) (making_of (graph_of_store g.T.Tables.seen c.args.store.now c.args.shared.now) row c.args.named.now.items c.args.ids.now.items))
+    (making_of c.loop-hop.live.graph row c.loop-hop.named.items c.loop-hop.ids.items)
+    (nodes_made c.args.max_elements (outcomes_view c.args.outcomes.items) (others_view hs) (making_of c.args.live.now.graph row c.args.named.now.items c.args.ids.now.items))
     c.loop-hop.invariant.rest (past_same c.deref-hop-items.result.now hs c.loop-hop.hop-index c.deref-hop-items.ensures.value c.loop-hop-test.false)
 
-pub returns-clause-changed : goal.returns-clause-changed
-returns-clause-changed g c = c.loop-hop.invariant.changed
+pub returns-clause-aside : goal.returns-clause-aside
+returns-clause-aside g c = c.loop-hop.invariant.aside
 
 pub returns-clause-grows : goal.returns-clause-grows
 returns-clause-grows g c = c.loop-hop.invariant.grows
@@ -104,17 +102,14 @@ returns-clause-there g c = c.loop-hop.invariant.there
 pub loop-hop-init : goal.loop-hop-init
 loop-hop-init g c =
     let hs = c.args.hops.now.items in
-    let making = making_of (graph_of_store g.T.Tables.seen c.args.store.now c.args.shared.now) (row_in c.args.scene.now c.args.row.now) c.args.named.now.items c.args.ids.now.items in
+    let making = making_of c.args.live.now.graph (row_in c.args.scene.now c.args.row.now) c.args.named.now.items c.args.ids.now.items in
     record {
       rest = ap (λ os. nodes_made c.args.max_elements (outcomes_view os) (others_view hs) making) (sym c.into_iter-rest.ensures.rest);
       tested = c.requires.tested;
       there = c.requires.there;
       grows = λ n there. there;
-      changed = unchanged g.T.Tables.seen c.args.store.now c.args.shared.now c.requires.fit;
+      aside = refl;
     }
-
-pub make_node-requires-clause-fit : goal.make_node-requires-clause-fit
-make_node-requires-clause-fit g c = c.loop-hop.invariant.changed.fit
 
 pub make_node-requires-clause-quota : goal.make_node-requires-clause-quota
 make_node-requires-clause-quota g c = c.requires.quota

@@ -1,17 +1,12 @@
-use Rattle.std.proofs.Common.{◌++◌}
+use Rattle.std.proofs.Common.{◌++◌, ◌∙◌}
 use Rattle.std.proofs.lemmas.Result.{err_from_is_err_and}
-use Rattle.pg_store.specs.Stores.{graph_of_store}
 use Rattle.pg_syntax_tree.specs.View.{path_view}
 use Rattle.pg_write_make.proofs.GrowthLemmas.{grows_twice, there_grows}
 use Rattle.pg_write_make.proofs.PathLemmas.{all_joined, bonds_failed, nodes_failed}
 use Rattle.pg_write_make.specs.Lent.{kept_view}
 use Rattle.pg_write_make.specs.Makings.{bindings, making_of, named_ids, relationship_ids}
-use Rattle.pg_write_make.proofs.ChangedLemmas.{changed_then}
 use Rattle.pg_write_make.specs.Scenes.{row_in}
 use Rattle.pg_write_make.proofs.paths.make_path.Goals as goal
-
-pub make_nodes-requires-clause-fit : goal.make_nodes-requires-clause-fit
-make_nodes-requires-clause-fit g c = c.requires.fit
 
 pub make_nodes-requires-clause-tested : goal.make_nodes-requires-clause-tested
 make_nodes-requires-clause-tested g c = c.requires.tested
@@ -23,10 +18,10 @@ pub returns-in_err-nodes-clause-err : goal.returns-in_err-nodes-clause-err
 returns-in_err-nodes-clause-err g c =
     let row = row_in c.args.scene.now c.args.row.now ++ bindings c.args.named.now.items in
     let p = err_from_is_err_and c.from_residual.result c.from_residual.ensures.1 in
-    rw (p.1, p.2) (λ other. nodes_failed c.args.max_elements (kept_view c.args.kept) (path_view c.args.path.now) (graph_of_store g.T.Tables.seen c.args.store.now c.args.shared.now) row c.in_err-nodes.field-0.0 (c.in_err-nodes.ensures.err other))
+    rw (p.1, p.2) (λ other. nodes_failed c.args.max_elements (kept_view c.args.kept) (path_view c.args.path.now) c.args.live.now.graph row c.in_err-nodes.field-0.0 (c.in_err-nodes.ensures.err other))
 
-pub returns-in_err-nodes-clause-changed : goal.returns-in_err-nodes-clause-changed
-returns-in_err-nodes-clause-changed g c = c.make_nodes.ensures.changed
+pub returns-in_err-nodes-clause-aside : goal.returns-in_err-nodes-clause-aside
+returns-in_err-nodes-clause-aside g c = c.make_nodes.ensures.aside
 
 pub returns-in_err-nodes-clause-grows : goal.returns-in_err-nodes-clause-grows
 returns-in_err-nodes-clause-grows g c =
@@ -38,24 +33,20 @@ returns-in_err-nodes-clause-there g c =
     let p = err_from_is_err_and c.from_residual.result c.from_residual.ensures.1 in
     rw p.1 tt
 
-pub make_bonds-requires-clause-fit : goal.make_bonds-requires-clause-fit
-make_bonds-requires-clause-fit g c = c.make_nodes.ensures.changed.fit
-
 pub make_bonds-requires-clause-there : goal.make_bonds-requires-clause-there
 make_bonds-requires-clause-there g c = c.in_ok-nodes.ensures.there.made
 
 pub returns-in_err-relationships-clause-err : goal.returns-in_err-relationships-clause-err
 returns-in_err-relationships-clause-err g c =
     let row = row_in c.args.scene.now c.args.row.now in
-    let seen = g.T.Tables.seen in
     let p = err_from_is_err_and c.from_residual-in_err-relationships.result c.from_residual-in_err-relationships.ensures.1 in
-    rw (p.1, p.2) (λ other. bonds_failed c.args.max_elements (kept_view c.args.kept) (path_view c.args.path.now) (graph_of_store seen c.args.store.now c.args.shared.now) (row ++ bindings c.args.named.now.items)
-    (making_of (graph_of_store seen c.make_nodes.new.store c.make_nodes.new.shared) row c.make_nodes.new.named.items c.in_ok-nodes.nodes.items) c.in_ok-nodes.ensures.ok
+    rw (p.1, p.2) (λ other. bonds_failed c.args.max_elements (kept_view c.args.kept) (path_view c.args.path.now) c.args.live.now.graph (row ++ bindings c.args.named.now.items)
+    (making_of c.make_nodes.new.live.graph row c.make_nodes.new.named.items c.in_ok-nodes.nodes.items) c.in_ok-nodes.ensures.ok
     c.in_err-relationships.field-0.0 (c.in_err-relationships.ensures.err other))
 
-pub returns-in_err-relationships-clause-changed : goal.returns-in_err-relationships-clause-changed
-returns-in_err-relationships-clause-changed g c =
-    changed_then g.T.Tables.seen c.args.store.now c.make_nodes.new.store c.make_bonds.new.store c.args.shared.now c.make_nodes.new.shared c.make_bonds.new.shared c.make_nodes.ensures.changed c.make_bonds.ensures.changed
+pub returns-in_err-relationships-clause-aside : goal.returns-in_err-relationships-clause-aside
+returns-in_err-relationships-clause-aside g c =
+    c.make_bonds.ensures.aside ∙ c.make_nodes.ensures.aside
 
 pub returns-in_err-relationships-clause-grows : goal.returns-in_err-relationships-clause-grows
 returns-in_err-relationships-clause-grows g c =
@@ -70,21 +61,20 @@ returns-in_err-relationships-clause-there g c =
 pub returns-clause-ok : goal.returns-clause-ok
 returns-clause-ok g c =
     let row = row_in c.args.scene.now c.args.row.now in
-    let seen = g.T.Tables.seen in
-    all_joined c.args.max_elements (kept_view c.args.kept) (path_view c.args.path.now) (graph_of_store seen c.args.store.now c.args.shared.now) (row ++ bindings c.args.named.now.items)
-    (making_of (graph_of_store seen c.make_nodes.new.store c.make_nodes.new.shared) row c.make_nodes.new.named.items c.in_ok-nodes.nodes.items) c.in_ok-nodes.ensures.ok
-    (graph_of_store seen c.make_bonds.new.store c.make_bonds.new.shared) (relationship_ids c.in_ok-relationships.relationships.items) c.in_ok-relationships.ensures.ok
+    all_joined c.args.max_elements (kept_view c.args.kept) (path_view c.args.path.now) c.args.live.now.graph (row ++ bindings c.args.named.now.items)
+    (making_of c.make_nodes.new.live.graph row c.make_nodes.new.named.items c.in_ok-nodes.nodes.items) c.in_ok-nodes.ensures.ok
+    c.make_bonds.new.live.graph (relationship_ids c.in_ok-relationships.relationships.items) c.in_ok-relationships.ensures.ok
 
-pub returns-clause-changed : goal.returns-clause-changed
-returns-clause-changed g c =
-    changed_then g.T.Tables.seen c.args.store.now c.make_nodes.new.store c.make_bonds.new.store c.args.shared.now c.make_nodes.new.shared c.make_bonds.new.shared c.make_nodes.ensures.changed c.make_bonds.ensures.changed
+pub returns-clause-aside : goal.returns-clause-aside
+returns-clause-aside g c =
+    c.make_bonds.ensures.aside ∙ c.make_nodes.ensures.aside
 
 pub returns-clause-grows : goal.returns-clause-grows
 returns-clause-grows g c =
-    grows_twice (graph_of_store g.T.Tables.seen c.args.store.now c.args.shared.now) (graph_of_store g.T.Tables.seen c.make_nodes.new.store c.make_nodes.new.shared) (graph_of_store g.T.Tables.seen c.make_bonds.new.store c.make_bonds.new.shared)
+    grows_twice c.args.live.now.graph c.make_nodes.new.live.graph c.make_bonds.new.live.graph
     c.in_ok-nodes.ensures.grows c.in_ok-relationships.ensures.grows
 
 pub returns-clause-there : goal.returns-clause-there
 returns-clause-there g c =
-    there_grows (graph_of_store g.T.Tables.seen c.make_nodes.new.store c.make_nodes.new.shared) (graph_of_store g.T.Tables.seen c.make_bonds.new.store c.make_bonds.new.shared) (named_ids c.make_nodes.new.named.items)
+    there_grows c.make_nodes.new.live.graph c.make_bonds.new.live.graph (named_ids c.make_nodes.new.named.items)
     c.in_ok-relationships.ensures.grows c.in_ok-nodes.ensures.there.bound

@@ -234,6 +234,8 @@ impl<T: Tables> LiveGraph<T> {
         requires there { has_relationship self.old.graph id.0 ≡ true }
         ensures ok { OnOk result (self.new.graph ≡ remove_elements [] (id.0 ∷ []) self.old.graph) }
         ensures err { OnErr result (self.new.graph ≡ self.old.graph) }
+        ensures names { self.new.names ≡ self.old.names }
+        ensures tables { self.new.tables ≡ self.old.tables }
         ensures aside { self.new.aside ≡ self.old.aside }
     {
         self.store.remove_rel(&self.shared, id)
@@ -246,6 +248,8 @@ impl<T: Tables> LiveGraph<T> {
         requires no_incoming { incident incoming id.0 self.old.graph ≡ [] }
         ensures ok { OnOk result (self.new.graph ≡ remove_elements (id.0 ∷ []) [] self.old.graph) }
         ensures err { OnErr result (self.new.graph ≡ self.old.graph) }
+        ensures names { self.new.names ≡ self.old.names }
+        ensures tables { self.new.tables ≡ self.old.tables }
         ensures aside { self.new.aside ≡ self.old.aside }
     {
         self.store.remove_node(&self.shared, id)
@@ -302,6 +306,7 @@ impl<T: Tables> LiveGraph<T> {
     pub fn drop_index(&mut self, label: &str, key: &str)
         ensures graph { self.new.graph ≡ self.old.graph }
         ensures names { self.new.names ≡ self.old.names }
+        ensures tables { self.new.tables ≡ self.old.tables }
         ensures begun { self.new.aside ≡ begun_at self.old.graph self.old.names self.old.aside }
     {
         self.store.drop_index(&self.shared, label, key);

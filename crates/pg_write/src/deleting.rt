@@ -43,6 +43,8 @@ pub fn delete_elements<T: Tables>(
     ensures gives { (s : Setting) → Suits s (parameters_view parameters.now) meter.old.limit (seen table).names → Gives result (delete_clause s is_detach (map expression_view elements.now.items) (state_of live.old.graph (seen table) meter.old.used)) (λ t. state_of live.new.graph (seen t) meter.new.used) }
     ensures names { IfOk result (λ t. (seen t).names ≡ (seen table).names) }
     ensures limit { meter.new.limit ≡ meter.old.limit }
+    ensures names_kept { live.new.names ≡ live.old.names }
+    ensures tables { live.new.tables ≡ live.old.tables }
     ensures aside { live.new.aside ≡ live.old.aside }
 {
     let graph = live.graph();

@@ -30,6 +30,8 @@ fn remove_rels<T: Tables>(live: &mut LiveGraph<T>, rels: &BTreeSet<u64>) -> Resu
     requires there { AllByRecursion (λ r. IsTrue (has_relationship live.old.graph r)) rels.now.keys }
     requires rises { Rises rels.now.keys }
     ensures removed { OnOk result (live.new.graph ≡ remove_elements [] rels.now.keys live.old.graph) }
+    ensures names { live.new.names ≡ live.old.names }
+    ensures tables { live.new.tables ≡ live.old.tables }
     ensures aside { live.new.aside ≡ live.old.aside }
 {
     for rel in rels {
@@ -43,6 +45,8 @@ fn remove_nodes<T: Tables>(live: &mut LiveGraph<T>, nodes: &BTreeSet<u64>) -> Re
     requires rises { Rises nodes.now.keys }
     requires apart { AllByRecursion (λ n. incident both n live.old.graph ≡ []) nodes.now.keys }
     ensures removed { OnOk result (live.new.graph ≡ remove_elements nodes.now.keys [] live.old.graph) }
+    ensures names { live.new.names ≡ live.old.names }
+    ensures tables { live.new.tables ≡ live.old.tables }
     ensures aside { live.new.aside ≡ live.old.aside }
 {
     for node in nodes {
@@ -57,6 +61,8 @@ pub(crate) fn take_out<T: Tables>(live: &mut LiveGraph<T>, doomed: &Doomed) -> R
     requires there { AreThere live.old.graph doomed.now }
     ensures ok { OnOk result (taken_out doomed.now live.old.graph ≡ Ok live.new.graph) }
     ensures err { IfErr result (λ e. e ≢ OutOfMemory → taken_out doomed.now live.old.graph ≡ Err e) }
+    ensures names { live.new.names ≡ live.old.names }
+    ensures tables { live.new.tables ≡ live.old.tables }
     ensures aside { live.new.aside ≡ live.old.aside }
 {
     remove_rels(live, doomed.rels())?;

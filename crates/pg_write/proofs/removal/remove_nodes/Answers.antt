@@ -15,6 +15,8 @@ loop-node-init g c =
       there = subst (NodesThere graph) (sym keys_are) c.requires.there;
       rises = subst Rises (sym keys_are) c.requires.rises;
       apart = subst (NodesApart graph) (sym keys_are) c.requires.apart;
+      names = refl;
+      tables = refl;
       aside = refl;
     }
 
@@ -39,8 +41,9 @@ loop-node-preserved g c =
       there = step.1;
       rises = step.2;
       apart = step.3;
-      aside =
-          c.remove_node.ensures.aside ∙ l.invariant.aside;
+      names = c.remove_node.ensures.names ∙ l.invariant.names;
+      tables = c.remove_node.ensures.tables ∙ l.invariant.tables;
+      aside = c.remove_node.ensures.aside ∙ l.invariant.aside;
     }
 
 pub returns-in_err-remove_node : goal.returns-in_err-remove_node
@@ -48,8 +51,9 @@ returns-in_err-remove_node g c =
     let l = c.loop-node in
     record {
       removed = IfOk-from_err c.from_residual.result (λ u. c.remove_node.new.self.graph ≡ remove_elements c.args.nodes.now.keys [] c.args.live.now.graph) c.from_residual.ensures.0;
-      aside =
-          c.remove_node.ensures.aside ∙ l.invariant.aside;
+      names = c.remove_node.ensures.names ∙ l.invariant.names;
+      tables = c.remove_node.ensures.tables ∙ l.invariant.tables;
+      aside = c.remove_node.ensures.aside ∙ l.invariant.aside;
     }
 
 pub returns : goal.returns
@@ -57,5 +61,7 @@ returns g c =
     let graph = c.loop-node.live.graph in
     record {
       removed = sym (none_left graph) ∙ ap (λ ns. remove_elements ns [] graph) (sym c.in-None.ensures.steps.0) ∙ c.loop-node.invariant.rest;
+      names = c.loop-node.invariant.names;
+      tables = c.loop-node.invariant.tables;
       aside = c.loop-node.invariant.aside;
     }

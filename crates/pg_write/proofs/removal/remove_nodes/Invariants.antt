@@ -13,5 +13,7 @@ invariant-loop-node g l =
       there : AllByRecursion (λ n. IsTrue (has_node graph n)) l.node-iterator;
       rises : Rises l.node-iterator;
       apart : AllByRecursion (λ n. incident both n graph ≡ []) l.node-iterator;
+      names : l.live.names ≡ l.fn.live.names;
+      tables : l.live.tables ≡ l.fn.live.tables;
       aside : l.live.aside ≡ l.fn.live.aside;
     }

@@ -14,6 +14,8 @@ loop-rel-init g c =
       rest = ap (λ ks. remove_elements [] ks graph) keys_are;
       there = subst (RelationshipsThere graph) (sym keys_are) c.requires.there;
       rises = subst Rises (sym keys_are) c.requires.rises;
+      names = refl;
+      tables = refl;
       aside = refl;
     }
 
@@ -32,8 +34,9 @@ loop-rel-preserved g c =
       rest = step.0 ∙ l.invariant.rest;
       there = step.1;
       rises = step.2;
-      aside =
-          c.remove_rel.ensures.aside ∙ l.invariant.aside;
+      names = c.remove_rel.ensures.names ∙ l.invariant.names;
+      tables = c.remove_rel.ensures.tables ∙ l.invariant.tables;
+      aside = c.remove_rel.ensures.aside ∙ l.invariant.aside;
     }
 
 pub returns-in_err-remove_rel : goal.returns-in_err-remove_rel
@@ -41,8 +44,9 @@ returns-in_err-remove_rel g c =
     let l = c.loop-rel in
     record {
       removed = IfOk-from_err c.from_residual.result (λ u. c.remove_rel.new.self.graph ≡ remove_elements [] c.args.rels.now.keys c.args.live.now.graph) c.from_residual.ensures.0;
-      aside =
-          c.remove_rel.ensures.aside ∙ l.invariant.aside;
+      names = c.remove_rel.ensures.names ∙ l.invariant.names;
+      tables = c.remove_rel.ensures.tables ∙ l.invariant.tables;
+      aside = c.remove_rel.ensures.aside ∙ l.invariant.aside;
     }
 
 pub returns : goal.returns
@@ -50,5 +54,7 @@ returns g c =
     let graph = c.loop-rel.live.graph in
     record {
       removed = sym (none_left graph) ∙ ap (λ rs. remove_elements [] rs graph) (sym c.in-None.ensures.steps.0) ∙ c.loop-rel.invariant.rest;
+      names = c.loop-rel.invariant.names;
+      tables = c.loop-rel.invariant.tables;
       aside = c.loop-rel.invariant.aside;
     }

@@ -12,5 +12,7 @@ invariant-loop-rel g l =
       rest : remove_elements [] l.rel-iterator graph ≡ remove_elements [] l.rels.keys l.fn.live.graph;
       there : AllByRecursion (λ r. IsTrue (has_relationship graph r)) l.rel-iterator;
       rises : Rises l.rel-iterator;
+      names : l.live.names ≡ l.fn.live.names;
+      tables : l.live.tables ≡ l.fn.live.tables;
       aside : l.live.aside ≡ l.fn.live.aside;
     }

@@ -21,6 +21,8 @@ returns-in_err-remove_rels g c =
     record {
       ok = IfOk-from_err c.from_residual.result (λ u. given ≡ Ok c.remove_rels.new.live.graph) c.from_residual.ensures.0;
       err = fault_passed given OutOfMemory c.from_residual.result c.from_residual.ensures.1 (λ other. absurd (other refl));
+      names = c.remove_rels.ensures.names;
+      tables = c.remove_rels.ensures.tables;
       aside = c.remove_rels.ensures.aside;
     }
 
@@ -36,6 +38,8 @@ returns-in_err-test_unconnected g c =
           fault_passed given c.in_err-test_unconnected.field-0.0 result.result result.ensures.1
           (λ other. still_connected before middle c.args.doomed.now c.rels.result.now.keys c.rels.ensures c.in_ok-remove_rels.ensures.removed
           c.graph.result c.nodes.result.now.keys c.graph.ensures.is c.nodes.ensures c.in_err-test_unconnected.field-0.0 c.in_err-test_unconnected.ensures);
+      names = c.remove_rels.ensures.names;
+      tables = c.remove_rels.ensures.tables;
       aside = c.remove_rels.ensures.aside;
     }
 
@@ -59,6 +63,8 @@ returns-in_err-remove_nodes g c =
     record {
       ok = IfOk-from_err result.result (λ u. given ≡ Ok c.remove_nodes.new.live.graph) result.ensures.0;
       err = fault_passed given OutOfMemory result.result result.ensures.1 (λ other. absurd (other refl));
+      names = c.remove_nodes.ensures.names ∙ c.remove_rels.ensures.names;
+      tables = c.remove_nodes.ensures.tables ∙ c.remove_rels.ensures.tables;
       aside = c.remove_nodes.ensures.aside ∙ c.remove_rels.ensures.aside;
     }
 
@@ -69,5 +75,7 @@ returns g c =
           all_taken_out c.args.live.now.graph c.remove_rels.new.live.graph c.args.doomed.now c.rels.result.now.keys c.rels.ensures c.in_ok-remove_rels.ensures.removed
           c.graph.result c.remove_nodes.new.live.graph c.nodes.result.now.keys c.nodes-2.result.now.keys c.graph.ensures.is c.nodes.ensures c.nodes-2.ensures c.in_ok-test_unconnected.ensures c.in_ok-remove_nodes.ensures.removed;
       err = tt;
+      names = c.remove_nodes.ensures.names ∙ c.remove_rels.ensures.names;
+      tables = c.remove_nodes.ensures.tables ∙ c.remove_rels.ensures.tables;
       aside = c.remove_nodes.ensures.aside ∙ c.remove_rels.ensures.aside;
     }

@@ -6,6 +6,7 @@ const HEADROOM: usize = 16 << 20;
 
 /// How large a piece of it may be where memory has gaps, and how many there must be then.
 const PIECE: usize = 1 << 20;
+
 const PIECES: usize = 16;
 
 /// Tests that as much memory is left as requests take that keep nothing, those that delete among them. Whoever is about to keep

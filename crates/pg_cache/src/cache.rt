@@ -9,6 +9,7 @@ ghost use Rattle.pg_meaning.specs.Texts.{text_checked};
 
 use crate::key::Key;
 use lru::LruCache;
+use pg_headroom::test_headroom;
 use pg_plan::{Catalogue, Plan, plan_text};
 use pg_value_core::Fault;
 use std::alloc::{AllocError, Global};
@@ -54,8 +55,8 @@ impl<S: BuildHasher + Drop> PlanCache<S> {
         })
     }
 
-    /// The plan of a text where there are these indexes, which is kept from then on if there is memory for that. The
-    /// text and the list become the key, so that nothing is copied.
+    /// The plan of a text where there are these indexes, which is kept from then on if there is memory for that, and some left
+    /// for others. The text and the list become the key, so that nothing is copied.
     pub fn plan_for(
         &mut self,
         alloc: Global,
@@ -85,7 +86,9 @@ impl<S: BuildHasher + Drop> PlanCache<S> {
         self.misses = self.misses.saturating_add(1);
         let plan = plan_text(alloc, key.text.as_str(), &key.catalogue)?;
         let plan = Rc::new(alloc, plan)?;
-        self.keep(key, &plan);
+        if test_headroom(alloc).is_ok() {
+            self.keep(key, &plan);
+        }
         Ok(plan)
     }
 

@@ -12,6 +12,7 @@ ghost use Rattle.pg_value_core.specs.declared.value.Value as code;
 use crate::shared::Shared;
 use crate::store::Store;
 use pg_graph::Tables;
+use pg_headroom::test_headroom;
 use pg_index::{PropertyIndex, index_of};
 use pg_names::NameId;
 use pg_value_core::NodeId;
@@ -68,7 +69,7 @@ impl<T: Tables> Store<T> {
         Ok(())
     }
 
-    // An index that has the nodes that there are.
+    // An index that has the nodes that there are, if memory is left for others beside it.
     fn filled_index(
         &self,
         alloc: Global,
@@ -88,6 +89,7 @@ impl<T: Tables> Store<T> {
                 index.cover(node, *id)?;
             }
         }
+        test_headroom(alloc)?;
         Ok(index)
     }
 

@@ -1,12 +1,13 @@
 -- A query's answer, once its changes are kept or taken back; and calls that left the graph.
-use Rattle.std.proofs.Common.{◌≡◌, ℕ, List, Result, Ok, Err, refl, ap, sym, subst}
-use Rattle.std.specs.Prelude.{OnErr, OnOk}
+use Rattle.std.proofs.Common.{◌≡◌, ◌≢◌, ℕ, List, Result, Ok, Err, refl, ap, sym, subst}
+use Rattle.std.specs.Prelude.{IfErr, IfOk, OnErr, OnOk}
 use Rattle.pg_live.specs.Live.{Aside, Live, begun_at}
 use Rattle.pg_live.specs.Settled.{Settles}
 use Rattle.pg_names.specs.Names.{KeepsNames}
 use Rattle.pg_meaning.specs.Graph.{Graph}
 use Rattle.pg_meaning.specs.Queries.{Outcome}
 use Rattle.pg_meaning.specs.declared.fault.Fault.{Fault}
+use Rattle.pg_meaning.specs.declared.fault.Fault.TheVariants.{OutOfMemory}
 use Rattle.pg_tenant.specs.Replies.{IsAnswer, IsReply}
 
 pub answer_settled : (result reply : Result (List ℕ) Fault) (outcome : Result Outcome Fault) (start mid end : Graph) → result ≡ reply → IsAnswer reply outcome start mid → OnOk result (end ≡ mid) → IsAnswer result outcome start end
@@ -34,3 +35,10 @@ anew {X = X} {E = E} old new r graph names kept aside = record {
     by : (r : Result X E) → OnErr r (new.graph ≡ old.graph)
     by (Ok x) = tt
     by (Err e) = graph
+
+-- the reply to a query, or a want of memory in its place
+pub answer_or_refused : (result reply : Result (List ℕ) Fault) (outcome : Result Outcome Fault) (start end : Graph) → IfOk result (λ bytes. reply ≡ Ok bytes) → IfErr result (λ e. e ≢ OutOfMemory → reply ≡ Err e)
+    → IsAnswer reply outcome start end → IsAnswer result outcome start end
+answer_or_refused (Ok bytes) reply outcome start end ok err answer = subst (λ r. IsAnswer r outcome start end) ok answer
+answer_or_refused (Err e) reply outcome start end ok err answer =
+    record { ok = tt; told = tt; err = λ other. (subst (λ r. IsAnswer r outcome start end) (err other) answer).err other }

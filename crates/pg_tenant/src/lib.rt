@@ -6,6 +6,7 @@ ghost use Rattle.pg_tenant.specs.Outcomes.{PlansAnswer, TextMeans};
 
 mod answer;
 mod catalogue;
+mod headroom;
 mod indexes;
 mod query;
 

@@ -8,6 +8,7 @@ ghost use Rattle.pg_tenant.specs.Replies.{IsAnswer};
 ghost use Rattle.pg_value_core.specs.Given.{parameters_view};
 
 use crate::answer::Quota;
+use crate::headroom::with_headroom;
 use pg_graph::Tables;
 use pg_json::ReplyBytes;
 use pg_live::LiveGraph;
@@ -31,6 +32,7 @@ pub(crate) fn answer_query<T: Tables>(
     ensures settles { Settles live.old live.new result }
 {
     let reply = run_query(alloc, live, quota, plan, parameters);
+    let reply = with_headroom(alloc, plan, reply);
     settled(live, reply)
 }
 

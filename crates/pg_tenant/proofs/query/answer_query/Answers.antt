@@ -2,11 +2,14 @@ use Rattle.std.proofs.Common.{ap, subst, ◌∙◌}
 use Rattle.std.proofs.lemmas.Result.{on_err_weaker}
 use Rattle.pg_live.specs.Live.{Aside}
 use Rattle.pg_names.specs.Names.{KeepsNames}
-use Rattle.pg_tenant.proofs.SettledLemmas.{answer_settled}
+use Rattle.pg_tenant.proofs.SettledLemmas.{answer_or_refused, answer_settled}
 use Rattle.pg_tenant.proofs.query.answer_query.Goals as goal
 
 pub returns-clause-answers : goal.returns-clause-answers
-returns-clause-answers g c = answer_settled c.settled.result c.run_query-reply.result _ _ _ _ c.settled.ensures.reply c.run_query-reply.ensures.answers c.settled.ensures.kept
+returns-clause-answers g c =
+    let headroom = c.with_headroom-reply in
+    let answers = answer_or_refused headroom.result c.run_query-reply.result _ _ _ headroom.ensures.ok headroom.ensures.err c.run_query-reply.ensures.answers in
+    answer_settled c.settled.result headroom.result _ _ _ _ c.settled.ensures.reply answers c.settled.ensures.kept
 
 pub returns-clause-settles : goal.returns-clause-settles
 returns-clause-settles g c =

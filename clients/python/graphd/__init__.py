@@ -16,6 +16,7 @@ Relationship and Path. There are no floats.
 """
 from .answers import Result, Row, Status
 from .diagnosis import Place, fault_of
+from .plans import ClausePlan, explained
 from .refusals import (
     NAMES, REFUSALS, ConnectionLost, GraphdError, NotGraphd, NotSent, Refused, TimedOut, FrameTooLong, BadRequest,
     UnknownToken, ReadOnly, TextTooLong, BadLexeme, BadSyntax, TooDeep, UndefinedVariable, VariableAlreadyBound,
@@ -31,7 +32,7 @@ __version__ = "1.0.0"
 
 __all__ = [
     "connect", "pool", "start", "Session", "Pool", "Result", "Row", "Status", "Node", "Relationship", "Path",
-    "Value", "Parameter", "spelt", "value_of", "Place", "fault_of", "NAMES", "REFUSALS", "ConnectionLost",
+    "Value", "Parameter", "spelt", "value_of", "Place", "fault_of", "ClausePlan", "explained", "NAMES", "REFUSALS", "ConnectionLost",
     "GraphdError", "NotGraphd", "NotSent", "Refused", "TimedOut", "FrameTooLong", "BadRequest", "UnknownToken",
     "ReadOnly", "TextTooLong", "BadLexeme", "BadSyntax", "TooDeep", "UndefinedVariable", "VariableAlreadyBound",
     "BadAggregate", "BadPattern", "UnknownFunction", "DuplicateColumn", "MissingParameter", "TypeFault", "Overflow",

@@ -19,7 +19,7 @@ from graphd_program import ROOT
 
 CONFIG = ROOT / "examples" / "first.json"
 SHELL = [sys.executable, str(ROOT / "tools" / "graphsh")]
-SECONDS = 120  # what is waited for at most, which only a machine with much else to do needs
+SECONDS = int(os.environ.get("GRAPHD_TEST_SECONDS", "120"))  # what is waited for at most, which only a machine with much else to do needs
 SLOW = "/*slow*/"  # a text with this is answered late by `slowed`
 LATE = 1.5  # seconds
 

@@ -105,14 +105,22 @@ def _runs(elements, kind, row):
         yield now, f"[{','.join(rows)}]"
 
 
+COUNTS = [
+    ("label", "MATCH (n) UNWIND labels(n) AS name RETURN name, count(*) AS elements ORDER BY name"),
+    ("node key", "MATCH (n) UNWIND keys(n) AS name RETURN name, count(*) AS elements ORDER BY name"),
+    ("type", "MATCH ()-[r]->() RETURN type(r) AS name, count(*) AS elements ORDER BY name"),
+    ("relationship key", "MATCH ()-[r]->() UNWIND keys(r) AS name RETURN name, count(*) AS elements ORDER BY name"),
+]
+
+
+def words(session):
+    """The labels, types and keys there are that need no backquotes."""
+    found = {row["name"] for _, text in COUNTS for row in session.query(text)}
+    return sorted(it for it in found if name(it) == it)
+
+
 def schema(session):
     """Lines that tell the labels, types and keys there are, and how many elements have each."""
-    asked = [
-        ("label", "MATCH (n) UNWIND labels(n) AS name RETURN name, count(*) AS elements ORDER BY name"),
-        ("node key", "MATCH (n) UNWIND keys(n) AS name RETURN name, count(*) AS elements ORDER BY name"),
-        ("type", "MATCH ()-[r]->() RETURN type(r) AS name, count(*) AS elements ORDER BY name"),
-        ("relationship key", "MATCH ()-[r]->() UNWIND keys(r) AS name RETURN name, count(*) AS elements ORDER BY name"),
-    ]
-    lines = [f"{what} {name(row['name'])}: {row['elements']}" for what, text in asked for row in session.query(text)]
+    lines = [f"{what} {name(row['name'])}: {row['elements']}" for what, text in COUNTS for row in session.query(text)]
     lines += [f"index :{name(label)}({name(key)})" for label, key in session.status().indexes]
     return lines or ["nothing is there yet"]

@@ -30,7 +30,7 @@ def is_built(path):
 def build(name, path):
     """Builds a program, which proves it and all below it first."""
     if shutil.which("rt") is None:
-        raise Failed(f"{name} isn't built, and the Rattle toolchain's command 'rt' is not on the PATH; --program names one that is")
+        raise Failed(f"{name} isn't built, and the Rattle toolchain's command 'rt' is not on the PATH; {name.upper()}_PROGRAM names one that is")
     told = path.with_name("build.log")
     print(f"building {name}: all of it is proved first, which takes minutes (log: {told})", file=sys.stderr)
     told.parent.mkdir(exist_ok=True)
@@ -50,9 +50,9 @@ def add_program(parser):
 
 
 def program(named=None, builds=True, name="graphd"):
-    """The path of a program: the named one, else that of GRAPHD_PROGRAM where it is graphd, else this tree's. That one is built first where
-    it is older than its texts, but never for a service, which takes what is there."""
-    named = named or (os.environ.get("GRAPHD_PROGRAM") if name == "graphd" else None)
+    """The path of a program: the named one, else that of GRAPHD_PROGRAM or GRAPHD_LISTEN_PROGRAM, else this tree's. That one is built first
+    where it is older than its texts, but never for a service, which takes what is there."""
+    named = named or os.environ.get(f"{name.upper()}_PROGRAM")
     if named:
         path = Path(named).expanduser().resolve()
         if not (path.is_file() and os.access(path, os.X_OK)):
@@ -62,7 +62,7 @@ def program(named=None, builds=True, name="graphd"):
     if builds and not is_built(path):
         build(name, path)
     if not path.is_file():
-        raise Failed(f"{name} isn't built: build it by 'rt run' in crates/{name}, or name one by --program or GRAPHD_PROGRAM")
+        raise Failed(f"{name} isn't built: build it by 'rt run' in crates/{name}, or name one by {name.upper()}_PROGRAM")
     if not is_built(path):
         print(f"{path} is older than its texts", file=sys.stderr)
     return path

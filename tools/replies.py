@@ -30,6 +30,9 @@ class Tables:
     def done(self, told="done"):
         print(told, flush=True)
 
+    def told(self, what, lines):
+        self._print([tables.safe(line) for line in lines])
+
     def refused(self, fault, where):
         print(*([where] if where else []), *remedies.lines(fault), sep="\n", file=sys.stderr, flush=True)
 
@@ -77,6 +80,9 @@ class Lines:
     def done(self, told="done"):
         self._line({})
 
+    def told(self, what, lines):
+        self._line({what: lines})
+
     def refused(self, fault, where):
         place = fault.place
         at = {"line": place.line, "column": place.column, "why": place.why} if place else {}
@@ -100,6 +106,9 @@ class Csv:
 
     def done(self, told="done"):
         pass
+
+    def told(self, what, lines):
+        self._rows([[what], *([line] for line in lines)])
 
     def refused(self, fault, where):
         print(*([where] if where else []), *remedies.lines(fault), sep="\n", file=sys.stderr, flush=True)

@@ -10,13 +10,15 @@ import dumps
 import graphd
 import replies
 import tables
-from graphd.diagnosis import names_of_parameters
+from graphd import plans
+from graphd.diagnosis import fault_of, names_of_parameters
 from graphd.values import check_parameter
 from statements import Open, Splitter
 
 HELP = """\
 :status                      what the tenant has and may have
 :schema                      labels, types and keys, and how many have them
+:explain QUERY               what each clause tries and is charged for, and which indexes serve; :explain alone takes the last query
 :index LABEL KEY             keeps nodes findable by a property; :unindex LABEL KEY takes it back
 :param NAME VALUE            sets the parameter $NAME to a JSON value; :param alone lists all
 :unparam NAME                takes a parameter back
@@ -47,6 +49,8 @@ class Shell:
     def __init__(self, session, answers, fails_fast=False):
         self.session, self.answers = session, answers
         self.parameters = {}
+        self.last = ""  # the last query
+        self._names = None  # the graph's, once they are asked for
         self.refused = 0
         self.fails_fast = fails_fast
 
@@ -81,6 +85,7 @@ class Shell:
             self.query(statement.text)
 
     def query(self, text):
+        self.last, self._names = text, None
         begin = time.perf_counter()
         given = {name: self.parameters[name] for name in names_of_parameters(text) if name in self.parameters}
         result = self.session.query(text, given)
@@ -90,7 +95,8 @@ class Shell:
         word, rest = re.fullmatch(r"(\S*)\s*(.*?)[;\s]*", text, re.DOTALL).groups()
         commands = {
             ":status": lambda: self.answers.status(self.session.status()),
-            ":schema": lambda: self.answers.done("\n".join(dumps.schema(self.session))),
+            ":schema": lambda: self.answers.told("schema", dumps.schema(self.session)),
+            ":explain": lambda: self.explain(rest),
             ":index": lambda: self.index(self.session.create_index, word, rest),
             ":unindex": lambda: self.index(self.session.drop_index, word, rest),
             ":param": lambda: self.param(rest),
@@ -109,6 +115,15 @@ class Shell:
             raise ValueError(f"no command {word}; :help tells them all")
         commands[word]()
 
+    def explain(self, rest):
+        text = rest or self.last
+        if not text:
+            raise ValueError("a query is wanted: :explain MATCH (n) RETURN n")
+        fault = fault_of(text, names_of_parameters(text))
+        if fault:
+            raise graphd.REFUSALS[fault.code]().of_query(text, names_of_parameters(text))
+        self.answers.told("plan", plans.told(text, self.session.status().indexes))
+
     def index(self, change, word, rest):
         pair = PAIR.match(rest)
         found = WORDS.findall(" ".join(pair.groups()) if pair else rest)
@@ -117,6 +132,15 @@ class Shell:
             raise ValueError(f"an index has a label and a key: {word} LABEL KEY; names with blanks stand in backquotes")
         change(*names)
         self.answers.done()
+
+    def names(self):
+        """The labels, types and keys that are words, as they were after the last query; none where they can't be had."""
+        if self._names is None:
+            try:
+                self._names = dumps.words(self.session)
+            except (graphd.GraphdError, OSError):
+                self._names = []
+        return self._names
 
     def param(self, rest):
         name, _, value = rest.partition(" ")
@@ -207,7 +231,7 @@ class _Quiet:
     def result(self, result, seconds):
         pass
 
-    status = done = lambda self, *told: None
+    status = done = told = lambda self, *told: None
 
 
 def _parameter(word):

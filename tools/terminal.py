@@ -29,6 +29,7 @@ class Terminal:
         self.shell, self.owns_server = shell, owns_server
         self.splitter = Splitter()
         self.typed = []  # the lines of the statement that is open
+        self.offered = []  # the completions of the word that is typed
 
     def talk(self):
         """Reads statements until the end of input or :quit."""
@@ -96,6 +97,13 @@ class Terminal:
 
     # history and completion
 
+    def completed(self, word, number):
+        """The completion of this number, or None; the names of the graph are asked for at the first."""
+        if number == 0:
+            before = "\n".join([*self.typed, self.readline.get_line_buffer()[: self.readline.get_begidx()]])
+            self.offered = completions(word, before, self.shell.names())
+        return self.offered[number] if number < len(self.offered) else None
+
     def remember(self):
         """Keeps what was typed as one entry."""
         text = "\n".join(self.typed).strip()
@@ -117,7 +125,7 @@ class Terminal:
         readline.set_history_length(1000)
         readline.set_auto_history(False)
         readline.set_completer_delims(" \t\n()[]{},;=<>+-*/%|.'\"`")
-        readline.set_completer(_completed)
+        readline.set_completer(self.completed)
         readline.parse_and_bind("tab: complete")
         atexit.register(_write_history, readline)
 
@@ -132,16 +140,21 @@ def _joined(text):
     return line if same else text
 
 
-def _completed(word, number):
-    """The completion of this number: commands, keywords and functions, in the case that is typed."""
-    if word.startswith(":"):
-        found = [command for command in dict.fromkeys(COMMANDS) if command.startswith(word)]
-    else:
-        small = word.islower()
-        keywords = [keyword.lower() if small else keyword for keyword in sorted(KEYWORDS)]
+def completions(word, before, names):
+    """What the word that is typed may become, behind the rest of its statement: a command where it begins one, else a name behind a colon
+    or a point, else keywords in the case that is typed, functions, words of the statement and names."""
+    if word.startswith(":") and not before.strip():
+        return [command for command in dict.fromkeys(COMMANDS) if command.startswith(word)]
+    head, colon, begun = word.rpartition(":")
+    if not begun and not colon and not before.endswith("."):
+        return []
+    written = [] if colon else re.findall(r"[^\W\d]\w*", before)
+    found = [*names, *written]
+    if not colon and not before.endswith("."):
+        keywords = [keyword.lower() if begun.islower() else keyword for keyword in sorted(KEYWORDS)]
         functions = [name + "(" for name in FUNCTIONS if name.lower() in AGGREGATES or name.lower() in ARGUMENTS]
-        found = [it for it in keywords + functions if word and it.lower().startswith(word.lower())]
-    return found[number] if number < len(found) else None
+        found = keywords + functions + found
+    return [head + colon + it for it in dict.fromkeys(found) if it.lower().startswith(begun.lower()) and it != begun]
 
 
 def _write_history(readline):

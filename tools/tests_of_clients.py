@@ -11,6 +11,7 @@ import tempfile
 import termios
 import time
 from pathlib import Path
+from typing import NamedTuple
 
 import client_path  # (finds the package graphd)
 import graphd
@@ -18,13 +19,13 @@ from graphd_program import ROOT
 
 CONFIG = ROOT / "examples" / "first.json"
 SHELL = [sys.executable, str(ROOT / "tools" / "graphsh")]
-SECONDS = 120  # what is waited for at most, which only a machine with much else to do needs
+SECONDS = int(os.environ.get("GRAPHD_TEST_SECONDS", "120"))  # what is waited for at most, which only a machine with much else to do needs
 SLOW = "/*slow*/"  # a text with this is answered late by `slowed`
 LATE = 1.5  # seconds
 
 
 class Given:
-    program = None
+    program = listener = None
 
 
 def command(config=CONFIG):
@@ -108,6 +109,23 @@ def gateway(config, *words, **variables):
         told = child.communicate(timeout=SECONDS)[1]
     made.told = told
     assert child.returncode == 0, f"the gateway ended with status {child.returncode}: {told}"
+
+
+class Listener(NamedTuple):
+    child: subprocess.Popen
+    port: int
+
+
+@contextlib.contextmanager
+def listening(config, *words):
+    """A graphd_listen, which is stopped by a line and ends well."""
+    pipe = subprocess.PIPE
+    child = subprocess.Popen([str(Given.listener), str(config), "127.0.0.1:0", *words], stdin=pipe, stdout=pipe, stderr=pipe, text=True)
+    try:
+        yield Listener(child, int(child.stdout.readline().rsplit(":", 1)[1]))
+    finally:
+        told = child.communicate("\n", timeout=SECONDS)[1]
+    assert child.returncode == 0, f"graphd_listen ended with status {child.returncode}: {told}"
 
 
 def shell(*words, text="", seconds=SECONDS, **variables):

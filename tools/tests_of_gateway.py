@@ -163,24 +163,6 @@ class Loaders(unittest.TestCase):
         done = subprocess.run(run, capture_output=True, text=True, timeout=SECONDS, env=environment())
         return done.returncode, done.stdout, done.stderr
 
-    def load_twice(self, name):
-        with gateway(ROOT / "examples" / name / "config.json") as server:
-            once = self.load(name, server.port)
-            self.assertEqual((once[0], once[2]), (0, ""))
-            self.assertEqual(self.load(name, server.port), once)
-
-    def test_loading_access_twice(self):
-        self.load_twice("access")
-
-    def test_loading_devices_twice(self):
-        self.load_twice("devices")
-
-    def test_loading_links_twice(self):
-        self.load_twice("links")
-
-    def test_loading_parts_twice(self):
-        self.load_twice("parts")
-
     def test_a_loader_waits_for_its_server(self):
         with socket.create_server(("127.0.0.1", 0)) as listener:
             port = listener.getsockname()[1]

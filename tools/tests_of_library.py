@@ -1,5 +1,7 @@
 """Tests of the client library."""
+import asyncio
 import contextlib
+import inspect
 import io
 import json
 import pickle
@@ -15,8 +17,9 @@ import unittest
 
 import client_path  # (finds the package graphd)
 import graphd
+import graphd.aio as aio
 from graphd_program import ROOT
-from tests_of_clients import CONFIG, LATE, SECONDS, SLOW, command, folder, gateway, slowed
+from tests_of_clients import CONFIG, LATE, SECONDS, SLOW, command, folder, gateway, listening, slowed
 
 
 @contextlib.contextmanager
@@ -210,6 +213,14 @@ class Requests(unittest.TestCase):
             told = json.loads(graph.exchange(json.dumps(body).encode()))["rows"][0]
             self.assertEqual([graphd.spelt(graphd.value_of(value)) for value in told], told)
 
+    def test_properties_of_elements_by_their_keys(self):
+        with self.session as graph:
+            node, link = graph.query("CREATE (n:P {name:'x', at: 1})-[r:K {w: 2}]->(:P) RETURN n, r").rows[0]
+        self.assertEqual((node["name"], node.get("at"), node.get("none"), node.get("none", 7), link["w"]), ("x", 1, None, 7, 2))
+        self.assertEqual(("at" in node, "none" in node, sorted(node), dict(link.properties)), (True, False, ["at", "name"], {"w": 2}))
+        with self.assertRaises(KeyError):
+            node["none"]
+
     def test_blocks_within_blocks(self):
         with self.session as graph:
             with graph:
@@ -326,17 +337,119 @@ class Connections(unittest.TestCase):
                     graphd.connect(f"graphds://localhost:{server.port}", "a1").status()
 
 
+class Asyncio(unittest.TestCase):
+    """The same words, awaited."""
+
+    def test_a_session_is_asked(self):
+        async def talk():
+            async with aio.start(command(), "a1") as graph:
+                made = await graph.query("CREATE (n:P {name: $name}) RETURN n", name="x")
+                self.assertEqual(made.single()["n"], graphd.Node(0, ("P",), {"name": "x"}))
+                await graph.create_index("P", "name")
+                with self.assertRaises(graphd.IndexExists):
+                    await graph.create_index("P", "name")
+                self.assertEqual((await graph.status()).indexes, [("P", "name")])
+                await graph.drop_index("P", "name")
+                with self.assertRaises(graphd.UndefinedVariable) as fault:
+                    await graph.query("MATCH (n)\nRETURN m")
+                self.assertEqual((fault.exception.place.line, fault.exception.place.column), (2, 8))
+                with self.assertRaises(TypeError):
+                    await graph.query("RETURN $x", x=1.5)
+
+        asyncio.run(talk())
+
+    def test_tasks_share_a_session_and_a_pool(self):
+        async def ask(graph, number):
+            for turn in range(20):
+                self.assertEqual((await graph.query("RETURN $x AS x", x=number * 100 + turn)).value(), number * 100 + turn)
+
+        async def talk(port):
+            for graph in (aio.connect(port, "a1"), aio.pool(f"graphd://127.0.0.1:{port}", "a1", size=3)):
+                async with graph:
+                    await asyncio.gather(*(ask(graph, number) for number in range(8)))
+            await ask(aio.connect(port, "a1"), 9)
+
+        with listening(CONFIG) as server:
+            asyncio.run(talk(server.port))
+
+    def test_what_is_cancelled_leaves_no_reply_for_the_next(self):
+        async def talk(graph):
+            async with graph:
+                for late in (asyncio.wait_for(graph.query(f"RETURN 'late' AS x {SLOW}"), 0.3), self.timed_out(graph)):
+                    with self.assertRaises((asyncio.TimeoutError, graphd.TimedOut)):
+                        await late
+                    self.assertEqual((await graph.query("RETURN 'soon' AS x")).value(), "soon")
+
+        with folder() as made:
+            program = slowed(made)
+            asyncio.run(talk(aio.start([str(program), "run", str(CONFIG)], "a1", timeout=30)))
+            with gateway(CONFIG, "--program", str(program)) as server:
+                asyncio.run(talk(aio.connect(server.port, "a1", timeout=30)))
+
+    async def timed_out(self, graph):
+        before, graph.timeout = graph.timeout, 0.3
+        try:
+            return await graph.query(f"RETURN 'late' AS x {SLOW}")
+        finally:
+            graph.timeout = before
+
+    def test_connections_that_end(self):
+        async def talk(port):
+            async with aio.connect(port, "a1") as graph:
+                self.assertEqual((await graph.query("RETURN 1")).value(), 1)
+                # the server ends the connection of one that is silent; the next request takes another
+                graph._connection._writer.transport.abort()
+                self.assertEqual((await graph.query("RETURN 2")).value(), 2)
+                graph._connection._reader.feed_eof()
+                self.assertEqual((await graph.query("RETURN 3")).value(), 3)
+            with self.assertRaises(graphd.NotSent):
+                await aio.connect(1, "a1").query("RETURN 1")
+
+        with listening(CONFIG) as server:
+            asyncio.run(talk(server.port))
+
+    def test_a_server_that_breaks_off(self):
+        async def talk(port):
+            with self.assertRaises(graphd.ConnectionLost) as fault:
+                await aio.connect(port, "a1").query("RETURN 1")
+            self.assertNotIsInstance(fault.exception, graphd.NotSent)
+
+        with socket.create_server(("127.0.0.1", 0)) as server:
+            def answer():
+                client = server.accept()[0]
+                client.recv(4096)
+                client.sendall(b"\0\0\0\x10{")
+                client.close()
+
+            thread = threading.Thread(target=answer)
+            thread.start()
+            asyncio.run(talk(server.getsockname()[1]))
+            thread.join()
+
+    def test_both_have_the_same_words(self):
+        def words(kind):
+            return {name: list(inspect.signature(method).parameters) for name, method in vars(kind).items() if callable(method) and not name.startswith("_")}
+
+        for name in ("connect", "pool", "start"):
+            self.assertEqual(inspect.signature(getattr(aio, name)).parameters, inspect.signature(getattr(graphd, name)).parameters)
+        plain = words(graphd.sessions.Requests)
+        self.assertEqual({name: given for name, given in words(aio.Requests).items() if name != "close"}, plain)
+
+
+AWAITED = (aio.connect, aio.pool, aio.start, aio.Requests, aio.Session, aio.Pool)
+
+
 class Package(unittest.TestCase):
     def test_the_examples_of_its_page(self):
         page = (ROOT / "clients" / "python" / "README.md").read_text()
         blocks = re.findall(r"```python\n(.*?)```", page, re.DOTALL)
-        with gateway(CONFIG) as server:
+        with listening(CONFIG) as server:
             for block in blocks:
                 told = io.StringIO()
                 with contextlib.redirect_stdout(told):
                     exec(block.replace("7687", str(server.port)), {})
                 self.assertTrue(told.getvalue())
-        self.assertEqual(len(blocks), 3)
+        self.assertEqual(len(blocks), 4)
         self.assertIn("9 UndefinedVariable 2 8 the variable servce isn't in scope here: did you mean service?", told.getvalue())
 
     def test_types(self):
@@ -348,10 +461,10 @@ class Package(unittest.TestCase):
         self.assertEqual(done.returncode, 0, done.stdout)
 
     def test_every_public_name_has_a_docstring(self):
-        for name in graphd.__all__:
-            value = getattr(graphd, name)
+        shown = {**{name: getattr(graphd, name) for name in graphd.__all__}, **{f"aio.{it.__name__}": it for it in AWAITED}}
+        for name, value in shown.items():
             if callable(value) and not getattr(value, "__origin__", None):
                 self.assertTrue(value.__doc__, name)
             for member in vars(value) if isinstance(value, type) else ():
                 if callable(getattr(value, member)) and not member.startswith("_"):
-                    self.assertTrue(getattr(value, member).__doc__, f"{name}.{member}")
+                    self.assertTrue(inspect.getdoc(getattr(value, member)), f"{name}.{member}")

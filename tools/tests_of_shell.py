@@ -13,6 +13,7 @@ import graphd
 import tables
 from graphd_program import ROOT
 from statements import Open, Splitter, statements
+from terminal import completions
 from tests_of_clients import CONFIG, PROMPT, SECONDS, SHELL, SLOW, Given, Terminal, configuration, elements, environment, folder, gateway, shell, slowed
 
 
@@ -323,6 +324,24 @@ class Typed(unittest.TestCase):
             typed.wait_for(PROMPT)
             typed.type("unw\t [7] as x RET\t x;\n")
             self.assertIn("\n7\r\n", typed.wait_for(r"1 row, "))
+
+    def test_names_of_the_graph_are_completed(self):
+        with Terminal(CONFIG, "a1") as typed:
+            typed.wait_for(PROMPT)
+            typed.type("CREATE (:Household {inhabitants: 3});\n")
+            typed.wait_for(r"0 rows, ")
+            typed.wait_for(PROMPT)
+            typed.type("MATCH (found:Hou\t) RETURN fou\t.inh\t + 1 AS more;\n")
+            self.assertIn("\n4\r\n", typed.wait_for(r"1 row, "))
+
+    def test_what_completes_a_word(self):
+        names = ["Person", "KNOWS", "path"]
+        self.assertEqual(completions(":sta", "", names), [":status"])
+        self.assertEqual(completions("p:Pe", "MATCH (", names), ["p:Person"])
+        self.assertEqual(completions(":K", "MATCH (p)-[", names), [":KNOWS"])
+        self.assertEqual(completions("pa", "MATCH (p) RETURN p.", names), ["path"])
+        self.assertEqual(completions("ma", "", names), ["match", "max("])
+        self.assertEqual(completions("", "MATCH (", names), [])
 
 
 class Programs(unittest.TestCase):

@@ -8,14 +8,16 @@
         for row in graph.query("MATCH (n:Service) RETURN n.name AS name, n"):
             print(row["name"], row["n"].labels)
 
-`connect` gives a session of a server that listens, `pool` one for many threads at once, `start` one of a server of one's own. A refusal
-is an exception with its number, its name, what to do (`advice`), and where a query's text is wrong (`place`).
+`connect` gives a session of a server that listens, `pool` one for many threads at once, `start` one of a server of one's own; `graphd.aio`
+has the same words for asyncio. `explained` tells what a query tries and which indexes serve. A refusal is an exception with its number, its
+name, what to do (`advice`), and where a query's text is wrong (`place`).
 
 Values, from Python to graphd and back: None, bool, int (64 bits signed), str, list and dict with text keys; from graphd also Node,
 Relationship and Path. There are no floats.
 """
 from .answers import Result, Row, Status
 from .diagnosis import Place, fault_of
+from .plans import ClausePlan, explained
 from .refusals import (
     NAMES, REFUSALS, ConnectionLost, GraphdError, NotGraphd, NotSent, Refused, TimedOut, FrameTooLong, BadRequest,
     UnknownToken, ReadOnly, TextTooLong, BadLexeme, BadSyntax, TooDeep, UndefinedVariable, VariableAlreadyBound,
@@ -31,7 +33,7 @@ __version__ = "1.0.0"
 
 __all__ = [
     "connect", "pool", "start", "Session", "Pool", "Result", "Row", "Status", "Node", "Relationship", "Path",
-    "Value", "Parameter", "spelt", "value_of", "Place", "fault_of", "NAMES", "REFUSALS", "ConnectionLost",
+    "Value", "Parameter", "spelt", "value_of", "Place", "fault_of", "ClausePlan", "explained", "NAMES", "REFUSALS", "ConnectionLost",
     "GraphdError", "NotGraphd", "NotSent", "Refused", "TimedOut", "FrameTooLong", "BadRequest", "UnknownToken",
     "ReadOnly", "TextTooLong", "BadLexeme", "BadSyntax", "TooDeep", "UndefinedVariable", "VariableAlreadyBound",
     "BadAggregate", "BadPattern", "UnknownFunction", "DuplicateColumn", "MissingParameter", "TypeFault", "Overflow",

@@ -9,10 +9,12 @@ import threading
 import time
 from concurrent import futures
 from queue import SimpleQueue
-from typing import IO, List, Optional, Sequence, Tuple, cast
+from typing import IO, List, Optional, Sequence, Tuple, Union, cast
+from urllib.parse import urlsplit
 
 from .refusals import ConnectionLost, NotGraphd, NotSent, TimedOut
 
+PORT = 7687  # where an address tells none
 MAX_BODY = 1_048_576  # bytes of a request's body
 MAX_REPLY = 16_777_216 + 64  # bytes of a reply's body; a page's is a little longer
 
@@ -22,7 +24,8 @@ def framed(body: bytes) -> bytes:
     return struct.pack(">I", len(body)) + body
 
 
-def _length(header: bytes) -> int:
+def length_of(header: bytes) -> int:
+    """The length of a reply's body. Raises NotGraphd where no reply of graphd's is so long."""
     length = int.from_bytes(header, "big")
     if length > MAX_REPLY:
         raise NotGraphd(f"a reply of {length} bytes is none of graphd's")
@@ -63,7 +66,7 @@ class Address:
             except OSError as fault:
                 # a server that answers otherwise won't listen later either
                 if not isinstance(fault, ConnectionRefusedError) or time.monotonic() >= until:
-                    raise NotSent(f"no server answers on {self}: {_told(fault)}") from None
+                    raise NotSent(f"no server answers on {self}: {reason_of(fault)}") from None
             time.sleep(0.05)
 
     def _socket(self, timeout: Optional[float]) -> socket.socket:
@@ -76,7 +79,24 @@ class Address:
             raise
 
 
-def _told(fault: OSError) -> str:
+def address_of(where: Union[int, str], host: str, tls: Union[bool, ssl.SSLContext, None], wait: float) -> Address:
+    """The address of a port or of a text "graphd://host:port". Raises a ValueError where it is none."""
+    port: Optional[int]
+    if isinstance(where, str):
+        told = urlsplit(where if "://" in where else f"graphd://{where}")
+        if told.scheme not in ("graphd", "graphds") or not told.hostname or told.username or told.path.strip("/") or told.query:
+            raise ValueError(f"{where}: an address is graphd://HOST:PORT, or graphds://HOST:PORT for TLS")
+        host, port, tls = told.hostname, told.port or PORT, tls or told.scheme == "graphds"
+    else:
+        port = where
+    if not 1 <= port <= 65535:
+        raise ValueError(f"{port} is no port: ports are 1 to 65535")
+    context = tls if isinstance(tls, ssl.SSLContext) else ssl.create_default_context() if tls else None
+    return Address(host, port, context, wait)
+
+
+def reason_of(fault: OSError) -> str:
+    """What the system tells of a fault."""
     return fault.strerror or str(fault) or type(fault).__name__
 
 
@@ -95,11 +115,11 @@ class SocketConnection(Connection):
         self.is_lost = True
         self._send(framed(body), until)
         try:
-            reply = self._take(_length(self._take(4, until)), until)
+            reply = self._take(length_of(self._take(4, until)), until)
         except socket.timeout:
             raise TimedOut(f"no reply within {timeout:g} seconds") from None
         except OSError as fault:
-            raise ConnectionLost(f"the connection ended before the reply came: {_told(fault)}") from None
+            raise ConnectionLost(f"the connection ended before the reply came: {reason_of(fault)}") from None
         self.is_lost = False
         return reply
 
@@ -122,7 +142,7 @@ class SocketConnection(Connection):
             raise NotSent("the server takes no request in time") from None
         except OSError as fault:
             self.may_reopen = True
-            raise NotSent(f"the connection ended before the request was sent: {_told(fault)}") from None
+            raise NotSent(f"the connection ended before the request was sent: {reason_of(fault)}") from None
 
     def _take(self, count: int, until: Optional[float]) -> bytes:
         parts: List[bytes] = []
@@ -162,7 +182,7 @@ class ProgramConnection(Connection):
         try:
             self._child = subprocess.Popen(command, stdin=pipe, stdout=pipe, stderr=pipe, start_new_session=True)
         except OSError as fault:
-            raise NotSent(f"{command[0]} can't be started: {_told(fault)}") from None
+            raise NotSent(f"{command[0]} can't be started: {reason_of(fault)}") from None
         self._input, self._output = cast(IO[bytes], self._child.stdin), cast(IO[bytes], self._child.stdout)
         self._asked: "SimpleQueue[Optional[Asked]]" = SimpleQueue()
         self._last: "Optional[futures.Future[bytes]]" = None
@@ -170,13 +190,17 @@ class ProgramConnection(Connection):
         self._worker.start()
 
     def exchange(self, body: bytes, timeout: Optional[float]) -> bytes:
+        try:
+            return self.asked(body).result(timeout)
+        except futures.TimeoutError:
+            raise TimedOut(f"no reply within {timeout:g} seconds") from None
+
+    def asked(self, body: bytes) -> "futures.Future[bytes]":
+        """What will have the body of the reply to a request's body."""
         answer: "futures.Future[bytes]" = futures.Future()
         self._last = answer
         self._asked.put((framed(body), answer))
-        try:
-            return answer.result(timeout)
-        except futures.TimeoutError:
-            raise TimedOut(f"no reply within {timeout:g} seconds") from None
+        return answer
 
     def _work(self) -> None:
         asked = self._asked.get()
@@ -197,7 +221,7 @@ class ProgramConnection(Connection):
             self._input.flush()
         except OSError:
             raise ConnectionLost(self._last_words()) from None
-        return self._take(_length(self._take(4)))
+        return self._take(length_of(self._take(4)))
 
     def _take(self, count: int) -> bytes:
         taken = self._output.read(count)

@@ -1,18 +1,16 @@
 """Sessions: what a client asks a server by."""
 from __future__ import annotations
 
-import json
 import ssl as tls
 import threading
 from typing import Any, Callable, Dict, List, Mapping, Optional, Sequence, Type, TypeVar, Union
-from urllib.parse import urlsplit
 
-from .answers import Result, Row, Status
-from .connections import MAX_BODY, Address, Connection, ProgramConnection
-from .refusals import FrameTooLong, NotGraphd, NotSent, Refused, refusal
-from .values import Parameter, check_parameter, value_of
+from .answers import Result, Status
+from .connections import Connection, ProgramConnection, address_of
+from .refusals import NotSent, Refused
+from .requests import body_of, checked_token, query_of, result_of, status_of, told_by
+from .values import Parameter
 
-PORT = 7687
 Self = TypeVar("Self", bound="Session")
 
 
@@ -21,33 +19,23 @@ class Requests:
     ConnectionLost where no reply came."""
 
     def __init__(self, token: str) -> None:
-        if not isinstance(token, str):
-            raise TypeError(f"a token is a text, and not of type {type(token).__name__}")
-        self.token = token
+        self.token = checked_token(token)
 
     def query(self, text: str, params: Optional[Mapping[str, Parameter]] = None, /, **named: Parameter) -> Result:
-        """Asks a query. Its parameters `$name` are given as a dict, by name, or both ways.
+        """Asks a query, and gives its columns, rows and steps. Its parameters `$name` are given as a dict, by name, or both ways.
 
         Raises a TypeError or a ValueError, and sends nothing, where the text is none or a parameter is no value of graphd's.
         """
-        given = _together(params, named)
-        if not isinstance(text, str):
-            raise TypeError(f"a query is a text, and not of type {type(text).__name__}")
-        check_parameter("the query", text)
-        for name, value in given.items():
-            check_parameter(name, value)
-        request: Dict[str, Any] = {"op": "query", "text": text}
-        if given:
-            request["params"] = given
+        request, given = query_of(text, params, named)
         try:
             told = self.ask(request)
         except Refused as fault:
             raise fault.of_query(text, given) from None
-        return _shaped(_result, told)
+        return result_of(told)
 
     def status(self) -> Status:
         """What the tenant has and may have. Costs no steps."""
-        return _shaped(_status, self.ask({"op": "status"}))
+        return status_of(self.ask({"op": "status"}))
 
     def create_index(self, label: str, key: str) -> None:
         """Keeps the nodes with the label findable by this property, at most 16 such pairs. Raises IndexExists where it is there."""
@@ -59,52 +47,11 @@ class Requests:
 
     def ask(self, request: Mapping[str, Any]) -> Dict[str, Any]:
         """Sends a request, to which its token is added, and gives the reply's object."""
-        body = json.dumps({**request, "token": self.token}, ensure_ascii=False, separators=(",", ":"))
-        sent = body.encode("utf-8", "surrogatepass")
-        if len(sent) > MAX_BODY:
-            # (a server answers it likewise, and then ends the connection)
-            raise FrameTooLong()
-        reply = self.exchange(sent)
-        try:
-            told = json.loads(reply)
-            code = told["code"]
-        except (ValueError, TypeError, KeyError):
-            raise NotGraphd(f"a reply that isn't graphd's: {reply[:80]!r}") from None
-        if code != 0:
-            raise refusal(code, told.get("error", "Refused"))
-        answered: Dict[str, Any] = told
-        return answered
+        return told_by(self.exchange(body_of(request, self.token)))
 
     def exchange(self, body: bytes) -> bytes:
         """The reply's body to a request's body, both as bytes."""
         raise NotImplementedError
-
-
-def _together(params: Optional[Mapping[str, Parameter]], named: Mapping[str, Parameter]) -> Dict[str, Parameter]:
-    twice = sorted(set(params or {}) & set(named))
-    if twice:
-        raise ValueError(f"the parameter {twice[0]} is given twice")
-    return {**(params or {}), **named}
-
-
-Shape = TypeVar("Shape")
-
-
-def _shaped(shape: Callable[[Dict[str, Any]], Shape], told: Dict[str, Any]) -> Shape:
-    try:
-        return shape(told)
-    except (KeyError, TypeError, ValueError):
-        raise NotGraphd("a reply of another form than graphd's") from None
-
-
-def _result(told: Dict[str, Any]) -> Result:
-    columns: List[str] = told["columns"]
-    return Result(columns, [Row(columns, [value_of(value) for value in row]) for row in told["rows"]], told["steps"])
-
-
-def _status(told: Dict[str, Any]) -> Status:
-    names = ("elements", "max_elements", "max_steps", "next_node", "next_rel")
-    return Status(indexes=[(label, key) for label, key in told["indexes"]], **{name: told[name] for name in names})
 
 
 class Session(Requests):
@@ -223,21 +170,6 @@ class Pool(Requests):
             self._idle.append(connection)
 
 
-def _address(where: Union[int, str], host: str, ssl: Union[bool, tls.SSLContext, None], wait: float) -> Address:
-    port: Optional[int]
-    if isinstance(where, str):
-        told = urlsplit(where if "://" in where else f"graphd://{where}")
-        if told.scheme not in ("graphd", "graphds") or not told.hostname or told.username or told.path.strip("/") or told.query:
-            raise ValueError(f"{where}: an address is graphd://HOST:PORT, or graphds://HOST:PORT for TLS")
-        host, port, ssl = told.hostname, told.port or PORT, ssl or told.scheme == "graphds"
-    else:
-        port = where
-    if not 1 <= port <= 65535:
-        raise ValueError(f"{port} is no port: ports are 1 to 65535")
-    context = ssl if isinstance(ssl, tls.SSLContext) else tls.create_default_context() if ssl else None
-    return Address(host, port, context, wait)
-
-
 def connect(
     where: Union[int, str],
     token: str,
@@ -253,7 +185,7 @@ def connect(
     and each reply may take, None for any time. `ssl` is True for TLS with the system's certificates, or a context. `wait` is for how
     many seconds to try where no server listens yet. Raises a ValueError for an address or a port that is none.
     """
-    address = _address(where, host, ssl, wait)
+    address = address_of(where, host, ssl, wait)
     return Session(token, lambda: address.opened(timeout), timeout)
 
 
@@ -269,7 +201,7 @@ def pool(
 ) -> Pool:
     """Like `connect`, with at most `size` connections that threads share. A server that takes one connection at a time (`graphd serve`)
     answers one request of a pool of one; behind a gateway a pool may be as large as the gateway's number of clients."""
-    address = _address(where, host, ssl, wait)
+    address = address_of(where, host, ssl, wait)
     return Pool(token, lambda: address.opened(timeout), size, timeout)
 
 

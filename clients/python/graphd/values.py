@@ -6,14 +6,35 @@ There are no floats.
 from __future__ import annotations
 
 from dataclasses import dataclass, field
-from typing import Any, Dict, List, Optional, Tuple, Union
+from typing import Any, Dict, Iterator, List, Optional, Tuple, Union
 
 LEAST_INTEGER, GREATEST_INTEGER = -(2**63), 2**63 - 1
 DEEPEST = 64  # levels of a parameter, itself among them
 
 
+class Element:
+    """What nodes and relationships share: their properties, which are also read by `element["key"]`."""
+
+    id: int
+    properties: Dict[str, Any]
+
+    def __getitem__(self, key: str) -> Any:
+        """The property of this key. Raises a KeyError where there is none."""
+        return self.properties[key]
+
+    def get(self, key: str, default: Any = None) -> Any:
+        """The property of this key, or the default where there is none."""
+        return self.properties.get(key, default)
+
+    def __contains__(self, key: object) -> bool:
+        return key in self.properties
+
+    def __iter__(self) -> Iterator[str]:
+        return iter(self.properties)
+
+
 @dataclass(frozen=True)
-class Node:
+class Node(Element):
     """A node as a reply spells it out: its id, its labels in byte order and its properties."""
 
     id: int
@@ -22,7 +43,7 @@ class Node:
 
 
 @dataclass(frozen=True)
-class Relationship:
+class Relationship(Element):
     """A relationship as a reply spells it out; `start` and `end` are the ids of its nodes."""
 
     id: int

@@ -1,0 +1,313 @@
+"""The client for asyncio, by the same words.
+
+    from graphd import aio
+
+    async with aio.connect(7687, "a1") as graph:
+        found = await graph.query("MATCH (n:Service) RETURN n.name AS name")
+        print(found.data())
+
+Tasks may share a session, in turns; a pool lets them ask at once. What is awaited may be cancelled: the request may then take effect all
+the same, and the next one is answered by its own reply.
+"""
+from __future__ import annotations
+
+import asyncio
+import contextlib
+import ssl as tls
+from typing import Any, Awaitable, Callable, Dict, List, Mapping, Optional, Sequence, Type, TypeVar, Union
+
+from .answers import Result, Status
+from .connections import Address, ProgramConnection, address_of, framed, length_of, reason_of
+from .refusals import ConnectionLost, NotSent, Refused, TimedOut
+from .requests import body_of, checked_token, query_of, result_of, status_of, told_by
+from .values import Parameter
+
+Self = TypeVar("Self", bound="Requests")
+
+
+class Connection:
+    """One stream of requests and replies, as in `graphd`: `is_lost` tells that it can't be used again, and `may_reopen` that a request
+    which wasn't sent may be sent over another one."""
+
+    is_lost = False
+    may_reopen = False
+
+    async def exchange(self, body: bytes, timeout: Optional[float]) -> bytes:
+        """The body of the reply to a request's body. `timeout` is in seconds, None for none."""
+        raise NotImplementedError
+
+    async def close(self) -> None:
+        """Lets the connection go."""
+        raise NotImplementedError
+
+
+class StreamConnection(Connection):
+    """A connection to a server that listens. Whatever ends an exchange early leaves it lost."""
+
+    def __init__(self, reader: asyncio.StreamReader, writer: asyncio.StreamWriter) -> None:
+        self._reader, self._writer = reader, writer
+
+    async def exchange(self, body: bytes, timeout: Optional[float]) -> bytes:
+        # (the end of a connection is seen in a turn of the loop, and told in the next)
+        await asyncio.sleep(0)
+        await asyncio.sleep(0)
+        if self.is_lost or self._reader.at_eof() or self._writer.is_closing():
+            self.is_lost = self.may_reopen = True
+            raise NotSent("the server had closed the connection")
+        self.is_lost = True
+        try:
+            reply = await asyncio.wait_for(self._exchange(framed(body)), timeout)
+        except asyncio.TimeoutError:
+            if self._writer.transport.get_write_buffer_size():
+                raise NotSent("the server takes no request in time") from None
+            raise TimedOut(f"no reply within {timeout:g} seconds") from None
+        except asyncio.IncompleteReadError:
+            raise ConnectionLost("the server closed the connection before its reply was whole") from None
+        except OSError as fault:
+            raise ConnectionLost(f"the connection ended before the reply came: {reason_of(fault)}") from None
+        self.is_lost = False
+        return reply
+
+    async def _exchange(self, frame: bytes) -> bytes:
+        self._writer.write(frame)
+        await self._writer.drain()
+        return await self._reader.readexactly(length_of(await self._reader.readexactly(4)))
+
+    async def close(self) -> None:
+        self.is_lost = True
+        # (what wasn't sent is dropped: nobody waits for its reply)
+        self._writer.transport.abort()
+
+
+class OwnConnection(Connection):
+    """A server of one's own, over its standard input and output. A reply that nobody waits for any more is dropped."""
+
+    def __init__(self, command: Sequence[str]) -> None:
+        self._program = ProgramConnection(command)
+
+    async def exchange(self, body: bytes, timeout: Optional[float]) -> bytes:
+        answer = asyncio.wrap_future(self._program.asked(body))
+        try:
+            return await asyncio.wait_for(asyncio.shield(answer), timeout)
+        except asyncio.TimeoutError:
+            raise TimedOut(f"no reply within {timeout:g} seconds") from None
+        finally:
+            self.is_lost = self._program.is_lost
+            # (a fault that comes later is nobody's)
+            answer.add_done_callback(lambda done: done.cancelled() or done.exception())
+
+    async def close(self) -> None:
+        await asyncio.get_running_loop().run_in_executor(None, self._program.close)
+
+
+async def _opened(address: Address, timeout: Optional[float]) -> Connection:
+    """A connection to an address. Raises NotSent where no server listens."""
+    loop = asyncio.get_running_loop()
+    until = loop.time() + address.wait
+    while True:
+        try:
+            name = address.host if address.tls else None
+            opening = asyncio.open_connection(address.host, address.port, ssl=address.tls, server_hostname=name)
+            return StreamConnection(*await asyncio.wait_for(opening, timeout))
+        except asyncio.TimeoutError:
+            raise NotSent(f"no server answers on {address} within {timeout:g} seconds") from None
+        except OSError as fault:
+            if not isinstance(fault, ConnectionRefusedError) or loop.time() >= until:
+                raise NotSent(f"no server answers on {address}: {reason_of(fault)}") from None
+        await asyncio.sleep(0.05)
+
+
+Opened = Callable[[], Awaitable[Connection]]
+
+
+class Requests:
+    """The requests that a token may make, each to be awaited. Each takes effect whole or not at all, and raises a Refused where the server
+    refuses it, a ConnectionLost where no reply came."""
+
+    def __init__(self, token: str, opened: Opened, timeout: Optional[float]) -> None:
+        self.token = checked_token(token)
+        self.timeout = timeout
+        self._opened = opened
+
+    async def query(self, text: str, params: Optional[Mapping[str, Parameter]] = None, /, **named: Parameter) -> Result:
+        """Asks a query, and gives its columns, rows and steps. Its parameters `$name` are given as a dict, by name, or both ways.
+
+        Raises a TypeError or a ValueError, and sends nothing, where the text is none or a parameter is no value of graphd's.
+        """
+        request, given = query_of(text, params, named)
+        try:
+            told = await self.ask(request)
+        except Refused as fault:
+            raise fault.of_query(text, given) from None
+        return result_of(told)
+
+    async def status(self) -> Status:
+        """What the tenant has and may have. Costs no steps."""
+        return status_of(await self.ask({"op": "status"}))
+
+    async def create_index(self, label: str, key: str) -> None:
+        """Keeps the nodes with the label findable by this property, at most 16 such pairs. Raises IndexExists where it is there."""
+        await self.ask({"op": "create_index", "label": label, "key": key})
+
+    async def drop_index(self, label: str, key: str) -> None:
+        """Takes an index back. Raises NoSuchIndex where it isn't there."""
+        await self.ask({"op": "drop_index", "label": label, "key": key})
+
+    async def ask(self, request: Mapping[str, Any]) -> Dict[str, Any]:
+        """Sends a request, to which its token is added, and gives the reply's object."""
+        return told_by(await self.exchange(body_of(request, self.token)))
+
+    async def exchange(self, body: bytes) -> bytes:
+        """The reply's body to a request's body, both as bytes. A request is sent again only where it wasn't sent."""
+        raise NotImplementedError
+
+    async def close(self) -> None:
+        """Lets all connections go."""
+        raise NotImplementedError
+
+    async def __aenter__(self: Self) -> Self:
+        return self
+
+    async def __aexit__(self, kind: Optional[Type[BaseException]], fault: Optional[BaseException], trace: object) -> None:
+        await self.close()
+
+
+class Session(Requests):
+    """A session of a tenant: what `connect` and `start` give. It holds one connection for the length of an `async with` block, over which
+    tasks take turns, and outside of one takes one for each request."""
+
+    def __init__(self, token: str, opened: Opened, timeout: Optional[float] = None) -> None:
+        super().__init__(token, opened, timeout)
+        self._connection: Optional[Connection] = None
+        self._blocks = 0
+        self._lock: Optional[asyncio.Lock] = None  # made in the loop that it is for
+
+    def _turn(self) -> asyncio.Lock:
+        if self._lock is None:
+            self._lock = asyncio.Lock()
+        return self._lock
+
+    async def __aenter__(self) -> "Session":
+        async with self._turn():
+            if self._connection is None:
+                self._connection = await self._opened()
+            self._blocks += 1
+        return self
+
+    async def __aexit__(self, kind: Optional[Type[BaseException]], fault: Optional[BaseException], trace: object) -> None:
+        self._blocks -= 1
+        if self._blocks <= 0:
+            await self.close()
+
+    async def close(self) -> None:
+        connection, self._connection, self._blocks, self._lock = self._connection, None, 0, None
+        if connection is not None:
+            await connection.close()
+
+    async def exchange(self, body: bytes) -> bytes:
+        if self._connection is None:
+            connection = await self._opened()
+            try:
+                return await connection.exchange(body, self.timeout)
+            finally:
+                await connection.close()
+        async with self._turn():
+            return await self._held(body)
+
+    async def _held(self, body: bytes) -> bytes:
+        connection = self._connection
+        if connection is None:
+            raise NotSent("the session was closed")
+        try:
+            return await connection.exchange(body, self.timeout)
+        except NotSent:
+            if not connection.may_reopen:
+                raise
+            await connection.close()
+            self._connection = connection = await self._opened()
+            return await connection.exchange(body, self.timeout)
+
+
+class Pool(Requests):
+    """Requests of one token, over at most `size` connections that any number of tasks share: what `pool` gives."""
+
+    def __init__(self, token: str, opened: Opened, size: int, timeout: Optional[float] = None) -> None:
+        super().__init__(token, opened, timeout)
+        if size < 1:
+            raise ValueError("a pool has one connection at least")
+        self._size = size
+        self._free: Optional[asyncio.Semaphore] = None  # made in the loop that it is for
+        self._idle: List[Connection] = []
+
+    async def close(self) -> None:
+        idle, self._idle = self._idle, []
+        for connection in idle:
+            await connection.close()
+
+    async def exchange(self, body: bytes) -> bytes:
+        if self._free is None:
+            self._free = asyncio.Semaphore(self._size)
+        try:
+            await asyncio.wait_for(self._free.acquire(), self.timeout)
+        except asyncio.TimeoutError:
+            raise NotSent(f"no connection of the pool was free within {self.timeout:g} seconds") from None
+        try:
+            return await self._exchange(body)
+        finally:
+            self._free.release()
+
+    async def _exchange(self, body: bytes) -> bytes:
+        connection = self._idle.pop() if self._idle else await self._opened()
+        try:
+            return await connection.exchange(body, self.timeout)
+        except NotSent:
+            if not connection.may_reopen:
+                raise
+            await connection.close()
+            connection = await self._opened()
+            return await connection.exchange(body, self.timeout)
+        finally:
+            if connection.is_lost:
+                with contextlib.suppress(OSError):
+                    await connection.close()
+            else:
+                self._idle.append(connection)
+
+
+def connect(
+    where: Union[int, str],
+    token: str,
+    host: str = "127.0.0.1",
+    timeout: Optional[float] = 60.0,
+    *,
+    ssl: Union[bool, tls.SSLContext, None] = None,
+    wait: float = 0.0,
+) -> Session:
+    """A session of a server that listens, with the words of `graphd.connect`. Connects when it is first used."""
+    address = address_of(where, host, ssl, wait)
+    return Session(token, lambda: _opened(address, timeout), timeout)
+
+
+def pool(
+    where: Union[int, str],
+    token: str,
+    host: str = "127.0.0.1",
+    timeout: Optional[float] = 60.0,
+    *,
+    size: int = 8,
+    ssl: Union[bool, tls.SSLContext, None] = None,
+    wait: float = 0.0,
+) -> Pool:
+    """Like `connect`, with at most `size` connections that tasks share."""
+    address = address_of(where, host, ssl, wait)
+    return Pool(token, lambda: _opened(address, timeout), size, timeout)
+
+
+def start(command: Sequence[str], token: str, timeout: Optional[float] = None) -> Session:
+    """A session of a server that the client starts, as `["graphd", "run", "config.json"]`. It keeps its graphs for the length of an
+    `async with` block."""
+
+    async def opened() -> Connection:
+        return OwnConnection(command)
+
+    return Session(token, opened, timeout)

@@ -34,7 +34,7 @@ module _ {T S K : Type 0} (seen : Seen T S) (mark : Mark) (old mid new : Store T
       same = λ m has. undone.marks m (omega (arith, has.journal, journal)) (omega (arith, has.names, names)) ∙ marks.same m has;
     }
 
-    pub changes_nothing : {X E : Type 0} (e : E) (Says : Graph → Graph → Type 0) → Says (graph_of_store seen old before) (graph_of_store seen new after) → Changes seen old before new after (Err {X} {E} e) Says
+    pub changes_nothing : {X E : Type 0} (e : E) (Says : Graph → Graph → Type 0) → Says (graph_of_store seen old before) (graph_of_store seen new after) → Changes {X = X} {E = E} seen old before new after (Err e) Says
     changes_nothing e Says says = record {
       says = says;
       same = graph_again;

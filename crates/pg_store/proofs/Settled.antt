@@ -122,16 +122,16 @@ module _ (names : List (List ℕ)) (s : State) (id : NodeId) (key : ℕ) (n : No
   abbrev pub less_node : NodeRecord
   less_node = record n { properties = map.remove n.properties key }
 
-  some_node : IsSome (map.get (live s).nodes id.0)
+  pub some_node : IsSome (map.get (live s).nodes id.0)
   some_node = subst IsSome (sym there) refl
 
   pub node_held_here : map.get s.content.nodes id.0 ≡ Some n
   node_held_here = sym (get_kept s.content.nodes s.gone_nodes id.0 (is_live s.content.nodes s.gone_nodes id.0 some_node).0) ∙ there
 
-  abbrev node_is : IsNodeOf names s.next.node id.0 n
+  abbrev pub node_is : IsNodeOf names s.next.node id.0 n
   node_is = well.holds.nodes id.0 n there
 
-  keys_left : AreNamed names (map.keys less_node.properties)
+  pub keys_left : AreNamed names (map.keys less_node.properties)
   keys_left = named_removed names well.held.distinct n.properties node_is.keys key
 
   same_node : node_of names less_node ≡ node_of names n
@@ -157,7 +157,7 @@ module _ (names : List (List ℕ)) (s : State) (id : RelId) (key : ℕ) (r : Rel
   abbrev pub less_properties : Properties
   less_properties = map.remove r.properties key
 
-  some_rel : IsSome (map.get (live s).rels id.0)
+  pub some_rel : IsSome (map.get (live s).rels id.0)
   some_rel = subst IsSome (sym there) refl
 
   pub rel_held_here : map.get s.content.rels id.0 ≡ Some r
@@ -166,10 +166,10 @@ module _ (names : List (List ℕ)) (s : State) (id : RelId) (key : ℕ) (r : Rel
   pub properties_here : option_map (λ (r : RelRecord). r.properties) (map.get s.content.rels id.0) ≡ Some r.properties
   properties_here = ap (option_map (λ (r : RelRecord). r.properties)) rel_held_here
 
-  abbrev rel_is : IsRelOf names (live s).nodes s.next.rel id.0 r
+  abbrev pub rel_is : IsRelOf names (live s).nodes s.next.rel id.0 r
   rel_is = well.holds.rels id.0 r there
 
-  rel_keys_left : AreNamed names (map.keys less_properties)
+  pub rel_keys_left : AreNamed names (map.keys less_properties)
   rel_keys_left = named_removed names well.held.distinct r.properties rel_is.keys key
 
   same_entries : property_entries names less_properties ≡ property_entries names r.properties

@@ -8,9 +8,9 @@ use Rattle.pg_value_core.specs.View.{view}
 
 pub returns-in_ok-before-in-Key-clause-back : goal.returns-in_ok-before-in-Key-clause-back
 returns-in_ok-before-in-Key-clause-back c =
-    ap (λ (ps : Properties). given_back ps c.in-Key.key c.in_ok-before.before) c.in_ok-before.ensures.ok
-    ∙ given_back_is c.args.properties.now c.in-Key.key (view c.in-Key.value) c.in_ok-before.before c.in_ok-before.ensures.before
+    ap (λ (ps : Properties). given_back ps c.in-Key.key c.in_ok-before-in-Key.before) c.in_ok-before-in-Key.ensures.ok
+    ∙ given_back_is c.args.properties.now c.in-Key.key (view c.in-Key.value) c.in_ok-before-in-Key.before c.in_ok-before-in-Key.ensures.before
 
 pub returns-in_ok-before-in-Key-clause-can : goal.returns-in_ok-before-in-Key-clause-can
 returns-in_ok-before-in-Key-clause-can c =
-    subst IsSome (sym (ap (λ (ps : Properties). map.get ps c.in-Key.key) c.in_ok-before.ensures.ok ∙ get_inserted c.args.properties.now c.in-Key.key (view c.in-Key.value))) refl
+    subst IsSome (sym (ap (λ (ps : Properties). map.get ps c.in-Key.key) c.in_ok-before-in-Key.ensures.ok ∙ get_inserted c.args.properties.now c.in-Key.key (view c.in-Key.value))) refl

@@ -1,4 +1,4 @@
-use Rattle.std.proofs.Common.{IsSome, refl, sym, ap, subst, ◌∙◌}
+use Rattle.std.proofs.Common.{◌≡◌, IsSome, refl, sym, ap, subst, ◌∙◌}
 use Rattle.std.specs.FinMap as map
 use Rattle.pg_graph.proofs.Others.{keeps_trans}
 use Rattle.pg_graph.proofs.Removed.{is_live}
@@ -12,13 +12,13 @@ use Rattle.pg_store.proofs.store.Store.settle_node_key.Goals as goal
 use Rattle.pg_store.specs.Covers.{has_in}
 use Rattle.pg_store.specs.Stores.{state_of}
 
-pub returns-then-has_blank : goal.returns-then-has_blank
-returns-then-has_blank g c = settles_first g.T.Tables.seen c.args.self.now c.args.shared.now c.requires.fit c.requires.journal
+pub returns-then-not-has_blank : goal.returns-then-not-has_blank
+returns-then-not-has_blank g c = settles_first g.T.Tables.seen c.args.self.now c.args.shared.now c.requires.fit c.requires.journal
 
 pub change-node-requires : goal.change-node-requires
 change-node-requires g c =
     let s = state_of g.T.Tables.seen c.args.self.now c.args.shared.now in
-    let found = c.has_blank.ensures c.if-has_blank.false in
+    let found = c.has_blank.ensures c.if-not-has_blank.false in
     record { fits = c.requires.fit.fits; present = subst IsSome (sym (node_held_here c.args.shared.now.names s c.args.id c.args.key found.0 c.requires.fit.well found.1 found.2)) refl }
 
 pub change-requires : goal.change-requires
@@ -33,7 +33,7 @@ returns g c =
     let names = shared.names in
     let s = state_of g.T.Tables.seen store shared in
     let id = c.args.id in
-    let found = c.has_blank.ensures c.if-has_blank.false in
+    let found = c.has_blank.ensures c.if-not-has_blank.false in
     let n = found.0 in
     let well = c.requires.fit.well in
     let w = c.change-node.result in

@@ -1,4 +1,4 @@
-use Rattle.std.proofs.Common.{IsSome, refl, sym, ap, subst, ◌∙◌}
+use Rattle.std.proofs.Common.{◌≡◌, IsSome, refl, sym, ap, subst, ◌∙◌}
 use Rattle.std.specs.FinMap as map
 use Rattle.std.specs.Option.{option_map}
 use Rattle.pg_graph.proofs.Others.{keeps_trans}
@@ -11,19 +11,19 @@ use Rattle.pg_store.proofs.store.Store.settle_rel_key.Goals as goal
 use Rattle.pg_store.specs.Covers.{has_in}
 use Rattle.pg_store.specs.Stores.{state_of}
 
-pub returns-then-has_blank_rel : goal.returns-then-has_blank_rel
-returns-then-has_blank_rel g c = settles_first g.T.Tables.seen c.args.self.now c.args.shared.now c.requires.fit c.requires.journal
+pub returns-then-not-has_blank_rel : goal.returns-then-not-has_blank_rel
+returns-then-not-has_blank_rel g c = settles_first g.T.Tables.seen c.args.self.now c.args.shared.now c.requires.fit c.requires.journal
 
 pub change_rel-properties-requires : goal.change_rel-properties-requires
 change_rel-properties-requires g c =
     let s = state_of g.T.Tables.seen c.args.self.now c.args.shared.now in
-    let found = c.has_blank_rel.ensures c.if-has_blank_rel.false in
+    let found = c.has_blank_rel.ensures c.if-not-has_blank_rel.false in
     record { fits = c.requires.fit.fits; present = subst IsSome (sym (rel_held_here c.args.shared.now.names s c.args.id c.args.key found.0 c.requires.fit.well found.1 found.2)) refl }
 
 pub change_rel-requires : goal.change_rel-requires
 change_rel-requires g c =
     let s = state_of g.T.Tables.seen c.args.self.now c.args.shared.now in
-    let found = c.has_blank_rel.ensures c.if-has_blank_rel.false in
+    let found = c.has_blank_rel.ensures c.if-not-has_blank_rel.false in
     record {
       fits = c.change_rel-properties.ensures.keeps.fits;
       present = rel_stays_there s.content _ c.args.id.0 _ (subst IsSome (sym (rel_held_here c.args.shared.now.names s c.args.id c.args.key found.0 c.requires.fit.well found.1 found.2)) refl) c.change_rel-properties.ensures.changed;
@@ -36,7 +36,7 @@ returns g c =
     let names = shared.names in
     let s = state_of g.T.Tables.seen store shared in
     let id = c.args.id in
-    let found = c.has_blank_rel.ensures c.if-has_blank_rel.false in
+    let found = c.has_blank_rel.ensures c.if-not-has_blank_rel.false in
     let r = found.0 in
     let well = c.requires.fit.well in
     let held = rel_held_here names s id c.args.key r well found.1 found.2 in

@@ -1,5 +1,5 @@
 -- A call that was refused on its way, and took back what it had done.
-use Rattle.std.proofs.Common.{◌≡◌, ◌≤◌, ℕ, List, length, take, Result, Err, OnErr, arith, refl, ◌∙◌}
+use Rattle.std.proofs.Common.{◌≡◌, ◌≤◌, length, take, Err, arith, ◌∙◌}
 use Rattle.pg_graph.specs.Content.{Seen, Keeps}
 use Rattle.pg_meaning.specs.Graph.{Graph}
 use Rattle.pg_store.proofs.Kept.{names_go}

@@ -1,4 +1,4 @@
-use Rattle.std.proofs.lemmas.Result.{IfOk-from_err, on_ok_weaker}
+use Rattle.std.proofs.lemmas.Result.{on_ok_weaker}
 use Rattle.pg_store.proofs.CoverLemmas.{grows_on}
 use Rattle.pg_store.proofs.SetLemmas.{values_grow}
 use Rattle.pg_store.proofs.sets.Sets.cover_new_label.Goals as goal

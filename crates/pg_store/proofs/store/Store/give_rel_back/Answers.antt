@@ -1,9 +1,7 @@
 use Rattle.std.proofs.Common.{IsSome, refl, sym, ap, subst, ◌∙◌}
-use Rattle.std.specs.FinMap as map
 use Rattle.std.specs.Option.{option_map, option_map_or}
 use Rattle.pg_graph.proofs.Others.{keeps_trans}
 use Rattle.pg_graph.specs.Content.{Content, with_rel, with_rel_properties}
-use Rattle.pg_graph.specs.Records.{Properties}
 use Rattle.pg_graph.specs.declared.records.RelRecord.{RelRecord}
 use Rattle.pg_store.proofs.States.{changed_at, properties_taken_and_put, rel_stays_there, the_same}
 use Rattle.pg_store.proofs.store.Store.give_rel_back.Goals as goal

@@ -1,9 +1,8 @@
-use Rattle.std.proofs.Common.{IsSome, Some, option_copied, refl, sym, ap, subst, ◌∙◌}
+use Rattle.std.proofs.Common.{IsSome, option_copied, sym, ap, subst, ◌∙◌}
 use Rattle.std.proofs.lemmas.Result.{on_ok_weaker}
 use Rattle.std.specs.FinMap as map
 use Rattle.pg_graph.proofs.NamedChanges.{named_inserted, nothing_shown, property_put}
 use Rattle.pg_graph.specs.Refinement.{label_texts, node_of, property_entries, text_of}
-use Rattle.pg_graph.specs.declared.records.NodeRecord.{NodeRecord}
 use Rattle.pg_meaning.specs.Entries.{set_key}
 use Rattle.pg_meaning.specs.Graph.{Node}
 use Rattle.pg_store.proofs.ChangeLemmas.{marks_stay}

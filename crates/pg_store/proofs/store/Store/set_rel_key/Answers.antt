@@ -1,4 +1,4 @@
-use Rattle.std.proofs.Common.{IsSome, Some, option_copied, refl, sym, ap, subst, ◌∙◌}
+use Rattle.std.proofs.Common.{IsSome, option_copied, sym, ap, subst, ◌∙◌}
 use Rattle.std.proofs.lemmas.Result.{on_ok_weaker}
 use Rattle.std.specs.FinMap as map
 use Rattle.pg_graph.proofs.NamedChanges.{named_inserted, nothing_shown, property_put}

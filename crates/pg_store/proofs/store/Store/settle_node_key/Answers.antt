@@ -1,9 +1,7 @@
 use Rattle.std.proofs.Common.{◌≡◌, IsSome, refl, sym, ap, subst, ◌∙◌}
 use Rattle.std.specs.FinMap as map
 use Rattle.pg_graph.proofs.Others.{keeps_trans}
-use Rattle.pg_graph.proofs.Removed.{is_live}
 use Rattle.pg_graph.specs.Content.{Content, with_node}
-use Rattle.pg_graph.specs.Records.{Properties}
 use Rattle.pg_graph.specs.declared.records.NodeRecord.{NodeRecord}
 use Rattle.pg_store.proofs.CoverLemmas.{covers_now}
 use Rattle.pg_store.proofs.Settled.{settles_first, settles_on, without_blank, well_without_blank, graph_without_blank, covers_without_blank, node_held_here}

@@ -1,6 +1,5 @@
-use Rattle.std.proofs.Common.{◌≡◌, IsSome, refl, sym, ap, subst, ◌∙◌}
+use Rattle.std.proofs.Common.{IsSome, refl, sym, ap, subst, ◌∙◌}
 use Rattle.std.specs.FinMap as map
-use Rattle.std.specs.Option.{option_map}
 use Rattle.pg_graph.proofs.Others.{keeps_trans}
 use Rattle.pg_graph.specs.Content.{Content, with_rel_properties}
 use Rattle.pg_graph.specs.Records.{Properties}

@@ -16,14 +16,14 @@ use Rattle.pg_graph.proofs.Maps.{get_inserted, get_inserted_other, get_removed, 
 use Rattle.pg_graph.proofs.Refined.{all_entries, element_read, text_stays}
 use Rattle.pg_graph.specs.Content.{with_rel, ids_where}
 use Rattle.pg_names.specs.Names.{KeepsNames}
-use Rattle.pg_graph.specs.Refinement.{text_of, named_entries, node_of, relationship_of, elements, AreNamed, IsNodeOf, IsRelOf, Holds, HeldIsGraph, EmptyHolds, HoldsWithMoreNames, HoldsWithNode, HoldsWithRelationship, HoldsWithChangedNode, HoldsWithChangedRelationship, HoldsWithoutNode, HoldsWithoutRelationship}
+use Rattle.pg_graph.specs.Refinement.{text_of, put_shown, named_entries, node_of, relationship_of, elements, AreNamed, IsNodeOf, IsRelOf, Holds, HeldIsGraph, EmptyHolds, HoldsWithMoreNames, HoldsWithNode, HoldsWithRelationship, HoldsWithChangedNode, HoldsWithChangedRelationship, HoldsWithoutNode, HoldsWithoutRelationship}
 use Rattle.pg_graph.specs.declared.records.NodeRecord.{NodeRecord}
 use Rattle.pg_graph.specs.declared.records.RelRecord.{RelRecord}
 use Rattle.pg_meaning.specs.Entries.{are_rising}
 use Rattle.pg_meaning.specs.EntriesLaws.{put_keeps_rising}
 use Rattle.pg_meaning.specs.NamesLaws.{in_byte_order_rises}
 use Rattle.pg_meaning.specs.Order.{text_order}
-use Rattle.pg_meaning.specs.Value.{Value}
+use Rattle.pg_meaning.specs.Value.{Value, Entries, null, boolean, integer, text, list, mapping, node, relationship, path}
 
 -- ---- maps
 
@@ -196,9 +196,20 @@ module _ {A B : Type 0} (f : A → B) where
   each_element : (P : ℕ × B → Type 0) (m : FinMap nat_cmp A) → ((q : ℕ) (a : A) → map.get m q ≡ Some a → P (q, f a)) → AllByRecursion P (elements f m)
   each_element P m h = all_seen f P (map.entries m) (all_entries (λ q a. P (q, f a)) m h)
 
+shown_rises : (k : List ℕ) (v : Value) (es : Entries) → are_rising es ≡ true → are_rising (put_shown k v es) ≡ true
+shown_rises k null es h = h
+shown_rises k (boolean b) es h = put_keeps_rising k (boolean b) es h
+shown_rises k (integer i) es h = put_keeps_rising k (integer i) es h
+shown_rises k (text s) es h = put_keeps_rising k (text s) es h
+shown_rises k (list vs) es h = put_keeps_rising k (list vs) es h
+shown_rises k (mapping fs) es h = put_keeps_rising k (mapping fs) es h
+shown_rises k (node n) es h = put_keeps_rising k (node n) es h
+shown_rises k (relationship r) es h = put_keeps_rising k (relationship r) es h
+shown_rises k (path ids) es h = put_keeps_rising k (path ids) es h
+
 pub entries_rise : (names : List (List ℕ)) (es : List (ℕ × Value)) → are_rising (named_entries names es) ≡ true
 entries_rise names [] = refl
-entries_rise names (e ∷ es) = put_keeps_rising (text_of names e.0) e.1 (named_entries names es) (entries_rise names es)
+entries_rise names (e ∷ es) = shown_rises (text_of names e.0) e.1 (named_entries names es) (entries_rise names es)
 
 some_mapped : {A B : Type 0} (f : A → B) (o : Option A) → IsSome o → is_some (option_map f o) ≡ true
 some_mapped f None h = h

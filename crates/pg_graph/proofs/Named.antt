@@ -1,25 +1,28 @@
 -- Labels and properties of the graph are looked for by the numbers of their names.
-use Rattle.std.proofs.Common.{◌≡◌, ◌==◌, ◌<◌, ◌||◌, ℕ, Bool, true, false, cond, List, [], ◌∷◌, map as map_list, length, slice_get, Option, Some, None, unwrap_or, Less, Equal, Greater, Ordering, arith, refl, sym, ap, ◌∙◌}
+use Rattle.std.proofs.Common.{◌≡◌, ◌==◌, ◌<◌, ◌||◌, ℕ, Bool, true, false, cond, T, List, [], ◌∷◌, map as map_list, length, slice_get, Option, Some, None, unwrap_or, Less, Equal, Greater, Ordering, arith, refl, sym, ap, ◌∙◌}
 use Rattle.std.proofs.lemmas.Bool.Decides.{nat_tests}
 use Rattle.std.proofs.lemmas.Slice.Eq.{bytes_eq-Decides}
 use Rattle.std.specs.BTreeSet.{insert_key}
 use Rattle.std.specs.Cmp.{unsigned_tied}
 use Rattle.std.specs.FinMap as map
-use Rattle.std.specs.FinMap.{find, slice_cmp-IsAntisymmetric, nat_cmp-IsAntisymmetric}
+use Rattle.std.specs.FinMap.{find, is_sorted, slice_cmp-IsAntisymmetric, nat_cmp-IsAntisymmetric}
+use Rattle.std.specs.FinMap.Entries.{below_all}
 use Rattle.std.specs.List.{list_any, position}
 use Rattle.std.specs.Option.{option_map_or}
-use Rattle.std.specs.Ordering.{nat_cmp, eq_by_cmp, match_ordering}
+use Rattle.std.specs.Ordering.{nat_cmp, eq_by_cmp, is_eq, is_lt, match_ordering}
 use Rattle.std.specs.Str.{bytes_eq}
 use Rattle.pg_graph.proofs.Ids.{eq_flip}
 use Rattle.pg_names.proofs.Interned.{found_text, place_of_text, same_bytes}
-use Rattle.pg_graph.proofs.Refined.{text_stays}
+use Rattle.pg_graph.proofs.Refined.{text_stays, left, right}
 use Rattle.pg_names.specs.Names.{AreDistinct}
-use Rattle.pg_graph.specs.Refinement.{text_of, named_entries, AreNamed, LabelIsRead, PropertyIsRead}
-use Rattle.pg_meaning.specs.Entries.{at_key, value_at}
+use Rattle.pg_graph.specs.Records.{shown, shown_value}
+use Rattle.pg_graph.specs.Refinement.{text_of, put_shown, named_entries, AreNamed, LabelIsRead, PropertyIsRead}
+use Rattle.pg_meaning.specs.Entries.{at_key, put, value_at}
 use Rattle.pg_meaning.specs.EntriesLaws.{put_is_read}
 use Rattle.pg_meaning.specs.Names.{put_texts}
 use Rattle.pg_meaning.specs.Order.{text_order}
-use Rattle.pg_meaning.specs.Value.{Value, null}
+use Rattle.pg_meaning.specs.Value.{Value, Entries, null}
+use Rattle.pg_meaning.specs.Value as meaning
 
 equal_bytes : (xs ys : List ℕ) → xs ≡ ys → bytes_eq xs ys ≡ true
 equal_bytes xs ys h = (bytes_eq-Decides xs ys).1 h
@@ -117,24 +120,76 @@ label_is_read names labels text distinct named =
 pub same_test : (x n : ℕ) → (x == n) ≡ eq_by_cmp nat_cmp n x
 same_test x n = eq_flip x n ∙ sym (unsigned_tied n x)
 
+-- a key before all others is none of them
+first_is_missing : (k : ℕ) (es : List (ℕ × Value)) → T (below_all nat_cmp k es) → find nat_cmp k es ≡ None
+first_is_missing k [] below = refl
+first_is_missing k (e ∷ es) below = by_order (nat_cmp k e.0) (left (is_lt (nat_cmp k e.0)) (below_all nat_cmp k es) below) (first_is_missing k es (right (is_lt (nat_cmp k e.0)) (below_all nat_cmp k es) below))
+  where
+    by_order : (o : Ordering) → T (is_lt o) → find nat_cmp k es ≡ None → cond (is_eq o) (Some e.1) (find nat_cmp k es) ≡ None
+    by_order Less h rest = rest
+    by_order Equal h rest = absurd h
+    by_order Greater h rest = absurd h
+
+tied_numbers : (n k : ℕ) → eq_by_cmp nat_cmp n k ≡ true → n ≡ k
+tied_numbers n k h = nat_cmp-IsAntisymmetric n k (equal_of (nat_cmp n k) h)
+  where
+    equal_of : (o : Ordering) → is_eq o ≡ true → o ≡ Equal
+    equal_of Less e = absurd (cc)
+    equal_of Equal e = refl
+    equal_of Greater e = absurd (cc)
+
+put_is_shown : (q k : List ℕ) (v : Value) (es : Entries) (b : Bool) (o : Option Value) → shown_value v ≡ Some v → bytes_eq q k ≡ b → at_key q es ≡ shown o → at_key q (put k v es) ≡ shown (cond b (Some v) o)
+put_is_shown q k v es true o kept is rest = put_is_read q k v es ∙ ap (λ c. cond c (Some v) (at_key q es)) is ∙ sym kept
+put_is_shown q k v es false o kept is rest = put_is_read q k v es ∙ ap (λ c. cond c (Some v) (at_key q es)) is ∙ rest
+
+-- what is read where an entry is put that may be blank, and its key is none of the others
+shown_is_read : (q k : List ℕ) (v : Value) (es : Entries) (b : Bool) (o : Option Value) → bytes_eq q k ≡ b → at_key q es ≡ shown o → (b ≡ true → o ≡ None) → at_key q (put_shown k v es) ≡ shown (cond b (Some v) o)
+shown_is_read q k null es true o is rest none = rest ∙ ap shown (none refl)
+shown_is_read q k null es false o is rest none = rest
+shown_is_read q k (meaning.boolean b) es c o is rest none = put_is_shown q k (meaning.boolean b) es c o refl is rest
+shown_is_read q k (meaning.integer i) es c o is rest none = put_is_shown q k (meaning.integer i) es c o refl is rest
+shown_is_read q k (meaning.text s) es c o is rest none = put_is_shown q k (meaning.text s) es c o refl is rest
+shown_is_read q k (meaning.list vs) es c o is rest none = put_is_shown q k (meaning.list vs) es c o refl is rest
+shown_is_read q k (meaning.mapping fs) es c o is rest none = put_is_shown q k (meaning.mapping fs) es c o refl is rest
+shown_is_read q k (meaning.node n) es c o is rest none = put_is_shown q k (meaning.node n) es c o refl is rest
+shown_is_read q k (meaning.relationship r) es c o is rest none = put_is_shown q k (meaning.relationship r) es c o refl is rest
+shown_is_read q k (meaning.path ids) es c o is rest none = put_is_shown q k (meaning.path ids) es c o refl is rest
+
 module _ (names : List (List ℕ)) (distinct : AreDistinct names) (text : List ℕ) where
-  pub entry_found : (n : ℕ) (es : List (ℕ × Value)) → position (bytes_eq text) names ≡ Some n → AreNamed names (map_list (λ e. e.0) es) → at_key text (named_entries names es) ≡ find nat_cmp n es
-  entry_found n [] found named = refl
-  entry_found n (e ∷ es) found named =
-      put_is_read text (text_of names e.0) e.1 (named_entries names es)
-      ∙ ap (λ b. cond b (Some e.1) (at_key text (named_entries names es))) (by_number names distinct text n e.0 found named.0 ∙ same_test e.0 n)
-      ∙ ap (cond (eq_by_cmp nat_cmp n e.0) (Some e.1)) (entry_found n es found named.1)
+  pub entry_found : (n : ℕ) (es : List (ℕ × Value)) → T (is_sorted nat_cmp es) → position (bytes_eq text) names ≡ Some n → AreNamed names (map_list (λ e. e.0) es) → at_key text (named_entries names es) ≡ shown (find nat_cmp n es)
+  entry_found n [] sorted found named = refl
+  entry_found n (e ∷ es) sorted found named =
+      shown_is_read text (text_of names e.0) e.1 (named_entries names es) (eq_by_cmp nat_cmp n e.0) (find nat_cmp n es)
+      (by_number names distinct text n e.0 found named.0 ∙ same_test e.0 n)
+      (entry_found n es (right (below_all nat_cmp e.0 es) (is_sorted nat_cmp es) sorted) found named.1)
+      (λ tied. ap (λ m. find nat_cmp m es) (tied_numbers n e.0 tied) ∙ first_is_missing e.0 es (left (below_all nat_cmp e.0 es) (is_sorted nat_cmp es) sorted))
 
   pub no_entry : (es : List (ℕ × Value)) → position (bytes_eq text) names ≡ None → AreNamed names (map_list (λ e. e.0) es) → at_key text (named_entries names es) ≡ None
   no_entry [] missing named = refl
   no_entry (e ∷ es) missing named =
-      put_is_read text (text_of names e.0) e.1 (named_entries names es)
-      ∙ ap (λ b. cond b (Some e.1) (at_key text (named_entries names es))) (by_no_number names distinct text e.0 missing named.0)
-      ∙ no_entry es missing named.1
+      shown_is_read text (text_of names e.0) e.1 (named_entries names es) false None (by_no_number names distinct text e.0 missing named.0) (no_entry es missing named.1) (λ h. refl)
+
+-- what is blank and what is absent read alike
+shown_or_null : (o : Option Value) → unwrap_or (shown o) null ≡ unwrap_or o null
+shown_or_null None = refl
+shown_or_null (Some v) = by_value v
+  where
+    by_value : (v : Value) → unwrap_or (shown_value v) null ≡ v
+    by_value null = refl
+    by_value (meaning.boolean b) = refl
+    by_value (meaning.integer i) = refl
+    by_value (meaning.text s) = refl
+    by_value (meaning.list vs) = refl
+    by_value (meaning.mapping fs) = refl
+    by_value (meaning.node n) = refl
+    by_value (meaning.relationship r) = refl
+    by_value (meaning.path ids) = refl
 
 pub property_is_read : PropertyIsRead
 property_is_read names properties text distinct named = by_place (position (bytes_eq text) names) refl
   where
     by_place : (o : Option ℕ) → position (bytes_eq text) names ≡ o → value_at text (named_entries names (map.entries properties)) ≡ option_map_or (λ n. unwrap_or (map.get properties n) null) o null
     by_place None is = ap (λ v. unwrap_or v null) (no_entry names distinct text (map.entries properties) is named)
-    by_place (Some n) is = ap (λ v. unwrap_or v null) (entry_found names distinct text n (map.entries properties) is named ∙ sym (map.get-entries properties n))
+    by_place (Some n) is =
+        ap (λ v. unwrap_or v null) (entry_found names distinct text n (map.entries properties) (map.entries_sorted properties) is named ∙ ap shown (sym (map.get-entries properties n)))
+        ∙ shown_or_null (map.get properties n)

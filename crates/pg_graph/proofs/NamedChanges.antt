@@ -1,5 +1,5 @@
 -- Labels and properties change at the texts of their names as records change at the numbers.
-use Rattle.std.proofs.Common.{◌≡◌, ◌<◌, ◌||◌, ◌&&◌, ℕ, Bool, true, false, cond, List, [], ◌∷◌, map as map_list, length, slice_get, Option, Some, None, Result, Ok, Err, OnOk, OnErr, Less, Equal, Greater, Ordering, refl, sym, ap, subst, ◌∙◌, true≢false}
+use Rattle.std.proofs.Common.{◌≡◌, ◌==◌, ◌<◌, ◌||◌, ◌&&◌, ℕ, Bool, true, false, cond, List, [], ◌∷◌, map as map_list, length, slice_get, Option, Some, None, Result, Ok, Err, OnOk, OnErr, Less, Equal, Greater, Ordering, refl, sym, ap, subst, ◌∙◌, true≢false}
 use Rattle.std.proofs.lemmas.Cmp.{lists_total, nat_cmp_total}
 use Rattle.std.proofs.lemmas.Map.Text.{is_eq-slice_cmp}
 use Rattle.std.proofs.lemmas.Option.{slice_get_within}
@@ -12,15 +12,15 @@ use Rattle.std.specs.Option.{option_map_or}
 use Rattle.std.specs.Ordering.{nat_cmp, eq_by_cmp, is_eq, is_lt, match_ordering, ordering_reverse}
 use Rattle.std.specs.Str.{bytes_eq}
 use Rattle.pg_graph.proofs.Held.{entries_rise, inserted, removed, more_named}
-use Rattle.pg_names.proofs.Interned.{same_bytes, equal_bytes}
-use Rattle.pg_graph.proofs.Named.{text_equal, any_put, any_inserted, either_false, either_same, either_swap, by_number, by_no_number, entry_found, no_entry, same_test}
-use Rattle.pg_graph.proofs.Refined.{all_entries, labels_kept, entries_kept}
+use Rattle.pg_names.proofs.Interned.{same_bytes, equal_bytes, place_of_text}
+use Rattle.pg_graph.proofs.Named.{text_equal, label_is_read, any_put, any_inserted, either_false, either_same, either_swap, by_number, by_no_number, entry_found, no_entry, same_test}
+use Rattle.pg_graph.proofs.Refined.{all_entries, labels_kept, entries_kept, text_stays}
 use Rattle.pg_graph.proofs.SortedLists.{equal}
 use Rattle.pg_names.specs.Names.{AreDistinct, KeepsNames}
-use Rattle.pg_graph.specs.Records.{Properties, with_label, with_property}
+use Rattle.pg_graph.specs.Records.{Properties, with_label, with_property, shown, shown_value}
 use Rattle.pg_graph.specs.Refinement.{text_of, label_texts, property_entries, AreNamed}
 use Rattle.pg_meaning.specs.Entries.{is_before_first, are_rising, at_key, put, without_key, set_key}
-use Rattle.pg_meaning.specs.EntriesLaws.{put_keeps_rising, without_keeps_rising, put_is_read, without_is_read}
+use Rattle.pg_meaning.specs.EntriesLaws.{set_keys_keeps_rising, without_keeps_rising, put_is_read, without_is_read}
 use Rattle.pg_meaning.specs.Names.{is_among, put_texts, in_byte_order}
 use Rattle.pg_meaning.specs.NamesLaws.{put_texts_rise, in_byte_order_rises}
 use Rattle.pg_meaning.specs.Order.{text_order}
@@ -95,12 +95,12 @@ module _ (names : List (List ℕ)) (n : ℕ) where
   pub among : (t : List ℕ) (ls : List ℕ) → is_among (label_texts names ls) t ≡ list_any (bytes_eq t) (map_list (text_of names) ls)
   among t ls = any_put (bytes_eq t) (map_list (text_of names) ls) [] ∙ either_false _
 
-  label_put : (ls : List ℕ) → label_texts names (with_label ls n) ≡ put_texts (text_of names n ∷ []) (label_texts names ls)
+  pub label_put : (ls : List ℕ) → label_texts names (with_label ls n) ≡ put_texts (text_of names n ∷ []) (label_texts names ls)
   label_put ls = same_texts _ _ (in_byte_order_rises (map_list (text_of names) (with_label ls n))) (put_texts_rise (text_of names n ∷ []) _ (in_byte_order_rises (map_list (text_of names) ls))) (λ t.
       among t (with_label ls n) ∙ any_label_put (bytes_eq t) ls
       ∙ sym (any_inserted (bytes_eq t) (text_of names n) (label_texts names ls) ∙ ap (λ b. bytes_eq t (text_of names n) || b) (among t ls)))
 
-  named_put : (ls : List ℕ) → n < length names → AreNamed names ls → AreNamed names (with_label ls n)
+  pub named_put : (ls : List ℕ) → n < length names → AreNamed names ls → AreNamed names (with_label ls n)
   named_put [] inside h = (inside, tt)
   named_put (l ∷ ls) inside h = by_order (nat_cmp n l) (named_put ls inside h.1)
     where
@@ -125,6 +125,22 @@ module _ (old new : List (List ℕ)) (keeps : KeepsNames old new) where
 
   pub label_added_named : (ls : List ℕ) (n : ℕ) (t : List ℕ) → AreNamed old ls → slice_get new n ≡ Some t → AreNamed new (with_label ls n)
   label_added_named ls n t h is = named_put new n ls (slice_get_within new n t is) (more_named old new keeps ls h)
+
+-- a label that is there already
+pub label_there : (names : List (List ℕ)) (n : ℕ) (ls : List ℕ) → AreDistinct names → AreNamed names ls → n < length names → list_any (λ l. l == n) ls ≡ true → put_texts (text_of names n ∷ []) (label_texts names ls) ≡ label_texts names ls
+label_there names n ls distinct named inside there =
+    same_texts _ _ (put_texts_rise (text_of names n ∷ []) _ (in_byte_order_rises (map_list (text_of names) ls))) (in_byte_order_rises (map_list (text_of names) ls)) (λ t.
+    any_inserted (bytes_eq t) (text_of names n) (label_texts names ls) ∙ by_test t (bytes_eq t (text_of names n)) refl)
+  where
+    at : position (bytes_eq (text_of names n)) names ≡ Some n
+    at = let t = text_stays names n inside in place_of_text names n (text_of names n) distinct (t.1 ∙ ap (λ o. Some (option_map_or (λ t. t) o [])) (sym t.1))
+
+    is_there : is_among (label_texts names ls) (text_of names n) ≡ true
+    is_there = label_is_read names ls (text_of names n) distinct named ∙ ap (λ o. option_map_or (λ m. list_any (λ l. l == m) ls) o false) at ∙ there
+
+    by_test : (t : List ℕ) (b : Bool) → bytes_eq t (text_of names n) ≡ b → (b || is_among (label_texts names ls) t) ≡ is_among (label_texts names ls) t
+    by_test t true is = sym (ap (is_among (label_texts names ls)) (same_bytes t (text_of names n) is) ∙ is_there)
+    by_test t false is = refl
 
 -- ---- entries whose keys rise are known by what stands at each key
 
@@ -188,34 +204,61 @@ named_key names (e ∷ es) h q v found = by_test (eq_by_cmp nat_cmp q e.0) refl 
         tied Greater t = absurd (cc)
     by_test false is f later = later f
 
+shown_either : (b : Bool) (o p : Option Value) → shown (cond b o p) ≡ cond b (shown o) (shown p)
+shown_either true o p = refl
+shown_either false o p = refl
+
+set_rises : (k : List ℕ) (v : Value) (es : Entries) → are_rising es ≡ true → are_rising (set_key k v es) ≡ true
+set_rises k v es h = set_keys_keeps_rising ((k, v) ∷ []) es h
+
+set_is_read : (q k : List ℕ) (v : Value) (es : Entries) → are_rising es ≡ true → at_key q (set_key k v es) ≡ cond (bytes_eq q k) (shown_value v) (at_key q es)
+set_is_read q k null es h = without_is_read q k es h
+set_is_read q k (boolean b) es h = put_is_read q k (boolean b) es
+set_is_read q k (integer i) es h = put_is_read q k (integer i) es
+set_is_read q k (text s) es h = put_is_read q k (text s) es
+set_is_read q k (list vs) es h = put_is_read q k (list vs) es
+set_is_read q k (mapping fs) es h = put_is_read q k (mapping fs) es
+set_is_read q k (node n) es h = put_is_read q k (node n) es
+set_is_read q k (relationship r) es h = put_is_read q k (relationship r) es
+set_is_read q k (path ids) es h = put_is_read q k (path ids) es
+
+without_absent : (k : List ℕ) (es : Entries) → at_key k es ≡ None → without_key k es ≡ es
+without_absent k no_entries h = refl
+without_absent k (entry l v es) h = by_test (bytes_eq k l) h (without_absent k es)
+  where
+    by_test : (b : Bool) → cond b (Some v) (at_key k es) ≡ None → (at_key k es ≡ None → without_key k es ≡ es) → cond b es (entry l v (without_key k es)) ≡ entry l v es
+    by_test true h rest = absurd (cc)
+    by_test false h rest = ap (entry l v) (rest h)
+
 module _ (names : List (List ℕ)) (distinct : AreDistinct names) (m : Properties) (named : AreNamed names (map.keys m)) where
-  each_named : (q : ℕ) (v : Value) → map.get m q ≡ Some v → q < length names
+  pub each_named : (q : ℕ) (v : Value) → map.get m q ≡ Some v → q < length names
   each_named q v found = named_key names (map.entries m) named q v (sym (map.get-entries m q) ∙ found)
 
-  named_inserted : (k : ℕ) (v : Value) → k < length names → AreNamed names (map.keys (map.insert m k v))
+  pub named_inserted : (k : ℕ) (v : Value) → k < length names → AreNamed names (map.keys (map.insert m k v))
   named_inserted k v inside = keys_named names (map.insert m k v) (inserted m k v (λ q a. q < length names) inside each_named)
 
-  named_removed : (k : ℕ) → AreNamed names (map.keys (map.remove m k))
+  pub named_removed : (k : ℕ) → AreNamed names (map.keys (map.remove m k))
   named_removed k = keys_named names (map.remove m k) (removed m k (λ q a. q < length names) each_named)
 
-  -- what stands at a text is what stands at its number
-  at_number : (t : List ℕ) (n : ℕ) → position (bytes_eq t) names ≡ Some n → (o : Properties) → AreNamed names (map.keys o) → at_key t (property_entries names o) ≡ map.get o n
-  at_number t n is o h = entry_found names distinct t n (map.entries o) is h ∙ sym (map.get-entries o n)
+  -- what stands at a text is what its number shows
+  at_number : (t : List ℕ) (n : ℕ) → position (bytes_eq t) names ≡ Some n → (o : Properties) → AreNamed names (map.keys o) → at_key t (property_entries names o) ≡ shown (map.get o n)
+  at_number t n is o h = entry_found names distinct t n (map.entries o) (map.entries_sorted o) is h ∙ ap shown (sym (map.get-entries o n))
 
-  property_put : (k : ℕ) (v : Value) → k < length names → property_entries names (map.insert m k v) ≡ put (text_of names k) v (property_entries names m)
-  property_put k v inside = same_entries _ _ (entries_rise names (map.entries (map.insert m k v))) (put_keeps_rising (text_of names k) v _ (entries_rise names (map.entries m))) (λ t.
-      by_place t (position (bytes_eq t) names) refl ∙ sym (put_is_read t (text_of names k) v (property_entries names m)))
+  pub property_put : (k : ℕ) (v : Value) → k < length names → property_entries names (map.insert m k v) ≡ set_key (text_of names k) v (property_entries names m)
+  property_put k v inside = same_entries _ _ (entries_rise names (map.entries (map.insert m k v))) (set_rises (text_of names k) v _ (entries_rise names (map.entries m))) (λ t.
+      by_place t (position (bytes_eq t) names) refl ∙ sym (set_is_read t (text_of names k) v (property_entries names m) (entries_rise names (map.entries m))))
     where
-      by_place : (t : List ℕ) (o : Option ℕ) → position (bytes_eq t) names ≡ o → at_key t (property_entries names (map.insert m k v)) ≡ cond (bytes_eq t (text_of names k)) (Some v) (at_key t (property_entries names m))
+      by_place : (t : List ℕ) (o : Option ℕ) → position (bytes_eq t) names ≡ o → at_key t (property_entries names (map.insert m k v)) ≡ cond (bytes_eq t (text_of names k)) (shown_value v) (at_key t (property_entries names m))
       by_place t None is =
           no_entry names distinct t (map.entries (map.insert m k v)) is (named_inserted k v inside)
-          ∙ sym (ap (λ c. cond c (Some v) (at_key t (property_entries names m))) (by_no_number names distinct t k is inside) ∙ no_entry names distinct t (map.entries m) is named)
+          ∙ sym (ap (λ c. cond c (shown_value v) (at_key t (property_entries names m))) (by_no_number names distinct t k is inside) ∙ no_entry names distinct t (map.entries m) is named)
       by_place t (Some n) is =
           at_number t n is (map.insert m k v) (named_inserted k v inside)
-          ∙ map.get-insert nat_cmp_total m k v n
-          ∙ (λ i. cond (sym (by_number names distinct t n k is inside ∙ same_test k n) i) (Some v) (sym (at_number t n is m named) i))
+          ∙ ap shown (map.get-insert nat_cmp_total m k v n)
+          ∙ shown_either (eq_by_cmp nat_cmp n k) (Some v) (map.get m n)
+          ∙ (λ i. cond (sym (by_number names distinct t n k is inside ∙ same_test k n) i) (shown_value v) (sym (at_number t n is m named) i))
 
-  property_taken : (k : ℕ) → k < length names → property_entries names (map.remove m k) ≡ without_key (text_of names k) (property_entries names m)
+  pub property_taken : (k : ℕ) → k < length names → property_entries names (map.remove m k) ≡ without_key (text_of names k) (property_entries names m)
   property_taken k inside = same_entries _ _ (entries_rise names (map.entries (map.remove m k))) (without_keeps_rising (text_of names k) _ (entries_rise names (map.entries m))) (λ t.
       by_place t (position (bytes_eq t) names) refl ∙ sym (without_is_read t (text_of names k) (property_entries names m) (entries_rise names (map.entries m))))
     where
@@ -225,7 +268,8 @@ module _ (names : List (List ℕ)) (distinct : AreDistinct names) (m : Propertie
           ∙ sym (ap (λ c. cond c None (at_key t (property_entries names m))) (by_no_number names distinct t k is inside) ∙ no_entry names distinct t (map.entries m) is named)
       by_place t (Some n) is =
           at_number t n is (map.remove m k) (named_removed k)
-          ∙ map.get-remove nat_cmp_total m k n
+          ∙ ap shown (map.get-remove nat_cmp_total m k n)
+          ∙ shown_either (eq_by_cmp nat_cmp n k) None (map.get m n)
           ∙ (λ i. cond (sym (by_number names distinct t n k is inside ∙ same_test k n) i) None (sym (at_number t n is m named) i))
 
   property_set : (k : ℕ) (v : Value) → k < length names → property_entries names (with_property m k v) ≡ set_key (text_of names k) v (property_entries names m)
@@ -238,6 +282,19 @@ module _ (names : List (List ℕ)) (distinct : AreDistinct names) (m : Propertie
   property_set k (node n) inside = property_put k (node n) inside
   property_set k (relationship r) inside = property_put k (relationship r) inside
   property_set k (path ids) inside = property_put k (path ids) inside
+
+  -- a key that shows nothing may be blank or have no place
+  pub nothing_shown : (k : ℕ) → k < length names → shown (map.get m k) ≡ None → without_key (text_of names k) (property_entries names m) ≡ property_entries names m
+  nothing_shown k inside none =
+      let t = text_stays names k inside in
+      let at = place_of_text names k (text_of names k) distinct (t.1 ∙ ap (λ o. Some (option_map_or (λ t. t) o [])) (sym t.1)) in
+      without_absent (text_of names k) (property_entries names m) (at_number (text_of names k) k at m named ∙ none)
+
+  pub blank_put : (k : ℕ) → k < length names → shown (map.get m k) ≡ None → property_entries names (map.insert m k null) ≡ property_entries names m
+  blank_put k inside none = property_put k null inside ∙ nothing_shown k inside none
+
+  pub blank_taken : (k : ℕ) → k < length names → shown (map.get m k) ≡ None → property_entries names (map.remove m k) ≡ property_entries names m
+  blank_taken k inside none = property_taken k inside ∙ nothing_shown k inside none
 
   named_set : (k : ℕ) (v : Value) → k < length names → AreNamed names (map.keys (with_property m k v))
   named_set k null inside = named_removed k
@@ -263,7 +320,7 @@ module _ (old new : List (List ℕ)) (distinct : AreDistinct new) (keeps : Keeps
   property_given_named k t v is = named_set new distinct ps later_named k v (slice_get_within new k t is)
 
 -- what a property's text reads
-pub property_found : (names : List (List ℕ)) (m : Properties) (t : List ℕ) (n : ℕ) → AreDistinct names → AreNamed names (map.keys m) → position (bytes_eq t) names ≡ Some n → at_key t (property_entries names m) ≡ map.get m n
+pub property_found : (names : List (List ℕ)) (m : Properties) (t : List ℕ) (n : ℕ) → AreDistinct names → AreNamed names (map.keys m) → position (bytes_eq t) names ≡ Some n → at_key t (property_entries names m) ≡ shown (map.get m n)
 property_found names m t n distinct named is = at_number names distinct m named t n is m named
 
 pub property_missing : (names : List (List ℕ)) (m : Properties) (t : List ℕ) → AreDistinct names → AreNamed names (map.keys m) → position (bytes_eq t) names ≡ None → at_key t (property_entries names m) ≡ None

@@ -13,10 +13,9 @@ use Rattle.pg_graph.proofs.Ids.{ids_in}
 use Rattle.pg_graph.proofs.SortedLists.{less}
 use Rattle.pg_graph.specs.Content.{with_rel}
 use Rattle.pg_names.specs.Names.{KeepsNames}
-use Rattle.pg_graph.specs.Refinement.{text_of, named_entries, property_entries, node_of, relationship_of, elements, graph_of, AreNamed, IsNodeOf, IsRelOf, NodeIsRead, RelationshipIsRead, OutgoingAreRead, IncomingAreRead, NamesMayGrow, NodeIsAdded, RelationshipIsAdded, NodeIsChanged, RelationshipIsChanged, NodeIsDropped, RelationshipIsDropped}
+use Rattle.pg_graph.specs.Refinement.{text_of, put_shown, named_entries, property_entries, node_of, relationship_of, elements, graph_of, AreNamed, IsNodeOf, IsRelOf, NodeIsRead, RelationshipIsRead, OutgoingAreRead, IncomingAreRead, NamesMayGrow, NodeIsAdded, RelationshipIsAdded, NodeIsChanged, RelationshipIsChanged, NodeIsDropped, RelationshipIsDropped}
 use Rattle.pg_graph.specs.declared.records.NodeRecord.{NodeRecord}
 use Rattle.pg_graph.specs.declared.records.RelRecord.{RelRecord}
-use Rattle.pg_meaning.specs.Entries.{put}
 use Rattle.pg_meaning.specs.Graph.{Graph, Node, Relationship, contains_id}
 use Rattle.pg_meaning.specs.Names.{in_byte_order}
 use Rattle.pg_meaning.specs.Value.{Value}
@@ -163,7 +162,7 @@ module _ (old new : List (List ℕ)) (keeps : KeepsNames old new) where
 
   pub entries_kept : (es : List (ℕ × Value)) → AreNamed old (map_list (λ e. e.0) es) → named_entries new es ≡ named_entries old es
   entries_kept [] named = refl
-  entries_kept (e ∷ es) named = (λ i. put (text_kept e.0 named.0 i) e.1 (entries_kept es named.1 i))
+  entries_kept (e ∷ es) named = (λ i. put_shown (text_kept e.0 named.0 i) e.1 (entries_kept es named.1 i))
 
   node_kept : (next id : ℕ) (n : NodeRecord) → IsNodeOf old next id n → node_of new n ≡ node_of old n
   node_kept next id n held = (λ i. record { labels = in_byte_order (labels_kept n.labels held.labels i); properties = entries_kept (map.entries n.properties) held.keys i })

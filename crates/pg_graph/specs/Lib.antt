@@ -1,5 +1,6 @@
 pub mod Sorted
 pub mod Records
+pub mod Blank
 pub mod ValueCode
 pub mod Content
 pub mod Removed

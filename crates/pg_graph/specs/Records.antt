@@ -1,8 +1,7 @@
--- What tables keep of an element: label numbers, rising, and values under rising key numbers, none of them null.
-use Rattle.std.specs.Prelude.{◌≡◌, ℕ, Bool, true, false, List, map}
+-- What tables keep of an element: label numbers, rising, and values under rising key numbers. A key under which null stands is blank: it keeps its place, and reads as absent.
+use Rattle.std.specs.Prelude.{◌≡◌, ℕ, List, Option, Some, None, map}
 use Rattle.std.specs.FinMap as map
 use Rattle.std.specs.FinMap.{FinMap}
-use Rattle.std.specs.List.{AllByRecursion}
 use Rattle.std.specs.Ordering.{nat_cmp}
 use Rattle.pg_graph.specs.Sorted.{Rises, put, without}
 use Rattle.pg_meaning.specs.Value.{Value, null}
@@ -18,14 +17,10 @@ with_label labels label = put (λ n. n) label labels
 abbrev pub without_label : List ℕ → ℕ → List ℕ
 without_label labels label = without (λ n. n) label labels
 
-abbrev pub is_null : Value → Bool
-is_null null = true
-is_null v = false
-
 abbrev pub Properties : Type 0
 Properties = FinMap nat_cmp Value
 
--- null is never stored
+-- null takes the key out
 abbrev pub with_property : Properties → ℕ → Value → Properties
 with_property properties key null = map.remove properties key
 with_property properties key v = map.insert properties key v
@@ -35,4 +30,22 @@ abbrev pub seen_entries : List (ℕ × code.Value) → List (ℕ × Value)
 seen_entries es = map (λ e. (e.0, view e.1)) es
 
 abbrev pub AreEntries : List (ℕ × code.Value) → Type 0
-AreEntries es = Rises (λ e. e.0) es × AllByRecursion (λ e. is_null (view e.1) ≡ false) es
+AreEntries = Rises (λ e. e.0)
+
+-- what stands under a key of rising entries
+abbrev pub value_in : List (ℕ × code.Value) → ℕ → Option Value
+value_in es key = map.get (map.from_sorted {R = nat_cmp} (seen_entries es)) key
+
+-- what reads as absent where it is blank
+abbrev pub shown_value : Value → Option Value
+shown_value null = None
+shown_value v = Some v
+
+abbrev pub shown : Option Value → Option Value
+shown None = None
+shown (Some v) = shown_value v
+
+-- what a key had before: its value, or no place
+abbrev pub given_back : Properties → ℕ → Option code.Value → Properties
+given_back properties key None = map.remove properties key
+given_back properties key (Some before) = map.insert properties key (view before)

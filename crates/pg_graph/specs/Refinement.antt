@@ -22,9 +22,14 @@ text_of names n = option_map_or (λ t. t) (slice_get names n) []
 abbrev pub label_texts : List (List ℕ) → List ℕ → List (List ℕ)
 label_texts names labels = in_byte_order (map_list (text_of names) labels)
 
+-- a blank key shows nothing
+abbrev pub put_shown : List ℕ → Value → Entries → Entries
+put_shown k null es = es
+put_shown k v es = put k v es
+
 abbrev pub named_entries : List (List ℕ) → List (ℕ × Value) → Entries
 named_entries names [] = no_entries
-named_entries names (e ∷ es) = put (text_of names e.0) e.1 (named_entries names es)
+named_entries names (e ∷ es) = put_shown (text_of names e.0) e.1 (named_entries names es)
 
 abbrev pub property_entries : List (List ℕ) → Properties → Entries
 property_entries names properties = named_entries names (map.entries properties)

@@ -4,7 +4,9 @@ ghost use Rattle.std.specs.FinMap as map;
 ghost use Rattle.std.specs.Option.{option_map};
 ghost use Rattle.std.specs.Str.{bytes_eq};
 ghost use Rattle.pg_names.specs.Names.{AreDistinct, KeepsNames};
-ghost use Rattle.pg_graph.specs.Refinement.{AreNamed, label_texts, property_entries};
+ghost use Rattle.pg_graph.specs.Blank.{is_null};
+ghost use Rattle.pg_graph.specs.Records.{shown};
+ghost use Rattle.pg_graph.specs.Refinement.{AreNamed, label_texts, property_entries, put_shown};
 ghost use Rattle.pg_meaning.specs.Entries.{at_key, set_key};
 ghost use Rattle.pg_meaning.specs.Names.{is_among, put_texts};
 ghost use Rattle.pg_value_core.specs.View.{view, entries_view};
@@ -72,6 +74,43 @@ impl Labels {
     }
 }
 
+// What stands under a key, if it is not blank.
+fn shown(found: Option<&Value>) -> Option<&Value>
+    ensures { option_map (λ v. view v.now) result ≡ shown (option_map (λ v. view v.now) found.entry) }
+{
+    match found {
+        Some(value) if matches!(value, Value::Null) => None,
+        _ => found,
+    }
+}
+
+fn is_null(value: &Value) -> bool
+    ensures { result ≡ is_null (view value.now) }
+{
+    match value {
+        Value::Null => true,
+        _ => false,
+    }
+}
+
+// Puts a copy of a value under a text, if it is not blank.
+fn put_copy(
+    alloc: Global,
+    found: &mut BTreeMap<String, Value>,
+    text: &str,
+    value: &Value,
+) -> Result<(), AllocError>
+    ensures { OnOk result (entries_view found.new.entries ≡ put_shown text.now (view value.now) (entries_view found.old.entries)) }
+{
+    if is_null(value) {
+        return Ok(());
+    }
+    let text = String::from_str(alloc, text)?;
+    let copy = value.copy(alloc)?;
+    drop(found.insert(text, copy)?);
+    Ok(())
+}
+
 impl Properties {
     /// Gives the key of this text its value. Null takes the key out.
     pub fn set_text<K: TextSet>(
@@ -96,7 +135,7 @@ impl Properties {
         ensures { option_map (λ v. view v.now) result ≡ at_key key.now (property_entries names.now self.now) }
     {
         match names.find(key) {
-            Some(name) => self.get(name),
+            Some(name) => shown(self.get(name)),
             None => None,
         }
     }
@@ -116,9 +155,7 @@ impl Properties {
         while left > 0 {
             left -= 1;
             let (key, value) = &entries[left];
-            let text = String::from_str(alloc, names.text(*key))?;
-            let copy = value.copy(alloc)?;
-            drop(found.insert(text, copy)?);
+            put_copy(alloc, &mut found, names.text(*key), value)?;
         }
         Ok(found)
     }

@@ -1,9 +1,9 @@
 //! The properties of a node or a relationship.
-ghost use Rattle.std.specs.Prelude.{◌≡◌, false, OnOk, OnErr, IfOk};
+ghost use Rattle.std.specs.Prelude.{◌≡◌, OnOk, OnErr, IfOk, IsSome};
 ghost use Rattle.std.specs.FinMap as map;
 ghost use Rattle.std.specs.Option.{option_map};
 ghost use Rattle.std.specs.Ordering.{nat_cmp};
-ghost use Rattle.pg_graph.specs.Records.{is_null, with_property, seen_entries, AreEntries};
+ghost use Rattle.pg_graph.specs.Records.{given_back, value_in, with_property, seen_entries, AreEntries};
 ghost use Rattle.pg_graph.specs.Sorted.{put, without};
 ghost use Rattle.pg_value_core.specs.View.{view};
 
@@ -15,7 +15,8 @@ use std::alloc::{AllocError, Global};
 use std::marker::Model;
 use std::mem;
 
-/// Values under the numbers of their keys, which rise. Null is never among them.
+/// Values under the numbers of their keys, which rise. A key under which null stands is blank: it
+/// keeps its place, and reads as absent.
 #[derive(Drop)]
 pub struct Properties {
     entries: Vec<(NameId, Value)>,
@@ -46,23 +47,40 @@ impl Numbered for (NameId, Value) {
     }
 }
 
-// Puts a value under a key, in the place of one that is there.
-fn put_entry(
+// Puts a value under a key, and returns the one in whose place it came.
+fn exchange_entry(
     entries: &mut Vec<(NameId, Value)>,
     key: NameId,
     value: Value,
-) -> Result<(), AllocError>
-    requires entries { AreEntries entries.old.items }
-    requires not_null { is_null (view value) ≡ false }
+) -> Result<Option<Value>, AllocError>
+    requires { AreEntries entries.old.items }
     ensures ok { OnOk result (entries.new.items ≡ put (λ e. e.0) (key, value) entries.old.items) }
+    ensures before { IfOk result (λ before. option_map view before ≡ value_in entries.old.items key) }
     ensures err { OnErr result (entries.new.items ≡ entries.old.items) }
     ensures entries { AreEntries entries.new.items }
 {
     match sorted::place(entries.as_slice(), key.number()) {
-        Ok(i) => drop(mem::replace(&mut entries[i], (key, value))),
-        Err(i) => entries.insert(i, (key, value))?,
+        Ok(i) => {
+            let (_, before) = mem::replace(&mut entries[i], (key, value));
+            Ok(Some(before))
+        }
+        Err(i) => {
+            entries.insert(i, (key, value))?;
+            Ok(None)
+        }
     }
-    Ok(())
+}
+
+// Gives a key that is there another value.
+fn replace_entry(entries: &mut Vec<(NameId, Value)>, key: NameId, value: Value)
+    requires entries { AreEntries entries.old.items }
+    requires there { IsSome (value_in entries.old.items key) }
+    ensures replaced { entries.new.items ≡ put (λ e. e.0) (key, value) entries.old.items }
+    ensures entries { AreEntries entries.new.items }
+{
+    if let Ok(i) = sorted::place(entries.as_slice(), key.number()) {
+        drop(mem::replace(&mut entries[i], (key, value)));
+    }
 }
 
 // Takes a key out, if it is there.
@@ -91,6 +109,15 @@ fn copy_entries(
 }
 
 impl Properties {
+    /// No properties. It takes no memory.
+    pub fn new(alloc: Global) -> Self
+        ensures { result ≡ map.empty }
+    {
+        Properties {
+            entries: Vec::new(alloc),
+        }
+    }
+
     /// No properties yet, with room for so many.
     pub fn with_capacity(alloc: Global, count: usize) -> Result<Self, AllocError>
         ensures { IfOk result (λ p. p ≡ map.empty) }
@@ -99,6 +126,7 @@ impl Properties {
         Ok(Properties { entries })
     }
 
+    /// What stands under a key: null where it is blank.
     pub fn get(&self, key: NameId) -> Option<&Value>
         ensures { option_map (λ v. view v.now) result ≡ map.get self.now key }
     {
@@ -117,16 +145,28 @@ impl Properties {
             self.remove(key);
             return Ok(());
         }
-        self.put(key, value)
+        drop(self.exchange(key, value)?);
+        Ok(())
     }
 
-    // Gives a key a value that is not null.
-    fn put(&mut self, key: NameId, value: Value) -> Result<(), AllocError>
-        requires { is_null (view value) ≡ false }
+    /// Gives a key its value, and returns the one before. Null leaves the key blank.
+    pub fn exchange(&mut self, key: NameId, value: Value) -> Result<Option<Value>, AllocError>
         ensures ok { OnOk result (self.new ≡ map.insert self.old key (view value)) }
+        ensures before { IfOk result (λ before. option_map view before ≡ map.get self.old key) }
         ensures err { OnErr result (self.new ≡ self.old) }
     {
-        put_entry(&mut self.entries, key, value)
+        exchange_entry(&mut self.entries, key, value)
+    }
+
+    /// Gives a key that is there what it had before, which may be no place. It takes no memory.
+    pub fn give_back(&mut self, key: NameId, before: Option<Value>)
+        requires { IsSome (map.get self.old key) }
+        ensures { self.new ≡ given_back self.old key before }
+    {
+        match before {
+            Some(value) => replace_entry(&mut self.entries, key, value),
+            None => self.remove(key),
+        }
     }
 
     /// Takes a key out, if it is there.
@@ -136,7 +176,7 @@ impl Properties {
         remove_entry(&mut self.entries, key);
     }
 
-    /// The keys and their values, by rising key.
+    /// The keys and their values, by rising key, blank ones too.
     pub fn entries(&self) -> &[(NameId, Value)]
         ensures { seen_entries result.now ≡ map.entries self.now }
     {

@@ -1,5 +1,6 @@
 pub mod JournalLemmas
 pub mod CoverLemmas
+pub mod Edited
 pub mod SetLemmas
 pub mod Covering
 pub mod MergedLemmas
@@ -11,6 +12,7 @@ pub mod ChangeLemmas
 pub mod Changed
 pub mod TakenBack
 pub mod Settled
+pub mod Refused
 pub mod ValuedLemmas
 pub mod Indexed
 pub mod Filling

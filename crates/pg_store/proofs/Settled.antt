@@ -1,5 +1,5 @@
 -- Removed elements that leave the tables: the graph stays.
-use Rattle.std.proofs.Common.{◌≡◌, ◌<◌, ◌-◌, ℕ, cond, true, List, [], Some, IsSome, is_some, inl, inr, arith, refl, sym, ap, subst, ◌∙◌}
+use Rattle.std.proofs.Common.{◌≡◌, ◌&&◌, ◌<◌, ◌-◌, ℕ, Bool, cond, true, false, List, [], Some, IsSome, is_some, inl, inr, arith, refl, sym, ap, subst, ◌∙◌}
 use Rattle.std.proofs.lemmas.Bool.{cases_eq}
 use Rattle.std.specs.Cmp.{nat_cmp_total}
 use Rattle.std.specs.FinMap as map
@@ -7,19 +7,32 @@ use Rattle.std.specs.FinMap.{FinMap}
 use Rattle.std.specs.Ordering.{nat_cmp}
 use Rattle.pg_graph.proofs.Held.{holds_without_node, holds_without_relationship}
 use Rattle.pg_graph.proofs.Others.{keeps_refl, keeps_trans}
-use Rattle.pg_graph.proofs.Removed.{get_gone, has_removed, has_removed_other, without_both, without_none, still_some_without, some_there}
+use Rattle.pg_graph.proofs.Maps.{get_removed, get_removed_other}
+use Rattle.pg_graph.proofs.NamedChanges.{blank_taken, each_named, named_removed}
+use Rattle.pg_graph.proofs.Removed.{get_gone, get_kept, is_live, has_removed, has_removed_other, without_both, without_none, still_some_without, some_there}
 use Rattle.pg_graph.specs.Content.{Content, Seen, Keeps, without_node, without_rel, outgoing_of, incoming_of}
-use Rattle.pg_graph.specs.Refinement.{graph_of, Holds}
+use Rattle.pg_graph.specs.Records.{Properties, shown}
+use Rattle.pg_graph.specs.Refinement.{graph_of, node_of, relationship_of, label_texts, property_entries, AreNamed, IsNodeOf, IsRelOf, Holds}
 use Rattle.pg_graph.specs.Removed.{Ids, has_id}
+use Rattle.pg_graph.specs.Stored.{has_number}
+use Rattle.pg_graph.specs.declared.records.NodeRecord.{NodeRecord}
 use Rattle.pg_graph.specs.declared.records.RelRecord.{RelRecord}
+use Rattle.pg_index.specs.Properties.{is_equal}
 use Rattle.pg_meaning.specs.Graph.{element_count}
-use Rattle.pg_store.proofs.States.{none_out, none_in}
-use Rattle.pg_store.specs.Covers.{Covers, HasCovered, has_in}
+use Rattle.pg_meaning.specs.Value.{null}
+use Rattle.pg_store.proofs.Changed.{node_stays, rel_stays}
+use Rattle.pg_store.proofs.CoverLemmas.{Has, covers_now, covers_with, covers_other_properties}
+use Rattle.pg_store.proofs.States.{none_out, none_in, with_node_changed, node_changed, node_change_well, with_rel_changed, rel_changed, rel_change_well}
+use Rattle.std.specs.Option.{option_map, option_map_or}
+use Rattle.pg_store.specs.Covers.{Key, every, with_label, with_value, belongs, Covers, HasCovered, has_in}
 use Rattle.pg_store.specs.Journal.{State, IsWell, CanUndo, live, graph_in}
 use Rattle.pg_store.specs.Stores.{state_of, graph_of_store, IsFit, Settles}
 use Rattle.pg_store.specs.declared.journal.Entry.{Entry}
+use Rattle.pg_store.specs.declared.sets.Sets.{Sets}
 use Rattle.pg_store.specs.declared.shared.Shared.{Shared}
 use Rattle.pg_store.specs.declared.store.Store.{Store}
+use Rattle.pg_value_core.specs.declared.ids.NodeId.{NodeId}
+use Rattle.pg_value_core.specs.declared.ids.RelId.{RelId}
 
 pub among : (ids : Ids) (id : ℕ) (u : Unit {0}) → map.get ids id ≡ Some u → has_id ids id ≡ true
 among ids id u h = ap is_some h
@@ -86,7 +99,110 @@ module _ (names : List (List ℕ)) (s : State) (id : ℕ) (well : IsWell names s
       few = well.few;
     }
 
+-- ---- a blank key
+
+fewer_found : (n : NodeRecord) (key : ℕ) (k : Key) → belongs k (record n { properties = map.remove n.properties key }) ≡ true → belongs k n ≡ true
+fewer_found n key every h = h
+fewer_found n key (with_label l) h = h
+fewer_found n key (with_value l q v) h = elim (cases_eq q key) [
+  | inl same ↦
+      absurd (cc (
+        right (has_number (Some l) n) (option_map_or (λ w. is_equal w v) (map.get (map.remove n.properties key) q) false) h,
+        ap (λ (x : ℕ). option_map_or (λ w. is_equal w v) (map.get (map.remove n.properties key) x) false) same,
+        ap (λ o. option_map_or (λ w. is_equal w v) o false) (get_removed n.properties key),
+      ))
+  | inr ne ↦ ap (λ o. has_number (Some l) n && option_map_or (λ w. is_equal w v) o false) (sym (get_removed_other n.properties key q ne)) ∙ h
+]
+  where
+    right : (a b : Bool) → (a && b) ≡ true → b ≡ true
+    right true b h = h
+    right false b h = absurd (cc)
+
+module _ (names : List (List ℕ)) (s : State) (id : NodeId) (key : ℕ) (n : NodeRecord) (well : IsWell names s) (there : map.get (live s).nodes id.0 ≡ Some n) (blank : map.get n.properties key ≡ Some null) where
+  abbrev pub less_node : NodeRecord
+  less_node = record n { properties = map.remove n.properties key }
+
+  pub some_node : IsSome (map.get (live s).nodes id.0)
+  some_node = subst IsSome (sym there) refl
+
+  pub node_held_here : map.get s.content.nodes id.0 ≡ Some n
+  node_held_here = sym (get_kept s.content.nodes s.gone_nodes id.0 (is_live s.content.nodes s.gone_nodes id.0 some_node).0) ∙ there
+
+  abbrev pub node_is : IsNodeOf names s.next.node id.0 n
+  node_is = well.holds.nodes id.0 n there
+
+  pub keys_left : AreNamed names (map.keys less_node.properties)
+  keys_left = named_removed names well.held.distinct n.properties node_is.keys key
+
+  same_node : node_of names less_node ≡ node_of names n
+  same_node =
+      let inside = each_named names well.held.distinct n.properties node_is.keys key null blank in
+      λ t. record { labels = label_texts names n.labels; properties = blank_taken names well.held.distinct n.properties node_is.keys key inside (ap shown blank) t }
+
+  abbrev pub without_blank : State
+  without_blank = with_node_changed names s id less_node n well some_node node_is.labels keys_left node_held_here
+
+  pub well_without_blank : IsWell names without_blank
+  well_without_blank = node_change_well names s id less_node n well some_node node_is.labels keys_left node_held_here
+
+  pub graph_without_blank : graph_in names without_blank ≡ graph_in names s
+  graph_without_blank =
+      node_changed names s id less_node n well some_node node_is.labels keys_left node_held_here
+      ∙ node_stays names (live s) s.next.node s.next.rel id.0 n (λ _. node_of names less_node) there same_node
+
+  pub covers_without_blank : (has : Has) → Covers has s → Covers has without_blank
+  covers_without_blank has c = covers_with has s id.0 less_node c (λ k h. c k id.0 n node_held_here (fewer_found n key k h))
+
+module _ (names : List (List ℕ)) (s : State) (id : RelId) (key : ℕ) (r : RelRecord) (well : IsWell names s) (there : map.get (live s).rels id.0 ≡ Some r) (blank : map.get r.properties key ≡ Some null) where
+  abbrev pub less_properties : Properties
+  less_properties = map.remove r.properties key
+
+  pub some_rel : IsSome (map.get (live s).rels id.0)
+  some_rel = subst IsSome (sym there) refl
+
+  pub rel_held_here : map.get s.content.rels id.0 ≡ Some r
+  rel_held_here = sym (get_kept s.content.rels s.gone_rels id.0 (is_live s.content.rels s.gone_rels id.0 some_rel).0) ∙ there
+
+  pub properties_here : option_map (λ (r : RelRecord). r.properties) (map.get s.content.rels id.0) ≡ Some r.properties
+  properties_here = ap (option_map (λ (r : RelRecord). r.properties)) rel_held_here
+
+  abbrev pub rel_is : IsRelOf names (live s).nodes s.next.rel id.0 r
+  rel_is = well.holds.rels id.0 r there
+
+  pub rel_keys_left : AreNamed names (map.keys less_properties)
+  rel_keys_left = named_removed names well.held.distinct r.properties rel_is.keys key
+
+  same_entries : property_entries names less_properties ≡ property_entries names r.properties
+  same_entries =
+      let inside = each_named names well.held.distinct r.properties rel_is.keys key null blank in
+      blank_taken names well.held.distinct r.properties rel_is.keys key inside (ap shown blank)
+
+  abbrev pub rel_without_blank : State
+  rel_without_blank = with_rel_changed names s id less_properties r.properties well some_rel rel_keys_left properties_here
+
+  pub well_rel_without_blank : IsWell names rel_without_blank
+  well_rel_without_blank = rel_change_well names s id less_properties r.properties well some_rel rel_keys_left properties_here
+
+  pub graph_rel_without_blank : graph_in names rel_without_blank ≡ graph_in names s
+  graph_rel_without_blank =
+      rel_changed names s id less_properties r.properties well some_rel rel_keys_left properties_here
+      ∙ rel_stays names (live s) s.next.node s.next.rel id.0 r (λ e. record e { properties = property_entries names less_properties }) there
+      (λ t. record (relationship_of names r) { properties = same_entries t })
+
+  pub covers_rel_without_blank : (has : Has) → Covers has s → Covers has rel_without_blank
+  covers_rel_without_blank has c = covers_other_properties has s id.0 less_properties c
+
 module _ {T S : Type 0} (seen : Seen T S) where
+  -- the changes are forgotten
+  pub forgotten_fit : {K : Type 0} (old new : Store T) (shared : Shared S K) → IsFit seen old shared → seen.fits new.tables shared.tables → state_of seen new shared ≡ state_of seen old shared → new.journal.items ≡ [] → new.sets ≡ old.sets → IsFit seen new shared
+  forgotten_fit old new shared fit fits same none sets = record {
+    fits = fits;
+    well = subst (IsWell shared.names) (sym same) fit.well;
+    journal = subst (λ (es : List Entry). CanUndo shared.names es (state_of seen new shared)) (sym none) tt;
+    covered = subst (λ (es : List Entry). HasCovered (has_in new.sets) es (state_of seen new shared)) (sym none)
+        (subst (λ (x : Sets). Covers (has_in x) (state_of seen new shared)) (sym sets) (subst (Covers (has_in old.sets)) (sym same) (covers_now (has_in old.sets) old.journal.items (state_of seen old shared) fit.covered)));
+  }
+
   pub settles_first : {K : Type 0} (old : Store T) (before : Shared S K) → IsFit seen old before → old.journal.items ≡ [] → Settles seen old before old before
   settles_first old before fit journal = record { fit = fit; journal = journal; graph = refl; names = refl; keeps = keeps_refl old.tables before.tables fit.fits }
 
@@ -107,6 +223,16 @@ module _ {T S : Type 0} (seen : Seen T S) where
         names = names ∙ was.names;
         keeps = keeps_trans old.tables now.tables new.tables before.tables shared.tables after.tables was.keeps keeps;
       }
+
+-- settled, and settled again
+pub settles_then : {T S K : Type 0} (seen : Seen T S) (old now new : Store T) (before shared after : Shared S K) → Settles seen old before now shared → Settles seen now shared new after → Settles seen old before new after
+settles_then seen old now new before shared after p q = record {
+  fit = q.fit;
+  journal = q.journal;
+  graph = q.graph ∙ p.graph;
+  names = q.names ∙ p.names;
+  keeps = keeps_trans old.tables now.tables new.tables before.tables shared.tables after.tables p.keeps q.keeps;
+}
 
 pub fewer : {X : Type 0} (m : FinMap nat_cmp X) (k : ℕ) (v : X) → map.get m k ≡ Some v → map.len (map.remove m k) < map.len m
 fewer m k v is =

@@ -9,7 +9,7 @@ use Rattle.std.specs.Option.{option_map, option_map_or}
 use Rattle.std.specs.Ordering.{nat_cmp}
 use Rattle.pg_graph.proofs.Held.{holds_with_node, holds_with_relationship, holds_with_changed_node, holds_with_changed_relationship, holds_without_node, holds_without_relationship}
 use Rattle.pg_graph.proofs.Made.{next_is_absent, node_made}
-use Rattle.pg_graph.proofs.Maps.{get_inserted, removed_inserted, put_back}
+use Rattle.pg_graph.proofs.Maps.{get_inserted, removed_inserted, put_again, put_back, put_same}
 use Rattle.pg_graph.proofs.Refined.{relationship_is_added, node_is_changed, relationship_is_changed, node_is_dropped, relationship_is_dropped}
 use Rattle.pg_graph.proofs.Removed.{is_live, get_kept, has_inserted_other, without_inserted, without_more, one_less, one_more, as_many, some_there, still_some, none_where}
 use Rattle.pg_graph.specs.Content.{Content, with_node, with_rel, with_rel_properties, without_node, without_rel, outgoing_of, incoming_of}
@@ -21,6 +21,9 @@ use Rattle.pg_graph.specs.declared.records.RelRecord.{RelRecord}
 use Rattle.pg_meaning.specs.Graph.{add_node, add_relationship, change_node, change_relationship, remove_elements, element_count}
 use Rattle.pg_meaning.specs.Names.{in_byte_order}
 use Rattle.pg_store.specs.Journal.{State, IsWell, CanUndoOne, live, graph_in, undo_one}
+use Rattle.pg_store.specs.Edits.{CanGiveBack, CanGoBack, node_before, properties_before}
+use Rattle.pg_store.specs.declared.edits.NodeBefore.{NodeBefore}
+use Rattle.pg_store.specs.declared.edits.PropertiesBefore.{PropertiesBefore}
 use Rattle.pg_store.specs.declared.journal.Entry.{Entry}
 use Rattle.pg_store.specs.declared.journal.Entry.TheVariants.{NodeAdded, RelAdded, NodeChanged, RelChanged, NodeRemoved, RelRemoved}
 use Rattle.pg_value_core.specs.declared.ids.NodeId.{NodeId}
@@ -221,35 +224,81 @@ module _ (names : List (List ℕ)) (s : State) (id : NodeId) (n w : NodeRecord) 
       ap (λ (c : Content). graph_of names c s.next.node s.next.rel) live_with_node_changed
       ∙ node_is_changed names (live s) s.next.node s.next.rel id.0 n there
 
-  pub node_change_undone : Undoes names (NodeChanged id w) s with_node_changed
-  node_change_undone = record {
-    back = λ t. record s { content = record { nodes = put_back s.content.nodes id.0 n w before t; rels = s.content.rels } };
-    can = subst IsSome (sym (get_inserted s.content.nodes id.0 n)) refl;
-    well = record {
-      held = holds_with_changed_node names s.content s.next.node s.next.rel id.0 n well.held (is_live s.content.nodes s.gone_nodes id.0 there).1 labels keys;
-      holds = subst (λ (c : Content). Holds names c s.next.node s.next.rel) (sym live_with_node_changed) (holds_with_changed_node names (live s) s.next.node s.next.rel id.0 n well.holds there labels keys);
-      counted =
-          let now : element_count (graph_in names with_node_changed) ≡ length (map.entries (with_node (live s) id.0 n).nodes) + length (map.entries (live s).rels) =
-          ap (λ (c : Content). element_count (graph_of names c s.next.node s.next.rel)) live_with_node_changed ∙ counted_of names (with_node (live s) id.0 n) s.next.node s.next.rel in
-          let same = as_many (live s).nodes id.0 n there in
-          let was = well.counted ∙ counted_of names (live s) s.next.node s.next.rel in
-          omega (arith, now, same, was);
-      nodes_wait = λ q h. still_some s.content.nodes id.0 n q (well.nodes_wait q h);
-      rels_wait = well.rels_wait;
-      node_ids = well.node_ids;
-      rel_ids = well.rel_ids;
-      few = well.few;
-    };
+  pub node_change_well : IsWell names with_node_changed
+  node_change_well = record {
+    held = holds_with_changed_node names s.content s.next.node s.next.rel id.0 n well.held (is_live s.content.nodes s.gone_nodes id.0 there).1 labels keys;
+    holds = subst (λ (c : Content). Holds names c s.next.node s.next.rel) (sym live_with_node_changed) (holds_with_changed_node names (live s) s.next.node s.next.rel id.0 n well.holds there labels keys);
+    counted =
+        let now : element_count (graph_in names with_node_changed) ≡ length (map.entries (with_node (live s) id.0 n).nodes) + length (map.entries (live s).rels) =
+        ap (λ (c : Content). element_count (graph_of names c s.next.node s.next.rel)) live_with_node_changed ∙ counted_of names (with_node (live s) id.0 n) s.next.node s.next.rel in
+        let same = as_many (live s).nodes id.0 n there in
+        let was = well.counted ∙ counted_of names (live s) s.next.node s.next.rel in
+        omega (arith, now, same, was);
+    nodes_wait = λ q h. still_some s.content.nodes id.0 n q (well.nodes_wait q h);
+    rels_wait = well.rels_wait;
+    node_ids = well.node_ids;
+    rel_ids = well.rel_ids;
+    few = well.few;
   }
+
+  -- what takes the change back leads to the node before
+  pub node_change_undone : (b : NodeBefore) → node_before b n ≡ w → CanGoBack b n → Undoes names (NodeChanged id b) s with_node_changed
+  node_change_undone b is can = record {
+    back =
+        ap (λ o. record s { content = option_map_or (λ m. with_node with_node_changed.content id.0 (node_before b m)) o with_node_changed.content }) (get_inserted s.content.nodes id.0 n)
+        ∙ (λ t. record s { content = record { nodes = (ap (map.insert (map.insert s.content.nodes id.0 n) id.0) is ∙ put_back s.content.nodes id.0 n w before) t; rels = s.content.rels } });
+    can = (n, get_inserted s.content.nodes id.0 n, can);
+    well = node_change_well;
+  }
+
+-- what tables hold of a node that is there
+pub held_live : (s : State) (id : ℕ) (w : NodeRecord) → IsSome (map.get (live s).nodes id) → map.get s.content.nodes id ≡ Some w → map.get (live s).nodes id ≡ Some w
+held_live s id w there was = get_kept s.content.nodes s.gone_nodes id (is_live s.content.nodes s.gone_nodes id there).0 ∙ was
+
+pub held_live_rel : (s : State) (id : ℕ) (w : RelRecord) → IsSome (map.get (live s).rels id) → map.get s.content.rels id ≡ Some w → map.get (live s).rels id ≡ Some w
+held_live_rel s id w there was = get_kept s.content.rels s.gone_rels id (is_live s.content.rels s.gone_rels id there).0 ∙ was
+
+pub the_same : {X : Type 0} (x y : X) {o : Option X} → o ≡ Some x → o ≡ Some y → x ≡ y
+the_same x y a b = cc (a, b)
+
+-- a node that was taken out and is put in again, changed or as it was
+pub taken_and_put : (c c1 c2 : Content) (id : ℕ) (blank n : NodeRecord) → c1 ≡ with_node c id blank → c2 ≡ with_node c1 id n → c2 ≡ with_node c id n
+taken_and_put c c1 c2 id blank n out back =
+    back ∙ ap (λ (x : Content). with_node x id n) out ∙ (λ t. record { nodes = put_again c.nodes id blank n t; rels = c.rels })
+
+pub node_as_it_was : (c : Content) (id : ℕ) (n : NodeRecord) → map.get c.nodes id ≡ Some n → with_node c id n ≡ c
+node_as_it_was c id n is = λ t. record { nodes = put_same c.nodes id n is t; rels = c.rels }
 
 -- ---- a relationship is changed
 
-present : {X : Type 0} (o : Option X) → IsSome o → (x : X) × (o ≡ Some x)
+pub present : {X : Type 0} (o : Option X) → IsSome o → (x : X) × (o ≡ Some x)
 present None h = absurd (cc)
 present (Some x) h = (x, refl)
 
-changed_at : (c : Content) (id : ℕ) (ps : Properties) (r : RelRecord) → map.get c.rels id ≡ Some r → with_rel_properties c id ps ≡ with_rel c id (record r { properties = ps })
+pub changed_at : (c : Content) (id : ℕ) (ps : Properties) (r : RelRecord) → map.get c.rels id ≡ Some r → with_rel_properties c id ps ≡ with_rel c id (record r { properties = ps })
 changed_at c id ps r is = ap (λ o. option_map_or (λ rel. with_rel c id (record rel { properties = ps })) o c) is
+
+pub properties_taken_and_put : (c c1 c2 : Content) (id : ℕ) (blank ps : Properties) → IsSome (map.get c.rels id) → c1 ≡ with_rel_properties c id blank → c2 ≡ with_rel_properties c1 id ps → c2 ≡ with_rel_properties c id ps
+properties_taken_and_put c c1 c2 id blank ps there out back =
+    let r = present (map.get c.rels id) there in
+    let empty : RelRecord = record r.0 { properties = blank } in
+    let full : RelRecord = record r.0 { properties = ps } in
+    back ∙ ap (λ (x : Content). with_rel_properties x id ps) (out ∙ changed_at c id blank r.0 r.1)
+    ∙ changed_at (with_rel c id empty) id ps empty (get_inserted c.rels id empty)
+    ∙ (λ t. record { nodes = c.nodes; rels = put_again c.rels id empty full t })
+    ∙ sym (changed_at c id ps r.0 r.1)
+
+pub rel_stays_there : (c c1 : Content) (id : ℕ) (ps : Properties) → IsSome (map.get c.rels id) → c1 ≡ with_rel_properties c id ps → IsSome (map.get c1.rels id)
+rel_stays_there c c1 id ps there is =
+    let r = present (map.get c.rels id) there in
+    let new : RelRecord = record r.0 { properties = ps } in
+    subst IsSome (sym (ap (λ (x : Content). map.get x.rels id) (is ∙ changed_at c id ps r.0 r.1) ∙ get_inserted c.rels id new)) refl
+
+pub node_stays_there : (c c1 : Content) (id : ℕ) (n : NodeRecord) → c1 ≡ with_node c id n → IsSome (map.get c1.nodes id)
+node_stays_there c c1 id n is = subst IsSome (sym (ap (λ (x : Content). map.get x.nodes id) is ∙ get_inserted c.nodes id n)) refl
+
+pub rel_as_it_was : (c : Content) (id : ℕ) (r : RelRecord) → map.get c.rels id ≡ Some r → with_rel_properties c id r.properties ≡ c
+rel_as_it_was c id r is = changed_at c id r.properties r is ∙ (λ t. record { nodes = c.nodes; rels = put_same c.rels id r is t })
 
 module _ (names : List (List ℕ)) (s : State) (id : RelId) (ps before : Properties) (well : IsWell names s) (there : IsSome (map.get (live s).rels id.0)) (keys : AreNamed names (map.keys ps)) (was : option_map (λ (r : RelRecord). r.properties) (map.get s.content.rels id.0) ≡ Some before) where
   abbrev pub with_rel_changed : State
@@ -284,29 +333,33 @@ module _ (names : List (List ℕ)) (s : State) (id : RelId) (ps before : Propert
   is_before : old.0.properties ≡ before
   is_before = cc (ap (option_map (λ (r : RelRecord). r.properties)) old.1)
 
-  pub rel_change_undone : Undoes names (RelChanged id before) s with_rel_changed
-  rel_change_undone = record {
+  pub rel_change_well : IsWell names with_rel_changed
+  rel_change_well = record {
+    held = holds_with_changed_relationship names s.content s.next.node s.next.rel id.0 ps well.held keys;
+    holds = subst (λ (c : Content). Holds names c s.next.node s.next.rel) (sym live_with_rel_changed) (holds_with_changed_relationship names (live s) s.next.node s.next.rel id.0 ps well.holds keys);
+    counted =
+        let now : element_count (graph_in names with_rel_changed) ≡ length (map.entries (live s).nodes) + length (map.entries (with_rel (live s) id.0 new).rels) =
+        ap (λ (c : Content). element_count (graph_of names c s.next.node s.next.rel)) (live_with_rel_changed ∙ changed_at (live s) id.0 ps old.0 live_old) ∙ counted_of names (with_rel (live s) id.0 new) s.next.node s.next.rel in
+        let same = as_many (live s).rels id.0 new there in
+        let was = well.counted ∙ counted_of names (live s) s.next.node s.next.rel in
+        omega (arith, now, same, was);
+    nodes_wait = subst (λ (c : Content). (q : ℕ) → has_id s.gone_nodes q ≡ true → IsSome (map.get c.nodes q)) (sym changed_content) well.nodes_wait;
+    rels_wait = subst (λ (c : Content). (q : ℕ) → has_id s.gone_rels q ≡ true → IsSome (map.get c.rels q)) (sym changed_content) (λ q h. still_some s.content.rels id.0 new q (well.rels_wait q h));
+    node_ids = well.node_ids;
+    rel_ids = well.rel_ids;
+    few = well.few;
+  }
+
+  -- what takes the change back leads to the properties before
+  pub rel_change_undone : (b : PropertiesBefore) → properties_before b ps ≡ before → CanGiveBack b ps → Undoes names (RelChanged id b) s with_rel_changed
+  rel_change_undone b is can = record {
     back =
-        ap (λ (c : Content). undo_one (RelChanged id before) (record s { content = c })) changed_content
-        ∙ ap (λ (c : Content). record s { content = c }) (changed_at (with_rel s.content id.0 new) id.0 before new (get_inserted s.content.rels id.0 new))
-        ∙ (λ t. record s { content = with_rel (with_rel s.content id.0 new) id.0 (record old.0 { properties = sym is_before t }) })
+        ap (λ (c : Content). undo_one (RelChanged id b) (record s { content = c })) changed_content
+        ∙ ap (λ o. record s { content = option_map_or (λ r. with_rel (with_rel s.content id.0 new) id.0 (record r { properties = properties_before b r.properties })) o (with_rel s.content id.0 new) }) (get_inserted s.content.rels id.0 new)
+        ∙ (λ t. record s { content = with_rel (with_rel s.content id.0 new) id.0 (record old.0 { properties = (is ∙ sym is_before) t }) })
         ∙ (λ t. record s { content = record { nodes = s.content.nodes; rels = put_back s.content.rels id.0 new old.0 old.1 t } });
-    can = subst (λ (c : Content). IsSome (map.get c.rels id.0)) (sym changed_content) (subst IsSome (sym (get_inserted s.content.rels id.0 new)) refl);
-    well = record {
-      held = holds_with_changed_relationship names s.content s.next.node s.next.rel id.0 ps well.held keys;
-      holds = subst (λ (c : Content). Holds names c s.next.node s.next.rel) (sym live_with_rel_changed) (holds_with_changed_relationship names (live s) s.next.node s.next.rel id.0 ps well.holds keys);
-      counted =
-          let now : element_count (graph_in names with_rel_changed) ≡ length (map.entries (live s).nodes) + length (map.entries (with_rel (live s) id.0 new).rels) =
-          ap (λ (c : Content). element_count (graph_of names c s.next.node s.next.rel)) (live_with_rel_changed ∙ changed_at (live s) id.0 ps old.0 live_old) ∙ counted_of names (with_rel (live s) id.0 new) s.next.node s.next.rel in
-          let same = as_many (live s).rels id.0 new there in
-          let was = well.counted ∙ counted_of names (live s) s.next.node s.next.rel in
-          omega (arith, now, same, was);
-      nodes_wait = subst (λ (c : Content). (q : ℕ) → has_id s.gone_nodes q ≡ true → IsSome (map.get c.nodes q)) (sym changed_content) well.nodes_wait;
-      rels_wait = subst (λ (c : Content). (q : ℕ) → has_id s.gone_rels q ≡ true → IsSome (map.get c.rels q)) (sym changed_content) (λ q h. still_some s.content.rels id.0 new q (well.rels_wait q h));
-      node_ids = well.node_ids;
-      rel_ids = well.rel_ids;
-      few = well.few;
-    };
+    can = (new, ap (λ (c : Content). map.get c.rels id.0) changed_content ∙ get_inserted s.content.rels id.0 new, can);
+    well = rel_change_well;
   }
 
 -- ---- a relationship is removed

@@ -1,11 +1,17 @@
 -- A store's state, and what undoing the entries of its journal makes of it.
-use Rattle.std.specs.Prelude.{◌≡◌, ◌<◌, ◌≤◌, ◌+◌, ◌-◌, ◌^◌, ℕ, true, List, [], ◌∷◌, IsSome}
+use Rattle.std.specs.Prelude.{◌≡◌, ◌<◌, ◌≤◌, ◌+◌, ◌-◌, ◌^◌, ℕ, true, List, [], ◌∷◌, Some, IsSome}
 use Rattle.std.specs.FinMap as map
-use Rattle.pg_graph.specs.Content.{Content, with_node, without_node, with_rel_properties, without_rel, outgoing_of, incoming_of}
+use Rattle.std.specs.Option.{option_map_or}
+use Rattle.pg_graph.specs.Content.{Content, with_node, without_node, with_rel, without_rel, outgoing_of, incoming_of}
 use Rattle.pg_graph.specs.Refinement.{graph_of, Holds}
 use Rattle.pg_graph.specs.Removed.{Ids, has_id, live_content}
 use Rattle.pg_graph.specs.declared.next_ids.NextIds.{NextIds}
+use Rattle.pg_graph.specs.declared.records.NodeRecord.{NodeRecord}
+use Rattle.pg_graph.specs.declared.records.RelRecord.{RelRecord}
 use Rattle.pg_meaning.specs.Graph.{Graph, element_count}
+use Rattle.pg_store.specs.Edits.{CanGiveBack, CanGoBack, node_before, properties_before}
+use Rattle.pg_store.specs.declared.edits.NodeBefore.{NodeBefore}
+use Rattle.pg_store.specs.declared.edits.PropertiesBefore.{PropertiesBefore}
 use Rattle.pg_store.specs.declared.journal.Entry.{Entry}
 use Rattle.pg_store.specs.declared.journal.Entry.TheVariants.{NodeAdded, RelAdded, NodeChanged, RelChanged, NodeRemoved, RelRemoved}
 
@@ -35,12 +41,19 @@ pub record IsWell (names : List (List ℕ)) (s : State) : Type 0 where
   pub rel_ids : s.next.rel ≤ 2 ^ 63
   pub few : s.elements ≤ 2 ^ 63
 
+-- an element as it was before one change of it: of a property, only what stood under its key is told
+abbrev pub with_node_before : Content → ℕ → NodeBefore → Content
+with_node_before c id before = option_map_or (λ n. with_node c id (node_before before n)) (map.get c.nodes id) c
+
+abbrev pub with_rel_before : Content → ℕ → PropertiesBefore → Content
+with_rel_before c id before = option_map_or (λ r. with_rel c id (record r { properties = properties_before before r.properties })) (map.get c.rels id) c
+
 -- the state before one change
 abbrev pub undo_one : Entry → State → State
 undo_one NodeAdded s = record s { content = without_node s.content (s.next.node - 1); next = record { node = s.next.node - 1; rel = s.next.rel }; elements = s.elements - 1 }
 undo_one RelAdded s = record s { content = without_rel s.content (s.next.rel - 1); next = record { node = s.next.node; rel = s.next.rel - 1 }; elements = s.elements - 1 }
-undo_one (NodeChanged id before) s = record s { content = with_node s.content id.0 before }
-undo_one (RelChanged id before) s = record s { content = with_rel_properties s.content id.0 before }
+undo_one (NodeChanged id before) s = record s { content = with_node_before s.content id.0 before }
+undo_one (RelChanged id before) s = record s { content = with_rel_before s.content id.0 before }
 undo_one (NodeRemoved id) s = record s { gone_nodes = map.remove s.gone_nodes id.0; elements = s.elements + 1 }
 undo_one (RelRemoved id) s = record s { gone_rels = map.remove s.gone_rels id.0; elements = s.elements + 1 }
 
@@ -50,8 +63,8 @@ CanUndoOne NodeAdded s =
     (0 < s.next.node) × (0 < s.elements) × IsSome (map.get s.content.nodes (s.next.node - 1))
     × (outgoing_of s.content.rels (s.next.node - 1) ≡ []) × (incoming_of s.content.rels (s.next.node - 1) ≡ [])
 CanUndoOne RelAdded s = (0 < s.next.rel) × (0 < s.elements) × IsSome (map.get s.content.rels (s.next.rel - 1))
-CanUndoOne (NodeChanged id before) s = IsSome (map.get s.content.nodes id.0)
-CanUndoOne (RelChanged id before) s = IsSome (map.get s.content.rels id.0)
+CanUndoOne (NodeChanged id before) s = (n : NodeRecord) × (map.get s.content.nodes id.0 ≡ Some n) × CanGoBack before n
+CanUndoOne (RelChanged id before) s = (r : RelRecord) × (map.get s.content.rels id.0 ≡ Some r) × CanGiveBack before r.properties
 CanUndoOne (NodeRemoved id) s = IsSome (map.get s.gone_nodes id.0) × (s.elements < 2 ^ 63)
 CanUndoOne (RelRemoved id) s = IsSome (map.get s.gone_rels id.0) × (s.elements < 2 ^ 63)
 

@@ -1,5 +1,6 @@
 pub mod Changes
 pub mod Covers
+pub mod Edits
 pub mod GraphCode
 pub mod Indexed
 pub mod Journal

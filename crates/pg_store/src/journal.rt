@@ -3,21 +3,25 @@ ghost use Rattle.std.specs.Prelude.{◌≡◌, ◌≤◌, [], length, take};
 ghost use Rattle.std.specs.FinMap as map;
 ghost use Rattle.pg_graph.specs.Content.{Keeps};
 ghost use Rattle.pg_store.specs.Journal.{CanUndoOne, undo_one};
+ghost use Rattle.pg_store.specs.declared.journal.Entry.TheVariants.{NodeChanged, RelChanged};
 ghost use Rattle.pg_store.specs.Stores.{graph_of_store, graph_at, state_of, IsFit, HasMark, IsBack, Settles};
 
+use crate::edits::{NodeBefore, PropertiesBefore, give_back, give_node_back};
+use crate::node_changes::blank_node;
 use crate::shared::Shared;
 use crate::store::Store;
 use crate::wanted::is_sought;
-use pg_graph::{NodeRecord, Properties, Tables};
+use pg_graph::{Properties, Tables};
 use pg_value_core::{NodeId, RelId};
+use std::mem;
 
 /// How one change is taken back.
 #[derive(Drop)]
 pub enum Entry {
     NodeAdded,
     RelAdded,
-    NodeChanged(NodeId, NodeRecord),
-    RelChanged(RelId, Properties),
+    NodeChanged(NodeId, NodeBefore),
+    RelChanged(RelId, PropertiesBefore),
     NodeRemoved(NodeId),
     RelRemoved(RelId),
 }
@@ -25,8 +29,8 @@ pub enum Entry {
 /// A moment of a store to which it can be taken back.
 #[derive(Clone, Copy)]
 pub struct Mark {
-    journal: usize,
-    names: usize,
+    pub(crate) journal: usize,
+    pub(crate) names: usize,
 }
 
 impl<T: Tables> Store<T> {
@@ -101,10 +105,10 @@ impl<T: Tables> Store<T> {
                     .drop_rel(&mut shared.tables, RelId(self.next.rel));
             }
             Entry::NodeChanged(id, before) => {
-                self.tables.change(&mut shared.tables, id, before);
+                self.give_node_back(shared, id, before);
             }
             Entry::RelChanged(id, before) => {
-                self.tables.change_rel(&mut shared.tables, id, before);
+                self.give_rel_back(shared, id, before);
             }
             Entry::NodeRemoved(id) => {
                 self.gone_nodes.remove(id.0);
@@ -117,6 +121,38 @@ impl<T: Tables> Store<T> {
         }
     }
 
+    // Takes a change of a node back.
+    fn give_node_back(&mut self, shared: &mut Shared<T::Shared>, id: NodeId, before: NodeBefore)
+        requires fits { T.seen.fits self.old.tables shared.old.tables }
+        requires can { CanUndoOne (NodeChanged id before) (state_of T.seen self.old shared.old) }
+        ensures state { state_of T.seen self.new shared.new ≡ undo_one (NodeChanged id before) (state_of T.seen self.old shared.old) }
+        ensures names { shared.new.names ≡ shared.old.names }
+        ensures journal { self.new.journal ≡ self.old.journal }
+        ensures sets { self.new.sets ≡ self.old.sets }
+        ensures keeps { Keeps T.seen self.old.tables shared.old.tables self.new.tables shared.new.tables }
+    {
+        let blank = blank_node(self.sets.alloc);
+        let mut node = self.tables.change(&mut shared.tables, id, blank);
+        give_node_back(&mut node, before);
+        self.tables.change(&mut shared.tables, id, node);
+    }
+
+    // Takes a change of a relationship back.
+    fn give_rel_back(&mut self, shared: &mut Shared<T::Shared>, id: RelId, before: PropertiesBefore)
+        requires fits { T.seen.fits self.old.tables shared.old.tables }
+        requires can { CanUndoOne (RelChanged id before) (state_of T.seen self.old shared.old) }
+        ensures state { state_of T.seen self.new shared.new ≡ undo_one (RelChanged id before) (state_of T.seen self.old shared.old) }
+        ensures names { shared.new.names ≡ shared.old.names }
+        ensures journal { self.new.journal ≡ self.old.journal }
+        ensures sets { self.new.sets ≡ self.old.sets }
+        ensures keeps { Keeps T.seen self.old.tables shared.old.tables self.new.tables shared.new.tables }
+    {
+        let blank = Properties::new(self.sets.alloc);
+        let mut properties = self.tables.change_rel(&mut shared.tables, id, blank);
+        give_back(&mut properties, before);
+        self.tables.change_rel(&mut shared.tables, id, properties);
+    }
+
     /// Forgets all marks, and keeps what was done. It takes no memory.
     pub fn commit(&mut self, shared: &mut Shared<T::Shared>)
         requires fit { IsFit T.seen self.old shared.old }
@@ -126,7 +162,10 @@ impl<T: Tables> Store<T> {
         ensures no_mark { self.new.journal.items ≡ [] }
         ensures keeps { Keeps T.seen self.old.tables shared.old.tables self.new.tables shared.new.tables }
     {
-        self.journal.clear();
+        let alloc = self.sets.alloc;
+        let mut entries = mem::replace(&mut self.journal, Vec::new(alloc));
+        self.settle_keys(shared, &mut entries);
+        self.journal = entries;
         self.settle_rels(shared);
         self.settle_nodes(shared);
         self.sweep(shared);

@@ -3,14 +3,17 @@
 
 mod changes;
 mod creation;
+mod edits;
 mod incident;
 mod indexes;
 mod journal;
 mod names;
+mod node_changes;
 mod nodes;
 mod reads;
 mod removal;
 mod sets;
+mod settling;
 mod shared;
 mod snapshot;
 mod store;
@@ -18,6 +21,7 @@ mod texts;
 mod views;
 mod wanted;
 
+pub use edits::{NodeBefore, NodeChange, PropertiesBefore, PropertyChange};
 pub use incident::Incident;
 pub use journal::{Entry, Mark};
 pub use nodes::Nodes;

@@ -37,7 +37,7 @@ impl<T: Tables> Store<T> {
     {
         self.journal.reserve(1)?;
         let was = self.tables.node(&shared.tables, id).unwrap();
-        self.sets.note_leaving(was, None, id.0)?;
+        self.sets.note_leaving(was, id.0)?;
         self.gone_nodes.insert(id.0, ())?;
         self.elements -= 1;
         self.journal.push_reserved(Entry::NodeRemoved(id));

@@ -6,7 +6,7 @@ ghost use Rattle.pg_graph.specs.Stored.{has_number};
 ghost use Rattle.pg_graph.specs.declared.records.NodeRecord.{NodeRecord};
 ghost use Rattle.std.specs.FinMap as map;
 
-use crate::wanted::{Place, Wanted, is_sought};
+use crate::wanted::Place;
 use pg_graph::{ById, Labels, NodeRecord};
 use pg_index::{Index, PropertyIndex, cover_each, forget_valued, index_of, position_of};
 use pg_names::NameId;
@@ -16,7 +16,7 @@ use std::alloc::{AllocError, Global};
 /// Sets that have each node under its labels, and perhaps some that are no longer there.
 #[derive(Drop)]
 pub struct Sets {
-    alloc: Global,
+    pub(crate) alloc: Global,
     pub(crate) all: ById<()>,
     pub(crate) labels: Index<u64>,
     pub(crate) indexes: Vec<PropertyIndex>,
@@ -28,7 +28,7 @@ pub struct Sets {
 impl Sets {
     ghost use Rattle.std.specs.Ordering.{nat_cmp};
     ghost use Rattle.pg_index.specs.Index.{ids_at};
-    ghost use Rattle.pg_index.specs.Properties.{all_find, has_pair, pairs_of};
+    ghost use Rattle.pg_index.specs.Properties.{all_find, has_pair, is_found_by, pairs_of};
     ghost use Rattle.pg_store.specs.Covers.{FindAlike, Key, key_of, with_label, with_value, belongs, has_in};
     ghost use Rattle.pg_store.specs.Wanted.{place_key};
     ghost use Rattle.pg_value_core.specs.declared.value.Value as code;
@@ -55,7 +55,7 @@ impl Sets {
     }
 
     // Puts an id under a label. What is new there is swept if it does not belong.
-    fn cover_label(&mut self, label: NameId, id: u64) -> Result<(), AllocError>
+    pub(crate) fn cover_label(&mut self, label: NameId, id: u64) -> Result<(), AllocError>
         ensures grown { (k : Key) (i : ℕ) → has_in self.old k i ≡ true → has_in self.new k i ≡ true }
         ensures ok { OnOk result (has_in self.new (with_label label) id ≡ true) }
     {
@@ -87,6 +87,16 @@ impl Sets {
         ensures ok { OnOk result ((k : Key) → belongs k node.now ≡ true → has_in self.new k id ≡ true) }
     {
         self.cover_labels(&node.labels, id)?;
+        self.cover_values(node, id)
+    }
+
+    // Puts a node's id into each property index where it belongs.
+    pub(crate) fn cover_values(&mut self, node: &NodeRecord, id: u64) -> Result<(), AllocError>
+        ensures all { self.new.all ≡ self.old.all }
+        ensures labels { self.new.labels ≡ self.old.labels }
+        ensures grown { (label key : ℕ) (v : code.Value) (i : ℕ) → all_find self.old.indexes.items label key v i ≡ true → all_find self.new.indexes.items label key v i ≡ true }
+        ensures ok { OnOk result ((label key : ℕ) (v : code.Value) → is_found_by label key v node.now ≡ true → all_find self.new.indexes.items label key v id ≡ true) }
+    {
         let indexes = self.indexes.as_slice();
         note_arrivals(self.alloc, &mut self.dust, indexes, node, id)?;
         cover_each(self.indexes.as_mut_slice(), node, id)
@@ -118,28 +128,18 @@ impl Sets {
         }
     }
 
-    // Notes where a node is and will no longer belong when it is another one, or gone, so that its id
-    // is swept from there.
-    pub(crate) fn note_leaving(
-        &mut self,
-        was: &NodeRecord,
-        node: Option<&NodeRecord>,
-        id: u64,
-    ) -> Result<(), AllocError>
+    // Notes where a node is and will no longer belong when it is gone, so that its id is swept from there.
+    pub(crate) fn note_leaving(&mut self, was: &NodeRecord, id: u64) -> Result<(), AllocError>
         ensures all { self.new.all ≡ self.old.all }
         ensures labels { self.new.labels ≡ self.old.labels }
         ensures indexes { self.new.indexes ≡ self.old.indexes }
     {
-        if node.is_none() {
-            self.dust.push((Place::All, id))?;
-        }
+        self.dust.push((Place::All, id))?;
         for label in was.labels.as_slice() {
-            if !is_sought(node, &Wanted::Labelled(*label)) {
-                self.dust.push((Place::Labelled(*label), id))?;
-            }
+            self.dust.push((Place::Labelled(*label), id))?;
         }
         let indexes = self.indexes.as_slice();
-        note_values(self.alloc, &mut self.dust, indexes, was, node, id)
+        note_values(self.alloc, &mut self.dust, indexes, was, id)
     }
 
     // Takes an id from where it was kept.
@@ -157,21 +157,16 @@ impl Sets {
     }
 }
 
-// Notes the values by which indexes find a node, and by which it will not be found when it is
-// another one, or gone.
+// Notes the values by which indexes find a node.
 fn note_values(
     alloc: Global,
     dust: &mut Vec<(Place, u64)>,
     indexes: &[PropertyIndex],
     was: &NodeRecord,
-    node: Option<&NodeRecord>,
     id: u64,
 ) -> Result<(), AllocError> {
     for index in indexes {
-        let Some(value) = index.value_of(was) else {
-            continue;
-        };
-        if !is_sought(node, &Wanted::Valued(index.label, index.key, value)) {
+        if let Some(value) = index.value_of(was) {
             note_value(alloc, dust, index, value, id)?;
         }
     }
@@ -198,7 +193,7 @@ fn note_arrivals(
 }
 
 // Notes an id under a value of an index.
-fn note_value(
+pub(crate) fn note_value(
     alloc: Global,
     dust: &mut Vec<(Place, u64)>,
     index: &PropertyIndex,

@@ -11,7 +11,7 @@ returns-in-Ok c =
     let at : IsPlace (λ e. e.0) c.args.key items (Ok c.in-Ok.i) =
     subst (λ k. IsPlace (λ e. e.0) k items (Ok c.in-Ok.i)) c.number.ensures (subst (λ xs. IsPlace (λ e. e.0) c.number.result xs (Ok c.in-Ok.i)) c.as_slice.ensures.value c.in-Ok.ensures) in
     ap (λ e. Some (view e.1)) c.index.ensures
-    ∙ sym (get_found view c.args.key items c.in-Ok.i _ c.self.invariant.0 at.0 at.1)
+    ∙ sym (get_found view c.args.key items c.in-Ok.i _ c.self.invariant at.0 at.1)
     ∙ ap (λ m. map.get m c.args.key) c.self.view_is
 
 pub returns-in-Err : goal.returns-in-Err
@@ -19,4 +19,4 @@ returns-in-Err c =
     let items = c.self.inside.entries.items in
     let at : IsPlace (λ e. e.0) c.args.key items (Err c.in-Err.field-0) =
     subst (λ k. IsPlace (λ e. e.0) k items (Err c.in-Err.field-0)) c.number.ensures (subst (λ xs. IsPlace (λ e. e.0) c.number.result xs (Err c.in-Err.field-0)) c.as_slice.ensures.value c.in-Err.ensures) in
-    sym (get_missing view c.args.key items c.in-Err.field-0 c.self.invariant.0 at.1) ∙ ap (λ m. map.get m c.args.key) c.self.view_is
+    sym (get_missing view c.args.key items c.in-Err.field-0 c.self.invariant at.1) ∙ ap (λ m. map.get m c.args.key) c.self.view_is

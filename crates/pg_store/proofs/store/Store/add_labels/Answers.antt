@@ -1,67 +1,25 @@
-use Rattle.std.proofs.Common.{refl, ap, ◌∙◌}
-use Rattle.std.proofs.lemmas.Result.{IfOk-from_err, on_ok_weaker, on_err_weaker}
-use Rattle.std.specs.FinMap as map
-use Rattle.pg_graph.proofs.Held.{more_named}
-use Rattle.pg_graph.specs.Refinement.{node_of}
-use Rattle.pg_meaning.specs.Graph.{Node, change_node}
-use Rattle.pg_meaning.specs.Names.{put_texts}
-use Rattle.pg_store.proofs.ChangeLemmas.{at_err, marks_then, renamed_graph, renamed_fit, renamed_keeps, renamed_marks, marks_stay}
-use Rattle.pg_store.proofs.Kept.{kept_then, nothing_touched}
-use Rattle.pg_store.proofs.Changed.{node_changed_alike, with_labels}
+use Rattle.std.proofs.Common.{arith}
+use Rattle.pg_store.proofs.Refused.{Undone, changes_nothing, has_mark, marks_again}
 use Rattle.pg_store.proofs.store.Store.add_labels.Goals as goal
-use Rattle.pg_store.specs.Journal.{live}
-use Rattle.pg_store.specs.Stores.{state_of, texts_of}
+use Rattle.pg_store.specs.declared.journal.Mark.{Mark}
 
-pub returns-in_err-labels-clause-changes : goal.returns-in_err-labels-clause-changes
-returns-in_err-labels-clause-changes g c = record {
-  says = IfOk-from_err c.from_residual-in_err-labels.result _ c.from_residual-in_err-labels.ensures.0;
-  same = (at_err c.from_residual-in_err-labels.result (renamed_graph g.T.Tables.seen c.args.self.now c.args.shared.now c.more_labels.new.names c.more_labels.ensures.keeps c.requires.fit));
-  fit = (renamed_fit g.T.Tables.seen c.args.self.now c.args.shared.now c.more_labels.new.names c.more_labels.ensures.keeps c.requires.fit c.more_labels.ensures.distinct);
-  keeps = renamed_keeps g.T.Tables.seen c.args.self.now c.args.shared.now c.more_labels.new.names c.more_labels.ensures.keeps c.requires.fit c.more_labels.ensures.distinct;
-}
+pub undo-requires : goal.undo-requires
+undo-requires g c =
+    let done = c.add_each_label.ensures in
+    record { fit = done.fit; mark = has_mark g.T.Tables.seen _ c.args.self.now c.add_each_label.new.self c.add_each_label.new.self c.args.shared.now c.add_each_label.new.shared c.add_each_label.new.shared (omega (arith, c.len.ensures)) c.len-2.ensures.len c.requires.fit done.marks done.keeps }
 
-pub returns-in_err-labels-clause-marks : goal.returns-in_err-labels-clause-marks
-returns-in_err-labels-clause-marks g c = renamed_marks g.T.Tables.seen c.args.self.now c.args.shared.now c.more_labels.new.names c.more_labels.ensures.keeps c.requires.fit
+pub returns-in-Ok : goal.returns-in-Ok
+returns-in-Ok g c =
+    let done = c.add_each_label.ensures in
+    record { changes = record { says = c.in-Ok.ensures.ok; same = tt; fit = done.fit; keeps = done.keeps }; marks = done.marks }
 
-pub change_node-requires-clause-fit : goal.change_node-requires-clause-fit
-change_node-requires-clause-fit g c =
-    renamed_fit g.T.Tables.seen c.args.self.now c.args.shared.now c.more_labels.new.names c.more_labels.ensures.keeps c.requires.fit c.more_labels.ensures.distinct
-
-pub change_node-requires-clause-keys : goal.change_node-requires-clause-keys
-change_node-requires-clause-keys g c = more_named c.args.shared.now.names c.more_labels.new.names c.more_labels.ensures.keeps (map.keys c.in_ok-before.field-0.properties) c.in_ok-before.ensures.keys
-
-pub returns-clause-changes : goal.returns-clause-changes
-returns-clause-changes g c = record {
-  says = (let store = c.args.self.now in
-      let n = c.in_ok-before.field-0 in
-      let same = renamed_graph g.T.Tables.seen store c.args.shared.now c.more_labels.new.names c.more_labels.ensures.keeps c.requires.fit in
-      let new : Node = node_of c.more_labels.new.names (record { labels = c.in_ok-labels.labels; properties = n.properties }) in
-      on_ok_weaker c.change_node.result (λ h.
-      h
-      ∙ ap (change_node (λ _. new) c.args.id.0) same
-      ∙ node_changed_alike c.args.shared.now.names (live (state_of g.T.Tables.seen store c.args.shared.now)) store.next.node store.next.rel c.args.id.0 n (λ _. new)
-      (λ e. record e { labels = put_texts (texts_of c.args.labels.now.items) e.labels }) c.in_ok-before.ensures.copy
-      (with_labels c.args.shared.now.names c.more_labels.new.names n c.in_ok-labels.labels _ c.more_labels.ensures.keeps c.in_ok-before.ensures.keys c.in_ok-labels.ensures.labels))
-      c.change_node.ensures.ok);
-  same = (on_err_weaker c.change_node.result (λ e. e ∙ renamed_graph g.T.Tables.seen c.args.self.now c.args.shared.now c.more_labels.new.names c.more_labels.ensures.keeps c.requires.fit)
-      c.change_node.ensures.err);
-  fit = c.change_node.ensures.fit;
-  keeps = kept_then c.args.self.now c.args.self.now c.change_node.new.self c.args.shared.now _ c.change_node.new.shared (renamed_keeps g.T.Tables.seen c.args.self.now c.args.shared.now c.more_labels.new.names c.more_labels.ensures.keeps c.requires.fit c.more_labels.ensures.distinct) c.change_node.ensures.keeps;
-}
-
-pub returns-clause-marks : goal.returns-clause-marks
-returns-clause-marks g c =
-    marks_then g.T.Tables.seen c.args.self.now c.args.self.now c.change_node.new.self c.args.shared.now _ c.change_node.new.shared
-    (renamed_marks g.T.Tables.seen c.args.self.now c.args.shared.now c.more_labels.new.names c.more_labels.ensures.keeps c.requires.fit)
-    c.change_node.ensures.marks
-
-pub returns-in_err-before-clause-changes : goal.returns-in_err-before-clause-changes
-returns-in_err-before-clause-changes g c = record {
-  says = IfOk-from_err c.from_residual.result _ c.from_residual.ensures.0;
-  same = at_err c.from_residual.result refl;
-  fit = c.requires.fit;
-  keeps = nothing_touched c.args.self.now c.args.shared.now c.requires.fit;
-}
-
-pub returns-in_err-before-clause-marks : goal.returns-in_err-before-clause-marks
-returns-in_err-before-clause-marks g c = marks_stay g.T.Tables.seen c.args.self.now c.args.shared.now
+pub returns-in-Err : goal.returns-in-Err
+returns-in-Err g c =
+    let done = c.add_each_label.ensures in
+    let back = c.undo.ensures in
+    let mark : Mark = record { journal = c.len.result; names = c.len-2.result } in
+    let undone : Undone g.T.Tables.seen mark c.add_each_label.new.self c.add_each_label.new.shared c.undo.new.self c.undo.new.shared = record { graph = back.graph; names = back.names; marks = back.marks; there = back.there; fit = back.fit; keeps = back.keeps } in
+    record {
+      changes = changes_nothing g.T.Tables.seen mark c.args.self.now c.add_each_label.new.self c.undo.new.self c.args.shared.now c.add_each_label.new.shared c.undo.new.shared (omega (arith, c.len.ensures)) c.len-2.ensures.len c.requires.fit done.marks done.keeps undone c.in-Err.refused _ tt;
+      marks = marks_again g.T.Tables.seen mark c.args.self.now c.add_each_label.new.self c.undo.new.self c.args.shared.now c.add_each_label.new.shared c.undo.new.shared (omega (arith, c.len.ensures)) c.len-2.ensures.len c.requires.fit done.marks done.keeps undone;
+    }

@@ -1,9 +1,11 @@
 use Rattle.std.proofs.Common.{ap, ◌∙◌}
 use Rattle.std.proofs.lemmas.Result.{IfOk-from_err, on_ok_weaker, on_err_weaker}
+use Rattle.std.specs.FinMap as map
 use Rattle.pg_graph.specs.Refinement.{property_entries}
 use Rattle.pg_meaning.specs.Graph.{change_relationship}
 use Rattle.pg_store.proofs.ChangeLemmas.{at_err, marks_then, renamed_graph, renamed_fit, renamed_keeps, renamed_marks}
 use Rattle.pg_store.proofs.Kept.{kept_then}
+use Rattle.pg_store.proofs.States.{present}
 use Rattle.pg_store.proofs.Stores.{rel_held}
 use Rattle.pg_store.proofs.store.Store.replace_rel_properties.Goals as goal
 use Rattle.pg_store.specs.Journal.{live}
@@ -20,21 +22,24 @@ returns-in_err-properties-clause-changes g c = record {
 pub returns-in_err-properties-clause-marks : goal.returns-in_err-properties-clause-marks
 returns-in_err-properties-clause-marks g c = renamed_marks g.T.Tables.seen c.args.self.now c.args.shared.now c.properties_of.new.names c.properties_of.ensures.keeps c.requires.fit
 
-pub change_rel-requires-clause-fit : goal.change_rel-requires-clause-fit
-change_rel-requires-clause-fit g c =
-    renamed_fit g.T.Tables.seen c.args.self.now c.args.shared.now c.properties_of.new.names c.properties_of.ensures.keeps c.requires.fit c.properties_of.ensures.distinct
-
-pub change_rel-requires-clause-there : goal.change_rel-requires-clause-there
-change_rel-requires-clause-there g c =
+pub change_rel-requires : goal.change_rel-requires
+change_rel-requires g c =
     let store = c.args.self.now in
-    rel_held c.args.shared.now.names (live (state_of g.T.Tables.seen store c.args.shared.now)) store.next.node store.next.rel c.args.id.0 c.requires.there
+    let s = state_of g.T.Tables.seen store c.args.shared.now in
+    record {
+      fit = renamed_fit g.T.Tables.seen store c.args.shared.now c.properties_of.new.names c.properties_of.ensures.keeps c.requires.fit c.properties_of.ensures.distinct;
+      there = rel_held c.args.shared.now.names (live s) store.next.node store.next.rel c.args.id.0 c.requires.there;
+      named = λ r is. c.in_ok-properties.ensures.named;
+    }
 
 pub returns-clause-changes : goal.returns-clause-changes
 returns-clause-changes g c = record {
   says = (let store = c.args.self.now in
       let same = renamed_graph g.T.Tables.seen store c.args.shared.now c.properties_of.new.names c.properties_of.ensures.keeps c.requires.fit in
-      on_ok_weaker c.change_rel.result (λ h.
-      h
+      let s = state_of g.T.Tables.seen store c.args.shared.now in
+      let r = present (map.get (live s).rels c.args.id.0) (rel_held c.args.shared.now.names (live s) store.next.node store.next.rel c.args.id.0 c.requires.there) in
+      on_ok_weaker c.change_rel.result (λ made.
+      made r.0 r.1
       ∙ ap (change_relationship (λ r. record r { properties = property_entries c.properties_of.new.names c.in_ok-properties.properties }) c.args.id.0) same
       ∙ ap (λ es. change_relationship (λ r. record r { properties = es }) c.args.id.0 (graph_of_store g.T.Tables.seen store c.args.shared.now)) c.in_ok-properties.ensures.properties)
       c.change_rel.ensures.ok);

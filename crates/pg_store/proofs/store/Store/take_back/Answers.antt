@@ -52,34 +52,34 @@ returns-in-RelAdded g c =
       keeps = c.drop_rel.ensures.keeps;
     }
 
-pub change-requires : goal.change-requires
-change-requires g c =
-    record { fits = c.requires.fits; present = subst (λ (e : Entry). CanUndoOne e (state_of g.T.Tables.seen c.args.self.now c.args.shared.now)) c.in-NodeChanged.is c.requires.can }
+pub give_node_back-requires : goal.give_node_back-requires
+give_node_back-requires g c =
+    record { fits = c.requires.fits; can = subst (λ (e : Entry). CanUndoOne e (state_of g.T.Tables.seen c.args.self.now c.args.shared.now)) c.in-NodeChanged.is c.requires.can }
 
 pub returns-in-NodeChanged : goal.returns-in-NodeChanged
 returns-in-NodeChanged g c =
-    let s = state_of g.T.Tables.seen c.args.self.now c.args.shared.now in
+    let back = c.give_node_back.ensures in
     record {
-      state = ap (λ (content : Content). record s { content = content }) c.change.ensures.changed ∙ ap (λ (e : Entry). undo_one e s) (sym c.in-NodeChanged.is);
-      names = refl;
-      journal = refl;
-      sets = refl;
-      keeps = c.change.ensures.keeps;
+      state = back.state ∙ ap (λ (e : Entry). undo_one e (state_of g.T.Tables.seen c.args.self.now c.args.shared.now)) (sym c.in-NodeChanged.is);
+      names = back.names;
+      journal = back.journal;
+      sets = back.sets;
+      keeps = back.keeps;
     }
 
-pub change_rel-requires : goal.change_rel-requires
-change_rel-requires g c =
-    record { fits = c.requires.fits; present = subst (λ (e : Entry). CanUndoOne e (state_of g.T.Tables.seen c.args.self.now c.args.shared.now)) c.in-RelChanged.is c.requires.can }
+pub give_rel_back-requires : goal.give_rel_back-requires
+give_rel_back-requires g c =
+    record { fits = c.requires.fits; can = subst (λ (e : Entry). CanUndoOne e (state_of g.T.Tables.seen c.args.self.now c.args.shared.now)) c.in-RelChanged.is c.requires.can }
 
 pub returns-in-RelChanged : goal.returns-in-RelChanged
 returns-in-RelChanged g c =
-    let s = state_of g.T.Tables.seen c.args.self.now c.args.shared.now in
+    let back = c.give_rel_back.ensures in
     record {
-      state = ap (λ (content : Content). record s { content = content }) c.change_rel.ensures.changed ∙ ap (λ (e : Entry). undo_one e s) (sym c.in-RelChanged.is);
-      names = refl;
-      journal = refl;
-      sets = refl;
-      keeps = c.change_rel.ensures.keeps;
+      state = back.state ∙ ap (λ (e : Entry). undo_one e (state_of g.T.Tables.seen c.args.self.now c.args.shared.now)) (sym c.in-RelChanged.is);
+      names = back.names;
+      journal = back.journal;
+      sets = back.sets;
+      keeps = back.keeps;
     }
 
 pub remove-requires : goal.remove-requires

@@ -1,0 +1,93 @@
+//! One change of a record in its place, and what takes it back.
+ghost use Rattle.std.specs.Prelude.{◌≡◌, OnOk, OnErr, IfOk};
+ghost use Rattle.pg_store.specs.Edits.{CanGiveBack, CanGoBack, changed_properties, node_before, properties_before};
+
+use pg_graph::{Labels, NodeRecord, Properties};
+use pg_names::NameId;
+use pg_value_core::Value;
+use std::alloc::AllocError;
+use std::mem;
+
+/// What is to be done to properties: a key gets a value, where null leaves it blank, or all are replaced.
+#[derive(Drop)]
+pub enum PropertyChange {
+    Key(NameId, Value),
+    All(Properties),
+}
+
+/// What takes it back: what a key had before, which may be no place, or all properties.
+#[derive(Drop)]
+pub enum PropertiesBefore {
+    Key(NameId, Option<Value>),
+    All(Properties),
+}
+
+/// What is to be done to a node: its properties change, it gets one more label, or other labels.
+#[derive(Drop)]
+pub enum NodeChange {
+    Properties(PropertyChange),
+    Label(NameId),
+    Labels(Labels),
+}
+
+/// What takes it back.
+#[derive(Drop)]
+pub enum NodeBefore {
+    Properties(PropertiesBefore),
+    Label(NameId),
+    Labels(Labels),
+}
+
+impl PropertiesBefore {
+    // What stood under a key, where it may no longer stand.
+    pub(crate) fn value(&self, key: NameId) -> Option<&Value> {
+        match self {
+            PropertiesBefore::Key(changed, value) if changed.as_u64() == key.as_u64() =>
+                value.as_ref(),
+            PropertiesBefore::Key(_, _) => None,
+            PropertiesBefore::All(properties) => properties.get(key),
+        }
+    }
+}
+
+// Changes properties, or leaves them as they are.
+pub(crate) fn exchange(
+    properties: &mut Properties,
+    change: PropertyChange,
+) -> Result<PropertiesBefore, AllocError>
+    ensures ok { OnOk result (properties.new ≡ changed_properties change properties.old) }
+    ensures back { IfOk result (λ before. properties_before before properties.new ≡ properties.old) }
+    ensures can { IfOk result (λ before. CanGiveBack before properties.new) }
+    ensures err { OnErr result (properties.new ≡ properties.old) }
+{
+    match change {
+        PropertyChange::Key(key, value) => {
+            let before = properties.exchange(key, value)?;
+            Ok(PropertiesBefore::Key(key, before))
+        }
+        PropertyChange::All(all) => Ok(PropertiesBefore::All(mem::replace(properties, all))),
+    }
+}
+
+// Takes a change of properties back. It takes no memory.
+pub(crate) fn give_back(properties: &mut Properties, before: PropertiesBefore)
+    requires { CanGiveBack before properties.old }
+    ensures { properties.new ≡ properties_before before properties.old }
+{
+    match before {
+        PropertiesBefore::Key(key, value) => properties.give_back(key, value),
+        PropertiesBefore::All(all) => *properties = all,
+    }
+}
+
+// Takes a change of a node back. It takes no memory.
+pub(crate) fn give_node_back(node: &mut NodeRecord, before: NodeBefore)
+    requires { CanGoBack before node.old }
+    ensures { node.new ≡ node_before before node.old }
+{
+    match before {
+        NodeBefore::Properties(properties) => give_back(&mut node.properties, properties),
+        NodeBefore::Label(label) => node.labels.remove(label),
+        NodeBefore::Labels(labels) => node.labels = labels,
+    }
+}

@@ -1,16 +1,16 @@
 -- A call's tests in their order.
-use Rattle.std.proofs.Common.{◌≡◌, ℤ, pos, true, false, List, [], ◌∷◌, ◌++◌, length, Result, Ok, Err, refl, ap, sym, subst, Bool, arith, ◌∙◌}
-use Rattle.std.specs.Prelude.{◌≢◌}
-use Rattle.pg_expr.specs.Calls.{given_range, is_range, IsNotOne}
+use Rattle.std.proofs.Common.{◌≡◌, ◌+◌, ℤ, pos, negsuc, zero, suc, true, false, List, [], ◌∷◌, ◌++◌, length, Result, Ok, Err, refl, ap, sym, subst, Bool, arith, ◌∙◌}
+use Rattle.std.specs.Prelude.{◌≢◌, ◌||◌, ◌-ℤ◌, nat_le}
+use Rattle.pg_expr.specs.Calls.{given_range, is_range, range_sized, sized, IsNotOne}
 use Rattle.pg_expr.specs.Sites.{found_view, founds_view}
 use Rattle.pg_expr.specs.declared.site.Found.{Found}
 use Rattle.pg_meaning.specs.Answer.{Answer, ◌>>=◌}
-use Rattle.pg_meaning.specs.Functions.{Function, applied, function_at, has_deleted, has_null, integers_of, range_over}
+use Rattle.pg_meaning.specs.Functions.{Function, applied, function_at, has_deleted, has_null, integers_from, integers_of, is_deleted, is_null, range_by, range_over, size_of, steps_within}
 use Rattle.pg_meaning.specs.Functions as function
 use Rattle.pg_meaning.specs.Graph.{Graph}
-use Rattle.pg_meaning.specs.Measure.{made}
-use Rattle.pg_meaning.specs.Value.{Values, null, item, no_items}
-use Rattle.pg_meaning.specs.declared.fault.Fault.TheVariants.{DeletedEntity, UnknownFunction}
+use Rattle.pg_meaning.specs.Measure.{greatest_weight, made}
+use Rattle.pg_meaning.specs.Value.{Value, Values, null, list, text, item, no_items}
+use Rattle.pg_meaning.specs.declared.fault.Fault.TheVariants.{DeletedEntity, UnknownFunction, ValueTooLarge}
 use Rattle.pg_meaning.specs.declared.fault.Fault.{Fault}
 use Rattle.pg_expr_calls.proofs.RangeSizes.{made_range}
 
@@ -83,3 +83,51 @@ ranged (Err e) = refl
 
 pub range_when_whole : (g : Graph) (vs : Values) → has_deleted g vs ≡ false → has_null vs ≡ false → applied g function.range vs ≡ given_range vs
 range_when_whole g vs h k = when_whole g function.range vs h k ∙ ranged (integers_of vs)
+
+-- ---- size
+
+or_false : (b : Bool) → (b || false) ≡ b
+or_false true = refl
+or_false false = refl
+
+made_size : (v : Value) → (size_of v >>= made) ≡ size_of v
+made_size (list vs) = refl
+made_size (text s) = refl
+made_size v = refl
+
+module _ (g : Graph) (v : Value) where
+  pub sized_deleted : is_deleted g v ≡ true → sized g v ≡ Err DeletedEntity
+  sized_deleted h = when_deleted g function.size (item v no_items) (or_false (is_deleted g v) ∙ h)
+
+  pub sized_null : is_deleted g v ≡ false → is_null v ≡ true → sized g v ≡ Ok null
+  sized_null h k = when_null g function.size (item v no_items) (or_false (is_deleted g v) ∙ h) (or_false (is_null v) ∙ k)
+
+  pub sized_whole : is_deleted g v ≡ false → is_null v ≡ false → sized g v ≡ size_of v
+  sized_whole h k = when_whole g function.size (item v no_items) (or_false (is_deleted g v) ∙ h) (or_false (is_null v) ∙ k) ∙ made_size v
+
+module _ (g : Graph) where
+  abbrev perhaps_list : Bool → Values → Answer
+  perhaps_list b vs = elim b [ true ↦ Ok (list vs) | false ↦ Err ValueTooLarge ]
+
+  sized_list : (b : Bool) (vs : Values) → (perhaps_list b vs >>= sized g) ≡ (perhaps_list b vs >>= size_of)
+  sized_list true vs = refl
+  sized_list false vs = refl
+
+  sized_by : (start end step : ℤ) → (range_by start end step >>= sized g) ≡ (range_by start end step >>= size_of)
+  sized_by start end (pos zero) = refl
+  sized_by start end (pos (suc s)) = let n = steps_within (end -ℤ start) (pos (suc s)) in sized_list (nat_le (1 + n) greatest_weight) (integers_from n start (pos (suc s)))
+  sized_by start end (negsuc s) = let n = steps_within (end -ℤ start) (negsuc s) in sized_list (nat_le (1 + n) greatest_weight) (integers_from n start (negsuc s))
+
+  sized_over : (is : List ℤ) → (range_over is >>= sized g) ≡ (range_over is >>= size_of)
+  sized_over [] = refl
+  sized_over (a ∷ []) = refl
+  sized_over (a ∷ b ∷ []) = sized_by a b (pos 1)
+  sized_over (a ∷ b ∷ c ∷ []) = sized_by a b c
+  sized_over (a ∷ b ∷ c ∷ d ∷ is) = refl
+
+  sized_range : (r : Result (List ℤ) Fault) → ((r >>= range_over) >>= sized g) ≡ ((r >>= range_over) >>= size_of)
+  sized_range (Ok is) = sized_over is
+  sized_range (Err e) = refl
+
+  pub range_sized_whole : (vs : Values) → has_deleted g vs ≡ false → has_null vs ≡ false → range_sized g vs ≡ (given_range vs >>= size_of)
+  range_sized_whole vs h k = ap (λ r. r >>= sized g) (range_when_whole g vs h k) ∙ sized_range (integers_of vs)

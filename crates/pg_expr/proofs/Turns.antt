@@ -14,7 +14,7 @@ use Rattle.pg_meaning.specs.Expressions.{begins_comparison, combined, fault_of_n
 use Rattle.pg_meaning.specs.Functions.{Function, applied, function_named, is_null}
 use Rattle.pg_meaning.specs.Graph.{Graph}
 use Rattle.pg_meaning.specs.Measure.{made}
-use Rattle.pg_meaning.specs.Parse.{operands_of, pairs_of}
+use Rattle.pg_meaning.specs.Parse.{expressions_of, operands_of, pairs_of}
 use Rattle.pg_meaning.specs.Tree as tree
 use Rattle.pg_meaning.specs.Value.{Value as Datum, Values, Entries, list, no_items, item}
 use Rattle.pg_meaning.specs.declared.fault.Fault.{Fault}
@@ -76,6 +76,24 @@ one_left os all p q same least below is there = ap (λ qs. operands_of (map oper
 pub one_operand : (v : Datum) (o : Operator) (a : Answer) → ((a >>= λ w. Ok ((o, w) ∷ [])) >>= λ ps. truth_compared v ps) ≡ (a >>= λ w. truth_compared v ((o, w) ∷ []))
 one_operand v o (Ok w) = refl
 one_operand v o (Err e) = refl
+
+only_argument : (xs : List Expression) (x : Expression) → 1 ≤ length xs → length xs < 2 → x ≡ get_or xs 0 x → expressions_of (map expression_view xs) ≡ tree.expression (expression_view x) tree.no_expressions
+only_argument [] x least below is = absurd (omega arith)
+only_argument (y ∷ []) x least below is = ap (λ z. tree.expression (expression_view z) tree.no_expressions) (sym is)
+only_argument (y ∷ z ∷ xs) x least below is = absurd (omega arith)
+
+-- a call with one argument
+pub one_argument : (xs all : List Expression) (x : Expression) → xs ≡ all → 1 ≤ length xs → length xs < 2 → x ≡ get_or xs 0 x
+    → expressions_of (map expression_view all) ≡ tree.expression (expression_view x) tree.no_expressions
+one_argument xs all x same least below is = ap (λ ys. expressions_of (map expression_view ys)) (sym same) ∙ only_argument xs x least below is
+
+pub applied_alone : (g : Graph) (f : Function) (a : Answer) → ((a >>= λ v. (Ok no_items) >>= λ vs. Ok (item v vs)) >>= applied g f) ≡ (a >>= λ v. applied g f (item v no_items))
+applied_alone g f (Ok v) = refl
+applied_alone g f (Err e) = refl
+
+pub behind_all : (r : Result Values Fault) (f : Values → Answer) (h : Datum → Answer) → ((r >>= f) >>= h) ≡ (r >>= λ vs. f vs >>= h)
+behind_all (Ok vs) f h = refl
+behind_all (Err e) f h = refl
 
 module _ (s : Site) (g : Graph) where
   pub first_item : (fs : List Found) (xs : List Expression) → fs ≡ [] → each_of s g xs ≡ joined (founds_view fs) (each_of s g xs)

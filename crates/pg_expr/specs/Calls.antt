@@ -1,6 +1,6 @@
 -- The parts of calls.
 use Rattle.std.specs.Prelude.{◌≡◌, ℕ, Bool, true, false, List, Some, None, Err}
-use Rattle.pg_expr.specs.Sites.{given_each, given_first}
+use Rattle.pg_expr.specs.Sites.{given, given_each, given_first}
 use Rattle.pg_expr.specs.declared.site.Site.{Site}
 use Rattle.pg_meaning.specs.Answer.{Answer, ◌>>=◌}
 use Rattle.pg_meaning.specs.Expressions.{is_coalesce, fault_of_name}
@@ -8,7 +8,7 @@ use Rattle.pg_meaning.specs.Functions.{Function, function_named, applied, of_one
 use Rattle.pg_meaning.specs.Functions as function
 use Rattle.pg_meaning.specs.Graph.{Graph}
 use Rattle.pg_meaning.specs.Tree as tree
-use Rattle.pg_meaning.specs.Value.{Value, Values}
+use Rattle.pg_meaning.specs.Value.{Value, Values, item, no_items}
 use Rattle.pg_meaning.specs.declared.fault.Fault.TheVariants.{UnknownFunction}
 
 -- a call of what stands under a name
@@ -17,6 +17,18 @@ given_call s g name es = elim (function_named name) [
   | Some f ↦ elim (is_coalesce f) [ true ↦ given_first s g es | false ↦ given_each s g es >>= applied g f ]
   | None ↦ Err (fault_of_name name)
 ]
+
+-- what `size` gives at a value
+abbrev pub sized : Graph → Value → Answer
+sized g v = applied g function.size (item v no_items)
+
+-- what `size` gives at what `range` gives
+abbrev pub range_sized : Graph → Values → Answer
+range_sized g vs = applied g function.range vs >>= sized g
+
+-- what `size` gives at an expression
+abbrev pub given_size : Site → Graph → tree.Expression → Answer
+given_size s g e = given s g e >>= sized g
 
 -- what `range` gives at its arguments
 abbrev pub given_range : Values → Answer

@@ -2,6 +2,7 @@ pub mod After
 pub mod Calls
 pub mod Conditions
 pub mod Elements
+pub mod Kinds
 pub mod Operators
 pub mod Prepared
 pub mod Reads

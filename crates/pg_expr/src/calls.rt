@@ -41,6 +41,12 @@ pub(crate) fn is_coalesce(function: Function) -> bool
     matches!(function, Function::Coalesce)
 }
 
+pub(crate) fn is_size(function: Function) -> bool
+    ensures { result ≡ true → function_view function ≡ functions.size }
+{
+    matches!(function, Function::Size)
+}
+
 pub(crate) fn is_null(v: &Found<'_>) -> bool
     ensures { result ≡ is_null (found_view v.now) }
 {
@@ -71,7 +77,7 @@ pub(crate) fn applied<'a, T: Tables>(
     made(value)
 }
 
-fn is_deleted<T: Tables>(graph: &Snapshot<'_, T>, v: &Value) -> bool
+pub(crate) fn is_deleted<T: Tables>(graph: &Snapshot<'_, T>, v: &Value) -> bool
     ensures { result ≡ is_deleted graph.now (view v.now) }
 {
     match v {
@@ -81,7 +87,7 @@ fn is_deleted<T: Tables>(graph: &Snapshot<'_, T>, v: &Value) -> bool
     }
 }
 
-fn has_deleted<T: Tables>(graph: &Snapshot<'_, T>, arguments: &Vec<Found<'_>>) -> bool
+pub(crate) fn has_deleted<T: Tables>(graph: &Snapshot<'_, T>, arguments: &Vec<Found<'_>>) -> bool
     ensures { result ≡ has_deleted graph.now (founds_view arguments.now.items) }
 {
     for argument in arguments {
@@ -92,7 +98,7 @@ fn has_deleted<T: Tables>(graph: &Snapshot<'_, T>, arguments: &Vec<Found<'_>>) -
     false
 }
 
-fn has_null(arguments: &Vec<Found<'_>>) -> bool
+pub(crate) fn has_null(arguments: &Vec<Found<'_>>) -> bool
     ensures { result ≡ has_null (founds_view arguments.now.items) }
 {
     for argument in arguments {

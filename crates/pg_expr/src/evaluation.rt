@@ -1,8 +1,9 @@
 //! What an expression gives at a row: operands left to right, and the first fault decides.
 ghost use Rattle.std.specs.Prelude.{map, option_map, string_bytes};
-ghost use Rattle.pg_expr.specs.Calls.{given_call};
+ghost use Rattle.pg_expr.specs.Calls.{given_call, given_size};
+ghost use Rattle.pg_expr.specs.Kinds.{IsCase, IsChain, AreTests, AreSuffixes};
 ghost use Rattle.pg_expr.specs.Prepared.{tree_of};
-ghost use Rattle.pg_expr.specs.Sites.{found_view, founds_view, pairs_view, given, given_each, given_map, given_first, given_true, given_chain, given_chained, given_operands, given_tests, given_reads};
+ghost use Rattle.pg_expr.specs.Sites.{found_view, founds_view, pairs_view, given, given_each, given_map, given_first, given_true, given_chain, given_operands};
 ghost use Rattle.pg_meaning.specs.Expressions.{evaluate};
 ghost use Rattle.pg_meaning.specs.Parse.{expressions_of, operands_of, pairs_of, whens_of};
 ghost use Rattle.pg_rows.specs.Named.{row_of};
@@ -12,7 +13,8 @@ ghost use Rattle.pg_value_core.specs.Gives.{Gives};
 ghost use Rattle.pg_value_core.specs.View.{view};
 
 use crate::atoms::{literal_found, parameter, variable};
-use crate::calls::{applied, call_fault, is_coalesce, is_null};
+use crate::calls::{applied, call_fault, is_coalesce, is_null, is_size};
+use crate::counts::{counted, is_range_named, range_counted};
 use crate::made::{list_of, made, put};
 use crate::operators::{
     all_signed, begins_comparison, combined, compared, compared_once, is_chosen, negated,
@@ -69,36 +71,12 @@ pub(crate) fn find<'a, T: Tables>(
         Expression::MapLiteral(pairs) => mapping(site, graph, pairs),
         Expression::Parentheses(inner) => find(site, graph, inner),
         Expression::Call(name, _, _, arguments) => call(site, graph, name, arguments),
-        Expression::Case(subject, whens, otherwise) => {
-            let chosen = {
-                let tested = match subject {
-                    Some(inner) => Some(find(site, graph, inner)?),
-                    None => None,
-                };
-                first_true(site, graph, &tested, whens)?
-            };
-            match chosen {
-                Some(found) => Ok(found),
-                None => match otherwise {
-                    Some(inner) => find(site, graph, inner),
-                    None => Ok(null()),
-                },
-            }
-        }
-        Expression::Chain(first, operands) => {
-            let found = find(site, graph, first)?;
-            chain(site, graph, found, operands)
-        }
+        Expression::Case(_, _, _) => case(site, graph, expression),
+        Expression::Chain(_, _) => chain(site, graph, expression),
         Expression::Negation(count, inner) => negated(*count, find(site, graph, inner)),
         Expression::Signs(signs, inner) => all_signed(signs, find(site, graph, inner)),
-        Expression::Tests(inner, tests) => {
-            let found = find(site, graph, inner)?;
-            pass_tests(site, graph, found, tests)
-        }
-        Expression::Suffixes(inner, suffixes, names) => {
-            let found = find(site, graph, inner)?;
-            read(site, graph, found, suffixes, names)
-        }
+        Expression::Tests(_, _) => pass_tests(site, graph, expression),
+        Expression::Suffixes(_, _, _) => read(site, graph, expression),
     }
 }
 
@@ -151,9 +129,36 @@ fn call<'a, T: Tables>(
         return Err(call_fault(name.text.as_str()));
     };
     if is_coalesce(function) {
-        first_given(site, graph, arguments)
-    } else {
-        applied(site.alloc, graph, function, each(site, graph, arguments))
+        return first_given(site, graph, arguments);
+    }
+    if is_size(function) {
+        if let [argument] = arguments.as_slice() {
+            return size(site, graph, argument);
+        }
+    }
+    applied(site.alloc, graph, function, each(site, graph, arguments))
+}
+
+/// The size of what an expression gives; the list of a `range` isn't made for it.
+#[cycle(find)]
+#[inline(never)]
+fn size<'a, T: Tables>(
+    site: &Site<'a>,
+    graph: &Snapshot<'a, T>,
+    argument: &Expression,
+) -> Result<Found<'a>, Fault>
+    ensures { Gives result (given_size site.now graph.now (expression_view argument.now)) found_view }
+{
+    match argument {
+        Expression::Parentheses(inner) => size(site, graph, inner),
+        Expression::Call(name, _, _, arguments) => {
+            if is_range_named(name.text.as_str()) {
+                range_counted(site.alloc, graph, each(site, graph, arguments))
+            } else {
+                counted(graph, find(site, graph, argument))
+            }
+        }
+        _ => counted(graph, find(site, graph, argument)),
     }
 }
 
@@ -196,23 +201,56 @@ fn first_true<'a, T: Tables>(
     Ok(None)
 }
 
+#[cycle(find)]
+#[inline(never)]
+fn case<'a, T: Tables>(
+    site: &Site<'a>,
+    graph: &Snapshot<'a, T>,
+    expression: &Expression,
+) -> Result<Found<'a>, Fault>
+    requires { IsCase expression.now }
+    ensures { Gives result (given site.now graph.now (expression_view expression.now)) found_view }
+{
+    let Expression::Case(subject, whens, otherwise) = expression else {
+        unreachable!()
+    };
+    let chosen = {
+        let tested = match subject {
+            Some(inner) => Some(find(site, graph, inner)?),
+            None => None,
+        };
+        first_true(site, graph, &tested, whens)?
+    };
+    match chosen {
+        Some(found) => Ok(found),
+        None => match otherwise {
+            Some(inner) => find(site, graph, inner),
+            None => Ok(null()),
+        },
+    }
+}
+
 /// A chain of comparisons evaluates all its operands first.
 #[cycle(find)]
 #[inline(never)]
 fn chain<'a, T: Tables>(
     site: &Site<'a>,
     graph: &Snapshot<'a, T>,
-    first: Found<'a>,
-    operands: &Vec<(Operator, Expression)>,
+    expression: &Expression,
 ) -> Result<Found<'a>, Fault>
-    ensures { Gives result (given_chained site.now graph.now (found_view first.entry) (operands_of (map operand_view operands.now.items))) found_view }
+    requires { IsChain expression.now }
+    ensures { Gives result (given site.now graph.now (expression_view expression.now)) found_view }
 {
+    let Expression::Chain(first, operands) = expression else {
+        unreachable!()
+    };
+    let found = find(site, graph, first)?;
     if !begins_comparison(operands) {
-        return joined(site, graph, first, operands);
+        return joined(site, graph, found, operands);
     }
     match operands.as_slice() {
-        [(operator, operand)] => compared_once(*operator, first, find(site, graph, operand)),
-        _ => compared(first, each_operand(site, graph, operands)),
+        [(operator, operand)] => compared_once(*operator, found, find(site, graph, operand)),
+        _ => compared(found, each_operand(site, graph, operands)),
     }
 }
 
@@ -257,12 +295,15 @@ fn each_operand<'a, T: Tables>(
 fn pass_tests<'a, T: Tables>(
     site: &Site<'a>,
     graph: &Snapshot<'a, T>,
-    first: Found<'a>,
-    tests: &Vec<Test<Expression>>,
+    expression: &Expression,
 ) -> Result<Found<'a>, Fault>
-    ensures { Gives result (given_tests site.now graph.now (found_view first.entry) (tests_of (map test_view tests.now.items))) found_view }
+    requires { AreTests expression.now }
+    ensures { Gives result (given site.now graph.now (expression_view expression.now)) found_view }
 {
-    let mut found = first;
+    let Expression::Tests(inner, tests) = expression else {
+        unreachable!()
+    };
+    let mut found = find(site, graph, inner)?;
     for test in tests {
         found = match test {
             Test::Text(test, operand) => tested(*test, found, find(site, graph, operand))?,
@@ -278,13 +319,15 @@ fn pass_tests<'a, T: Tables>(
 fn read<'a, T: Tables>(
     site: &Site<'a>,
     graph: &Snapshot<'a, T>,
-    first: Found<'a>,
-    suffixes: &Vec<Suffix<Expression>>,
-    names: &Vec<Name>,
+    expression: &Expression,
 ) -> Result<Found<'a>, Fault>
-    ensures { Gives result (given_reads site.now graph.now (found_view first.entry) (suffixes_of (map suffix_view suffixes.now.items)) (names_view names.now.items)) found_view }
+    requires { AreSuffixes expression.now }
+    ensures { Gives result (given site.now graph.now (expression_view expression.now)) found_view }
 {
-    let mut found = first;
+    let Expression::Suffixes(inner, suffixes, names) = expression else {
+        unreachable!()
+    };
+    let mut found = find(site, graph, inner)?;
     for suffix in suffixes {
         found = match suffix {
             Suffix::Property(key) => property(graph, found, key.text.as_str())?,

@@ -4,6 +4,7 @@
 mod atoms;
 mod calls;
 mod conditions;
+mod counts;
 mod elements;
 mod evaluation;
 mod made;

@@ -2,12 +2,13 @@
 ghost use Rattle.std.specs.Prelude.{◌≡◌, ◌≢◌, IfOk, IfErr, Ok, Err};
 ghost use Rattle.pg_expr.specs.Calls.{given_range};
 ghost use Rattle.pg_expr.specs.Sites.{found_view, founds_view};
-ghost use Rattle.pg_meaning.specs.Functions.{integers_of, range_over};
+ghost use Rattle.pg_meaning.specs.Answer.{◌>>=◌ as and_then};
+ghost use Rattle.pg_meaning.specs.Functions.{integers_of, range_over, size_of};
 ghost use Rattle.pg_meaning.specs.declared.fault.Fault.TheVariants.{OutOfMemory};
 ghost use Rattle.pg_value_core.specs.View.{view};
 
 use crate::site::Found;
-use pg_expr_calls::range;
+use pg_expr_calls::{range, range_size};
 use pg_value_core::{Fault, Value};
 use std::alloc::Global;
 
@@ -17,6 +18,18 @@ pub(crate) fn range_of<'a>(alloc: Global, arguments: &Vec<Found<'a>>) -> Result<
 {
     let integers = integers(alloc, arguments)?;
     Ok(Found::Made(range_over(alloc, &integers)?))
+}
+
+/// The size of what `range` gives at its arguments, which isn't made.
+pub(crate) fn size_of_range<'a>(
+    alloc: Global,
+    arguments: &Vec<Found<'a>>,
+) -> Result<Found<'a>, Fault>
+    ensures ok { IfOk result (λ f. and_then (given_range (founds_view arguments.now.items)) size_of ≡ Ok (found_view f)) }
+    ensures err { IfErr result (λ e. e ≢ OutOfMemory → and_then (given_range (founds_view arguments.now.items)) size_of ≡ Err e) }
+{
+    let integers = integers(alloc, arguments)?;
+    Ok(Found::Made(size_over(&integers)?))
 }
 
 /// The integers that all arguments are.
@@ -41,6 +54,17 @@ fn range_over(alloc: Global, integers: &Vec<i64>) -> Result<Value, Fault>
     match integers.as_slice() {
         [start, end] => range(alloc, *start, *end, 1),
         [start, end, step] => range(alloc, *start, *end, *step),
+        _ => Err(Fault::UnknownFunction),
+    }
+}
+
+fn size_over(integers: &Vec<i64>) -> Result<Value, Fault>
+    ensures ok { IfOk result (λ v. and_then (range_over integers.now.items) size_of ≡ Ok (view v)) }
+    ensures err { IfErr result (λ e. and_then (range_over integers.now.items) size_of ≡ Err e) }
+{
+    match integers.as_slice() {
+        [start, end] => range_size(*start, *end, 1),
+        [start, end, step] => range_size(*start, *end, *step),
         _ => Err(Fault::UnknownFunction),
     }
 }

@@ -1,5 +1,5 @@
 //! What is read of a value: a property, an item, labels.
-ghost use Rattle.std.specs.Prelude.{◌≡◌, ◌≢◌, IfOk, IfErr, Ok, Err, map, string_bytes};
+ghost use Rattle.std.specs.Prelude.{◌≡◌, ◌≢◌, ◌==◌, IfOk, IfErr, Ok, Err, false, map, string_bytes, vec_len};
 ghost use Rattle.pg_expr.specs.After.{After};
 ghost use Rattle.pg_expr.specs.Reads.{labels_tested};
 ghost use Rattle.pg_expr.specs.Sites.{found_view};
@@ -175,8 +175,7 @@ fn index_made<'a, T: Tables>(
     Ok(Found::Made(found.take(alloc)?))
 }
 
-/// Whether there are all the labels.
-#[inline(never)]
+/// Whether there are all the labels, and the value itself where none is asked for.
 pub(crate) fn labels<'a, T: Tables>(
     graph: &Snapshot<'a, T>,
     value: Found<'a>,
@@ -188,6 +187,19 @@ pub(crate) fn labels<'a, T: Tables>(
     if labels.is_empty() {
         return Ok(value);
     }
+    some_labels(graph, value, labels)
+}
+
+#[inline(never)]
+fn some_labels<'a, T: Tables>(
+    graph: &Snapshot<'a, T>,
+    value: Found<'a>,
+    labels: &Vec<Name>,
+) -> Result<Found<'a>, Fault>
+    requires { (vec_len labels.now == 0) ≡ false }
+    ensures ok { IfOk result (λ f. labelled graph.now (found_view value.entry) (names_view labels.now.items) ≡ Ok (found_view f)) }
+    ensures err { IfErr result (λ e. labelled graph.now (found_view value.entry) (names_view labels.now.items) ≡ Err e) }
+{
     match value.look() {
         Value::Null => Ok(null()),
         Value::Node(id) => node_labels(graph, *id, labels),

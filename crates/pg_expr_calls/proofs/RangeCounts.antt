@@ -6,10 +6,11 @@ use Rattle.std.proofs.lemmas.Int.{ints}
 use Rattle.std.specs.Int.{w64}
 use Rattle.std.specs.Prelude.{◌-ℤ◌, ◌<ℤ◌, ◌≤ℤ◌, FitsSigned, nat_le, unsigned_abs}
 use Rattle.pg_expr_calls.specs.Ranges.{AllFit}
-use Rattle.pg_meaning.specs.Answer.{Answer}
-use Rattle.pg_meaning.specs.Functions.{integers_from, range_by, steps_within}
+use Rattle.pg_meaning.specs.Answer.{Answer, ◌>>=◌}
+use Rattle.pg_meaning.specs.Functions.{count_of, integers_from, range_by, size_of, steps_within}
 use Rattle.pg_meaning.specs.Measure.{greatest_weight}
-use Rattle.pg_meaning.specs.Value.{list}
+use Rattle.pg_meaning.specs.Value.{integer, list}
+use Rattle.pg_meaning.specs.declared.fault.Fault.{Fault}
 use Rattle.pg_meaning.specs.declared.fault.Fault.TheVariants.{ValueTooLarge}
 
 -- ---- all fit
@@ -112,3 +113,17 @@ pub heavy_range : (start end step : ℤ) → step ≢ pos 0 → greatest_weight 
 heavy_range start end step h l = by_count start end step h ∙ heavy (steps_within (end -ℤ start) step) start step l
 
 pub ruleset ranges = (light_range, heavy_range, all_fit)
+
+-- ---- its length
+
+counted_from : (n : ℕ) (i step : ℤ) → count_of (integers_from n i step) ≡ n
+counted_from zero i step = refl
+counted_from (suc n) i step = omega (arith, counted_from n (i +ℤ step) step)
+
+pub size_of_range : (n : ℕ) (start end step : ℤ) → range_by start end step ≡ Ok (list (integers_from n start step)) → (range_by start end step >>= size_of) ≡ Ok (integer (pos n))
+size_of_range n start end step h = ap (λ r. r >>= size_of) h ∙ ap (λ (m : ℕ). Ok (integer (pos m))) (counted_from n start step)
+
+pub size_of_none : (start end step : ℤ) (e : Fault) → range_by start end step ≡ Err e → (range_by start end step >>= size_of) ≡ Err e
+size_of_none start end step e h = ap (λ r. r >>= size_of) h
+
+pub ruleset sizes = (size_of_none)

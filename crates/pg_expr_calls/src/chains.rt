@@ -36,6 +36,7 @@ fn negated(answer: Result<Tri, Fault>) -> Result<Tri, Fault>
 }
 
 /// `v AND w`, where both are evaluated.
+#[inline(never)]
 pub fn conjunction(v: &Value, w: &Value) -> Result<Value, Fault>
     ensures ok { IfOk result (λ u. by_truth and3 (view v.now) (view w.now) ≡ Ok (view u)) }
     ensures err { IfErr result (λ e. by_truth and3 (view v.now) (view w.now) ≡ Err e) }
@@ -46,6 +47,7 @@ pub fn conjunction(v: &Value, w: &Value) -> Result<Value, Fault>
 }
 
 /// `v OR w`, where both are evaluated.
+#[inline(never)]
 pub fn disjunction(v: &Value, w: &Value) -> Result<Value, Fault>
     ensures ok { IfOk result (λ u. by_truth or3 (view v.now) (view w.now) ≡ Ok (view u)) }
     ensures err { IfErr result (λ e. by_truth or3 (view v.now) (view w.now) ≡ Err e) }
@@ -56,6 +58,7 @@ pub fn disjunction(v: &Value, w: &Value) -> Result<Value, Fault>
 }
 
 /// `v XOR w`.
+#[inline(never)]
 pub fn exclusive(v: &Value, w: &Value) -> Result<Value, Fault>
     ensures ok { IfOk result (λ u. by_truth xor3 (view v.now) (view w.now) ≡ Ok (view u)) }
     ensures err { IfErr result (λ e. by_truth xor3 (view v.now) (view w.now) ≡ Err e) }

@@ -30,7 +30,7 @@ fn count_items(items: &Vec<Value>) -> Value
     count(items.len())
 }
 
-fn count(n: usize) -> Value
+pub(crate) fn count(n: usize) -> Value
     requires { n < 2 ^ 63 }
     ensures { view result ≡ integer (pos n) }
 {

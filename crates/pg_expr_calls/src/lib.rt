@@ -18,5 +18,5 @@ pub use functions::{absolute, head, last, length, size, to_integer, to_text};
 pub use joined::{plus, sum};
 pub use limits::{is_within_limits, made};
 pub use parts::{keys, nodes, relationships};
-pub use ranges::{integers_from, range};
+pub use ranges::{integers_from, range, range_size};
 pub use texts::{begins_with, contains, finishes_with, is_not_null, is_null};

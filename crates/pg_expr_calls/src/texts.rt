@@ -9,6 +9,7 @@ use pg_value_core::Value;
 
 /// `v STARTS WITH w`; null where one isn't a text.
 #[tactic(auto, using(crate::proofs::TextTests::prefixes))]
+#[inline(never)]
 pub fn begins_with(v: &Value, w: &Value) -> Value
     ensures { tested StartsWith (view v.now) (view w.now) ≡ Ok (view result) }
 {
@@ -20,6 +21,7 @@ pub fn begins_with(v: &Value, w: &Value) -> Value
 
 /// `v ENDS WITH w`.
 #[tactic(auto, using(crate::proofs::TextTests::prefixes))]
+#[inline(never)]
 pub fn finishes_with(v: &Value, w: &Value) -> Value
     ensures { tested EndsWith (view v.now) (view w.now) ≡ Ok (view result) }
 {
@@ -30,6 +32,7 @@ pub fn finishes_with(v: &Value, w: &Value) -> Value
 }
 
 /// `v CONTAINS w`.
+#[inline(never)]
 pub fn contains(v: &Value, w: &Value) -> Value
     ensures { tested Contains (view v.now) (view w.now) ≡ Ok (view result) }
 {

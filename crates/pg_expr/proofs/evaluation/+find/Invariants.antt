@@ -30,8 +30,8 @@ invariant-each_operand-loop-operator g l =
 
 abbrev pub invariant-pass_tests-loop-test : goal.invariant-pass_tests-loop-test
 invariant-pass_tests-loop-test g l =
-    tests_given l.site l.graph (found_view l.fn.first) l.tests.items ≡ tests_given l.site l.graph (found_view l.found) (drop l.test-index l.tests.items)
+    tests_given l.site l.graph (found_view l.initial.found) l.test-items ≡ tests_given l.site l.graph (found_view l.found) (drop l.test-index l.test-items)
 
 abbrev pub invariant-read-loop-suffix : goal.invariant-read-loop-suffix
 invariant-read-loop-suffix g l =
-    suffixes_given l.site l.graph (found_view l.fn.first) l.suffixes.items ≡ suffixes_given l.site l.graph (found_view l.found) (drop l.suffix-index l.suffixes.items)
+    suffixes_given l.site l.graph (found_view l.initial.found) l.suffix-items ≡ suffixes_given l.site l.graph (found_view l.found) (drop l.suffix-index l.suffix-items)

@@ -207,6 +207,12 @@ class Seen(unittest.TestCase):
         self.seen.wait("return document.querySelector('#told').textContent.startsWith('2 rows, 245 steps')")
         self.assertEqual(self.drawn()[:2], [6, 6])
         self.assertEqual(self.seen.run("return document.querySelectorAll('#history button').length"), 1)
+        # what would change the graph waits for a click of its own
+        self.seen.run("[...document.querySelectorAll('#questions button')].find((it) => it.firstChild.textContent === 'Somebody changes teams').click()")
+        self.seen.wait("return document.querySelector('#told').textContent.startsWith('this changes the graph')")
+        self.assertEqual(self.seen.run("return document.querySelectorAll('#history button').length"), 1)
+        self.seen.click("#questions li:nth-child(3) button")
+        self.seen.wait("return document.querySelector('#told').textContent.startsWith('2 rows')")
         self.seen.click("#explain")
         self.seen.wait("return document.querySelector('#table').textContent.includes('(u:User')")
         self.is_quiet()

@@ -179,9 +179,14 @@ function remember(text, params) {
 async function offerQuestions() {
   const questions = await (await fetch("/questions", { credentials: "omit" })).json();
   find("asked").hidden = !questions.length;
-  for (const { heading, text, params } of questions) {
+  for (const { heading, text, params, changes } of questions) {
     const told = Object.keys(params).length ? JSON.stringify(params) : "";
-    entry(find("questions"), heading || text.split("\n")[0], text.split("\n")[0], () => { choose(text, told); run(); });
+    entry(find("questions"), heading || text.split("\n")[0], text.split("\n")[0], () => {
+      choose(text, told);
+      if (!changes) return run();
+      begin();
+      find("told").textContent = "this changes the graph: Run asks it";
+    });
   }
 }
 

@@ -8,13 +8,14 @@ ghost use Rattle.pg_meaning.specs.Names.{is_among};
 ghost use Rattle.pg_meaning.specs.Entries.{value_at};
 ghost use Rattle.pg_meaning.specs.Expressions.{property_of, indexed, item_of, labelled};
 ghost use Rattle.pg_meaning.specs.Functions.{item_at};
-ghost use Rattle.pg_meaning.specs.Value.{node, relationship};
+ghost use Rattle.pg_meaning.specs.Graph.{Graph};
+ghost use Rattle.pg_meaning.specs.Value.{integer, node, relationship};
 ghost use Rattle.pg_meaning.specs.declared.fault.Fault.TheVariants.{OutOfMemory};
 ghost use Rattle.pg_syntax_tree.specs.View.{names_view};
 ghost use Rattle.pg_value_core.specs.View.{view, values_view, entries_view};
 
 use crate::site::{Found, lent_or_null, null};
-use pg_expr_calls::value_at;
+use pg_expr_calls::{item_of, value_at};
 use pg_graph::Tables;
 use pg_store::{NodeView, Snapshot};
 use pg_syntax_tree::Name;
@@ -161,7 +162,7 @@ fn item_lent<'a>(items: &'a Vec<Value>, place: i64) -> Found<'a>
     item_at(items, items.len() - back)
 }
 
-/// What stands in a value that was made is copied out of it.
+/// What stands in a list that was made moves out of it, and is copied out of any other value.
 fn index_made<'a, T: Tables>(
     alloc: Global,
     graph: &Snapshot<'a, T>,
@@ -171,8 +172,22 @@ fn index_made<'a, T: Tables>(
     ensures ok { IfOk result (λ f. indexed graph.now (view value) (view place.now) ≡ Ok (found_view f)) }
     ensures err { IfErr result (λ e. e ≢ OutOfMemory → indexed graph.now (view value) (view place.now) ≡ Err e) }
 {
+    if let Value::Int(at) = place {
+        return item_made(value, *at);
+    }
     let found = index_lent(graph, &value, place)?;
     Ok(Found::Made(found.take(alloc)?))
+}
+
+fn item_made<'a>(value: Value, place: i64) -> Result<Found<'a>, Fault>
+    ensures ok { (g : Graph) → IfOk result (λ f. indexed g (view value) (integer place) ≡ Ok (found_view f)) }
+    ensures err { (g : Graph) → IfErr result (λ e. indexed g (view value) (integer place) ≡ Err e) }
+{
+    match value.into_parts() {
+        Parts::Null => Ok(null()),
+        Parts::List(items) => Ok(Found::Made(item_of(items, place))),
+        _ => Err(Fault::TypeFault),
+    }
 }
 
 /// Whether there are all the labels, and the value itself where none is asked for.

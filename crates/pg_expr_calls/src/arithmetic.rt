@@ -8,7 +8,6 @@ use pg_value_core::{Fault, Value};
 
 /// `v - w`.
 #[tactic(auto, using(crate::proofs::Checked::in_range))]
-#[inline(never)]
 pub fn minus(v: &Value, w: &Value) -> Result<Value, Fault>
     ensures ok { IfOk result (λ u. minus (view v.now) (view w.now) ≡ Ok (view u)) }
     ensures err { IfErr result (λ e. minus (view v.now) (view w.now) ≡ Err e) }
@@ -25,7 +24,6 @@ pub fn minus(v: &Value, w: &Value) -> Result<Value, Fault>
 
 /// `v * w`.
 #[tactic(auto, using(crate::proofs::Checked::in_range))]
-#[inline(never)]
 pub fn times(v: &Value, w: &Value) -> Result<Value, Fault>
     ensures ok { IfOk result (λ u. times (view v.now) (view w.now) ≡ Ok (view u)) }
     ensures err { IfErr result (λ e. times (view v.now) (view w.now) ≡ Err e) }
@@ -42,7 +40,6 @@ pub fn times(v: &Value, w: &Value) -> Result<Value, Fault>
 
 /// `v / w`, truncated toward zero.
 #[tactic(auto, using(crate::proofs::Checked::in_division))]
-#[inline(never)]
 pub fn divide(v: &Value, w: &Value) -> Result<Value, Fault>
     ensures ok { IfOk result (λ u. divide (view v.now) (view w.now) ≡ Ok (view u)) }
     ensures err { IfErr result (λ e. divide (view v.now) (view w.now) ≡ Err e) }
@@ -64,7 +61,6 @@ pub fn divide(v: &Value, w: &Value) -> Result<Value, Fault>
 
 /// What `v / w` leaves of `v`, with the sign of `v`: by -1 it is 0, also where the quotient is out of range.
 #[tactic(auto, using(crate::proofs::Checked::in_remainder))]
-#[inline(never)]
 pub fn modulo(v: &Value, w: &Value) -> Result<Value, Fault>
     ensures ok { IfOk result (λ u. modulo (view v.now) (view w.now) ≡ Ok (view u)) }
     ensures err { IfErr result (λ e. modulo (view v.now) (view w.now) ≡ Err e) }

@@ -36,7 +36,6 @@ fn negated(answer: Result<Tri, Fault>) -> Result<Tri, Fault>
 }
 
 /// `v AND w`, where both are evaluated.
-#[inline(never)]
 pub fn conjunction(v: &Value, w: &Value) -> Result<Value, Fault>
     ensures ok { IfOk result (λ u. by_truth and3 (view v.now) (view w.now) ≡ Ok (view u)) }
     ensures err { IfErr result (λ e. by_truth and3 (view v.now) (view w.now) ≡ Err e) }
@@ -47,7 +46,6 @@ pub fn conjunction(v: &Value, w: &Value) -> Result<Value, Fault>
 }
 
 /// `v OR w`, where both are evaluated.
-#[inline(never)]
 pub fn disjunction(v: &Value, w: &Value) -> Result<Value, Fault>
     ensures ok { IfOk result (λ u. by_truth or3 (view v.now) (view w.now) ≡ Ok (view u)) }
     ensures err { IfErr result (λ e. by_truth or3 (view v.now) (view w.now) ≡ Err e) }
@@ -58,7 +56,6 @@ pub fn disjunction(v: &Value, w: &Value) -> Result<Value, Fault>
 }
 
 /// `v XOR w`.
-#[inline(never)]
 pub fn exclusive(v: &Value, w: &Value) -> Result<Value, Fault>
     ensures ok { IfOk result (λ u. by_truth xor3 (view v.now) (view w.now) ≡ Ok (view u)) }
     ensures err { IfErr result (λ e. by_truth xor3 (view v.now) (view w.now) ≡ Err e) }

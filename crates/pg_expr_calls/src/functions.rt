@@ -2,6 +2,7 @@
 
 ghost use Rattle.std.specs.Prelude.{◌≡◌, ◌≢◌, ◌<◌, ◌≤◌, ◌^◌, ◌-◌, IfOk, IfErr, Ok, Err, pos, length, count_by, string_bytes};
 ghost use Rattle.pg_meaning.specs.Answer.{Answer};
+ghost use Rattle.pg_meaning.specs.Expressions.{item_of};
 ghost use Rattle.pg_meaning.specs.Functions.{size_of, length_of, head_of, last_of, string_of, integer_of, integer_in, absolute_of, is_first_byte, item_at, digits_of, count_of, path_relationships};
 ghost use Rattle.pg_meaning.specs.Value.{integer, null, text};
 ghost use Rattle.pg_meaning.specs.declared.fault.Fault.TheVariants.{OutOfMemory};
@@ -109,6 +110,22 @@ pub(crate) fn item_at(mut items: Vec<Value>, place: usize) -> Value
     } else {
         null()
     }
+}
+
+/// The item at a place, counted from the end where it is negative, which moves out, and null past an end.
+#[tactic(auto, using(crate::proofs::Counts::places))]
+pub fn item_of(items: Vec<Value>, place: i64) -> Value
+    ensures { view result ≡ item_of (values_view items.items) place }
+{
+    if place >= 0 {
+        return item_at(items, place as usize);
+    }
+    let back = place.unsigned_abs() as usize;
+    if back > items.len() {
+        return null();
+    }
+    let from_start = items.len() - back;
+    item_at(items, from_start)
 }
 
 pub(crate) fn null() -> Value

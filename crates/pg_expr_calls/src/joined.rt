@@ -27,7 +27,6 @@ pub fn plus(v: Value, w: Value) -> Result<Value, Fault>
 
 /// The sum of two integers.
 #[tactic(auto, using(crate::proofs::Checked::in_sum))]
-#[inline(never)]
 pub fn sum(x: i64, y: i64) -> Result<Value, Fault>
     ensures ok { IfOk result (λ u. plus (integer x) (integer y) ≡ Ok (view u)) }
     ensures err { IfErr result (λ e. plus (integer x) (integer y) ≡ Err e) }

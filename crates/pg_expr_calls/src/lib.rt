@@ -14,7 +14,7 @@ mod texts;
 pub use access::value_at;
 pub use arithmetic::{divide, minus, modulo, negative, positive, times};
 pub use chains::{compared, conjunction, disjunction, exclusive};
-pub use functions::{absolute, head, last, length, size, to_integer, to_text};
+pub use functions::{absolute, head, item_of, last, length, size, to_integer, to_text};
 pub use joined::{plus, sum};
 pub use limits::{is_within_limits, made};
 pub use parts::{keys, nodes, relationships};

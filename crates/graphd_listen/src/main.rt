@@ -11,14 +11,11 @@ use command::{Command, command_of};
 use connections::Connections;
 use fault::ProgramFault;
 use pg_listen::{Limits, ListenEnd, listen_on};
-use pg_names::IndexedTexts;
-use pg_pool::PooledTables;
-use pg_server::{Config, Server};
-use std::hash::RandomState;
+use pg_start::{PooledServer, StartFault, new_server, read_config, take_stack};
+use std::env;
 use std::mem::ManuallyDrop;
 use std::net::SocketAddr;
 use std::process::ExitCode;
-use std::{env, fs, io};
 
 fn main(rt: HostRuntime) -> ExitCode {
     match run_words(&rt) {
@@ -34,6 +31,10 @@ fn main(rt: HostRuntime) -> ExitCode {
 /// Does what the words of the command line ask for.
 fn run_words(rt: &HostRuntime) -> Result<(), ProgramFault> {
     let words: Vec<String> = env::args(rt)?.skip(1).collect(rt.alloc())?;
+    // (their number is what no compiler knows)
+    if !take_stack(words.len() as u64) {
+        return Err(StartFault::OutOfMemory.into());
+    }
     match command_of(&words) {
         Some(Command::Check { config }) => {
             read_config(rt, config)?;
@@ -59,13 +60,8 @@ fn serve(
     limits: Limits,
 ) -> Result<(), ProgramFault> {
     let config = read_config(rt, config)?;
-    let Ok(hasher) = RandomState::new(rt) else {
-        return Err(ProgramFault::NoRandomNumbers);
-    };
     // Its memory is left to the end of the process: to let go of each record would only take time.
-    let mut server: ManuallyDrop<Server<PooledTables<IndexedTexts>>> = ManuallyDrop::new(
-        Server::new(rt.alloc(), config, hasher)?,
-    );
+    let mut server: ManuallyDrop<PooledServer> = ManuallyDrop::new(new_server(rt, config)?);
     let Ok(mut connections) = Connections::bind(rt, rt.alloc(), address, rt) else {
         return Err(ProgramFault::Listen);
     };
@@ -77,15 +73,6 @@ fn serve(
     match end {
         ListenEnd::Stopped => Ok(()),
         ListenEnd::Enough | ListenEnd::Failed => Err(ProgramFault::Wait),
-        ListenEnd::NoMemory => Err(ProgramFault::OutOfMemory),
-    }
-}
-
-/// The configuration at a path.
-fn read_config(rt: &HostRuntime, path: &str) -> Result<Config, ProgramFault> {
-    match fs::read(rt, path) {
-        Ok(bytes) => Ok(Config::read(rt.alloc(), &bytes)?),
-        Err(e) if e.kind() == io::ErrorKind::OutOfMemory => Err(ProgramFault::OutOfMemory),
-        Err(_) => Err(ProgramFault::Unreadable),
+        ListenEnd::NoMemory => Err(StartFault::OutOfMemory.into()),
     }
 }

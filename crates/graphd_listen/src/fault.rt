@@ -14,6 +14,8 @@ pub(crate) enum ProgramFault {
     Usage,
     /// No server was made.
     Start(StartFault),
+    /// The log can't be opened.
+    Log,
     /// The address can't be listened on.
     Listen,
     /// The system tells no more what connections are ready for, or what time it is.
@@ -53,9 +55,10 @@ impl ProgramFault {
     {
         match self {
             ProgramFault::Usage => {
-                "usage: graphd_listen CONFIG ADDRESS:PORT [--clients N] [--patience SECONDS] [--tenant-clients N] | graphd_listen --check CONFIG"
+                "usage: graphd_listen CONFIG ADDRESS:PORT [--clients N] [--patience SECONDS] [--tenant-clients N] [--log FILE] [--metrics ADDRESS:PORT] | graphd_listen --check CONFIG"
             }
             ProgramFault::Start(fault) => fault.line(),
+            ProgramFault::Log => "cannot open the log",
             ProgramFault::Listen => "cannot listen",
             ProgramFault::Wait => "cannot wait for connections",
         }
@@ -68,7 +71,7 @@ impl ProgramFault {
         match self {
             ProgramFault::Usage => 2,
             ProgramFault::Start(fault) => fault.status(),
-            ProgramFault::Listen | ProgramFault::Wait => 1,
+            ProgramFault::Log | ProgramFault::Listen | ProgramFault::Wait => 1,
         }
     }
 }

@@ -5,14 +5,22 @@ mod command;
 mod connection;
 mod connection_table;
 mod connections;
+mod counts;
 mod fault;
+mod lines;
+mod log;
+mod page;
+mod scrape;
+mod scrapes;
 
-use command::{Command, command_of};
+use command::{Command, Options, command_of};
 use connections::Connections;
 use fault::ProgramFault;
-use pg_listen::{Limits, ListenEnd, listen_on};
+use log::{Log, Sink};
+use pg_listen::{ListenEnd, listen_on};
 use pg_start::{PooledServer, StartFault, new_server, read_config, take_stack};
 use std::env;
+use std::fs::OpenOptions;
 use std::mem::ManuallyDrop;
 use std::net::SocketAddr;
 use std::process::ExitCode;
@@ -45,9 +53,9 @@ fn run_words(rt: &HostRuntime) -> Result<(), ProgramFault> {
             Command::Listen {
                 config,
                 address,
-                limits,
+                options,
             },
-        ) => serve(rt, config, address, limits),
+        ) => serve(rt, config, address, options),
         None => Err(ProgramFault::Usage),
     }
 }
@@ -57,22 +65,69 @@ fn serve(
     rt: &HostRuntime,
     config: &str,
     address: SocketAddr,
-    limits: Limits,
+    options: Options<'_>,
 ) -> Result<(), ProgramFault> {
     let config = read_config(rt, config)?;
     // Its memory is left to the end of the process: to let go of each record would only take time.
     let mut server: ManuallyDrop<PooledServer> = ManuallyDrop::new(new_server(rt, config)?);
-    let Ok(mut connections) = Connections::bind(rt, rt.alloc(), address, rt) else {
-        return Err(ProgramFault::Listen);
-    };
-    if let Ok(address) = connections.address() {
-        let _ = println!(rt; "graphd_listen: ready at {address}");
-    }
-    let end = listen_on(rt.alloc(), &mut connections, &mut server, limits, u64::MAX);
+    let mut connections = begin(rt, address, options)?;
+    let end = listen_on(
+        rt.alloc(),
+        &mut connections,
+        &mut server,
+        options.limits(),
+        u64::MAX,
+    );
     connections.finish();
+    connections.say_stop(word_of(end));
     match end {
         ListenEnd::Stopped => Ok(()),
         ListenEnd::Enough | ListenEnd::Failed => Err(ProgramFault::Wait),
         ListenEnd::NoMemory => Err(StartFault::OutOfMemory.into()),
+    }
+}
+
+/// Listens, and says where.
+fn begin<'a>(
+    rt: &'a HostRuntime,
+    address: SocketAddr,
+    options: Options<'_>,
+) -> Result<Connections<'a, HostRuntime>, ProgramFault> {
+    let log = log_at(rt, options.log())?;
+    let Ok(mut connections) = Connections::bind(rt, rt.alloc(), address, rt, log) else {
+        return Err(ProgramFault::Listen);
+    };
+    if let Some(address) = options.metrics() {
+        let Ok(address) = connections.tell_metrics(address, rt) else {
+            return Err(ProgramFault::Listen);
+        };
+        let _ = println!(rt; "graphd_listen: metrics at {address}");
+    }
+    if let Ok(address) = connections.address() {
+        connections.say_start(address);
+        let _ = println!(rt; "graphd_listen: ready at {address}");
+    }
+    Ok(connections)
+}
+
+/// The log at a path, where a dash is standard error.
+fn log_at(rt: &HostRuntime, path: Option<&str>) -> Result<Log, ProgramFault> {
+    let sink = match path {
+        None => Sink::Nowhere,
+        Some("-") => Sink::Stderr(rt.stderr()),
+        Some(path) => match OpenOptions::new().append(true).create(true).open(rt, path) {
+            Ok(file) => Sink::File(file),
+            Err(_) => return Err(ProgramFault::Log),
+        },
+    };
+    Ok(Log::new(rt.alloc(), sink))
+}
+
+/// Why the program ends, in a word.
+fn word_of(end: ListenEnd) -> &'static str {
+    match end {
+        ListenEnd::Stopped => "asked",
+        ListenEnd::Enough | ListenEnd::Failed => "failed",
+        ListenEnd::NoMemory => "no_memory",
     }
 }

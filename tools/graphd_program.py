@@ -49,9 +49,9 @@ def add_program(parser):
     parser.add_argument("--program", metavar="PATH", help="a built graphd; else the one that GRAPHD_PROGRAM names, else this tree's")
 
 
-def program(named=None, builds=True, name="graphd"):
+def program(named=None, name="graphd"):
     """The path of a program: the named one, else that of GRAPHD_PROGRAM where it is graphd, else this tree's. That one is built first where
-    it is older than its texts, but never for a service, which takes what is there."""
+    it is older than its texts."""
     named = named or (os.environ.get("GRAPHD_PROGRAM") if name == "graphd" else None)
     if named:
         path = Path(named).expanduser().resolve()
@@ -59,12 +59,8 @@ def program(named=None, builds=True, name="graphd"):
             raise Failed(f"{named} is no program")
         return path
     path = ROOT / "crates" / name / "out" / name
-    if builds and not is_built(path):
-        build(name, path)
-    if not path.is_file():
-        raise Failed(f"{name} isn't built: build it by 'rt run' in crates/{name}, or name one by --program or GRAPHD_PROGRAM")
     if not is_built(path):
-        print(f"{path} is older than its texts", file=sys.stderr)
+        build(name, path)
     return path
 
 

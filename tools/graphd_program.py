@@ -49,9 +49,9 @@ def add_program(parser):
     parser.add_argument("--program", metavar="PATH", help="a built graphd; else the one that GRAPHD_PROGRAM names, else this tree's")
 
 
-def program(named=None, builds=True, name="graphd"):
+def program(named=None, name="graphd"):
     """The path of a program: the named one, else that of GRAPHD_PROGRAM or GRAPHD_LISTEN_PROGRAM, else this tree's. That one is built first
-    where it is older than its texts, but never for a service, which takes what is there."""
+    where it is older than its texts."""
     named = named or os.environ.get(f"{name.upper()}_PROGRAM")
     if named:
         path = Path(named).expanduser().resolve()
@@ -59,12 +59,8 @@ def program(named=None, builds=True, name="graphd"):
             raise Failed(f"{named} is no program")
         return path
     path = ROOT / "crates" / name / "out" / name
-    if builds and not is_built(path):
-        build(name, path)
-    if not path.is_file():
-        raise Failed(f"{name} isn't built: build it by 'rt run' in crates/{name}, or name one by {name.upper()}_PROGRAM")
     if not is_built(path):
-        print(f"{path} is older than its texts", file=sys.stderr)
+        build(name, path)
     return path
 
 

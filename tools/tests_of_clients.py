@@ -1,17 +1,18 @@
-"""What the tests of the clients share: the program that they run, gateways, shells, and a terminal."""
+"""What the tests of the clients share: the programs that they run, servers for many clients, shells, and a terminal."""
 import contextlib
 import fcntl
 import json
 import os
 import re
 import select
+import socket
 import subprocess
 import sys
 import tempfile
 import termios
+import threading
 import time
 from pathlib import Path
-from typing import NamedTuple
 
 import client_path  # (finds the package graphd)
 import graphd
@@ -20,7 +21,7 @@ from graphd_program import ROOT
 CONFIG = ROOT / "examples" / "first.json"
 SHELL = [sys.executable, str(ROOT / "tools" / "graphsh")]
 SECONDS = int(os.environ.get("GRAPHD_TEST_SECONDS", "120"))  # what is waited for at most, which only a machine with much else to do needs
-SLOW = "/*slow*/"  # a text with this is answered late by `slowed`
+SLOW = "/*slow*/"  # a text with this is answered late by `slowed` and behind a `Relay`
 LATE = 1.5  # seconds
 
 
@@ -82,12 +83,12 @@ def slowed(folder):
     return path
 
 
-class Gateway:
+class Server:
     def __init__(self, child, port):
-        self.child, self.port, self.told = child, port, None
+        self.child, self.port = child, port
 
     def sockets(self):
-        """How many connections the gateway holds."""
+        """How many connections it holds, and how many sockets it listens at."""
         found = 0
         for file in os.listdir(f"/proc/{self.child.pid}/fd"):
             with contextlib.suppress(OSError):
@@ -96,36 +97,58 @@ class Gateway:
 
 
 @contextlib.contextmanager
-def gateway(config, *words, **variables):
-    """A gateway over a server of its own, which ends well. What it told is there at the end."""
-    run = [sys.executable, str(ROOT / "tools" / "gateway"), str(config), "--port", "0", *words]
+def listening(config, *words):
+    """A server for many clients, which ends well."""
+    run = [str(Given.listener), str(config), "127.0.0.1:0", *words]
     pipe = subprocess.PIPE
-    child = subprocess.Popen(run, stdout=pipe, stderr=pipe, text=True, env=environment(**variables))
+    child = subprocess.Popen(run, stdin=pipe, stdout=pipe, stderr=pipe, text=True, env=environment())
     try:
-        made = Gateway(child, int(child.stdout.readline().rsplit(":", 1)[1]))
-        yield made
+        yield Server(child, int(child.stdout.readline().rsplit(":", 1)[1]))
     finally:
-        child.terminate()
+        # the end of its standard input stops it
         told = child.communicate(timeout=SECONDS)[1]
-    made.told = told
-    assert child.returncode == 0, f"the gateway ended with status {child.returncode}: {told}"
+    assert (child.returncode, told) == (0, ""), f"the server ended with status {child.returncode}: {told}"
 
 
-class Listener(NamedTuple):
-    child: subprocess.Popen
-    port: int
+class Relay:
+    """Hands frames to a server one by one, those with SLOW late, and speaks TLS to its own clients where it is given a context."""
+
+    def __init__(self, server, tls=None):
+        self.server, self.tls = server, tls
+        self.listener = socket.create_server(("127.0.0.1", 0))
+        self.port = self.listener.getsockname()[1]
+        threading.Thread(target=self.accept, daemon=True).start()
+
+    def __enter__(self):
+        return self
+
+    def __exit__(self, *fault):
+        self.listener.close()
+
+    def accept(self):
+        with contextlib.suppress(OSError):
+            while True:
+                client = self.listener.accept()[0]
+                threading.Thread(target=self.relay, args=(client,), daemon=True).start()
+
+    def relay(self, client):
+        with contextlib.suppress(OSError), client, socket.create_connection(("127.0.0.1", self.server.port)) as server:
+            if self.tls:
+                client = self.tls.wrap_socket(client, server_side=True)
+            with client.makefile("rb") as asked, server.makefile("rb") as answered:
+                while head := asked.read(4):
+                    body = asked.read(int.from_bytes(head, "big"))
+                    time.sleep(LATE if SLOW.encode() in body else 0)
+                    server.sendall(head + body)
+                    head = answered.read(4)
+                    client.sendall(head + answered.read(int.from_bytes(head, "big")))
 
 
 @contextlib.contextmanager
-def listening(config, *words):
-    """A graphd_listen, which is stopped by a line and ends well."""
-    pipe = subprocess.PIPE
-    child = subprocess.Popen([str(Given.listener), str(config), "127.0.0.1:0", *words], stdin=pipe, stdout=pipe, stderr=pipe, text=True)
-    try:
-        yield Listener(child, int(child.stdout.readline().rsplit(":", 1)[1]))
-    finally:
-        told = child.communicate("\n", timeout=SECONDS)[1]
-    assert child.returncode == 0, f"graphd_listen ended with status {child.returncode}: {told}"
+def late(config):
+    """A server that answers late to the texts that ask for it."""
+    with listening(config) as server, Relay(server) as relay:
+        yield relay
 
 
 def shell(*words, text="", seconds=SECONDS, **variables):

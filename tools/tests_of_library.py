@@ -19,7 +19,7 @@ import client_path  # (finds the package graphd)
 import graphd
 import graphd.aio as aio
 from graphd_program import ROOT
-from tests_of_clients import CONFIG, LATE, SECONDS, SLOW, command, folder, gateway, listening, slowed
+from tests_of_clients import CONFIG, LATE, SECONDS, SLOW, Relay, command, folder, late, listening, slowed
 
 
 @contextlib.contextmanager
@@ -247,7 +247,7 @@ class Connections(unittest.TestCase):
         for wrong in (0, 65536, "http://x", "graphd://", "graphd://a1@x:1", "graphd://x:70000"):
             with self.assertRaises(ValueError, msg=wrong):
                 graphd.connect(wrong, "a1")
-        with gateway(CONFIG) as server:
+        with listening(CONFIG) as server:
             for where in (server.port, f"graphd://127.0.0.1:{server.port}", f"127.0.0.1:{server.port}"):
                 self.assertEqual(graphd.connect(where, "a1").status().elements, 0)
 
@@ -274,18 +274,18 @@ class Connections(unittest.TestCase):
     def test_threads_share_a_session(self):
         with graphd.start(command(), "a1") as graph:
             self.assertEqual(in_threads(8, lambda number: echoes(graph, number, 40)), [])
-        with gateway(CONFIG) as server:
+        with listening(CONFIG) as server:
             with graphd.connect(server.port, "a1") as graph:
                 self.assertEqual(in_threads(8, lambda number: echoes(graph, number, 40)), [])
 
     def test_threads_share_a_pool(self):
-        with gateway(CONFIG) as server, graphd.pool(server.port, "a1", size=3) as pool:
+        with listening(CONFIG) as server, graphd.pool(server.port, "a1", size=3) as pool:
             before = server.sockets()
             self.assertEqual(in_threads(8, lambda number: echoes(pool, number, 40)), [])
             self.assertLessEqual(server.sockets(), before + 3)
 
     def test_an_interrupt_leaves_no_reply_for_the_next_request(self):
-        with folder() as made, gateway(CONFIG, "--program", str(slowed(made))) as server:
+        with folder() as made, late(CONFIG) as server:
             for opened in (lambda: graphd.connect(server.port, "a1"), lambda: graphd.start([str(slowed(made)), "run", str(CONFIG)], "a1")):
                 with opened() as graph:
                     with self.assertRaises(KeyboardInterrupt), interrupted(0.4):
@@ -293,7 +293,7 @@ class Connections(unittest.TestCase):
                     self.assertEqual(graph.query("RETURN 2 AS x").value(), 2)
 
     def test_a_reply_that_takes_too_long(self):
-        with folder() as made, gateway(CONFIG, "--program", str(slowed(made))) as server:
+        with folder() as made, late(CONFIG) as server:
             for graph in (graphd.connect(server.port, "a1", timeout=LATE / 3), graphd.start([str(slowed(made)), "run", str(CONFIG)], "a1", LATE / 3)):
                 with graph:
                     with self.assertRaises(graphd.TimedOut):
@@ -327,9 +327,11 @@ class Connections(unittest.TestCase):
             key, certificate = made / "key", made / "certificate"
             words = ["req", "-x509", "-newkey", "rsa:2048", "-nodes", "-days", "1", "-subj", "/CN=localhost", "-addext", "subjectAltName=DNS:localhost"]
             subprocess.run([openssl, *words, "-keyout", key, "-out", certificate], check=True, capture_output=True)
-            with gateway(CONFIG, "--certificate", str(certificate), "--key", str(key)) as server:
-                import ssl
+            import ssl
 
+            own = ssl.SSLContext(ssl.PROTOCOL_TLS_SERVER)
+            own.load_cert_chain(certificate, key)
+            with listening(CONFIG) as plain, Relay(plain, own) as server:
                 trusted = ssl.create_default_context(cafile=str(certificate))
                 with graphd.connect(f"graphds://localhost:{server.port}", "a1", ssl=trusted) as graph:
                     self.assertEqual([graph.query("RETURN 1").value() for _ in range(3)], [1, 1, 1])
@@ -383,7 +385,7 @@ class Asyncio(unittest.TestCase):
         with folder() as made:
             program = slowed(made)
             asyncio.run(talk(aio.start([str(program), "run", str(CONFIG)], "a1", timeout=30)))
-            with gateway(CONFIG, "--program", str(program)) as server:
+            with late(CONFIG) as server:
                 asyncio.run(talk(aio.connect(server.port, "a1", timeout=30)))
 
     async def timed_out(self, graph):

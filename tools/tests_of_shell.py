@@ -14,7 +14,7 @@ import tables
 from graphd_program import ROOT
 from statements import Open, Splitter, statements
 from terminal import completions
-from tests_of_clients import CONFIG, PROMPT, SECONDS, SHELL, SLOW, Given, Terminal, configuration, elements, environment, folder, gateway, shell, slowed
+from tests_of_clients import CONFIG, PROMPT, SECONDS, SHELL, SLOW, Given, Terminal, configuration, elements, environment, folder, late, listening, shell, slowed
 
 
 def texts(text):
@@ -115,7 +115,7 @@ class Scripts(unittest.TestCase):
 
     def test_fail_fast(self):
         text = "CREATE (:P);\nRETURN;\nCREATE (:P);"
-        with gateway(CONFIG) as server:
+        with listening(CONFIG) as server:
             status, _, told = shell("--port", server.port, "a1", "--fail-fast", text=text)
             self.assertEqual((status, elements(server.port)), (1, 1))
             self.assertIn("statement 2, line 2", told)
@@ -173,7 +173,7 @@ class Scripts(unittest.TestCase):
                 self.assertEqual((status, json.loads(told)), (0, wanted))
 
     def test_a_broken_pipe_ends_the_run(self):
-        with folder() as made, gateway(configuration(made, 1)) as server:
+        with folder() as made, listening(configuration(made, 1)) as server:
             file = made / "many.cypher"
             file.write_text("CREATE (n) RETURN n;\n" * 300)
             run = [*SHELL, "--port", str(server.port), "t0", "--file", str(file)]
@@ -185,7 +185,7 @@ class Scripts(unittest.TestCase):
             self.assertLess(elements(server.port, "t0"), 250)
 
     def test_an_interrupt_of_a_file(self):
-        with folder() as made, gateway(CONFIG, "--program", str(slowed(made))) as server:
+        with folder() as made, late(CONFIG) as server:
             file = made / "a.cypher"
             file.write_text(f"CREATE (:P);\nRETURN 1 AS x {SLOW};\nCREATE (:P);\n")
             run = [*SHELL, "--port", str(server.port), "a1", "--file", str(file)]
@@ -261,7 +261,7 @@ class Typed(unittest.TestCase):
             self.assertIn("\n1\r\n1 row", typed.wait_for(r"1 row, "))
 
     def test_an_interrupt_of_a_query_keeps_the_shell_and_the_graph(self):
-        with folder() as made, gateway(CONFIG, "--program", str(slowed(made))) as server:
+        with folder() as made, late(CONFIG) as server:
             for words in ([CONFIG, "a1", "--program", slowed(made)], ["--port", server.port, "a1"]):
                 with Terminal(*words) as typed:
                     typed.wait_for(PROMPT)
@@ -372,9 +372,3 @@ class Programs(unittest.TestCase):
             program.symlink_to(Given.program)
             os.utime(made / "crates.txt", (0, 0))
             self.assertEqual(self.run_tool(made, *asked)[:1], (0,))
-
-    def test_a_service_never_builds(self):
-        with folder() as made:
-            self.copied(made)
-            status, _, told = self.run_tool(made, "gateway", made / "examples" / "first.json", "--port", "0")
-            self.assertEqual((status, "graphd isn't built" in told), (1, True))

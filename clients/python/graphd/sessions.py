@@ -200,7 +200,7 @@ def pool(
     wait: float = 0.0,
 ) -> Pool:
     """Like `connect`, with at most `size` connections that threads share. A server that takes one connection at a time (`graphd serve`)
-    answers one request of a pool of one; behind a gateway a pool may be as large as the gateway's number of clients."""
+    answers one request of a pool of one; with `graphd_listen` a pool may be as large as its number of clients."""
     address = address_of(where, host, ssl, wait)
     return Pool(token, lambda: address.opened(timeout), size, timeout)
 

@@ -1,27 +1,21 @@
 -- What the program tells on standard error, and its exit status.
 use Rattle.std.specs.Prelude.{ℕ, List, Result, Ok, Err, codes}
-use Rattle.pg_server.specs.ConfigLines.{config_line, config_status}
 use Rattle.pg_server.specs.Connections.{serve_line, serve_status}
 use Rattle.pg_server.specs.Ends.{end_line, end_status}
 use Rattle.pg_server.specs.declared.end.End.{End}
+use Rattle.pg_start.specs.Lines.{start_line, start_status}
 use Rattle.graphd.specs.declared.fault.ProgramFault.{ProgramFault}
-use Rattle.graphd.specs.declared.fault.ProgramFault.TheVariants.{Usage, Unreadable, Config, Serving, NoRandomNumbers, OutOfMemory}
+use Rattle.graphd.specs.declared.fault.ProgramFault.TheVariants.{Usage, Start, Serving}
 
 abbrev pub program_line : ProgramFault → List ℕ
 program_line Usage = codes "usage: graphd run CONFIG | graphd serve CONFIG PORT COUNT"
-program_line Unreadable = codes "cannot read the configuration"
-program_line (Config fault) = config_line fault
+program_line (Start fault) = start_line fault
 program_line (Serving fault) = serve_line fault
-program_line NoRandomNumbers = codes "no random numbers"
-program_line OutOfMemory = codes "out of memory"
 
 abbrev pub program_status : ProgramFault → ℕ
 program_status Usage = 2
-program_status Unreadable = 2
-program_status (Config fault) = config_status fault
+program_status (Start fault) = start_status fault
 program_status (Serving fault) = serve_status fault
-program_status NoRandomNumbers = 1
-program_status OutOfMemory = 1
 
 -- the program ends as its run does, or by a fault of its own
 abbrev pub outcome_line : Result End ProgramFault → List ℕ

@@ -1,9 +1,11 @@
 //! Why the program ends with an error.
 ghost use Rattle.std.specs.Prelude.{◌≡◌};
 ghost use Rattle.graphd.specs.Lines.{program_line, program_status};
-ghost use Rattle.graphd.specs.declared.fault.ProgramFault.TheVariants.{OutOfMemory, Config, Serving};
+ghost use Rattle.graphd.specs.declared.fault.ProgramFault.TheVariants.{Start, Serving};
+ghost use Rattle.pg_start.specs.declared.start_fault.StartFault.TheVariants.{OutOfMemory};
 
-use pg_server::{ConfigFault, ServeFault};
+use pg_server::ServeFault;
+use pg_start::StartFault;
 use std::alloc::AllocError;
 use std::io;
 
@@ -11,21 +13,17 @@ use std::io;
 pub(crate) enum ProgramFault {
     /// The words of the command line are none of the program's.
     Usage,
-    /// The file of the configuration can't be read.
-    Unreadable,
-    Config(ConfigFault),
+    /// No server was made.
+    Start(StartFault),
     /// The port can't be listened on, or a connection not be accepted.
     Serving(ServeFault),
-    /// The system gives no random numbers for the keys of hashes.
-    NoRandomNumbers,
-    OutOfMemory,
 }
 
-impl From<ConfigFault> for ProgramFault {
-    ghost from_gives = { λ e f. f ≡ Config e };
+impl From<StartFault> for ProgramFault {
+    ghost from_gives = { λ e f. f ≡ Start e };
 
-    fn from(fault: ConfigFault) -> Self {
-        ProgramFault::Config(fault)
+    fn from(fault: StartFault) -> Self {
+        ProgramFault::Start(fault)
     }
 }
 
@@ -38,10 +36,10 @@ impl From<ServeFault> for ProgramFault {
 }
 
 impl From<AllocError> for ProgramFault {
-    ghost from_gives = { λ e f. f ≡ OutOfMemory };
+    ghost from_gives = { λ e f. f ≡ Start OutOfMemory };
 
     fn from(_: AllocError) -> Self {
-        ProgramFault::OutOfMemory
+        ProgramFault::Start(StartFault::OutOfMemory)
     }
 }
 
@@ -49,7 +47,7 @@ impl From<io::Error> for ProgramFault {
     /// From the words of the command line, which may not be UTF-8, and from buffers.
     fn from(e: io::Error) -> Self {
         match e.kind() {
-            io::ErrorKind::OutOfMemory => ProgramFault::OutOfMemory,
+            io::ErrorKind::OutOfMemory => ProgramFault::Start(StartFault::OutOfMemory),
             _ => ProgramFault::Usage,
         }
     }
@@ -62,11 +60,8 @@ impl ProgramFault {
     {
         match self {
             ProgramFault::Usage => { "usage: graphd run CONFIG | graphd serve CONFIG PORT COUNT" }
-            ProgramFault::Unreadable => "cannot read the configuration",
-            ProgramFault::Config(fault) => fault.line(),
+            ProgramFault::Start(fault) => fault.line(),
             ProgramFault::Serving(fault) => fault.line(),
-            ProgramFault::NoRandomNumbers => "no random numbers",
-            ProgramFault::OutOfMemory => "out of memory",
         }
     }
 
@@ -75,10 +70,9 @@ impl ProgramFault {
         ensures { result ≡ program_status self.now }
     {
         match self {
-            ProgramFault::Usage | ProgramFault::Unreadable => 2,
-            ProgramFault::Config(fault) => fault.status(),
+            ProgramFault::Usage => 2,
+            ProgramFault::Start(fault) => fault.status(),
             ProgramFault::Serving(fault) => fault.status(),
-            ProgramFault::NoRandomNumbers | ProgramFault::OutOfMemory => 1,
         }
     }
 }

@@ -5,21 +5,17 @@ mod command;
 mod fault;
 mod outcome;
 mod records;
-mod stack;
 
 use command::{Command, command_of};
 use fault::ProgramFault;
 use outcome::{line_of, status_of};
-use pg_names::IndexedTexts;
-use pg_pool::PooledTables;
-use pg_server::{Config, Counted, End, ServeFault, Server, serve_on};
-use stack::{STACK_PAGES, take_stack};
-use std::hash::RandomState;
+use pg_server::{Counted, End, ServeFault, serve_on};
+use pg_start::{PooledServer, StartFault, new_server, read_config, take_stack};
 use std::io::BufReader;
 use std::mem::ManuallyDrop;
 use std::net::{Ipv4Addr, TcpListener};
 use std::process::ExitCode;
-use std::{env, fs, io};
+use std::{env, io};
 
 fn main(rt: HostRuntime) -> ExitCode {
     let outcome = run_words(&rt);
@@ -35,8 +31,8 @@ fn main(rt: HostRuntime) -> ExitCode {
 fn run_words(rt: &HostRuntime) -> Result<End, ProgramFault> {
     let words: Vec<String> = env::args(rt)?.skip(1).collect(rt.alloc())?;
     // (their number is what no compiler knows)
-    if !take_stack(STACK_PAGES, words.len() as u64) {
-        return Err(ProgramFault::OutOfMemory);
+    if !take_stack(words.len() as u64) {
+        return Err(StartFault::OutOfMemory.into());
     }
     match command_of(&words) {
         Some(command) => serve(rt, command),
@@ -51,13 +47,8 @@ fn serve(rt: &HostRuntime, command: Command<'_>) -> Result<End, ProgramFault> {
         Command::Serve { config, .. } => config,
     };
     let config = read_config(rt, path)?;
-    let Ok(hasher) = RandomState::new(rt) else {
-        return Err(ProgramFault::NoRandomNumbers);
-    };
     // Its memory is left to the end of the process: to let go of each record would only take time.
-    let mut server: ManuallyDrop<Server<PooledTables<IndexedTexts>>> = ManuallyDrop::new(
-        Server::new(rt.alloc(), config, hasher)?,
-    );
+    let mut server: ManuallyDrop<PooledServer> = ManuallyDrop::new(new_server(rt, config)?);
     match command {
         Command::Run { .. } => {
             let mut reader = Counted::new(BufReader::new(rt.alloc(), rt.reader())?);
@@ -71,14 +62,5 @@ fn serve(rt: &HostRuntime, command: Command<'_>) -> Result<End, ProgramFault> {
             serve_on(&listener, &mut server, count)?;
             Ok(End::Done)
         }
-    }
-}
-
-/// The configuration at a path.
-fn read_config(rt: &HostRuntime, path: &str) -> Result<Config, ProgramFault> {
-    match fs::read(rt, path) {
-        Ok(bytes) => Ok(Config::read(rt.alloc(), &bytes)?),
-        Err(e) if e.kind() == io::ErrorKind::OutOfMemory => Err(ProgramFault::OutOfMemory),
-        Err(_) => Err(ProgramFault::Unreadable),
     }
 }

@@ -22,16 +22,18 @@ pub(crate) enum Command<'a> {
     Listen {
         config: &'a str,
         address: SocketAddr,
-        limits: Limits,
+        options: Options<'a>,
     },
 }
 
 /// What the options set, and nothing where one is left out.
 #[derive(Clone, Copy)]
-struct Options {
+pub(crate) struct Options<'a> {
     clients: Option<u64>,
     patience: Option<u64>,
     tenant_clients: Option<u64>,
+    log: Option<&'a str>,
+    metrics: Option<SocketAddr>,
 }
 
 /// The command of these words behind the program's name, if they are one.
@@ -43,38 +45,70 @@ pub(crate) fn command_of(words: &[String]) -> Option<Command<'_>> {
         [config, address, options @ ..] => Some(Command::Listen {
             config: config.as_str(),
             address: address.as_str().parse().ok()?,
-            limits: limits_of(options_of(options)?),
+            options: options_of(options)?,
         }),
         _ => None,
     }
 }
 
-impl Options {
+impl<'a> Options<'a> {
     /// Sets the option of this name, unless it is set.
-    fn set(&mut self, name: &str, value: &str) -> Option<()> {
+    fn set(&mut self, name: &str, value: &'a str) -> Option<()> {
         match name {
-            "--clients" => set_once(&mut self.clients, value, MOST_CLIENTS),
-            "--patience" => set_once(&mut self.patience, value, MOST_SECONDS),
-            "--tenant-clients" => set_once(&mut self.tenant_clients, value, MOST_CLIENTS),
+            "--clients" => set_once(&mut self.clients, number_of(value, MOST_CLIENTS)?),
+            "--patience" => set_once(&mut self.patience, number_of(value, MOST_SECONDS)?),
+            "--tenant-clients" => set_once(
+                &mut self.tenant_clients,
+                number_of(value, MOST_CLIENTS)?,
+            ),
+            "--log" => set_once(&mut self.log, value),
+            "--metrics" => set_once(&mut self.metrics, value.parse().ok()?),
             _ => None,
         }
     }
+
+    /// What clients may take.
+    pub(crate) fn limits(&self) -> Limits {
+        let clients = self.clients.unwrap_or(1_024) as usize;
+        Limits {
+            clients,
+            tenant_clients: match self.tenant_clients {
+                Some(most) => most as usize,
+                None => clients,
+            },
+            patience: self.patience.unwrap_or(30).saturating_mul(1_000_000),
+            waiting: MOST_WAITING,
+            tenant_waiting: MOST_WAITING_OF_TENANT,
+        }
+    }
+
+    /// The path of the log, or a dash.
+    pub(crate) fn log(&self) -> Option<&'a str> {
+        self.log
+    }
+
+    /// Where the metrics are told.
+    pub(crate) fn metrics(&self) -> Option<SocketAddr> {
+        self.metrics
+    }
 }
 
-fn set_once(option: &mut Option<u64>, value: &str, most: u64) -> Option<()> {
+fn set_once<T: Copy>(option: &mut Option<T>, value: T) -> Option<()> {
     if option.is_some() {
         return None;
     }
-    *option = Some(number_of(value, most)?);
+    *option = Some(value);
     Some(())
 }
 
 /// The options in these words, each at most once.
-fn options_of(words: &[String]) -> Option<Options> {
+fn options_of(words: &[String]) -> Option<Options<'_>> {
     let mut options = Options {
         clients: None,
         patience: None,
         tenant_clients: None,
+        log: None,
+        metrics: None,
     };
     for pair in words.chunks(2) {
         let [name, value] = pair else {
@@ -96,18 +130,4 @@ fn number_of(text: &str, most: u64) -> Option<u64> {
         return None;
     }
     Some(number)
-}
-
-fn limits_of(options: Options) -> Limits {
-    let clients = options.clients.unwrap_or(1_024) as usize;
-    Limits {
-        clients,
-        tenant_clients: match options.tenant_clients {
-            Some(most) => most as usize,
-            None => clients,
-        },
-        patience: options.patience.unwrap_or(30).saturating_mul(1_000_000),
-        waiting: MOST_WAITING,
-        tenant_waiting: MOST_WAITING_OF_TENANT,
-    }
 }

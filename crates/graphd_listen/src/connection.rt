@@ -8,7 +8,7 @@ use mio::{Interest, Registry, Token};
 use pg_listen::{Received, Sent};
 use std::io;
 use std::io::{ErrorKind, Read, Write};
-use std::net::Shutdown;
+use std::net::{Shutdown, SocketAddr};
 
 /// How often a call is tried again that was interrupted.
 pub(crate) const TRIES: u32 = 8;
@@ -19,6 +19,7 @@ const DISCARDED_AT_ONCE: u32 = 16;
 #[derive(Drop)]
 pub(crate) struct Connection {
     stream: TcpStream,
+    address: SocketAddr,
     is_readable: bool,
     is_writable: bool,
     /// The peer sends no more, so a read goes on to the end.
@@ -43,6 +44,7 @@ impl Connection {
         registry: &Registry,
         client: u64,
         mut stream: TcpStream,
+        address: SocketAddr,
     ) -> io::Result<Connection> {
         // A socket that can't be told to send at once serves all the same.
         let _ = stream.set_nodelay(true);
@@ -53,11 +55,17 @@ impl Connection {
         )?;
         Ok(Connection {
             stream,
+            address,
             is_readable: true,
             is_writable: true,
             has_end: false,
             lingers: None,
         })
+    }
+
+    /// Where the peer is.
+    pub(crate) fn address(&self) -> SocketAddr {
+        self.address
     }
 
     /// Has the system report once more what the connection is ready for.

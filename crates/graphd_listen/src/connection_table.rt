@@ -1,8 +1,12 @@
 //! The connections that are open, by the numbers of their clients, and those that linger behind their end.
+ghost use Rattle.std.specs.Prelude.{None};
+ghost use Rattle.pg_listen.specs.Network.{IsReceived, IsSent};
+
 use crate::connection::{Connection, Discarded};
+use crate::lines::Peer;
 use mio::Registry;
 use mio::event::Event;
-use pg_listen::Signal;
+use pg_listen::{Received, Sent, Signal};
 use std::alloc::{AllocError, Global};
 use std::collections::HashMap;
 use std::io;
@@ -42,8 +46,28 @@ impl ConnectionTable {
         }
     }
 
-    pub(crate) fn get_mut(&mut self, client: u64) -> Option<&mut Connection> {
-        self.connections.get_mut(&client)
+    /// The connection of a client, as lines name it.
+    pub(crate) fn peer(&self, client: u64) -> Option<Peer> {
+        let address = self.connections.get(&client)?.address();
+        Some(Peer { client, address })
+    }
+
+    pub(crate) fn receive(&mut self, client: u64, buf: &mut [u8]) -> Received
+        ensures { IsReceived None None 0 buf.new result }
+    {
+        match self.connections.get_mut(&client) {
+            Some(connection) => connection.receive(buf),
+            None => Received::Failed,
+        }
+    }
+
+    pub(crate) fn send(&mut self, client: u64, bytes: &[u8]) -> Sent
+        ensures { IsSent None None 0 bytes.now result }
+    {
+        match self.connections.get_mut(&client) {
+            Some(connection) => connection.send(bytes),
+            None => Sent::Failed,
+        }
     }
 
     pub(crate) fn has_lingering(&self) -> bool {

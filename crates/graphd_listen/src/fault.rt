@@ -1,9 +1,10 @@
 //! Why the program ends with an error.
 ghost use Rattle.std.specs.Prelude.{◌≡◌};
 ghost use Rattle.graphd_listen.specs.Lines.{program_line, program_status};
-ghost use Rattle.graphd_listen.specs.declared.fault.ProgramFault.TheVariants.{OutOfMemory, Config};
+ghost use Rattle.graphd_listen.specs.declared.fault.ProgramFault.TheVariants.{Start};
+ghost use Rattle.pg_start.specs.declared.start_fault.StartFault.TheVariants.{OutOfMemory};
 
-use pg_server::ConfigFault;
+use pg_start::StartFault;
 use std::alloc::AllocError;
 use std::io;
 
@@ -11,31 +12,29 @@ use std::io;
 pub(crate) enum ProgramFault {
     /// The words of the command line are none of the program's.
     Usage,
-    /// The file of the configuration can't be read.
-    Unreadable,
-    Config(ConfigFault),
+    /// No server was made.
+    Start(StartFault),
+    /// The log can't be opened.
+    Log,
     /// The address can't be listened on.
     Listen,
     /// The system tells no more what connections are ready for, or what time it is.
     Wait,
-    /// The system gives no random numbers for the keys of hashes.
-    NoRandomNumbers,
-    OutOfMemory,
 }
 
-impl From<ConfigFault> for ProgramFault {
-    ghost from_gives = { λ e f. f ≡ Config e };
+impl From<StartFault> for ProgramFault {
+    ghost from_gives = { λ e f. f ≡ Start e };
 
-    fn from(fault: ConfigFault) -> Self {
-        ProgramFault::Config(fault)
+    fn from(fault: StartFault) -> Self {
+        ProgramFault::Start(fault)
     }
 }
 
 impl From<AllocError> for ProgramFault {
-    ghost from_gives = { λ e f. f ≡ OutOfMemory };
+    ghost from_gives = { λ e f. f ≡ Start OutOfMemory };
 
     fn from(_: AllocError) -> Self {
-        ProgramFault::OutOfMemory
+        ProgramFault::Start(StartFault::OutOfMemory)
     }
 }
 
@@ -43,7 +42,7 @@ impl From<io::Error> for ProgramFault {
     /// From the words of the command line, which may not be UTF-8.
     fn from(e: io::Error) -> Self {
         match e.kind() {
-            io::ErrorKind::OutOfMemory => ProgramFault::OutOfMemory,
+            io::ErrorKind::OutOfMemory => ProgramFault::Start(StartFault::OutOfMemory),
             _ => ProgramFault::Usage,
         }
     }
@@ -56,14 +55,12 @@ impl ProgramFault {
     {
         match self {
             ProgramFault::Usage => {
-                "usage: graphd_listen CONFIG ADDRESS:PORT [--clients N] [--patience SECONDS] [--tenant-clients N] | graphd_listen --check CONFIG"
+                "usage: graphd_listen CONFIG ADDRESS:PORT [--clients N] [--patience SECONDS] [--tenant-clients N] [--log FILE] [--metrics ADDRESS:PORT] | graphd_listen --check CONFIG"
             }
-            ProgramFault::Unreadable => "cannot read the configuration",
-            ProgramFault::Config(fault) => fault.line(),
+            ProgramFault::Start(fault) => fault.line(),
+            ProgramFault::Log => "cannot open the log",
             ProgramFault::Listen => "cannot listen",
             ProgramFault::Wait => "cannot wait for connections",
-            ProgramFault::NoRandomNumbers => "no random numbers",
-            ProgramFault::OutOfMemory => "out of memory",
         }
     }
 
@@ -72,12 +69,9 @@ impl ProgramFault {
         ensures { result ≡ program_status self.now }
     {
         match self {
-            ProgramFault::Usage | ProgramFault::Unreadable => 2,
-            ProgramFault::Config(fault) => fault.status(),
-            ProgramFault::Listen
-            | ProgramFault::Wait
-            | ProgramFault::NoRandomNumbers
-            | ProgramFault::OutOfMemory => 1,
+            ProgramFault::Usage => 2,
+            ProgramFault::Start(fault) => fault.status(),
+            ProgramFault::Log | ProgramFault::Listen | ProgramFault::Wait => 1,
         }
     }
 }

@@ -5,20 +5,25 @@ mod command;
 mod connection;
 mod connection_table;
 mod connections;
+mod counts;
 mod fault;
+mod lines;
+mod log;
+mod page;
+mod scrape;
+mod scrapes;
 
-use command::{Command, command_of};
+use command::{Command, Options, command_of};
 use connections::Connections;
 use fault::ProgramFault;
-use pg_listen::{Limits, ListenEnd, listen_on};
-use pg_names::IndexedTexts;
-use pg_pool::PooledTables;
-use pg_server::{Config, Server};
-use std::hash::RandomState;
+use log::{Log, Sink};
+use pg_listen::{ListenEnd, listen_on};
+use pg_start::{PooledServer, StartFault, new_server, read_config, take_stack};
+use std::env;
+use std::fs::OpenOptions;
 use std::mem::ManuallyDrop;
 use std::net::SocketAddr;
 use std::process::ExitCode;
-use std::{env, fs, io};
 
 fn main(rt: HostRuntime) -> ExitCode {
     match run_words(&rt) {
@@ -34,6 +39,10 @@ fn main(rt: HostRuntime) -> ExitCode {
 /// Does what the words of the command line ask for.
 fn run_words(rt: &HostRuntime) -> Result<(), ProgramFault> {
     let words: Vec<String> = env::args(rt)?.skip(1).collect(rt.alloc())?;
+    // (their number is what no compiler knows)
+    if !take_stack(words.len() as u64) {
+        return Err(StartFault::OutOfMemory.into());
+    }
     match command_of(&words) {
         Some(Command::Check { config }) => {
             read_config(rt, config)?;
@@ -44,9 +53,9 @@ fn run_words(rt: &HostRuntime) -> Result<(), ProgramFault> {
             Command::Listen {
                 config,
                 address,
-                limits,
+                options,
             },
-        ) => serve(rt, config, address, limits),
+        ) => serve(rt, config, address, options),
         None => Err(ProgramFault::Usage),
     }
 }
@@ -56,36 +65,69 @@ fn serve(
     rt: &HostRuntime,
     config: &str,
     address: SocketAddr,
-    limits: Limits,
+    options: Options<'_>,
 ) -> Result<(), ProgramFault> {
     let config = read_config(rt, config)?;
-    let Ok(hasher) = RandomState::new(rt) else {
-        return Err(ProgramFault::NoRandomNumbers);
-    };
     // Its memory is left to the end of the process: to let go of each record would only take time.
-    let mut server: ManuallyDrop<Server<PooledTables<IndexedTexts>>> = ManuallyDrop::new(
-        Server::new(rt.alloc(), config, hasher)?,
+    let mut server: ManuallyDrop<PooledServer> = ManuallyDrop::new(new_server(rt, config)?);
+    let mut connections = begin(rt, address, options)?;
+    let end = listen_on(
+        rt.alloc(),
+        &mut connections,
+        &mut server,
+        options.limits(),
+        u64::MAX,
     );
-    let Ok(mut connections) = Connections::bind(rt, rt.alloc(), address, rt) else {
-        return Err(ProgramFault::Listen);
-    };
-    if let Ok(address) = connections.address() {
-        let _ = println!(rt; "graphd_listen: ready at {address}");
-    }
-    let end = listen_on(rt.alloc(), &mut connections, &mut server, limits, u64::MAX);
     connections.finish();
+    connections.say_stop(word_of(end));
     match end {
         ListenEnd::Stopped => Ok(()),
         ListenEnd::Enough | ListenEnd::Failed => Err(ProgramFault::Wait),
-        ListenEnd::NoMemory => Err(ProgramFault::OutOfMemory),
+        ListenEnd::NoMemory => Err(StartFault::OutOfMemory.into()),
     }
 }
 
-/// The configuration at a path.
-fn read_config(rt: &HostRuntime, path: &str) -> Result<Config, ProgramFault> {
-    match fs::read(rt, path) {
-        Ok(bytes) => Ok(Config::read(rt.alloc(), &bytes)?),
-        Err(e) if e.kind() == io::ErrorKind::OutOfMemory => Err(ProgramFault::OutOfMemory),
-        Err(_) => Err(ProgramFault::Unreadable),
+/// Listens, and says where.
+fn begin<'a>(
+    rt: &'a HostRuntime,
+    address: SocketAddr,
+    options: Options<'_>,
+) -> Result<Connections<'a, HostRuntime>, ProgramFault> {
+    let log = log_at(rt, options.log())?;
+    let Ok(mut connections) = Connections::bind(rt, rt.alloc(), address, rt, log) else {
+        return Err(ProgramFault::Listen);
+    };
+    if let Some(address) = options.metrics() {
+        let Ok(address) = connections.tell_metrics(address, rt) else {
+            return Err(ProgramFault::Listen);
+        };
+        let _ = println!(rt; "graphd_listen: metrics at {address}");
+    }
+    if let Ok(address) = connections.address() {
+        connections.say_start(address);
+        let _ = println!(rt; "graphd_listen: ready at {address}");
+    }
+    Ok(connections)
+}
+
+/// The log at a path, where a dash is standard error.
+fn log_at(rt: &HostRuntime, path: Option<&str>) -> Result<Log, ProgramFault> {
+    let sink = match path {
+        None => Sink::Nowhere,
+        Some("-") => Sink::Stderr(rt.stderr()),
+        Some(path) => match OpenOptions::new().append(true).create(true).open(rt, path) {
+            Ok(file) => Sink::File(file),
+            Err(_) => return Err(ProgramFault::Log),
+        },
+    };
+    Ok(Log::new(rt.alloc(), sink))
+}
+
+/// Why the program ends, in a word.
+fn word_of(end: ListenEnd) -> &'static str {
+    match end {
+        ListenEnd::Stopped => "asked",
+        ListenEnd::Enough | ListenEnd::Failed => "failed",
+        ListenEnd::NoMemory => "no_memory",
     }
 }

@@ -175,6 +175,13 @@ module _ {S : Type 0} (answers : S → List ℕ → List ℕ → S → Type 0) (
       let first : Moves answers c p p s t old mid a.1 = subst (λ l. Moves answers c p p s t old l a.1) a.3 (from_answers s t p old a.0 a.1 a.2) in
       (b.0, a.1 ++ b.1, Moves-trans old mid b.0 a.1 b.1 s t t p p q first (from_carries t p q mid b.0 b.1 b.2), b.3)
 
+  -- what went on, of which the network is told then
+  pub moves_told : (old mid : Seen) (P : Seen → Type 0) (s t : S) (p q o : Option (List Event)) → mid ≡ old → ((after : Seen) × (xs : List Event) × Moves answers c p q s t mid after xs × P after) → Adds q o [] → (after : Seen) × (xs : List Event) × Moves answers c p o s t old after xs × P after
+  moves_told old mid P s t p q o is m told =
+      let known : Adds p o (carried_in m.1) = subst (Adds p o) (append-nil (carried_in m.1)) (Adds-trans p q o (carried_in m.1) [] m.2.known told) in
+      let moves : Moves answers c p o s t mid m.0 m.1 = record { passes = m.2.passes; known = known; chain = m.2.chain } in
+      (m.0, m.1, subst (λ seen. Moves answers c p o s t seen m.0 m.1) is moves, m.3)
+
 -- what holds whatever the result is
 pub whatever : {T E P : Type 0} (result : Result T E) → P → OnOk result P
 whatever (Ok t) p = p

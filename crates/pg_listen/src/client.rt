@@ -103,6 +103,11 @@ impl Client {
         self.tenant.is_some()
     }
 
+    /// The place of the tenant whose token it has shown.
+    pub(crate) fn tenant(&self) -> Option<usize> {
+        self.tenant
+    }
+
     /// How many bytes of replies may still be made for it.
     pub(crate) fn room(&self, tenants: &Tenants) -> usize {
         tenants.room(self.tenant)

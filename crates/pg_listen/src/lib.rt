@@ -15,4 +15,4 @@ mod turn;
 pub use clients::ListenEnd;
 pub use limits::Limits;
 pub use listen::listen_on;
-pub use network::{Closing, Network, Received, Sent, Signal};
+pub use network::{Closing, Network, Received, ReplyNote, Sent, Signal};

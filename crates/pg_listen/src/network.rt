@@ -66,6 +66,15 @@ pub enum Closing {
     Stopped,
 }
 
+/// What is told of a reply.
+#[derive(Clone, Copy)]
+pub struct ReplyNote {
+    /// Its code, which is 0 where the request was done.
+    pub code: u8,
+    /// For how many microseconds its request was worked on.
+    pub micros: u64,
+}
+
 /// Calls that don't wait, but `next`.
 pub trait Network {
     // What it has read and written, in order, where that is known.
@@ -89,6 +98,11 @@ pub trait Network {
         ensures { IsSent (trace self.old) (trace self.new) client bytes.now result };
 
     fn close(&mut self, client: u64, why: Closing)
+        ensures { Adds (trace self.old) (trace self.new) [] };
+
+    /// Is told of the replies that were made for a client in a turn, with the place of the tenant whose token it has
+    /// shown, if it has.
+    fn note(&mut self, client: u64, tenant: Option<usize>, replies: &[ReplyNote])
         ensures { Adds (trace self.old) (trace self.new) [] };
 
     /// Accepts no more.

@@ -4,8 +4,8 @@ ghost use Rattle.pg_listen.specs.Client.{seen};
 ghost use Rattle.pg_listen.specs.Moves.{AnswersOn, CarriesOn, MovesOn};
 
 use crate::client::Client;
-use crate::frames::{Front, front_of, push_frame};
-use crate::network::{Closing, Network, Received, Sent};
+use crate::frames::{Front, code_of, front_of, push_frame};
+use crate::network::{Closing, Network, Received, ReplyNote, Sent};
 use crate::service::Service;
 use crate::tenants::Tenants;
 use pg_json::refusal;
@@ -50,17 +50,24 @@ pub(crate) struct Allowance {
     room: usize,
     // when no more requests are answered
     until: u64,
+    // what it was when that was last asked
+    now: u64,
+    // what was answered in the turn, at most as many as may be
+    replies: Vec<ReplyNote>,
 }
 
 impl Allowance {
     pub(crate) fn new(alloc: Global) -> Result<Allowance, AllocError> {
         let scratch = zeros(alloc, SCRATCH)?;
+        let replies = Vec::with_capacity(alloc, REQUESTS as usize)?;
         Ok(Allowance {
             alloc,
             scratch,
             requests: 0,
             room: 0,
             until: 0,
+            now: 0,
+            replies,
         })
     }
 
@@ -69,11 +76,17 @@ impl Allowance {
         self.requests = REQUESTS;
         self.room = room;
         self.until = now.saturating_add(MICROSECONDS);
+        self.replies.clear();
+    }
+
+    /// A round begins now.
+    fn set_now(&mut self, now: u64) {
+        self.now = now;
     }
 
     /// Whether one more request may be answered. The first one always may, where there is room for replies.
-    fn has_request<N: Network>(&self, net: &N) -> bool {
-        self.room > 0 && self.requests > 0 && (self.requests == REQUESTS || net.now() < self.until)
+    fn has_request(&self) -> bool {
+        self.room > 0 && self.requests > 0 && (self.requests == REQUESTS || self.now < self.until)
     }
 
     /// Where it ends, no more requests are answered in this turn.
@@ -83,10 +96,23 @@ impl Allowance {
         }
     }
 
-    /// A request was answered, and the replies grew by so many bytes.
-    fn spend(&mut self, bytes: usize) {
+    /// Takes down a reply.
+    fn note(&mut self, reply: &[u8]) {
+        // (there is room for as many as may be)
+        let _ = self.replies.push(ReplyNote {
+            code: code_of(reply),
+            micros: 0,
+        });
+    }
+
+    /// The request of the last reply was done now, and the replies grew by so many bytes.
+    fn spend(&mut self, bytes: usize, now: u64) {
         self.requests = self.requests.saturating_sub(1);
         self.room = self.room.saturating_sub(bytes);
+        if let Some(reply) = self.replies.last_mut() {
+            reply.micros = now.saturating_sub(self.now);
+        }
+        self.now = now;
     }
 }
 
@@ -126,7 +152,11 @@ fn end_of(client: &Client) -> Closing {
 }
 
 /// Answers the frame in front, if it is whole.
-fn answer<S: Service>(client: &mut Client, service: &mut S) -> Result<Step, Closing>
+fn answer<S: Service>(
+    client: &mut Client,
+    service: &mut S,
+    allowance: &mut Allowance,
+) -> Result<Step, Closing>
     requires { client.old.refused ≡ false }
     ensures { (c : ℕ) → AnswersOn S.answers c service.old service.new (seen client.old) (seen client.new) result }
 {
@@ -135,7 +165,9 @@ fn answer<S: Service>(client: &mut Client, service: &mut S) -> Result<Step, Clos
         Front::TooLong => {
             client.refused = true;
             let reply = refusal(Fault::FrameTooLong);
-            match push_frame(&mut client.outbox, reply.as_slice()) {
+            let text = reply.as_slice();
+            allowance.note(text);
+            match push_frame(&mut client.outbox, text) {
                 Ok(()) => Ok(Step::More),
                 Err(_) => Err(Closing::NoMemory),
             }
@@ -143,7 +175,9 @@ fn answer<S: Service>(client: &mut Client, service: &mut S) -> Result<Step, Clos
         Front::Body(n) => {
             let reply = service.answer(&client.inbox.front()[4..4 + n]);
             client.inbox.skip(4 + n);
-            match push_frame(&mut client.outbox, reply.as_slice()) {
+            let text = reply.as_slice();
+            allowance.note(text);
+            match push_frame(&mut client.outbox, text) {
                 Ok(()) => Ok(Step::More),
                 Err(_) => Err(Closing::NoMemory),
             }
@@ -177,15 +211,15 @@ fn answer_some<N: Network, S: Service>(
     let mut any = false;
     for _answered in 0..REQUESTS {
         let waiting = client.outbox.len();
-        if client.refused || MOST_WAITING <= waiting || !allowance.has_request(net) {
+        if client.refused || MOST_WAITING <= waiting || !allowance.has_request() {
             return Ok(any);
         }
-        match answer(client, service) {
+        match answer(client, service, allowance) {
             Ok(Step::More) => any = true,
             Ok(_) => return Ok(any),
             Err(closing) => return Err(closing),
         }
-        allowance.spend(client.outbox.len().saturating_sub(waiting));
+        allowance.spend(client.outbox.len().saturating_sub(waiting), net.now());
         if !client.has_tenant() {
             return Ok(any);
         }
@@ -225,9 +259,10 @@ fn round<N: Network, S: Service>(
 ) -> Result<Step, Closing>
     ensures { MovesOn S.answers number (N.trace net.old) (N.trace net.new) service.old service.new (seen client.old) (seen client.new) result }
 {
+    allowance.set_now(net.now());
     match answer_some(client, net, service, allowance) {
         Ok(any) => {
-            client.note_time(any, net.now());
+            client.note_time(any, allowance.now);
             transfer(client, number, net, allowance)
         }
         Err(closing) => Err(closing),
@@ -276,7 +311,7 @@ fn rounds<N: Network, S: Service>(
     Ok(Step::Over)
 }
 
-/// The client's turn, behind which it has another one where there is more to do.
+/// The client's turn, of whose replies the network is told, and behind which it has another one where there is more to do.
 pub(crate) fn turn<N: Network, S: Service>(
     client: &mut Client,
     number: u64,
@@ -289,7 +324,9 @@ pub(crate) fn turn<N: Network, S: Service>(
 {
     client.take_turn();
     allowance.begin(net.now(), client.room(tenants));
-    match rounds(client, number, net, service, tenants, allowance) {
+    let end = rounds(client, number, net, service, tenants, allowance);
+    net.note(number, client.tenant(), &allowance.replies);
+    match end {
         Ok(step) => end_turn(client, number, tenants, step),
         Err(closing) => Err(closing),
     }

@@ -15,7 +15,7 @@ returns-in-Ok g c = λ n. (
   record (seen c.args.client.now) { pending = (seen c.args.client.now).pending ++ frame too_long_reply; refused = true },
   [],
   record { passes = was_refused n (seen c.args.client.now) c.requires (subst BeginsTooLong c.front.ensures c.in-TooLong.ensures); none = refl; chain = refl },
-  ap (λ l. record (seen c.args.client.now) { pending = l; refused = true }) (ap (λ l. (seen c.args.client.now).pending ++ frame l) (sym (c.as_slice.ensures.value ∙ c.refusal-reply.ensures)) ∙ sym c.in-Ok.ensures),
+  ap (λ l. record (seen c.args.client.now) { pending = l; refused = true }) (ap (λ l. (seen c.args.client.now).pending ++ frame l) (sym (c.as_slice-text.ensures.value ∙ c.refusal-reply.ensures)) ∙ sym c.in-Ok.ensures),
 )
 
 pub returns-in-TooLong : goal.returns-in-TooLong
@@ -45,7 +45,7 @@ returns-in-Ok-push_frame g c = λ client.
       },
       ap (λ l. record { inbox = l; pending = (seen c.args.client.now).pending ++ frame reply; refused = (seen c.args.client.now).refused }) (sym c.skip.ensures)
           ∙ ap (λ l. record { inbox = (seen (record c.args.client.now { inbox = c.skip.new.self })).inbox; pending = l; refused = (seen c.args.client.now).refused })
-          (ap (λ l. (seen c.args.client.now).pending ++ frame l) (sym c.as_slice-in-Body.ensures.value) ∙ sym c.in-Ok-push_frame.ensures),
+          (ap (λ l. (seen c.args.client.now).pending ++ frame l) (sym c.as_slice-text-in-Body.ensures.value) ∙ sym c.in-Ok-push_frame.ensures),
     )
 
 pub returns : goal.returns

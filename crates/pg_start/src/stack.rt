@@ -3,13 +3,18 @@
 
 /// How many pages of stack are taken, 1.25 MiB: what the deepest text takes (`tools/deepest_texts --least`) and a third
 /// more. With a stack that is smaller the program ends at its start, and not at such a text.
-pub(crate) const STACK_PAGES: u32 = 320;
+const STACK_PAGES: u32 = 320;
+
+/// Takes the stack that the deepest text needs. The number is one that no compiler knows; it is true whatever it is.
+pub fn take_stack(filling: u64) -> bool {
+    take_pages(STACK_PAGES, filling)
+}
 
 /// Writes and reads so many pages of the stack, with any number in them. From then on they are the program's.
 #[inline(never)]
-pub(crate) fn take_stack(pages: u32, filling: u64) -> bool {
+fn take_pages(pages: u32, filling: u64) -> bool {
     let page = [filling; 512];
-    if pages > 1 && !take_stack(pages - 1, filling) {
+    if pages > 1 && !take_pages(pages - 1, filling) {
         return false;
     }
     are_all(&page, filling)

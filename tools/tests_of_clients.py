@@ -111,10 +111,11 @@ def listening(config, *words):
 
 
 class Relay:
-    """Hands frames to a server one by one, those with SLOW late, and speaks TLS to its own clients where it is given a context."""
+    """Hands the frames of all clients to a server one by one, those with SLOW late, and speaks TLS to its own clients where it is given a
+    context."""
 
     def __init__(self, server, tls=None):
-        self.server, self.tls = server, tls
+        self.server, self.tls, self.turn = server, tls, threading.Lock()
         self.listener = socket.create_server(("127.0.0.1", 0))
         self.port = self.listener.getsockname()[1]
         threading.Thread(target=self.accept, daemon=True).start()
@@ -138,10 +139,12 @@ class Relay:
             with client.makefile("rb") as asked, server.makefile("rb") as answered:
                 while head := asked.read(4):
                     body = asked.read(int.from_bytes(head, "big"))
-                    time.sleep(LATE if SLOW.encode() in body else 0)
-                    server.sendall(head + body)
-                    head = answered.read(4)
-                    client.sendall(head + answered.read(int.from_bytes(head, "big")))
+                    with self.turn:
+                        time.sleep(LATE if SLOW.encode() in body else 0)
+                        server.sendall(head + body)
+                        head = answered.read(4)
+                        reply = head + answered.read(int.from_bytes(head, "big"))
+                    client.sendall(reply)
 
 
 @contextlib.contextmanager

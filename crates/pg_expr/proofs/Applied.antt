@@ -2,8 +2,8 @@
 use Rattle.std.proofs.Common.{◌≡◌, ◌+◌, ℤ, pos, negsuc, zero, suc, true, false, List, [], ◌∷◌, ◌++◌, length, Result, Ok, Err, refl, ap, sym, subst, Bool, arith, ◌∙◌}
 use Rattle.std.specs.Prelude.{◌≢◌, ◌||◌, ◌-ℤ◌, nat_le}
 use Rattle.pg_expr.specs.Calls.{given_range, is_range, range_sized, sized, IsNotOne}
-use Rattle.pg_expr.specs.Sites.{found_view, founds_view}
-use Rattle.pg_expr.specs.declared.site.Found.{Found}
+use Rattle.pg_expr.specs.Contexts.{found_view, founds_view}
+use Rattle.pg_expr.specs.declared.found.Found.{Found}
 use Rattle.pg_meaning.specs.Answer.{Answer, ◌>>=◌}
 use Rattle.pg_meaning.specs.Functions.{Function, applied, function_at, has_deleted, has_null, integers_from, integers_of, is_deleted, is_null, range_by, range_over, size_of, steps_within}
 use Rattle.pg_meaning.specs.Functions as function

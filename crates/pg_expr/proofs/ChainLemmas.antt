@@ -3,7 +3,7 @@ use Rattle.std.proofs.Common.{◌≡◌, ◌<◌, ◌≤◌, ◌+◌, ℕ, Bool,
 use Rattle.std.proofs.lemmas.List.{at_drop_more, at_drop_all}
 use Rattle.pg_expr.proofs.Conjuncts.{next_met, next_unmet, next_fault}
 use Rattle.pg_expr.specs.Conditions.{is_met_by, all_met_by}
-use Rattle.pg_expr.specs.declared.site.Site.{Site}
+use Rattle.pg_expr.specs.declared.row_context.RowContext.{RowContext}
 use Rattle.pg_meaning.specs.Conditions.{operands_of as conjuncts_in}
 use Rattle.pg_meaning.specs.Graph.{Graph}
 use Rattle.pg_meaning.specs.Parse.{operands_of}
@@ -16,7 +16,7 @@ use Rattle.pg_syntax_tree.specs.declared.expression.Expression.{Expression}
 abbrev pub conjuncts_from : List (Operator × Expression) → List tree.Expression
 conjuncts_from os = conjuncts_in (operands_of (map operand_view os))
 
-module _ (s : Site) (g : Graph) (all : Result Bool Fault) (xs os : List (Operator × Expression)) (same : xs ≡ os) (i : ℕ) (so_far : all ≡ all_met_by s g (conjuncts_from (drop i os))) where
+module _ (s : RowContext) (g : Graph) (all : Result Bool Fault) (xs os : List (Operator × Expression)) (same : xs ≡ os) (i : ℕ) (so_far : all ≡ all_met_by s g (conjuncts_from (drop i os))) where
   module _ (o : Operator × Expression) (within : i < length xs) (is : o ≡ get_or xs i o) where
     at_place : all ≡ all_met_by s g (expression_view o.1 ∷ conjuncts_from (drop (i + 1) os))
     at_place =

@@ -1,8 +1,8 @@
 -- One conjunct after the other.
 use Rattle.std.proofs.Common.{◌≡◌, Bool, true, false, cond, List, [], ◌∷◌, Result, Ok, Err, refl, ap, ◌∙◌}
 use Rattle.pg_expr.specs.Conditions.{is_met_by, all_met_by, begins_conjunction}
-use Rattle.pg_expr.specs.Sites.{given}
-use Rattle.pg_expr.specs.declared.site.Site.{Site}
+use Rattle.pg_expr.specs.Contexts.{given}
+use Rattle.pg_expr.specs.declared.row_context.RowContext.{RowContext}
 use Rattle.pg_meaning.specs.Answer.{Answer, ◌>>=◌}
 use Rattle.pg_meaning.specs.Conditions.{conjuncts, operands_of}
 use Rattle.pg_meaning.specs.Graph.{Graph}
@@ -23,7 +23,7 @@ by_answer : (r : Answer) (rest : Result Bool Fault) → (r >>= λ v. truth_of v 
 by_answer (Ok v) rest = by_truth (truth_of v) rest
 by_answer (Err e) rest = refl
 
-module _ (s : Site) (g : Graph) where
+module _ (s : RowContext) (g : Graph) where
   one_more : (e : tree.Expression) (es : List tree.Expression) → all_met_by s g (e ∷ es) ≡ (is_met_by s g e >>= λ b. cond b (all_met_by s g es) (Ok false))
   one_more e es = by_answer (given s g e) (all_met_by s g es)
 

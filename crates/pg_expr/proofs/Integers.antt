@@ -3,8 +3,8 @@ use mir.Val.{SFits}
 use Rattle.std.proofs.Common.{◌≡◌, ◌<◌, ◌≤◌, ◌+◌, ℕ, ℤ, pos, to_z, of_z, w64, arith, List, [], ◌∷◌, ◌++◌, drop, get_or, length, Result, Ok, Err, refl, sym, ap, ◌∙◌}
 use Rattle.std.proofs.lemmas.Int.{to_z-of_z}
 use Rattle.std.proofs.lemmas.List.{at_drop_more, at_drop_all}
-use Rattle.pg_expr.specs.Sites.{found_view, founds_view}
-use Rattle.pg_expr.specs.declared.site.Found.{Found}
+use Rattle.pg_expr.specs.Contexts.{found_view, founds_view}
+use Rattle.pg_expr.specs.declared.found.Found.{Found}
 use Rattle.pg_meaning.specs.Answer.{◌>>=◌}
 use Rattle.pg_meaning.specs.Functions.{integers_of, range_by, range_over}
 use Rattle.pg_meaning.specs.Value.{Value as Datum, Values, integer, item}

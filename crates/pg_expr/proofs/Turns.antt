@@ -5,9 +5,9 @@ use Rattle.std.specs.declared.alloc.Global.{Global}
 use Rattle.pg_expr.proofs.Walks.{joined, joined_pairs, each_of, pairs_given, first_of, true_of, chain_of, operands_given, tests_given, suffixes_given}
 use Rattle.pg_expr.specs.Calls.{given_call}
 use Rattle.pg_expr.specs.Operators.{truth_compared}
-use Rattle.pg_expr.specs.Sites.{found_view, founds_view, pairs_view, given, given_each, given_map, given_first, given_compared, given_chain, given_chained, given_tests, given_perhaps, given_otherwise, given_reads, row_at, parameters_at}
-use Rattle.pg_expr.specs.declared.site.Found.{Found}
-use Rattle.pg_expr.specs.declared.site.Site.{Site}
+use Rattle.pg_expr.specs.Contexts.{found_view, founds_view, pairs_view, given, given_each, given_map, given_first, given_compared, given_chain, given_chained, given_tests, given_perhaps, given_otherwise, given_reads, row_at, parameters_at}
+use Rattle.pg_expr.specs.declared.found.Found.{Found}
+use Rattle.pg_expr.specs.declared.row_context.RowContext.{RowContext}
 use Rattle.pg_meaning.specs.Answer.{Answer, ◌>>=◌}
 use Rattle.pg_meaning.specs.Entries.{at_key, put}
 use Rattle.pg_meaning.specs.Expressions.{begins_comparison, combined, fault_of_name, is_coalesce, or_fault, property_of}
@@ -95,7 +95,7 @@ pub behind_all : (r : Result Values Fault) (f : Values → Answer) (h : Datum �
 behind_all (Ok vs) f h = refl
 behind_all (Err e) f h = refl
 
-module _ (s : Site) (g : Graph) where
+module _ (s : RowContext) (g : Graph) where
   pub first_item : (fs : List Found) (xs : List Expression) → fs ≡ [] → each_of s g xs ≡ joined (founds_view fs) (each_of s g xs)
   first_item fs xs h = none_before (each_of s g xs) ∙ ap (λ ys. joined (founds_view ys) (each_of s g xs)) (sym h)
 

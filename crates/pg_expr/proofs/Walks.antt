@@ -5,9 +5,9 @@ use Rattle.std.specs.Prelude.{◌≢◌, Box, Vec, IfOk, IfErr, option_map, stri
 use Rattle.std.specs.declared.alloc.Global.{Global}
 use Rattle.pg_expr.specs.Calls.{given_call}
 use Rattle.pg_expr.specs.Operators.{is_chosen}
-use Rattle.pg_expr.specs.Sites.{found_view, founds_view, pairs_view, given, given_each, given_pairs, given_first, given_true, given_chain, given_chained, given_operands, given_text_test, given_tests, given_index, given_suffixes, given_reads, given_perhaps, given_otherwise}
-use Rattle.pg_expr.specs.declared.site.Found.{Found}
-use Rattle.pg_expr.specs.declared.site.Site.{Site}
+use Rattle.pg_expr.specs.Contexts.{found_view, founds_view, pairs_view, given, given_each, given_pairs, given_first, given_true, given_chain, given_chained, given_operands, given_text_test, given_tests, given_index, given_suffixes, given_reads, given_perhaps, given_otherwise}
+use Rattle.pg_expr.specs.declared.found.Found.{Found}
+use Rattle.pg_expr.specs.declared.row_context.RowContext.{RowContext}
 use Rattle.pg_meaning.specs.Answer.{Answer, ◌>>=◌}
 use Rattle.pg_meaning.specs.Arithmetic.{appended}
 use Rattle.pg_meaning.specs.Entries.{put}
@@ -79,7 +79,7 @@ by_truth (Ok False) x y = refl
 by_truth (Ok Null) x y = refl
 by_truth (Err e) x y = refl
 
-module _ (s : Site) (g : Graph) where
+module _ (s : RowContext) (g : Graph) where
   abbrev pub each_of : List Expression → Result Values Fault
   each_of xs = given_each s g (expressions_of (map expression_view xs))
 

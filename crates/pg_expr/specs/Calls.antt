@@ -1,7 +1,7 @@
 -- The parts of calls.
 use Rattle.std.specs.Prelude.{◌≡◌, ℕ, Bool, true, false, List, Some, None, Err}
-use Rattle.pg_expr.specs.Sites.{given, given_each, given_first}
-use Rattle.pg_expr.specs.declared.site.Site.{Site}
+use Rattle.pg_expr.specs.Contexts.{given, given_each, given_first}
+use Rattle.pg_expr.specs.declared.row_context.RowContext.{RowContext}
 use Rattle.pg_meaning.specs.Answer.{Answer, ◌>>=◌}
 use Rattle.pg_meaning.specs.Expressions.{is_coalesce, fault_of_name}
 use Rattle.pg_meaning.specs.Functions.{Function, function_named, applied, of_one, head_of, last_of, integers_of, range_over}
@@ -12,7 +12,7 @@ use Rattle.pg_meaning.specs.Value.{Value, Values, item, no_items}
 use Rattle.pg_meaning.specs.declared.fault.Fault.TheVariants.{UnknownFunction}
 
 -- a call of what stands under a name
-abbrev pub given_call : Site → Graph → List ℕ → tree.Expressions → Answer
+abbrev pub given_call : RowContext → Graph → List ℕ → tree.Expressions → Answer
 given_call s g name es = elim (function_named name) [
   | Some f ↦ elim (is_coalesce f) [ true ↦ given_first s g es | false ↦ given_each s g es >>= applied g f ]
   | None ↦ Err (fault_of_name name)
@@ -27,7 +27,7 @@ abbrev pub range_sized : Graph → Values → Answer
 range_sized g vs = applied g function.range vs >>= sized g
 
 -- what `size` gives at an expression
-abbrev pub given_size : Site → Graph → tree.Expression → Answer
+abbrev pub given_size : RowContext → Graph → tree.Expression → Answer
 given_size s g e = given s g e >>= sized g
 
 -- what `range` gives at its arguments

@@ -1,7 +1,7 @@
 -- The conjuncts of a condition one after the other.
 use Rattle.std.specs.Prelude.{Bool, true, false, List, Result, Ok}
-use Rattle.pg_expr.specs.Sites.{given, row_at, parameters_at}
-use Rattle.pg_expr.specs.declared.site.Site.{Site}
+use Rattle.pg_expr.specs.Contexts.{given, row_at, parameters_at}
+use Rattle.pg_expr.specs.declared.row_context.RowContext.{RowContext}
 use Rattle.pg_meaning.specs.Answer.{◌>>=◌}
 use Rattle.pg_meaning.specs.Conditions.{all_true}
 use Rattle.pg_meaning.specs.Graph.{Graph}
@@ -15,10 +15,10 @@ abbrev pub is_true_at : Value → Result Bool Fault
 is_true_at v = truth_of v >>= λ t. Ok (is_true t)
 
 -- whether one conjunct is true
-abbrev pub is_met_by : Site → Graph → tree.Expression → Result Bool Fault
+abbrev pub is_met_by : RowContext → Graph → tree.Expression → Result Bool Fault
 is_met_by s g e = given s g e >>= is_true_at
 
-abbrev pub all_met_by : Site → Graph → List tree.Expression → Result Bool Fault
+abbrev pub all_met_by : RowContext → Graph → List tree.Expression → Result Bool Fault
 all_met_by s g es = all_true (row_at s) (parameters_at s) g es
 
 abbrev pub begins_conjunction : tree.Operands → Bool

@@ -6,4 +6,4 @@ pub mod Kinds
 pub mod Operators
 pub mod Prepared
 pub mod Reads
-pub mod Sites
+pub mod Contexts

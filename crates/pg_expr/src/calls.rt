@@ -2,7 +2,7 @@
 ghost use Rattle.std.specs.Prelude.{◌≡◌, ◌≢◌, IfOk, IfErr, IfSome, IfNone, Ok, Err, true, false, ◌-◌};
 ghost use Rattle.pg_expr.specs.After.{After};
 ghost use Rattle.pg_expr.specs.Calls.{is_range, item_at_end, looks, IsNotOne};
-ghost use Rattle.pg_expr.specs.Sites.{found_view, founds_view};
+ghost use Rattle.pg_expr.specs.Contexts.{found_view, founds_view};
 ghost use Rattle.pg_meaning.specs.Expressions.{fault_of_name};
 ghost use Rattle.pg_meaning.specs.Expressions as meaning;
 ghost use Rattle.pg_meaning.specs.Functions.{applied, function_at, has_deleted, has_null, is_deleted, is_null, string_of};
@@ -13,10 +13,10 @@ ghost use Rattle.pg_scope.specs.Calls.{function_view};
 ghost use Rattle.pg_value_core.specs.View.{view, values_view};
 
 use crate::elements::{end_node, keys, kind, labels, number, properties};
+use crate::found::{Found, null};
 use crate::made::made;
 use crate::ranges::range_of;
 use crate::reads::item_at;
-use crate::site::{Found, null};
 use pg_expr_calls as values;
 use pg_graph::Tables;
 use pg_scope::{Function, summary_named};

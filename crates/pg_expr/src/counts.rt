@@ -2,13 +2,13 @@
 ghost use Rattle.std.specs.Prelude.{◌≡◌, Some, true};
 ghost use Rattle.pg_expr.specs.After.{After};
 ghost use Rattle.pg_expr.specs.Calls.{range_sized, sized};
-ghost use Rattle.pg_expr.specs.Sites.{found_view, founds_view};
+ghost use Rattle.pg_expr.specs.Contexts.{found_view, founds_view};
 ghost use Rattle.pg_meaning.specs.Functions.{function_named};
 ghost use Rattle.pg_meaning.specs.Functions as functions;
 
 use crate::calls::{has_deleted, has_null, is_deleted, is_null};
+use crate::found::{Found, null};
 use crate::ranges::size_of_range;
-use crate::site::{Found, null};
 use pg_expr_calls as values;
 use pg_graph::Tables;
 use pg_scope::{Function, function_named};

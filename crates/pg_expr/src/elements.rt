@@ -1,7 +1,7 @@
 //! What functions tell of an element, and of a map.
 ghost use Rattle.std.specs.Prelude.{◌≡◌, ◌≢◌, IfOk, IfErr, Ok, Err, false, true, map, pos};
 ghost use Rattle.pg_expr.specs.Elements.{element_properties, properties_given, keys_given, node_at_end};
-ghost use Rattle.pg_expr.specs.Sites.{found_view};
+ghost use Rattle.pg_expr.specs.Contexts.{found_view};
 ghost use Rattle.pg_meaning.specs.Functions.{id_of, labels_of, type_of, is_deleted, texts};
 ghost use Rattle.pg_meaning.specs.Graph.{has_node, has_relationship};
 ghost use Rattle.pg_meaning.specs.Order.{keys_of};
@@ -9,7 +9,7 @@ ghost use Rattle.pg_meaning.specs.Value.{integer, node, relationship};
 ghost use Rattle.pg_meaning.specs.declared.fault.Fault.TheVariants.{OutOfMemory};
 ghost use Rattle.pg_value_core.specs.View.{view, entries_view};
 
-use crate::site::Found;
+use crate::found::Found;
 use pg_graph::Tables;
 use pg_store::Snapshot;
 use pg_value_core::{Fault, NodeId, RelId, Value};

@@ -3,7 +3,7 @@ ghost use Rattle.std.specs.Prelude.{map, option_map, string_bytes};
 ghost use Rattle.pg_expr.specs.Calls.{given_call, given_size};
 ghost use Rattle.pg_expr.specs.Kinds.{IsCase, IsChain, AreTests, AreSuffixes};
 ghost use Rattle.pg_expr.specs.Prepared.{tree_of};
-ghost use Rattle.pg_expr.specs.Sites.{found_view, founds_view, pairs_view, given, given_each, given_map, given_first, given_true, given_chain, given_operands};
+ghost use Rattle.pg_expr.specs.Contexts.{found_view, founds_view, pairs_view, given, given_each, given_map, given_first, given_true, given_chain, given_operands};
 ghost use Rattle.pg_meaning.specs.Expressions.{evaluate};
 ghost use Rattle.pg_meaning.specs.Parse.{expressions_of, operands_of, pairs_of, whens_of};
 ghost use Rattle.pg_rows.specs.Named.{row_of};
@@ -15,6 +15,7 @@ ghost use Rattle.pg_value_core.specs.View.{view};
 use crate::atoms::{literal_found, parameter, variable};
 use crate::calls::{applied, call_fault, is_coalesce, is_null, is_size};
 use crate::counts::{counted, is_range_named, range_counted};
+use crate::found::{Found, null};
 use crate::made::{list_of, made, put};
 use crate::operators::{
     all_signed, begins_comparison, combined, compared, compared_once, is_chosen, negated,
@@ -22,7 +23,7 @@ use crate::operators::{
 };
 use crate::prepared::Prepared;
 use crate::reads::{index, labels, property};
-use crate::site::{Found, Site, null};
+use crate::row_context::RowContext;
 use pg_graph::Tables;
 use pg_meaning::Operator;
 use pg_rows::Columns;
@@ -44,54 +45,54 @@ pub fn evaluate<T: Tables>(
 ) -> Result<Value, Fault>
     ensures { Gives result (evaluate (row_of names.now (map view row.now)) (parameters_view parameters.now) graph.now (tree_of names.now prepared.now)) view }
 {
-    let site = Site {
+    let context = RowContext {
         alloc,
         names,
         row,
         parameters,
     };
-    let found = find(&site, graph, prepared.tree)?;
+    let found = find(&context, graph, prepared.tree)?;
     Ok(found.take(alloc)?)
 }
 
 /// What an expression gives, which is lent where it stands somewhere.
 #[cycle(find)]
 pub(crate) fn find<'a, T: Tables>(
-    site: &Site<'a>,
+    context: &RowContext<'a>,
     graph: &Snapshot<'a, T>,
     expression: &Expression,
 ) -> Result<Found<'a>, Fault>
-    ensures { Gives result (given site.now graph.now (expression_view expression.now)) found_view }
+    ensures { Gives result (given context.now graph.now (expression_view expression.now)) found_view }
 {
     match expression {
-        Expression::Literal(literal) => literal_found(site.alloc, literal),
-        Expression::Parameter(name) => parameter(site, name.text.as_str()),
-        Expression::Variable(name) => variable(site, name.text.as_str()),
-        Expression::ListLiteral(items) => list_of(site.alloc, each(site, graph, items)),
-        Expression::MapLiteral(pairs) => mapping(site, graph, pairs),
-        Expression::Parentheses(inner) => find(site, graph, inner),
-        Expression::Call(name, _, _, arguments) => call(site, graph, name, arguments),
-        Expression::Case(_, _, _) => case(site, graph, expression),
-        Expression::Chain(_, _) => chain(site, graph, expression),
-        Expression::Negation(count, inner) => negated(*count, find(site, graph, inner)),
-        Expression::Signs(signs, inner) => all_signed(signs, find(site, graph, inner)),
-        Expression::Tests(_, _) => pass_tests(site, graph, expression),
-        Expression::Suffixes(_, _, _) => read(site, graph, expression),
+        Expression::Literal(literal) => literal_found(context.alloc, literal),
+        Expression::Parameter(name) => parameter(context, name.text.as_str()),
+        Expression::Variable(name) => variable(context, name.text.as_str()),
+        Expression::ListLiteral(items) => list_of(context.alloc, each(context, graph, items)),
+        Expression::MapLiteral(pairs) => mapping(context, graph, pairs),
+        Expression::Parentheses(inner) => find(context, graph, inner),
+        Expression::Call(name, _, _, arguments) => call(context, graph, name, arguments),
+        Expression::Case(_, _, _) => case(context, graph, expression),
+        Expression::Chain(_, _) => chain(context, graph, expression),
+        Expression::Negation(count, inner) => negated(*count, find(context, graph, inner)),
+        Expression::Signs(signs, inner) => all_signed(signs, find(context, graph, inner)),
+        Expression::Tests(_, _) => pass_tests(context, graph, expression),
+        Expression::Suffixes(_, _, _) => read(context, graph, expression),
     }
 }
 
 #[cycle(find)]
 #[inline(never)]
 fn each<'a, T: Tables>(
-    site: &Site<'a>,
+    context: &RowContext<'a>,
     graph: &Snapshot<'a, T>,
     items: &Vec<Expression>,
 ) -> Result<Vec<Found<'a>>, Fault>
-    ensures { Gives result (given_each site.now graph.now (expressions_of (map expression_view items.now.items))) (λ fs. founds_view fs.items) }
+    ensures { Gives result (given_each context.now graph.now (expressions_of (map expression_view items.now.items))) (λ fs. founds_view fs.items) }
 {
-    let mut found = Vec::with_capacity(site.alloc, items.len())?;
+    let mut found = Vec::with_capacity(context.alloc, items.len())?;
     for item in items {
-        let next = find(site, graph, item)?;
+        let next = find(context, graph, item)?;
         found.push(next)?;
     }
     Ok(found)
@@ -101,16 +102,16 @@ fn each<'a, T: Tables>(
 #[cycle(find)]
 #[inline(never)]
 fn mapping<'a, T: Tables>(
-    site: &Site<'a>,
+    context: &RowContext<'a>,
     graph: &Snapshot<'a, T>,
     pairs: &Vec<(Name, Expression)>,
 ) -> Result<Found<'a>, Fault>
-    ensures { Gives result (given_map site.now graph.now (pairs_of (map pair_view pairs.now.items))) found_view }
+    ensures { Gives result (given_map context.now graph.now (pairs_of (map pair_view pairs.now.items))) found_view }
 {
-    let mut entries = BTreeMap::new(site.alloc);
+    let mut entries = BTreeMap::new(context.alloc);
     for (key, value) in pairs {
-        let next = find(site, graph, value)?;
-        entries = put(site.alloc, entries, key, next)?;
+        let next = find(context, graph, value)?;
+        entries = put(context.alloc, entries, key, next)?;
     }
     made(Found::Made(Value::Map(entries)))
 }
@@ -118,47 +119,52 @@ fn mapping<'a, T: Tables>(
 #[cycle(find)]
 #[inline(never)]
 fn call<'a, T: Tables>(
-    site: &Site<'a>,
+    context: &RowContext<'a>,
     graph: &Snapshot<'a, T>,
     name: &Name,
     arguments: &Vec<Expression>,
 ) -> Result<Found<'a>, Fault>
-    ensures { Gives result (given_call site.now graph.now (string_bytes name.now.text) (expressions_of (map expression_view arguments.now.items))) found_view }
+    ensures { Gives result (given_call context.now graph.now (string_bytes name.now.text) (expressions_of (map expression_view arguments.now.items))) found_view }
 {
     let Some(function) = function_named(name.text.as_str()) else {
         return Err(call_fault(name.text.as_str()));
     };
     if is_coalesce(function) {
-        return first_given(site, graph, arguments);
+        return first_given(context, graph, arguments);
     }
     if is_size(function) {
         if let [argument] = arguments.as_slice() {
-            return size(site, graph, argument);
+            return size(context, graph, argument);
         }
     }
-    applied(site.alloc, graph, function, each(site, graph, arguments))
+    applied(
+        context.alloc,
+        graph,
+        function,
+        each(context, graph, arguments),
+    )
 }
 
 /// The size of what an expression gives; the list of a `range` isn't made for it.
 #[cycle(find)]
 #[inline(never)]
 fn size<'a, T: Tables>(
-    site: &Site<'a>,
+    context: &RowContext<'a>,
     graph: &Snapshot<'a, T>,
     argument: &Expression,
 ) -> Result<Found<'a>, Fault>
-    ensures { Gives result (given_size site.now graph.now (expression_view argument.now)) found_view }
+    ensures { Gives result (given_size context.now graph.now (expression_view argument.now)) found_view }
 {
     match argument {
-        Expression::Parentheses(inner) => size(site, graph, inner),
+        Expression::Parentheses(inner) => size(context, graph, inner),
         Expression::Call(name, _, _, arguments) => {
             if is_range_named(name.text.as_str()) {
-                range_counted(site.alloc, graph, each(site, graph, arguments))
+                range_counted(context.alloc, graph, each(context, graph, arguments))
             } else {
-                counted(graph, find(site, graph, argument))
+                counted(graph, find(context, graph, argument))
             }
         }
-        _ => counted(graph, find(site, graph, argument)),
+        _ => counted(graph, find(context, graph, argument)),
     }
 }
 
@@ -166,14 +172,14 @@ fn size<'a, T: Tables>(
 #[cycle(find)]
 #[inline(never)]
 fn first_given<'a, T: Tables>(
-    site: &Site<'a>,
+    context: &RowContext<'a>,
     graph: &Snapshot<'a, T>,
     items: &Vec<Expression>,
 ) -> Result<Found<'a>, Fault>
-    ensures { Gives result (given_first site.now graph.now (expressions_of (map expression_view items.now.items))) found_view }
+    ensures { Gives result (given_first context.now graph.now (expressions_of (map expression_view items.now.items))) found_view }
 {
     for item in items {
-        let next = find(site, graph, item)?;
+        let next = find(context, graph, item)?;
         if !is_null(&next) {
             return Ok(next);
         }
@@ -185,17 +191,17 @@ fn first_given<'a, T: Tables>(
 #[cycle(find)]
 #[inline(never)]
 fn first_true<'a, T: Tables>(
-    site: &Site<'a>,
+    context: &RowContext<'a>,
     graph: &Snapshot<'a, T>,
     subject: &Option<Found<'a>>,
     whens: &Vec<(Expression, Expression)>,
 ) -> Result<Option<Found<'a>>, Fault>
-    ensures { Gives result (given_true site.now graph.now (option_map found_view subject.now) (whens_of (map when_view whens.now.items))) (option_map found_view) }
+    ensures { Gives result (given_true context.now graph.now (option_map found_view subject.now) (whens_of (map when_view whens.now.items))) (option_map found_view) }
 {
     for (condition, value) in whens {
-        let tested = find(site, graph, condition)?;
+        let tested = find(context, graph, condition)?;
         if is_chosen(subject, tested)? {
-            return Ok(Some(find(site, graph, value)?));
+            return Ok(Some(find(context, graph, value)?));
         }
     }
     Ok(None)
@@ -204,27 +210,27 @@ fn first_true<'a, T: Tables>(
 #[cycle(find)]
 #[inline(never)]
 fn case<'a, T: Tables>(
-    site: &Site<'a>,
+    context: &RowContext<'a>,
     graph: &Snapshot<'a, T>,
     expression: &Expression,
 ) -> Result<Found<'a>, Fault>
     requires { IsCase expression.now }
-    ensures { Gives result (given site.now graph.now (expression_view expression.now)) found_view }
+    ensures { Gives result (given context.now graph.now (expression_view expression.now)) found_view }
 {
     let Expression::Case(subject, whens, otherwise) = expression else {
         unreachable!()
     };
     let chosen = {
         let tested = match subject {
-            Some(inner) => Some(find(site, graph, inner)?),
+            Some(inner) => Some(find(context, graph, inner)?),
             None => None,
         };
-        first_true(site, graph, &tested, whens)?
+        first_true(context, graph, &tested, whens)?
     };
     match chosen {
         Some(found) => Ok(found),
         None => match otherwise {
-            Some(inner) => find(site, graph, inner),
+            Some(inner) => find(context, graph, inner),
             None => Ok(null()),
         },
     }
@@ -234,23 +240,23 @@ fn case<'a, T: Tables>(
 #[cycle(find)]
 #[inline(never)]
 fn chain<'a, T: Tables>(
-    site: &Site<'a>,
+    context: &RowContext<'a>,
     graph: &Snapshot<'a, T>,
     expression: &Expression,
 ) -> Result<Found<'a>, Fault>
     requires { IsChain expression.now }
-    ensures { Gives result (given site.now graph.now (expression_view expression.now)) found_view }
+    ensures { Gives result (given context.now graph.now (expression_view expression.now)) found_view }
 {
     let Expression::Chain(first, operands) = expression else {
         unreachable!()
     };
-    let found = find(site, graph, first)?;
+    let found = find(context, graph, first)?;
     if !begins_comparison(operands) {
-        return joined(site, graph, found, operands);
+        return joined(context, graph, found, operands);
     }
     match operands.as_slice() {
-        [(operator, operand)] => compared_once(*operator, found, find(site, graph, operand)),
-        _ => compared(found, each_operand(site, graph, operands)),
+        [(operator, operand)] => compared_once(*operator, found, find(context, graph, operand)),
+        _ => compared(found, each_operand(context, graph, operands)),
     }
 }
 
@@ -258,17 +264,17 @@ fn chain<'a, T: Tables>(
 #[cycle(find)]
 #[inline(never)]
 fn joined<'a, T: Tables>(
-    site: &Site<'a>,
+    context: &RowContext<'a>,
     graph: &Snapshot<'a, T>,
     first: Found<'a>,
     operands: &Vec<(Operator, Expression)>,
 ) -> Result<Found<'a>, Fault>
-    ensures { Gives result (given_chain site.now graph.now (found_view first.entry) (operands_of (map operand_view operands.now.items))) found_view }
+    ensures { Gives result (given_chain context.now graph.now (found_view first.entry) (operands_of (map operand_view operands.now.items))) found_view }
 {
     let mut left = first;
     for (operator, operand) in operands {
-        let right = find(site, graph, operand)?;
-        left = combined(site.alloc, *operator, left, right)?;
+        let right = find(context, graph, operand)?;
+        left = combined(context.alloc, *operator, left, right)?;
     }
     Ok(left)
 }
@@ -276,15 +282,15 @@ fn joined<'a, T: Tables>(
 #[cycle(find)]
 #[inline(never)]
 fn each_operand<'a, T: Tables>(
-    site: &Site<'a>,
+    context: &RowContext<'a>,
     graph: &Snapshot<'a, T>,
     operands: &Vec<(Operator, Expression)>,
 ) -> Result<Vec<(Operator, Found<'a>)>, Fault>
-    ensures { Gives result (given_operands site.now graph.now (operands_of (map operand_view operands.now.items))) (λ ps. pairs_view ps.items) }
+    ensures { Gives result (given_operands context.now graph.now (operands_of (map operand_view operands.now.items))) (λ ps. pairs_view ps.items) }
 {
-    let mut found = Vec::with_capacity(site.alloc, operands.len())?;
+    let mut found = Vec::with_capacity(context.alloc, operands.len())?;
     for (operator, operand) in operands {
-        let next = find(site, graph, operand)?;
+        let next = find(context, graph, operand)?;
         found.push((*operator, next))?;
     }
     Ok(found)
@@ -293,20 +299,20 @@ fn each_operand<'a, T: Tables>(
 #[cycle(find)]
 #[inline(never)]
 fn pass_tests<'a, T: Tables>(
-    site: &Site<'a>,
+    context: &RowContext<'a>,
     graph: &Snapshot<'a, T>,
     expression: &Expression,
 ) -> Result<Found<'a>, Fault>
     requires { AreTests expression.now }
-    ensures { Gives result (given site.now graph.now (expression_view expression.now)) found_view }
+    ensures { Gives result (given context.now graph.now (expression_view expression.now)) found_view }
 {
     let Expression::Tests(inner, tests) = expression else {
         unreachable!()
     };
-    let mut found = find(site, graph, inner)?;
+    let mut found = find(context, graph, inner)?;
     for test in tests {
         found = match test {
-            Test::Text(test, operand) => tested(*test, found, find(site, graph, operand))?,
+            Test::Text(test, operand) => tested(*test, found, find(context, graph, operand))?,
             Test::IsNull(is_negated) => null_tested(*is_negated, found),
         };
     }
@@ -317,21 +323,26 @@ fn pass_tests<'a, T: Tables>(
 #[cycle(find)]
 #[inline(never)]
 fn read<'a, T: Tables>(
-    site: &Site<'a>,
+    context: &RowContext<'a>,
     graph: &Snapshot<'a, T>,
     expression: &Expression,
 ) -> Result<Found<'a>, Fault>
     requires { AreSuffixes expression.now }
-    ensures { Gives result (given site.now graph.now (expression_view expression.now)) found_view }
+    ensures { Gives result (given context.now graph.now (expression_view expression.now)) found_view }
 {
     let Expression::Suffixes(inner, suffixes, names) = expression else {
         unreachable!()
     };
-    let mut found = find(site, graph, inner)?;
+    let mut found = find(context, graph, inner)?;
     for suffix in suffixes {
         found = match suffix {
             Suffix::Property(key) => property(graph, found, key.text.as_str())?,
-            Suffix::Index(place) => index(site.alloc, graph, found, find(site, graph, place))?,
+            Suffix::Index(place) => index(
+                context.alloc,
+                graph,
+                found,
+                find(context, graph, place),
+            )?,
         };
     }
     labels(graph, found, names)

@@ -7,13 +7,17 @@ mod conditions;
 mod counts;
 mod elements;
 mod evaluation;
+mod found;
 mod made;
 mod operators;
 mod prepared;
+mod query_context;
 mod ranges;
 mod reads;
-mod site;
+mod row_context;
 
 pub use conditions::condition;
 pub use evaluation::evaluate;
 pub use prepared::{Prepared, PreparedCondition, prepare, prepare_condition};
+pub use query_context::QueryContext;
+pub use row_context::RowContext;

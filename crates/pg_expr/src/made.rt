@@ -1,13 +1,13 @@
 //! What an expression makes, within the limits of weight and depth.
 ghost use Rattle.std.specs.Prelude.{◌≡◌, IfOk, IfErr, Ok, Err, string_bytes};
 ghost use Rattle.pg_expr.specs.After.{After};
-ghost use Rattle.pg_expr.specs.Sites.{found_view, founds_view};
+ghost use Rattle.pg_expr.specs.Contexts.{found_view, founds_view};
 ghost use Rattle.pg_meaning.specs.Entries.{put};
 ghost use Rattle.pg_meaning.specs.Measure.{made, is_within_limits};
 ghost use Rattle.pg_meaning.specs.Value.{list};
 ghost use Rattle.pg_value_core.specs.View.{values_view, entries_view};
 
-use crate::site::Found;
+use crate::found::Found;
 use pg_expr_calls::is_within_limits;
 use pg_syntax_tree::Name;
 use pg_value::{depth, weight};

@@ -2,7 +2,7 @@
 ghost use Rattle.std.specs.Prelude.{◌≡◌, ◌≢◌, IfOk, IfErr, Ok, Err, false, [], ◌∷◌, map, option_map};
 ghost use Rattle.pg_expr.specs.After.{After};
 ghost use Rattle.pg_expr.specs.Operators.{all_negated, is_chosen, takes_operands, truth_compared};
-ghost use Rattle.pg_expr.specs.Sites.{found_view, pairs_view};
+ghost use Rattle.pg_expr.specs.Contexts.{found_view, pairs_view};
 ghost use Rattle.pg_meaning.specs.Arithmetic.{plus, signed};
 ghost use Rattle.pg_meaning.specs.Expressions.{is_in as membership, combined, all_compared, all_signed, begins_comparison, condition_of, is_comparison, tested, null_tested};
 ghost use Rattle.pg_meaning.specs.Logic.{is_true, negated};
@@ -11,7 +11,7 @@ ghost use Rattle.pg_meaning.specs.Parse.{operands_of};
 ghost use Rattle.pg_syntax_tree.specs.View.{operand_view};
 ghost use Rattle.pg_value_core.specs.View.{view};
 
-use crate::site::Found;
+use crate::found::Found;
 use pg_expr_calls as values;
 use pg_meaning::{Operator, TextTest};
 use pg_syntax_tree::Expression;

@@ -1,13 +1,13 @@
 //! What `range` gives at its arguments.
 ghost use Rattle.std.specs.Prelude.{◌≡◌, ◌≢◌, IfOk, IfErr, Ok, Err};
 ghost use Rattle.pg_expr.specs.Calls.{given_range};
-ghost use Rattle.pg_expr.specs.Sites.{found_view, founds_view};
+ghost use Rattle.pg_expr.specs.Contexts.{found_view, founds_view};
 ghost use Rattle.pg_meaning.specs.Answer.{◌>>=◌ as and_then};
 ghost use Rattle.pg_meaning.specs.Functions.{integers_of, range_over, size_of};
 ghost use Rattle.pg_meaning.specs.declared.fault.Fault.TheVariants.{OutOfMemory};
 ghost use Rattle.pg_value_core.specs.View.{view};
 
-use crate::site::Found;
+use crate::found::Found;
 use pg_expr_calls::{range, range_size};
 use pg_value_core::{Fault, Value};
 use std::alloc::Global;

@@ -2,7 +2,7 @@
 ghost use Rattle.std.specs.Prelude.{◌≡◌, ◌≢◌, ◌==◌, IfOk, IfErr, Ok, Err, false, map, string_bytes, vec_len};
 ghost use Rattle.pg_expr.specs.After.{After};
 ghost use Rattle.pg_expr.specs.Reads.{labels_tested};
-ghost use Rattle.pg_expr.specs.Sites.{found_view};
+ghost use Rattle.pg_expr.specs.Contexts.{found_view};
 ghost use Rattle.std.specs.List.{list_all};
 ghost use Rattle.pg_meaning.specs.Names.{is_among};
 ghost use Rattle.pg_meaning.specs.Entries.{value_at};
@@ -14,7 +14,7 @@ ghost use Rattle.pg_meaning.specs.declared.fault.Fault.TheVariants.{OutOfMemory}
 ghost use Rattle.pg_syntax_tree.specs.View.{names_view};
 ghost use Rattle.pg_value_core.specs.View.{view, values_view, entries_view};
 
-use crate::site::{Found, lent_or_null, null};
+use crate::found::{Found, lent_or_null, null};
 use pg_expr_calls::{item_of, value_at};
 use pg_graph::Tables;
 use pg_store::{NodeView, Snapshot};

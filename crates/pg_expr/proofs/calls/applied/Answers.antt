@@ -2,7 +2,7 @@ use Rattle.std.proofs.Common.{Ok, sym, ap, ◌∙◌}
 use Rattle.pg_expr.proofs.AfterLemmas.{after_value}
 use Rattle.pg_expr.proofs.Applied.{range_when_whole, when_deleted, when_null, when_whole}
 use Rattle.pg_expr.proofs.Turns.{fault_gives, gives_by, told}
-use Rattle.pg_expr.specs.Sites.{founds_view}
+use Rattle.pg_expr.specs.Contexts.{founds_view}
 use Rattle.pg_meaning.specs.Answer.{◌>>=◌}
 use Rattle.pg_meaning.specs.Functions.{applied}
 use Rattle.pg_meaning.specs.Measure.{made}

@@ -1,7 +1,7 @@
 use Rattle.std.proofs.Common.{ap}
 use Rattle.pg_expr.proofs.Turns.{told}
 use Rattle.pg_expr.proofs.Walks.{ok_by, err_by}
-use Rattle.pg_expr.specs.Sites.{found_view}
+use Rattle.pg_expr.specs.Contexts.{found_view}
 use Rattle.pg_meaning.specs.Functions.{function_at}
 use Rattle.pg_meaning.specs.Value.{no_items, item}
 use Rattle.pg_scope.specs.Calls.{function_view}

@@ -1,5 +1,5 @@
 use Rattle.std.proofs.Common.{◌||◌, ◌+◌, drop, refl, sym, ap, ◌∙◌}
-use Rattle.pg_expr.specs.Sites.{founds_view}
+use Rattle.pg_expr.specs.Contexts.{founds_view}
 use Rattle.pg_meaning.specs.Functions.{has_deleted, is_deleted}
 use Rattle.pg_scope.proofs.FirstLemmas.{item_here, items_end}
 use Rattle.pg_expr.proofs.calls.has_deleted.Goals as goal

@@ -1,6 +1,6 @@
 use Rattle.std.proofs.Common.{◌≡◌, drop}
 use Rattle.pg_meaning.specs.Functions.{has_null}
-use Rattle.pg_expr.specs.Sites.{founds_view}
+use Rattle.pg_expr.specs.Contexts.{founds_view}
 use Rattle.pg_expr.proofs.calls.has_null.Given as goal
 
 abbrev pub invariant-loop-argument : goal.invariant-loop-argument

@@ -9,12 +9,12 @@ use Rattle.pg_expr.proofs.conditions.chain_met.Goals as goal
 
 pub returns-in_err-is_met-clause-ok : goal.returns-in_err-is_met-clause-ok
 returns-in_err-is_met-clause-ok g c =
-    let all = all_met_by c.args.site.now c.args.graph.now (expression_view c.args.first.now ∷ conjuncts_from c.args.operands.now.items) in
+    let all = all_met_by c.args.context.now c.args.graph.now (expression_view c.args.first.now ∷ conjuncts_from c.args.operands.now.items) in
     IfOk-from_err c.from_residual.result (λ b. all ≡ Ok b) c.from_residual.ensures.0
 
 pub returns-in_err-is_met-clause-err : goal.returns-in_err-is_met-clause-err
 returns-in_err-is_met-clause-err g c =
-    let s = c.args.site.now in
+    let s = c.args.context.now in
     let graph = c.args.graph.now in
     let first = expression_view c.args.first.now in
     let others = conjuncts_from c.args.operands.now.items in
@@ -23,23 +23,23 @@ returns-in_err-is_met-clause-err g c =
 
 pub returns-then-not-branch-clause-ok : goal.returns-then-not-branch-clause-ok
 returns-then-not-branch-clause-ok g c =
-    next_unmet c.args.site.now c.args.graph.now (expression_view c.args.first.now) (conjuncts_from c.args.operands.now.items) c.in_ok-is_met.field-0 c.in_ok-is_met.ensures.ok c.if-not-branch.true
+    next_unmet c.args.context.now c.args.graph.now (expression_view c.args.first.now) (conjuncts_from c.args.operands.now.items) c.in_ok-is_met.field-0 c.in_ok-is_met.ensures.ok c.if-not-branch.true
 
 pub returns-then-not-branch-clause-err : goal.returns-then-not-branch-clause-err
 returns-then-not-branch-clause-err g c = tt
 
 pub loop-operand-init : goal.loop-operand-init
 loop-operand-init g c =
-    next_met c.args.site.now c.args.graph.now (expression_view c.args.first.now) (conjuncts_from c.args.operands.now.items) c.in_ok-is_met.field-0 c.in_ok-is_met.ensures.ok c.if-not-branch.false
+    next_met c.args.context.now c.args.graph.now (expression_view c.args.first.now) (conjuncts_from c.args.operands.now.items) c.in_ok-is_met.field-0 c.in_ok-is_met.ensures.ok c.if-not-branch.false
 
 pub returns-in_err-is_met-2-clause-ok : goal.returns-in_err-is_met-2-clause-ok
 returns-in_err-is_met-2-clause-ok g c =
-    let all = all_met_by c.args.site.now c.args.graph.now (expression_view c.args.first.now ∷ conjuncts_from c.args.operands.now.items) in
+    let all = all_met_by c.args.context.now c.args.graph.now (expression_view c.args.first.now ∷ conjuncts_from c.args.operands.now.items) in
     IfOk-from_err c.from_residual-in_err-is_met-2.result (λ b. all ≡ Ok b) c.from_residual-in_err-is_met-2.ensures.0
 
 pub returns-in_err-is_met-2-clause-err : goal.returns-in_err-is_met-2-clause-err
 returns-in_err-is_met-2-clause-err g c =
-    let s = c.args.site.now in
+    let s = c.args.context.now in
     let graph = c.args.graph.now in
     let os = c.args.operands.now.items in
     let all = all_met_by s graph (expression_view c.args.first.now ∷ conjuncts_from os) in
@@ -50,7 +50,7 @@ returns-in_err-is_met-2-clause-err g c =
 
 pub returns-then-not-branch-2-clause-ok : goal.returns-then-not-branch-2-clause-ok
 returns-then-not-branch-2-clause-ok g c =
-    let s = c.args.site.now in
+    let s = c.args.context.now in
     let graph = c.args.graph.now in
     let os = c.args.operands.now.items in
     let all = all_met_by s graph (expression_view c.args.first.now ∷ conjuncts_from os) in
@@ -63,7 +63,7 @@ returns-then-not-branch-2-clause-err g c = tt
 
 pub loop-operand-preserved : goal.loop-operand-preserved
 loop-operand-preserved g c =
-    let s = c.args.site.now in
+    let s = c.args.context.now in
     let graph = c.args.graph.now in
     let os = c.args.operands.now.items in
     let all = all_met_by s graph (expression_view c.args.first.now ∷ conjuncts_from os) in
@@ -73,7 +73,7 @@ loop-operand-preserved g c =
 
 pub returns-clause-ok : goal.returns-clause-ok
 returns-clause-ok g c =
-    let s = c.args.site.now in
+    let s = c.args.context.now in
     let graph = c.args.graph.now in
     let os = c.args.operands.now.items in
     let all = all_met_by s graph (expression_view c.args.first.now ∷ conjuncts_from os) in

@@ -7,5 +7,5 @@ use Rattle.pg_expr.proofs.conditions.chain_met.Given as goal
 
 abbrev pub invariant-loop-operand : goal.invariant-loop-operand
 invariant-loop-operand g l =
-    all_met_by l.site l.graph (expression_view l.first ∷ conjuncts_in (operands_of (map operand_view l.operands.items)))
-    ≡ all_met_by l.site l.graph (conjuncts_in (operands_of (map operand_view (drop l.operand-index l.operands.items))))
+    all_met_by l.context l.graph (expression_view l.first ∷ conjuncts_in (operands_of (map operand_view l.operands.items)))
+    ≡ all_met_by l.context l.graph (conjuncts_in (operands_of (map operand_view (drop l.operand-index l.operands.items))))

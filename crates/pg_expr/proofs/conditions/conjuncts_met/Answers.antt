@@ -9,7 +9,7 @@ use Rattle.pg_expr.proofs.conditions.conjuncts_met.Goals as goal
 
 pub returns-in-None-clause-err : goal.returns-in-None-clause-err
 returns-in-None-clause-err g c =
-    let s = c.args.site.now in
+    let s = c.args.context.now in
     let graph = c.args.graph.now in
     let whole = ap (all_met_by s graph) c.in-None.ensures.none ∙ alone s graph (expression_view c.args.expression.now) in
     subst (λ (r : Result Bool Fault). IfErr c.is_met.result (λ e. e ≢ OutOfMemory → r ≡ Err e)) (sym whole) c.is_met.ensures.err

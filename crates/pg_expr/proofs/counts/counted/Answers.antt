@@ -2,7 +2,7 @@ use Rattle.std.proofs.Common.{Ok, sym, ap, ◌∙◌}
 use Rattle.pg_expr.proofs.AfterLemmas.{after_value}
 use Rattle.pg_expr.proofs.Applied.{sized_deleted, sized_null, sized_whole}
 use Rattle.pg_expr.proofs.Turns.{fault_gives}
-use Rattle.pg_expr.specs.Sites.{found_view}
+use Rattle.pg_expr.specs.Contexts.{found_view}
 use Rattle.pg_meaning.specs.Functions.{is_deleted, size_of}
 use Rattle.pg_expr.proofs.counts.counted.Goals as goal
 

@@ -3,7 +3,7 @@ use Rattle.pg_expr.proofs.AfterLemmas.{after_value}
 use Rattle.pg_expr.proofs.Applied.{range_sized_whole, when_deleted, when_null}
 use Rattle.pg_expr.proofs.Turns.{gives_by}
 use Rattle.pg_expr.specs.Calls.{sized}
-use Rattle.pg_expr.specs.Sites.{founds_view}
+use Rattle.pg_expr.specs.Contexts.{founds_view}
 use Rattle.pg_meaning.specs.Answer.{◌>>=◌}
 use Rattle.pg_meaning.specs.Functions as function
 use Rattle.pg_expr.proofs.counts.range_counted.Goals as goal

@@ -2,7 +2,7 @@ use Rattle.std.proofs.Common.{Ok, refl, sym, ap, ◌∙◌}
 use Rattle.pg_expr.proofs.ElementLemmas.{map_properties, element_given}
 use Rattle.pg_expr.proofs.Turns.{fault_gives}
 use Rattle.pg_expr.specs.Elements.{properties_given}
-use Rattle.pg_expr.specs.Sites.{found_view}
+use Rattle.pg_expr.specs.Contexts.{found_view}
 use Rattle.pg_meaning.specs.Answer.{◌>>=◌}
 use Rattle.pg_meaning.specs.Value.{mapping}
 use Rattle.pg_value_core.proofs.Forms.{map_seen}

@@ -6,7 +6,7 @@ use Rattle.pg_expr.proofs.Turns.{fault_gives, no_memory, gives_by, told}
 use Rattle.pg_expr.proofs.Walks.{ok_by, err_by, of_call, of_chain, of_suffixes, chosen_case, otherwise_case, null_case, failed_case, joined, joined_pairs, each_of, pairs_given, first_of, true_of, chain_of, operands_given, tests_given, suffixes_given, next_item, no_more_items, next_pair, next_null, next_given, next_unmet, failed_when, met_value, met_fault, next_unknown, next_operand, no_more_operands, next_text_test, failed_text_test, next_index, failed_index}
 use Rattle.pg_expr.specs.Calls.{given_size, range_sized, sized}
 use Rattle.pg_expr.specs.Operators.{all_negated, truth_compared}
-use Rattle.pg_expr.specs.Sites.{found_view, founds_view, pairs_view, given, given_each, given_compared, given_operands, given_perhaps, row_at, parameters_at}
+use Rattle.pg_expr.specs.Contexts.{found_view, founds_view, pairs_view, given, given_each, given_compared, given_operands, given_perhaps, row_at, parameters_at}
 use Rattle.pg_meaning.specs.Answer.{◌>>=◌}
 use Rattle.pg_meaning.specs.Expressions.{all_signed, indexed, labelled, or_fault, property_of, tested}
 use Rattle.pg_meaning.specs.Entries.{at_key}
@@ -28,7 +28,7 @@ use Rattle.pg_expr.proofs.evaluation.+find.Goals as goal
 
 pub find-returns-in-Negation : goal.find-returns-in-Negation
 find-returns-in-Negation g t c =
-    let s = c.args.site.now in
+    let s = c.args.context.now in
     let graph = c.args.graph.now in
     let a = c.in-Negation in
     let inner = c.deref-in-Negation.result.now in
@@ -40,7 +40,7 @@ find-returns-in-Negation g t c =
 
 pub find-returns-in-Signs : goal.find-returns-in-Signs
 find-returns-in-Signs g t c =
-    let s = c.args.site.now in
+    let s = c.args.context.now in
     let graph = c.args.graph.now in
     let a = c.in-Signs in
     let inner = c.deref-in-Signs.result.now in
@@ -52,28 +52,28 @@ find-returns-in-Signs g t c =
 
 pub find-returns-in-Literal : goal.find-returns-in-Literal
 find-returns-in-Literal g t c =
-    let s = c.args.site.now in
+    let s = c.args.context.now in
     let graph = c.args.graph.now in
     gives_by c.literal_found.result (ap (λ e. given s graph (expression_view e)) c.in-Literal.is ∙ turn.of_literal s graph c.in-Literal.literal)
     (turn.literal_gives c.in-Literal.literal c.literal_found.result c.literal_found.ensures.ok c.literal_found.ensures.err)
 
 pub find-returns-in-Parameter : goal.find-returns-in-Parameter
 find-returns-in-Parameter g t c =
-    let s = c.args.site.now in
+    let s = c.args.context.now in
     let graph = c.args.graph.now in
     gives_by c.parameter.result (ap (λ e. given s graph (expression_view e)) c.in-Parameter.is ∙ turn.of_parameter s graph c.in-Parameter.name ∙ ap (λ k. or_fault (at_key k (parameters_at s)) MissingParameter) (sym c.as_str.ensures.value))
     (told c.parameter.result c.parameter.ensures.ok c.parameter.ensures.err)
 
 pub find-returns-in-Variable : goal.find-returns-in-Variable
 find-returns-in-Variable g t c =
-    let s = c.args.site.now in
+    let s = c.args.context.now in
     let graph = c.args.graph.now in
     gives_by c.variable.result (ap (λ e. given s graph (expression_view e)) c.in-Variable.is ∙ turn.of_variable s graph c.in-Variable.name ∙ ap (λ k. or_fault (value_in k (row_at s)) UndefinedVariable) (sym c.as_str-in-Variable.ensures.value))
     (told c.variable.result c.variable.ensures.ok c.variable.ensures.err)
 
 pub find-returns-in-ListLiteral : goal.find-returns-in-ListLiteral
 find-returns-in-ListLiteral g t c =
-    let s = c.args.site.now in
+    let s = c.args.context.now in
     let graph = c.args.graph.now in
     let items = c.in-ListLiteral.items.items in
     gives_by c.list_of.result (ap (λ e. given s graph (expression_view e)) c.in-ListLiteral.is ∙ turn.of_list s graph c.in-ListLiteral.items)
@@ -81,26 +81,26 @@ find-returns-in-ListLiteral g t c =
 
 pub find-returns-in-MapLiteral : goal.find-returns-in-MapLiteral
 find-returns-in-MapLiteral g t c =
-    let s = c.args.site.now in
+    let s = c.args.context.now in
     let graph = c.args.graph.now in
     gives_by c.mapping.result (ap (λ e. given s graph (expression_view e)) c.in-MapLiteral.is ∙ turn.of_map s graph c.in-MapLiteral.pairs) c.mapping.ensures
 
 pub find-returns-in-Parentheses : goal.find-returns-in-Parentheses
 find-returns-in-Parentheses g t c =
-    let s = c.args.site.now in
+    let s = c.args.context.now in
     let graph = c.args.graph.now in
     gives_by c.find.result (ap (λ e. given s graph (expression_view e)) c.in-Parentheses.is ∙ turn.of_parentheses s graph c.in-Parentheses.inner ∙ ap (λ x. given s graph (expression_view x)) (sym c.deref.ensures)) c.find.ensures
 
 pub find-returns-in-Call : goal.find-returns-in-Call
 find-returns-in-Call g t c =
-    let s = c.args.site.now in
+    let s = c.args.context.now in
     let graph = c.args.graph.now in
     let a = c.in-Call in
     gives_by c.call.result (ap (λ e. given s graph (expression_view e)) a.is ∙ of_call s graph a.name a.field-1 a.field-2 a.arguments) c.call.ensures
 
 pub each-loop-item-preserved : goal.each-loop-item-preserved
 each-loop-item-preserved g t c =
-    let s = c.args.site.now in
+    let s = c.args.context.now in
     let graph = c.args.graph.now in
     let l = c.loop-item in
     let rest = drop (l.item-index + 1) c.args.items.now.items in
@@ -114,13 +114,13 @@ each-returns g t c =
     let l = c.loop-item in
     let same = c.deref-item-items.ensures.value in
     record {
-      ok = l.invariant ∙ no_more_items c.args.site.now c.args.graph.now l.found.items l.item-index c.args.items.now.items (omega (arith, ap length same, c.loop-item-test.false));
+      ok = l.invariant ∙ no_more_items c.args.context.now c.args.graph.now l.found.items l.item-index c.args.items.now.items (omega (arith, ap length same, c.loop-item-test.false));
       err = tt;
     }
 
 pub each_operand-loop-operator-preserved : goal.each_operand-loop-operator-preserved
 each_operand-loop-operator-preserved g t c =
-    let s = c.args.site.now in
+    let s = c.args.context.now in
     let graph = c.args.graph.now in
     let l = c.loop-operator in
     let rest = drop (l.operator-index + 1) c.args.operands.now.items in
@@ -135,7 +135,7 @@ each_operand-returns g t c =
     let l = c.loop-operator in
     let same = c.deref-operator-items.ensures.value in
     record {
-      ok = l.invariant ∙ no_more_operands c.args.site.now c.args.graph.now l.found.items l.operator-index c.args.operands.now.items (omega (arith, ap length same, c.loop-operator-test.false));
+      ok = l.invariant ∙ no_more_operands c.args.context.now c.args.graph.now l.found.items l.operator-index c.args.operands.now.items (omega (arith, ap length same, c.loop-operator-test.false));
       err = tt;
     }
 
@@ -145,11 +145,11 @@ each-returns-in_err-found g t c =
 
 pub each-loop-item-init : goal.each-loop-item-init
 each-loop-item-init g t c =
-    turn.first_item c.args.site.now c.args.graph.now c.in_ok-found.found.items c.args.items.now.items c.in_ok-found.ensures.items
+    turn.first_item c.args.context.now c.args.graph.now c.in_ok-found.found.items c.args.items.now.items c.in_ok-found.ensures.items
 
 pub each-returns-in_err-next : goal.each-returns-in_err-next
 each-returns-in_err-next g t c =
-    let s = c.args.site.now in
+    let s = c.args.context.now in
     let graph = c.args.graph.now in
     let l = c.loop-item in
     let rest = drop (l.item-index + 1) c.args.items.now.items in
@@ -168,11 +168,11 @@ each_operand-returns-in_err-found g t c =
 
 pub each_operand-loop-operator-init : goal.each_operand-loop-operator-init
 each_operand-loop-operator-init g t c =
-    turn.first_operand c.args.site.now c.args.graph.now c.in_ok-found.found.items c.args.operands.now.items c.in_ok-found.ensures.items
+    turn.first_operand c.args.context.now c.args.graph.now c.in_ok-found.found.items c.args.operands.now.items c.in_ok-found.ensures.items
 
 pub each_operand-returns-in_err-next : goal.each_operand-returns-in_err-next
 each_operand-returns-in_err-next g t c =
-    let s = c.args.site.now in
+    let s = c.args.context.now in
     let graph = c.args.graph.now in
     let l = c.loop-operator in
     let rest = drop (l.operator-index + 1) c.args.operands.now.items in
@@ -187,11 +187,11 @@ each_operand-returns-in_err-push g t c =
 
 pub mapping-loop-key-init : goal.mapping-loop-key-init
 mapping-loop-key-init g t c =
-    ap (λ es. pairs_given c.args.site.now c.args.graph.now (entries_view es) c.args.pairs.now.items) (sym c.new-entries.ensures.empty)
+    ap (λ es. pairs_given c.args.context.now c.args.graph.now (entries_view es) c.args.pairs.now.items) (sym c.new-entries.ensures.empty)
 
 pub mapping-returns-in_err-next : goal.mapping-returns-in_err-next
 mapping-returns-in_err-next g t c =
-    let s = c.args.site.now in
+    let s = c.args.context.now in
     let graph = c.args.graph.now in
     let l = c.loop-key in
     let rest = drop (l.key-index + 1) c.args.pairs.now.items in
@@ -207,7 +207,7 @@ mapping-returns-in_err-entries g t c =
 
 pub mapping-loop-key-preserved : goal.mapping-loop-key-preserved
 mapping-loop-key-preserved g t c =
-    let s = c.args.site.now in
+    let s = c.args.context.now in
     let graph = c.args.graph.now in
     let l = c.loop-key in
     let rest = drop (l.key-index + 1) c.args.pairs.now.items in
@@ -221,13 +221,13 @@ mapping-returns g t c =
     let l = c.loop-key in
     gives_by c.made.result
     (ap (λ r. r >>= λ es. made (mapping es))
-    (l.invariant ∙ ap (pairs_given c.args.site.now c.args.graph.now (entries_view l.entries.entries)) (items_end c.loop-key-test.false c.deref-key-items.ensures.value))
+    (l.invariant ∙ ap (pairs_given c.args.context.now c.args.graph.now (entries_view l.entries.entries)) (items_end c.loop-key-test.false c.deref-key-items.ensures.value))
     ∙ ap made (sym (map_seen l.entries refl)))
     (told c.made.result c.made.ensures.ok c.made.ensures.err)
 
 pub first_given-returns-in_err-next : goal.first_given-returns-in_err-next
 first_given-returns-in_err-next g t c =
-    let s = c.args.site.now in
+    let s = c.args.context.now in
     let graph = c.args.graph.now in
     let l = c.loop-item in
     let rest = drop (l.item-index + 1) c.args.items.now.items in
@@ -238,7 +238,7 @@ first_given-returns-in_err-next g t c =
 
 pub first_given-returns-then-not-is_null : goal.first_given-returns-then-not-is_null
 first_given-returns-then-not-is_null g t c =
-    let s = c.args.site.now in
+    let s = c.args.context.now in
     let graph = c.args.graph.now in
     let l = c.loop-item in
     let rest = drop (l.item-index + 1) c.args.items.now.items in
@@ -251,7 +251,7 @@ first_given-returns-then-not-is_null g t c =
 
 pub first_given-loop-item-preserved : goal.first_given-loop-item-preserved
 first_given-loop-item-preserved g t c =
-    let s = c.args.site.now in
+    let s = c.args.context.now in
     let graph = c.args.graph.now in
     let l = c.loop-item in
     let rest = drop (l.item-index + 1) c.args.items.now.items in
@@ -262,13 +262,13 @@ first_given-loop-item-preserved g t c =
 pub first_given-returns : goal.first_given-returns
 first_given-returns g t c =
     record {
-      ok = c.loop-item.invariant ∙ ap (first_of c.args.site.now c.args.graph.now) (items_end c.loop-item-test.false c.deref-item-items.ensures.value) ∙ ap Ok (sym c.null.ensures);
+      ok = c.loop-item.invariant ∙ ap (first_of c.args.context.now c.args.graph.now) (items_end c.loop-item-test.false c.deref-item-items.ensures.value) ∙ ap Ok (sym c.null.ensures);
       err = tt;
     }
 
 pub first_true-returns-in_err-tested : goal.first_true-returns-in_err-tested
 first_true-returns-in_err-tested g t c =
-    let s = c.args.site.now in
+    let s = c.args.context.now in
     let graph = c.args.graph.now in
     let subject = option_map found_view c.args.subject.now in
     let l = c.loop-condition in
@@ -281,7 +281,7 @@ first_true-returns-in_err-tested g t c =
 
 pub first_true-returns-in_err-is_chosen : goal.first_true-returns-in_err-is_chosen
 first_true-returns-in_err-is_chosen g t c =
-    let s = c.args.site.now in
+    let s = c.args.context.now in
     let graph = c.args.graph.now in
     let subject = option_map found_view c.args.subject.now in
     let l = c.loop-condition in
@@ -294,7 +294,7 @@ first_true-returns-in_err-is_chosen g t c =
 
 pub first_true-returns-in_err-find : goal.first_true-returns-in_err-find
 first_true-returns-in_err-find g t c =
-    let s = c.args.site.now in
+    let s = c.args.context.now in
     let graph = c.args.graph.now in
     let subject = option_map found_view c.args.subject.now in
     let l = c.loop-condition in
@@ -307,7 +307,7 @@ first_true-returns-in_err-find g t c =
 
 pub first_true-returns-then-branch : goal.first_true-returns-then-branch
 first_true-returns-then-branch g t c =
-    let s = c.args.site.now in
+    let s = c.args.context.now in
     let graph = c.args.graph.now in
     let subject = option_map found_view c.args.subject.now in
     let l = c.loop-condition in
@@ -322,7 +322,7 @@ first_true-returns-then-branch g t c =
 
 pub first_true-loop-condition-preserved : goal.first_true-loop-condition-preserved
 first_true-loop-condition-preserved g t c =
-    let s = c.args.site.now in
+    let s = c.args.context.now in
     let graph = c.args.graph.now in
     let subject = option_map found_view c.args.subject.now in
     let l = c.loop-condition in
@@ -335,13 +335,13 @@ first_true-loop-condition-preserved g t c =
 pub first_true-returns : goal.first_true-returns
 first_true-returns g t c =
     record {
-      ok = c.loop-condition.invariant ∙ ap (true_of c.args.site.now c.args.graph.now (option_map found_view c.args.subject.now)) (items_end c.loop-condition-test.false c.deref-condition-items.ensures.value);
+      ok = c.loop-condition.invariant ∙ ap (true_of c.args.context.now c.args.graph.now (option_map found_view c.args.subject.now)) (items_end c.loop-condition-test.false c.deref-condition-items.ensures.value);
       err = tt;
     }
 
 pub joined-returns-in_err-right : goal.joined-returns-in_err-right
 joined-returns-in_err-right g t c =
-    let s = c.args.site.now in
+    let s = c.args.context.now in
     let graph = c.args.graph.now in
     let l = c.loop-operator in
     let rest = drop (l.operator-index + 1) c.args.operands.now.items in
@@ -353,7 +353,7 @@ joined-returns-in_err-right g t c =
 
 pub joined-returns-in_err-left : goal.joined-returns-in_err-left
 joined-returns-in_err-left g t c =
-    let s = c.args.site.now in
+    let s = c.args.context.now in
     let graph = c.args.graph.now in
     let l = c.loop-operator in
     let rest = drop (l.operator-index + 1) c.args.operands.now.items in
@@ -365,7 +365,7 @@ joined-returns-in_err-left g t c =
 
 pub joined-loop-operator-preserved : goal.joined-loop-operator-preserved
 joined-loop-operator-preserved g t c =
-    let s = c.args.site.now in
+    let s = c.args.context.now in
     let graph = c.args.graph.now in
     let l = c.loop-operator in
     let rest = drop (l.operator-index + 1) c.args.operands.now.items in
@@ -378,7 +378,7 @@ pub joined-returns : goal.joined-returns
 joined-returns g t c =
     let l = c.loop-operator in
     record {
-      ok = l.invariant ∙ ap (chain_of c.args.site.now c.args.graph.now (found_view l.left)) (items_end c.loop-operator-test.false c.deref-operator-items.ensures.value);
+      ok = l.invariant ∙ ap (chain_of c.args.context.now c.args.graph.now (found_view l.left)) (items_end c.loop-operator-test.false c.deref-operator-items.ensures.value);
       err = tt;
     }
 
@@ -387,12 +387,12 @@ call-returns-then-is_coalesce g t c =
     let es = expressions_of (map expression_view c.args.arguments.now.items) in
     let named = ap function_named (sym c.as_str.ensures.value) ∙ sym c.function_named.ensures ∙ ap (option_map function_view) c.in-Some.is in
     gives_by c.first_given.result
-    (turn.coalesced c.args.site.now c.args.graph.now (string_bytes c.args.name.now.text) es (function_view c.in-Some.function) named (sym c.is_coalesce.ensures ∙ c.if-is_coalesce.true))
+    (turn.coalesced c.args.context.now c.args.graph.now (string_bytes c.args.name.now.text) es (function_view c.in-Some.function) named (sym c.is_coalesce.ensures ∙ c.if-is_coalesce.true))
     c.first_given.ensures
 
 pub call-returns-in-len1 : goal.call-returns-in-len1
 call-returns-in-len1 g t c =
-    let s = c.args.site.now in
+    let s = c.args.context.now in
     let graph = c.args.graph.now in
     let items = c.args.arguments.now.items in
     let es = expressions_of (map expression_view items) in
@@ -408,7 +408,7 @@ call-returns-in-len1 g t c =
 
 pub call-returns : goal.call-returns
 call-returns g t c =
-    let s = c.args.site.now in
+    let s = c.args.context.now in
     let graph = c.args.graph.now in
     let items = c.args.arguments.now.items in
     let named = ap function_named (sym c.as_str.ensures.value) ∙ sym c.function_named.ensures ∙ ap (option_map function_view) c.in-Some.is in
@@ -419,7 +419,7 @@ call-returns g t c =
 
 pub size-returns-in-Parentheses : goal.size-returns-in-Parentheses
 size-returns-in-Parentheses g t c =
-    let s = c.args.site.now in
+    let s = c.args.context.now in
     let graph = c.args.graph.now in
     gives_by c.size.result
     (ap (λ e. given_size s graph (expression_view e)) c.in-Parentheses.is
@@ -428,7 +428,7 @@ size-returns-in-Parentheses g t c =
 
 pub size-returns-then-is_range_named : goal.size-returns-then-is_range_named
 size-returns-then-is_range_named g t c =
-    let s = c.args.site.now in
+    let s = c.args.context.now in
     let graph = c.args.graph.now in
     let a = c.in-Call in
     let es = expressions_of (map expression_view a.arguments.items) in
@@ -441,15 +441,15 @@ size-returns-then-is_range_named g t c =
 
 pub size-returns-else-is_range_named : goal.size-returns-else-is_range_named
 size-returns-else-is_range_named g t c =
-    after c.find.result (given c.args.site.now c.args.graph.now (expression_view c.args.argument.now)) found_view (sized c.args.graph.now) c.counted.result found_view c.find.ensures.ok c.find.ensures.err c.counted.ensures
+    after c.find.result (given c.args.context.now c.args.graph.now (expression_view c.args.argument.now)) found_view (sized c.args.graph.now) c.counted.result found_view c.find.ensures.ok c.find.ensures.err c.counted.ensures
 
 pub size-returns-in_default : goal.size-returns-in_default
 size-returns-in_default g t c =
-    after c.find-in_default.result (given c.args.site.now c.args.graph.now (expression_view c.args.argument.now)) found_view (sized c.args.graph.now) c.counted-in_default.result found_view c.find-in_default.ensures.ok c.find-in_default.ensures.err c.counted-in_default.ensures
+    after c.find-in_default.result (given c.args.context.now c.args.graph.now (expression_view c.args.argument.now)) found_view (sized c.args.graph.now) c.counted-in_default.result found_view c.find-in_default.ensures.ok c.find-in_default.ensures.err c.counted-in_default.ensures
 
 pub case-returns-in_err-find-in-Some : goal.case-returns-in_err-find-in-Some
 case-returns-in_err-find-in-Some g t c =
-    let s = c.args.site.now in
+    let s = c.args.context.now in
     let graph = c.args.graph.now in
     let a = c.in-Case in
     let e = c.in_err-find-in-Some in
@@ -459,7 +459,7 @@ case-returns-in_err-find-in-Some g t c =
 
 pub case-returns-in_err-chosen : goal.case-returns-in_err-chosen
 case-returns-in_err-chosen g t c =
-    let s = c.args.site.now in
+    let s = c.args.context.now in
     let graph = c.args.graph.now in
     let a = c.in-Case in
     let e = c.in_err-chosen in
@@ -473,7 +473,7 @@ case-returns-in_err-chosen g t c =
 
 pub case-returns-in-Some-chosen : goal.case-returns-in-Some-chosen
 case-returns-in-Some-chosen g t c =
-    let s = c.args.site.now in
+    let s = c.args.context.now in
     let graph = c.args.graph.now in
     let a = c.in-Case in
     let o = c.in_ok-chosen in
@@ -489,7 +489,7 @@ case-returns-in-Some-chosen g t c =
 
 pub case-returns-in-Some-otherwise : goal.case-returns-in-Some-otherwise
 case-returns-in-Some-otherwise g t c =
-    let s = c.args.site.now in
+    let s = c.args.context.now in
     let graph = c.args.graph.now in
     let a = c.in-Case in
     let o = c.in_ok-chosen in
@@ -506,7 +506,7 @@ case-returns-in-Some-otherwise g t c =
 
 pub case-returns-in-None-otherwise : goal.case-returns-in-None-otherwise
 case-returns-in-None-otherwise g t c =
-    let s = c.args.site.now in
+    let s = c.args.context.now in
     let graph = c.args.graph.now in
     let a = c.in-Case in
     let o = c.in_ok-chosen in
@@ -522,7 +522,7 @@ case-returns-in-None-otherwise g t c =
 
 pub chain-returns-in_err-found : goal.chain-returns-in_err-found
 chain-returns-in_err-found g t c =
-    let s = c.args.site.now in
+    let s = c.args.context.now in
     let graph = c.args.graph.now in
     let a = c.in-Chain in
     let e = c.in_err-found in
@@ -531,7 +531,7 @@ chain-returns-in_err-found g t c =
 
 pub chain-returns-then-not-begins_comparison : goal.chain-returns-then-not-begins_comparison
 chain-returns-then-not-begins_comparison g t c =
-    let s = c.args.site.now in
+    let s = c.args.context.now in
     let graph = c.args.graph.now in
     let a = c.in-Chain in
     let v = found_view c.in_ok-found.found in
@@ -543,7 +543,7 @@ chain-returns-then-not-begins_comparison g t c =
 
 pub chain-returns-in-len1 : goal.chain-returns-in-len1
 chain-returns-in-len1 g t c =
-    let s = c.args.site.now in
+    let s = c.args.context.now in
     let graph = c.args.graph.now in
     let a = c.in-Chain in
     let v = found_view c.in_ok-found.found in
@@ -561,7 +561,7 @@ chain-returns-in-len1 g t c =
 
 pub chain-returns-in_default-as_slice : goal.chain-returns-in_default-as_slice
 chain-returns-in_default-as_slice g t c =
-    let s = c.args.site.now in
+    let s = c.args.context.now in
     let graph = c.args.graph.now in
     let a = c.in-Chain in
     let v = found_view c.in_ok-found.found in
@@ -573,7 +573,7 @@ chain-returns-in_default-as_slice g t c =
 
 pub pass_tests-returns-in_err-found : goal.pass_tests-returns-in_err-found
 pass_tests-returns-in_err-found g t c =
-    let s = c.args.site.now in
+    let s = c.args.context.now in
     let graph = c.args.graph.now in
     let a = c.in-Tests in
     let e = c.in_err-found in
@@ -582,7 +582,7 @@ pass_tests-returns-in_err-found g t c =
 
 pub pass_tests-returns-in_err-found-in-Text : goal.pass_tests-returns-in_err-found-in-Text
 pass_tests-returns-in_err-found-in-Text g t c =
-    let s = c.args.site.now in
+    let s = c.args.context.now in
     let graph = c.args.graph.now in
     let a = c.in-Tests in
     let l = c.loop-test in
@@ -596,7 +596,7 @@ pass_tests-returns-in_err-found-in-Text g t c =
 
 pub pass_tests-loop-test-preserved : goal.pass_tests-loop-test-preserved
 pass_tests-loop-test-preserved g t c =
-    let s = c.args.site.now in
+    let s = c.args.context.now in
     let graph = c.args.graph.now in
     let l = c.loop-test in
     let rest = drop (l.test-index + 1) c.deref-test-items.result.now in
@@ -615,7 +615,7 @@ pass_tests-loop-test-preserved g t c =
 
 pub pass_tests-returns : goal.pass_tests-returns
 pass_tests-returns g t c =
-    let s = c.args.site.now in
+    let s = c.args.context.now in
     let graph = c.args.graph.now in
     let a = c.in-Tests in
     let l = c.loop-test in
@@ -628,7 +628,7 @@ pass_tests-returns g t c =
 
 pub read-returns-in_err-found : goal.read-returns-in_err-found
 read-returns-in_err-found g t c =
-    let s = c.args.site.now in
+    let s = c.args.context.now in
     let graph = c.args.graph.now in
     let a = c.in-Suffixes in
     let e = c.in_err-found in
@@ -637,7 +637,7 @@ read-returns-in_err-found g t c =
 
 pub read-returns-in_err-found-in-Property : goal.read-returns-in_err-found-in-Property
 read-returns-in_err-found-in-Property g t c =
-    let s = c.args.site.now in
+    let s = c.args.context.now in
     let graph = c.args.graph.now in
     let a = c.in-Suffixes in
     let l = c.loop-suffix in
@@ -653,7 +653,7 @@ read-returns-in_err-found-in-Property g t c =
 
 pub read-returns-in_err-found-in-Index : goal.read-returns-in_err-found-in-Index
 read-returns-in_err-found-in-Index g t c =
-    let s = c.args.site.now in
+    let s = c.args.context.now in
     let graph = c.args.graph.now in
     let a = c.in-Suffixes in
     let l = c.loop-suffix in
@@ -669,7 +669,7 @@ read-returns-in_err-found-in-Index g t c =
 
 pub read-loop-suffix-preserved : goal.read-loop-suffix-preserved
 read-loop-suffix-preserved g t c =
-    let s = c.args.site.now in
+    let s = c.args.context.now in
     let graph = c.args.graph.now in
     let l = c.loop-suffix in
     let rest = drop (l.suffix-index + 1) c.deref-suffix-items.result.now in
@@ -688,7 +688,7 @@ read-loop-suffix-preserved g t c =
 
 pub read-returns : goal.read-returns
 read-returns g t c =
-    let s = c.args.site.now in
+    let s = c.args.context.now in
     let graph = c.args.graph.now in
     let a = c.in-Suffixes in
     let l = c.loop-suffix in

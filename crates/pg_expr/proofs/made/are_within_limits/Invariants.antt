@@ -1,6 +1,6 @@
 use Rattle.std.proofs.Common.{◌≡◌, ◌^◌, ◌-◌, ◌+◌, ◌≤◌, min, max, drop}
 use Rattle.pg_meaning.specs.Measure.{items_weight, items_depth}
-use Rattle.pg_expr.specs.Sites.{founds_view}
+use Rattle.pg_expr.specs.Contexts.{founds_view}
 use Rattle.pg_expr.proofs.made.are_within_limits.Given as goal
 
 -- what is counted and what is left make the whole, and the most so far and the most of what is left make the most of all

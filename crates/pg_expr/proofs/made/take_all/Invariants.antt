@@ -1,5 +1,5 @@
 use Rattle.std.proofs.Common.{◌≡◌, map}
-use Rattle.pg_expr.specs.Sites.{found_view}
+use Rattle.pg_expr.specs.Contexts.{found_view}
 use Rattle.pg_value_core.specs.View.{view}
 use Rattle.pg_expr.proofs.made.take_all.Given as goal
 

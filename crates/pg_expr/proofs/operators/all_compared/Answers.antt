@@ -2,7 +2,7 @@ use Rattle.std.proofs.Common.{◌+◌, drop, refl, sym, ap, ◌∙◌}
 use Rattle.std.proofs.lemmas.List.{drop_all}
 use Rattle.std.proofs.lemmas.Result.{err_from_is_err_and}
 use Rattle.pg_expr.proofs.Comparisons.{together, at_first, next_compared, next_fault, at_last}
-use Rattle.pg_expr.specs.Sites.{found_view, pairs_view}
+use Rattle.pg_expr.specs.Contexts.{found_view, pairs_view}
 use Rattle.pg_meaning.specs.Expressions.{all_compared, compared}
 use Rattle.pg_scope.proofs.FirstLemmas.{item_here}
 use Rattle.pg_value_core.specs.View.{view}

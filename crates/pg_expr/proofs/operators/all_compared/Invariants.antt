@@ -1,7 +1,7 @@
 use Rattle.std.proofs.Common.{◌≡◌, drop}
 use Rattle.pg_meaning.specs.Expressions.{all_compared}
 use Rattle.pg_expr.proofs.Comparisons.{together}
-use Rattle.pg_expr.specs.Sites.{found_view, pairs_view}
+use Rattle.pg_expr.specs.Contexts.{found_view, pairs_view}
 use Rattle.pg_value_core.specs.View.{view}
 use Rattle.pg_expr.proofs.operators.all_compared.Given as goal
 

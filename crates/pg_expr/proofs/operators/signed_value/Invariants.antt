@@ -1,6 +1,6 @@
 use Rattle.std.proofs.Common.{◌≡◌, length}
 use Rattle.pg_meaning.specs.Expressions.{all_signed}
-use Rattle.pg_expr.specs.Sites.{found_view}
+use Rattle.pg_expr.specs.Contexts.{found_view}
 use Rattle.pg_expr.proofs.operators.signed_value.Given as goal
 
 abbrev pub invariant-loop-sign : goal.invariant-loop-sign

@@ -4,7 +4,7 @@ use Rattle.std.proofs.lemmas.Int.{to_z-of_z}
 use Rattle.std.proofs.lemmas.Result.{IfOk-from_err}
 use Rattle.pg_expr.proofs.ExitLemmas.{fault_passed}
 use Rattle.pg_expr.proofs.Integers.{no_integers_yet, int_taken, no_integer, all_integers}
-use Rattle.pg_expr.specs.Sites.{founds_view}
+use Rattle.pg_expr.specs.Contexts.{founds_view}
 use Rattle.pg_meaning.specs.Functions.{integers_of}
 use Rattle.pg_meaning.specs.declared.fault.Fault.TheVariants.{OutOfMemory}
 use Rattle.pg_expr.proofs.ranges.integers.Goals as goal

@@ -1,6 +1,6 @@
 use Rattle.std.proofs.Common.{◌≡◌, drop}
 use Rattle.pg_expr.proofs.Integers.{joined_integers}
-use Rattle.pg_expr.specs.Sites.{founds_view}
+use Rattle.pg_expr.specs.Contexts.{founds_view}
 use Rattle.pg_meaning.specs.Functions.{integers_of}
 use Rattle.pg_expr.proofs.ranges.integers.Given as goal
 

@@ -2,7 +2,7 @@ use Rattle.std.proofs.Common.{◌≡◌, ap, rules, sym, ◌∙◌, to_z, of_z}
 use Rattle.std.specs.Int.{w64}
 use Rattle.pg_expr.proofs.Turns.{told}
 use Rattle.pg_expr.proofs.Walks.{ok_by, err_by}
-use Rattle.pg_expr.specs.Sites.{found_view}
+use Rattle.pg_expr.specs.Contexts.{found_view}
 use Rattle.pg_meaning.specs.Expressions.{indexed}
 use Rattle.pg_meaning.specs.Value.{integer}
 use Rattle.pg_value_core.proofs.Forms.{int_seen}

@@ -1,6 +1,6 @@
 use Rattle.std.proofs.Common.{sym, ◌∙◌}
 use Rattle.pg_expr.proofs.LabelLemmas.{no_labels}
-use Rattle.pg_expr.specs.Sites.{found_view}
+use Rattle.pg_expr.specs.Contexts.{found_view}
 use Rattle.pg_expr.proofs.reads.labels.Goals as goal
 
 pub returns-then-is_empty-clause-ok : goal.returns-then-is_empty-clause-ok

@@ -1,6 +1,6 @@
 use Rattle.std.proofs.Common.{ap, ◌∙◌}
 use Rattle.pg_expr.proofs.ElementLemmas.{no_property}
-use Rattle.pg_expr.specs.Sites.{found_view}
+use Rattle.pg_expr.specs.Contexts.{found_view}
 use Rattle.pg_meaning.specs.Expressions.{property_of}
 use Rattle.pg_expr.proofs.reads.property.Goals as goal
 

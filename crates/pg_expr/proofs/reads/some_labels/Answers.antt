@@ -1,6 +1,6 @@
 use Rattle.std.proofs.Common.{◌≡◌, Ok, Err, IfOk, IfErr, sym, ap, subst, ◌∙◌}
 use Rattle.pg_expr.proofs.LabelLemmas.{of_null, of_node, of_other}
-use Rattle.pg_expr.specs.Sites.{found_view}
+use Rattle.pg_expr.specs.Contexts.{found_view}
 use Rattle.pg_meaning.specs.Answer.{Answer}
 use Rattle.pg_expr.proofs.reads.some_labels.Goals as goal
 

@@ -1,21 +1,11 @@
-//! Where an expression is evaluated, and what is found there.
+//! What is found where an expression is evaluated.
 ghost use Rattle.std.specs.Prelude.{◌≡◌, IfOk, option_map, unwrap_or};
-ghost use Rattle.pg_expr.specs.Sites.{found_view};
+ghost use Rattle.pg_expr.specs.Contexts.{found_view};
 ghost use Rattle.pg_meaning.specs.Value.{null};
 ghost use Rattle.pg_value_core.specs.View.{view};
 
-use pg_rows::Columns;
-use pg_value_core::{Parameters, Value};
+use pg_value_core::Value;
 use std::alloc::{AllocError, Global};
-
-/// A row under the names of its columns, and the parameters of the request.
-#[derive(Clone, Copy)]
-pub(crate) struct Site<'a> {
-    pub(crate) alloc: Global,
-    pub(crate) names: &'a Columns,
-    pub(crate) row: &'a [Value],
-    pub(crate) parameters: &'a Parameters,
-}
 
 /// A value that is lent from where it stands, or one that was made.
 #[derive(Drop)]

@@ -8,27 +8,25 @@ ghost use Rattle.pg_value_core.specs.Gives.{Gives};
 
 use crate::items::Items;
 use crate::rows::groups_of_rows;
+use crate::scope::Scope;
 use crate::told::told_rows;
 use pg_graph::Tables;
-use pg_rows::{Columns, Rows};
+use pg_rows::Rows;
 use pg_store::Snapshot;
 use pg_syntax_tree::Expression;
-use pg_value_core::{Fault, Parameters};
-use std::alloc::Global;
+use pg_value_core::Fault;
 
 /// The rows of groups: for each group a row with a value for each of the expressions.
 pub(crate) fn group_rows<T: Tables>(
-    alloc: Global,
+    scope: &Scope<'_>,
     items: &Vec<&Expression>,
-    names: &Columns,
     rows: &Rows,
-    parameters: &Parameters,
     graph: &Snapshot<'_, T>,
 ) -> Result<Rows, Fault>
-    ensures rows { Gives result (rows_given (parameters_view parameters.now) graph.now names.now (expressions_view items.now.items) (table rows.now)) table }
+    ensures rows { Gives result (rows_given (parameters_view scope.now.query.now.parameters.now) graph.now scope.now.names.now (expressions_view items.now.items) (table rows.now)) table }
     ensures width { IfOk result (λ found. found.width ≡ length items.now.items) }
 {
-    let ready = Items::new(alloc, items, names)?;
-    let groups = groups_of_rows(alloc, items, &ready, names, rows, parameters, graph)?;
-    Ok(told_rows(alloc, &ready.are_aggregates, groups)?)
+    let ready = Items::new(scope.query.alloc, items, scope.names)?;
+    let groups = groups_of_rows(scope, items, &ready, rows, graph)?;
+    Ok(told_rows(scope.query.alloc, &ready.are_aggregates, groups)?)
 }

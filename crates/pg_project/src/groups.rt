@@ -2,10 +2,10 @@
 
 use crate::items::{Aggregate, Items};
 use crate::made::push_made;
-use crate::site::Site;
 use crate::taken::Taken;
 use crate::taking::{begun, take_in_all};
 use indexmap::IndexSet;
+use pg_expr::RowContext;
 use pg_graph::Tables;
 use pg_store::Snapshot;
 use pg_value_core::{Fault, Value};
@@ -21,11 +21,11 @@ pub(crate) struct Groups {
 
 impl Groups {
     ghost use Rattle.std.specs.Prelude.{◌≡◌, ◌≢◌, ℕ, List, map, IfErr, IfOk, OnOk, Ok, Err};
+    ghost use Rattle.pg_expr.specs.Contexts.{given};
     ghost use Rattle.pg_meaning.specs.declared.fault.Fault.TheVariants.{OutOfMemory};
     ghost use Rattle.pg_project.specs.Kept.{first_kept, into_kept};
     ghost use Rattle.pg_project.specs.KeptGroups.{Paired, groups_view};
     ghost use Rattle.pg_project.specs.ReadyItems.{aggregates_view, keys_of};
-    ghost use Rattle.pg_project.specs.Sites.{answers};
     ghost use Rattle.pg_value_core.specs.View.{view};
 
     /// No groups yet; with aggregates alone there is one, also over no rows.
@@ -51,23 +51,23 @@ impl Groups {
     /// Takes in a row of this key; a new group comes last.
     pub(crate) fn take_row<T: Tables>(
         &mut self,
-        site: &Site<'_>,
+        context: &RowContext<'_>,
         graph: &Snapshot<'_, T>,
         aggregates: &Vec<Aggregate<'_>>,
         key: Vec<Value>,
     ) -> Result<(), Fault>
         requires { Paired self.old }
-        ensures ok { OnOk result (into_kept (answers site.now graph.now) (aggregates_view site.now.names.now aggregates.now.items) (map view key.items) (groups_view self.old) ≡ Ok (groups_view self.new)) }
+        ensures ok { OnOk result (into_kept (given context.now graph.now) (aggregates_view context.now.names.now aggregates.now.items) (map view key.items) (groups_view self.old) ≡ Ok (groups_view self.new)) }
         ensures paired { OnOk result (Paired self.new) }
-        ensures err { IfErr result (λ e. e ≢ OutOfMemory → into_kept (answers site.now graph.now) (aggregates_view site.now.names.now aggregates.now.items) (map view key.items) (groups_view self.old) ≡ Err e) }
+        ensures err { IfErr result (λ e. e ≢ OutOfMemory → into_kept (given context.now graph.now) (aggregates_view context.now.names.now aggregates.now.items) (map view key.items) (groups_view self.old) ≡ Err e) }
     {
         let (number, is_new) = self.keys.insert_full(key)?;
         if is_new {
             push_made(
                 &mut self.taken,
-                begun(site.alloc, graph.hasher(), aggregates),
+                begun(context.alloc, graph.hasher(), aggregates),
             )?;
         }
-        take_in_all(site, graph, aggregates, &mut self.taken[number])
+        take_in_all(context, graph, aggregates, &mut self.taken[number])
     }
 }

@@ -7,49 +7,58 @@ ghost use Rattle.pg_rows.specs.Tables.{table};
 ghost use Rattle.pg_value_core.specs.Given.{parameters_view};
 ghost use Rattle.pg_value_core.specs.View.{view};
 
-use pg_expr::{Prepared, evaluate};
+use crate::scope::Scope;
+use pg_expr::{Prepared, RowContext, evaluate};
 use pg_graph::Tables;
-use pg_rows::{Columns, Rows, copy_row};
+use pg_rows::{Rows, copy_row};
 use pg_store::Snapshot;
-use pg_value_core::{Fault, Parameters, Parts, Value};
+use pg_value_core::{Fault, Parts, Value};
 use std::alloc::{AllocError, Global};
 
 /// The list at each row.
 #[tactic(auto, using(crate::proofs::InTurn::no_more))]
 pub(crate) fn lists_at<T: Tables>(
-    alloc: Global,
+    scope: &Scope<'_>,
     prepared: &Prepared<'_>,
-    names: &Columns,
     rows: &Rows,
-    parameters: &Parameters,
     graph: &Snapshot<'_, T>,
 ) -> Result<Vec<Vec<Value>>, Fault>
-    ensures ok { IfOk result (λ lists. lists_given (parameters_view parameters.now) graph.now (tree_of names.now prepared.now) names.now (table rows.now) ≡ Ok (lists_view lists.items)) }
+    ensures ok { IfOk result (λ lists. lists_given (parameters_view scope.now.query.now.parameters.now) graph.now (tree_of scope.now.names.now prepared.now) scope.now.names.now (table rows.now) ≡ Ok (lists_view lists.items)) }
     ensures len { IfOk result (λ lists. length lists.items ≡ length (table rows.now)) }
-    ensures err { IfErr result (λ e. e ≢ OutOfMemory → lists_given (parameters_view parameters.now) graph.now (tree_of names.now prepared.now) names.now (table rows.now) ≡ Err e) }
+    ensures err { IfErr result (λ e. e ≢ OutOfMemory → lists_given (parameters_view scope.now.query.now.parameters.now) graph.now (tree_of scope.now.names.now prepared.now) scope.now.names.now (table rows.now) ≡ Err e) }
 {
-    let mut lists = Vec::new(alloc);
+    let mut lists = Vec::new(scope.query.alloc);
     for at in 0..rows.len() {
-        lists.push(list_at(alloc, prepared, names, rows.row(at), parameters, graph)?)?;
+        let context = RowContext {
+            alloc: scope.query.alloc,
+            names: scope.names,
+            row: rows.row(at),
+            parameters: scope.query.parameters,
+        };
+        lists.push(list_at(&context, prepared, graph)?)?;
     }
     Ok(lists)
 }
 
 /// The items of the list that the expression gives at a row; none where it gives null.
 fn list_at<T: Tables>(
-    alloc: Global,
+    context: &RowContext<'_>,
     prepared: &Prepared<'_>,
-    names: &Columns,
-    row: &[Value],
-    parameters: &Parameters,
     graph: &Snapshot<'_, T>,
 ) -> Result<Vec<Value>, Fault>
-    ensures ok { IfOk result (λ items. list_given (parameters_view parameters.now) graph.now (tree_of names.now prepared.now) names.now (map view row.now) ≡ Ok (map view items.items)) }
-    ensures err { IfErr result (λ e. e ≢ OutOfMemory → list_given (parameters_view parameters.now) graph.now (tree_of names.now prepared.now) names.now (map view row.now) ≡ Err e) }
+    ensures ok { IfOk result (λ items. list_given (parameters_view context.now.parameters.now) graph.now (tree_of context.now.names.now prepared.now) context.now.names.now (map view context.now.row.now) ≡ Ok (map view items.items)) }
+    ensures err { IfErr result (λ e. e ≢ OutOfMemory → list_given (parameters_view context.now.parameters.now) graph.now (tree_of context.now.names.now prepared.now) context.now.names.now (map view context.now.row.now) ≡ Err e) }
 {
-    let value = evaluate(alloc, prepared, names, row, parameters, graph)?;
+    let value = evaluate(
+        context.alloc,
+        prepared,
+        context.names,
+        context.row,
+        context.parameters,
+        graph,
+    )?;
     match value.into_parts() {
-        Parts::Null => Ok(Vec::new(alloc)),
+        Parts::Null => Ok(Vec::new(context.alloc)),
         Parts::List(items) => Ok(items),
         _ => Err(Fault::TypeFault),
     }

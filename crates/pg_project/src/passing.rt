@@ -11,13 +11,13 @@ ghost use Rattle.pg_rows.specs.Tables.{table};
 ghost use Rattle.pg_syntax_tree.specs.View.{expression_view};
 ghost use Rattle.pg_value_core.specs.Given.{parameters_view};
 
+use crate::scope::Scope;
 use pg_expr::{PreparedCondition, condition};
 use pg_graph::Tables;
-use pg_rows::{Columns, Rows, RowsLeft};
+use pg_rows::{Rows, RowsLeft};
 use pg_store::Snapshot;
 use pg_syntax_tree::Expression;
-use pg_value_core::{Fault, Parameters};
-use std::alloc::Global;
+use pg_value_core::Fault;
 
 /// How many rows SKIP leaves out, and how many LIMIT lets in.
 #[derive(Clone, Copy)]
@@ -50,51 +50,55 @@ pub(crate) fn lets_all_pass(cut: Cut, condition: &Option<Expression>) -> bool
 
 /// The first values of those rows that are let in and meet the condition.
 pub(crate) fn passing_rows<T: Tables>(
-    alloc: Global,
+    scope: &Scope<'_>,
     cut: Cut,
     wanted: &PreparedCondition<'_>,
-    names: &Columns,
     rows: Rows,
     width: usize,
-    parameters: &Parameters,
     graph: &Snapshot<'_, T>,
 ) -> Result<Rows, Fault>
     requires { width ≤ rows.width }
-    ensures ok { IfOk result (λ found. passing_given (parameters_view parameters.now) graph.now names.now (condition_of names.now wanted.now) width (cut_of (cut_view cut) (table rows)) ≡ Ok (table found)) }
+    ensures ok { IfOk result (λ found. passing_given (parameters_view scope.now.query.now.parameters.now) graph.now scope.now.names.now (condition_of scope.now.names.now wanted.now) width (cut_of (cut_view cut) (table rows)) ≡ Ok (table found)) }
     ensures width { IfOk result (λ found. found.width ≡ width) }
-    ensures err { IfErr result (λ e. e ≢ OutOfMemory → passing_given (parameters_view parameters.now) graph.now names.now (condition_of names.now wanted.now) width (cut_of (cut_view cut) (table rows)) ≡ Err e) }
+    ensures err { IfErr result (λ e. e ≢ OutOfMemory → passing_given (parameters_view scope.now.query.now.parameters.now) graph.now scope.now.names.now (condition_of scope.now.names.now wanted.now) width (cut_of (cut_view cut) (table rows)) ≡ Err e) }
 {
     let most = cut.limit.unwrap_or(rows.len() as u64);
     let mut left = rows.into_left();
     left.skip(cut.skip);
-    first_rows(alloc, most, wanted, names, left, width, parameters, graph)
+    first_rows(scope, most, wanted, left, width, graph)
 }
 
 /// The first values of those of the next rows, at most so many, that meet the condition.
 fn first_rows<T: Tables>(
-    alloc: Global,
+    scope: &Scope<'_>,
     most: u64,
     wanted: &PreparedCondition<'_>,
-    names: &Columns,
     mut left: RowsLeft,
     width: usize,
-    parameters: &Parameters,
     graph: &Snapshot<'_, T>,
 ) -> Result<Rows, Fault>
     requires { width ≤ left.rows.width }
-    ensures ok { IfOk result (λ found. passing_given (parameters_view parameters.now) graph.now names.now (condition_of names.now wanted.now) width (take most (rows_left left)) ≡ Ok (table found)) }
+    ensures ok { IfOk result (λ found. passing_given (parameters_view scope.now.query.now.parameters.now) graph.now scope.now.names.now (condition_of scope.now.names.now wanted.now) width (take most (rows_left left)) ≡ Ok (table found)) }
     ensures width { IfOk result (λ found. found.width ≡ width) }
-    ensures err { IfErr result (λ e. e ≢ OutOfMemory → passing_given (parameters_view parameters.now) graph.now names.now (condition_of names.now wanted.now) width (take most (rows_left left)) ≡ Err e) }
+    ensures err { IfErr result (λ e. e ≢ OutOfMemory → passing_given (parameters_view scope.now.query.now.parameters.now) graph.now scope.now.names.now (condition_of scope.now.names.now wanted.now) width (take most (rows_left left)) ≡ Err e) }
 {
-    let mut found = Rows::new(alloc, width);
-    let mut values = Vec::new(alloc);
+    let query = scope.query;
+    let mut found = Rows::new(query.alloc, width);
+    let mut values = Vec::new(query.alloc);
     let mut more = most;
     while more > 0 {
         let Some(row) = left.look() else {
             return Ok(found);
         };
         more -= 1;
-        if condition(alloc, wanted, names, row, parameters, graph)? {
+        if condition(
+            query.alloc,
+            wanted,
+            scope.names,
+            row,
+            query.parameters,
+            graph,
+        )? {
             left.next_into(&mut values)?;
             values.truncate(width);
             found.push_from(&mut values)?;

@@ -14,14 +14,15 @@ ghost use Rattle.pg_value_core.specs.Given.{parameters_view};
 ghost use Rattle.pg_value_core.specs.View.{view};
 
 use crate::made::push_made;
-use pg_expr::{Prepared, evaluate, prepare};
+use crate::scope::Scope;
+use pg_expr::{Prepared, RowContext, evaluate, prepare};
 use pg_graph::Tables;
 use pg_item_index::same_expression;
 use pg_meaning::Sort;
 use pg_rows::{Columns, Rows, distinct, sort};
 use pg_store::Snapshot;
 use pg_syntax_tree::{Expression, SortItem};
-use pg_value_core::{Fault, Parameters, Value};
+use pg_value_core::{Fault, Value};
 use std::alloc::{AllocError, Global};
 use std::hash::RandomState;
 
@@ -52,24 +53,22 @@ pub(crate) fn distinct_rows(
 
 /// The rows, sorted by the keys where ORDER BY is written.
 pub(crate) fn ordered_rows<T: Tables>(
-    alloc: Global,
+    scope: &Scope<'_>,
     items: &Vec<&Expression>,
     order: &Vec<SortItem>,
-    names: &Columns,
     rows: Rows,
-    parameters: &Parameters,
     graph: &Snapshot<'_, T>,
 ) -> Result<Rows, Fault>
-    ensures ok { IfOk result (λ found. ordered_given (parameters_view parameters.now) graph.now names.now (expressions_view items.now.items) (map sort_item_view order.now.items) (table rows) ≡ Ok (table found)) }
+    ensures ok { IfOk result (λ found. ordered_given (parameters_view scope.now.query.now.parameters.now) graph.now scope.now.names.now (expressions_view items.now.items) (map sort_item_view order.now.items) (table rows) ≡ Ok (table found)) }
     ensures width { IfOk result (λ found. found.width ≡ rows.width) }
-    ensures err { IfErr result (λ e. e ≢ OutOfMemory → ordered_given (parameters_view parameters.now) graph.now names.now (expressions_view items.now.items) (map sort_item_view order.now.items) (table rows) ≡ Err e) }
+    ensures err { IfErr result (λ e. e ≢ OutOfMemory → ordered_given (parameters_view scope.now.query.now.parameters.now) graph.now scope.now.names.now (expressions_view items.now.items) (map sort_item_view order.now.items) (table rows) ≡ Err e) }
 {
     if order.is_empty() {
         return Ok(rows);
     }
-    let sources = sources(alloc, items, order, names)?;
-    let keys = keys(alloc, &sources, names, &rows, parameters, graph)?;
-    Ok(sorted_rows(alloc, &keys, order, rows)?)
+    let sources = sources(scope.query.alloc, items, order, scope.names)?;
+    let keys = keys(scope, &sources, &rows, graph)?;
+    Ok(sorted_rows(scope.query.alloc, &keys, order, rows)?)
 }
 
 /// The rows in the order of their keys.
@@ -156,29 +155,25 @@ fn item_place(items: &Vec<&Expression>, key: &Expression) -> Option<usize>
 /// The keys of all rows, row by row.
 #[tactic(auto, using(crate::proofs::InTurn::no_more))]
 fn keys<T: Tables>(
-    alloc: Global,
+    scope: &Scope<'_>,
     sources: &Vec<SortKey<'_>>,
-    names: &Columns,
     rows: &Rows,
-    parameters: &Parameters,
     graph: &Snapshot<'_, T>,
 ) -> Result<Rows, Fault>
-    ensures ok { IfOk result (λ found. all_keys_given (parameters_view parameters.now) graph.now names.now (sources_view names.now sources.now.items) (table rows.now) ≡ Ok (table found)) }
+    ensures ok { IfOk result (λ found. all_keys_given (parameters_view scope.now.query.now.parameters.now) graph.now scope.now.names.now (sources_view scope.now.names.now sources.now.items) (table rows.now) ≡ Ok (table found)) }
     ensures len { IfOk result (λ found. length (table found) ≡ length (table rows.now)) }
-    ensures err { IfErr result (λ e. e ≢ OutOfMemory → all_keys_given (parameters_view parameters.now) graph.now names.now (sources_view names.now sources.now.items) (table rows.now) ≡ Err e) }
+    ensures err { IfErr result (λ e. e ≢ OutOfMemory → all_keys_given (parameters_view scope.now.query.now.parameters.now) graph.now scope.now.names.now (sources_view scope.now.names.now sources.now.items) (table rows.now) ≡ Err e) }
 {
-    let mut found = Rows::new(alloc, sources.len());
-    let mut keys = Vec::new(alloc);
+    let mut found = Rows::new(scope.query.alloc, sources.len());
+    let mut keys = Vec::new(scope.query.alloc);
     for at in 0..rows.len() {
-        push_keys(
-            alloc,
-            sources,
-            names,
-            rows.row(at),
-            parameters,
-            graph,
-            &mut keys,
-        )?;
+        let context = RowContext {
+            alloc: scope.query.alloc,
+            names: scope.names,
+            row: rows.row(at),
+            parameters: scope.query.parameters,
+        };
+        push_keys(&context, sources, graph, &mut keys)?;
         found.push_from(&mut keys)?;
     }
     Ok(found)
@@ -186,39 +181,40 @@ fn keys<T: Tables>(
 
 /// The keys of a row, taken into a list that is empty.
 fn push_keys<T: Tables>(
-    alloc: Global,
+    context: &RowContext<'_>,
     sources: &Vec<SortKey<'_>>,
-    names: &Columns,
-    row: &[Value],
-    parameters: &Parameters,
     graph: &Snapshot<'_, T>,
     keys: &mut Vec<Value>,
 ) -> Result<(), Fault>
     requires { keys.old.items ≡ [] }
-    ensures ok { OnOk result (keys_given (parameters_view parameters.now) graph.now names.now (sources_view names.now sources.now.items) (map view row.now) ≡ Ok (map view keys.new.items)) }
+    ensures ok { OnOk result (keys_given (parameters_view context.now.parameters.now) graph.now context.now.names.now (sources_view context.now.names.now sources.now.items) (map view context.now.row.now) ≡ Ok (map view keys.new.items)) }
     ensures len { OnOk result (length keys.new.items ≡ length sources.now.items) }
-    ensures err { IfErr result (λ e. e ≢ OutOfMemory → keys_given (parameters_view parameters.now) graph.now names.now (sources_view names.now sources.now.items) (map view row.now) ≡ Err e) }
+    ensures err { IfErr result (λ e. e ≢ OutOfMemory → keys_given (parameters_view context.now.parameters.now) graph.now context.now.names.now (sources_view context.now.names.now sources.now.items) (map view context.now.row.now) ≡ Err e) }
 {
     for source in sources {
-        keys.push(key(alloc, source, names, row, parameters, graph)?)?;
+        keys.push(key(context, source, graph)?)?;
     }
     Ok(())
 }
 
 fn key<T: Tables>(
-    alloc: Global,
+    context: &RowContext<'_>,
     source: &SortKey<'_>,
-    names: &Columns,
-    row: &[Value],
-    parameters: &Parameters,
     graph: &Snapshot<'_, T>,
 ) -> Result<Value, Fault>
-    ensures ok { IfOk result (λ v. key_given (parameters_view parameters.now) graph.now names.now (map view row.now) (source_view names.now source.now) ≡ Ok (view v)) }
-    ensures err { IfErr result (λ e. e ≢ OutOfMemory → key_given (parameters_view parameters.now) graph.now names.now (map view row.now) (source_view names.now source.now) ≡ Err e) }
+    ensures ok { IfOk result (λ v. key_given (parameters_view context.now.parameters.now) graph.now context.now.names.now (map view context.now.row.now) (source_view context.now.names.now source.now) ≡ Ok (view v)) }
+    ensures err { IfErr result (λ e. e ≢ OutOfMemory → key_given (parameters_view context.now.parameters.now) graph.now context.now.names.now (map view context.now.row.now) (source_view context.now.names.now source.now) ≡ Err e) }
 {
     match source {
-        SortKey::Item(at) => Ok(item_value(alloc, row, *at)?),
-        SortKey::Other(prepared) => evaluate(alloc, prepared, names, row, parameters, graph),
+        SortKey::Item(at) => Ok(item_value(context.alloc, context.row, *at)?),
+        SortKey::Other(prepared) => evaluate(
+            context.alloc,
+            prepared,
+            context.names,
+            context.row,
+            context.parameters,
+            graph,
+        ),
     }
 }
 

@@ -1,18 +1,17 @@
 //! Rows taken into the aggregates of a group.
 ghost use Rattle.std.specs.Prelude.{◌≡◌, ◌≢◌, ℕ, List, IfOk, IfErr, OnOk, Ok, Err};
+ghost use Rattle.pg_expr.specs.Contexts.{given};
 ghost use Rattle.pg_meaning.specs.declared.fault.Fault.TheVariants.{OutOfMemory};
 ghost use Rattle.pg_project.specs.Kept.{all_taken_in, argument_given};
 ghost use Rattle.pg_project.specs.Kept as kept;
 ghost use Rattle.pg_project.specs.ReadyItems.{aggregate_view, aggregates_view};
-ghost use Rattle.pg_project.specs.Sites.{answers};
 ghost use Rattle.pg_project.specs.Views.{takens_view};
 ghost use Rattle.pg_value_core.specs.Gives.{Gives};
 ghost use Rattle.pg_value_core.specs.View.{view};
 
 use crate::items::Aggregate;
-use crate::site::Site;
 use crate::taken::Taken;
-use pg_expr::evaluate;
+use pg_expr::{RowContext, evaluate};
 use pg_graph::Tables;
 use pg_store::Snapshot;
 use pg_value_core::{Fault, Value};
@@ -36,19 +35,19 @@ pub(crate) fn begun(
 
 /// The value of the aggregate's argument; without one each row counts.
 pub(crate) fn argument_value<T: Tables>(
-    site: &Site<'_>,
+    context: &RowContext<'_>,
     graph: &Snapshot<'_, T>,
     aggregate: &Aggregate<'_>,
 ) -> Result<Value, Fault>
-    ensures { Gives result (argument_given (answers site.now graph.now) (aggregate_view site.now.names.now aggregate.now)) view }
+    ensures { Gives result (argument_given (given context.now graph.now) (aggregate_view context.now.names.now aggregate.now)) view }
 {
     match &aggregate.argument {
         Some(argument) => evaluate(
-            site.alloc,
+            context.alloc,
             argument,
-            site.names,
-            site.row,
-            site.parameters,
+            context.names,
+            context.row,
+            context.parameters,
             graph,
         ),
         None => Ok(Value::Bool(true)),
@@ -57,18 +56,18 @@ pub(crate) fn argument_value<T: Tables>(
 
 /// Takes the row into the aggregates of a group, left to right.
 pub(crate) fn take_in_all<T: Tables>(
-    site: &Site<'_>,
+    context: &RowContext<'_>,
     graph: &Snapshot<'_, T>,
     aggregates: &Vec<Aggregate<'_>>,
     taken: &mut Vec<Taken>,
 ) -> Result<(), Fault>
-    ensures ok { OnOk result (all_taken_in (answers site.now graph.now) (aggregates_view site.now.names.now aggregates.now.items) (takens_view taken.old.items) ≡ Ok (takens_view taken.new.items)) }
-    ensures err { IfErr result (λ e. e ≢ OutOfMemory → all_taken_in (answers site.now graph.now) (aggregates_view site.now.names.now aggregates.now.items) (takens_view taken.old.items) ≡ Err e) }
+    ensures ok { OnOk result (all_taken_in (given context.now graph.now) (aggregates_view context.now.names.now aggregates.now.items) (takens_view taken.old.items) ≡ Ok (takens_view taken.new.items)) }
+    ensures err { IfErr result (λ e. e ≢ OutOfMemory → all_taken_in (given context.now graph.now) (aggregates_view context.now.names.now aggregates.now.items) (takens_view taken.old.items) ≡ Err e) }
 {
     let count = aggregates.len().min(taken.len());
     for at in 0..count {
-        let value = argument_value(site, graph, &aggregates[at])?;
-        taken[at].take(site.alloc, value)?;
+        let value = argument_value(context, graph, &aggregates[at])?;
+        taken[at].take(context.alloc, value)?;
     }
     Ok(())
 }

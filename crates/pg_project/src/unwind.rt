@@ -12,34 +12,38 @@ ghost use Rattle.pg_value_core.specs.Given.{parameters_view};
 ghost use Rattle.pg_value_core.specs.Gives.{Gives};
 
 use crate::lists::{lists_at, total_length, unwound};
-use pg_expr::prepare;
+use crate::scope::Scope;
+use pg_expr::{QueryContext, prepare};
 use pg_graph::Tables;
 use pg_meter::Meter;
 use pg_rows::{Columns, Rows, Table};
 use pg_store::Snapshot;
 use pg_syntax_tree::{Expression, Name};
-use pg_value_core::{Fault, Parameters, Value};
+use pg_value_core::{Fault, Value};
 use std::alloc::{AllocError, Global};
 
 /// One row for each item of each row's list.
 pub fn unwind_rows<T: Tables>(
-    alloc: Global,
+    query: &QueryContext<'_>,
     list: &Expression,
     name: &Name,
-    parameters: &Parameters,
     graph: &Snapshot<'_, T>,
     table: Table,
     meter: &mut Meter,
 ) -> Result<Table, Fault>
-    ensures unwinds { (s : Setting) → Suits s (parameters_view parameters.now) meter.old.limit (seen table).names → Gives result (unwind_clause s (expression_view list.now) (name_view name.now) (state_of graph.now (seen table) meter.old.used)) (λ t. state_of graph.now (seen t) meter.new.used) }
+    ensures unwinds { (s : Setting) → Suits s (parameters_view query.now.parameters.now) meter.old.limit (seen table).names → Gives result (unwind_clause s (expression_view list.now) (name_view name.now) (state_of graph.now (seen table) meter.old.used)) (λ t. state_of graph.now (seen t) meter.new.used) }
     ensures names { IfOk result (λ t. (seen t).names ≡ add_name (seen table).names (name_view name.now).text) }
     ensures limit { meter.new.limit ≡ meter.old.limit }
 {
     let (names, rows) = table.split();
-    let prepared = prepare(alloc, list, &names)?;
-    let lists = lists_at(alloc, &prepared, &names, &rows, parameters, graph)?;
+    let prepared = prepare(query.alloc, list, &names)?;
+    let scope = Scope {
+        query,
+        names: &names,
+    };
+    let lists = lists_at(&scope, &prepared, &rows, graph)?;
     meter.spend(total_length(&lists)?)?;
-    Ok(unwound_table(alloc, names, rows, name.text.as_str(), lists)?)
+    Ok(unwound_table(query.alloc, names, rows, name.text.as_str(), lists)?)
 }
 
 /// The rows under the names, with one column more unless the name is there.

@@ -9,12 +9,13 @@ ghost use Rattle.pg_value_core.specs.Given.{parameters_view};
 ghost use Rattle.pg_value_core.specs.View.{view};
 
 use crate::made::push_made;
-use pg_expr::{Prepared, evaluate, prepare};
+use crate::scope::Scope;
+use pg_expr::{Prepared, RowContext, evaluate, prepare};
 use pg_graph::Tables;
 use pg_rows::{Columns, Rows, RowsLeft};
 use pg_store::Snapshot;
 use pg_syntax_tree::Expression;
-use pg_value_core::{Fault, Parameters, Value};
+use pg_value_core::{Fault, Value};
 use std::alloc::{AllocError, Global};
 
 /// The expressions, made ready for rows under the names.
@@ -35,21 +36,26 @@ pub fn prepare_each<'a>(
 
 /// The values of the expressions at a row, left to right, taken into a list that is empty.
 pub(crate) fn push_values<T: Tables>(
-    alloc: Global,
+    context: &RowContext<'_>,
     ready: &Vec<Prepared<'_>>,
-    names: &Columns,
-    row: &[Value],
-    parameters: &Parameters,
     graph: &Snapshot<'_, T>,
     values: &mut Vec<Value>,
 ) -> Result<(), Fault>
     requires { values.old.items ≡ [] }
-    ensures ok { OnOk result (values_given (parameters_view parameters.now) graph.now names.now (trees_of names.now ready.now.items) (map view row.now) ≡ Ok (map view values.new.items)) }
+    ensures ok { OnOk result (values_given (parameters_view context.now.parameters.now) graph.now context.now.names.now (trees_of context.now.names.now ready.now.items) (map view context.now.row.now) ≡ Ok (map view values.new.items)) }
     ensures len { OnOk result (length values.new.items ≡ length ready.now.items) }
-    ensures err { IfErr result (λ e. e ≢ OutOfMemory → values_given (parameters_view parameters.now) graph.now names.now (trees_of names.now ready.now.items) (map view row.now) ≡ Err e) }
+    ensures err { IfErr result (λ e. e ≢ OutOfMemory → values_given (parameters_view context.now.parameters.now) graph.now context.now.names.now (trees_of context.now.names.now ready.now.items) (map view context.now.row.now) ≡ Err e) }
 {
     for one in ready {
-        values.push(evaluate(alloc, one, names, row, parameters, graph)?)?;
+        let value = evaluate(
+            context.alloc,
+            one,
+            context.names,
+            context.row,
+            context.parameters,
+            graph,
+        )?;
+        values.push(value)?;
     }
     Ok(())
 }
@@ -72,25 +78,29 @@ fn pass(left: &mut RowsLeft, keeps: bool, values: &mut Vec<Value>) -> Result<(),
 /// The wide rows of all rows, row by row: the values of the items, with the row behind them where it is kept.
 #[tactic(auto, using(crate::proofs::WideRows::wide_more, crate::proofs::WideRows::wide_fault))]
 pub(crate) fn wide_rows<T: Tables>(
-    alloc: Global,
+    scope: &Scope<'_>,
     ready: &Vec<Prepared<'_>>,
-    names: &Columns,
     rows: Rows,
     keeps: bool,
     width: usize,
-    parameters: &Parameters,
     graph: &Snapshot<'_, T>,
 ) -> Result<Rows, Fault>
     requires { width ≡ length ready.now.items + cond keeps rows.width 0 }
-    ensures ok { IfOk result (λ found. wide_rows_given (parameters_view parameters.now) graph.now names.now (trees_of names.now ready.now.items) keeps (table rows) ≡ Ok (table found)) }
+    ensures ok { IfOk result (λ found. wide_rows_given (parameters_view scope.now.query.now.parameters.now) graph.now scope.now.names.now (trees_of scope.now.names.now ready.now.items) keeps (table rows) ≡ Ok (table found)) }
     ensures width { IfOk result (λ found. found.width ≡ width) }
-    ensures err { IfErr result (λ e. e ≢ OutOfMemory → wide_rows_given (parameters_view parameters.now) graph.now names.now (trees_of names.now ready.now.items) keeps (table rows) ≡ Err e) }
+    ensures err { IfErr result (λ e. e ≢ OutOfMemory → wide_rows_given (parameters_view scope.now.query.now.parameters.now) graph.now scope.now.names.now (trees_of scope.now.names.now ready.now.items) keeps (table rows) ≡ Err e) }
 {
-    let mut found = Rows::new(alloc, width);
-    let mut values = Vec::new(alloc);
+    let mut found = Rows::new(scope.query.alloc, width);
+    let mut values = Vec::new(scope.query.alloc);
     let mut left = rows.into_left();
     while let Some(row) = left.look() {
-        push_values(alloc, ready, names, row, parameters, graph, &mut values)?;
+        let context = RowContext {
+            alloc: scope.query.alloc,
+            names: scope.names,
+            row,
+            parameters: scope.query.parameters,
+        };
+        push_values(&context, ready, graph, &mut values)?;
         pass(&mut left, keeps, &mut values)?;
         found.push_from(&mut values)?;
     }

@@ -8,5 +8,5 @@ use Rattle.pg_project.proofs.lists.lists_at.Given as goal
 
 abbrev pub invariant-loop-at : goal.invariant-loop-at
 invariant-loop-at g l =
-    (lists_given (parameters_view l.parameters) l.graph (tree_of l.names l.prepared) l.names (table l.rows) ≡ after (lists_view l.lists.items) (lists_given (parameters_view l.parameters) l.graph (tree_of l.names l.prepared) l.names (drop l.at (table l.rows))))
+    (lists_given (parameters_view l.scope.query.now.parameters.now) l.graph (tree_of l.scope.names.now l.prepared) l.scope.names.now (table l.rows) ≡ after (lists_view l.lists.items) (lists_given (parameters_view l.scope.query.now.parameters.now) l.graph (tree_of l.scope.names.now l.prepared) l.scope.names.now (drop l.at (table l.rows))))
     × (length l.lists.items ≡ l.at)

@@ -19,12 +19,12 @@ use Rattle.pg_project.proofs.parts.ended_rows.Goals as goal
 
 pub returns-then-width-len-clause-ok : goal.returns-then-width-len-clause-ok
 returns-then-width-len-clause-ok g c =
-    let ps = parameters_view c.args.parameters.now in
+    let ps = parameters_view c.args.query.now.parameters.now in
     let graph = c.args.graph.now in
     let t = seen c.args.wide in
     let es = expressions_view c.args.items.now.items in
-    let p = projection_view c.args.projection.now in
-    let where_ = option_map expression_view c.args.condition.now in
+    let p = projection_view c.args.clause.now.projection.now in
+    let where_ = option_map expression_view c.args.clause.now.condition.now in
     let width = length c.args.items.now.items in
     let cut = cut_view c.args.cut in
     let sorted = c.in_ok-sorted.sorted in
@@ -55,10 +55,10 @@ returns-in_err-sorted-clause-width g c = IfOk-from_err c.from_residual-in_err-so
 pub returns-in_err-sorted-clause-err : goal.returns-in_err-sorted-clause-err
 returns-in_err-sorted-clause-err g c =
     let t = seen c.args.wide in
-    let p = projection_view c.args.projection.now in
+    let p = projection_view c.args.clause.now.projection.now in
     fault_passed _ c.in_err-sorted.field-0.0 c.from_residual-in_err-sorted.result c.from_residual-in_err-sorted.ensures.1
-    (λ other. sorts_fail (parameters_view c.args.parameters.now) c.args.graph.now c.split-names.result.0 t.names (expressions_view c.args.items.now.items) p.distinct p.order
-    (cut_view c.args.cut) (option_map expression_view c.args.condition.now) (length c.args.items.now.items) t.rows (table c.in_ok-first.first) c.split-names.ensures.names
+    (λ other. sorts_fail (parameters_view c.args.query.now.parameters.now) c.args.graph.now c.split-names.result.0 t.names (expressions_view c.args.items.now.items) p.distinct p.order
+    (cut_view c.args.cut) (option_map expression_view c.args.clause.now.condition.now) (length c.args.items.now.items) t.rows (table c.in_ok-first.first) c.split-names.ensures.names
     (c.in_ok-first.ensures.rows ∙ ap (distinct_given p.distinct) c.split-names.ensures.rows) c.in_err-sorted.field-0.0 (c.in_err-sorted.ensures.err other))
 
 pub returns-then-width-len-clause-width : goal.returns-then-width-len-clause-width
@@ -86,10 +86,10 @@ passing_rows-requires g c =
 pub returns-clause-ok : goal.returns-clause-ok
 returns-clause-ok g c =
     let t = seen c.args.wide in
-    let p = projection_view c.args.projection.now in
+    let p = projection_view c.args.clause.now.projection.now in
     IfOk-weaker c.passing_rows.result _ _
-    (λ found passes. passed_on (parameters_view c.args.parameters.now) c.args.graph.now c.split-names.result.0 t.names (expressions_view c.args.items.now.items) p.distinct p.order
-    (cut_view c.args.cut) (option_map expression_view c.args.condition.now) (length c.args.items.now.items) t.rows (table c.in_ok-first.first) c.split-names.ensures.names
+    (λ found passes. passed_on (parameters_view c.args.query.now.parameters.now) c.args.graph.now c.split-names.result.0 t.names (expressions_view c.args.items.now.items) p.distinct p.order
+    (cut_view c.args.cut) (option_map expression_view c.args.clause.now.condition.now) (length c.args.items.now.items) t.rows (table c.in_ok-first.first) c.split-names.ensures.names
     (c.in_ok-first.ensures.rows ∙ ap (distinct_given p.distinct) c.split-names.ensures.rows) (table c.in_ok-sorted.sorted)
     (condition_of c.split-names.result.0 c.in_ok-wanted.wanted) c.len-2.result c.in_ok-sorted.ensures.ok c.in_ok-wanted.ensures (c.len-2.ensures ∙ c.args.items.now.ok.0) (Ok (table found)) passes)
     c.passing_rows.ensures.ok
@@ -100,10 +100,10 @@ returns-clause-width g c = IfOk-weaker c.passing_rows.result _ _ (λ found wide.
 pub returns-clause-err : goal.returns-clause-err
 returns-clause-err g c =
     let t = seen c.args.wide in
-    let p = projection_view c.args.projection.now in
+    let p = projection_view c.args.clause.now.projection.now in
     IfErr-weaker c.passing_rows.result _ _
-    (λ e fails other. passed_on (parameters_view c.args.parameters.now) c.args.graph.now c.split-names.result.0 t.names (expressions_view c.args.items.now.items) p.distinct p.order
-    (cut_view c.args.cut) (option_map expression_view c.args.condition.now) (length c.args.items.now.items) t.rows (table c.in_ok-first.first) c.split-names.ensures.names
+    (λ e fails other. passed_on (parameters_view c.args.query.now.parameters.now) c.args.graph.now c.split-names.result.0 t.names (expressions_view c.args.items.now.items) p.distinct p.order
+    (cut_view c.args.cut) (option_map expression_view c.args.clause.now.condition.now) (length c.args.items.now.items) t.rows (table c.in_ok-first.first) c.split-names.ensures.names
     (c.in_ok-first.ensures.rows ∙ ap (distinct_given p.distinct) c.split-names.ensures.rows) (table c.in_ok-sorted.sorted)
     (condition_of c.split-names.result.0 c.in_ok-wanted.wanted) c.len-2.result c.in_ok-sorted.ensures.ok c.in_ok-wanted.ensures (c.len-2.ensures ∙ c.args.items.now.ok.0) (Err e) (fails other))
     c.passing_rows.ensures.err

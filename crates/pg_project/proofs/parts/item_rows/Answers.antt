@@ -24,7 +24,7 @@ returns-in_err-visible-clause-names g c = IfOk-from_err c.from_residual.result _
 pub returns-in_err-found-clause-gives : goal.returns-in_err-found-clause-gives
 returns-in_err-found-clause-gives g c = λ s suits.
     let graph = c.args.graph.now in
-    let names = c.args.names.now in
+    let names = c.args.scope.now.names.now in
     let columns = c.args.columns.now in
     let es = expressions_view c.args.items.now.items in
     let rows = table c.args.rows in
@@ -33,7 +33,7 @@ returns-in_err-found-clause-gives g c = λ s suits.
     let f = c.in_err-found.field-0.0 in
     groups_give s graph columns names es c.args.hidden rows same result (sym c.have_aggregate-groups.ensures ∙ c.if-groups.true)
     (fault_given _ (λ t. map (stands columns []) (seen t).rows) f result c.from_residual-in_err-found.ensures.1
-    (λ other. fails s graph names columns es same (parameters_view c.args.parameters.now) suits rows f (c.in_err-found.ensures.rows.err other)))
+    (λ other. fails s graph names columns es same (parameters_view c.args.scope.now.query.now.parameters.now) suits rows f (c.in_err-found.ensures.rows.err other)))
 
 pub returns-in_err-found-clause-names : goal.returns-in_err-found-clause-names
 returns-in_err-found-clause-names g c = IfOk-from_err c.from_residual-in_err-found.result _ c.from_residual-in_err-found.ensures.0
@@ -42,20 +42,20 @@ pub new-requires : goal.new-requires
 new-requires g c =
     let columns = c.args.columns.now in
     let alone : c.in_ok-visible.visible ≡ columns =
-    c.in_ok-visible.ensures ∙ ap (λ b. columns ++ earlier_names (b || c.args.hidden) c.args.names.now) c.if-groups.true ∙ append-nil columns in
+    c.in_ok-visible.ensures ∙ ap (λ b. columns ++ earlier_names (b || c.args.hidden) c.args.scope.now.names.now) c.if-groups.true ∙ append-nil columns in
     c.in_ok-found.ensures.width ∙ c.requires.items ∙ sym (ap length alone)
 
 pub returns-then-groups-clause-gives : goal.returns-then-groups-clause-gives
 returns-then-groups-clause-gives g c = λ s suits.
     let graph = c.args.graph.now in
-    let names = c.args.names.now in
+    let names = c.args.scope.now.names.now in
     let columns = c.args.columns.now in
     let es = expressions_view c.args.items.now.items in
     let rows = table c.args.rows in
     let found = table c.in_ok-found.found in
     let same : length columns ≡ length es = sym c.requires.items ∙ sym (length-map c.args.items.now.items (λ e. expression_view e.now)) in
     groups_give s graph columns names es c.args.hidden rows same (Ok c.new.result) (sym c.have_aggregate-groups.ensures ∙ c.if-groups.true) (record {
-      ok = gives s graph names columns es same (parameters_view c.args.parameters.now) suits rows found c.in_ok-found.ensures.rows.ok
+      ok = gives s graph names columns es same (parameters_view c.args.scope.now.query.now.parameters.now) suits rows found c.in_ok-found.ensures.rows.ok
           ∙ ap Ok (of_columns_stand columns found ∙ ap (map (stands columns [])) (sym (ap (λ t. t.rows) c.new.ensures)));
       err = tt;
     })
@@ -64,7 +64,7 @@ pub returns-then-groups-clause-names : goal.returns-then-groups-clause-names
 returns-then-groups-clause-names g c =
     ap (λ t. t.names) c.new.ensures
     ∙ c.in_ok-visible.ensures
-    ∙ ap (λ b. c.args.columns.now ++ earlier_names (b || c.args.hidden) c.args.names.now) c.have_aggregate-groups.ensures
+    ∙ ap (λ b. c.args.columns.now ++ earlier_names (b || c.args.hidden) c.args.scope.now.names.now) c.have_aggregate-groups.ensures
 
 pub returns-in_err-ready-clause-gives : goal.returns-in_err-ready-clause-gives
 returns-in_err-ready-clause-gives g c = λ s suits. memory_given _ _ c.from_residual-in_err-ready.result c.from_residual-in_err-ready.ensures.1
@@ -75,7 +75,7 @@ returns-in_err-ready-clause-names g c = IfOk-from_err c.from_residual-in_err-rea
 pub wide_rows-requires : goal.wide_rows-requires
 wide_rows-requires g c =
     let columns = c.args.columns.now in
-    let names = c.args.names.now in
+    let names = c.args.scope.now.names.now in
     c.len.ensures
     ∙ columns_wide c.in_ok-visible.visible columns names c.args.hidden _ c.args.rows.width
     (c.in_ok-visible.ensures ∙ ap (λ b. columns ++ earlier_names (b || c.args.hidden) names) c.if-groups.false) (c.in_ok-ready.ensures.len ∙ c.requires.items) c.requires.rows
@@ -83,11 +83,11 @@ wide_rows-requires g c =
 pub returns-in_err-wide-clause-gives : goal.returns-in_err-wide-clause-gives
 returns-in_err-wide-clause-gives g c = λ s suits.
     let graph = c.args.graph.now in
-    let names = c.args.names.now in
+    let names = c.args.scope.now.names.now in
     let columns = c.args.columns.now in
     let es = expressions_view c.args.items.now.items in
     let rows = table c.args.rows in
-    let parameters = parameters_view c.args.parameters.now in
+    let parameters = parameters_view c.args.scope.now.query.now.parameters.now in
     let same : length columns ≡ length es = sym c.requires.items ∙ sym (length-map c.args.items.now.items (λ e. expression_view e.now)) in
     let result = c.from_residual-in_err-wide.result in
     rows_give s graph columns names es c.args.hidden rows same parameters suits result (sym c.have_aggregate-groups.ensures ∙ c.if-groups.false) (IfOk-from_err result _ c.from_residual-in_err-wide.ensures.0)
@@ -103,11 +103,11 @@ new-requires-2 g c = c.in_ok-wide.ensures.width ∙ c.len.ensures
 pub returns-clause-gives : goal.returns-clause-gives
 returns-clause-gives g c = λ s suits.
     let graph = c.args.graph.now in
-    let names = c.args.names.now in
+    let names = c.args.scope.now.names.now in
     let columns = c.args.columns.now in
     let es = expressions_view c.args.items.now.items in
     let rows = table c.args.rows in
-    let parameters = parameters_view c.args.parameters.now in
+    let parameters = parameters_view c.args.scope.now.query.now.parameters.now in
     let same : length columns ≡ length es = sym c.requires.items ∙ sym (length-map c.args.items.now.items (λ e. expression_view e.now)) in
     rows_give s graph columns names es c.args.hidden rows same parameters suits (Ok c.new-2.result) (sym c.have_aggregate-groups.ensures ∙ c.if-groups.false)
     (ap (λ xs. wide_rows_given parameters graph names xs (not c.args.hidden) rows) (sym c.in_ok-ready.ensures.trees) ∙ c.in_ok-wide.ensures.ok ∙ ap Ok (sym (ap (λ t. t.rows) c.new-2.ensures)))
@@ -117,4 +117,4 @@ pub returns-clause-names : goal.returns-clause-names
 returns-clause-names g c =
     ap (λ t. t.names) c.new-2.ensures
     ∙ c.in_ok-visible.ensures
-    ∙ ap (λ b. c.args.columns.now ++ earlier_names (b || c.args.hidden) c.args.names.now) c.have_aggregate-groups.ensures
+    ∙ ap (λ b. c.args.columns.now ++ earlier_names (b || c.args.hidden) c.args.scope.now.names.now) c.have_aggregate-groups.ensures

@@ -23,17 +23,17 @@ first_of items columns more names long same = omega (arith, long, ap length same
 
 pub returns-in_err-wide-clause-gives : goal.returns-in_err-wide-clause-gives
 returns-in_err-wide-clause-gives g c = λ s given.
-    let ps = parameters_view c.args.parameters.now in
+    let ps = parameters_view c.args.scope.now.query.now.parameters.now in
     let graph = c.args.graph.now in
     let all = columns_view c.args.columns.now in
-    let p = projection_view c.args.projection.now in
-    let where_ = option_map expression_view c.args.condition.now in
-    let rows = rows_named c.args.names.now (table c.args.rows) in
+    let p = projection_view c.args.clause.now.projection.now in
+    let where_ = option_map expression_view c.args.clause.now.condition.now in
+    let rows = rows_named c.args.scope.now.names.now (table c.args.rows) in
     let columns = c.args.columns.now.names in
     let es = expressions_view c.in_ok-items.items.items in
     let said = c.in_err-wide.ensures.gives s given in
     let refused : (f : Fault) → item_rows s graph (hides_earlier p where_) (columns_of columns es) rows ≡ Err f → rows_projected s graph all p where_ rows ≡ Err f =
-    items_fail s graph ps given all p where_ rows columns c.args.names.now es c.in_ok-items.ensures.trees (cut_view c.in_ok-cut.cut) c.in_ok-cut.ensures.ok in
+    items_fail s graph ps given all p where_ rows columns c.args.scope.now.names.now es c.in_ok-items.ensures.trees (cut_view c.in_ok-cut.cut) c.in_ok-cut.ensures.ok in
     record {
       ok = IfOk-from_err c.from_residual-in_err-wide.result _ c.from_residual-in_err-wide.ensures.0;
       err = fault_passed _ c.in_err-wide.field-0.0 c.from_residual-in_err-wide.result c.from_residual-in_err-wide.ensures.1 (λ other. refused c.in_err-wide.field-0.0 (ap (λ b. item_rows s graph b (columns_of columns es) rows) (sym c.hides_earlier.ensures) ∙ said.err other));
@@ -41,12 +41,12 @@ returns-in_err-wide-clause-gives g c = λ s given.
 
 pub returns-clause-gives : goal.returns-clause-gives
 returns-clause-gives g c = λ s given.
-    let ps = parameters_view c.args.parameters.now in
+    let ps = parameters_view c.args.scope.now.query.now.parameters.now in
     let graph = c.args.graph.now in
     let all = columns_view c.args.columns.now in
-    let p = projection_view c.args.projection.now in
-    let where_ = option_map expression_view c.args.condition.now in
-    let rows = rows_named c.args.names.now (table c.args.rows) in
+    let p = projection_view c.args.clause.now.projection.now in
+    let where_ = option_map expression_view c.args.clause.now.condition.now in
+    let rows = rows_named c.args.scope.now.names.now (table c.args.rows) in
     let columns = c.args.columns.now.names in
     let items = c.in_ok-items.items.items in
     let es = expressions_view items in
@@ -54,11 +54,11 @@ returns-clause-gives g c = λ s given.
     let same : length columns ≡ length es = sym long ∙ sym (length-map items (λ e. expression_view e.now)) in
     let wide = c.in_ok-wide in
     let hidden = c.hides_earlier.ensures in
-    let named : (seen wide.wide).names ≡ columns ++ earlier_names (has_aggregate es || hides_earlier p where_) c.args.names.now =
-    wide.ensures.names ∙ ap (λ b. columns ++ earlier_names (has_aggregate es || b) c.args.names.now) hidden in
-    let made : item_rows s graph (hides_earlier p where_) (columns_of columns es) rows ≡ Ok (map (stands columns (earlier_names (has_aggregate es || hides_earlier p where_) c.args.names.now)) (seen wide.wide).rows) =
-    subst (λ b. item_rows s graph b (columns_of columns es) rows ≡ Ok (map (stands columns (earlier_names (has_aggregate es || b) c.args.names.now)) (seen wide.wide).rows)) hidden (wide.ensures.gives s given).ok in
-    ended_gives s graph ps given all p where_ rows columns c.args.names.now es c.in_ok-items.ensures.trees (cut_view c.in_ok-cut.cut) c.in_ok-cut.ensures.ok
+    let named : (seen wide.wide).names ≡ columns ++ earlier_names (has_aggregate es || hides_earlier p where_) c.args.scope.now.names.now =
+    wide.ensures.names ∙ ap (λ b. columns ++ earlier_names (has_aggregate es || b) c.args.scope.now.names.now) hidden in
+    let made : item_rows s graph (hides_earlier p where_) (columns_of columns es) rows ≡ Ok (map (stands columns (earlier_names (has_aggregate es || hides_earlier p where_) c.args.scope.now.names.now)) (seen wide.wide).rows) =
+    subst (λ b. item_rows s graph b (columns_of columns es) rows ≡ Ok (map (stands columns (earlier_names (has_aggregate es || b) c.args.scope.now.names.now)) (seen wide.wide).rows)) hidden (wide.ensures.gives s given).ok in
+    ended_gives s graph ps given all p where_ rows columns c.args.scope.now.names.now es c.in_ok-items.ensures.trees (cut_view c.in_ok-cut.cut) c.in_ok-cut.ensures.ok
     wide.wide (length items) same long named made
     c.ended_rows.result c.ended_rows.ensures.ok c.ended_rows.ensures.err
 
@@ -75,11 +75,11 @@ pub returns-in_err-cut-clause-gives : goal.returns-in_err-cut-clause-gives
 returns-in_err-cut-clause-gives g c = λ s given.
     let f = c.in_err-cut.field-0.0 in
     let all = columns_view c.args.columns.now in
-    let where_ = option_map expression_view c.args.condition.now in
+    let where_ = option_map expression_view c.args.clause.now.condition.now in
     record {
       ok = IfOk-from_err c.from_residual-in_err-cut.result _ c.from_residual-in_err-cut.ensures.0;
       err = fault_passed _ f c.from_residual-in_err-cut.result c.from_residual-in_err-cut.ensures.1
-          (λ other. cut_fails s c.args.graph.now (parameters_view c.args.parameters.now) given all (projection_view c.args.projection.now) where_ (rows_named c.args.names.now (table c.args.rows)) f (c.in_err-cut.ensures.err other));
+          (λ other. cut_fails s c.args.graph.now (parameters_view c.args.scope.now.query.now.parameters.now) given all (projection_view c.args.clause.now.projection.now) where_ (rows_named c.args.scope.now.names.now (table c.args.rows)) f (c.in_err-cut.ensures.err other));
     }
 
 pub returns-in_err-cut-clause-width : goal.returns-in_err-cut-clause-width
@@ -94,7 +94,7 @@ item_rows-requires-clause-items g c = c.in_ok-items.ensures.len
 pub ended_rows-requires : goal.ended_rows-requires
 ended_rows-requires g c =
     let columns = c.args.columns.now.names in
-    let earlier = earlier_names (has_aggregate (expressions_view c.in_ok-items.items.items) || c.hides_earlier.result) c.args.names.now in
+    let earlier = earlier_names (has_aggregate (expressions_view c.in_ok-items.items.items) || c.hides_earlier.result) c.args.scope.now.names.now in
     first_of c.in_ok-items.items.items columns earlier (seen c.in_ok-wide.wide).names c.in_ok-items.ensures.len c.in_ok-wide.ensures.names
 
 pub returns-clause-width : goal.returns-clause-width

@@ -20,9 +20,9 @@ use Rattle.pg_project.proofs.passing.first_rows.Goals as goal
 pub returns-in_err-condition-clause-err : goal.returns-in_err-condition-clause-err
 returns-in_err-condition-clause-err g c =
     let l = c.loop-more in
-    let ps = parameters_view c.args.parameters.now in
+    let ps = parameters_view c.args.scope.now.query.now.parameters.now in
     let graph = c.args.graph.now in
-    let names = c.args.names.now in
+    let names = c.args.scope.now.names.now in
     let wanted = condition_of names c.args.wanted.now in
     let whole = passing_given ps graph names wanted c.args.width (take c.args.most (rows_left c.args.left)) in
     let row = map view c.in-Some.row.now in
@@ -38,9 +38,9 @@ next_into-requires g c = let left = rows_left c.loop-more.left in some_left left
 pub loop-more-preserved-in-Continue-branch-3 : goal.loop-more-preserved-in-Continue-branch-3
 loop-more-preserved-in-Continue-branch-3 g c =
     let l = c.loop-more in
-    let ps = parameters_view c.args.parameters.now in
+    let ps = parameters_view c.args.scope.now.query.now.parameters.now in
     let graph = c.args.graph.now in
-    let names = c.args.names.now in
+    let names = c.args.scope.now.names.now in
     let wanted = condition_of names c.args.wanted.now in
     let width = c.args.width in
     let whole = passing_given ps graph names wanted width (take c.args.most (rows_left c.args.left)) in
@@ -64,9 +64,9 @@ loop-more-preserved-in-Continue-branch-3 g c =
 pub loop-more-preserved : goal.loop-more-preserved
 loop-more-preserved g c =
     let l = c.loop-more in
-    let ps = parameters_view c.args.parameters.now in
+    let ps = parameters_view c.args.scope.now.query.now.parameters.now in
     let graph = c.args.graph.now in
-    let names = c.args.names.now in
+    let names = c.args.scope.now.names.now in
     let wanted = condition_of names c.args.wanted.now in
     let width = c.args.width in
     let whole = passing_given ps graph names wanted width (take c.args.most (rows_left c.args.left)) in
@@ -84,8 +84,8 @@ loop-more-preserved g c =
 pub returns-clause-ok : goal.returns-clause-ok
 returns-clause-ok g c =
     let l = c.loop-more in
-    let ps = parameters_view c.args.parameters.now in
-    let names = c.args.names.now in
+    let ps = parameters_view c.args.scope.now.query.now.parameters.now in
+    let names = c.args.scope.now.names.now in
     let wanted = condition_of names c.args.wanted.now in
     let whole = passing_given ps c.args.graph.now names wanted c.args.width (take c.args.most (rows_left c.args.left)) in
     no_more ps c.args.graph.now names wanted c.args.width whole (table l.found) l.more (rows_left l.left) (omega arith) l.invariant.0
@@ -116,8 +116,8 @@ returns-in_err-push_from-clause-err g c = memory_passed _ c.from_residual-in_err
 
 pub loop-more-init : goal.loop-more-init
 loop-more-init g c =
-    let names = c.args.names.now in
-    let given = passing_given (parameters_view c.args.parameters.now) c.args.graph.now names (condition_of names c.args.wanted.now) c.args.width in (
+    let names = c.args.scope.now.names.now in
+    let given = passing_given (parameters_view c.args.scope.now.query.now.parameters.now) c.args.graph.now names (condition_of names c.args.wanted.now) c.args.width in (
       none_before (table c.new-found.result) (given (take c.args.most (rows_left c.args.left))) c.new-found.ensures.rows,
       c.new-found.ensures.width,
       c.requires,
@@ -127,8 +127,8 @@ loop-more-init g c =
 pub returns-in_default-clause-ok : goal.returns-in_default-clause-ok
 returns-in_default-clause-ok g c =
     let l = c.loop-more in
-    let ps = parameters_view c.args.parameters.now in
-    let names = c.args.names.now in
+    let ps = parameters_view c.args.scope.now.query.now.parameters.now in
+    let names = c.args.scope.now.names.now in
     let wanted = condition_of names c.args.wanted.now in
     let whole = passing_given ps c.args.graph.now names wanted c.args.width (take c.args.most (rows_left c.args.left)) in
     no_rows ps c.args.graph.now names wanted c.args.width whole (table l.found) l.more (rows_left l.left) c.in_default.ensures.none l.invariant.0

@@ -9,7 +9,7 @@ use Rattle.pg_project.proofs.passing.first_rows.Given as goal
 
 abbrev pub invariant-loop-more : goal.invariant-loop-more
 invariant-loop-more g l =
-    (passing_given (parameters_view l.parameters) l.graph l.names (condition_of l.names l.wanted) l.width (take l.most (rows_left l.fn.left)) ≡ after (table l.found) (passing_given (parameters_view l.parameters) l.graph l.names (condition_of l.names l.wanted) l.width (take l.more (rows_left l.left))))
+    (passing_given (parameters_view l.scope.query.now.parameters.now) l.graph l.scope.names.now (condition_of l.scope.names.now l.wanted) l.width (take l.most (rows_left l.fn.left)) ≡ after (table l.found) (passing_given (parameters_view l.scope.query.now.parameters.now) l.graph l.scope.names.now (condition_of l.scope.names.now l.wanted) l.width (take l.more (rows_left l.left))))
     × (l.found.width ≡ l.width)
     × (l.width ≤ l.left.rows.width)
     × (l.values.items ≡ [])

@@ -17,7 +17,7 @@ returns-clause-ok g c =
     let cut = cut_view c.args.cut in
     let taken = cut_taken cut (table c.args.rows) (rows_left c.skip.new.self) c.unwrap_or-most.result c.len.result c.unwrap_or-most.ensures c.len.ensures (c.skip.ensures.rows ∙ (λ i. drop cut.skip (c.into_left-left.ensures.rows i))) in
     IfOk-weaker c.first_rows.result _ _
-    (λ found passes. ap (λ rows. passing_given (parameters_view c.args.parameters.now) c.args.graph.now c.args.names.now (condition_of c.args.names.now c.args.wanted.now) c.args.width rows) (sym taken) ∙ passes)
+    (λ found passes. ap (λ rows. passing_given (parameters_view c.args.scope.now.query.now.parameters.now) c.args.graph.now c.args.scope.now.names.now (condition_of c.args.scope.now.names.now c.args.wanted.now) c.args.width rows) (sym taken) ∙ passes)
     c.first_rows.ensures.ok
 
 pub returns-clause-width : goal.returns-clause-width
@@ -28,5 +28,5 @@ returns-clause-err g c =
     let cut = cut_view c.args.cut in
     let taken = cut_taken cut (table c.args.rows) (rows_left c.skip.new.self) c.unwrap_or-most.result c.len.result c.unwrap_or-most.ensures c.len.ensures (c.skip.ensures.rows ∙ (λ i. drop cut.skip (c.into_left-left.ensures.rows i))) in
     IfErr-weaker c.first_rows.result _ _
-    (λ e fails other. ap (λ rows. passing_given (parameters_view c.args.parameters.now) c.args.graph.now c.args.names.now (condition_of c.args.names.now c.args.wanted.now) c.args.width rows) (sym taken) ∙ fails other)
+    (λ e fails other. ap (λ rows. passing_given (parameters_view c.args.scope.now.query.now.parameters.now) c.args.graph.now c.args.scope.now.names.now (condition_of c.args.scope.now.names.now c.args.wanted.now) c.args.width rows) (sym taken) ∙ fails other)
     c.first_rows.ensures.err

@@ -19,15 +19,15 @@ use Rattle.pg_project.proofs.project.project.Goals as goal
 pub returns-in_err-found-clause-gives : goal.returns-in_err-found-clause-gives
 returns-in_err-found-clause-gives g c = λ s suits.
     let graph = c.args.graph.now in
-    let p = projection_view c.args.projection.now in
-    let where_ = option_map expression_view c.args.condition.now in
+    let p = projection_view c.args.clause.now.projection.now in
+    let where_ = option_map expression_view c.args.clause.now.condition.now in
     let t = seen c.args.table in
     let used = c.args.meter.now.used in
-    let wanted = naming_columns c.args.naming s.scope p in
+    let wanted = naming_columns c.args.clause.now.naming s.scope p in
     let made = columns_view c.in_ok-columns.columns in
     let names = c.split-names.result.0 in
     let rows = c.split-names.result.1 in
-    let are : made ≡ wanted = c.in_ok-columns.ensures ∙ ap (λ ns. naming_columns c.args.naming ns p) (c.split-names.ensures.names ∙ sym suits.scope_is) in
+    let are : made ≡ wanted = c.in_ok-columns.ensures ∙ ap (λ ns. naming_columns c.args.clause.now.naming ns p) (c.split-names.ensures.names ∙ sym suits.scope_is) in
     let spent : spend s used (length t.rows) ≡ Ok c.spend.new.self.used =
     ap (spend s used) (sym (c.len.ensures ∙ ap length c.split-names.ensures.rows)) ∙ c.in_ok-spend.ensures.spends s suits.steps_are in
     let refused : (f : Fault) → rows_projected s graph made p where_ (rows_named names (table rows)) ≡ Err f → project_clause s wanted p where_ (state_of graph t used) ≡ Err f =
@@ -42,12 +42,12 @@ returns-in_err-found-clause-gives g c = λ s suits.
 pub returns-clause-gives : goal.returns-clause-gives
 returns-clause-gives g c = λ s suits.
     let graph = c.args.graph.now in
-    let p = projection_view c.args.projection.now in
-    let where_ = option_map expression_view c.args.condition.now in
+    let p = projection_view c.args.clause.now.projection.now in
+    let where_ = option_map expression_view c.args.clause.now.condition.now in
     let t = seen c.args.table in
     let used = c.args.meter.now.used in
-    let wanted = naming_columns c.args.naming s.scope p in
-    let are : columns_view c.in_ok-columns.columns ≡ wanted = c.in_ok-columns.ensures ∙ ap (λ ns. naming_columns c.args.naming ns p) (c.split-names.ensures.names ∙ sym suits.scope_is) in
+    let wanted = naming_columns c.args.clause.now.naming s.scope p in
+    let are : columns_view c.in_ok-columns.columns ≡ wanted = c.in_ok-columns.ensures ∙ ap (λ ns. naming_columns c.args.clause.now.naming ns p) (c.split-names.ensures.names ∙ sym suits.scope_is) in
     let spent : spend s used (length t.rows) ≡ Ok c.spend.new.self.used =
     ap (spend s used) (sym (c.len.ensures ∙ ap length c.split-names.ensures.rows)) ∙ c.in_ok-spend.ensures.spends s suits.steps_are in
     let made : named_rows (seen c.new.result) ≡ rows_named c.in_ok-columns.columns.names (table c.in_ok-found.found) = ap named_rows c.new.ensures in
@@ -62,10 +62,10 @@ returns-clause-gives g c = λ s suits.
 
 pub returns-clause-names : goal.returns-clause-names
 returns-clause-names g c =
-    let p = projection_view c.args.projection.now in
+    let p = projection_view c.args.clause.now.projection.now in
     ap (λ t. t.names) c.new.ensures
     ∙ sym (view_names c.in_ok-columns.columns)
-    ∙ ap column_names (c.in_ok-columns.ensures ∙ ap (λ ns. naming_columns c.args.naming ns p) c.split-names.ensures.names)
+    ∙ ap column_names (c.in_ok-columns.ensures ∙ ap (λ ns. naming_columns c.args.clause.now.naming ns p) c.split-names.ensures.names)
 
 pub returns-in_err-spend-clause-gives : goal.returns-in_err-spend-clause-gives
 returns-in_err-spend-clause-gives g c = λ s suits.
@@ -73,10 +73,10 @@ returns-in_err-spend-clause-gives g c = λ s suits.
     let f = c.in_err-spend.field-0.0 in
     let spent : spend s used (length (seen c.args.table).rows) ≡ Err f =
     ap (spend s used) (sym (c.len.ensures ∙ ap length c.split-names.ensures.rows)) ∙ c.in_err-spend.ensures.spends s suits.steps_are in
-    let p = projection_view c.args.projection.now in
+    let p = projection_view c.args.clause.now.projection.now in
     record {
       ok = IfOk-from_err c.from_residual.result _ c.from_residual.ensures.0;
-      err = fault_passed _ f c.from_residual.result c.from_residual.ensures.1 (λ other. steps_fail s c.args.graph.now (naming_columns c.args.naming s.scope p) p (option_map expression_view c.args.condition.now) (seen c.args.table) used f spent);
+      err = fault_passed _ f c.from_residual.result c.from_residual.ensures.1 (λ other. steps_fail s c.args.graph.now (naming_columns c.args.clause.now.naming s.scope p) p (option_map expression_view c.args.clause.now.condition.now) (seen c.args.table) used f spent);
     }
 
 pub returns-in_err-spend-clause-names : goal.returns-in_err-spend-clause-names

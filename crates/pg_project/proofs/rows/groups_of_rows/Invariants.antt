@@ -9,6 +9,6 @@ use Rattle.pg_project.proofs.rows.groups_of_rows.Given as goal
 abbrev pub invariant-loop-at : goal.invariant-loop-at
 invariant-loop-at g l =
     let es = expressions_view l.expressions.items in
-    (kept_rows (parameters_view l.parameters) l.graph l.names es (first_kept (keys_in es) (aggregates_in es)) (table l.rows)
-    ≡ kept_rows (parameters_view l.parameters) l.graph l.names es (groups_view l.groups) (drop l.at (table l.rows)))
+    (kept_rows (parameters_view l.scope.query.now.parameters.now) l.graph l.scope.names.now es (first_kept (keys_in es) (aggregates_in es)) (table l.rows)
+    ≡ kept_rows (parameters_view l.scope.query.now.parameters.now) l.graph l.scope.names.now es (groups_view l.groups) (drop l.at (table l.rows)))
     × Paired l.groups

@@ -3,7 +3,7 @@ use Rattle.pg_project.proofs.RowLemmas.{with_key, without_key}
 use Rattle.pg_project.specs.Items.{expressions_view}
 use Rattle.pg_project.specs.Kept.{into_kept}
 use Rattle.pg_project.specs.KeptGroups.{groups_view}
-use Rattle.pg_project.specs.Sites.{answers}
+use Rattle.pg_expr.specs.Contexts.{given}
 use Rattle.pg_meaning.specs.Answer.{◌>>◌, each_answer}
 use Rattle.pg_meaning.specs.declared.fault.Fault.TheVariants.{OutOfMemory}
 use Rattle.pg_value_core.specs.View.{view}
@@ -11,7 +11,7 @@ use Rattle.pg_project.proofs.rows.take_row.Goals as goal
 
 pub returns-in-Ok : goal.returns-in-Ok
 returns-in-Ok g c =
-    let at = answers c.args.site.now c.args.graph.now in
+    let at = given c.args.context.now c.args.graph.now in
     let groups = groups_view c.args.groups.now in
     let key = map view c.in-Ok.key.items in
     let ready = c.requires.ready in
@@ -24,7 +24,7 @@ returns-in-Ok g c =
 
 pub returns-in-Err-test_items : goal.returns-in-Err-test_items
 returns-in-Err-test_items g c =
-    let at = answers c.args.site.now c.args.graph.now in
+    let at = given c.args.context.now c.args.graph.now in
     let es = expressions_view c.args.expressions.now.items in
     let fault = c.in-Err.fault in
     let differs : fault ≢ OutOfMemory = search rules in
@@ -38,7 +38,7 @@ returns-in-Err-test_items g c =
 
 pub returns-in-Ok-test_items : goal.returns-in-Ok-test_items
 returns-in-Ok-test_items g c =
-    let at = answers c.args.site.now c.args.graph.now in
+    let at = given c.args.context.now c.args.graph.now in
     let es = expressions_view c.args.expressions.now.items in
     let fault = c.in-Err.fault in
     record {

@@ -3,7 +3,7 @@ use Rattle.std.proofs.lemmas.Result.{IfOk-from_err}
 use Rattle.pg_expr.proofs.ExitLemmas.{fault_passed}
 use Rattle.pg_project.specs.Kept.{item_tested}
 use Rattle.pg_project.specs.ReadyItems.{item_view}
-use Rattle.pg_project.specs.Sites.{answers}
+use Rattle.pg_expr.specs.Contexts.{given}
 use Rattle.pg_meaning.specs.Answer.{◌>>=◌}
 use Rattle.pg_meaning.specs.Projections.{test_alone}
 use Rattle.pg_meaning.specs.declared.fault.Fault.{Fault}
@@ -25,16 +25,16 @@ returns-in_err-evaluate-in-Key-clause-ok g c = IfOk-from_err c.from_residual.res
 
 pub returns-in_err-evaluate-in-Key-clause-err : goal.returns-in_err-evaluate-in-Key-clause-err
 returns-in_err-evaluate-in-Key-clause-err g c =
-    let site = c.args.site.now in
-    let at = answers site c.args.graph.now in
+    let context = c.args.context.now in
+    let at = given context c.args.graph.now in
     let f = c.in_err-evaluate-in-Key.field-0.0 in
-    fault_passed (item_tested at (item_view site.names.now c.args.item.now)) f c.from_residual.result c.from_residual.ensures.1
-    (λ other. ap (λ i. item_tested at (item_view site.names.now i)) c.in-Key.is ∙ ap (λ a. a >>= λ v. Ok tt) (c.in_err-evaluate-in-Key.ensures.err other))
+    fault_passed (item_tested at (item_view context.names.now c.args.item.now)) f c.from_residual.result c.from_residual.ensures.1
+    (λ other. ap (λ i. item_tested at (item_view context.names.now i)) c.in-Key.is ∙ ap (λ a. a >>= λ v. Ok tt) (c.in_err-evaluate-in-Key.ensures.err other))
 
 pub returns-in_ok-evaluate-in-Key-clause-ok : goal.returns-in_ok-evaluate-in-Key-clause-ok
 returns-in_ok-evaluate-in-Key-clause-ok g c =
-    let site = c.args.site.now in
-    ap (λ i. item_tested (answers site c.args.graph.now) (item_view site.names.now i)) c.in-Key.is ∙ ap (λ a. a >>= λ v. Ok tt) c.in_ok-evaluate-in-Key.ensures.ok
+    let context = c.args.context.now in
+    ap (λ i. item_tested (given context c.args.graph.now) (item_view context.names.now i)) c.in-Key.is ∙ ap (λ a. a >>= λ v. Ok tt) c.in_ok-evaluate-in-Key.ensures.ok
 
 pub returns-in_ok-evaluate-in-Key-clause-err : goal.returns-in_ok-evaluate-in-Key-clause-err
 returns-in_ok-evaluate-in-Key-clause-err g c = tt
@@ -44,18 +44,18 @@ returns-in_err-value-in-Aggregate-clause-ok g c = IfOk-from_err c.from_residual-
 
 pub returns-in_err-value-in-Aggregate-clause-err : goal.returns-in_err-value-in-Aggregate-clause-err
 returns-in_err-value-in-Aggregate-clause-err g c =
-    let site = c.args.site.now in
-    let at = answers site c.args.graph.now in
+    let context = c.args.context.now in
+    let at = given context c.args.graph.now in
     let f = c.in_err-value-in-Aggregate.field-0.0 in
-    fault_passed (item_tested at (item_view site.names.now c.args.item.now)) f c.from_residual-in_err-value-in-Aggregate.result c.from_residual-in_err-value-in-Aggregate.ensures.1
-    (λ other. ap (λ i. item_tested at (item_view site.names.now i)) c.in-Aggregate.is ∙ ap (λ a. a >>= test_alone (summary_view c.in-Aggregate.aggregate.summary)) (c.in_err-value-in-Aggregate.ensures.err other))
+    fault_passed (item_tested at (item_view context.names.now c.args.item.now)) f c.from_residual-in_err-value-in-Aggregate.result c.from_residual-in_err-value-in-Aggregate.ensures.1
+    (λ other. ap (λ i. item_tested at (item_view context.names.now i)) c.in-Aggregate.is ∙ ap (λ a. a >>= test_alone (summary_view c.in-Aggregate.aggregate.summary)) (c.in_err-value-in-Aggregate.ensures.err other))
 
 pub returns-in_ok-value-in-Aggregate : goal.returns-in_ok-value-in-Aggregate
 returns-in_ok-value-in-Aggregate g c =
-    let site = c.args.site.now in
-    let at = answers site c.args.graph.now in
-    let tested = ap (λ i. item_tested at (item_view site.names.now i)) c.in-Aggregate.is ∙ ap (λ a. a >>= test_alone (summary_view c.in-Aggregate.aggregate.summary)) c.in_ok-value-in-Aggregate.ensures.ok ∙ sym c.test_alone.ensures in
+    let context = c.args.context.now in
+    let at = given context c.args.graph.now in
+    let tested = ap (λ i. item_tested at (item_view context.names.now i)) c.in-Aggregate.is ∙ ap (λ a. a >>= test_alone (summary_view c.in-Aggregate.aggregate.summary)) c.in_ok-value-in-Aggregate.ensures.ok ∙ sym c.test_alone.ensures in
     record {
-      ok = passed (item_tested at (item_view site.names.now c.args.item.now)) c.test_alone.result tested;
-      err = failed (item_tested at (item_view site.names.now c.args.item.now)) c.test_alone.result tested;
+      ok = passed (item_tested at (item_view context.names.now c.args.item.now)) c.test_alone.result tested;
+      err = failed (item_tested at (item_view context.names.now c.args.item.now)) c.test_alone.result tested;
     }

@@ -15,18 +15,18 @@ use Rattle.pg_project.proofs.sorting.keys.Goals as goal
 pub returns-in_err-push_keys-clause-err : goal.returns-in_err-push_keys-clause-err
 returns-in_err-push_keys-clause-err g c =
     let l = c.loop-at in
-    let f = keys_given (parameters_view c.args.parameters.now) c.args.graph.now c.args.names.now (sources_view c.args.names.now c.args.sources.now.items) in
-    let refused : (e : Fault) → f (map view c.row.result.now) ≡ Err e → all_keys_given (parameters_view c.args.parameters.now) c.args.graph.now c.args.names.now (sources_view c.args.names.now c.args.sources.now.items) (table c.args.rows.now) ≡ Err e =
+    let f = keys_given (parameters_view c.args.scope.now.query.now.parameters.now) c.args.graph.now c.args.scope.now.names.now (sources_view c.args.scope.now.names.now c.args.sources.now.items) in
+    let refused : (e : Fault) → f (map view c.row.result.now) ≡ Err e → all_keys_given (parameters_view c.args.scope.now.query.now.parameters.now) c.args.graph.now c.args.scope.now.names.now (sources_view c.args.scope.now.names.now c.args.sources.now.items) (table c.args.rows.now) ≡ Err e =
     λ e h. one_fault f (table c.args.rows.now) (table l.found) l.at (map view c.row.result.now) e l.invariant.0 c.row.ensures h in
     fault_passed _ c.in_err-push_keys.field-0.0 c.from_residual.result c.from_residual.ensures.1 (λ other. refused c.in_err-push_keys.field-0.0 (c.in_err-push_keys.ensures.err other))
 
 pub loop-at-preserved : goal.loop-at-preserved
 loop-at-preserved g c =
     let l = c.loop-at in
-    let f = keys_given (parameters_view c.args.parameters.now) c.args.graph.now c.args.names.now (sources_view c.args.names.now c.args.sources.now.items) in
+    let f = keys_given (parameters_view c.args.scope.now.query.now.parameters.now) c.args.graph.now c.args.scope.now.names.now (sources_view c.args.scope.now.names.now c.args.sources.now.items) in
     let found = map view c.push_keys.new.keys.items in (
       one_more f (table c.args.rows.now) (table l.found) l.at (map view c.row.result.now) found l.invariant.0 c.row.ensures c.in_ok-push_keys.ensures.ok
-          ∙ ap (λ ks. after ks (all_keys_given (parameters_view c.args.parameters.now) c.args.graph.now c.args.names.now (sources_view c.args.names.now c.args.sources.now.items) (drop (l.at + 1) (table c.args.rows.now)))) (sym c.in_ok-push_from.ensures.rows),
+          ∙ ap (λ ks. after ks (all_keys_given (parameters_view c.args.scope.now.query.now.parameters.now) c.args.graph.now c.args.scope.now.names.now (sources_view c.args.scope.now.names.now c.args.sources.now.items) (drop (l.at + 1) (table c.args.rows.now)))) (sym c.in_ok-push_from.ensures.rows),
       ap length c.in_ok-push_from.ensures.rows ∙ length-append (table l.found) (found ∷ []) ∙ ap (λ n. n + 1) l.invariant.1,
       c.in_ok-push_from.ensures.width ∙ l.invariant.2,
       c.in_ok-push_from.ensures.emptied,
@@ -52,7 +52,7 @@ returns-clause-err g c = tt
 
 pub loop-at-init : goal.loop-at-init
 loop-at-init g c = (
-  none_before (table c.new-found.result) (all_keys_given (parameters_view c.args.parameters.now) c.args.graph.now c.args.names.now (sources_view c.args.names.now c.args.sources.now.items) (table c.args.rows.now)) c.new-found.ensures.rows,
+  none_before (table c.new-found.result) (all_keys_given (parameters_view c.args.scope.now.query.now.parameters.now) c.args.graph.now c.args.scope.now.names.now (sources_view c.args.scope.now.names.now c.args.sources.now.items) (table c.args.rows.now)) c.new-found.ensures.rows,
   ap length c.new-found.ensures.rows,
   c.new-found.ensures.width ∙ c.len.ensures ∙ c.args.sources.now.ok.0,
   c.new-keys.ensures.items,
@@ -68,7 +68,7 @@ pub push_from-requires : goal.push_from-requires
 push_from-requires g c = c.in_ok-push_keys.ensures.len ∙ sym c.loop-at.invariant.2
 
 pub returns-clause-ok : goal.returns-clause-ok
-returns-clause-ok g c = no_more (keys_given (parameters_view c.args.parameters.now) c.args.graph.now c.args.names.now (sources_view c.args.names.now c.args.sources.now.items)) (table c.args.rows.now) (table c.loop-at.found) c.loop-at.at c.loop-at.invariant.0 (subst (λ n. n ≤ c.loop-at.at) c.len-at-end.ensures c.loop-at-test.false)
+returns-clause-ok g c = no_more (keys_given (parameters_view c.args.scope.now.query.now.parameters.now) c.args.graph.now c.args.scope.now.names.now (sources_view c.args.scope.now.names.now c.args.sources.now.items)) (table c.args.rows.now) (table c.loop-at.found) c.loop-at.at c.loop-at.invariant.0 (subst (λ n. n ≤ c.loop-at.at) c.len-at-end.ensures c.loop-at-test.false)
 
 pub returns-clause-len : goal.returns-clause-len
 returns-clause-len g c = c.loop-at.invariant.1 ∙ met c.loop-at.at c.len-at-end.result c.loop-at.auto.at-end c.loop-at-test.false ∙ c.len-at-end.ensures

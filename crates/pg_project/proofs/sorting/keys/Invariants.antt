@@ -8,7 +8,7 @@ use Rattle.pg_project.proofs.sorting.keys.Given as goal
 
 abbrev pub invariant-loop-at : goal.invariant-loop-at
 invariant-loop-at g l =
-    (all_keys_given (parameters_view l.parameters) l.graph l.names (sources_view l.names l.sources.items) (table l.rows) ≡ after (table l.found) (all_keys_given (parameters_view l.parameters) l.graph l.names (sources_view l.names l.sources.items) (drop l.at (table l.rows))))
+    (all_keys_given (parameters_view l.scope.query.now.parameters.now) l.graph l.scope.names.now (sources_view l.scope.names.now l.sources.items) (table l.rows) ≡ after (table l.found) (all_keys_given (parameters_view l.scope.query.now.parameters.now) l.graph l.scope.names.now (sources_view l.scope.names.now l.sources.items) (drop l.at (table l.rows))))
     × (length (table l.found) ≡ l.at)
     × (l.found.width ≡ length l.sources.items)
     × (l.keys.items ≡ [])

@@ -16,10 +16,10 @@ use Rattle.pg_project.proofs.sorting.ordered_rows.Goals as goal
 pub returns-in_err-keys-clause-err : goal.returns-in_err-keys-clause-err
 returns-in_err-keys-clause-err g c =
     let some : 0 < length c.args.order.now.items = grind (arith, nat_tests, c.if-is_empty.ensures) in
-    let refused : (e : Fault) → all_keys_given (parameters_view c.args.parameters.now) c.args.graph.now c.args.names.now (sources_view c.args.names.now c.in_ok-sources.sources.items) (table c.args.rows) ≡ Err e
-    → ordered_given (parameters_view c.args.parameters.now) c.args.graph.now c.args.names.now (expressions_view c.args.items.now.items) (map sort_item_view c.args.order.now.items) (table c.args.rows) ≡ Err e =
-    λ e h. ordered_fails (parameters_view c.args.parameters.now) c.args.graph.now c.args.names.now (expressions_view c.args.items.now.items) c.args.order.now.items (table c.args.rows) e some
-    (ap (λ ks. all_keys_given (parameters_view c.args.parameters.now) c.args.graph.now c.args.names.now ks (table c.args.rows)) (sym c.in_ok-sources.ensures.sources) ∙ h) in
+    let refused : (e : Fault) → all_keys_given (parameters_view c.args.scope.now.query.now.parameters.now) c.args.graph.now c.args.scope.now.names.now (sources_view c.args.scope.now.names.now c.in_ok-sources.sources.items) (table c.args.rows) ≡ Err e
+    → ordered_given (parameters_view c.args.scope.now.query.now.parameters.now) c.args.graph.now c.args.scope.now.names.now (expressions_view c.args.items.now.items) (map sort_item_view c.args.order.now.items) (table c.args.rows) ≡ Err e =
+    λ e h. ordered_fails (parameters_view c.args.scope.now.query.now.parameters.now) c.args.graph.now c.args.scope.now.names.now (expressions_view c.args.items.now.items) c.args.order.now.items (table c.args.rows) e some
+    (ap (λ ks. all_keys_given (parameters_view c.args.scope.now.query.now.parameters.now) c.args.graph.now c.args.scope.now.names.now ks (table c.args.rows)) (sym c.in_ok-sources.ensures.sources) ∙ h) in
     fault_passed _ c.in_err-keys.field-0.0 c.from_residual-in_err-keys.result c.from_residual-in_err-keys.ensures.1 (λ other. refused c.in_err-keys.field-0.0 (c.in_err-keys.ensures.err other))
 
 pub returns-in_err-sources-clause-ok : goal.returns-in_err-sources-clause-ok
@@ -52,7 +52,7 @@ returns-clause-err g c = tt
 pub returns-then-is_empty-clause-ok : goal.returns-then-is_empty-clause-ok
 returns-then-is_empty-clause-ok g c =
     let none : length c.args.order.now.items ≡ 0 = grind (arith, nat_tests, c.if-is_empty.ensures) in
-    ordered_unsorted (parameters_view c.args.parameters.now) c.args.graph.now c.args.names.now (expressions_view c.args.items.now.items) c.args.order.now.items (table c.args.rows) none
+    ordered_unsorted (parameters_view c.args.scope.now.query.now.parameters.now) c.args.graph.now c.args.scope.now.names.now (expressions_view c.args.items.now.items) c.args.order.now.items (table c.args.rows) none
 
 pub returns-then-is_empty-clause-width : goal.returns-then-is_empty-clause-width
 returns-then-is_empty-clause-width g c = refl
@@ -68,8 +68,8 @@ returns-clause-ok g c =
     let some : 0 < length c.args.order.now.items = grind (arith, nat_tests, c.if-is_empty.ensures) in
     let rows = table c.args.rows in
     let keys = table c.in_ok-keys.keys in
-    ordered_done (parameters_view c.args.parameters.now) c.args.graph.now c.args.names.now (expressions_view c.args.items.now.items) c.args.order.now.items rows keys (table c.in_ok-sorted_rows.field-0) some
-    (ap (λ ks. all_keys_given (parameters_view c.args.parameters.now) c.args.graph.now c.args.names.now ks rows) (sym c.in_ok-sources.ensures.sources) ∙ c.in_ok-keys.ensures.ok)
+    ordered_done (parameters_view c.args.scope.now.query.now.parameters.now) c.args.graph.now c.args.scope.now.names.now (expressions_view c.args.items.now.items) c.args.order.now.items rows keys (table c.in_ok-sorted_rows.field-0) some
+    (ap (λ ks. all_keys_given (parameters_view c.args.scope.now.query.now.parameters.now) c.args.graph.now c.args.scope.now.names.now ks rows) (sym c.in_ok-sources.ensures.sources) ∙ c.in_ok-keys.ensures.ok)
     c.in_ok-sorted_rows.ensures.rows
 
 pub returns-clause-width : goal.returns-clause-width

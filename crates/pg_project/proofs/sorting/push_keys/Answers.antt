@@ -17,9 +17,9 @@ returns-in_err-key-clause-len g c = IfOk-from_err c.from_residual.result _ c.fro
 
 pub returns-in_err-key-clause-err : goal.returns-in_err-key-clause-err
 returns-in_err-key-clause-err g c =
-    let ps = parameters_view c.args.parameters.now in
-    let names = c.args.names.now in
-    let row = map view c.args.row.now in
+    let ps = parameters_view c.args.context.now.parameters.now in
+    let names = c.args.context.now.names.now in
+    let row = map view c.args.context.now.row.now in
     let l = c.loop-source in
     fault_passed _ c.in_err-key.field-0.0 c.from_residual.result c.from_residual.ensures.1
     (λ other. turn_failed (source_view names) (key_given ps c.args.graph.now names row) view c.deref-source-items.result.now c.args.sources.now.items c.deref-source-items.ensures.value l.source-index l.keys.items
@@ -36,9 +36,9 @@ returns-in_err-push-clause-err g c = memory_passed _ c.from_residual-in_err-push
 
 pub loop-source-preserved : goal.loop-source-preserved
 loop-source-preserved g c =
-    let ps = parameters_view c.args.parameters.now in
-    let names = c.args.names.now in
-    let row = map view c.args.row.now in
+    let ps = parameters_view c.args.context.now.parameters.now in
+    let names = c.args.context.now.names.now in
+    let row = map view c.args.context.now.row.now in
     let l = c.loop-source in (
       turn_done (source_view names) (key_given ps c.args.graph.now names row) view c.deref-source-items.result.now c.args.sources.now.items c.deref-source-items.ensures.value l.source-index l.keys.items
           (keys_given ps c.args.graph.now names (sources_view names c.args.sources.now.items) row) l.invariant.0 c.source-item.result c.loop-source-test.true c.source-item.is
@@ -48,9 +48,9 @@ loop-source-preserved g c =
 
 pub returns-clause-ok : goal.returns-clause-ok
 returns-clause-ok g c =
-    let ps = parameters_view c.args.parameters.now in
-    let names = c.args.names.now in
-    let row = map view c.args.row.now in
+    let ps = parameters_view c.args.context.now.parameters.now in
+    let names = c.args.context.now.names.now in
+    let row = map view c.args.context.now.row.now in
     let l = c.loop-source in
     turns_over (source_view names) (key_given ps c.args.graph.now names row) view c.deref-source-items.result.now c.args.sources.now.items c.deref-source-items.ensures.value l.source-index l.keys.items
     (keys_given ps c.args.graph.now names (sources_view names c.args.sources.now.items) row) l.invariant.0 c.loop-source-test.false

@@ -8,5 +8,5 @@ use Rattle.pg_project.proofs.sorting.push_keys.Given as goal
 
 abbrev pub invariant-loop-source : goal.invariant-loop-source
 invariant-loop-source g l =
-    (keys_given (parameters_view l.parameters) l.graph l.names (sources_view l.names l.sources.items) (map view l.row) ≡ after (map view l.keys.items) (keys_given (parameters_view l.parameters) l.graph l.names (sources_view l.names (drop l.source-index l.sources.items)) (map view l.row)))
+    (keys_given (parameters_view l.context.parameters.now) l.graph l.context.names.now (sources_view l.context.names.now l.sources.items) (map view l.context.row.now) ≡ after (map view l.keys.items) (keys_given (parameters_view l.context.parameters.now) l.graph l.context.names.now (sources_view l.context.names.now (drop l.source-index l.sources.items)) (map view l.context.row.now)))
     × (length l.keys.items ≡ l.source-index)

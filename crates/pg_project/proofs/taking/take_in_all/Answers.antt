@@ -1,7 +1,7 @@
 use Rattle.std.proofs.Common.{◌<◌, length, refl, ap, ◌∙◌, arith}
 use Rattle.std.proofs.lemmas.List.{length-set}
 use Rattle.pg_project.proofs.Turns.{next_taken, fault_of_argument, fault_taken, all_taken, at_either, nothing_before}
-use Rattle.pg_project.specs.Sites.{answers}
+use Rattle.pg_expr.specs.Contexts.{given}
 use Rattle.std.proofs.lemmas.Result.{IfOk-from_err}
 use Rattle.pg_expr.proofs.ExitLemmas.{fault_passed}
 use Rattle.pg_meaning.specs.Answer.{◌>>=◌}
@@ -18,7 +18,7 @@ loop-at-preserved g c =
     let in_taken : l.at < length l.taken.items = omega (arith, c.loop-at-test.true, c.min-count.ensures, c.len.ensures, c.len-2.ensures, l.invariant.1) in
     let before = c.index_mut.result.now in (
       l.invariant.0
-          ∙ next_taken (answers c.args.site.now c.args.graph.now) (aggregate_view c.args.site.now.names.now) taken_view c.args.aggregates.now.items l.taken.items l.at c.index.result.now before c.take.new.self
+          ∙ next_taken (given c.args.context.now c.args.graph.now) (aggregate_view c.args.context.now.names.now) taken_view c.args.aggregates.now.items l.taken.items l.at c.index.result.now before c.take.new.self
           in_aggregates in_taken c.index.ensures c.index_mut.ensures.value (ap (λ r. r >>= taken_with (taken_view before)) c.in_ok-value.ensures.ok ∙ c.in_ok-take.ensures.ok),
       length-set l.taken.items l.at c.take.new.self ∙ l.invariant.1,
     )
@@ -27,13 +27,13 @@ pub returns-clause-ok : goal.returns-clause-ok
 returns-clause-ok g c =
     let l = c.loop-at in
     l.invariant.0
-    ∙ all_taken (answers c.args.site.now c.args.graph.now) (aggregate_view c.args.site.now.names.now) taken_view c.args.aggregates.now.items l.taken.items l.at
+    ∙ all_taken (given c.args.context.now c.args.graph.now) (aggregate_view c.args.context.now.names.now) taken_view c.args.aggregates.now.items l.taken.items l.at
     (at_either (length c.args.aggregates.now.items) (length l.taken.items) l.at (omega (arith, c.loop-at-test.false, c.min-count.ensures, c.len.ensures, c.len-2.ensures, l.invariant.1)))
 
 pub loop-at-init : goal.loop-at-init
 loop-at-init g c =
-    let site = c.args.site.now in (
-      nothing_before (all_taken_in (answers site c.args.graph.now) (aggregates_view site.names.now c.args.aggregates.now.items) (takens_view c.args.taken.now.items)),
+    let context = c.args.context.now in (
+      nothing_before (all_taken_in (given context c.args.graph.now) (aggregates_view context.names.now c.args.aggregates.now.items) (takens_view c.args.taken.now.items)),
       refl,
     )
 
@@ -46,26 +46,26 @@ returns-in_err-take-clause-ok g c = IfOk-from_err c.from_residual-in_err-take.re
 pub returns-in_err-value-clause-err : goal.returns-in_err-value-clause-err
 returns-in_err-value-clause-err g c =
     let l = c.loop-at in
-    let site = c.args.site.now in
+    let context = c.args.context.now in
     let f = c.in_err-value.field-0.0 in
     let in_aggregates : l.at < length c.args.aggregates.now.items = omega (arith, c.loop-at-test.true, c.min-count.ensures, c.len.ensures, c.len-2.ensures) in
     let in_taken : l.at < length l.taken.items = omega (arith, c.loop-at-test.true, c.min-count.ensures, c.len.ensures, c.len-2.ensures, l.invariant.1) in
     fault_passed _ f c.from_residual.result c.from_residual.ensures.1
     (λ other. l.invariant.0
-    ∙ fault_of_argument (answers site c.args.graph.now) (aggregate_view site.names.now) taken_view c.args.aggregates.now.items l.taken.items l.at c.index.result.now f
+    ∙ fault_of_argument (given context c.args.graph.now) (aggregate_view context.names.now) taken_view c.args.aggregates.now.items l.taken.items l.at c.index.result.now f
     in_aggregates in_taken c.index.ensures (c.in_err-value.ensures.err other))
 
 pub returns-in_err-take-clause-err : goal.returns-in_err-take-clause-err
 returns-in_err-take-clause-err g c =
     let l = c.loop-at in
-    let site = c.args.site.now in
+    let context = c.args.context.now in
     let f = c.in_err-take.field-0.0 in
     let before = c.index_mut.result.now in
     let in_aggregates : l.at < length c.args.aggregates.now.items = omega (arith, c.loop-at-test.true, c.min-count.ensures, c.len.ensures, c.len-2.ensures) in
     let in_taken : l.at < length l.taken.items = omega (arith, c.loop-at-test.true, c.min-count.ensures, c.len.ensures, c.len-2.ensures, l.invariant.1) in
     fault_passed _ f c.from_residual-in_err-take.result c.from_residual-in_err-take.ensures.1
     (λ other. l.invariant.0
-    ∙ fault_taken (answers site c.args.graph.now) (aggregate_view site.names.now) taken_view c.args.aggregates.now.items l.taken.items l.at c.index.result.now before f
+    ∙ fault_taken (given context c.args.graph.now) (aggregate_view context.names.now) taken_view c.args.aggregates.now.items l.taken.items l.at c.index.result.now before f
     in_aggregates in_taken c.index.ensures c.index_mut.ensures.value (ap (λ r. r >>= taken_with (taken_view before)) c.in_ok-value.ensures.ok ∙ c.in_err-take.ensures.err other))
 
 pub returns-clause-err : goal.returns-clause-err

@@ -21,7 +21,7 @@ use Rattle.pg_project.proofs.unwind.unwind_rows.Goals as goal
 
 pub returns-in_err-lists-clause-unwinds : goal.returns-in_err-lists-clause-unwinds
 returns-in_err-lists-clause-unwinds g c =
-    let ps = parameters_view c.args.parameters.now in
+    let ps = parameters_view c.args.query.now.parameters.now in
     let graph = c.args.graph.now in
     let e = expression_view c.args.list.now in
     let t = seen c.args.table in
@@ -38,7 +38,7 @@ returns-in_err-lists-clause-unwinds g c =
 
 pub returns-in_err-spend-clause-unwinds : goal.returns-in_err-spend-clause-unwinds
 returns-in_err-spend-clause-unwinds g c =
-    let ps = parameters_view c.args.parameters.now in
+    let ps = parameters_view c.args.query.now.parameters.now in
     let graph = c.args.graph.now in
     let e = expression_view c.args.list.now in
     let t = seen c.args.table in
@@ -59,7 +59,7 @@ returns-in_err-spend-clause-unwinds g c =
 
 pub returns-clause-unwinds : goal.returns-clause-unwinds
 returns-clause-unwinds g c =
-    let ps = parameters_view c.args.parameters.now in
+    let ps = parameters_view c.args.query.now.parameters.now in
     let graph = c.args.graph.now in
     let e = expression_view c.args.list.now in
     let name = name_view c.args.name.now in

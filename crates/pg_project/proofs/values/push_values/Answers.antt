@@ -9,21 +9,21 @@ use Rattle.pg_value_core.specs.Given.{parameters_view}
 use Rattle.pg_value_core.specs.View.{view}
 use Rattle.pg_project.proofs.values.push_values.Goals as goal
 
-pub returns-in_err-evaluate-clause-ok : goal.returns-in_err-evaluate-clause-ok
-returns-in_err-evaluate-clause-ok g c = IfOk-from_err c.from_residual.result _ c.from_residual.ensures.0
+pub returns-in_err-value-clause-ok : goal.returns-in_err-value-clause-ok
+returns-in_err-value-clause-ok g c = IfOk-from_err c.from_residual.result _ c.from_residual.ensures.0
 
-pub returns-in_err-evaluate-clause-len : goal.returns-in_err-evaluate-clause-len
-returns-in_err-evaluate-clause-len g c = IfOk-from_err c.from_residual.result _ c.from_residual.ensures.0
+pub returns-in_err-value-clause-len : goal.returns-in_err-value-clause-len
+returns-in_err-value-clause-len g c = IfOk-from_err c.from_residual.result _ c.from_residual.ensures.0
 
-pub returns-in_err-evaluate-clause-err : goal.returns-in_err-evaluate-clause-err
-returns-in_err-evaluate-clause-err g c =
-    let ps = parameters_view c.args.parameters.now in
-    let names = c.args.names.now in
-    let row = map view c.args.row.now in
+pub returns-in_err-value-clause-err : goal.returns-in_err-value-clause-err
+returns-in_err-value-clause-err g c =
+    let ps = parameters_view c.args.context.now.parameters.now in
+    let names = c.args.context.now.names.now in
+    let row = map view c.args.context.now.row.now in
     let l = c.loop-one in
-    fault_passed _ c.in_err-evaluate.field-0.0 c.from_residual.result c.from_residual.ensures.1
+    fault_passed _ c.in_err-value.field-0.0 c.from_residual.result c.from_residual.ensures.1
     (λ other. turn_failed (tree_of names) (value_given ps c.args.graph.now names row) view c.deref-one-items.result.now c.args.ready.now.items c.deref-one-items.ensures.value l.one-index l.values.items
-    (values_given ps c.args.graph.now names (trees_of names c.args.ready.now.items) row) l.invariant.0 c.one-item.result c.loop-one-test.true c.one-item.is c.in_err-evaluate.field-0.0 (c.in_err-evaluate.ensures.err other))
+    (values_given ps c.args.graph.now names (trees_of names c.args.ready.now.items) row) l.invariant.0 c.one-item.result c.loop-one-test.true c.one-item.is c.in_err-value.field-0.0 (c.in_err-value.ensures.err other))
 
 pub returns-in_err-push-clause-ok : goal.returns-in_err-push-clause-ok
 returns-in_err-push-clause-ok g c = IfOk-from_err c.from_residual-in_err-push.result _ c.from_residual-in_err-push.ensures.0
@@ -36,21 +36,21 @@ returns-in_err-push-clause-err g c = memory_passed _ c.from_residual-in_err-push
 
 pub loop-one-preserved : goal.loop-one-preserved
 loop-one-preserved g c =
-    let ps = parameters_view c.args.parameters.now in
-    let names = c.args.names.now in
-    let row = map view c.args.row.now in
+    let ps = parameters_view c.args.context.now.parameters.now in
+    let names = c.args.context.now.names.now in
+    let row = map view c.args.context.now.row.now in
     let l = c.loop-one in (
       turn_done (tree_of names) (value_given ps c.args.graph.now names row) view c.deref-one-items.result.now c.args.ready.now.items c.deref-one-items.ensures.value l.one-index l.values.items
           (values_given ps c.args.graph.now names (trees_of names c.args.ready.now.items) row) l.invariant.0 c.one-item.result c.loop-one-test.true c.one-item.is
-          c.in_ok-evaluate.field-0 c.push.new.self.items c.in_ok-evaluate.ensures.ok c.in_ok-push.ensures.items,
-      one_longer l.values.items c.push.new.self.items c.in_ok-evaluate.field-0 l.one-index c.in_ok-push.ensures.items l.invariant.1,
+          c.in_ok-value.value c.push.new.self.items c.in_ok-value.ensures.ok c.in_ok-push.ensures.items,
+      one_longer l.values.items c.push.new.self.items c.in_ok-value.value l.one-index c.in_ok-push.ensures.items l.invariant.1,
     )
 
 pub returns-clause-ok : goal.returns-clause-ok
 returns-clause-ok g c =
-    let ps = parameters_view c.args.parameters.now in
-    let names = c.args.names.now in
-    let row = map view c.args.row.now in
+    let ps = parameters_view c.args.context.now.parameters.now in
+    let names = c.args.context.now.names.now in
+    let row = map view c.args.context.now.row.now in
     let l = c.loop-one in
     turns_over (tree_of names) (value_given ps c.args.graph.now names row) view c.deref-one-items.result.now c.args.ready.now.items c.deref-one-items.ensures.value l.one-index l.values.items
     (values_given ps c.args.graph.now names (trees_of names c.args.ready.now.items) row) l.invariant.0 c.loop-one-test.false

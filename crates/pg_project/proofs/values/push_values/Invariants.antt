@@ -7,5 +7,5 @@ use Rattle.pg_project.proofs.values.push_values.Given as goal
 
 abbrev pub invariant-loop-one : goal.invariant-loop-one
 invariant-loop-one g l =
-    (values_given (parameters_view l.parameters) l.graph l.names (trees_of l.names l.ready.items) (map view l.row) ≡ after (map view l.values.items) (values_given (parameters_view l.parameters) l.graph l.names (trees_of l.names (drop l.one-index l.ready.items)) (map view l.row)))
+    (values_given (parameters_view l.context.parameters.now) l.graph l.context.names.now (trees_of l.context.names.now l.ready.items) (map view l.context.row.now) ≡ after (map view l.values.items) (values_given (parameters_view l.context.parameters.now) l.graph l.context.names.now (trees_of l.context.names.now (drop l.one-index l.ready.items)) (map view l.context.row.now)))
     × (length l.values.items ≡ l.one-index)

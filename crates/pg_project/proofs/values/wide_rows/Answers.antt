@@ -13,8 +13,8 @@ use Rattle.pg_project.proofs.values.wide_rows.Goals as goal
 
 pub loop-row-init : goal.loop-row-init
 loop-row-init g c =
-    let names = c.args.names.now in
-    let given = wide_rows_given (parameters_view c.args.parameters.now) c.args.graph.now names (trees_of names c.args.ready.now.items) c.args.keeps in (
+    let names = c.args.scope.now.names.now in
+    let given = wide_rows_given (parameters_view c.args.scope.now.query.now.parameters.now) c.args.graph.now names (trees_of names c.args.ready.now.items) c.args.keeps in (
       ap given (sym c.into_left-left.ensures.rows) ∙ none_before (table c.new-found.result) (given (rows_left c.into_left-left.result)) c.new-found.ensures.rows,
       c.new-found.ensures.width,
       c.into_left-left.ensures.width,
@@ -32,8 +32,8 @@ returns-in_err-push_values-clause-width g c = IfOk-from_err c.from_residual.resu
 
 pub returns-in_err-push_values-clause-err : goal.returns-in_err-push_values-clause-err
 returns-in_err-push_values-clause-err g c =
-    let ps = parameters_view c.args.parameters.now in
-    let names = c.args.names.now in
+    let ps = parameters_view c.args.scope.now.query.now.parameters.now in
+    let names = c.args.scope.now.names.now in
     let es = trees_of names c.args.ready.now.items in
     let left = rows_left c.loop-row.left in
     fault_passed _ c.in_err-push_values.field-0.0 c.from_residual.result c.from_residual.ensures.1
@@ -64,8 +64,8 @@ loop-row-smaller g c = let left = rows_left c.loop-row.left in one_fewer left (d
 
 pub loop-row-preserved : goal.loop-row-preserved
 loop-row-preserved g c =
-    let ps = parameters_view c.args.parameters.now in
-    let names = c.args.names.now in
+    let ps = parameters_view c.args.scope.now.query.now.parameters.now in
+    let names = c.args.scope.now.names.now in
     let es = trees_of names c.args.ready.now.items in
     let left = rows_left c.loop-row.left in (
       wide_on ps c.args.graph.now names es c.args.keeps (wide_rows_given ps c.args.graph.now names es c.args.keeps (table c.args.rows)) (table c.loop-row.found)
@@ -87,8 +87,8 @@ returns-in_err-push_from-clause-err g c = memory_passed _ c.from_residual-in_err
 
 pub returns-clause-ok : goal.returns-clause-ok
 returns-clause-ok g c =
-    let ps = parameters_view c.args.parameters.now in
-    let names = c.args.names.now in
+    let ps = parameters_view c.args.scope.now.query.now.parameters.now in
+    let names = c.args.scope.now.names.now in
     let es = trees_of names c.args.ready.now.items in
     wide_over ps c.args.graph.now names es c.args.keeps (wide_rows_given ps c.args.graph.now names es c.args.keeps (table c.args.rows)) (table c.loop-row.found) (rows_left c.loop-row.left) c.in_default.ensures.none c.loop-row.invariant.0
 

@@ -8,7 +8,7 @@ use Rattle.pg_project.proofs.values.wide_rows.Given as goal
 
 abbrev pub invariant-loop-row : goal.invariant-loop-row
 invariant-loop-row g l =
-    (wide_rows_given (parameters_view l.parameters) l.graph l.names (trees_of l.names l.ready.items) l.keeps (table l.fn.rows) ≡ after (table l.found) (wide_rows_given (parameters_view l.parameters) l.graph l.names (trees_of l.names l.ready.items) l.keeps (rows_left l.left)))
+    (wide_rows_given (parameters_view l.scope.query.now.parameters.now) l.graph l.scope.names.now (trees_of l.scope.names.now l.ready.items) l.keeps (table l.fn.rows) ≡ after (table l.found) (wide_rows_given (parameters_view l.scope.query.now.parameters.now) l.graph l.scope.names.now (trees_of l.scope.names.now l.ready.items) l.keeps (rows_left l.left)))
     × (l.found.width ≡ l.width)
     × (l.left.rows.width ≡ l.fn.rows.width)
     × (l.values.items ≡ [])

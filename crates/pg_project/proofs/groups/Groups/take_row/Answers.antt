@@ -9,7 +9,7 @@ use Rattle.pg_meaning.specs.declared.fault.Fault.TheVariants.{OutOfMemory}
 use Rattle.pg_project.specs.Kept.{all_taken_in}
 use Rattle.pg_project.specs.Views.{takens_view}
 use Rattle.pg_project.specs.ReadyItems.{aggregates_view}
-use Rattle.pg_project.specs.Sites.{answers}
+use Rattle.pg_expr.specs.Contexts.{given}
 use Rattle.pg_project.specs.declared.groups.Groups.{Groups}
 use Rattle.pg_rows.proofs.Occurrences.{fresh, known}
 use Rattle.pg_project.proofs.groups.Groups.take_row.Goals as goal
@@ -31,8 +31,8 @@ returns-in_err-push_made g c = record {
 
 pub returns : goal.returns
 returns g c =
-    let at = answers c.args.site.now c.args.graph.now in
-    let aggregates = aggregates_view c.args.site.now.names.now c.args.aggregates.now.items in
+    let at = given c.args.context.now c.args.graph.now in
+    let aggregates = aggregates_view c.args.context.now.names.now c.args.aggregates.now.items in
     let key = c.args.key in
     let ks = c.args.self.now.keys.keys in
     let tss = c.args.self.now.taken.items in
@@ -49,7 +49,7 @@ returns g c =
     ] ∙ e.keys in
     let stands : into at aggregates key ks more tss c.requires kept_keys n e.index ≡ put at aggregates key ks more tss c.requires kept_keys n e.index now old =
     elim c.if-is_new.branch [
-      | then-is_new+in_ok-push_made w ↦ put_new at aggregates key ks more tss c.requires kept_keys n e.index now old w.in_ok-push_made.ensures.0 (fresh there c.in_ok-number.is_new e.added w.if-is_new.true) (ap (λ (v : Groups). v.taken.items) w.self-is ∙ w.in_ok-push_made.ensures.2) (IfOk-at_ok _ w.in_ok-push_made.ensures.1 (w.begun.ensures c.args.site.now.names.now)) c.index_mut.ensures.value
+      | then-is_new+in_ok-push_made w ↦ put_new at aggregates key ks more tss c.requires kept_keys n e.index now old w.in_ok-push_made.ensures.0 (fresh there c.in_ok-number.is_new e.added w.if-is_new.true) (ap (λ (v : Groups). v.taken.items) w.self-is ∙ w.in_ok-push_made.ensures.2) (IfOk-at_ok _ w.in_ok-push_made.ensures.1 (w.begun.ensures c.args.context.now.names.now)) c.index_mut.ensures.value
       | else-is_new w ↦ put_known at aggregates key ks more tss c.requires kept_keys n e.index now old (known there c.in_ok-number.is_new e.added w.if-is_new.false) (ap (λ (v : Groups). v.taken.items) w.self-is) c.index_mut.ensures.value
     ] in
     let paired : length more ≡ length now =

@@ -2,7 +2,6 @@
 use Rattle.std.proofs.Common.{◌≡◌, ℕ, List, Result, Ok, refl}
 use Rattle.serde_json.specs.Data.{Data, Items, no_items, item, Members, no_members, member}
 use Rattle.pg_meaning.specs.Answer.{◌>>◌}
-use Rattle.pg_meaning.specs.Queries.{test_items}
 use Rattle.pg_meaning.specs.Value.{Value, Values, no_items as no_values, item as value, Entries, no_entries, entry}
 use Rattle.pg_meaning.specs.declared.fault.Fault.{Fault}
 use Rattle.pg_run.specs.Printed.{stored_data, stored_items, stored_members}

@@ -12,13 +12,19 @@ use Rattle.pg_meaning.specs.Scopes.{column_names, return_columns}
 use Rattle.pg_meaning.specs.Tree.{Projection}
 use Rattle.pg_meaning.specs.Value.{Value}
 use Rattle.pg_meaning.specs.declared.fault.Fault.{Fault}
-use Rattle.pg_project.specs.Given.{Cut, cut_of}
+use Rattle.pg_project.specs.Given.{Cut, cut_of, trees_of, values_given}
 use Rattle.pg_run.specs.Telling.{IsTelling, told}
+use Rattle.pg_run.specs.declared.rows.ReadyItems.{ReadyItems}
 use Rattle.pg_run.specs.declared.telling.Telling.{Telling}
+use Rattle.pg_value_core.specs.Given.{parameters_view}
 use Rattle.pg_value_core.specs.declared.out.Out.{Out}
 
 abbrev pub named_items : List (List ℕ) → Items
 named_items names = items_of (map string names)
+
+-- what the items give at a row
+abbrev pub items_given : ReadyItems → Graph → List Value → Result (List Value) Fault
+items_given i graph = values_given (parameters_view i.query.now.parameters.now) graph i.names.now (trees_of i.names.now i.ready.now.items)
 
 -- the clause, then the reply of its rows
 abbrev pub returned : Setting → Projection → State → Result (List ℕ) Fault

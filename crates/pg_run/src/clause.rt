@@ -1,5 +1,5 @@
 //! One clause.
-ghost use Rattle.std.specs.Prelude.{IfOk, ◌≡◌, ◌≤◌, ◌^◌};
+ghost use Rattle.std.specs.Prelude.{IfOk, ◌≡◌};
 ghost use Rattle.pg_meaning.specs.Plans.{ArePlanned};
 ghost use Rattle.pg_meaning.specs.Queries.{clause_step};
 ghost use Rattle.pg_meaning.specs.Scopes.{scope_after};
@@ -9,119 +9,70 @@ ghost use Rattle.pg_syntax_tree.specs.View.{clause_view};
 ghost use Rattle.pg_value_core.specs.Given.{parameters_view};
 ghost use Rattle.pg_value_core.specs.Gives.{Gives};
 
+use pg_expr::QueryContext;
 use pg_graph::Tables;
 use pg_live::LiveGraph;
-use pg_match::match_rows;
+use pg_match::{Matching, match_rows};
 use pg_match_stages::Anchor;
 use pg_meter::Meter;
 use pg_project::{project_return, project_with, unwind_rows};
 use pg_rows::Table;
 use pg_syntax_tree::Clause;
-use pg_value_core::{Fault, Parameters};
-use pg_write::{delete_elements, merge_path, remove_items, set_items};
+use pg_value_core::Fault;
+use pg_write::{Merge, delete_elements, merge_path, remove_items, set_items};
 use pg_write_make::create_paths;
-use std::alloc::Global;
-
-/// What a query runs with beside its graph and its steps.
-#[derive(Clone, Copy)]
-pub struct Given<'a> {
-    pub alloc: Global,
-    pub parameters: &'a Parameters,
-    pub max_elements: u64,
-}
 
 /// The rows after one clause, whose changes are in the store. After an error the store is to be taken back.
 pub(crate) fn run_clause<T: Tables>(
-    given: &Given<'_>,
+    query: &QueryContext<'_>,
     clause: &Clause,
     anchors: &[Anchor],
     live: &mut LiveGraph<T>,
     table: Table,
     meter: &mut Meter,
 ) -> Result<Table, Fault>
-    requires quota { given.now.max_elements ≤ 2 ^ 63 }
     requires planned { ArePlanned (seen table).names (clause_view clause.now) (anchors_view anchors.now) }
-    ensures gives { Gives result (clause_step (setting_of (parameters_view given.now.parameters.now) meter.old.limit given.now.max_elements (seen table).names (anchors_view anchors.now)) (clause_view clause.now) (state_of live.old.graph (seen table) meter.old.used)) (λ t. state_of live.new.graph (seen t) meter.new.used) }
+    ensures gives { Gives result (clause_step (setting_of (parameters_view query.now.parameters.now) meter.old.limit query.now.max_elements (seen table).names (anchors_view anchors.now)) (clause_view clause.now) (state_of live.old.graph (seen table) meter.old.used)) (λ t. state_of live.new.graph (seen t) meter.new.used) }
     ensures names { IfOk result (λ t. (seen t).names ≡ scope_after (seen table).names (clause_view clause.now)) }
     ensures limit { meter.new.limit ≡ meter.old.limit }
     ensures aside { live.new.aside ≡ live.old.aside }
 {
     match clause {
-        Clause::Match(is_optional, paths, condition) => match_rows(
-            given.alloc,
-            *is_optional,
-            paths,
-            condition,
-            anchors,
-            given.parameters,
-            &live.graph(),
-            table,
-            meter,
-        ),
-        Clause::Unwind(list, name) => unwind_rows(
-            given.alloc,
-            list,
-            name,
-            given.parameters,
-            &live.graph(),
-            table,
-            meter,
-        ),
-        Clause::With(projection, condition) => project_with(
-            given.alloc,
-            projection,
-            condition,
-            given.parameters,
-            &live.graph(),
-            table,
-            meter,
-        ),
-        Clause::Return(projection) => project_return(
-            given.alloc,
-            projection,
-            given.parameters,
-            &live.graph(),
-            table,
-            meter,
-        ),
-        Clause::Create(paths) => create_paths(
-            given.alloc,
-            paths,
-            given.parameters,
-            given.max_elements,
-            live,
-            table,
-            meter,
-        ),
-        Clause::Merge(path, parts) => merge_path(
-            given.alloc,
-            path,
-            parts,
-            anchors,
-            given.parameters,
-            given.max_elements,
-            live,
-            table,
-            meter,
-        ),
+        Clause::Match(is_optional, paths, condition) => {
+            let matching = Matching {
+                is_optional: *is_optional,
+                paths,
+                condition,
+                anchors,
+            };
+            match_rows(query, &matching, &live.graph(), table, meter)
+        }
+        Clause::Unwind(list, name) => unwind_rows(query, list, name, &live.graph(), table, meter),
+        Clause::With(projection, condition) => {
+            project_with(query, projection, condition, &live.graph(), table, meter)
+        }
+        Clause::Return(projection) => {
+            project_return(query, projection, &live.graph(), table, meter)
+        }
+        Clause::Create(paths) => create_paths(query, paths, live, table, meter),
+        Clause::Merge(path, items) => {
+            let merge = Merge {
+                path,
+                items,
+                anchors,
+            };
+            merge_path(query, &merge, live, table, meter)
+        }
         Clause::Set(items) => {
-            let parameters = given.parameters;
-            set_items(given.alloc, items, parameters, live, &table, meter)?;
+            set_items(query, items, live, &table, meter)?;
             Ok(table)
         }
         Clause::Remove(items) => {
-            let parameters = given.parameters;
-            remove_items(given.alloc, items, parameters, live, &table, meter)?;
+            remove_items(query, items, live, &table, meter)?;
             Ok(table)
         }
-        Clause::Delete(is_detach, elements) => delete_elements(
-            given.alloc,
-            *is_detach,
-            elements,
-            given.parameters,
-            live,
-            table,
-            meter,
-        ),
+        Clause::Delete(is_detach, elements) => {
+            delete_elements(query, *is_detach, elements, live, table, meter)
+        }
     }
 }

@@ -1,5 +1,5 @@
 //! All clauses of a query.
-ghost use Rattle.std.specs.Prelude.{◌≡◌, ◌≤◌, ◌^◌, ◌∷◌, [], fold, map, IfOk};
+ghost use Rattle.std.specs.Prelude.{◌≡◌, ◌∷◌, [], fold, map, IfOk};
 ghost use Rattle.pg_meaning.specs.Plans.{IsPlanFrom};
 ghost use Rattle.pg_meaning.specs.Queries.{clauses_run, first_anchors, other_anchors};
 ghost use Rattle.pg_meaning.specs.Scopes.{scope_after};
@@ -9,7 +9,8 @@ ghost use Rattle.pg_syntax_tree.specs.View.{clause_view};
 ghost use Rattle.pg_value_core.specs.Given.{parameters_view};
 ghost use Rattle.pg_value_core.specs.Gives.{Gives};
 
-use crate::clause::{Given, run_clause};
+use crate::clause::run_clause;
+use pg_expr::QueryContext;
 use pg_graph::Tables;
 use pg_live::LiveGraph;
 use pg_match_stages::Anchor;
@@ -20,24 +21,23 @@ use pg_value_core::Fault;
 
 /// The rows after all clauses, from one row without columns on.
 pub(crate) fn run_clauses<T: Tables>(
-    given: &Given<'_>,
+    query: &QueryContext<'_>,
     clauses: &[Clause],
     plan: &[Vec<Anchor>],
     live: &mut LiveGraph<T>,
     meter: &mut Meter,
 ) -> Result<Table, Fault>
-    requires quota { given.now.max_elements ≤ 2 ^ 63 }
     requires planned { IsPlanFrom [] (map clause_view clauses.now) (plan_view plan.now) }
-    ensures gives { Gives result (clauses_run (parameters_view given.now.parameters.now) (quota_of meter.old.limit given.now.max_elements) [] (plan_view plan.now) (map clause_view clauses.now) (state_of live.old.graph (record { names = []; rows = [] ∷ [] }) meter.old.used)) (λ t. state_of live.new.graph (seen t) meter.new.used) }
+    ensures gives { Gives result (clauses_run (parameters_view query.now.parameters.now) (quota_of meter.old.limit query.now.max_elements) [] (plan_view plan.now) (map clause_view clauses.now) (state_of live.old.graph (record { names = []; rows = [] ∷ [] }) meter.old.used)) (λ t. state_of live.new.graph (seen t) meter.new.used) }
     ensures names { IfOk result (λ t. (seen t).names ≡ fold scope_after [] (map clause_view clauses.now)) }
     ensures limit { meter.new.limit ≡ meter.old.limit }
     ensures aside { live.new.aside ≡ live.old.aside }
 {
-    let mut table = Table::begin(given.alloc)?;
+    let mut table = Table::begin(query.alloc)?;
     let mut left = plan;
     for clause in clauses {
         let (anchors, later) = anchors_first(left);
-        table = run_clause(given, clause, anchors, live, table, meter)?;
+        table = run_clause(query, clause, anchors, live, table, meter)?;
         left = later;
     }
     Ok(table)

@@ -14,5 +14,4 @@ mod stored;
 mod tables;
 mod telling;
 
-pub use clause::Given;
 pub use running::answer_clauses;

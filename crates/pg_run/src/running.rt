@@ -1,5 +1,5 @@
 //! All clauses of a query, and the reply of the rows that they leave.
-ghost use Rattle.std.specs.Prelude.{◌≡◌, ◌≤◌, ◌^◌, [], fold, map};
+ghost use Rattle.std.specs.Prelude.{◌≡◌, [], fold, map};
 ghost use Rattle.pg_meaning.specs.Plans.{IsPlanFrom};
 ghost use Rattle.pg_meaning.specs.Queries.{returns as any_returns};
 ghost use Rattle.pg_meaning.specs.Scopes.{scope_after};
@@ -11,11 +11,11 @@ ghost use Rattle.pg_syntax_tree.specs.View.{clause_view};
 ghost use Rattle.pg_value_core.specs.Given.{parameters_view};
 ghost use Rattle.pg_value_core.specs.Gives.{Gives};
 
-use crate::clause::Given;
 use crate::clauses::run_clauses;
 use crate::returning::return_reply;
 use crate::tables::tell_table;
 use crate::telling::Telling;
+use pg_expr::QueryContext;
 use pg_graph::Tables;
 use pg_json::ReplyBytes;
 use pg_live::LiveGraph;
@@ -30,36 +30,28 @@ use std::alloc::Global;
 /// The reply to a query of these clauses, whose changes are in the store. After an error the store is to be
 /// taken back. `returns` tells whether RETURN is among the clauses.
 pub fn answer_clauses<T: Tables>(
-    given: &Given<'_>,
+    query: &QueryContext<'_>,
     clauses: &[Clause],
     plan: &[Vec<Anchor>],
     returns: bool,
     live: &mut LiveGraph<T>,
     meter: &mut Meter,
 ) -> Result<ReplyBytes, Fault>
-    requires quota { given.now.max_elements ≤ 2 ^ 63 }
     requires planned { IsPlanFrom [] (map clause_view clauses.now) (plan_view plan.now) }
     requires returning { returns ≡ any_returns (map clause_view clauses.now) }
-    ensures replies { Replies result (ran (parameters_view given.now.parameters.now) meter.old.limit given.now.max_elements live.old.graph meter.old.used (plan_view plan.now) (map clause_view clauses.now)) returns (fold scope_after [] (map clause_view clauses.now)) live.new.graph }
+    ensures replies { Replies result (ran (parameters_view query.now.parameters.now) meter.old.limit query.now.max_elements live.old.graph meter.old.used (plan_view plan.now) (map clause_view clauses.now)) returns (fold scope_after [] (map clause_view clauses.now)) live.new.graph }
     ensures aside { live.new.aside ≡ live.old.aside }
 {
     match clauses.split_last() {
         Some((Clause::Return(projection), before)) => {
             let anchors = &plan[..before.len()];
-            let table = run_clauses(given, before, anchors, live, meter)?;
-            return_reply(
-                given.alloc,
-                projection,
-                given.parameters,
-                &live.graph(),
-                table,
-                meter,
-            )
+            let table = run_clauses(query, before, anchors, live, meter)?;
+            return_reply(query, projection, &live.graph(), table, meter)
         }
         _ => {
-            let table = run_clauses(given, clauses, plan, live, meter)?;
+            let table = run_clauses(query, clauses, plan, live, meter)?;
             let graph = live.graph();
-            reply_of(given.alloc, &graph, returns, table, meter.used())
+            reply_of(query.alloc, &graph, returns, table, meter.used())
         }
     }
 }

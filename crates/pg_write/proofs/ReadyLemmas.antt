@@ -1,6 +1,7 @@
 -- What a MERGE that was made ready says is what the clause says.
 use Rattle.std.proofs.Common.{◌≡◌, ◌≢◌, ℕ, List, [], take, Result, Ok, Err, sym, ◌∙◌}
 use Rattle.std.specs.Prelude.{IfOk, IfErr}
+use Rattle.pg_expr.specs.declared.query_context.QueryContext.{QueryContext}
 use Rattle.pg_meaning.specs.Answer.{each_step}
 use Rattle.pg_meaning.specs.Graph.{Graph}
 use Rattle.pg_meaning.specs.Meters.{State}
@@ -16,12 +17,12 @@ use Rattle.pg_write.specs.Ready.{created_in, created_said, matched_in, matched_s
 use Rattle.pg_write.specs.declared.merging.Merge.{Merge}
 use Rattle.pg_write.specs.declared.merging.Merging.{Merging}
 
-module _ (merge : Merge) (names : Names) (bound : ℕ) (m : Merging) (means : Means merge names bound m) (max_steps : ℕ) (graph : Graph) (used : ℕ) (rows : List (List Value)) where
+module _ (query : QueryContext) (merge : Merge) (names : Names) (bound : ℕ) (m : Merging) (means : Means query merge names bound m) (max_steps : ℕ) (graph : Graph) (used : ℕ) (rows : List (List Value)) where
   abbrev start : State
   start = record { graph = graph; rows = []; steps = used }
 
   abbrev said : Result State Fault
-  said = each_step (row_merged (setting_given merge (take bound names) max_steps) (path_said merge) (created_said merge) (matched_said merge)) start (rows_named names rows)
+  said = each_step (row_merged (setting_given query merge (take bound names) max_steps) (path_said merge) (created_said merge) (matched_said merge)) start (rows_named names rows)
 
   abbrev done : Result State Fault
   done = each_step (row_merged (setting_in m max_steps) (path_in m) (created_in m) (matched_in m)) start (rows_named (names_in m) rows)

@@ -1,5 +1,6 @@
 -- What a MERGE that was made ready stands for.
 use Rattle.std.specs.Prelude.{◌≡◌, ◌≤◌, ℕ, true, false, List, [], ◌∷◌, map, length, take}
+use Rattle.pg_expr.specs.declared.query_context.QueryContext.{QueryContext}
 use Rattle.pg_match_rows.specs.Parts.{parts_of}
 use Rattle.pg_match_stages.specs.View.{anchor_view}
 use Rattle.pg_match_rows.specs.Readiness.{AreReadyFor, paths_of}
@@ -15,7 +16,7 @@ use Rattle.pg_syntax_tree.specs.View.{on_view, path_view}
 use Rattle.pg_value_core.specs.Given.{parameters_view}
 use Rattle.pg_write.specs.Items.{item_of}
 use Rattle.pg_write.specs.declared.items.ReadySet.{ReadySet}
-use Rattle.pg_write_make.specs.Scenes.{parameters_in}
+use Rattle.pg_write_make.specs.Scenes.{max_elements_in, parameters_in}
 use Rattle.pg_write.specs.declared.merging.Merge.{Merge}
 use Rattle.pg_write.specs.declared.merging.Merging.{Merging}
 
@@ -32,7 +33,7 @@ path_in m = path_view m.path.now
 abbrev pub setting_in : Merging → (max_steps : ℕ) → Setting
 setting_in m max_steps = record {
   parameters = parameters_in m.scene;
-  quota = record { max_steps = max_steps; max_elements = m.max_elements };
+  quota = record { max_steps = max_steps; max_elements = max_elements_in m.scene };
   scope = scope_in m;
   anchors = map anchor_view m.anchors.now;
 }
@@ -64,10 +65,10 @@ pub record IsReady (m : Merging) : Type 0 where
 abbrev pub path_said : Merge → tree.PathPattern
 path_said m = path_view m.path.now
 
-abbrev pub setting_given : Merge → (scope : List (List ℕ)) → (max_steps : ℕ) → Setting
-setting_given m scope max_steps = record {
-  parameters = parameters_view m.parameters.now;
-  quota = record { max_steps = max_steps; max_elements = m.max_elements };
+abbrev pub setting_given : QueryContext → Merge → (scope : List (List ℕ)) → (max_steps : ℕ) → Setting
+setting_given q m scope max_steps = record {
+  parameters = parameters_view q.parameters.now;
+  quota = record { max_steps = max_steps; max_elements = q.max_elements };
   scope = scope;
   anchors = map anchor_view m.anchors.now;
 }
@@ -78,11 +79,10 @@ created_said m = items_on true (map on_view m.items.now.items)
 abbrev pub matched_said : Merge → List tree.SetItem
 matched_said m = items_on false (map on_view m.items.now.items)
 
-pub record Means (merge : Merge) (names : List (List ℕ)) (bound : ℕ) (m : Merging) : Type 0 where
+pub record Means (query : QueryContext) (merge : Merge) (names : List (List ℕ)) (bound : ℕ) (m : Merging) : Type 0 where
   pub names_are : names_in m ≡ names
-  pub setting_is : (max_steps : ℕ) → setting_in m max_steps ≡ setting_given merge (take bound names) max_steps
+  pub setting_is : (max_steps : ℕ) → setting_in m max_steps ≡ setting_given query merge (take bound names) max_steps
   pub path_is : path_in m ≡ path_said merge
   pub created_are : created_in m ≡ created_said merge
   pub matched_are : matched_in m ≡ matched_said merge
   pub bound_is : m.bound ≡ bound
-  pub most : m.max_elements ≡ merge.max_elements

@@ -11,13 +11,13 @@ ghost use Rattle.pg_value_core.specs.Gives.{Gives};
 use crate::doomed::Doomed;
 use crate::gathering::gather;
 use crate::removal::take_out;
+use pg_expr::QueryContext;
 use pg_graph::Tables;
 use pg_live::LiveGraph;
 use pg_meter::Meter;
 use pg_rows::Table;
 use pg_syntax_tree::Expression;
-use pg_value_core::{Fault, Parameters};
-use std::alloc::Global;
+use pg_value_core::Fault;
 
 // Takes in a step for each element, or none where they would pass the quota.
 fn spend_for(meter: &mut Meter, doomed: &Doomed) -> Result<(), Fault>
@@ -32,15 +32,14 @@ fn spend_for(meter: &mut Meter, doomed: &Doomed) -> Result<(), Fault>
 /// the relationships at their nodes too. The rows stay. An error leaves a part of it done, and the
 /// caller takes that back.
 pub fn delete_elements<T: Tables>(
-    alloc: Global,
+    query: &QueryContext<'_>,
     is_detach: bool,
     elements: &Vec<Expression>,
-    parameters: &Parameters,
     live: &mut LiveGraph<T>,
     table: Table,
     meter: &mut Meter,
 ) -> Result<Table, Fault>
-    ensures gives { (s : Setting) → Suits s (parameters_view parameters.now) meter.old.limit (seen table).names → Gives result (delete_clause s is_detach (map expression_view elements.now.items) (state_of live.old.graph (seen table) meter.old.used)) (λ t. state_of live.new.graph (seen t) meter.new.used) }
+    ensures gives { (s : Setting) → Suits s (parameters_view query.now.parameters.now) meter.old.limit (seen table).names → Gives result (delete_clause s is_detach (map expression_view elements.now.items) (state_of live.old.graph (seen table) meter.old.used)) (λ t. state_of live.new.graph (seen t) meter.new.used) }
     ensures names { IfOk result (λ t. (seen t).names ≡ (seen table).names) }
     ensures limit { meter.new.limit ≡ meter.old.limit }
     ensures names_kept { live.new.names ≡ live.old.names }
@@ -48,7 +47,7 @@ pub fn delete_elements<T: Tables>(
     ensures aside { live.new.aside ≡ live.old.aside }
 {
     let graph = live.graph();
-    let doomed = gather(alloc, is_detach, elements, parameters, &graph, &table)?;
+    let doomed = gather(query, is_detach, elements, &graph, &table)?;
     spend_for(meter, &doomed)?;
     take_out(live, &doomed)?;
     Ok(table)

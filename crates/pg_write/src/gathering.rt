@@ -12,12 +12,12 @@ ghost use Rattle.pg_write.specs.Gathered.{put_row, gathered};
 ghost use Rattle.pg_write_make.specs.Scenes.{row_in, parameters_in};
 
 use crate::doomed::Doomed;
-use pg_expr::{Prepared, prepare};
+use pg_expr::{Prepared, QueryContext, prepare};
 use pg_graph::Tables;
 use pg_rows::{Columns, Rows, Table};
 use pg_store::Snapshot;
 use pg_syntax_tree::Expression;
-use pg_value_core::{Fault, Parameters, Value};
+use pg_value_core::{Fault, Value};
 use pg_write_make::Scene;
 use std::alloc::{AllocError, Global};
 
@@ -82,7 +82,7 @@ fn gather_ready<T: Tables>(
     ensures ok { IfOk result (λ d. gathered is_detach (parameters_in scene.now) graph.now (map (tree_of scene.now.names.now) elements.now.items) (rows_named scene.now.names.now (table rows.now)) ≡ Ok d) }
     ensures err { IfErr result (λ e. e ≢ OutOfMemory → gathered is_detach (parameters_in scene.now) graph.now (map (tree_of scene.now.names.now) elements.now.items) (rows_named scene.now.names.now (table rows.now)) ≡ Err e) }
 {
-    let mut doomed = Doomed::new(scene.alloc);
+    let mut doomed = Doomed::new(scene.query.alloc);
     gather_rows(&mut doomed, scene, graph, rows, elements)?;
     if is_detach {
         doomed.detach(graph)?;
@@ -92,21 +92,19 @@ fn gather_ready<T: Tables>(
 
 /// What the expressions give at all rows, with DETACH the relationships at the nodes too.
 pub(crate) fn gather<T: Tables>(
-    alloc: Global,
+    query: &QueryContext<'_>,
     is_detach: bool,
     elements: &Vec<Expression>,
-    parameters: &Parameters,
     graph: &Snapshot<'_, T>,
     table: &Table,
 ) -> Result<Doomed, Fault>
-    ensures ok { IfOk result (λ d. gathered is_detach (parameters_view parameters.now) graph.now (map expression_view elements.now.items) (named_rows (seen table.now)) ≡ Ok d) }
-    ensures err { IfErr result (λ e. e ≢ OutOfMemory → gathered is_detach (parameters_view parameters.now) graph.now (map expression_view elements.now.items) (named_rows (seen table.now)) ≡ Err e) }
+    ensures ok { IfOk result (λ d. gathered is_detach (parameters_view query.now.parameters.now) graph.now (map expression_view elements.now.items) (named_rows (seen table.now)) ≡ Ok d) }
+    ensures err { IfErr result (λ e. e ≢ OutOfMemory → gathered is_detach (parameters_view query.now.parameters.now) graph.now (map expression_view elements.now.items) (named_rows (seen table.now)) ≡ Err e) }
 {
-    let ready = prepare_all(alloc, table.names(), elements)?;
+    let ready = prepare_all(query.alloc, table.names(), elements)?;
     let scene = Scene {
-        alloc,
+        query,
         names: table.names(),
-        parameters,
     };
     gather_ready(&scene, graph, table.rows(), &ready, is_detach)
 }

@@ -20,5 +20,6 @@ mod targets;
 
 pub use deleting::delete_elements;
 pub use merge::merge_path;
+pub use merging::Merge;
 pub use removing::remove_items;
 pub use setting::set_items;

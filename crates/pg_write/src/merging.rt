@@ -8,24 +8,21 @@ ghost use Rattle.pg_write.specs.Items.{item_of};
 ghost use Rattle.pg_write.specs.Ready.{IsReady, Means};
 
 use crate::items::{ReadySet, push_ready};
+use pg_expr::QueryContext;
 use pg_match_rows::{Part, Patterns};
 use pg_match_stages::Anchor;
 use pg_rows::Columns;
 use pg_syntax_tree::{On, PathPattern};
-use pg_value_core::Parameters;
 use pg_write_make::Scene;
 use std::alloc::{AllocError, Global};
 use std::slice::from_ref;
 
-/// What a MERGE says, and what it is given.
+/// What a MERGE says, and where its path is begun: the one anchor.
 #[derive(Clone, Copy)]
-pub(crate) struct Merge<'a> {
-    pub(crate) alloc: Global,
-    pub(crate) path: &'a PathPattern,
-    pub(crate) items: &'a Vec<On>,
-    pub(crate) anchors: &'a [Anchor],
-    pub(crate) parameters: &'a Parameters,
-    pub(crate) max_elements: u64,
+pub struct Merge<'a> {
+    pub path: &'a PathPattern,
+    pub items: &'a Vec<On>,
+    pub anchors: &'a [Anchor],
 }
 
 /// The path, with what it asks, binds and makes, and the items behind it. The names are those behind
@@ -35,7 +32,6 @@ pub(crate) struct Merging<'a> {
     pub(crate) scene: Scene<'a>,
     pub(crate) path: &'a PathPattern,
     pub(crate) anchors: &'a [Anchor],
-    pub(crate) max_elements: u64,
     pub(crate) bound: usize,
     pub(crate) count: usize,
     pub(crate) patterns: Patterns<'a>,
@@ -64,6 +60,7 @@ pub(crate) fn items_on<'a>(
 
 /// A MERGE over columns of which so many were there before it.
 pub(crate) fn prepare<'a>(
+    query: &'a QueryContext<'a>,
     merge: &Merge<'a>,
     names: &'a Columns,
     bound: usize,
@@ -76,21 +73,16 @@ pub(crate) fn prepare<'a>(
     requires count { count ≡ count_new (take bound names.now) (path_view merge.now.path.now ∷ []) }
     requires anchors { length merge.now.anchors.now ≡ 1 }
     ensures ready { IfOk result (λ merging. IsReady merging) }
-    ensures means { IfOk result (λ merging. Means merge.now names.now bound merging) }
+    ensures means { IfOk result (λ merging. Means query.now merge.now names.now bound merging) }
 {
-    let alloc = merge.alloc;
+    let alloc = query.alloc;
     let on_create = items_on(alloc, names, true, merge.items)?;
     let on_match = items_on(alloc, names, false, merge.items)?;
     let patterns = Patterns::prepare(alloc, from_ref(merge.path), names)?;
     Ok(Merging {
-        scene: Scene {
-            alloc,
-            names,
-            parameters: merge.parameters,
-        },
+        scene: Scene { query, names },
         path: merge.path,
         anchors: merge.anchors,
-        max_elements: merge.max_elements,
         bound,
         count,
         patterns,

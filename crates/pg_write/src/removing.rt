@@ -14,12 +14,13 @@ ghost use Rattle.pg_write_make.specs.Scenes.{row_in};
 
 use crate::changes::{change_labels, put_properties};
 use crate::targets::{Target, target_of};
+use pg_expr::QueryContext;
 use pg_graph::Tables;
 use pg_live::LiveGraph;
 use pg_meter::Meter;
 use pg_rows::Table;
 use pg_syntax_tree::{Name, RemoveItem};
-use pg_value_core::{Fault, Parameters, Value};
+use pg_value_core::{Fault, Value};
 use pg_write_make::{Scene, spend_for_rows};
 use std::alloc::Global;
 
@@ -63,9 +64,9 @@ fn remove_item<T: Tables>(
     match target_of(&live.graph(), scene, row, target_name(item))? {
         Target::Nothing => Ok(()),
         target => match item {
-            RemoveItem::Property(_, key) => take_key(scene.alloc, live, key, target),
+            RemoveItem::Property(_, key) => take_key(scene.query.alloc, live, key, target),
             RemoveItem::Labels(_, labels) => {
-                change_labels(scene.alloc, live, target, labels, false)
+                change_labels(scene.query.alloc, live, target, labels, false)
             }
         },
     }
@@ -91,22 +92,20 @@ fn remove_row<T: Tables>(
 /// Removes what the items say, row by row, at the steps of all rows. An error leaves a part of it
 /// done, and the caller takes that back.
 pub fn remove_items<T: Tables>(
-    alloc: Global,
+    query: &QueryContext<'_>,
     items: &Vec<RemoveItem>,
-    parameters: &Parameters,
     live: &mut LiveGraph<T>,
     table: &Table,
     meter: &mut Meter,
 ) -> Result<(), Fault>
-    ensures answer { (s : Setting) → Suits s (parameters_view parameters.now) meter.old.limit (seen table.now).names → Gives result (remove_clause s (map remove_item_view items.now.items) (state_of live.old.graph (seen table.now) meter.old.used)) (λ _. state_of live.new.graph (seen table.now) meter.new.used) }
+    ensures answer { (s : Setting) → Suits s (parameters_view query.now.parameters.now) meter.old.limit (seen table.now).names → Gives result (remove_clause s (map remove_item_view items.now.items) (state_of live.old.graph (seen table.now) meter.old.used)) (λ _. state_of live.new.graph (seen table.now) meter.new.used) }
     ensures aside { live.new.aside ≡ live.old.aside }
     ensures limit { meter.new.limit ≡ meter.old.limit }
 {
     spend_for_rows(meter, table.rows().len(), items.len())?;
     let scene = Scene {
-        alloc,
+        query,
         names: table.names(),
-        parameters,
     };
     let rows = table.rows();
     for at in 0..rows.len() {

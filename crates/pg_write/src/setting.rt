@@ -20,15 +20,14 @@ use crate::changes::{change_labels, put_properties};
 use crate::items::{ReadyChange, ReadySet, push_ready};
 use crate::maps::{join, map_parts};
 use crate::targets::{Target, target_of};
-use pg_expr::Prepared;
+use pg_expr::{Prepared, QueryContext};
 use pg_graph::Tables;
 use pg_live::LiveGraph;
 use pg_meter::Meter;
 use pg_rows::{Rows, Table};
 use pg_syntax_tree::{Name, SetItem};
-use pg_value_core::{Fault, Parameters, Value};
+use pg_value_core::{Fault, Value};
 use pg_write_make::{Scene, spend_for_rows, test_storable};
-use std::alloc::Global;
 
 // Gives a target a value under one key.
 fn set_key<T: Tables>(
@@ -45,10 +44,10 @@ fn set_key<T: Tables>(
     ensures aside { live.new.aside ≡ live.old.aside }
 {
     let value = scene.evaluate(&live.graph(), row, value)?;
-    let mut pairs = Vec::with_capacity(scene.alloc, 1)?;
+    let mut pairs = Vec::with_capacity(scene.query.alloc, 1)?;
     pairs.push((key.text.as_str(), value))?;
     test_storable(&pairs)?;
-    Ok(put_properties(scene.alloc, live, target, pairs, false)?)
+    Ok(put_properties(scene.query.alloc, live, target, pairs, false)?)
 }
 
 // Gives a target the entries of a map, in the place of its own properties or beside them.
@@ -66,10 +65,10 @@ fn set_map<T: Tables>(
     ensures aside { live.new.aside ≡ live.old.aside }
 {
     let value = scene.evaluate(&live.graph(), row, value)?;
-    let (keys, values) = map_parts(scene.alloc, value)?;
-    let pairs = join(scene.alloc, &keys, values)?;
+    let (keys, values) = map_parts(scene.query.alloc, value)?;
+    let pairs = join(scene.query.alloc, &keys, values)?;
     test_storable(&pairs)?;
-    Ok(put_properties(scene.alloc, live, target, pairs, is_whole)?)
+    Ok(put_properties(scene.query.alloc, live, target, pairs, is_whole)?)
 }
 
 // One item at one row. On null nothing is evaluated.
@@ -91,7 +90,7 @@ fn set_item<T: Tables>(
                 set_map(scene, live, row, value, target, *is_whole)
             }
             ReadyChange::Labels(labels) => {
-                change_labels(scene.alloc, live, target, labels, true)
+                change_labels(scene.query.alloc, live, target, labels, true)
             }
         },
     }
@@ -135,24 +134,22 @@ fn set_rows<T: Tables>(
 /// Sets what the items say, row by row, at the steps of all rows. An error leaves a part of it
 /// done, and the caller takes that back.
 pub fn set_items<T: Tables>(
-    alloc: Global,
+    query: &QueryContext<'_>,
     items: &Vec<SetItem>,
-    parameters: &Parameters,
     live: &mut LiveGraph<T>,
     table: &Table,
     meter: &mut Meter,
 ) -> Result<(), Fault>
-    ensures answer { (s : Setting) → Suits s (parameters_view parameters.now) meter.old.limit (seen table.now).names → Gives result (set_clause s (map set_item_view items.now.items) (state_of live.old.graph (seen table.now) meter.old.used)) (λ _. state_of live.new.graph (seen table.now) meter.new.used) }
+    ensures answer { (s : Setting) → Suits s (parameters_view query.now.parameters.now) meter.old.limit (seen table.now).names → Gives result (set_clause s (map set_item_view items.now.items) (state_of live.old.graph (seen table.now) meter.old.used)) (λ _. state_of live.new.graph (seen table.now) meter.new.used) }
     ensures aside { live.new.aside ≡ live.old.aside }
     ensures limit { meter.new.limit ≡ meter.old.limit }
 {
     spend_for_rows(meter, table.rows().len(), items.len())?;
-    let mut ready = Vec::new(alloc);
-    push_ready(alloc, table.names(), items, &mut ready)?;
+    let mut ready = Vec::new(query.alloc);
+    push_ready(query.alloc, table.names(), items, &mut ready)?;
     let scene = Scene {
-        alloc,
+        query,
         names: table.names(),
-        parameters,
     };
     set_rows(&scene, live, table.rows(), &ready)
 }

@@ -1,5 +1,5 @@
 -- What expressions give at the rows of a clause, which share their names and the parameters.
-use Rattle.std.specs.Prelude.{List, [], map}
+use Rattle.std.specs.Prelude.{ℕ, List, [], map}
 use Rattle.pg_expr.specs.Prepared.{tree_of}
 use Rattle.pg_expr.specs.declared.prepared.Prepared.{Prepared}
 use Rattle.pg_meaning.specs.Answer.{Answer}
@@ -13,13 +13,20 @@ use Rattle.pg_rows.specs.Named.{row_of}
 use Rattle.pg_value_core.specs.Given.{parameters_view}
 use Rattle.pg_value_core.specs.View.{view}
 use Rattle.pg_value_core.specs.declared.value.Value.{Value}
+use Rattle.pg_write_make.specs.declared.scene.RowScene.{RowScene}
 use Rattle.pg_write_make.specs.declared.scene.Scene.{Scene}
 
 abbrev pub parameters_in : Scene → Entries
-parameters_in s = parameters_view s.parameters.now
+parameters_in s = parameters_view s.query.now.parameters.now
+
+abbrev pub max_elements_in : Scene → ℕ
+max_elements_in s = s.query.now.max_elements
 
 abbrev pub row_in : Scene → List Value → Row
 row_in s values = row_of s.names.now (map view values)
+
+abbrev pub row_at : RowScene → Row
+row_at r = row_in r.scene.now r.values.now
 
 abbrev pub given : Scene → Graph → List Value → Prepared → Answer
 given s graph values p = evaluate (row_in s values) (parameters_in s) graph (tree_of s.names.now p)

@@ -1,5 +1,5 @@
 //! CREATE.
-ghost use Rattle.std.specs.Prelude.{◌≡◌, ◌≤◌, ◌^◌, IfOk, map};
+ghost use Rattle.std.specs.Prelude.{◌≡◌, IfOk, map};
 ghost use Rattle.pg_meaning.specs.Meters.{Setting};
 ghost use Rattle.pg_meaning.specs.Patterns.{add_path_names};
 ghost use Rattle.pg_meaning.specs.Updates.{create_clause};
@@ -12,41 +12,37 @@ use crate::charge::spend_for_rows;
 use crate::counts::count_new;
 use crate::creation::create_rows;
 use crate::scene::Scene;
+use pg_expr::QueryContext;
 use pg_graph::Tables;
 use pg_live::LiveGraph;
 use pg_match_rows::bind_names;
 use pg_meter::Meter;
 use pg_rows::Table;
 use pg_syntax_tree::PathPattern;
-use pg_value_core::{Fault, Parameters};
-use std::alloc::Global;
+use pg_value_core::Fault;
 
 /// Makes the paths at each row, for a step an element, and gives the rows with their new variables.
 /// An error leaves a part of it done, and the caller takes that back.
 pub fn create_paths<T: Tables>(
-    alloc: Global,
+    query: &QueryContext<'_>,
     paths: &Vec<PathPattern>,
-    parameters: &Parameters,
-    max_elements: u64,
     live: &mut LiveGraph<T>,
     table: Table,
     meter: &mut Meter,
 ) -> Result<Table, Fault>
-    requires quota { max_elements ≤ 2 ^ 63 }
-    ensures gives { (s : Setting) → Suits s (parameters_view parameters.now) meter.old.limit (seen table).names → s.quota.max_elements ≡ max_elements → Gives result (create_clause s (map path_view paths.now.items) (state_of live.old.graph (seen table) meter.old.used)) (λ t. state_of live.new.graph (seen t) meter.new.used) }
+    ensures gives { (s : Setting) → Suits s (parameters_view query.now.parameters.now) meter.old.limit (seen table).names → s.quota.max_elements ≡ query.now.max_elements → Gives result (create_clause s (map path_view paths.now.items) (state_of live.old.graph (seen table) meter.old.used)) (λ t. state_of live.new.graph (seen t) meter.new.used) }
     ensures names { IfOk result (λ t. (seen t).names ≡ add_path_names (map path_view paths.now.items) (seen table).names) }
     ensures aside { live.new.aside ≡ live.old.aside }
     ensures limit { meter.new.limit ≡ meter.old.limit }
 {
     let (mut names, rows) = table.split();
-    let count = count_new(alloc, &names, paths)?;
+    let count = count_new(query.alloc, &names, paths)?;
     spend_for_rows(meter, rows.len(), count)?;
-    bind_names(alloc, paths, &mut names)?;
+    bind_names(query.alloc, paths, &mut names)?;
     let scene = Scene {
-        alloc,
+        query,
         names: &names,
-        parameters,
     };
-    let made = create_rows(&scene, live, max_elements, rows, paths)?;
+    let made = create_rows(&scene, live, rows, paths)?;
     Ok(Table::new(names, made))
 }

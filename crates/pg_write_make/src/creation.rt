@@ -1,5 +1,5 @@
 //! What is made at a row, row after row.
-ghost use Rattle.std.specs.Prelude.{◌≡◌, ◌≢◌, ◌≤◌, ◌^◌, false, IfOk, IfErr, Ok, Err, length, map, take};
+ghost use Rattle.std.specs.Prelude.{◌≡◌, ◌≢◌, ◌≤◌, false, IfOk, IfErr, Ok, Err, length, map, take};
 ghost use Rattle.pg_meaning.specs.Patterns.{add_path_names};
 ghost use Rattle.pg_meaning.specs.Reading.{test_paths};
 ghost use Rattle.pg_meaning.specs.declared.fault.Fault.TheVariants.{OutOfMemory};
@@ -8,13 +8,13 @@ ghost use Rattle.pg_rows.specs.Tables.{table};
 ghost use Rattle.pg_value_core.specs.View.{view};
 ghost use Rattle.pg_write_make.specs.Creations.{row_made, rows_created};
 ghost use Rattle.pg_write_make.specs.Lent.{paths_view};
-ghost use Rattle.pg_write_make.specs.Scenes.{parameters_in, row_in};
+ghost use Rattle.pg_write_make.specs.Scenes.{max_elements_in, parameters_in, row_in};
 
 use crate::binding::bind_all;
 use crate::bound::test_paths;
 use crate::kept::kept_values;
 use crate::paths::make_paths;
-use crate::scene::Scene;
+use crate::scene::{RowScene, Scene};
 use crate::trails::row_bindings;
 use pg_graph::Tables;
 use pg_live::LiveGraph;
@@ -25,25 +25,27 @@ use pg_value_core::{Fault, Value};
 /// Makes the paths at a row whose bound nodes are there, and gives the row with its new variables.
 /// The names are those behind the clause.
 #[tactic(auto, using(crate::proofs::ShapeLemmas::ready_to_bind))]
-pub fn make_row<T: Tables>(
-    scene: &Scene<'_>,
+pub fn make_row<'a, T: Tables>(
+    scene: &Scene<'a>,
     live: &mut LiveGraph<T>,
-    max_elements: u64,
     row: Vec<Value>,
-    paths: &[PathPattern],
+    paths: &'a [PathPattern],
 ) -> Result<Vec<Value>, Fault>
-    requires quota { max_elements ≤ 2 ^ 63 }
     requires within { length row.items ≤ length scene.now.names.now }
     requires names { add_path_names (paths_view paths.now) (take (length row.items) scene.now.names.now) ≡ scene.now.names.now }
     requires tested { test_paths false live.old.graph (row_in scene.now row.items) (paths_view paths.now) ≡ Ok tt }
-    ensures ok { IfOk result (λ values. row_made (parameters_in scene.now) max_elements (paths_view paths.now) live.old.graph (row_in scene.now row.items) ≡ Ok (live.new.graph, row_of scene.now.names.now (map view values.items))) }
+    ensures ok { IfOk result (λ values. row_made (parameters_in scene.now) (max_elements_in scene.now) (paths_view paths.now) live.old.graph (row_in scene.now row.items) ≡ Ok (live.new.graph, row_of scene.now.names.now (map view values.items))) }
     ensures whole { IfOk result (λ values. length values.items ≡ length scene.now.names.now) }
-    ensures err { IfErr result (λ e. e ≢ OutOfMemory → row_made (parameters_in scene.now) max_elements (paths_view paths.now) live.old.graph (row_in scene.now row.items) ≡ Err e) }
+    ensures err { IfErr result (λ e. e ≢ OutOfMemory → row_made (parameters_in scene.now) (max_elements_in scene.now) (paths_view paths.now) live.old.graph (row_in scene.now row.items) ≡ Err e) }
     ensures aside { live.new.aside ≡ live.old.aside }
 {
     let kept = kept_values(scene, &live.graph(), &row, paths)?;
-    let trails = make_paths(scene, live, max_elements, &row, paths, kept)?;
-    let bindings = row_bindings(scene.alloc, &live.graph(), paths, &trails)?;
+    let at = RowScene {
+        scene: &*scene,
+        values: &row,
+    };
+    let trails = make_paths(&at, live, paths, kept)?;
+    let bindings = row_bindings(scene.query.alloc, &live.graph(), paths, &trails)?;
     let mut values = row;
     bind_all(scene, &mut values, bindings)?;
     Ok(values)
@@ -51,26 +53,24 @@ pub fn make_row<T: Tables>(
 
 /// Makes the paths at each row, in the graph of the rows before, and gives the rows with their new
 /// variables. The names are those behind the clause.
-pub(crate) fn create_rows<T: Tables>(
-    scene: &Scene<'_>,
+pub(crate) fn create_rows<'a, T: Tables>(
+    scene: &Scene<'a>,
     live: &mut LiveGraph<T>,
-    max_elements: u64,
     rows: Rows,
-    paths: &[PathPattern],
+    paths: &'a [PathPattern],
 ) -> Result<Rows, Fault>
-    requires quota { max_elements ≤ 2 ^ 63 }
     requires within { rows.width ≤ length scene.now.names.now }
     requires names { add_path_names (paths_view paths.now) (take rows.width scene.now.names.now) ≡ scene.now.names.now }
-    ensures ok { IfOk result (λ made. rows_created (parameters_in scene.now) max_elements (paths_view paths.now) live.old.graph (rows_named scene.now.names.now (table rows)) ≡ Ok (live.new.graph, rows_named scene.now.names.now (table made))) }
+    ensures ok { IfOk result (λ made. rows_created (parameters_in scene.now) (max_elements_in scene.now) (paths_view paths.now) live.old.graph (rows_named scene.now.names.now (table rows)) ≡ Ok (live.new.graph, rows_named scene.now.names.now (table made))) }
     ensures width { IfOk result (λ made. made.width ≡ length scene.now.names.now) }
-    ensures err { IfErr result (λ e. e ≢ OutOfMemory → rows_created (parameters_in scene.now) max_elements (paths_view paths.now) live.old.graph (rows_named scene.now.names.now (table rows)) ≡ Err e) }
+    ensures err { IfErr result (λ e. e ≢ OutOfMemory → rows_created (parameters_in scene.now) (max_elements_in scene.now) (paths_view paths.now) live.old.graph (rows_named scene.now.names.now (table rows)) ≡ Err e) }
     ensures aside { live.new.aside ≡ live.old.aside }
 {
-    let mut made = Rows::new(scene.alloc, scene.names.len());
+    let mut made = Rows::new(scene.query.alloc, scene.names.len());
     let mut left = rows.into_left();
-    while let Some(row) = left.next_row(scene.alloc)? {
+    while let Some(row) = left.next_row(scene.query.alloc)? {
         test_paths(scene, &live.graph(), &row, paths)?;
-        made.push(make_row(scene, live, max_elements, row, paths)?)?;
+        made.push(make_row(scene, live, row, paths)?)?;
     }
     Ok(made)
 }

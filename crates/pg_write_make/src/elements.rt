@@ -1,5 +1,5 @@
 //! One new element, where there is room and an id for it.
-ghost use Rattle.std.specs.Prelude.{◌≡◌, ◌≢◌, ◌<◌, ◌≤◌, ◌^◌, true, OnOk, IfOk, IfErr, Ok, Err};
+ghost use Rattle.std.specs.Prelude.{◌≡◌, ◌≢◌, ◌<◌, ◌^◌, true, OnOk, IfOk, IfErr, Ok, Err};
 ghost use Rattle.pg_meaning.specs.Graph.{element_count, has_node};
 ghost use Rattle.pg_meaning.specs.Meters.{greatest_id, test_counter};
 ghost use Rattle.pg_meaning.specs.Updates.{first_text, add_between};
@@ -12,9 +12,10 @@ ghost use Rattle.pg_syntax_tree.specs.View.{node_view, relationship_view};
 ghost use Rattle.pg_write_make.specs.Outcomes.{node_added, relationship_of, outcome_view, room_and_id};
 
 use crate::texts::{label_texts, type_text};
+use pg_expr::QueryContext;
 use pg_graph::Tables;
 use pg_live::LiveGraph;
-use pg_meter::Room;
+use pg_meter::{MaxElements, Room};
 use pg_store::Snapshot;
 use pg_syntax_tree::{NodePattern, RelationshipPattern};
 use pg_value_core::{Fault, NodeId, RelId, Value};
@@ -34,35 +35,36 @@ fn test_counter(next: u64) -> Result<(), Fault>
 }
 
 // Whether there is room for one more element, and an id for it.
-fn test_new<T: Tables>(graph: &Snapshot<'_, T>, max_elements: u64, next: u64) -> Result<(), Fault>
-    requires { max_elements ≤ 2 ^ 63 }
+fn test_new<T: Tables>(
+    graph: &Snapshot<'_, T>,
+    max_elements: MaxElements,
+    next: u64,
+) -> Result<(), Fault>
     ensures is { result ≡ room_and_id max_elements next graph.now }
     ensures left { OnOk result (element_count graph.now < 2 ^ 63) }
     ensures below { OnOk result (next < greatest_id) }
 {
-    Room::new(graph.elements(), max_elements).take()?;
+    Room::new(graph.elements(), max_elements.most()).take()?;
     test_counter(next)
 }
 
 /// Adds a node, as the pattern says and with these properties, or what stands in their place.
 #[tactic(auto, using(crate::proofs::RoomLemmas::few_elements))]
 pub(crate) fn add_node<T: Tables>(
-    alloc: Global,
+    query: &QueryContext<'_>,
     live: &mut LiveGraph<T>,
-    max_elements: u64,
     pattern: &NodePattern,
     outcome: Result<Vec<(&str, Value)>, Fault>,
 ) -> Result<NodeId, Fault>
-    requires quota { max_elements ≤ 2 ^ 63 }
-    ensures ok { OnOk result (node_added max_elements (outcome_view outcome.entry) (node_view pattern.now) live.old.graph ≡ Ok live.new.graph) }
+    ensures ok { OnOk result (node_added query.now.max_elements (outcome_view outcome.entry) (node_view pattern.now) live.old.graph ≡ Ok live.new.graph) }
     ensures id { IfOk result (λ id. id.0 ≡ live.old.graph.next_node) }
-    ensures err { IfErr result (λ e. e ≢ OutOfMemory → node_added max_elements (outcome_view outcome.entry) (node_view pattern.now) live.old.graph ≡ Err e) }
+    ensures err { IfErr result (λ e. e ≢ OutOfMemory → node_added query.now.max_elements (outcome_view outcome.entry) (node_view pattern.now) live.old.graph ≡ Err e) }
     ensures aside { live.new.aside ≡ live.old.aside }
 {
     let properties = outcome?;
-    test_new(&live.graph(), max_elements, live.next_ids().node)?;
-    let labels = label_texts(alloc, &pattern.labels)?;
-    Ok(live.create_node(alloc, &labels, properties)?)
+    test_new(&live.graph(), query.max_elements, live.next_ids().node)?;
+    let labels = label_texts(query.alloc, &pattern.labels)?;
+    Ok(live.create_node(query.alloc, &labels, properties)?)
 }
 
 // Adds a relationship that goes as the heads of its pattern say.
@@ -93,23 +95,21 @@ fn add_between<T: Tables>(
 /// Adds a relationship between two nodes, with these properties, or what stands in their place.
 #[tactic(auto, using(crate::proofs::RoomLemmas::few_elements))]
 pub(crate) fn add_relationship<T: Tables>(
-    alloc: Global,
+    query: &QueryContext<'_>,
     live: &mut LiveGraph<T>,
-    max_elements: u64,
     pattern: &RelationshipPattern,
     outcome: Result<Vec<(&str, Value)>, Fault>,
     left: NodeId,
     right: NodeId,
 ) -> Result<RelId, Fault>
-    requires quota { max_elements ≤ 2 ^ 63 }
     requires left { has_node live.old.graph left.0 ≡ true }
     requires right { has_node live.old.graph right.0 ≡ true }
-    ensures ok { OnOk result (relationship_of max_elements (outcome_view outcome.entry) (relationship_view pattern.now) left.0 right.0 live.old.graph ≡ Ok live.new.graph) }
+    ensures ok { OnOk result (relationship_of query.now.max_elements (outcome_view outcome.entry) (relationship_view pattern.now) left.0 right.0 live.old.graph ≡ Ok live.new.graph) }
     ensures id { IfOk result (λ id. id.0 ≡ live.old.graph.next_relationship) }
-    ensures err { IfErr result (λ e. e ≢ OutOfMemory → relationship_of max_elements (outcome_view outcome.entry) (relationship_view pattern.now) left.0 right.0 live.old.graph ≡ Err e) }
+    ensures err { IfErr result (λ e. e ≢ OutOfMemory → relationship_of query.now.max_elements (outcome_view outcome.entry) (relationship_view pattern.now) left.0 right.0 live.old.graph ≡ Err e) }
     ensures aside { live.new.aside ≡ live.old.aside }
 {
     let properties = outcome?;
-    test_new(&live.graph(), max_elements, live.next_ids().rel)?;
-    Ok(add_between(alloc, live, pattern, left, right, properties)?)
+    test_new(&live.graph(), query.max_elements, live.next_ids().rel)?;
+    Ok(add_between(query.alloc, live, pattern, left, right, properties)?)
 }

@@ -26,7 +26,7 @@ fn relationship_outcome<'a, T: Tables>(
 {
     match &pattern.detail {
         Some(detail) => outcome(scene, graph, row, &detail.properties),
-        None => Ok(Ok(Vec::new(scene.alloc))),
+        None => Ok(Ok(Vec::new(scene.query.alloc))),
     }
 }
 
@@ -68,8 +68,8 @@ fn kept_of<'a, T: Tables>(
     ensures err { IfErr result (λ e. e ≡ OutOfMemory) }
 {
     let first = outcome(scene, graph, row, &path.first.properties)?;
-    let mut nodes = Vec::new(scene.alloc);
-    let mut relationships = Vec::new(scene.alloc);
+    let mut nodes = Vec::new(scene.query.alloc);
+    let mut relationships = Vec::new(scene.query.alloc);
     keep_hops(
         scene,
         graph,
@@ -95,7 +95,7 @@ pub(crate) fn kept_values<'a, T: Tables>(
     ensures ok { IfOk result (λ kept. map kept_view kept.items ≡ map (path_outcomes (reading (parameters_in scene.now)) graph.now (row_in scene.now row.now)) (paths_view paths.now)) }
     ensures err { IfErr result (λ e. e ≡ OutOfMemory) }
 {
-    let mut kept = Vec::with_capacity(scene.alloc, paths.len())?;
+    let mut kept = Vec::with_capacity(scene.query.alloc, paths.len())?;
     for path in paths {
         kept.push(kept_of(scene, graph, row, path)?)?;
     }

@@ -1,6 +1,6 @@
 //! The nodes of a path at a row: those that are bound, and new ones.
 ghost use Rattle.std.specs.Map.{lookup};
-ghost use Rattle.std.specs.Prelude.{◌≡◌, ◌≢◌, ◌≤◌, ◌^◌, ◌++◌, ◌∷◌, [], ℕ, List, false, OnOk, IfOk, IfErr, Ok, Err, Some, None, IsSome, map, option_map, bytes_eq};
+ghost use Rattle.std.specs.Prelude.{◌≡◌, ◌≢◌, ◌++◌, ◌∷◌, [], ℕ, List, false, OnOk, IfOk, IfErr, Ok, Err, Some, None, IsSome, map, option_map, bytes_eq};
 ghost use Rattle.pg_meaning.specs.Patterns.{node_name, nodes_of, text_of};
 ghost use Rattle.pg_meaning.specs.Reading.{test_bound, test_nodes};
 ghost use Rattle.pg_meaning.specs.Rows.{value_in};
@@ -11,10 +11,10 @@ ghost use Rattle.pg_syntax_tree.specs.View.{name_view, node_view, path_view};
 ghost use Rattle.pg_value_core.specs.View.{view};
 ghost use Rattle.pg_write_make.specs.Makings.{bindings, making_of, named_ids, others_view, outcomes_view, AllThere, AreThere, Grows};
 ghost use Rattle.pg_write_make.specs.Outcomes.{node_found, node_of, nodes_made, outcome_view};
-ghost use Rattle.pg_write_make.specs.Scenes.{row_in};
+ghost use Rattle.pg_write_make.specs.Scenes.{max_elements_in, row_at};
 
 use crate::elements::add_node;
-use crate::scene::Scene;
+use crate::scene::RowScene;
 use pg_graph::Tables;
 use pg_live::LiveGraph;
 use pg_syntax_tree::{Name, NodePattern, PathPattern, RelationshipPattern};
@@ -45,31 +45,29 @@ fn node_id(value: &Value) -> Result<NodeId, Fault>
 // The node of a variable that the row or the clause has bound.
 #[tactic(auto, using(crate::proofs::BoundLemmas::bound_before, crate::proofs::BoundLemmas::bound_here))]
 fn find_node(
-    scene: &Scene<'_>,
-    row: &[Value],
+    row: &RowScene<'_>,
     named: &Vec<(&str, NodeId)>,
     name: &str,
 ) -> Result<Option<NodeId>, Fault>
-    ensures ok { IfOk result (λ found. node_found (value_in name.now (row_in scene.now row.now ++ bindings named.now.items)) ≡ Ok (option_map (λ id. id.0) found)) }
-    ensures err { IfErr result (λ e. node_found (value_in name.now (row_in scene.now row.now ++ bindings named.now.items)) ≡ Err e) }
+    ensures ok { IfOk result (λ found. node_found (value_in name.now (row_at row.now ++ bindings named.now.items)) ≡ Ok (option_map (λ id. id.0) found)) }
+    ensures err { IfErr result (λ e. node_found (value_in name.now (row_at row.now ++ bindings named.now.items)) ≡ Err e) }
 {
-    match scene.find(row, name) {
+    match row.scene.find(row.values, name) {
         Some(value) => Ok(Some(node_id(value)?)),
         None => Ok(find_named(named, name)),
     }
 }
 
 fn find_bound(
-    scene: &Scene<'_>,
-    row: &[Value],
+    row: &RowScene<'_>,
     named: &Vec<(&str, NodeId)>,
     variable: &Option<Name>,
 ) -> Result<Option<NodeId>, Fault>
-    ensures ok { IfOk result (λ found. node_found (bound_value (text_of (option_map name_view variable.now)) (row_in scene.now row.now ++ bindings named.now.items)) ≡ Ok (option_map (λ id. id.0) found)) }
-    ensures err { IfErr result (λ e. node_found (bound_value (text_of (option_map name_view variable.now)) (row_in scene.now row.now ++ bindings named.now.items)) ≡ Err e) }
+    ensures ok { IfOk result (λ found. node_found (bound_value (text_of (option_map name_view variable.now)) (row_at row.now ++ bindings named.now.items)) ≡ Ok (option_map (λ id. id.0) found)) }
+    ensures err { IfErr result (λ e. node_found (bound_value (text_of (option_map name_view variable.now)) (row_at row.now ++ bindings named.now.items)) ≡ Err e) }
 {
     match variable {
-        Some(name) => find_node(scene, row, named, name.text.as_str()),
+        Some(name) => find_node(row, named, name.text.as_str()),
         None => Ok(None),
     }
 }
@@ -93,31 +91,28 @@ fn bind_new<'a>(
 // The node of a pattern, bound or new, behind the ids of those before.
 #[tactic(auto, using(crate::proofs::BoundLemmas::bound_last, crate::proofs::BoundLemmas::pushed_id, crate::proofs::GrowthLemmas::added_grows, crate::proofs::GrowthLemmas::added_there, crate::proofs::GrowthLemmas::there_grows, crate::proofs::GrowthLemmas::there_push))]
 fn make_node<'a, T: Tables>(
-    scene: &Scene<'_>,
+    row: &RowScene<'_>,
     live: &mut LiveGraph<T>,
-    max_elements: u64,
-    row: &[Value],
     pattern: &'a NodePattern,
     outcome: Result<Vec<(&str, Value)>, Fault>,
     named: &mut Vec<(&'a str, NodeId)>,
     ids: &mut Vec<NodeId>,
 ) -> Result<(), Fault>
-    requires quota { max_elements ≤ 2 ^ 63 }
-    requires tested { test_bound false live.old.graph (bound_value (node_name (node_view pattern.now)) (row_in scene.now row.now)) ≡ Ok tt }
+    requires tested { test_bound false live.old.graph (bound_value (node_name (node_view pattern.now)) (row_at row.now)) ≡ Ok tt }
     requires there { AllThere live.old.graph named.old.items ids.old.items }
-    ensures ok { OnOk result (node_of max_elements (outcome_view outcome.entry) (node_view pattern.now) (making_of live.old.graph (row_in scene.now row.now) named.old.items ids.old.items) ≡ Ok (making_of live.new.graph (row_in scene.now row.now) named.new.items ids.new.items)) }
-    ensures err { IfErr result (λ e. e ≢ OutOfMemory → node_of max_elements (outcome_view outcome.entry) (node_view pattern.now) (making_of live.old.graph (row_in scene.now row.now) named.old.items ids.old.items) ≡ Err e) }
+    ensures ok { OnOk result (node_of (max_elements_in row.now.scene.now) (outcome_view outcome.entry) (node_view pattern.now) (making_of live.old.graph (row_at row.now) named.old.items ids.old.items) ≡ Ok (making_of live.new.graph (row_at row.now) named.new.items ids.new.items)) }
+    ensures err { IfErr result (λ e. e ≢ OutOfMemory → node_of (max_elements_in row.now.scene.now) (outcome_view outcome.entry) (node_view pattern.now) (making_of live.old.graph (row_at row.now) named.old.items ids.old.items) ≡ Err e) }
     ensures aside { live.new.aside ≡ live.old.aside }
     ensures grows { OnOk result (Grows live.old.graph live.new.graph) }
     ensures there { OnOk result (AllThere live.new.graph named.new.items ids.new.items) }
 {
-    match find_bound(scene, row, named, &pattern.variable)? {
+    match find_bound(row, named, &pattern.variable)? {
         Some(id) => {
             ids.push(id)?;
             Ok(())
         }
         None => {
-            let new = add_node(scene.alloc, live, max_elements, pattern, outcome)?;
+            let new = add_node(row.scene.query, live, pattern, outcome)?;
             bind_new(named, &pattern.variable, new)?;
             ids.push(new)?;
             Ok(())
@@ -128,20 +123,17 @@ fn make_node<'a, T: Tables>(
 // The nodes behind the first.
 #[tactic(auto, using(crate::proofs::GrowthLemmas::grows_not, crate::proofs::GrowthLemmas::grows_twice, crate::proofs::StepLemmas::node_made, crate::proofs::StepLemmas::node_refused, crate::proofs::StepLemmas::tests_left))]
 fn make_others<'a, T: Tables>(
-    scene: &Scene<'_>,
+    row: &RowScene<'_>,
     live: &mut LiveGraph<T>,
-    max_elements: u64,
-    row: &[Value],
     hops: &'a Vec<(RelationshipPattern, NodePattern)>,
     outcomes: Vec<Result<Vec<(&str, Value)>, Fault>>,
     named: &mut Vec<(&'a str, NodeId)>,
     ids: &mut Vec<NodeId>,
 ) -> Result<(), Fault>
-    requires quota { max_elements ≤ 2 ^ 63 }
-    requires tested { test_nodes false live.old.graph (row_in scene.now row.now) (others_view hops.now.items) ≡ Ok tt }
+    requires tested { test_nodes false live.old.graph (row_at row.now) (others_view hops.now.items) ≡ Ok tt }
     requires there { AllThere live.old.graph named.old.items ids.old.items }
-    ensures ok { OnOk result (nodes_made max_elements (outcomes_view outcomes.entry.items) (others_view hops.now.items) (making_of live.old.graph (row_in scene.now row.now) named.old.items ids.old.items) ≡ Ok (making_of live.new.graph (row_in scene.now row.now) named.new.items ids.new.items)) }
-    ensures err { IfErr result (λ e. e ≢ OutOfMemory → nodes_made max_elements (outcomes_view outcomes.entry.items) (others_view hops.now.items) (making_of live.old.graph (row_in scene.now row.now) named.old.items ids.old.items) ≡ Err e) }
+    ensures ok { OnOk result (nodes_made (max_elements_in row.now.scene.now) (outcomes_view outcomes.entry.items) (others_view hops.now.items) (making_of live.old.graph (row_at row.now) named.old.items ids.old.items) ≡ Ok (making_of live.new.graph (row_at row.now) named.new.items ids.new.items)) }
+    ensures err { IfErr result (λ e. e ≢ OutOfMemory → nodes_made (max_elements_in row.now.scene.now) (outcomes_view outcomes.entry.items) (others_view hops.now.items) (making_of live.old.graph (row_at row.now) named.old.items ids.old.items) ≡ Err e) }
     ensures aside { live.new.aside ≡ live.old.aside }
     ensures grows { OnOk result (Grows live.old.graph live.new.graph) }
     ensures there { OnOk result (AllThere live.new.graph named.new.items ids.new.items) }
@@ -149,16 +141,7 @@ fn make_others<'a, T: Tables>(
     let mut rest = outcomes.into_iter();
     for hop in hops {
         match rest.next() {
-            Some(outcome) => make_node(
-                scene,
-                live,
-                max_elements,
-                row,
-                &hop.1,
-                outcome,
-                named,
-                ids,
-            )?,
+            Some(outcome) => make_node(row, live, &hop.1, outcome, named, ids)?,
             None => return Ok(()),
         }
     }
@@ -168,44 +151,23 @@ fn make_others<'a, T: Tables>(
 /// All nodes of a path.
 #[tactic(auto, using(crate::proofs::GrowthLemmas::grows_twice, crate::proofs::GrowthLemmas::tests_grow, crate::proofs::GrowthLemmas::both_passed))]
 pub(crate) fn make_nodes<'a, T: Tables>(
-    scene: &Scene<'_>,
+    row: &RowScene<'_>,
     live: &mut LiveGraph<T>,
-    max_elements: u64,
-    row: &[Value],
     path: &'a PathPattern,
     first: Result<Vec<(&str, Value)>, Fault>,
     others: Vec<Result<Vec<(&str, Value)>, Fault>>,
     named: &mut Vec<(&'a str, NodeId)>,
 ) -> Result<Vec<NodeId>, Fault>
-    requires quota { max_elements ≤ 2 ^ 63 }
-    requires tested { test_nodes false live.old.graph (row_in scene.now row.now) (nodes_of (path_view path.now)) ≡ Ok tt }
+    requires tested { test_nodes false live.old.graph (row_at row.now) (nodes_of (path_view path.now)) ≡ Ok tt }
     requires there { AreThere live.old.graph (named_ids named.old.items) }
-    ensures ok { IfOk result (λ ids. nodes_made max_elements (outcome_view first.entry ∷ outcomes_view others.entry.items) (nodes_of (path_view path.now)) (making_of live.old.graph (row_in scene.now row.now) named.old.items []) ≡ Ok (making_of live.new.graph (row_in scene.now row.now) named.new.items ids.items)) }
-    ensures err { IfErr result (λ e. e ≢ OutOfMemory → nodes_made max_elements (outcome_view first.entry ∷ outcomes_view others.entry.items) (nodes_of (path_view path.now)) (making_of live.old.graph (row_in scene.now row.now) named.old.items []) ≡ Err e) }
+    ensures ok { IfOk result (λ ids. nodes_made (max_elements_in row.now.scene.now) (outcome_view first.entry ∷ outcomes_view others.entry.items) (nodes_of (path_view path.now)) (making_of live.old.graph (row_at row.now) named.old.items []) ≡ Ok (making_of live.new.graph (row_at row.now) named.new.items ids.items)) }
+    ensures err { IfErr result (λ e. e ≢ OutOfMemory → nodes_made (max_elements_in row.now.scene.now) (outcome_view first.entry ∷ outcomes_view others.entry.items) (nodes_of (path_view path.now)) (making_of live.old.graph (row_at row.now) named.old.items []) ≡ Err e) }
     ensures aside { live.new.aside ≡ live.old.aside }
     ensures grows { OnOk result (Grows live.old.graph live.new.graph) }
     ensures there { IfOk result (λ ids. AllThere live.new.graph named.new.items ids.items) }
 {
-    let mut ids = Vec::with_capacity(scene.alloc, path.hops.len())?;
-    make_node(
-        scene,
-        live,
-        max_elements,
-        row,
-        &path.first,
-        first,
-        named,
-        &mut ids,
-    )?;
-    make_others(
-        scene,
-        live,
-        max_elements,
-        row,
-        &path.hops,
-        others,
-        named,
-        &mut ids,
-    )?;
+    let mut ids = Vec::with_capacity(row.scene.query.alloc, path.hops.len())?;
+    make_node(row, live, &path.first, first, named, &mut ids)?;
+    make_others(row, live, &path.hops, others, named, &mut ids)?;
     Ok(ids)
 }

@@ -7,20 +7,25 @@ ghost use Rattle.pg_value_core.specs.Gives.{Gives};
 ghost use Rattle.pg_value_core.specs.View.{view};
 ghost use Rattle.pg_write_make.specs.Scenes.{given, row_in, value_given};
 
-use pg_expr::{Prepared, evaluate, prepare};
+use pg_expr::{Prepared, QueryContext, evaluate, prepare};
 use pg_graph::Tables;
 use pg_rows::Columns;
 use pg_store::Snapshot;
 use pg_syntax_tree::Expression;
-use pg_value_core::{Fault, Parameters, Value};
-use std::alloc::Global;
+use pg_value_core::{Fault, Value};
 
-/// The names of the columns, and the parameters of the request.
+/// The names of the columns, and what stays the same while the query runs.
 #[derive(Clone, Copy)]
 pub struct Scene<'a> {
-    pub alloc: Global,
+    pub query: &'a QueryContext<'a>,
     pub names: &'a Columns,
-    pub parameters: &'a Parameters,
+}
+
+/// The values of a row, with what it shares with the clause's other rows.
+#[derive(Clone, Copy)]
+pub(crate) struct RowScene<'a> {
+    pub(crate) scene: &'a Scene<'a>,
+    pub(crate) values: &'a [Value],
 }
 
 fn value_at(row: &[Value], column: Option<usize>) -> Option<&Value>
@@ -47,7 +52,14 @@ impl<'a> Scene<'a> {
     ) -> Result<Value, Fault>
         ensures { Gives result (given self.now graph.now row.now value.now) view }
     {
-        evaluate(self.alloc, value, self.names, row, self.parameters, graph)
+        evaluate(
+            self.query.alloc,
+            value,
+            self.names,
+            row,
+            self.query.parameters,
+            graph,
+        )
     }
 
     /// What an expression gives at a row.
@@ -59,7 +71,7 @@ impl<'a> Scene<'a> {
     ) -> Result<Value, Fault>
         ensures { Gives result (value_given self.now graph.now row.now (expression_view expression.now)) view }
     {
-        let ready = prepare(self.alloc, expression, self.names)?;
+        let ready = prepare(self.query.alloc, expression, self.names)?;
         self.evaluate(graph, row, &ready)
     }
 }

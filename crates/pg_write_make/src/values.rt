@@ -30,7 +30,7 @@ fn pair_values<'a, T: Tables>(
     ensures ok { IfOk result (λ values. pairs_given scene.now graph.now row.now (pairs_wanted pairs.now.items) ≡ Ok (pairs_of values.items)) }
     ensures err { IfErr result (λ e. e ≢ OutOfMemory → pairs_given scene.now graph.now row.now (pairs_wanted pairs.now.items) ≡ Err e) }
 {
-    let mut values = Vec::with_capacity(scene.alloc, pairs.len())?;
+    let mut values = Vec::with_capacity(scene.query.alloc, pairs.len())?;
     for pair in pairs {
         let value = scene.value(graph, row, &pair.1)?;
         values.push((pair.0.text.as_str(), value))?;
@@ -57,8 +57,8 @@ fn parameter_values<'a>(scene: &Scene<'a>, name: &Name) -> Result<Vec<(&'a str, 
     ensures ok { IfOk result (λ pairs. mapping_pairs (value_at (string_bytes name.now.text) (parameters_in scene.now)) ≡ Ok (pairs_of pairs.items)) }
     ensures err { IfErr result (λ e. e ≢ OutOfMemory → mapping_pairs (value_at (string_bytes name.now.text) (parameters_in scene.now)) ≡ Err e) }
 {
-    match scene.parameters.get(name.text.as_str()) {
-        Some(Value::Map(entries)) => Ok(copy_pairs(scene.alloc, entries)?),
+    match scene.query.parameters.get(name.text.as_str()) {
+        Some(Value::Map(entries)) => Ok(copy_pairs(scene.query.alloc, entries)?),
         _ => Err(Fault::TypeFault),
     }
 }
@@ -75,7 +75,7 @@ fn element_pairs<'a, T: Tables>(
     ensures err { IfErr result (λ e. e ≢ OutOfMemory → element_pairs scene.now graph.now row.now properties.now ≡ Err e) }
 {
     match properties {
-        Properties::None => Ok(Vec::new(scene.alloc)),
+        Properties::None => Ok(Vec::new(scene.query.alloc)),
         Properties::Given(pairs) => pair_values(scene, graph, row, pairs),
         Properties::Parameter(name) => parameter_values(scene, name),
     }

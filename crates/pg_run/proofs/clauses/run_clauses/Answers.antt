@@ -19,18 +19,15 @@ loop-clause-init g c =
     let clauses = map clause_view c.args.clauses.now in
     let plan = plan_view c.args.plan.now in
     record {
-      left = ap (λ (t : Named). clauses_run (parameters_view c.args.given.now.parameters.now) (quota_of c.args.meter.now.limit c.args.given.now.max_elements) t.names plan clauses (state_of c.args.live.now.graph t c.args.meter.now.used)) begun;
+      left = ap (λ (t : Named). clauses_run (parameters_view c.args.query.now.parameters.now) (quota_of c.args.meter.now.limit c.args.query.now.max_elements) t.names plan clauses (state_of c.args.live.now.graph t c.args.meter.now.used)) begun;
       names = ap (λ (t : Named). fold scope_after t.names clauses) begun;
       limit = refl;
       planned = subst (λ (t : Named). IsPlanFrom t.names clauses plan) (sym begun) c.requires.planned;
       aside = refl;
     }
 
-pub run_clause-requires-clause-quota : goal.run_clause-requires-clause-quota
-run_clause-requires-clause-quota g c = c.requires.quota
-
-pub run_clause-requires-clause-planned : goal.run_clause-requires-clause-planned
-run_clause-requires-clause-planned g c =
+pub run_clause-requires : goal.run_clause-requires
+run_clause-requires g c =
     let names = c.loop-clause.table.names in
     let plan = plan_view c.loop-clause.left.now in
     let clause = clause_view c.clause-item.result in
@@ -38,13 +35,13 @@ run_clause-requires-clause-planned g c =
     let split : drop i c.args.clauses.now ≡ c.clause-item.result ∷ drop (i + 1) c.args.clauses.now =
     drop_more c.args.clauses.now i c.clause-item.result c.loop-clause-test.true ∙ ap (λ x. x ∷ drop (i + 1) c.args.clauses.now) (sym c.clause-item.is) in
     let here : IsPlanFrom names (clause ∷ map clause_view (drop (i + 1) c.args.clauses.now)) plan = subst (λ xs. IsPlanFrom names (map clause_view xs) plan) split c.loop-clause.invariant.planned in
-    subst (λ a. ArePlanned names clause a) (sym c.anchors_first.ensures.first) (first_planned names clause (map clause_view (drop (i + 1) c.args.clauses.now)) plan here)
+    record { planned = subst (λ a. ArePlanned names clause a) (sym c.anchors_first.ensures.first) (first_planned names clause (map clause_view (drop (i + 1) c.args.clauses.now)) plan here) }
 
 pub loop-clause-preserved : goal.loop-clause-preserved
 loop-clause-preserved g c =
-    let parameters = parameters_view c.args.given.now.parameters.now in
+    let parameters = parameters_view c.args.query.now.parameters.now in
     let limit = c.loop-clause.meter.limit in
-    let elements = c.args.given.now.max_elements in
+    let elements = c.args.query.now.max_elements in
     let names = c.loop-clause.table.names in
     let plan = plan_view c.loop-clause.left.now in
     let clause = clause_view c.clause-item.result in
@@ -79,9 +76,9 @@ loop-clause-preserved g c =
 
 pub returns-in_err-table-2-clause-gives : goal.returns-in_err-table-2-clause-gives
 returns-in_err-table-2-clause-gives g c =
-    let parameters = parameters_view c.args.given.now.parameters.now in
+    let parameters = parameters_view c.args.query.now.parameters.now in
     let limit = c.loop-clause.meter.limit in
-    let elements = c.args.given.now.max_elements in
+    let elements = c.args.query.now.max_elements in
     let names = c.loop-clause.table.names in
     let plan = plan_view c.loop-clause.left.now in
     let clause = clause_view c.clause-item.result in
@@ -109,7 +106,7 @@ returns-clause-gives g c =
     record {
       ok =
           sym c.loop-clause.invariant.left
-          ∙ ap (λ xs. clauses_run (parameters_view c.args.given.now.parameters.now) (quota_of c.loop-clause.meter.limit c.args.given.now.max_elements) c.loop-clause.table.names (plan_view c.loop-clause.left.now) (map clause_view xs) before)
+          ∙ ap (λ xs. clauses_run (parameters_view c.args.query.now.parameters.now) (quota_of c.loop-clause.meter.limit c.args.query.now.max_elements) c.loop-clause.table.names (plan_view c.loop-clause.left.now) (map clause_view xs) before)
           (drop_all c.loop-clause.clause-index c.args.clauses.now c.loop-clause-test.false);
       err = tt;
     }

@@ -12,8 +12,8 @@ use Rattle.pg_value_core.specs.Given.{parameters_view}
 -- the rows so far with the clauses to come give what all clauses do
 abbrev pub invariant-loop-clause : goal.invariant-loop-clause
 invariant-loop-clause g l = record {
-  left : clauses_run (parameters_view l.given.parameters.now) (quota_of l.meter.limit l.given.max_elements) (seen l.table).names (plan_view l.left) (map clause_view (drop l.clause-index l.clauses)) (state_of l.live.graph (seen l.table) l.meter.used)
-      ≡ clauses_run (parameters_view l.given.parameters.now) (quota_of l.fn.meter.limit l.given.max_elements) [] (plan_view l.fn.plan) (map clause_view l.clauses) (state_of l.fn.live.graph (record { names = []; rows = [] ∷ [] }) l.fn.meter.used);
+  left : clauses_run (parameters_view l.query.parameters.now) (quota_of l.meter.limit l.query.max_elements) (seen l.table).names (plan_view l.left) (map clause_view (drop l.clause-index l.clauses)) (state_of l.live.graph (seen l.table) l.meter.used)
+      ≡ clauses_run (parameters_view l.query.parameters.now) (quota_of l.fn.meter.limit l.query.max_elements) [] (plan_view l.fn.plan) (map clause_view l.clauses) (state_of l.fn.live.graph (record { names = []; rows = [] ∷ [] }) l.fn.meter.used);
   names : fold scope_after (seen l.table).names (map clause_view (drop l.clause-index l.clauses)) ≡ fold scope_after [] (map clause_view l.clauses);
   limit : l.meter.limit ≡ l.fn.meter.limit;
   planned : IsPlanFrom (seen l.table).names (map clause_view (drop l.clause-index l.clauses)) (plan_view l.left);

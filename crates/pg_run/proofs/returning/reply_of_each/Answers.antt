@@ -5,7 +5,7 @@ use Rattle.pg_project.specs.Cuts.{cut_view}
 use Rattle.pg_project.specs.Given.{cut_given, cut_of, trees_of, values_given}
 use Rattle.pg_run.proofs.Returns.{gives_same}
 use Rattle.pg_run.specs.Returning.{named_items}
-use Rattle.pg_rows.specs.States.{seen}
+use Rattle.pg_rows.specs.Tables.{table}
 use Rattle.pg_run.specs.Telling.{told}
 use Rattle.pg_syntax_tree.specs.View.{projection_view}
 use Rattle.pg_value_core.specs.Given.{parameters_view}
@@ -14,50 +14,53 @@ use Rattle.pg_run.proofs.returning.reply_of_each.Goals as goal
 
 pub returns : goal.returns
 returns g c = λ s limit.
-    let t = seen c.args.table.now in
+    let rows = table c.args.rows.now in
+    let names = c.args.items.now.names.now in
     let graph = c.args.graph.now in
     let columns = c.args.columns.now in
     let used = c.args.meter.now.used in
     let p = projection_view c.args.projection.now in
-    let parameters = parameters_view c.args.parameters.now in
+    let parameters = parameters_view c.args.items.now.query.now.parameters.now in
     let cut = cut_view c.in_ok-cut.cut in
-    let given = each_answer (values_given parameters graph t.names (trees_of t.names c.args.ready.now.items)) t.rows in
+    let given = each_answer (values_given parameters graph names (trees_of names c.args.items.now.ready.now.items)) rows in
     let made = c.in_ok-tell_rows.ensures.ok in
-    let rows = cut_of cut made.rows in
-    let spent : spend s used (length t.rows) ≡ Ok c.spend.new.self.used = ap (spend s used) (sym (c.len.ensures ∙ ap length c.rows-rows.ensures.rows)) ∙ c.in_ok-spend.ensures.spends s limit in
-    let are : given ≡ Ok made.rows = (λ i. each_answer (values_given parameters graph (sym c.names.ensures i) (trees_of (sym c.names.ensures i) c.args.ready.now.items)) (sym c.rows-rows.ensures.rows i)) ∙ made.are in
-    gives_same c.finish.result _ (told graph (named_items columns) rows c.used.result) (λ bytes. bytes)
+    let kept = cut_of cut made.rows in
+    let spent : spend s used (length rows) ≡ Ok c.spend.new.self.used = ap (spend s used) (sym c.len.ensures) ∙ c.in_ok-spend.ensures.spends s limit in
+    let are : given ≡ Ok made.rows = made.are in
+    gives_same c.finish.result _ (told graph (named_items columns) kept c.used.result) (λ bytes. bytes)
     (ap (λ a. a >>= λ steps. cut_given parameters graph p.skip p.limit >>= λ k. given >>= λ found. told graph (named_items columns) (cut_of k found) steps) spent
     ∙ ap (λ a. a >>= λ k. given >>= λ found. told graph (named_items columns) (cut_of k found) c.spend.new.self.used) c.in_ok-cut.ensures.ok
     ∙ ap (λ a. a >>= λ found. told graph (named_items columns) (cut_of cut found) c.spend.new.self.used) are
-    ∙ ap (told graph (named_items columns) rows) (sym c.used.ensures))
-    (c.finish.ensures graph (named_items columns) rows (made.telling (named_items columns) (c.in_ok-telling.ensures graph)))
+    ∙ ap (told graph (named_items columns) kept) (sym c.used.ensures))
+    (c.finish.ensures graph (named_items columns) kept (made.telling (named_items columns) (c.in_ok-telling.ensures graph)))
 
 pub returns-in_err-spend : goal.returns-in_err-spend
 returns-in_err-spend g c = λ s limit.
-    let t = seen c.args.table.now in
+    let rows = table c.args.rows.now in
+    let names = c.args.items.now.names.now in
     let graph = c.args.graph.now in
     let columns = c.args.columns.now in
     let used = c.args.meter.now.used in
     let p = projection_view c.args.projection.now in
-    let parameters = parameters_view c.args.parameters.now in
-    let given = each_answer (values_given parameters graph t.names (trees_of t.names c.args.ready.now.items)) t.rows in
+    let parameters = parameters_view c.args.items.now.query.now.parameters.now in
+    let given = each_answer (values_given parameters graph names (trees_of names c.args.items.now.ready.now.items)) rows in
     gives_fault c.from_residual.result _ _ _ c.from_residual.ensures.1
     (λ other. ap (λ a. a >>= λ steps. cut_given parameters graph p.skip p.limit >>= λ k. given >>= λ found. told graph (named_items columns) (cut_of k found) steps)
-    (ap (spend s used) (sym (c.len.ensures ∙ ap length c.rows-rows.ensures.rows)) ∙ c.in_err-spend.ensures.spends s limit))
+    (ap (spend s used) (sym c.len.ensures) ∙ c.in_err-spend.ensures.spends s limit))
 
 pub returns-in_err-cut : goal.returns-in_err-cut
 returns-in_err-cut g c = λ s limit.
-    let t = seen c.args.table.now in
+    let rows = table c.args.rows.now in
+    let names = c.args.items.now.names.now in
     let graph = c.args.graph.now in
     let columns = c.args.columns.now in
     let used = c.args.meter.now.used in
     let p = projection_view c.args.projection.now in
-    let parameters = parameters_view c.args.parameters.now in
-    let given = each_answer (values_given parameters graph t.names (trees_of t.names c.args.ready.now.items)) t.rows in
+    let parameters = parameters_view c.args.items.now.query.now.parameters.now in
+    let given = each_answer (values_given parameters graph names (trees_of names c.args.items.now.ready.now.items)) rows in
     gives_fault c.from_residual-in_err-cut.result _ _ _ c.from_residual-in_err-cut.ensures.1
     (λ other. ap (λ a. a >>= λ steps. cut_given parameters graph p.skip p.limit >>= λ k. given >>= λ found. told graph (named_items columns) (cut_of k found) steps)
-    (ap (spend s used) (sym (c.len.ensures ∙ ap length c.rows-rows.ensures.rows)) ∙ c.in_ok-spend.ensures.spends s limit)
+    (ap (spend s used) (sym c.len.ensures) ∙ c.in_ok-spend.ensures.spends s limit)
     ∙ ap (λ a. a >>= λ k. given >>= λ found. told graph (named_items columns) (cut_of k found) c.spend.new.self.used) (c.in_err-cut.ensures.err other))
 
 pub returns-in_err-telling : goal.returns-in_err-telling
@@ -66,16 +69,17 @@ returns-in_err-telling g c = λ s limit.
 
 pub returns-in_err-tell_rows : goal.returns-in_err-tell_rows
 returns-in_err-tell_rows g c = λ s limit.
-    let t = seen c.args.table.now in
+    let rows = table c.args.rows.now in
+    let names = c.args.items.now.names.now in
     let graph = c.args.graph.now in
     let columns = c.args.columns.now in
     let used = c.args.meter.now.used in
     let p = projection_view c.args.projection.now in
-    let parameters = parameters_view c.args.parameters.now in
-    let given = each_answer (values_given parameters graph t.names (trees_of t.names c.args.ready.now.items)) t.rows in
+    let parameters = parameters_view c.args.items.now.query.now.parameters.now in
+    let given = each_answer (values_given parameters graph names (trees_of names c.args.items.now.ready.now.items)) rows in
     let cut = cut_view c.in_ok-cut.cut in
     gives_fault c.from_residual-in_err-tell_rows.result _ _ _ c.from_residual-in_err-tell_rows.ensures.1
     (λ other. ap (λ a. a >>= λ steps. cut_given parameters graph p.skip p.limit >>= λ k. given >>= λ found. told graph (named_items columns) (cut_of k found) steps)
-    (ap (spend s used) (sym (c.len.ensures ∙ ap length c.rows-rows.ensures.rows)) ∙ c.in_ok-spend.ensures.spends s limit)
+    (ap (spend s used) (sym c.len.ensures) ∙ c.in_ok-spend.ensures.spends s limit)
     ∙ ap (λ a. a >>= λ k. given >>= λ found. told graph (named_items columns) (cut_of k found) c.spend.new.self.used) c.in_ok-cut.ensures.ok
-    ∙ ap (λ a. a >>= λ found. told graph (named_items columns) (cut_of cut found) c.spend.new.self.used) ((λ i. each_answer (values_given parameters graph (sym c.names.ensures i) (trees_of (sym c.names.ensures i) c.args.ready.now.items)) (sym c.rows-rows.ensures.rows i)) ∙ c.in_err-tell_rows.ensures.err other))
+    ∙ ap (λ a. a >>= λ found. told graph (named_items columns) (cut_of cut found) c.spend.new.self.used) (c.in_err-tell_rows.ensures.err other))

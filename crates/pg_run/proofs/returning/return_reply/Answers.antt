@@ -19,12 +19,15 @@ returns-in_ok-ready g c = λ s suits.
     let t = seen c.args.table in
     let used = c.args.meter.now.used in
     let columns = c.in_ok-columns.columns.names in
-    let items = c.in_ok-items.items.items in
+    let items = c.in_ok-expressions.expressions.items in
     let es = expressions_view items in
-    let same : length columns ≡ length es = sym c.in_ok-items.ensures.len ∙ sym (length-map items (λ e. expression_view e.now)) in
-    let are : columns_of columns es ≡ return_columns s.scope p = sym c.in_ok-items.ensures.trees ∙ c.in_ok-columns.ensures ∙ ap (λ ns. return_columns ns p) (c.names.ensures ∙ sym suits.scope_is) in
-    let trees : es ≡ trees_of t.names c.in_ok-ready.ready.items = sym c.in_ok-ready.ensures.trees ∙ ap (λ ns. trees_of ns c.in_ok-ready.ready.items) c.names-then-come_in_turn.ensures in
+    let same : length columns ≡ length es = sym c.in_ok-expressions.ensures.len ∙ sym (length-map items (λ e. expression_view e.now)) in
+    let are : columns_of columns es ≡ return_columns s.scope p = sym c.in_ok-expressions.ensures.trees ∙ c.in_ok-columns.ensures ∙ ap (λ ns. return_columns ns p) (c.names.ensures ∙ sym suits.scope_is) in
+    let scope = c.names-then-come_in_turn-2.ensures in
+    let rows = c.rows.ensures.rows in
+    let ready = c.in_ok-ready.ready.items in
+    let trees : es ≡ trees_of c.names-then-come_in_turn-2.result.now ready = sym c.in_ok-ready.ensures.trees ∙ ap (λ ns. trees_of ns ready) (c.names-then-come_in_turn.ensures ∙ sym scope) in
     gives_same c.reply_of_each.result _ _ (λ bytes. bytes)
     (returned_each s graph p t used columns es same are (c.come_in_turn.ensures c.if-come_in_turn.true)
-    ∙ (λ i. spend s used (length t.rows) >>= λ steps. cut_given (suits.parameters_are i) graph p.skip p.limit >>= λ k. each_answer (values_given (suits.parameters_are i) graph t.names (trees i)) t.rows >>= λ found. told graph (named_items (sym c.names-then-come_in_turn-2.ensures i)) (cut_of k found) steps))
+    ∙ (λ i. spend s used (length (sym rows i)) >>= λ steps. cut_given (suits.parameters_are i) graph p.skip p.limit >>= λ k. each_answer (values_given (suits.parameters_are i) graph (sym scope i) (trees i)) (sym rows i) >>= λ found. told graph (named_items (sym c.names-then-come_in_turn-3.ensures i)) (cut_of k found) steps))
     (c.reply_of_each.ensures s suits.steps_are)

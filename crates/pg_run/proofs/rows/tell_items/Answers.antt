@@ -10,38 +10,38 @@ use Rattle.pg_run.proofs.rows.tell_items.Goals as goal
 
 pub loop-one-init : goal.loop-one-init
 loop-one-init g c =
-    let names = c.args.names.now in
+    let names = c.args.items.now.names.now in
     rw c.in_ok-found.ensures.items
-    (no_item c.args.graph.now c.args.telling.now (value_given (parameters_view c.args.parameters.now) c.args.graph.now names (map view c.args.row.now)) (trees_of names c.args.ready.now.items))
+    (no_item c.args.graph.now c.args.telling.now (value_given (parameters_view c.args.items.now.query.now.parameters.now) c.args.graph.now names (map view c.args.row.now)) (trees_of names c.args.items.now.ready.now.items))
 
 pub loop-one-preserved : goal.loop-one-preserved
 loop-one-preserved g c =
-    let names = c.args.names.now in
-    let f = value_given (parameters_view c.args.parameters.now) c.args.graph.now names (map view c.args.row.now) in
+    let names = c.args.items.now.names.now in
+    let f = value_given (parameters_view c.args.items.now.query.now.parameters.now) c.args.graph.now names (map view c.args.row.now) in
     let here = ap (trees_of names) (item_here c.loop-one-test.true c.one-item.is c.deref-one-items.ensures.value) in
     rw c.in_ok-push.ensures.items
-    (one_item c.args.graph.now _ f (trees_of names c.args.ready.now.items) _ _ _ _ c.loop-one.found.items _ (view c.in_ok-value.value) c.take.result c.loop-one.invariant here c.in_ok-value.ensures.ok c.take.ensures.telling)
+    (one_item c.args.graph.now _ f (trees_of names c.args.items.now.ready.now.items) _ _ _ _ c.loop-one.found.items _ (view c.in_ok-value.value) c.take.result c.loop-one.invariant here c.in_ok-value.ensures.ok c.take.ensures.telling)
 
 pub returns-in_err-value-clause-err : goal.returns-in_err-value-clause-err
 returns-in_err-value-clause-err g c =
-    let names = c.args.names.now in
-    let ps = parameters_view c.args.parameters.now in
+    let names = c.args.items.now.names.now in
+    let ps = parameters_view c.args.items.now.query.now.parameters.now in
     let graph = c.args.graph.now in
     let row = map view c.args.row.now in
     let f = value_given ps graph names row in
     let here = ap (trees_of names) (item_here c.loop-one-test.true c.one-item.is c.deref-one-items.ensures.value) in
-    let refused : (e : Fault) → f (tree_of names c.one-item.result) ≡ Err e → values_given ps graph names (trees_of names c.args.ready.now.items) row ≡ Err e =
-    λ e h. item_fault graph _ f (trees_of names c.args.ready.now.items) _ _ _ c.loop-one.found.items _ e c.loop-one.invariant here h in
+    let refused : (e : Fault) → f (tree_of names c.one-item.result) ≡ Err e → values_given ps graph names (trees_of names c.args.items.now.ready.now.items) row ≡ Err e =
+    λ e h. item_fault graph _ f (trees_of names c.args.items.now.ready.now.items) _ _ _ c.loop-one.found.items _ e c.loop-one.invariant here h in
     search (rules, refused)
 
 pub returns-clause-ok : goal.returns-clause-ok
 returns-clause-ok g c =
-    let names = c.args.names.now in
-    let f = value_given (parameters_view c.args.parameters.now) c.args.graph.now names (map view c.args.row.now) in
+    let names = c.args.items.now.names.now in
+    let f = value_given (parameters_view c.args.items.now.query.now.parameters.now) c.args.graph.now names (map view c.args.row.now) in
     let so_far = c.loop-one.invariant in
     let end = ap (trees_of names) (items_end c.loop-one-test.false c.deref-one-items.ensures.value) in
     record {
       values = so_far.values;
-      are = all_items c.args.graph.now _ f (trees_of names c.args.ready.now.items) _ _ _ so_far end;
+      are = all_items c.args.graph.now _ f (trees_of names c.args.items.now.ready.now.items) _ _ _ so_far end;
       telling = so_far.telling;
     }

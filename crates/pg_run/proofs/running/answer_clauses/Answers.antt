@@ -32,20 +32,20 @@ slice_bounds-anchors-end g c =
     sym (length-take-le (length before) c.args.plan.now
     (within_plan (λ anchors. anchors_view anchors.items) (map clause_view before) (return_rows (projection_view p)) c.args.plan.now planned (length before) (sym (length-map before clause_view))))
 
-pub run_clauses-requires-clause-planned : goal.run_clauses-requires-clause-planned
-run_clauses-requires-clause-planned g c =
+pub run_clauses-requires : goal.run_clauses-requires
+run_clauses-requires g c =
     let before = c.in-Some-Return-default.before.now in
     let p = c.in-Some-Return-default.projection in
     let same = last_is c.args.clauses.now before c.in-Some-Return-default.field-0-0.now p c.in-Some-Return-default.ensures.cases.0 c.in-Some-Return-default.field-0-0-is in
     let planned = subst (λ xs. IsPlanFrom [] xs (plan_view c.args.plan.now)) same c.requires.planned in
-    planned_slice (λ anchors. anchors_view anchors.items) (map clause_view before) (return_rows (projection_view p)) c.args.plan.now planned (length before) (sym (length-map before clause_view))
+    record { planned = planned_slice (λ anchors. anchors_view anchors.items) (map clause_view before) (return_rows (projection_view p)) c.args.plan.now planned (length before) (sym (length-map before clause_view)) }
 
 pub returns-in_err-table-in-Some-Return-default-clause-replies : goal.returns-in_err-table-in-Some-Return-default-clause-replies
 returns-in_err-table-in-Some-Return-default-clause-replies g c =
     let before = c.in-Some-Return-default.before.now in
-    let ps = parameters_view c.args.given.now.parameters.now in
+    let ps = parameters_view c.args.query.now.parameters.now in
     let limit = c.args.meter.now.limit in
-    let elements = c.args.given.now.max_elements in
+    let elements = c.args.query.now.max_elements in
     let quota = quota_of limit elements in
     let cs = map clause_view before in
     let p = projection_view c.in-Some-Return-default.projection in
@@ -65,9 +65,9 @@ returns-in_err-table-in-Some-Return-default-clause-replies g c =
 pub returns-in_ok-table-in-Some-Return-default-clause-replies : goal.returns-in_ok-table-in-Some-Return-default-clause-replies
 returns-in_ok-table-in-Some-Return-default-clause-replies g c =
     let before = c.in-Some-Return-default.before.now in
-    let ps = parameters_view c.args.given.now.parameters.now in
+    let ps = parameters_view c.args.query.now.parameters.now in
     let limit = c.args.meter.now.limit in
-    let elements = c.args.given.now.max_elements in
+    let elements = c.args.query.now.max_elements in
     let quota = quota_of limit elements in
     let cs = map clause_view before in
     let p = projection_view c.in-Some-Return-default.projection in

@@ -5,6 +5,16 @@ use Rattle.pg_write.proofs.FoundLemmas.{one_read}
 use Rattle.pg_write.specs.Mergings.{rows_read}
 use Rattle.pg_write.proofs.found.rows_of_matches.Goals as goal
 
+pub loop-left-init : goal.loop-left-init
+loop-left-init g c =
+    let graph = c.args.graph.now in
+    let parts = c.args.parts.now in
+    let values = map view c.args.row.now in
+    record {
+      rows = λ i. sym c.new-rows.ensures.rows i ++ rows_read graph parts values (sym c.matches-left.ensures i) (sym c.found-rest.ensures i);
+      width = c.new-rows.ensures.width;
+    }
+
 pub loop-left-preserved : goal.loop-left-preserved
 loop-left-preserved g c =
     let graph = c.args.graph.now in

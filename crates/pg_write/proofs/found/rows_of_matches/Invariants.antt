@@ -6,7 +6,7 @@ use Rattle.pg_write.proofs.found.rows_of_matches.Given as goal
 
 abbrev pub invariant-loop-left : goal.invariant-loop-left
 invariant-loop-left g l = record {
-  rows : rows_read l.graph l.parts (map view l.row) l.count l.steps ≡ table l.rows ++ rows_read l.graph l.parts (map view l.row) l.left l.rest;
+  rows : rows_read l.graph l.parts (map view l.row) l.search.matches l.search.found ≡ table l.rows ++ rows_read l.graph l.parts (map view l.row) l.left l.rest;
   width : l.rows.width ≡ l.width;
 }
 

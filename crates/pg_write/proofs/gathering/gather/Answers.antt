@@ -15,7 +15,7 @@ use Rattle.pg_write.proofs.gathering.gather.Goals as goal
 
 pub returns-in_err-ready : goal.returns-in_err-ready
 returns-in_err-ready g c =
-    let wanted : Result Doomed Fault = gathered c.args.is_detach (parameters_view c.args.parameters.now) c.args.graph.now (map expression_view c.args.elements.now.items) (named_rows (seen c.args.table.now)) in
+    let wanted : Result Doomed Fault = gathered c.args.is_detach (parameters_view c.args.query.now.parameters.now) c.args.graph.now (map expression_view c.args.elements.now.items) (named_rows (seen c.args.table.now)) in
     record {
       ok = IfOk-from_err c.from_residual.result (λ d. wanted ≡ Ok d) c.from_residual.ensures.0;
       err = fault_passed wanted OutOfMemory c.from_residual.result c.from_residual.ensures.1 (λ other. absurd (other refl));
@@ -25,7 +25,7 @@ pub returns : goal.returns
 returns g c =
     let names = c.names-2.result.now in
     let ready = c.in_ok-ready.ready.items in
-    let by = gathered c.args.is_detach (parameters_view c.args.parameters.now) c.args.graph.now in
+    let by = gathered c.args.is_detach (parameters_view c.args.query.now.parameters.now) c.args.graph.now in
     let wanted : Result Doomed Fault = by (map expression_view c.args.elements.now.items) (named_rows (seen c.args.table.now)) in
     let given : Result Doomed Fault = by (map (tree_of names) ready) (rows_named names (table c.rows.result.now)) in
     let trees : map (tree_of names) ready ≡ map expression_view c.args.elements.now.items =

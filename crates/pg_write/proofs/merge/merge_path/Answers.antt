@@ -1,4 +1,4 @@
-use Rattle.std.proofs.Common.{◌≡◌, ◌≤◌, ◌^◌, ◌∷◌, [], Ok, Err, length, map, take, refl, sym, ap, subst, ◌∙◌}
+use Rattle.std.proofs.Common.{◌≡◌, ◌∷◌, [], Ok, Err, length, map, take, refl, sym, ap, ◌∙◌}
 use Rattle.std.proofs.lemmas.Result.{IfOk-from_err, err_from_is_err_and}
 use Rattle.pg_match.proofs.Found.{rows_wide}
 use Rattle.pg_match_rows.specs.Parts.{parts_of}
@@ -16,7 +16,7 @@ use Rattle.pg_write.proofs.merge.merge_path.Goals as goal
 
 pub prepare-requires : goal.prepare-requires
 prepare-requires g c =
-    let p = path_view c.args.path.now in
+    let p = path_view c.args.merge.now.path.now in
     let names = c.split-names.result.0 in
     let after = c.bind_names.new.names in
     let is : after ≡ add_path_names (p ∷ []) names = c.in_ok-bindings.ensures.names ∙ ap (λ ps. add_path_names (map path_view ps) names) c.from_ref-2.ensures.value in
@@ -33,7 +33,6 @@ pub merge_rows-requires : goal.merge_rows-requires
 merge_rows-requires g c =
     let means = c.in_ok-merging.ensures.means in
     record {
-      quota = subst (λ n. n ≤ 2 ^ 63) (sym means.most) c.requires.quota;
       ready = c.in_ok-merging.ensures.ready;
       bound = c.split-names.ensures.width ∙ ap length (sym c.split-names.ensures.names) ∙ sym c.len-bound.ensures ∙ sym means.bound_is;
     }
@@ -53,32 +52,32 @@ returns-in_err-merging-clause-names g c = IfOk-from_err c.from_residual-in_err-m
 pub returns-in_err-merged-clause-gives : goal.returns-in_err-merged-clause-gives
 returns-in_err-merged-clause-gives g c = λ s suits most at.
     let e = err_from_is_err_and c.from_residual-in_err-merged.result c.from_residual-in_err-merged.ensures.1 in
-    let p = path_view c.args.path.now in
+    let p = path_view c.args.merge.now.path.now in
     let graph = c.args.live.now.graph in
     let names = c.split-names.result.0 in
     let after = c.bind_names.new.names in
     let is : after ≡ add_path_names (p ∷ []) names = c.in_ok-bindings.ensures.names ∙ ap (λ ps. add_path_names (map path_view ps) names) c.from_ref-2.ensures.value in
     let kept : take c.len-bound.result after ≡ names = first_kept p names after c.len-bound.result is c.len-bound.ensures in
     let whole =
-    clause_is s p (map on_view c.args.parts.now.items) graph (seen c.args.table) c.args.meter.now.used (parameters_view c.args.parameters.now) c.args.meter.now.limit c.args.max_elements (map anchor_view c.args.anchors.now) after names (table c.split-names.result.1)
+    clause_is s p (map on_view c.args.merge.now.items.now.items) graph (seen c.args.table) c.args.meter.now.used (parameters_view c.args.query.now.parameters.now) c.args.meter.now.limit c.args.query.now.max_elements (map anchor_view c.args.merge.now.anchors.now) after names (table c.split-names.result.1)
     suits.parameters_are suits.steps_are most suits.scope_is at c.split-names.ensures.names (ap (λ k. take k after) (sym c.len-bound.ensures) ∙ kept)
     (rows_wide c.split-names.result.1 (length names) (c.split-names.ensures.width ∙ ap length (sym c.split-names.ensures.names))) c.split-names.ensures.rows (take c.len-bound.result after) kept in
-    rw (e.1, e.2) (record { ok = tt; err = λ other. whole ∙ said_err _ after c.len-bound.result c.in_ok-merging.merging c.in_ok-merging.ensures.means c.args.meter.now.limit graph c.args.meter.now.used (table c.split-names.result.1) (Err c.in_err-merged.field-0.0) c.in_err-merged.ensures.err other })
+    rw (e.1, e.2) (record { ok = tt; err = λ other. whole ∙ said_err _ _ after c.len-bound.result c.in_ok-merging.merging c.in_ok-merging.ensures.means c.args.meter.now.limit graph c.args.meter.now.used (table c.split-names.result.1) (Err c.in_err-merged.field-0.0) c.in_err-merged.ensures.err other })
 
 pub returns-clause-gives : goal.returns-clause-gives
 returns-clause-gives g c = λ s suits most at.
-    let p = path_view c.args.path.now in
+    let p = path_view c.args.merge.now.path.now in
     let graph = c.args.live.now.graph in
     let names = c.split-names.result.0 in
     let after = c.bind_names.new.names in
     let is : after ≡ add_path_names (p ∷ []) names = c.in_ok-bindings.ensures.names ∙ ap (λ ps. add_path_names (map path_view ps) names) c.from_ref-2.ensures.value in
     let kept : take c.len-bound.result after ≡ names = first_kept p names after c.len-bound.result is c.len-bound.ensures in
     let whole =
-    clause_is s p (map on_view c.args.parts.now.items) graph (seen c.args.table) c.args.meter.now.used (parameters_view c.args.parameters.now) c.args.meter.now.limit c.args.max_elements (map anchor_view c.args.anchors.now) after names (table c.split-names.result.1)
+    clause_is s p (map on_view c.args.merge.now.items.now.items) graph (seen c.args.table) c.args.meter.now.used (parameters_view c.args.query.now.parameters.now) c.args.meter.now.limit c.args.query.now.max_elements (map anchor_view c.args.merge.now.anchors.now) after names (table c.split-names.result.1)
     suits.parameters_are suits.steps_are most suits.scope_is at c.split-names.ensures.names (ap (λ k. take k after) (sym c.len-bound.ensures) ∙ kept)
     (rows_wide c.split-names.result.1 (length names) (c.split-names.ensures.width ∙ ap length (sym c.split-names.ensures.names))) c.split-names.ensures.rows (take c.len-bound.result after) kept in
     record {
-      ok = whole ∙ said_ok _ after c.len-bound.result c.in_ok-merging.merging c.in_ok-merging.ensures.means c.args.meter.now.limit graph c.args.meter.now.used (table c.split-names.result.1) c.merge_rows.new.live.graph c.merge_rows.new.meter.used (Ok c.in_ok-merged.merged) c.in_ok-merged.ensures.ok ∙ ap (λ t. Ok (state_of c.merge_rows.new.live.graph t c.merge_rows.new.meter.used)) (sym c.new.ensures);
+      ok = whole ∙ said_ok _ _ after c.len-bound.result c.in_ok-merging.merging c.in_ok-merging.ensures.means c.args.meter.now.limit graph c.args.meter.now.used (table c.split-names.result.1) c.merge_rows.new.live.graph c.merge_rows.new.meter.used (Ok c.in_ok-merged.merged) c.in_ok-merged.ensures.ok ∙ ap (λ t. Ok (state_of c.merge_rows.new.live.graph t c.merge_rows.new.meter.used)) (sym c.new.ensures);
       err = tt;
     }
 

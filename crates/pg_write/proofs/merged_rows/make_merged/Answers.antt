@@ -5,7 +5,7 @@ use Rattle.pg_meaning.specs.Reading.{test_paths}
 use Rattle.pg_meaning.specs.Updates.{merged_row}
 use Rattle.pg_rows.specs.Named.{rows_named}
 use Rattle.pg_rows.specs.Tables.{table}
-use Rattle.pg_write_make.specs.Scenes.{parameters_in, row_in}
+use Rattle.pg_write_make.specs.Scenes.{max_elements_in, parameters_in, row_in}
 use Rattle.pg_write.proofs.ExitLemmas.{err_through, ok_through}
 use Rattle.pg_write.proofs.MergeLemmas.{made_then, making_fault, making_refused}
 use Rattle.pg_write.specs.Mergings.{row_made}
@@ -33,7 +33,7 @@ returns-in_err-made-clause-err g c =
     rw (p.1, p.2)
     (λ other.
     making_fault s (path_in m) (created_in m) graph (rows_named (names_in m) (table c.args.merged.now)) c.args.meter.now.used m.count row c.requires.ready.count _ c.spend.new.self.used (c.in_ok-spend.ensures.spends s refl)
-    (ap (λ ps. row_creates (parameters_in m.scene) m.max_elements (paths_view ps) graph row) (sym c.from_ref.ensures.value) ∙ c.in_err-made.ensures.err other))
+    (ap (λ ps. row_creates (parameters_in m.scene) (max_elements_in m.scene) (paths_view ps) graph row) (sym c.from_ref.ensures.value) ∙ c.in_err-made.ensures.err other))
 
 pub returns-clause-ok : goal.returns-clause-ok
 returns-clause-ok g c =
@@ -45,7 +45,7 @@ returns-clause-ok g c =
     let behind = row_in m.scene c.in_ok-made.made.items in
     let made =
     made_then s (path_in m) (created_in m) graph (rows_named (names_in m) (table c.args.merged.now)) c.args.meter.now.used m.count row c.requires.ready.count after behind c.spend.new.self.used (c.in_ok-spend.ensures.spends s refl)
-    (ap (λ ps. row_creates (parameters_in m.scene) m.max_elements (paths_view ps) graph row) (sym c.from_ref.ensures.value) ∙ c.in_ok-made.ensures.ok)
+    (ap (λ ps. row_creates (parameters_in m.scene) (max_elements_in m.scene) (paths_view ps) graph row) (sym c.from_ref.ensures.value) ∙ c.in_ok-made.ensures.ok)
     ∙ ap (λ k. merged_row (setting_in m k) (created_in m) (state_in m after c.args.merged.now c.spend.new.self.used) behind) (sym c.in_ok-spend.ensures.limit) in
     ok_through c.merged_row.result
     (row_made s (path_in m) (created_in m) (state_in m graph c.args.merged.now c.args.meter.now.used) row)
@@ -63,7 +63,7 @@ returns-clause-err g c =
     let behind = row_in m.scene c.in_ok-made.made.items in
     let made =
     made_then s (path_in m) (created_in m) graph (rows_named (names_in m) (table c.args.merged.now)) c.args.meter.now.used m.count row c.requires.ready.count after behind c.spend.new.self.used (c.in_ok-spend.ensures.spends s refl)
-    (ap (λ ps. row_creates (parameters_in m.scene) m.max_elements (paths_view ps) graph row) (sym c.from_ref.ensures.value) ∙ c.in_ok-made.ensures.ok)
+    (ap (λ ps. row_creates (parameters_in m.scene) (max_elements_in m.scene) (paths_view ps) graph row) (sym c.from_ref.ensures.value) ∙ c.in_ok-made.ensures.ok)
     ∙ ap (λ k. merged_row (setting_in m k) (created_in m) (state_in m after c.args.merged.now c.spend.new.self.used) behind) (sym c.in_ok-spend.ensures.limit) in
     err_through c.merged_row.result
     (row_made s (path_in m) (created_in m) (state_in m graph c.args.merged.now c.args.meter.now.used) row)
@@ -84,7 +84,6 @@ make_row-requires g c =
     let m = c.args.merging.now in
     let graph = c.args.live.now.graph in
     record {
-      quota = c.requires.quota;
       within = subst (λ n. n ≤ length (names_in m)) (sym c.requires.bound) c.requires.ready.within;
       names = (λ i. add_path_names (paths_view (c.from_ref.ensures.value i)) (take (c.requires.bound i) (names_in m))) ∙ c.requires.ready.names;
       tested = ap (λ ps. test_paths false graph (row_in m.scene c.args.row.items) (paths_view ps)) c.from_ref.ensures.value ∙ c.requires.tested;

@@ -83,7 +83,6 @@ pub make_merged-requires : goal.make_merged-requires
 make_merged-requires g c =
     let m = c.args.merging.now in
     record {
-      quota = c.requires.quota;
       ready = c.requires.ready;
       bound = c.requires.bound;
       wide = c.requires.wide;

@@ -34,9 +34,6 @@ returns-in_err-row-clause-aside g c = c.loop-left.invariant.aside
 pub returns-in_err-row-clause-limit : goal.returns-in_err-row-clause-limit
 returns-in_err-row-clause-limit g c = c.loop-left.invariant.limit
 
-pub merge_row-requires-clause-quota : goal.merge_row-requires-clause-quota
-merge_row-requires-clause-quota g c = c.requires.quota
-
 pub merge_row-requires-clause-ready : goal.merge_row-requires-clause-ready
 merge_row-requires-clause-ready g c = c.requires.ready
 

@@ -1,6 +1,5 @@
-use Rattle.std.proofs.Common.{◌≡◌, ◌∷◌, [], IsTrue, sym, ap, subst, ◌∙◌, refl}
+use Rattle.std.proofs.Common.{◌≡◌, [], IsTrue, sym, ap, subst, ◌∙◌, refl}
 use Rattle.std.proofs.lemmas.Result.{IfOk-from_err}
-use Rattle.std.specs.Prelude.{OnOk}
 use Rattle.pg_meaning.specs.Graph.{has_relationship, remove_elements}
 use Rattle.pg_write.proofs.RemovalLemmas.{RelationshipsThere, none_left, one_relationship_goes, this_one}
 use Rattle.pg_write.specs.Gathered.{Rises}

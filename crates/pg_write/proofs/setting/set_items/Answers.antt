@@ -18,7 +18,7 @@ returns-in_err-spend_for_rows-clause-answer g c = λ s suits.
     let used = c.args.meter.now.used in
     let e = c.in_err-spend_for_rows.field-0.0 in
     gives_fault c.from_residual.result e (set_clause s (map set_item_view items) (state_of graph t used)) (λ _. state_of graph t c.spend_for_rows.new.meter.used) c.from_residual.ensures.1
-    (λ other. set_stops s (parameters_view c.args.parameters.now) suits.parameters_are t items graph used c.len.result c.len-2.result (c.len.ensures ∙ ap length c.rows.ensures.rows) (omega (arith, c.len-2.ensures, c.args.items.now.ok.0)) e (c.in_err-spend_for_rows.ensures.spends s suits.steps_are))
+    (λ other. set_stops s (parameters_view c.args.query.now.parameters.now) suits.parameters_are t items graph used c.len.result c.len-2.result (c.len.ensures ∙ ap length c.rows.ensures.rows) (omega (arith, c.len-2.ensures, c.args.items.now.ok.0)) e (c.in_err-spend_for_rows.ensures.spends s suits.steps_are))
 
 pub returns-in_err-spend_for_rows-clause-aside : goal.returns-in_err-spend_for_rows-clause-aside
 returns-in_err-spend_for_rows-clause-aside g c = refl
@@ -35,7 +35,7 @@ returns-in_err-push_ready-clause-aside g c = refl
 
 pub returns-clause-answer : goal.returns-clause-answer
 returns-clause-answer g c = λ s suits.
-    set_gives s (parameters_view c.args.parameters.now) c.args.meter.now.limit (seen c.args.table.now) suits c.args.items.now.items
+    set_gives s (parameters_view c.args.query.now.parameters.now) c.args.meter.now.limit (seen c.args.table.now) suits c.args.items.now.items
     c.args.live.now.graph
     c.set_rows.new.live.graph
     c.args.meter.now.used c.spend_for_rows.new.meter.used c.len.result c.len-2.result

@@ -36,7 +36,7 @@ returns-in_err-spend_for_rows-clause-gives g c =
     let p = err_from_is_err_and c.from_residual-in_err-spend_for_rows.result c.from_residual-in_err-spend_for_rows.ensures.1 in
     λ s suits most. record {
       ok = rw p.1 tt;
-      err = rw (p.1, p.2) (λ other. clause_refused s (parameters_view c.args.parameters.now) c.args.meter.now.limit c.args.max_elements t suits most ps c.args.live.now.graph c.args.meter.now.used
+      err = rw (p.1, p.2) (λ other. clause_refused s (parameters_view c.args.query.now.parameters.now) c.args.meter.now.limit c.args.query.now.max_elements t suits most ps c.args.live.now.graph c.args.meter.now.used
           c.len.result c.in_ok-count.count many count c.in_err-spend_for_rows.field-0.0 (c.in_err-spend_for_rows.ensures.spends s suits.steps_are));
     }
 
@@ -49,7 +49,7 @@ pub returns-in_err-made-clause-gives : goal.returns-in_err-made-clause-gives
 returns-in_err-made-clause-gives g c =
     let ps = paths_view c.args.paths.now.items in
     let t = seen c.args.table in
-    let parameters = parameters_view c.args.parameters.now in
+    let parameters = parameters_view c.args.query.now.parameters.now in
     let before = c.args.live.now.graph in
     let names = c.bind_names.new.names in
     let rows = c.split-names.result.1 in
@@ -57,10 +57,10 @@ returns-in_err-made-clause-gives g c =
     let many : c.len.result ≡ length t.rows = c.len.ensures ∙ ap length c.split-names.ensures.rows in
     let count : c.in_ok-count.count ≡ count_new t.names ps = c.in_ok-count.ensures ∙ (λ i. count_new (c.split-names.ensures.names i) (paths_view (c.deref.ensures.value i))) in
     λ s suits most.
-    let refused : (f : Fault) → rows_created parameters c.args.max_elements (paths_view c.deref-3.result.now) before (rows_named names (table rows)) ≡ Err f → create_clause s ps (state_of before t c.args.meter.now.used) ≡ Err f =
-    λ f is. clause_fault s parameters c.args.meter.now.limit c.args.max_elements t suits most ps before c.args.meter.now.used c.len.result c.in_ok-count.count many count
+    let refused : (f : Fault) → rows_created parameters c.args.query.now.max_elements (paths_view c.deref-3.result.now) before (rows_named names (table rows)) ≡ Err f → create_clause s ps (state_of before t c.args.meter.now.used) ≡ Err f =
+    λ f is. clause_fault s parameters c.args.meter.now.limit c.args.query.now.max_elements t suits most ps before c.args.meter.now.used c.len.result c.in_ok-count.count many count
     c.spend_for_rows.new.meter.used (c.in_ok-spend_for_rows.ensures.spends s suits.steps_are) names named rows c.split-names.ensures.rows c.split-names.ensures.width f
-    (ap (λ p. rows_created parameters c.args.max_elements (paths_view p) before (rows_named names (table rows))) (sym c.deref-3.ensures.value) ∙ is) in
+    (ap (λ p. rows_created parameters c.args.query.now.max_elements (paths_view p) before (rows_named names (table rows))) (sym c.deref-3.ensures.value) ∙ is) in
     let p = err_from_is_err_and c.from_residual-in_err-made.result c.from_residual-in_err-made.ensures.1 in
     record {
       ok = rw p.1 tt;
@@ -71,7 +71,7 @@ pub returns-clause-gives : goal.returns-clause-gives
 returns-clause-gives g c =
     let ps = paths_view c.args.paths.now.items in
     let t = seen c.args.table in
-    let parameters = parameters_view c.args.parameters.now in
+    let parameters = parameters_view c.args.query.now.parameters.now in
     let before = c.args.live.now.graph in
     let after = c.create_rows.new.live.graph in
     let names = c.bind_names.new.names in
@@ -81,11 +81,11 @@ returns-clause-gives g c =
     let named : names ≡ add_path_names ps t.names = c.in_ok-bind_names.ensures.names ∙ (λ i. add_path_names (paths_view (c.deref-2.ensures.value i)) (c.split-names.ensures.names i)) in
     let many : c.len.result ≡ length t.rows = c.len.ensures ∙ ap length c.split-names.ensures.rows in
     let count : c.in_ok-count.count ≡ count_new t.names ps = c.in_ok-count.ensures ∙ (λ i. count_new (c.split-names.ensures.names i) (paths_view (c.deref.ensures.value i))) in
-    let done : rows_created parameters c.args.max_elements ps before (rows_named names (table rows)) ≡ Ok (after, rows_named names (table made)) =
-    ap (λ p. rows_created parameters c.args.max_elements (paths_view p) before (rows_named names (table rows))) (sym c.deref-3.ensures.value) ∙ c.in_ok-made.ensures.ok in
+    let done : rows_created parameters c.args.query.now.max_elements ps before (rows_named names (table rows)) ≡ Ok (after, rows_named names (table made)) =
+    ap (λ p. rows_created parameters c.args.query.now.max_elements (paths_view p) before (rows_named names (table rows))) (sym c.deref-3.ensures.value) ∙ c.in_ok-made.ensures.ok in
     λ s suits most. record {
       ok =
-          clause_done s parameters c.args.meter.now.limit c.args.max_elements t suits most ps before c.args.meter.now.used c.len.result c.in_ok-count.count many count
+          clause_done s parameters c.args.meter.now.limit c.args.query.now.max_elements t suits most ps before c.args.meter.now.used c.len.result c.in_ok-count.count many count
           steps (c.in_ok-spend_for_rows.ensures.spends s suits.steps_are) names named rows c.split-names.ensures.rows c.split-names.ensures.width after (rows_named names (table made)) done
           ∙ ap (λ u. Ok (state_of after u steps)) (sym c.new.ensures);
       err = tt;
@@ -126,9 +126,6 @@ returns-in_err-made-clause-aside g c = c.create_rows.ensures.aside
 
 pub returns-in_err-made-clause-limit : goal.returns-in_err-made-clause-limit
 returns-in_err-made-clause-limit g c = c.spend_for_rows.ensures.limit
-
-pub create_rows-requires-clause-quota : goal.create_rows-requires-clause-quota
-create_rows-requires-clause-quota g c = c.requires.quota
 
 pub returns-clause-names : goal.returns-clause-names
 returns-clause-names g c =

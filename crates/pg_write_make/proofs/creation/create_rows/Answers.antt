@@ -9,12 +9,12 @@ use Rattle.pg_write_make.proofs.CreatedRowLemmas.{one_fewer, row_passed, row_ref
 use Rattle.pg_write_make.proofs.StepLemmas.{row_done, row_failed}
 use Rattle.pg_write_make.specs.Creations.{rows_created}
 use Rattle.pg_write_make.specs.Lent.{paths_view}
-use Rattle.pg_write_make.specs.Scenes.{parameters_in, row_in}
+use Rattle.pg_write_make.specs.Scenes.{max_elements_in, parameters_in, row_in}
 use Rattle.pg_write_make.proofs.creation.create_rows.Goals as goal
 
 pub loop-left-init : goal.loop-left-init
 loop-left-init g c = record {
-  rest = rows_begun (parameters_in c.args.scene.now) c.args.max_elements (paths_view c.args.paths.now) c.args.scene.now.names.now c.args.live.now.graph
+  rest = rows_begun (parameters_in c.args.scene.now) (max_elements_in c.args.scene.now) (paths_view c.args.paths.now) c.args.scene.now.names.now c.args.live.now.graph
       (rows_left c.into_left-left.result) (table c.new-made.result) (table c.args.rows) c.into_left-left.ensures.rows c.new-made.ensures.rows;
   width = c.new-made.ensures.width ∙ c.len.ensures;
   narrow = c.into_left-left.ensures.width;
@@ -40,10 +40,10 @@ returns-in_err-test_paths-clause-err g c =
     let tested = tests_read c.graph.result graph (row_in c.args.scene.now c.deref.result.now) row ps (Err e) c.graph.ensures.is (ap (row_in c.args.scene.now) c.deref.ensures.value) c.in_err-test_paths.ensures in
     let first = rw c.in-Some.is at c.in_ok-row.ensures.row in
     let p = err_from_is_err_and c.from_residual-in_err-test_paths.result c.from_residual-in_err-test_paths.ensures.1 in
-    rw (p.1, p.2) (λ other. row_failed parameters c.args.max_elements ps names (map view c.in-Some.row.items) (rows_left c.loop-left.left) (rows_left c.next_row.new.self)
+    rw (p.1, p.2) (λ other. row_failed parameters (max_elements_in c.args.scene.now) ps names (map view c.in-Some.row.items) (rows_left c.loop-left.left) (rows_left c.next_row.new.self)
     graph (table c.loop-left.made)
-    (rows_created parameters c.args.max_elements ps c.args.live.now.graph (rows_named names (table c.args.rows)))
-    first c.loop-left.invariant.rest e (row_refused parameters c.args.max_elements ps graph row e tested))
+    (rows_created parameters (max_elements_in c.args.scene.now) ps c.args.live.now.graph (rows_named names (table c.args.rows)))
+    first c.loop-left.invariant.rest e (row_refused parameters (max_elements_in c.args.scene.now) ps graph row e tested))
 
 pub returns-in_err-test_paths-clause-aside : goal.returns-in_err-test_paths-clause-aside
 returns-in_err-test_paths-clause-aside g c = c.loop-left.invariant.aside
@@ -53,9 +53,6 @@ make_row-requires-clause-tested g c =
     let scene = c.args.scene.now in
     tests_read c.graph.result c.loop-left.live.graph (row_in scene c.deref.result.now) (row_in scene c.in-Some.row.items) (paths_view c.args.paths.now) (Ok tt) c.graph.ensures.is
     (ap (row_in scene) c.deref.ensures.value) c.in_ok-test_paths.ensures
-
-pub make_row-requires-clause-quota : goal.make_row-requires-clause-quota
-make_row-requires-clause-quota g c = c.requires.quota
 
 pub make_row-requires-clause-within : goal.make_row-requires-clause-within
 make_row-requires-clause-within g c =
@@ -75,12 +72,12 @@ returns-in_err-make_row-clause-err g c =
     let graph = c.loop-left.live.graph in
     let row = row_in c.args.scene.now c.in-Some.row.items in
     let tested = tests_read c.graph.result graph (row_in c.args.scene.now c.deref.result.now) row ps (Ok tt) c.graph.ensures.is (ap (row_in c.args.scene.now) c.deref.ensures.value) c.in_ok-test_paths.ensures in
-    let passed = sym (row_passed parameters c.args.max_elements ps graph row tested) in
+    let passed = sym (row_passed parameters (max_elements_in c.args.scene.now) ps graph row tested) in
     let first = rw c.in-Some.is at c.in_ok-row.ensures.row in
     let p = err_from_is_err_and c.from_residual-in_err-make_row.result c.from_residual-in_err-make_row.ensures.1 in
-    rw (p.1, p.2) (λ other. row_failed parameters c.args.max_elements ps names (map view c.in-Some.row.items) (rows_left c.loop-left.left) (rows_left c.next_row.new.self)
+    rw (p.1, p.2) (λ other. row_failed parameters (max_elements_in c.args.scene.now) ps names (map view c.in-Some.row.items) (rows_left c.loop-left.left) (rows_left c.next_row.new.self)
     c.loop-left.live.graph (table c.loop-left.made)
-    (rows_created parameters c.args.max_elements ps c.args.live.now.graph (rows_named names (table c.args.rows)))
+    (rows_created parameters (max_elements_in c.args.scene.now) ps c.args.live.now.graph (rows_named names (table c.args.rows)))
     first c.loop-left.invariant.rest c.in_err-make_row.field-0.0 (passed ∙ c.in_err-make_row.ensures.err other))
 
 pub returns-in_err-make_row-clause-aside : goal.returns-in_err-make_row-clause-aside
@@ -101,12 +98,12 @@ loop-left-preserved g c =
     let graph = c.loop-left.live.graph in
     let row = row_in c.args.scene.now c.in-Some.row.items in
     let tested = tests_read c.graph.result graph (row_in c.args.scene.now c.deref.result.now) row ps (Ok tt) c.graph.ensures.is (ap (row_in c.args.scene.now) c.deref.ensures.value) c.in_ok-test_paths.ensures in
-    let passed = sym (row_passed parameters c.args.max_elements ps graph row tested) in
+    let passed = sym (row_passed parameters (max_elements_in c.args.scene.now) ps graph row tested) in
     let first = rw c.in-Some.is at c.in_ok-row.ensures.row in
     record {
-      rest = row_done parameters c.args.max_elements ps names (map view c.in-Some.row.items) (rows_left c.loop-left.left) (rows_left c.next_row.new.self)
+      rest = row_done parameters (max_elements_in c.args.scene.now) ps names (map view c.in-Some.row.items) (rows_left c.loop-left.left) (rows_left c.next_row.new.self)
           c.loop-left.live.graph (table c.loop-left.made)
-          (rows_created parameters c.args.max_elements ps c.args.live.now.graph (rows_named names (table c.args.rows)))
+          (rows_created parameters (max_elements_in c.args.scene.now) ps c.args.live.now.graph (rows_named names (table c.args.rows)))
           first c.loop-left.invariant.rest c.make_row.new.live.graph
           (map view c.in_ok-make_row.field-0.items) (table c.push.new.self) (passed ∙ c.in_ok-make_row.ensures.ok) c.in_ok-push.ensures.rows;
       width = c.push.ensures.width ∙ c.loop-left.invariant.width;
@@ -128,8 +125,8 @@ returns-clause-ok g c =
     let parameters = parameters_in c.args.scene.now in
     let ps = paths_view c.args.paths.now in
     let names = c.args.scene.now.names.now in
-    rows_over parameters c.args.max_elements ps names c.loop-left.live.graph (rows_left c.loop-left.left) (table c.loop-left.made)
-    (rows_created parameters c.args.max_elements ps c.args.live.now.graph (rows_named names (table c.args.rows)))
+    rows_over parameters (max_elements_in c.args.scene.now) ps names c.loop-left.live.graph (rows_left c.loop-left.left) (table c.loop-left.made)
+    (rows_created parameters (max_elements_in c.args.scene.now) ps c.args.live.now.graph (rows_named names (table c.args.rows)))
     c.loop-left.invariant.rest (rw c.in_default.is at c.in_ok-row.ensures.none)
 
 pub returns-clause-width : goal.returns-clause-width

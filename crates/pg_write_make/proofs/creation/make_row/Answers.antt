@@ -10,18 +10,18 @@ use Rattle.pg_write_make.proofs.TrailLemmas.{bind_named}
 use Rattle.pg_write_make.specs.Bindings.{Binding, bind_each, match_bindings, EndsWith}
 use Rattle.pg_write_make.specs.Lent.{kept_view, paths_view, trail_view}
 use Rattle.pg_write_make.specs.Outcomes.{path_outcomes, paths_made}
-use Rattle.pg_write_make.specs.Scenes.{parameters_in, reading, row_in}
+use Rattle.pg_write_make.specs.Scenes.{max_elements_in, parameters_in, reading, row_in}
 use Rattle.pg_write_make.proofs.creation.make_row.Goals as goal
 
 pub bind_all-requires : goal.bind_all-requires
 bind_all-requires g c =
     subst (λ (bs : List Binding). EndsWith c.args.scene.now.names.now (map view c.args.row.items) bs) (sym c.in_ok-bindings.ensures)
-    (ready_row c.args.max_elements (reading (parameters_in c.args.scene.now)) c.graph.result c.args.live.now.graph
+    (ready_row (max_elements_in c.args.scene.now) (reading (parameters_in c.args.scene.now)) c.graph.result c.args.live.now.graph
     c.make_paths.new.live.graph c.graph-2.result c.args.scene.now.names.now c.args.row.items
     (map kept_view c.in_ok-kept.kept.items) (paths_view c.args.paths.now) (map trail_view c.in_ok-trails.trails.items)
     c.requires.within c.requires.names c.graph.ensures.is c.graph-2.ensures.is
     (c.in_ok-kept.ensures.ok ∙ ap (λ values. map (path_outcomes (reading (parameters_in c.args.scene.now)) c.graph.result (row_in c.args.scene.now values)) (paths_view c.args.paths.now)) c.deref.ensures.value)
-    (ap (λ values. paths_made c.args.max_elements (map kept_view c.in_ok-kept.kept.items) (paths_view c.args.paths.now) (c.args.live.now.graph, row_in c.args.scene.now values)) (sym c.deref-2.ensures.value) ∙ c.in_ok-trails.ensures.ok))
+    (ap (λ values. paths_made (max_elements_in c.args.scene.now) (map kept_view c.in_ok-kept.kept.items) (paths_view c.args.paths.now) (c.args.live.now.graph, row_in c.args.scene.now values)) (sym c.deref-2.ensures.value) ∙ c.in_ok-trails.ensures.ok))
 
 pub returns-in_err-kept-clause-err : goal.returns-in_err-kept-clause-err
 returns-in_err-kept-clause-err g c =
@@ -31,9 +31,10 @@ returns-in_err-kept-clause-err g c =
 pub returns-in_err-kept-clause-aside : goal.returns-in_err-kept-clause-aside
 returns-in_err-kept-clause-aside g c = refl
 
-pub make_paths-requires-clause-tested : goal.make_paths-requires-clause-tested
-make_paths-requires-clause-tested g c =
-    ap (λ values. test_paths false c.args.live.now.graph (row_in c.args.scene.now values) (paths_view c.args.paths.now)) c.deref-2.ensures.value ∙ c.requires.tested
+pub make_paths-requires : goal.make_paths-requires
+make_paths-requires g c = record {
+  tested = ap (λ values. test_paths false c.args.live.now.graph (row_in c.args.scene.now values) (paths_view c.args.paths.now)) c.deref-2.ensures.value ∙ c.requires.tested;
+}
 
 pub returns-in_err-trails-clause-err : goal.returns-in_err-trails-clause-err
 returns-in_err-trails-clause-err g c =
@@ -42,7 +43,7 @@ returns-in_err-trails-clause-err g c =
     let graph = c.args.live.now.graph in
     let kept = c.in_ok-kept.ensures.ok ∙ ap (λ values. map (path_outcomes (reading (parameters_in scene)) c.graph.result (row_in scene values)) ps) c.deref.ensures.value in
     let p = err_from_is_err_and c.from_residual-in_err-trails.result c.from_residual-in_err-trails.ensures.1 in
-    rw (p.1, p.2) (λ other. paths_refused (parameters_in scene) c.args.max_elements ps c.graph.result graph (row_in scene c.deref-2.result.now) (row_in scene c.args.row.items) (map kept_view c.in_ok-kept.kept.items)
+    rw (p.1, p.2) (λ other. paths_refused (parameters_in scene) (max_elements_in c.args.scene.now) ps c.graph.result graph (row_in scene c.deref-2.result.now) (row_in scene c.args.row.items) (map kept_view c.in_ok-kept.kept.items)
     c.graph.ensures.is (ap (row_in scene) c.deref-2.ensures.value) kept c.in_err-trails.field-0.0 (c.in_err-trails.ensures.err other))
 
 pub returns-in_err-trails-clause-aside : goal.returns-in_err-trails-clause-aside
@@ -75,7 +76,7 @@ returns-clause-ok g c =
     let bound =
     c.in_ok-bind_all.ensures.bound ∙ ap (λ (bs : List Binding). bind_each bs row) c.in_ok-bindings.ensures
     ∙ bind_named (match_bindings c.graph-2.result ps trails) row ∙ sym (match_bound c.graph-2.result ps trails row) in
-    row_bound (parameters_in scene) c.args.max_elements ps c.graph.result graph (row_in scene c.deref-2.result.now) (row_in scene c.args.row.items) (map kept_view c.in_ok-kept.kept.items)
+    row_bound (parameters_in scene) (max_elements_in c.args.scene.now) ps c.graph.result graph (row_in scene c.deref-2.result.now) (row_in scene c.args.row.items) (map kept_view c.in_ok-kept.kept.items)
     c.graph.ensures.is (ap (row_in scene) c.deref-2.ensures.value) kept c.make_paths.new.live.graph c.graph-2.result (map trail_view c.in_ok-trails.trails.items)
     (row_of scene.names.now (map view c.bind_all.new.values.items)) c.in_ok-trails.ensures.ok c.graph-2.ensures.is bound
 

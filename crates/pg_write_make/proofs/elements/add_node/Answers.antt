@@ -23,7 +23,7 @@ pub returns-in_err-properties-clause-err : goal.returns-in_err-properties-clause
 returns-in_err-properties-clause-err g c =
     let graph = c.args.live.now.graph in
     let make : Entries → Graph = λ es. add_node (texts_of (node_view c.args.pattern.now).labels) es graph in
-    fault_passed _ c.in_err-properties.field-0.0 c.from_residual.result c.from_residual.ensures.1 (λ other. no_properties (outcome_view c.args.outcome) (room_for c.args.max_elements graph) (test_counter graph.next_node) make c.in_err-properties.field-0.0 (ap outcome_view c.in_err-properties.was))
+    fault_passed _ c.in_err-properties.field-0.0 c.from_residual.result c.from_residual.ensures.1 (λ other. no_properties (outcome_view c.args.outcome) (room_for c.args.query.now.max_elements graph) (test_counter graph.next_node) make c.in_err-properties.field-0.0 (ap outcome_view c.in_err-properties.was))
 
 pub returns-in_err-properties-clause-aside : goal.returns-in_err-properties-clause-aside
 returns-in_err-properties-clause-aside g c = refl
@@ -38,7 +38,7 @@ pub returns-in_err-test_new-clause-err : goal.returns-in_err-test_new-clause-err
 returns-in_err-test_new-clause-err g c =
     let graph = c.args.live.now.graph in
     let make : Entries → Graph = λ es. add_node (texts_of (node_view c.args.pattern.now).labels) es graph in
-    fault_passed _ c.in_err-test_new.field-0.0 c.from_residual-in_err-test_new.result c.from_residual-in_err-test_new.ensures.1 (λ other. none_new (outcome_view c.args.outcome) (room_for c.args.max_elements graph) (test_counter graph.next_node) make (set_keys (pairs_of c.in_ok-properties.properties.items) no_entries) (ap outcome_view c.in_ok-properties.was) c.in_err-test_new.field-0.0 (sym (c.in_err-test_new.ensures.is ∙ (λ i. room_and_id c.args.max_elements (c.next_ids.ensures.node i) (c.graph.ensures.is i)))))
+    fault_passed _ c.in_err-test_new.field-0.0 c.from_residual-in_err-test_new.result c.from_residual-in_err-test_new.ensures.1 (λ other. none_new (outcome_view c.args.outcome) (room_for c.args.query.now.max_elements graph) (test_counter graph.next_node) make (set_keys (pairs_of c.in_ok-properties.properties.items) no_entries) (ap outcome_view c.in_ok-properties.was) c.in_err-test_new.field-0.0 (sym (c.in_err-test_new.ensures.is ∙ (λ i. room_and_id c.args.query.now.max_elements (c.next_ids.ensures.node i) (c.graph.ensures.is i)))))
 
 pub returns-in_err-test_new-clause-aside : goal.returns-in_err-test_new-clause-aside
 returns-in_err-test_new-clause-aside g c = refl
@@ -77,8 +77,8 @@ pub returns-clause-ok : goal.returns-clause-ok
 returns-clause-ok g c =
     let graph = c.args.live.now.graph in
     let make : Entries → Graph = λ es. add_node (texts_of (node_view c.args.pattern.now).labels) es graph in
-    all_there (outcome_view c.args.outcome) (room_for c.args.max_elements graph) (test_counter graph.next_node) make (set_keys (pairs_of c.in_ok-properties.properties.items) no_entries) (ap outcome_view c.in_ok-properties.was) c.create_node.new.self.graph
-    (sym (c.in_ok-test_new.ensures.is ∙ (λ i. room_and_id c.args.max_elements (c.next_ids.ensures.node i) (c.graph.ensures.is i)))) (c.in_ok-create_node.ensures.ok ∙ ap (λ ls. add_node ls (set_keys (pairs_of c.in_ok-properties.properties.items) no_entries) graph) c.in_ok-labels.ensures)
+    all_there (outcome_view c.args.outcome) (room_for c.args.query.now.max_elements graph) (test_counter graph.next_node) make (set_keys (pairs_of c.in_ok-properties.properties.items) no_entries) (ap outcome_view c.in_ok-properties.was) c.create_node.new.self.graph
+    (sym (c.in_ok-test_new.ensures.is ∙ (λ i. room_and_id c.args.query.now.max_elements (c.next_ids.ensures.node i) (c.graph.ensures.is i)))) (c.in_ok-create_node.ensures.ok ∙ ap (λ ls. add_node ls (set_keys (pairs_of c.in_ok-properties.properties.items) no_entries) graph) c.in_ok-labels.ensures)
 
 pub returns-clause-id : goal.returns-clause-id
 returns-clause-id g c = c.in_ok-create_node.ensures.id

@@ -24,7 +24,7 @@ pub returns-in_err-properties-clause-err : goal.returns-in_err-properties-clause
 returns-in_err-properties-clause-err g c =
     let graph = c.args.live.now.graph in
     let make : Entries → Graph = λ es. add_between (way_of (relationship_view c.args.pattern.now)) (first_text (types_of (relationship_view c.args.pattern.now))) c.args.left.0 c.args.right.0 es graph in
-    fault_passed _ c.in_err-properties.field-0.0 c.from_residual.result c.from_residual.ensures.1 (λ other. no_properties (outcome_view c.args.outcome) (room_for c.args.max_elements graph) (test_counter graph.next_relationship) make c.in_err-properties.field-0.0 (ap outcome_view c.in_err-properties.was))
+    fault_passed _ c.in_err-properties.field-0.0 c.from_residual.result c.from_residual.ensures.1 (λ other. no_properties (outcome_view c.args.outcome) (room_for c.args.query.now.max_elements graph) (test_counter graph.next_relationship) make c.in_err-properties.field-0.0 (ap outcome_view c.in_err-properties.was))
 
 pub returns-in_err-properties-clause-aside : goal.returns-in_err-properties-clause-aside
 returns-in_err-properties-clause-aside g c = refl
@@ -39,7 +39,7 @@ pub returns-in_err-test_new-clause-err : goal.returns-in_err-test_new-clause-err
 returns-in_err-test_new-clause-err g c =
     let graph = c.args.live.now.graph in
     let make : Entries → Graph = λ es. add_between (way_of (relationship_view c.args.pattern.now)) (first_text (types_of (relationship_view c.args.pattern.now))) c.args.left.0 c.args.right.0 es graph in
-    fault_passed _ c.in_err-test_new.field-0.0 c.from_residual-in_err-test_new.result c.from_residual-in_err-test_new.ensures.1 (λ other. none_new (outcome_view c.args.outcome) (room_for c.args.max_elements graph) (test_counter graph.next_relationship) make (set_keys (pairs_of c.in_ok-properties.properties.items) no_entries) (ap outcome_view c.in_ok-properties.was) c.in_err-test_new.field-0.0 (sym (c.in_err-test_new.ensures.is ∙ (λ i. room_and_id c.args.max_elements (c.next_ids.ensures.relationship i) (c.graph.ensures.is i)))))
+    fault_passed _ c.in_err-test_new.field-0.0 c.from_residual-in_err-test_new.result c.from_residual-in_err-test_new.ensures.1 (λ other. none_new (outcome_view c.args.outcome) (room_for c.args.query.now.max_elements graph) (test_counter graph.next_relationship) make (set_keys (pairs_of c.in_ok-properties.properties.items) no_entries) (ap outcome_view c.in_ok-properties.was) c.in_err-test_new.field-0.0 (sym (c.in_err-test_new.ensures.is ∙ (λ i. room_and_id c.args.query.now.max_elements (c.next_ids.ensures.relationship i) (c.graph.ensures.is i)))))
 
 pub returns-in_err-test_new-clause-aside : goal.returns-in_err-test_new-clause-aside
 returns-in_err-test_new-clause-aside g c = refl
@@ -72,8 +72,8 @@ pub returns-clause-ok : goal.returns-clause-ok
 returns-clause-ok g c =
     let graph = c.args.live.now.graph in
     let make : Entries → Graph = λ es. add_between (way_of (relationship_view c.args.pattern.now)) (first_text (types_of (relationship_view c.args.pattern.now))) c.args.left.0 c.args.right.0 es graph in
-    all_there (outcome_view c.args.outcome) (room_for c.args.max_elements graph) (test_counter graph.next_relationship) make (set_keys (pairs_of c.in_ok-properties.properties.items) no_entries) (ap outcome_view c.in_ok-properties.was) c.add_between.new.live.graph
-    (sym (c.in_ok-test_new.ensures.is ∙ (λ i. room_and_id c.args.max_elements (c.next_ids.ensures.relationship i) (c.graph.ensures.is i)))) (sym c.in_ok-add_between.ensures.ok)
+    all_there (outcome_view c.args.outcome) (room_for c.args.query.now.max_elements graph) (test_counter graph.next_relationship) make (set_keys (pairs_of c.in_ok-properties.properties.items) no_entries) (ap outcome_view c.in_ok-properties.was) c.add_between.new.live.graph
+    (sym (c.in_ok-test_new.ensures.is ∙ (λ i. room_and_id c.args.query.now.max_elements (c.next_ids.ensures.relationship i) (c.graph.ensures.is i)))) (sym c.in_ok-add_between.ensures.ok)
 
 pub returns-clause-id : goal.returns-clause-id
 returns-clause-id g c = c.in_ok-add_between.ensures.id

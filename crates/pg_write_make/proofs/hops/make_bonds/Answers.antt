@@ -21,9 +21,9 @@ returns-in-Some-clause-ok g c =
     let before = c.args.live.now.graph in
     let os = outcomes_view c.args.outcomes.items in
     let rs = relationships_view c.args.hops.now.items in
-    let whole = bonds_made c.args.max_elements os rs (node_ids ids) before in
-    let last = hops_made c.args.max_elements os rs c.in-Some.first.now.0 (node_ids c.in-Some.others.now) before in
-    let same : whole ≡ last = ap (λ (ns : List NodeId). bonds_made c.args.max_elements os rs (node_ids ns) before) (sym c.deref.ensures.value ∙ c.in-Some.ensures.cases.0) in
+    let whole = bonds_made c.args.query.now.max_elements os rs (node_ids ids) before in
+    let last = hops_made c.args.query.now.max_elements os rs c.in-Some.first.now.0 (node_ids c.in-Some.others.now) before in
+    let same : whole ≡ last = ap (λ (ns : List NodeId). bonds_made c.args.query.now.max_elements os rs (node_ids ns) before) (sym c.deref.ensures.value ∙ c.in-Some.ensures.cases.0) in
     let after = c.make_hops.new.live.graph in
     ok_onto c.make_hops.result (λ made. Ok (after, relationship_ids made.items)) whole last same c.make_hops.ensures.ok
 
@@ -33,9 +33,9 @@ returns-in-Some-clause-err g c =
     let before = c.args.live.now.graph in
     let os = outcomes_view c.args.outcomes.items in
     let rs = relationships_view c.args.hops.now.items in
-    let whole = bonds_made c.args.max_elements os rs (node_ids ids) before in
-    let last = hops_made c.args.max_elements os rs c.in-Some.first.now.0 (node_ids c.in-Some.others.now) before in
-    let same : whole ≡ last = ap (λ (ns : List NodeId). bonds_made c.args.max_elements os rs (node_ids ns) before) (sym c.deref.ensures.value ∙ c.in-Some.ensures.cases.0) in
+    let whole = bonds_made c.args.query.now.max_elements os rs (node_ids ids) before in
+    let last = hops_made c.args.query.now.max_elements os rs c.in-Some.first.now.0 (node_ids c.in-Some.others.now) before in
+    let same : whole ≡ last = ap (λ (ns : List NodeId). bonds_made c.args.query.now.max_elements os rs (node_ids ns) before) (sym c.deref.ensures.value ∙ c.in-Some.ensures.cases.0) in
     err_onto c.make_hops.result whole last same c.make_hops.ensures.err
 
 pub returns-in-Some-clause-aside : goal.returns-in-Some-clause-aside
@@ -44,15 +44,12 @@ returns-in-Some-clause-aside g c = c.make_hops.ensures.aside
 pub returns-in-Some-clause-grows : goal.returns-in-Some-clause-grows
 returns-in-Some-clause-grows g c = c.make_hops.ensures.grows
 
-pub make_hops-requires-clause-quota : goal.make_hops-requires-clause-quota
-make_hops-requires-clause-quota g c = c.requires.quota
-
 pub returns-in-None-clause-ok : goal.returns-in-None-clause-ok
 returns-in-None-clause-ok g c =
     let before = c.args.live.now.graph in
     let os = outcomes_view c.args.outcomes.items in
     let rs = relationships_view c.args.hops.now.items in
-    ap (λ (ns : List NodeId). bonds_made c.args.max_elements os rs (node_ids ns) before) (sym c.deref.ensures.value ∙ none_there c.deref.result.now c.in-None.ensures.cases)
+    ap (λ (ns : List NodeId). bonds_made c.args.query.now.max_elements os rs (node_ids ns) before) (sym c.deref.ensures.value ∙ none_there c.deref.result.now c.in-None.ensures.cases)
     ∙ ap (λ (ids : List RelId). Ok (before, relationship_ids ids)) (sym c.new.ensures.items)
 
 pub returns-in-None-clause-err : goal.returns-in-None-clause-err

@@ -11,8 +11,8 @@ invariant-loop-hop g l =
     let before = l.fn.live.graph in
     let now = l.live.graph in
     record {
-      rest : hops_made l.max_elements (outcomes_view l.fn.outcomes.items) (relationships_view l.hops.items) l.fn.first.0 (node_ids l.fn.others) before
-          ≡ (hops_made l.max_elements (outcomes_view (into_iter_items l.rest)) (relationships_view (drop l.hop-index l.hops.items)) l.left.0 (node_ids l.ahead) now >>= λ made. Ok (made.0, relationship_ids l.made.items ++ made.1));
+      rest : hops_made l.query.max_elements (outcomes_view l.fn.outcomes.items) (relationships_view l.hops.items) l.fn.first.0 (node_ids l.fn.others) before
+          ≡ (hops_made l.query.max_elements (outcomes_view (into_iter_items l.rest)) (relationships_view (drop l.hop-index l.hops.items)) l.left.0 (node_ids l.ahead) now >>= λ made. Ok (made.0, relationship_ids l.made.items ++ made.1));
       left : has_node now l.left.0 ≡ true;
       ahead : AreThere now (node_ids l.ahead);
       grows : Grows before now;

@@ -12,7 +12,7 @@ use Rattle.pg_write_make.proofs.BoundLemmas.{found_there, new_bound, of_fault, o
 use Rattle.pg_write_make.proofs.GrowthLemmas.{added_grows, added_there, bound_there, there_grows, there_push}
 use Rattle.pg_write_make.specs.Makings.{bindings, making_of, named_ids, node_ids, AreThere}
 use Rattle.pg_write_make.specs.Outcomes.{outcome_view}
-use Rattle.pg_write_make.specs.Scenes.{row_in}
+use Rattle.pg_write_make.specs.Scenes.{max_elements_in, row_at}
 use Rattle.pg_write_make.proofs.making.make_node.Goals as goal
 
 pub returns-in_err-id-clause-ok : goal.returns-in_err-id-clause-ok
@@ -20,10 +20,10 @@ returns-in_err-id-clause-ok g c = IfOk-from_err c.from_residual.result _ c.from_
 
 pub returns-in_err-id-clause-err : goal.returns-in_err-id-clause-err
 returns-in_err-id-clause-err g c =
-    let row = row_in c.args.scene.now c.args.row.now in
+    let row = row_at c.args.row.now in
     let before = c.args.live.now.graph in
     let p = err_from_is_err_and c.from_residual.result c.from_residual.ensures.1 in
-    rw (p.1, p.2) (λ other. of_fault c.args.max_elements (outcome_view c.args.outcome) (node_view c.args.pattern.now) (making_of before row c.args.named.now.items c.args.ids.now.items) c.in_err-id.field-0.0 c.in_err-id.ensures.err)
+    rw (p.1, p.2) (λ other. of_fault (max_elements_in c.args.row.now.scene.now) (outcome_view c.args.outcome) (node_view c.args.pattern.now) (making_of before row c.args.named.now.items c.args.ids.now.items) c.in_err-id.field-0.0 c.in_err-id.ensures.err)
 
 pub returns-in_err-id-clause-aside : goal.returns-in_err-id-clause-aside
 returns-in_err-id-clause-aside g c = refl
@@ -51,11 +51,11 @@ returns-in_err-push-in-Some-clause-there g c = IfOk-from_err c.from_residual-in_
 
 pub returns-in_ok-push-in-Some-clause-ok : goal.returns-in_ok-push-in-Some-clause-ok
 returns-in_ok-push-in-Some-clause-ok g c =
-    let row = row_in c.args.scene.now c.args.row.now in
+    let row = row_at c.args.row.now in
     let before = c.args.live.now.graph in
     let bound = row ++ bindings c.args.named.now.items in
     let made : List ℕ → Result Making Fault = λ ns. Ok (record { graph = before; bound = bound; ids = ns }) in
-    of_found c.args.max_elements (outcome_view c.args.outcome) (node_view c.args.pattern.now) (making_of before row c.args.named.now.items c.args.ids.now.items) c.in-Some.id.0 (c.in_ok-id.ensures.ok ∙ ap (λ o. Ok (option_map (λ (i : NodeId). i.0) o)) c.in-Some.is)
+    of_found (max_elements_in c.args.row.now.scene.now) (outcome_view c.args.outcome) (node_view c.args.pattern.now) (making_of before row c.args.named.now.items c.args.ids.now.items) c.in-Some.id.0 (c.in_ok-id.ensures.ok ∙ ap (λ o. Ok (option_map (λ (i : NodeId). i.0) o)) c.in-Some.is)
     ∙ ap made (sym (pushed_id c.args.ids.now.items c.push.new.self.items c.in-Some.id c.in_ok-push-in-Some.ensures.items))
 
 pub returns-in_ok-push-in-Some-clause-err : goal.returns-in_ok-push-in-Some-clause-err
@@ -69,16 +69,13 @@ returns-in_ok-push-in-Some-clause-grows g c = λ n there. there
 
 pub returns-in_ok-push-in-Some-clause-there : goal.returns-in_ok-push-in-Some-clause-there
 returns-in_ok-push-in-Some-clause-there g c =
-    let row = row_in c.args.scene.now c.args.row.now in
+    let row = row_at c.args.row.now in
     let before = c.args.live.now.graph in
     let there = found_there before (node_name (node_view c.args.pattern.now)) row c.args.named.now.items c.in-Some.id.0 c.requires.tested c.requires.there.bound (c.in_ok-id.ensures.ok ∙ ap (λ o. Ok (option_map (λ (i : NodeId). i.0) o)) c.in-Some.is) in
     record {
       bound = c.requires.there.bound;
       made = subst (λ (ns : List ℕ). AreThere before ns) (sym (pushed_id c.args.ids.now.items c.push.new.self.items c.in-Some.id c.in_ok-push-in-Some.ensures.items)) (there_push before (node_ids c.args.ids.now.items) c.in-Some.id.0 c.requires.there.made there);
     }
-
-pub add_node-requires : goal.add_node-requires
-add_node-requires g c = record { quota = c.requires.quota }
 
 pub returns-in_err-new-in-None-clause-ok : goal.returns-in_err-new-in-None-clause-ok
 returns-in_err-new-in-None-clause-ok g c = IfOk-from_err c.from_residual-in_err-new-in-None.result _ c.from_residual-in_err-new-in-None.ensures.0
@@ -91,10 +88,10 @@ returns-in_err-new-in-None-clause-there g c = IfOk-from_err c.from_residual-in_e
 
 pub returns-in_err-new-in-None-clause-err : goal.returns-in_err-new-in-None-clause-err
 returns-in_err-new-in-None-clause-err g c =
-    let row = row_in c.args.scene.now c.args.row.now in
+    let row = row_at c.args.row.now in
     let before = c.args.live.now.graph in
     let p = err_from_is_err_and c.from_residual-in_err-new-in-None.result c.from_residual-in_err-new-in-None.ensures.1 in
-    rw (p.1, p.2) (λ other. of_new_fault c.args.max_elements (outcome_view c.args.outcome) (node_view c.args.pattern.now) (making_of before row c.args.named.now.items c.args.ids.now.items) c.in_err-new-in-None.field-0.0 (c.in_ok-id.ensures.ok ∙ ap (λ o. Ok (option_map (λ (i : NodeId). i.0) o)) c.in-None.is) (c.in_err-new-in-None.ensures.err other))
+    rw (p.1, p.2) (λ other. of_new_fault (max_elements_in c.args.row.now.scene.now) (outcome_view c.args.outcome) (node_view c.args.pattern.now) (making_of before row c.args.named.now.items c.args.ids.now.items) c.in_err-new-in-None.field-0.0 (c.in_ok-id.ensures.ok ∙ ap (λ o. Ok (option_map (λ (i : NodeId). i.0) o)) c.in-None.is) (c.in_err-new-in-None.ensures.err other))
 
 pub returns-in_err-new-in-None-clause-aside : goal.returns-in_err-new-in-None-clause-aside
 returns-in_err-new-in-None-clause-aside g c = c.add_node.ensures.aside
@@ -131,7 +128,7 @@ returns-in_err-push-in-None-clause-aside g c = c.add_node.ensures.aside
 
 pub returns-in_ok-push-in-None-clause-ok : goal.returns-in_ok-push-in-None-clause-ok
 returns-in_ok-push-in-None-clause-ok g c =
-    let row = row_in c.args.scene.now c.args.row.now in
+    let row = row_at c.args.row.now in
     let before = c.args.live.now.graph in
     let after = c.add_node.new.live.graph in
     let named = bindings c.args.named.now.items in
@@ -139,9 +136,9 @@ returns-in_ok-push-in-None-clause-ok g c =
     let ids = node_ids c.args.ids.now.items in
     let found = (c.in_ok-id.ensures.ok ∙ ap (λ o. Ok (option_map (λ (i : NodeId). i.0) o)) c.in-None.is) in
     let n = node_view c.args.pattern.now in
-    placed c.args.max_elements (outcome_view c.args.outcome) n before after row named more ids (node_ids c.push-in-None.new.self.items) (Ok tt) found
+    placed (max_elements_in c.args.row.now.scene.now) (outcome_view c.args.outcome) n before after row named more ids (node_ids c.push-in-None.new.self.items) (Ok tt) found
     (λ rs free.
-    new_bound c.args.max_elements (outcome_view c.args.outcome) n before after named more c.in_ok-new-in-None.new.0 c.in_ok-new-in-None.ensures.ok c.in_ok-new-in-None.ensures.id (λ none. ap bindings (c.in_ok-bind_new-in-None.ensures.none none)) c.in_ok-bind_new-in-None.ensures.bound
+    new_bound (max_elements_in c.args.row.now.scene.now) (outcome_view c.args.outcome) n before after named more c.in_ok-new-in-None.new.0 c.in_ok-new-in-None.ensures.ok c.in_ok-new-in-None.ensures.id (λ none. ap bindings (c.in_ok-bind_new-in-None.ensures.none none)) c.in_ok-bind_new-in-None.ensures.bound
     rs ids free
     ∙ ap (λ (ns : List ℕ). Ok (record { graph = after; bound = rs ++ more; ids = ns })) (sym (pushed_id c.args.ids.now.items c.push-in-None.new.self.items c.in_ok-new-in-None.new c.in_ok-push-in-None.ensures.items)))
 
@@ -155,15 +152,15 @@ pub returns-in_ok-push-in-None-clause-grows : goal.returns-in_ok-push-in-None-cl
 returns-in_ok-push-in-None-clause-grows g c =
     let before = c.args.live.now.graph in
     let after = c.add_node.new.live.graph in
-    added_grows c.args.max_elements (outcome_view c.args.outcome) (node_view c.args.pattern.now) before after c.in_ok-new-in-None.ensures.ok
+    added_grows (max_elements_in c.args.row.now.scene.now) (outcome_view c.args.outcome) (node_view c.args.pattern.now) before after c.in_ok-new-in-None.ensures.ok
 
 pub returns-in_ok-push-in-None-clause-there : goal.returns-in_ok-push-in-None-clause-there
 returns-in_ok-push-in-None-clause-there g c =
     let before = c.args.live.now.graph in
     let after = c.add_node.new.live.graph in
     let ids = node_ids c.args.ids.now.items in
-    let grows = added_grows c.args.max_elements (outcome_view c.args.outcome) (node_view c.args.pattern.now) before after c.in_ok-new-in-None.ensures.ok in
-    let now = ap (has_node after) c.in_ok-new-in-None.ensures.id ∙ added_there c.args.max_elements (outcome_view c.args.outcome) (node_view c.args.pattern.now) before after c.in_ok-new-in-None.ensures.ok in
+    let grows = added_grows (max_elements_in c.args.row.now.scene.now) (outcome_view c.args.outcome) (node_view c.args.pattern.now) before after c.in_ok-new-in-None.ensures.ok in
+    let now = ap (has_node after) c.in_ok-new-in-None.ensures.id ∙ added_there (max_elements_in c.args.row.now.scene.now) (outcome_view c.args.outcome) (node_view c.args.pattern.now) before after c.in_ok-new-in-None.ensures.ok in
     record {
       bound =
           bound_there (node_name (node_view c.args.pattern.now)) before after (named_ids c.args.named.now.items) (named_ids c.bind_new.new.named.items) c.in_ok-new-in-None.new.0 grows now

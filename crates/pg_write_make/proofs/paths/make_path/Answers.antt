@@ -5,7 +5,7 @@ use Rattle.pg_write_make.proofs.GrowthLemmas.{grows_twice, there_grows}
 use Rattle.pg_write_make.proofs.PathLemmas.{all_joined, bonds_failed, nodes_failed}
 use Rattle.pg_write_make.specs.Lent.{kept_view}
 use Rattle.pg_write_make.specs.Makings.{bindings, making_of, named_ids, relationship_ids}
-use Rattle.pg_write_make.specs.Scenes.{row_in}
+use Rattle.pg_write_make.specs.Scenes.{max_elements_in, row_at}
 use Rattle.pg_write_make.proofs.paths.make_path.Goals as goal
 
 pub make_nodes-requires-clause-tested : goal.make_nodes-requires-clause-tested
@@ -16,9 +16,9 @@ make_nodes-requires-clause-there g c = c.requires.there
 
 pub returns-in_err-nodes-clause-err : goal.returns-in_err-nodes-clause-err
 returns-in_err-nodes-clause-err g c =
-    let row = row_in c.args.scene.now c.args.row.now ++ bindings c.args.named.now.items in
+    let row = row_at c.args.row.now ++ bindings c.args.named.now.items in
     let p = err_from_is_err_and c.from_residual.result c.from_residual.ensures.1 in
-    rw (p.1, p.2) (λ other. nodes_failed c.args.max_elements (kept_view c.args.kept) (path_view c.args.path.now) c.args.live.now.graph row c.in_err-nodes.field-0.0 (c.in_err-nodes.ensures.err other))
+    rw (p.1, p.2) (λ other. nodes_failed (max_elements_in c.args.row.now.scene.now) (kept_view c.args.kept) (path_view c.args.path.now) c.args.live.now.graph row c.in_err-nodes.field-0.0 (c.in_err-nodes.ensures.err other))
 
 pub returns-in_err-nodes-clause-aside : goal.returns-in_err-nodes-clause-aside
 returns-in_err-nodes-clause-aside g c = c.make_nodes.ensures.aside
@@ -33,14 +33,14 @@ returns-in_err-nodes-clause-there g c =
     let p = err_from_is_err_and c.from_residual.result c.from_residual.ensures.1 in
     rw p.1 tt
 
-pub make_bonds-requires-clause-there : goal.make_bonds-requires-clause-there
-make_bonds-requires-clause-there g c = c.in_ok-nodes.ensures.there.made
+pub make_bonds-requires : goal.make_bonds-requires
+make_bonds-requires g c = record { there = c.in_ok-nodes.ensures.there.made }
 
 pub returns-in_err-relationships-clause-err : goal.returns-in_err-relationships-clause-err
 returns-in_err-relationships-clause-err g c =
-    let row = row_in c.args.scene.now c.args.row.now in
+    let row = row_at c.args.row.now in
     let p = err_from_is_err_and c.from_residual-in_err-relationships.result c.from_residual-in_err-relationships.ensures.1 in
-    rw (p.1, p.2) (λ other. bonds_failed c.args.max_elements (kept_view c.args.kept) (path_view c.args.path.now) c.args.live.now.graph (row ++ bindings c.args.named.now.items)
+    rw (p.1, p.2) (λ other. bonds_failed (max_elements_in c.args.row.now.scene.now) (kept_view c.args.kept) (path_view c.args.path.now) c.args.live.now.graph (row ++ bindings c.args.named.now.items)
     (making_of c.make_nodes.new.live.graph row c.make_nodes.new.named.items c.in_ok-nodes.nodes.items) c.in_ok-nodes.ensures.ok
     c.in_err-relationships.field-0.0 (c.in_err-relationships.ensures.err other))
 
@@ -60,8 +60,8 @@ returns-in_err-relationships-clause-there g c =
 
 pub returns-clause-ok : goal.returns-clause-ok
 returns-clause-ok g c =
-    let row = row_in c.args.scene.now c.args.row.now in
-    all_joined c.args.max_elements (kept_view c.args.kept) (path_view c.args.path.now) c.args.live.now.graph (row ++ bindings c.args.named.now.items)
+    let row = row_at c.args.row.now in
+    all_joined (max_elements_in c.args.row.now.scene.now) (kept_view c.args.kept) (path_view c.args.path.now) c.args.live.now.graph (row ++ bindings c.args.named.now.items)
     (making_of c.make_nodes.new.live.graph row c.make_nodes.new.named.items c.in_ok-nodes.nodes.items) c.in_ok-nodes.ensures.ok
     c.make_bonds.new.live.graph (relationship_ids c.in_ok-relationships.relationships.items) c.in_ok-relationships.ensures.ok
 

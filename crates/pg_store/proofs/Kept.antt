@@ -1,14 +1,15 @@
 -- What calls leave of the shared part to others: the parts of their tables, and the texts of the names.
-use Rattle.std.proofs.Common.{◌≡◌, ◌≤◌, ℕ, zero, suc, List, [], ◌∷◌, length, take, Result, Ok, Err, OnErr, arith, refl, sym, ap, subst, ◌∙◌}
+use Rattle.std.proofs.Common.{◌≡◌, ◌≢◌, ◌≤◌, ℕ, zero, suc, List, [], ◌∷◌, length, take, drop, Result, Ok, Err, OnErr, arith, refl, sym, ap, subst, ◌∙◌}
 use Rattle.std.specs.Prelude.{OnOk}
 use Rattle.pg_graph.proofs.Others.{keeps_refl, keeps_trans}
 use Rattle.pg_graph.specs.Content.{Content, Seen, Keeps}
 use Rattle.pg_names.proofs.Interned.{taken_back}
 use Rattle.pg_names.specs.Names.{AreDistinct, KeepsNames}
 use Rattle.pg_store.proofs.JournalLemmas.{same_graph, still_well, can_still_undo}
+use Rattle.pg_store.proofs.Marks.{same_moment, still_marked}
 use Rattle.pg_store.specs.Covers.{HasCovered, has_in}
-use Rattle.pg_store.specs.Journal.{State, IsWell, CanUndo, graph_in}
-use Rattle.pg_store.specs.Stores.{state_of, graph_of_store, IsFit, KeepsShared, OtherStoresStay}
+use Rattle.pg_store.specs.Journal.{State, IsWell, CanUndo, graph_in, undone}
+use Rattle.pg_store.specs.Stores.{state_of, state_at, names_at, graph_of_store, graph_at, IsFit, HasMark, IsBack, KeepsShared, OtherStoresStay}
 use Rattle.pg_store.specs.declared.journal.Mark.{Mark}
 use Rattle.pg_store.specs.declared.shared.Shared.{Shared}
 use Rattle.pg_store.specs.declared.store.Store.{Store}
@@ -30,6 +31,12 @@ first_names_stay (suc k) (x ∷ xs) [] keeps h = cc (keeps 0 x refl)
 first_names_stay (suc k) (x ∷ xs) (y ∷ ys) keeps h =
     let same : y ≡ x = cc (keeps 0 x refl) in
     ap (λ z. z ∷ take k ys) same ∙ ap (λ zs. x ∷ zs) (first_names_stay k xs ys (λ n t is. keeps (suc n) t is) (omega (arith, h)))
+
+pub first_are_there : (n : ℕ) (names : List (List ℕ)) → KeepsNames (take n names) names
+first_are_there zero names number text h = cc h
+first_are_there (suc n) [] number text h = cc h
+first_are_there (suc n) (x ∷ xs) zero text h = h
+first_are_there (suc n) (x ∷ xs) (suc number) text h = first_are_there n xs number text h
 
 -- ---- calls in turn
 
@@ -93,9 +100,35 @@ module _ {T S K : Type 0} (seen : Seen T S) (store : Store T) (old new : Shared 
     covered = subst (HasCovered (has_in store.sets) store.journal.items) (sym same_state) fit.covered;
   }
 
+-- a moment to which a store at rest can be taken back stays one, of the same graph, whatever others do with the shared part
+module _ {T S K : Type 0} (seen : Seen T S) (old new other : Store T) (before after : Shared S K) (kept : KeepsShared seen old before new after) (apart : seen.owner other.tables ≢ seen.owner old.tables) (fit : IsFit seen other before) (mark : Mark) (has : HasMark seen other before mark) where
+  other_names : names_at seen other after mark ≡ names_at seen other before mark
+  other_names = first_names_stay mark.names before.names after.names kept.names has.names
+
+  other_state : state_at seen other after mark ≡ state_at seen other before mark
+  other_state =
+      ap (λ (c : Content). undone (drop mark.journal other.journal.items) (record (state_of seen other before) { content = c }))
+      (kept.tables.others.same other.tables apart fit.fits)
+
+  pub other_mark_same : graph_at seen other after mark ≡ graph_at seen other before mark
+  other_mark_same = same_moment seen other other before after mark other_names other_state
+
+  pub other_mark_stays : HasMark seen other after mark
+  other_mark_stays =
+      still_marked seen other other before after mark other_names other_state refl has.journal
+      (omega (arith, has.names, no_fewer_names before.names after.names kept.names)) has
+
 pub other_stores_stay : {T S : Type 0} (K : Type 0) (seen : Seen T S) → OtherStoresStay K seen
 other_stores_stay K seen old new other before after kept apart fit =
     let same = kept.tables.others.same other.tables apart fit.fits in (
       fit_over seen other before after fit same kept.names kept.distinct (kept.tables.others.fit other.tables apart fit.fits),
       graph_over seen other before after fit same kept.names,
+      λ mark has. (other_mark_stays seen old new other before after kept apart fit mark has, other_mark_same seen old new other before after kept apart fit mark has),
     )
+
+-- a store that is back at a mark, with the names that others brought since, has the mark's graph too
+pub back_uncut : {T S K : Type 0} (seen : Seen T S) (mark : Mark) (old new : Store T) (before after : Shared S K) → HasMark seen old before mark → IsBack seen mark old before new after → after.names ≡ before.names
+    → graph_of_store seen new after ≡ graph_at seen old before mark
+back_uncut seen mark old new before after has back names =
+    (λ i. graph_in (names i) (back.state i))
+    ∙ same_graph (names_at seen old before mark) before.names (first_are_there mark.names before.names) (state_at seen old before mark) has.well

@@ -77,11 +77,13 @@ pub record KeepsShared {T S K : Type 0} (seen : Seen T S) (old : Store T) (befor
   pub names : KeepsNames before.names after.names
   pub distinct : AreDistinct after.names
 
--- a store of another owner fits again, and its graph is the same, whatever set K keeps the names
+-- a store of another owner fits again, its graph is the same, and each of its marks is one still, of the same graph,
+-- whatever set K keeps the names
 abbrev pub OtherStoresStay : {T S : Type 0} → Type 0 → Seen T S → Type 0
 OtherStoresStay {T} {S} K seen =
     (old new other : Store T) (before after : Shared S K) → KeepsShared seen old before new after → seen.owner other.tables ≢ seen.owner old.tables → IsFit seen other before
     → IsFit seen other after × (graph_of_store seen other after ≡ graph_of_store seen other before)
+    × ((mark : Mark) → HasMark seen other before mark → HasMark seen other after mark × (graph_at seen other after mark ≡ graph_at seen other before mark))
 
 abbrev pub texts_of : List (Bor (List ℕ)) → List (List ℕ)
 texts_of texts = map_list (λ t. t.now) texts

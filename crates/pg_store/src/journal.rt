@@ -40,6 +40,7 @@ impl<T: Tables> Store<T> {
         ensures there { HasMark T.seen self.now shared.now result }
         ensures graph { graph_at T.seen self.now shared.now result ≡ graph_of_store T.seen self.now shared.now }
         ensures names { result.names ≡ length shared.now.names }
+        ensures journal { result.journal ≡ length self.now.journal.items }
     {
         Mark {
             journal: self.journal.len(),
@@ -61,6 +62,22 @@ impl<T: Tables> Store<T> {
         self.go_back(shared, mark);
         shared.names.truncate(mark.names);
         if self.journal.len() > 0 {
+            return;
+        }
+        self.sweep(shared);
+    }
+
+    /// Takes back all that was done since the mark, and leaves the names: others may have added some since. It takes no memory.
+    pub fn back(&mut self, shared: &mut Shared<T::Shared>, mark: Mark)
+        requires fit { IsFit T.seen self.old shared.old }
+        requires mark { HasMark T.seen self.old shared.old mark }
+        ensures graph { graph_of_store T.seen self.new shared.new ≡ graph_at T.seen self.old shared.old mark }
+        ensures names { shared.new.names ≡ shared.old.names }
+        ensures fit { IsFit T.seen self.new shared.new }
+        ensures keeps { Keeps T.seen self.old.tables shared.old.tables self.new.tables shared.new.tables }
+    {
+        self.go_back(shared, mark);
+        if !self.journal.is_empty() {
             return;
         }
         self.sweep(shared);

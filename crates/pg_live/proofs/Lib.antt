@@ -1,5 +1,6 @@
-pub mod LiveLemmas
-pub mod TurnLemmas
-pub mod OpenLemmas
 mod HeldLemmas
 mod OpeningLemmas
+pub mod HolderLemmas
+pub mod LiveLemmas
+pub mod OpenLemmas
+pub mod TurnLemmas

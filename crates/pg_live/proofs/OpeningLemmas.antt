@@ -1,11 +1,13 @@
 -- Stores that were just made, of which the first is taken to work.
-use Rattle.std.proofs.Common.{◌≡◌, ◌≢◌, ℕ, zero, suc, ◌+◌, ◌<◌, List, [], ◌∷◌, ◌++◌, length, get_or, set, map, arith, refl, sym, ap, subst, ◌∙◌}
+use Rattle.std.proofs.Common.{◌≡◌, ◌≢◌, ℕ, zero, suc, ◌+◌, ◌<◌, List, [], ◌∷◌, ◌++◌, Option, None, length, get_or, set, map, arith, refl, sym, ap, subst, ◌∙◌}
 use Rattle.std.specs.Prelude.{replicate}
-use Rattle.std.proofs.lemmas.List.{get_or-set_same, get_or-set_other, length-set, length-map, map-set}
+use Rattle.std.proofs.lemmas.List.{get_or-set_same, get_or-set_other, length-set, length-map, length-replicate, map-set}
 use Rattle.pg_graph.specs.Content.{Seen}
 use Rattle.pg_live.proofs.HeldLemmas.{fit_of_parts}
 use Rattle.pg_live.proofs.LiveLemmas.{take_all}
-use Rattle.pg_live.specs.Live.{graphs_of, live_of, shared_then, IsLive}
+use Rattle.pg_live.proofs.OpenLemmas.{none_begun, one_at}
+use Rattle.pg_live.specs.Live.{all_begun, graphs_of, live_of, shared_then, IsLive}
+use Rattle.pg_live.specs.declared.transactions.Begin.{Begin}
 use Rattle.pg_live.specs.Opening.{AreOpening, Opens}
 use Rattle.pg_meaning.specs.Graph.{Graph, empty_graph}
 use Rattle.pg_names.specs.Names.{AreDistinct}
@@ -85,14 +87,17 @@ module _ {T S K : Type 0} (seen : Seen T S) (count : ℕ) (stores : List (Store 
   empty : (k : ℕ) (d : Store T) → k < length others → graph_of_store seen (get_or others k d) shared ≡ empty_graph
   empty = each (λ (s : Store T). graph_of_store seen s shared ≡ empty_graph) (spare_opens.empty parts (unused count)) (λ k d lt. (begun.opens k d lt).empty parts (unused k))
 
-  module _ (mark : Mark) (all : mark.names ≡ length shared.names) where
+  module _ (mark : Mark) (all : mark.names ≡ length shared.names) (begins : List (Option Begin)) (none : begins ≡ replicate count None) where
     abbrev then : Shared S K
     then = shared_then seen store others shared 0 mark
 
     now_is : then ≡ shared
     now_is = ap (λ (ns : List (List ℕ)). let p : Shared S K = record { names = ns; tables = shared.tables } in p) (take_all mark.names shared.names all)
 
-    pub opened_live : HasMark seen store shared mark → IsLive seen store others shared 0 mark
+    nothing_open : (k : ℕ) → get_or begins k None ≡ None
+    nothing_open k = ap (λ (bs : List (Option Begin)). get_or bs k None) none ∙ one_at count k None
+
+    pub opened_live : HasMark seen store shared mark → IsLive seen store others shared 0 mark begins
     opened_live marked = record {
       fit = first_fits;
       marked = marked;
@@ -101,9 +106,17 @@ module _ {T S K : Type 0} (seen : Seen T S) (count : ℕ) (stores : List (Store 
       mine = first_opens.own;
       spare = λ d. ap (λ (s : Store T). seen.owner s.tables) (get_or-set_same stores 0 spare d first) ∙ spare_opens.own ∙ sym long;
       own = λ k d lt ne. ap (λ (s : Store T). seen.owner s.tables) (get_or-set_other stores 0 k spare d ne) ∙ (begun.opens k d (omega (arith, lt, length-set stores 0 spare))).own;
+      each = ap length none ∙ length-replicate count None ∙ sym long;
+      opened = λ k d b is. absurd (cc (is, nothing_open k));
+      earlier = λ b is. absurd (cc (is, nothing_open 0));
     }
 
-    pub opened_graphs : graphs_of (live_of seen store others shared 0 mark) ≡ replicate count empty_graph
+    pub opened_begins : (live_of seen store others shared 0 mark begins).aside.begins ≡ replicate count None
+    opened_begins =
+        ap (λ (bs : List (Option Begin)). all_begun seen then bs (set others 0 store)) none
+        ∙ none_begun seen then count (set others 0 store) (length-set others 0 store ∙ long)
+
+    pub opened_graphs : graphs_of (live_of seen store others shared 0 mark begins) ≡ replicate count empty_graph
     opened_graphs =
         ap (λ (p : Shared S K). set (map (λ s. graph_of_store seen s p) others) 0 (graph_of_store seen store shared)) now_is
         ∙ (λ i. set (all_one (λ s. graph_of_store seen s shared) empty_graph others empty i) 0 (first_opens.empty parts (unused 0) i))

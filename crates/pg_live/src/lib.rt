@@ -2,5 +2,6 @@
 #![tactic(auto)]
 
 mod live_graph;
+mod transactions;
 
 pub use live_graph::LiveGraph;

@@ -1,16 +1,17 @@
 //! One graph at work, among those of all tenants.
-ghost use Rattle.std.specs.Prelude.{◌≡◌, ◌∷◌, [], ℕ, ◌<◌, ◌^◌, true, not, filter, length, replicate, slice_index_or, OnOk, OnErr, IfOk};
+ghost use Rattle.std.specs.Prelude.{◌≡◌, ◌∷◌, [], ℕ, ◌<◌, ◌^◌, true, None, not, filter, length, replicate, slice_index_or, slice_set, OnOk, OnErr, IfOk};
 ghost use Rattle.pg_meaning.specs.Entries.{set_keys};
 ghost use Rattle.pg_meaning.specs.Graph.{IsGraph, empty_graph, add_node, add_relationship, change_node, change_relationship, element_count, has_node, has_relationship, incident, incoming, outgoing, remove_elements};
 ghost use Rattle.pg_meaning.specs.Names.{is_among, put_texts};
 ghost use Rattle.pg_meaning.specs.Value.{no_entries};
 ghost use Rattle.pg_names.specs.Names.{KeepsNames};
 ghost use Rattle.pg_live.specs.Held.{HoldGraphs, shared_of};
-ghost use Rattle.pg_live.specs.Live.{begun_at, graphs_of};
+ghost use Rattle.pg_live.specs.Live.{begins_of, begun_at, graphs_of, open_at};
 ghost use Rattle.pg_live.specs.Opening.{AreOpening};
 ghost use Rattle.pg_live.specs.Settled.{HasBegun};
 ghost use Rattle.pg_store.specs.Stores.{texts_of, pairs_of};
 
+use crate::transactions::{Begin, no_begins};
 use pg_graph::{NextIds, Tables};
 use pg_store::{Mark, Shared, Snapshot, Store};
 use pg_value_core::{NodeId, RelId, Value};
@@ -23,12 +24,14 @@ use std::mem::swap;
 /// be taken back to what it was when the work began.
 #[derive(Drop)]
 pub struct LiveGraph<T: Tables> {
-    store: Store<T>,
+    pub(crate) store: Store<T>,
     // the stores of all places, with a spare one at that of the graph at work
-    others: Vec<Store<T>>,
-    shared: Shared<T::Shared>,
-    place: usize,
-    mark: Mark,
+    pub(crate) others: Vec<Store<T>>,
+    pub(crate) shared: Shared<T::Shared>,
+    pub(crate) place: usize,
+    pub(crate) mark: Mark,
+    // for each place, the transaction that is open there
+    pub(crate) begins: Vec<Option<Begin>>,
 }
 
 impl<T: Tables> Model for LiveGraph<T> {
@@ -39,9 +42,9 @@ impl<T: Tables> Model for LiveGraph<T> {
 
     ghost coded = { live_code T.Shared.code };
 
-    ghost view = { λ l. live_of T.seen l.store l.others.items l.shared l.place l.mark };
+    ghost view = { λ l. live_of T.seen l.store l.others.items l.shared l.place l.mark l.begins.items };
 
-    ghost invariant = { λ l. IsLive T.seen l.store l.others.items l.shared l.place l.mark };
+    ghost invariant = { λ l. IsLive T.seen l.store l.others.items l.shared l.place l.mark l.begins.items };
 }
 
 impl<T: Tables> LiveGraph<T> {
@@ -50,11 +53,13 @@ impl<T: Tables> LiveGraph<T> {
         requires some { 0 < count }
         requires few { count < 2 ^ 32 }
         ensures graphs { IfOk result (λ l. graphs_of l ≡ replicate count empty_graph) }
+        ensures begins { IfOk result (λ l. begins_of l ≡ replicate count None) }
         ensures names { IfOk result (λ l. l.names ≡ []) }
         ensures unused { IfOk result (λ l. (owner : ℕ) → T.seen.is_unused owner l.tables) }
     {
         let shared = Shared::new(alloc, hasher, T::new_shared(alloc));
         let mut others = empty_stores(alloc, count)?;
+        let begins = no_begins(alloc, count)?;
         let mut store = Store::new(alloc, count as u32);
         swap(&mut store, &mut others[0]);
         let mark = store.mark(&shared);
@@ -64,6 +69,7 @@ impl<T: Tables> LiveGraph<T> {
             shared,
             place: 0,
             mark,
+            begins,
         })
     }
 
@@ -264,13 +270,18 @@ impl<T: Tables> LiveGraph<T> {
         self.store.undo(&mut self.shared, self.mark);
     }
 
-    /// Keeps what was done: from here on work begins anew. It takes no memory.
+    /// Keeps what was done: from here on work begins anew. An open transaction stays open, and can
+    /// still be rolled back. It takes no memory.
     pub fn commit(&mut self)
         ensures graph { self.new.graph ≡ self.old.graph }
         ensures names { self.new.names ≡ self.old.names }
         ensures grown { KeepsNames self.old.aside.names self.old.names }
         ensures begun { self.new.aside ≡ begun_at self.old.graph self.old.names self.old.aside }
     {
+        if self.begins[self.place].is_some() {
+            self.mark = self.store.mark(&self.shared);
+            return;
+        }
         self.store.commit(&mut self.shared);
         self.mark = self.store.mark(&self.shared);
     }
@@ -281,10 +292,10 @@ impl<T: Tables> LiveGraph<T> {
         ensures graphs { graphs_of self.new ≡ graphs_of self.old }
         ensures names { self.new.names ≡ self.old.names }
         ensures place { self.new.aside.place ≡ place }
+        ensures begins { begins_of self.new ≡ begins_of self.old }
         ensures begun { HasBegun self.new }
     {
-        swap(&mut self.store, &mut self.others[self.place]);
-        swap(&mut self.store, &mut self.others[place]);
+        exchange(&mut self.store, &mut self.others, self.place, place);
         self.place = place;
         self.mark = self.store.mark(&self.shared);
     }
@@ -292,6 +303,7 @@ impl<T: Tables> LiveGraph<T> {
     /// Keeps the nodes of a label by what they have under a key from now on. What was done so far is
     /// kept, and work begins anew. Or makes no index. An index that is there already stays.
     pub fn add_index(&mut self, alloc: Global, label: &str, key: &str) -> Result<(), AllocError>
+        requires closed { open_at self.old.aside ≡ None }
         ensures graph { self.new.graph ≡ self.old.graph }
         ensures names { OnErr result (self.new.names ≡ self.old.names) }
         ensures grown { KeepsNames self.old.names self.new.names }
@@ -304,6 +316,7 @@ impl<T: Tables> LiveGraph<T> {
 
     /// Keeps an index no longer. What was done so far is kept, and work begins anew. It takes no memory.
     pub fn drop_index(&mut self, label: &str, key: &str)
+        requires closed { open_at self.old.aside ≡ None }
         ensures graph { self.new.graph ≡ self.old.graph }
         ensures names { self.new.names ≡ self.old.names }
         ensures tables { self.new.tables ≡ self.old.tables }
@@ -323,4 +336,18 @@ fn empty_stores<T: Tables>(alloc: Global, count: usize) -> Result<Vec<Store<T>>,
         stores.push(Store::new(alloc, owner as u32))?;
     }
     Ok(stores)
+}
+
+// Puts the store at work back in its place, and takes that of another place.
+fn exchange<T: Tables>(store: &mut Store<T>, others: &mut Vec<Store<T>>, from: usize, to: usize)
+    requires from { from < length others.old.items }
+    requires to { to < length others.old.items }
+    ensures store { store.new ≡ slice_index_or (slice_set others.old.items from store.old) to store.new }
+    ensures others { others.new.items ≡ slice_set (slice_set others.old.items from store.old) to (slice_index_or others.old.items from store.old) }
+{
+    if from == to {
+        return;
+    }
+    swap(store, &mut others[from]);
+    swap(store, &mut others[to]);
 }

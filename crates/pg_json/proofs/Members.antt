@@ -1,5 +1,5 @@
 -- Members that are texts and parameters at the keys of a request.
-use Rattle.std.proofs.Common.{◌≡◌, ℕ, List, Bool, true, false, cond, Option, Some, None, option_map, refl, sym, ◌∙◌, ◌||◌}
+use Rattle.std.proofs.Common.{◌≡◌, ℕ, List, Bool, true, false, cond, Option, Some, None, option_map, refl, sym, ap, ◌∙◌, ◌||◌}
 use Rattle.std.proofs.lemmas.Slice.Eq.{bytes_eq-Decides}
 use Rattle.std.proofs.lemmas.Bool.{false≢true}
 use Rattle.std.specs.Prelude.{codes}
@@ -71,43 +71,50 @@ module _ (key s : List ℕ) (op : Option (List ℕ)) (ps : Option Entries) (text
       rw ((bytes_eq-Decides key (codes "token")).0 is) (sym (put_token s op ps text token))
 
 -- what is asked where an index request lacks a key
-abbrev by_name : List ℕ → (query status : Option Request) → Option Request
-by_name op query status =
-    cond (bytes_eq op (codes "query")) query (cond (bytes_eq op (codes "status")) status (cond (bytes_eq op (codes "create_index")) None (cond (bytes_eq op (codes "drop_index")) None None)))
+abbrev by_name : List ℕ → (query status begin commit rollback : Option Request) → Option Request
+by_name op query status begin commit rollback =
+    cond (bytes_eq op (codes "query")) query (cond (bytes_eq op (codes "status")) status (cond (bytes_eq op (codes "create_index")) None (cond (bytes_eq op (codes "drop_index")) None
+    (cond (bytes_eq op (codes "begin")) begin (cond (bytes_eq op (codes "commit")) commit (cond (bytes_eq op (codes "rollback")) rollback None))))))
 
-first_or_second : (a b c d : Bool) (x y : Option Request) → cond a x (cond b y (cond c None (cond d None None))) ≡ cond a x (cond b y None)
-first_or_second true b c d x y = refl
-first_or_second false true c d x y = refl
-first_or_second false false true d x y = refl
-first_or_second false false false true x y = refl
-first_or_second false false false false x y = refl
+either_way : (b : Bool) (x y : Option Request) → x ≡ y → cond b y x ≡ y
+either_way true x y e = refl
+either_way false x y e = e
 
-same_either : (a b : Bool) (x : Option Request) → cond a x (cond b x x) ≡ x
-same_either true b x = refl
-same_either false true x = refl
-same_either false false x = refl
-
-same_refused : (a b : Bool) (x : Option Request) → cond a x (cond b None None) ≡ cond a x None
-same_refused true b x = refl
-same_refused false true x = refl
-same_refused false false x = refl
-
-query_without_text : (op : List ℕ) (b : Bool) → bytes_eq op (codes "query") ≡ b → (x : Option Request) → cond b None (cond (bytes_eq op (codes "status")) x None) ≡ cond (bytes_eq op (codes "status")) x None
-query_without_text op true is x = rw ((bytes_eq-Decides op (codes "query")).0 is) refl
-query_without_text op false is x = refl
+unless_none : (b : Bool) (x : Option Request) → (b ≡ true → x ≡ None) → cond b None x ≡ x
+unless_none true x h = sym (h refl)
+unless_none false x h = refl
 
 module _ (op : List ℕ) where
-  query_or_status : (x y : Option Request) → by_name op x y ≡ cond (bytes_eq op (codes "query")) x (cond (bytes_eq op (codes "status")) y None)
-  query_or_status x y = first_or_second (bytes_eq op (codes "query")) (bytes_eq op (codes "status")) (bytes_eq op (codes "create_index")) (bytes_eq op (codes "drop_index")) x y
+  abbrev is_named : List ℕ → Bool
+  is_named name = bytes_eq op name
 
-  pub nothing_asked : by_name op None None ≡ None
-  nothing_asked = query_or_status None None ∙ same_either (bytes_eq op (codes "query")) (bytes_eq op (codes "status")) None
+  named : (name : List ℕ) → bytes_eq op name ≡ true → op ≡ name
+  named name = (bytes_eq-Decides op name).0
 
-  status_asked : (x : Option Request) → by_name op None x ≡ cond (bytes_eq op (codes "status")) x None
-  status_asked x = query_or_status None x ∙ query_without_text op (bytes_eq op (codes "query")) refl x
+  pub nothing_asked : by_name op None None None None None ≡ None
+  nothing_asked =
+      either_way (is_named (codes "query")) _ None (either_way (is_named (codes "status")) _ None (either_way (is_named (codes "create_index")) _ None (either_way (is_named (codes "drop_index")) _ None
+      (either_way (is_named (codes "begin")) _ None (either_way (is_named (codes "commit")) _ None (either_way (is_named (codes "rollback")) _ None refl))))))
 
-  query_asked : (x : Option Request) → by_name op x None ≡ cond (bytes_eq op (codes "query")) x None
-  query_asked x = query_or_status x None ∙ same_refused (bytes_eq op (codes "query")) (bytes_eq op (codes "status")) x
+  query_asked : (x : Option Request) → by_name op x None None None None ≡ cond (bytes_eq op (codes "query")) x None
+  query_asked x =
+      ap (cond (bytes_eq op (codes "query")) x) (either_way (is_named (codes "status")) _ None (either_way (is_named (codes "create_index")) _ None (either_way (is_named (codes "drop_index")) _ None
+      (either_way (is_named (codes "begin")) _ None (either_way (is_named (codes "commit")) _ None (either_way (is_named (codes "rollback")) _ None refl))))))
+
+  module _ (status begin commit rollback : Option Request) where
+    abbrev later : Option Request
+    later = cond (bytes_eq op (codes "begin")) begin (cond (bytes_eq op (codes "commit")) commit (cond (bytes_eq op (codes "rollback")) rollback None))
+
+    no_drop : cond (bytes_eq op (codes "drop_index")) None later ≡ later
+    no_drop = unless_none (bytes_eq op (codes "drop_index")) later (λ is. rw (named (codes "drop_index") is) refl)
+
+    no_index : cond (bytes_eq op (codes "create_index")) None (cond (bytes_eq op (codes "drop_index")) None later) ≡ later
+    no_index = unless_none (bytes_eq op (codes "create_index")) _ (λ is. rw (named (codes "create_index") is) refl) ∙ no_drop
+
+    alone_asked : by_name op None status begin commit rollback ≡ cond (bytes_eq op (codes "status")) status later
+    alone_asked =
+        unless_none (bytes_eq op (codes "query")) _ (λ is. rw (named (codes "query") is) refl)
+        ∙ ap (cond (bytes_eq op (codes "status")) status) no_index
 
 pub request_asked : (op : Option (List ℕ)) (ps : Option Entries) (text token : Option (List ℕ)) → HaveDepth ps → request_of (object (members_of_fields op ps text token)) ≡ asked op ps text token
 request_asked None None None None h = refl
@@ -123,7 +130,7 @@ request_asked (Some a) None (Some b) None h = nothing_asked a
 request_asked (Some a) (Some p) None None h = nothing_asked a
 request_asked (Some a) (Some p) (Some b) None h = nothing_asked a
 request_asked (Some a) (Some p) None (Some c) h = nothing_asked a
-request_asked (Some a) None None (Some c) h = status_asked a _
+request_asked (Some a) None None (Some c) h = alone_asked a _ _ _ _
 request_asked (Some a) None (Some b) (Some c) h = query_asked a _
 request_asked (Some a) (Some p) (Some b) (Some c) h = rw (parameters_back p h) (query_asked a _)
 

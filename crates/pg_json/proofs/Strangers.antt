@@ -11,7 +11,7 @@ use Rattle.json.specs.Json.{Parse, parse_map, read_key, members}
 use Rattle.serde_json.specs.Data.{Data, Members, no_members, member, put}
 use Rattle.serde_json.specs.Read.{of_json, of_members, converted}
 use Rattle.pg_json.specs.Fields.{AsksNothing, name_keys, text_keys}
-use Rattle.pg_json.specs.Requests.{has_only, is_one_of, query_keys, status_keys, index_keys, object_request, by_op, text_at}
+use Rattle.pg_json.specs.Requests.{has_only, is_one_of, query_keys, token_keys, index_keys, object_request, by_op, text_at}
 use Rattle.pg_json.proofs.Members.{nothing_asked}
 
 and_false : (a : Bool) → (a && false) ≡ false
@@ -49,17 +49,17 @@ put_strange names k d (member l e ms) h = either_strange names k l d e ms (put k
 
 -- each operation lacks one of these members' keys
 abbrev Foreign : Members → Type 0
-Foreign ms = (has_only query_keys ms ≡ false) × (has_only status_keys ms ≡ false) × (has_only index_keys ms ≡ false)
+Foreign ms = (has_only query_keys ms ≡ false) × (has_only token_keys ms ≡ false) × (has_only index_keys ms ≡ false)
 
 -- no operation has this key
 abbrev pub IsStrange : List ℕ → Type 0
-IsStrange k = (is_one_of query_keys k ≡ false) × (is_one_of status_keys k ≡ false) × (is_one_of index_keys k ≡ false)
+IsStrange k = (is_one_of query_keys k ≡ false) × (is_one_of token_keys k ≡ false) × (is_one_of index_keys k ≡ false)
 
 stays_foreign : (k : List ℕ) (d : Data) (ms : Members) → Foreign ms → Foreign (put k d ms)
-stays_foreign k d ms h = (put_keeps query_keys k d ms h.0, put_keeps status_keys k d ms h.1, put_keeps index_keys k d ms h.2)
+stays_foreign k d ms h = (put_keeps query_keys k d ms h.0, put_keeps token_keys k d ms h.1, put_keeps index_keys k d ms h.2)
 
 made_foreign : (k : List ℕ) (d : Data) (ms : Members) → IsStrange k → Foreign (put k d ms)
-made_foreign k d ms h = (put_strange query_keys k d ms h.0, put_strange status_keys k d ms h.1, put_strange index_keys k d ms h.2)
+made_foreign k d ms h = (put_strange query_keys k d ms h.0, put_strange token_keys k d ms h.1, put_strange index_keys k d ms h.2)
 
 no_request : (op : Option (List ℕ)) (ms : Members) → Foreign ms → option_and_then (λ o. by_op o ms) op ≡ None
 no_request None ms h = refl
@@ -80,7 +80,7 @@ with_rest : (r : List Token) (o : Option Members) → Nothing o → AsksNothing 
 with_rest r None h = tt
 with_rest r (Some ms) h = h
 
-few_keys : (k : List ℕ) → is_one_of query_keys k ≡ false → is_one_of status_keys k ≡ false
+few_keys : (k : List ℕ) → is_one_of query_keys k ≡ false → is_one_of token_keys k ≡ false
 few_keys k h = by_first (bytes_eq k (codes "op")) (bytes_eq k (codes "token")) (is_one_of (codes "text" ∷ codes "params" ∷ []) k) h
   where
     by_first : (a b c : Bool) → (a || (b || c)) ≡ false → (a || (b || false)) ≡ false

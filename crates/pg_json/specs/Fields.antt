@@ -1,4 +1,4 @@
--- The members of an object that has texts and parameters at the keys of a query or a status. For private clauses.
+-- The members of an object that has texts and parameters at the keys of a query, or of a request that shows a token alone. For private clauses.
 use Rattle.std.specs.Prelude.{◌≡◌, ℕ, ⊤, Bool, true, false, MatchOption, option_and_then, unwrap_or, List, [], ◌∷◌, Option, None, Some, option_map, if◌then◌else◌, codes}
 use Rattle.std.specs.Str.{bytes_eq}
 use Rattle.serde_json.specs.Data.{Data, Members, no_members, member, string, object}
@@ -6,13 +6,13 @@ use Rattle.pg_meaning.specs.Measure.{greatest_depth}
 use Rattle.pg_meaning.specs.Value.{Entries, no_entries}
 use Rattle.pg_value_core.specs.View.{entries_view}
 use Rattle.pg_json.specs.Given.{EntriesAreGiven, members_giving}
-use Rattle.pg_json.specs.Requests.{Request, query, status, request_of, object_request}
+use Rattle.pg_json.specs.Requests.{Request, query, status, begin, commit, rollback, request_of, object_request}
 use Rattle.pg_json.specs.declared.fields.Fields.{Fields}
 use Rattle.pg_json.specs.declared.fields.Glance.{Glance}
 use Rattle.pg_json.specs.declared.fields.Glance.TheVariants.{Fitting, NoRequest}
 use Rattle.json.specs.Token.{Token}
 
--- the keys at which a query or a status has texts
+-- the keys at which a query has texts; others that are told at a glance have some of them
 abbrev pub text_keys : List (List ℕ)
 text_keys = codes "op" ∷ codes "token" ∷ codes "text" ∷ []
 
@@ -44,12 +44,21 @@ members_with f = members_of_fields (option_map (λ s. s.now) f.op) (parameters_o
 abbrev pub HaveDepth : Option Entries → Type 0
 HaveDepth parameters = MatchOption parameters ⊤ (EntriesAreGiven greatest_depth)
 
+-- the request of this name that shows a token alone
+abbrev pub asked_alone : (op token : List ℕ) → Option Request
+asked_alone op token =
+    if bytes_eq op (codes "status") then Some (status token)
+    else if bytes_eq op (codes "begin") then Some (begin token)
+    else if bytes_eq op (codes "commit") then Some (commit token)
+    else if bytes_eq op (codes "rollback") then Some (rollback token)
+    else None
+
 -- the request at such texts and parameters
 abbrev pub asked : (op : Option (List ℕ)) (parameters : Option Entries) (text token : Option (List ℕ)) → Option Request
 asked None parameters text token = None
 asked (Some op) parameters text None = None
 asked (Some op) (Some es) None (Some token) = None
-asked (Some op) None None (Some token) = if bytes_eq op (codes "status") then Some (status token) else None
+asked (Some op) None None (Some token) = asked_alone op token
 asked (Some op) parameters (Some text) (Some token) = if bytes_eq op (codes "query") then Some (query token text (unwrap_or parameters no_entries)) else None
 
 abbrev pub asked_with : Fields → Option Request

@@ -1,12 +1,15 @@
 -- What each operation asks for. For private clauses.
 use Rattle.std.specs.Prelude.{Option}
 use Rattle.serde_json.specs.Data.{Members}
-use Rattle.pg_json.specs.Requests.{Request, create_index, drop_index, with_only, query_keys, query_of, status_keys, status_of, index_keys, index_of}
+use Rattle.pg_json.specs.Requests.{Request, status, create_index, drop_index, begin, commit, rollback, with_only, query_keys, query_of, token_keys, of_token, index_keys, index_of}
 use Rattle.pg_json.specs.declared.read.Operation.{Operation}
-use Rattle.pg_json.specs.declared.read.Operation.TheVariants.{Query, Status, CreateIndex, DropIndex}
+use Rattle.pg_json.specs.declared.read.Operation.TheVariants.{Query, Status, CreateIndex, DropIndex, Begin, Commit, Rollback}
 
 abbrev pub asked_by : Operation → Members → Option Request
 asked_by Query ms = with_only query_keys ms (query_of ms)
-asked_by Status ms = with_only status_keys ms (status_of ms)
+asked_by Status ms = with_only token_keys ms (of_token status ms)
 asked_by CreateIndex ms = with_only index_keys ms (index_of create_index ms)
 asked_by DropIndex ms = with_only index_keys ms (index_of drop_index ms)
+asked_by Begin ms = with_only token_keys ms (of_token begin ms)
+asked_by Commit ms = with_only token_keys ms (of_token commit ms)
+asked_by Rollback ms = with_only token_keys ms (of_token rollback ms)

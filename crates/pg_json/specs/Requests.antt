@@ -13,6 +13,19 @@ pub data Request : Type 0 where
   status : (token : List ℕ) → Request
   create_index : (token label key : List ℕ) → Request
   drop_index : (token label key : List ℕ) → Request
+  begin : (token : List ℕ) → Request
+  commit : (token : List ℕ) → Request
+  rollback : (token : List ℕ) → Request
+
+-- the token that a request shows
+abbrev pub token_of : Request → List ℕ
+token_of (query token text parameters) = token
+token_of (status token) = token
+token_of (create_index token label key) = token
+token_of (drop_index token label key) = token
+token_of (begin token) = token
+token_of (commit token) = token
+token_of (rollback token) = token
 
 -- the text at a key
 abbrev pub text_at : List ℕ → Members → Option (List ℕ)
@@ -49,11 +62,12 @@ query_of ms =
     option_and_then (λ token. option_and_then (λ text. option_map (λ parameters. query token text parameters) (parameters_given (get_member (codes "params") ms)))
     (text_at (codes "text") ms)) (text_at (codes "token") ms)
 
-abbrev pub status_keys : List (List ℕ)
-status_keys = codes "op" ∷ codes "token" ∷ []
+abbrev pub token_keys : List (List ℕ)
+token_keys = codes "op" ∷ codes "token" ∷ []
 
-abbrev pub status_of : Members → Option Request
-status_of ms = option_map (λ token. status token) (text_at (codes "token") ms)
+-- a request that names nothing but its token
+abbrev pub of_token : (List ℕ → Request) → Members → Option Request
+of_token request ms = option_map (λ token. request token) (text_at (codes "token") ms)
 
 abbrev pub index_keys : List (List ℕ)
 index_keys = codes "op" ∷ codes "token" ∷ codes "label" ∷ codes "key" ∷ []
@@ -71,9 +85,12 @@ with_only names ms r = if has_only names ms then r else None
 abbrev pub by_op : List ℕ → Members → Option Request
 by_op op ms =
     if bytes_eq op (codes "query") then with_only query_keys ms (query_of ms)
-    else if bytes_eq op (codes "status") then with_only status_keys ms (status_of ms)
+    else if bytes_eq op (codes "status") then with_only token_keys ms (of_token status ms)
     else if bytes_eq op (codes "create_index") then with_only index_keys ms (index_of create_index ms)
     else if bytes_eq op (codes "drop_index") then with_only index_keys ms (index_of drop_index ms)
+    else if bytes_eq op (codes "begin") then with_only token_keys ms (of_token begin ms)
+    else if bytes_eq op (codes "commit") then with_only token_keys ms (of_token commit ms)
+    else if bytes_eq op (codes "rollback") then with_only token_keys ms (of_token rollback ms)
     else None
 
 abbrev pub object_request : Members → Option Request

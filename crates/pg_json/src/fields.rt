@@ -4,7 +4,7 @@ ghost use Rattle.json.specs.Json.{members, value};
 ghost use Rattle.serde_json.specs.Data.{string, put};
 ghost use Rattle.serde_json.specs.Read.{read, of_members, converted};
 ghost use Rattle.pg_json.specs.Bodies.{request_view};
-ghost use Rattle.pg_json.specs.Fields.{members_with, object_giving, parameters_of, asked_with, name_keys, text_keys, HaveDepth, IsGlance, IsGlanceOfMembers};
+ghost use Rattle.pg_json.specs.Fields.{members_with, object_giving, parameters_of, asked_alone, asked_with, name_keys, text_keys, HaveDepth, IsGlance, IsGlanceOfMembers};
 ghost use Rattle.pg_json.specs.Requests.{is_one_of};
 ghost use Rattle.pg_value_core.specs.View.{entries_view};
 ghost use Rattle.pg_meaning.specs.declared.fault.Fault.TheVariants.{BadRequest, OutOfMemory};
@@ -30,7 +30,7 @@ pub(crate) struct Fields<'a> {
 /// What is seen of a body at a glance.
 #[derive(Drop)]
 pub(crate) enum Glance<'a> {
-    /// One object that has at the keys of a query or a status what they may have, and no other key.
+    /// One object that has at the keys of a query what they may have, and no other key.
     Fitting(Fields<'a>),
     NoRequest,
 }
@@ -152,9 +152,34 @@ pub(crate) fn request_with(alloc: Global, found: Fields<'_>) -> Result<RequestBo
             text: String::from_str(alloc, text)?,
             parameters: Parameters::from_map(parameters.unwrap_or(BTreeMap::new(alloc))),
         }),
-        None if op == "status" && parameters.is_none() => Ok(RequestBody::Status {
-            token: String::from_str(alloc, token)?,
-        }),
+        None if parameters.is_none() => request_alone(alloc, op, token),
         _ => Err(Fault::BadRequest),
+    }
+}
+
+/// The request of this name that shows a token alone.
+fn request_alone(alloc: Global, op: &str, token: &str) -> Result<RequestBody, Fault>
+    ensures ok { IfOk result (λ r. asked_alone op.now token.now ≡ Some (request_view r)) }
+    ensures kind { IfErr result (λ e. e ≢ OutOfMemory → e ≡ BadRequest) }
+    ensures refused { IfErr result (λ e. e ≢ OutOfMemory → asked_alone op.now token.now ≡ None) }
+{
+    if op == "status" {
+        Ok(RequestBody::Status {
+            token: String::from_str(alloc, token)?,
+        })
+    } else if op == "begin" {
+        Ok(RequestBody::Begin {
+            token: String::from_str(alloc, token)?,
+        })
+    } else if op == "commit" {
+        Ok(RequestBody::Commit {
+            token: String::from_str(alloc, token)?,
+        })
+    } else if op == "rollback" {
+        Ok(RequestBody::Rollback {
+            token: String::from_str(alloc, token)?,
+        })
+    } else {
+        Err(Fault::BadRequest)
     }
 }

@@ -4,7 +4,7 @@ ghost use Rattle.serde_json.specs.Read.{read};
 ghost use Rattle.serde_json.specs.View.{view, members_view};
 ghost use Rattle.serde_json.specs.Find.{as_object, get_member};
 ghost use Rattle.pg_json.specs.Parameters.{parameters_in as spec_parameters_in};
-ghost use Rattle.pg_json.specs.Requests.{meaning, request_of, object_request, parameters_given, query_of, status_of, index_of, query_keys, status_keys, index_keys, with_only, name_at, Request, text_at as spec_text_at, has_only as spec_has_only, is_one_of as spec_is_one_of};
+ghost use Rattle.pg_json.specs.Requests.{meaning, request_of, object_request, parameters_given, query_of, of_token, index_of, query_keys, token_keys, index_keys, with_only, name_at, Request, text_at as spec_text_at, has_only as spec_has_only, is_one_of as spec_is_one_of};
 ghost use Rattle.pg_json.specs.Bodies.{request_view};
 ghost use Rattle.pg_json.specs.Operations.{asked_by};
 ghost use Rattle.pg_value_core.specs.View.{entries_view};
@@ -67,7 +67,10 @@ fn object_from(alloc: Global, members: Map<String, Value>) -> Result<RequestBody
 {
     match operation_of(&members) {
         Some(Operation::Query) => query_from(alloc, members),
-        Some(Operation::Status) => status_from(members),
+        Some(Operation::Status) => {
+            let token = token_from(members)?;
+            Ok(RequestBody::Status { token })
+        }
         Some(Operation::CreateIndex) => {
             let IndexNames { token, label, key } = index_names_from(members)?;
             Ok(RequestBody::CreateIndex { token, label, key })
@@ -75,6 +78,18 @@ fn object_from(alloc: Global, members: Map<String, Value>) -> Result<RequestBody
         Some(Operation::DropIndex) => {
             let IndexNames { token, label, key } = index_names_from(members)?;
             Ok(RequestBody::DropIndex { token, label, key })
+        }
+        Some(Operation::Begin) => {
+            let token = token_from(members)?;
+            Ok(RequestBody::Begin { token })
+        }
+        Some(Operation::Commit) => {
+            let token = token_from(members)?;
+            Ok(RequestBody::Commit { token })
+        }
+        Some(Operation::Rollback) => {
+            let token = token_from(members)?;
+            Ok(RequestBody::Rollback { token })
         }
         None => Err(Fault::BadRequest),
     }
@@ -87,6 +102,9 @@ enum Operation {
     Status,
     CreateIndex,
     DropIndex,
+    Begin,
+    Commit,
+    Rollback,
 }
 
 /// The operation that the members name.
@@ -102,6 +120,12 @@ fn operation_of(members: &Map<String, Value>) -> Option<Operation>
         Some(Operation::CreateIndex)
     } else if op == "drop_index" {
         Some(Operation::DropIndex)
+    } else if op == "begin" {
+        Some(Operation::Begin)
+    } else if op == "commit" {
+        Some(Operation::Commit)
+    } else if op == "rollback" {
+        Some(Operation::Rollback)
     } else {
         None
     }
@@ -156,10 +180,11 @@ fn parameters_in(alloc: Global, given: &Value) -> Result<BTreeMap<String, Parame
     }
 }
 
-fn status_from(mut members: Map<String, Value>) -> Result<RequestBody, Fault>
-    ensures ok { IfOk result (λ r. with_only status_keys (members_view members.entries) (status_of (members_view members.entries)) ≡ Some (request_view r)) }
+/// The token of a request that names nothing else.
+fn token_from(mut members: Map<String, Value>) -> Result<String, Fault>
+    ensures ok { (request : List ℕ → Request) → IfOk result (λ token. with_only token_keys (members_view members.entries) (of_token request (members_view members.entries)) ≡ Some (request (string_bytes token))) }
     ensures kind { IfErr result (λ e. e ≡ BadRequest) }
-    ensures refused { IfErr result (λ e. with_only status_keys (members_view members.entries) (status_of (members_view members.entries)) ≡ None) }
+    ensures refused { (request : List ℕ → Request) → IfErr result (λ e. with_only token_keys (members_view members.entries) (of_token request (members_view members.entries)) ≡ None) }
 {
     if !has_only(&members, &["op", "token"]) {
         return Err(Fault::BadRequest);
@@ -167,7 +192,7 @@ fn status_from(mut members: Map<String, Value>) -> Result<RequestBody, Fault>
     let Some(token) = take_text(&mut members, "token") else {
         return Err(Fault::BadRequest);
     };
-    Ok(RequestBody::Status { token })
+    Ok(token)
 }
 
 /// What a request about an index names.

@@ -22,12 +22,3 @@ returns-in_err-from_str-in-Some-text-2-clause-kind c = fault_passed (λ e. e ≢
 
 pub returns-in_err-from_str-in-Some-text-2-clause-refused : goal.returns-in_err-from_str-in-Some-text-2-clause-refused
 returns-in_err-from_str-in-Some-text-2-clause-refused c = fault_passed (λ e. e ≢ OutOfMemory → asked_with c.args.found ≡ None) OutOfMemory c.from_residual-in_err-from_str-in-Some-text-2.result c.from_residual-in_err-from_str-in-Some-text-2.ensures.1 (λ other. absurd (other refl))
-
-pub returns-in_err-from_str-in-None-clause-ok : goal.returns-in_err-from_str-in-None-clause-ok
-returns-in_err-from_str-in-None-clause-ok c = IfOk-from_err c.from_residual-in_err-from_str-in-None.result _ c.from_residual-in_err-from_str-in-None.ensures.0
-
-pub returns-in_err-from_str-in-None-clause-kind : goal.returns-in_err-from_str-in-None-clause-kind
-returns-in_err-from_str-in-None-clause-kind c = fault_passed (λ e. e ≢ OutOfMemory → e ≡ BadRequest) OutOfMemory c.from_residual-in_err-from_str-in-None.result c.from_residual-in_err-from_str-in-None.ensures.1 (λ other. absurd (other refl))
-
-pub returns-in_err-from_str-in-None-clause-refused : goal.returns-in_err-from_str-in-None-clause-refused
-returns-in_err-from_str-in-None-clause-refused c = fault_passed (λ e. e ≢ OutOfMemory → asked_with c.args.found ≡ None) OutOfMemory c.from_residual-in_err-from_str-in-None.result c.from_residual-in_err-from_str-in-None.ensures.1 (λ other. absurd (other refl))

@@ -8,7 +8,7 @@ use Rattle.serde_json.specs.Read.{read}
 use Rattle.pg_server.specs.declared.config_fault.ConfigFault.TheVariants.{NotJson}
 use Rattle.pg_server.specs.Configuration.{configuration, json_of, then_read, or_fault, settings_of_data, tenant_in_range, tenants_in_range}
 use Rattle.pg_server.specs.Draft.{TenantDraft}
-use Rattle.pg_server.specs.Settings.{TenantSettings}
+use Rattle.pg_tenant.specs.Settings.{TenantSettings}
 
 none_unless : {A : Type 0} (b : Bool) (o : Option A) → (b ≡ true → ⊥) → cond b o None ≡ None
 none_unless true o h = absurd (h refl)

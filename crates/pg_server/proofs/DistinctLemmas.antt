@@ -5,7 +5,8 @@ use Rattle.std.proofs.lemmas.Bool.{cases_lt}
 use Rattle.std.proofs.lemmas.Slice.Eq.{bytes_eq-Decides}
 use Rattle.pg_meaning.specs.Names.{is_among}
 use Rattle.pg_value.specs.Texts.{comes_again}
-use Rattle.pg_server.specs.Settings.{TenantSettings, all_tokens, token_texts}
+use Rattle.pg_server.specs.Settings.{all_tokens}
+use Rattle.pg_tenant.specs.Settings.{TenantSettings, token_texts}
 
 or_false : (a b : Bool) → a || b ≡ false → (a ≡ false) × (b ≡ false)
 or_false true b h = cc

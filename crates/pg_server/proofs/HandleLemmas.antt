@@ -7,7 +7,7 @@ use Rattle.pg_json.specs.Refusals.{refusal_text}
 use Rattle.pg_json.specs.Requests.{Request, meaning}
 use Rattle.pg_meaning.specs.declared.fault.Fault.{Fault}
 use Rattle.pg_meaning.specs.declared.fault.Fault.TheVariants.{BadRequest, OutOfMemory}
-use Rattle.pg_server.specs.Handles.{AddsNames, Handles, LooksUp, key_asked}
+use Rattle.pg_server.specs.Handles.{Handles, key_asked}
 use Rattle.pg_server.specs.Runs.{Means, asked, is_short, is_want_of_memory}
 use Rattle.pg_server.specs.Settings.{all_tokens}
 use Rattle.pg_server.specs.State.{ServerState, settings_of, state_at}
@@ -15,6 +15,8 @@ use Rattle.pg_server.specs.Step.{Answers}
 use Rattle.pg_server.proofs.LookUpLemmas.{capacity_kept, nothing_looked_up}
 use Rattle.pg_server.proofs.NameLemmas.{names_stay}
 use Rattle.pg_server.proofs.StepLemmas.{answered, asked_is, unread}
+use Rattle.pg_tenant.specs.LookUps.{LooksUp}
+use Rattle.pg_tenant.specs.Step.{AddsNames}
 use Rattle.pg_value.specs.Texts.{comes_again}
 
 -- a request that was read

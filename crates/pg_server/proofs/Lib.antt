@@ -9,7 +9,6 @@ pub mod HoldLemmas
 pub mod InstanceLemmas
 pub mod LookUpLemmas
 pub mod NameLemmas
-pub mod PlanLemmas
 pub mod ReadingLemmas
 pub mod RefusalLemmas
 pub mod ReplyLemmas
@@ -21,3 +20,6 @@ pub mod SoloLemmas
 pub mod StepLemmas
 pub mod TenantLemmas
 pub mod TokenLemmas
+pub mod TransactionInstances
+pub mod TransactionLemmas
+pub mod TurnLemmas

@@ -7,7 +7,8 @@ use Rattle.pg_meaning.specs.declared.fault.Fault.{Fault}
 use Rattle.pg_server.specs.Exchange.{Exchange}
 use Rattle.pg_server.specs.Handles.{RefusalsKeepAll}
 use Rattle.pg_server.specs.Runs.{Runs, SoloRun, shows_one_of, asked, is_want_of_memory}
-use Rattle.pg_server.specs.State.{State, ServerState, state_at, tokens_of, no_state}
+use Rattle.pg_server.specs.State.{ServerState, state_at}
+use Rattle.pg_tenant.specs.State.{State, no_state, tokens_of}
 use Rattle.pg_server.proofs.ReplyLemmas.{refusals_keep}
 
 module _ (old new : ServerState) (body : List ℕ) (fault : Fault) (run : Runs old (record { body = body; reply = refusal_text fault } ∷ []) new) where

@@ -7,9 +7,10 @@ use Rattle.pg_server.specs.Handles.{Handles}
 use Rattle.pg_server.specs.Runs.{SoloRun, Runs, AnswersStrangers, IsStrangers, own, shows_one_of, asked}
 use Rattle.pg_server.specs.Served.{Served}
 use Rattle.pg_server.specs.Serves.{Serves}
-use Rattle.pg_server.specs.Settings.{TenantSettings, token_texts}
-use Rattle.pg_server.specs.Solo.{solo}
-use Rattle.pg_server.specs.State.{State, ServerState, ServerSeen, state_at, tokens_of, settings_of, no_settings, no_state, opening}
+use Rattle.pg_server.specs.State.{ServerState, ServerSeen, state_at, settings_of}
+use Rattle.pg_tenant.specs.Settings.{TenantSettings, no_settings, token_texts}
+use Rattle.pg_tenant.specs.Solo.{solo}
+use Rattle.pg_tenant.specs.State.{State, no_state, opening, tokens_of}
 
 pub Runs-refl : (s : ServerState) → Runs s [] s
 Runs-refl s = record { cache = refl; settings = refl; strangers = tt; solo = λ t. refl }

@@ -10,11 +10,12 @@ use Rattle.pg_json.specs.Refusals.{done_text}
 use Rattle.pg_meaning.specs.declared.fault.Fault.TheVariants.{OutOfMemory}
 use Rattle.pg_server.specs.Exchange.{Exchange, Chain}
 use Rattle.pg_server.specs.Frames.{frame, body_limit, IsPartial, IsTooLong}
-use Rattle.pg_server.specs.Handles.{Handles, LooksUp}
+use Rattle.pg_server.specs.Handles.{Handles}
 use Rattle.pg_server.specs.InstancesOfServing.{InstancesOfFrames, InstancesOfEnds, InstancesOfFailedWrites, RunsOfNoFrame, InstancesOfKeys, InstancesOfLookUps, longest, once, written, has_more, key, cache_of}
 use Rattle.pg_server.specs.Runs.{Runs}
 use Rattle.pg_server.specs.Served.{Ends, Served, frames}
 use Rattle.pg_server.specs.State.{ServerState, fresh_cache}
+use Rattle.pg_tenant.specs.LookUps.{LooksUp}
 use Rattle.pg_server.specs.declared.end.End.TheVariants.{Done, WriteFailed}
 
 nothing_is_something : {X : Type 0} (x : X) (xs : List X) → [] ≡ x ∷ xs → ⊥

@@ -2,8 +2,8 @@
 use Rattle.std.proofs.Common.{◌≡◌, List, [], ◌∷◌, Some, refl, sym, ap₂, ◌∙◌}
 use Rattle.pg_server.specs.Exchange.{Exchange, replies_of}
 use Rattle.pg_server.specs.Runs.{SoloRun, TwoWorlds, requests_of, asked}
-use Rattle.pg_server.specs.Solo.{solo}
-use Rattle.pg_server.specs.State.{State}
+use Rattle.pg_tenant.specs.Solo.{solo}
+use Rattle.pg_tenant.specs.State.{State}
 
 solo_alike : (s s' : State) (es es' : List Exchange) (n n' : State) → SoloRun s es n → SoloRun s' es' n' → s ≡ s' → requests_of es ≡ requests_of es'
     → (replies_of es ≡ replies_of es') × (n ≡ n')

@@ -10,21 +10,24 @@ use Rattle.std.proofs.lemmas.List.Quantifiers.{position-Some}
 use Rattle.std.proofs.lemmas.List.Sums.{fails_before_first}
 use Rattle.std.proofs.lemmas.Slice.Eq.{bytes_eq-Decides}
 use Rattle.pg_json.specs.Refusals.{refusal_text}
-use Rattle.pg_json.specs.Requests.{Request, query, status, create_index, drop_index, meaning}
+use Rattle.pg_json.specs.Requests.{Request, query, status, create_index, drop_index, begin, commit, rollback, token_of, meaning}
 use Rattle.pg_meaning.specs.Graph.{IsGraph}
 use Rattle.pg_meaning.specs.declared.fault.Fault.{Fault}
 use Rattle.pg_meaning.specs.declared.fault.Fault.TheVariants.{BadRequest, UnknownToken, OutOfMemory}
 use Rattle.pg_server.specs.Exchange.{Exchange}
-use Rattle.pg_server.specs.Runs.{Runs, SoloRun, Means, IsStrangers, IsStrangersReply, own, asked, token_of, shows_one_of, is_short, is_want_of_memory, fault_of_request}
+use Rattle.pg_server.specs.Runs.{Runs, SoloRun, Means, IsStrangers, IsStrangersReply, own, asked, shows_one_of, is_short, is_want_of_memory, fault_of_request}
 use Rattle.pg_meaning.specs.Names.{is_among}
 use Rattle.pg_value.specs.Texts.{comes_again}
-use Rattle.pg_server.specs.Settings.{all_tokens, token_texts}
-use Rattle.pg_server.specs.Solo.{solo}
-use Rattle.pg_server.specs.State.{State, ServerState, state_at, tokens_of, settings_of, no_state, no_settings}
+use Rattle.pg_server.specs.Settings.{all_tokens}
+use Rattle.pg_server.specs.State.{ServerState, state_at, settings_of}
 use Rattle.pg_server.specs.Step.{Answers, StepAt, place_of}
 use Rattle.pg_server.proofs.DistinctLemmas.{others_lack}
-use Rattle.pg_server.proofs.ReplyLemmas.{settings_stay, refused_keeps}
+use Rattle.pg_server.proofs.ReplyLemmas.{refused_keeps}
 use Rattle.pg_server.proofs.RunLemmas.{settings_at}
+use Rattle.pg_tenant.proofs.KeptLemmas.{settings_stay}
+use Rattle.pg_tenant.specs.Settings.{no_settings, token_texts}
+use Rattle.pg_tenant.specs.Solo.{solo}
+use Rattle.pg_tenant.specs.State.{State, no_state, tokens_of}
 use Rattle.pg_tenant.proofs.OutcomeLemmas.{text_means}
 
 none_passes : {X : Type 0} (p : X → Bool) (xs : List X) (k : ℕ) (d : X) → position p xs ≡ None → p d ≡ false → p (get_or xs k d) ≡ false
@@ -160,6 +163,9 @@ means_of s (query token text parameters) is = λ q h given. text_means s.setting
 means_of s (status token) is = tt
 means_of s (create_index token label key) is = tt
 means_of s (drop_index token label key) is = tt
+means_of s (begin token) is = tt
+means_of s (commit token) is = tt
+means_of s (rollback token) is = tt
 
 -- a body that isn't read
 pub unread : (server : ServerState) (body reply : List ℕ) (e : Fault) → is_short body ≡ true → reply ≡ refusal_text e → (e ≢ OutOfMemory → e ≡ BadRequest)

@@ -3,7 +3,7 @@ use Rattle.std.proofs.Common.{◌≡◌, ℕ, suc, ◌+◌, ◌<◌, List, ◌�
 use Rattle.std.specs.Prelude.{◌||◌}
 use Rattle.pg_meaning.specs.Names.{is_among}
 use Rattle.pg_names.proofs.Interned.{equal_bytes, same_bytes}
-use Rattle.pg_server.specs.Settings.{TenantSettings, TokenSettings}
+use Rattle.pg_tenant.specs.Settings.{TenantSettings, TokenSettings}
 use Rattle.pg_server.specs.Tokens.{tenant_of}
 
 -- where the first tenant with a token stands, of those from a place on

@@ -5,7 +5,8 @@ use Rattle.serde_json.specs.Data.{Data}
 use Rattle.serde_json.specs.Read.{read}
 use Rattle.pg_server.specs.declared.config_fault.ConfigFault.{ConfigFault}
 use Rattle.pg_server.specs.declared.config_fault.ConfigFault.TheVariants.{NotJson, WrongShape, OutOfRange, TokenTwice}
-use Rattle.pg_server.specs.Settings.{Settings, TenantSettings, max_quota, all_tokens}
+use Rattle.pg_server.specs.Settings.{Settings, max_quota, all_tokens}
+use Rattle.pg_tenant.specs.Settings.{TenantSettings}
 use Rattle.pg_value.specs.Texts.{comes_again}
 use Rattle.pg_server.specs.Draft.{Draft, TenantDraft, draft_of}
 

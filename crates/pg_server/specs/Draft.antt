@@ -3,9 +3,9 @@ use Rattle.std.specs.Prelude.{ℕ, ℤ, List, [], ◌∷◌, Bool, false, bytes_
 use Rattle.serde_json.specs.Data.{Data, Items, no_items, item, Members}
 use Rattle.serde_json.specs.Find.{get, as_number, as_i64, as_str, as_array, as_object}
 use Rattle.pg_json.specs.Requests.{has_only}
-use Rattle.pg_server.specs.declared.settings.Rights.{Rights}
-use Rattle.pg_server.specs.declared.settings.Rights.TheVariants.{Read, Write}
-use Rattle.pg_server.specs.Settings.{TokenSettings}
+use Rattle.pg_tenant.specs.Settings.{TokenSettings}
+use Rattle.pg_tenant.specs.declared.settings.Rights.{Rights}
+use Rattle.pg_tenant.specs.declared.settings.Rights.TheVariants.{Read, Write}
 
 pub record TenantDraft : Type 0 where
   pub max_steps : ℤ

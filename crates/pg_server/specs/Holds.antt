@@ -1,6 +1,7 @@
 -- What tenants hold over the names and the part of the tables that all of them share.
-use Rattle.std.specs.Prelude.{◌≡◌, ℕ, ◌<◌, length}
+use Rattle.std.specs.Prelude.{◌≡◌, ℕ, ◌<◌, length, IfSome}
 use Rattle.pg_graph.specs.Content.{Seen}
+use Rattle.pg_live.specs.Held.{GoesBackTo}
 use Rattle.pg_server.specs.State.{ServerSeen, state_at}
 use Rattle.pg_store.specs.Stores.{graph_of_store, IsFit}
 use Rattle.pg_store.specs.declared.shared.Shared.{Shared}
@@ -17,6 +18,8 @@ pub record HoldsTenant {T S : Type 0} (seen : Seen T S) (server : ServerSeen S) 
   pub own : seen.owner store.tables ≡ place
   pub fit : IsFit seen store (shared_of {K = Unit {0}} server)
   pub graph : graph_of_store seen store (shared_of {K = Unit {0}} server) ≡ (state_at server.state place).graph
+  -- and that of the begin of the open transaction is one that the store can be taken back to
+  pub back : IfSome (state_at server.state place).transaction (λ t. GoesBackTo seen store (shared_of {K = Unit {0}} server) t.begun)
 
 abbrev pub HoldTenants : {T S : Type 0} → Seen T S → ServerSeen S → Type 0
 HoldTenants seen server = (place : ℕ) → place < length server.state.tenants → HoldsTenant seen server place

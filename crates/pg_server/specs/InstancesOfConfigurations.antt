@@ -7,7 +7,7 @@ use Rattle.pg_server.specs.Configuration.{configuration, settings_of_data, setti
 use Rattle.pg_server.specs.Draft.{TenantDraft, draft_of}
 use Rattle.pg_server.specs.InstancesOfRuns.{token, draft, settings}
 use Rattle.pg_server.specs.declared.config_fault.ConfigFault.TheVariants.{NotJson, WrongShape, OutOfRange, TokenTwice}
-use Rattle.pg_server.specs.declared.settings.Rights.TheVariants.{Write}
+use Rattle.pg_tenant.specs.declared.settings.Rights.TheVariants.{Write}
 
 abbrev pub natural : ℕ → Data
 natural n = number (unsigned n)

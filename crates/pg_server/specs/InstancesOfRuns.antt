@@ -7,11 +7,15 @@ use Rattle.pg_server.specs.Configuration.{settings_of_draft}
 use Rattle.pg_server.specs.Draft.{Draft}
 use Rattle.pg_server.specs.Exchange.{Exchange}
 use Rattle.pg_server.specs.Runs.{Runs, asked}
-use Rattle.pg_server.specs.Settings.{Settings, TenantSettings, TokenSettings}
-use Rattle.pg_server.specs.Solo.{limited, status_text}
-use Rattle.pg_server.specs.State.{ServerState, opening, opening_server}
+use Rattle.pg_server.specs.Settings.{Settings}
+use Rattle.pg_server.specs.State.{ServerState, opening_server}
 use Rattle.pg_server.specs.declared.config_fault.ConfigFault.TheVariants.{OutOfRange, TokenTwice}
-use Rattle.pg_server.specs.declared.settings.Rights.TheVariants.{Read}
+use Rattle.pg_tenant.specs.Answers.{limited}
+use Rattle.pg_tenant.specs.Settings.{TenantSettings, TokenSettings}
+use Rattle.pg_tenant.specs.Solo.{status_text}
+use Rattle.pg_tenant.specs.State.{opening}
+use Rattle.pg_tenant.specs.Step.{reply_of}
+use Rattle.pg_tenant.specs.declared.settings.Rights.TheVariants.{Read}
 
 abbrev pub token : List ℕ → TokenSettings
 token text = record { text = text; rights = Read }
@@ -33,7 +37,7 @@ EmptyRuns = (old new : ServerState) → (new ≡ old → Runs old [] new) × (Ru
 abbrev pub StatusRuns : Type 0
 StatusRuns =
     (body reply : List ℕ) (new : ServerState) → asked body ≡ Some (status (codes "a")) → Runs one_reader (told body reply) new
-    → (reply ≡ limited (status_text (opening reader))) ⊎ (reply ≡ refusal_text OutOfMemory)
+    → (reply ≡ reply_of (limited (status_text (opening reader)))) ⊎ (reply ≡ refusal_text OutOfMemory)
 
 abbrev pub draft : ℤ → ℤ → ℤ → List TokenSettings → Draft
 draft cache steps elements tokens = record { cache = cache; tenants = record { max_steps = steps; max_elements = elements; tokens = tokens } ∷ [] }

@@ -11,12 +11,14 @@ use Rattle.pg_plan.specs.Reading.{greatest_text}
 use Rattle.pg_server.specs.Counts.{next_count}
 use Rattle.pg_server.specs.Exchange.{Exchange}
 use Rattle.pg_server.specs.Frames.{frame, IsPartial, IsTooLong}
-use Rattle.pg_server.specs.Handles.{LooksUp, key_asked}
+use Rattle.pg_server.specs.Handles.{key_asked}
 use Rattle.pg_server.specs.InstancesOfRuns.{reader, token, told}
 use Rattle.pg_server.specs.Runs.{is_short}
 use Rattle.pg_server.specs.Served.{Ends, frames, too_long_reply}
 use Rattle.pg_server.specs.Serves.{Serves}
-use Rattle.pg_server.specs.State.{State, ServerState, opening, fresh_cache}
+use Rattle.pg_server.specs.State.{ServerState, fresh_cache}
+use Rattle.pg_tenant.specs.LookUps.{LooksUp}
+use Rattle.pg_tenant.specs.State.{State, opening}
 use Rattle.pg_server.specs.declared.end.End.{End}
 use Rattle.pg_server.specs.declared.end.End.TheVariants.{Done, Cut, TooLong, ReadFailed, WriteFailed, NoMemory}
 
@@ -97,7 +99,7 @@ one_tenant = opening reader ∷ []
 abbrev pub two_tenants : List State
 two_tenants =
     opening reader
-    ∷ record { settings = record { max_steps = 3; max_elements = 2; tokens = token (codes "b") ∷ [] }; graph = empty_graph; indexes = (codes "P", codes "k") ∷ [] }
+    ∷ record { settings = record { max_steps = 3; max_elements = 2; tokens = token (codes "b") ∷ [] }; graph = empty_graph; indexes = (codes "P", codes "k") ∷ []; transaction = None }
     ∷ []
 
 abbrev pub key : Key

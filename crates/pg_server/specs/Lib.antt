@@ -12,14 +12,15 @@ pub mod InstancesOfConfigurations
 pub mod InstancesOfRequests
 pub mod InstancesOfRuns
 pub mod InstancesOfServing
+pub mod InstancesOfTransactions
 pub mod Runs
 pub mod Served
 pub mod Serves
 pub mod Settings
-pub mod Solo
 pub mod State
 pub mod StateCode
 pub mod Step
 pub mod Tenants
 pub mod Tokens
+pub mod Transactions
 pub mod Wire

@@ -1,7 +1,7 @@
 -- Own, SoloRun and Runs: how exchanges with a server are a run of each tenant alone.
 use Rattle.std.specs.Prelude.{◌≡◌, ℕ, ◌⊎◌, Bool, true, false, ◌&&◌, not, nat_le, List, [], ◌∷◌, length, map, filter, Option, Some, None, Ok, if◌then◌else◌, bytes_eq}
 use Rattle.pg_json.specs.Refusals.{refusal_text}
-use Rattle.pg_json.specs.Requests.{Request, query, status, create_index, drop_index, meaning}
+use Rattle.pg_json.specs.Requests.{Request, query, status, create_index, drop_index, begin, commit, rollback, token_of, meaning}
 use Rattle.pg_meaning.specs.Agreement.{OutcomeAgrees}
 use Rattle.pg_meaning.specs.Queries.{answer_of}
 use Rattle.pg_meaning.specs.Tree.{Query}
@@ -10,9 +10,10 @@ use Rattle.pg_meaning.specs.declared.fault.Fault.TheVariants.{FrameTooLong, BadR
 use Rattle.pg_server.specs.Exchange.{Exchange, replies_of}
 use Rattle.pg_server.specs.Frames.{body_limit}
 use Rattle.pg_meaning.specs.Names.{is_among}
-use Rattle.pg_server.specs.Solo.{solo}
+use Rattle.pg_server.specs.State.{ServerState, state_at, settings_of}
 use Rattle.pg_tenant.specs.Outcomes.{text_query, are_given}
-use Rattle.pg_server.specs.State.{State, ServerState, state_at, tokens_of, settings_of}
+use Rattle.pg_tenant.specs.Solo.{solo}
+use Rattle.pg_tenant.specs.State.{State, tokens_of}
 
 -- ---- one tenant alone
 
@@ -22,12 +23,6 @@ is_short body = nat_le (length body) body_limit
 -- the request that a body is, where it isn't too long and is one
 abbrev pub asked : List ℕ → Option Request
 asked body = if is_short body then meaning body else None
-
-abbrev pub token_of : Request → List ℕ
-token_of (query token text parameters) = token
-token_of (status token) = token
-token_of (create_index token label key) = token
-token_of (drop_index token label key) = token
 
 -- the request has one of these tokens
 abbrev pub shows_one_of : List (List ℕ) → Option Request → Bool
@@ -49,6 +44,9 @@ Means old (query token text parameters) =
 Means old (status token) = Unit {0}
 Means old (create_index token label key) = Unit {0}
 Means old (drop_index token label key) = Unit {0}
+Means old (begin token) = Unit {0}
+Means old (commit token) = Unit {0}
+Means old (rollback token) = Unit {0}
 
 -- the tenant alone answers these requests with these replies, which their meaning gives, and ends in this state
 abbrev pub SoloRun : State → List Exchange → State → Type 0

@@ -1,17 +1,13 @@
 -- What one request does to a server, by the place of the tenant that has its token.
 use Rattle.std.specs.Prelude.{◌≡◌, ◌≢◌, ℕ, ◌⊎◌, List, Option, Some, None, Result, Ok, Err, position, slice_set}
 use Rattle.pg_json.specs.Refusals.{refusal_text}
-use Rattle.pg_json.specs.Requests.{Request}
-use Rattle.pg_meaning.specs.Value.{Entries}
+use Rattle.pg_json.specs.Requests.{Request, token_of}
+use Rattle.pg_meaning.specs.Names.{is_among}
 use Rattle.pg_meaning.specs.declared.fault.Fault.{Fault}
 use Rattle.pg_meaning.specs.declared.fault.Fault.TheVariants.{UnknownToken, OutOfMemory}
-use Rattle.pg_plan.specs.declared.plan.Plan.{Plan}
-use Rattle.pg_server.specs.Runs.{token_of}
-use Rattle.pg_meaning.specs.Names.{is_among}
-use Rattle.pg_server.specs.Solo.{Replied, solo, may_write, with_graph}
-use Rattle.pg_server.specs.State.{State, state_in, tokens_of}
-use Rattle.pg_tenant.specs.Answers.{Answered, answered}
-use Rattle.pg_tenant.specs.Outcomes.{plan_outcome}
+use Rattle.pg_server.specs.State.{state_in}
+use Rattle.pg_tenant.specs.Solo.{Replied, solo}
+use Rattle.pg_tenant.specs.State.{State, tokens_of}
 
 abbrev pub place_of : List ℕ → List State → Option ℕ
 place_of token tenants = position (λ s. is_among (tokens_of s) token) tenants
@@ -34,14 +30,3 @@ Gives old t replied (Err e) new = (new ≡ old) × (e ≢ OutOfMemory → (refus
 
 abbrev pub RepliesAt : ℕ → List State → Request → Result (List ℕ) Fault → List State → Type 0
 RepliesAt t old request result new = Gives old t (solo (state_in old t) request) result new
-
-abbrev pub plan_answered : State → (token : List ℕ) → Plan → (parameters : Entries) → Answered
-plan_answered s token plan parameters = answered s.graph (plan_outcome (may_write s.settings token) s.settings.max_steps s.settings.max_elements parameters s.graph plan)
-
-abbrev pub RunsPlan : ℕ → (token : List ℕ) → Plan → (parameters : Entries) → List State → Result (List ℕ) Fault → List State → Type 0
-RunsPlan t token plan parameters old result new = Gives old t (with_graph (state_in old t) (plan_answered (state_in old t) token plan parameters)) result new
-
--- the text of what is answered
-abbrev pub reply_of : Result (List ℕ) Fault → List ℕ
-reply_of (Ok bytes) = bytes
-reply_of (Err e) = refusal_text e

@@ -2,7 +2,7 @@
 use Rattle.std.specs.Prelude.{◌≡◌, ℕ, List, Option, position}
 use Rattle.std.specs.BTreeMap.{get_by_text}
 use Rattle.pg_meaning.specs.Names.{is_among}
-use Rattle.pg_server.specs.Settings.{TenantSettings, token_texts}
+use Rattle.pg_tenant.specs.Settings.{TenantSettings, token_texts}
 use Rattle.pg_server.specs.declared.tokens.TokenPlaces.{TokenPlaces}
 
 -- where the first tenant with this token stands

@@ -1,7 +1,8 @@
 //! The configuration of a server.
 ghost use Rattle.std.specs.Prelude.{◌≡◌, ◌≢◌, ◌<◌, ◌≤◌, ℕ, ◌++◌, [], length, IfOk, IfErr, OnOk, Ok, Err, Some, None, map};
 ghost use Rattle.std.specs.NonZero.{non_zero_usize_get};
-ghost use Rattle.pg_server.specs.Settings.{all_tokens, token_texts as texts_of};
+ghost use Rattle.pg_server.specs.Settings.{all_tokens};
+ghost use Rattle.pg_tenant.specs.Settings.{token_texts as texts_of};
 ghost use Rattle.pg_value.specs.Texts.{comes_again as seen_again};
 ghost use Rattle.pg_server.specs.Configuration.{configuration, HasTokensOnce, max_tenants, in_range as seen_in_range, tenant_in_range as seen_tenant, tenants_in_range as seen_tenants, settings_of_data, settings_of_draft};
 ghost use Rattle.serde_json.specs.View.{view};
@@ -9,7 +10,8 @@ ghost use Rattle.pg_server.specs.declared.config_fault.ConfigFault.TheVariants.{
 
 use crate::config_fault::ConfigFault;
 use crate::draft::{Draft, TenantDraft, draft_of};
-use crate::settings::TenantSettings;
+use pg_meter::MaxElements;
+use pg_tenant::TenantSettings;
 use pg_value::comes_again;
 use serde_json::Value as Json;
 use std::alloc::{AllocError, Global};
@@ -118,11 +120,7 @@ fn tenant_in_range(draft: TenantDraft) -> Result<TenantSettings, ConfigFault>
 {
     let max_steps = in_range(draft.max_steps, 0, MAX_QUOTA)?;
     let max_elements = in_range(draft.max_elements, 0, MAX_QUOTA)?;
-    Ok(TenantSettings {
-        max_steps,
-        max_elements,
-        tokens: draft.tokens,
-    })
+    Ok(TenantSettings::new(max_steps, MaxElements::new(max_elements), draft.tokens))
 }
 
 fn in_range(number: i64, least: u64, most: u64) -> Result<u64, ConfigFault>
@@ -154,7 +152,7 @@ fn has_token_twice(alloc: Global, tenants: &[TenantSettings]) -> Result<bool, Al
 fn push_texts<'a>(texts: &mut Vec<&'a str>, tenant: &'a TenantSettings) -> Result<(), AllocError>
     ensures { OnOk result (map (λ t. t.now) texts.new.items ≡ map (λ t. t.now) texts.old.items ++ texts_of tenant.now) }
 {
-    for token in &tenant.tokens {
+    for token in tenant.tokens() {
         texts.push(token.text())?;
     }
     Ok(())

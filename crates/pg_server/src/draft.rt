@@ -7,7 +7,7 @@ ghost use Rattle.pg_server.specs.Draft.{text_at as seen_text, number_at as seen_
 ghost use Rattle.pg_server.specs.declared.config_fault.ConfigFault.TheVariants.{WrongShape, Memory};
 
 use crate::config_fault::ConfigFault;
-use crate::settings::{Rights, TokenSettings};
+use pg_tenant::{Rights, TokenSettings};
 use serde_json::{Map, Value as Json};
 use std::alloc::Global;
 use std::marker::Model;

@@ -8,12 +8,11 @@ mod counted;
 mod draft;
 mod end;
 mod instances;
+mod laws;
 mod serve_fault;
 mod server;
 mod service;
-mod settings;
 mod shared;
-mod tenant;
 mod tokens;
 mod wire;
 
@@ -22,8 +21,12 @@ pub use config_fault::ConfigFault;
 pub use connections::serve_on;
 pub use counted::{Counted, DeviceFault};
 pub use end::End;
-pub use instances::{instances_of_configurations, instances_of_runs};
+pub use instances::{instances_of_configurations, instances_of_runs, instances_of_transactions};
+pub use laws::{
+    law_calls, law_of_commit, law_of_refusals, law_of_rollback, law_of_waiting, law_one_reading,
+    law_two_worlds,
+};
+pub use pg_tenant::Rights;
 pub use serve_fault::ServeFault;
-pub use server::{Server, law_calls, law_of_refusals, law_one_reading, law_two_worlds};
-pub use settings::Rights;
+pub use server::Server;
 pub use shared::Shared;

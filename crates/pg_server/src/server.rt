@@ -1,44 +1,39 @@
 //! The server: tenants, and the requests that reach them.
-ghost use Rattle.std.specs.Prelude.{◌≡◌, ◌≢◌, ◌<◌, ℕ, List, length, map, string_bytes, Some, IfOk, IfErr, IfSome};
+ghost use Rattle.std.specs.Prelude.{◌≡◌, ◌<◌, ℕ, List, length, map, Some, IfOk, IfSome};
 ghost use Rattle.pg_cache.specs.Cache.{cache_seen};
 ghost use Rattle.pg_json.specs.Bodies.{request_view};
-ghost use Rattle.pg_json.specs.Refusals.{refusal_text};
-ghost use Rattle.pg_json.specs.Requests.{query, create_index, drop_index};
 ghost use Rattle.pg_meaning.specs.Graph.{IsGraph};
-ghost use Rattle.pg_meaning.specs.declared.fault.Fault.TheVariants.{OutOfMemory};
 ghost use Rattle.pg_server.specs.Counts.{inner_of, faults_of};
-ghost use Rattle.pg_server.specs.Handles.{AddsNames, CallsAreRuns, Handles, LooksUp, RefusalsKeepAll, key_asked, key_at, tenant_asked};
+ghost use Rattle.pg_server.specs.Handles.{Handles, key_asked, key_at, tenant_asked};
 ghost use Rattle.pg_server.specs.Holds.{HoldTenants, shared_of};
-ghost use Rattle.pg_server.specs.Runs.{RefusalsKeep, TwoWorlds, asked, token_of as token_shown};
-ghost use Rattle.pg_server.specs.Served.{OneReading, read_faults, write_faults};
+ghost use Rattle.pg_server.specs.Runs.{asked};
+ghost use Rattle.pg_server.specs.Served.{read_faults, write_faults};
 ghost use Rattle.pg_server.specs.Serves.{Serves};
-ghost use Rattle.pg_server.specs.Solo.{limited, status_text};
-ghost use Rattle.pg_server.specs.State.{opening, opening_server, state_at};
-ghost use Rattle.pg_server.specs.Step.{Answers, StepAt, RepliesAt, RunsPlan, place_of, reply_of};
-ghost use Rattle.pg_server.specs.Tenants.{opening_state};
-ghost use Rattle.pg_value_core.specs.Given.{parameters_view};
+ghost use Rattle.pg_server.specs.State.{opening_server, state_at};
+ghost use Rattle.pg_server.specs.Step.{Answers, StepAt, RepliesAt, place_of};
+ghost use Rattle.pg_server.specs.Transactions.{RollsBack};
+ghost use Rattle.pg_tenant.specs.LookUps.{LooksUp};
+ghost use Rattle.pg_tenant.specs.State.{is_open, opening};
+ghost use Rattle.pg_tenant.specs.Step.{AddsNames, reply_of};
+ghost use Rattle.pg_tenant.specs.TenantStates.{opening_state};
 
 use crate::config::Config;
 use crate::counted::Counted;
 use crate::end::End;
 use crate::service::{Service, serve};
-use crate::settings::TenantSettings;
 use crate::shared::Shared;
-use crate::tenant::Tenant;
 use crate::tokens::TokenPlaces;
 use crate::wire::MAX_BODY;
 use pg_cache::PlanCache;
 use pg_graph::Tables;
-use pg_json::{ReplyBytes, RequestBody, RequestScratch, read_request, refusal, write_status};
+use pg_json::{ReplyBytes, RequestBody, RequestScratch, read_request, refusal, rollback_body};
 use pg_live::LiveGraph;
 use pg_meaning::Fault;
-use pg_plan::{Plan, check_length};
-use pg_value_core::Parameters;
+use pg_tenant::{Tenant, TenantSettings};
 use std::alloc::{AllocError, Global};
 use std::hash::RandomState;
 use std::io::{Read, Write};
 use std::marker::Model;
-use std::rc::Rc;
 
 /// The tenants of a configuration, over what they share.
 #[derive(Drop)]
@@ -64,7 +59,7 @@ impl<T: Tables> Model for Server<T> {
 
     ghost view = { λ s. server_seen (cache_seen s.cache) s.tenants.items s.graphs };
 
-    ghost invariant = { λ s. AreTenants s.tokens s.tenants.items (graphs_of s.graphs) };
+    ghost invariant = { λ s. AreTenants s.tokens s.tenants.items (graphs_of s.graphs) s.graphs.aside.begins };
 }
 
 impl<T: Tables> Server<T> {
@@ -118,7 +113,7 @@ impl<T: Tables> Server<T> {
         ensures { IfSome result (λ place. tenant_asked self.now.state.tenants body.now ≡ Some place) }
     {
         match self.request_of(body) {
-            Some(request) => self.place(token_of(&request)),
+            Some(request) => self.place(request.token()),
             None => None,
         }
     }
@@ -175,7 +170,7 @@ impl<T: Tables> Server<T> {
         ensures cache { LooksUp (key_asked self.old.state.tenants (request_view request)) result self.old.state.cache self.new.state.cache }
         ensures names { AddsNames result self.old.state.names self.new.state.names }
     {
-        match self.tokens.place(token_of(&request)) {
+        match self.tokens.place(request.token()) {
             Some(place) => self.answer_at(place, request),
             None => refusal(Fault::UnknownToken),
         }
@@ -199,109 +194,35 @@ impl<T: Tables> Server<T> {
         ensures cache { LooksUp (key_at place self.old.state.tenants (request_view request)) (reply_of result) self.old.state.cache self.new.state.cache }
         ensures names { AddsNames (reply_of result) self.old.state.names self.new.state.names }
     {
-        match request {
-            RequestBody::Query {
-                token,
-                text,
-                parameters,
-            } => self.query(place, token.as_str(), text, &parameters),
-            RequestBody::Status { token: _ } => self.status(place),
-            RequestBody::CreateIndex { token, label, key } => self.create_index(
-                place,
-                token.as_str(),
-                label.as_str(),
-                key.as_str(),
-            ),
-            RequestBody::DropIndex { token, label, key } => self.drop_index(
-                place,
-                token.as_str(),
-                label.as_str(),
-                key.as_str(),
-            ),
+        self.graphs.turn_to(place);
+        self.tenants[place].answer(self.alloc, &mut self.graphs, &mut self.cache, request)
+    }
+
+    /// Whether the tenant at this place has a transaction open.
+    pub fn has_transaction(&self, place: usize) -> bool
+        ensures { result ≡ is_open (state_at self.now.state place) }
+    {
+        self.graphs.holder_at(place).is_some()
+    }
+
+    /// The body of a request that rolls back the transaction that the tenant at this place has open, if there is memory for it. There is none
+    /// where the token is so long that only a shorter request can show it.
+    pub fn rollback_body(&self, place: usize) -> Option<Vec<u8>>
+        ensures { IfSome result (λ body. RollsBack (state_at self.now.state place) (asked body.items)) }
+    {
+        let Some(holder) = self.graphs.holder_at(place) else {
+            return None;
+        };
+        if place >= self.tenants.len() {
+            return None;
         }
-    }
-
-    /// The reply to a query of a tenant.
-    fn query(
-        &mut self,
-        place: usize,
-        token: &str,
-        text: String,
-        parameters: &Parameters,
-    ) -> Result<ReplyBytes, Fault>
-        requires { place < length self.old.state.tenants }
-        ensures tenants { RepliesAt place self.old.state.tenants (query token.now (string_bytes text) (parameters_view parameters.now)) result self.new.state.tenants }
-        ensures cache { LooksUp (key_at place self.old.state.tenants (query token.now (string_bytes text) (parameters_view parameters.now))) (reply_of result) self.old.state.cache self.new.state.cache }
-        ensures names { AddsNames (reply_of result) self.old.state.names self.new.state.names }
-    {
-        check_length(text.as_str())?;
-        let indexes = self.tenants[place].indexes.clone()?;
-        match self.cache.plan_for(self.alloc, text, indexes) {
-            Ok(plan) => self.run_plan(place, token, &plan, parameters),
-            Err(fault) => Err(fault),
+        let Some(body) = rollback_body(self.alloc, self.tenants[place].token_at(holder)) else {
+            return None;
+        };
+        if body.len() > MAX_BODY {
+            return None;
         }
-    }
-
-    fn run_plan(
-        &mut self,
-        place: usize,
-        token: &str,
-        plan: &Plan,
-        parameters: &Parameters,
-    ) -> Result<ReplyBytes, Fault>
-        requires { place < length self.old.state.tenants }
-        ensures tenants { RunsPlan place token.now plan.now (parameters_view parameters.now) self.old.state.tenants result self.new.state.tenants }
-        ensures cache { self.new.state.cache ≡ self.old.state.cache }
-        ensures names { AddsNames (reply_of result) self.old.state.names self.new.state.names }
-    {
-        self.graphs.turn_to(place);
-        self.tenants[place].answer_plan(self.alloc, &mut self.graphs, token, plan, parameters)
-    }
-
-    /// What a tenant has and may have.
-    fn status(&mut self, place: usize) -> Result<ReplyBytes, Fault>
-        requires { place < length self.old.state.tenants }
-        ensures ok { IfOk result (λ bytes. bytes ≡ limited (status_text (state_at self.old.state place))) }
-        ensures err { IfErr result (λ e. e ≢ OutOfMemory → refusal_text e ≡ limited (status_text (state_at self.old.state place))) }
-        ensures state { self.new.state ≡ self.old.state }
-    {
-        self.graphs.turn_to(place);
-        let tenant = &self.tenants[place];
-        let graph = self.graphs.graph();
-        let told = tenant.status(self.alloc, &graph)?;
-        write_status(self.alloc, &told)
-    }
-
-    fn create_index(
-        &mut self,
-        place: usize,
-        token: &str,
-        label: &str,
-        key: &str,
-    ) -> Result<ReplyBytes, Fault>
-        requires { place < length self.old.state.tenants }
-        ensures tenants { RepliesAt place self.old.state.tenants (create_index token.now label.now key.now) result self.new.state.tenants }
-        ensures cache { self.new.state.cache ≡ self.old.state.cache }
-        ensures names { AddsNames (reply_of result) self.old.state.names self.new.state.names }
-    {
-        self.graphs.turn_to(place);
-        self.tenants[place].create_index(self.alloc, &mut self.graphs, token, label, key)
-    }
-
-    fn drop_index(
-        &mut self,
-        place: usize,
-        token: &str,
-        label: &str,
-        key: &str,
-    ) -> Result<ReplyBytes, Fault>
-        requires { place < length self.old.state.tenants }
-        ensures tenants { RepliesAt place self.old.state.tenants (drop_index token.now label.now key.now) result self.new.state.tenants }
-        ensures cache { self.new.state.cache ≡ self.old.state.cache }
-        ensures names { AddsNames (reply_of result) self.old.state.names self.new.state.names }
-    {
-        self.graphs.turn_to(place);
-        self.tenants[place].drop_index(self.alloc, &mut self.graphs, token, label, key)
+        Some(body)
     }
 
     /// Serves at most so many frames, and answers each whole one by `handle`.
@@ -336,41 +257,13 @@ impl<T: Tables> Service for Server<T> {
     }
 }
 
-/// The token of a request.
-fn token_of(request: &RequestBody) -> &str
-    ensures { result.now ≡ token_shown (request_view request.now) }
-{
-    match request {
-        RequestBody::Query {
-            token,
-            text: _,
-            parameters: _,
-        }
-        | RequestBody::Status { token }
-        | RequestBody::CreateIndex {
-            token,
-            label: _,
-            key: _,
-        }
-        | RequestBody::DropIndex {
-            token,
-            label: _,
-            key: _,
-        } => token.as_str(),
-    }
-}
-
 /// Each tenant with no index.
 fn opening_tenants(alloc: Global, settings: Vec<TenantSettings>) -> Result<Vec<Tenant>, AllocError>
     ensures { IfOk result (λ tenants. map opening_state tenants.items ≡ map opening settings.items) }
 {
     let mut tenants = Vec::with_capacity(alloc, settings.len())?;
     for one in settings {
-        let indexes = Rc::new(alloc, Vec::new(alloc))?;
-        tenants.push(Tenant {
-            settings: one,
-            indexes,
-        })?;
+        tenants.push(Tenant::new(alloc, one)?)?;
     }
     Ok(tenants)
 }
@@ -381,25 +274,3 @@ fn zeros(alloc: Global, len: usize) -> Result<Vec<u8>, AllocError>
 {
     Ok(vec![in alloc; 0u8; len]?)
 }
-
-/// A tenant that begins alike in two runs, and sends the same requests, gets the same replies and
-/// ends alike, whatever others sent and wherever theirs stood.
-pub fn law_two_worlds()
-    ensures { TwoWorlds }
-{}
-
-/// What was read stands for one list of bodies.
-pub fn law_one_reading()
-    ensures { OneReading }
-{}
-
-/// Calls of `handle`, one after another, are a run of each tenant alone too.
-pub fn law_calls()
-    ensures { CallsAreRuns }
-{}
-
-/// A request that is refused leaves its tenant as it was, and every other one and the names, whatever the refusal.
-pub fn law_of_refusals()
-    ensures tenant { RefusalsKeep }
-    ensures server { RefusalsKeepAll }
-{}

@@ -2,10 +2,10 @@
 ghost use Rattle.std.specs.Prelude.{◌≡◌, ℕ, List, Some, if◌then◌else◌, IfOk, OnOk};
 ghost use Rattle.std.specs.BTreeMap.{get_by_text};
 ghost use Rattle.pg_meaning.specs.Names.{is_among};
-ghost use Rattle.pg_server.specs.Settings.{token_texts};
 ghost use Rattle.pg_server.specs.Tokens.{place_in, TellsTenants};
+ghost use Rattle.pg_tenant.specs.Settings.{token_texts};
 
-use crate::settings::TenantSettings;
+use pg_tenant::TenantSettings;
 use std::alloc::{AllocError, Global};
 use std::collections::BTreeMap;
 
@@ -40,7 +40,7 @@ impl TokenPlaces {
     ) -> Result<(), AllocError>
         ensures { OnOk result ((token : List ℕ) → place_in self.new token ≡ (if is_among (token_texts tenant.now) token then Some place else place_in self.old token)) }
     {
-        for token in &tenant.tokens {
+        for token in tenant.tokens() {
             let text = String::from_str(alloc, token.text())?;
             self.places.insert(text, place)?;
         }

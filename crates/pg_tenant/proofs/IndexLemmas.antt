@@ -99,7 +99,7 @@ lost indexes after i h true e =
     let same : without_index i indexes ≡ after = cc in subst (IsStrictlySortedBy index_order) same (IsStrictlySortedBy-filter index_order (λ j. not (is_same i j)) indexes h)
 
 pub indexes_rise : IndexesRise
-indexes_rise may_write indexes after label key h = (
-  λ e. made indexes after (label, key) h (is_indexed indexes (label, key)) (nat_lt (length indexes) most_indexes) refl (behind (index_tested may_write label key) _ after e),
-  λ e. lost indexes after (label, key) h (is_indexed indexes (label, key)) (behind (index_tested may_write label key) _ after e),
+indexes_rise may_write is_open indexes after label key h = (
+  λ e. made indexes after (label, key) h (is_indexed indexes (label, key)) (nat_lt (length indexes) most_indexes) refl (behind (index_tested may_write is_open label key) _ after e),
+  λ e. lost indexes after (label, key) h (is_indexed indexes (label, key)) (behind (index_tested may_write is_open label key) _ after e),
 )

@@ -1,6 +1,13 @@
 pub mod AnswerLemmas
 mod FinishedLemmas
 mod IndexLemmas
+mod InstanceLemmas
+pub mod KeptLemmas
+mod LookUpLemmas
 pub mod OutcomeLemmas
 mod RepliedLemmas
+mod ServedLemmas
+mod SettingsLemmas
 mod SettledLemmas
+mod StatusLemmas
+pub mod TransactionLemmas

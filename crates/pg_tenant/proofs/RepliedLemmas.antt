@@ -20,7 +20,7 @@ use Rattle.pg_run.specs.Telling.{fitting}
 use Rattle.pg_run.specs.Told.{printed_rows, test_told}
 use Rattle.pg_tenant.proofs.AnswerLemmas.{outcome_is_no_refusal}
 use Rattle.pg_tenant.proofs.FinishedLemmas.{output}
-use Rattle.pg_tenant.specs.Answers.{Answered, row_data, outcome_text, refused, answered}
+use Rattle.pg_tenant.specs.Answers.{Answered, row_data, outcome_text, answered, limited}
 use Rattle.pg_tenant.specs.Replies.{IsAnswer}
 use Rattle.pg_value_core.specs.Gives.{Gives}
 
@@ -28,15 +28,10 @@ rows_are : (graph : Graph) (rows : List (List Value)) → items_of (map (row_dat
 rows_are graph [] = refl
 rows_are graph (r ∷ rs) = ap (item (array (printed_items graph (values_of r)))) (rows_are graph rs)
 
-module _ (start : Graph) (b : Bool) (named names : Names) (is : named ≡ cond b names []) where
+module _ (b : Bool) (named names : Names) (is : named ≡ cond b names []) where
   -- bytes and the graph that they leave, or a refusal
-  abbrev answers : Graph → Result (List ℕ) Fault → Answered
-  answers graph (Ok bytes) = record { reply = bytes; graph = graph }
-  answers graph (Err e) = refused start e
-
-  by_length : (graph : Graph) (text : List ℕ) (fits : Bool) → (let a : Answered = cond fits (record { reply = text; graph = graph }) (refused start ReplyTooLong) in a) ≡ answers graph (cond fits (Ok text) (Err ReplyTooLong))
-  by_length graph text true = refl
-  by_length graph text false = refl
+  abbrev answers : Graph → Result (List ℕ) Fault → Result Answered Fault
+  answers graph r = r >>= λ reply. Ok (record { reply = reply; graph = graph })
 
   module _ (last : State) where
     abbrev rows : List (List Value)
@@ -52,13 +47,11 @@ module _ (start : Graph) (b : Bool) (named names : Names) (is : named ≡ cond b
     unfolding outcome_text rows_text
     text_is = λ i. compact_text (query_data (items_of (map string (is i))) (rows_are last.graph rows i) last.steps)
 
-    by_test : (t : Result (Unit {0}) Fault) → answered start (t >> Ok outcome) ≡ answers last.graph (t >> fitting text)
-    by_test (Ok tt) =
-        ap (λ bytes. let a : Answered = cond (nat_le (length bytes) max_reply) (record { reply = bytes; graph = last.graph }) (refused start ReplyTooLong) in a) text_is
-        ∙ by_length last.graph text (nat_le (length text) max_reply)
+    by_test : (t : Result (Unit {0}) Fault) → answered (t >> Ok outcome) ≡ answers last.graph (t >> fitting text)
+    by_test (Ok tt) = ap (λ reply. answers last.graph (limited reply)) text_is
     by_test (Err e) = refl
 
-    last_answers : answered start (output b named last) ≡ answers last.graph (replied b names last)
+    last_answers : answered (output b named last) ≡ answers last.graph (replied b names last)
     last_answers = by_test (test_told last.graph rows)
 
     -- what is told is this text
@@ -74,7 +67,7 @@ module _ (start : Graph) (b : Bool) (named names : Names) (is : named ≡ cond b
     last_is_no_refusal bytes h f is = outcome_is_no_refusal outcome f (text_is ∙ told_is (test_told last.graph rows) bytes h ∙ is)
 
   by_clauses : (x : Result State Fault) (r : Result (List ℕ) Fault) (left : Graph) → Gives r (x >>= replied b names) (λ bytes. bytes) → OnOk r ((last : State) → x ≡ Ok last → last.graph ≡ left)
-      → IsAnswer r (x >>= output b named) start left
+      → IsAnswer r (x >>= output b named) left
   by_clauses (Ok last) (Ok bytes) left given keeps = record {
     ok = last_answers last ∙ ap (answers last.graph) given.ok ∙ ap (λ (g : Graph). answers g (Ok bytes)) (keeps last refl);
     told = last_is_no_refusal last bytes given.ok;
@@ -82,8 +75,8 @@ module _ (start : Graph) (b : Bool) (named names : Names) (is : named ≡ cond b
   }
   by_clauses (Ok last) (Err e) left given keeps = record { ok = tt; told = tt; err = λ other. last_answers last ∙ ap (answers last.graph) (given.err other) }
   by_clauses (Err f) (Ok bytes) left given keeps = let clash = given.ok in cc
-  by_clauses (Err f) (Err e) left given keeps = record { ok = tt; told = tt; err = λ other. ap (answers start) (given.err other) }
+  by_clauses (Err f) (Err e) left given keeps = record { ok = tt; told = tt; err = λ other. ap (answers left) (given.err other) }
 
   pub is_answer : (x : Result State Fault) (r : Result (List ℕ) Fault) (left : Graph) (answer : Result Outcome Fault) → answer ≡ (x >>= output b named) → Gives r (x >>= replied b names) (λ bytes. bytes)
-      → OnOk r ((last : State) → x ≡ Ok last → last.graph ≡ left) → IsAnswer r answer start left
-  is_answer x r left answer same given keeps = subst (λ (a : Result Outcome Fault). IsAnswer r a start left) (sym same) (by_clauses x r left given keeps)
+      → OnOk r ((last : State) → x ≡ Ok last → last.graph ≡ left) → IsAnswer r answer left
+  is_answer x r left answer same given keeps = subst (λ (a : Result Outcome Fault). IsAnswer r a left) (sym same) (by_clauses x r left given keeps)

@@ -10,17 +10,17 @@ use Rattle.pg_meaning.specs.declared.fault.Fault.{Fault}
 use Rattle.pg_meaning.specs.declared.fault.Fault.TheVariants.{OutOfMemory}
 use Rattle.pg_tenant.specs.Replies.{IsAnswer, IsReply}
 
-pub answer_settled : (result reply : Result (List ℕ) Fault) (outcome : Result Outcome Fault) (start mid end : Graph) → result ≡ reply → IsAnswer reply outcome start mid → OnOk result (end ≡ mid) → IsAnswer result outcome start end
-answer_settled result reply outcome start mid end same answer kept = by_result result (subst (λ r. IsAnswer r outcome start mid) (sym same) answer) kept
+pub answer_settled : (result reply : Result (List ℕ) Fault) (outcome : Result Outcome Fault) (mid end : Graph) → result ≡ reply → IsAnswer reply outcome mid → OnOk result (end ≡ mid) → IsAnswer result outcome end
+answer_settled result reply outcome mid end same answer kept = by_result result (subst (λ r. IsAnswer r outcome mid) (sym same) answer) kept
   where
-    by_result : (r : Result (List ℕ) Fault) → IsAnswer r outcome start mid → OnOk r (end ≡ mid) → IsAnswer r outcome start end
-    by_result (Ok bytes) a kept = record { ok = subst (IsReply start outcome bytes) (sym kept) a.ok; told = a.told; err = a.err }
+    by_result : (r : Result (List ℕ) Fault) → IsAnswer r outcome mid → OnOk r (end ≡ mid) → IsAnswer r outcome end
+    by_result (Ok bytes) a kept = record { ok = subst (IsReply outcome bytes) (sym kept) a.ok; told = a.told; err = a.err }
     by_result (Err e) a kept = record { ok = a.ok; told = a.told; err = a.err }
 
 -- nothing was done
 pub nothing_done : {L X E : Type 0} (l : Live L) (r : Result X E) → Settles l l r
-nothing_done l (Ok x) = record { same = tt; same_names = tt; kept = λ n t h. h; others = refl; place = refl }
-nothing_done l (Err e) = record { same = refl; same_names = refl; kept = λ n t h. h; others = refl; place = refl }
+nothing_done l (Ok x) = record { same = tt; same_names = tt; kept = λ n t h. h; others = refl; place = refl; begins = refl }
+nothing_done l (Err e) = record { same = refl; same_names = refl; kept = λ n t h. h; others = refl; place = refl; begins = refl }
 
 -- work began anew in the same graph
 pub anew : {L X E : Type 0} (old new : Live L) (r : Result X E) → new.graph ≡ old.graph → OnErr r (new.names ≡ old.names) → KeepsNames old.names new.names → new.aside ≡ begun_at old.graph new.names old.aside → Settles old new r
@@ -30,6 +30,7 @@ anew {X = X} {E = E} old new r graph names kept aside = record {
   kept = kept;
   others = ap (λ (a : Aside). a.others) aside;
   place = ap (λ (a : Aside). a.place) aside;
+  begins = ap (λ (a : Aside). a.begins) aside;
 }
   where
     by : (r : Result X E) → OnErr r (new.graph ≡ old.graph)
@@ -37,8 +38,7 @@ anew {X = X} {E = E} old new r graph names kept aside = record {
     by (Err e) = graph
 
 -- the reply to a query, or a want of memory in its place
-pub answer_or_refused : (result reply : Result (List ℕ) Fault) (outcome : Result Outcome Fault) (start end : Graph) → IfOk result (λ bytes. reply ≡ Ok bytes) → IfErr result (λ e. e ≢ OutOfMemory → reply ≡ Err e)
-    → IsAnswer reply outcome start end → IsAnswer result outcome start end
-answer_or_refused (Ok bytes) reply outcome start end ok err answer = subst (λ r. IsAnswer r outcome start end) ok answer
-answer_or_refused (Err e) reply outcome start end ok err answer =
-    record { ok = tt; told = tt; err = λ other. (subst (λ r. IsAnswer r outcome start end) (err other) answer).err other }
+pub answer_or_refused : (result reply : Result (List ℕ) Fault) (outcome : Result Outcome Fault) (end : Graph) → IfOk result (λ bytes. reply ≡ Ok bytes) → IfErr result (λ e. e ≢ OutOfMemory → reply ≡ Err e)
+    → IsAnswer reply outcome end → IsAnswer result outcome end
+answer_or_refused (Ok bytes) reply outcome end ok err answer = subst (λ r. IsAnswer r outcome end) ok answer
+answer_or_refused (Err e) reply outcome end ok err answer = record { ok = tt; told = tt; err = λ other. (subst (λ r. IsAnswer r outcome end) (err other) answer).err other }

@@ -2,8 +2,8 @@
 use Rattle.std.specs.Prelude.{ℕ, nat_le, List, map, length, Result, Ok, Err, if◌then◌else◌}
 use Rattle.serde_json.specs.Data.{Data, array, string}
 use Rattle.serde_json.specs.Written.{compact_text}
-use Rattle.pg_json.specs.Refusals.{refusal_text}
 use Rattle.pg_json.specs.Replies.{items_of, query_data, max_reply}
+use Rattle.pg_meaning.specs.Answer.{◌>>=◌}
 use Rattle.pg_meaning.specs.Graph.{Graph}
 use Rattle.pg_meaning.specs.Queries.{Outcome}
 use Rattle.pg_meaning.specs.Value.{Value, values_of}
@@ -21,15 +21,17 @@ outcome_data o = query_data (items_of (map string o.columns)) (items_of (map (ro
 unfoldable pub outcome_text : Outcome → List ℕ
 outcome_text o = compact_text (outcome_data o)
 
+-- a reply that would be too long is refused
+abbrev pub limited : List ℕ → Result (List ℕ) Fault
+limited reply = if nat_le (length reply) max_reply then Ok reply else Err ReplyTooLong
+
 -- a reply, and the graph that it leaves
 pub record Answered : Type 0 where
   pub reply : List ℕ
   pub graph : Graph
 
-abbrev pub refused : Graph → Fault → Answered
-refused graph fault = record { reply = refusal_text fault; graph = graph }
+abbrev pub with_reply : Outcome → (reply : List ℕ) → Answered
+with_reply o reply = record { reply = reply; graph = o.graph }
 
--- a reply that would be too long is a refusal, and each refusal leaves the graph
-abbrev pub answered : Graph → Result Outcome Fault → Answered
-answered graph (Ok o) = if nat_le (length (outcome_text o)) max_reply then record { reply = outcome_text o; graph = o.graph } else refused graph ReplyTooLong
-answered graph (Err f) = refused graph f
+abbrev pub answered : Result Outcome Fault → Result Answered Fault
+answered outcome = outcome >>= λ o. limited (outcome_text o) >>= λ reply. Ok (with_reply o reply)

@@ -12,7 +12,7 @@ use Rattle.pg_meaning.specs.Answer.{◌>>◌, unless}
 use Rattle.pg_meaning.specs.Order.{text_order}
 use Rattle.pg_meaning.specs.Plans.{Catalogue, is_indexed}
 use Rattle.pg_meaning.specs.declared.fault.Fault.{Fault}
-use Rattle.pg_meaning.specs.declared.fault.Fault.TheVariants.{ReadOnly, IndexExists, NoSuchIndex, TooManyIndexes, OutOfMemory}
+use Rattle.pg_meaning.specs.declared.fault.Fault.TheVariants.{ReadOnly, IndexExists, NoSuchIndex, TooManyIndexes, TransactionOpen, OutOfMemory}
 use Rattle.pg_plan.specs.Reading.{tested_length}
 
 -- a label and a key
@@ -45,20 +45,27 @@ without_index i indexes = filter (λ j. not (is_same i j)) indexes
 
 -- ---- requests
 
--- the right of the token, then the lengths of label and key
-abbrev pub index_tested : (may_write : Bool) → (label key : List ℕ) → Result (Unit {0}) Fault
-index_tested may_write label key = unless may_write ReadOnly >> (tested_length label >> tested_length key)
+-- the right of the token, that no transaction is open, then the lengths of label and key
+abbrev pub index_tested : (may_write is_open : Bool) → (label key : List ℕ) → Result (Unit {0}) Fault
+index_tested may_write is_open label key = unless may_write ReadOnly >> (unless (not is_open) TransactionOpen >> (tested_length label >> tested_length key))
+
+-- one more, where it isn't there and there are few enough
+abbrev pub with_one_more : Catalogue → (label key : List ℕ) → Result Catalogue Fault
+with_one_more indexes label key =
+    unless (not (is_indexed indexes (label, key))) IndexExists
+    >> (unless (nat_lt (length indexes) most_indexes) TooManyIndexes >> Ok (with_index (label, key) indexes))
+
+-- one less, where it is there
+abbrev pub with_one_less : Catalogue → (label key : List ℕ) → Result Catalogue Fault
+with_one_less indexes label key = unless (is_indexed indexes (label, key)) NoSuchIndex >> Ok (without_index (label, key) indexes)
 
 -- the indexes after a request for one more
-abbrev pub index_created : (may_write : Bool) → Catalogue → (label key : List ℕ) → Result Catalogue Fault
-index_created may_write indexes label key =
-    index_tested may_write label key
-    >> (unless (not (is_indexed indexes (label, key))) IndexExists >> (unless (nat_lt (length indexes) most_indexes) TooManyIndexes >> Ok (with_index (label, key) indexes)))
+abbrev pub index_created : (may_write is_open : Bool) → Catalogue → (label key : List ℕ) → Result Catalogue Fault
+index_created may_write is_open indexes label key = index_tested may_write is_open label key >> with_one_more indexes label key
 
 -- the indexes after a request for one less
-abbrev pub index_dropped : (may_write : Bool) → Catalogue → (label key : List ℕ) → Result Catalogue Fault
-index_dropped may_write indexes label key =
-    index_tested may_write label key >> (unless (is_indexed indexes (label, key)) NoSuchIndex >> Ok (without_index (label, key) indexes))
+abbrev pub index_dropped : (may_write is_open : Bool) → Catalogue → (label key : List ℕ) → Result Catalogue Fault
+index_dropped may_write is_open indexes label key = index_tested may_write is_open label key >> with_one_less indexes label key
 
 -- ---- a tenant's list
 
@@ -73,6 +80,6 @@ pub record IsIndexAnswer (result : Result (List ℕ) Fault) (outcome : Result Ca
 -- where each index stands before those behind it, they do so after each request
 abbrev pub IndexesRise : Type 0
 IndexesRise =
-    (may_write : Bool) (indexes after : Catalogue) (label key : List ℕ) → IsStrictlySortedBy index_order indexes
-    → (index_created may_write indexes label key ≡ Ok after → IsStrictlySortedBy index_order after)
-    × (index_dropped may_write indexes label key ≡ Ok after → IsStrictlySortedBy index_order after)
+    (may_write is_open : Bool) (indexes after : Catalogue) (label key : List ℕ) → IsStrictlySortedBy index_order indexes
+    → (index_created may_write is_open indexes label key ≡ Ok after → IsStrictlySortedBy index_order after)
+    × (index_dropped may_write is_open indexes label key ≡ Ok after → IsStrictlySortedBy index_order after)

@@ -1,11 +1,16 @@
 //! Index requests of one tenant.
-ghost use Rattle.std.specs.Prelude.{◌≡◌, ◌≢◌, IfOk, IfErr, Ok, Err};
+ghost use Rattle.std.specs.Prelude.{◌≡◌, ◌≢◌, IfOk, IfErr, Ok, Err, is_some};
+ghost use Rattle.pg_json.specs.Requests.{create_index, drop_index};
 ghost use Rattle.pg_plan.specs.Catalogue.{catalogue_view};
 ghost use Rattle.pg_meaning.specs.declared.fault.Fault.TheVariants.{OutOfMemory};
-ghost use Rattle.pg_live.specs.Settled.{Settles};
-ghost use Rattle.pg_tenant.specs.Indexes.{index_created, index_dropped, index_tested, indexes_of, IsIndexAnswer};
+ghost use Rattle.pg_tenant.specs.Indexes.{index_tested, indexes_of, with_one_less as one_less, with_one_more as one_more};
+ghost use Rattle.pg_tenant.specs.State.{is_open};
+ghost use Rattle.pg_tenant.specs.Settings.{may_write};
+ghost use Rattle.pg_tenant.specs.Step.{Serves};
+ghost use Rattle.pg_tenant.specs.TenantStates.{state_over};
 
 use crate::catalogue::{MAX_INDEXES, is_indexed, with_index, without_index};
+use crate::tenant::Tenant;
 use pg_graph::Tables;
 use pg_json::{ReplyBytes, done};
 use pg_live::LiveGraph;
@@ -14,71 +19,74 @@ use pg_value_core::Fault;
 use std::alloc::Global;
 use std::rc::Rc;
 
-/// Makes an index, or leaves everything as it was.
-#[tactic(auto, using(crate::proofs::SettledLemmas::nothing_done, crate::proofs::SettledLemmas::anew))]
-pub fn create_index<T: Tables>(
-    alloc: Global,
-    live: &mut LiveGraph<T>,
-    catalogue: &mut Rc<Catalogue>,
-    may_write: bool,
-    label: &str,
-    key: &str,
-) -> Result<ReplyBytes, Fault>
-    ensures graph { live.new.graph ≡ live.old.graph }
-    ensures settles { Settles live.old live.new result }
-    ensures indexes { IsIndexAnswer result (index_created may_write (indexes_of catalogue.old) label.now key.now) (indexes_of catalogue.old) (indexes_of catalogue.new) }
-{
-    let indexes = with_one_more(alloc, catalogue, may_write, label, key)?;
-    live.add_index(alloc, label, key)?;
-    *catalogue = indexes;
-    Ok(done())
-}
-
-/// Keeps an index no longer, or leaves everything as it was.
-#[tactic(auto, using(crate::proofs::SettledLemmas::nothing_done, crate::proofs::SettledLemmas::anew))]
-pub fn drop_index<T: Tables>(
-    alloc: Global,
-    live: &mut LiveGraph<T>,
-    catalogue: &mut Rc<Catalogue>,
-    may_write: bool,
-    label: &str,
-    key: &str,
-) -> Result<ReplyBytes, Fault>
-    ensures graph { live.new.graph ≡ live.old.graph }
-    ensures names { live.new.names ≡ live.old.names }
-    ensures tables { live.new.tables ≡ live.old.tables }
-    ensures settles { Settles live.old live.new result }
-    ensures indexes { IsIndexAnswer result (index_dropped may_write (indexes_of catalogue.old) label.now key.now) (indexes_of catalogue.old) (indexes_of catalogue.new) }
-{
-    let indexes = with_one_less(alloc, catalogue, may_write, label, key)?;
-    live.drop_index(label, key);
-    *catalogue = indexes;
-    Ok(done())
-}
-
-/// Whether the token's right, the label and the key let the request be.
-fn test_request(may_write: bool, label: &str, key: &str) -> Result<(), Fault>
-    ensures { result ≡ index_tested may_write label.now key.now }
-{
-    if !may_write {
-        return Err(Fault::ReadOnly);
+impl Tenant {
+    /// Makes an index, or leaves everything as it was.
+    pub(crate) fn create_index<T: Tables>(
+        &mut self,
+        alloc: Global,
+        live: &mut LiveGraph<T>,
+        token: &str,
+        label: &str,
+        key: &str,
+    ) -> Result<ReplyBytes, Fault>
+        ensures { Serves self.old self.new live.old live.new (create_index token.now label.now key.now) result }
+    {
+        self.test_index(live, token, label, key)?;
+        let indexes = with_one_more(alloc, &self.indexes, label, key)?;
+        live.add_index(alloc, label, key)?;
+        self.indexes = indexes;
+        Ok(done())
     }
-    check_length(label)?;
-    check_length(key)
+
+    /// Keeps an index no longer, or leaves everything as it was.
+    pub(crate) fn drop_index<T: Tables>(
+        &mut self,
+        alloc: Global,
+        live: &mut LiveGraph<T>,
+        token: &str,
+        label: &str,
+        key: &str,
+    ) -> Result<ReplyBytes, Fault>
+        ensures { Serves self.old self.new live.old live.new (drop_index token.now label.now key.now) result }
+    {
+        self.test_index(live, token, label, key)?;
+        let indexes = with_one_less(alloc, &self.indexes, label, key)?;
+        live.drop_index(label, key);
+        self.indexes = indexes;
+        Ok(done())
+    }
+
+    /// Whether the token's right, the transaction that may be open, the label and the key let the request be.
+    fn test_index<T: Tables>(
+        &self,
+        live: &LiveGraph<T>,
+        token: &str,
+        label: &str,
+        key: &str,
+    ) -> Result<(), Fault>
+        ensures { result ≡ index_tested (may_write self.now.settings token.now) (is_open (state_over self.now live.now)) label.now key.now }
+    {
+        if !self.settings.may_write(token) {
+            return Err(Fault::ReadOnly);
+        }
+        if live.holder().is_some() {
+            return Err(Fault::TransactionOpen);
+        }
+        check_length(label)?;
+        check_length(key)
+    }
 }
 
-/// The list after a request for one index more. Kept plans may share the old one.
+/// The list with one more. Kept plans may share the old one.
 fn with_one_more(
     alloc: Global,
     catalogue: &Catalogue,
-    may_write: bool,
     label: &str,
     key: &str,
 ) -> Result<Rc<Catalogue>, Fault>
-    ensures ok { IfOk result (λ list. index_created may_write (catalogue_view catalogue.now.items) label.now key.now ≡ Ok (indexes_of list)) }
-    ensures err { IfErr result (λ e. e ≢ OutOfMemory → index_created may_write (catalogue_view catalogue.now.items) label.now key.now ≡ Err e) }
+    ensures ok { IfOk result (λ list. one_more (catalogue_view catalogue.now.items) label.now key.now ≡ Ok (indexes_of list)) }
+    ensures err { IfErr result (λ e. e ≢ OutOfMemory → one_more (catalogue_view catalogue.now.items) label.now key.now ≡ Err e) }
 {
-    test_request(may_write, label, key)?;
     if is_indexed(catalogue, label, key) {
         return Err(Fault::IndexExists);
     }
@@ -89,18 +97,16 @@ fn with_one_more(
     Ok(Rc::new(alloc, indexes)?)
 }
 
-/// The list after a request for one index less.
+/// The list with one less.
 fn with_one_less(
     alloc: Global,
     catalogue: &Catalogue,
-    may_write: bool,
     label: &str,
     key: &str,
 ) -> Result<Rc<Catalogue>, Fault>
-    ensures ok { IfOk result (λ list. index_dropped may_write (catalogue_view catalogue.now.items) label.now key.now ≡ Ok (indexes_of list)) }
-    ensures err { IfErr result (λ e. e ≢ OutOfMemory → index_dropped may_write (catalogue_view catalogue.now.items) label.now key.now ≡ Err e) }
+    ensures ok { IfOk result (λ list. one_less (catalogue_view catalogue.now.items) label.now key.now ≡ Ok (indexes_of list)) }
+    ensures err { IfErr result (λ e. e ≢ OutOfMemory → one_less (catalogue_view catalogue.now.items) label.now key.now ≡ Err e) }
 {
-    test_request(may_write, label, key)?;
     if !is_indexed(catalogue, label, key) {
         return Err(Fault::NoSuchIndex);
     }

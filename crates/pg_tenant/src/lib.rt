@@ -1,18 +1,24 @@
-//! One request of one tenant.
+//! One tenant: its settings, its indexes, and its answer to a request.
 #![tactic(auto)]
 
 ghost use Rattle.pg_tenant.specs.Indexes.{IndexesRise};
 ghost use Rattle.pg_tenant.specs.Outcomes.{PlansAnswer, TextMeans};
+ghost use Rattle.pg_tenant.specs.TransactionLaws.{BeginsAreWritten, CommitsKeep, OnlyTheGraph, OthersWait, RefusalsLeave, RollbacksGoBack};
 
 mod answer;
 mod catalogue;
 mod headroom;
 mod indexes;
+mod instances;
 mod query;
+mod settings;
+mod status;
+mod tenant;
+mod transaction;
 
-pub use answer::{Quota, answer_plan};
-pub use catalogue::copy_indexes;
-pub use indexes::{create_index, drop_index};
+pub use instances::{instances_of_tenants, instances_of_transactions};
+pub use settings::{Rights, TenantSettings, TokenSettings};
+pub use tenant::Tenant;
 
 /// Where there are some indexes, a text's answer is the one under its plan for these.
 pub fn law_of_plans()
@@ -27,4 +33,14 @@ pub fn law_of_meaning()
 /// A tenant's indexes stay in the order of their bytes, each once, whatever is asked.
 pub fn law_of_indexes()
     ensures { IndexesRise }
+{}
+
+/// What a transaction is to its tenant.
+pub fn law_of_transactions()
+    ensures begins { BeginsAreWritten }
+    ensures only { OnlyTheGraph }
+    ensures others { OthersWait }
+    ensures commits { CommitsKeep }
+    ensures rollbacks { RollbacksGoBack }
+    ensures refusals { RefusalsLeave }
 {}

@@ -1,7 +1,8 @@
 use Rattle.std.proofs.Common.{◌≡◌, ◌+◌, ◌++◌, ℕ, List, [], Bor, append_assoc, drop, map, refl, ap, subst, sym, ◌∙◌}
 use Rattle.std.specs.Prelude.{IfOk}
 use Rattle.std.proofs.lemmas.List.{append-nil}
-use Rattle.pg_server.specs.Settings.{all_tokens, token_texts}
+use Rattle.pg_server.specs.Settings.{all_tokens}
+use Rattle.pg_tenant.specs.Settings.{token_texts}
 use Rattle.pg_value.specs.Texts.{comes_again}
 use Rattle.pg_server.proofs.FoundLemmas.{item_here, none_left}
 use Rattle.pg_server.proofs.config.has_token_twice.Goals as goal

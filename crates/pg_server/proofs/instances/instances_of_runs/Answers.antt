@@ -1,5 +1,5 @@
 use Rattle.pg_server.proofs.InstanceLemmas.{empty_runs, status_runs}
-use Rattle.pg_server.proofs.RequestInstances.{instances_of_early_tests, instances_of_indexes, instances_of_replies, instances_of_requests, instances_of_rights, instances_of_texts, strangers_are_refused}
+use Rattle.pg_server.proofs.RequestInstances.{instances_of_requests, strangers_are_refused}
 use Rattle.pg_server.proofs.ServingInstances.{instances_of_ends, instances_of_failed_writes, instances_of_frames, instances_of_keys, instances_of_look_ups, runs_of_no_frame}
 use Rattle.pg_server.proofs.instances.instances_of_runs.Goals as goal
 
@@ -14,21 +14,6 @@ returns-clause-strangers c = strangers_are_refused
 
 pub returns-clause-requests : goal.returns-clause-requests
 returns-clause-requests c = instances_of_requests
-
-pub returns-clause-rights : goal.returns-clause-rights
-returns-clause-rights c = instances_of_rights
-
-pub returns-clause-indexes : goal.returns-clause-indexes
-returns-clause-indexes c = instances_of_indexes
-
-pub returns-clause-early : goal.returns-clause-early
-returns-clause-early c = instances_of_early_tests
-
-pub returns-clause-texts : goal.returns-clause-texts
-returns-clause-texts c = instances_of_texts
-
-pub returns-clause-replies : goal.returns-clause-replies
-returns-clause-replies c = instances_of_replies
 
 pub returns-clause-frames : goal.returns-clause-frames
 returns-clause-frames c = instances_of_frames

@@ -8,8 +8,8 @@ use Rattle.pg_tenant.proofs.query.answer_query.Goals as goal
 pub returns-clause-answers : goal.returns-clause-answers
 returns-clause-answers g c =
     let headroom = c.with_headroom-reply in
-    let answers = answer_or_refused headroom.result c.run_query-reply.result _ _ _ headroom.ensures.ok headroom.ensures.err c.run_query-reply.ensures.answers in
-    answer_settled c.settled.result headroom.result _ _ _ _ c.settled.ensures.reply answers c.settled.ensures.kept
+    let answers = answer_or_refused headroom.result c.run_query-reply.result _ _ headroom.ensures.ok headroom.ensures.err c.run_query-reply.ensures.answers in
+    answer_settled c.settled.result headroom.result _ _ _ c.settled.ensures.reply answers c.settled.ensures.kept
 
 pub returns-clause-settles : goal.returns-clause-settles
 returns-clause-settles g c =
@@ -21,4 +21,5 @@ returns-clause-settles g c =
       kept = subst (λ ns. KeepsNames ns c.settled.new.live.names) names c.settled.ensures.grown;
       others = c.settled.ensures.others ∙ ap (λ (a : Aside). a.others) aside;
       place = c.settled.ensures.place ∙ ap (λ (a : Aside). a.place) aside;
+      begins = c.settled.ensures.begins ∙ ap (λ (a : Aside). a.begins) aside;
     }

@@ -16,7 +16,7 @@ pub answer_clauses-requires-clause-planned : goal.answer_clauses-requires-clause
 answer_clauses-requires-clause-planned g c =
     let clauses_are = ap (map clause_view) c.as_slice-clauses.ensures.value ∙ ap (λ (q : Query). q.clauses) c.query.ensures in
     let plan_is = ap plan_view c.as_slice-anchors.ensures.value ∙ c.anchors.ensures.anchors in
-    planned (plan_anchors c.args.plan.now) (plan_query c.args.plan.now) (parameters_view c.args.parameters.now) c.args.live.now.graph c.args.quota.max_steps c.args.quota.max_elements
+    planned (plan_anchors c.args.plan.now) (plan_query c.args.plan.now) (parameters_view c.args.query.now.parameters.now) c.args.live.now.graph c.args.max_steps c.args.query.now.max_elements
     _ _ c.new-meter.result clauses_are plan_is c.new-meter.ensures c.anchors.ensures.begins
 
 pub answer_clauses-requires-clause-returning : goal.answer_clauses-requires-clause-returning
@@ -27,7 +27,7 @@ answer_clauses-requires-clause-returning g c =
 pub returns-clause-answers : goal.returns-clause-answers
 returns-clause-answers g c =
     let q = plan_query c.args.plan.now in
-    let ps = parameters_view c.args.parameters.now in
+    let ps = parameters_view c.args.query.now.parameters.now in
     let clauses = map clause_view c.as_slice-clauses.result.now in
     let clauses_are = ap (map clause_view) c.as_slice-clauses.ensures.value ∙ ap (λ (q : Query). q.clauses) c.query.ensures in
     let plan_is = ap plan_view c.as_slice-anchors.ensures.value ∙ c.anchors.ensures.anchors in
@@ -36,7 +36,8 @@ returns-clause-answers g c =
     let told = c.returns.ensures.returns in
     let names : columns q ≡ cond c.returns.result (fold scope_after [] clauses) [] =
     c.returns.ensures.last ∙ (λ i. cond (sym told i) (fold scope_after [] (sym clauses_are i)) []) in
-    let whole = answer_run (plan_anchors c.args.plan.now) q ps before c.args.quota.max_steps c.args.quota.max_elements _ _ c.new-meter.result clauses_are plan_is c.new-meter.ensures in
-    is_answer before c.returns.result (columns q) (fold scope_after [] clauses) names _ c.answer_clauses.result after _
-    (whole ∙ ap (λ b. run (plan_anchors c.args.plan.now) q ps before c.args.quota.max_steps c.args.quota.max_elements (plan_view c.as_slice-anchors.result.now) clauses c.new-meter.result >>= output b (columns q)) (sym told))
+    let whole = answer_run (plan_anchors c.args.plan.now) q ps before c.args.max_steps c.args.query.now.max_elements _ _ c.new-meter.result clauses_are plan_is c.new-meter.ensures in
+    is_answer c.returns.result (columns q) (fold scope_after [] clauses) names _ c.answer_clauses.result after _
+    (whole
+    ∙ (λ i. run (plan_anchors c.args.plan.now) q ps before c.args.max_steps c.args.query.now.max_elements (plan_view c.as_slice-anchors.result.now) clauses c.new-meter.result >>= output (sym told i) (columns q)))
     c.answer_clauses.ensures.replies.gives c.answer_clauses.ensures.replies.graph

@@ -4,7 +4,7 @@ use Rattle.pg_json.specs.Bodies.{request_view}
 use Rattle.pg_live.specs.Live.{graphs_of}
 use Rattle.pg_meaning.specs.Graph.{IsGraph}
 use Rattle.pg_server.specs.Frames.{body_limit}
-use Rattle.pg_server.specs.Handles.{AddsNames, Handles, LooksUp, key_asked}
+use Rattle.pg_server.specs.Handles.{Handles, key_asked}
 use Rattle.pg_server.specs.Settings.{all_tokens}
 use Rattle.pg_server.specs.State.{ServerState, settings_of, state_at}
 use Rattle.pg_server.specs.Step.{Answers}
@@ -13,13 +13,15 @@ use Rattle.pg_server.proofs.StepLemmas.{means_of}
 use Rattle.pg_server.proofs.TenantLemmas.{settings_seen}
 use Rattle.pg_server.proofs.HoldLemmas.{state_seen}
 use Rattle.pg_server.proofs.server.Server.answer_body.Goals as goal
+use Rattle.pg_tenant.specs.LookUps.{LooksUp}
+use Rattle.pg_tenant.specs.Step.{AddsNames}
 use Rattle.pg_value.specs.Texts.{comes_again}
 
 pub returns-in-Ok : goal.returns-in-Ok
 returns-in-Ok g c =
     let distinct : comes_again [] (all_tokens (settings_of c.args.self.now.state)) ≡ false =
     ap (λ (s : ServerState). comes_again [] (all_tokens (settings_of s))) (sym (ap state_seen c.self.view_is))
-    ∙ ap (λ ss. comes_again [] (all_tokens ss)) (settings_seen c.self.inside.tenants.items (graphs_of c.self.inside.graphs)) ∙ c.self.invariant.distinct in
+    ∙ ap (λ ss. comes_again [] (all_tokens ss)) (settings_seen c.self.inside.tenants.items (graphs_of c.self.inside.graphs) c.self.inside.graphs.aside.begins) ∙ c.self.invariant.distinct in
     let graphs : (t : ℕ) → IsGraph (state_at c.args.self.now.state t).graph =
     λ t. subst (λ (s : ServerState). IsGraph (state_at s t).graph) (ap state_seen c.self.view_is) (c.show_graphs.ensures t) in
     let request = request_view c.in-Ok.request in

@@ -9,4 +9,4 @@ use Rattle.pg_server.proofs.server.Server.show_graphs.Goals as goal
 pub returns : goal.returns
 returns g c t =
     subst (λ (s : ServerState). IsGraph (state_at s t).graph) (ap state_seen c.self.view_is)
-    (graphs_are c.self.inside.tenants.items (graphs_of c.self.inside.graphs) c.shared.ensures.sound t)
+    (graphs_are c.self.inside.tenants.items (graphs_of c.self.inside.graphs) c.self.inside.graphs.aside.begins c.shared.ensures.sound t)

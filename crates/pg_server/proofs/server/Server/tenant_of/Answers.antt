@@ -5,4 +5,4 @@ use Rattle.pg_server.proofs.server.Server.tenant_of.Goals as goal
 
 pub returns-in-Some : goal.returns-in-Some
 returns-in-Some g c =
-    tenant_shown (asked c.args.body.now) c.args.self.now.state.tenants (request_view c.in-Some.request) _ c.place.result c.in-Some.ensures c.token_of.ensures c.place.ensures
+    tenant_shown (asked c.args.body.now) c.args.self.now.state.tenants (request_view c.in-Some.request) _ c.place.result c.in-Some.ensures c.token.ensures c.place.ensures

@@ -1,5 +1,0 @@
-use Rattle.pg_server.proofs.RunLemmas.{Runs-of_chain}
-use Rattle.pg_server.proofs.server.law_calls.Goals as goal
-
-pub returns : goal.returns
-returns c = Runs-of_chain

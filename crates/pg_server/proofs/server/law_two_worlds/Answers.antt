@@ -1,5 +1,0 @@
-use Rattle.pg_server.proofs.SoloLemmas.{two_worlds}
-use Rattle.pg_server.proofs.server.law_two_worlds.Goals as goal
-
-pub returns : goal.returns
-returns c = two_worlds

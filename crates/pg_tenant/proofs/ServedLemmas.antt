@@ -1,0 +1,316 @@
+-- From what the parts of an answer ensure to what the request does.
+use Rattle.std.proofs.Common.{◌≡◌, ◌≢◌, ◌≤◌, ℕ, Bool, true, false, not, bytes_eq, List, length, get_or, set, Option, Some, None, is_some, Result, Ok, Err, refl, sym, ap, subst, ◌∙◌, inl, inr, arith}
+use Rattle.std.specs.Prelude.{IfOk, OnErr, option_map}
+use Rattle.std.proofs.lemmas.Bool.{cases_lt}
+use Rattle.std.proofs.lemmas.List.{get_or-set_same, get_or_past, length-set, set-get_or}
+use Rattle.std.specs.Option.{option_map_or}
+use Rattle.pg_json.proofs.Codes.{done_is_no_refusal}
+use Rattle.pg_json.specs.Refusals.{refusal_text, done_text}
+use Rattle.pg_json.specs.Requests.{Request, token_of, query, status, begin, commit, rollback}
+use Rattle.pg_live.specs.Live.{Aside, Begun, Live, begun_at, open_at, with_open}
+use Rattle.pg_live.specs.Settled.{Settles}
+use Rattle.pg_meaning.specs.Answer.{◌>>=◌, ◌>>◌, unless}
+use Rattle.pg_meaning.specs.Graph.{Graph}
+use Rattle.pg_meaning.specs.Plans.{Catalogue}
+use Rattle.pg_meaning.specs.Queries.{Outcome}
+use Rattle.pg_meaning.specs.Value.{Entries}
+use Rattle.pg_meaning.specs.declared.fault.Fault.{Fault}
+use Rattle.pg_meaning.specs.declared.fault.Fault.TheVariants.{OutOfMemory, ReadOnly, TenantBusy, TransactionOpen, NoTransaction}
+use Rattle.pg_names.specs.Names.{KeepsNames}
+use Rattle.pg_plan.specs.Plans.{IsPlanOfText}
+use Rattle.pg_plan.specs.Reading.{greatest_text}
+use Rattle.pg_plan.specs.declared.plan.Plan.{Plan}
+use Rattle.pg_tenant.proofs.OutcomeLemmas.{plans_answer}
+use Rattle.pg_tenant.specs.Answers.{Answered, answered}
+use Rattle.pg_tenant.specs.Indexes.{indexes_of}
+use Rattle.pg_tenant.specs.Outcomes.{plan_outcome, query_outcome, text_query}
+use Rattle.pg_tenant.specs.Replies.{IsAnswer}
+use Rattle.pg_tenant.specs.Settings.{TenantSettings, may_write}
+use Rattle.pg_tenant.specs.Solo.{Replied, done, end_tested, gone_back, is_busy, query_answered, reported, serves, with_graph, with_status}
+use Rattle.pg_tenant.specs.State.{State, Transaction, is_open}
+use Rattle.pg_tenant.specs.Step.{AddsNames, Answers, Gives, KeepsOthers, RunsPlan, Serves, plan_answered, reply_of, takes_memory}
+use Rattle.pg_tenant.specs.TenantStates.{state_of, state_over, token_at, transaction_of}
+use Rattle.pg_tenant.specs.declared.tenant.Tenant.{Tenant}
+
+-- ---- names
+
+pub names_stay : (reply : List ℕ) (names : List (List ℕ)) → AddsNames reply names names
+names_stay reply names = record { kept = λ number text h. h; refused = λ fault is. refl }
+
+-- what is answered is no refusal
+pub names_added : (old new : List (List ℕ)) (r : Result (List ℕ) Fault) → KeepsNames old new → IfOk r (λ bytes. (fault : Fault) → bytes ≢ refusal_text fault) → OnErr r (new ≡ old) → AddsNames (reply_of r) old new
+names_added old new (Ok bytes) kept told same = record { kept = kept; refused = λ fault is. absurd (told fault is) }
+names_added old new (Err e) kept told same = record { kept = kept; refused = λ fault is. same }
+
+-- ---- the live graph
+
+module _ {L : Type 0} (old new : Live L) (place : new.aside.place ≡ old.aside.place) (begins : new.aside.begins ≡ old.aside.begins) where
+  same_open : open_at new.aside ≡ open_at old.aside
+  same_open = λ i. get_or (begins i) (place i) None
+
+  pub others_kept : new.aside.others ≡ old.aside.others → KeepsOthers old new
+  others_kept others = record {
+    place = place;
+    others = others;
+    begins = begins ∙ sym (set-get_or old.aside.begins old.aside.place None) ∙ ap (set old.aside.begins old.aside.place) (sym same_open);
+  }
+
+  -- all but the graph is as it was
+  pub graph_changed : (tenant : Tenant) → state_over tenant new ≡ state_of tenant new.graph (open_at old.aside)
+  graph_changed tenant = ap (state_of tenant new.graph) same_open
+
+  pub unchanged : (tenant : Tenant) → new.graph ≡ old.graph → state_over tenant new ≡ state_over tenant old
+  unchanged tenant same = λ i. state_of tenant (same i) (same_open i)
+
+-- nothing was done
+pub none_touched : {L : Type 0} (live : Live L) → KeepsOthers live live
+none_touched live = others_kept live live refl refl refl
+
+-- ---- what is refused
+
+pub refused_as : (s : State) (outcome : Result Replied Fault) (e : Fault) → (e ≢ OutOfMemory → outcome ≡ Err e) → Gives s (reported s outcome) (Err e) s
+refused_as s outcome e h = (refl, λ other. (sym (ap (λ o. (reported s o).reply) (h other)), ap (λ o. (reported s o).state) (h other)))
+
+pub refuses : {L : Type 0} (tenant : Tenant) (live : Live L) (request : Request) (e : Fault) → (e ≢ OutOfMemory → serves (state_over tenant live) request ≡ Err e)
+    → (takes_memory request ≡ false → e ≢ OutOfMemory) → Serves tenant tenant live live request (Err e)
+refuses tenant live request e h memory = record {
+  answers = refused_as (state_over tenant live) (serves (state_over tenant live) request) e h;
+  names = names_stay (refusal_text e) live.names;
+  others = none_touched live;
+  settings = refl;
+  memory = memory;
+}
+
+-- ---- what is done
+
+pub does : {L : Type 0} (was now : Tenant) (old new : Live L) (request : Request) (bytes : List ℕ) (after : State) → bytes ≡ done_text → serves (state_over was old) request ≡ Ok (done after)
+    → state_over now new ≡ after → KeepsNames old.names new.names → KeepsOthers old new → now.settings ≡ was.settings → Serves was now old new request (Ok bytes)
+does was now old new request bytes after is served same names others settings = record {
+  answers = (is ∙ sym (ap (λ o. (reported (state_over was old) o).reply) served), same ∙ sym (ap (λ o. (reported (state_over was old) o).state) served));
+  names = names_added old.names new.names (Ok bytes) names (λ fault told. done_is_no_refusal fault (sym is ∙ told)) tt;
+  others = others;
+  settings = settings;
+  memory = λ h. tt;
+}
+
+-- ---- a query
+
+module _ {L : Type 0} (tenant : Tenant) (old new : Live L) (token : List ℕ) (plan : Plan) (parameters : Entries) where
+  abbrev before : State
+  before = state_over tenant old
+
+  abbrev outcome : Result Outcome Fault
+  outcome = plan_outcome (may_write tenant.settings token) tenant.settings.max_steps tenant.settings.max_elements parameters old.graph plan
+
+  abbrev told : Result Answered Fault → Replied
+  told answer = reported before (with_graph before answer)
+
+  by_result : (r : Result (List ℕ) Fault) → Settles old new r → IsAnswer r outcome new.graph → RunsPlan token plan parameters before r (state_over tenant new)
+  by_result (Ok bytes) settles answer =
+      (sym (ap (λ a. (told a).reply) answer.ok), graph_changed old new settles.place settles.begins tenant ∙ sym (ap (λ a. (told a).state) answer.ok))
+  by_result (Err e) settles answer =
+      (unchanged old new settles.place settles.begins tenant settles.same, λ other. (sym (ap (λ a. (told a).reply) (answer.err other)), ap (λ a. (told a).state) (answer.err other)))
+
+  pub runs_plan : (r : Result (List ℕ) Fault) → Settles old new r → IsAnswer r outcome new.graph → RunsPlan token plan parameters before r (state_over tenant new)
+  runs_plan r settles answer = by_result r settles answer
+
+  pub plan_names : (r : Result (List ℕ) Fault) → Settles old new r → IsAnswer r outcome new.graph → AddsNames (reply_of r) old.names new.names
+  plan_names r settles answer = names_added old.names new.names r settles.kept answer.told settles.same_names
+
+pub plan_others : {L : Type 0} (old new : Live L) (r : Result (List ℕ) Fault) → Settles old new r → KeepsOthers old new
+plan_others old new r settles = others_kept old new settles.place settles.begins settles.others
+
+-- the text's plan for the tenant's indexes answers for the text
+pub answers_alike : (s : State) (token text : List ℕ) (parameters : Entries) (plan : Plan) → length text ≤ greatest_text → IsPlanOfText text s.indexes plan
+    → plan_answered s token plan parameters ≡ query_answered s token text parameters
+answers_alike s token text parameters plan short is =
+    ap answered (sym (plans_answer (may_write s.settings token) s.settings.max_steps s.settings.max_elements parameters s.indexes s.graph text plan short is))
+
+module _ {L : Type 0} (tenant : Tenant) (old new : Live L) (token text : List ℕ) (parameters : Entries) where
+  abbrev here : State
+  here = state_over tenant old
+
+  pub serves_plan : (plan : Plan) (r : Result (List ℕ) Fault) → length text ≤ greatest_text → IsPlanOfText text here.indexes plan → RunsPlan token plan parameters here r (state_over tenant new)
+      → AddsNames (reply_of r) old.names new.names → KeepsOthers old new → Serves tenant tenant old new (query token text parameters) r
+  serves_plan plan r short is runs names others = record {
+    answers = subst (λ a. Gives here (reported here (with_graph here a)) r (state_over tenant new)) (answers_alike here token text parameters plan short is) runs;
+    names = names;
+    others = others;
+    settings = refl;
+    memory = λ h. absurd (let no : true ≡ false = h in cc);
+  }
+
+-- a text that has no plan
+pub serves_no_plan : {L : Type 0} (tenant : Tenant) (live : Live L) (token text : List ℕ) (parameters : Entries) (e : Fault) → (e ≢ OutOfMemory → text_query text ≡ Err e)
+    → Serves tenant tenant live live (query token text parameters) (Err e)
+serves_no_plan tenant live token text parameters e h =
+    let s = state_over tenant live in
+    refuses tenant live (query token text parameters) e
+    (λ other. ap (λ q. with_graph s (answered (q >>= query_outcome (may_write s.settings token) s.settings.max_steps s.settings.max_elements parameters s.indexes s.graph))) (h other))
+    (λ none. absurd (let no : true ≡ false = none in cc))
+
+-- ---- transactions
+
+-- a tenant is open where its live graph is
+pub is_open_as : (settings : TenantSettings) (begun : Option Begun) → is_some (transaction_of settings begun) ≡ is_some (option_map (λ b. b.holder) begun)
+is_open_as settings None = refl
+is_open_as settings (Some b) = refl
+
+module _ (settings : TenantSettings) where
+  pub busy_as : (begun : Option Begun) (holder : ℕ) (token : List ℕ) → Some holder ≡ option_map (λ b. b.holder) begun → is_busy (transaction_of settings begun) token ≡ not (bytes_eq (token_at settings holder) token)
+  busy_as None holder token is = cc
+  busy_as (Some b) holder token is = let same : holder ≡ b.holder = cc in ap (λ h. not (bytes_eq (token_at settings h) token)) (sym same)
+
+  pub free_as : (begun : Option Begun) (token : List ℕ) → None ≡ option_map (λ b. b.holder) begun → is_busy (transaction_of settings begun) token ≡ false
+  free_as None token is = refl
+  free_as (Some b) token is = cc
+
+abbrev pub tests : (writes opened : Bool) → Result Replied Fault → Result Replied Fault
+tests writes opened r = unless writes ReadOnly >> (unless (not opened) TransactionOpen >> r)
+
+-- ---- what was begun, kept and taken back
+
+module _ {L : Type 0} (tenant : Tenant) (old new : Live L) (token : List ℕ) where
+  abbrev s : State
+  s = state_over tenant old
+
+  -- other places, where what is open here changes
+  pub others_where_opened : (begun : Option Begun) (graph : Graph) → new.aside ≡ with_open begun (begun_at graph old.names old.aside) → open_at new.aside ≡ begun → KeepsOthers old new
+  others_where_opened begun graph aside is = record {
+    place = ap (λ (a : Aside). a.place) aside;
+    others = ap (λ (a : Aside). a.others) aside;
+    begins = ap (λ (a : Aside). a.begins) aside ∙ ap (set old.aside.begins old.aside.place) (sym is);
+  }
+
+  begun_state : (holder : ℕ) → token_at tenant.settings holder ≡ token → new.graph ≡ old.graph → open_at new.aside ≡ Some (record { holder = holder; graph = old.graph })
+      → state_over tenant new ≡ record s { transaction = Some (record { token = token; begun = old.graph }) }
+  begun_state holder is graph opened =
+      (λ i. state_of tenant (graph i) (opened i))
+      ∙ ap (λ t. let x : State = record s { transaction = Some (record { token = t; begun = old.graph }) } in x) is
+
+  pub begins_one : (holder : ℕ) (bytes : List ℕ) → bytes ≡ done_text → true ≡ may_write tenant.settings token → is_open s ≡ false → token_at tenant.settings holder ≡ token
+      → new.graph ≡ old.graph → new.names ≡ old.names → new.aside ≡ with_open (Some (record { holder = holder; graph = old.graph })) (begun_at old.graph old.names old.aside)
+      → open_at new.aside ≡ Some (record { holder = holder; graph = old.graph }) → Serves tenant tenant old new (begin token) (Ok bytes)
+  begins_one holder bytes told writes closed is graph names aside opened =
+      let t : Transaction = record { token = token; begun = old.graph } in
+      let after : State = record s { transaction = Some t } in
+      does tenant tenant old new (begin token) bytes after told
+      (ap (λ w. tests w (is_open s) (Ok (done after))) (sym writes) ∙ ap (λ o. tests true o (Ok (done after))) closed)
+      (begun_state holder is graph opened)
+      (subst (KeepsNames old.names) (sym names) (λ n t h. h))
+      (others_where_opened (Some (record { holder = holder; graph = old.graph })) old.graph aside opened) refl
+
+  -- ---- its end
+
+  closed_after : (begins : List (Option Begun)) (k : ℕ) → get_or (set begins k None) k None ≡ None
+  closed_after begins k =
+      elim (cases_lt k (length begins)) as (λ _. get_or (set begins k None) k None ≡ None) [
+        | inl lt ↦ get_or-set_same begins k None None lt
+        | inr ge ↦ get_or_past (set begins k None) k None (omega (arith, ge, length-set begins k None))
+      ]
+
+  closed : (graph : Graph) → new.aside ≡ with_open None (begun_at graph old.names old.aside) → open_at new.aside ≡ None
+  closed graph aside = ap open_at aside ∙ closed_after old.aside.begins old.aside.place
+
+  abbrev ended : State → Result (Unit {0}) Fault → Result Replied Fault
+  ended after test = test >> Ok (done after)
+
+  pub keeps_one : (bytes : List ℕ) → bytes ≡ done_text → end_tested s token ≡ Ok tt → new.graph ≡ old.graph → new.names ≡ old.names
+      → new.aside ≡ with_open None (begun_at old.graph old.names old.aside) → Serves tenant tenant old new (commit token) (Ok bytes)
+  keeps_one bytes told tested graph names aside =
+      let after : State = record s { transaction = None } in
+      does tenant tenant old new (commit token) bytes after told (ap (ended after) tested) (λ i. state_of tenant (graph i) (closed old.graph aside i))
+      (subst (KeepsNames old.names) (sym names) (λ n t h. h)) (others_where_opened None old.graph aside (closed old.graph aside)) refl
+
+  went_back : (begun : Option Begun) → state_of tenant (option_map_or (λ b. b.graph) begun old.graph) None ≡ gone_back (state_of tenant old.graph begun)
+  went_back (Some b) = refl
+  went_back None = refl
+
+  pub takes_back : (bytes : List ℕ) → bytes ≡ done_text → end_tested s token ≡ Ok tt → new.graph ≡ option_map_or (λ b. b.graph) (open_at old.aside) old.graph → new.names ≡ old.names
+      → new.aside ≡ with_open None (begun_at new.graph old.names old.aside) → Serves tenant tenant old new (rollback token) (Ok bytes)
+  takes_back bytes told tested graph names aside =
+      does tenant tenant old new (rollback token) bytes (gone_back s) told (ap (ended (gone_back s)) tested)
+      ((λ i. state_of tenant (graph i) (closed new.graph aside i)) ∙ went_back (open_at old.aside))
+      (subst (KeepsNames old.names) (sym names) (λ n t h. h)) (others_where_opened None new.graph aside (closed new.graph aside)) refl
+
+-- a refusal of the tests is none of memory
+end_refusal : (writes opened : Bool) (e : Fault) → (unless writes ReadOnly >> unless opened NoTransaction) ≡ Err e → e ≢ OutOfMemory
+end_refusal true true e h is = cc
+end_refusal true false e h is = cc
+end_refusal false opened e h is = cc
+
+module _ {L : Type 0} (tenant : Tenant) (live : Live L) (token : List ℕ) (e : Fault) (refused : end_tested (state_over tenant live) token ≡ Err e) where
+  abbrev state : State
+  state = state_over tenant live
+
+  no_memory_asked : e ≢ OutOfMemory
+  no_memory_asked = end_refusal (may_write tenant.settings token) (is_open state) e refused
+
+  pub commit_refused : Serves tenant tenant live live (commit token) (Err e)
+  commit_refused = refuses tenant live (commit token) e (λ other. ap (λ t. t >> Ok (done (record state { transaction = None }))) refused) (λ none. no_memory_asked)
+
+  pub rollback_refused : Serves tenant tenant live live (rollback token) (Err e)
+  rollback_refused = refuses tenant live (rollback token) e (λ other. ap (λ t. t >> Ok (done (gone_back state))) refused) (λ none. no_memory_asked)
+
+-- ---- begin, refused
+
+module _ {L : Type 0} (tenant : Tenant) (live : Live L) (token : List ℕ) where
+  abbrev at : State
+  at = state_over tenant live
+
+  abbrev first : Result Replied Fault
+  first = Ok (done (record at { transaction = Some (record { token = token; begun = live.graph }) }))
+
+  pub may_not_begin : may_write tenant.settings token ≡ false → Serves tenant tenant live live (begin token) (Err ReadOnly)
+  may_not_begin reads = refuses tenant live (begin token) ReadOnly (λ other. ap (λ w. tests w (is_open at) first) reads) (λ none is. cc)
+
+  pub begun_already : may_write tenant.settings token ≡ true → is_open at ≡ true → Serves tenant tenant live live (begin token) (Err TransactionOpen)
+  begun_already writes opened =
+      refuses tenant live (begin token) TransactionOpen (λ other. ap (λ w. tests w (is_open at) first) writes ∙ ap (λ o. tests true o first) opened) (λ none is. cc)
+
+-- ---- status
+
+pub serves_status : {L : Type 0} (tenant : Tenant) (live : Live L) (r : Result (List ℕ) Fault) (token : List ℕ) → Gives (state_over tenant live) (reported (state_over tenant live) (with_status (state_over tenant live))) r (state_over tenant live)
+    → Serves tenant tenant live live (status token) r
+serves_status tenant live r token given =
+    record { answers = given; names = names_stay (reply_of r) live.names; others = none_touched live; settings = refl; memory = λ none. absurd (let no : true ≡ false = none in cc) }
+
+-- ---- index requests
+
+module _ {L : Type 0} (was now : Tenant) (old new : Live L) (graph : new.graph ≡ old.graph) (aside : new.aside ≡ begun_at old.graph new.names old.aside) where
+  place : new.aside.place ≡ old.aside.place
+  place = ap (λ (a : Aside). a.place) aside
+
+  begins : new.aside.begins ≡ old.aside.begins
+  begins = ap (λ (a : Aside). a.begins) aside
+
+  index_others : KeepsOthers old new
+  index_others = others_kept old new place begins (ap (λ (a : Aside). a.others) aside)
+
+  pub index_done : (request : Request) (bytes : List ℕ) (indexes : Catalogue) → bytes ≡ done_text → serves (state_over was old) request ≡ Ok (done (record (state_over was old) { indexes = indexes }))
+      → now.settings ≡ was.settings → indexes_of now.indexes ≡ indexes → KeepsNames old.names new.names → Serves was now old new request (Ok bytes)
+  index_done request bytes indexes told served settings is names =
+      does was now old new request bytes (record (state_over was old) { indexes = indexes }) told served
+      (λ i. record { settings = settings i; graph = graph i; indexes = is i; transaction = transaction_of (settings i) (same_open old new place begins i) }) names index_others settings
+
+  -- no memory for what an index takes
+  pub index_failed : (request : Request) (e : Fault) → e ≡ OutOfMemory → takes_memory request ≡ true → new.names ≡ old.names → Serves was was old new request (Err e)
+  index_failed request e none memory names = record {
+    answers = (unchanged old new place begins was graph, λ other. absurd (other none));
+    names = names_added old.names new.names (Err e) (subst (KeepsNames old.names) (sym names) (λ n t h. h)) tt names;
+    others = index_others;
+    settings = refl;
+    memory = λ no. absurd (let clash : true ≡ false = sym memory ∙ no in cc);
+  }
+
+-- ---- who waits, and who doesn't
+
+module _ (s : State) (request : Request) where
+  abbrev by_busy : Bool → Replied
+  by_busy b = reported s (unless (not b) TenantBusy >> serves s request)
+
+  pub answers_busy : is_busy s.transaction (token_of request) ≡ true → Answers s request (Err TenantBusy) s
+  answers_busy busy = (refl, λ other. (sym (ap (λ b. (by_busy b).reply) busy), ap (λ b. (by_busy b).state) busy))
+
+  pub answers_free : (r : Result (List ℕ) Fault) (after : State) → is_busy s.transaction (token_of request) ≡ false → Gives s (reported s (serves s request)) r after → Answers s request r after
+  answers_free r after free given = subst (λ replied. Gives s replied r after) (sym (ap by_busy free)) given

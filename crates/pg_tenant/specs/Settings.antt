@@ -1,0 +1,29 @@
+-- What a configuration sets for a tenant: its quotas and its tokens.
+use Rattle.std.specs.Prelude.{ℕ, Bool, true, false, ◌&&◌, List, [], map}
+use Rattle.std.specs.List.{list_any}
+use Rattle.std.specs.Str.{bytes_eq}
+use Rattle.pg_tenant.specs.declared.settings.Rights.{Rights}
+use Rattle.pg_tenant.specs.declared.settings.Rights.TheVariants.{Read, Write}
+
+pub record TokenSettings : Type 0 where
+  pub text : List ℕ
+  pub rights : Rights
+
+pub record TenantSettings : Type 0 where
+  pub max_steps : ℕ
+  pub max_elements : ℕ
+  pub tokens : List TokenSettings
+
+abbrev pub token_texts : TenantSettings → List (List ℕ)
+token_texts tenant = map (λ t. t.text) tenant.tokens
+
+abbrev pub is_write : Rights → Bool
+is_write Read = false
+is_write Write = true
+
+-- the token is one of the tenant's that may write
+abbrev pub may_write : TenantSettings → (token : List ℕ) → Bool
+may_write settings token = list_any (λ t. bytes_eq t.text token && is_write t.rights) settings.tokens
+
+abbrev pub no_settings : TenantSettings
+no_settings = record { max_steps = 0; max_elements = 0; tokens = [] }

@@ -1,0 +1,18 @@
+//! Small requests. A function without a body says that the instances hold, or don't, as they are listed.
+ghost use Rattle.pg_tenant.specs.InstancesOfTenants.{InstancesOfEarlyTests, InstancesOfIndexes, InstancesOfReplies, InstancesOfRights, InstancesOfTexts};
+ghost use Rattle.pg_tenant.specs.InstancesOfTransactions.{InstancesOfTransactions, InstancesOfWaiting};
+
+/// What a tenant answers, and in which order it tests.
+pub fn instances_of_tenants()
+    ensures rights { InstancesOfRights }
+    ensures indexes { InstancesOfIndexes }
+    ensures early { InstancesOfEarlyTests }
+    ensures texts { InstancesOfTexts }
+    ensures replies { InstancesOfReplies }
+{}
+
+/// What a tenant answers while a transaction is open, and while none is.
+pub fn instances_of_transactions()
+    ensures transactions { InstancesOfTransactions }
+    ensures waiting { InstancesOfWaiting }
+{}

@@ -1,0 +1,109 @@
+//! A tenant: what it may use, its indexes, and what it answers.
+ghost use Rattle.std.specs.Prelude.{◌≡◌, ◌≢◌, false, IfOk, IfErr};
+ghost use Rattle.pg_cache.specs.Cache.{cache_seen};
+ghost use Rattle.pg_json.specs.Bodies.{request_view};
+ghost use Rattle.pg_live.specs.Settled.{HasBegun};
+ghost use Rattle.pg_meaning.specs.declared.fault.Fault.TheVariants.{OutOfMemory};
+ghost use Rattle.pg_tenant.specs.LookUps.{LooksUp, key_of, text_key};
+ghost use Rattle.pg_tenant.specs.State.{opening};
+ghost use Rattle.pg_tenant.specs.Step.{AddsNames, Answers, KeepsOthers, Serves, reply_of, takes_memory};
+ghost use Rattle.pg_tenant.specs.TenantStates.{opening_state, state_over, token_at};
+
+use crate::settings::TenantSettings;
+use pg_cache::PlanCache;
+use pg_graph::Tables;
+use pg_json::{ReplyBytes, RequestBody};
+use pg_live::LiveGraph;
+use pg_plan::Catalogue;
+use pg_value_core::Fault;
+use std::alloc::{AllocError, Global};
+use std::hash::RandomState;
+use std::rc::Rc;
+
+/// What a tenant has beside its graph, which is the one at its place. Of a transaction it keeps nothing: its token and its begin stand
+/// with the graph.
+#[derive(Drop)]
+pub struct Tenant {
+    pub(crate) settings: TenantSettings,
+    // kept plans share it
+    pub(crate) indexes: Rc<Catalogue>,
+}
+
+impl Tenant {
+    /// A tenant with no index.
+    pub fn new(alloc: Global, settings: TenantSettings) -> Result<Tenant, AllocError>
+        ensures settings { IfOk result (λ tenant. tenant.settings ≡ settings) }
+        ensures opening { IfOk result (λ tenant. opening_state tenant ≡ opening settings) }
+    {
+        let indexes = Rc::new(alloc, Vec::new(alloc))?;
+        Ok(Tenant { settings, indexes })
+    }
+
+    /// The text of the token at this place among the tenant's, which is empty where there is none.
+    pub fn token_at(&self, holder: usize) -> &str
+        ensures { result.now ≡ token_at self.now.settings holder }
+    {
+        self.settings.token_at(holder)
+    }
+
+    /// The reply to a request with a token of this tenant, over the graph at work. What is refused changes nothing; what a query changes is
+    /// kept only once the reply's bytes are made.
+    pub fn answer<T: Tables>(
+        &mut self,
+        alloc: Global,
+        live: &mut LiveGraph<T>,
+        cache: &mut PlanCache<RandomState>,
+        request: RequestBody,
+    ) -> Result<ReplyBytes, Fault>
+        requires begun { HasBegun live.old }
+        ensures answers { Answers (state_over self.old live.old) (request_view request) result
+            (state_over self.new live.new) }
+        ensures names { AddsNames (reply_of result) live.old.names live.new.names }
+        ensures others { KeepsOthers live.old live.new }
+        ensures settings { self.new.settings ≡ self.old.settings }
+        ensures cache { LooksUp (key_of (state_over self.old live.old) (request_view request)) (reply_of result)
+            (cache_seen cache.old) (cache_seen cache.new) }
+        // what begins or ends a transaction is never refused for want of memory
+        ensures memory { takes_memory (request_view request) ≡ false → IfErr result (λ e. e ≢ OutOfMemory) }
+    {
+        if self.is_busy(live, request.token()) {
+            return Err(Fault::TenantBusy);
+        }
+        self.serve(alloc, live, cache, request)
+    }
+
+    /// The reply to a request, where no other token has a transaction open.
+    fn serve<T: Tables>(
+        &mut self,
+        alloc: Global,
+        live: &mut LiveGraph<T>,
+        cache: &mut PlanCache<RandomState>,
+        request: RequestBody,
+    ) -> Result<ReplyBytes, Fault>
+        requires begun { HasBegun live.old }
+        ensures serves { Serves self.old self.new live.old live.new (request_view request) result }
+        ensures cache { LooksUp (text_key (state_over self.old live.old) (request_view request)) (reply_of result)
+            (cache_seen cache.old) (cache_seen cache.new) }
+    {
+        match request {
+            RequestBody::Query {
+                token,
+                text,
+                parameters,
+            } => {
+                let plan = self.plan_of(alloc, cache, text)?;
+                self.answer_plan(alloc, live, token.as_str(), &plan, &parameters)
+            }
+            RequestBody::Status { token: _ } => self.status(alloc, live),
+            RequestBody::CreateIndex { token, label, key } => {
+                self.create_index(alloc, live, token.as_str(), label.as_str(), key.as_str())
+            }
+            RequestBody::DropIndex { token, label, key } => {
+                self.drop_index(alloc, live, token.as_str(), label.as_str(), key.as_str())
+            }
+            RequestBody::Begin { token } => self.begin(live, token.as_str()),
+            RequestBody::Commit { token } => self.commit(live, token.as_str()),
+            RequestBody::Rollback { token } => self.rollback(live, token.as_str()),
+        }
+    }
+}

@@ -5,7 +5,7 @@ use Rattle.graphd_listen.specs.declared.fault.ProgramFault.{ProgramFault}
 use Rattle.graphd_listen.specs.declared.fault.ProgramFault.TheVariants.{Usage, Start, Log, Listen, Wait}
 
 abbrev pub program_line : ProgramFault → List ℕ
-program_line Usage = codes "usage: graphd_listen CONFIG ADDRESS:PORT [--clients N] [--patience SECONDS] [--tenant-clients N] [--log FILE] [--metrics ADDRESS:PORT] | graphd_listen --check CONFIG"
+program_line Usage = codes "usage: graphd_listen CONFIG ADDRESS:PORT [--clients N] [--patience SECONDS] [--tenant-clients N] [--keep-open] [--log FILE] [--metrics ADDRESS:PORT] | graphd_listen --check CONFIG"
 program_line (Start fault) = start_line fault
 program_line Log = codes "cannot open the log"
 program_line Listen = codes "cannot listen"

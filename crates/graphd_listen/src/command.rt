@@ -32,6 +32,7 @@ pub(crate) struct Options<'a> {
     clients: Option<u64>,
     patience: Option<u64>,
     tenant_clients: Option<u64>,
+    keep_open: bool,
     log: Option<&'a str>,
     metrics: Option<SocketAddr>,
 }
@@ -67,6 +68,15 @@ impl<'a> Options<'a> {
         }
     }
 
+    /// Sets the option that has no value, unless it is set.
+    fn keep_open(&mut self) -> Option<()> {
+        if self.keep_open {
+            return None;
+        }
+        self.keep_open = true;
+        Some(())
+    }
+
     /// What clients may take.
     pub(crate) fn limits(&self) -> Limits {
         let clients = self.clients.unwrap_or(1_024) as usize;
@@ -79,6 +89,7 @@ impl<'a> Options<'a> {
             patience: self.patience.unwrap_or(30).saturating_mul(1_000_000),
             waiting: MOST_WAITING,
             tenant_waiting: MOST_WAITING_OF_TENANT,
+            keep_open: self.keep_open,
         }
     }
 
@@ -107,14 +118,24 @@ fn options_of(words: &[String]) -> Option<Options<'_>> {
         clients: None,
         patience: None,
         tenant_clients: None,
+        keep_open: false,
         log: None,
         metrics: None,
     };
-    for pair in words.chunks(2) {
-        let [name, value] = pair else {
-            return None;
+    let mut left = words;
+    for _taken in 0..words.len() {
+        left = match left {
+            [] => return Some(options),
+            [name, more @ ..] if name.as_str() == "--keep-open" => {
+                options.keep_open()?;
+                more
+            }
+            [name, value, more @ ..] => {
+                options.set(name.as_str(), value.as_str())?;
+                more
+            }
+            _ => return None,
         };
-        options.set(name.as_str(), value.as_str())?;
     }
     Some(options)
 }

@@ -3,7 +3,8 @@ use crate::connection::{Connection, TRIES};
 use crate::connection_table::ConnectionTable;
 use crate::counts::{Counts, word_of};
 use crate::lines::{
-    Seconds, closed_line, lost_line, not_accepted_line, refused_line, start_line, stop_line,
+    Seconds, closed_line, lost_line, not_accepted_line, refused_line, rolled_back_line, start_line,
+    stop_line,
 };
 use crate::log::Log;
 use crate::scrapes::{Known, Scrapes};
@@ -217,6 +218,14 @@ impl<'a, C: Clock> Connections<'a, C> {
         }
     }
 
+    fn say_rolled_back(&mut self, tenant: usize, code: u8) {
+        if self.log.has_room() {
+            if let Ok(line) = rolled_back_line(self.alloc, self.time(), tenant, code) {
+                self.log.push(&line);
+            }
+        }
+    }
+
     /// A client was there and couldn't be accepted.
     fn say_not_accepted(&mut self) {
         self.counts.note_not_accepted();
@@ -338,6 +347,11 @@ impl<'a, C: Clock> Network for Connections<'a, C> {
             }
             _ => self.table.remove(client),
         }
+    }
+
+    fn note_rollback(&mut self, tenant: usize, reply: &ReplyNote) {
+        self.counts.note_rollback();
+        self.say_rolled_back(tenant, reply.code);
     }
 
     fn stop(&mut self) {

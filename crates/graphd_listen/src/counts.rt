@@ -50,6 +50,8 @@ pub(crate) struct Counts {
     pub(crate) refusals: Vec<u64>,
     /// How many requests each bucket has.
     pub(crate) buckets: Vec<u64>,
+    /// Requests of the server's own, each of which rolls a transaction back.
+    pub(crate) rollbacks: u64,
     /// Those of each tenant that was asked, by its place.
     pub(crate) tenants: Vec<TenantCounts>,
 }
@@ -96,6 +98,7 @@ impl Counts {
             micros: 0,
             refusals: vec![in alloc; 0u64; CODES]?,
             buckets: vec![in alloc; 0u64; 8]?,
+            rollbacks: 0,
             tenants: Vec::new(alloc),
         })
     }
@@ -150,6 +153,10 @@ impl Counts {
         if let Some(place) = tenant {
             self.note_tenant(place, reply);
         }
+    }
+
+    pub(crate) fn note_rollback(&mut self) {
+        self.rollbacks = self.rollbacks.saturating_add(1);
     }
 
     fn note_tenant(&mut self, place: usize, reply: &ReplyNote) {

@@ -55,7 +55,7 @@ impl ProgramFault {
     {
         match self {
             ProgramFault::Usage => {
-                "usage: graphd_listen CONFIG ADDRESS:PORT [--clients N] [--patience SECONDS] [--tenant-clients N] [--log FILE] [--metrics ADDRESS:PORT] | graphd_listen --check CONFIG"
+                "usage: graphd_listen CONFIG ADDRESS:PORT [--clients N] [--patience SECONDS] [--tenant-clients N] [--keep-open] [--log FILE] [--metrics ADDRESS:PORT] | graphd_listen --check CONFIG"
             }
             ProgramFault::Start(fault) => fault.line(),
             ProgramFault::Log => "cannot open the log",

@@ -78,6 +78,18 @@ pub(crate) fn refused_line(
     )
 }
 
+/// A transaction was rolled back whose client is gone, or it was tried to.
+pub(crate) fn rolled_back_line(
+    alloc: Global,
+    time: Seconds,
+    tenant: usize,
+    code: u8,
+) -> Result<String, AllocError> {
+    format!(in alloc;
+        "{{\"time\":{time},\"event\":\"rolled_back\",\"tenant\":{tenant},\"code\":{code}}}\n"
+    )
+}
+
 /// A client couldn't be accepted.
 pub(crate) fn not_accepted_line(alloc: Global, time: Seconds) -> Result<String, AllocError> {
     format!(in alloc; "{{\"time\":{time},\"event\":\"not_accepted\"}}\n")

@@ -153,6 +153,17 @@ fn tenant_seconds(page: &mut String, counts: &Counts) -> Result<(), AllocError> 
     Ok(())
 }
 
+fn rollbacks(page: &mut String, counts: &Counts) -> Result<(), AllocError> {
+    let help = "transactions that were rolled back, or tried to, since their connections were gone";
+    number(
+        page,
+        "graphd_rollbacks_total",
+        "counter",
+        help,
+        counts.rollbacks,
+    )
+}
+
 fn losses(page: &mut String, lost: Losses) -> Result<(), AllocError> {
     let help = "lines of the log that were dropped";
     number(
@@ -182,6 +193,7 @@ pub(crate) fn page_of(alloc: Global, counts: &Counts, lost: Losses) -> Result<St
     tenant_requests(&mut page, counts)?;
     tenant_refusals(&mut page, counts)?;
     tenant_seconds(&mut page, counts)?;
+    rollbacks(&mut page, counts)?;
     losses(&mut page, lost)?;
     Ok(page)
 }

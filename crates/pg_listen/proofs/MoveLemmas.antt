@@ -3,7 +3,7 @@ use Rattle.std.proofs.Common.{◌≡◌, ℕ, Bool, true, false, List, [], ◌�
 use Rattle.std.proofs.lemmas.Grind.{flat_map-append}
 use Rattle.std.proofs.lemmas.List.{map-append}
 use Rattle.std.proofs.lemmas.List.Elements.{All-nil, All-append}
-use Rattle.pg_listen.specs.Events.{Event, received_at, sent_at, exchange_at, exchange_of, carried_at, received_from, sent_to, exchanges_by, carried_in, Adds}
+use Rattle.pg_listen.specs.Events.{Event, received_at, sent_at, exchange_at, exchange_of, own_of, own_in, carried_at, received_from, sent_to, exchanges_by, carried_in, Adds}
 use Rattle.pg_server.specs.Exchange.{Exchange, bodies_of, replies_of, Chain}
 use Rattle.pg_server.specs.Frames.{frame, IsShort}
 use Rattle.pg_server.specs.Served.{frames}
@@ -48,6 +48,7 @@ module _ (c : ℕ) (old mid new : Seen) (xs ys : List Event) (a : Goes c old mid
   Goes-trans =
       record {
         only = λ d apart. silent-append d xs ys (a.only d apart) (b.only d apart);
+        none_own = flat_map-append own_of xs ys ∙ ap (λ l. l ++ own_in ys) a.none_own ∙ b.none_own;
         received = ap (λ l. old.inbox ++ l) (flat_map-append (received_at c) xs ys) ∙ received_more
             ∙ ap (λ l. l ++ new.inbox) (sym (ap frames bodies_more ∙ flat_map-append frame _ _));
         sent = ap (λ l. old.pending ++ l) all_sent
@@ -87,6 +88,7 @@ pub Goes-nil : (c : ℕ) (s : Seen) → Goes c s s []
 Goes-nil c s =
     record {
       only = λ d apart. silent-nil d;
+      none_own = refl;
       received = append-nil s.inbox;
       sent = unchanged s.refused;
       short = All-nil IsShort;

@@ -27,6 +27,7 @@ module _ (c : ℕ) (old : Seen) where
   sent_goes n =
       record {
         only = λ d apart. silent-sent c d _ apart;
+        none_own = refl;
         received = append-nil old.inbox;
         sent = unchanged old.pending old.refused ∙ sym (take-append-drop n old.pending) ∙ ap (λ l. l ++ drop n old.pending) (sym (append-nil _ ∙ here c (take n old.pending) []));
         short = All-nil IsShort;
@@ -42,6 +43,7 @@ module _ (c : ℕ) (old : Seen) where
     received_goes bytes =
         record {
           only = λ d apart. silent-received c d bytes apart;
+          none_own = refl;
           received = ap (λ l. old.inbox ++ l) (append-nil _ ∙ here c bytes []);
           sent = unchanged old.pending old.refused;
           short = All-nil IsShort;
@@ -56,6 +58,7 @@ module _ (c : ℕ) (old : Seen) where
     refused_goes long =
         record {
           only = λ d apart. silent-nil d;
+          none_own = refl;
           received = append-nil old.inbox;
           sent = ap (λ r. old.pending ++ frames ([] ++ refusal_of r true)) open_yet ∙ ap (λ l. old.pending ++ l) (append-nil (frame too_long_reply));
           short = All-nil IsShort;
@@ -77,6 +80,7 @@ module _ (c : ℕ) (old : Seen) where
       answered_goes =
           record {
             only = λ d apart. silent-answered c d one apart;
+            none_own = refl;
             received = append-nil old.inbox ∙ stands ∙ ap (λ l. l ++ rest) (sym (append-nil (frame body))) ∙ ap (λ es. frames (bodies_of es) ++ rest) (sym exchanges_are);
             sent = ap (λ es. old.pending ++ frames (replies_of es ++ refusal_of old.refused old.refused)) exchanges_are
                 ∙ ap (λ r. old.pending ++ frames ((reply ∷ []) ++ refusal_of r r)) open_yet

@@ -6,3 +6,4 @@ pub mod Listens
 pub mod Moves
 pub mod Network
 pub mod Queue
+pub mod Sessions

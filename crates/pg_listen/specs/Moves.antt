@@ -1,6 +1,6 @@
 -- How one client's side goes on, and where it stands.
 use Rattle.std.specs.Prelude.{◌≡◌, ◌≢◌, ℕ, Bool, true, false, List, [], ◌∷◌, ◌++◌, Option, Result, OnOk, All}
-use Rattle.pg_listen.specs.Events.{Event, received_from, sent_to, exchanges_by, exchanges_in, carried_in, Adds, IsSilent}
+use Rattle.pg_listen.specs.Events.{Event, received_from, sent_to, exchanges_by, exchanges_in, own_in, carried_in, Adds, IsSilent}
 use Rattle.pg_server.specs.Exchange.{bodies_of, replies_of, Chain}
 use Rattle.pg_server.specs.Frames.{IsShort}
 use Rattle.pg_server.specs.Served.{frames, too_long_reply}
@@ -21,9 +21,10 @@ refusal_of false true = too_long_reply ∷ []
 refusal_of false false = []
 refusal_of true refused = []
 
--- between two moments of a client these events happen, and none of them is another client's
+-- between two moments of a client these events happen, and none of them is another client's or the server's own
 pub record Goes (c : ℕ) (old new : Seen) (events : List Event) : Type 0 where
   pub only : (d : ℕ) → d ≢ c → IsSilent d events
+  pub none_own : own_in events ≡ []
   pub received : old.inbox ++ received_from c events ≡ frames (bodies_of (exchanges_by c events)) ++ new.inbox
   pub sent : old.pending ++ frames (replies_of (exchanges_by c events) ++ refusal_of old.refused new.refused) ≡ sent_to c events ++ new.pending
   pub short : All IsShort (bodies_of (exchanges_by c events))

@@ -133,9 +133,9 @@ impl Client {
     }
 
     /// Counts it no longer.
-    pub(crate) fn leave(&self, tenants: &mut Tenants) {
+    pub(crate) fn leave(&self, number: u64, tenants: &mut Tenants) {
         tenants.count(self.tenant, self.counted, 0);
-        tenants.leave(self.tenant);
+        tenants.leave(self.tenant, number);
         tenants.release(self.tenant);
     }
 

@@ -4,8 +4,9 @@ ghost use Rattle.pg_listen.specs.Clients.{AllMoveOn, AllStand, Keeps, Rests};
 ghost use Rattle.pg_listen.specs.Listens.{Listens};
 
 use crate::client::Client;
+use crate::frames::code_of;
 use crate::limits::Limits;
-use crate::network::{Closing, Network, Signal};
+use crate::network::{Closing, Network, ReplyNote, Signal};
 use crate::service::Service;
 use crate::tenants::Tenants;
 use crate::turn::{Allowance, turn};
@@ -14,9 +15,6 @@ use std::collections::HashMap;
 
 /// So many clients are accepted before others have their turn.
 const ACCEPTED_AT_ONCE: u32 = 64;
-
-/// So many turns are taken before the network is asked what else there is.
-const TURNS: u32 = 4;
 
 /// How the service of clients ended.
 #[derive(Clone, Copy)]
@@ -38,8 +36,6 @@ pub(crate) struct Clients {
     next: u64,
     tenants: Tenants,
     allowance: Allowance,
-    // how many turns may be taken before the network is asked
-    turns: u32,
     stopping: bool,
     // when those that are left are closed
     until: u64,
@@ -60,7 +56,6 @@ impl Clients {
             next: 0,
             tenants: Tenants::new(alloc, limits),
             allowance,
-            turns: 0,
             stopping: false,
             until: 0,
             waits: false,
@@ -106,7 +101,7 @@ impl Clients {
     fn close<N: Network>(&mut self, net: &mut N, number: u64, why: Closing)
         ensures { Rests (N.trace net.old) (N.trace net.new) self.old self.new }
     {
-        forget(self.by_number.remove(&number), &mut self.tenants);
+        forget(self.by_number.remove(&number), number, &mut self.tenants);
         net.close(number, why);
     }
 
@@ -130,7 +125,7 @@ impl Clients {
 
     /// A client's turn.
     fn serve<N: Network, S: Service>(&mut self, net: &mut N, service: &mut S, number: u64)
-        ensures { AllMoveOn S.answers (N.trace net.old) (N.trace net.new) service.old service.new self.old self.new }
+        ensures { AllMoveOn S.answers S.is_own (N.trace net.old) (N.trace net.new) service.old service.new self.old self.new }
     {
         let Some(client) = self.by_number.get_mut(&number) else {
             return;
@@ -145,7 +140,7 @@ impl Clients {
         ) {
             Ok(()) => {}
             Err(why) => {
-                forget(self.by_number.remove(&number), &mut self.tenants);
+                forget(self.by_number.remove(&number), number, &mut self.tenants);
                 net.close(number, why);
             }
         }
@@ -210,6 +205,7 @@ impl Clients {
         self.close_unwanted(net);
         self.close_largest(net);
         self.tenants.release_all();
+        self.tenants.sessions.try_again();
     }
 
     fn numbers(&self) -> Result<Vec<u64>, AllocError> {
@@ -238,7 +234,7 @@ impl Clients {
         ensures { Rests (N.trace net.old) (N.trace net.new) self.old self.new }
     {
         match signal {
-            Signal::Nothing => self.turns = TURNS,
+            Signal::Nothing => self.allowance.renew(self.tenants.are_several()),
             Signal::Ready(number) => self.give_turn_or_close(net, number),
             Signal::Arrival => self.accept_all(net),
             Signal::Tick => self.tick(net),
@@ -267,25 +263,61 @@ impl Clients {
         self.handle(net, signal);
     }
 
-    /// Whether no more clients are wanted, and none is left.
+    /// Whether no more clients are wanted, none is left, and no transaction that one of them began.
     fn is_over(&self) -> bool {
-        self.stopping && self.by_number.is_empty()
+        self.stopping && self.by_number.is_empty() && !self.tenants.sessions.is_due()
     }
 
     /// The client whose turn it is, unless the network is to be asked first.
     fn next_turn(&mut self) -> Option<u64>
         ensures { Keeps self.old self.new }
     {
-        if self.turns == 0 {
+        if !self.allowance.take_turn() {
             return None;
         }
-        self.turns -= 1;
         self.tenants.pop()
     }
 
-    /// Takes one turn, or asks the network.
+    /// The place of a tenant whose transaction is open behind the client that began it.
+    fn next_left(&mut self) -> Option<usize>
+        ensures { Keeps self.old self.new }
+    {
+        self.tenants.sessions.next_left()
+    }
+
+    /// Has the transaction of a tenant rolled back, by a request as any other, whose reply goes to nobody.
+    fn roll_back<N: Network, S: Service>(&mut self, net: &mut N, service: &mut S, place: usize)
+        ensures { AllMoveOn S.answers S.is_own (N.trace net.old) (N.trace net.new) service.old service.new self.old self.new }
+    {
+        let Some(body) = service.rollback(place) else {
+            let is_open = service.is_open(place);
+            self.tenants.sessions.note_tried(place, is_open);
+            return;
+        };
+        let began = net.now();
+        let reply = service.answer(&body);
+        let is_open = service.is_open(place);
+        self.tenants.sessions.note_tried(place, is_open);
+        let note = ReplyNote {
+            code: code_of(reply.as_slice()),
+            micros: net.now().saturating_sub(began),
+        };
+        net.note_rollback(place, &note);
+    }
+
+    /// Has a transaction rolled back that was left, or else goes on, so that nothing else of it is answered meanwhile.
     fn step<N: Network, S: Service>(&mut self, net: &mut N, service: &mut S)
-        ensures { AllMoveOn S.answers (N.trace net.old) (N.trace net.new) service.old service.new self.old self.new }
+        ensures { AllMoveOn S.answers S.is_own (N.trace net.old) (N.trace net.new) service.old service.new self.old self.new }
+    {
+        match self.next_left() {
+            Some(place) => self.roll_back(net, service, place),
+            None => self.go_on(net, service),
+        }
+    }
+
+    /// Takes one turn, or asks the network.
+    fn go_on<N: Network, S: Service>(&mut self, net: &mut N, service: &mut S)
+        ensures { AllMoveOn S.answers S.is_own (N.trace net.old) (N.trace net.new) service.old service.new self.old self.new }
     {
         match self.next_turn() {
             Some(number) => self.serve(net, service, number),
@@ -295,9 +327,9 @@ impl Clients {
 }
 
 /// Counts a client no longer that was removed.
-fn forget(removed: Option<Client>, tenants: &mut Tenants) {
+fn forget(removed: Option<Client>, number: u64, tenants: &mut Tenants) {
     if let Some(client) = removed {
-        client.leave(tenants);
+        client.leave(number, tenants);
     }
 }
 
@@ -309,7 +341,7 @@ pub(crate) fn listen<N: Network, S: Service>(
     limits: Limits,
     steps: u64,
 ) -> ListenEnd
-    ensures { Listens S.answers (N.trace net.old) (N.trace net.new) service.old service.new }
+    ensures { Listens S.answers S.is_own (N.trace net.old) (N.trace net.new) service.old service.new }
 {
     let Ok(mut clients) = Clients::new(alloc, limits) else {
         return ListenEnd::NoMemory;

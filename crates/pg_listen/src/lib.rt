@@ -9,6 +9,7 @@ mod listen;
 mod network;
 mod queue;
 mod service;
+mod sessions;
 mod tenants;
 mod turn;
 

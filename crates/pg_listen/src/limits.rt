@@ -13,4 +13,6 @@ pub struct Limits {
     pub waiting: usize,
     /// How many of one tenant's clients, before its requests wait.
     pub tenant_waiting: usize,
+    /// Whether a transaction stays open when the client is gone that began it.
+    pub keep_open: bool,
 }

@@ -105,6 +105,11 @@ pub trait Network {
     fn note(&mut self, client: u64, tenant: Option<usize>, replies: &[ReplyNote])
         ensures { Adds (trace self.old) (trace self.new) [] };
 
+    /// Is told that the transaction of the tenant at a place was rolled back, or that it was tried to, with the reply, since the client is
+    /// gone that began it.
+    fn note_rollback(&mut self, tenant: usize, reply: &ReplyNote)
+        ensures { Adds (trace self.old) (trace self.new) [] };
+
     /// Accepts no more.
     fn stop(&mut self)
         ensures { Adds (trace self.old) (trace self.new) [] };

@@ -1,6 +1,8 @@
-//! Whose turn is next: tenants take turns, and so do the clients of each.
+//! Whose turn is next: tenants take turns, and so do the clients of each. A tenant that asks for the first time in a
+//! while comes before those that had turns meanwhile, once: then it stands behind them.
 use crate::limits::Limits;
 use crate::network::Closing;
+use crate::sessions::Sessions;
 use std::alloc::{AllocError, Global};
 use std::collections::VecDeque;
 
@@ -14,6 +16,8 @@ struct Group {
     turns: VecDeque<u64>,
     // those whose requests wait until fewer bytes do
     held: VecDeque<u64>,
+    // it stands in one of the orders
+    is_ordered: bool,
 }
 
 /// The groups of clients. The first is of those that have shown no tenant's token.
@@ -22,10 +26,15 @@ pub(crate) struct Tenants {
     alloc: Global,
     limits: Limits,
     groups: Vec<Group>,
-    // the groups that have a turn to come, each once, the next one first
+    // the groups that had no turn since all others of the order had one, the next one first
+    fresh: VecDeque<usize>,
+    // the other ones, the next one first; one that has no turn to come leaves when it is its turn
     order: VecDeque<usize>,
+    // how many clients have a turn to come
+    turns: usize,
     // bytes of replies that no client has taken yet
     waiting: usize,
+    pub(crate) sessions: Sessions,
 }
 
 /// Where the clients of a tenant stand, or those of none.
@@ -42,8 +51,11 @@ impl Tenants {
             alloc,
             limits,
             groups: Vec::new(alloc),
+            fresh: VecDeque::new(alloc),
             order: VecDeque::new(alloc),
+            turns: 0,
             waiting: 0,
+            sessions: Sessions::new(alloc),
         }
     }
 
@@ -51,11 +63,15 @@ impl Tenants {
     fn group(&mut self, tenant: Option<usize>) -> Result<&mut Group, AllocError> {
         let at = group_of(tenant);
         for _made in self.groups.len()..at.saturating_add(1) {
+            // (room for it in both orders, so that none of them lacks it when it is to stand there)
+            self.fresh.reserve(self.groups.len().saturating_add(1))?;
+            self.order.reserve(self.groups.len().saturating_add(1))?;
             self.groups.push(Group {
                 clients: 0,
                 waiting: 0,
                 turns: VecDeque::new(self.alloc),
                 held: VecDeque::new(self.alloc),
+                is_ordered: false,
             })?;
         }
         self.groups.get_mut(at).ok_or(AllocError)
@@ -75,9 +91,12 @@ impl Tenants {
     }
 
     /// The client of a tenant is gone.
-    pub(crate) fn leave(&mut self, tenant: Option<usize>) {
+    pub(crate) fn leave(&mut self, tenant: Option<usize>, client: u64) {
         if let Some(group) = self.groups.get_mut(group_of(tenant)) {
             group.clients = group.clients.saturating_sub(1);
+        }
+        if !self.limits.keep_open {
+            self.sessions.leave(client);
         }
     }
 
@@ -103,29 +122,45 @@ impl Tenants {
         }
     }
 
-    /// Gives a client of the tenant a turn, behind those that have one to come.
+    /// Gives a client of the tenant a turn, behind those of the tenant that have one to come.
     pub(crate) fn push(&mut self, tenant: Option<usize>, client: u64) -> Result<(), AllocError> {
         let at = group_of(tenant);
         let group = self.group(tenant)?;
-        let is_first = group.turns.is_empty();
         group.turns.push_back(client)?;
-        if is_first && self.order.push_back(at).is_err() {
-            // else the group would never come to its turn
-            let _ = self.group(tenant)?.turns.pop_back();
-            return Err(AllocError);
+        if !group.is_ordered {
+            group.is_ordered = true;
+            if self.fresh.push_back(at).is_err() {
+                // else the group would never come to its turn
+                let group = self.group(tenant)?;
+                group.is_ordered = false;
+                let _ = group.turns.pop_back();
+                return Err(AllocError);
+            }
         }
+        self.turns = self.turns.saturating_add(1);
         Ok(())
     }
 
     /// The client whose turn it is.
     pub(crate) fn pop(&mut self) -> Option<u64> {
-        let at = self.order.pop_front()?;
+        for _left in 0..u32::MAX {
+            let at = match self.fresh.pop_front() {
+                Some(at) => at,
+                None => self.order.pop_front()?,
+            };
+            if let Some(client) = self.pop_of(at) {
+                self.turns = self.turns.saturating_sub(1);
+                return Some(client);
+            }
+        }
+        None
+    }
+
+    /// The client of a group whose turn it is; the group stands behind all others then, unless none has a turn to come.
+    fn pop_of(&mut self, at: usize) -> Option<u64> {
         let group = self.groups.get_mut(at)?;
         let client = group.turns.pop_front();
-        if !group.turns.is_empty() {
-            // (there is room for it: it was there)
-            let _ = self.order.push_back(at);
-        }
+        group.is_ordered = client.is_some() && self.order.push_back(at).is_ok();
         client
     }
 
@@ -163,8 +198,13 @@ impl Tenants {
         }
     }
 
+    /// Whether several of the groups had a turn of late, or have one to come.
+    pub(crate) fn are_several(&self) -> bool {
+        self.fresh.len().saturating_add(self.order.len()) > 1
+    }
+
     /// Whether no client has a turn to come.
     pub(crate) fn is_empty(&self) -> bool {
-        self.order.is_empty()
+        self.turns == 0
     }
 }

@@ -8,7 +8,7 @@ use crate::frames::{Front, code_of, front_of, push_frame};
 use crate::network::{Closing, Network, Received, ReplyNote, Sent};
 use crate::service::Service;
 use crate::tenants::Tenants;
-use pg_json::refusal;
+use pg_json::{done, refusal};
 use pg_meaning::Fault;
 use std::alloc::{AllocError, Global};
 
@@ -18,11 +18,20 @@ const MOST_WAITING: usize = 65_536;
 /// So often a client may be read or sent in a turn.
 const ROUNDS: u32 = 4;
 
-/// So many requests may be answered in a turn.
+/// So many requests may be answered in a turn, and so many before the network is asked what else there is.
 const REQUESTS: u32 = 16;
+
+/// So many where several tenants ask, so that one that floods holds up what another one asks by few of its requests.
+const SHARED_REQUESTS: u32 = 8;
 
 /// After so many microseconds no more requests are answered in a turn.
 const MICROSECONDS: u64 = 100;
+
+/// So many turns may be taken before the network is asked.
+const TURNS: u32 = 4;
+
+/// So many where several tenants ask.
+const SHARED_TURNS: u32 = 2;
 
 /// So many bytes are read at once.
 const SCRATCH: usize = 65_536;
@@ -40,12 +49,19 @@ pub(crate) enum Step {
     Held,
 }
 
-/// What a turn may still use.
+/// What a turn may still use, and what turns may before the network is asked.
 #[derive(Drop)]
 pub(crate) struct Allowance {
     pub(crate) alloc: Global,
     scratch: Vec<u8>,
+    // several tenants ask
+    is_shared: bool,
+    // turns and requests before the network is asked
+    turns: u32,
+    requests_between: u32,
+    // of the turn
     requests: u32,
+    has_answered: bool,
     // bytes of replies
     room: usize,
     // when no more requests are answered
@@ -63,7 +79,11 @@ impl Allowance {
         Ok(Allowance {
             alloc,
             scratch,
+            is_shared: false,
+            turns: 0,
+            requests_between: 0,
             requests: 0,
+            has_answered: false,
             room: 0,
             until: 0,
             now: 0,
@@ -71,9 +91,34 @@ impl Allowance {
         })
     }
 
+    /// The network was asked, and several tenants ask now or one does.
+    pub(crate) fn renew(&mut self, is_shared: bool) {
+        self.is_shared = is_shared;
+        self.turns = if is_shared { SHARED_TURNS } else { TURNS };
+        self.requests_between = self.most_requests();
+    }
+
+    fn most_requests(&self) -> u32 {
+        if self.is_shared {
+            SHARED_REQUESTS
+        } else {
+            REQUESTS
+        }
+    }
+
+    /// Takes a turn, unless the network is to be asked first.
+    pub(crate) fn take_turn(&mut self) -> bool {
+        if self.turns == 0 || self.requests_between == 0 {
+            return false;
+        }
+        self.turns -= 1;
+        true
+    }
+
     /// What a turn may use that begins now.
     fn begin(&mut self, now: u64, room: usize) {
-        self.requests = REQUESTS;
+        self.requests = self.most_requests();
+        self.has_answered = false;
         self.room = room;
         self.until = now.saturating_add(MICROSECONDS);
         self.replies.clear();
@@ -86,7 +131,7 @@ impl Allowance {
 
     /// Whether one more request may be answered. The first one always may, where there is room for replies.
     fn has_request(&self) -> bool {
-        self.room > 0 && self.requests > 0 && (self.requests == REQUESTS || self.now < self.until)
+        self.room > 0 && self.requests > 0 && (!self.has_answered || self.now < self.until)
     }
 
     /// Where it ends, no more requests are answered in this turn.
@@ -107,7 +152,9 @@ impl Allowance {
 
     /// The request of the last reply was done now, and the replies grew by so many bytes.
     fn spend(&mut self, bytes: usize, now: u64) {
+        self.has_answered = true;
         self.requests = self.requests.saturating_sub(1);
+        self.requests_between = self.requests_between.saturating_sub(1);
         self.room = self.room.saturating_sub(bytes);
         if let Some(reply) = self.replies.last_mut() {
             reply.micros = now.saturating_sub(self.now);
@@ -151,10 +198,31 @@ fn end_of(client: &Client) -> Closing {
     }
 }
 
+/// Notes who began the transaction that is open behind a request, or that none is. Of requests that are done those alone begin or end one
+/// that are answered by no more than that.
+fn note_transaction<S: Service>(
+    number: u64,
+    service: &S,
+    tenants: &mut Tenants,
+    body: &[u8],
+    reply: &[u8],
+) {
+    if reply != done().as_slice() {
+        return;
+    }
+    if let Some(place) = service.tenant(body) {
+        // (without memory for it, what is begun stays open behind the connection)
+        let is_open = service.is_open(place);
+        let _ = tenants.sessions.note(place, number, is_open);
+    }
+}
+
 /// Answers the frame in front, if it is whole.
 fn answer<S: Service>(
     client: &mut Client,
+    number: u64,
     service: &mut S,
+    tenants: &mut Tenants,
     allowance: &mut Allowance,
 ) -> Result<Step, Closing>
     requires { client.old.refused ≡ false }
@@ -174,8 +242,15 @@ fn answer<S: Service>(
         }
         Front::Body(n) => {
             let reply = service.answer(&client.inbox.front()[4..4 + n]);
-            client.inbox.skip(4 + n);
             let text = reply.as_slice();
+            note_transaction(
+                number,
+                service,
+                tenants,
+                &client.inbox.front()[4..4 + n],
+                text,
+            );
+            client.inbox.skip(4 + n);
             allowance.note(text);
             match push_frame(&mut client.outbox, text) {
                 Ok(()) => Ok(Step::More),
@@ -202,8 +277,10 @@ fn send<N: Network>(client: &mut Client, number: u64, net: &mut N) -> Result<Ste
 /// Answers whole frames that are there, as many as may be. Says whether it has answered one.
 fn answer_some<N: Network, S: Service>(
     client: &mut Client,
+    number: u64,
     net: &N,
     service: &mut S,
+    tenants: &mut Tenants,
     allowance: &mut Allowance,
 ) -> Result<bool, Closing>
     ensures { (c : ℕ) → AnswersOn S.answers c service.old service.new (seen client.old) (seen client.new) result }
@@ -214,7 +291,7 @@ fn answer_some<N: Network, S: Service>(
         if client.refused || MOST_WAITING <= waiting || !allowance.has_request() {
             return Ok(any);
         }
-        match answer(client, service, allowance) {
+        match answer(client, number, service, tenants, allowance) {
             Ok(Step::More) => any = true,
             Ok(_) => return Ok(any),
             Err(closing) => return Err(closing),
@@ -255,12 +332,13 @@ fn round<N: Network, S: Service>(
     number: u64,
     net: &mut N,
     service: &mut S,
+    tenants: &mut Tenants,
     allowance: &mut Allowance,
 ) -> Result<Step, Closing>
     ensures { MovesOn S.answers number (N.trace net.old) (N.trace net.new) service.old service.new (seen client.old) (seen client.new) result }
 {
     allowance.set_now(net.now());
-    match answer_some(client, net, service, allowance) {
+    match answer_some(client, number, net, service, tenants, allowance) {
         Ok(any) => {
             client.note_time(any, allowance.now);
             transfer(client, number, net, allowance)
@@ -285,7 +363,7 @@ fn counted_round<N: Network, S: Service>(
     match client.join(service, tenants) {
         Ok(()) => {
             allowance.end_where(had_tenant != client.has_tenant());
-            round(client, number, net, service, allowance)
+            round(client, number, net, service, tenants, allowance)
         }
         Err(closing) => Err(closing),
     }

@@ -1,5 +1,4 @@
 use Rattle.std.proofs.Common.{sym, ◌∙◌}
-use Rattle.pg_listen.specs.Client.{seen}
 use Rattle.pg_listen.proofs.MoveLemmas.{whatever, moves_told}
 use Rattle.pg_listen.proofs.turn.turn.Goals as goal
 

@@ -37,7 +37,7 @@ class Tables:
         print(*([where] if where else []), *remedies.lines(fault), sep="\n", file=sys.stderr, flush=True)
 
     def _print(self, lines):
-        pager = _pager() if self.pages and len(lines) >= shutil.get_terminal_size().lines else None
+        pager = _pager() if self.pages and len(lines) >= tables.terminal()[1] else None
         if pager is None:
             print(*lines, sep="\n", flush=True)
         else:

@@ -1,4 +1,5 @@
 """A session with its commands and parameters, and how statements are run."""
+import contextlib
 import json
 import re
 import sys
@@ -20,6 +21,7 @@ HELP = """\
 :schema                      labels, types and keys, and how many have them
 :explain QUERY               what each clause tries and is charged for, and which indexes serve; :explain alone takes the last query
 :index LABEL KEY             keeps nodes findable by a property; :unindex LABEL KEY takes it back
+:begin                       begins a transaction: what it changes is kept by :commit, taken back by :rollback or where the shell ends
 :param NAME VALUE            sets the parameter $NAME to a JSON value; :param alone lists all
 :unparam NAME                takes a parameter back
 :format NAME                 table, vertical, json or csv
@@ -33,6 +35,10 @@ QUITS = (":quit", ":exit", ":q", "quit", "exit")
 # an index's label and key, in backquotes or without, also as :status tells them
 WORDS = re.compile(r"`((?:[^`]|``)+)`|([^\s`]+)")
 PAIR = re.compile(r":?(`(?:[^`]|``)+`|[^`()\s]+)\((`(?:[^`]|``)+`|[^`()\s]+)\)\Z")
+
+
+LOST = "the transaction has ended with its connection: graphd_listen rolls back what it changed"
+LEFT = "the transaction that was open is rolled back"
 
 
 class Stopped(Exception):
@@ -49,6 +55,7 @@ class Shell:
     def __init__(self, session, answers, fails_fast=False):
         self.session, self.answers = session, answers
         self.parameters = {}
+        self.transaction = None  # the one that is open
         self.last = ""  # the last query
         self._names = None  # the graph's, once they are asked for
         self.refused = 0
@@ -68,6 +75,8 @@ class Shell:
             raise
         except (TypeError, ValueError, OSError, graphd.NotGraphd, graphd.TimedOut) as fault:
             self.tell(fault, where)
+        finally:
+            self._forget_lost()
         if self.fails_fast and self.refused > before:
             raise Stopped(f"stopped at {where}" if where else "stopped")
         return True
@@ -77,6 +86,25 @@ class Shell:
         self.refused += 1
         reason = f"{fault.filename}: {fault.strerror}" if isinstance(fault, OSError) and fault.filename else fault
         print(f"{where or 'graphsh'}: {tables.safe(str(reason))}", file=sys.stderr, flush=True)
+
+    def _forget_lost(self):
+        """Tells of a transaction whose connection was lost."""
+        if self.transaction is not None and self.transaction.is_lost:
+            self._take_back()
+            print(LOST, file=sys.stderr, flush=True)
+
+    def _take_back(self):
+        with contextlib.suppress(graphd.GraphdError):
+            self.transaction.rollback()
+        self.transaction = None
+
+    def leave(self):
+        """Rolls back a transaction that is open, and tells of it. True where one was."""
+        if self.transaction is None:
+            return False
+        self._take_back()
+        print(LEFT, file=sys.stderr, flush=True)
+        return True
 
     def _run(self, statement):
         if statement.is_command():
@@ -99,6 +127,9 @@ class Shell:
             ":explain": lambda: self.explain(rest),
             ":index": lambda: self.index(self.session.create_index, word, rest),
             ":unindex": lambda: self.index(self.session.drop_index, word, rest),
+            ":begin": self.begin,
+            ":commit": lambda: self.end("commit"),
+            ":rollback": lambda: self.end("rollback"),
             ":param": lambda: self.param(rest),
             ":params": lambda: self.param(""),
             ":unparam": lambda: self.parameters.pop(_parameter(rest), None),
@@ -132,6 +163,22 @@ class Shell:
             raise ValueError(f"an index has a label and a key: {word} LABEL KEY; names with blanks stand in backquotes")
         change(*names)
         self.answers.done()
+
+    def begin(self):
+        """Begins a transaction, for which the session holds a connection until it ends."""
+        transaction = self.session.transaction()
+        transaction.__enter__()
+        self.transaction = transaction
+        self.answers.done("a transaction is open")
+
+    def end(self, how):
+        """Ends the transaction that is open, also one of this token that the shell hasn't begun."""
+        transaction, self.transaction = self.transaction, None
+        if transaction is None:
+            self.session.ask({"op": how})
+        else:
+            getattr(transaction, how)()
+        self.answers.done({"commit": "committed", "rollback": "rolled back"}[how])
 
     def names(self):
         """The labels, types and keys that are words, as they were after the last query; none where they can't be had."""
@@ -202,14 +249,18 @@ class Shell:
     def dump(self, path):
         if not path:
             raise ValueError("a file is wanted")
-        nodes, relationships = dumps.write(self.session, Path(path).expanduser())
-        self.answers.done(f"{tables.counted(nodes, 'node')} and {tables.counted(relationships, 'relationship')} written")
+        nodes, relationships, keeps_ids = dumps.write(self.session, Path(path).expanduser())
+        ids = "with their ids" if keeps_ids else f"without their ids, of which more than {dumps.MOST_FILLED} are missing"
+        self.answers.done(f"{tables.counted(nodes, 'node')} and {tables.counted(relationships, 'relationship')} written, {ids}")
 
     def restore(self, path):
         """Runs a dump, quietly, on a tenant without elements."""
-        there = self.session.status().elements
-        if there:
-            raise ValueError(f"the tenant has {tables.counted(there, 'element')} already: a dump is restored on an empty one")
+        if self.transaction is not None:
+            raise ValueError("a dump isn't restored within a transaction, since it makes indexes")
+        before = self.session.status()
+        if before.elements:
+            raise ValueError(f"the tenant has {tables.counted(before.elements, 'element')} already: a dump is restored on an empty one")
+        is_fresh = before.next_node == before.next_rel == 0
         quiet = Shell(self.session, _Quiet(self.answers), fails_fast=True)
         try:
             quiet.run_file(path)
@@ -217,7 +268,8 @@ class Shell:
             raise ValueError(f"{fault}; what was restored before is there") from None
         if quiet.refused:
             raise ValueError(f"{path} wasn't restored whole")
-        self.answers.done(f"{tables.counted(self.session.status().elements, 'element')} restored")
+        ids = "with their ids" if is_fresh and dumps.keeps_ids(Path(path).expanduser()) else "under new ids"
+        self.answers.done(f"{tables.counted(self.session.status().elements, 'element')} restored, {ids}")
 
 
 class _Quiet:

@@ -82,6 +82,13 @@ def width(text):
     )
 
 
+def terminal():
+    """How many columns and lines the terminal has; one that doesn't know is taken as 80 by 24."""
+    size = shutil.get_terminal_size()
+    # (Python 3.8 gives 0 for what isn't known)
+    return size.columns or 80, size.lines or 24
+
+
 def shortened(text, room):
     """The text, cut with an ellipsis where it takes more room."""
     if width(text) <= room:
@@ -112,7 +119,7 @@ def lines(columns, rows, whole):
     """The lines of a table with aligned columns; values are cut where not all of them is wanted."""
     cells = [[safe(column) for column in columns], *([shown(value) for value in row] for row in rows)]
     wanted = [max(width(line[place]) for line in cells) for place in range(len(columns))]
-    free = shutil.get_terminal_size().columns - 3 * (len(columns) - 1)
+    free = terminal()[0] - 3 * (len(columns) - 1)
     given = wanted if whole else rooms(wanted, free)
     cut = [[shortened(cell, room) for cell, room in zip(line, given)] for line in cells]
     told = [" | ".join(_padded(cell, room) for cell, room in zip(line, given)).rstrip() for line in cut]

@@ -18,7 +18,10 @@ FUNCTIONS = [
     "count", "sum", "min", "max", "collect", "id", "labels", "type", "keys", "properties", "size", "length", "nodes", "relationships",
     "head", "last", "toString", "toInteger", "abs", "startNode", "endNode", "coalesce", "range",
 ]
+WORDS = ("help", "quit", "exit")  # commands without their colon
+STILL_OPEN = "The statement that you type is still open: a semicolon ends it, :clear drops it."
 ASIDE = (":help", ":clear", *QUITS[:3])
+PROMPT, OPEN = "graphd> ", "graphd*> "  # the second where a transaction is open
 STOPPED = "stopped waiting: the request goes on in the server, and may still take effect"
 
 
@@ -39,8 +42,8 @@ class Terminal:
             pass
 
     def prompt(self):
-        mark = self.splitter.mark()
-        return f"{mark + '..':>7}> " if mark else "   ...> " if self.splitter.is_open() else "graphd> "
+        mark, prompt = self.splitter.mark(), PROMPT if self.shell.transaction is None else OPEN
+        return f"{mark + '..' if mark else '...':>{len(prompt) - 2}}> " if self.splitter.is_open() else prompt
 
     def turn(self):
         """One line. False where the shell is to end."""
@@ -56,8 +59,10 @@ class Terminal:
         word = line.strip().rstrip(";").strip()
         if self.splitter.is_open() and word in ASIDE:
             return self.aside(word)
-        if not self.splitter.is_open() and word in ("help", "quit", "exit"):
+        if not self.splitter.is_open() and word in WORDS:
             line = f":{word}"
+        if self.splitter.is_open() and word in (*COMMANDS, *WORDS):
+            print(STILL_OPEN)
         self.typed.append(line)
         for statement in self.splitter.feed(line + "\n"):
             self.remember()
@@ -74,7 +79,7 @@ class Terminal:
         if word == ":clear":
             self.drop()
         else:
-            print(HELP, "The statement that you type is still open: a semicolon ends it, :clear drops it.", sep="\n")
+            print(HELP, STILL_OPEN, sep="\n")
         return True
 
     def drop(self):
@@ -83,10 +88,11 @@ class Terminal:
 
     def run(self, statement):
         """Runs a statement. An interrupt, or a connection that is lost, ends it and not the shell."""
+        before = self.shell.transaction
         try:
             return self.shell.statement(statement)
         except KeyboardInterrupt:
-            print(f"\n{STOPPED}", file=sys.stderr)
+            print("stopped waiting" if before is not self.shell.transaction else f"\n{STOPPED}", file=sys.stderr)
         except Stopped as fault:
             print(fault, file=sys.stderr)
         except graphd.ConnectionLost as fault:

@@ -18,6 +18,7 @@ import unittest
 import client_path  # (finds the package graphd)
 import graphd
 import graphd.aio as aio
+from graphd.aio_waiting import within
 from graphd_program import ROOT
 from tests_of_clients import CONFIG, LATE, SECONDS, SLOW, Relay, command, folder, late, listening, slowed
 
@@ -183,6 +184,7 @@ class Requests(unittest.TestCase):
             self.assertEqual((kind.code, kind.name, getattr(graphd, kind.name)), (code, kind.__name__, kind))
             self.assertTrue(kind.advice and kind.__doc__)
             copied = pickle.loads(pickle.dumps(kind().of_query("RETURN", ["x"])))
+            self.assertEqual(repr(copied), repr(kind()))
             self.assertEqual((type(copied), copied.code, copied.text, copied.given), (kind, code, "RETURN", ("x",)))
 
     def test_parameters_are_tested_first(self):
@@ -388,6 +390,30 @@ class Asyncio(unittest.TestCase):
             with late(CONFIG) as server:
                 asyncio.run(talk(aio.connect(server.port, "a1", timeout=30)))
 
+    def test_what_is_cancelled_as_its_reply_comes_is_cancelled(self):
+        async def talk():
+            loop, dropped = asyncio.get_running_loop(), []
+            for ends in (lambda reply, waits: reply.set_result(1), lambda reply, waits: None):
+                reply = loop.create_future()
+                waits = asyncio.ensure_future(within(reply, 30, dropped.append))
+                await asyncio.sleep(0)
+                ends(reply, waits)
+                waits.cancel()
+                with self.assertRaises(asyncio.CancelledError):
+                    await waits
+                await asyncio.sleep(0)
+                self.assertEqual(dropped, [1])
+            self.assertEqual(await within(asyncio.sleep(0, 2), 30), 2)
+            with self.assertRaises(asyncio.TimeoutError):
+                await within(loop.create_future(), 0.01)
+            with self.assertRaises(ZeroDivisionError):
+                await within(self.divided(), 30)
+
+        asyncio.run(talk())
+
+    async def divided(self):
+        return 1 // 0
+
     async def timed_out(self, graph):
         before, graph.timeout = graph.timeout, 0.3
         try:
@@ -400,9 +426,9 @@ class Asyncio(unittest.TestCase):
             async with aio.connect(port, "a1") as graph:
                 self.assertEqual((await graph.query("RETURN 1")).value(), 1)
                 # the server ends the connection of one that is silent; the next request takes another
-                graph._connection._writer.transport.abort()
+                graph._held.connection._writer.transport.abort()
                 self.assertEqual((await graph.query("RETURN 2")).value(), 2)
-                graph._connection._reader.feed_eof()
+                graph._held.connection._reader.feed_eof()
                 self.assertEqual((await graph.query("RETURN 3")).value(), 3)
             with self.assertRaises(graphd.NotSent):
                 await aio.connect(1, "a1").query("RETURN 1")
@@ -451,8 +477,12 @@ class Package(unittest.TestCase):
                 with contextlib.redirect_stdout(told):
                     exec(block.replace("7687", str(server.port)), {})
                 self.assertTrue(told.getvalue())
-        self.assertEqual(len(blocks), 4)
+        self.assertEqual(len(blocks), 5)
         self.assertIn("9 UndefinedVariable 2 8 the variable servce isn't in scope here: did you mean service?", told.getvalue())
+
+    def test_the_version_is_the_repositorys(self):
+        for name, told in (("README.md", r"This is version (\S+);"), ("CHANGELOG.md", r"\n## (\S+),")):
+            self.assertEqual(re.search(told, (ROOT / name).read_text())[1], graphd.__version__, name)
 
     def test_types(self):
         if shutil.which("mypy") is None:

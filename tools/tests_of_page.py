@@ -62,6 +62,12 @@ class Bridge(unittest.TestCase):
         with page(1) as web:
             self.assertIn("no server answers", self.asked(web, token="a1", op="status")["lost"])
 
+    def test_its_server_ends_whenever_it_is_told_to(self):
+        # also where it is told as soon as it is ready
+        for _ in range(30):
+            with page(1):
+                pass
+
     def test_no_other_page_may_ask(self):
         with page(1) as web:
             body, kind = json.dumps({"token": "a1", "op": "status"}), {"Content_Type": "application/json"}

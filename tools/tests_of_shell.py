@@ -1,4 +1,6 @@
 """Tests of the shell."""
+import contextlib
+import io
 import json
 import os
 import shutil
@@ -7,9 +9,12 @@ import subprocess
 import sys
 import time
 import unittest
+import unittest.mock
 
 import client_path  # (finds the package graphd)
+import dumps
 import graphd
+import replies
 import tables
 from graphd_program import ROOT
 from statements import Open, Splitter, statements
@@ -54,13 +59,13 @@ class Statements(unittest.TestCase):
 
     def test_long_lines_take_time_of_their_length(self):
         began = time.process_time()
-        self.assertEqual(len(statements("RETURN 'a', \"b\" /* c */;" * 50_000)), 50_000)
-        self.assertLess(time.process_time() - began, 15)
+        self.assertEqual(len(statements("RETURN 'a', \"b\" /* c */;" * 120_000)), 120_000)
+        self.assertLess(time.process_time() - began, 40)
 
     def test_long_texts_take_time_of_their_length(self):
         with folder() as made:
             file = made / "long.cypher"
-            file.write_text("RETURN 1 AS x\n" + "// a line\n" * 4000 + ";\n")
+            file.write_text("RETURN 1 AS x\n" + "//\n" * 16_000 + ";\n")
             self.assertEqual(shell(CONFIG, "a1", "--file", file, seconds=60)[0], 0)
 
 
@@ -220,6 +225,44 @@ class Scripts(unittest.TestCase):
         self.assertEqual(rows[0][4:6], rows[1][1:3])
         self.assertEqual(json.loads(before.splitlines()[6])["indexes"], json.loads(after.splitlines()[3])["indexes"])
 
+    def test_a_dump_keeps_ids(self):
+        # loops, names in backquotes, all kinds of values, and ids that are missing: one, some in a row, and more than a statement makes
+        make = """:param wide {"list": [], "mixed": [true, "a", -1, "é\\n"], "least": -9223372036854775808, "no": false, "text": "'\\"`", "odd `key{}": ""}
+            CREATE (a:A $wide)-[:T $wide]->(b:`B ``c {d}`:A), (b)-[:`T ``{u}`]->(b), (), (a)-[:T]->(b), (c:C)-[:T]->(c), (:C);
+            MATCH (:A)-[r:T]->(b) WHERE id(r) = 2 DELETE r;
+            MATCH (n) WHERE id(n) = 2 DELETE n;
+            UNWIND range(1, 120) AS i CREATE (x:Q)-[:W {i: i}]->(x);
+            MATCH (x:Q) WHERE id(x) % 5 <> 0 DETACH DELETE x;
+            UNWIND range(1, 180) AS i CREATE (x)-[:V]->(x) DETACH DELETE x;
+            UNWIND range(1, 180) AS i CREATE (x)-[:V]->(x) DETACH DELETE x;
+            CREATE (:`B ``c {d}`)-[:`T ``{u}`]->(:Z), (:Z);
+            MATCH (n:Z) WHERE id(n) = 487 DELETE n;
+            :index A `odd ``key{}`\n"""
+        with folder() as made:
+            config = configuration(made, 1)
+            status, before, _ = shell(config, "t0", "--format", "table", text=f"{make}:status\n:dump {made}/one\n")
+            self.assertEqual((status, before.splitlines()[-1]), (0, "30 nodes and 28 relationships written, with their ids"))
+            status, after, _ = shell(config, "t0", "--format", "table", text=f":restore {made}/one\n:status\n:dump {made}/two\n")
+            self.assertEqual((status, after.splitlines()[0]), (0, "58 elements restored, with their ids"))
+            self.assertEqual((made / "one").read_text(), (made / "two").read_text())
+            # the next node's id comes behind the greatest that there is, though a greater one was given
+            self.assertIn("next node id 488, next relationship id 485", before)
+            self.assertIn("next node id 487, next relationship id 485", after)
+            again = f"CREATE (n) DELETE n;\n:restore {made}/one\nMATCH (n:A) RETURN min(id(n)) AS least;\n"
+            status, told, _ = shell(config, "t0", "--format", "table", text=again)
+            self.assertEqual((status, "58 elements restored, under new ids" in told, "\n1\n" in told), (0, True, True))
+
+    def test_a_dump_fills_ids_within_bounds(self):
+        status = graphd.Status(3, 1000, 1000, 10**6, 10**6, [])
+        nodes = [graphd.Node(at, (), {}) for at in (0, 450, 1000)]
+        texts = [line for line in dumps.Dump(nodes, [], status).lines() if line.startswith("UNWIND range")]
+        self.assertEqual([line.split(")")[0] for line in texts], [f"UNWIND range(1, {count}" for count in (300, 149, 300, 249)])
+        # a tenant without room for more, and one that has given more ids than are filled
+        tight = dumps.Dump(nodes, [], graphd.Status(3, 3, 1000, 10**6, 10**6, []))
+        self.assertEqual(sum(line.startswith("UNWIND range(1, 2)") for line in tight.lines()), 224)
+        far = dumps.Dump([*nodes, graphd.Node(dumps.MOST_FILLED + 5, (), {})], [], status)
+        self.assertEqual((far.keeps_ids, any("range" in line for line in far.lines())), (False, False))
+
     def test_the_schema(self):
         text = "CREATE (:A:B {x: 1})-[:T {y: 2}]->(:A);\n:schema\n"
         told = shell(CONFIG, "a1", "--format", "table", text=text)[1]
@@ -227,11 +270,43 @@ class Scripts(unittest.TestCase):
             self.assertIn(line, told)
 
 
+    def test_transactions(self):
+        text = ":begin\nCREATE (:P);\n:begin\n:index P k\n:rollback\n:status\n:commit\n:begin\nCREATE (:P);\n:commit\n:status\nCOMMIT;\n"
+        status, told, _ = shell(CONFIG, "a1", text=text)
+        lines = [json.loads(line) for line in told.splitlines()]
+        self.assertEqual((status, [line["error"] for line in lines if "error" in line]), (1, ["TransactionOpen", "TransactionOpen", "NoTransaction", "BadSyntax"]))
+        self.assertEqual([(line["elements"], line["next_node"]) for line in lines if "elements" in line], [(0, 0), (1, 1)])
+        self.assertIn("in the shell by :commit", lines[-1]["why"])
+        told = shell(CONFIG, "a1", "--format", "table", text=":begin\n:commit\n:begin\n:rollback\n")[1]
+        self.assertEqual(told.splitlines(), ["a transaction is open", "committed", "a transaction is open", "rolled back"])
+
+    def test_what_a_file_leaves_open_is_rolled_back(self):
+        with listening(CONFIG) as server:
+            for text, words in ((":begin\nCREATE (:P);\n", []), (":begin\nCREATE (:P);\nRETURN;\n:commit\n", ["--fail-fast"]), (":begin\nCREATE (:P);\n:quit\n", [])):
+                status, _, told = shell("--port", server.port, "a1", *words, text=text)
+                self.assertEqual((status, elements(server.port)), (1, 0))
+                self.assertIn("the transaction that was open is rolled back", told)
+            self.assertEqual(shell("--port", server.port, "a1", text=":begin\nCREATE (:P);\nRETURN;\n:commit\n")[0], 1)
+            self.assertEqual(elements(server.port), 1)
+
+    def test_a_dump_isnt_restored_within_a_transaction(self):
+        with folder() as made:
+            status, _, told = shell(CONFIG, "a1", text=f"CREATE (:P);\n:dump {made}/dump\n:begin\nMATCH (n) DELETE n;\n:restore {made}/dump\n:commit\n")
+        self.assertEqual((status, "isn't restored within a transaction" in told), (1, True))
+
+
 class Shown(unittest.TestCase):
     def test_nothing_shown_moves_the_cursor(self):
         self.assertEqual(tables.safe("a\x1b[2J\n\u202e"), "a\\u001b[2J\\n\\u{202e}")
         self.assertEqual(tables.shown(graphd.Node(1, ("A b", "C"), {"x": [None, True]})), "(1:`A b`:C {x: [null, true]})")
         self.assertEqual(tables.shortened("日" * 40, 60), "日" * 29 + "…")
+
+    def test_a_terminal_without_a_size(self):
+        with unittest.mock.patch("shutil.get_terminal_size", return_value=os.terminal_size((0, 0))):
+            self.assertEqual(tables.lines(["a", "b"], [["x" * 30, 2]], False)[2], f'"{"x" * 30}" | 2')
+            with unittest.mock.patch("replies._page") as paged, contextlib.redirect_stdout(io.StringIO()):
+                replies.Tables(pages=True).told("", ["line"] * 20)
+            paged.assert_not_called()
 
     def test_a_wide_column_takes_what_others_leave(self):
         os.environ["COLUMNS"] = "80"
@@ -273,6 +348,42 @@ class Typed(unittest.TestCase):
                     typed.type("MATCH (n) RETURN 'second', count(n) AS c;\n")
                     self.assertIn('"second" | 1', typed.wait_for(r"1 row, "))
 
+    def test_the_prompt_tells_that_a_transaction_is_open(self):
+        with listening(CONFIG) as server, Terminal("--port", server.port, "a1") as typed:
+            typed.wait_for(PROMPT)
+            typed.type(":begin\n")
+            typed.wait_for(r"a transaction is open\r\ngraphd\*> $")
+            typed.type("CREATE\n")
+            typed.wait_for(r" {4}\.\.\.> $")
+            typed.type("(:P);\n")
+            typed.wait_for(r"graphd\*> $")
+            typed.type(":commit\n")
+            typed.wait_for(r"committed\r\ngraphd> $")
+            self.assertEqual(elements(server.port), 1)
+            typed.type(":begin\nCREATE (:P);\n")
+            typed.wait_for(r"1 step[^>]*graphd\*> $")
+            typed.type(":quit\n")
+            typed.wait_for("the transaction that was open is rolled back")
+            self.assertEqual((typed.ended(), elements(server.port)), (0, 1))
+
+    def test_an_interrupt_within_a_transaction(self):
+        with folder() as made, late(CONFIG) as server:
+            # over a connection it ends the transaction, and in a server of the shell's own it doesn't
+            wanted = r"the transaction has ended with its connection[^>]*stopped waiting\r\ngraphd> $", r"stopped waiting: the request goes on[^>]*graphd\*> $"
+            for words, told, left in ((["--port", server.port, "a1"], wanted[0], 0), ([CONFIG, "a1", "--program", slowed(made)], wanted[1], 2)):
+                with Terminal(*words) as typed:
+                    typed.wait_for(PROMPT)
+                    typed.type(":begin\n")
+                    typed.wait_for(r"graphd\*> $")
+                    typed.type("CREATE (:P);\n")
+                    typed.wait_for(r"graphd\*> $")
+                    typed.type(f"CREATE (:P) {SLOW};\n")
+                    time.sleep(0.5)
+                    typed.type("\x03")
+                    typed.wait_for(told)
+                    typed.type("MATCH (n) RETURN count(n) AS count_of_n;\n")
+                    self.assertIn(f"\n{left}\r\n1 row", typed.wait_for(r"1 row, "))
+
     def test_help_within_a_statement(self):
         with Terminal(CONFIG, "a1") as typed:
             typed.wait_for(PROMPT)
@@ -284,6 +395,12 @@ class Typed(unittest.TestCase):
             typed.wait_for(PROMPT)
             typed.type("RETURN 'open\n")
             typed.wait_for(r"'\.\.> $")
+            typed.type(":clear\n")
+            typed.wait_for(PROMPT)
+            typed.type("RETURN 8 AS\n:status\n")
+            typed.wait_for(r"is still open: a semicolon ends it, :clear drops it\.\r\n +\.\.\.> $")
+            typed.type("exit\n")
+            typed.wait_for(r"is still open[^>]*> $")
             typed.type(":clear\n")
             typed.wait_for(PROMPT)
             typed.type("help\n")

@@ -8,6 +8,10 @@
         for row in graph.query("MATCH (n:Service) RETURN n.name AS name, n"):
             print(row["name"], row["n"].labels)
 
+    with graph.transaction():                         # all of the block takes effect, or nothing where an exception leaves it
+        graph.query("MATCH (n:Service {name: $name}) SET n.port = 25", name="mail")
+        graph.query("MATCH (n:Service {name: $name}) SET n.port = 80", name="web")
+
 `connect` gives a session of a server that listens, `pool` one for many threads at once, `start` one of a server of one's own; `graphd.aio`
 has the same words for asyncio. `explained` tells what a query tries and which indexes serve. A refusal is an exception with its number, its
 name, what to do (`advice`), and where a query's text is wrong (`place`).
@@ -27,12 +31,13 @@ from .refusals import (
     NoTransaction, TransactionOpen, NoSuchPage, HeldRowsQuota, OutOfMemory,
 )
 from .sessions import Pool, Session, connect, pool, start
+from .transactions import Transaction
 from .values import Node, Parameter, Path, Relationship, Value, spelt, value_of
 
-__version__ = "1.0.0"
+__version__ = "1.1.0"
 
 __all__ = [
-    "connect", "pool", "start", "Session", "Pool", "Result", "Row", "Status", "Node", "Relationship", "Path",
+    "connect", "pool", "start", "Session", "Pool", "Transaction", "Result", "Row", "Status", "Node", "Relationship", "Path",
     "Value", "Parameter", "spelt", "value_of", "Place", "fault_of", "ClausePlan", "explained", "NAMES", "REFUSALS", "ConnectionLost",
     "GraphdError", "NotGraphd", "NotSent", "Refused", "TimedOut", "FrameTooLong", "BadRequest", "UnknownToken",
     "ReadOnly", "TextTooLong", "BadLexeme", "BadSyntax", "TooDeep", "UndefinedVariable", "VariableAlreadyBound",

@@ -16,6 +16,8 @@ import contextlib
 import ssl as tls
 from typing import Any, Awaitable, Callable, Dict, List, Mapping, Optional, Sequence, Type, TypeVar, Union
 
+from .aio_transactions import Gate, Held, Transaction, settle
+from .aio_waiting import within
 from .answers import Result, Status
 from .connections import Address, ProgramConnection, address_of, framed, length_of, reason_of
 from .refusals import ConnectionLost, NotSent, Refused, TimedOut
@@ -56,7 +58,7 @@ class StreamConnection(Connection):
             raise NotSent("the server had closed the connection")
         self.is_lost = True
         try:
-            reply = await asyncio.wait_for(self._exchange(framed(body)), timeout)
+            reply = await within(self._exchange(framed(body)), timeout)
         except asyncio.TimeoutError:
             if self._writer.transport.get_write_buffer_size():
                 raise NotSent("the server takes no request in time") from None
@@ -88,7 +90,7 @@ class OwnConnection(Connection):
     async def exchange(self, body: bytes, timeout: Optional[float]) -> bytes:
         answer = asyncio.wrap_future(self._program.asked(body))
         try:
-            return await asyncio.wait_for(asyncio.shield(answer), timeout)
+            return await within(asyncio.shield(answer), timeout)
         except asyncio.TimeoutError:
             raise TimedOut(f"no reply within {timeout:g} seconds") from None
         finally:
@@ -108,7 +110,7 @@ async def _opened(address: Address, timeout: Optional[float]) -> Connection:
         try:
             name = address.host if address.tls else None
             opening = asyncio.open_connection(address.host, address.port, ssl=address.tls, server_hostname=name)
-            return StreamConnection(*await asyncio.wait_for(opening, timeout))
+            return StreamConnection(*await within(opening, timeout, lambda opened: opened[1].transport.abort()))
         except asyncio.TimeoutError:
             raise NotSent(f"no server answers on {address} within {timeout:g} seconds") from None
         except OSError as fault:
@@ -128,6 +130,7 @@ class Requests:
         self.token = checked_token(token)
         self.timeout = timeout
         self._opened = opened
+        self._gate = Gate()
 
     async def query(self, text: str, params: Optional[Mapping[str, Parameter]] = None, /, **named: Parameter) -> Result:
         """Asks a query, and gives its columns, rows and steps. Its parameters `$name` are given as a dict, by name, or both ways.
@@ -146,12 +149,30 @@ class Requests:
         return status_of(await self.ask({"op": "status"}))
 
     async def create_index(self, label: str, key: str) -> None:
-        """Keeps the nodes with the label findable by this property, at most 16 such pairs. Raises IndexExists where it is there."""
+        """Keeps the nodes with the label findable by this property, at most 16 such pairs. Raises IndexExists where it is there,
+        TransactionOpen in a transaction."""
         await self.ask({"op": "create_index", "label": label, "key": key})
 
     async def drop_index(self, label: str, key: str) -> None:
-        """Takes an index back. Raises NoSuchIndex where it isn't there."""
+        """Takes an index back. Raises NoSuchIndex where it isn't there, TransactionOpen in a transaction."""
         await self.ask({"op": "drop_index", "label": label, "key": key})
+
+    def transaction(self) -> Transaction:
+        """A transaction, for an `async with` block: what is asked in it takes effect together at its end, or not at all where an
+        exception leaves it.
+
+            async with graph.transaction():
+                await graph.query(..)
+                await graph.query(..)
+
+        It goes over one connection, for this task and those that are started in the block. A refused query is undone alone, and the
+        transaction goes on where its exception is caught. Until the end other tasks wait with what they ask of this session, at most
+        `timeout` seconds (then NotSent), and the tenant's other tokens are refused (TenantBusy). All clients of one token are in its
+        transaction: give each that has transactions a token of its own.
+
+        To enter raises ReadOnly where the token may not write, TenantBusy or TransactionOpen where one is open, of another token or of
+        this one. To leave raises as `Transaction.commit` does."""
+        return Transaction(self, self._gate)
 
     async def ask(self, request: Mapping[str, Any]) -> Dict[str, Any]:
         """Sends a request, to which its token is added, and gives the reply's object."""
@@ -159,6 +180,34 @@ class Requests:
 
     async def exchange(self, body: bytes) -> bytes:
         """The reply's body to a request's body, both as bytes. A request is sent again only where it wasn't sent."""
+        transaction = self._gate.mine()
+        if transaction is not None:
+            return await transaction.exchange(body, self.timeout)
+        while True:
+            await self._gate.enter(self.timeout)
+            try:
+                if not self._gate.is_in_doubt:
+                    return await self._exchange(body)
+            finally:
+                self._gate.leave()
+            await self._settle()
+
+    async def _settle(self) -> None:
+        await self._gate.close(self, self.timeout)
+        try:
+            await settle(self, self._gate)
+        finally:
+            self._gate.open()
+
+    async def _exchange(self, body: bytes) -> bytes:
+        """The same, outside of transactions."""
+        raise NotImplementedError
+
+    async def _take(self) -> Held:
+        """A connection for a transaction, which `_give` takes back."""
+        raise NotImplementedError
+
+    async def _give(self, held: Held) -> None:
         raise NotImplementedError
 
     async def close(self) -> None:
@@ -178,7 +227,7 @@ class Session(Requests):
 
     def __init__(self, token: str, opened: Opened, timeout: Optional[float] = None) -> None:
         super().__init__(token, opened, timeout)
-        self._connection: Optional[Connection] = None
+        self._held: Optional[Held] = None
         self._blocks = 0
         self._lock: Optional[asyncio.Lock] = None  # made in the loop that it is for
 
@@ -188,10 +237,7 @@ class Session(Requests):
         return self._lock
 
     async def __aenter__(self) -> "Session":
-        async with self._turn():
-            if self._connection is None:
-                self._connection = await self._opened()
-            self._blocks += 1
+        await self._take()
         return self
 
     async def __aexit__(self, kind: Optional[Type[BaseException]], fault: Optional[BaseException], trace: object) -> None:
@@ -200,32 +246,31 @@ class Session(Requests):
             await self.close()
 
     async def close(self) -> None:
-        connection, self._connection, self._blocks, self._lock = self._connection, None, 0, None
-        if connection is not None:
-            await connection.close()
+        held, self._held, self._blocks, self._lock = self._held, None, 0, None
+        if held is not None:
+            await held.connection.close()
 
-    async def exchange(self, body: bytes) -> bytes:
-        if self._connection is None:
+    async def _exchange(self, body: bytes) -> bytes:
+        if self._held is None:
             connection = await self._opened()
             try:
                 return await connection.exchange(body, self.timeout)
             finally:
                 await connection.close()
         async with self._turn():
-            return await self._held(body)
+            if self._held is None:
+                raise NotSent("the session was closed")
+            return await self._held.exchange(body, self.timeout)
 
-    async def _held(self, body: bytes) -> bytes:
-        connection = self._connection
-        if connection is None:
-            raise NotSent("the session was closed")
-        try:
-            return await connection.exchange(body, self.timeout)
-        except NotSent:
-            if not connection.may_reopen:
-                raise
-            await connection.close()
-            self._connection = connection = await self._opened()
-            return await connection.exchange(body, self.timeout)
+    async def _take(self) -> Held:
+        async with self._turn():
+            if self._held is None:
+                self._held = Held(self._opened, await self._opened())
+            self._blocks += 1
+            return self._held
+
+    async def _give(self, held: Held) -> None:
+        await self.__aexit__(None, None, None)
 
 
 class Pool(Requests):
@@ -237,41 +282,40 @@ class Pool(Requests):
             raise ValueError("a pool has one connection at least")
         self._size = size
         self._free: Optional[asyncio.Semaphore] = None  # made in the loop that it is for
-        self._idle: List[Connection] = []
+        self._idle: List[Held] = []
 
     async def close(self) -> None:
         idle, self._idle = self._idle, []
-        for connection in idle:
-            await connection.close()
+        for held in idle:
+            await held.connection.close()
 
-    async def exchange(self, body: bytes) -> bytes:
-        if self._free is None:
-            self._free = asyncio.Semaphore(self._size)
+    async def _exchange(self, body: bytes) -> bytes:
+        held = await self._take()
         try:
-            await asyncio.wait_for(self._free.acquire(), self.timeout)
+            return await held.exchange(body, self.timeout)
+        finally:
+            await self._give(held)
+
+    async def _take(self) -> Held:
+        free = self._free = self._free or asyncio.Semaphore(self._size)
+        try:
+            await within(free.acquire(), self.timeout, lambda acquired: free.release())
         except asyncio.TimeoutError:
             raise NotSent(f"no connection of the pool was free within {self.timeout:g} seconds") from None
         try:
-            return await self._exchange(body)
-        finally:
-            self._free.release()
+            return self._idle.pop() if self._idle else Held(self._opened, await self._opened())
+        except BaseException:
+            free.release()
+            raise
 
-    async def _exchange(self, body: bytes) -> bytes:
-        connection = self._idle.pop() if self._idle else await self._opened()
-        try:
-            return await connection.exchange(body, self.timeout)
-        except NotSent:
-            if not connection.may_reopen:
-                raise
-            await connection.close()
-            connection = await self._opened()
-            return await connection.exchange(body, self.timeout)
-        finally:
-            if connection.is_lost:
-                with contextlib.suppress(OSError):
-                    await connection.close()
-            else:
-                self._idle.append(connection)
+    async def _give(self, held: Held) -> None:
+        if held.connection.is_lost:
+            with contextlib.suppress(OSError):
+                await held.connection.close()
+        else:
+            self._idle.append(held)
+        if self._free is not None:
+            self._free.release()
 
 
 def connect(

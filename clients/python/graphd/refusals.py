@@ -282,21 +282,21 @@ class TenantBusy(Refused):
     """Refusal 40. What to do is its `advice`."""
 
     code, name = 40, "TenantBusy"
-    advice = "another session of the tenant has a transaction open"
+    advice = "another token of the tenant has a transaction open: ask again once it has ended; where nobody is going to end it, that token's rollback does"
 
 
 class NoTransaction(Refused):
     """Refusal 41. What to do is its `advice`."""
 
     code, name = 41, "NoTransaction"
-    advice = "no transaction is open"
+    advice = "this token has no transaction open: none was begun, it was ended, or it was rolled back when its connection ended"
 
 
 class TransactionOpen(Refused):
     """Refusal 42. What to do is its `advice`."""
 
     code, name = 42, "TransactionOpen"
-    advice = "not while a transaction is open"
+    advice = "this token has a transaction open: commit it or roll it back first; indexes are made and dropped outside of one"
 
 
 class NoSuchPage(Refused):

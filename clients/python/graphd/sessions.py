@@ -9,6 +9,7 @@ from .answers import Result, Status
 from .connections import Connection, ProgramConnection, address_of
 from .refusals import NotSent, Refused
 from .requests import body_of, checked_token, query_of, result_of, status_of, told_by
+from .transactions import Gate, Held, Transaction, settle
 from .values import Parameter
 
 Self = TypeVar("Self", bound="Session")
@@ -18,8 +19,11 @@ class Requests:
     """The requests that a token may make. Each takes effect whole or not at all, and raises a Refused where the server refuses it, a
     ConnectionLost where no reply came."""
 
-    def __init__(self, token: str) -> None:
+    def __init__(self, token: str, opened: Callable[[], Connection], timeout: Optional[float]) -> None:
         self.token = checked_token(token)
+        self.timeout = timeout
+        self._opened = opened
+        self._gate = Gate()
 
     def query(self, text: str, params: Optional[Mapping[str, Parameter]] = None, /, **named: Parameter) -> Result:
         """Asks a query, and gives its columns, rows and steps. Its parameters `$name` are given as a dict, by name, or both ways.
@@ -38,19 +42,59 @@ class Requests:
         return status_of(self.ask({"op": "status"}))
 
     def create_index(self, label: str, key: str) -> None:
-        """Keeps the nodes with the label findable by this property, at most 16 such pairs. Raises IndexExists where it is there."""
+        """Keeps the nodes with the label findable by this property, at most 16 such pairs. Raises IndexExists where it is there,
+        TransactionOpen in a transaction."""
         self.ask({"op": "create_index", "label": label, "key": key})
 
     def drop_index(self, label: str, key: str) -> None:
-        """Takes an index back. Raises NoSuchIndex where it isn't there."""
+        """Takes an index back. Raises NoSuchIndex where it isn't there, TransactionOpen in a transaction."""
         self.ask({"op": "drop_index", "label": label, "key": key})
+
+    def transaction(self) -> Transaction:
+        """A transaction, for a `with` block: what this thread asks in it takes effect together at its end, or not at all where an
+        exception leaves it.
+
+            with graph.transaction():
+                graph.query(..)
+                graph.query(..)
+
+        It goes over one connection. A refused query is undone alone, and the transaction goes on where its exception is caught. Until
+        the end this session's other threads wait, at most `timeout` seconds (then NotSent), and the tenant's other tokens are refused
+        (TenantBusy). All clients of one token are in its transaction: give each that has transactions a token of its own.
+
+        To enter raises ReadOnly where the token may not write, TenantBusy or TransactionOpen where one is open, of another token or of
+        this one. To leave raises as `Transaction.commit` does."""
+        return Transaction(self)
 
     def ask(self, request: Mapping[str, Any]) -> Dict[str, Any]:
         """Sends a request, to which its token is added, and gives the reply's object."""
         return told_by(self.exchange(body_of(request, self.token)))
 
     def exchange(self, body: bytes) -> bytes:
-        """The reply's body to a request's body, both as bytes."""
+        """The reply's body to a request's body, both as bytes. A request is sent again only where it wasn't sent whole."""
+        held = self._gate.mine()
+        if held is not None:
+            return held.exchange(body, self.timeout)
+        while True:
+            with self._gate.passed(self.timeout) as is_sure:
+                if is_sure:
+                    return self._exchange(body)
+            self._settle()
+
+    def _settle(self) -> None:
+        with self._gate.closed(self.timeout):
+            settle(self)
+        self._gate.open()
+
+    def _exchange(self, body: bytes) -> bytes:
+        """The same, where no transaction of this thread is open."""
+        raise NotImplementedError
+
+    def _take(self) -> Held:
+        """A connection for a transaction, which `_give` takes back."""
+        raise NotImplementedError
+
+    def _give(self, held: Held) -> None:
         raise NotImplementedError
 
 
@@ -62,18 +106,13 @@ class Session(Requests):
     """
 
     def __init__(self, token: str, opened: Callable[[], Connection], timeout: Optional[float] = None) -> None:
-        super().__init__(token)
-        self.timeout = timeout
-        self._opened = opened
-        self._connection: Optional[Connection] = None
+        super().__init__(token, opened, timeout)
+        self._held: Optional[Held] = None
         self._blocks = 0  # the with blocks that are open, one in the other
         self._turn = threading.RLock()
 
     def __enter__(self: Self) -> Self:
-        with self._turn:
-            if self._connection is None:
-                self._connection = self._opened()
-            self._blocks += 1
+        self._take()
         return self
 
     def __exit__(self, kind: Optional[Type[BaseException]], fault: Optional[BaseException], trace: object) -> None:
@@ -85,30 +124,29 @@ class Session(Requests):
     def close(self) -> None:
         """Lets the connection go, if one is open."""
         with self._turn:
-            connection, self._connection, self._blocks = self._connection, None, 0
-        if connection is not None:
-            connection.close()
+            held, self._held, self._blocks = self._held, None, 0
+        if held is not None:
+            held.connection.close()
 
-    def exchange(self, body: bytes) -> bytes:
-        """The reply's body to a request's body, both as bytes. A request is sent again only where it wasn't sent whole."""
+    def _exchange(self, body: bytes) -> bytes:
         with self._turn:
-            if self._connection is not None:
-                return self._exchange_held(self._connection, body)
+            if self._held is not None:
+                return self._held.exchange(body, self.timeout)
         connection = self._opened()
         try:
             return connection.exchange(body, self.timeout)
         finally:
             connection.close()
 
-    def _exchange_held(self, connection: Connection, body: bytes) -> bytes:
-        try:
-            return connection.exchange(body, self.timeout)
-        except NotSent:
-            if not connection.may_reopen:
-                raise
-            connection.close()
-            self._connection = connection = self._opened()
-            return connection.exchange(body, self.timeout)
+    def _take(self) -> Held:
+        with self._turn:
+            if self._held is None:
+                self._held = Held(self._opened)
+            self._blocks += 1
+            return self._held
+
+    def _give(self, held: Held) -> None:
+        self.__exit__(None, None, None)
 
 
 class Pool(Requests):
@@ -116,13 +154,11 @@ class Pool(Requests):
     `timeout` seconds at most, and as long for its reply. What `pool` gives; a `with` block closes all connections at its end."""
 
     def __init__(self, token: str, opened: Callable[[], Connection], size: int, timeout: Optional[float] = None) -> None:
-        super().__init__(token)
+        super().__init__(token, opened, timeout)
         if size < 1:
             raise ValueError("a pool has one connection at least")
-        self.timeout = timeout
-        self._opened = opened
         self._free = threading.Semaphore(size)
-        self._idle: List[Connection] = []
+        self._idle: List[Held] = []
         self._lock = threading.Lock()
 
     def __enter__(self) -> "Pool":
@@ -135,39 +171,36 @@ class Pool(Requests):
         """Lets all connections go that no request is using."""
         with self._lock:
             idle, self._idle = self._idle, []
-        for connection in idle:
-            connection.close()
+        for held in idle:
+            held.connection.close()
 
-    def exchange(self, body: bytes) -> bytes:
-        """The reply's body to a request's body, both as bytes. A request is sent again only where it wasn't sent whole."""
+    def _exchange(self, body: bytes) -> bytes:
+        held = self._take()
+        try:
+            return held.exchange(body, self.timeout)
+        finally:
+            self._give(held)
+
+    def _take(self) -> Held:
         if not self._free.acquire(timeout=self.timeout):
             raise NotSent(f"no connection of the pool was free within {self.timeout:g} seconds")
         try:
-            return self._exchange(body)
+            with self._lock:
+                kept = self._idle.pop() if self._idle else None
+            return kept or Held(self._opened)
+        except BaseException:
+            self._free.release()
+            raise
+
+    def _give(self, held: Held) -> None:
+        try:
+            if held.connection.is_lost:
+                held.connection.close()
+                return
+            with self._lock:
+                self._idle.append(held)
         finally:
             self._free.release()
-
-    def _exchange(self, body: bytes) -> bytes:
-        with self._lock:
-            kept = self._idle.pop() if self._idle else None
-        connection = kept or self._opened()
-        try:
-            return connection.exchange(body, self.timeout)
-        except NotSent:
-            if not connection.may_reopen:
-                raise
-            connection.close()
-            connection = self._opened()
-            return connection.exchange(body, self.timeout)
-        finally:
-            self._give_back(connection)
-
-    def _give_back(self, connection: Connection) -> None:
-        if connection.is_lost:
-            connection.close()
-            return
-        with self._lock:
-            self._idle.append(connection)
 
 
 def connect(

@@ -15,7 +15,7 @@ use pg_meaning::Fault;
 use pg_syntax_tree::{Detail, Range, RelationshipPattern};
 use std::alloc::{AllocError, Global};
 
-const GREATEST_RANGE: u64 = 16;
+const GREATEST_RANGE: u64 = 32;
 
 /// `*n` is from n to n.
 fn upper_bound(range: &Range) -> Option<u64>

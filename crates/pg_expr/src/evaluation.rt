@@ -51,8 +51,19 @@ pub fn evaluate<T: Tables>(
         row,
         parameters,
     };
-    let found = find(&context, graph, prepared.tree)?;
-    Ok(found.take(alloc)?)
+    evaluate_at(&context, prepared, graph)
+}
+
+/// The same at a row's context.
+pub fn evaluate_at<T: Tables>(
+    context: &RowContext<'_>,
+    prepared: &Prepared<'_>,
+    graph: &Snapshot<'_, T>,
+) -> Result<Value, Fault>
+    ensures { Gives result (evaluate (row_of context.now.names.now (map view context.now.row.now)) (parameters_view context.now.parameters.now) graph.now (tree_of context.now.names.now prepared.now)) view }
+{
+    let found = find(context, graph, prepared.tree)?;
+    Ok(found.take(context.alloc)?)
 }
 
 /// What an expression gives, which is lent where it stands somewhere.

@@ -17,7 +17,7 @@ mod reads;
 mod row_context;
 
 pub use conditions::condition;
-pub use evaluation::evaluate;
+pub use evaluation::{evaluate, evaluate_at};
 pub use prepared::{Prepared, PreparedCondition, prepare, prepare_condition};
 pub use query_context::QueryContext;
 pub use row_context::RowContext;

@@ -8,7 +8,7 @@ ghost use Rattle.pg_value_core.specs.Given.{parameters_view};
 ghost use Rattle.pg_value_core.specs.View.{view};
 
 use crate::scope::Scope;
-use pg_expr::{Prepared, RowContext, evaluate};
+use pg_expr::{Prepared, RowContext, evaluate_at};
 use pg_graph::Tables;
 use pg_rows::{Rows, copy_row};
 use pg_store::Snapshot;
@@ -49,14 +49,7 @@ fn list_at<T: Tables>(
     ensures ok { IfOk result (λ items. list_given (parameters_view context.now.parameters.now) graph.now (tree_of context.now.names.now prepared.now) context.now.names.now (map view context.now.row.now) ≡ Ok (map view items.items)) }
     ensures err { IfErr result (λ e. e ≢ OutOfMemory → list_given (parameters_view context.now.parameters.now) graph.now (tree_of context.now.names.now prepared.now) context.now.names.now (map view context.now.row.now) ≡ Err e) }
 {
-    let value = evaluate(
-        context.alloc,
-        prepared,
-        context.names,
-        context.row,
-        context.parameters,
-        graph,
-    )?;
+    let value = evaluate_at(context, prepared, graph)?;
     match value.into_parts() {
         Parts::Null => Ok(Vec::new(context.alloc)),
         Parts::List(items) => Ok(items),

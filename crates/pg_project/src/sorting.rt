@@ -15,7 +15,7 @@ ghost use Rattle.pg_value_core.specs.View.{view};
 
 use crate::made::push_made;
 use crate::scope::Scope;
-use pg_expr::{Prepared, RowContext, evaluate, prepare};
+use pg_expr::{Prepared, RowContext, evaluate_at, prepare};
 use pg_graph::Tables;
 use pg_item_index::same_expression;
 use pg_meaning::Sort;
@@ -207,14 +207,7 @@ fn key<T: Tables>(
 {
     match source {
         SortKey::Item(at) => Ok(item_value(context.alloc, context.row, *at)?),
-        SortKey::Other(prepared) => evaluate(
-            context.alloc,
-            prepared,
-            context.names,
-            context.row,
-            context.parameters,
-            graph,
-        ),
+        SortKey::Other(prepared) => evaluate_at(context, prepared, graph),
     }
 }
 

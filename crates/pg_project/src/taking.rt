@@ -11,7 +11,7 @@ ghost use Rattle.pg_value_core.specs.View.{view};
 
 use crate::items::Aggregate;
 use crate::taken::Taken;
-use pg_expr::{RowContext, evaluate};
+use pg_expr::{RowContext, evaluate_at};
 use pg_graph::Tables;
 use pg_store::Snapshot;
 use pg_value_core::{Fault, Value};
@@ -42,14 +42,7 @@ pub(crate) fn argument_value<T: Tables>(
     ensures { Gives result (argument_given (given context.now graph.now) (aggregate_view context.now.names.now aggregate.now)) view }
 {
     match &aggregate.argument {
-        Some(argument) => evaluate(
-            context.alloc,
-            argument,
-            context.names,
-            context.row,
-            context.parameters,
-            graph,
-        ),
+        Some(argument) => evaluate_at(context, argument, graph),
         None => Ok(Value::Bool(true)),
     }
 }

@@ -10,7 +10,7 @@ ghost use Rattle.pg_value_core.specs.View.{view};
 
 use crate::made::push_made;
 use crate::scope::Scope;
-use pg_expr::{Prepared, RowContext, evaluate, prepare};
+use pg_expr::{Prepared, RowContext, evaluate_at, prepare};
 use pg_graph::Tables;
 use pg_rows::{Columns, Rows, RowsLeft};
 use pg_store::Snapshot;
@@ -47,14 +47,7 @@ pub(crate) fn push_values<T: Tables>(
     ensures err { IfErr result (λ e. e ≢ OutOfMemory → values_given (parameters_view context.now.parameters.now) graph.now context.now.names.now (trees_of context.now.names.now ready.now.items) (map view context.now.row.now) ≡ Err e) }
 {
     for one in ready {
-        let value = evaluate(
-            context.alloc,
-            one,
-            context.names,
-            context.row,
-            context.parameters,
-            graph,
-        )?;
+        let value = evaluate_at(context, one, graph)?;
         values.push(value)?;
     }
     Ok(())

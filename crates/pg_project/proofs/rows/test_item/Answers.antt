@@ -20,24 +20,24 @@ module _ (tested : Result (Unit {0}) Fault) where
   failed (Ok x) h = tt
   failed (Err f) h = λ other. h
 
-pub returns-in_err-evaluate-in-Key-clause-ok : goal.returns-in_err-evaluate-in-Key-clause-ok
-returns-in_err-evaluate-in-Key-clause-ok g c = IfOk-from_err c.from_residual.result _ c.from_residual.ensures.0
+pub returns-in_err-evaluate_at-in-Key-clause-ok : goal.returns-in_err-evaluate_at-in-Key-clause-ok
+returns-in_err-evaluate_at-in-Key-clause-ok g c = IfOk-from_err c.from_residual.result _ c.from_residual.ensures.0
 
-pub returns-in_err-evaluate-in-Key-clause-err : goal.returns-in_err-evaluate-in-Key-clause-err
-returns-in_err-evaluate-in-Key-clause-err g c =
+pub returns-in_err-evaluate_at-in-Key-clause-err : goal.returns-in_err-evaluate_at-in-Key-clause-err
+returns-in_err-evaluate_at-in-Key-clause-err g c =
     let context = c.args.context.now in
     let at = given context c.args.graph.now in
-    let f = c.in_err-evaluate-in-Key.field-0.0 in
+    let f = c.in_err-evaluate_at-in-Key.field-0.0 in
     fault_passed (item_tested at (item_view context.names.now c.args.item.now)) f c.from_residual.result c.from_residual.ensures.1
-    (λ other. ap (λ i. item_tested at (item_view context.names.now i)) c.in-Key.is ∙ ap (λ a. a >>= λ v. Ok tt) (c.in_err-evaluate-in-Key.ensures.err other))
+    (λ other. ap (λ i. item_tested at (item_view context.names.now i)) c.in-Key.is ∙ ap (λ a. a >>= λ v. Ok tt) (c.in_err-evaluate_at-in-Key.ensures.err other))
 
-pub returns-in_ok-evaluate-in-Key-clause-ok : goal.returns-in_ok-evaluate-in-Key-clause-ok
-returns-in_ok-evaluate-in-Key-clause-ok g c =
+pub returns-in_ok-evaluate_at-in-Key-clause-ok : goal.returns-in_ok-evaluate_at-in-Key-clause-ok
+returns-in_ok-evaluate_at-in-Key-clause-ok g c =
     let context = c.args.context.now in
-    ap (λ i. item_tested (given context c.args.graph.now) (item_view context.names.now i)) c.in-Key.is ∙ ap (λ a. a >>= λ v. Ok tt) c.in_ok-evaluate-in-Key.ensures.ok
+    ap (λ i. item_tested (given context c.args.graph.now) (item_view context.names.now i)) c.in-Key.is ∙ ap (λ a. a >>= λ v. Ok tt) c.in_ok-evaluate_at-in-Key.ensures.ok
 
-pub returns-in_ok-evaluate-in-Key-clause-err : goal.returns-in_ok-evaluate-in-Key-clause-err
-returns-in_ok-evaluate-in-Key-clause-err g c = tt
+pub returns-in_ok-evaluate_at-in-Key-clause-err : goal.returns-in_ok-evaluate_at-in-Key-clause-err
+returns-in_ok-evaluate_at-in-Key-clause-err g c = tt
 
 pub returns-in_err-value-in-Aggregate-clause-ok : goal.returns-in_err-value-in-Aggregate-clause-ok
 returns-in_err-value-in-Aggregate-clause-ok g c = IfOk-from_err c.from_residual-in_err-value-in-Aggregate.result _ c.from_residual-in_err-value-in-Aggregate.ensures.0

@@ -24,4 +24,18 @@ impl<X: SharedPart> Shared<X> {
         let names = Names::new(alloc, hasher);
         Shared { names, tables }
     }
+
+    /// The texts of names.
+    pub fn names(&self) -> &Names<X::Texts>
+        ensures { result.now ≡ self.now.names }
+    {
+        &self.names
+    }
+
+    /// What the tables of all tenants share.
+    pub fn tables(&self) -> &X
+        ensures { result.now ≡ self.now.tables }
+    {
+        &self.tables
+    }
 }

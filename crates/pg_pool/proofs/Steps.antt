@@ -5,8 +5,8 @@ use Rattle.std.specs.FinMap as map
 use Rattle.std.specs.FinMap.{FinMap}
 use Rattle.slab.specs.Slab.{get}
 use Rattle.pg_graph.specs.Content.{Content, OthersStay, with_node, without_node, with_rel, without_rel}
-use Rattle.pg_graph.specs.Links.{IsIncidence}
-use Rattle.pg_graph.specs.declared.links.Incidence.{Incidence}
+use Rattle.pg_pool.specs.Lists.{IsIncidence}
+use Rattle.pg_pool.specs.declared.links.Incidence.{Incidence}
 use Rattle.pg_graph.specs.declared.records.NodeRecord.{NodeRecord}
 use Rattle.pg_graph.specs.declared.records.RelRecord.{RelRecord}
 use Rattle.pg_value_core.specs.declared.ids.NodeId.{NodeId}

@@ -1,3 +1,5 @@
 pub mod Values
 pub mod Records
+pub mod Pages
+pub mod Lists
 pub mod Tables

@@ -5,7 +5,7 @@ use Rattle.std.specs.FinMap.{FinMap}
 use Rattle.std.specs.Ordering.{nat_cmp}
 use Rattle.slab.specs.Slab.{Slab, get}
 use Rattle.pg_graph.specs.Content.{Content, Seen}
-use Rattle.pg_graph.specs.Links.{IsIncidence}
+use Rattle.pg_pool.specs.Lists.{IsIncidence}
 use Rattle.pg_graph.specs.declared.records.NodeRecord.{NodeRecord}
 use Rattle.pg_graph.specs.declared.records.RelRecord.{RelRecord}
 use Rattle.pg_pool.specs.Records.{owner_of, label, node_at, rel_at}

@@ -1,6 +1,8 @@
 //! Tables whose records are all in one pool, which the tables of all owners share.
 #![tactic(auto)]
 
+mod links;
+mod pages;
 mod pool;
 mod pooled_tables;
 mod slots;

@@ -3,9 +3,10 @@ ghost use Rattle.std.specs.Prelude.{◌≢◌};
 ghost use Rattle.pg_graph.specs.Content.{OthersStay};
 ghost use Rattle.pg_pool.specs.Tables.{pooled, AreRecords, SlotsStay};
 
+use crate::links::Incidence;
 use crate::pool::{Pool, Record};
 use crate::slots::Slots;
-use pg_graph::{Incidence, NodeRecord, Properties, RelRecord, SharedPart, Tables};
+use pg_graph::{NodeRecord, Properties, RelRecord, SharedPart, Tables};
 use pg_names::TextSet;
 use pg_value_core::{NodeId, RelId};
 use std::alloc::{AllocError, Global};
@@ -63,12 +64,12 @@ impl<K: TextSet> Tables for PooledTables<K> {
 
     fn node<'a>(&'a self, shared: &'a Pool<K>, id: NodeId) -> Option<&'a NodeRecord> {
         let key = self.nodes.get(id.0)?;
-        shared.node(*key)
+        shared.node(key)
     }
 
     fn rel<'a>(&'a self, shared: &'a Pool<K>, id: RelId) -> Option<&'a RelRecord> {
         let key = self.rels.get(id.0)?;
-        shared.rel(*key)
+        shared.rel(key)
     }
 
     fn outgoing<'a>(&'a self, _shared: &'a Pool<K>, node: NodeId) -> &'a [RelId] {
@@ -114,7 +115,7 @@ impl<K: TextSet> Tables for PooledTables<K> {
     }
 
     fn change(&mut self, shared: &mut Pool<K>, id: NodeId, node: NodeRecord) -> NodeRecord {
-        let key = *self.nodes.get(id.0).unwrap();
+        let key = self.nodes.get(id.0).unwrap();
         let owner = self.owner;
         match shared.replace(key, Record::Node { owner, id, node }) {
             Record::Node { node: before, .. } => before,
@@ -128,7 +129,7 @@ impl<K: TextSet> Tables for PooledTables<K> {
         id: RelId,
         properties: Properties,
     ) -> Properties {
-        let key = *self.rels.get(id.0).unwrap();
+        let key = self.rels.get(id.0).unwrap();
         let rel = shared.rel(key).unwrap().with_properties(properties);
         let owner = self.owner;
         match shared.replace(key, Record::Rel { owner, id, rel }) {

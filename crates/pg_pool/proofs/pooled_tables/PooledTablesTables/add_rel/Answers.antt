@@ -2,17 +2,17 @@ use Rattle.std.proofs.Common.{IsSome, subst, sym, ap, refl, ◌∙◌}
 use Rattle.std.proofs.lemmas.Result.{IfOk-from_err}
 use Rattle.std.specs.FinMap as map
 use Rattle.slab.specs.Slab.{get}
-use Rattle.pg_graph.proofs.Incident.{outgoing_rise, incoming_rise}
+use Rattle.pg_pool.proofs.ListPlaces.{outgoing_sound, incoming_sound}
 use Rattle.pg_graph.proofs.Maps.{get_inserted, removed_inserted}
 use Rattle.pg_pool.proofs.Steps.{rel_added, nothing_changed, at_err}
 use Rattle.pg_pool.proofs.Values.{inside_none}
 use Rattle.pg_pool.proofs.pooled_tables.PooledTablesTables.add_rel.Goals as goal
 
 pub add-requires-clause-outgoing : goal.add-requires-clause-outgoing
-add-requires-clause-outgoing g c = outgoing_rise _ _ c.requires.fits.incidence
+add-requires-clause-outgoing g c = outgoing_sound _ _ c.requires.fits.incidence
 
 pub add-requires-clause-incoming : goal.add-requires-clause-incoming
-add-requires-clause-incoming g c = incoming_rise _ _ c.requires.fits.incidence
+add-requires-clause-incoming g c = incoming_sound _ _ c.requires.fits.incidence
 
 pub remove-requires : goal.remove-requires
 remove-requires g c = subst IsSome (sym (ap (λ m. map.get m c.args.id.0) c.in_ok-insert.ensures.ok ∙ get_inserted _ c.args.id.0 _)) refl

@@ -1,5 +1,5 @@
 use Rattle.std.proofs.Common.{Some, sym, ap, refl, ◌∙◌}
-use Rattle.pg_graph.proofs.Incident.{outgoing_rise, incoming_rise}
+use Rattle.pg_pool.proofs.ListPlaces.{outgoing_sound, incoming_sound}
 use Rattle.pg_pool.proofs.SlotChanges.{labelled_some, same_some, true_not_false}
 use Rattle.pg_pool.proofs.Steps.{rel_dropped}
 use Rattle.pg_pool.proofs.Values.{inside_some, outside_some}
@@ -18,10 +18,10 @@ unreachable-requires g c =
     true_not_false (ap (λ p. p.1.0) (same_some _ _ labels))
 
 pub remove-requires-in-Rel-clause-outgoing : goal.remove-requires-in-Rel-clause-outgoing
-remove-requires-in-Rel-clause-outgoing g c = outgoing_rise _ _ c.requires.fits.incidence
+remove-requires-in-Rel-clause-outgoing g c = outgoing_sound _ _ c.requires.fits.incidence
 
 pub remove-requires-in-Rel-clause-incoming : goal.remove-requires-in-Rel-clause-incoming
-remove-requires-in-Rel-clause-incoming g c = incoming_rise _ _ c.requires.fits.incidence
+remove-requires-in-Rel-clause-incoming g c = incoming_sound _ _ c.requires.fits.incidence
 
 pub returns : goal.returns
 returns g c =

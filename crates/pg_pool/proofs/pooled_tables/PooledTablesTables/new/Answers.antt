@@ -1,5 +1,5 @@
 use Rattle.std.proofs.Common.{true, false, subst, sym, ap, ◌∙◌}
-use Rattle.pg_graph.specs.Links.{IsIncidence}
+use Rattle.pg_pool.specs.Lists.{IsIncidence}
 use Rattle.pg_pool.proofs.SlotChanges.{finds_empty}
 use Rattle.pg_pool.proofs.Values.{values_empty}
 use Rattle.pg_pool.specs.Records.{node_at, rel_at}

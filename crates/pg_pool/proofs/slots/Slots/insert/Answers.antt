@@ -1,9 +1,9 @@
 use Rattle.std.proofs.Common.{ap, ◌∙◌}
 use Rattle.std.specs.FinMap as map
-use Rattle.pg_pool.proofs.Hashed.{entries_inserted}
+use Rattle.pg_pool.proofs.PageSlots.{slot_put}
 use Rattle.pg_pool.proofs.slots.Slots.insert.Goals as goal
 
 pub returns-clause-ok : goal.returns-clause-ok
 returns-clause-ok c =
-    entries_inserted c.self.inside.kept.entries c.insert.new.self.entries c.args.id c.args.slot c.in_ok-insert.ensures.updates.0
-    ∙ ap (λ m. map.insert m c.args.id c.args.slot) c.self.view_is
+    slot_put c.make_page.new.pages c.set.new.self c.args.id c.in_ok-place.place c.in_ok-make_page.ensures.present c.set.ensures.long c.set.ensures.written c.args.slot c.in_ok-place.ensures
+    ∙ ap (λ m. map.insert m c.args.id c.args.slot) (c.make_page.ensures.same ∙ c.self.view_is)

@@ -1,17 +1,18 @@
-use Rattle.std.proofs.Common.{IsSome, subst, sym, ap, ◌∙◌}
+use Rattle.std.proofs.Common.{IsSome, refl, subst, sym, ap, ◌∙◌}
 use Rattle.std.specs.FinMap as map
-use Rattle.pg_pool.proofs.Hashed.{entries_removed, get_of_entries}
+use Rattle.pg_pool.proofs.PageSlots.{slot_cleared, still_there, page_there}
 use Rattle.pg_pool.proofs.slots.Slots.remove.Goals as goal
 
-pub unwrap-requires : goal.unwrap-requires
-unwrap-requires c =
-    subst IsSome (ap (λ m. map.get m c.args.id) (sym c.self.view_is) ∙ get_of_entries _ _ ∙ sym c.remove.ensures.value) c.requires
+pub set-requires-clause-present : goal.set-requires-clause-present
+set-requires-clause-present c = page_there _ c.args.id (subst IsSome (ap (λ m. map.get m c.args.id) (sym c.self.view_is)) c.requires)
 
-pub returns-clause-before : goal.returns-clause-before
-returns-clause-before c =
-    ap (λ m. map.get m c.args.id) (sym c.self.view_is) ∙ get_of_entries _ _ ∙ sym c.remove.ensures.value ∙ c.unwrap.ensures
+pub clear_page-requires : goal.clear_page-requires
+clear_page-requires c =
+    let there = page_there c.self.inside.pages c.args.id (subst IsSome (ap (λ m. map.get m c.args.id) (sym c.self.view_is)) c.requires) in
+    still_there _ _ c.args.id 0 there c.set.ensures.long c.set.ensures.written
 
 pub returns-clause-removed : goal.returns-clause-removed
 returns-clause-removed c =
-    entries_removed c.self.inside.kept.entries c.remove.new.self.entries c.args.id c.remove.ensures.updates.0
+    let there = page_there c.self.inside.pages c.args.id (subst IsSome (ap (λ m. map.get m c.args.id) (sym c.self.view_is)) c.requires) in
+    c.clear_page.ensures ∙ slot_cleared _ _ c.args.id 0 there c.set.ensures.long c.set.ensures.written refl
     ∙ ap (λ m. map.remove m c.args.id) c.self.view_is

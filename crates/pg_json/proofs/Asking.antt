@@ -3,7 +3,7 @@ use Rattle.std.proofs.Common.{◌≡◌, ℕ, List, true, false, Some, None, opt
 use Rattle.std.specs.Prelude.{codes}
 use Rattle.std.specs.Str.{bytes_eq}
 use Rattle.serde_json.specs.Data.{Members}
-use Rattle.pg_json.specs.Requests.{text_at, by_op, object_request, with_only, query_keys, query_of, token_keys, of_token, index_keys, index_of, status, create_index, drop_index, begin, commit, rollback}
+use Rattle.pg_json.specs.Requests.{text_at, by_op, object_request, with_only, query_keys, query_of, token_keys, of_token, index_keys, index_of, page_keys, of_page, status, create_index, drop_index, begin, commit, rollback, pull, drop_page}
 
 module _ (ms : Members) (op : List ℕ) (named : Some op ≡ text_at (codes "op") ms) where
   by_its_name : object_request ms ≡ by_op op ms
@@ -36,5 +36,13 @@ module _ (ms : Members) (op : List ℕ) (named : Some op ≡ text_at (codes "op"
               pub rollback_asked : true ≡ bytes_eq op (codes "rollback") → with_only token_keys ms (of_token rollback ms) ≡ object_request ms
               rollback_asked named_so = sym (by_its_name ∙ rw (← no_query, ← no_status, ← no_create, ← no_drop, ← no_begin, ← no_commit, ← named_so) refl)
 
-              pub none_asked : false ≡ bytes_eq op (codes "rollback") → None ≡ object_request ms
-              none_asked no_rollback = sym (by_its_name ∙ rw (← no_query, ← no_status, ← no_create, ← no_drop, ← no_begin, ← no_commit, ← no_rollback) refl)
+              module _ (no_rollback : false ≡ bytes_eq op (codes "rollback")) where
+                pub pull_asked : true ≡ bytes_eq op (codes "pull") → with_only page_keys ms (of_page pull ms) ≡ object_request ms
+                pull_asked named_so = sym (by_its_name ∙ rw (← no_query, ← no_status, ← no_create, ← no_drop, ← no_begin, ← no_commit, ← no_rollback, ← named_so) refl)
+
+                module _ (no_pull : false ≡ bytes_eq op (codes "pull")) where
+                  pub drop_page_asked : true ≡ bytes_eq op (codes "drop_page") → with_only page_keys ms (of_page drop_page ms) ≡ object_request ms
+                  drop_page_asked named_so = sym (by_its_name ∙ rw (← no_query, ← no_status, ← no_create, ← no_drop, ← no_begin, ← no_commit, ← no_rollback, ← no_pull, ← named_so) refl)
+
+                  pub none_asked : false ≡ bytes_eq op (codes "drop_page") → None ≡ object_request ms
+                  none_asked no_drop_page = sym (by_its_name ∙ rw (← no_query, ← no_status, ← no_create, ← no_drop, ← no_begin, ← no_commit, ← no_rollback, ← no_pull, ← no_drop_page) refl)

@@ -1,5 +1,5 @@
 -- The code in a reply's text tells the fault.
-use Rattle.std.proofs.Common.{◌≡◌, ◌≢◌, ◌≤◌, ℕ, ◌+◌, ◌-◌, ◌*◌, length, List, [], ◌∷◌, cond, ◌==◌, ◌||◌, nat_lt, get_or, arith, refl, sym, ap, ◌∙◌}
+use Rattle.std.proofs.Common.{◌≡◌, ◌≢◌, ◌≤◌, ℕ, ◌+◌, ◌-◌, ◌*◌, length, Option, List, [], ◌∷◌, cond, ◌==◌, ◌||◌, nat_lt, get_or, arith, refl, sym, ap, ◌∙◌}
 use Rattle.std.specs.Fmt.{digits}
 use Rattle.std.specs.Prelude.{codes}
 use Rattle.serde_json.specs.Data.{Data, object, Items, Members, member}
@@ -8,14 +8,15 @@ use Rattle.serde_json.proofs.OnLiterals.{serde_json_on_literals}
 use Rattle.pg_meaning.specs.Codes.{code_of}
 use Rattle.pg_meaning.specs.declared.fault.Fault.{Fault}
 use Rattle.pg_meaning.specs.declared.fault.Fault.TheVariants.{FrameTooLong, BadRequest, UnknownToken, ReadOnly, TextTooLong, BadLexeme, BadSyntax, TooDeep, UndefinedVariable, VariableAlreadyBound, BadAggregate, BadPattern, UnknownFunction, DuplicateColumn, MissingParameter, TypeFault, Overflow, DivisionByZero, ValueTooLarge, NotStorable, MergeNull, NodeStillConnected, DeletedEntity, NegativeCount, StepQuota, ElementQuota, IdsExhausted, IndexExists, NoSuchIndex, TooManyIndexes, ReplyTooLong, TenantBusy, NoTransaction, TransactionOpen, NoSuchPage, HeldRowsQuota, OutOfMemory}
-use Rattle.pg_json.specs.Laws.{RefusalsDiffer, RowsAreNoRefusals, StatusesAreNoRefusals, DoneIsNoRefusal}
+use Rattle.pg_json.specs.Laws.{RefusalsDiffer, RowsAreNoRefusals, PagesAreNoRefusals, PullsAreNoRefusals, StatusesAreNoRefusals, DoneIsNoRefusal}
+use Rattle.pg_json.specs.Pages.{paged_text, pulled_text}
 use Rattle.pg_json.specs.Refusals.{refusal_text, done_text}
-use Rattle.pg_json.specs.Replies.{max_reply, tenant_text, natural}
+use Rattle.pg_json.specs.Replies.{max_page, tenant_text, natural}
 use Rattle.pg_json.specs.Rows.{rows_text}
 use Rattle.pg_json.specs.declared.status.TenantStatus.{TenantStatus}
 
 -- no refusal is longer than a reply may be
-pub refusal_within : (f : Fault) → length (refusal_text f) ≤ max_reply
+pub refusal_within : (f : Fault) → length (refusal_text f) ≤ max_page
 unfolding serde_json_on_literals digits refusal_text
 refusal_within FrameTooLong = omega arith
 refusal_within BadRequest = omega arith
@@ -116,6 +117,14 @@ code_in-rows : (columns : Items) (rows : List Items) (steps : ℕ) → code_in (
 unfolding serde_json_on_literals digits rows_text
 code_in-rows columns rows steps = refl
 
+code_in-paged : (columns : Items) (page : Option ℕ) (rows : List (List ℕ)) (steps : ℕ) → code_in (paged_text columns page rows steps) ≡ 0
+unfolding serde_json_on_literals digits paged_text
+code_in-paged columns page rows steps = refl
+
+code_in-pulled : (page : Option ℕ) (rows : List (List ℕ)) → code_in (pulled_text page rows) ≡ 0
+unfolding serde_json_on_literals digits pulled_text
+code_in-pulled page rows = refl
+
 code_in-status : (s : TenantStatus) → code_in (tenant_text s) ≡ 0
 unfolding serde_json_on_literals digits tenant_text
 code_in-status s = refl
@@ -138,6 +147,12 @@ no_refusal s f none e =
 
 pub rows_are_no_refusals : RowsAreNoRefusals
 rows_are_no_refusals columns rows steps f = no_refusal (rows_text columns rows steps) f (code_in-rows columns rows steps)
+
+pub paged_is_no_refusal : PagesAreNoRefusals
+paged_is_no_refusal columns page rows steps f = no_refusal (paged_text columns page rows steps) f (code_in-paged columns page rows steps)
+
+pub pulled_is_no_refusal : PullsAreNoRefusals
+pulled_is_no_refusal page rows f = no_refusal (pulled_text page rows) f (code_in-pulled page rows)
 
 pub statuses_are_no_refusals : StatusesAreNoRefusals
 statuses_are_no_refusals s f = no_refusal (tenant_text s) f (code_in-status s)

@@ -24,3 +24,6 @@ digits_between k n low high fits =
 pub digits_of_zero : (n : ℕ) → n ≡ 0 → 1 ≡ length (decimal n)
 unfolding digits
 digits_of_zero n e = rw e refl
+
+pub few_digits : (n : ℕ) → n < 2 ^ 64 → length (decimal n) ≤ 20
+few_digits n fits = length-decimal-le 20 n (omega arith) (omega arith) fits

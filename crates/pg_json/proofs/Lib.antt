@@ -5,9 +5,13 @@ pub mod Digits
 pub mod Elements
 pub mod Exits
 pub mod Given
+pub mod Held
+pub mod Joined
 pub mod Members
+pub mod Paged
 pub mod Reading
 pub mod Rooms
+pub mod RowsText
 pub mod Strangers
 pub mod Lengths
 pub mod Meanings

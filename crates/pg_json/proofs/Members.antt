@@ -70,11 +70,12 @@ module _ (key s : List ℕ) (op : Option (List ℕ)) (ps : Option Entries) (text
       let is = only_token (bytes_eq key (codes "op")) (bytes_eq key (codes "token")) (bytes_eq key (codes "text")) one no_op no_text in
       rw ((bytes_eq-Decides key (codes "token")).0 is) (sym (put_token s op ps text token))
 
--- what is asked where an index request lacks a key
+-- what is asked where an index request lacks a key, and a request about held rows its page
 abbrev by_name : List ℕ → (query status begin commit rollback : Option Request) → Option Request
 by_name op query status begin commit rollback =
     cond (bytes_eq op (codes "query")) query (cond (bytes_eq op (codes "status")) status (cond (bytes_eq op (codes "create_index")) None (cond (bytes_eq op (codes "drop_index")) None
-    (cond (bytes_eq op (codes "begin")) begin (cond (bytes_eq op (codes "commit")) commit (cond (bytes_eq op (codes "rollback")) rollback None))))))
+    (cond (bytes_eq op (codes "begin")) begin (cond (bytes_eq op (codes "commit")) commit (cond (bytes_eq op (codes "rollback")) rollback
+    (cond (bytes_eq op (codes "pull")) None (cond (bytes_eq op (codes "drop_page")) None None))))))))
 
 either_way : (b : Bool) (x y : Option Request) → x ≡ y → cond b y x ≡ y
 either_way true x y e = refl
@@ -91,19 +92,28 @@ module _ (op : List ℕ) where
   named : (name : List ℕ) → bytes_eq op name ≡ true → op ≡ name
   named name = (bytes_eq-Decides op name).0
 
+  abbrev held_asked : Option Request
+  held_asked = cond (bytes_eq op (codes "pull")) None (cond (bytes_eq op (codes "drop_page")) None None)
+
+  no_page : held_asked ≡ None
+  no_page = either_way (is_named (codes "pull")) _ None (either_way (is_named (codes "drop_page")) _ None refl)
+
   pub nothing_asked : by_name op None None None None None ≡ None
   nothing_asked =
       either_way (is_named (codes "query")) _ None (either_way (is_named (codes "status")) _ None (either_way (is_named (codes "create_index")) _ None (either_way (is_named (codes "drop_index")) _ None
-      (either_way (is_named (codes "begin")) _ None (either_way (is_named (codes "commit")) _ None (either_way (is_named (codes "rollback")) _ None refl))))))
+      (either_way (is_named (codes "begin")) _ None (either_way (is_named (codes "commit")) _ None (either_way (is_named (codes "rollback")) _ None no_page))))))
 
   query_asked : (x : Option Request) → by_name op x None None None None ≡ cond (bytes_eq op (codes "query")) x None
   query_asked x =
       ap (cond (bytes_eq op (codes "query")) x) (either_way (is_named (codes "status")) _ None (either_way (is_named (codes "create_index")) _ None (either_way (is_named (codes "drop_index")) _ None
-      (either_way (is_named (codes "begin")) _ None (either_way (is_named (codes "commit")) _ None (either_way (is_named (codes "rollback")) _ None refl))))))
+      (either_way (is_named (codes "begin")) _ None (either_way (is_named (codes "commit")) _ None (either_way (is_named (codes "rollback")) _ None no_page))))))
 
   module _ (status begin commit rollback : Option Request) where
+    abbrev later_or : Option Request → Option Request
+    later_or others = cond (bytes_eq op (codes "begin")) begin (cond (bytes_eq op (codes "commit")) commit (cond (bytes_eq op (codes "rollback")) rollback others))
+
     abbrev later : Option Request
-    later = cond (bytes_eq op (codes "begin")) begin (cond (bytes_eq op (codes "commit")) commit (cond (bytes_eq op (codes "rollback")) rollback None))
+    later = later_or held_asked
 
     no_drop : cond (bytes_eq op (codes "drop_index")) None later ≡ later
     no_drop = unless_none (bytes_eq op (codes "drop_index")) later (λ is. rw (named (codes "drop_index") is) refl)
@@ -111,10 +121,10 @@ module _ (op : List ℕ) where
     no_index : cond (bytes_eq op (codes "create_index")) None (cond (bytes_eq op (codes "drop_index")) None later) ≡ later
     no_index = unless_none (bytes_eq op (codes "create_index")) _ (λ is. rw (named (codes "create_index") is) refl) ∙ no_drop
 
-    alone_asked : by_name op None status begin commit rollback ≡ cond (bytes_eq op (codes "status")) status later
+    alone_asked : by_name op None status begin commit rollback ≡ cond (bytes_eq op (codes "status")) status (later_or None)
     alone_asked =
         unless_none (bytes_eq op (codes "query")) _ (λ is. rw (named (codes "query") is) refl)
-        ∙ ap (cond (bytes_eq op (codes "status")) status) no_index
+        ∙ ap (cond (bytes_eq op (codes "status")) status) (no_index ∙ ap later_or no_page)
 
 pub request_asked : (op : Option (List ℕ)) (ps : Option Entries) (text token : Option (List ℕ)) → HaveDepth ps → request_of (object (members_of_fields op ps text token)) ≡ asked op ps text token
 request_asked None None None None h = refl

@@ -10,8 +10,8 @@ use Rattle.json.specs.Json as json
 use Rattle.json.specs.Json.{Parse, parse_map, read_key, members}
 use Rattle.serde_json.specs.Data.{Data, Members, no_members, member, put}
 use Rattle.serde_json.specs.Read.{of_json, of_members, converted}
-use Rattle.pg_json.specs.Fields.{AsksNothing, name_keys, text_keys}
-use Rattle.pg_json.specs.Requests.{has_only, is_one_of, query_keys, token_keys, index_keys, object_request, by_op, text_at}
+use Rattle.pg_json.specs.Fields.{AsksNothing, later_keys, text_keys}
+use Rattle.pg_json.specs.Requests.{has_only, is_one_of, query_keys, token_keys, index_keys, page_keys, object_request, by_op, text_at}
 use Rattle.pg_json.proofs.Members.{nothing_asked}
 
 and_false : (a : Bool) → (a && false) ≡ false
@@ -49,21 +49,21 @@ put_strange names k d (member l e ms) h = either_strange names k l d e ms (put k
 
 -- each operation lacks one of these members' keys
 abbrev Foreign : Members → Type 0
-Foreign ms = (has_only query_keys ms ≡ false) × (has_only token_keys ms ≡ false) × (has_only index_keys ms ≡ false)
+Foreign ms = (has_only query_keys ms ≡ false) × (has_only token_keys ms ≡ false) × (has_only index_keys ms ≡ false) × (has_only page_keys ms ≡ false)
 
 -- no operation has this key
 abbrev pub IsStrange : List ℕ → Type 0
-IsStrange k = (is_one_of query_keys k ≡ false) × (is_one_of token_keys k ≡ false) × (is_one_of index_keys k ≡ false)
+IsStrange k = (is_one_of query_keys k ≡ false) × (is_one_of token_keys k ≡ false) × (is_one_of index_keys k ≡ false) × (is_one_of page_keys k ≡ false)
 
 stays_foreign : (k : List ℕ) (d : Data) (ms : Members) → Foreign ms → Foreign (put k d ms)
-stays_foreign k d ms h = (put_keeps query_keys k d ms h.0, put_keeps token_keys k d ms h.1, put_keeps index_keys k d ms h.2)
+stays_foreign k d ms h = (put_keeps query_keys k d ms h.0, put_keeps token_keys k d ms h.1, put_keeps index_keys k d ms h.2, put_keeps page_keys k d ms h.3)
 
 made_foreign : (k : List ℕ) (d : Data) (ms : Members) → IsStrange k → Foreign (put k d ms)
-made_foreign k d ms h = (put_strange query_keys k d ms h.0, put_strange token_keys k d ms h.1, put_strange index_keys k d ms h.2)
+made_foreign k d ms h = (put_strange query_keys k d ms h.0, put_strange token_keys k d ms h.1, put_strange index_keys k d ms h.2, put_strange page_keys k d ms h.3)
 
 no_request : (op : Option (List ℕ)) (ms : Members) → Foreign ms → option_and_then (λ o. by_op o ms) op ≡ None
 no_request None ms h = refl
-no_request (Some op) ms h = rw (h.0, h.1, h.2) (nothing_asked op)
+no_request (Some op) ms h = rw (h.0, h.1, h.2, h.3) (nothing_asked op)
 
 abbrev Nothing : Option Members → Type 0
 Nothing o = MatchOption o ⊤ (λ ms. object_request ms ≡ None)
@@ -81,34 +81,58 @@ with_rest r None h = tt
 with_rest r (Some ms) h = h
 
 few_keys : (k : List ℕ) → is_one_of query_keys k ≡ false → is_one_of token_keys k ≡ false
-few_keys k h = by_first (bytes_eq k (codes "op")) (bytes_eq k (codes "token")) (is_one_of (codes "text" ∷ codes "params" ∷ []) k) h
+few_keys k h = by_first (bytes_eq k (codes "op")) (bytes_eq k (codes "token")) (is_one_of (codes "text" ∷ codes "params" ∷ codes "page" ∷ []) k) h
   where
     by_first : (a b c : Bool) → (a || (b || c)) ≡ false → (a || (b || false)) ≡ false
     by_first true b c e = absurd (cc)
     by_first false true c e = absurd (cc)
     by_first false false c e = refl
 
-no_query_key : (k : List ℕ) → is_one_of text_keys k ≡ false → bytes_eq k (codes "params") ≡ false → is_one_of query_keys k ≡ false
-no_query_key k h e = by_first (bytes_eq k (codes "op")) (bytes_eq k (codes "token")) (bytes_eq k (codes "text")) (bytes_eq k (codes "params")) h e
+no_page_key : (k : List ℕ) → is_one_of later_keys k ≡ false → bytes_eq k (codes "page") ≡ false
+no_page_key k h = by_first (bytes_eq k (codes "label")) (bytes_eq k (codes "key")) (bytes_eq k (codes "page")) h
   where
-    by_first : (a b c d : Bool) → (a || (b || (c || false))) ≡ false → d ≡ false → (a || (b || (c || (d || false)))) ≡ false
-    by_first true b c d h e = absurd (cc)
-    by_first false true c d h e = absurd (cc)
-    by_first false false true d h e = absurd (cc)
-    by_first false false false true h e = absurd (cc)
-    by_first false false false false h e = refl
+    by_first : (a b c : Bool) → (a || (b || (c || false))) ≡ false → c ≡ false
+    by_first true b c h = absurd (cc)
+    by_first false true c h = absurd (cc)
+    by_first false false true h = absurd (cc)
+    by_first false false false h = refl
 
-no_index_key : (k : List ℕ) → is_one_of text_keys k ≡ false → is_one_of name_keys k ≡ false → is_one_of index_keys k ≡ false
-no_index_key k h e = by_first (bytes_eq k (codes "op")) (bytes_eq k (codes "token")) (bytes_eq k (codes "text")) (is_one_of name_keys k) h e
+no_query_key : (k : List ℕ) → is_one_of text_keys k ≡ false → bytes_eq k (codes "params") ≡ false → bytes_eq k (codes "page") ≡ false → is_one_of query_keys k ≡ false
+no_query_key k h e page = by_first (bytes_eq k (codes "op")) (bytes_eq k (codes "token")) (bytes_eq k (codes "text")) (bytes_eq k (codes "params")) (bytes_eq k (codes "page")) h e page
   where
-    by_first : (a b c d : Bool) → (a || (b || (c || false))) ≡ false → d ≡ false → (a || (b || d)) ≡ false
-    by_first true b c d h e = absurd (cc)
-    by_first false true c d h e = absurd (cc)
-    by_first false false c d h e = e
+    by_first : (a b c d p : Bool) → (a || (b || (c || false))) ≡ false → d ≡ false → p ≡ false → (a || (b || (c || (d || (p || false))))) ≡ false
+    by_first true b c d p h e page = absurd (cc)
+    by_first false true c d p h e page = absurd (cc)
+    by_first false false true d p h e page = absurd (cc)
+    by_first false false false true p h e page = absurd (cc)
+    by_first false false false false true h e page = absurd (cc)
+    by_first false false false false false h e page = refl
 
--- a key that is none of a text, of parameters, of a label or of a property's key
-pub no_key : (k : List ℕ) → is_one_of text_keys k ≡ false → bytes_eq k (codes "params") ≡ false → is_one_of name_keys k ≡ false → IsStrange k
-no_key k texts parameters names = let query = no_query_key k texts parameters in (query, few_keys k query, no_index_key k texts names)
+no_index_key : (k : List ℕ) → is_one_of text_keys k ≡ false → is_one_of later_keys k ≡ false → is_one_of index_keys k ≡ false
+no_index_key k h e = by_first (bytes_eq k (codes "op")) (bytes_eq k (codes "token")) (bytes_eq k (codes "text")) (bytes_eq k (codes "label")) (bytes_eq k (codes "key")) (bytes_eq k (codes "page")) h e
+  where
+    by_first : (a b c l n p : Bool) → (a || (b || (c || false))) ≡ false → (l || (n || (p || false))) ≡ false → (a || (b || (l || (n || false)))) ≡ false
+    by_first true b c l n p h e = absurd (cc)
+    by_first false true c l n p h e = absurd (cc)
+    by_first false false c true n p h e = absurd (cc)
+    by_first false false c false true p h e = absurd (cc)
+    by_first false false c false false p h e = refl
+
+no_held_key : (k : List ℕ) → is_one_of text_keys k ≡ false → bytes_eq k (codes "page") ≡ false → is_one_of page_keys k ≡ false
+no_held_key k h page = by_first (bytes_eq k (codes "op")) (bytes_eq k (codes "token")) (bytes_eq k (codes "text")) (bytes_eq k (codes "page")) h page
+  where
+    by_first : (a b c p : Bool) → (a || (b || (c || false))) ≡ false → p ≡ false → (a || (b || (p || false))) ≡ false
+    by_first true b c p h page = absurd (cc)
+    by_first false true c p h page = absurd (cc)
+    by_first false false c true h page = absurd (cc)
+    by_first false false c false h page = refl
+
+-- a key that is none of a text, of parameters, of a label, of a property's key or of a page
+pub no_key : (k : List ℕ) → is_one_of text_keys k ≡ false → bytes_eq k (codes "params") ≡ false → is_one_of later_keys k ≡ false → IsStrange k
+no_key k texts parameters others =
+    let page = no_page_key k others in
+    let query = no_query_key k texts parameters page in
+    (query, few_keys k query, no_index_key k texts others, no_held_key k texts page)
 
 pub strange_member : (p : Parse json.Json) (old : Members) (n : ℕ) (k : List ℕ) (ts s : List Token) → read_key ts ≡ Some (Some k, s) → IsStrange k
     → AsksNothing (converted (λ ms. of_members ms old) (members p n ts))

@@ -1,14 +1,22 @@
 -- A reply that is written row by row: one thing more at the end of what is written.
-use Rattle.std.proofs.Common.{◌≡◌, ℕ, List, [], ◌∷◌, ◌++◌, map, decimal, refl, sym, ap, ◌∙◌}
-use Rattle.std.proofs.lemmas.List.{append_assoc}
+use Rattle.std.proofs.Common.{◌≡◌, ℕ, ◌+◌, ◌-◌, ◌^◌, ◌<◌, ◌≤◌, Bool, true, false, cond, List, [], ◌∷◌, ◌++◌, length, take, drop, map, decimal, refl, sym, ap, ◌∙◌, append-nil, length-append, length-drop, arith}
+use Rattle.std.proofs.lemmas.List.{append_assoc, length-take-le, map_push, take-append-drop}
+use Rattle.std.proofs.lemmas.Fmt.{decimal_nonempty}
 use Rattle.std.specs.Prelude.{codes}
-use Rattle.json.specs.Token.{Token, begin_array, end_array, end_object, key as key_token, number as number_token, string as string_token}
-use Rattle.json.specs.Tree.{json_tokens, items_tokens}
+use Rattle.json.specs.Print.{print}
+use Rattle.json.specs.Token.{Token, begin_array, end_array, string as string_token}
+use Rattle.json.specs.Tree.{items_tokens}
 use Rattle.serde_json.specs.Data.{Items, no_items, item, array, string}
-use Rattle.serde_json.specs.Written.{outline, items_outline}
-use Rattle.pg_json.specs.Replies.{items_of, query_data}
-use Rattle.pg_json.specs.Rows.{HasNamed, HasWritten, begun_tokens, head_tokens, names_before, rows_before, rows_data}
-use Rattle.pg_json.specs.declared.rows.RowsReply.{RowsReply}
+use Rattle.serde_json.specs.Written.{items_outline}
+use Rattle.pg_json.specs.Joined.{IsCut, IsReply, comma_behind, steps_text, with_end, with_row}
+use Rattle.pg_json.specs.Pages.{QueryText, columns_begun, ends_from, query_text, row_text, rows_joined, rows_start}
+use Rattle.pg_json.specs.Replies.{items_of, max_reply}
+use Rattle.pg_json.specs.Rows.{rows_before, rows_data, rows_text}
+use Rattle.pg_json.specs.Telling.{HasNamed, HasNoted, HasPlain, head_tokens, names_before, plain_end, rows_begun}
+use Rattle.pg_json.specs.declared.plain_rows.PlainRows.{PlainRows}
+use Rattle.pg_json.specs.declared.rows.ReplyColumns.{ReplyColumns}
+use Rattle.pg_json.proofs.Joined.{comma_same, ends_push, joined_push}
+use Rattle.pg_json.proofs.RowsText.{columns_printed, items_printed, rows_items, rows_text_ended}
 
 names_pushed : (ns : List (List ℕ)) (n : List ℕ) (ds : Items) → names_before (ns ++ n ∷ []) ds ≡ names_before ns (item (string n) ds)
 names_pushed [] n ds = refl
@@ -32,44 +40,143 @@ two_steps a b c x xs first second = second ∙ ap (λ ts. ts ++ xs) first ∙ ap
 pub three_steps : (a b c d : List Token) (x : Token) (xs : List Token) (y : Token) → b ≡ a ++ x ∷ [] → c ≡ b ++ xs → d ≡ c ++ y ∷ [] → d ≡ a ++ x ∷ (xs ++ y ∷ [])
 three_steps a b c d x xs y first second third = third ∙ ap (λ ts. ts ++ y ∷ []) (two_steps a b c x xs first second) ∙ append_assoc a (x ∷ xs) (y ∷ [])
 
-module _ (r new : RowsReply) where
-  pub one_name : (ns : List (List ℕ)) (n : List ℕ) → new.to.before ≡ r.to.before → new.to.tokens ≡ r.to.tokens ++ string_token n ∷ [] → HasNamed r ns → HasNamed new (ns ++ n ∷ [])
-  one_name ns n same written so_far = record {
-    before = same ∙ so_far.before;
-    more = λ ds.
-        ap (λ ts. ts ++ items_tokens (items_outline ds)) written
-        ∙ append_assoc r.to.tokens (string_token n ∷ []) (items_tokens (items_outline ds))
-        ∙ so_far.more (item (string n) ds)
-        ∙ ap (λ xs. head_tokens ++ items_tokens (items_outline xs)) (sym (names_pushed ns n ds));
-  }
+pub one_name : (r new : ReplyColumns) (ns : List (List ℕ)) (n : List ℕ) → new.to.before ≡ r.to.before → new.to.tokens ≡ r.to.tokens ++ string_token n ∷ [] → HasNamed r ns → HasNamed new (ns ++ n ∷ [])
+one_name r new ns n same written so_far = record {
+  before = same ∙ so_far.before;
+  more = λ ds.
+      ap (λ ts. ts ++ items_tokens (items_outline ds)) written
+      ∙ append_assoc r.to.tokens (string_token n ∷ []) (items_tokens (items_outline ds))
+      ∙ so_far.more (item (string n) ds)
+      ∙ ap (λ xs. head_tokens ++ items_tokens (items_outline xs)) (sym (names_pushed ns n ds));
+}
 
-  pub names_ended : (ns : List (List ℕ)) → new.to.before ≡ r.to.before → new.to.tokens ≡ r.to.tokens ++ end_array ∷ key_token (codes "rows") ∷ begin_array ∷ [] → HasNamed r ns → HasWritten new (items_of (map string ns)) []
-  names_ended ns same written so_far = record {
-    before = same ∙ so_far.before;
-    more = λ ds. ap (λ ts. ts ++ items_tokens (items_outline ds)) (written
-        ∙ sym (append_assoc r.to.tokens (end_array ∷ []) (key_token (codes "rows") ∷ begin_array ∷ []))
-        ∙ ap (λ ts. ts ++ key_token (codes "rows") ∷ begin_array ∷ []) (so_far.more no_items ∙ ap (λ xs. head_tokens ++ items_tokens (items_outline xs)) (names_data ns)));
-  }
+pub names_ended : (r : ReplyColumns) (before text : List ℕ) (ts : List Token) (ns : List (List ℕ)) → text ≡ before ++ print ts → before ≡ r.to.before → ts ≡ r.to.tokens ++ end_array ∷ [] → HasNamed r ns
+    → text ≡ columns_begun (items_of (map string ns))
+names_ended r before text ts ns e f g so_far =
+    e ∙ ap (λ t. t ++ print ts) (f ∙ so_far.before)
+    ∙ ap print (g ∙ so_far.more no_items ∙ ap (λ xs. head_tokens ++ items_tokens (items_outline xs)) (names_data ns)) ∙ columns_printed (items_of (map string ns))
 
-  pub one_row : (columns : Items) (rows : List Items) (row : Items) → new.to.before ≡ r.to.before → new.to.tokens ≡ r.to.tokens ++ begin_array ∷ items_tokens (items_outline row) → HasWritten r columns rows → HasWritten new columns (rows ++ row ∷ [])
-  one_row columns rows row same written so_far = record {
-    before = same ∙ so_far.before;
-    more = λ ds.
-        ap (λ ts. ts ++ items_tokens (items_outline ds)) written
-        ∙ append_assoc r.to.tokens (begin_array ∷ items_tokens (items_outline row)) (items_tokens (items_outline ds))
-        ∙ so_far.more (item (array row) ds)
-        ∙ ap (λ xs. begun_tokens columns ++ items_tokens (items_outline xs)) (sym (rows_pushed rows row ds));
-  }
+-- ---- rows that are not noted
 
--- the whole text's tokens
-pub all_written : (r : RowsReply) (columns : Items) (rows : List Items) (steps : ℕ) (ts : List Token) → ts ≡ r.to.tokens ++ end_array ∷ key_token (codes "steps") ∷ number_token (decimal steps) ∷ end_object ∷ [] → HasWritten r columns rows
-    → ts ≡ json_tokens (outline (query_data columns (rows_data rows) steps))
-all_written r columns rows steps ts written so_far =
-    let rest : List Token = key_token (codes "steps") ∷ number_token (decimal steps) ∷ end_object ∷ [] in
-    let names : List Token = items_tokens (items_outline columns) in
-    let inside : List Token = items_tokens (items_outline (rows_data rows)) in
-    written
-    ∙ sym (append_assoc r.to.tokens (end_array ∷ []) rest)
-    ∙ ap (λ us. us ++ rest) (so_far.more no_items)
-    ∙ append_assoc (begun_tokens columns) inside rest
-    ∙ ap (λ us. head_tokens ++ us) (append_assoc names (key_token (codes "rows") ∷ begin_array ∷ []) (inside ++ rest))
+pub plain_row : (r new : PlainRows) (columns : Items) (rows : List Items) (row : Items) → new.columns_end ≡ r.columns_end → new.to.before ≡ r.to.before → new.to.tokens ≡ r.to.tokens ++ begin_array ∷ items_tokens (items_outline row)
+    → HasPlain r columns rows → HasPlain new columns (rows ++ row ∷ [])
+plain_row r new columns rows row end same written so_far = record {
+  columns_end = end ∙ so_far.columns_end;
+  before = same ∙ so_far.before;
+  more = λ ds.
+      ap (λ ts. ts ++ items_tokens (items_outline ds)) written
+      ∙ append_assoc r.to.tokens (begin_array ∷ items_tokens (items_outline row)) (items_tokens (items_outline ds))
+      ∙ so_far.more (item (array row) ds)
+      ∙ ap (λ xs. items_tokens (items_outline xs)) (sym (rows_pushed rows row ds));
+}
+
+pub plain_text : (r : PlainRows) (before text : List ℕ) (ts : List Token) (columns : Items) (rows : List Items) (steps : ℕ) → text ≡ before ++ print ts → before ≡ r.to.before → ts ≡ r.to.tokens ++ end_array ∷ []
+    → HasPlain r columns rows → text ++ steps_text steps ≡ rows_text columns rows steps
+plain_text r before text ts columns rows steps e f g so_far =
+    let inside : List ℕ = rows_joined (map row_text rows) in
+    ap (λ t. t ++ steps_text steps) (e ∙ ap (λ t. t ++ print ts) (f ∙ so_far.before)
+    ∙ ap (λ t. rows_begun columns ++ t) (ap print (g ∙ so_far.more no_items) ∙ items_printed (rows_data rows) ∙ rows_items rows)
+    ∙ sym (append_assoc (rows_begun columns) inside (codes "]")))
+    ∙ rows_text_ended columns rows steps
+
+-- ---- rows that are noted
+
+pub noted_row : (q : QueryText) (columns : Items) (rows : List Items) (row : Items) → HasNoted q columns rows → HasNoted (with_row q (row_text row)) columns (rows ++ row ∷ [])
+noted_row q columns rows row so_far =
+    let texts : List (List ℕ) = map row_text rows in
+    let more : List ℕ = comma_behind q.row_ends ++ row_text row in
+    let comma : comma_behind q.row_ends ≡ comma_behind texts = ap comma_behind so_far.row_ends ∙ comma_same (rows_start columns) texts in
+    let joined : rows_joined texts ++ more ≡ rows_joined (texts ++ row_text row ∷ []) = ap (λ t. rows_joined texts ++ (t ++ row_text row)) comma ∙ sym (joined_push texts (row_text row)) in
+    let pushed : texts ++ row_text row ∷ [] ≡ map row_text (rows ++ row ∷ []) = sym (map_push row_text rows row) in
+    let text : q.text ++ more ≡ rows_begun columns ++ rows_joined (texts ++ row_text row ∷ []) =
+    ap (λ t. t ++ more) so_far.text ∙ append_assoc (rows_begun columns) (rows_joined texts) more ∙ ap (λ t. rows_begun columns ++ t) joined in
+    let place : length (q.text ++ more) ≡ rows_start columns + length (rows_joined (texts ++ row_text row ∷ [])) =
+    ap length text ∙ (simp length-append (omega arith)) in
+    record {
+      columns_end = so_far.columns_end;
+      text = text ∙ ap (λ ts. rows_begun columns ++ rows_joined ts) pushed;
+      row_ends = ap (λ es. es ++ length (q.text ++ more) ∷ []) so_far.row_ends ∙ ap (λ e. ends_from (rows_start columns) texts ++ e ∷ []) place
+          ∙ sym (ends_push (rows_start columns) texts (row_text row)) ∙ ap (ends_from (rows_start columns)) pushed;
+    }
+
+pub noted_text : (q : QueryText) (columns : Items) (rows : List Items) (steps : ℕ) → HasNoted q columns rows → q.text ++ codes "]" ++ steps_text steps ≡ rows_text columns rows steps
+noted_text q columns rows steps so_far = ap (λ t. t ++ codes "]" ++ steps_text steps) so_far.text ∙ rows_text_ended columns rows steps
+
+-- the same of the rows as texts
+cut_row : (text ends : List ℕ) (columns_end : ℕ) (row : List ℕ) → IsCut text columns_end ends [] → IsCut (text ++ (comma_behind ends ++ row)) columns_end (ends ++ length (text ++ (comma_behind ends ++ row)) ∷ []) []
+cut_row text ends columns_end row cut =
+    let more : List ℕ = comma_behind ends ++ row in
+    let comma : comma_behind ends ≡ comma_behind cut.rows = ap comma_behind cut.ends ∙ comma_same (columns_end + 9) cut.rows in
+    let joined : rows_joined cut.rows ++ more ≡ rows_joined (cut.rows ++ row ∷ []) = ap (λ t. rows_joined cut.rows ++ (t ++ row)) comma ∙ sym (joined_push cut.rows row) in
+    let whole : text ++ more ≡ cut.before ++ rows_joined (cut.rows ++ row ∷ []) =
+    ap (λ t. t ++ more) (cut.parts ∙ ap (λ t. cut.before ++ t) (append-nil (rows_joined cut.rows))) ∙ append_assoc cut.before (rows_joined cut.rows) more ∙ ap (λ t. cut.before ++ t) joined in
+    let place : length (text ++ more) ≡ columns_end + 9 + length (rows_joined (cut.rows ++ row ∷ [])) = ap length whole ∙ length-append cut.before _ ∙ ap (λ n. n + length (rows_joined (cut.rows ++ row ∷ []))) cut.begins in
+    record {
+      before = cut.before;
+      rows = cut.rows ++ row ∷ [];
+      parts = whole ∙ ap (λ t. cut.before ++ t) (sym (append-nil (rows_joined (cut.rows ++ row ∷ []))));
+      begins = cut.begins;
+      ends = ap (λ es. es ++ length (text ++ more) ∷ []) cut.ends ∙ ap (λ e. ends_from (columns_end + 9) cut.rows ++ e ∷ []) place ∙ sym (ends_push (columns_end + 9) cut.rows row);
+    }
+
+pub cut_pushed : (text ends new_text new_ends printed : List ℕ) (columns_end : ℕ) (row : List ℕ) → new_text ≡ text ++ printed → printed ≡ comma_behind ends ++ row → new_ends ≡ ends ++ length new_text ∷ []
+    → IsCut text columns_end ends [] → IsCut new_text columns_end new_ends []
+cut_pushed text ends new_text new_ends printed columns_end row first second third cut =
+    let k = cut_row text ends columns_end row cut in
+    let whole : new_text ≡ text ++ (comma_behind ends ++ row) = first ∙ ap (λ t. text ++ t) second in
+    record { before = k.before; rows = k.rows; parts = whole ∙ k.parts; begins = k.begins; ends = third ∙ ap (λ t. ends ++ length t ∷ []) whole ∙ k.ends }
+
+-- ---- the reply's end
+
+steps_length : (steps : ℕ) → steps < 2 ^ 64 → 11 ≤ length (steps_text steps)
+steps_length steps fits = let some : 0 < length (decimal steps) = decimal_nonempty steps fits in simp length-append (omega arith)
+
+pub noted_reply : (text ended whole ends : List ℕ) (columns_end steps : ℕ) → steps < 2 ^ 64 → ended ≡ text ++ 93 ∷ [] → whole ≡ ended ++ steps_text steps → length whole ≤ max_reply
+    → IsCut text columns_end ends [] → IsReply whole columns_end ends
+noted_reply text ended whole ends columns_end steps fits bracket all within cut =
+    let inside : List ℕ = rows_joined cut.rows in
+    let long : 11 ≤ length (steps_text steps) = steps_length steps fits in
+    record {
+      behind = 93 ∷ steps_text steps;
+      last = omega arith;
+      within = within;
+      cut = record {
+        before = cut.before;
+        rows = cut.rows;
+        parts = all ∙ ap (λ t. t ++ steps_text steps) (bracket ∙ ap (λ t. t ++ 93 ∷ []) (cut.parts ∙ ap (λ t. cut.before ++ t) (append-nil inside)))
+            ∙ append_assoc (cut.before ++ inside) (93 ∷ []) (steps_text steps) ∙ append_assoc cut.before inside (93 ∷ steps_text steps);
+        begins = cut.begins;
+        ends = cut.ends;
+      };
+    }
+
+pub plain_reply : (before printed ended whole ends : List ℕ) (columns_end steps : ℕ) → steps < 2 ^ 64 → columns_end + 9 ≤ length before → ended ≡ before ++ printed → whole ≡ ended ++ steps_text steps → length whole ≤ max_reply
+    → ends ≡ [] → IsReply whole columns_end ends
+plain_reply before printed ended whole ends columns_end steps fits begun first all within none =
+    let long : 11 ≤ length (steps_text steps) = steps_length steps fits in
+    let front : length ended ≡ length before + length printed = ap length first ∙ length-append before printed in
+    let both : length whole ≡ length ended + length (steps_text steps) = ap length all ∙ length-append ended (steps_text steps) in
+    let rest : length (drop (columns_end + 9) whole) ≡ length whole - (columns_end + 9) = length-drop (columns_end + 9) whole in
+    record {
+      behind = drop (columns_end + 9) whole;
+      last = omega arith;
+      within = within;
+      cut = record { before = take (columns_end + 9) whole; rows = []; parts = sym (take-append-drop (columns_end + 9) whole); begins = length-take-le (columns_end + 9) whole (omega arith); ends = none };
+    }
+
+pub same_reply : (q : QueryText) (notes : Bool) (columns : Items) (rows : List Items) (steps : ℕ) → q.text ≡ rows_text columns rows steps → q.columns_end ≡ length (columns_begun columns)
+    → q.row_ends ≡ cond notes (ends_from (rows_start columns) (map row_text rows)) [] → q ≡ query_text notes columns rows steps
+same_reply q notes columns rows steps first second third =
+    ap (λ t. record { text = t; columns_end = q.columns_end; row_ends = q.row_ends }) first
+    ∙ ap (λ n. record { text = rows_text columns rows steps; columns_end = n; row_ends = q.row_ends }) second
+    ∙ ap (λ es. record { text = rows_text columns rows steps; columns_end = length (columns_begun columns); row_ends = es }) third
+
+pub plain_whole : (p : PlainRows) (notes : Bool) (columns : Items) (rows : List Items) (steps : ℕ) → notes ≡ false → HasPlain p columns rows → plain_end p steps ≡ query_text notes columns rows steps
+plain_whole p notes columns rows steps plain so_far =
+    same_reply (plain_end p steps) notes columns rows steps
+    (plain_text p p.to.before _ (p.to.tokens ++ end_array ∷ []) columns rows steps refl refl refl so_far) so_far.columns_end (sym (ap (λ b. cond b (ends_from (rows_start columns) (map row_text rows)) []) plain))
+
+pub noted_whole : (q : QueryText) (notes : Bool) (columns : Items) (rows : List Items) (steps : ℕ) → notes ≡ true → HasNoted q columns rows → with_end q steps ≡ query_text notes columns rows steps
+noted_whole q notes columns rows steps noted so_far =
+    same_reply (with_end q steps) notes columns rows steps
+    (noted_text q columns rows steps so_far) so_far.columns_end (so_far.row_ends ∙ sym (ap (λ b. cond b (ends_from (rows_start columns) (map row_text rows)) []) noted))

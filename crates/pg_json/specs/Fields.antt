@@ -16,9 +16,9 @@ use Rattle.json.specs.Token.{Token}
 abbrev pub text_keys : List (List ℕ)
 text_keys = codes "op" ∷ codes "token" ∷ codes "text" ∷ []
 
--- the keys that index requests alone have; a body with one is not told at a glance
-abbrev pub name_keys : List (List ℕ)
-name_keys = codes "label" ∷ codes "key" ∷ []
+-- the keys of index requests and of pages; a body with one is not told at a glance
+abbrev pub later_keys : List (List ℕ)
+later_keys = codes "label" ∷ codes "key" ∷ codes "page" ∷ []
 
 abbrev pub with_data : List ℕ → Option Data → Members → Members
 with_data k None ms = ms
@@ -59,7 +59,7 @@ asked None parameters text token = None
 asked (Some op) parameters text None = None
 asked (Some op) (Some es) None (Some token) = None
 asked (Some op) None None (Some token) = asked_alone op token
-asked (Some op) parameters (Some text) (Some token) = if bytes_eq op (codes "query") then Some (query token text (unwrap_or parameters no_entries)) else None
+asked (Some op) parameters (Some text) (Some token) = if bytes_eq op (codes "query") then Some (query token text (unwrap_or parameters no_entries) None) else None
 
 abbrev pub asked_with : Fields → Option Request
 asked_with f = asked (option_map (λ s. s.now) f.op) (parameters_of f) (option_map (λ s. s.now) f.text) (option_map (λ s. s.now) f.token)

@@ -11,3 +11,8 @@ pub mod Fields
 pub mod Operations
 pub mod Laws
 pub mod Rows
+pub mod HeldRows
+pub mod Joined
+pub mod Pages
+pub mod PagesCode
+pub mod Telling

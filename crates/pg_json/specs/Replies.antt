@@ -1,5 +1,5 @@
 -- The text of a reply, as the compact text of its data.
-use Rattle.std.specs.Prelude.{ℕ, List, [], ◌∷◌, map, codes, String, string_bytes}
+use Rattle.std.specs.Prelude.{ℕ, ◌+◌, List, [], ◌∷◌, map, codes, String, string_bytes}
 use Rattle.std.specs.declared.alloc.Global.{Global}
 use Rattle.serde_json.specs.Data.{Data, null, boolean, number, unsigned, string, array, object, Items, no_items, item, Members, no_members, member}
 use Rattle.serde_json.specs.Find.{of_integer}
@@ -84,3 +84,7 @@ tenant_text s = compact_text (tenant_data s)
 -- the bytes that a reply may have
 abbrev pub max_reply : ℕ
 max_reply = 16777216
+
+-- the bytes that the body of a page may have
+abbrev pub max_page : ℕ
+max_page = max_reply + 32

@@ -1,7 +1,7 @@
 //! The bytes of a reply.
 ghost use Rattle.std.specs.Prelude.{◌≡◌, ◌≤◌, length};
 ghost use Rattle.pg_json.specs.Refusals.{refusal_text, done_text};
-ghost use Rattle.pg_json.specs.Replies.{max_reply};
+ghost use Rattle.pg_json.specs.Replies.{max_page};
 
 use pg_meaning::Fault;
 use std::marker::Model;
@@ -22,7 +22,7 @@ pub struct ReplyBytes {
 
 impl Model for ReplyBytes {
     ghost use Rattle.std.specs.Prelude.{List, ℕ, ◌≤◌, length};
-    ghost use Rattle.pg_json.specs.Replies.{max_reply};
+    ghost use Rattle.pg_json.specs.Replies.{max_page};
     ghost use Rattle.std.specs.Coded.{coded_list, coded_ℕ};
     ghost use Rattle.pg_json.specs.Bytes.{bytes_of};
 
@@ -32,12 +32,12 @@ impl Model for ReplyBytes {
 
     ghost view = { λ b. bytes_of b.body };
 
-    ghost invariant = { λ b. length (bytes_of b.body) ≤ max_reply };
+    ghost invariant = { λ b. length (bytes_of b.body) ≤ max_page };
 }
 
 impl ReplyBytes {
     pub(crate) fn made(bytes: Vec<u8>) -> ReplyBytes
-        requires { length bytes.items ≤ max_reply }
+        requires { length bytes.items ≤ max_page }
         ensures { result ≡ bytes.items }
     {
         ReplyBytes {
@@ -46,7 +46,7 @@ impl ReplyBytes {
     }
 
     fn fixed(text: &'static str) -> ReplyBytes
-        requires { length text.now ≤ max_reply }
+        requires { length text.now ≤ max_page }
         ensures { result ≡ text.entry.now }
     {
         ReplyBytes {
@@ -56,7 +56,7 @@ impl ReplyBytes {
 
     pub fn as_slice(&self) -> &[u8]
         ensures value { result.now ≡ self.now }
-        ensures within { length self.now ≤ max_reply }
+        ensures within { length self.now ≤ max_page }
     {
         match &self.body {
             Body::Fixed(text) => text.as_bytes(),

@@ -4,7 +4,7 @@ ghost use Rattle.json.specs.Json.{members, value};
 ghost use Rattle.serde_json.specs.Data.{string, put};
 ghost use Rattle.serde_json.specs.Read.{read, of_members, converted};
 ghost use Rattle.pg_json.specs.Bodies.{request_view};
-ghost use Rattle.pg_json.specs.Fields.{members_with, object_giving, parameters_of, asked_alone, asked_with, name_keys, text_keys, HaveDepth, IsGlance, IsGlanceOfMembers};
+ghost use Rattle.pg_json.specs.Fields.{members_with, object_giving, parameters_of, asked_alone, asked_with, later_keys, text_keys, HaveDepth, IsGlance, IsGlanceOfMembers};
 ghost use Rattle.pg_json.specs.Requests.{is_one_of};
 ghost use Rattle.pg_value_core.specs.View.{entries_view};
 ghost use Rattle.pg_meaning.specs.declared.fault.Fault.TheVariants.{BadRequest, OutOfMemory};
@@ -83,7 +83,7 @@ fn take_fields<'a>(
             put_parameters(found, read_parameters(alloc, reader)?);
             continue 'members;
         }
-        if is_index_key(key) {
+        if is_later_key(key) {
             return Err(Unread::Unclear);
         }
         if !is_text_key(key) {
@@ -97,10 +97,10 @@ fn take_fields<'a>(
     }
 }
 
-fn is_index_key(key: &str) -> bool
-    ensures { result ≡ is_one_of name_keys key.now }
+fn is_later_key(key: &str) -> bool
+    ensures { result ≡ is_one_of later_keys key.now }
 {
-    key == "label" || key == "key"
+    key == "label" || key == "key" || key == "page"
 }
 
 fn is_text_key(key: &str) -> bool
@@ -151,6 +151,7 @@ pub(crate) fn request_with(alloc: Global, found: Fields<'_>) -> Result<RequestBo
             token: String::from_str(alloc, token)?,
             text: String::from_str(alloc, text)?,
             parameters: Parameters::from_map(parameters.unwrap_or(BTreeMap::new(alloc))),
+            page: None,
         }),
         None if parameters.is_none() => request_alone(alloc, op, token),
         _ => Err(Fault::BadRequest),

@@ -1,6 +1,6 @@
 //! What tells replies apart. A function without a body says that it holds.
 
-ghost use Rattle.pg_json.specs.Laws.{RefusalsDiffer, RowsAreNoRefusals, StatusesAreNoRefusals, DoneIsNoRefusal};
+ghost use Rattle.pg_json.specs.Laws.{RefusalsDiffer, RowsAreNoRefusals, PagesAreNoRefusals, PullsAreNoRefusals, StatusesAreNoRefusals, DoneIsNoRefusal};
 
 /// No two faults have one text.
 #[tactic(auto, using(crate::proofs::Codes::refusals_differ))]
@@ -12,6 +12,8 @@ pub fn law_of_refusals()
 #[tactic(auto, using(crate::proofs::Codes::done_is_no_refusal))]
 pub fn law_of_replies()
     ensures rows { RowsAreNoRefusals }
+    ensures pages { PagesAreNoRefusals }
+    ensures pulls { PullsAreNoRefusals }
     ensures statuses { StatusesAreNoRefusals }
     ensures done { DoneIsNoRefusal }
 {}

@@ -3,9 +3,14 @@
 
 mod bytes;
 mod fields;
+mod held_rows;
 mod laws;
+mod noted_rows;
 mod number;
 mod parameters;
+mod pieces;
+mod plain_rows;
+mod query_reply;
 mod read;
 mod request;
 mod rollback;
@@ -18,11 +23,13 @@ mod value;
 mod values;
 
 pub use bytes::{ReplyBytes, done, refusal};
+pub use held_rows::HeldRows;
 pub use laws::{law_of_refusals, law_of_replies};
+pub use query_reply::QueryReply;
 pub use read::read_request;
 pub use request::RequestBody;
 pub use rollback::rollback_body;
 pub use room::room_behind;
-pub use rows::RowsReply;
+pub use rows::{ReplyColumns, RowsReply};
 pub use scratch::RequestScratch;
 pub use status::{TenantStatus, write_status};

@@ -4,7 +4,7 @@ ghost use Rattle.serde_json.specs.Read.{read};
 ghost use Rattle.serde_json.specs.View.{view, members_view};
 ghost use Rattle.serde_json.specs.Find.{as_object, get_member};
 ghost use Rattle.pg_json.specs.Parameters.{parameters_in as spec_parameters_in};
-ghost use Rattle.pg_json.specs.Requests.{meaning, request_of, object_request, parameters_given, query_of, of_token, index_of, query_keys, token_keys, index_keys, with_only, name_at, Request, text_at as spec_text_at, has_only as spec_has_only, is_one_of as spec_is_one_of};
+ghost use Rattle.pg_json.specs.Requests.{meaning, request_of, object_request, parameters_given, page_given as spec_page_given, number_in as spec_number_in, query_of, of_token, index_of, of_page, query_keys, token_keys, index_keys, page_keys, with_only, name_at, Request, text_at as spec_text_at, has_only as spec_has_only, is_one_of as spec_is_one_of};
 ghost use Rattle.pg_json.specs.Bodies.{request_view};
 ghost use Rattle.pg_json.specs.Operations.{asked_by};
 ghost use Rattle.pg_value_core.specs.View.{entries_view};
@@ -21,6 +21,10 @@ use pg_value_core::{Parameters, Value as Parameter};
 use serde_json::{Map, Value};
 use std::alloc::Global;
 use std::collections::BTreeMap;
+
+const GREATEST_PAGE: u64 = 10_000;
+
+const GREATEST_NUMBER: u64 = 9_223_372_036_854_775_807;
 
 /// The request that a frame's body is.
 #[tactic(auto, unfolding(crate::specs::Requests::meaning))]
@@ -91,6 +95,14 @@ fn object_from(alloc: Global, members: Map<String, Value>) -> Result<RequestBody
             let token = token_from(members)?;
             Ok(RequestBody::Rollback { token })
         }
+        Some(Operation::Pull) => {
+            let HeldPage { token, page } = held_page_from(members)?;
+            Ok(RequestBody::Pull { token, page })
+        }
+        Some(Operation::DropPage) => {
+            let HeldPage { token, page } = held_page_from(members)?;
+            Ok(RequestBody::DropPage { token, page })
+        }
         None => Err(Fault::BadRequest),
     }
 }
@@ -105,6 +117,8 @@ enum Operation {
     Begin,
     Commit,
     Rollback,
+    Pull,
+    DropPage,
 }
 
 /// The operation that the members name.
@@ -126,6 +140,10 @@ fn operation_of(members: &Map<String, Value>) -> Option<Operation>
         Some(Operation::Commit)
     } else if op == "rollback" {
         Some(Operation::Rollback)
+    } else if op == "pull" {
+        Some(Operation::Pull)
+    } else if op == "drop_page" {
+        Some(Operation::DropPage)
     } else {
         None
     }
@@ -136,7 +154,7 @@ fn query_from(alloc: Global, mut members: Map<String, Value>) -> Result<RequestB
     ensures kind { IfErr result (λ e. e ≢ OutOfMemory → e ≡ BadRequest) }
     ensures refused { IfErr result (λ e. e ≢ OutOfMemory → with_only query_keys (members_view members.entries) (query_of (members_view members.entries)) ≡ None) }
 {
-    if !has_only(&members, &["op", "token", "text", "params"]) {
+    if !has_only(&members, &["op", "token", "text", "params", "page"]) {
         return Err(Fault::BadRequest);
     }
     let Some(token) = take_text(&mut members, "token") else {
@@ -146,11 +164,44 @@ fn query_from(alloc: Global, mut members: Map<String, Value>) -> Result<RequestB
         return Err(Fault::BadRequest);
     };
     let parameters = parameters_from(alloc, find(&members, "params"))?;
+    let page = page_given(find(&members, "page"))?;
     Ok(RequestBody::Query {
         token,
         text,
         parameters: Parameters::from_map(parameters),
+        page,
     })
+}
+
+/// How many rows a page is to have, at its key, which may be absent.
+fn page_given(given: Option<&Value>) -> Result<Option<u64>, Fault>
+    ensures ok { IfOk result (λ p. spec_page_given (option_map (λ v. view v.now) given.entry) ≡ Some p) }
+    ensures kind { IfErr result (λ e. e ≡ BadRequest) }
+    ensures refused { IfErr result (λ e. spec_page_given (option_map (λ v. view v.now) given.entry) ≡ None) }
+{
+    let Some(value) = given else {
+        return Ok(None);
+    };
+    match number_in(value, 1, GREATEST_PAGE) {
+        Some(size) => Ok(Some(size)),
+        None => Err(Fault::BadRequest),
+    }
+}
+
+/// A whole number of 64 bits with a sign, if it is from the least to the most.
+fn number_in(value: &Value, least: u64, most: u64) -> Option<u64>
+    ensures { result ≡ spec_number_in least most (view value.now) }
+{
+    let number = value.as_i64()?;
+    if number < 0 {
+        return None;
+    }
+    let whole = number as u64;
+    if whole < least || whole > most {
+        None
+    } else {
+        Some(whole)
+    }
 }
 
 /// The parameters at their key, which may be absent.
@@ -221,6 +272,33 @@ fn index_names_from(mut members: Map<String, Value>) -> Result<IndexNames, Fault
         return Err(Fault::BadRequest);
     };
     Ok(IndexNames { token, label, key })
+}
+
+/// What a request about held rows names.
+#[derive(Drop)]
+struct HeldPage {
+    token: String,
+    page: u64,
+}
+
+fn held_page_from(mut members: Map<String, Value>) -> Result<HeldPage, Fault>
+    ensures ok { (request : List ℕ → ℕ → Request) → IfOk result (λ p. with_only page_keys (members_view members.entries) (of_page request (members_view members.entries)) ≡ Some (request (string_bytes p.token) p.page)) }
+    ensures kind { IfErr result (λ e. e ≡ BadRequest) }
+    ensures refused { (request : List ℕ → ℕ → Request) → IfErr result (λ e. with_only page_keys (members_view members.entries) (of_page request (members_view members.entries)) ≡ None) }
+{
+    if !has_only(&members, &["op", "token", "page"]) {
+        return Err(Fault::BadRequest);
+    }
+    let Some(token) = take_text(&mut members, "token") else {
+        return Err(Fault::BadRequest);
+    };
+    let Some(value) = find(&members, "page") else {
+        return Err(Fault::BadRequest);
+    };
+    match number_in(value, 0, GREATEST_NUMBER) {
+        Some(page) => Ok(HeldPage { token, page }),
+        None => Err(Fault::BadRequest),
+    }
 }
 
 fn text_at<'a>(members: &'a Map<String, Value>, name: &str) -> Option<&'a str>

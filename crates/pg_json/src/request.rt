@@ -6,13 +6,14 @@ ghost use Rattle.pg_json.specs.Requests.{token_of};
 use pg_value_core::Parameters;
 
 /// A request with its texts, and the parameters of a query by their names. A label and a key have at
-/// least one byte.
+/// least one byte. The page of a query is how many rows a page has, and else the number of held rows.
 #[derive(Drop)]
 pub enum RequestBody {
     Query {
         token: String,
         text: String,
         parameters: Parameters,
+        page: Option<u64>,
     },
     Status {
         token: String,
@@ -36,6 +37,14 @@ pub enum RequestBody {
     Rollback {
         token: String,
     },
+    Pull {
+        token: String,
+        page: u64,
+    },
+    DropPage {
+        token: String,
+        page: u64,
+    },
 }
 
 impl RequestBody {
@@ -48,6 +57,7 @@ impl RequestBody {
                 token,
                 text: _,
                 parameters: _,
+                page: _,
             }
             | RequestBody::Status { token }
             | RequestBody::CreateIndex {
@@ -62,7 +72,9 @@ impl RequestBody {
             }
             | RequestBody::Begin { token }
             | RequestBody::Commit { token }
-            | RequestBody::Rollback { token } => token.as_str(),
+            | RequestBody::Rollback { token }
+            | RequestBody::Pull { token, page: _ }
+            | RequestBody::DropPage { token, page: _ } => token.as_str(),
         }
     }
 }

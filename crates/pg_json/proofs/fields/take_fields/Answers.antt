@@ -5,7 +5,7 @@ use Rattle.json.specs.Json.{read_key, members, value}
 use Rattle.json.proofs.Grammar.{value_is, read_key-shorter}
 use Rattle.serde_json.specs.Data.{string, put}
 use Rattle.serde_json.specs.Read.{of_json, of_members, converted}
-use Rattle.pg_json.specs.Fields.{AsksNothing, members_with, object_giving, name_keys, text_keys, HaveDepth}
+use Rattle.pg_json.specs.Fields.{AsksNothing, members_with, object_giving, later_keys, text_keys, HaveDepth}
 use Rattle.pg_json.specs.Requests.{is_one_of}
 use Rattle.pg_json.proofs.Reading.{member_read, member_refused, key_refused, members_over}
 use Rattle.pg_json.proofs.Strangers.{strange_member, no_key}
@@ -63,9 +63,9 @@ returns-then-not-is_text_key-clause-members c =
     let k = c.in-Ok-Some.key.now in
     let named : read_key l.reader ≡ Some (Some k, c.next_key.new.self) = grind arith in
     let no_text : is_one_of text_keys k ≡ false = search rules in
-    let no_name : is_one_of name_keys k ≡ false = search rules in
+    let not_later : is_one_of later_keys k ≡ false = search rules in
     let no_parameters : bytes_eq k (codes "params") ≡ false = search rules in
-    subst AsksNothing (sym l.invariant.2) (strange_member (value 126) (members_with l.found) l.invariant.0 k l.reader c.next_key.new.self named (no_key k no_text no_parameters no_name))
+    subst AsksNothing (sym l.invariant.2) (strange_member (value 126) (members_with l.found) l.invariant.0 k l.reader c.next_key.new.self named (no_key k no_text no_parameters not_later))
 
 pub returns-in-Some-Bad-clause-members : goal.returns-in-Some-Bad-clause-members
 returns-in-Some-Bad-clause-members c =

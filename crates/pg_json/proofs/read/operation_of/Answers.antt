@@ -1,7 +1,7 @@
 use Rattle.std.proofs.Common.{ap, option_and_then}
 use Rattle.serde_json.specs.View.{members_view}
 use Rattle.pg_json.specs.Requests.{by_op}
-use Rattle.pg_json.proofs.Asking.{query_asked, status_asked, create_asked, drop_asked, begin_asked, commit_asked, rollback_asked, none_asked}
+use Rattle.pg_json.proofs.Asking.{query_asked, status_asked, create_asked, drop_asked, begin_asked, commit_asked, rollback_asked, pull_asked, drop_page_asked, none_asked}
 use Rattle.pg_json.proofs.read.operation_of.Goals as goal
 
 pub returns-in_err-op : goal.returns-in_err-op
@@ -30,5 +30,11 @@ returns-then-eq-6 c = commit_asked (members_view c.args.members.now.entries) c.i
 pub returns-then-eq-7 : goal.returns-then-eq-7
 returns-then-eq-7 c = rollback_asked (members_view c.args.members.now.entries) c.in_ok-op.op.now c.in_ok-op.ensures c.if-eq.ensures c.if-eq-2.ensures c.if-eq-3.ensures c.if-eq-4.ensures c.if-eq-5.ensures c.if-eq-6.ensures c.if-eq-7.ensures
 
-pub returns-else-eq-7 : goal.returns-else-eq-7
-returns-else-eq-7 c = none_asked (members_view c.args.members.now.entries) c.in_ok-op.op.now c.in_ok-op.ensures c.if-eq.ensures c.if-eq-2.ensures c.if-eq-3.ensures c.if-eq-4.ensures c.if-eq-5.ensures c.if-eq-6.ensures c.if-eq-7.ensures
+pub returns-then-eq-8 : goal.returns-then-eq-8
+returns-then-eq-8 c = pull_asked (members_view c.args.members.now.entries) c.in_ok-op.op.now c.in_ok-op.ensures c.if-eq.ensures c.if-eq-2.ensures c.if-eq-3.ensures c.if-eq-4.ensures c.if-eq-5.ensures c.if-eq-6.ensures c.if-eq-7.ensures c.if-eq-8.ensures
+
+pub returns-then-eq-9 : goal.returns-then-eq-9
+returns-then-eq-9 c = drop_page_asked (members_view c.args.members.now.entries) c.in_ok-op.op.now c.in_ok-op.ensures c.if-eq.ensures c.if-eq-2.ensures c.if-eq-3.ensures c.if-eq-4.ensures c.if-eq-5.ensures c.if-eq-6.ensures c.if-eq-7.ensures c.if-eq-8.ensures c.if-eq-9.ensures
+
+pub returns-else-eq-9 : goal.returns-else-eq-9
+returns-else-eq-9 c = none_asked (members_view c.args.members.now.entries) c.in_ok-op.op.now c.in_ok-op.ensures c.if-eq.ensures c.if-eq-2.ensures c.if-eq-3.ensures c.if-eq-4.ensures c.if-eq-5.ensures c.if-eq-6.ensures c.if-eq-7.ensures c.if-eq-8.ensures c.if-eq-9.ensures

@@ -1,9 +1,18 @@
-use Rattle.std.proofs.Common.{rules}
+use Rattle.std.proofs.Common.{[], ◌∷◌, ◌++◌, sym, subst}
 use Rattle.std.proofs.lemmas.Result.{on_ok_weaker}
-use Rattle.pg_json.proofs.Writing.{one_row}
+use Rattle.pg_json.proofs.Writing.{noted_row}
 use Rattle.pg_json.specs.Replies.{outs}
+use Rattle.pg_json.specs.Telling.{AreWritten, HasNoted}
 use Rattle.pg_json.proofs.rows.RowsReply.push.Goals as goal
 
-pub returns : goal.returns
-returns c = λ columns rows h.
-    on_ok_weaker c.write_items.result (λ last. one_row c.args.self.now _ columns rows (outs c.args.row.now) (search rules) last h) c.write_items.ensures.ok
+pub returns-in-Plain : goal.returns-in-Plain
+returns-in-Plain c = λ notes columns rows h.
+    let w = subst (λ r. AreWritten r notes columns rows) c.in-Plain.is h.so_far in
+    on_ok_weaker c.push.result (λ more. record { so_far = (w.0, more) }) (c.push.ensures columns rows w.1)
+
+pub returns-in-Noted : goal.returns-in-Noted
+returns-in-Noted c = λ notes columns rows h.
+    let w = subst (λ r. AreWritten r notes columns rows) c.in-Noted.is h.so_far in
+    on_ok_weaker c.push-in-Noted.result
+    (λ more. record { so_far = (w.0, subst (λ q. HasNoted q columns (rows ++ outs c.args.row.now ∷ [])) (sym more) (noted_row _ columns rows (outs c.args.row.now) w.1)) })
+    c.push-in-Noted.ensures

@@ -1,7 +1,7 @@
 use Rattle.std.proofs.Common.{rules}
 use Rattle.std.proofs.lemmas.Result.{on_ok_weaker}
 use Rattle.pg_json.proofs.Writing.{one_name}
-use Rattle.pg_json.proofs.rows.RowsReply.name.Goals as goal
+use Rattle.pg_json.proofs.rows.ReplyColumns.name.Goals as goal
 
 pub returns : goal.returns
 returns c = λ names h. on_ok_weaker c.string.result (λ last. one_name c.args.self.now _ names c.args.column.now (search rules) last h) c.string.ensures.ok

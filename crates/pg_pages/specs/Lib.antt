@@ -1,0 +1,4 @@
+pub mod Held
+pub mod HeldCode
+pub mod Gives
+pub mod Kept

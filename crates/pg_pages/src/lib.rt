@@ -1,0 +1,6 @@
+//! What a tenant holds of the rows of its queries, until they are pulled.
+#![tactic(auto)]
+
+mod pages;
+
+pub use pages::Pages;

@@ -1,0 +1,4 @@
+pub mod RefusedSteps
+pub mod Decided
+pub mod Determined
+pub mod Created

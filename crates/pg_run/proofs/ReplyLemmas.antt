@@ -2,6 +2,7 @@
 use Rattle.std.proofs.Common.{◌≡◌, ◌≢◌, ℕ, suc, ◌≤◌, Bool, true, List, [], ◌∷◌, ◌++◌, length, map, take, Result, Ok, Err, OnOk, None, arith, refl, sym, ap, subst, ◌∙◌}
 use Rattle.std.proofs.lemmas.List.{length-append, length-map, take-map}
 use Rattle.std.specs.Prelude.{fold}
+use Rattle.pg_json.specs.Pages.{QueryText}
 use Rattle.pg_meaning.specs.Answer.{◌>>=◌}
 use Rattle.pg_meaning.specs.AnswerLaws.{same_ok}
 use Rattle.pg_meaning.specs.Graph.{Graph}
@@ -44,11 +45,11 @@ returns_last (tree.with_rows q w ∷ cs) p = returns_last cs p
 returns_last (return_rows q ∷ cs) p = refl
 
 -- what is said of the reply to clauses that end in RETURN, of the reply to all
-pub whole_reply : (r : Result (List ℕ) Fault) (run : List Clause → Result State Fault) (before all : List Clause) (b : Bool) (p : Projection) (left : Graph) → all ≡ before ++ return_rows p ∷ [] → b ≡ returns all
-    → Replies r (run (before ++ return_rows p ∷ [])) true (fold scope_after [] (before ++ return_rows p ∷ [])) left → Replies r (run all) b (fold scope_after [] all) left
-whole_reply r run before all b p left same told h =
-    subst (λ xs. Replies r (run xs) b (fold scope_after [] xs) left) (sym same)
-    (subst (λ x. Replies r (run (before ++ return_rows p ∷ [])) x (fold scope_after [] (before ++ return_rows p ∷ [])) left) (sym (told ∙ ap returns same ∙ returns_last before p)) h)
+pub whole_reply : (r : Result QueryText Fault) (run : List Clause → Result State Fault) (before all : List Clause) (notes b : Bool) (p : Projection) (left : Graph) → all ≡ before ++ return_rows p ∷ [] → b ≡ returns all
+    → Replies r (run (before ++ return_rows p ∷ [])) notes true (fold scope_after [] (before ++ return_rows p ∷ [])) left → Replies r (run all) notes b (fold scope_after [] all) left
+whole_reply r run before all notes b p left same told h =
+    subst (λ xs. Replies r (run xs) notes b (fold scope_after [] xs) left) (sym same)
+    (subst (λ x. Replies r (run (before ++ return_rows p ∷ [])) notes x (fold scope_after [] (before ++ return_rows p ∷ [])) left) (sym (told ∙ ap returns same ∙ returns_last before p)) h)
 
 pub names_last : (scope : Names) (before : List Clause) (c : Clause) → fold scope_after scope (before ++ c ∷ []) ≡ scope_after (fold scope_after scope before) c
 names_last scope [] c = refl
@@ -97,7 +98,7 @@ module _ (parameters : Entries) (quota : Quota) where
       (λ i. clause_step (setting scope plan) c state >>= λ next. run_then (scope_after scope c) (other_anchors plan) cs p next s is i)
       ∙ sym (bound_twice (clause_step (setting scope plan) c state) (λ next. run (scope_after scope c) (other_anchors plan) cs next) (project_clause s (return_columns s.scope p) p None))
 
-  module _ (plan : Plan) (before : List Clause) (p : Projection) (begin : State) where
+  module _ (notes : Bool) (plan : Plan) (before : List Clause) (p : Projection) (begin : State) where
     abbrev s : Setting
     s = setting_behind [] plan before
 
@@ -116,12 +117,12 @@ module _ (parameters : Entries) (quota : Quota) where
     pub before_fails : (e : Fault) → run [] (take (length before) plan) before begin ≡ Err e → all ≡ Err e
     before_fails e h = whole ∙ ap (λ a. a >>= clause) h
 
-    same_reply : (last : State) → replied true names last ≡ replied true (column_names (return_columns s.scope p)) last
-    same_reply last = ap (λ (ns : Names). replied true ns last) (names_last [] before (return_rows p) ∙ ap (λ (ns : Names). column_names (return_columns ns p)) (sym (setting_is [] plan before).2))
+    same_reply : (last : State) → replied notes true names last ≡ replied notes true (column_names (return_columns s.scope p)) last
+    same_reply last = ap (λ (ns : Names). replied notes true ns last) (names_last [] before (return_rows p) ∙ ap (λ (ns : Names). column_names (return_columns ns p)) (sym (setting_is [] plan before).2))
 
-    pub then_returned : (state : State) → run [] (take (length before) plan) before begin ≡ Ok state → (all >>= replied true names) ≡ returned s p state
+    pub then_returned : (state : State) → run [] (take (length before) plan) before begin ≡ Ok state → (all >>= replied notes true names) ≡ returned notes s p state
     then_returned state h =
-        ap (λ a. a >>= replied true names) (whole ∙ ap (λ a. a >>= clause) h)
+        ap (λ a. a >>= replied notes true names) (whole ∙ ap (λ a. a >>= clause) h)
         ∙ (λ i. clause state >>= λ last. same_reply last i)
 
     -- RETURN leaves the graph
@@ -136,42 +137,42 @@ module _ (parameters : Entries) (quota : Quota) where
         by (Err f) b e = cc
 
     -- the reply of RETURN is that of all clauses
-    pub replies : (graph : Graph) (t : Named) (used limit : ℕ) (r : Result (List ℕ) Fault) → run [] (take (length before) plan) before begin ≡ Ok (state_of graph t used) → t.names ≡ fold scope_after [] before → quota.max_steps ≡ limit
-        → ((x : Setting) → Suits x parameters limit t.names → Gives r (returned x p (state_of graph t used)) (λ bytes. bytes)) → Replies r all true names graph
+    pub replies : (graph : Graph) (t : Named) (used limit : ℕ) (r : Result QueryText Fault) → run [] (take (length before) plan) before begin ≡ Ok (state_of graph t used) → t.names ≡ fold scope_after [] before → quota.max_steps ≡ limit
+        → ((x : Setting) → Suits x parameters limit t.names → Gives r (returned notes x p (state_of graph t used)) (λ reply. reply)) → Replies r all notes true names graph
     replies graph t used limit r h named within given =
         let is = setting_is [] plan before in
         record {
-          gives = subst (λ (a : Result (List ℕ) Fault). Gives r a (λ bytes. bytes)) (sym (then_returned (state_of graph t used) h))
+          gives = subst (λ (a : Result QueryText Fault). Gives r a (λ reply. reply)) (sym (then_returned (state_of graph t used) h))
               (given s (record { parameters_are = is.0; steps_are = ap (λ (q : Quota). q.max_steps) is.1 ∙ within; scope_is = is.2 ∙ sym named }));
           graph = by r;
         }
       where
-        by : (r : Result (List ℕ) Fault) → OnOk r ((last : State) → all ≡ Ok last → last.graph ≡ graph)
-        by (Ok bytes) = graph_stays graph t used h
+        by : (r : Result QueryText Fault) → OnOk r ((last : State) → all ≡ Ok last → last.graph ≡ graph)
+        by (Ok reply) = graph_stays graph t used h
         by (Err e) = tt
 
-    pub replies_fault : (e : Fault) (left : Graph) → (e ≢ OutOfMemory → run [] (take (length before) plan) before begin ≡ Err e) → Replies (Err e) all true names left
+    pub replies_fault : (e : Fault) (left : Graph) → (e ≢ OutOfMemory → run [] (take (length before) plan) before begin ≡ Err e) → Replies (Err e) all notes true names left
     replies_fault e left h = record {
-      gives = record { ok = tt; err = λ other. ap (λ a. a >>= replied true names) (before_fails e (h other)) };
+      gives = record { ok = tt; err = λ other. ap (λ a. a >>= replied notes true names) (before_fails e (h other)) };
       graph = tt;
     }
 
 -- ---- all clauses as they stand
 
-module _ (ended : Result State Fault) (b : Bool) (names : Names) where
-  pub rows_reply : (graph : Graph) (t : Named) (used : ℕ) (r : Result (List ℕ) Fault) → ended ≡ Ok (state_of graph t used) → t.names ≡ names → Gives r (replied b t.names (state_of graph t used)) (λ bytes. bytes) → Replies r ended b names graph
+module _ (ended : Result State Fault) (notes b : Bool) (names : Names) where
+  pub rows_reply : (graph : Graph) (t : Named) (used : ℕ) (r : Result QueryText Fault) → ended ≡ Ok (state_of graph t used) → t.names ≡ names → Gives r (replied notes b t.names (state_of graph t used)) (λ reply. reply) → Replies r ended notes b names graph
   rows_reply graph t used r h named given = record {
-    gives = subst (λ (a : Result (List ℕ) Fault). Gives r a (λ bytes. bytes)) (ap (λ (ns : Names). replied b ns (state_of graph t used)) named ∙ sym (ap (λ a. a >>= replied b names) h)) given;
+    gives = subst (λ (a : Result QueryText Fault). Gives r a (λ reply. reply)) (ap (λ (ns : Names). replied notes b ns (state_of graph t used)) named ∙ sym (ap (λ a. a >>= replied notes b names) h)) given;
     graph = by r;
   }
     where
-      by : (r : Result (List ℕ) Fault) → OnOk r ((last : State) → ended ≡ Ok last → last.graph ≡ graph)
-      by (Ok bytes) = λ last is. sym (ap (λ (x : State). x.graph) (same_ok (state_of graph t used) last (sym h ∙ is)))
+      by : (r : Result QueryText Fault) → OnOk r ((last : State) → ended ≡ Ok last → last.graph ≡ graph)
+      by (Ok reply) = λ last is. sym (ap (λ (x : State). x.graph) (same_ok (state_of graph t used) last (sym h ∙ is)))
       by (Err e) = tt
 
-  pub rows_fault : (e : Fault) (left : Graph) → (e ≢ OutOfMemory → ended ≡ Err e) → Replies (Err e) ended b names left
+  pub rows_fault : (e : Fault) (left : Graph) → (e ≢ OutOfMemory → ended ≡ Err e) → Replies (Err e) ended notes b names left
   rows_fault e left h = record {
-    gives = record { ok = tt; err = λ other. ap (λ a. a >>= replied b names) (h other) };
+    gives = record { ok = tt; err = λ other. ap (λ a. a >>= replied notes b names) (h other) };
     graph = tt;
   }
 

@@ -1,6 +1,7 @@
 -- RETURN whose rows are told one after the other.
 use Rattle.std.proofs.Common.{◌≡◌, ℕ, ◌+◌, Bool, List, [], ◌∷◌, ◌++◌, map, length, length-append, Result, Ok, Err, None, refl, sym, ap, subst, ◌∙◌, arith}
 use Rattle.serde_json.specs.Data.{Items}
+use Rattle.pg_json.specs.Pages.{QueryText}
 use Rattle.pg_project.specs.Items.{columns_of}
 use Rattle.pg_meaning.specs.Answer.{◌>>=◌, each_answer}
 use Rattle.pg_meaning.specs.Graph.{Graph}
@@ -35,7 +36,7 @@ use Rattle.pg_value_core.specs.declared.out.Out.{Out}
 pub record ItemsSoFar {X : Type 0} (graph : Graph) (f : X → Result Value Fault) (all rest : List X) (start t : Telling) (found : List Out) : Type 0 where
   pub values : List Value
   pub given : each_answer f all ≡ after values (each_answer f rest)
-  pub telling : (columns : Items) (rows : List (List Value)) → IsTelling graph columns rows [] [] start → IsTelling graph columns rows values found t
+  pub telling : (notes : Bool) (columns : Items) (rows : List (List Value)) → IsTelling notes graph columns rows [] [] start → IsTelling notes graph columns rows values found t
 
 -- of the items at a row that isn't let in
 pub record TestedSoFar {X : Type 0} (f : X → Result Value Fault) (all rest : List X) : Type 0 where
@@ -47,7 +48,7 @@ pub record RowsSoFar {X : Type 0} (graph : Graph) (c : Cut) (f : X → Result (L
   pub rows : List (List Value)
   pub many : length rows ≡ at
   pub given : each_answer f all ≡ after rows (each_answer f rest)
-  pub telling : (columns : Items) → IsTelling graph columns [] [] [] start → IsTelling graph columns (cut_of c rows) [] [] t
+  pub telling : (notes : Bool) (columns : Items) → IsTelling notes graph columns [] [] [] start → IsTelling notes graph columns (cut_of c rows) [] [] t
 
 whole : {Y : Type 0} (a : Result (List Y) Fault) → a ≡ after [] a
 whole (Ok ys) = refl
@@ -67,15 +68,15 @@ none_left f all rest done so_far is = so_far ∙ ap (λ xs. after done (each_ans
 module _ {X : Type 0} (graph : Graph) (start : Telling) where
   module _ (f : X → Result Value Fault) where
     pub no_item : (all : List X) → ItemsSoFar graph f all all start start []
-    no_item all = record { values = []; given = whole (each_answer f all); telling = λ columns rows h. h }
+    no_item all = record { values = []; given = whole (each_answer f all); telling = λ notes columns rows h. h }
 
     pub one_item : (all rest more : List X) (t new : Telling) (found : List Out) (x : X) (v : Value) (out : Out) → ItemsSoFar graph f all rest start t found → rest ≡ x ∷ more → f x ≡ Ok v
-        → ((columns : Items) (rows : List (List Value)) (row : List Value) (os : List Out) → IsTelling graph columns rows row os t → IsTelling graph columns rows (row ++ v ∷ []) (os ++ out ∷ []) new)
+        → ((notes : Bool) (columns : Items) (rows : List (List Value)) (row : List Value) (os : List Out) → IsTelling notes graph columns rows row os t → IsTelling notes graph columns rows (row ++ v ∷ []) (os ++ out ∷ []) new)
         → ItemsSoFar graph f all more start new (found ++ out ∷ [])
     one_item all rest more t new found x v out so_far is h takes = record {
       values = so_far.values ++ v ∷ [];
       given = one_given f all rest more x so_far.values v so_far.given is h;
-      telling = λ columns rows first. takes columns rows so_far.values found (so_far.telling columns rows first);
+      telling = λ notes columns rows first. takes notes columns rows so_far.values found (so_far.telling notes columns rows first);
     }
 
     pub item_fault : (all rest more : List X) (t : Telling) (found : List Out) (x : X) (e : Fault) → ItemsSoFar graph f all rest start t found → rest ≡ x ∷ more → f x ≡ Err e → each_answer f all ≡ Err e
@@ -90,7 +91,7 @@ module _ {X : Type 0} (graph : Graph) (start : Telling) where
       rows = [];
       many = refl;
       given = whole (each_answer f all);
-      telling = λ columns h. subst (λ rows. IsTelling graph columns rows [] [] start) (sym (none_cut c)) h;
+      telling = λ notes columns h. subst (λ rows. IsTelling notes graph columns rows [] [] start) (sym (none_cut c)) h;
     }
 
     module _ (all rest more : List X) (at : ℕ) (t : Telling) (x : X) (so_far : RowsSoFar graph c f all rest at start t) (is : rest ≡ x ∷ more) where
@@ -99,8 +100,8 @@ module _ {X : Type 0} (graph : Graph) (start : Telling) where
         rows = so_far.rows ++ here.values ∷ [];
         many = omega (arith, so_far.many, length-append so_far.rows (here.values ∷ []));
         given = one_given f all rest more x so_far.rows here.values so_far.given is here.are;
-        telling = λ columns first.
-            subst (λ rows. IsTelling graph columns rows [] [] new) (sym (lets so_far.rows here.values so_far.many)) (here.telling columns (cut_of c so_far.rows) (so_far.telling columns first));
+        telling = λ notes columns first.
+            subst (λ rows. IsTelling notes graph columns rows [] [] new) (sym (lets so_far.rows here.values so_far.many)) (here.telling notes columns (cut_of c so_far.rows) (so_far.telling notes columns first));
       }
 
       pub row_fault : (e : Fault) → f x ≡ Err e → each_answer f all ≡ Err e
@@ -125,15 +126,15 @@ module _ {X : Type 0} (f : X → Result Value Fault) where
 
 -- ---- the clause, whose rows come in turn
 
-module _ (s : Setting) (graph : Graph) (p : Projection) (t : Named) (used : ℕ) (columns : List (List ℕ)) (es : List Expression) (same : length columns ≡ length es) (are : columns_of columns es ≡ return_columns s.scope p) (kept : ComeInTurn p es) where
+module _ (notes : Bool) (s : Setting) (graph : Graph) (p : Projection) (t : Named) (used : ℕ) (columns : List (List ℕ)) (es : List Expression) (same : length columns ≡ length es) (are : columns_of columns es ≡ return_columns s.scope p) (kept : ComeInTurn p es) where
   abbrev cut : Result Cut Fault
   cut = cut_given s.parameters graph p.skip p.limit
 
   abbrev given : Result (List (List Value)) Fault
   given = each_answer (values_given s.parameters graph t.names es) t.rows
 
-  abbrev reply : State → Result (List ℕ) Fault
-  reply last = told last.graph (named_items (column_names (return_columns s.scope p))) (map values_in last.rows) last.steps
+  abbrev reply : State → Result QueryText Fault
+  reply last = told notes last.graph (named_items (column_names (return_columns s.scope p))) (map values_in last.rows) last.steps
 
   abbrev clause : Result State Fault
   clause = project_clause s (return_columns s.scope p) p None (state_of graph t used)
@@ -145,42 +146,42 @@ module _ (s : Setting) (graph : Graph) (p : Projection) (t : Named) (used : ℕ)
   names = ap column_names (sym are) ∙ names_are columns es same
 
   module _ (steps : ℕ) (spent : spend s used (length t.rows) ≡ Ok steps) where
-    fails : (e : Fault) → (cut >>= λ c. given >>= λ found. Ok (rows_named columns (cut_of c found))) ≡ Err e → returned s p (state_of graph t used) ≡ Err e
+    fails : (e : Fault) → (cut >>= λ c. given >>= λ found. Ok (rows_named columns (cut_of c found))) ≡ Err e → returned notes s p (state_of graph t used) ≡ Err e
     fails e h = ap (λ a. a >>= reply) (rows_fail s graph (return_columns s.scope p) p None t used steps spent e (projected ∙ h))
 
     by_rows : (c : Cut) → cut ≡ Ok c → (a : Result (List (List Value)) Fault) → given ≡ a
-        → returned s p (state_of graph t used) ≡ (a >>= λ found. told graph (named_items columns) (cut_of c found) steps)
+        → returned notes s p (state_of graph t used) ≡ (a >>= λ found. told notes graph (named_items columns) (cut_of c found) steps)
     by_rows c is (Ok found) h =
         ap (λ a. a >>= reply)
         (all_projected s graph (return_columns s.scope p) p None t used steps spent (record { names = columns; rows = cut_of c found })
         (projected ∙ ap (λ a. a >>= λ c. given >>= λ found. Ok (rows_named columns (cut_of c found))) is ∙ ap (λ a. a >>= λ found. Ok (rows_named columns (cut_of c found))) h))
-        ∙ (λ i. told graph (named_items (names i)) (each_told s graph t.names columns es same t.rows c found h i) steps)
+        ∙ (λ i. told notes graph (named_items (names i)) (each_told s graph t.names columns es same t.rows c found h i) steps)
     by_rows c is (Err e) h =
         fails e (ap (λ a. a >>= λ c. given >>= λ found. Ok (rows_named columns (cut_of c found))) is ∙ ap (λ a. a >>= λ found. Ok (rows_named columns (cut_of c found))) h)
 
-    by_cut : (a : Result Cut Fault) → cut ≡ a → returned s p (state_of graph t used) ≡ (a >>= λ c. given >>= λ found. told graph (named_items columns) (cut_of c found) steps)
+    by_cut : (a : Result Cut Fault) → cut ≡ a → returned notes s p (state_of graph t used) ≡ (a >>= λ c. given >>= λ found. told notes graph (named_items columns) (cut_of c found) steps)
     by_cut (Ok c) h = by_rows c h given refl
     by_cut (Err e) h = fails e (ap (λ a. a >>= λ c. given >>= λ found. Ok (rows_named columns (cut_of c found))) h)
 
   by_steps : (a : Result ℕ Fault) → spend s used (length t.rows) ≡ a
-      → returned s p (state_of graph t used) ≡ (a >>= λ steps. cut >>= λ c. given >>= λ found. told graph (named_items columns) (cut_of c found) steps)
+      → returned notes s p (state_of graph t used) ≡ (a >>= λ steps. cut >>= λ c. given >>= λ found. told notes graph (named_items columns) (cut_of c found) steps)
   by_steps (Ok steps) h = by_cut steps h cut refl
   by_steps (Err e) h = ap (λ a. a >>= reply) (steps_fail s graph (return_columns s.scope p) p None t used e h)
 
-  pub returned_each : returned s p (state_of graph t used) ≡ (spend s used (length t.rows) >>= λ steps. cut >>= λ c. given >>= λ found. told graph (named_items columns) (cut_of c found) steps)
+  pub returned_each : returned notes s p (state_of graph t used) ≡ (spend s used (length t.rows) >>= λ steps. cut >>= λ c. given >>= λ found. told notes graph (named_items columns) (cut_of c found) steps)
   returned_each = by_steps (spend s used (length t.rows)) refl
 
 -- ---- the clause, whose rows are made first
 
-module _ (s : Setting) (p : Projection) (state : State) where
-  abbrev all_of : State → Result (List ℕ) Fault
-  all_of last = told last.graph (named_items (column_names (return_columns s.scope p))) (map values_in last.rows) last.steps
+module _ (notes : Bool) (s : Setting) (p : Projection) (state : State) where
+  abbrev all_of : State → Result QueryText Fault
+  all_of last = told notes last.graph (named_items (column_names (return_columns s.scope p))) (map values_in last.rows) last.steps
 
   pub returned_all : (graph : Graph) (t : Named) (steps : ℕ) → project_clause s (return_columns s.scope p) p None state ≡ Ok (state_of graph t steps) → t.names ≡ column_names (return_columns s.scope p)
-      → returned s p state ≡ told graph (named_items t.names) (rows_told t) steps
-  returned_all graph t steps h names = ap (λ a. a >>= all_of) h ∙ ap (λ (ns : List (List ℕ)). told graph (named_items ns) (rows_told t) steps) (sym names)
+      → returned notes s p state ≡ told notes graph (named_items t.names) (rows_told t) steps
+  returned_all graph t steps h names = ap (λ a. a >>= all_of) h ∙ ap (λ (ns : List (List ℕ)). told notes graph (named_items ns) (rows_told t) steps) (sym names)
 
-  pub returned_fails : (e : Fault) → project_clause s (return_columns s.scope p) p None state ≡ Err e → returned s p state ≡ Err e
+  pub returned_fails : (e : Fault) → project_clause s (return_columns s.scope p) p None state ≡ Err e → returned notes s p state ≡ Err e
   returned_fails e h = ap (λ a. a >>= all_of) h
 
 -- ---- answers that are equal

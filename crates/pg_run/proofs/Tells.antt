@@ -8,7 +8,9 @@ use Rattle.serde_json.specs.Data.{Data, Items, no_items, item}
 use Rattle.pg_json.proofs.Lengths.{rows_within}
 use Rattle.pg_json.specs.Replies.{data_of, outs, max_reply}
 use Rattle.pg_json.specs.Room.{least, items_least}
-use Rattle.pg_json.specs.Rows.{HasWritten, rows_data, rows_text}
+use Rattle.pg_json.specs.Pages.{QueryText, query_text}
+use Rattle.pg_json.specs.Rows.{rows_data, rows_text}
+use Rattle.pg_json.specs.Telling.{HasWritten}
 use Rattle.pg_meaning.specs.Answer.{◌>>◌}
 use Rattle.pg_meaning.specs.Graph.{Graph}
 use Rattle.pg_meaning.specs.Queries.{test_output, test_items}
@@ -79,7 +81,7 @@ module _ (graph : Graph) where
 
   -- ---- one value more
 
-  module _ (columns : Items) (rows : List (List Value)) (row : List Value) (found : List Out) (t new : Telling) (v : Value) (out : Out) (so_far : IsTelling graph columns rows row found t) where
+  module _ (notes : Bool) (columns : Items) (rows : List (List Value)) (row : List Value) (found : List Out) (t new : Telling) (v : Value) (out : Out) (so_far : IsTelling notes graph columns rows row found t) where
     abbrev before : Result (Unit {0}) Fault
     before = test_told graph rows >> test_items graph (values_of row)
 
@@ -93,7 +95,7 @@ module _ (graph : Graph) where
     passed none = subst (λ f. Tested f before) none so_far.tested
 
     pub one_more : t.fault ≡ None → new.fault ≡ None → new.reply ≡ t.reply → test_output graph v ≡ Ok tt → new.room ≡ t.room - 1 - least (printed graph v) → (new.room ≢ 0 → data_of out ≡ printed graph v)
-        → IsTelling graph columns rows (row ++ v ∷ []) (found ++ out ∷ []) new
+        → IsTelling notes graph columns rows (row ++ v ∷ []) (found ++ out ∷ []) new
     one_more none still same live left is =
         let had : new.room ≢ 0 → t.room ≢ 0 = λ some. λ zero. some (omega (arith, left, zero)) in
         record {
@@ -104,10 +106,10 @@ module _ (graph : Graph) where
               ∙ ap (λ ds. items_then ds (data_of out)) (so_far.shown none (had some))
               ∙ ap (items_then (printed_items graph (values_of row))) (is some)
               ∙ sym (printed_last row v);
-          written = λ h. λ some. subst (λ r. HasWritten r columns (printed_rows graph rows)) (sym same) (so_far.written none (had some));
+          written = λ h. λ some. subst (λ r. HasWritten r notes columns (printed_rows graph rows)) (sym same) (so_far.written none (had some));
         }
 
-    pub one_fault : (e : Fault) → t.fault ≡ None → new.fault ≡ Some e → (e ≢ OutOfMemory → test_output graph v ≡ Err e) → IsTelling graph columns rows (row ++ v ∷ []) (found ++ out ∷ []) new
+    pub one_fault : (e : Fault) → t.fault ≡ None → new.fault ≡ Some e → (e ≢ OutOfMemory → test_output graph v ≡ Err e) → IsTelling notes graph columns rows (row ++ v ∷ []) (found ++ out ∷ []) new
     one_fault e none ends h = record {
       tested = subst (λ f. Tested f (test_told graph rows >> test_items graph (values_of (row ++ v ∷ [])))) (sym ends) (λ other. then_last ∙ ap (λ r. r >> test_output graph v) (passed none) ∙ h other);
       counted = λ none. absurd (apart new.fault e ends none);
@@ -115,10 +117,10 @@ module _ (graph : Graph) where
       written = λ none. absurd (apart new.fault e ends none);
     }
 
-    pub still_faulted : is_some t.fault ≡ true → IsTelling graph columns rows (row ++ v ∷ []) (found ++ out ∷ []) t
+    pub still_faulted : is_some t.fault ≡ true → IsTelling notes graph columns rows (row ++ v ∷ []) (found ++ out ∷ []) t
     still_faulted h = by t.fault refl h
       where
-        by : (f : Option Fault) → t.fault ≡ f → is_some f ≡ true → IsTelling graph columns rows (row ++ v ∷ []) (found ++ out ∷ []) t
+        by : (f : Option Fault) → t.fault ≡ f → is_some f ≡ true → IsTelling notes graph columns rows (row ++ v ∷ []) (found ++ out ∷ []) t
         by None is some = cc
         by (Some e) is some = record {
           tested = subst (λ f. Tested f (test_told graph rows >> test_items graph (values_of (row ++ v ∷ [])))) (sym is)
@@ -130,8 +132,8 @@ module _ (graph : Graph) where
 
   -- ---- no row yet
 
-  pub begun : (columns : Items) (t : Telling) → t.fault ≡ None → t.room ≡ whole_room → HasWritten t.reply columns [] → IsTelling graph columns [] [] [] t
-  begun columns t none room first = record {
+  pub begun : (notes : Bool) (columns : Items) (t : Telling) → t.fault ≡ None → t.room ≡ whole_room → HasWritten t.reply notes columns [] → IsTelling notes graph columns [] [] [] t
+  begun notes columns t none room first = record {
     tested = subst (λ f. Tested f (Ok tt)) (sym none) refl;
     counted = λ h. room ∙ omega arith;
     shown = λ h. λ some. refl;
@@ -140,10 +142,10 @@ module _ (graph : Graph) where
 
   -- ---- one row more
 
-  pub row_ended : (columns : Items) (rows : List (List Value)) (values : List Value) (found : List Out) (t new : Telling) → IsTelling graph columns rows values found t → new.fault ≡ t.fault → new.room ≡ t.room - 2
-      → (new.fault ≡ None → new.room ≢ 0 → HasWritten t.reply columns (printed_rows graph rows) → HasWritten new.reply columns (printed_rows graph rows ++ outs found ∷ []))
-      → IsTelling graph columns (rows ++ values ∷ []) [] [] new
-  row_ended columns rows values found t new so_far same left writes =
+  pub row_ended : (notes : Bool) (columns : Items) (rows : List (List Value)) (values : List Value) (found : List Out) (t new : Telling) → IsTelling notes graph columns rows values found t → new.fault ≡ t.fault → new.room ≡ t.room - 2
+      → (new.fault ≡ None → new.room ≢ 0 → HasWritten t.reply notes columns (printed_rows graph rows) → HasWritten new.reply notes columns (printed_rows graph rows ++ outs found ∷ []))
+      → IsTelling notes graph columns (rows ++ values ∷ []) [] [] new
+  row_ended notes columns rows values found t new so_far same left writes =
       let none_so_far : new.fault ≡ None → t.fault ≡ None = λ none. sym same ∙ none in
       let had : new.room ≢ 0 → t.room ≢ 0 = λ some. λ zero. some (omega (arith, left, zero)) in
       let is : printed_rows graph (rows ++ values ∷ []) ≡ printed_rows graph rows ++ printed_items graph (values_of values) ∷ [] = map-append (λ row. printed_items graph (values_of row)) rows (values ∷ []) in
@@ -155,39 +157,42 @@ module _ (graph : Graph) where
         counted = λ none. omega (arith, left, so_far.counted (none_so_far none), whole);
         shown = λ none. λ some. refl;
         written = λ none. λ some.
-            subst (HasWritten new.reply columns) (ap (λ ds. printed_rows graph rows ++ ds ∷ []) (so_far.shown (none_so_far none) (had some)) ∙ sym is)
+            subst (HasWritten new.reply notes columns) (ap (λ ds. printed_rows graph rows ++ ds ∷ []) (so_far.shown (none_so_far none) (had some)) ∙ sym is)
             (writes none some (so_far.written (none_so_far none) (had some)));
       }
 
   -- ---- the end
 
-  module _ (columns : Items) (rows : List (List Value)) (steps : ℕ) (t : Telling) (all : IsTelling graph columns rows [] [] t) where
+  module _ (notes : Bool) (columns : Items) (rows : List (List Value)) (steps : ℕ) (t : Telling) (all : IsTelling notes graph columns rows [] [] t) where
     abbrev text : List ℕ
     text = rows_text columns (printed_rows graph rows) steps
 
-    abbrev kept : Bool → Result (List ℕ) Fault
-    kept fits = cond fits (Ok text) (Err ReplyTooLong)
+    abbrev reply : QueryText
+    reply = query_text notes columns (printed_rows graph rows) steps
 
-    pub ends_in_fault : (e : Fault) → t.fault ≡ Some e → e ≢ OutOfMemory → told graph columns rows steps ≡ Err e
-    ends_in_fault e is other = ap (λ r. r >> fitting text) (then_ok (test_told graph rows) ∙ subst (λ f. Tested f (test_told graph rows >> Ok tt)) is all.tested other)
+    abbrev kept : Bool → Result QueryText Fault
+    kept fits = cond fits (Ok reply) (Err ReplyTooLong)
 
-    tested_all : t.fault ≡ None → told graph columns rows steps ≡ fitting text
-    tested_all none = ap (λ r. r >> fitting text) (then_ok (test_told graph rows) ∙ subst (λ f. Tested f (test_told graph rows >> Ok tt)) none all.tested)
+    pub ends_in_fault : (e : Fault) → t.fault ≡ Some e → e ≢ OutOfMemory → told notes graph columns rows steps ≡ Err e
+    ends_in_fault e is other = ap (λ r. r >> fitting reply) (then_ok (test_told graph rows) ∙ subst (λ f. Tested f (test_told graph rows >> Ok tt)) is all.tested other)
 
-    fits_not : max_reply < length text → fitting text ≡ Err ReplyTooLong
+    tested_all : t.fault ≡ None → told notes graph columns rows steps ≡ fitting reply
+    tested_all none = ap (λ r. r >> fitting reply) (then_ok (test_told graph rows) ∙ subst (λ f. Tested f (test_told graph rows >> Ok tt)) none all.tested)
+
+    fits_not : max_reply < length text → fitting reply ≡ Err ReplyTooLong
     fits_not long = ap kept (elim (leb_tells (length text) max_reply) as (λ _. nat_le (length text) max_reply ≡ false) [ inl w ↦ absurd (omega (arith, w.1)) | inr w ↦ w.0 ])
 
-    pub ends_too_long : t.fault ≡ None → t.room ≡ 0 → told graph columns rows steps ≡ Err ReplyTooLong
+    pub ends_too_long : t.fault ≡ None → t.room ≡ 0 → told notes graph columns rows steps ≡ Err ReplyTooLong
     ends_too_long none gone = tested_all none ∙ fits_not (omega (arith, gone, all.counted none, rows_within columns (printed_rows graph rows) steps))
 
-    pub ends_written : (r : Result (List ℕ) Fault) → t.fault ≡ None → t.room ≢ 0
-        → (HasWritten t.reply columns (printed_rows graph rows) → IfOk r (λ bytes. bytes ≡ text)) → IfOk r (λ bytes. length bytes ≤ max_reply)
-        → IfErr r (λ e. e ≢ OutOfMemory → e ≡ ReplyTooLong) → (HasWritten t.reply columns (printed_rows graph rows) → IfErr r (λ e. e ≢ OutOfMemory → max_reply < length text))
-        → Gives r (told graph columns rows steps) (λ bytes. bytes)
-    ends_written (Ok bytes) none some ok within kind long =
-        let is : bytes ≡ text = ok (all.written none some) in
+    pub ends_written : (r : Result QueryText Fault) → t.fault ≡ None → t.room ≢ 0
+        → (HasWritten t.reply notes columns (printed_rows graph rows) → IfOk r (λ q. q ≡ reply)) → IfOk r (λ q. length q.text ≤ max_reply)
+        → IfErr r (λ e. e ≢ OutOfMemory → e ≡ ReplyTooLong) → (HasWritten t.reply notes columns (printed_rows graph rows) → IfErr r (λ e. e ≢ OutOfMemory → max_reply < length text))
+        → Gives r (told notes graph columns rows steps) (λ q. q)
+    ends_written (Ok q) none some ok within kind long =
+        let is : q ≡ reply = ok (all.written none some) in
         record {
-          ok = tested_all none ∙ ap kept (le-leb (length text) max_reply (omega (arith, ap length is, within))) ∙ ap Ok (sym is);
+          ok = tested_all none ∙ ap kept (le-leb (length text) max_reply (subst (λ r. length r.text ≤ max_reply) is within)) ∙ ap Ok (sym is);
           err = tt;
         }
     ends_written (Err e) none some ok within kind long = record {
@@ -201,13 +206,13 @@ module _ (graph : Graph) where
 pub record ValuesTold (graph : Graph) (all rest : List Value) (start t : Telling) (found : List Out) : Type 0 where
   pub done : List Value
   pub parts : all ≡ done ++ rest
-  pub telling : (columns : Items) (rows : List (List Value)) → IsTelling graph columns rows [] [] start → IsTelling graph columns rows done found t
+  pub telling : (notes : Bool) (columns : Items) (rows : List (List Value)) → IsTelling notes graph columns rows [] [] start → IsTelling notes graph columns rows done found t
 
 -- what is left of the rows, after those that are told
 pub record RowsTold (graph : Graph) (all rest : List (List Value)) (start t : Telling) : Type 0 where
   pub done : List (List Value)
   pub parts : all ≡ done ++ rest
-  pub telling : (columns : Items) → IsTelling graph columns [] [] [] start → IsTelling graph columns done [] [] t
+  pub telling : (notes : Bool) (columns : Items) → IsTelling notes graph columns [] [] [] start → IsTelling notes graph columns done [] [] t
 
 pub joined : {X : Type 0} (xs : List X) (y : X) (ys : List X) → (xs ++ y ∷ []) ++ ys ≡ xs ++ y ∷ ys
 joined [] y ys = refl
@@ -219,32 +224,32 @@ nothing_behind (x ∷ xs) = ap (λ ys. x ∷ ys) (nothing_behind xs)
 
 module _ (graph : Graph) (start : Telling) where
   pub no_value_told : (all : List Value) → ValuesTold graph all all start start []
-  no_value_told all = record { done = []; parts = refl; telling = λ columns rows h. h }
+  no_value_told all = record { done = []; parts = refl; telling = λ notes columns rows h. h }
 
   pub one_value_told : (all rest more : List Value) (t new : Telling) (found : List Out) (v : Value) (out : Out) → ValuesTold graph all rest start t found → rest ≡ v ∷ more
-      → ((columns : Items) (rows : List (List Value)) (row : List Value) (os : List Out) → IsTelling graph columns rows row os t → IsTelling graph columns rows (row ++ v ∷ []) (os ++ out ∷ []) new)
+      → ((notes : Bool) (columns : Items) (rows : List (List Value)) (row : List Value) (os : List Out) → IsTelling notes graph columns rows row os t → IsTelling notes graph columns rows (row ++ v ∷ []) (os ++ out ∷ []) new)
       → ValuesTold graph all more start new (found ++ out ∷ [])
   one_value_told all rest more t new found v out so_far is takes = record {
     done = so_far.done ++ v ∷ [];
     parts = so_far.parts ∙ ap (λ vs. so_far.done ++ vs) is ∙ sym (joined so_far.done v more);
-    telling = λ columns rows h. takes columns rows so_far.done found (so_far.telling columns rows h);
+    telling = λ notes columns rows h. takes notes columns rows so_far.done found (so_far.telling notes columns rows h);
   }
 
   pub all_values_told : (all rest : List Value) (t : Telling) (found : List Out) → ValuesTold graph all rest start t found → rest ≡ []
-      → (columns : Items) (rows : List (List Value)) → IsTelling graph columns rows [] [] start → IsTelling graph columns rows all found t
-  all_values_told all rest t found so_far is columns rows h =
-      subst (λ vs. IsTelling graph columns rows vs found t) (sym (so_far.parts ∙ ap (λ vs. so_far.done ++ vs) is ∙ nothing_behind so_far.done)) (so_far.telling columns rows h)
+      → (notes : Bool) (columns : Items) (rows : List (List Value)) → IsTelling notes graph columns rows [] [] start → IsTelling notes graph columns rows all found t
+  all_values_told all rest t found so_far is notes columns rows h =
+      subst (λ vs. IsTelling notes graph columns rows vs found t) (sym (so_far.parts ∙ ap (λ vs. so_far.done ++ vs) is ∙ nothing_behind so_far.done)) (so_far.telling notes columns rows h)
 
   pub one_row_told : (all rest more : List (List Value)) (t new : Telling) (values : List Value) → RowsTold graph all rest start t → rest ≡ values ∷ more
-      → ((columns : Items) (rows : List (List Value)) → IsTelling graph columns rows [] [] t → IsTelling graph columns (rows ++ values ∷ []) [] [] new)
+      → ((notes : Bool) (columns : Items) (rows : List (List Value)) → IsTelling notes graph columns rows [] [] t → IsTelling notes graph columns (rows ++ values ∷ []) [] [] new)
       → RowsTold graph all more start new
   one_row_told all rest more t new values so_far is takes = record {
     done = so_far.done ++ values ∷ [];
     parts = so_far.parts ∙ ap (λ rs. so_far.done ++ rs) is ∙ sym (joined so_far.done values more);
-    telling = λ columns h. takes columns so_far.done (so_far.telling columns h);
+    telling = λ notes columns h. takes notes columns so_far.done (so_far.telling notes columns h);
   }
 
   pub all_rows_told : (all rest : List (List Value)) (t : Telling) → RowsTold graph all rest start t → rest ≡ []
-      → (columns : Items) → IsTelling graph columns [] [] [] start → IsTelling graph columns all [] [] t
-  all_rows_told all rest t so_far is columns h =
-      subst (λ rs. IsTelling graph columns rs [] [] t) (sym (so_far.parts ∙ ap (λ rs. so_far.done ++ rs) is ∙ nothing_behind so_far.done)) (so_far.telling columns h)
+      → (notes : Bool) (columns : Items) → IsTelling notes graph columns [] [] [] start → IsTelling notes graph columns all [] [] t
+  all_rows_told all rest t so_far is notes columns h =
+      subst (λ rs. IsTelling notes graph columns rs [] [] t) (sym (so_far.parts ∙ ap (λ rs. so_far.done ++ rs) is ∙ nothing_behind so_far.done)) (so_far.telling notes columns h)

@@ -1,6 +1,7 @@
 -- RETURN as the last clause, and what its rows are answered.
 use Rattle.std.specs.Prelude.{◌≡◌, Bool, ℕ, cond, List, [], ◌∷◌, ◌++◌, map, Result, Ok, None}
 use Rattle.serde_json.specs.Data.{Items, string}
+use Rattle.pg_json.specs.Pages.{QueryText}
 use Rattle.pg_json.specs.Replies.{items_of}
 use Rattle.pg_meaning.specs.Answer.{◌>>=◌}
 use Rattle.pg_meaning.specs.Graph.{Graph}
@@ -27,19 +28,19 @@ abbrev pub items_given : ReadyItems → Graph → List Value → Result (List Va
 items_given i graph = values_given (parameters_view i.query.now.parameters.now) graph i.names.now (trees_of i.names.now i.ready.now.items)
 
 -- the clause, then the reply of its rows
-abbrev pub returned : Setting → Projection → State → Result (List ℕ) Fault
-returned s p state =
-    project_clause s (return_columns s.scope p) p None state >>= λ last. told last.graph (named_items (column_names (return_columns s.scope p))) (map values_in last.rows) last.steps
+abbrev pub returned : (notes : Bool) → Setting → Projection → State → Result QueryText Fault
+returned notes s p state =
+    project_clause s (return_columns s.scope p) p None state >>= λ last. told notes last.graph (named_items (column_names (return_columns s.scope p))) (map values_in last.rows) last.steps
 
 -- the reply of the rows that all clauses leave
-abbrev pub replied : (returns : Bool) → (names : List (List ℕ)) → State → Result (List ℕ) Fault
-replied returns names last = told last.graph (named_items (cond returns names [])) (output_rows returns last.rows) last.steps
+abbrev pub replied : (notes returns : Bool) → (names : List (List ℕ)) → State → Result QueryText Fault
+replied notes returns names last = told notes last.graph (named_items (cond returns names [])) (output_rows returns last.rows) last.steps
 
 -- the values that the items give at a row are told
 pub record RowTold (graph : Graph) (given : Result (List Value) Fault) (old new : Telling) (found : List Out) : Type 0 where
   pub values : List Value
   pub are : given ≡ Ok values
-  pub telling : (columns : Items) (rows : List (List Value)) → IsTelling graph columns rows [] [] old → IsTelling graph columns rows values found new
+  pub telling : (notes : Bool) (columns : Items) (rows : List (List Value)) → IsTelling notes graph columns rows [] [] old → IsTelling notes graph columns rows values found new
 
 -- no fault comes in place of the values
 pub record IsGiven (given : Result (List Value) Fault) : Type 0 where
@@ -50,10 +51,10 @@ pub record IsGiven (given : Result (List Value) Fault) : Type 0 where
 pub record RowPassed (graph : Graph) (is_in : Bool) (given : Result (List Value) Fault) (old new : Telling) : Type 0 where
   pub values : List Value
   pub are : given ≡ Ok values
-  pub telling : (columns : Items) (rows : List (List Value)) → IsTelling graph columns rows [] [] old → IsTelling graph columns (rows ++ cond is_in (values ∷ []) []) [] [] new
+  pub telling : (notes : Bool) (columns : Items) (rows : List (List Value)) → IsTelling notes graph columns rows [] [] old → IsTelling notes graph columns (rows ++ cond is_in (values ∷ []) []) [] [] new
 
 -- the rows that they give are told, as far as they are let in
 pub record RowsTold (graph : Graph) (c : Cut) (given : Result (List (List Value)) Fault) (old new : Telling) : Type 0 where
   pub rows : List (List Value)
   pub are : given ≡ Ok rows
-  pub telling : (columns : Items) → IsTelling graph columns [] [] [] old → IsTelling graph columns (cut_of c rows) [] [] new
+  pub telling : (notes : Bool) (columns : Items) → IsTelling notes graph columns [] [] [] old → IsTelling notes graph columns (cut_of c rows) [] [] new

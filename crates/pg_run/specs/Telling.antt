@@ -1,9 +1,11 @@
 -- A query's reply while its rows are told: written as long as it may fit, then looked through for its fault alone.
-use Rattle.std.specs.Prelude.{◌≡◌, ◌≢◌, ℕ, ◌+◌, ◌-◌, nat_le, List, length, Result, Ok, Err, Option, Some, None, if◌then◌else◌}
+use Rattle.std.specs.Prelude.{◌≡◌, ◌≢◌, ℕ, ◌+◌, ◌-◌, nat_le, Bool, List, length, Result, Ok, Err, Option, Some, None, if◌then◌else◌}
 use Rattle.serde_json.specs.Data.{Items}
 use Rattle.pg_json.specs.Replies.{outs, max_reply}
 use Rattle.pg_json.specs.Room.{items_least}
-use Rattle.pg_json.specs.Rows.{HasWritten, rows_data, rows_text}
+use Rattle.pg_json.specs.Pages.{QueryText, query_text}
+use Rattle.pg_json.specs.Rows.{rows_data}
+use Rattle.pg_json.specs.Telling.{HasWritten}
 use Rattle.pg_meaning.specs.Answer.{◌>>◌}
 use Rattle.pg_meaning.specs.Graph.{Graph}
 use Rattle.pg_meaning.specs.Queries.{test_items}
@@ -17,13 +19,13 @@ use Rattle.pg_value_core.specs.declared.out.Out.{Out}
 
 -- ---- what a query's rows are answered
 
--- a text that a reply may have
-abbrev pub fitting : List ℕ → Result (List ℕ) Fault
-fitting text = if nat_le (length text) max_reply then Ok text else Err ReplyTooLong
+-- a reply whose text may be one
+abbrev pub fitting : QueryText → Result QueryText Fault
+fitting reply = if nat_le (length reply.text) max_reply then Ok reply else Err ReplyTooLong
 
--- the reply of these rows: a deleted element is told before a length
-abbrev pub told : Graph → (columns : Items) → List (List Value) → (steps : ℕ) → Result (List ℕ) Fault
-told graph columns rows steps = test_told graph rows >> fitting (rows_text columns (printed_rows graph rows) steps)
+-- the reply of these rows, with their ends where they are noted: a deleted element is told before a length
+abbrev pub told : (notes : Bool) → Graph → (columns : Items) → List (List Value) → (steps : ℕ) → Result QueryText Fault
+told notes graph columns rows steps = test_told graph rows >> fitting (query_text notes columns (printed_rows graph rows) steps)
 
 -- ---- before all rows are there
 
@@ -41,11 +43,11 @@ abbrev pub whole_room : ℕ
 whole_room = max_reply + 1
 
 -- these rows are told, and of one row more these values
-pub record IsTelling (graph : Graph) (columns : Items) (rows : List (List Value)) (row : List Value) (found : List Out) (t : Telling) : Type 0 where
+pub record IsTelling (notes : Bool) (graph : Graph) (columns : Items) (rows : List (List Value)) (row : List Value) (found : List Out) (t : Telling) : Type 0 where
   pub tested : Tested t.fault (test_told graph rows >> test_items graph (values_of row))
   pub counted : t.fault ≡ None → t.room ≡ whole_room - rows_least graph rows - items_least (printed_items graph (values_of row))
   pub shown : t.fault ≡ None → t.room ≢ 0 → outs found ≡ printed_items graph (values_of row)
-  pub written : t.fault ≡ None → t.room ≢ 0 → HasWritten t.reply columns (printed_rows graph rows)
+  pub written : t.fault ≡ None → t.room ≢ 0 → HasWritten t.reply notes columns (printed_rows graph rows)
 
 -- no reply of rows can come of it any more: a fault was found, or there is no room for what was told
 abbrev pub IsLost : Telling → Type 0

@@ -14,4 +14,4 @@ mod stored;
 mod tables;
 mod telling;
 
-pub use running::answer_clauses;
+pub use running::{PlannedQuery, answer_clauses};

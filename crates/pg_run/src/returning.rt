@@ -1,5 +1,5 @@
 //! RETURN and the reply of its rows.
-ghost use Rattle.std.specs.Prelude.{◌≡◌, length};
+ghost use Rattle.std.specs.Prelude.{◌≡◌, [], Bool, length};
 ghost use Rattle.pg_meaning.specs.Answer.{◌>>=◌ as and_then, each_answer};
 ghost use Rattle.pg_meaning.specs.Meters.{Setting, spend};
 ghost use Rattle.pg_project.specs.Given.{cut_given, cut_of};
@@ -7,7 +7,8 @@ ghost use Rattle.pg_project.specs.Items.{columns_of};
 ghost use Rattle.pg_rows.specs.States.{seen, state_of, Suits};
 ghost use Rattle.pg_rows.specs.Tables.{table};
 ghost use Rattle.pg_run.specs.Returning.{items_given, named_items, returned};
-ghost use Rattle.pg_run.specs.Telling.{told};
+ghost use Rattle.pg_run.specs.Telling.{IsTelling, told};
+ghost use Rattle.serde_json.specs.Data.{Items};
 ghost use Rattle.pg_syntax_tree.specs.View.{projection_view};
 ghost use Rattle.pg_value_core.specs.Given.{parameters_view};
 ghost use Rattle.pg_value_core.specs.Gives.{Gives};
@@ -17,24 +18,29 @@ use crate::tables::tell_table;
 use crate::telling::Telling;
 use pg_expr::QueryContext;
 use pg_graph::Tables;
-use pg_json::ReplyBytes;
+use pg_json::QueryReply;
 use pg_meter::Meter;
 use pg_project::{come_in_turn, cut_at, prepare_each, project_return, return_columns};
-use pg_rows::{Columns, Rows, Table};
+use pg_rows::{Rows, Table};
 use pg_store::Snapshot;
 use pg_syntax_tree::Projection;
 use pg_value_core::Fault;
 
-/// The reply of RETURN, which ends a query. A reply that would be too long is given up early: then the values
-/// that come are looked at for their faults alone, and nothing of them is kept.
+/// The reply of RETURN, which ends a query. `notes` tells whether the ends of its rows are to be noted. A reply that
+/// would be too long is given up early: then the values that come are looked at for their faults alone, and nothing
+/// of them is kept.
 pub(crate) fn return_reply<T: Tables>(
     query: &QueryContext<'_>,
     projection: &Projection,
     graph: &Snapshot<'_, T>,
     table: Table,
     meter: &mut Meter,
-) -> Result<ReplyBytes, Fault>
-    ensures { (s : Setting) → Suits s (parameters_view query.now.parameters.now) meter.old.limit (seen table).names → Gives result (returned s (projection_view projection.now) (state_of graph.now (seen table) meter.old.used)) (λ bytes. bytes) }
+    notes: bool,
+) -> Result<QueryReply, Fault>
+    ensures { (s : Setting)
+        → Suits s (parameters_view query.now.parameters.now) meter.old.limit (seen table).names
+        → Gives result (returned notes s (projection_view projection.now)
+        (state_of graph.now (seen table) meter.old.used)) (λ reply. reply) }
 {
     let columns = return_columns(query.alloc, table.names(), projection)?;
     let expressions = columns.expressions(query.alloc)?;
@@ -45,16 +51,10 @@ pub(crate) fn return_reply<T: Tables>(
             names: table.names(),
             ready: &ready,
         };
-        reply_of_each(
-            &items,
-            projection,
-            columns.names(),
-            graph,
-            table.rows(),
-            meter,
-        )
+        let telling = Telling::begin(query.alloc, columns.names(), notes)?;
+        reply_of_each(&items, projection, graph, table.rows(), meter, telling)
     } else {
-        reply_of_all(query, projection, graph, table, meter)
+        reply_of_all(query, projection, graph, table, meter, notes)
     }
 }
 
@@ -65,29 +65,38 @@ fn reply_of_all<T: Tables>(
     graph: &Snapshot<'_, T>,
     table: Table,
     meter: &mut Meter,
-) -> Result<ReplyBytes, Fault>
-    ensures { (s : Setting) → Suits s (parameters_view query.now.parameters.now) meter.old.limit (seen table).names → Gives result (returned s (projection_view projection.now) (state_of graph.now (seen table) meter.old.used)) (λ bytes. bytes) }
+    notes: bool,
+) -> Result<QueryReply, Fault>
+    ensures { (s : Setting)
+        → Suits s (parameters_view query.now.parameters.now) meter.old.limit (seen table).names
+        → Gives result (returned notes s (projection_view projection.now)
+        (state_of graph.now (seen table) meter.old.used)) (λ reply. reply) }
 {
     let made = project_return(query, projection, graph, table, meter)?;
-    let mut telling = Telling::begin(query.alloc, made.names())?;
+    let mut telling = Telling::begin(query.alloc, made.names(), notes)?;
     tell_table(query.alloc, graph, made, &mut telling)?;
     telling.finish(meter.used())
 }
 
-/// Each row is told as it is made.
+/// Each row is told as it is made, after the columns.
 fn reply_of_each<T: Tables>(
     items: &ReadyItems<'_, '_>,
     projection: &Projection,
-    columns: &Columns,
     graph: &Snapshot<'_, T>,
     rows: &Rows,
     meter: &mut Meter,
-) -> Result<ReplyBytes, Fault>
-    ensures { (s : Setting) → s.quota.max_steps ≡ meter.old.limit → Gives result (and_then (spend s meter.old.used (length (table rows.now))) (λ steps. and_then (cut_given (parameters_view items.now.query.now.parameters.now) graph.now (projection_view projection.now).skip (projection_view projection.now).limit) (λ c. and_then (each_answer (items_given items.now graph.now) (table rows.now)) (λ found. told graph.now (named_items columns.now) (cut_of c found) steps)))) (λ bytes. bytes) }
+    mut telling: Telling,
+) -> Result<QueryReply, Fault>
+    ensures { (notes : Bool) (s : Setting) (columns : Items) → s.quota.max_steps ≡ meter.old.limit
+        → IsTelling notes graph.now columns [] [] [] telling
+        → Gives result (and_then (spend s meter.old.used (length (table rows.now))) (λ steps.
+        and_then (cut_given (parameters_view items.now.query.now.parameters.now) graph.now
+        (projection_view projection.now).skip (projection_view projection.now).limit) (λ c.
+        and_then (each_answer (items_given items.now graph.now) (table rows.now)) (λ found.
+        told notes graph.now columns (cut_of c found) steps)))) (λ reply. reply) }
 {
     meter.spend(rows.len() as u64)?;
     let cut = cut_at(items.query.alloc, projection, items.query.parameters, graph)?;
-    let mut telling = Telling::begin(items.query.alloc, columns)?;
     tell_rows(items, rows, cut, graph, &mut telling)?;
     telling.finish(meter.used())
 }

@@ -17,7 +17,7 @@ use crate::tables::tell_table;
 use crate::telling::Telling;
 use pg_expr::QueryContext;
 use pg_graph::Tables;
-use pg_json::ReplyBytes;
+use pg_json::QueryReply;
 use pg_live::LiveGraph;
 use pg_match_stages::Anchor;
 use pg_meter::Meter;
@@ -27,31 +27,51 @@ use pg_syntax_tree::Clause;
 use pg_value_core::Fault;
 use std::alloc::Global;
 
-/// The reply to a query of these clauses, whose changes are in the store. After an error the store is to be
-/// taken back. `returns` tells whether RETURN is among the clauses.
+/// A query's clauses and the anchors of each, whether RETURN is among them, and whether the ends of the reply's rows
+/// are to be noted.
+#[derive(Clone, Copy)]
+pub struct PlannedQuery<'a> {
+    pub clauses: &'a [Clause],
+    pub anchors: &'a [Vec<Anchor>],
+    pub returns: bool,
+    pub notes: bool,
+}
+
+/// The reply to a query, whose changes are in the store. After an error the store is to be taken back.
 pub fn answer_clauses<T: Tables>(
     query: &QueryContext<'_>,
-    clauses: &[Clause],
-    plan: &[Vec<Anchor>],
-    returns: bool,
+    planned: &PlannedQuery<'_>,
     live: &mut LiveGraph<T>,
     meter: &mut Meter,
-) -> Result<ReplyBytes, Fault>
-    requires planned { IsPlanFrom [] (map clause_view clauses.now) (plan_view plan.now) }
-    requires returning { returns ≡ any_returns (map clause_view clauses.now) }
-    ensures replies { Replies result (ran (parameters_view query.now.parameters.now) meter.old.limit query.now.max_elements live.old.graph meter.old.used (plan_view plan.now) (map clause_view clauses.now)) returns (fold scope_after [] (map clause_view clauses.now)) live.new.graph }
+) -> Result<QueryReply, Fault>
+    requires planned { IsPlanFrom [] (map clause_view planned.now.clauses.now)
+        (plan_view planned.now.anchors.now) }
+    requires returning { planned.now.returns
+        ≡ any_returns (map clause_view planned.now.clauses.now) }
+    ensures replies { Replies result
+        (ran (parameters_view query.now.parameters.now) meter.old.limit query.now.max_elements
+        live.old.graph meter.old.used (plan_view planned.now.anchors.now)
+        (map clause_view planned.now.clauses.now))
+        planned.now.notes planned.now.returns
+        (fold scope_after [] (map clause_view planned.now.clauses.now)) live.new.graph }
     ensures aside { live.new.aside ≡ live.old.aside }
 {
-    match clauses.split_last() {
+    match planned.clauses.split_last() {
         Some((Clause::Return(projection), before)) => {
-            let anchors = &plan[..before.len()];
+            let anchors = &planned.anchors[..before.len()];
             let table = run_clauses(query, before, anchors, live, meter)?;
-            return_reply(query, projection, &live.graph(), table, meter)
+            return_reply(
+                query,
+                projection,
+                &live.graph(),
+                table,
+                meter,
+                planned.notes,
+            )
         }
         _ => {
-            let table = run_clauses(query, clauses, plan, live, meter)?;
-            let graph = live.graph();
-            reply_of(query.alloc, &graph, returns, table, meter.used())
+            let table = run_clauses(query, planned.clauses, planned.anchors, live, meter)?;
+            reply_of(query.alloc, &live.graph(), planned, table, meter.used())
         }
     }
 }
@@ -60,18 +80,19 @@ pub fn answer_clauses<T: Tables>(
 fn reply_of<T: Tables>(
     alloc: Global,
     graph: &Snapshot<'_, T>,
-    returns: bool,
+    planned: &PlannedQuery<'_>,
     table: Table,
     steps: u64,
-) -> Result<ReplyBytes, Fault>
-    ensures { Gives result (replied returns (seen table).names (state_of graph.now (seen table) steps)) (λ bytes. bytes) }
+) -> Result<QueryReply, Fault>
+    ensures { Gives result (replied planned.now.notes planned.now.returns (seen table).names
+        (state_of graph.now (seen table) steps)) (λ reply. reply) }
 {
-    if !returns {
+    if !planned.returns {
         let columns = Columns::new(alloc);
-        let empty = Telling::begin(alloc, &columns)?;
+        let empty = Telling::begin(alloc, &columns, planned.notes)?;
         return empty.finish(steps);
     }
-    let mut telling = Telling::begin(alloc, table.names())?;
+    let mut telling = Telling::begin(alloc, table.names(), planned.notes)?;
     tell_table(alloc, graph, table, &mut telling)?;
     telling.finish(steps)
 }

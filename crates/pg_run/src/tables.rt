@@ -1,5 +1,5 @@
 //! The rows of a table, told one after the other.
-ghost use Rattle.std.specs.Prelude.{◌≡◌, [], List, IfOk, OnOk, map};
+ghost use Rattle.std.specs.Prelude.{◌≡◌, [], Bool, List, IfOk, OnOk, map};
 ghost use Rattle.serde_json.specs.Data.{Items};
 ghost use Rattle.pg_meaning.specs.Value.{Value as Datum};
 ghost use Rattle.pg_rows.specs.States.{seen};
@@ -23,7 +23,10 @@ pub(crate) fn tell_table<T: Tables>(
     table: Table,
     telling: &mut Telling,
 ) -> Result<(), AllocError>
-    ensures { (columns : Items) → IsTelling graph.now columns [] [] [] telling.old → OnOk result (IsTelling graph.now columns (rows_told (seen table)) [] [] telling.new) }
+    ensures { (notes : Bool) (columns : Items)
+        → IsTelling notes graph.now columns [] [] [] telling.old
+        → OnOk result
+        (IsTelling notes graph.now columns (rows_told (seen table)) [] [] telling.new) }
 {
     let (_names, rows) = table.split();
     tell_rows(alloc, graph, rows, telling)
@@ -35,7 +38,9 @@ fn tell_rows<T: Tables>(
     rows: Rows,
     telling: &mut Telling,
 ) -> Result<(), AllocError>
-    ensures { (columns : Items) → IsTelling graph.now columns [] [] [] telling.old → OnOk result (IsTelling graph.now columns (table rows) [] [] telling.new) }
+    ensures { (notes : Bool) (columns : Items)
+        → IsTelling notes graph.now columns [] [] [] telling.old
+        → OnOk result (IsTelling notes graph.now columns (table rows) [] [] telling.new) }
 {
     let mut left = rows.into_left();
     while let Some(row) = left.next_row(alloc)? {
@@ -51,7 +56,10 @@ fn tell_values<T: Tables>(
     row: Vec<Value>,
     telling: &mut Telling,
 ) -> Result<Vec<Out>, AllocError>
-    ensures { (columns : Items) (rows : List (List Datum)) → IsTelling graph.now columns rows [] [] telling.old → IfOk result (λ outs. IsTelling graph.now columns rows (map view row.items) outs.items telling.new) }
+    ensures { (notes : Bool) (columns : Items) (rows : List (List Datum))
+        → IsTelling notes graph.now columns rows [] [] telling.old
+        → IfOk result (λ outs.
+        IsTelling notes graph.now columns rows (map view row.items) outs.items telling.new) }
 {
     let mut outs = Vec::with_capacity(alloc, row.len())?;
     for value in row {

@@ -1,7 +1,7 @@
 //! A query's reply while its rows are told.
 use crate::spelling::spell;
 use pg_graph::Tables;
-use pg_json::{ReplyBytes, RowsReply};
+use pg_json::{QueryReply, ReplyColumns, RowsReply};
 use pg_rows::Columns;
 use pg_store::Snapshot;
 use pg_value_core::{Fault, Out, Value};
@@ -19,7 +19,7 @@ pub(crate) struct Telling {
 }
 
 impl Telling {
-    ghost use Rattle.std.specs.Prelude.{◌≡◌, ◌≢◌, ◌++◌, ◌∷◌, [], List, map, true, false, None, IfOk, OnOk};
+    ghost use Rattle.std.specs.Prelude.{◌≡◌, ◌≢◌, ◌++◌, ◌∷◌, [], Bool, List, map, true, false, None, IfOk, OnOk};
     ghost use Rattle.serde_json.specs.Data.{Items, string};
     ghost use Rattle.pg_json.specs.Replies.{items_of};
     ghost use Rattle.pg_meaning.specs.Graph.{Graph};
@@ -30,17 +30,17 @@ impl Telling {
     ghost use Rattle.pg_value_core.specs.declared.out.Out.{Out as Shown};
     ghost use Rattle.pg_value_core.specs.declared.out.Out.TheVariants.{Null};
 
-    /// The columns, and no row yet.
-    pub fn begin(alloc: Global, columns: &Columns) -> Result<Telling, AllocError>
-        ensures { IfOk result (λ t. (graph : Graph) → IsTelling graph (items_of (map string columns.now)) [] [] [] t) }
+    /// The columns, and no row yet. `notes` tells whether the ends of the rows are to be noted.
+    pub fn begin(alloc: Global, columns: &Columns, notes: bool) -> Result<Telling, AllocError>
+        ensures { IfOk result (λ t. (graph : Graph)
+            → IsTelling notes graph (items_of (map string columns.now)) [] [] [] t) }
     {
-        let mut reply = RowsReply::begin(alloc)?;
+        let mut head = ReplyColumns::begin(alloc)?;
         for at in 0..columns.len() {
-            reply.name(columns.name(at))?;
+            head.name(columns.name(at))?;
         }
-        reply.end_names()?;
         Ok(Telling {
-            reply,
+            reply: head.end(notes)?,
             room: WHOLE_ROOM,
             fault: None,
         })
@@ -50,7 +50,11 @@ impl Telling {
     /// value is kept once the reply is lost.
     pub fn take<T: Tables>(&mut self, alloc: Global, graph: &Snapshot<'_, T>, value: Value) -> Out
         ensures lost { IsLost self.new → result ≡ Null }
-        ensures telling { (columns : Items) (rows : List (List Datum)) (row : List Datum) (found : List Shown) → IsTelling graph.now columns rows row found self.old → IsTelling graph.now columns rows (row ++ view value ∷ []) (found ++ result ∷ []) self.new }
+        ensures telling { (notes : Bool) (columns : Items) (rows : List (List Datum))
+            (row : List Datum) (found : List Shown)
+            → IsTelling notes graph.now columns rows row found self.old
+            → IsTelling notes graph.now columns rows (row ++ view value ∷ [])
+            (found ++ result ∷ []) self.new }
     {
         if self.fault.is_some() {
             return Out::Null;
@@ -71,7 +75,10 @@ impl Telling {
     /// The row that was told is whole. Nothing is written once the reply is lost.
     pub fn end_row(&mut self, row: &[Out]) -> Result<(), AllocError>
         ensures lost { IsLost self.new → self.new.reply ≡ self.old.reply }
-        ensures telling { (graph : Graph) (columns : Items) (rows : List (List Datum)) (values : List Datum) → IsTelling graph columns rows values row.now self.old → OnOk result (IsTelling graph columns (rows ++ values ∷ []) [] [] self.new) }
+        ensures telling { (notes : Bool) (graph : Graph) (columns : Items)
+            (rows : List (List Datum)) (values : List Datum)
+            → IsTelling notes graph columns rows values row.now self.old
+            → OnOk result (IsTelling notes graph columns (rows ++ values ∷ []) [] [] self.new) }
     {
         self.room = self.room.saturating_sub(2);
         if self.may_fit() {
@@ -90,8 +97,10 @@ impl Telling {
     }
 
     /// The whole reply, or the fault in which it ends.
-    pub fn finish(self, steps: u64) -> Result<ReplyBytes, Fault>
-        ensures { (graph : Graph) (columns : Items) (rows : List (List Datum)) → IsTelling graph columns rows [] [] self → Gives result (told graph columns rows steps) (λ bytes. bytes) }
+    pub fn finish(self, steps: u64) -> Result<QueryReply, Fault>
+        ensures { (notes : Bool) (graph : Graph) (columns : Items) (rows : List (List Datum))
+            → IsTelling notes graph columns rows [] [] self
+            → Gives result (told notes graph columns rows steps) (λ reply. reply) }
     {
         if let Some(fault) = self.fault {
             return Err(fault);

@@ -13,7 +13,7 @@ returns-in_err-made g c = λ s suits.
     let p = projection_view c.args.projection.now in
     let state = state_of c.args.graph.now (seen c.args.table) c.args.meter.now.used in
     let said = c.in_err-made.ensures.gives s suits in
-    let refused = returned_fails s p state in
+    let refused = returned_fails c.args.notes s p state in
     record {
       ok = search rules;
       err = search (rules, refused, said);
@@ -26,7 +26,7 @@ returns g c = λ s suits.
     let state = state_of graph (seen c.args.table) c.args.meter.now.used in
     let t = seen c.in_ok-made.made in
     let names = c.in_ok-made.ensures.names ∙ ap (λ ns. column_names (return_columns ns p)) (sym suits.scope_is) in
-    let begun = subst (λ ns. IsTelling graph (named_items ns) [] [] [] c.in_ok-telling.telling) c.names.ensures (c.in_ok-telling.ensures graph) in
-    gives_same c.finish.result _ (told graph (named_items t.names) (rows_told t) c.used.result) (λ bytes. bytes)
-    (returned_all s p state graph t _ (c.in_ok-made.ensures.gives s suits).ok names ∙ ap (told graph (named_items t.names) (rows_told t)) (sym c.used.ensures))
-    (c.finish.ensures graph (named_items t.names) (rows_told t) (c.in_ok-tell_table.ensures (named_items t.names) begun))
+    let begun = subst (λ ns. IsTelling c.args.notes graph (named_items ns) [] [] [] c.in_ok-telling.telling) c.names.ensures (c.in_ok-telling.ensures graph) in
+    gives_same c.finish.result _ (told c.args.notes graph (named_items t.names) (rows_told t) c.used.result) (λ reply. reply)
+    (returned_all c.args.notes s p state graph t _ (c.in_ok-made.ensures.gives s suits).ok names ∙ ap (told c.args.notes graph (named_items t.names) (rows_told t)) (sym c.used.ensures))
+    (c.finish.ensures c.args.notes graph (named_items t.names) (rows_told t) (c.in_ok-tell_table.ensures c.args.notes (named_items t.names) begun))

@@ -12,8 +12,8 @@ use Rattle.pg_run.specs.Telling.{told}
 use Rattle.pg_syntax_tree.specs.View.{expression_view, projection_view}
 use Rattle.pg_run.proofs.returning.return_reply.Goals as goal
 
-pub returns-in_ok-ready : goal.returns-in_ok-ready
-returns-in_ok-ready g c = λ s suits.
+pub returns-in_ok-telling : goal.returns-in_ok-telling
+returns-in_ok-telling g c = λ s suits.
     let p = projection_view c.args.projection.now in
     let graph = c.args.graph.now in
     let t = seen c.args.table in
@@ -27,7 +27,7 @@ returns-in_ok-ready g c = λ s suits.
     let rows = c.rows.ensures.rows in
     let ready = c.in_ok-ready.ready.items in
     let trees : es ≡ trees_of c.names-then-come_in_turn-2.result.now ready = sym c.in_ok-ready.ensures.trees ∙ ap (λ ns. trees_of ns ready) (c.names-then-come_in_turn.ensures ∙ sym scope) in
-    gives_same c.reply_of_each.result _ _ (λ bytes. bytes)
-    (returned_each s graph p t used columns es same are (c.come_in_turn.ensures c.if-come_in_turn.true)
-    ∙ (λ i. spend s used (length (sym rows i)) >>= λ steps. cut_given (suits.parameters_are i) graph p.skip p.limit >>= λ k. each_answer (values_given (suits.parameters_are i) graph (sym scope i) (trees i)) (sym rows i) >>= λ found. told graph (named_items (sym c.names-then-come_in_turn-3.ensures i)) (cut_of k found) steps))
-    (c.reply_of_each.ensures s suits.steps_are)
+    gives_same c.reply_of_each.result _ _ (λ reply. reply)
+    (returned_each c.args.notes s graph p t used columns es same are (c.come_in_turn.ensures c.if-come_in_turn.true)
+    ∙ (λ i. spend s used (length (sym rows i)) >>= λ steps. cut_given (suits.parameters_are i) graph p.skip p.limit >>= λ k. each_answer (values_given (suits.parameters_are i) graph (sym scope i) (trees i)) (sym rows i) >>= λ found. told c.args.notes graph (named_items (sym c.names-then-come_in_turn-3.ensures i)) (cut_of k found) steps))
+    (c.reply_of_each.ensures c.args.notes s (named_items c.names-then-come_in_turn-3.result.now) suits.steps_are (c.in_ok-telling.ensures graph))

@@ -16,6 +16,6 @@ returns-clause-ok g c =
     (record {
       values = made.values;
       are = made.are;
-      telling = λ columns rows h.
-          c.in_ok-end_row.ensures.telling graph columns rows made.values (subst (λ os. IsTelling graph columns rows made.values os c.tell_items.new.telling) (sym c.as_slice.ensures.value) (made.telling columns rows h));
+      telling = λ notes columns rows h.
+          c.in_ok-end_row.ensures.telling notes graph columns rows made.values (subst (λ os. IsTelling notes graph columns rows made.values os c.tell_items.new.telling) (sym c.as_slice.ensures.value) (made.telling notes columns rows h));
     })

@@ -27,18 +27,18 @@ pub slice_bounds-anchors-end : goal.slice_bounds-anchors-end
 slice_bounds-anchors-end g c =
     let before = c.in-Some-Return-default.before.now in
     let p = c.in-Some-Return-default.projection in
-    let same = last_is c.args.clauses.now before c.in-Some-Return-default.field-0-0.now p c.in-Some-Return-default.ensures.cases.0 c.in-Some-Return-default.field-0-0-is in
-    let planned = subst (λ xs. IsPlanFrom [] xs (plan_view c.args.plan.now)) same c.requires.planned in
-    sym (length-take-le (length before) c.args.plan.now
-    (within_plan (λ anchors. anchors_view anchors.items) (map clause_view before) (return_rows (projection_view p)) c.args.plan.now planned (length before) (sym (length-map before clause_view))))
+    let same = last_is c.args.planned.now.clauses.now before c.in-Some-Return-default.field-0-0.now p c.in-Some-Return-default.ensures.cases.0 c.in-Some-Return-default.field-0-0-is in
+    let planned = subst (λ xs. IsPlanFrom [] xs (plan_view c.args.planned.now.anchors.now)) same c.requires.planned in
+    sym (length-take-le (length before) c.args.planned.now.anchors.now
+    (within_plan (λ anchors. anchors_view anchors.items) (map clause_view before) (return_rows (projection_view p)) c.args.planned.now.anchors.now planned (length before) (sym (length-map before clause_view))))
 
 pub run_clauses-requires : goal.run_clauses-requires
 run_clauses-requires g c =
     let before = c.in-Some-Return-default.before.now in
     let p = c.in-Some-Return-default.projection in
-    let same = last_is c.args.clauses.now before c.in-Some-Return-default.field-0-0.now p c.in-Some-Return-default.ensures.cases.0 c.in-Some-Return-default.field-0-0-is in
-    let planned = subst (λ xs. IsPlanFrom [] xs (plan_view c.args.plan.now)) same c.requires.planned in
-    record { planned = planned_slice (λ anchors. anchors_view anchors.items) (map clause_view before) (return_rows (projection_view p)) c.args.plan.now planned (length before) (sym (length-map before clause_view)) }
+    let same = last_is c.args.planned.now.clauses.now before c.in-Some-Return-default.field-0-0.now p c.in-Some-Return-default.ensures.cases.0 c.in-Some-Return-default.field-0-0-is in
+    let planned = subst (λ xs. IsPlanFrom [] xs (plan_view c.args.planned.now.anchors.now)) same c.requires.planned in
+    record { planned = planned_slice (λ anchors. anchors_view anchors.items) (map clause_view before) (return_rows (projection_view p)) c.args.planned.now.anchors.now planned (length before) (sym (length-map before clause_view)) }
 
 pub returns-in_err-table-in-Some-Return-default-clause-replies : goal.returns-in_err-table-in-Some-Return-default-clause-replies
 returns-in_err-table-in-Some-Return-default-clause-replies g c =
@@ -49,18 +49,18 @@ returns-in_err-table-in-Some-Return-default-clause-replies g c =
     let quota = quota_of limit elements in
     let cs = map clause_view before in
     let p = projection_view c.in-Some-Return-default.projection in
-    let plan = plan_view c.args.plan.now in
+    let plan = plan_view c.args.planned.now.anchors.now in
     let start = c.args.live.now.graph in
     let used = c.args.meter.now.used in
     let begin = state_of start (record { names = []; rows = [] ∷ [] }) used in
-    let same = last_is c.args.clauses.now before c.in-Some-Return-default.field-0-0.now c.in-Some-Return-default.projection c.in-Some-Return-default.ensures.cases.0 c.in-Some-Return-default.field-0-0-is in
+    let same = last_is c.args.planned.now.clauses.now before c.in-Some-Return-default.field-0-0.now c.in-Some-Return-default.projection c.in-Some-Return-default.ensures.cases.0 c.in-Some-Return-default.field-0-0-is in
     let planned = subst (λ xs. IsPlanFrom [] xs plan) same c.requires.planned in
-    let slice = slice_is (λ anchors. anchors_view anchors.items) cs (return_rows p) c.args.plan.now planned (length before) (sym (length-map before clause_view)) in
+    let slice = slice_is (λ anchors. anchors_view anchors.items) cs (return_rows p) c.args.planned.now.anchors.now planned (length before) (sym (length-map before clause_view)) in
     let left = c.run_clauses.new.live.graph in
     let q = err_from_is_err_and c.from_residual.result c.from_residual.ensures.1 in
     rw (q.1, q.2)
-    (whole_reply _ (ran ps limit elements start used plan) cs (map clause_view c.args.clauses.now) c.args.returns p left same c.requires.returning
-    (replies_fault ps quota plan cs p begin c.in_err-table-in-Some-Return-default.field-0.0 left (λ other. sym (ap (λ (x : Plan). clauses_run ps quota [] x cs begin) slice) ∙ c.in_err-table-in-Some-Return-default.ensures.gives.err other)))
+    (whole_reply _ (ran ps limit elements start used plan) cs (map clause_view c.args.planned.now.clauses.now) c.args.planned.now.notes c.args.planned.now.returns p left same c.requires.returning
+    (replies_fault ps quota c.args.planned.now.notes plan cs p begin c.in_err-table-in-Some-Return-default.field-0.0 left (λ other. sym (ap (λ (x : Plan). clauses_run ps quota [] x cs begin) slice) ∙ c.in_err-table-in-Some-Return-default.ensures.gives.err other)))
 
 pub returns-in_ok-table-in-Some-Return-default-clause-replies : goal.returns-in_ok-table-in-Some-Return-default-clause-replies
 returns-in_ok-table-in-Some-Return-default-clause-replies g c =
@@ -71,16 +71,16 @@ returns-in_ok-table-in-Some-Return-default-clause-replies g c =
     let quota = quota_of limit elements in
     let cs = map clause_view before in
     let p = projection_view c.in-Some-Return-default.projection in
-    let plan = plan_view c.args.plan.now in
+    let plan = plan_view c.args.planned.now.anchors.now in
     let start = c.args.live.now.graph in
     let used = c.args.meter.now.used in
     let begin = state_of start (record { names = []; rows = [] ∷ [] }) used in
-    let same = last_is c.args.clauses.now before c.in-Some-Return-default.field-0-0.now c.in-Some-Return-default.projection c.in-Some-Return-default.ensures.cases.0 c.in-Some-Return-default.field-0-0-is in
+    let same = last_is c.args.planned.now.clauses.now before c.in-Some-Return-default.field-0-0.now c.in-Some-Return-default.projection c.in-Some-Return-default.ensures.cases.0 c.in-Some-Return-default.field-0-0-is in
     let planned = subst (λ xs. IsPlanFrom [] xs plan) same c.requires.planned in
-    let slice = slice_is (λ anchors. anchors_view anchors.items) cs (return_rows p) c.args.plan.now planned (length before) (sym (length-map before clause_view)) in
+    let slice = slice_is (λ anchors. anchors_view anchors.items) cs (return_rows p) c.args.planned.now.anchors.now planned (length before) (sym (length-map before clause_view)) in
     let t = seen c.in_ok-table-in-Some-Return-default.table in
     let spent = c.run_clauses.new.meter.used in
     let ran_so = sym (ap (λ (x : Plan). clauses_run ps quota [] x cs begin) slice) ∙ c.in_ok-table-in-Some-Return-default.ensures.gives.ok ∙ ap (λ (x : Graph). let r : Result State Fault = Ok (state_of x t spent) in r) (sym c.graph.ensures.is) in
-    whole_reply c.return_reply.result (ran ps limit elements start used plan) cs (map clause_view c.args.clauses.now) c.args.returns p c.run_clauses.new.live.graph same c.requires.returning
-    (subst (λ (x : Graph). Replies c.return_reply.result (clauses_run ps quota [] plan (cs ++ return_rows p ∷ []) begin) true (fold scope_after [] (cs ++ return_rows p ∷ [])) x) c.graph.ensures.is
-    (replies ps quota plan cs p begin c.graph.result t spent c.run_clauses.new.meter.limit c.return_reply.result ran_so c.in_ok-table-in-Some-Return-default.ensures.names (sym c.run_clauses.ensures.limit) c.return_reply.ensures))
+    whole_reply c.return_reply.result (ran ps limit elements start used plan) cs (map clause_view c.args.planned.now.clauses.now) c.args.planned.now.notes c.args.planned.now.returns p c.run_clauses.new.live.graph same c.requires.returning
+    (subst (λ (x : Graph). Replies c.return_reply.result (clauses_run ps quota [] plan (cs ++ return_rows p ∷ []) begin) c.args.planned.now.notes true (fold scope_after [] (cs ++ return_rows p ∷ [])) x) c.graph.ensures.is
+    (replies ps quota c.args.planned.now.notes plan cs p begin c.graph.result t spent c.run_clauses.new.meter.limit c.return_reply.result ran_so c.in_ok-table-in-Some-Return-default.ensures.names (sym c.run_clauses.ensures.limit) c.return_reply.ensures))

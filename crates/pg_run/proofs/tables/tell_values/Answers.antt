@@ -18,5 +18,5 @@ loop-value-preserved g c =
     (one_value_told c.args.graph.now _ _ _ _ _ _ _ (view c.in-Some.value) c.take.result c.loop-value.invariant (ap (map view) c.in-Some.ensures.steps.0) c.take.ensures.telling)
 
 pub returns : goal.returns
-returns g c = λ columns rows h.
-    all_values_told c.args.graph.now _ _ _ _ _ c.loop-value.invariant (none_mapped view _ (sym c.loop-value.value-iterator.rest.ok.0 ∙ c.in-None.ensures.steps.0)) columns rows h
+returns g c = λ notes columns rows h.
+    all_values_told c.args.graph.now _ _ _ _ _ c.loop-value.invariant (none_mapped view _ (sym c.loop-value.value-iterator.rest.ok.0 ∙ c.in-None.ensures.steps.0)) notes columns rows h

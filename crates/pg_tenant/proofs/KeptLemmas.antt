@@ -1,20 +1,24 @@
 -- What each request leaves as it was: its tenant's settings, and all of the tenant where it is refused.
 use Rattle.std.proofs.Common.{◌≡◌, ℕ, List, length, Bool, true, false, not, cond, Option, Some, None, Result, Ok, Err, refl, ap, ◌∙◌}
-use Rattle.std.specs.Prelude.{nat_le}
-use Rattle.pg_json.proofs.Codes.{done_is_no_refusal}
+use Rattle.std.specs.Prelude.{nat_le, drop, take}
+use Rattle.pg_json.proofs.Codes.{done_is_no_refusal, pulled_is_no_refusal}
+use Rattle.pg_json.specs.Pages.{pulled_text}
 use Rattle.pg_json.specs.Refusals.{refusal_text}
 use Rattle.pg_json.specs.Replies.{max_reply}
-use Rattle.pg_json.specs.Requests.{Request, token_of, query, status, create_index, drop_index, begin, commit, rollback}
+use Rattle.pg_json.specs.Requests.{Request, token_of, query, status, create_index, drop_index, begin, commit, rollback, pull, drop_page}
 use Rattle.pg_meaning.specs.Answer.{◌>>=◌, ◌>>◌, unless}
 use Rattle.pg_meaning.specs.Plans.{Catalogue}
+use Rattle.pg_meaning.specs.Queries.{Outcome}
+use Rattle.pg_meaning.specs.Value.{Entries}
 use Rattle.pg_meaning.specs.declared.fault.Fault.{Fault}
 use Rattle.pg_meaning.specs.declared.fault.Fault.TheVariants.{ReadOnly, ReplyTooLong, TenantBusy, TransactionOpen}
-use Rattle.pg_tenant.proofs.AnswerLemmas.{NoRefusal, answered_is_no_refusal}
-use Rattle.pg_tenant.specs.Answers.{Answered, limited}
+use Rattle.pg_pages.specs.Held.{Held, Page, dropped, left_with, page_of, pulled}
+use Rattle.pg_tenant.proofs.AnswerLemmas.{NoRefusal, shown_is_no_refusal}
+use Rattle.pg_tenant.specs.Answers.{Answered, limited, shown_if_fitting}
 use Rattle.pg_tenant.specs.Indexes.{index_created, index_dropped}
 use Rattle.pg_tenant.specs.Outcomes.{text_outcome}
 use Rattle.pg_tenant.specs.Settings.{may_write}
-use Rattle.pg_tenant.specs.Solo.{Replied, done, end_tested, gone_back, is_busy, query_answered, replies, reported, serves, solo, status_text, with_graph, with_indexes, with_status}
+use Rattle.pg_tenant.specs.Solo.{Replied, done, end_tested, gone_back, is_busy, page_tested, pages_tested, query_answered, replies, reported, serves, solo, status_text, with_answer, with_indexes, with_status}
 use Rattle.pg_tenant.specs.State.{State, Transaction, is_open}
 use Rattle.pg_tenant.specs.Step.{reply_of}
 use Rattle.pg_tenant.specs.TransactionLaws.{RefusalsLeave}
@@ -32,7 +36,7 @@ behind s (Err e) r k = tt
 is_done : (s after : State) → after.settings ≡ s.settings → Leaves s (Ok (done after))
 is_done s after same = (λ f is. absurd (done_is_no_refusal f is), same)
 
-of_query : (s : State) (answer : Result Answered Fault) → NoRefusal answer → Leaves s (with_graph s answer)
+of_query : (s : State) (answer : Result Answered Fault) → NoRefusal answer → Leaves s (with_answer s answer)
 of_query s (Ok a) tells = (λ f is. absurd (tells f is), refl)
 of_query s (Err e) tells = tt
 
@@ -51,10 +55,31 @@ back_settings : (s : State) (t : Option Transaction) → (back s t).settings ≡
 back_settings s (Some t) = refl
 back_settings s None = refl
 
+abbrev text_of : State → (token text : List ℕ) → Entries → Result Outcome Fault
+text_of s token text parameters = text_outcome (may_write s.settings token) s.settings.max_steps s.settings.max_elements parameters s.indexes s.graph text
+
+behind_test : (t : Result (Unit {0}) Fault) (answer : Result Answered Fault) → NoRefusal answer → NoRefusal (t >> answer)
+behind_test (Ok tt) answer tells = tells
+behind_test (Err e) answer tells = tt
+
+-- what a page gives is no refusal
+pull_by : (s : State) (p : Result Page Fault) → Leaves s ((p >>= λ q. let left = left_with q (drop q.size q.rows) s.held in let r : Result (List ℕ × Held) Fault = Ok (pulled_text left.0 (take q.size q.rows), left.1) in r)
+    >>= λ g. Ok (replies g.0 (record s { held = g.1 })))
+pull_by s (Ok q) = (λ f is. absurd (pulled_is_no_refusal (left_with q (drop q.size q.rows) s.held).0 (take q.size q.rows) f is), refl)
+pull_by s (Err e) = tt
+
+of_pull : (s : State) (token : List ℕ) (number : ℕ) → Leaves s (pulled s.held token number >>= λ p. Ok (replies p.0 (record s { held = p.1 })))
+of_pull s token number = pull_by s (page_of s.held token number)
+
+of_drop : (s : State) (left : Result Held Fault) → Leaves s (left >>= λ held. Ok (done (record s { held = held })))
+of_drop s (Ok held) = is_done s (record s { held = held }) refl
+of_drop s (Err e) = tt
+
 served : (s : State) (request : Request) → Leaves s (serves s request)
-served s (query token text parameters) =
-    of_query s (query_answered s token text parameters)
-    (answered_is_no_refusal (text_outcome (may_write s.settings token) s.settings.max_steps s.settings.max_elements parameters s.indexes s.graph text))
+served s (query token text parameters page) =
+    of_query s (query_answered s token text parameters page)
+    (behind_test (page_tested s page) (shown_if_fitting s.held s.settings.max_held token page (text_of s token text parameters))
+    (shown_is_no_refusal s.held s.settings.max_held token page (text_of s token text parameters)))
 served s (status token) = of_status s (nat_le (length (status_text s)) max_reply)
 served s (create_index token label key) = of_indexes s (index_created (may_write s.settings token) (is_open s) s.indexes label key)
 served s (drop_index token label key) = of_indexes s (index_dropped (may_write s.settings token) (is_open s) s.indexes label key)
@@ -64,6 +89,10 @@ served s (begin token) =
     behind s (unless (may_write s.settings token) ReadOnly) (unless (not (is_open s)) TransactionOpen >> Ok (done after))
     (behind s (unless (not (is_open s)) TransactionOpen) (Ok (done after)) (is_done s after refl))
 served s (commit token) = behind s (end_tested s token) (Ok (done (record s { transaction = None }))) (is_done s (record s { transaction = None }) refl)
+served s (pull token page) =
+    behind s (pages_tested s) (pulled s.held token page >>= λ p. Ok (replies p.0 (record s { held = p.1 }))) (of_pull s token page)
+served s (drop_page token page) =
+    behind s (pages_tested s) (dropped s.held token page >>= λ held. Ok (done (record s { held = held }))) (of_drop s (dropped s.held token page))
 served s (rollback token) = behind s (end_tested s token) (Ok (done (gone_back s))) (is_done s (gone_back s) (back_settings s s.transaction))
 
 abbrev tested : State → Request → Result Replied Fault

@@ -11,3 +11,4 @@ mod SettingsLemmas
 mod SettledLemmas
 mod StatusLemmas
 pub mod TransactionLemmas
+mod PageInstances

@@ -1,12 +1,13 @@
 -- From what the parts of an answer ensure to what the request does.
 use Rattle.std.proofs.Common.{◌≡◌, ◌≢◌, ◌≤◌, ℕ, Bool, true, false, not, bytes_eq, List, length, get_or, set, Option, Some, None, is_some, Result, Ok, Err, refl, sym, ap, subst, ◌∙◌, inl, inr, arith}
-use Rattle.std.specs.Prelude.{IfOk, OnErr, option_map}
+use Rattle.std.specs.Prelude.{◌||◌, IfErr, IfOk, OnErr, OnOk, option_map}
 use Rattle.std.proofs.lemmas.Bool.{cases_lt}
 use Rattle.std.proofs.lemmas.List.{get_or-set_same, get_or_past, length-set, set-get_or}
 use Rattle.std.specs.Option.{option_map_or}
 use Rattle.pg_json.proofs.Codes.{done_is_no_refusal}
 use Rattle.pg_json.specs.Refusals.{refusal_text, done_text}
-use Rattle.pg_json.specs.Requests.{Request, token_of, query, status, begin, commit, rollback}
+use Rattle.pg_json.specs.Requests.{Request, token_of, query, status, begin, commit, rollback, pull, drop_page}
+use Rattle.pg_json.specs.Pages.{QueryText}
 use Rattle.pg_live.specs.Live.{Aside, Begun, Live, begun_at, open_at, with_open}
 use Rattle.pg_live.specs.Settled.{Settles}
 use Rattle.pg_meaning.specs.Answer.{◌>>=◌, ◌>>◌, unless}
@@ -15,18 +16,23 @@ use Rattle.pg_meaning.specs.Plans.{Catalogue}
 use Rattle.pg_meaning.specs.Queries.{Outcome}
 use Rattle.pg_meaning.specs.Value.{Entries}
 use Rattle.pg_meaning.specs.declared.fault.Fault.{Fault}
-use Rattle.pg_meaning.specs.declared.fault.Fault.TheVariants.{OutOfMemory, ReadOnly, TenantBusy, TransactionOpen, NoTransaction}
+use Rattle.pg_meaning.specs.declared.fault.Fault.TheVariants.{OutOfMemory, ReadOnly, TenantBusy, TransactionOpen, NoTransaction, NoSuchPage}
 use Rattle.pg_names.specs.Names.{KeepsNames}
-use Rattle.pg_plan.specs.Plans.{IsPlanOfText}
+use Rattle.pg_plan.specs.Plans.{IsPlanOfText, plan_anchors, plan_query}
 use Rattle.pg_plan.specs.Reading.{greatest_text}
+use Rattle.pg_plan.specs.Updates.{updates}
 use Rattle.pg_plan.specs.declared.plan.Plan.{Plan}
+use Rattle.pg_pages.specs.Gives.{GivesHeld}
+use Rattle.pg_pages.specs.Held.{Held, Page, dropped, page_of, pulled, without_page}
+use Rattle.pg_tenant.proofs.AnswerLemmas.{NoRefusal, shown_is_no_refusal}
 use Rattle.pg_tenant.proofs.OutcomeLemmas.{plans_answer}
-use Rattle.pg_tenant.specs.Answers.{Answered, answered}
+use Rattle.pg_tenant.proofs.SettledLemmas.{answer_or_refused, shown_settled}
+use Rattle.pg_tenant.specs.Answers.{Answered, shown_if_fitting}
 use Rattle.pg_tenant.specs.Indexes.{indexes_of}
-use Rattle.pg_tenant.specs.Outcomes.{plan_outcome, query_outcome, text_query}
-use Rattle.pg_tenant.specs.Replies.{IsAnswer}
+use Rattle.pg_tenant.specs.Outcomes.{are_given, early_tests, plan_outcome, query_outcome, text_outcome, text_query, under_plan}
+use Rattle.pg_tenant.specs.Replies.{IsAnswer, IsShown}
 use Rattle.pg_tenant.specs.Settings.{TenantSettings, may_write}
-use Rattle.pg_tenant.specs.Solo.{Replied, done, end_tested, gone_back, is_busy, query_answered, reported, serves, with_graph, with_status}
+use Rattle.pg_tenant.specs.Solo.{Replied, done, end_tested, gone_back, is_busy, page_tested, pages_tested, pulls, replies, reported, serves, with_answer, with_status}
 use Rattle.pg_tenant.specs.State.{State, Transaction, is_open}
 use Rattle.pg_tenant.specs.Step.{AddsNames, Answers, Gives, KeepsOthers, RunsPlan, Serves, plan_answered, reply_of, takes_memory}
 use Rattle.pg_tenant.specs.TenantStates.{state_of, state_over, token_at, transaction_of}
@@ -93,61 +99,245 @@ does was now old new request bytes after is served same names others settings = 
   memory = λ h. tt;
 }
 
+-- ---- the tests before any clause
+
+module _ (first second : Result (Unit {0}) Fault) (clauses : Result Outcome Fault) where
+  pub refused_early : (e : Fault) → (first >> second) ≡ Err e → (first >> (second >> clauses)) ≡ Err e
+  refused_early e h = by first second h
+    where
+      by : (a b : Result (Unit {0}) Fault) → (a >> b) ≡ Err e → (a >> (b >> clauses)) ≡ Err e
+      by (Ok x) (Ok y) h = cc
+      by (Ok x) (Err f) h = let same : f ≡ e = cc in ap Err same
+      by (Err f) b h = let same : f ≡ e = cc in ap Err same
+
+  pub passed_early : (first >> second) ≡ Ok tt → (first >> (second >> clauses)) ≡ clauses
+  passed_early h = by first second h
+    where
+      by : (a b : Result (Unit {0}) Fault) → (a >> b) ≡ Ok tt → (a >> (b >> clauses)) ≡ clauses
+      by (Ok x) (Ok y) h = refl
+      by (Ok x) (Err f) h = cc
+      by (Err f) b h = cc
+
 -- ---- a query
 
-module _ {L : Type 0} (tenant : Tenant) (old new : Live L) (token : List ℕ) (plan : Plan) (parameters : Entries) where
+module _ {L : Type 0} (was now : Tenant) (old new : Live L) (settings : now.settings ≡ was.settings) (indexes : now.indexes ≡ was.indexes) (token : List ℕ) (plan : Plan) (parameters : Entries) (page : Option ℕ) where
   abbrev before : State
-  before = state_over tenant old
+  before = state_over was old
 
   abbrev outcome : Result Outcome Fault
-  outcome = plan_outcome (may_write tenant.settings token) tenant.settings.max_steps tenant.settings.max_elements parameters old.graph plan
+  outcome = plan_outcome (may_write was.settings token) was.settings.max_steps was.settings.max_elements parameters old.graph plan
+
+  abbrev shows : Result Answered Fault
+  shows = shown_if_fitting was.pages was.settings.max_held token page outcome
 
   abbrev told : Result Answered Fault → Replied
-  told answer = reported before (with_graph before answer)
+  told answer = reported before (with_answer before answer)
 
-  by_result : (r : Result (List ℕ) Fault) → Settles old new r → IsAnswer r outcome new.graph → RunsPlan token plan parameters before r (state_over tenant new)
-  by_result (Ok bytes) settles answer =
-      (sym (ap (λ a. (told a).reply) answer.ok), graph_changed old new settles.place settles.begins tenant ∙ sym (ap (λ a. (told a).state) answer.ok))
-  by_result (Err e) settles answer =
-      (unchanged old new settles.place settles.begins tenant settles.same, λ other. (sym (ap (λ a. (told a).reply) (answer.err other)), ap (λ a. (told a).state) (answer.err other)))
+  -- the tenant over the new graph, with what it holds
+  after_is : (begun : Option Begun) → state_of now new.graph begun ≡ record (state_of was new.graph begun) { held = now.pages }
+  after_is begun = λ i. record {
+    settings = settings i;
+    graph = new.graph;
+    indexes = indexes_of (indexes i);
+    transaction = transaction_of (settings i) begun;
+    held = now.pages;
+  }
 
-  pub runs_plan : (r : Result (List ℕ) Fault) → Settles old new r → IsAnswer r outcome new.graph → RunsPlan token plan parameters before r (state_over tenant new)
-  runs_plan r settles answer = by_result r settles answer
+  by_result : (r : Result (List ℕ) Fault) → Settles old new r → IsShown r shows new.graph was.pages now.pages → RunsPlan token plan parameters page before r (state_over now new)
+  by_result (Ok bytes) settles is = (
+    sym (ap (λ a. (told a).reply) is),
+    graph_changed old new settles.place settles.begins now ∙ after_is (open_at old.aside) ∙ sym (ap (λ a. (told a).state) is),
+  )
+  by_result (Err e) settles is = (
+    unchanged old new settles.place settles.begins now settles.same ∙ (λ i. record {
+      settings = settings i;
+      graph = old.graph;
+      indexes = indexes_of (indexes i);
+      transaction = transaction_of (settings i) (open_at old.aside);
+      held = is.0 i;
+    }),
+    λ other. (sym (ap (λ a. (told a).reply) (is.1 other)), ap (λ a. (told a).state) (is.1 other)),
+  )
 
-  pub plan_names : (r : Result (List ℕ) Fault) → Settles old new r → IsAnswer r outcome new.graph → AddsNames (reply_of r) old.names new.names
-  plan_names r settles answer = names_added old.names new.names r settles.kept answer.told settles.same_names
+  pub runs_plan : (r : Result (List ℕ) Fault) → Settles old new r → IsShown r shows new.graph was.pages now.pages → RunsPlan token plan parameters page before r (state_over now new)
+  runs_plan r settles is = by_result r settles is
+
+  -- from what the parts of an answer ensure, once the early tests are passed
+  module _ (writes notes : Bool) (steps elements most : ℕ) (writes_is : writes ≡ may_write was.settings token) (notes_is : notes ≡ is_some page) (steps_is : steps ≡ was.settings.max_steps)
+      (elements_is : elements ≡ was.settings.max_elements) (most_is : most ≡ was.settings.max_held) where
+    clauses_are : early_tests writes parameters (plan_query plan) ≡ Ok tt → under_plan (plan_anchors plan) (plan_query plan) parameters old.graph steps elements ≡ outcome
+    clauses_are tested =
+        (λ i. under_plan (plan_anchors plan) (plan_query plan) parameters old.graph (steps_is i) (elements_is i))
+        ∙ sym (passed_early (unless (may_write was.settings token || not (updates (plan_query plan))) ReadOnly) (are_given parameters (plan_query plan))
+        (under_plan (plan_anchors plan) (plan_query plan) parameters old.graph was.settings.max_steps was.settings.max_elements)
+        (ap (λ w. early_tests w parameters (plan_query plan)) (sym writes_is) ∙ tested))
+
+    pub plan_shown : (early : Result (Unit {0}) Fault) → early ≡ early_tests writes parameters (plan_query plan) → early ≡ Ok tt → (run made : Result QueryText Fault) (mid end : Graph)
+        → IsAnswer notes run (under_plan (plan_anchors plan) (plan_query plan) parameters old.graph steps elements) mid → IfOk made (λ m. run ≡ Ok m) → IfErr made (λ e. e ≢ OutOfMemory → run ≡ Err e)
+        → (reply : Result (List ℕ) Fault)
+        → ((o : Result Outcome Fault) (left : Graph) → IsAnswer (is_some page) made o left → IsShown reply (shown_if_fitting was.pages most token page o) left was.pages now.pages)
+        → (r : Result (List ℕ) Fault) → r ≡ reply → OnOk r (end ≡ mid) → IsShown r shows end was.pages now.pages
+    plan_shown early is passed run made mid end ran ok err reply given r same kept =
+        let answer = answer_or_refused notes made run _ mid ok err ran in
+        let whole = subst (λ (o : Result Outcome Fault). IsAnswer notes made o mid) (clauses_are (sym is ∙ passed)) answer in
+        let is_shown = given outcome mid (subst (λ n. IsAnswer n made outcome mid) notes_is whole) in
+        shown_settled r reply shows mid end was.pages now.pages same
+        (subst (λ (m : ℕ). IsShown reply (shown_if_fitting was.pages m token page outcome) mid was.pages now.pages) most_is is_shown) kept
+
+  no_refusal : (r : Result (List ℕ) Fault) → IsShown r shows new.graph was.pages now.pages → IfOk r (λ bytes. (fault : Fault) → bytes ≢ refusal_text fault)
+  no_refusal (Ok bytes) is = subst NoRefusal is (shown_is_no_refusal was.pages was.settings.max_held token page outcome)
+  no_refusal (Err e) is = tt
+
+  pub plan_names : (r : Result (List ℕ) Fault) → Settles old new r → IsShown r shows new.graph was.pages now.pages → AddsNames (reply_of r) old.names new.names
+  plan_names r settles is = names_added old.names new.names r settles.kept (no_refusal r is) settles.same_names
 
 pub plan_others : {L : Type 0} (old new : Live L) (r : Result (List ℕ) Fault) → Settles old new r → KeepsOthers old new
 plan_others old new r settles = others_kept old new settles.place settles.begins settles.others
 
+-- ---- a query's text
+
+abbrev pub text_answered : State → (token text : List ℕ) → (parameters : Entries) → (page : Option ℕ) → Result Answered Fault
+text_answered s token text parameters page =
+    shown_if_fitting s.held s.settings.max_held token page (text_outcome (may_write s.settings token) s.settings.max_steps s.settings.max_elements parameters s.indexes s.graph text)
+
 -- the text's plan for the tenant's indexes answers for the text
-pub answers_alike : (s : State) (token text : List ℕ) (parameters : Entries) (plan : Plan) → length text ≤ greatest_text → IsPlanOfText text s.indexes plan
-    → plan_answered s token plan parameters ≡ query_answered s token text parameters
-answers_alike s token text parameters plan short is =
-    ap answered (sym (plans_answer (may_write s.settings token) s.settings.max_steps s.settings.max_elements parameters s.indexes s.graph text plan short is))
+pub answers_alike : (s : State) (token text : List ℕ) (parameters : Entries) (page : Option ℕ) (plan : Plan) → length text ≤ greatest_text → IsPlanOfText text s.indexes plan
+    → plan_answered s token plan parameters page ≡ text_answered s token text parameters page
+answers_alike s token text parameters page plan short is =
+    ap (shown_if_fitting s.held s.settings.max_held token page)
+    (sym (plans_answer (may_write s.settings token) s.settings.max_steps s.settings.max_elements parameters s.indexes s.graph text plan short is))
 
-module _ {L : Type 0} (tenant : Tenant) (old new : Live L) (token text : List ℕ) (parameters : Entries) where
+module _ {L : Type 0} (was now : Tenant) (old new : Live L) (token text : List ℕ) (parameters : Entries) (page : Option ℕ) where
   abbrev here : State
-  here = state_over tenant old
+  here = state_over was old
 
-  pub serves_plan : (plan : Plan) (r : Result (List ℕ) Fault) → length text ≤ greatest_text → IsPlanOfText text here.indexes plan → RunsPlan token plan parameters here r (state_over tenant new)
-      → AddsNames (reply_of r) old.names new.names → KeepsOthers old new → Serves tenant tenant old new (query token text parameters) r
-  serves_plan plan r short is runs names others = record {
-    answers = subst (λ a. Gives here (reported here (with_graph here a)) r (state_over tenant new)) (answers_alike here token text parameters plan short is) runs;
+  abbrev behind_test : Result (Unit {0}) Fault → Result Answered Fault → Result Replied Fault
+  behind_test test answer = with_answer here (test >> answer)
+
+  pub serves_plan : (plan : Plan) (r : Result (List ℕ) Fault) → page_tested here page ≡ Ok tt → length text ≤ greatest_text → IsPlanOfText text here.indexes plan
+      → RunsPlan token plan parameters page here r (state_over now new) → AddsNames (reply_of r) old.names new.names → KeepsOthers old new → now.settings ≡ was.settings
+      → Serves was now old new (query token text parameters page) r
+  serves_plan plan r tested short is runs names others settings = record {
+    answers = subst (λ a. Gives here (reported here a) r (state_over now new))
+        (ap (with_answer here) (answers_alike here token text parameters page plan short is) ∙ sym (ap (λ t. behind_test t (text_answered here token text parameters page)) tested)) runs;
     names = names;
     others = others;
-    settings = refl;
+    settings = settings;
     memory = λ h. absurd (let no : true ≡ false = h in cc);
   }
 
--- a text that has no plan
-pub serves_no_plan : {L : Type 0} (tenant : Tenant) (live : Live L) (token text : List ℕ) (parameters : Entries) (e : Fault) → (e ≢ OutOfMemory → text_query text ≡ Err e)
-    → Serves tenant tenant live live (query token text parameters) (Err e)
-serves_no_plan tenant live token text parameters e h =
-    let s = state_over tenant live in
-    refuses tenant live (query token text parameters) e
-    (λ other. ap (λ q. with_graph s (answered (q >>= query_outcome (may_write s.settings token) s.settings.max_steps s.settings.max_elements parameters s.indexes s.graph))) (h other))
-    (λ none. absurd (let no : true ≡ false = none in cc))
+-- ---- a query that is refused before it has a plan
+
+module _ {L : Type 0} (tenant : Tenant) (live : Live L) (token text : List ℕ) (parameters : Entries) (page : Option ℕ) (e : Fault) where
+  abbrev there : State
+  there = state_over tenant live
+
+  takes : takes_memory (query token text parameters page) ≡ false → e ≢ OutOfMemory
+  takes none = absurd (let no : true ≡ false = none in cc)
+
+  -- a text that has no plan
+  pub serves_no_plan : page_tested there page ≡ Ok tt → (e ≢ OutOfMemory → text_query text ≡ Err e) → Serves tenant tenant live live (query token text parameters page) (Err e)
+  serves_no_plan tested h =
+      refuses tenant live (query token text parameters page) e
+      (λ other. ap (λ t. with_answer there (t >> text_answered there token text parameters page)) tested
+      ∙ ap (λ q. with_answer there (shown_if_fitting there.held there.settings.max_held token page
+      (q >>= query_outcome (may_write there.settings token) there.settings.max_steps there.settings.max_elements parameters there.indexes there.graph))) (h other))
+      takes
+
+  -- pages in a transaction
+  pub serves_no_page : page_tested there page ≡ Err e → Serves tenant tenant live live (query token text parameters page) (Err e)
+  serves_no_page tested =
+      refuses tenant live (query token text parameters page) e
+      (λ other. ap (λ t. with_answer there (t >> text_answered there token text parameters page)) tested)
+      takes
+
+-- ---- held rows
+
+module _ {L : Type 0} (was now : Tenant) (live : Live L) (settings : now.settings ≡ was.settings) (indexes : now.indexes ≡ was.indexes) where
+  abbrev held_before : State
+  held_before = state_over was live
+
+  with_pages : state_over now live ≡ record (state_over was live) { held = now.pages }
+  with_pages = λ i. record {
+    settings = settings i;
+    graph = live.graph;
+    indexes = indexes_of (indexes i);
+    transaction = transaction_of (settings i) (open_at live.aside);
+    held = now.pages;
+  }
+
+  held_same : now.pages ≡ was.pages → state_over now live ≡ state_over was live
+  held_same pages = with_pages ∙ ap (λ (h : Held). let s : State = record (state_over was live) { held = h } in s) pages
+
+  -- what a change of the pages alone gives
+  abbrev pull_given : (t : Result (Unit {0}) Fault) → Result (List ℕ × Held) Fault → Result Replied Fault
+  pull_given t pulled = t >> (pulled >>= λ p. Ok (replies p.0 (record held_before { held = p.1 })))
+
+  pull_answers : (token : List ℕ) (number : ℕ) (r : Result (List ℕ) Fault) → pages_tested held_before ≡ Ok tt → GivesHeld r (pulled was.pages token number) was.pages now.pages
+      → Gives held_before (reported held_before (pulls held_before token number)) r (state_over now live)
+  pull_answers token number (Ok bytes) tested given =
+      let is : pulls held_before token number ≡ Ok (replies bytes (record held_before { held = now.pages })) =
+      ap (λ t. pull_given t (pulled was.pages token number)) tested ∙ ap (pull_given (Ok tt)) given in
+      (sym (ap (λ o. (reported held_before o).reply) is), with_pages ∙ sym (ap (λ o. (reported held_before o).state) is))
+  pull_answers token number (Err e) tested given = (
+    held_same given.0,
+    λ other.
+        let is : pulls held_before token number ≡ Err e = ap (λ t. pull_given t (pulled was.pages token number)) tested ∙ ap (pull_given (Ok tt)) (given.1 other) in
+        (sym (ap (λ o. (reported held_before o).reply) is), ap (λ o. (reported held_before o).state) is),
+  )
+
+  pub serves_pull : (token : List ℕ) (number : ℕ) (r : Result (List ℕ) Fault) → pages_tested held_before ≡ Ok tt → GivesHeld r (pulled was.pages token number) was.pages now.pages
+      → Serves was now live live (pull token number) r
+  serves_pull token number r tested given = record {
+    answers = pull_answers token number r tested given;
+    names = names_stay (reply_of r) live.names;
+    others = none_touched live;
+    settings = settings;
+    memory = λ h. absurd (let no : true ≡ false = h in cc);
+  }
+
+  abbrev drop_given : (t : Result (Unit {0}) Fault) → Result Held Fault → Result Replied Fault
+  drop_given t left = t >> (left >>= λ held. Ok (done (record held_before { held = held })))
+
+  pub serves_drop : (token : List ℕ) (number : ℕ) (bytes : List ℕ) → bytes ≡ done_text → pages_tested held_before ≡ Ok tt → dropped was.pages token number ≡ Ok now.pages
+      → Serves was now live live (drop_page token number) (Ok bytes)
+  serves_drop token number bytes is tested given =
+      does was now live live (drop_page token number) bytes (record held_before { held = now.pages }) is
+      (ap (λ t. drop_given t (dropped was.pages token number)) tested ∙ ap (drop_given (Ok tt)) given) with_pages (λ n t h. h) (none_touched live) settings
+
+-- a page that isn't there, or a transaction
+no_page_of : (found : Option Page) (e : Fault) → (let r : Result Page Fault = elim found [ Some p ↦ Ok p | None ↦ Err NoSuchPage ] in r) ≡ Err e → e ≡ NoSuchPage
+no_page_of (Some p) e h = cc
+no_page_of None e h = cc
+
+module _ {L : Type 0} (tenant : Tenant) (live : Live L) (token : List ℕ) (number : ℕ) (e : Fault) where
+  abbrev held_here : State
+  held_here = state_over tenant live
+
+  not_open : (opened : Bool) → unless (not opened) TransactionOpen ≡ Err e → e ≢ OutOfMemory
+  not_open true h is = cc
+  not_open false h is = cc
+
+  drop_refused_by : (p : Result Page Fault) → (p >>= λ q. Ok (record tenant.pages { pages = without_page number tenant.pages.pages })) ≡ Err e → p ≡ Err e
+  drop_refused_by (Ok p) h = cc
+  drop_refused_by (Err f) h = let same : f ≡ e = cc in ap Err same
+
+  pub pull_in_transaction : pages_tested held_here ≡ Err e → Serves tenant tenant live live (pull token number) (Err e)
+  pull_in_transaction tested =
+      refuses tenant live (pull token number) e (λ other. ap (λ t. t >> (pulled tenant.pages token number >>= λ p. Ok (replies p.0 (record held_here { held = p.1 })))) tested)
+      (λ none. absurd (let no : true ≡ false = none in cc))
+
+  pub drop_in_transaction : pages_tested held_here ≡ Err e → Serves tenant tenant live live (drop_page token number) (Err e)
+  drop_in_transaction tested =
+      refuses tenant live (drop_page token number) e (λ other. ap (λ t. t >> (dropped tenant.pages token number >>= λ held. Ok (done (record held_here { held = held })))) tested)
+      (λ none. not_open (is_open held_here) tested)
+
+  pub no_page_dropped : pages_tested held_here ≡ Ok tt → dropped tenant.pages token number ≡ Err e → Serves tenant tenant live live (drop_page token number) (Err e)
+  no_page_dropped tested given =
+      refuses tenant live (drop_page token number) e
+      (λ other. ap (λ t. t >> (dropped tenant.pages token number >>= λ held. Ok (done (record held_here { held = held })))) tested
+      ∙ ap (λ d. d >>= λ held. Ok (done (record held_here { held = held }))) given)
+      (λ none is. let found = no_page_of _ e (drop_refused_by (page_of tenant.pages token number) given) in cc)
 
 -- ---- transactions
 
@@ -288,10 +478,10 @@ module _ {L : Type 0} (was now : Tenant) (old new : Live L) (graph : new.graph �
   index_others = others_kept old new place begins (ap (λ (a : Aside). a.others) aside)
 
   pub index_done : (request : Request) (bytes : List ℕ) (indexes : Catalogue) → bytes ≡ done_text → serves (state_over was old) request ≡ Ok (done (record (state_over was old) { indexes = indexes }))
-      → now.settings ≡ was.settings → indexes_of now.indexes ≡ indexes → KeepsNames old.names new.names → Serves was now old new request (Ok bytes)
-  index_done request bytes indexes told served settings is names =
+      → now.settings ≡ was.settings → indexes_of now.indexes ≡ indexes → now.pages ≡ was.pages → KeepsNames old.names new.names → Serves was now old new request (Ok bytes)
+  index_done request bytes indexes told served settings is pages names =
       does was now old new request bytes (record (state_over was old) { indexes = indexes }) told served
-      (λ i. record { settings = settings i; graph = graph i; indexes = is i; transaction = transaction_of (settings i) (same_open old new place begins i) }) names index_others settings
+      (λ i. record { settings = settings i; graph = graph i; indexes = is i; transaction = transaction_of (settings i) (same_open old new place begins i); held = pages i }) names index_others settings
 
   -- no memory for what an index takes
   pub index_failed : (request : Request) (e : Fault) → e ≡ OutOfMemory → takes_memory request ≡ true → new.names ≡ old.names → Serves was was old new request (Err e)

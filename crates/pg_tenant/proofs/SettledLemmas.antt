@@ -1,21 +1,26 @@
 -- A query's answer, once its changes are kept or taken back; and calls that left the graph.
-use Rattle.std.proofs.Common.{◌≡◌, ◌≢◌, ℕ, List, Result, Ok, Err, refl, ap, sym, subst}
+use Rattle.std.proofs.Common.{◌≡◌, ◌≢◌, ℕ, Bool, List, Result, Ok, Err, refl, ap, sym, subst}
 use Rattle.std.specs.Prelude.{IfErr, IfOk, OnErr, OnOk}
+use Rattle.pg_json.specs.Pages.{QueryText}
 use Rattle.pg_live.specs.Live.{Aside, Live, begun_at}
 use Rattle.pg_live.specs.Settled.{Settles}
-use Rattle.pg_names.specs.Names.{KeepsNames}
 use Rattle.pg_meaning.specs.Graph.{Graph}
 use Rattle.pg_meaning.specs.Queries.{Outcome}
 use Rattle.pg_meaning.specs.declared.fault.Fault.{Fault}
 use Rattle.pg_meaning.specs.declared.fault.Fault.TheVariants.{OutOfMemory}
-use Rattle.pg_tenant.specs.Replies.{IsAnswer, IsReply}
+use Rattle.pg_names.specs.Names.{KeepsNames}
+use Rattle.pg_pages.specs.Held.{Held}
+use Rattle.pg_tenant.specs.Answers.{Answered, answered}
+use Rattle.pg_tenant.specs.Replies.{IsAnswer, IsShown}
 
-pub answer_settled : (result reply : Result (List ℕ) Fault) (outcome : Result Outcome Fault) (mid end : Graph) → result ≡ reply → IsAnswer reply outcome mid → OnOk result (end ≡ mid) → IsAnswer result outcome end
-answer_settled result reply outcome mid end same answer kept = by_result result (subst (λ r. IsAnswer r outcome mid) (sym same) answer) kept
+-- what is shown stays, with the graph that is kept
+pub shown_settled : (result reply : Result (List ℕ) Fault) (shown : Result Answered Fault) (mid end : Graph) (old new : Held) → result ≡ reply → IsShown reply shown mid old new → OnOk result (end ≡ mid)
+    → IsShown result shown end old new
+shown_settled result reply shown mid end old new same is kept = by_result result (subst (λ r. IsShown r shown mid old new) (sym same) is) kept
   where
-    by_result : (r : Result (List ℕ) Fault) → IsAnswer r outcome mid → OnOk r (end ≡ mid) → IsAnswer r outcome end
-    by_result (Ok bytes) a kept = record { ok = subst (IsReply outcome bytes) (sym kept) a.ok; told = a.told; err = a.err }
-    by_result (Err e) a kept = record { ok = a.ok; told = a.told; err = a.err }
+    by_result : (r : Result (List ℕ) Fault) → IsShown r shown mid old new → OnOk r (end ≡ mid) → IsShown r shown end old new
+    by_result (Ok bytes) is kept = subst (λ (g : Graph). shown ≡ Ok (answered bytes g new)) (sym kept) is
+    by_result (Err e) is kept = is
 
 -- nothing was done
 pub nothing_done : {L X E : Type 0} (l : Live L) (r : Result X E) → Settles l l r
@@ -37,8 +42,8 @@ anew {X = X} {E = E} old new r graph names kept aside = record {
     by (Ok x) = tt
     by (Err e) = graph
 
--- the reply to a query, or a want of memory in its place
-pub answer_or_refused : (result reply : Result (List ℕ) Fault) (outcome : Result Outcome Fault) (end : Graph) → IfOk result (λ bytes. reply ≡ Ok bytes) → IfErr result (λ e. e ≢ OutOfMemory → reply ≡ Err e)
-    → IsAnswer reply outcome end → IsAnswer result outcome end
-answer_or_refused (Ok bytes) reply outcome end ok err answer = subst (λ r. IsAnswer r outcome end) ok answer
-answer_or_refused (Err e) reply outcome end ok err answer = record { ok = tt; told = tt; err = λ other. (subst (λ r. IsAnswer r outcome end) (err other) answer).err other }
+-- the reply to a query, or out of memory in its place
+pub answer_or_refused : (notes : Bool) (result reply : Result QueryText Fault) (outcome : Result Outcome Fault) (end : Graph) → IfOk result (λ made. reply ≡ Ok made) → IfErr result (λ e. e ≢ OutOfMemory → reply ≡ Err e)
+    → IsAnswer notes reply outcome end → IsAnswer notes result outcome end
+answer_or_refused notes (Ok made) reply outcome end ok err answer = subst (λ r. IsAnswer notes r outcome end) ok answer
+answer_or_refused notes (Err e) reply outcome end ok err answer = record { ok = tt; err = λ other. (subst (λ r. IsAnswer notes r outcome end) (err other) answer).err other }

@@ -3,14 +3,18 @@ use Rattle.std.proofs.Common.{◌≡◌, ℕ, List, length, Bool, true, false, n
 use Rattle.std.proofs.lemmas.Slice.Eq.{bytes_eq-Decides}
 use Rattle.std.specs.Prelude.{nat_le}
 use Rattle.pg_json.specs.Replies.{max_reply}
-use Rattle.pg_json.specs.Requests.{Request, token_of, query, status, create_index, drop_index, begin, commit, rollback}
+use Rattle.pg_json.specs.Requests.{Request, token_of, query, status, create_index, drop_index, begin, commit, rollback, pull, drop_page}
 use Rattle.pg_meaning.specs.Answer.{◌>>=◌, ◌>>◌, unless}
 use Rattle.pg_meaning.specs.declared.fault.Fault.{Fault}
 use Rattle.pg_meaning.specs.declared.fault.Fault.TheVariants.{ReadOnly, ReplyTooLong, NoTransaction, TenantBusy, TransactionOpen}
-use Rattle.pg_tenant.specs.Answers.{Answered}
+use Rattle.pg_meaning.specs.Queries.{Outcome}
+use Rattle.pg_meaning.specs.Value.{Entries}
+use Rattle.pg_pages.specs.Held.{dropped, pulled}
+use Rattle.pg_tenant.specs.Answers.{fitting, shown, shown_if_fitting}
 use Rattle.pg_tenant.specs.Indexes.{index_created, index_dropped}
+use Rattle.pg_tenant.specs.Outcomes.{text_outcome}
 use Rattle.pg_tenant.specs.Settings.{may_write}
-use Rattle.pg_tenant.specs.Solo.{Replied, done, is_busy, query_answered, replies, reported, serves, status_text, with_graph, with_indexes}
+use Rattle.pg_tenant.specs.Solo.{Replied, done, is_busy, pages_tested, query_answered, replies, reported, serves, status_text, with_answer, with_indexes}
 use Rattle.pg_tenant.specs.State.{State, Transaction, is_open}
 use Rattle.pg_tenant.specs.TransactionLaws.{BeginsAreWritten, CommitsKeep, OnlyTheGraph, OthersWait, RollbacksGoBack, ends}
 
@@ -27,30 +31,42 @@ reported_keeps : (s : State) (r : Result Replied Fault) → Keeps s r → (repor
 reported_keeps s (Ok r) k = k
 reported_keeps s (Err f) k = refl
 
-of_query : (s : State) (answer : Result Answered Fault) → Keeps s (with_graph s answer)
-of_query s (Ok a) = refl
-of_query s (Err f) = tt
+-- all rows at once leave what is held
+of_outcome : (s : State) (token : List ℕ) (r : Result Outcome Fault) → Keeps s (with_answer s (r >>= shown s.held s.settings.max_held token None))
+of_outcome s token (Ok o) = refl
+of_outcome s token (Err f) = tt
+
+-- and pages are refused
+of_query : (s : State) (t : Transaction) (token text : List ℕ) (parameters : Entries) (page : Option ℕ) → s.transaction ≡ Some t → Keeps s (with_answer s (query_answered s token text parameters page))
+of_query s t token text parameters None given =
+    of_outcome s token (fitting (text_outcome (may_write s.settings token) s.settings.max_steps s.settings.max_elements parameters s.indexes s.graph text))
+of_query s t token text parameters (Some size) given =
+    subst (λ o. Keeps s (with_answer s (unless (not (is_some o)) TransactionOpen >> shown_if_fitting s.held s.settings.max_held token (Some size)
+    (text_outcome (may_write s.settings token) s.settings.max_steps s.settings.max_elements parameters s.indexes s.graph text)))) (sym given) tt
+
+of_pages : (s : State) (t : Transaction) (r : Result Replied Fault) → s.transaction ≡ Some t → Keeps s (pages_tested s >> r)
+of_pages s t r given = subst (λ o. Keeps s (unless (not (is_some o)) TransactionOpen >> r)) (sym given) tt
 
 of_status : (s : State) (fits : Bool) → Keeps s (cond fits (Ok (status_text s)) (Err ReplyTooLong) >>= λ reply. Ok (replies reply s))
 of_status s true = refl
 of_status s false = tt
 
 -- what an open transaction refuses
-created : (s : State) (w : Bool) (label key : List ℕ) → Keeps s (with_indexes s (index_created w true s.indexes label key))
-created s true label key = tt
-created s false label key = tt
+created_keeps : (s : State) (w : Bool) (label key : List ℕ) → Keeps s (with_indexes s (index_created w true s.indexes label key))
+created_keeps s true label key = tt
+created_keeps s false label key = tt
 
-dropped : (s : State) (w : Bool) (label key : List ℕ) → Keeps s (with_indexes s (index_dropped w true s.indexes label key))
-dropped s true label key = tt
-dropped s false label key = tt
+dropped_keeps : (s : State) (w : Bool) (label key : List ℕ) → Keeps s (with_indexes s (index_dropped w true s.indexes label key))
+dropped_keeps s true label key = tt
+dropped_keeps s false label key = tt
 
 served : (s : State) (t : Transaction) (request : Request) → s.transaction ≡ Some t → ends request ≡ false → Keeps s (serves s request)
-served s t (query token text parameters) given h = of_query s (query_answered s token text parameters)
+served s t (query token text parameters page) given h = of_query s t token text parameters page given
 served s t (status token) given h = of_status s (nat_le (length (status_text s)) max_reply)
 served s t (create_index token label key) given h =
-    subst (λ o. Keeps s (with_indexes s (index_created (may_write s.settings token) (is_some o) s.indexes label key))) (sym given) (created s (may_write s.settings token) label key)
+    subst (λ o. Keeps s (with_indexes s (index_created (may_write s.settings token) (is_some o) s.indexes label key))) (sym given) (created_keeps s (may_write s.settings token) label key)
 served s t (drop_index token label key) given h =
-    subst (λ o. Keeps s (with_indexes s (index_dropped (may_write s.settings token) (is_some o) s.indexes label key))) (sym given) (dropped s (may_write s.settings token) label key)
+    subst (λ o. Keeps s (with_indexes s (index_dropped (may_write s.settings token) (is_some o) s.indexes label key))) (sym given) (dropped_keeps s (may_write s.settings token) label key)
 served s t (begin token) given h =
     let again : Transaction = record { token = token; begun = s.graph } in
     let r : Result Replied Fault = Ok (done (record s { transaction = Some again })) in
@@ -58,6 +74,8 @@ served s t (begin token) given h =
     (subst (λ o. Keeps s (unless (not (is_some o)) TransactionOpen >> r)) (sym given) tt)
 served s t (commit token) given h = cc
 served s t (rollback token) given h = cc
+served s t (pull token page) given h = of_pages s t (pulled s.held token page >>= λ p. Ok (replies p.0 (record s { held = p.1 }))) given
+served s t (drop_page token page) given h = of_pages s t (dropped s.held token page >>= λ held. Ok (done (record s { held = held }))) given
 
 pub only_the_graph : OnlyTheGraph
 only_the_graph s t request given h =

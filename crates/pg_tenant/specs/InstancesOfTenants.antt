@@ -1,5 +1,5 @@
 -- Small requests and what a tenant answers them: some that the definitions let in, and some that they refuse.
-use Rattle.std.specs.Prelude.{◌≡◌, ℕ, true, false, List, [], ◌∷◌, length, None, Ok, Err, codes}
+use Rattle.std.specs.Prelude.{◌≡◌, ℕ, true, false, List, [], ◌∷◌, length, Option, None, Ok, Err, codes}
 use Rattle.pg_json.specs.Refusals.{refusal_text, done_text}
 use Rattle.pg_json.specs.Requests.{query, status, create_index, drop_index}
 use Rattle.pg_meaning.specs.Grammar.{parameters_of}
@@ -9,6 +9,7 @@ use Rattle.pg_meaning.specs.Tree.{Query}
 use Rattle.pg_meaning.specs.Value.{Entries}
 use Rattle.pg_meaning.specs.declared.fault.Fault.{Fault}
 use Rattle.pg_meaning.specs.declared.fault.Fault.TheVariants.{ReadOnly, MissingParameter, IndexExists, NoSuchIndex, TooManyIndexes, ReplyTooLong}
+use Rattle.pg_pages.specs.Held.{no_pages}
 use Rattle.pg_plan.specs.Updates.{updates}
 use Rattle.pg_tenant.specs.Answers.{limited}
 use Rattle.pg_tenant.specs.Indexes.{index_created}
@@ -24,10 +25,10 @@ token_with rights text = record { text = text; rights = rights }
 
 -- a tenant with a token that may write, and one that may not
 abbrev pub writer : TenantSettings
-writer = record { max_steps = 3; max_elements = 2; tokens = token_with Write (codes "w") ∷ token_with Read (codes "a") ∷ [] }
+writer = record { max_steps = 3; max_elements = 2; max_held = 5; tokens = token_with Write (codes "w") ∷ token_with Read (codes "a") ∷ [] }
 
 abbrev pub state_with : Catalogue → State
-state_with indexes = record { settings = writer; graph = empty_graph; indexes = indexes; transaction = None }
+state_with indexes = record { settings = writer; graph = empty_graph; indexes = indexes; transaction = None; held = no_pages }
 
 abbrev pub bare : State
 bare = state_with []
@@ -59,14 +60,14 @@ InstancesOfIndexes =
 -- the right to write is tested before parameters, and both before any clause
 abbrev pub InstancesOfEarlyTests : Type 0
 InstancesOfEarlyTests =
-    (text : List ℕ) (q : Query) (parameters : Entries) → text_query text ≡ Ok q →
-    (updates q ≡ true → solo bare (query (codes "a") text parameters) ≡ refused bare ReadOnly)
-    × (updates q ≡ false → all_given (parameters_of q) parameters ≡ false → solo bare (query (codes "a") text parameters) ≡ refused bare MissingParameter)
+    (text : List ℕ) (q : Query) (parameters : Entries) (page : Option ℕ) → text_query text ≡ Ok q →
+    (updates q ≡ true → solo bare (query (codes "a") text parameters page) ≡ refused bare ReadOnly)
+    × (updates q ≡ false → all_given (parameters_of q) parameters ≡ false → solo bare (query (codes "a") text parameters page) ≡ refused bare MissingParameter)
 
 -- a text that is refused
 abbrev pub InstancesOfTexts : Type 0
 InstancesOfTexts =
-    (text : List ℕ) (fault : Fault) (parameters : Entries) → text_query text ≡ Err fault → solo bare (query (codes "a") text parameters) ≡ refused bare fault
+    (text : List ℕ) (fault : Fault) (parameters : Entries) (page : Option ℕ) → text_query text ≡ Err fault → solo bare (query (codes "a") text parameters page) ≡ refused bare fault
 
 abbrev pub InstancesOfReplies : Type 0
 InstancesOfReplies =

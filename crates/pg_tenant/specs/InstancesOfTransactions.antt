@@ -1,5 +1,5 @@
 -- Small requests of transactions, and what a tenant answers them: some that the definitions let in, and some that they refuse.
-use Rattle.std.specs.Prelude.{◌≡◌, ℕ, List, [], ◌∷◌, Some, None, codes}
+use Rattle.std.specs.Prelude.{◌≡◌, ℕ, List, [], ◌∷◌, Option, Some, None, codes}
 use Rattle.pg_json.specs.Refusals.{done_text}
 use Rattle.pg_json.specs.Requests.{query, status, create_index, drop_index, begin, commit, rollback}
 use Rattle.pg_meaning.specs.Graph.{Graph, empty_graph, add_node}
@@ -14,7 +14,7 @@ use Rattle.pg_tenant.specs.declared.settings.Rights.TheVariants.{Read, Write}
 
 -- two tokens that may write, and one that may not
 abbrev pub tenant : TenantSettings
-tenant = record { max_steps = 3; max_elements = 2; tokens = token_with Write (codes "w") ∷ token_with Write (codes "v") ∷ token_with Read (codes "a") ∷ [] }
+tenant = record { max_steps = 3; max_elements = 2; max_held = 5; tokens = token_with Write (codes "w") ∷ token_with Write (codes "v") ∷ token_with Read (codes "a") ∷ [] }
 
 abbrev pub idle : State
 idle = opening tenant
@@ -49,5 +49,5 @@ InstancesOfWaiting =
     × (solo mid (commit (codes "v")) ≡ refused mid TenantBusy)
     × (solo mid (rollback (codes "v")) ≡ refused mid TenantBusy)
     × (solo mid (create_index (codes "a") (codes "P") (codes "k")) ≡ refused mid TenantBusy)
-    × ((text : List ℕ) (parameters : Entries) → solo mid (query (codes "v") text parameters) ≡ refused mid TenantBusy)
-    × ((text : List ℕ) (parameters : Entries) → key_of mid (query (codes "v") text parameters) ≡ None)
+    × ((text : List ℕ) (parameters : Entries) (page : Option ℕ) → solo mid (query (codes "v") text parameters page) ≡ refused mid TenantBusy)
+    × ((text : List ℕ) (parameters : Entries) (page : Option ℕ) → key_of mid (query (codes "v") text parameters page) ≡ None)

@@ -1,5 +1,5 @@
 -- What a tenant's request looks up in the cache of plans, and what it finds.
-use Rattle.std.specs.Prelude.{◌≡◌, ◌≢◌, ◌≤◌, ℕ, ◌⊎◌, nat_le, List, length, Option, Some, None, Result, Err, IfOk, IfErr, OnOk, if◌then◌else◌}
+use Rattle.std.specs.Prelude.{◌≡◌, ◌≢◌, ◌≤◌, ℕ, ◌⊎◌, nat_le, List, length, Option, Some, None, is_some, ◌&&◌, Result, Err, IfOk, IfErr, OnOk, if◌then◌else◌}
 use Rattle.std.specs.declared.alloc.Global.{Global}
 use Rattle.std.specs.declared.rc.Rc.{Rc}
 use Rattle.pg_cache.specs.Cache.{CacheSeen, IsLookUp, Key}
@@ -13,15 +13,15 @@ use Rattle.pg_plan.specs.Reading.{greatest_text}
 use Rattle.pg_plan.specs.declared.plan.Plan.{Plan}
 use Rattle.pg_tenant.specs.Outcomes.{text_query}
 use Rattle.pg_tenant.specs.Solo.{is_busy}
-use Rattle.pg_tenant.specs.State.{State}
+use Rattle.pg_tenant.specs.State.{State, is_open}
 
 -- a text that isn't too long, with the tenant's indexes
 abbrev pub key_of_text : (text : List ℕ) → Catalogue → Option Key
 key_of_text text indexes = if nat_le (length text) greatest_text then Some (text, indexes) else None
 
--- the text of a query
+-- the text of a query, unless it asks for pages in a transaction
 abbrev pub text_key : State → Request → Option Key
-text_key s (query token text parameters) = key_of_text text s.indexes
+text_key s (query token text parameters page) = if is_open s && is_some page then None else key_of_text text s.indexes
 text_key s request = None
 
 -- nothing where another token has a transaction open

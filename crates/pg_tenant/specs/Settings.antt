@@ -12,6 +12,8 @@ pub record TokenSettings : Type 0 where
 pub record TenantSettings : Type 0 where
   pub max_steps : ℕ
   pub max_elements : ℕ
+  -- the rows of queries that may wait to be pulled
+  pub max_held : ℕ
   pub tokens : List TokenSettings
 
 abbrev pub token_texts : TenantSettings → List (List ℕ)
@@ -26,4 +28,4 @@ abbrev pub may_write : TenantSettings → (token : List ℕ) → Bool
 may_write settings token = list_any (λ t. bytes_eq t.text token && is_write t.rights) settings.tokens
 
 abbrev pub no_settings : TenantSettings
-no_settings = record { max_steps = 0; max_elements = 0; tokens = [] }
+no_settings = record { max_steps = 0; max_elements = 0; max_held = 0; tokens = [] }

@@ -1,17 +1,17 @@
 -- What one request does to a tenant, and to all that tenants share.
-use Rattle.std.specs.Prelude.{◌≡◌, ◌≢◌, ℕ, Bool, true, false, List, Result, Ok, Err, IfErr, slice_set}
+use Rattle.std.specs.Prelude.{◌≡◌, ◌≢◌, ℕ, Bool, true, false, List, Option, Result, Ok, Err, IfErr, slice_set}
 use Rattle.pg_json.specs.Refusals.{refusal_text}
-use Rattle.pg_json.specs.Requests.{Request, begin, commit, rollback}
+use Rattle.pg_json.specs.Requests.{Request, begin, commit, rollback, drop_page}
 use Rattle.pg_live.specs.Live.{Live, open_at}
 use Rattle.pg_meaning.specs.Value.{Entries}
 use Rattle.pg_meaning.specs.declared.fault.Fault.{Fault}
 use Rattle.pg_meaning.specs.declared.fault.Fault.TheVariants.{OutOfMemory}
 use Rattle.pg_names.specs.Names.{KeepsNames}
 use Rattle.pg_plan.specs.declared.plan.Plan.{Plan}
-use Rattle.pg_tenant.specs.Answers.{Answered, answered}
+use Rattle.pg_tenant.specs.Answers.{Answered, shown_if_fitting}
 use Rattle.pg_tenant.specs.Outcomes.{plan_outcome}
 use Rattle.pg_tenant.specs.Settings.{may_write}
-use Rattle.pg_tenant.specs.Solo.{Replied, reported, serves, solo, with_graph}
+use Rattle.pg_tenant.specs.Solo.{Replied, reported, serves, solo, with_answer}
 use Rattle.pg_tenant.specs.State.{State}
 use Rattle.pg_tenant.specs.TenantStates.{state_over}
 use Rattle.pg_tenant.specs.declared.tenant.Tenant.{Tenant}
@@ -29,13 +29,18 @@ abbrev pub takes_memory : Request → Bool
 takes_memory (begin token) = false
 takes_memory (commit token) = false
 takes_memory (rollback token) = false
+takes_memory (drop_page token page) = false
 takes_memory request = true
 
-abbrev pub plan_answered : State → (token : List ℕ) → Plan → (parameters : Entries) → Result Answered Fault
-plan_answered s token plan parameters = answered (plan_outcome (may_write s.settings token) s.settings.max_steps s.settings.max_elements parameters s.graph plan)
+-- a token's query under a plan, with its parameters, all rows at once or page by page
+abbrev pub plan_answered : State → (token : List ℕ) → Plan → (parameters : Entries) → (page : Option ℕ) → Result Answered Fault
+plan_answered s token plan parameters page =
+    shown_if_fitting s.held s.settings.max_held token page
+    (plan_outcome (may_write s.settings token) s.settings.max_steps s.settings.max_elements parameters s.graph plan)
 
-abbrev pub RunsPlan : (token : List ℕ) → Plan → (parameters : Entries) → State → Result (List ℕ) Fault → State → Type 0
-RunsPlan token plan parameters old result new = Gives old (reported old (with_graph old (plan_answered old token plan parameters))) result new
+abbrev pub RunsPlan : (token : List ℕ) → Plan → (parameters : Entries) → (page : Option ℕ) → State → Result (List ℕ) Fault → State → Type 0
+RunsPlan token plan parameters page old result new =
+    Gives old (reported old (with_answer old (plan_answered old token plan parameters page))) result new
 
 -- the text of what is answered
 abbrev pub reply_of : Result (List ℕ) Fault → List ℕ

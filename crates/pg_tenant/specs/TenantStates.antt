@@ -21,6 +21,7 @@ state_of tenant graph begun = record {
   graph = graph;
   indexes = indexes_of tenant.indexes;
   transaction = transaction_of tenant.settings begun;
+  held = tenant.pages;
 }
 
 -- of a tenant with the empty graph

@@ -3,7 +3,7 @@ ghost use Rattle.std.specs.Prelude.{◌≡◌, ◌≢◌, IfOk, IfErr, Ok, Err};
 ghost use Rattle.pg_meaning.specs.declared.fault.Fault.TheVariants.{OutOfMemory};
 
 use pg_headroom::test_headroom;
-use pg_json::ReplyBytes;
+use pg_json::QueryReply;
 use pg_plan::Plan;
 use pg_syntax_tree::{Clause, Expression, Literal, SetItem};
 use pg_value_core::Fault;
@@ -14,16 +14,16 @@ use std::alloc::Global;
 pub(crate) fn with_headroom(
     alloc: Global,
     plan: &Plan,
-    reply: Result<ReplyBytes, Fault>,
-) -> Result<ReplyBytes, Fault>
-    ensures ok { IfOk result (λ bytes. reply ≡ Ok bytes) }
+    reply: Result<QueryReply, Fault>,
+) -> Result<QueryReply, Fault>
+    ensures ok { IfOk result (λ made. reply ≡ Ok made) }
     ensures err { IfErr result (λ e. e ≢ OutOfMemory → reply ≡ Err e) }
 {
-    let bytes = reply?;
+    let made = reply?;
     if plan.writes() && stores(&plan.query().clauses) {
         test_headroom(alloc)?;
     }
-    Ok(bytes)
+    Ok(made)
 }
 
 /// Whether a clause may store something.

@@ -1,5 +1,6 @@
 //! Small requests. A function without a body says that the instances hold, or don't, as they are listed.
 ghost use Rattle.pg_tenant.specs.InstancesOfTenants.{InstancesOfEarlyTests, InstancesOfIndexes, InstancesOfReplies, InstancesOfRights, InstancesOfTexts};
+ghost use Rattle.pg_tenant.specs.InstancesOfPages.{InstancesOfHeldRows, InstancesOfPulls};
 ghost use Rattle.pg_tenant.specs.InstancesOfTransactions.{InstancesOfTransactions, InstancesOfWaiting};
 
 /// What a tenant answers, and in which order it tests.
@@ -15,4 +16,10 @@ pub fn instances_of_tenants()
 pub fn instances_of_transactions()
     ensures transactions { InstancesOfTransactions }
     ensures waiting { InstancesOfWaiting }
+{}
+
+/// What a tenant holds of rows, and what it answers to those who pull them.
+pub fn instances_of_pages()
+    ensures pulls { InstancesOfPulls }
+    ensures held { InstancesOfHeldRows }
 {}

@@ -5,18 +5,19 @@ ghost use Rattle.pg_tenant.specs.Indexes.{IndexesRise};
 ghost use Rattle.pg_tenant.specs.Outcomes.{PlansAnswer, TextMeans};
 ghost use Rattle.pg_tenant.specs.TransactionLaws.{BeginsAreWritten, CommitsKeep, OnlyTheGraph, OthersWait, RefusalsLeave, RollbacksGoBack};
 
-mod answer;
 mod catalogue;
+mod early;
 mod headroom;
 mod indexes;
 mod instances;
+mod pages;
 mod query;
 mod settings;
 mod status;
 mod tenant;
 mod transaction;
 
-pub use instances::{instances_of_tenants, instances_of_transactions};
+pub use instances::{instances_of_pages, instances_of_tenants, instances_of_transactions};
 pub use settings::{Rights, TenantSettings, TokenSettings};
 pub use tenant::Tenant;
 

@@ -56,6 +56,7 @@ impl TokenSettings {
 pub struct TenantSettings {
     max_steps: u64,
     max_elements: MaxElements,
+    max_held: u64,
     tokens: Vec<TokenSettings>,
 }
 
@@ -64,20 +65,22 @@ impl Model for TenantSettings {
 
     ghost Value = { Seen };
 
-    ghost view = { λ t. record { max_steps = t.max_steps; max_elements = t.max_elements; tokens = t.tokens.items } };
+    ghost view = { λ t. record { max_steps = t.max_steps; max_elements = t.max_elements; max_held = t.max_held; tokens = t.tokens.items } };
 }
 
 impl TenantSettings {
     pub fn new(
         max_steps: u64,
         max_elements: MaxElements,
+        max_held: u64,
         tokens: Vec<TokenSettings>,
     ) -> TenantSettings
-        ensures { result ≡ record { max_steps = max_steps; max_elements = max_elements; tokens = tokens.items } }
+        ensures { result ≡ record { max_steps = max_steps; max_elements = max_elements; max_held = max_held; tokens = tokens.items } }
     {
         TenantSettings {
             max_steps,
             max_elements,
+            max_held,
             tokens,
         }
     }
@@ -92,6 +95,13 @@ impl TenantSettings {
         ensures { result ≡ self.now.max_elements }
     {
         self.max_elements
+    }
+
+    /// How many rows of queries may wait to be pulled.
+    pub(crate) fn max_held(&self) -> u64
+        ensures { result ≡ self.now.max_held }
+    {
+        self.max_held
     }
 
     pub fn tokens(&self) -> &[TokenSettings]

@@ -9,11 +9,13 @@ ghost use Rattle.pg_tenant.specs.State.{opening};
 ghost use Rattle.pg_tenant.specs.Step.{AddsNames, Answers, KeepsOthers, Serves, reply_of, takes_memory};
 ghost use Rattle.pg_tenant.specs.TenantStates.{opening_state, state_over, token_at};
 
+use crate::query::Asked;
 use crate::settings::TenantSettings;
 use pg_cache::PlanCache;
 use pg_graph::Tables;
 use pg_json::{ReplyBytes, RequestBody};
 use pg_live::LiveGraph;
+use pg_pages::Pages;
 use pg_plan::Catalogue;
 use pg_value_core::Fault;
 use std::alloc::{AllocError, Global};
@@ -27,16 +29,21 @@ pub struct Tenant {
     pub(crate) settings: TenantSettings,
     // kept plans share it
     pub(crate) indexes: Rc<Catalogue>,
+    pub(crate) pages: Pages,
 }
 
 impl Tenant {
-    /// A tenant with no index.
+    /// A tenant with no index and no page.
     pub fn new(alloc: Global, settings: TenantSettings) -> Result<Tenant, AllocError>
         ensures settings { IfOk result (λ tenant. tenant.settings ≡ settings) }
         ensures opening { IfOk result (λ tenant. opening_state tenant ≡ opening settings) }
     {
         let indexes = Rc::new(alloc, Vec::new(alloc))?;
-        Ok(Tenant { settings, indexes })
+        Ok(Tenant {
+            settings,
+            indexes,
+            pages: Pages::new(alloc),
+        })
     }
 
     /// The text of the token at this place among the tenant's, which is empty where there is none.
@@ -90,9 +97,14 @@ impl Tenant {
                 token,
                 text,
                 parameters,
+                page,
             } => {
-                let plan = self.plan_of(alloc, cache, text)?;
-                self.answer_plan(alloc, live, token.as_str(), &plan, &parameters)
+                let asked = Asked {
+                    token,
+                    parameters,
+                    page,
+                };
+                self.query(alloc, live, cache, text, asked)
             }
             RequestBody::Status { token: _ } => self.status(alloc, live),
             RequestBody::CreateIndex { token, label, key } => {
@@ -104,6 +116,8 @@ impl Tenant {
             RequestBody::Begin { token } => self.begin(live, token.as_str()),
             RequestBody::Commit { token } => self.commit(live, token.as_str()),
             RequestBody::Rollback { token } => self.rollback(live, token.as_str()),
+            RequestBody::Pull { token, page } => self.pull(alloc, live, token.as_str(), page),
+            RequestBody::DropPage { token, page } => self.drop_page(live, token.as_str(), page),
         }
     }
 }

@@ -14,30 +14,30 @@ use Rattle.pg_tenant.proofs.query.run_query.Goals as goal
 
 pub answer_clauses-requires-clause-planned : goal.answer_clauses-requires-clause-planned
 answer_clauses-requires-clause-planned g c =
-    let clauses_are = ap (map clause_view) c.as_slice-clauses.ensures.value ∙ ap (λ (q : Query). q.clauses) c.query.ensures in
-    let plan_is = ap plan_view c.as_slice-anchors.ensures.value ∙ c.anchors.ensures.anchors in
+    let clauses_are = ap (map clause_view) c.as_slice.ensures.value ∙ ap (λ (q : Query). q.clauses) c.query.ensures in
+    let plan_is = ap plan_view c.as_slice-2.ensures.value ∙ c.anchors.ensures.anchors in
     planned (plan_anchors c.args.plan.now) (plan_query c.args.plan.now) (parameters_view c.args.query.now.parameters.now) c.args.live.now.graph c.args.max_steps c.args.query.now.max_elements
     _ _ c.new-meter.result clauses_are plan_is c.new-meter.ensures c.anchors.ensures.begins
 
 pub answer_clauses-requires-clause-returning : goal.answer_clauses-requires-clause-returning
 answer_clauses-requires-clause-returning g c =
-    let clauses_are = ap (map clause_view) c.as_slice-clauses.ensures.value ∙ ap (λ (q : Query). q.clauses) c.query.ensures in
+    let clauses_are = ap (map clause_view) c.as_slice.ensures.value ∙ ap (λ (q : Query). q.clauses) c.query.ensures in
     c.returns.ensures.returns ∙ ap returns (sym clauses_are)
 
 pub returns-clause-answers : goal.returns-clause-answers
 returns-clause-answers g c =
     let q = plan_query c.args.plan.now in
     let ps = parameters_view c.args.query.now.parameters.now in
-    let clauses = map clause_view c.as_slice-clauses.result.now in
-    let clauses_are = ap (map clause_view) c.as_slice-clauses.ensures.value ∙ ap (λ (q : Query). q.clauses) c.query.ensures in
-    let plan_is = ap plan_view c.as_slice-anchors.ensures.value ∙ c.anchors.ensures.anchors in
+    let clauses = map clause_view c.as_slice.result.now in
+    let clauses_are = ap (map clause_view) c.as_slice.ensures.value ∙ ap (λ (q : Query). q.clauses) c.query.ensures in
+    let plan_is = ap plan_view c.as_slice-2.ensures.value ∙ c.anchors.ensures.anchors in
     let before = c.args.live.now.graph in
     let after = c.answer_clauses.new.live.graph in
     let told = c.returns.ensures.returns in
     let names : columns q ≡ cond c.returns.result (fold scope_after [] clauses) [] =
     c.returns.ensures.last ∙ (λ i. cond (sym told i) (fold scope_after [] (sym clauses_are i)) []) in
     let whole = answer_run (plan_anchors c.args.plan.now) q ps before c.args.max_steps c.args.query.now.max_elements _ _ c.new-meter.result clauses_are plan_is c.new-meter.ensures in
-    is_answer c.returns.result (columns q) (fold scope_after [] clauses) names _ c.answer_clauses.result after _
+    is_answer c.args.notes c.returns.result (columns q) (fold scope_after [] clauses) names _ c.answer_clauses.result after _
     (whole
-    ∙ (λ i. run (plan_anchors c.args.plan.now) q ps before c.args.max_steps c.args.query.now.max_elements (plan_view c.as_slice-anchors.result.now) clauses c.new-meter.result >>= output (sym told i) (columns q)))
+    ∙ (λ i. run (plan_anchors c.args.plan.now) q ps before c.args.max_steps c.args.query.now.max_elements (plan_view c.as_slice-2.result.now) clauses c.new-meter.result >>= output (sym told i) (columns q)))
     c.answer_clauses.ensures.replies.gives c.answer_clauses.ensures.replies.graph

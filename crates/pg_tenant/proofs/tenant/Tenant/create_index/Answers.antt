@@ -14,6 +14,6 @@ returns g c =
     let s = state_over c.args.self.now c.args.live.now in
     let tested : index_tested (may_write c.args.self.now.settings c.args.token.now) (is_open s) c.args.label.now c.args.key.now ≡ Ok tt = search rules in
     let more : with_one_more (indexes_of c.args.self.now.indexes) c.args.label.now c.args.key.now ≡ Ok (indexes_of c.in_ok-indexes.indexes) = search rules in
-    index_done c.args.self.now (record { settings = c.args.self.now.settings; indexes = c.in_ok-indexes.indexes }) c.args.live.now c.add_index.new.self c.add_index.ensures.graph c.add_index.ensures.begun
+    index_done c.args.self.now (record { settings = c.args.self.now.settings; indexes = c.in_ok-indexes.indexes; pages = c.args.self.now.pages }) c.args.live.now c.add_index.new.self c.add_index.ensures.graph c.add_index.ensures.begun
     (create_index c.args.token.now c.args.label.now c.args.key.now) c.done.result (indexes_of c.in_ok-indexes.indexes) c.done.ensures
-    (ap (λ t. with_indexes s (t >> with_one_more s.indexes c.args.label.now c.args.key.now)) tested ∙ ap (with_indexes s) more) refl refl c.add_index.ensures.grown
+    (ap (λ t. with_indexes s (t >> with_one_more s.indexes c.args.label.now c.args.key.now)) tested ∙ ap (with_indexes s) more) refl refl refl c.add_index.ensures.grown

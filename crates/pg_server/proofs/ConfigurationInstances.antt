@@ -11,7 +11,7 @@ use Rattle.pg_server.specs.declared.config_fault.ConfigFault.{ConfigFault}
 use Rattle.pg_server.specs.declared.config_fault.ConfigFault.TheVariants.{NotJson}
 
 pub shapes_are_tested : ShapesAreTested
-shapes_are_tested = (refl, refl, refl, refl, refl, refl, refl, refl, refl, refl, refl, refl)
+shapes_are_tested = (refl, refl, refl, refl, refl, refl, refl, refl, refl, refl, refl, refl, refl, refl, refl, refl)
 
 -- what is made of the value that a text is, if it is one
 abbrev of_json : Option Data → Result Settings ConfigFault

@@ -8,10 +8,11 @@ use Rattle.pg_json.specs.Requests.{Request, meaning}
 use Rattle.pg_meaning.specs.declared.fault.Fault.{Fault}
 use Rattle.pg_meaning.specs.declared.fault.Fault.TheVariants.{BadRequest, OutOfMemory}
 use Rattle.pg_server.specs.Handles.{Handles, key_asked}
-use Rattle.pg_server.specs.Runs.{Means, asked, is_short, is_want_of_memory}
+use Rattle.pg_server.specs.Runs.{asked, is_short, is_want_of_memory}
 use Rattle.pg_server.specs.Settings.{all_tokens}
 use Rattle.pg_server.specs.State.{ServerState, settings_of, state_at}
 use Rattle.pg_server.specs.Step.{Answers}
+use Rattle.pg_server.proofs.AnsweredQueryLemmas.{AnsweredAlone}
 use Rattle.pg_server.proofs.LookUpLemmas.{capacity_kept, nothing_looked_up}
 use Rattle.pg_server.proofs.NameLemmas.{names_stay}
 use Rattle.pg_server.proofs.StepLemmas.{answered, asked_is, unread}
@@ -20,12 +21,12 @@ use Rattle.pg_tenant.specs.Step.{AddsNames}
 use Rattle.pg_value.specs.Texts.{comes_again}
 
 -- a request that was read
-pub handled : (old new : ServerState) (body reply : List ℕ) (request : Request) → comes_again [] (all_tokens (settings_of old)) ≡ false → ((t : ℕ) → Means (state_at old t) request)
+pub handled : (old new : ServerState) (body reply : List ℕ) (request : Request) → comes_again [] (all_tokens (settings_of old)) ≡ false → ((t : ℕ) → AnsweredAlone (state_at old t) request)
     → is_short body ≡ true → meaning body ≡ Some request → Answers old.tenants request reply new.tenants → LooksUp (key_asked old.tenants request) reply old.cache new.cache → AddsNames reply old.names new.names
     → Handles old body reply new
-handled old new body reply request distinct all_mean short means step looks names =
+handled old new body reply request distinct all_answered short means step looks names =
     record {
-      run = answered old new body reply request distinct all_mean short means (capacity_kept old.cache new.cache (key_asked old.tenants request) reply looks) step;
+      run = answered old new body reply request distinct all_answered short means (capacity_kept old.cache new.cache (key_asked old.tenants request) reply looks) step;
       cache = subst (λ r. LooksUp (option_and_then (key_asked old.tenants) r) reply old.cache new.cache) (sym (asked_is body request short means)) looks;
       names = names;
     }

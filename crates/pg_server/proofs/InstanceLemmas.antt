@@ -59,4 +59,4 @@ pub status_runs : StatusRuns
 status_runs body reply new asks run = only_status body asks reply new run
 
 pub configurations_are_tested : ConfigurationsAreTested
-configurations_are_tested = (refl, refl, refl, refl, refl, refl, refl, refl, refl)
+configurations_are_tested = (refl, refl, refl, refl, refl, refl, refl, refl, refl, refl, refl, refl)

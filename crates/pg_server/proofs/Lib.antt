@@ -1,3 +1,5 @@
+pub mod AnsweredQueryInstances
+pub mod AnsweredQueryLemmas
 pub mod ConfigLemmas
 pub mod ConfigurationInstances
 pub mod DistinctLemmas
@@ -23,3 +25,4 @@ pub mod TokenLemmas
 pub mod TransactionInstances
 pub mod TransactionLemmas
 pub mod TurnLemmas
+pub mod PageLemmas

@@ -5,7 +5,7 @@ use Rattle.pg_json.specs.Refusals.{refusal_text}
 use Rattle.pg_json.specs.Requests.{Request, status, meaning}
 use Rattle.pg_meaning.specs.Names.{is_among}
 use Rattle.pg_meaning.specs.declared.fault.Fault.TheVariants.{FrameTooLong, OutOfMemory}
-use Rattle.pg_server.specs.InstancesOfRequests.{InstancesOfRequests, InstancesOfOpenings, StrangersAreRefused}
+use Rattle.pg_server.specs.InstancesOfRequests.{InstancesOfRequests, InstancesOfPages, InstancesOfOpenings, StrangersAreRefused}
 use Rattle.pg_server.specs.InstancesOfRuns.{one_reader, told}
 use Rattle.pg_server.specs.Runs.{Runs, asked, is_short, shows_one_of, fault_of_request}
 use Rattle.pg_server.specs.State.{ServerState, state_at}
@@ -13,6 +13,9 @@ use Rattle.pg_tenant.specs.State.{tokens_of}
 
 pub instances_of_requests : InstancesOfRequests
 instances_of_requests = (refl, refl, refl, refl, refl, refl, refl, refl, refl, refl, refl, refl, refl, refl, refl, refl)
+
+pub instances_of_pages : InstancesOfPages
+instances_of_pages = (refl, refl, refl, refl, refl, refl, refl, refl, refl, refl, refl, refl, refl, refl)
 
 pub instances_of_openings : InstancesOfOpenings
 instances_of_openings = (refl, refl, refl, refl, refl)

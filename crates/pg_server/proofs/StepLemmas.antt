@@ -10,17 +10,18 @@ use Rattle.std.proofs.lemmas.List.Quantifiers.{position-Some}
 use Rattle.std.proofs.lemmas.List.Sums.{fails_before_first}
 use Rattle.std.proofs.lemmas.Slice.Eq.{bytes_eq-Decides}
 use Rattle.pg_json.specs.Refusals.{refusal_text}
-use Rattle.pg_json.specs.Requests.{Request, query, status, create_index, drop_index, begin, commit, rollback, token_of, meaning}
-use Rattle.pg_meaning.specs.Graph.{IsGraph}
+use Rattle.pg_json.specs.Requests.{Request, token_of, meaning}
 use Rattle.pg_meaning.specs.declared.fault.Fault.{Fault}
 use Rattle.pg_meaning.specs.declared.fault.Fault.TheVariants.{BadRequest, UnknownToken, OutOfMemory}
+use Rattle.pg_server.specs.AnsweredQueries.{AnsweredQuery}
 use Rattle.pg_server.specs.Exchange.{Exchange}
-use Rattle.pg_server.specs.Runs.{Runs, SoloRun, Means, IsStrangers, IsStrangersReply, own, asked, shows_one_of, is_short, is_want_of_memory, fault_of_request}
+use Rattle.pg_server.specs.Runs.{Runs, SoloRun, IsStrangers, IsStrangersReply, own, asked, shows_one_of, is_short, is_want_of_memory, fault_of_request}
 use Rattle.pg_meaning.specs.Names.{is_among}
 use Rattle.pg_value.specs.Texts.{comes_again}
 use Rattle.pg_server.specs.Settings.{all_tokens}
 use Rattle.pg_server.specs.State.{ServerState, state_at, settings_of}
 use Rattle.pg_server.specs.Step.{Answers, StepAt, place_of}
+use Rattle.pg_server.proofs.AnsweredQueryLemmas.{AnsweredAlone}
 use Rattle.pg_server.proofs.DistinctLemmas.{others_lack}
 use Rattle.pg_server.proofs.ReplyLemmas.{refused_keeps}
 use Rattle.pg_server.proofs.RunLemmas.{settings_at}
@@ -28,7 +29,6 @@ use Rattle.pg_tenant.proofs.KeptLemmas.{settings_stay}
 use Rattle.pg_tenant.specs.Settings.{no_settings, token_texts}
 use Rattle.pg_tenant.specs.Solo.{solo}
 use Rattle.pg_tenant.specs.State.{State, no_state, tokens_of}
-use Rattle.pg_tenant.proofs.OutcomeLemmas.{text_means}
 
 none_passes : {X : Type 0} (p : X → Bool) (xs : List X) (k : ℕ) (d : X) → position p xs ≡ None → p d ≡ false → p (get_or xs k d) ≡ false
 none_passes p xs k d none past =
@@ -97,7 +97,7 @@ module _ (old : ServerState) (body : List ℕ) (request : Request) (short : is_s
     place : (t < length old.tenants) × (is_among (tokens_of (state_at old t)) (token_of request) ≡ true) × ((k : ℕ) → k < t → is_among (tokens_of (state_at old k)) (token_of request) ≡ false)
     place = position-Some (λ (s : State). is_among (tokens_of s) (token_of request)) old.tenants t no_state found
 
-    module _ (distinct : comes_again [] (all_tokens (settings_of old)) ≡ false) (means_it : Means (state_at old t) request) (reply : List ℕ) (told : reply ≡ (solo (state_at old t) request).reply) (is_answered : is_want_of_memory reply ≡ false) where
+    module _ (distinct : comes_again [] (all_tokens (settings_of old)) ≡ false) (is_answered_query : AnsweredAlone (state_at old t) request) (reply : List ℕ) (told : reply ≡ (solo (state_at old t) request).reply) (is_answered : is_want_of_memory reply ≡ false) where
       abbrev after : State
       after = (solo (state_at old t) request).state
 
@@ -116,7 +116,7 @@ module _ (old : ServerState) (body : List ℕ) (request : Request) (short : is_s
       solo_at u true is =
           let same : u ≡ t = (Decides-eqb u t).0 is in
           subst (λ k. SoloRun (state_at old k) (own (tokens_of (state_at old k)) (one ∷ [])) (state_at (with_tenant old t after) k)) (sym same)
-          (subst (λ b. SoloRun (state_at old t) (cond b (one ∷ []) []) (state_at (with_tenant old t after) t)) (sym (is_own t ∙ place.1)) (request, asks, told, means_it, get_or-set_same old.tenants t after no_state place.0))
+          (subst (λ b. SoloRun (state_at old t) (cond b (one ∷ []) []) (state_at (with_tenant old t after) t)) (sym (is_own t ∙ place.1)) (request, asks, told, subst (λ r. AnsweredQuery (state_at old t) request r after) (sym told) is_answered_query, get_or-set_same old.tenants t after no_state place.0))
       solo_at u false is =
           let differ : u ≢ t = not_from_Decides (nat_eq u t) (Decides-eqb u t) is in
           subst (λ b. SoloRun (state_at old u) (cond b (one ∷ []) []) (state_at (with_tenant old t after) u)) (sym (is_own u ∙ others u (λ e. differ (sym e))))
@@ -141,31 +141,21 @@ only body reply = record { body = body; reply = reply } ∷ []
 
 -- one request, as the tenant found by its token answers it
 pub answered : (old new : ServerState) (body reply : List ℕ) (request : Request) → comes_again [] (all_tokens (settings_of old)) ≡ false
-    → ((t : ℕ) → Means (state_at old t) request) → is_short body ≡ true → meaning body ≡ Some request → new.cache.capacity ≡ old.cache.capacity → Answers old.tenants request reply new.tenants
+    → ((t : ℕ) → AnsweredAlone (state_at old t) request) → is_short body ≡ true → meaning body ≡ Some request → new.cache.capacity ≡ old.cache.capacity → Answers old.tenants request reply new.tenants
     → Runs old (record { body = body; reply = reply } ∷ []) new
-answered old new body reply request distinct all_mean short means capacity step = by_place (place_of (token_of request) old.tenants) refl step
+answered old new body reply request distinct all_answered short means capacity step = by_place (place_of (token_of request) old.tenants) refl step
   where
     by_reply : (t : ℕ) → place_of (token_of request) old.tenants ≡ Some t → reply ≡ (solo (state_at old t) request).reply → (b : Bool) → is_want_of_memory reply ≡ b
         → Runs old (only body reply) (with_tenant old t (solo (state_at old t) request).state)
     by_reply t found told true is =
         subst (Runs old (only body reply)) (sym (kept_tenant old t request (sym (ap is_want_of_memory told) ∙ is)))
         (out_of_memory old body reply short ((bytes_eq-Decides reply (refusal_text OutOfMemory)).0 is))
-    by_reply t found told false is = by_tenant old body request short means t found distinct (all_mean t) reply told is
+    by_reply t found told false is = by_tenant old body request short means t found distinct (all_answered t) reply told is
 
     by_place : (o : Option ℕ) → place_of (token_of request) old.tenants ≡ o → StepAt o old.tenants request reply new.tenants → Runs old (only body reply) new
     by_place None none step = moved old new (only body reply) old.tenants capacity step.1 (unknown old body request short means reply none step.0)
     by_place (Some t) found (inl h) = moved old new (only body reply) old.tenants capacity h.1 (out_of_memory old body reply short h.0)
     by_place (Some t) found (inr h) = moved old new (only body reply) (slice_set old.tenants t (solo (state_at old t) request).state) capacity h.1 (by_reply t found h.0 (is_want_of_memory reply) refl)
-
--- what a tenant's query answers is what it means, since its graph is one
-pub means_of : (s : State) (request : Request) → IsGraph s.graph → Means s request
-means_of s (query token text parameters) is = λ q h given. text_means s.settings.max_steps s.settings.max_elements parameters s.indexes s.graph text q is h given
-means_of s (status token) is = tt
-means_of s (create_index token label key) is = tt
-means_of s (drop_index token label key) is = tt
-means_of s (begin token) is = tt
-means_of s (commit token) is = tt
-means_of s (rollback token) is = tt
 
 -- a body that isn't read
 pub unread : (server : ServerState) (body reply : List ℕ) (e : Fault) → is_short body ≡ true → reply ≡ refusal_text e → (e ≢ OutOfMemory → e ≡ BadRequest)

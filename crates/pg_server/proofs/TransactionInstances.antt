@@ -90,4 +90,4 @@ instances_of_waiting body reply new run = (
 )
 
 pub instances_of_keys_in_transactions : InstancesOfKeysInTransactions
-instances_of_keys_in_transactions = (refl, refl, refl, refl)
+instances_of_keys_in_transactions = (refl, refl, refl, refl, refl, refl)

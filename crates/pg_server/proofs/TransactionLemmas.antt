@@ -6,7 +6,7 @@ use Rattle.std.proofs.lemmas.Bool.{true≢false}
 use Rattle.std.proofs.lemmas.Slice.Eq.{bytes_eq-Decides}
 use Rattle.pg_json.proofs.Codes.{done_is_no_refusal}
 use Rattle.pg_json.specs.Refusals.{refusal_text, done_text}
-use Rattle.pg_json.specs.Requests.{Request, token_of, query, status, create_index, drop_index, begin, commit, rollback}
+use Rattle.pg_json.specs.Requests.{Request, token_of, query, status, create_index, drop_index, begin, commit, rollback, pull, drop_page}
 use Rattle.pg_meaning.specs.Answer.{◌>>◌, unless}
 use Rattle.pg_meaning.specs.Graph.{Graph}
 use Rattle.pg_meaning.specs.Names.{is_among}
@@ -118,7 +118,9 @@ rolled_back s token is =
 
 -- an end that was not done left the state
 not_ended : (s : State) (request : Request) → ends request ≡ true → (solo s request).reply ≢ done_text → (solo s request).state ≡ s
-not_ended s (query token text parameters) h = cc
+not_ended s (query token text parameters page) h = cc
+not_ended s (pull token page) h = cc
+not_ended s (drop_page token page) h = cc
 not_ended s (status token) h = cc
 not_ended s (create_index token label key) h = cc
 not_ended s (drop_index token label key) h = cc

@@ -26,8 +26,9 @@ max_tenants = 4096
 
 abbrev pub tenant_in_range : TenantDraft → Option TenantSettings
 tenant_in_range t =
-    option_and_then (λ steps. option_map (λ elements. record { max_steps = steps; max_elements = elements; tokens = t.tokens }) (in_range 0 max_quota t.max_elements))
-    (in_range 0 max_quota t.max_steps)
+    option_and_then (λ steps. option_and_then (λ elements.
+    option_map (λ held. record { max_steps = steps; max_elements = elements; max_held = held; tokens = t.tokens })
+    (in_range 0 max_quota t.max_held)) (in_range 0 max_quota t.max_elements)) (in_range 0 max_quota t.max_steps)
 
 abbrev pub tenants_in_range : List TenantDraft → Option (List TenantSettings)
 tenants_in_range [] = Some []

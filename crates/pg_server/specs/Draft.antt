@@ -1,5 +1,5 @@
 -- A configuration whose shape is right and whose numbers may be any.
-use Rattle.std.specs.Prelude.{ℕ, ℤ, List, [], ◌∷◌, Bool, false, bytes_eq, if◌then◌else◌, Option, Some, None, option_map, option_and_then, codes}
+use Rattle.std.specs.Prelude.{ℕ, ℤ, pos, List, [], ◌∷◌, Bool, false, bytes_eq, if◌then◌else◌, Option, Some, None, option_map, option_and_then, codes}
 use Rattle.serde_json.specs.Data.{Data, Items, no_items, item, Members}
 use Rattle.serde_json.specs.Find.{get, as_number, as_i64, as_str, as_array, as_object}
 use Rattle.pg_json.specs.Requests.{has_only}
@@ -10,6 +10,7 @@ use Rattle.pg_tenant.specs.declared.settings.Rights.TheVariants.{Read, Write}
 pub record TenantDraft : Type 0 where
   pub max_steps : ℤ
   pub max_elements : ℤ
+  pub max_held : ℤ
   pub tokens : List TokenSettings
 
 pub record Draft : Type 0 where
@@ -31,6 +32,11 @@ text_at key d = option_and_then as_str (get key d)
 -- a whole number of 64 bits
 abbrev pub number_at : List ℕ → Data → Option ℤ
 number_at key d = option_and_then as_i64 (option_and_then as_number (get key d))
+
+-- such a number, and zero where the key is missing
+abbrev pub number_or_zero : Option Data → Option ℤ
+number_or_zero None = Some (pos 0)
+number_or_zero (Some d) = option_and_then as_i64 (as_number d)
 
 abbrev pub list_at : List ℕ → Data → Option Items
 list_at key d = option_and_then as_array (get key d)
@@ -58,16 +64,16 @@ token_of d =
     (option_and_then if_any (text_at (codes "token") d)))
 
 abbrev pub tenant_keys : List (List ℕ)
-tenant_keys = codes "name" ∷ codes "max_steps" ∷ codes "max_elements" ∷ codes "tokens" ∷ []
+tenant_keys = codes "name" ∷ codes "max_steps" ∷ codes "max_elements" ∷ codes "max_held" ∷ codes "tokens" ∷ []
 
 -- the name is a text, and changes nothing
 abbrev pub tenant_of : Data → Option TenantDraft
 tenant_of d =
     with_only tenant_keys d
-    (option_and_then (λ _. option_and_then (λ steps. option_and_then (λ elements.
-    option_map (λ tokens. record { max_steps = steps; max_elements = elements; tokens = tokens })
+    (option_and_then (λ _. option_and_then (λ steps. option_and_then (λ elements. option_and_then (λ held.
+    option_map (λ tokens. record { max_steps = steps; max_elements = elements; max_held = held; tokens = tokens })
     (option_and_then (each token_of) (list_at (codes "tokens") d)))
-    (number_at (codes "max_elements") d)) (number_at (codes "max_steps") d)) (text_at (codes "name") d))
+    (number_or_zero (get (codes "max_held") d))) (number_at (codes "max_elements") d)) (number_at (codes "max_steps") d)) (text_at (codes "name") d))
 
 abbrev pub config_keys : List (List ℕ)
 config_keys = codes "cache" ∷ codes "tenants" ∷ []

@@ -21,7 +21,7 @@ abbrev pub token : List ℕ → TokenSettings
 token text = record { text = text; rights = Read }
 
 abbrev pub reader : TenantSettings
-reader = record { max_steps = 3; max_elements = 2; tokens = token (codes "a") ∷ [] }
+reader = record { max_steps = 3; max_elements = 2; max_held = 5; tokens = token (codes "a") ∷ [] }
 
 abbrev pub one_reader : ServerState
 one_reader = opening_server (record { cache = 1; tenants = reader ∷ [] })
@@ -39,11 +39,20 @@ StatusRuns =
     (body reply : List ℕ) (new : ServerState) → asked body ≡ Some (status (codes "a")) → Runs one_reader (told body reply) new
     → (reply ≡ reply_of (limited (status_text (opening reader)))) ⊎ (reply ≡ refusal_text OutOfMemory)
 
+-- one tenant's, which may hold so many rows
+abbrev pub holding : ℤ → ℤ → ℤ → ℤ → List TokenSettings → Draft
+holding cache steps elements held tokens =
+    record { cache = cache; tenants = record { max_steps = steps; max_elements = elements; max_held = held; tokens = tokens } ∷ [] }
+
 abbrev pub draft : ℤ → ℤ → ℤ → List TokenSettings → Draft
-draft cache steps elements tokens = record { cache = cache; tenants = record { max_steps = steps; max_elements = elements; tokens = tokens } ∷ [] }
+draft cache steps elements tokens = holding cache steps elements (pos 0) tokens
+
+abbrev pub settings_holding : ℕ → ℕ → ℕ → ℕ → List TokenSettings → Settings
+settings_holding cache steps elements held tokens =
+    record { cache = cache; tenants = record { max_steps = steps; max_elements = elements; max_held = held; tokens = tokens } ∷ [] }
 
 abbrev pub settings : ℕ → ℕ → ℕ → List TokenSettings → Settings
-settings cache steps elements tokens = record { cache = cache; tenants = record { max_steps = steps; max_elements = elements; tokens = tokens } ∷ [] }
+settings cache steps elements tokens = settings_holding cache steps elements 0 tokens
 
 abbrev pub ConfigurationsAreTested : Type 0
 ConfigurationsAreTested =
@@ -53,6 +62,9 @@ ConfigurationsAreTested =
     × (settings_of_draft (draft (pos 65537) (pos 0) (pos 0) []) ≡ Err OutOfRange)
     × (settings_of_draft (draft (pos 1) (negsuc 0) (pos 0) []) ≡ Err OutOfRange)
     × (settings_of_draft (draft (pos 1) (pos 0) (pos 1000000001) []) ≡ Err OutOfRange)
+    × (settings_of_draft (holding (pos 1) (pos 0) (pos 0) (pos 1000000000) []) ≡ Ok (settings_holding 1 0 0 1000000000 []))
+    × (settings_of_draft (holding (pos 1) (pos 0) (pos 0) (pos 1000000001) []) ≡ Err OutOfRange)
+    × (settings_of_draft (holding (pos 1) (pos 0) (pos 0) (negsuc 0) []) ≡ Err OutOfRange)
     × (settings_of_draft (record { cache = pos 1; tenants = [] }) ≡ Err OutOfRange)
     × (settings_of_draft (draft (pos 1) (pos 0) (pos 0) (token (codes "a") ∷ token (codes "a") ∷ [])) ≡ Err TokenTwice)
     × (settings_of_draft (draft (pos 0) (pos 0) (pos 0) (token (codes "a") ∷ token (codes "a") ∷ [])) ≡ Err OutOfRange)

@@ -7,6 +7,7 @@ use Rattle.pg_json.specs.Requests.{query, status, create_index}
 use Rattle.pg_meaning.specs.Graph.{empty_graph}
 use Rattle.pg_meaning.specs.Value.{no_entries}
 use Rattle.pg_meaning.specs.declared.fault.Fault.TheVariants.{OutOfMemory}
+use Rattle.pg_pages.specs.Held.{no_pages}
 use Rattle.pg_plan.specs.Reading.{greatest_text}
 use Rattle.pg_server.specs.Counts.{next_count}
 use Rattle.pg_server.specs.Exchange.{Exchange}
@@ -99,7 +100,7 @@ one_tenant = opening reader ∷ []
 abbrev pub two_tenants : List State
 two_tenants =
     opening reader
-    ∷ record { settings = record { max_steps = 3; max_elements = 2; tokens = token (codes "b") ∷ [] }; graph = empty_graph; indexes = (codes "P", codes "k") ∷ []; transaction = None }
+    ∷ record { settings = record { max_steps = 3; max_elements = 2; max_held = 5; tokens = token (codes "b") ∷ [] }; graph = empty_graph; indexes = (codes "P", codes "k") ∷ []; transaction = None; held = no_pages }
     ∷ []
 
 abbrev pub key : Key
@@ -110,12 +111,12 @@ cache_of keys hits misses = record { capacity = 1; keys = keys; hits = hits; mis
 
 abbrev pub InstancesOfKeys : Type 0
 InstancesOfKeys =
-    (key_asked one_tenant (query (codes "a") (codes "t") no_entries) ≡ Some key)
-    × (key_asked one_tenant (query (codes "b") (codes "t") no_entries) ≡ None)
-    × (key_asked two_tenants (query (codes "b") (codes "t") no_entries) ≡ Some (codes "t", (codes "P", codes "k") ∷ []))
+    (key_asked one_tenant (query (codes "a") (codes "t") no_entries None) ≡ Some key)
+    × (key_asked one_tenant (query (codes "b") (codes "t") no_entries None) ≡ None)
+    × (key_asked two_tenants (query (codes "b") (codes "t") no_entries None) ≡ Some (codes "t", (codes "P", codes "k") ∷ []))
     × (key_asked one_tenant (status (codes "a")) ≡ None)
     × (key_asked one_tenant (create_index (codes "a") (codes "t") (codes "k")) ≡ None)
-    × ((text : List ℕ) → nat_le (length text) greatest_text ≡ false → key_asked one_tenant (query (codes "a") text no_entries) ≡ None)
+    × ((text : List ℕ) → nat_le (length text) greatest_text ≡ false → key_asked one_tenant (query (codes "a") text no_entries None) ≡ None)
 
 abbrev pub InstancesOfLookUps : Type 0
 InstancesOfLookUps =

@@ -51,7 +51,7 @@ InstancesOfExchanges =
 
 -- a tenant with the token `b`
 abbrev pub neighbour : TenantSettings
-neighbour = record { max_steps = 3; max_elements = 2; tokens = token (codes "b") ∷ [] }
+neighbour = record { max_steps = 3; max_elements = 2; max_held = 5; tokens = token (codes "b") ∷ [] }
 
 -- the first of two tenants has a transaction open
 abbrev pub one_open : ServerState
@@ -67,7 +67,9 @@ InstancesOfWaiting =
 -- who waits looks up no plan
 abbrev pub InstancesOfKeysInTransactions : Type 0
 InstancesOfKeysInTransactions =
-    (key_asked one_open.tenants (query (codes "w") (codes "t") no_entries) ≡ Some (codes "t", []))
-    × (key_asked one_open.tenants (query (codes "v") (codes "t") no_entries) ≡ None)
-    × (key_asked one_open.tenants (query (codes "b") (codes "t") no_entries) ≡ Some (codes "t", []))
+    (key_asked one_open.tenants (query (codes "w") (codes "t") no_entries None) ≡ Some (codes "t", []))
+    × (key_asked one_open.tenants (query (codes "w") (codes "t") no_entries (Some 1)) ≡ None)
+    × (key_asked one_open.tenants (query (codes "v") (codes "t") no_entries None) ≡ None)
+    × (key_asked one_open.tenants (query (codes "b") (codes "t") no_entries (Some 1)) ≡ Some (codes "t", []))
+    × (key_asked one_open.tenants (query (codes "b") (codes "t") no_entries None) ≡ Some (codes "t", []))
     × (key_asked one_open.tenants (commit (codes "w")) ≡ None)

@@ -1,3 +1,4 @@
+pub mod AnsweredQueries
 pub mod ConfigLines
 pub mod Configuration
 pub mod Connections
@@ -8,11 +9,13 @@ pub mod Exchange
 pub mod Frames
 pub mod Handles
 pub mod Holds
+pub mod InstancesOfAnsweredQueries
 pub mod InstancesOfConfigurations
 pub mod InstancesOfRequests
 pub mod InstancesOfRuns
 pub mod InstancesOfServing
 pub mod InstancesOfTransactions
+pub mod Pages
 pub mod Runs
 pub mod Served
 pub mod Serves

@@ -1,17 +1,14 @@
 -- Own, SoloRun and Runs: how exchanges with a server are a run of each tenant alone.
-use Rattle.std.specs.Prelude.{◌≡◌, ℕ, ◌⊎◌, Bool, true, false, ◌&&◌, not, nat_le, List, [], ◌∷◌, length, map, filter, Option, Some, None, Ok, if◌then◌else◌, bytes_eq}
+use Rattle.std.specs.Prelude.{◌≡◌, ℕ, ◌⊎◌, Bool, true, false, ◌&&◌, not, nat_le, List, [], ◌∷◌, length, map, filter, Option, Some, None, if◌then◌else◌, bytes_eq}
 use Rattle.pg_json.specs.Refusals.{refusal_text}
-use Rattle.pg_json.specs.Requests.{Request, query, status, create_index, drop_index, begin, commit, rollback, token_of, meaning}
-use Rattle.pg_meaning.specs.Agreement.{OutcomeAgrees}
-use Rattle.pg_meaning.specs.Queries.{answer_of}
-use Rattle.pg_meaning.specs.Tree.{Query}
+use Rattle.pg_json.specs.Requests.{Request, token_of, meaning}
 use Rattle.pg_meaning.specs.declared.fault.Fault.{Fault}
 use Rattle.pg_meaning.specs.declared.fault.Fault.TheVariants.{FrameTooLong, BadRequest, UnknownToken, OutOfMemory}
+use Rattle.pg_server.specs.AnsweredQueries.{AnsweredQuery}
 use Rattle.pg_server.specs.Exchange.{Exchange, replies_of}
 use Rattle.pg_server.specs.Frames.{body_limit}
 use Rattle.pg_meaning.specs.Names.{is_among}
 use Rattle.pg_server.specs.State.{ServerState, state_at, settings_of}
-use Rattle.pg_tenant.specs.Outcomes.{text_query, are_given}
 use Rattle.pg_tenant.specs.Solo.{solo}
 use Rattle.pg_tenant.specs.State.{State, tokens_of}
 
@@ -36,23 +33,11 @@ is_want_of_memory reply = bytes_eq reply (refusal_text OutOfMemory)
 abbrev pub own : List (List ℕ) → List Exchange → List Exchange
 own tokens es = filter (λ e. shows_one_of tokens (asked e.body) && not (is_want_of_memory e.reply)) es
 
--- what a query that reads and has its parameters answers is one that its meaning gives: columns, rows and the new graph, or a fault in which it may end
-abbrev pub Means : State → Request → Type 0
-Means old (query token text parameters) =
-    (q : Query) → text_query text ≡ Ok q → are_given parameters q ≡ Ok tt
-    → OutcomeAgrees q parameters old.settings.max_elements old.graph (answer_of old.indexes q parameters old.graph old.settings.max_steps old.settings.max_elements)
-Means old (status token) = Unit {0}
-Means old (create_index token label key) = Unit {0}
-Means old (drop_index token label key) = Unit {0}
-Means old (begin token) = Unit {0}
-Means old (commit token) = Unit {0}
-Means old (rollback token) = Unit {0}
-
--- the tenant alone answers these requests with these replies, which their meaning gives, and ends in this state
+-- the tenant alone answers these requests with these replies, each query by one that its meaning gives, and ends in this state
 abbrev pub SoloRun : State → List Exchange → State → Type 0
 SoloRun old [] new = new ≡ old
 SoloRun old (e ∷ es) new =
-    (request : Request) × (asked e.body ≡ Some request) × (e.reply ≡ (solo old request).reply) × Means old request × SoloRun (solo old request).state es new
+    (request : Request) × (asked e.body ≡ Some request) × (e.reply ≡ (solo old request).reply) × AnsweredQuery old request e.reply (solo old request).state × SoloRun (solo old request).state es new
 
 -- a request that is refused leaves the tenant as it was
 abbrev pub RefusalsKeep : Type 0

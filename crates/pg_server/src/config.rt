@@ -120,7 +120,13 @@ fn tenant_in_range(draft: TenantDraft) -> Result<TenantSettings, ConfigFault>
 {
     let max_steps = in_range(draft.max_steps, 0, MAX_QUOTA)?;
     let max_elements = in_range(draft.max_elements, 0, MAX_QUOTA)?;
-    Ok(TenantSettings::new(max_steps, MaxElements::new(max_elements), draft.tokens))
+    let max_held = in_range(draft.max_held, 0, MAX_QUOTA)?;
+    Ok(TenantSettings::new(
+        max_steps,
+        MaxElements::new(max_elements),
+        max_held,
+        draft.tokens,
+    ))
 }
 
 fn in_range(number: i64, least: u64, most: u64) -> Result<u64, ConfigFault>

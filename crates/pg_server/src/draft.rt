@@ -1,9 +1,9 @@
 //! A configuration whose shape is right and whose numbers may be any.
-ghost use Rattle.std.specs.Prelude.{◌≡◌, ◌≢◌, IfOk, IfErr, Some, None, map, bytes_eq, option_and_then};
+ghost use Rattle.std.specs.Prelude.{◌≡◌, ◌≢◌, IfOk, IfErr, Some, None, map, bytes_eq, option_map, option_and_then};
 ghost use Rattle.pg_json.specs.Requests.{has_only as seen_only, is_one_of as seen_one_of};
 ghost use Rattle.serde_json.specs.Find.{as_object};
 ghost use Rattle.serde_json.specs.View.{view, items_view, members_view};
-ghost use Rattle.pg_server.specs.Draft.{text_at as seen_text, number_at as seen_number, list_at as seen_list, if_any, each, rights_of as seen_rights, token_of as seen_token, tenant_of as seen_tenant, draft_of as seen_draft, is_object_of};
+ghost use Rattle.pg_server.specs.Draft.{text_at as seen_text, number_at as seen_number, number_or_zero as seen_or_zero, list_at as seen_list, if_any, each, rights_of as seen_rights, token_of as seen_token, tenant_of as seen_tenant, draft_of as seen_draft, is_object_of};
 ghost use Rattle.pg_server.specs.declared.config_fault.ConfigFault.TheVariants.{WrongShape, Memory};
 
 use crate::config_fault::ConfigFault;
@@ -16,6 +16,7 @@ use std::marker::Model;
 pub(crate) struct TenantDraft {
     pub(crate) max_steps: i64,
     pub(crate) max_elements: i64,
+    pub(crate) max_held: i64,
     pub(crate) tokens: Vec<TokenSettings>,
 }
 
@@ -24,7 +25,7 @@ impl Model for TenantDraft {
 
     ghost Value = { Seen };
 
-    ghost view = { λ t. record { max_steps = t.max_steps; max_elements = t.max_elements; tokens = t.tokens.items } };
+    ghost view = { λ t. record { max_steps = t.max_steps; max_elements = t.max_elements; max_held = t.max_held; tokens = t.tokens.items } };
 }
 
 #[derive(Drop)]
@@ -72,16 +73,21 @@ fn tenant_of(alloc: Global, value: &Json) -> Result<TenantDraft, ConfigFault>
     ensures kind { IfErr result (λ e. e ≢ Memory → e ≡ WrongShape) }
     ensures refused { IfErr result (λ e. e ≢ Memory → seen_tenant (view value.now) ≡ None) }
 {
-    if !is_object_with(value, &["name", "max_steps", "max_elements", "tokens"]) {
+    if !is_object_with(
+        value,
+        &["name", "max_steps", "max_elements", "max_held", "tokens"],
+    ) {
         return Err(ConfigFault::WrongShape);
     }
     text_at(value, "name")?;
     let max_steps = number_at(value, "max_steps")?;
     let max_elements = number_at(value, "max_elements")?;
+    let max_held = number_or_zero(value.get("max_held"))?;
     let tokens = tokens_of(alloc, list_at(value, "tokens")?)?;
     Ok(TenantDraft {
         max_steps,
         max_elements,
+        max_held,
         tokens,
     })
 }
@@ -140,6 +146,20 @@ fn number_at(value: &Json, key: &str) -> Result<i64, ConfigFault>
     ensures err { IfErr result (λ e. (e ≡ WrongShape) × (seen_number key.now (view value.now) ≡ None)) }
 {
     match value.get(key).and_then(Json::as_i64) {
+        Some(number) => Ok(number),
+        None => Err(ConfigFault::WrongShape),
+    }
+}
+
+/// A number at a key, and zero where the key is missing.
+fn number_or_zero(given: Option<&Json>) -> Result<i64, ConfigFault>
+    ensures ok { IfOk result (λ n. seen_or_zero (option_map (λ v. view v.now) given.entry) ≡ Some n) }
+    ensures err { IfErr result (λ e. (e ≡ WrongShape) × (seen_or_zero (option_map (λ v. view v.now) given.entry) ≡ None)) }
+{
+    let Some(value) = given else {
+        return Ok(0);
+    };
+    match value.as_i64() {
         Some(number) => Ok(number),
         None => Err(ConfigFault::WrongShape),
     }

@@ -1,6 +1,7 @@
 //! Small runs and configurations. A function without a body says that the instances hold, or don't, as they are listed.
+ghost use Rattle.pg_server.specs.InstancesOfAnsweredQueries.{InstancesOfAnsweredQueries};
 ghost use Rattle.pg_server.specs.InstancesOfConfigurations.{FaultsAreInOrder, ShapesAreTested};
-ghost use Rattle.pg_server.specs.InstancesOfRequests.{InstancesOfOpenings, InstancesOfRequests, StrangersAreRefused};
+ghost use Rattle.pg_server.specs.InstancesOfRequests.{InstancesOfOpenings, InstancesOfPages, InstancesOfRequests, StrangersAreRefused};
 ghost use Rattle.pg_server.specs.InstancesOfRuns.{EmptyRuns, StatusRuns, ConfigurationsAreTested};
 ghost use Rattle.pg_server.specs.InstancesOfServing.{InstancesOfEnds, InstancesOfFailedWrites, InstancesOfFrames, InstancesOfKeys, InstancesOfLookUps, RunsOfNoFrame};
 ghost use Rattle.pg_server.specs.InstancesOfTransactions.{InstancesOfExchanges, InstancesOfKeysInTransactions, InstancesOfTransactions, InstancesOfWaiting};
@@ -9,8 +10,10 @@ ghost use Rattle.pg_server.specs.InstancesOfTransactions.{InstancesOfExchanges, 
 pub fn instances_of_runs()
     ensures empty { EmptyRuns }
     ensures status { StatusRuns }
+    ensures answered { InstancesOfAnsweredQueries }
     ensures strangers { StrangersAreRefused }
     ensures requests { InstancesOfRequests }
+    ensures pages { InstancesOfPages }
     ensures frames { InstancesOfFrames }
     ensures ends { InstancesOfEnds }
     ensures failed { InstancesOfFailedWrites }

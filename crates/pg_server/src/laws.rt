@@ -1,5 +1,6 @@
 //! What the definitions promise. A function without a body says that a law holds.
 ghost use Rattle.pg_server.specs.Handles.{CallsAreRuns, RefusalsKeepAll};
+ghost use Rattle.pg_server.specs.Pages.{PagesGive, PagesStay, PagesStayInRuns, PullsGive, RunsGivePages, WholesGive};
 ghost use Rattle.pg_server.specs.Runs.{RefusalsKeep, TwoWorlds};
 ghost use Rattle.pg_server.specs.Served.{OneReading};
 ghost use Rattle.pg_server.specs.Transactions.{CommitKeeps, NoneWaitsForOthers, OthersWait, RollbackTakesBack, RollbacksTakeBack};
@@ -42,4 +43,15 @@ pub fn law_of_commit()
 pub fn law_of_waiting()
     ensures own { OthersWait }
     ensures others { NoneWaitsForOthers }
+{}
+
+/// The rows of a query's first page and of all pulls, joined, are the rows that the query had at
+/// its moment, printed as then, whatever was done since.
+pub fn law_of_pages()
+    ensures numbers { PagesStay }
+    ensures numbers_in_runs { PagesStayInRuns }
+    ensures wholes { WholesGive }
+    ensures pulls { PullsGive }
+    ensures tenant { PagesGive }
+    ensures server { RunsGivePages }
 {}

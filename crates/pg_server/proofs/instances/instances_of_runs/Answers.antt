@@ -1,5 +1,6 @@
+use Rattle.pg_server.proofs.AnsweredQueryInstances.{instances_of_answered_queries}
 use Rattle.pg_server.proofs.InstanceLemmas.{empty_runs, status_runs}
-use Rattle.pg_server.proofs.RequestInstances.{instances_of_requests, strangers_are_refused}
+use Rattle.pg_server.proofs.RequestInstances.{instances_of_pages, instances_of_requests, strangers_are_refused}
 use Rattle.pg_server.proofs.ServingInstances.{instances_of_ends, instances_of_failed_writes, instances_of_frames, instances_of_keys, instances_of_look_ups, runs_of_no_frame}
 use Rattle.pg_server.proofs.instances.instances_of_runs.Goals as goal
 
@@ -9,11 +10,17 @@ returns-clause-empty c = empty_runs
 pub returns-clause-status : goal.returns-clause-status
 returns-clause-status c = status_runs
 
+pub returns-clause-answered : goal.returns-clause-answered
+returns-clause-answered c = instances_of_answered_queries
+
 pub returns-clause-strangers : goal.returns-clause-strangers
 returns-clause-strangers c = strangers_are_refused
 
 pub returns-clause-requests : goal.returns-clause-requests
 returns-clause-requests c = instances_of_requests
+
+pub returns-clause-pages : goal.returns-clause-pages
+returns-clause-pages c = instances_of_pages
 
 pub returns-clause-frames : goal.returns-clause-frames
 returns-clause-frames c = instances_of_frames

@@ -8,8 +8,8 @@ use Rattle.pg_server.specs.Handles.{Handles, key_asked}
 use Rattle.pg_server.specs.Settings.{all_tokens}
 use Rattle.pg_server.specs.State.{ServerState, settings_of, state_at}
 use Rattle.pg_server.specs.Step.{Answers}
+use Rattle.pg_server.proofs.AnsweredQueryLemmas.{answered_by_meaning}
 use Rattle.pg_server.proofs.HandleLemmas.{handled, handled_unread}
-use Rattle.pg_server.proofs.StepLemmas.{means_of}
 use Rattle.pg_server.proofs.TenantLemmas.{settings_seen}
 use Rattle.pg_server.proofs.HoldLemmas.{state_seen}
 use Rattle.pg_server.proofs.server.Server.answer_body.Goals as goal
@@ -25,7 +25,7 @@ returns-in-Ok g c =
     let graphs : (t : ℕ) → IsGraph (state_at c.args.self.now.state t).graph =
     λ t. subst (λ (s : ServerState). IsGraph (state_at s t).graph) (ap state_seen c.self.view_is) (c.show_graphs.ensures t) in
     let request = request_view c.in-Ok.request in
-    handled c.args.self.now.state c.answer_request.new.self.state c.args.body.now c.answer_request.result request distinct (λ t. means_of (state_at c.args.self.now.state t) request (graphs t))
+    handled c.args.self.now.state c.answer_request.new.self.state c.args.body.now c.answer_request.result request distinct (λ t. answered_by_meaning (state_at c.args.self.now.state t) request (graphs t))
     (le-leb (length c.args.body.now) body_limit (omega (arith, c.if-body-gt-MAX_BODY.false))) c.in-Ok.ensures.ok
     (subst (λ (s : ServerState). Answers s.tenants request c.answer_request.result c.answer_request.new.self.state.tenants) (ap state_seen c.self.view_is) c.answer_request.ensures.tenants)
     (subst (λ (s : ServerState). LooksUp (key_asked s.tenants request) c.answer_request.result s.cache c.answer_request.new.self.state.cache) (ap state_seen c.self.view_is) c.answer_request.ensures.cache)

@@ -18,17 +18,26 @@ def is_there():
     return bool(shutil.which("chromium") and shutil.which("chromedriver"))
 
 
+def started():
+    """A driver, and the port that it took. It takes one that is free at that moment, and ends where another program was quicker: then it is
+    asked again."""
+    for _ in range(3):
+        driver = subprocess.Popen(["chromedriver", "--port=0"], stdout=subprocess.PIPE, stderr=subprocess.STDOUT, text=True)
+        said = ""
+        for line in driver.stdout:
+            said += line
+            found = re.search(r"started successfully on port (\d+)", line)
+            if found:
+                return driver, found[1]
+        driver.wait()
+    raise AssertionError(f"chromedriver didn't start: {said}")
+
+
 class Browser:
     """One page, seen and used as a person would."""
 
     def __init__(self, folder):
-        self.driver = subprocess.Popen(["chromedriver", "--port=0"], stdout=subprocess.PIPE, stderr=subprocess.STDOUT, text=True)
-        port = None
-        while port is None:
-            line = self.driver.stdout.readline()
-            assert line, "chromedriver didn't start"
-            found = re.search(r"started successfully on port (\d+)", line)
-            port = found and found[1]
+        self.driver, port = started()
         self.url = f"http://127.0.0.1:{port}"
         words = ["--headless=new", "--disable-gpu", "--disable-dev-shm-usage", "--window-size=1400,900", f"--user-data-dir={folder}", "--no-proxy-server"]
         # (as root Chromium runs without its sandbox alone)

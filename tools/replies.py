@@ -24,6 +24,13 @@ class Tables:
         *table, cost = tables.result(result, self.whole, self.is_upright)
         self._print([*table, f"{cost}, {seconds * 1000:.1f} ms"])
 
+    def part(self, result, before, steps, seconds):
+        """Prints a page of rows, after `before` others; the last one with what all took."""
+        *table, _ = tables.result(result, self.whole, self.is_upright, before)
+        last = before + len(result.rows)
+        cost = f"{tables.counted(last, 'row')}, {tables.counted(steps, 'step')}, {seconds * 1000:.1f} ms"
+        print(*table, f"rows {before + 1} to {last}" if result.page is not None else cost, sep="\n", flush=True)
+
     def status(self, status):
         print(*tables.status(status), sep="\n", flush=True)
 
@@ -74,6 +81,11 @@ class Lines:
         rows = [[spelt(value) for value in row] for row in result.rows]
         self._line({"columns": result.columns, "rows": rows, "steps": result.steps})
 
+    def part(self, result, before, steps, seconds):
+        rows = [[spelt(value) for value in row] for row in result.rows]
+        first = {} if before else {"columns": result.columns}
+        self._line({**first, "page": result.page, "rows": rows, **({} if before else {"steps": steps})})
+
     def status(self, status):
         self._line(vars(status))
 
@@ -98,8 +110,11 @@ class Csv:
     whole = True
 
     def result(self, result, seconds):
+        self.part(result, 0, result.steps, seconds)
+
+    def part(self, result, before, steps, seconds):
         if result.columns:
-            self._rows([result.columns, *([_cell(value) for value in row] for row in result.rows)])
+            self._rows([*([] if before else [result.columns]), *([_cell(value) for value in row] for row in result.rows)])
 
     def status(self, status):
         self._rows([list(vars(status)), [_cell(value) for value in vars(status).values()]])

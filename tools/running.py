@@ -8,21 +8,25 @@ from pathlib import Path
 from graphd_program import Failed
 
 
-def body(token, text, parameters=None):
-    """The body of a query."""
+def body(token, text, parameters=None, page=None):
+    """The body of a query, in pages of `page` rows where that is passed."""
     asked = {"op": "query", "token": token, "text": text}
     if parameters:
         asked["params"] = parameters
+    if page is not None:
+        asked["page"] = page
     return json.dumps(asked, separators=(",", ":")).encode()
 
 
 def configuration(folder, cache, tenants):
-    """The path of a configuration: of each tenant its name, which begins its tokens, and its quotas of steps and elements."""
+    """The path of a configuration: of each tenant its name, which begins its tokens, its quotas of steps and elements, and that of held
+    rows where it has one."""
     path = Path(folder) / "config.json"
     found = []
-    for name, max_steps, max_elements in tenants:
+    for name, max_steps, max_elements, *held in tenants:
         tokens = [{"token": name + "1", "rights": "write"}, {"token": name + "2", "rights": "read"}]
-        found.append({"name": name, "max_steps": max_steps, "max_elements": max_elements, "tokens": tokens})
+        quotas = {"max_steps": max_steps, "max_elements": max_elements, **({"max_held": held[0]} if held else {})}
+        found.append({"name": name, **quotas, "tokens": tokens})
     path.write_text(json.dumps({"cache": cache, "tenants": found}))
     return path
 
@@ -32,6 +36,7 @@ class Run:
 
     def __init__(self, command, addresses=None):
         limits = {"preexec_fn": lambda: resource.setrlimit(resource.RLIMIT_AS, (addresses, addresses))} if addresses else {}
+        self.command = command
         self.child = subprocess.Popen(command, stdin=subprocess.PIPE, stdout=subprocess.PIPE, **limits)
         self.about = Path("/proc") / str(self.child.pid)
 

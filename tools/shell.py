@@ -4,11 +4,13 @@ import json
 import re
 import sys
 import time
+from dataclasses import dataclass
 from pathlib import Path
 
 import client_path  # (finds the package graphd)
 import dumps
 import graphd
+import paging
 import replies
 import tables
 from graphd import plans
@@ -22,6 +24,7 @@ HELP = """\
 :explain QUERY               what each clause tries and is charged for, and which indexes serve; :explain alone takes the last query
 :index LABEL KEY             keeps nodes findable by a property; :unindex LABEL KEY takes it back
 :begin                       begins a transaction: what it changes is kept by :commit, taken back by :rollback or where the shell ends
+:pages                       what is left of results that were kept; :pull NUMBER goes on with one, :drop NUMBER drops it
 :param NAME VALUE            sets the parameter $NAME to a JSON value; :param alone lists all
 :unparam NAME                takes a parameter back
 :format NAME                 table, vertical, json or csv
@@ -39,6 +42,8 @@ PAIR = re.compile(r":?(`(?:[^`]|``)+`|[^`()\s]+)\((`(?:[^`]|``)+`|[^`()\s]+)\)\Z
 
 LOST = "the transaction has ended with its connection: graphd_listen rolls back what it changed"
 LEFT = "the transaction that was open is rolled back"
+# what a query in pages is refused by and one without them isn't, an older server's refusal among them
+UNPAGED = (graphd.HeldRowsQuota, graphd.TransactionOpen, graphd.BadRequest)
 
 
 class Stopped(Exception):
@@ -49,11 +54,23 @@ class Interrupted(Stopped):
     """The person stopped it."""
 
 
-class Shell:
-    """What a person or a script asks a session by. `refused` counts what didn't succeed."""
+@dataclass
+class Kept:
+    """A result of which rows are left: its query, its columns, the steps that it took, and how many rows were seen."""
 
-    def __init__(self, session, answers, fails_fast=False):
+    text: str
+    result: graphd.Result
+    steps: int
+    seen: int = 0
+
+
+class Shell:
+    """What a person or a script asks a session by. `refused` counts what didn't succeed; `pages` has the results whose rows are held for
+    it, by their numbers. With a `paging` queries are asked page by page."""
+
+    def __init__(self, session, answers, fails_fast=False, paging=None):
         self.session, self.answers = session, answers
+        self.paging, self.pages = paging, {}
         self.parameters = {}
         self.transaction = None  # the one that is open
         self.last = ""  # the last query
@@ -99,12 +116,15 @@ class Shell:
         self.transaction = None
 
     def leave(self):
-        """Rolls back a transaction that is open, and tells of it. True where one was."""
-        if self.transaction is None:
-            return False
-        self._take_back()
-        print(LEFT, file=sys.stderr, flush=True)
-        return True
+        """Rolls back a transaction that is open, and tells of it. True where one was. Pages that are held are dropped."""
+        is_open = self.transaction is not None
+        if is_open:
+            self._take_back()
+            print(LEFT, file=sys.stderr, flush=True)
+        with contextlib.suppress(graphd.GraphdError):
+            for number in [*self.pages]:
+                self._drop(number)
+        return is_open
 
     def _run(self, statement):
         if statement.is_command():
@@ -116,8 +136,94 @@ class Shell:
         self.last, self._names = text, None
         begin = time.perf_counter()
         given = {name: self.parameters[name] for name in names_of_parameters(text) if name in self.parameters}
-        result = self.session.query(text, given)
-        self.answers.result(result, time.perf_counter() - begin)
+        result = self._asked(text, given)
+        seconds = time.perf_counter() - begin
+        if result.page is None:
+            self.answers.result(result, seconds)
+        else:
+            self._show(Kept(text, result, result.steps), seconds)
+
+    # pages
+
+    def _asked(self, text, given):
+        """A query's result, or its first page where it comes page by page."""
+        size = self._rows_of_pages()
+        if size is None:
+            return self.session.query(text, given)
+        try:
+            return self.session.query_page(text, size, given)
+        except UNPAGED:
+            if self.paging.rows is not None:
+                raise
+        # (it was undone; nobody asked for pages, and the tenant may have none)
+        return self.session.query(text, given)
+
+    def _rows_of_pages(self):
+        """How many rows a page has, or None where a result comes as a whole: in a transaction too, which has no pages."""
+        is_table = isinstance(self.answers, replies.Tables)
+        if self.paging is None or self.transaction is not None or not is_table and self.paging.rows is None:
+            return None
+        return self.paging.size(is_table and self.answers.is_upright)
+
+    def _show(self, kept, seconds):
+        """Shows a page, and the next ones as long as they are wanted."""
+        while True:
+            number = kept.result.page
+            if number is not None:
+                self.pages[number] = kept
+            self.answers.part(kept.result, kept.seen, kept.steps, seconds)
+            kept.seen += len(kept.result.rows)
+            if number is None:
+                return
+            choice = self.paging.choice() if self.paging else None
+            if choice == paging.DROPS:
+                self._drop(number)
+                print(f"the rows after the first {kept.seen} are dropped", flush=True)
+            elif choice == paging.KEEPS:
+                print(f"the rest is page {number}: :pull {number} goes on", flush=True)
+            if choice:
+                return
+            begin = time.perf_counter()
+            self._pull(number, kept)
+            seconds += time.perf_counter() - begin
+
+    def _pull(self, number, kept):
+        try:
+            kept.result = self.session.pull(kept.result)
+        except graphd.NoSuchPage:
+            del self.pages[number]
+            raise
+        if kept.result.page is None:
+            del self.pages[number]
+
+    def _drop(self, number):
+        try:
+            self.session.drop_page(number)
+        except graphd.NoSuchPage:
+            pass  # (the server was restarted)
+        del self.pages[number]
+
+    def tell_pages(self):
+        """Lists the results that have rows left. How many these are the server doesn't say."""
+        lines = [f"page {number}: {tables.counted(kept.seen, 'row')} seen of {kept.text}" for number, kept in self.pages.items()]
+        self.answers.told("pages", lines or ["no rows are held for this shell"])
+
+    def of_page(self, word, rest, act):
+        """Does something with the page of a number that is typed; without one, with the last that is held."""
+        number = int(rest) if rest.isascii() and rest.isdigit() else next(reversed(self.pages), None) if not rest else None
+        if number not in self.pages:
+            raise ValueError(f"no such page: :pages lists them, and {word} NUMBER takes one")
+        act(number)
+
+    def pull(self, number):
+        """Goes on with a page that was kept."""
+        begin, kept = time.perf_counter(), self.pages[number]
+        self._pull(number, kept)
+        self._show(kept, time.perf_counter() - begin)
+
+    def drop(self, number):
+        self._drop(number)
+        self.answers.done("dropped")
 
     def command(self, text):
         word, rest = re.fullmatch(r"(\S*)\s*(.*?)[;\s]*", text, re.DOTALL).groups()
@@ -130,6 +236,9 @@ class Shell:
             ":begin": self.begin,
             ":commit": lambda: self.end("commit"),
             ":rollback": lambda: self.end("rollback"),
+            ":pages": self.tell_pages,
+            ":pull": lambda: self.of_page(word, rest, self.pull),
+            ":drop": lambda: self.of_page(word, rest, self.drop),
             ":param": lambda: self.param(rest),
             ":params": lambda: self.param(""),
             ":unparam": lambda: self.parameters.pop(_parameter(rest), None),

@@ -126,12 +126,12 @@ def lines(columns, rows, whole):
     return [told[0], "-+-".join("-" * room for room in given), *told[1:]]
 
 
-def upright(columns, rows):
-    """The lines of a table with each value on a line of its own."""
+def upright(columns, rows, before=0):
+    """The lines of a table with each value on a line of its own, of rows after `before` others."""
     names = [safe(column) for column in columns]
     room = max(map(width, names), default=0)
     told = []
-    for number, row in enumerate(rows, 1):
+    for number, row in enumerate(rows, before + 1):
         told.append(f"row {number}")
         told += (f"  {_padded(name, room)} | {shown(value)}" for name, value in zip(names, row))
     return told
@@ -141,9 +141,9 @@ def counted(count, word):
     return f"{count} {word}" if count == 1 else f"{count} {word}s"
 
 
-def result(told, whole, is_upright=False):
-    """The lines of what a query answers: its rows, if it has columns, and what they cost."""
-    table = upright(told.columns, told.rows) if is_upright else lines(told.columns, told.rows, whole) if told.columns else []
+def result(told, whole, is_upright=False, before=0):
+    """The lines of what a query answers: its rows, if it has columns, which come after `before` others, and what they cost."""
+    table = upright(told.columns, told.rows, before) if is_upright else lines(told.columns, told.rows, whole) if told.columns else []
     return [*table, f"{counted(len(told.rows), 'row')}, {counted(told.steps, 'step')}"]
 
 

@@ -477,7 +477,7 @@ class Package(unittest.TestCase):
                 with contextlib.redirect_stdout(told):
                     exec(block.replace("7687", str(server.port)), {})
                 self.assertTrue(told.getvalue())
-        self.assertEqual(len(blocks), 5)
+        self.assertEqual(len(blocks), 6)
         self.assertIn("9 UndefinedVariable 2 8 the variable servce isn't in scope here: did you mean service?", told.getvalue())
 
     def test_the_version_is_the_repositorys(self):

@@ -1,16 +1,46 @@
-"""Tests of the examples' loaders."""
+"""Tests of the examples' loaders, and of the one that writes rows."""
 import contextlib
 import importlib.util
 import inspect
 import io
+import json
 import socket
 import subprocess
 import sys
 import unittest
 import unittest.mock
 
+import client_path  # (finds the package graphd)
+import graphd
 from graphd_program import ROOT
-from tests_of_clients import SECONDS, Given, environment
+from tests_of_clients import CONFIG, SECONDS, Given, environment, listening
+
+
+class Exports(unittest.TestCase):
+    """The example that writes the rows of a query."""
+
+    def run_it(self, port, text, *words, taken=None):
+        """The status, the lines that were written, as many as are taken, and what was told."""
+        run = [sys.executable, str(ROOT / "examples" / "export.py"), *words, str(port), "a1", text]
+        child = subprocess.Popen(run, stdout=subprocess.PIPE, stderr=subprocess.PIPE, text=True, env=environment())
+        lines = [child.stdout.readline() for _ in range(taken)] if taken else child.stdout.readlines()
+        child.stdout.close()
+        told = child.stderr.read()
+        child.stderr.close()
+        return child.wait(timeout=SECONDS), lines, told
+
+    def test_rows_are_written_as_they_come(self):
+        with listening(CONFIG) as server:
+            status, lines, told = self.run_it(server.port, "UNWIND range(1, 60) AS x RETURN x, 'é' AS t", "--page", "7")
+            self.assertEqual((status, [json.loads(it) for it in lines], told), (0, [{"x": x, "t": "é"} for x in range(1, 61)], ""))
+            status, _, told = self.run_it(server.port, "UNWIND range(1, 200) AS x RETURN x", "--page", "7")
+            self.assertEqual((status, "HeldRowsQuota (44)" in told, "Traceback" in told), (1, True, False))
+
+    def test_what_nobody_takes_is_dropped(self):
+        with listening(CONFIG) as server:
+            found = self.run_it(server.port, "UNWIND range(1, 90) AS x RETURN x, range(1, 900) AS l", "--page", "1", taken=2)
+            self.assertEqual((found[0], [json.loads(it)["x"] for it in found[1]], found[2]), (0, [1, 2], ""))
+            self.assertEqual(graphd.connect(server.port, "a1").query_page("UNWIND range(1, 101) AS x RETURN x", 1).page, 1)
 
 
 class Loaders(unittest.TestCase):

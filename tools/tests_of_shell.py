@@ -270,6 +270,30 @@ class Scripts(unittest.TestCase):
             self.assertIn(line, told)
 
 
+    def test_pages_of_a_script(self):
+        text = "UNWIND range(1, 5) AS x RETURN x;\nRETURN 7 AS x;\n:pages\n"
+        status, told, _ = shell(CONFIG, "a1", "--page", "2", text=text)
+        wanted = [
+            {"columns": ["x"], "page": 0, "rows": [[1], [2]], "steps": 10}, {"page": 0, "rows": [[3], [4]]}, {"page": None, "rows": [[5]]},
+            {"columns": ["x"], "rows": [[7]], "steps": 1}, {"pages": ["no rows are held for this shell"]},
+        ]
+        self.assertEqual((status, [json.loads(line) for line in told.splitlines()]), (0, wanted))
+        self.assertEqual(shell(CONFIG, "a1", "--page", "2", "--csv", text=text.replace(":pages", ""))[1].split(), ["x", *"12345", "x", "7"])
+        told = shell(CONFIG, "a1", "--page", "2", "--format", "vertical", text=text)[1]
+        self.assertIn("row 2\n  x | 2\nrows 1 to 2\nrow 3\n", told)
+        self.assertIn("row 5\n  x | 5\n5 rows, 10 steps, ", told)
+        for wrong in ("0", "10001", "x"):
+            self.assertEqual(shell(CONFIG, "a1", "--page", wrong, text=text)[0], 2)
+
+    def test_pages_that_cant_be_had(self):
+        # more than may be held is refused where pages were asked for; a transaction has none
+        text = "UNWIND range(1, 300) AS x CREATE (:P) RETURN x;\n:status\n:begin\nUNWIND range(1, 5) AS x RETURN x;\n:commit\n"
+        status, told, _ = shell(CONFIG, "a1", "--page", "2", text=text.replace("CREATE (:P) ", ""))
+        lines = [json.loads(line) for line in told.splitlines()]
+        self.assertEqual((status, lines[0]["error"], lines[3]["rows"]), (1, "HeldRowsQuota", [[1], [2], [3], [4], [5]]))
+        status, told, fault = shell(CONFIG, "a1", text=":pull 0\n:drop\n:pull x\n:pull -1\n")
+        self.assertEqual((status, told, fault.count("no such page: :pages lists them")), (1, "", 4))
+
     def test_transactions(self):
         text = ":begin\nCREATE (:P);\n:begin\n:index P k\n:rollback\n:status\n:commit\n:begin\nCREATE (:P);\n:commit\n:status\nCOMMIT;\n"
         status, told, _ = shell(CONFIG, "a1", text=text)
@@ -430,11 +454,75 @@ class Typed(unittest.TestCase):
             self.assertEqual((made / ".graphsh_history").read_text().splitlines(), ["RETURN 1 AS x, 'a  b' AS y;", ":quit"])
 
     def test_long_tables_are_paged(self):
-        for words, wanted in (([], "paged:98 "), (["--no-pager"], "\n98 ")):
-            with Terminal(CONFIG, "a1", *words, PAGER="sed s/^/paged:/") as typed:
+        # by the shell itself where the tenant may hold no rows
+        with folder() as made:
+            config = configuration(made, 1)
+            for words, wanted in (([], "paged:98 "), (["--no-pager"], "\n98 ")):
+                with Terminal(config, "t0", *words, PAGER="sed s/^/paged:/") as typed:
+                    typed.wait_for(PROMPT)
+                    typed.type("UNWIND range(1, 98) AS x RETURN x, 1 AS y;\n")
+                    self.assertIn(wanted, typed.wait_for(r"98 rows, "))
+
+    def test_results_come_page_by_page(self):
+        with listening(CONFIG) as server, Terminal("--port", server.port, "a1") as typed:
+            typed.wait_for(PROMPT)
+            typed.type("UNWIND range(1, 48) AS x RETURN x, 1 AS y;\n")
+            told = typed.wait_for(r"rows 1 to 20\r\na key goes on, q drops the rest, k keeps it$")
+            self.assertEqual(("\n20 | 1" in told, "\n21 | 1" in told), (True, False))
+            typed.type(" ")
+            self.assertIn("\n21 | 1", typed.wait_for(r"rows 21 to 40\r\na key goes on[^\r]*$"))
+            typed.type("\n")
+            self.assertIn("\n48 | 1", typed.wait_for(r"48 rows, 96 steps, [^>]*graphd> $"))
+            typed.type("RETURN 1 AS x;\n")
+            typed.wait_for(r"1 row, [^>]*graphd> $")
+
+    def test_what_is_left_of_a_result_is_kept_or_dropped(self):
+        with listening(CONFIG) as server:
+            other = graphd.connect(server.port, "a1")
+            with Terminal("--port", server.port, "a1", "--page", "9") as typed:
                 typed.wait_for(PROMPT)
-                typed.type("UNWIND range(1, 98) AS x RETURN x, 1 AS y;\n")
-                self.assertIn(wanted, typed.wait_for(r"98 rows, "))
+                typed.type("UNWIND range(1, 30) AS x RETURN x;\n")
+                typed.wait_for(r"rows 1 to 9\r\na key goes on[^\r]*$")
+                typed.type("k")
+                typed.wait_for(r"the rest is page 0: :pull 0 goes on\r\ngraphd> $")
+                typed.type(":begin\n:pages\n")
+                typed.wait_for(r"page 0: 9 rows seen of UNWIND range\(1, 30\) AS x RETURN x\r\ngraphd\*> $")
+                typed.type(":pull 0\n")
+                typed.wait_for(r"TransactionOpen \(42\)[^>]*graphd\*> $")
+                typed.type(":rollback\n:pull\n")
+                typed.wait_for(r"\n10\r\n(?s:.*)rows 10 to 18\r\na key goes on[^\r]*$")
+                typed.type("q")
+                typed.wait_for(r"the rows after the first 18 are dropped\r\ngraphd> $")
+                for key in ("\x03", "k"):
+                    typed.type("UNWIND range(1, 30) AS x RETURN x;\n")
+                    typed.wait_for(r"rows 1 to 9\r\na key goes on[^\r]*$")
+                    typed.type(key)
+                    typed.wait_for(PROMPT)
+                typed.type(":pages\n")
+                typed.wait_for("page 2: 9 rows seen")
+                typed.wait_for(PROMPT)
+                typed.type(":drop 1\n")
+                typed.wait_for("no such page")
+                typed.wait_for(PROMPT)
+                other.drop_page(2)
+                typed.type(":pull 2\n")
+                typed.wait_for(r"NoSuchPage \(43\)")
+                typed.wait_for(PROMPT)
+                typed.type("UNWIND range(1, 99) AS x RETURN x;\n")
+                typed.wait_for(r"a key goes on[^\r]*$")
+                typed.type("k")
+                typed.wait_for(PROMPT)
+                typed.type(":quit\n")
+                typed.ended()
+            # (what was kept is dropped at the end)
+            self.assertEqual(other.query_page("UNWIND range(1, 101) AS x RETURN x", 1).page, 4)
+
+    def test_a_transaction_and_other_formats_are_not_paged(self):
+        with Terminal(CONFIG, "a1", PAGER="cat") as typed:
+            for typing in (":begin\n", ":rollback\n:format json\n"):
+                typed.wait_for(r"graphd\*?> $")
+                typed.type(typing + "UNWIND range(1, 98) AS x RETURN x, 1 AS y;\n")
+                typed.wait_for(r"98 rows, |\[98, 1\]")
 
     def test_keywords_are_completed(self):
         with Terminal(CONFIG, "a1") as typed:
@@ -454,6 +542,7 @@ class Typed(unittest.TestCase):
     def test_what_completes_a_word(self):
         names = ["Person", "KNOWS", "path"]
         self.assertEqual(completions(":sta", "", names), [":status"])
+        self.assertEqual(completions(":pu", "", names), [":pull"])
         self.assertEqual(completions("p:Pe", "MATCH (", names), ["p:Person"])
         self.assertEqual(completions(":K", "MATCH (p)-[", names), [":KNOWS"])
         self.assertEqual(completions("pa", "MATCH (p) RETURN p.", names), ["path"])

@@ -8,6 +8,9 @@
         for row in graph.query("MATCH (n:Service) RETURN n.name AS name, n"):
             print(row["name"], row["n"].labels)
 
+    for row in graph.stream("MATCH (n:Service) RETURN n", page=100):
+        print(row["n"]["name"])                       # a hundred rows come at a time, and the server holds the others
+
     with graph.transaction():                         # all of the block takes effect, or nothing where an exception leaves it
         graph.query("MATCH (n:Service {name: $name}) SET n.port = 25", name="mail")
         graph.query("MATCH (n:Service {name: $name}) SET n.port = 80", name="web")
@@ -30,14 +33,15 @@ from .refusals import (
     StepQuota, ElementQuota, IdsExhausted, IndexExists, NoSuchIndex, TooManyIndexes, ReplyTooLong, TenantBusy,
     NoTransaction, TransactionOpen, NoSuchPage, HeldRowsQuota, OutOfMemory,
 )
+from .pages import Stream
 from .sessions import Pool, Session, connect, pool, start
 from .transactions import Transaction
 from .values import Node, Parameter, Path, Relationship, Value, spelt, value_of
 
-__version__ = "1.1.0"
+__version__ = "1.2.0"
 
 __all__ = [
-    "connect", "pool", "start", "Session", "Pool", "Transaction", "Result", "Row", "Status", "Node", "Relationship", "Path",
+    "connect", "pool", "start", "Session", "Pool", "Transaction", "Stream", "Result", "Row", "Status", "Node", "Relationship", "Path",
     "Value", "Parameter", "spelt", "value_of", "Place", "fault_of", "ClausePlan", "explained", "NAMES", "REFUSALS", "ConnectionLost",
     "GraphdError", "NotGraphd", "NotSent", "Refused", "TimedOut", "FrameTooLong", "BadRequest", "UnknownToken",
     "ReadOnly", "TextTooLong", "BadLexeme", "BadSyntax", "TooDeep", "UndefinedVariable", "VariableAlreadyBound",

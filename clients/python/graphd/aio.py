@@ -14,14 +14,16 @@ from __future__ import annotations
 import asyncio
 import contextlib
 import ssl as tls
-from typing import Any, Awaitable, Callable, Dict, List, Mapping, Optional, Sequence, Type, TypeVar, Union
+from typing import Any, Awaitable, Callable, Dict, List, Mapping, Optional, Sequence, Set, Type, TypeVar, Union
 
+from .aio_pages import Stream
 from .aio_transactions import Gate, Held, Transaction, settle
 from .aio_waiting import within
 from .answers import Result, Status
 from .connections import Address, ProgramConnection, address_of, framed, length_of, reason_of
-from .refusals import ConnectionLost, NotSent, Refused, TimedOut
-from .requests import body_of, checked_token, query_of, result_of, status_of, told_by
+from .pages import PAGE, checked_size, columns_of, may_be_held, number_of
+from .refusals import ConnectionLost, GraphdError, NotSent, Refused, TimedOut
+from .requests import body_of, checked_token, pulled_of, query_of, result_of, status_of, told_by
 from .values import Parameter
 
 Self = TypeVar("Self", bound="Requests")
@@ -131,18 +133,90 @@ class Requests:
         self.timeout = timeout
         self._opened = opened
         self._gate = Gate()
+        self._left: List[int] = []  # pages that are to be dropped
+        self._drops: "Set[asyncio.Task[None]]" = set()  # what drops them
 
     async def query(self, text: str, params: Optional[Mapping[str, Parameter]] = None, /, **named: Parameter) -> Result:
         """Asks a query, and gives its columns, rows and steps. Its parameters `$name` are given as a dict, by name, or both ways.
 
         Raises a TypeError or a ValueError, and sends nothing, where the text is none or a parameter is no value of graphd's.
         """
-        request, given = query_of(text, params, named)
+        return await self._answered(*query_of(text, params, named))
+
+    async def _answered(self, request: Mapping[str, Any], given: Mapping[str, Any]) -> Result:
+        """What a query's request is answered, which has these parameters."""
         try:
             told = await self.ask(request)
         except Refused as fault:
-            raise fault.of_query(text, given) from None
+            raise fault.of_query(request["text"], given) from None
         return result_of(told)
+
+    def stream(self, text: str, params: Optional[Mapping[str, Parameter]] = None, /, *, page: int = PAGE, **named: Parameter) -> Stream:
+        """The rows of a query one after the other, of which the server sends so many at a time, 1 to 10,000.
+
+            async for row in graph.stream("MATCH (n:Service) RETURN n", page=100):
+                ..
+
+        They are those of the graph as it is when the first is taken, whatever changes later. The server holds the others until they are
+        taken, or the stream is left, by a `break` too; they count for the tenant's `max_held`. A parameter `$page` is passed in the dict.
+
+        Raises what `query_page` raises, when the first row is taken."""
+        return Stream(self, *query_of(text, params, named, checked_size(page)))
+
+    async def query_page(self, text: str, size: int, params: Optional[Mapping[str, Parameter]] = None, /, **named: Parameter) -> Result:
+        """Asks a query, of whose rows at most so many come at a time, 1 to 10,000: the first ones. The result's `page` is the number under
+        which the tenant holds the others for this token, for `pull` and `drop_page`, or None where none is left.
+
+        Raises as `query` does, HeldRowsQuota where the tenant would hold more rows than its `max_held`, and TransactionOpen in a
+        transaction, which has no pages."""
+        return await self._answered(*query_of(text, params, named, checked_size(size)))
+
+    async def pull(self, page: Union[int, Result]) -> Result:
+        """The next rows of a page, named by its number or by the result before: then the columns have their names. The result's `page` is
+        None where no more are left.
+
+        Raises NoSuchPage where this token holds no such page, and TransactionOpen in a transaction. Where no reply came, whether rows are
+        lost isn't known."""
+        return await self._pulled(number_of(page), columns_of(page))
+
+    async def _pulled(self, number: int, columns: List[str]) -> Result:
+        return pulled_of(await self.ask({"op": "pull", "page": number}), columns)
+
+    async def drop_page(self, page: Union[int, Result]) -> None:
+        """Drops the rows that are held under a number, or after a result. Raises NoSuchPage where this token holds no such page, and
+        TransactionOpen in a transaction."""
+        await self.ask({"op": "drop_page", "page": number_of(page)})
+
+    def _start_drops(self) -> None:
+        """Drops the pages that were left, by a task."""
+        task = asyncio.get_running_loop().create_task(self._drop_left())
+        self._drops.add(task)
+        task.add_done_callback(self._drops.discard)
+
+    async def _drop_left(self) -> None:
+        """Drops the pages that were left. Those that can't be dropped yet are tried again at the next request."""
+        if self._is_over():
+            self._left.clear()
+        for number in [*self._left]:
+            if self._gate.mine() is not None:
+                return
+            try:
+                told_by(await self._asked(body_of({"op": "drop_page", "page": number}, self.token)))
+            except GraphdError as fault:
+                if may_be_held(fault):
+                    return
+            with contextlib.suppress(ValueError):
+                self._left.remove(number)
+
+    def _is_over(self) -> bool:
+        """Whether the server has ended that held the pages."""
+        return False
+
+    async def _end_drops(self) -> None:
+        """Drops the pages that were left, before the connections end."""
+        if self._drops:
+            await asyncio.wait(set(self._drops), timeout=self.timeout)
+        await self._drop_left()
 
     async def status(self) -> Status:
         """What the tenant has and may have. Costs no steps."""
@@ -183,6 +257,11 @@ class Requests:
         transaction = self._gate.mine()
         if transaction is not None:
             return await transaction.exchange(body, self.timeout)
+        await self._drop_left()
+        return await self._asked(body)
+
+    async def _asked(self, body: bytes) -> bytes:
+        """The same, outside of a transaction's block."""
         while True:
             await self._gate.enter(self.timeout)
             try:
@@ -230,6 +309,10 @@ class Session(Requests):
         self._held: Optional[Held] = None
         self._blocks = 0
         self._lock: Optional[asyncio.Lock] = None  # made in the loop that it is for
+        self._is_own = False  # the server ends with the connection
+
+    def _is_over(self) -> bool:
+        return self._is_own and self._held is None
 
     def _turn(self) -> asyncio.Lock:
         if self._lock is None:
@@ -241,11 +324,20 @@ class Session(Requests):
         return self
 
     async def __aexit__(self, kind: Optional[Type[BaseException]], fault: Optional[BaseException], trace: object) -> None:
+        await self._end_drops()
+        await self._end_block()
+
+    async def _end_block(self) -> None:
         self._blocks -= 1
         if self._blocks <= 0:
-            await self.close()
+            await self._let_go()
 
     async def close(self) -> None:
+        if self._held is not None:
+            await self._end_drops()
+        await self._let_go()
+
+    async def _let_go(self) -> None:
         held, self._held, self._blocks, self._lock = self._held, None, 0, None
         if held is not None:
             await held.connection.close()
@@ -270,7 +362,7 @@ class Session(Requests):
             return self._held
 
     async def _give(self, held: Held) -> None:
-        await self.__aexit__(None, None, None)
+        await self._end_block()
 
 
 class Pool(Requests):
@@ -285,6 +377,7 @@ class Pool(Requests):
         self._idle: List[Held] = []
 
     async def close(self) -> None:
+        await self._end_drops()
         idle, self._idle = self._idle, []
         for held in idle:
             await held.connection.close()
@@ -354,4 +447,6 @@ def start(command: Sequence[str], token: str, timeout: Optional[float] = None) -
     async def opened() -> Connection:
         return OwnConnection(command)
 
-    return Session(token, opened, timeout)
+    session = Session(token, opened, timeout)
+    session._is_own = True
+    return session

@@ -189,6 +189,7 @@ class Transaction:
                 self.is_open = False
                 await self._give_back(held)
                 self.gate.open()
+        await self._requests._drop_left()
 
     async def _end_by(self, op: str) -> None:
         try:

@@ -2,7 +2,7 @@
 from __future__ import annotations
 
 from dataclasses import dataclass
-from typing import Any, Dict, Iterator, List, Sequence, Tuple, Union, overload
+from typing import Any, Dict, Iterator, List, Optional, Sequence, Tuple, Union, overload
 
 
 class Row(Sequence[Any]):
@@ -47,11 +47,16 @@ class Row(Sequence[Any]):
 
 @dataclass(frozen=True)
 class Result:
-    """What a query answers: the names of its columns, its rows in their order, and the steps that it took."""
+    """What a query answers: the names of its columns, its rows in their order, and the steps that it took.
+
+    Where rows come page by page, `page` is the number under which the tenant holds those that are left, and None where none is. What a pull
+    gives took no steps, and has the names of columns where it was asked for by a result.
+    """
 
     columns: List[str]
     rows: List[Row]
     steps: int
+    page: Optional[int] = None
 
     def __iter__(self) -> Iterator[Row]:
         return iter(self.rows)

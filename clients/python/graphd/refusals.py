@@ -142,7 +142,7 @@ class BadPattern(Refused):
     """Refusal 12. What to do is its `advice`."""
 
     code, name = 12, "BadPattern"
-    advice = "a pattern that isn't allowed here: a range needs an upper bound of at most 16, what CREATE makes one type and one direction"
+    advice = "a pattern that isn't allowed here: a range needs an upper bound of at most 32, what CREATE makes one type and one direction"
 
 
 class UnknownFunction(Refused):
@@ -247,7 +247,7 @@ class IdsExhausted(Refused):
     """Refusal 27. What to do is its `advice`."""
 
     code, name = 27, "IdsExhausted"
-    advice = "the tenant has given out all ids"
+    advice = "the tenant has given out all ids, or all numbers of pages"
 
 
 class IndexExists(Refused):
@@ -296,21 +296,21 @@ class TransactionOpen(Refused):
     """Refusal 42. What to do is its `advice`."""
 
     code, name = 42, "TransactionOpen"
-    advice = "this token has a transaction open: commit it or roll it back first; indexes are made and dropped outside of one"
+    advice = "this token has a transaction open: commit it or roll it back first; outside of one indexes are made and dropped, and pages asked for"
 
 
 class NoSuchPage(Refused):
     """Refusal 43. What to do is its `advice`."""
 
     code, name = 43, "NoSuchPage"
-    advice = "this session holds no such page"
+    advice = "this token holds no such page: its last row was given, it was dropped, another token has it, or the server was restarted"
 
 
 class HeldRowsQuota(Refused):
     """Refusal 44. What to do is its `advice`."""
 
     code, name = 44, "HeldRowsQuota"
-    advice = "the tenant may hold no more rows: pull or drop pages that are held"
+    advice = "the tenant may hold no more rows: pull or drop pages that are held, ask for less, or raise max_held"
 
 
 class OutOfMemory(Refused):

@@ -2,7 +2,7 @@
 from __future__ import annotations
 
 import json
-from typing import Any, Callable, Dict, Mapping, Optional, Tuple, TypeVar
+from typing import Any, Callable, Dict, List, Mapping, Optional, Tuple, TypeVar
 
 from .answers import Result, Row, Status
 from .connections import MAX_BODY
@@ -17,8 +17,11 @@ def checked_token(token: str) -> str:
     return token
 
 
-def query_of(text: str, params: Optional[Mapping[str, Parameter]], named: Mapping[str, Parameter]) -> Tuple[Dict[str, Any], Dict[str, Parameter]]:
-    """The request of a query, and all its parameters. Raises a TypeError or a ValueError where the text or one of these is none."""
+def query_of(
+    text: str, params: Optional[Mapping[str, Parameter]], named: Mapping[str, Parameter], size: Optional[int] = None
+) -> Tuple[Dict[str, Any], Dict[str, Parameter]]:
+    """The request of a query, in pages of `size` rows where that is passed, and all its parameters. Raises a TypeError or a ValueError
+    where the text or one of these is none."""
     twice = sorted(set(params or {}) & set(named))
     if twice:
         raise ValueError(f"the parameter {twice[0]} is given twice")
@@ -31,6 +34,8 @@ def query_of(text: str, params: Optional[Mapping[str, Parameter]], named: Mappin
     request: Dict[str, Any] = {"op": "query", "text": text}
     if given:
         request["params"] = given
+    if size is not None:
+        request["page"] = size
     return request, given
 
 
@@ -69,14 +74,21 @@ def result_of(told: Dict[str, Any]) -> Result:
     return _shaped(_result, told)
 
 
+def pulled_of(told: Dict[str, Any], columns: List[str]) -> Result:
+    """The result in a pull's reply, of rows with these columns. Raises NotGraphd where there is none."""
+    return _shaped(_result, {**told, "columns": columns, "steps": 0})
+
+
 def status_of(told: Dict[str, Any]) -> Status:
     """The status that a reply tells. Raises NotGraphd where it tells none."""
     return _shaped(_status, told)
 
 
 def _result(told: Dict[str, Any]) -> Result:
-    columns = told["columns"]
-    return Result(columns, [Row(columns, [value_of(value) for value in row]) for row in told["rows"]], told["steps"])
+    columns, page = told["columns"], told.get("page")
+    if not (page is None or isinstance(page, int)):
+        raise TypeError
+    return Result(columns, [Row(columns, [value_of(value) for value in row]) for row in told["rows"]], told["steps"], page)
 
 
 def _status(told: Dict[str, Any]) -> Status:

@@ -1,14 +1,16 @@
 """Sessions: what a client asks a server by."""
 from __future__ import annotations
 
+import contextlib
 import ssl as tls
 import threading
 from typing import Any, Callable, Dict, List, Mapping, Optional, Sequence, Type, TypeVar, Union
 
 from .answers import Result, Status
 from .connections import Connection, ProgramConnection, address_of
-from .refusals import NotSent, Refused
-from .requests import body_of, checked_token, query_of, result_of, status_of, told_by
+from .pages import PAGE, Stream, checked_size, columns_of, may_be_held, number_of
+from .refusals import GraphdError, NotSent, Refused
+from .requests import body_of, checked_token, pulled_of, query_of, result_of, status_of, told_by
 from .transactions import Gate, Held, Transaction, settle
 from .values import Parameter
 
@@ -24,18 +26,84 @@ class Requests:
         self.timeout = timeout
         self._opened = opened
         self._gate = Gate()
+        self._left: List[int] = []  # pages that are to be dropped
+        self._asking = threading.local()
 
     def query(self, text: str, params: Optional[Mapping[str, Parameter]] = None, /, **named: Parameter) -> Result:
         """Asks a query, and gives its columns, rows and steps. Its parameters `$name` are given as a dict, by name, or both ways.
 
         Raises a TypeError or a ValueError, and sends nothing, where the text is none or a parameter is no value of graphd's.
         """
-        request, given = query_of(text, params, named)
+        return self._answered(*query_of(text, params, named))
+
+    def _answered(self, request: Mapping[str, Any], given: Mapping[str, Any]) -> Result:
+        """What a query's request is answered, which has these parameters."""
         try:
             told = self.ask(request)
         except Refused as fault:
-            raise fault.of_query(text, given) from None
+            raise fault.of_query(request["text"], given) from None
         return result_of(told)
+
+    def stream(self, text: str, params: Optional[Mapping[str, Parameter]] = None, /, *, page: int = PAGE, **named: Parameter) -> Stream:
+        """The rows of a query one after the other, of which the server sends so many at a time, 1 to 10,000.
+
+            for row in graph.stream("MATCH (n:Service) RETURN n", page=100):
+                ..
+
+        They are those of the graph as it is when the first is taken, whatever changes later. The server holds the others until they are
+        taken, or the stream is left, by a `break` too; they count for the tenant's `max_held`. A parameter `$page` is passed in the dict.
+
+        Raises what `query_page` raises, when the first row is taken."""
+        return Stream(self, *query_of(text, params, named, checked_size(page)))
+
+    def query_page(self, text: str, size: int, params: Optional[Mapping[str, Parameter]] = None, /, **named: Parameter) -> Result:
+        """Asks a query, of whose rows at most so many come at a time, 1 to 10,000: the first ones. The result's `page` is the number under
+        which the tenant holds the others for this token, for `pull` and `drop_page`, or None where none is left.
+
+        Raises as `query` does, HeldRowsQuota where the tenant would hold more rows than its `max_held`, and TransactionOpen in a
+        transaction, which has no pages."""
+        return self._answered(*query_of(text, params, named, checked_size(size)))
+
+    def pull(self, page: Union[int, Result]) -> Result:
+        """The next rows of a page, named by its number or by the result before: then the columns have their names. The result's `page` is
+        None where no more are left.
+
+        Raises NoSuchPage where this token holds no such page, and TransactionOpen in a transaction. Where no reply came, whether rows are
+        lost isn't known."""
+        return self._pulled(number_of(page), columns_of(page))
+
+    def _pulled(self, number: int, columns: List[str]) -> Result:
+        return pulled_of(self.ask({"op": "pull", "page": number}), columns)
+
+    def drop_page(self, page: Union[int, Result]) -> None:
+        """Drops the rows that are held under a number, or after a result. Raises NoSuchPage where this token holds no such page, and
+        TransactionOpen in a transaction."""
+        self.ask({"op": "drop_page", "page": number_of(page)})
+
+    def _drop_later(self, number: int) -> None:
+        """Drops a page as soon as that can be done."""
+        self._left.append(number)
+        self._drop_left()
+
+    def _drop_left(self) -> None:
+        """Drops the pages that were left. Those that can't be dropped yet are tried again at the next request."""
+        if self._is_over():
+            self._left.clear()
+        for number in [*self._left]:
+            # (streams are left at any moment, in the middle of a request too)
+            if self._gate.is_mine() or getattr(self._asking, "now", False):
+                return
+            try:
+                told_by(self._asked(body_of({"op": "drop_page", "page": number}, self.token)))
+            except GraphdError as fault:
+                if may_be_held(fault):
+                    return
+            with contextlib.suppress(ValueError):
+                self._left.remove(number)
+
+    def _is_over(self) -> bool:
+        """Whether the server has ended that held the pages."""
+        return False
 
     def status(self) -> Status:
         """What the tenant has and may have. Costs no steps."""
@@ -75,11 +143,20 @@ class Requests:
         held = self._gate.mine()
         if held is not None:
             return held.exchange(body, self.timeout)
-        while True:
-            with self._gate.passed(self.timeout) as is_sure:
-                if is_sure:
-                    return self._exchange(body)
-            self._settle()
+        self._drop_left()
+        return self._asked(body)
+
+    def _asked(self, body: bytes) -> bytes:
+        """The same, outside of this thread's transactions."""
+        self._asking.now = True
+        try:
+            while True:
+                with self._gate.passed(self.timeout) as is_sure:
+                    if is_sure:
+                        return self._exchange(body)
+                self._settle()
+        finally:
+            self._asking.now = False
 
     def _settle(self) -> None:
         with self._gate.closed(self.timeout):
@@ -110,19 +187,32 @@ class Session(Requests):
         self._held: Optional[Held] = None
         self._blocks = 0  # the with blocks that are open, one in the other
         self._turn = threading.RLock()
+        self._is_own = False  # the server ends with the connection
+
+    def _is_over(self) -> bool:
+        return self._is_own and self._held is None
 
     def __enter__(self: Self) -> Self:
         self._take()
         return self
 
     def __exit__(self, kind: Optional[Type[BaseException]], fault: Optional[BaseException], trace: object) -> None:
+        self._drop_left()
+        self._end_block()
+
+    def _end_block(self) -> None:
         with self._turn:
             self._blocks -= 1
             if self._blocks <= 0:
-                self.close()
+                self._let_go()
 
     def close(self) -> None:
         """Lets the connection go, if one is open."""
+        if self._held is not None:
+            self._drop_left()
+        self._let_go()
+
+    def _let_go(self) -> None:
         with self._turn:
             held, self._held, self._blocks = self._held, None, 0
         if held is not None:
@@ -146,7 +236,7 @@ class Session(Requests):
             return self._held
 
     def _give(self, held: Held) -> None:
-        self.__exit__(None, None, None)
+        self._end_block()
 
 
 class Pool(Requests):
@@ -169,6 +259,7 @@ class Pool(Requests):
 
     def close(self) -> None:
         """Lets all connections go that no request is using."""
+        self._drop_left()
         with self._lock:
             idle, self._idle = self._idle, []
         for held in idle:
@@ -241,4 +332,6 @@ def pool(
 def start(command: Sequence[str], token: str, timeout: Optional[float] = None) -> Session:
     """A session of a server that the client starts, as `["graphd", "run", "config.json"]`. It keeps its graphs as long as it runs, which
     is for the length of a `with` block."""
-    return Session(token, lambda: ProgramConnection(command), timeout)
+    session = Session(token, lambda: ProgramConnection(command), timeout)
+    session._is_own = True
+    return session

@@ -54,7 +54,11 @@ class Gate:
 
     def mine(self) -> Optional[Held]:
         """The connection of this thread's transaction, if one is open."""
-        return self._held if self._owner == threading.get_ident() else None
+        return self._held if self.is_mine() else None
+
+    def is_mine(self) -> bool:
+        """Whether this thread is alone."""
+        return self._owner == threading.get_ident()
 
     @contextlib.contextmanager
     def passed(self, timeout: Optional[float]) -> Iterator[bool]:
@@ -175,6 +179,7 @@ class Transaction:
             self.is_open = False
             self._give_back(held)
             self._requests._gate.open()
+        self._requests._drop_left()
 
     def _give_back(self, held: Held) -> None:
         held.is_in_transaction = False

@@ -1,11 +1,11 @@
 -- The meaning of SET and REMOVE leaves one graph or one fault, and their functions compute it.
 use Rattle.std.proofs.Common.{◌≡◌, ℕ, true, ◌⊎◌, inl, inr, List, [], ◌∷◌, Option, Some, None, Result, Ok, Err, refl, sym, ap, subst, ◌∙◌, true≢false}
-use Rattle.pg_meaning.specs.Turns.{InTurn, FaultInTurn}
+use Rattle.pg_meaning.specs.Turns.{Given, InTurn, FaultInTurn}
+use Rattle.pg_meaning.specs.Agreement.{given_in}
 use Rattle.pg_meaning.specs.Answer.{each_step}
 use Rattle.pg_meaning.specs.AnswerLaws.{same_ok}
 use Rattle.pg_meaning.specs.Expressions.{evaluate}
 use Rattle.pg_meaning.specs.Graph.{Graph, Node, Relationship, node_at, relationship_at}
-use Rattle.pg_meaning.specs.Meters.{Setting}
 use Rattle.pg_meaning.specs.Names.{Names}
 use Rattle.pg_meaning.specs.Patterns.{texts_of}
 use Rattle.pg_meaning.specs.Rows.{Row, value_in}
@@ -84,12 +84,12 @@ one_labels_gone gone before a b g h = same_labels a b g.rising h.rising (λ l. g
 same_map : (a b : Entries) → mapping a ≡ mapping b → a ≡ b
 same_map a b e = ap (λ v. elim v [ mapping es ↦ es | _ ↦ a ]) e
 
-one_map : (s : Setting) (row : Row) (graph : Graph) (e : Expression) (before a b : Entries) → MapIsSet s row graph e before a → MapIsSet s row graph e before b → a ≡ b
+one_map : (s : Given) (row : Row) (graph : Graph) (e : Expression) (before a b : Entries) → MapIsSet s row graph e before a → MapIsSet s row graph e before b → a ≡ b
 one_map s row graph e before a b p q =
     let same = same_map q.0 p.0 (same_ok (mapping q.0) (mapping p.0) (sym q.1 ∙ p.1)) in
     one_keys_set (entries_of p.0) before a b p.3 (subst (λ es. KeysAreSet (entries_of es) before b) same q.3)
 
-one_set : (s : Setting) (row : Row) (graph : Graph) (i : SetItem) (a b : Graph) → SetsItem s row graph i a → SetsItem s row graph i b → a ≡ b
+one_set : (s : Given) (row : Row) (graph : Graph) (i : SetItem) (a b : Graph) → SetsItem s row graph i a → SetsItem s row graph i b → a ≡ b
 one_set s row graph (set_property t k e) a b =
     one_properties _ (value_in t.text row) graph a b (λ before x y p q. one_keys_set ((k.text, p.0) ∷ []) before x y p.3 (subst (λ v. KeysAreSet ((k.text, v) ∷ []) before y) (same_ok q.0 p.0 (sym q.1 ∙ p.1)) q.3))
 one_set s row graph (set_all t e) a b = one_properties (λ before now. MapIsSet s row graph e no_entries now) (value_in t.text row) graph a b (λ before x y p q. one_map s row graph e no_entries x y p q)
@@ -128,12 +128,12 @@ becomes_at N R P (Some (path v)) graph after g t n r = absurd g
 becomes_at N R P (Some (node i)) graph after g t n r = n i g.before g.now refl g.becomes
 becomes_at N R P (Some (relationship i)) graph after g t n r = r i g.before g.now refl g.becomes
 
-no_value_fault : (s : Setting) (row : Row) (graph : Graph) (e : Expression) (k : List ℕ) (f : Fault) (before now : Entries)
+no_value_fault : (s : Given) (row : Row) (graph : Graph) (e : Expression) (k : List ℕ) (f : Fault) (before now : Entries)
     → (v : Value) × (evaluate row s.parameters graph e ≡ Ok v) × (may_be_set v ≡ true) × KeysAreSet ((k, v) ∷ []) before now → ValueFaults s row graph e f → ⊥
 no_value_fault s row graph e k f before now p (inl h) = ok_or_err _ p.0 f p.1 h
 no_value_fault s row graph e k f before now p (inr h) = true≢false (sym p.2 ∙ ap may_be_set (same_ok p.0 h.0 (sym p.1 ∙ h.1)) ∙ h.2)
 
-no_map_fault : (s : Setting) (row : Row) (graph : Graph) (e : Expression) (f : Fault) (before now : Entries) → MapIsSet s row graph e before now → MapFaults s row graph e f → ⊥
+no_map_fault : (s : Given) (row : Row) (graph : Graph) (e : Expression) (f : Fault) (before now : Entries) → MapIsSet s row graph e before now → MapFaults s row graph e f → ⊥
 no_map_fault s row graph e f before now p (inl h) = ok_or_err _ (mapping p.0) f p.1 h
 no_map_fault s row graph e f before now p (inr (inl h)) = h.2 (subst IsMap (same_ok (mapping p.0) h.0 (sym p.1 ∙ h.1)) tt)
 no_map_fault s row graph e f before now p (inr (inr h)) = h.2 (subst (λ es. AreSettable (entries_of es)) (same_map p.0 h.0 (same_ok (mapping p.0) (mapping h.0) (sym p.1 ∙ h.1))) p.2)
@@ -150,7 +150,7 @@ no_label_fault : (Become : Names → Names → Type 0) (o : Option Value) (graph
 no_label_fault Become o graph after f g (inl h) = no_target_fault _ _ o graph after f g h
 no_label_fault Become o graph after f g (inr h) = becomes_at _ _ ⊥ o graph after g h.0 (λ n x y e p. subst (λ o. LabelFaults o f) e h.1) (λ r x y e p. p)
 
-no_set_fault : (s : Setting) (row : Row) (graph : Graph) (i : SetItem) (after : Graph) (f : Fault) → SetsItem s row graph i after → SetItemFaults s row graph i f → ⊥
+no_set_fault : (s : Given) (row : Row) (graph : Graph) (i : SetItem) (after : Graph) (f : Fault) → SetsItem s row graph i after → SetItemFaults s row graph i f → ⊥
 no_set_fault s row graph (set_property t k e) after f = no_property_fault _ (ValueFaults s row graph e) (value_in t.text row) graph after f (λ before now p h. no_value_fault s row graph e k.text f before now p h)
 no_set_fault s row graph (set_all t e) after f = no_property_fault (λ before now. MapIsSet s row graph e no_entries now) (MapFaults s row graph e) (value_in t.text row) graph after f (λ before now p h. no_map_fault s row graph e f no_entries now p h)
 no_set_fault s row graph (set_more t e) after f = no_property_fault (MapIsSet s row graph e) (MapFaults s row graph e) (value_in t.text row) graph after f (λ before now p h. no_map_fault s row graph e f before now p h)
@@ -192,13 +192,13 @@ one_behind F graph o f x one (inl g) (inr h) = absurd (target_or_fault graph o f
 one_behind F graph o f x one (inr g) (inl h) = absurd (target_or_fault graph o x g.0 h)
 one_behind F graph o f x one (inr g) (inr h) = one g.1 h.1
 
-one_value_fault : (s : Setting) (row : Row) (graph : Graph) (e : Expression) (f x : Fault) → ValueFaults s row graph e f → ValueFaults s row graph e x → f ≡ x
+one_value_fault : (s : Given) (row : Row) (graph : Graph) (e : Expression) (f x : Fault) → ValueFaults s row graph e f → ValueFaults s row graph e x → f ≡ x
 one_value_fault s row graph e f x (inl g) (inl h) = same_err f x (sym g ∙ h)
 one_value_fault s row graph e f x (inl g) (inr h) = absurd (ok_or_err _ h.0 f h.1 g)
 one_value_fault s row graph e f x (inr g) (inl h) = absurd (ok_or_err _ g.0 x g.1 h)
 one_value_fault s row graph e f x (inr g) (inr h) = g.3 ∙ sym h.3
 
-one_map_fault : (s : Setting) (row : Row) (graph : Graph) (e : Expression) (f x : Fault) → MapFaults s row graph e f → MapFaults s row graph e x → f ≡ x
+one_map_fault : (s : Given) (row : Row) (graph : Graph) (e : Expression) (f x : Fault) → MapFaults s row graph e f → MapFaults s row graph e x → f ≡ x
 one_map_fault s row graph e f x (inl g) (inl h) = same_err f x (sym g ∙ h)
 one_map_fault s row graph e f x (inl g) (inr (inl h)) = absurd (ok_or_err _ h.0 f h.1 g)
 one_map_fault s row graph e f x (inl g) (inr (inr h)) = absurd (ok_or_err _ (mapping h.0) f h.1 g)
@@ -221,7 +221,7 @@ one_label_fault (Some (path v)) f x g h = absurd g
 one_label_fault (Some (node n)) f x g h = absurd g
 one_label_fault (Some (relationship r)) f x g h = g ∙ sym h
 
-one_set_fault : (s : Setting) (row : Row) (graph : Graph) (i : SetItem) (f x : Fault) → SetItemFaults s row graph i f → SetItemFaults s row graph i x → f ≡ x
+one_set_fault : (s : Given) (row : Row) (graph : Graph) (i : SetItem) (f x : Fault) → SetItemFaults s row graph i f → SetItemFaults s row graph i x → f ≡ x
 one_set_fault s row graph (set_property t k e) f x = one_behind (ValueFaults s row graph e) graph (value_in t.text row) f x (one_value_fault s row graph e f x)
 one_set_fault s row graph (set_all t e) f x = one_behind (MapFaults s row graph e) graph (value_in t.text row) f x (one_map_fault s row graph e f x)
 one_set_fault s row graph (set_more t e) f x = one_behind (MapFaults s row graph e) graph (value_in t.text row) f x (one_map_fault s row graph e f x)
@@ -262,7 +262,7 @@ module _ (C : Graph → Type 0) (F : Fault → Type 0) (one : (a b : Graph) → 
   fault_is_computed (Ok a) h f = ((λ e. absurd (ok_or_err {X = Graph} (Ok a) a f refl e)), (λ g. absurd (never a f h g)))
   fault_is_computed (Err x) h f = ((λ e. subst F (same_err x f e) h), (λ g. ap Err (one_fault x f h g)))
 
-module _ (g : Setting) (items : List SetItem) where
+module _ (g : Given) (items : List SetItem) where
   abbrev RowSets : Graph → Row → Graph → Type 0
   RowSets before row next = InTurn (SetsItem g row) before items next
 
@@ -291,12 +291,12 @@ pub one_change : OneChange
 one_change g items graph after other rows is = one_sets g items graph rows after other
 
 pub set_is_computed : SetIsComputed
-set_is_computed g items graph after rows is =
-    result_is_computed (Sets g items graph rows) (SetFaults g items graph rows) (one_sets g items graph rows) (no_sets_fault g items graph rows) (one_sets_fault g items graph rows) (each_step (set_row g items) graph rows) (sets_stand g items rows graph is) after
+set_is_computed s items graph after rows is =
+    result_is_computed (Sets (given_in s) items graph rows) (SetFaults (given_in s) items graph rows) (one_sets (given_in s) items graph rows) (no_sets_fault (given_in s) items graph rows) (one_sets_fault (given_in s) items graph rows) (each_step (set_row s items) graph rows) (sets_stand s items rows graph is) after
 
 pub set_fault_is_computed : SetFaultIsComputed
-set_fault_is_computed g items graph rows f is =
-    fault_is_computed (Sets g items graph rows) (SetFaults g items graph rows) (one_sets g items graph rows) (no_sets_fault g items graph rows) (one_sets_fault g items graph rows) (each_step (set_row g items) graph rows) (sets_stand g items rows graph is) f
+set_fault_is_computed s items graph rows f is =
+    fault_is_computed (Sets (given_in s) items graph rows) (SetFaults (given_in s) items graph rows) (one_sets (given_in s) items graph rows) (no_sets_fault (given_in s) items graph rows) (one_sets_fault (given_in s) items graph rows) (each_step (set_row s items) graph rows) (sets_stand s items rows graph is) f
 
 module _ (items : List RemoveItem) where
   abbrev RowRemoves : Graph → Row → Graph → Type 0

@@ -19,7 +19,7 @@ use Rattle.pg_agreement.proofs.ChangesItems.{Verdict}
 use Rattle.pg_agreement.proofs.ChangesOptions.{ok_or_err}
 use Rattle.pg_agreement.proofs.ChangesRemoval.{gone_nodes, left_over, cut_off}
 use Rattle.pg_agreement.proofs.ChangesRows.{sets_stand, removes_stand}
-use Rattle.pg_agreement.proofs.DeletesComputed.{delete_is_computed, delete_fault_is_computed}
+use Rattle.pg_agreement.proofs.DeletesComputed.{some_setting, delete_is_computed, delete_fault_is_computed}
 
 of_verdict : (C : Graph → Type 0) (F : Fault → Type 0) (r : Result Graph Fault) (rows : List Row) → Verdict C F r → ((after : Graph) × (results : List Row) × (C after × (results ≡ rows))) ⊎ ((f : Fault) × F f)
 of_verdict C F (Ok after) rows h = inl (after, rows, (h, refl))
@@ -27,7 +27,7 @@ of_verdict C F (Err f) rows h = inr (f, h)
 
 pub set_is_decided : SetIsDecided
 set_is_decided items g graph rows is =
-    (of_verdict (Sets g items graph rows) (SetFaults g items graph rows) (each_step (set_row g items) graph rows) rows (sets_stand g items rows graph is), λ after results f s x. no_sets_fault g items graph rows after f s.0 x)
+    (of_verdict (Sets g items graph rows) (SetFaults g items graph rows) (each_step (set_row (some_setting g) items) graph rows) rows (sets_stand (some_setting g) items rows graph is), λ after results f s x. no_sets_fault g items graph rows after f s.0 x)
 
 pub remove_is_decided : RemoveIsDecided
 remove_is_decided items g graph rows is =
@@ -37,34 +37,34 @@ module _ (is_detach : Bool) (es : List Expression) (g : Given) (graph : Graph) (
   Decided : Type 0
   Decided = ((after : Graph) × (results : List Row) × (ElementsGo g is_detach es graph rows after × (results ≡ rows))) ⊎ ((f : Fault) × GoFaults g is_detach es graph rows f)
 
-  goes : (after : Graph) → Removal g is_detach es graph rows after → Decided
+  goes : (after : Graph) → Removal (some_setting g) is_detach es graph rows after → Decided
   unfolding Decided
-  goes after h = inl (after, rows, ((delete_is_computed g is_detach es graph after rows is).0 h, refl))
+  goes after h = inl (after, rows, ((delete_is_computed (some_setting g) is_detach es graph after rows is).0 h, refl))
 
-  fails : (f : Fault) → RemovalFaults g is_detach es graph rows f → Decided
+  fails : (f : Fault) → RemovalFaults (some_setting g) is_detach es graph rows f → Decided
   unfolding Decided
-  fails f h = inr (f, (delete_fault_is_computed g is_detach es graph rows f is).0 h)
+  fails f h = inr (f, (delete_fault_is_computed (some_setting g) is_detach es graph rows f is).0 h)
 
-  by_doomed : (r : Result Doomed Fault) → each_step (doom_row g graph es) ([], []) rows ≡ r → Decided
-  by_doomed (Err f) e = fails f (inl (rows_fault g graph es rows f e))
+  by_doomed : (r : Result Doomed Fault) → each_step (doom_row (some_setting g) graph es) ([], []) rows ≡ r → Decided
+  by_doomed (Err f) e = fails f (inl (rows_fault (some_setting g) graph es rows f e))
   by_doomed (Ok d) e = by_test (list_any (is_connected (cut_off is_detach graph d is)) (gone_nodes is_detach graph d is)) refl
     where
       by_test : (b : Bool) → list_any (is_connected (cut_off is_detach graph d is)) (gone_nodes is_detach graph d is) ≡ b → Decided
       by_test true t = fails NodeStillConnected (inr (d, e, ap (λ b. unless (not b) NodeStillConnected) t))
       by_test false t = goes (left_over is_detach graph d is) (record { doomed = d; named = e; connected = ap (λ b. unless (not b) NodeStillConnected) t; removed = refl })
 
-  not_computed : (after : Graph) (f : Fault) → ElementsGo g is_detach es graph rows after → Removal g is_detach es graph rows after → RemovalFaults g is_detach es graph rows f → ⊥
+  not_computed : (after : Graph) (f : Fault) → ElementsGo g is_detach es graph rows after → Removal (some_setting g) is_detach es graph rows after → RemovalFaults (some_setting g) is_detach es graph rows f → ⊥
   not_computed after f told h (inl x) =
-      let goes = row_goes g graph x.0 es ([], []) (all_at (λ row. AllByRecursion (HasDeletable g graph row) es) x.0 rows told.evaluated x.1) in
-      ok_or_err (doom_row g graph es ([], []) x.0) goes.0 f goes.1 x.2
+      let goes = row_goes (some_setting g) graph x.0 es ([], []) (all_at (λ row. AllByRecursion (HasDeletable g graph row) es) x.0 rows told.evaluated x.1) in
+      ok_or_err (doom_row (some_setting g) graph es ([], []) x.0) goes.0 f goes.1 x.2
   not_computed after f told h (inr x) =
       let same = same_ok x.0 h.doomed (sym x.1 ∙ h.named) in
       ok_or_err (test_unconnected (cut_off is_detach graph h.doomed is) (gone_nodes is_detach graph h.doomed is)) tt f h.connected
       (subst (λ d. test_unconnected (cut_off is_detach graph d is) (gone_nodes is_detach graph d is) ≡ Err f) same x.2)
 
   not_both : (after : Graph) (results : List Row) (f : Fault) → ElementsGo g is_detach es graph rows after × (results ≡ rows) → GoFaults g is_detach es graph rows f → ⊥
-  not_both after results f h x = not_computed after f h.0 ((delete_is_computed g is_detach es graph after rows is).1 h.0) ((delete_fault_is_computed g is_detach es graph rows f is).1 x)
+  not_both after results f h x = not_computed after f h.0 ((delete_is_computed (some_setting g) is_detach es graph after rows is).1 h.0) ((delete_fault_is_computed (some_setting g) is_detach es graph rows f is).1 x)
 
 pub delete_is_decided : DeleteIsDecided
 unfolding Decided
-delete_is_decided is_detach es g graph rows is = (by_doomed is_detach es g graph rows is (each_step (doom_row g graph es) ([], []) rows) refl, not_both is_detach es g graph rows is)
+delete_is_decided is_detach es g graph rows is = (by_doomed is_detach es g graph rows is (each_step (doom_row (some_setting g) graph es) ([], []) rows) refl, not_both is_detach es g graph rows is)

@@ -3,6 +3,7 @@ use Rattle.std.proofs.Common.{◌≡◌, ℕ, ◌⊎◌, inl, inr, List, [], ◌
 use Rattle.std.specs.Bool.{⊤}
 use Rattle.std.specs.List.{AllByRecursion}
 use Rattle.pg_meaning.specs.Turns.{AtSomeRow}
+use Rattle.pg_meaning.specs.Agreement.{given_in}
 use Rattle.pg_meaning.specs.Answer.{◌>>=◌, each_step}
 use Rattle.pg_meaning.specs.AnswerLaws.{went_well, went_wrong, same_ok}
 use Rattle.pg_meaning.specs.Expressions.{evaluate}
@@ -322,21 +323,21 @@ doom_goes d (list vs) h = absurd h
 doom_goes d (mapping es) h = absurd h
 
 module _ (s : Setting) (graph : Graph) (row : Row) where
-  pub first_fault : (es : List Expression) (d : Doomed) (f : Fault) → doom_row s graph es d row ≡ Err f → FirstFault s graph row es f
+  pub first_fault : (es : List Expression) (d : Doomed) (f : Fault) → doom_row s graph es d row ≡ Err f → FirstFault (given_in s) graph row es f
   first_fault [] d f h = cc
   first_fault (e ∷ es) d f h =
       by_first (went_wrong (evaluate row s.parameters graph e >>= doom d) (λ t. doom_row s graph es t row) f h) (λ t. first_fault es t f)
     where
-      by_value : (evaluate row s.parameters graph e ≡ Err f) ⊎ ((v : Value) × (evaluate row s.parameters graph e ≡ Ok v) × (doom d v ≡ Err f)) → ExpressionFaults s graph row e f
+      by_value : (evaluate row s.parameters graph e ≡ Err f) ⊎ ((v : Value) × (evaluate row s.parameters graph e ≡ Ok v) × (doom d v ≡ Err f)) → ExpressionFaults (given_in s) graph row e f
       by_value (inl h) = inl h
       by_value (inr p) = let n = no_doom p.0 f (fault_alike (doom d p.0) (doom ([], []) p.0) f (value_alike d ([], []) p.0) p.2) in inr (p.0, p.1, n.0, n.1)
 
-      by_first : ((evaluate row s.parameters graph e >>= doom d) ≡ Err f) ⊎ ((t : Doomed) × ((evaluate row s.parameters graph e >>= doom d) ≡ Ok t) × (doom_row s graph es t row ≡ Err f)) → ((t : Doomed) → doom_row s graph es t row ≡ Err f → FirstFault s graph row es f)
-          → FirstFault s graph row (e ∷ es) f
+      by_first : ((evaluate row s.parameters graph e >>= doom d) ≡ Err f) ⊎ ((t : Doomed) × ((evaluate row s.parameters graph e >>= doom d) ≡ Ok t) × (doom_row s graph es t row ≡ Err f)) → ((t : Doomed) → doom_row s graph es t row ≡ Err f → FirstFault (given_in s) graph row es f)
+          → FirstFault (given_in s) graph row (e ∷ es) f
       by_first (inl x) rest = inl (by_value (went_wrong (evaluate row s.parameters graph e) (doom d) f x))
       by_first (inr p) rest = inr ((expression_gathers s graph row d p.0 e p.1).1, rest p.0 p.2)
 
-  pub fault_is_first : (es : List Expression) (d : Doomed) (f : Fault) → FirstFault s graph row es f → doom_row s graph es d row ≡ Err f
+  pub fault_is_first : (es : List Expression) (d : Doomed) (f : Fault) → FirstFault (given_in s) graph row es f → doom_row s graph es d row ≡ Err f
   fault_is_first [] d f h = absurd h
   fault_is_first (e ∷ es) d f (inl (inl x)) = ap (λ a. (a >>= doom d) >>= λ t. doom_row s graph es t row) x
   fault_is_first (e ∷ es) d f (inl (inr p)) = ap (λ a. (a >>= doom d) >>= λ t. doom_row s graph es t row) p.1 ∙ ap (λ a. a >>= λ t. doom_row s graph es t row) (doom_faults d p.0 p.2) ∙ ap Err (sym p.3)
@@ -344,7 +345,7 @@ module _ (s : Setting) (graph : Graph) (row : Row) where
       let made = doom_goes d p.0.0 p.0.2 in
       ap (λ a. (a >>= doom d) >>= λ t. doom_row s graph es t row) p.0.1 ∙ ap (λ a. a >>= λ t. doom_row s graph es t row) made.1 ∙ fault_is_first es made.0 f p.1
 
-  pub row_goes : (es : List Expression) (d : Doomed) → AllByRecursion (HasDeletable s graph row) es → (c : Doomed) × (doom_row s graph es d row ≡ Ok c)
+  pub row_goes : (es : List Expression) (d : Doomed) → AllByRecursion (HasDeletable (given_in s) graph row) es → (c : Doomed) × (doom_row s graph es d row ≡ Ok c)
   row_goes [] d h = (d, refl)
   row_goes (e ∷ es) d h =
       let made = doom_goes d h.0.0 h.0.2 in
@@ -352,7 +353,7 @@ module _ (s : Setting) (graph : Graph) (row : Row) where
       (rest.0, ap (λ a. (a >>= doom d) >>= λ t. doom_row s graph es t row) h.0.1 ∙ ap (λ a. a >>= λ t. doom_row s graph es t row) made.1 ∙ rest.1)
 
 -- where all have a value that may be deleted, the ids are gathered
-pub rows_go : (s : Setting) (graph : Graph) (es : List Expression) (rows : List Row) (d : Doomed) → AllHaveDeletable s graph es rows → (c : Doomed) × (each_step (doom_row s graph es) d rows ≡ Ok c)
+pub rows_go : (s : Setting) (graph : Graph) (es : List Expression) (rows : List Row) (d : Doomed) → AllHaveDeletable (given_in s) graph es rows → (c : Doomed) × (each_step (doom_row s graph es) d rows ≡ Ok c)
 rows_go s graph es [] d h = (d, refl)
 rows_go s graph es (row ∷ rows) d h =
     let made = row_goes s graph row es d h.0 in

@@ -2,6 +2,7 @@
 use Rattle.std.proofs.Common.{◌≡◌, ℕ, Bool, true, false, not, ◌&&◌, ◌⊎◌, inl, inr, List, [], ◌∷◌, filter, Option, Some, None, is_some, Result, Ok, Err, refl, sym, ap, subst, ◌∙◌, IsTrue, true≢false}
 use Rattle.std.specs.List.{list_all}
 use Rattle.std.specs.List.Sorted.{IsStrictlySortedBy}
+use Rattle.pg_meaning.specs.Agreement.{given_in}
 use Rattle.pg_meaning.specs.Answer.{◌>>=◌, ◌>>◌, unless}
 use Rattle.pg_meaning.specs.AnswerLaws.{by_answer, same_ok}
 use Rattle.pg_meaning.specs.Entries.{are_rising, without_key, set_keys}
@@ -16,6 +17,7 @@ use Rattle.pg_meaning.specs.Order.{text_order}
 use Rattle.pg_meaning.specs.Patterns.{texts_of}
 use Rattle.pg_meaning.specs.Rows.{Row, value_in}
 use Rattle.pg_meaning.specs.Tree.{Expression, Name, SetItem, set_property, set_all, set_more, set_labels, RemoveItem, remove_property, remove_labels}
+use Rattle.pg_meaning.specs.Turns.{Given}
 use Rattle.pg_meaning.specs.Updates.{may_be_set, test_storable, mapping_pairs, Target, at_node, at_relationship, target_value, change_properties, change_labels, is_nothing, set_pairs, on_target, set_item, remove_item}
 use Rattle.pg_meaning.specs.Value.{Value, null, boolean, integer, text, list, mapping, node, relationship, path, Entries, no_entries, entries_of}
 use Rattle.pg_meaning.specs.declared.fault.Fault.{Fault}
@@ -191,7 +193,7 @@ module _ (graph : Graph) (o : Option Value) (target : Target) (g : IsGraph graph
           properties_change Become (change pairs) graph o target g (λ es h. (laws es h).0) (λ es h. (laws es h).1) live
       by_test v pairs is are false e = no_room v pairs is are e
 
-  value_is_set : (s : Setting) (row : Row) (k : List ℕ) (e : Expression)
+  value_is_set : (s : Given) (row : Row) (k : List ℕ) (e : Expression)
       → Verdict (PropertiesChange (λ before now. (v : Value) × (evaluate row s.parameters graph e ≡ Ok v) × (may_be_set v ≡ true) × KeysAreSet ((k, v) ∷ []) before now) o graph) (ValueFaults s row graph e)
       (set_pairs graph (λ v. Ok ((k, v) ∷ [])) set_keys (evaluate row s.parameters graph e) target)
   value_is_set s row k e =
@@ -231,7 +233,7 @@ module _ (graph : Graph) (o : Option Value) (target : Target) (g : IsGraph graph
   no_map (relationship r) f e = (λ h. h, sym (same_err TypeFault f e))
   no_map (path ids) f e = (λ h. h, sym (same_err TypeFault f e))
 
-  map_is_set : (s : Setting) (row : Row) (e : Expression) (Become : Entries → Entries → Type 0) (change : List (List ℕ × Value) → Entries → Entries)
+  map_is_set : (s : Given) (row : Row) (e : Expression) (Become : Entries → Entries → Type 0) (change : List (List ℕ × Value) → Entries → Entries)
       → ((ms : Entries) → evaluate row s.parameters graph e ≡ Ok (mapping ms) → AreSettable (entries_of ms) → (es : Entries) → are_rising es ≡ true → Become es (change (entries_of ms) es) × (are_rising (change (entries_of ms) es) ≡ true))
       → Verdict (PropertiesChange Become o graph) (MapFaults s row graph e) (set_pairs graph mapping_pairs change (evaluate row s.parameters graph e) target)
   map_is_set s row e Become change become =
@@ -263,23 +265,23 @@ by_name C F graph row t f none live =
 none_changes : (N : Node → Node → Type 0) (R : Relationship → Relationship → Type 0) (o : Option Value) (graph : Graph) → o ≡ Some null → ElementChanges N R o graph graph
 none_changes N R o graph e = subst (λ o. ElementChanges N R o graph graph) (sym e) refl
 
-pub set_item_stands : (s : Setting) (row : Row) (graph : Graph) (i : SetItem) → IsGraph graph → Verdict (SetsItem s row graph i) (SetItemFaults s row graph i) (set_item s row graph i)
+pub set_item_stands : (s : Setting) (row : Row) (graph : Graph) (i : SetItem) → IsGraph graph → Verdict (SetsItem (given_in s) row graph i) (SetItemFaults (given_in s) row graph i) (set_item s row graph i)
 set_item_stands s row graph (set_property t k e) g =
-    by_name (SetsItem s row graph (set_property t k e)) (ValueFaults s row graph e) graph row t (set_pairs graph (λ v. Ok ((k.text, v) ∷ [])) set_keys (evaluate row s.parameters graph e))
+    by_name (SetsItem (given_in s) row graph (set_property t k e)) (ValueFaults (given_in s) row graph e) graph row t (set_pairs graph (λ v. Ok ((k.text, v) ∷ [])) set_keys (evaluate row s.parameters graph e))
     (none_changes _ _ (value_in t.text row) graph)
-    (λ target h. value_is_set graph (value_in t.text row) target g h s row k.text e)
+    (λ target h. value_is_set graph (value_in t.text row) target g h (given_in s) row k.text e)
 set_item_stands s row graph (set_all t e) g =
-    by_name (SetsItem s row graph (set_all t e)) (MapFaults s row graph e) graph row t (set_pairs graph mapping_pairs (λ ps es. set_keys ps no_entries) (evaluate row s.parameters graph e))
+    by_name (SetsItem (given_in s) row graph (set_all t e)) (MapFaults (given_in s) row graph e) graph row t (set_pairs graph mapping_pairs (λ ps es. set_keys ps no_entries) (evaluate row s.parameters graph e))
     (none_changes _ _ (value_in t.text row) graph)
-    (λ target h. map_is_set graph (value_in t.text row) target g h s row e (λ before now. MapIsSet s row graph e no_entries now) (λ ps es. set_keys ps no_entries)
+    (λ target h. map_is_set graph (value_in t.text row) target g h (given_in s) row e (λ before now. MapIsSet (given_in s) row graph e no_entries now) (λ ps es. set_keys ps no_entries)
     (λ ms is settable es r. ((ms, is, settable, keys_are_set (entries_of ms) no_entries refl), set_keys_keeps_rising (entries_of ms) no_entries refl)))
 set_item_stands s row graph (set_more t e) g =
-    by_name (SetsItem s row graph (set_more t e)) (MapFaults s row graph e) graph row t (set_pairs graph mapping_pairs set_keys (evaluate row s.parameters graph e))
+    by_name (SetsItem (given_in s) row graph (set_more t e)) (MapFaults (given_in s) row graph e) graph row t (set_pairs graph mapping_pairs set_keys (evaluate row s.parameters graph e))
     (none_changes _ _ (value_in t.text row) graph)
-    (λ target h. map_is_set graph (value_in t.text row) target g h s row e (MapIsSet s row graph e) set_keys
+    (λ target h. map_is_set graph (value_in t.text row) target g h (given_in s) row e (MapIsSet (given_in s) row graph e) set_keys
     (λ ms is settable es r. ((ms, is, settable, keys_are_set (entries_of ms) es r), set_keys_keeps_rising (entries_of ms) es r)))
 set_item_stands s row graph (set_labels t ls) g =
-    by_name (SetsItem s row graph (set_labels t ls)) (LabelFaults (value_in t.text row)) graph row t (λ target. change_labels (put_texts (texts_of ls)) target graph)
+    by_name (SetsItem (given_in s) row graph (set_labels t ls)) (LabelFaults (value_in t.text row)) graph row t (λ target. change_labels (put_texts (texts_of ls)) target graph)
     (none_changes _ _ (value_in t.text row) graph)
     (λ target h. labels_change _ (put_texts (texts_of ls)) graph (value_in t.text row) target g (λ us r. labels_are_added (texts_of ls) us r) (λ us r. (labels_are_added (texts_of ls) us r).rising) h)
 

@@ -1,6 +1,7 @@
 -- Items and rows one after the other: SET and REMOVE give what they say, or end in a fault that they may.
 use Rattle.std.proofs.Common.{inl, inr, List, [], ◌∷◌, Option, Some, None, Result, Ok, Err, refl, sym, subst}
-use Rattle.pg_meaning.specs.Turns.{InTurn, FaultInTurn}
+use Rattle.pg_meaning.specs.Turns.{Given, InTurn, FaultInTurn}
+use Rattle.pg_meaning.specs.Agreement.{given_in}
 use Rattle.pg_meaning.specs.Answer.{◌>>=◌, each_step}
 use Rattle.pg_meaning.specs.Graph.{Graph, Node, Relationship, IsGraph}
 use Rattle.pg_meaning.specs.Meters.{Setting}
@@ -26,7 +27,7 @@ element_keeps N R (Some (path ids)) graph after g h = absurd h
 element_keeps N R (Some (node n)) graph after g h = h.graph_again
 element_keeps N R (Some (relationship r)) graph after g h = h.graph_again
 
-pub set_keeps : (s : Setting) (row : Row) (graph : Graph) (i : SetItem) (after : Graph) → IsGraph graph → SetsItem s row graph i after → IsGraph after
+pub set_keeps : (s : Given) (row : Row) (graph : Graph) (i : SetItem) (after : Graph) → IsGraph graph → SetsItem s row graph i after → IsGraph after
 set_keeps s row graph (set_property t k e) after g h = element_keeps _ _ (value_in t.text row) graph after g h
 set_keeps s row graph (set_all t e) after g h = element_keeps _ _ (value_in t.text row) graph after g h
 set_keeps s row graph (set_more t e) after g h = element_keeps _ _ (value_in t.text row) graph after g h
@@ -61,22 +62,22 @@ module _ {X : Type 0} (R : Graph → X → Graph → Type 0) where
 
 -- ---- SET and REMOVE
 
-pub set_row_keeps : (s : Setting) (items : List SetItem) (graph : Graph) (row : Row) (after : Graph) → IsGraph graph → InTurn (SetsItem s row) graph items after → IsGraph after
+pub set_row_keeps : (s : Given) (items : List SetItem) (graph : Graph) (row : Row) (after : Graph) → IsGraph graph → InTurn (SetsItem s row) graph items after → IsGraph after
 set_row_keeps s items graph row after g h = in_turn_keeps (SetsItem s row) (λ b i a gb hb. set_keeps s row b i a gb hb) items graph after g h
 
 pub remove_row_keeps : (items : List RemoveItem) (graph : Graph) (row : Row) (after : Graph) → IsGraph graph → InTurn (RemovesItem row) graph items after → IsGraph after
 remove_row_keeps items graph row after g h = in_turn_keeps (RemovesItem row) (λ b i a gb hb. remove_keeps row b i a gb hb) items graph after g h
 
-pub sets_keep : (s : Setting) (items : List SetItem) (graph : Graph) (rows : List Row) (after : Graph) → IsGraph graph → Sets s items graph rows after → IsGraph after
+pub sets_keep : (s : Given) (items : List SetItem) (graph : Graph) (rows : List Row) (after : Graph) → IsGraph graph → Sets s items graph rows after → IsGraph after
 sets_keep s items graph rows after g h = in_turn_keeps (λ before row next. InTurn (SetsItem s row) before items next) (set_row_keeps s items) rows graph after g h
 
 pub removes_keep : (items : List RemoveItem) (graph : Graph) (rows : List Row) (after : Graph) → IsGraph graph → Removes items graph rows after → IsGraph after
 removes_keep items graph rows after g h = in_turn_keeps (λ before row next. InTurn (RemovesItem row) before items next) (remove_row_keeps items) rows graph after g h
 
-pub sets_stand : (s : Setting) (items : List SetItem) (rows : List Row) (graph : Graph) → IsGraph graph → Verdict (Sets s items graph rows) (SetFaults s items graph rows) (each_step (set_row s items) graph rows)
+pub sets_stand : (s : Setting) (items : List SetItem) (rows : List Row) (graph : Graph) → IsGraph graph → Verdict (Sets (given_in s) items graph rows) (SetFaults (given_in s) items graph rows) (each_step (set_row s items) graph rows)
 sets_stand s items rows graph g =
-    in_turn_stands (λ before row next. InTurn (SetsItem s row) before items next) (λ before row x. FaultInTurn (SetsItem s row) (SetItemFaults s row) before items x) (set_row s items) (set_row_keeps s items)
-    (λ before row gb. in_turn_stands (SetsItem s row) (SetItemFaults s row) (set_item s row) (λ b i a gb hb. set_keeps s row b i a gb hb) (λ b i gb. set_item_stands s row b i gb) items before gb)
+    in_turn_stands (λ before row next. InTurn (SetsItem (given_in s) row) before items next) (λ before row x. FaultInTurn (SetsItem (given_in s) row) (SetItemFaults (given_in s) row) before items x) (set_row s items) (set_row_keeps (given_in s) items)
+    (λ before row gb. in_turn_stands (SetsItem (given_in s) row) (SetItemFaults (given_in s) row) (set_item s row) (λ b i a gb hb. set_keeps (given_in s) row b i a gb hb) (λ b i gb. set_item_stands s row b i gb) items before gb)
     rows graph g
 
 pub removes_stand : (items : List RemoveItem) (rows : List Row) (graph : Graph) → IsGraph graph → Verdict (Removes items graph rows) (RemoveFaults items graph rows) (each_step (remove_row items) graph rows)

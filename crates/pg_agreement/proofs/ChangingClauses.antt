@@ -1,6 +1,6 @@
 -- SET and REMOVE agree with their meaning.
 use Rattle.std.proofs.Common.{◌*◌, inl, inr, length, Ok, refl}
-use Rattle.pg_meaning.specs.Agreement.{AnswerAgrees}
+use Rattle.pg_meaning.specs.Agreement.{given_in, AnswerAgrees}
 use Rattle.pg_meaning.specs.Answer.{◌>>=◌, each_step}
 use Rattle.pg_meaning.specs.AnswerLaws.{by_answer}
 use Rattle.pg_meaning.specs.Meters.{spend}
@@ -16,7 +16,7 @@ set_agrees items s state faults given_here planned g rows =
     by_answer (AnswerAgrees s (set_items items) state) (spend s state.steps (length state.rows * length items))
     (λ steps. each_step (set_row s items) state.graph state.rows >>= λ graph. Ok (record { graph = graph; rows = state.rows; steps = steps }))
     (λ steps e. by_answer (AnswerAgrees s (set_items items) state) (each_step (set_row s items) state.graph state.rows) (λ graph. Ok (record { graph = graph; rows = state.rows; steps = steps }))
-    (λ graph is. let sets = (set_is_computed s items state.graph graph state.rows g).0 is in ((sets, refl), sets_keep s items state.graph state.rows graph g sets, rows))
+    (λ graph is. let sets = (set_is_computed s items state.graph graph state.rows g).0 is in ((sets, refl), sets_keep (given_in s) items state.graph state.rows graph g sets, rows))
     (λ f is. inr ((set_fault_is_computed s items state.graph state.rows f g).0 is)))
     (λ f e. inl (spend_fault s state.steps (length state.rows * length items) f e))
 

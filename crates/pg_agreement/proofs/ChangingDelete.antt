@@ -1,7 +1,7 @@
 -- DELETE agrees with its meaning.
 use Rattle.std.proofs.Common.{◌≡◌, ℕ, ◌+◌, Bool, true, false, not, inl, inr, [], length, Result, Ok, refl, ap}
 use Rattle.std.specs.List.{list_any}
-use Rattle.pg_meaning.specs.Agreement.{given, AnswerAgrees}
+use Rattle.pg_meaning.specs.Agreement.{given_in, AnswerAgrees}
 use Rattle.pg_meaning.specs.Answer.{◌>>=◌, ◌>>◌, unless, each_step}
 use Rattle.pg_meaning.specs.AnswerLaws.{by_answer}
 use Rattle.pg_meaning.specs.Meters.{State, spend}
@@ -24,8 +24,8 @@ delete_agrees is_detach es s state faults given_here planned g rows =
     (λ f e. inl (spend_fault s state.steps (length (gone_nodes is_detach state.graph d g) + length (gone_relationships is_detach state.graph d g)) f e)))
     (λ f e. inr (fails f (inl (rows_fault s state.graph es state.rows f e))))
   where
-    fails : (f : Fault) → RemovalFaults (given s) is_detach es state.graph state.rows f → GoFaults (given s) is_detach es state.graph state.rows f
-    fails f = (delete_fault_is_computed (given s) is_detach es state.graph state.rows f g).0
+    fails : (f : Fault) → RemovalFaults s is_detach es state.graph state.rows f → GoFaults (given_in s) is_detach es state.graph state.rows f
+    fails f = (delete_fault_is_computed s is_detach es state.graph state.rows f g).0
 
     cut : Doomed → ℕ → Result State Fault
     cut d steps = test_unconnected (cut_off is_detach state.graph d g) (gone_nodes is_detach state.graph d g) >> Ok (record { graph = left_over is_detach state.graph d g; rows = state.rows; steps = steps })
@@ -36,5 +36,5 @@ delete_agrees is_detach es s state faults given_here planned g rows =
     by_test : (d : Doomed) → each_step (doom_row s state.graph es) ([], []) state.rows ≡ Ok d → (steps : ℕ) → (b : Bool) → list_any (is_connected (cut_off is_detach state.graph d g)) (gone_nodes is_detach state.graph d g) ≡ b
         → AnswerAgrees s (delete is_detach es) state (unless (not b) NodeStillConnected >> Ok (record { graph = left_over is_detach state.graph d g; rows = state.rows; steps = steps }))
     by_test d named steps false e =
-        (((delete_is_computed (given s) is_detach es state.graph (left_over is_detach state.graph d g) state.rows g).0 (record { doomed = d; named = named; connected = ap (λ b. unless (not b) NodeStillConnected) e; removed = refl }), refl), left_is_graph is_detach state.graph d g e, rows)
+        (((delete_is_computed s is_detach es state.graph (left_over is_detach state.graph d g) state.rows g).0 (record { doomed = d; named = named; connected = ap (λ b. unless (not b) NodeStillConnected) e; removed = refl }), refl), left_is_graph is_detach state.graph d g e, rows)
     by_test d named steps true e = inr (fails NodeStillConnected (inr (d, named, ap (λ b. unless (not b) NodeStillConnected) e)))

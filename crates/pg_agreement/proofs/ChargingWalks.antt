@@ -9,7 +9,7 @@ use Rattle.pg_meaning.specs.Patterns.{node_name, single, way_of, range_of}
 use Rattle.pg_meaning.specs.Plans.{Anchor, Fixed}
 use Rattle.pg_meaning.specs.Rows.{Row, bind_if_named}
 use Rattle.pg_meaning.specs.Value.{node, Entries}
-use Rattle.pg_meaning.specs.Walks.{Listing, each_listing, and_then, NodeWanted, HopWanted, PathWanted, node_fits, relationship_fits, end_of, Reach, arrive, try_hop, fixed_hop, Stretch, extend, extensions, stretches, stretch_bond, end_range, range_hop, way_walked, one_hop, all_hops, wanted_nodes, rightwards, leftwards, candidates, Found, trail_of, from_anchor, left_walks, path_walks, walks_from}
+use Rattle.pg_meaning.specs.Walks.{Listing, each_listing, and_then, NodeWanted, HopWanted, PathWanted, node_fits, relationship_fits, end_of, Reach, arrive, try_hop, fixed_hop, Stretch, extend, extensions, stretches, stretch_bond, end_range, range_hop, way_walked, one_hop, all_hops, wanted_nodes, rightwards, leftwards, candidates, PathsWalked, trail_of, from_anchor, left_walks, path_walks, walks_from}
 use Rattle.pg_agreement.proofs.ChargingPlaces.{room, room_is, after, end_charge, range_charge, charge, weighed, weight_is_charge}
 use Rattle.pg_agreement.proofs.ChargingSums.{total, total_same, total_if, charged, charged_same, charged_each, charged_then, steps_then, only_one}
 use Rattle.pg_agreement.proofs.MatchHops.{Arrival}
@@ -168,20 +168,20 @@ module _ (graph : Graph) (parameters : Entries) (leads : List Fixed) where
 
   -- ---- one path
 
-  module _ (p : PathWanted × Anchor) (w : NodeWanted) (placed : slice_get (wanted_nodes p.0) p.1.place ≡ Some w) (ps : List Place) (b : BeginsAnew ps) (found : Found) where
+  module _ (p : PathWanted × Anchor) (w : NodeWanted) (placed : slice_get (wanted_nodes p.0) p.1.place ≡ Some w) (ps : List Place) (b : BeginsAnew ps) (found : PathsWalked) where
     abbrev lefts : List Place
     lefts = hop_places true true (leftwards p.0 p.1.place)
 
     abbrev rights : List Place
     rights = hop_places false false (rightwards p.0 p.1.place)
 
-    abbrev next_charge : Found → ℕ
+    abbrev next_charge : PathsWalked → ℕ
     next_charge next = anew ps next.row next.used
 
     abbrev back : Reach → Reach → Reach
     back f right = record { row = right.row; used = right.used; at = f.at; walked = [] }
 
-    abbrev whole : Reach → Reach → Reach → Listing Found
+    abbrev whole : Reach → Reach → Reach → Listing PathsWalked
     whole f right left = (record { row = left.row; used = left.used; trails = found.trails ++ (trail_of f.at left.walked (reverse right.walked) ∷ []) } ∷ [], 0)
 
     left_charge : (f right : Reach) → charges (lefts ++ ps) (record { row = right.row; used = right.used; anchor = f.at; at = right.at }) ≡ charged (left_walks graph p.0 p.1 found.trails f right) next_charge
@@ -190,7 +190,7 @@ module _ (graph : Graph) (parameters : Entries) (leads : List Fixed) where
         ∙ charged_same (all_hops graph true (leftwards p.0 p.1.place) (back f right)) (λ r. anew ps r.row r.used) (λ l. charged (whole f right l) next_charge) (λ l. only_one (anew ps l.row l.used))
         ∙ sym (charged_then (all_hops graph true (leftwards p.0 p.1.place) (back f right)) (whole f right) next_charge)
 
-    abbrev sides : Reach → Listing Found
+    abbrev sides : Reach → Listing PathsWalked
     sides f = and_then (all_hops graph false (rightwards p.0 p.1.place) f) (left_walks graph p.0 p.1 found.trails f)
 
     abbrev first_reach : ℕ → Reach
@@ -218,8 +218,8 @@ module _ (graph : Graph) (parameters : Entries) (leads : List Fixed) where
         (λ c. one_step (λ f. charged (sides f) next_charge) (node_fits graph found.row w c) (first_reach c) ∙ by_fit c (node_fits graph found.row w c))
         (candidates graph parameters leads found.row p.1 w)
 
-    abbrev walks_by : Option NodeWanted → Listing Found
-    walks_by o = elim o as (λ o. Listing Found) [
+    abbrev walks_by : Option NodeWanted → Listing PathsWalked
+    walks_by o = elim o as (λ o. Listing PathsWalked) [
       | None ↦ ([], 0)
       | Some v ↦ and_then (each_listing (λ c. (from_anchor graph found.row found.used v c, 1)) (candidates graph parameters leads found.row p.1 v)) sides
     ]
@@ -242,7 +242,7 @@ module _ (graph : Graph) (parameters : Entries) (leads : List Fixed) where
   places_anew [] h = λ row used i j k l. refl
   places_anew (p ∷ ps) h = path_anew p h.0.0 h.0.1 (flat_map path_places ps) (places_anew ps h.1) (record { row = []; used = []; trails = [] })
 
-  from_charge : (ps : List (PathWanted × Anchor)) → AllByRecursion IsWithin ps → (found : Found) → (walks_from graph parameters leads ps found).1 ≡ anew (flat_map path_places ps) found.row found.used
+  from_charge : (ps : List (PathWanted × Anchor)) → AllByRecursion IsWithin ps → (found : PathsWalked) → (walks_from graph parameters leads ps found).1 ≡ anew (flat_map path_places ps) found.row found.used
   from_charge [] h found = refl
   from_charge (p ∷ ps) h found =
       steps_then (path_walks graph parameters leads p.0 p.1 found) (λ next. walks_from graph parameters leads ps next)

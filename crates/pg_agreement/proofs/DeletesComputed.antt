@@ -1,6 +1,7 @@
 -- The meaning of DELETE leaves one graph, and its function computes it.
 use Rattle.std.proofs.Common.{◌≡◌, ℕ, Bool, true, false, ◌&&◌, ◌||◌, not, ◌⊎◌, inl, inr, List, [], Option, Some, None, is_some, Result, Ok, Err, IsTrue, refl, sym, ap, subst, ◌∙◌, true≢false}
 use Rattle.std.specs.List.{list_any}
+use Rattle.pg_meaning.specs.Agreement.{given_in}
 use Rattle.pg_meaning.specs.Answer.{unless, each_step}
 use Rattle.pg_meaning.specs.Expressions.{evaluate}
 use Rattle.pg_meaning.specs.Graph.{Graph, Relationship, IsGraph, node_at, relationship_at, has_node, contains_id}
@@ -9,6 +10,7 @@ use Rattle.pg_meaning.specs.Lists.{IsIn}
 use Rattle.pg_meaning.specs.Meters.{Setting}
 use Rattle.pg_meaning.specs.Rows.{Row}
 use Rattle.pg_meaning.specs.Tree.{Expression}
+use Rattle.pg_meaning.specs.Turns.{Given}
 use Rattle.pg_meaning.specs.Updates.{Doomed, is_doomed, doom_row, is_connected}
 use Rattle.pg_meaning.specs.Value.{Value}
 use Rattle.pg_meaning.specs.declared.fault.Fault.{Fault}
@@ -29,17 +31,20 @@ either_node P ids n goes_by other = by_test (contains_id ids n) refl
     by_test true e = goes_by (id_is_in ids n e)
     by_test false e = other (λ i. true≢false (sym (is_in_id ids n i) ∙ e))
 
-module _ (g : Setting) (is_detach : Bool) (es : List Expression) (graph : Graph) (rows : List Row) (is : IsGraph graph) where
+module _ (s : Setting) (is_detach : Bool) (es : List Expression) (graph : Graph) (rows : List Row) (is : IsGraph graph) where
+  abbrev g : Given
+  g = given_in s
+
   -- at all rows, with the ids that they name
-  module _ (d : Doomed) (named : each_step (doom_row g graph es) ([], []) rows ≡ Ok d) where
-    gathered : Gathers (λ n. (row : Row) × IsIn row rows × ((e : Expression) × IsIn e es × ValueHas g graph (λ v. HasNode v n) row e)) (λ r. (row : Row) × IsIn row rows × ((e : Expression) × IsIn e es × ValueHas g graph (λ v. HasRelationship v r) row e)) ([], []) d
+  module _ (d : Doomed) (named : each_step (doom_row s graph es) ([], []) rows ≡ Ok d) where
+    gathered : Gathers (λ n. (row : Row) × IsIn row rows × ((e : Expression) × IsIn e es × ValueHas s graph (λ v. HasNode v n) row e)) (λ r. (row : Row) × IsIn row rows × ((e : Expression) × IsIn e es × ValueHas s graph (λ v. HasRelationship v r) row e)) ([], []) d
         × AllHaveDeletable g graph es rows
-    gathered = rows_gather g graph es rows ([], []) d named
+    gathered = rows_gather s graph es rows ([], []) d named
 
     node_named : (n : ℕ) → IsIn n d.0 → NodeGoes g es graph rows n
     node_named n i = by_new (gathered.0.nodes n i)
       where
-        by_new : ⊥ ⊎ ((row : Row) × IsIn row rows × ((e : Expression) × IsIn e es × ValueHas g graph (λ v. HasNode v n) row e)) → NodeGoes g es graph rows n
+        by_new : ⊥ ⊎ ((row : Row) × IsIn row rows × ((e : Expression) × IsIn e es × ValueHas s graph (λ v. HasNode v n) row e)) → NodeGoes g es graph rows n
         by_new (inl i) = absurd i
         by_new (inr p) = (p.2.2.0, (p.0, p.2.0, p.1, p.2.1, p.2.2.1), p.2.2.2)
 
@@ -49,7 +54,7 @@ module _ (g : Setting) (is_detach : Bool) (es : List Expression) (graph : Graph)
     relationship_named : (r : ℕ) → IsIn r d.1 → (v : Value) × ((row : Row) × (e : Expression) × IsIn row rows × IsIn e es × (evaluate row g.parameters graph e ≡ Ok v)) × HasRelationship v r
     relationship_named r i = by_new (gathered.0.relationships r i)
       where
-        by_new : ⊥ ⊎ ((row : Row) × IsIn row rows × ((e : Expression) × IsIn e es × ValueHas g graph (λ v. HasRelationship v r) row e)) → (v : Value) × ((row : Row) × (e : Expression) × IsIn row rows × IsIn e es × (evaluate row g.parameters graph e ≡ Ok v)) × HasRelationship v r
+        by_new : ⊥ ⊎ ((row : Row) × IsIn row rows × ((e : Expression) × IsIn e es × ValueHas s graph (λ v. HasRelationship v r) row e)) → (v : Value) × ((row : Row) × (e : Expression) × IsIn row rows × IsIn e es × (evaluate row g.parameters graph e ≡ Ok v)) × HasRelationship v r
         by_new (inl i) = absurd i
         by_new (inr p) = (p.2.2.0, (p.0, p.2.0, p.1, p.2.1, p.2.2.1), p.2.2.2)
 
@@ -119,7 +124,7 @@ module _ (g : Setting) (is_detach : Bool) (es : List Expression) (graph : Graph)
 
   -- ---- one graph
 
-  gone_or_kept : (r : ℕ) (a : Graph) → ElementsGo g is_detach es graph rows a → relationship_at graph r ≡ None → (d : Doomed) → each_step (doom_row g graph es) ([], []) rows ≡ Ok d → relationship_at a r ≡ None
+  gone_or_kept : (r : ℕ) (a : Graph) → ElementsGo g is_detach es graph rows a → relationship_at graph r ≡ None → (d : Doomed) → each_step (doom_row s graph es) ([], []) rows ≡ Ok d → relationship_at a r ≡ None
   gone_or_kept r a h none d named = either_named (contains_id d.1 r) refl
     where
       not_there : RelationshipGoes g is_detach es graph rows r → ((v : Value) × ((row : Row) × (e : Expression) × IsIn row rows × IsIn e es × (evaluate row g.parameters graph e ≡ Ok v)) × HasRelationship v r)
@@ -132,7 +137,7 @@ module _ (g : Setting) (is_detach : Bool) (es : List Expression) (graph : Graph)
 
   one_left : (a b : Graph) → ElementsGo g is_detach es graph rows a → ElementsGo g is_detach es graph rows b → a ≡ b
   one_left a b p q =
-      let made = rows_go g graph es rows ([], []) p.evaluated in
+      let made = rows_go s graph es rows ([], []) p.evaluated in
       same_graph a b p.graph_again q.graph_again
       (λ n. either_node (node_at a n ≡ node_at b n) made.0.0 n
       (λ i. p.nodes_gone n (node_named made.0 made.1 n i) ∙ sym (q.nodes_gone n (node_named made.0 made.1 n i)))
@@ -141,7 +146,7 @@ module _ (g : Setting) (is_detach : Bool) (es : List Expression) (graph : Graph)
       (p.next_node ∙ sym q.next_node)
       (p.next_relationship ∙ sym q.next_relationship)
     where
-      by_there : (d : Doomed) → each_step (doom_row g graph es) ([], []) rows ≡ Ok d → (r : ℕ) (o : Option Relationship) → relationship_at graph r ≡ o → relationship_at a r ≡ relationship_at b r
+      by_there : (d : Doomed) → each_step (doom_row s graph es) ([], []) rows ≡ Ok d → (r : ℕ) (o : Option Relationship) → relationship_at graph r ≡ o → relationship_at a r ≡ relationship_at b r
       by_there d named r None there = gone_or_kept r a p there d named ∙ sym (gone_or_kept r b q there d named)
       by_there d named r (Some e) there =
           either_goes d named (relationship_at a r ≡ relationship_at b r) r e there
@@ -167,19 +172,19 @@ module _ (g : Setting) (is_detach : Bool) (es : List Expression) (graph : Graph)
   passed true e = cc
   passed false e = refl
 
-  removed_goes : (after : Graph) → Removal g is_detach es graph rows after → ElementsGo g is_detach es graph rows after
+  removed_goes : (after : Graph) → Removal s is_detach es graph rows after → ElementsGo g is_detach es graph rows after
   removed_goes after h =
       subst (ElementsGo g is_detach es graph rows) (sym h.removed) (left_goes h.doomed h.named (passed (list_any (is_connected (cut_off is_detach graph h.doomed is)) (gone_nodes is_detach graph h.doomed is)) h.connected))
 
-  goes_removed : (after : Graph) → ElementsGo g is_detach es graph rows after → Removal g is_detach es graph rows after
-  goes_removed after h = let made = rows_go g graph es rows ([], []) h.evaluated in by_test made.0 made.1 (list_any (is_connected (cut_off is_detach graph made.0 is)) (gone_nodes is_detach graph made.0 is)) refl
+  goes_removed : (after : Graph) → ElementsGo g is_detach es graph rows after → Removal s is_detach es graph rows after
+  goes_removed after h = let made = rows_go s graph es rows ([], []) h.evaluated in by_test made.0 made.1 (list_any (is_connected (cut_off is_detach graph made.0 is)) (gone_nodes is_detach graph made.0 is)) refl
     where
-      by_test : (d : Doomed) → each_step (doom_row g graph es) ([], []) rows ≡ Ok d → (b : Bool) → list_any (is_connected (cut_off is_detach graph d is)) (gone_nodes is_detach graph d is) ≡ b → Removal g is_detach es graph rows after
+      by_test : (d : Doomed) → each_step (doom_row s graph es) ([], []) rows ≡ Ok d → (b : Bool) → list_any (is_connected (cut_off is_detach graph d is)) (gone_nodes is_detach graph d is) ≡ b → Removal s is_detach es graph rows after
       by_test d named true e = absurd (no_connection after h (still_connected d named e))
       by_test d named false e = record { doomed = d; named = named; connected = ap (λ b. unless (not b) NodeStillConnected) e; removed = one_left after (left_over is_detach graph d is) h (left_goes d named e) }
 
-  removed_fault : (f : Fault) → RemovalFaults g is_detach es graph rows f → GoFaults g is_detach es graph rows f
-  removed_fault f (inl h) = inl (h.0, h.1, first_fault g graph h.0 es ([], []) f h.2)
+  removed_fault : (f : Fault) → RemovalFaults s is_detach es graph rows f → GoFaults g is_detach es graph rows f
+  removed_fault f (inl h) = inl (h.0, h.1, first_fault s graph h.0 es ([], []) f h.2)
   removed_fault f (inr h) = by_test (list_any (is_connected (cut_off is_detach graph h.0 is)) (gone_nodes is_detach graph h.0 is)) refl h.2
     where
       by_test : (b : Bool) → list_any (is_connected (cut_off is_detach graph h.0 is)) (gone_nodes is_detach graph h.0 is) ≡ b → unless (not b) NodeStillConnected ≡ Err f → GoFaults g is_detach es graph rows f
@@ -189,19 +194,23 @@ module _ (g : Setting) (is_detach : Bool) (es : List Expression) (graph : Graph)
           same_fault x = cc
       by_test false e x = cc
 
-  fault_removed : (f : Fault) → GoFaults g is_detach es graph rows f → RemovalFaults g is_detach es graph rows f
-  fault_removed f (inl h) = inl (h.0, h.1, fault_is_first g graph h.0 es ([], []) f h.2)
-  fault_removed f (inr h) = let made = rows_go g graph es rows ([], []) h.0 in by_test made.0 made.1 (list_any (is_connected (cut_off is_detach graph made.0 is)) (gone_nodes is_detach graph made.0 is)) refl
+  fault_removed : (f : Fault) → GoFaults g is_detach es graph rows f → RemovalFaults s is_detach es graph rows f
+  fault_removed f (inl h) = inl (h.0, h.1, fault_is_first s graph h.0 es ([], []) f h.2)
+  fault_removed f (inr h) = let made = rows_go s graph es rows ([], []) h.0 in by_test made.0 made.1 (list_any (is_connected (cut_off is_detach graph made.0 is)) (gone_nodes is_detach graph made.0 is)) refl
     where
-      by_test : (d : Doomed) → each_step (doom_row g graph es) ([], []) rows ≡ Ok d → (b : Bool) → list_any (is_connected (cut_off is_detach graph d is)) (gone_nodes is_detach graph d is) ≡ b → RemovalFaults g is_detach es graph rows f
+      by_test : (d : Doomed) → each_step (doom_row s graph es) ([], []) rows ≡ Ok d → (b : Bool) → list_any (is_connected (cut_off is_detach graph d is)) (gone_nodes is_detach graph d is) ≡ b → RemovalFaults s is_detach es graph rows f
       by_test d named true e = inr (d, named, ap (λ b. unless (not b) NodeStillConnected) e ∙ ap Err (sym h.2))
       by_test d named false e = absurd (no_connection (left_over is_detach graph d is) (left_goes d named e) h.1)
 
+-- a setting that gives just that
+abbrev pub some_setting : Given → Setting
+some_setting g = record { parameters = g.parameters; quota = record { max_steps = 0; max_elements = g.max_elements }; scope = g.scope; anchors = [] }
+
 pub one_deletion : OneDeletion
-one_deletion g is_detach es graph after other rows is = one_left g is_detach es graph rows is after other
+one_deletion g is_detach es graph after other rows is = one_left (some_setting g) is_detach es graph rows is after other
 
 pub delete_is_computed : DeleteIsComputed
-delete_is_computed g is_detach es graph after rows is = (removed_goes g is_detach es graph rows is after, goes_removed g is_detach es graph rows is after)
+delete_is_computed s is_detach es graph after rows is = (removed_goes s is_detach es graph rows is after, goes_removed s is_detach es graph rows is after)
 
 pub delete_fault_is_computed : DeleteFaultIsComputed
-delete_fault_is_computed g is_detach es graph rows f is = (removed_fault g is_detach es graph rows is f, fault_removed g is_detach es graph rows is f)
+delete_fault_is_computed s is_detach es graph rows f is = (removed_fault s is_detach es graph rows is f, fault_removed s is_detach es graph rows is f)

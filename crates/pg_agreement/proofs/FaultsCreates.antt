@@ -45,13 +45,13 @@ module _ (scope : Names) (s : Setting) (before : Graph) (row : Row) (b : BindsOn
   abbrev ReadyPairs : Properties → Type 0
   ReadyPairs ps = PairsReady scope s.parameters (property_pairs ps)
 
-  fine_given : (graph : Graph) (ps : Properties) → ReadyPairs ps → Fine (given_pairs s graph row ps)
+  fine_given : (graph : Graph) (ps : Properties) → ReadyPairs ps → Fine (given_pairs s.parameters graph row ps)
   fine_given graph no_properties r = tt
   fine_given graph (given ps) r = fine_pairs scope s.parameters graph row b (property_pairs (given ps)) r
   fine_given graph (from_parameter n) r = fine_mapping _
 
-  fine_properties : (graph : Graph) (ps : Properties) → ReadyPairs ps → Fine (given_properties s graph row ps)
-  fine_properties graph ps r = fine_all (given_pairs s graph row ps) _ (fine_given graph ps r) (λ pairs. fine_after (test_storable pairs) (Ok _) (fine_storable pairs) tt)
+  fine_properties : (graph : Graph) (ps : Properties) → ReadyPairs ps → Fine (given_properties s.parameters graph row ps)
+  fine_properties graph ps r = fine_all (given_pairs s.parameters graph row ps) _ (fine_given graph ps r) (λ pairs. fine_after (test_storable pairs) (Ok _) (fine_storable pairs) tt)
 
   -- ---- nodes
 
@@ -60,7 +60,7 @@ module _ (scope : Names) (s : Setting) (before : Graph) (row : Row) (b : BindsOn
 
   new_node : (m : Making) (n : NodePattern) → ReadyPairs n.properties → Ends (OneMore m) (make_new_node s before row n m)
   new_node m n r =
-      ends_all (OneMore m) (given_properties s before row n.properties) _ (fine_properties before n.properties r)
+      ends_all (OneMore m) (given_properties s.parameters before row n.properties) _ (fine_properties before n.properties r)
       (λ es. by_tests (test_room s m.graph) (test_counter m.graph.next_node) (fine_room s m.graph) (fine_counter m.graph.next_node) _ (one_longer m.ids m.graph.next_node))
     where
       by_tests : (t u : Result (Unit {0}) Fault) → Fine t → Fine u → (r : Making) → OneMore m r → Ends (OneMore m) (t >> (u >> Ok r))
@@ -109,7 +109,7 @@ module _ (scope : Names) (s : Setting) (before : Graph) (row : Row) (b : BindsOn
 
   fine_relationship : (r : RelationshipPattern) (left right : ℕ) (graph : Graph) → ReadyPairs (relationship_properties r) → Fine (make_relationship s before row r left right graph)
   fine_relationship r left right graph h =
-      fine_all (given_properties s before row (relationship_properties r)) _ (fine_properties before (relationship_properties r) h)
+      fine_all (given_properties s.parameters before row (relationship_properties r)) _ (fine_properties before (relationship_properties r) h)
       (λ es. by_tests (test_room s graph) (test_counter graph.next_relationship) (fine_room s graph) (fine_counter graph.next_relationship) _)
     where
       by_tests : (t u : Result (Unit {0}) Fault) → Fine t → Fine u → (g : Graph) → Fine (t >> (u >> Ok g))

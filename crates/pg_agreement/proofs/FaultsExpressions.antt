@@ -8,13 +8,13 @@ use Rattle.pg_meaning.specs.Answer.{◌>>=◌}
 use Rattle.pg_meaning.specs.AnswerLaws.{went_well, same_ok}
 use Rattle.pg_meaning.specs.Entries.{at_key, put}
 use Rattle.pg_meaning.specs.Expressions.{is_comparison, all_compared, or_fault, null_tested, is_coalesce, fault_of_name, condition_of, all_signed, evaluate, evaluate_each, first_given, evaluate_pairs, evaluate_perhaps, first_true, evaluate_chain, evaluate_operands, evaluate_tests, evaluate_suffixes, combined, tested, property_of, indexed}
-use Rattle.pg_meaning.specs.Functions.{Function, function_named, is_null, applied, count_of as values_count}
+use Rattle.pg_meaning.specs.Functions.{Function, function_named, is_null, applied, item_count}
 use Rattle.pg_meaning.specs.Grammar.{Mark, mark, key, sign, flag, further, commas, marks, list_marks, pair_marks, perhaps_marks, when_marks, operand_marks, test_marks, suffix_marks, text_test_marks, sign_marks, label_marks, operator_what, operator_level, IsWellFormed, AllWellFormed, ArePairs, MayBe, AreWhens, AreOperands, AreTests, AreSuffixes}
 use Rattle.pg_meaning.specs.Graph.{Graph}
 use Rattle.pg_meaning.specs.Logic.{value_of, truth_of, is_true}
 use Rattle.pg_meaning.specs.Names.{Names, is_among}
 use Rattle.pg_meaning.specs.Rows.{Row, value_in}
-use Rattle.pg_meaning.specs.StaticFaults.{found_if, elsewhere, takes, is_known, is_known_aggregate, is_known_function, is_aggregate, count_of, expression_faults, all_faults, pair_faults, perhaps_faults, when_faults, operand_faults, test_faults, suffix_faults, Found}
+use Rattle.pg_meaning.specs.StaticFaults.{found_if, elsewhere, takes, is_known, is_known_aggregate, is_known_function, is_aggregate, argument_count, expression_faults, all_faults, pair_faults, perhaps_faults, when_faults, operand_faults, test_faults, suffix_faults, PlacedFault}
 use Rattle.pg_meaning.specs.Tree.{Name, Expression, literal, parameter, variable, list_literal, map_literal, parentheses, call, case, chain, negation, signs, tests, suffixes, Expressions, no_expressions, expression, Pairs, no_pairs, pair, Perhaps, absent, present, Whens, no_whens, when, Operands, no_operands, operand, Tests, no_tests, text_test, null_test, Suffixes, no_suffixes, property, index}
 use Rattle.pg_meaning.specs.Value.{Value, null, list, mapping, Values, no_items, item, Entries, no_entries}
 use Rattle.pg_meaning.specs.declared.fault.Fault.{Fault}
@@ -87,12 +87,12 @@ module _ (visible : Names) (row : Row) (parameters : Entries) (graph : Graph) (b
   fine_or (Some v) f e = tt
   fine_or None f e = absurd (true≢false (sym e))
 
-  counted : (es : Expressions) (vs : Values) → evaluate_each row parameters graph es ≡ Ok vs → values_count vs ≡ count_of es
-  counted no_expressions vs e = ap values_count (sym (same_ok no_items vs e))
+  counted : (es : Expressions) (vs : Values) → evaluate_each row parameters graph es ≡ Ok vs → item_count vs ≡ argument_count es
+  counted no_expressions vs e = ap item_count (sym (same_ok no_items vs e))
   counted (expression x es) vs e =
       let first = went_well (evaluate row parameters graph x) (λ v. evaluate_each row parameters graph es >>= λ ws. Ok (item v ws)) vs e in
       let rest = went_well (evaluate_each row parameters graph es) (λ ws. Ok (item first.0 ws)) vs first.2 in
-      ap values_count (sym (same_ok (item first.0 rest.0) vs rest.2)) ∙ ap (λ n. 1 + n) (counted es rest.0 rest.1)
+      ap item_count (sym (same_ok (item first.0 rest.0) vs rest.2)) ∙ ap (λ n. 1 + n) (counted es rest.0 rest.1)
 
   abbrev called : Bool → Function → Expressions → Result Value Fault
   called b f es = elim b as (λ b. Result Value Fault) [ true ↦ first_given row parameters graph es | false ↦ evaluate_each row parameters graph es >>= applied graph f ]
@@ -100,25 +100,25 @@ module _ (visible : Names) (row : Row) (parameters : Entries) (graph : Graph) (b
   abbrev called_by : Name → Expressions → Option Function → Result Value Fault
   called_by n es o = elim o as (λ o. Result Value Fault) [ Some f ↦ called (is_coalesce f) f es | None ↦ Err (fault_of_name n.text) ]
 
-  fine_called : (n : Name) (es : Expressions) (o : Option Function) (f : Function) → o ≡ Some f → takes f (count_of es) ≡ true → Fine (first_given row parameters graph es) → Fine (evaluate_each row parameters graph es) → Fine (called_by n es o)
+  fine_called : (n : Name) (es : Expressions) (o : Option Function) (f : Function) → o ≡ Some f → takes f (argument_count es) ≡ true → Fine (first_given row parameters graph es) → Fine (evaluate_each row parameters graph es) → Fine (called_by n es o)
   fine_called n es o f is e first each =
       subst (λ o. Fine (called_by n es o)) (sym is)
       (by_bool (is_coalesce f)
       (λ c. subst (λ b. Fine (called b f es)) (sym c) first)
       (λ c. subst (λ b. Fine (called b f es)) (sym c) (fine_then (evaluate_each row parameters graph es) (applied graph f) each (λ vs is. fine_applied graph f vs c (subst (λ m. takes f m ≡ true) (sym (counted es vs is)) e)))))
 
-  abbrev aggregate_faults : Name → List Found
+  abbrev aggregate_faults : Name → List PlacedFault
   aggregate_faults n = found_if (is_aggregate n && true) n.place BadAggregate
 
-  abbrev unknown_faults : Name → (star distinct : Bool) → Expressions → List Found
-  unknown_faults n star distinct es = found_if (not (is_known n star distinct (count_of es))) n.place UnknownFunction
+  abbrev unknown_faults : Name → (star distinct : Bool) → Expressions → List PlacedFault
+  unknown_faults n star distinct es = found_if (not (is_known n star distinct (argument_count es))) n.place UnknownFunction
 
-  call_known : (n : Name) (star distinct : Bool) (es : Expressions) → expression_faults visible elsewhere (call n star distinct es) ≡ [] → (f : Function) × (function_named n.text ≡ Some f) × (takes f (count_of es) ≡ true)
+  call_known : (n : Name) (star distinct : Bool) (es : Expressions) → expression_faults visible elsewhere (call n star distinct es) ≡ [] → (f : Function) × (function_named n.text ≡ Some f) × (takes f (argument_count es) ≡ true)
   call_known n star distinct es e =
       let own = first_none (aggregate_faults n ++ unknown_faults n star distinct es) (all_faults visible es) e in
       let aggregate = none_found (is_aggregate n && true) n.place BadAggregate (first_none (aggregate_faults n) (unknown_faults n star distinct es) own) in
-      let known = was_false (is_known n star distinct (count_of es)) (none_found (not (is_known n star distinct (count_of es))) n.place UnknownFunction (second_none (aggregate_faults n) (unknown_faults n star distinct es) own)) in
-      known_takes (function_named n.text) star distinct (count_of es) (known_by (aggregate_named n.text) (function_named n.text) star distinct (count_of es) (plain (is_aggregate n) aggregate) known)
+      let known = was_false (is_known n star distinct (argument_count es)) (none_found (not (is_known n star distinct (argument_count es))) n.place UnknownFunction (second_none (aggregate_faults n) (unknown_faults n star distinct es) own)) in
+      known_takes (function_named n.text) star distinct (argument_count es) (known_by (aggregate_named n.text) (function_named n.text) star distinct (argument_count es) (plain (is_aggregate n) aggregate) known)
     where
       plain : (b : Bool) → (b && true) ≡ false → b ≡ false
       plain true e = e

@@ -14,7 +14,7 @@ use Rattle.pg_meaning.specs.ListsLaws.{all_joined, all_in_themselves, all_weaker
 use Rattle.pg_meaning.specs.Names.{Names, is_among, put_texts, in_byte_order}
 use Rattle.pg_meaning.specs.Order.{text_order}
 use Rattle.pg_meaning.specs.Scopes.{Column, variable_column, star_columns, is_aggregate as is_aggregate_column}
-use Rattle.pg_meaning.specs.StaticFaults.{Found, found_if, elsewhere, whole_item, count_of, is_known, is_aggregate, expression_faults, all_faults, item_faults}
+use Rattle.pg_meaning.specs.StaticFaults.{PlacedFault, found_if, elsewhere, whole_item, argument_count, is_known, is_aggregate, expression_faults, all_faults, item_faults}
 use Rattle.pg_meaning.specs.Tree.{Name, Expression, literal, parameter, variable, list_literal, map_literal, parentheses, call, case, chain, negation, signs, tests, suffixes, Expressions, no_expressions, expression, Item}
 use Rattle.pg_meaning.specs.Value.{Entries}
 use Rattle.pg_meaning.specs.declared.fault.Fault.TheVariants.{UndefinedVariable, BadAggregate, UnknownFunction}
@@ -86,8 +86,8 @@ module _ (scope : Names) (parameters : Entries) where
   argument_ready no_expressions w e h = tt
   argument_ready (expression x es) w e h = (w.0, first_none (expression_faults scope elsewhere x) (all_faults scope es) e, h.0)
 
-  abbrev unknown : Name → (star distinct : Bool) → Expressions → List Found
-  unknown n star distinct es = found_if (not (is_known n star distinct (count_of es))) n.place UnknownFunction
+  abbrev unknown : Name → (star distinct : Bool) → Expressions → List PlacedFault
+  unknown n star distinct es = found_if (not (is_known n star distinct (argument_count es))) n.place UnknownFunction
 
   call_ready : (n : Name) (star distinct : Bool) (es : Expressions) → IsWellFormed (call n star distinct es) → expression_faults scope whole_item (call n star distinct es) ≡ [] → Given (marks (call n star distinct es)) → ItemReady (call n star distinct es)
   call_ready n star distinct es w e h = by_name (aggregate_named n.text) refl

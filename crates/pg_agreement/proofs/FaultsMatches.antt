@@ -20,7 +20,7 @@ use Rattle.pg_meaning.specs.Rows.{Row, bind_if_named}
 use Rattle.pg_meaning.specs.StaticFaults.{matching, paths_faults, faults_if_any}
 use Rattle.pg_meaning.specs.Tree.{Expression, RelationshipPattern, NodePattern, PathPattern, match_paths}
 use Rattle.pg_meaning.specs.Value.{node, Entries}
-use Rattle.pg_meaning.specs.Walks.{Listing, each_listing, and_then, NodeWanted, HopWanted, PathWanted, paths_wanted, node_fits, Reach, all_hops, wanted_nodes, rightwards, leftwards, candidates, Found, trail_of, from_anchor, left_walks, path_walks, walks_from, walks}
+use Rattle.pg_meaning.specs.Walks.{Listing, each_listing, and_then, NodeWanted, HopWanted, PathWanted, paths_wanted, node_fits, Reach, all_hops, wanted_nodes, rightwards, leftwards, candidates, PathsWalked, trail_of, from_anchor, left_walks, path_walks, walks_from, walks}
 use Rattle.pg_meaning.specs.declared.fault.Fault.{Fault}
 use Rattle.pg_meaning.specs.declared.lexemes.Keyword.TheVariants as k
 use Rattle.pg_agreement.proofs.FaultsPatterns.{PathReady, paths_ready, fine_wanted, fine_bound_nodes}
@@ -105,8 +105,8 @@ trail_long n left right m e = (
     bonds_long x a b l r m e f g h = omega (arith, e, f, g, h)
 
 module _ (graph : Graph) (parameters : Entries) (leads : List Fixed) where
-  module _ (p : PathWanted) (a : Anchor) (found : Found) where
-    abbrev OneMore : Found → Type 0
+  module _ (p : PathWanted) (a : Anchor) (found : PathsWalked) where
+    abbrev OneMore : PathsWalked → Type 0
     OneMore y = (t : Trail) × (y.trails ≡ found.trails ++ (t ∷ [])) × IsLong (length p.hops) t
 
     module _ (w : NodeWanted) (placed : slice_get (wanted_nodes p) a.place ≡ Some w) where
@@ -136,7 +136,7 @@ module _ (graph : Graph) (parameters : Entries) (leads : List Fixed) where
           ))
           (all_hops graph true lefts (back f right)).0 (hops_long graph true lefts (back f right))
 
-      abbrev sides : Reach → Listing Found
+      abbrev sides : Reach → Listing PathsWalked
       sides f = and_then (all_hops graph false rights f) (left_walks graph p a found.trails f)
 
       sides_long : (f : Reach) → f.walked ≡ [] → AllByRecursion OneMore (sides f).0
@@ -158,8 +158,8 @@ module _ (graph : Graph) (parameters : Entries) (leads : List Fixed) where
           all_each (λ f. f.walked ≡ []) OneMore sides sides_long firsts.0
           (all_each (λ n. ⊤) (λ f. f.walked ≡ []) (λ n. (from_anchor graph found.row found.used w n, 1)) (λ n t. all_if (λ f. f.walked ≡ []) (node_fits graph found.row w n) (first_reach n) refl) candidates_here (all_trivial candidates_here))
 
-    abbrev found_from : Option NodeWanted → Listing Found
-    found_from o = elim o as (λ o. Listing Found) [
+    abbrev found_from : Option NodeWanted → Listing PathsWalked
+    found_from o = elim o as (λ o. Listing PathsWalked) [
       | None ↦ ([], 0)
       | Some w ↦ and_then (each_listing (λ n. (from_anchor graph found.row found.used w n, 1)) (candidates graph parameters leads found.row a w)) (λ f. and_then (all_hops graph false (rightwards p a.place) f) (left_walks graph p a found.trails f))
     ]
@@ -171,10 +171,10 @@ module _ (graph : Graph) (parameters : Entries) (leads : List Fixed) where
           | Some w ↦ λ e. placed_long w e
         ] refl
 
-  abbrev Further : List (PathWanted × Anchor) → Found → Found → Type 0
+  abbrev Further : List (PathWanted × Anchor) → PathsWalked → PathsWalked → Type 0
   Further ps found y = (ts : Assignment) × (y.trails ≡ found.trails ++ ts) × AllZip (λ p t. IsLong (length p.0.hops) t) ps ts
 
-  from_long : (ps : List (PathWanted × Anchor)) (found : Found) → AllByRecursion (Further ps found) (walks_from graph parameters leads ps found).0
+  from_long : (ps : List (PathWanted × Anchor)) (found : PathsWalked) → AllByRecursion (Further ps found) (walks_from graph parameters leads ps found).0
   from_long [] found = (([], sym (append-nil found.trails), tt), tt)
   from_long (p ∷ ps) found =
       all_each (OneMore p.0 p.1 found) (Further (p ∷ ps) found) (λ next. walks_from graph parameters leads ps next)
@@ -196,11 +196,11 @@ module _ (graph : Graph) (parameters : Entries) (leads : List Fixed) where
 
   pub walks_long : (row : Row) (qs : List PathPattern) (ps : List PathWanted) (as_ : List Anchor) → paths_wanted row parameters graph qs ≡ Ok ps → AllZip (IsAnchorOf leads) qs as_ → AllByRecursion (AreLong qs) (walks graph parameters leads ps as_ row).0
   walks_long row qs ps as_ e planned =
-      all_mapped (λ (y : Found). y.trails) (Further (zip ps as_) none) (AreLong qs)
+      all_mapped (λ (y : PathsWalked). y.trails) (Further (zip ps as_) none) (AreLong qs)
       (λ y m. wanted_long row qs ps as_ y.trails (are_paths parameters graph row qs ps e) planned (subst (λ ts. AllZip (λ p t. IsLong (length p.0.hops) t) (zip ps as_) ts) (sym m.1) m.2))
       (walks_from graph parameters leads (zip ps as_) none).0 (from_long (zip ps as_) none)
     where
-      none : Found
+      none : PathsWalked
       none = record { row = row; used = []; trails = [] }
 
 -- ---- MATCH

@@ -97,9 +97,9 @@ module _ (s : Setting) (graph : Graph) (columns : List Column) (distinct : Bool)
       by_argument a (Some e) r = fine_ready s.scope s.parameters graph row b e r
 
       by_aggregate : (o : Option Aggregate) → elim o as (λ o. Type 0) [ None ↦ Ready s.scope s.parameters c.value | Some a ↦ ReadyIfAny s.scope s.parameters a.argument ]
-          → Fine (elim o as (λ o. Result (List Value) Fault) [ None ↦ evaluate row s.parameters graph c.value >>= λ v. Ok (keep_first cell v) | Some a ↦ argument_value s graph row a >>= fold_value has_group a cell ])
+          → Fine (elim o as (λ o. Result (List Value) Fault) [ None ↦ evaluate row s.parameters graph c.value >>= λ v. Ok (keep_first cell v) | Some a ↦ argument_value s.parameters graph row a >>= fold_value has_group a cell ])
       by_aggregate None r = fine_all (evaluate row s.parameters graph c.value) _ (fine_ready s.scope s.parameters graph row b c.value r) (λ v. tt)
-      by_aggregate (Some a) r = fine_all (argument_value s graph row a) _ (by_argument a a.argument r) (λ v. fine_fold has_group a cell v)
+      by_aggregate (Some a) r = fine_all (argument_value s.parameters graph row a) _ (by_argument a a.argument r) (λ v. fine_fold has_group a cell v)
 
   cells_end : (row : Row) → BindsOnly s.scope row → (has_group : Bool) (cs : List Column) (cells : List (List Value)) → AllByRecursion (ColumnReady s.scope s.parameters) cs → Ends (λ ds. length ds ≡ length cs) (fold_cells s graph row has_group cs cells)
   cells_end row b has_group [] cells r = refl
@@ -171,16 +171,16 @@ module _ (s : Setting) (graph : Graph) (columns : List Column) (distinct : Bool)
       ends_then AreSized (AreShown true) (each_step (group_row s graph columns) (first_groups columns) rows) _ (ends_steps AreSized (BindsOnly s.scope) (group_row s graph columns) group_end (first_groups columns) rows first_sized h)
       (λ gs g. all_mapped (λ x. let p : Projected = record { columns = group_columns columns x.cells; earlier = [] } in p) IsSized (Shown true) (λ x e. (group_named columns x.cells e, refl)) gs g)
 
-  values_end : (row : Row) → BindsOnly s.scope row → (cs : List Column) → AllByRecursion (λ c. Ready s.scope s.parameters c.value) cs → Ends (λ vs. map (λ b. b.0) vs ≡ column_names cs) (each_answer (column_value s graph row) cs)
+  values_end : (row : Row) → BindsOnly s.scope row → (cs : List Column) → AllByRecursion (λ c. Ready s.scope s.parameters c.value) cs → Ends (λ vs. map (λ b. b.0) vs ≡ column_names cs) (each_answer (column_value s.parameters graph row) cs)
   values_end row b [] r = refl
   values_end row b (c ∷ cs) r =
-      ends_then (λ v. v.0 ≡ c.name) (λ vs. map (λ b. b.0) vs ≡ column_names (c ∷ cs)) (column_value s graph row c) (λ v. each_answer (column_value s graph row) cs >>= λ vs. Ok (v ∷ vs))
+      ends_then (λ v. v.0 ≡ c.name) (λ vs. map (λ b. b.0) vs ≡ column_names (c ∷ cs)) (column_value s.parameters graph row c) (λ v. each_answer (column_value s.parameters graph row) cs >>= λ vs. Ok (v ∷ vs))
       (ends_all (λ v. v.0 ≡ c.name) (evaluate row s.parameters graph c.value) (λ v. Ok (c.name, v)) (fine_ready s.scope s.parameters graph row b c.value r.0) (λ v. refl))
-      (λ v e. ends_then (λ vs. map (λ b. b.0) vs ≡ column_names cs) (λ vs. map (λ b. b.0) vs ≡ column_names (c ∷ cs)) (each_answer (column_value s graph row) cs) (λ vs. Ok (v ∷ vs)) (values_end row b cs r.1) (λ vs h i. e i ∷ h i))
+      (λ v e. ends_then (λ vs. map (λ b. b.0) vs ≡ column_names cs) (λ vs. map (λ b. b.0) vs ≡ column_names (c ∷ cs)) (each_answer (column_value s.parameters graph row) cs) (λ vs. Ok (v ∷ vs)) (values_end row b cs r.1) (λ vs h i. e i ∷ h i))
 
-  projected_end : list_any is_aggregate columns ≡ false → (row : Row) → BindsOnly s.scope row → Ends (Shown distinct) (projected s graph distinct columns row)
+  projected_end : list_any is_aggregate columns ≡ false → (row : Row) → BindsOnly s.scope row → Ends (Shown distinct) (projected s.parameters graph distinct columns row)
   projected_end plain row b =
-      ends_then (λ vs. map (λ b. b.0) vs ≡ column_names columns) (Shown distinct) (each_answer (column_value s graph row) columns) _ (values_end row b columns (plain_ready s.scope s.parameters columns plain ready))
+      ends_then (λ vs. map (λ b. b.0) vs ≡ column_names columns) (Shown distinct) (each_answer (column_value s.parameters graph row) columns) _ (values_end row b columns (plain_ready s.scope s.parameters columns plain ready))
       (λ vs e. (e, earlier distinct))
     where
       earlier : (d : Bool) → elim d as (λ h. Type 0) [ true ↦ cond d [] row ≡ [] | false ↦ BindsOnly s.scope (cond d [] row) ]
@@ -201,9 +201,9 @@ module _ (s : Setting) (graph : Graph) (columns : List Column) (distinct : Bool)
       or_false true = refl
       or_false false = refl
 
-      by_aggregates : (c : Bool) → list_any is_aggregate columns ≡ c → Ends (AreShown (distinct || c)) (elim c as (λ c. Result (List Projected) Fault) [ true ↦ grouped s graph columns rows | false ↦ each_answer (projected s graph distinct columns) rows ])
+      by_aggregates : (c : Bool) → list_any is_aggregate columns ≡ c → Ends (AreShown (distinct || c)) (elim c as (λ c. Result (List Projected) Fault) [ true ↦ grouped s graph columns rows | false ↦ each_answer (projected s.parameters graph distinct columns) rows ])
       by_aggregates true e = subst (λ d. Ends (AreShown d) (grouped s graph columns rows)) (or_true distinct) (grouped_end rows h)
-      by_aggregates false e = subst (λ d. Ends (AreShown d) (each_answer (projected s graph distinct columns) rows)) (or_false distinct) (ends_each (BindsOnly s.scope) (Shown distinct) (projected s graph distinct columns) (projected_end e) rows h)
+      by_aggregates false e = subst (λ d. Ends (AreShown d) (each_answer (projected s.parameters graph distinct columns) rows)) (or_false distinct) (ends_each (BindsOnly s.scope) (Shown distinct) (projected s.parameters graph distinct columns) (projected_end e) rows h)
 
   shown_binds : (r : Projected) → Shown hides r → BindsOnly (column_names columns) r.columns
   shown_binds r h = named_binds r.columns (column_names columns) h.0
@@ -232,7 +232,7 @@ module _ (s : Setting) (graph : Graph) (columns : List Column) (distinct : Bool)
   abbrev SortReady : SortItem → Type 0
   SortReady x = (list_any (λ c. same_expression c.value x.key) columns ≡ true) ⊎ Ready (visible_of s.scope columns distinct) s.parameters x.key
 
-  fine_sort : (p : Projected) → Shown hides p → (x : SortItem) → SortReady x → Fine (sort_key s graph columns p x)
+  fine_sort : (p : Projected) → Shown hides p → (x : SortItem) → SortReady x → Fine (sort_key s.parameters graph columns p x)
   fine_sort p h x r = by_place (position (λ c. same_expression c.value x.key) columns) refl r
     where
       by_column : (i : ℕ) → Fine (elim (slice_get p.columns i) as (λ o. Result Value Fault) [ Some b ↦ Ok b.1 | None ↦ Ok null ])
@@ -257,13 +257,13 @@ module _ (s : Setting) (graph : Graph) (columns : List Column) (distinct : Bool)
   ordered_end (o ∷ os) r ps h =
       ends_then (AllByRecursion (λ y. Shown hides y.1)) (AreShown hides) (each_answer (keyed_by s graph columns (o ∷ os)) ps) _
       (ends_each (Shown hides) (λ y. Shown hides y.1) (keyed_by s graph columns (o ∷ os))
-      (λ p g. ends_all (λ y. Shown hides y.1) (each_answer (sort_key s graph columns p) (o ∷ os)) (λ vs. Ok (vs, p))
-      (fine_ends (AllByRecursion (λ v. ⊤)) (each_answer (sort_key s graph columns p) (o ∷ os)) (ends_each SortReady (λ v. ⊤) (sort_key s graph columns p) (λ x q. ends_fine (λ v. ⊤) (sort_key s graph columns p x) (fine_sort p g x q) (λ v is. tt)) (o ∷ os) r)) (λ vs. g)) ps h)
+      (λ p g. ends_all (λ y. Shown hides y.1) (each_answer (sort_key s.parameters graph columns p) (o ∷ os)) (λ vs. Ok (vs, p))
+      (fine_ends (AllByRecursion (λ v. ⊤)) (each_answer (sort_key s.parameters graph columns p) (o ∷ os)) (ends_each SortReady (λ v. ⊤) (sort_key s.parameters graph columns p) (λ x q. ends_fine (λ v. ⊤) (sort_key s.parameters graph columns p x) (fine_sort p g x q) (λ v is. tt)) (o ∷ os) r)) (λ vs. g)) ps h)
       (λ ks g. all_mapped (λ y. y.1) (λ y. Shown hides y.1) (Shown hides) (λ y q. q) (sorted_keyed (o ∷ os) ks) (sorted_shown (o ∷ os) ks g))
 
   -- ---- SKIP, LIMIT and WHERE
 
-  fine_given : (o : Option Expression) → ReadyIfAny [] s.parameters o → Fine (count_given s graph o)
+  fine_given : (o : Option Expression) → ReadyIfAny [] s.parameters o → Fine (count_given s.parameters graph o)
   fine_given None r = tt
   fine_given (Some e) r = fine_all (evaluate [] s.parameters graph e >>= count_of) _ (fine_all (evaluate [] s.parameters graph e) count_of (fine_ready [] s.parameters graph [] (λ q. refl) e r) fine_count) (λ n. tt)
 
@@ -289,8 +289,8 @@ pub project_ends : (s : Setting) (columns : List Column) (p : Projection) (where
     → ReadyIfAny [] s.parameters p.skip → ReadyIfAny [] s.parameters p.limit → ReadyIfAny (visible_of s.scope columns p.distinct) s.parameters where_ → AreRowsOf s.scope state.rows → Ends (λ next. AreRowsOf (column_names columns) next.rows) (project_clause s columns p where_ state)
 project_ends s columns p where_ state ready order skip limit passing rows =
     ends_all IsRow (spend s state.steps (length state.rows)) _ (fine_spend s state.steps (length state.rows))
-    (λ steps. ends_all IsRow (count_given s state.graph p.skip) _ (fine_given s state.graph columns p.distinct ready p.skip skip)
-    (λ m. ends_all IsRow (count_given s state.graph p.limit) _ (fine_given s state.graph columns p.distinct ready p.limit limit)
+    (λ steps. ends_all IsRow (count_given s.parameters state.graph p.skip) _ (fine_given s state.graph columns p.distinct ready p.skip skip)
+    (λ m. ends_all IsRow (count_given s.parameters state.graph p.limit) _ (fine_given s state.graph columns p.distinct ready p.limit limit)
     (λ n. ends_then AllShown IsRow (item_rows s state.graph p.distinct columns state.rows) _ (items_end s state.graph columns p.distinct ready state.rows rows)
     (λ items h. ends_then AllShown IsRow (ordered_rows s state.graph columns p.order (distinct_rows p.distinct items)) _
     (ordered_end s state.graph columns p.distinct ready p.order order (distinct_rows p.distinct items) (distinct_shown s state.graph columns p.distinct ready p.distinct items h))

@@ -9,7 +9,7 @@ use Rattle.pg_meaning.specs.Meters.{Setting, State}
 use Rattle.pg_meaning.specs.Names.{Names}
 use Rattle.pg_meaning.specs.Projections.{project_clause}
 use Rattle.pg_meaning.specs.Scopes.{Column, column_names, star_columns, with_column, return_column, projection_columns}
-use Rattle.pg_meaning.specs.StaticFaults.{Found, faults_of, faults_if_any, visible_of, sort_faults, item_faults, star_faults, projection_faults}
+use Rattle.pg_meaning.specs.StaticFaults.{PlacedFault, faults_of, faults_if_any, visible_of, sort_faults, item_faults, star_faults, projection_faults}
 use Rattle.pg_meaning.specs.Tree.{Expression, Item, SortItem, Projection, Clause, match_paths, unwind, create, merge, set_items, remove_items, delete, with_rows, return_rows}
 use Rattle.pg_meaning.specs.Trees.{same_expression}
 use Rattle.pg_meaning.specs.Value.{Entries}
@@ -40,7 +40,7 @@ module _ (parameters : Entries) (visible : Names) (columns : List Column) where
   sort_ready : (x : SortItem) → IsWellFormed x.key → sort_faults columns visible x ≡ [] → Given (sort_marks x) → IsSorted x
   sort_ready x w e h =
       by_bool (list_any (λ c. same_expression c.value x.key) columns) (λ is. inl is)
-      (λ other. inr (w, subst (λ b. elim b as (λ b. List Found) [ true ↦ [] | false ↦ faults_of visible x.key ] ≡ []) other e, (given_split parameters (marks x.key) (optional_marks direction_marks x.direction) h).0))
+      (λ other. inr (w, subst (λ b. elim b as (λ b. List PlacedFault) [ true ↦ [] | false ↦ faults_of visible x.key ] ≡ []) other e, (given_split parameters (marks x.key) (optional_marks direction_marks x.direction) h).0))
 
   sorts_ready : (os : List SortItem) → AllByRecursion (λ x. IsWellFormed x.key) os → AllByRecursion (λ x. sort_faults columns visible x ≡ []) os → AllByRecursion Given (map sort_marks os) → AllByRecursion IsSorted os
   sorts_ready [] w e h = tt
@@ -70,10 +70,10 @@ projection_ends column same p where_ s state are where_is faults given where_giv
     before : Names
     before = column_names (star_columns s.scope p.star)
 
-    of_items : List Found
+    of_items : List PlacedFault
     of_items = item_faults column s.scope before p.items
 
-    of_sorts : List Found
+    of_sorts : List PlacedFault
     of_sorts = flat_map (sort_faults columns seen) p.order
 
     with_limit : ((of_items ++ of_sorts) ++ faults_if_any [] p.skip) ++ faults_if_any [] p.limit ≡ []

@@ -8,13 +8,13 @@ use Rattle.pg_meaning.specs.Answer.{◌>>=◌, ◌>>◌, unless, each_answer, ea
 use Rattle.pg_meaning.specs.Conditions.{conjuncts, operands_of, all_true, condition}
 use Rattle.pg_agreement.proofs.RowNames.{BindsOnly}
 use Rattle.pg_meaning.specs.Expressions.{evaluate}
-use Rattle.pg_meaning.specs.Grammar.{mark, flag, sign, joined, marks, operand_marks, operator_what, optional_marks, keyed, clause_marks, clause_parameters, IsWellFormed, AreOperands, Each, IsClause}
+use Rattle.pg_meaning.specs.Grammar.{mark, flag, sign, concatenated, marks, operand_marks, operator_what, optional_marks, keyed, clause_marks, clause_parameters, IsWellFormed, AreOperands, Each, IsClause}
 use Rattle.pg_meaning.specs.Graph.{Graph, has_node, has_relationship}
 use Rattle.pg_meaning.specs.Logic.{truth_of, is_true}
 use Rattle.pg_meaning.specs.Meters.{Setting, State, Quota, spend}
 use Rattle.pg_meaning.specs.Names.{Names}
 use Rattle.pg_meaning.specs.Plans.{Plan, plan_over, IsPlanFrom}
-use Rattle.pg_meaning.specs.Queries.{clause_step, clauses_run, output_rows, returns, test_output, test_present, test_ids, test_items, test_entries, ordered}
+use Rattle.pg_meaning.specs.Queries.{clause_step, clauses_run, output_rows, returns, test_output, test_present, test_ids, test_items, test_entries, under_plan}
 use Rattle.pg_meaning.specs.Rows.{Row}
 use Rattle.pg_meaning.specs.Scopes.{scope_after}
 use Rattle.pg_meaning.specs.StaticFaults.{faults_of, faults_if_any, operand_faults, clause_faults, clauses_faults, static_faults}
@@ -152,9 +152,9 @@ all_given (x ∷ xs) = (tt, all_given xs)
 
 -- ---- queries
 
-given_each : (parameters : Entries) (cs : List Clause) → AreGiven (named_in (joined (map clause_marks cs))) parameters → AllByRecursion (λ c. AreGiven (clause_parameters c) parameters) cs
+given_each : (parameters : Entries) (cs : List Clause) → AreGiven (named_in (concatenated (map clause_marks cs))) parameters → AllByRecursion (λ c. AreGiven (clause_parameters c) parameters) cs
 given_each parameters [] h = tt
-given_each parameters (c ∷ cs) h = let both = given_split parameters (clause_marks c) (joined (map clause_marks cs)) h in (both.0, given_each parameters cs both.1)
+given_each parameters (c ∷ cs) h = let both = given_split parameters (clause_marks c) (concatenated (map clause_marks cs)) h in (both.0, given_each parameters cs both.1)
 
 ends_state : (scope : Names) (r : Result State Fault) → EndsWell scope r → Ends (λ next. AreRowsOf scope next.rows) r
 ends_state scope (Ok next) h = h
@@ -175,9 +175,9 @@ fine_run parameters quota scope (anchors ∷ plan) (c ∷ cs) state each are e g
 pub clauses_end_queries : ClausesEndQueries
 unfolding static_faults
 clauses_end_queries q each plan catalogue parameters graph max_steps max_elements are e given planned f is =
-    fine_fault (ordered plan catalogue q parameters graph max_steps max_elements) f
+    fine_fault (under_plan (plan_over catalogue plan) q parameters graph max_steps max_elements) f
     (fine_all (clauses_run parameters quota [] (plan_over catalogue plan) q.clauses begin) _
-    (fine_run parameters quota [] (plan_over catalogue plan) q.clauses begin each are e (given_each parameters q.clauses (given_split parameters (joined (map clause_marks q.clauses)) (flag q.semicolon (sign s.Semicolon)) given).0) (planned_over catalogue [] q.clauses plan planned) ((λ name. refl), tt))
+    (fine_run parameters quota [] (plan_over catalogue plan) q.clauses begin each are e (given_each parameters q.clauses (given_split parameters (concatenated (map clause_marks q.clauses)) (flag q.semicolon (sign s.Semicolon)) given).0) (planned_over catalogue [] q.clauses plan planned) ((λ name. refl), tt))
     (λ last. fine_after (each_step (λ done v. test_output last.graph v) tt (flat_map (λ r. r) (output_rows (returns q.clauses) last.rows))) (Ok _)
     (fine_steps (λ x. ⊤) (λ done v. test_output last.graph v) (λ done v t. fine_output last.graph v) tt (flat_map (λ r. r) (output_rows (returns q.clauses) last.rows)) (all_given _)) tt)) is
   where

@@ -9,7 +9,7 @@ use Rattle.pg_meaning.specs.Arithmetic.{is_in_range, checked, appended, plus, mi
 use Rattle.pg_meaning.specs.Entries.{value_at}
 use Rattle.pg_meaning.specs.EqualityLaws.{nat_same}
 use Rattle.pg_meaning.specs.Expressions.{by_truth, is_comparison, compared, all_compared, combined, all_signed, on_texts, has_part, is_in, tested, property_of, indexed, labelled, is_coalesce, condition_of}
-use Rattle.pg_meaning.specs.Functions.{of_node, of_relationship, properties_of, count_of, id_of, labels_of, type_of, start_node_of, end_node_of, size_of, length_of, nodes_of, relationships_of, head_of, last_of, string_of, integer_of, absolute_of, steps_within, integers_from, range_by, integers_of, range_over, Function, has_deleted, has_null, of_one, function_at, applied, texts}
+use Rattle.pg_meaning.specs.Functions.{of_node, of_relationship, properties_of, item_count, id_of, labels_of, type_of, start_node_of, end_node_of, size_of, length_of, nodes_of, relationships_of, head_of, last_of, string_of, integer_of, absolute_of, steps_within, integers_from, range_by, integers_of, range_over, Function, has_deleted, has_null, of_one, function_at, applied, texts}
 use Rattle.pg_meaning.specs.Functions as function
 use Rattle.pg_meaning.specs.Graph.{Graph, Node, Relationship, node_at, relationship_at}
 use Rattle.pg_meaning.specs.Logic.{and3, or3, xor3, truth_of}
@@ -211,10 +211,10 @@ module _ (graph : Graph) where
 
   -- ---- functions
 
-  fine_one : (f : Value → Result Value Fault) → ((v : Value) → Fine (f v)) → (vs : Values) → (count_of vs == 1) ≡ true → Fine (of_one f vs)
+  fine_one : (f : Value → Result Value Fault) → ((v : Value) → Fine (f v)) → (vs : Values) → (item_count vs == 1) ≡ true → Fine (of_one f vs)
   fine_one f h no_items e = absurd (true≢false (sym e))
   fine_one f h (item v no_items) e = h v
-  fine_one f h (item v (item w vs)) e = absurd (too_many (count_of vs) (nat_same (1 + (1 + count_of vs)) 1 e))
+  fine_one f h (item v (item w vs)) e = absurd (too_many (item_count vs) (nat_same (1 + (1 + item_count vs)) 1 e))
     where
       too_many : (n : ℕ) → 1 + (1 + n) ≡ 1 → ⊥
       too_many n e = omega (arith, e)
@@ -298,12 +298,12 @@ module _ (graph : Graph) where
   abbrev two_or_three : ℕ → Bool
   two_or_three n = (n == 2) || (n == 3)
 
-  fine_range : (vs : Values) → two_or_three (count_of vs) ≡ true → Fine (integers_of vs >>= range_over)
+  fine_range : (vs : Values) → two_or_three (item_count vs) ≡ true → Fine (integers_of vs >>= range_over)
   fine_range no_items e = absurd (true≢false (sym e))
   fine_range (item (integer i) no_items) e = absurd (true≢false (sym e))
   fine_range (item (integer i) (item (integer j) no_items)) e = fine_range_by i j (pos 1)
   fine_range (item (integer i) (item (integer j) (item (integer k) no_items))) e = fine_range_by i j k
-  fine_range (item (integer i) (item (integer j) (item (integer k) (item v vs)))) e = absurd (too_many (count_of vs) e)
+  fine_range (item (integer i) (item (integer j) (item (integer k) (item v vs)))) e = absurd (too_many (item_count vs) e)
     where
       too_many : (n : ℕ) → two_or_three (1 + (1 + (1 + (1 + n)))) ≡ true → ⊥
       too_many n e = grind (arith, nat_tests)
@@ -311,7 +311,7 @@ module _ (graph : Graph) where
   fine_range (item (integer i) (item v vs)) e = refl
   fine_range (item v vs) e = refl
 
-  fine_function : (f : Function) (vs : Values) → is_coalesce f ≡ false → takes f (count_of vs) ≡ true → Fine (function_at graph f vs)
+  fine_function : (f : Function) (vs : Values) → is_coalesce f ≡ false → takes f (item_count vs) ≡ true → Fine (function_at graph f vs)
   fine_function function.id vs other e = fine_one id_of fine_id vs e
   fine_function function.labels vs other e = fine_one (labels_of graph) fine_labels vs e
   fine_function function.type vs other e = fine_one (type_of graph) fine_type vs e
@@ -331,7 +331,7 @@ module _ (graph : Graph) where
   fine_function function.start_node vs other e = fine_one (start_node_of graph) fine_start vs e
   fine_function function.end_node vs other e = fine_one (end_node_of graph) fine_end vs e
 
-  pub fine_applied : (f : Function) (vs : Values) → is_coalesce f ≡ false → takes f (count_of vs) ≡ true → Fine (applied graph f vs)
+  pub fine_applied : (f : Function) (vs : Values) → is_coalesce f ≡ false → takes f (item_count vs) ≡ true → Fine (applied graph f vs)
   fine_applied f vs other e =
       elim (has_deleted graph vs) as (λ b. Fine (elim b as (λ b. Result Value Fault) [ true ↦ Err DeletedEntity | false ↦ elim (has_null vs) as (λ c. Result Value Fault) [ true ↦ Ok null | false ↦ function_at graph f vs >>= made ] ])) [
         | true ↦ refl

@@ -2,7 +2,7 @@
 use Rattle.std.proofs.Common.{◌≡◌, ℕ, Bool, true, false, cond, not, ◌||◌, ◌⊎◌, inl, inr, List, [], ◌∷◌, ◌++◌, map, Option, Some, None, is_some, bytes_eq, Result, Ok, Err, refl, sym, ap, subst, ◌∙◌}
 use Rattle.std.specs.List.{AllZip}
 use Rattle.pg_meaning.specs.Aggregates.{Aggregate, aggregate_of, take_in, summarized}
-use Rattle.pg_meaning.specs.Agreement.{given}
+use Rattle.pg_meaning.specs.Agreement.{given_in}
 use Rattle.pg_meaning.specs.Answer.{◌>>=◌, ◌>>◌, each_answer, each_step}
 use Rattle.pg_meaning.specs.AnswerLaws.{by_answer, went_wrong, answers_fault}
 use Rattle.pg_meaning.specs.Expressions.{evaluate}
@@ -53,7 +53,7 @@ module _ (s : Setting) (graph : Graph) where
 
   abbrev HoldsBy : Column → Option Aggregate → List Row → List Value → Type 0
   HoldsBy c None rows cell = HoldsFirst c rows cell
-  HoldsBy c (Some a) rows cell = taken_in (given s) graph a rows ≡ Ok cell
+  HoldsBy c (Some a) rows cell = taken_in (given_in s) graph a rows ≡ Ok cell
 
   abbrev pub Holds : List Row → Column → List Value → Type 0
   Holds rows c cell = HoldsBy c (aggregate_of c.value) rows cell
@@ -61,12 +61,12 @@ module _ (s : Setting) (graph : Graph) where
   -- a fault at one row more
   abbrev FaultBy : Column → Option Aggregate → List Row → Row → Fault → Type 0
   FaultBy c None rows row f = evaluate row s.parameters graph c.value ≡ Err f
-  FaultBy c (Some a) rows row f = ArgumentFaults (given s) graph row a f ⊎ (taken_in (given s) graph a (rows ++ row ∷ []) ≡ Err f)
+  FaultBy c (Some a) rows row f = ArgumentFaults (given_in s) graph row a f ⊎ (taken_in (given_in s) graph a (rows ++ row ∷ []) ≡ Err f)
 
   abbrev fold_by : Column → Option Aggregate → Row → (has_group : Bool) → List Value → Result (List Value) Fault
   fold_by c o row has_group cell = elim o [
     | None ↦ evaluate row s.parameters graph c.value >>= λ v. Ok (keep_first cell v)
-    | Some a ↦ argument_value s graph row a >>= fold_value has_group a cell
+    | Some a ↦ argument_value s.parameters graph row a >>= fold_value has_group a cell
   ]
 
   abbrev CellStep : Column → Option Aggregate → List Row → Row → Result (List Value) Fault → Type 0
@@ -79,15 +79,15 @@ module _ (s : Setting) (graph : Graph) where
   first_step c (first ∷ rows) row cell h (Ok v) e = (h.0, h.1, ap (λ l. keep_first l v) h.2)
   first_step c rows row cell h (Err f) e = e
 
-  taken_step : (c : Column) (a : Aggregate) (rows : List Row) (row : Row) (cell : List Value) → taken_in (given s) graph a rows ≡ Ok cell → (r : Result Value Fault) → argument_value s graph row a ≡ r
+  taken_step : (c : Column) (a : Aggregate) (rows : List Row) (row : Row) (cell : List Value) → taken_in (given_in s) graph a rows ≡ Ok cell → (r : Result Value Fault) → argument_value s.parameters graph row a ≡ r
       → CellStep c (Some a) rows row (r >>= take_in a cell)
   taken_step c a rows row cell h (Err f) e = inl (inl e)
   taken_step c a rows row cell h (Ok v) e = by_taken (take_in a cell v) refl
     where
-      taken : taken_in (given s) graph a (rows ++ row ∷ []) ≡ take_in a cell v
+      taken : taken_in (given_in s) graph a (rows ++ row ∷ []) ≡ take_in a cell v
       taken =
-          steps_on (λ vs r. argument_value s graph r a >>= take_in a vs) rows (row ∷ []) [] cell h
-          ∙ one_step (λ vs r. argument_value s graph r a >>= take_in a vs) row cell
+          steps_on (λ vs r. argument_value s.parameters graph r a >>= take_in a vs) rows (row ∷ []) [] cell h
+          ∙ one_step (λ vs r. argument_value s.parameters graph r a >>= take_in a vs) row cell
           ∙ ap (λ r. r >>= take_in a cell) e
 
       by_taken : (t : Result (List Value) Fault) → take_in a cell v ≡ t → CellStep c (Some a) rows row t
@@ -96,7 +96,7 @@ module _ (s : Setting) (graph : Graph) where
 
   cell_step : (c : Column) (o : Option Aggregate) (rows : List Row) (row : Row) (cell : List Value) → HoldsBy c o rows cell → CellStep c o rows row (fold_by c o row true cell)
   cell_step c None rows row cell h = first_step c rows row cell h (evaluate row s.parameters graph c.value) refl
-  cell_step c (Some a) rows row cell h = taken_step c a rows row cell h (argument_value s graph row a) refl
+  cell_step c (Some a) rows row cell h = taken_step c a rows row cell h (argument_value s.parameters graph row a) refl
 
   -- ---- the cells of a group
 
@@ -136,14 +136,14 @@ module _ (s : Setting) (graph : Graph) where
   -- ---- faults of a row
 
   abbrev pub ItemFaultBy : Column → Option Aggregate → Row → Fault → Type 0
-  ItemFaultBy c o row f = elim o [ None ↦ evaluate row s.parameters graph c.value ≡ Err f | Some a ↦ ArgumentFaults (given s) graph row a f ]
+  ItemFaultBy c o row f = elim o [ None ↦ evaluate row s.parameters graph c.value ≡ Err f | Some a ↦ ArgumentFaults (given_in s) graph row a f ]
 
   -- of the row alone, or of what an aggregate has taken in
   pub either_fault : (c : Column) (rows : List Row) (row : Row) (f : Fault) → FaultBy c (aggregate_of c.value) rows row f
-      → ItemFaultBy c (aggregate_of c.value) row f ⊎ ((a : Aggregate) × (aggregate_of c.value ≡ Some a) × (taken_in (given s) graph a (rows ++ row ∷ []) ≡ Err f))
+      → ItemFaultBy c (aggregate_of c.value) row f ⊎ ((a : Aggregate) × (aggregate_of c.value ≡ Some a) × (taken_in (given_in s) graph a (rows ++ row ∷ []) ≡ Err f))
   either_fault c rows row f = by_aggregate (aggregate_of c.value)
     where
-      by_aggregate : (o : Option Aggregate) → FaultBy c o rows row f → ItemFaultBy c o row f ⊎ ((a : Aggregate) × (o ≡ Some a) × (taken_in (given s) graph a (rows ++ row ∷ []) ≡ Err f))
+      by_aggregate : (o : Option Aggregate) → FaultBy c o rows row f → ItemFaultBy c o row f ⊎ ((a : Aggregate) × (o ≡ Some a) × (taken_in (given_in s) graph a (rows ++ row ∷ []) ≡ Err f))
       by_aggregate None h = inl h
       by_aggregate (Some a) (inl h) = inl h
       by_aggregate (Some a) (inr h) = inr (a, refl, h)
@@ -155,28 +155,28 @@ module _ (s : Setting) (graph : Graph) where
       by_value : (evaluate row s.parameters graph c.value ≡ Err f) ⊎ ((v : Value) × (evaluate row s.parameters graph c.value ≡ Ok v) × (◌≡◌ {A = Result (List Value) Fault} (Ok (keep_first [] v)) (Err f))) → evaluate row s.parameters graph c.value ≡ Err f
       by_value (inl h) = h
       by_value (inr h) = let impossible = h.2 in cc
-  alone_by c (Some a) row f e = by_value (went_wrong (argument_value s graph row a) (fold_value false a []) f e)
+  alone_by c (Some a) row f e = by_value (went_wrong (argument_value s.parameters graph row a) (fold_value false a []) f e)
     where
       by_test : (t : Result (Unit {0}) Fault) → ◌≡◌ {A = Result (List Value) Fault} (t >> Ok []) (Err f) → t ≡ Err f
       by_test (Ok x) h = cc
       by_test (Err g) h = cc
 
-      by_value : (argument_value s graph row a ≡ Err f) ⊎ ((v : Value) × (argument_value s graph row a ≡ Ok v) × (fold_value false a [] v ≡ Err f)) → ArgumentFaults (given s) graph row a f
+      by_value : (argument_value s.parameters graph row a ≡ Err f) ⊎ ((v : Value) × (argument_value s.parameters graph row a ≡ Ok v) × (fold_value false a [] v ≡ Err f)) → ArgumentFaults (given_in s) graph row a f
       by_value (inl h) = inl h
       by_value (inr h) = inr (h.0, h.1, by_test (test_alone a.summary h.0) h.2)
 
-  pub alone_fault : (columns : List Column) (row : Row) (f : Fault) → fold_cells s graph row false columns [] ≡ Err f → ItemFaults (given s) graph columns row f
+  pub alone_fault : (columns : List Column) (row : Row) (f : Fault) → fold_cells s graph row false columns [] ≡ Err f → ItemFaults (given_in s) graph columns row f
   alone_fault [] row f e = cc
   alone_fault (c ∷ cs) row f e =
       by_first (went_wrong (fold_cell s graph row false c []) (λ d. fold_cells s graph row false cs [] >>= λ ds. Ok (d ∷ ds)) f e) (alone_fault cs row f)
     where
       by_rest : (d : List Value) → (fold_cells s graph row false cs [] ≡ Err f) ⊎ ((ds : List (List Value)) × (fold_cells s graph row false cs [] ≡ Ok ds) × (◌≡◌ {A = Result (List (List Value)) Fault} (Ok (d ∷ ds)) (Err f)))
-          → (fold_cells s graph row false cs [] ≡ Err f → ItemFaults (given s) graph cs row f) → ItemFaults (given s) graph (c ∷ cs) row f
+          → (fold_cells s graph row false cs [] ≡ Err f → ItemFaults (given_in s) graph cs row f) → ItemFaults (given_in s) graph (c ∷ cs) row f
       by_rest d (inl h) rest = let found = rest h in (found.0, inr found.1, found.2)
       by_rest d (inr h) rest = let impossible = h.2 in cc
 
       by_first : (fold_cell s graph row false c [] ≡ Err f) ⊎ ((d : List Value) × (fold_cell s graph row false c [] ≡ Ok d) × ((fold_cells s graph row false cs [] >>= λ ds. Ok (d ∷ ds)) ≡ Err f))
-          → (fold_cells s graph row false cs [] ≡ Err f → ItemFaults (given s) graph cs row f) → ItemFaults (given s) graph (c ∷ cs) row f
+          → (fold_cells s graph row false cs [] ≡ Err f → ItemFaults (given_in s) graph cs row f) → ItemFaults (given_in s) graph (c ∷ cs) row f
       by_first (inl h) rest = (c, inl refl, alone_by c (aggregate_of c.value) row f h)
       by_first (inr h) rest = by_rest h.0 (went_wrong (fold_cells s graph row false cs []) (λ ds. Ok (h.0 ∷ ds)) f h.2) rest
 
@@ -195,7 +195,7 @@ module _ (s : Setting) (graph : Graph) where
       by_test true e rest (inr i) = let h = rest i in (inr h.0, h.1)
       by_test false e rest i = let h = rest i in (inr h.0, h.1)
 
-  pub key_fault : (columns : List Column) (row : Row) (f : Fault) → key_of (given s) graph columns row ≡ Err f → ItemFaults (given s) graph columns row f
+  pub key_fault : (columns : List Column) (row : Row) (f : Fault) → key_of (given_in s) graph columns row ≡ Err f → ItemFaults (given_in s) graph columns row f
   key_fault columns row f e =
       let found = answers_fault (λ (c : Column). evaluate row s.parameters graph c.value) (grouping_columns columns) f e in
       let place = grouping_in found.0 columns found.1 in
@@ -204,18 +204,18 @@ module _ (s : Setting) (graph : Graph) where
   -- ---- what a group tells
 
   told_by : (c : Column) (o : Option Aggregate) (rows : List Row) (cell : List Value) → HoldsBy c o rows cell
-      → elim o as (λ o. Result (List ℕ × Value) Fault) [ None ↦ first_value (given s) graph c.value rows >>= λ v. Ok (c.name, v) | Some a ↦ taken_in (given s) graph a rows >>= λ vs. Ok (c.name, summarized a.summary vs) ]
+      → elim o as (λ o. Result (List ℕ × Value) Fault) [ None ↦ first_value (given_in s) graph c.value rows >>= λ v. Ok (c.name, v) | Some a ↦ taken_in (given_in s) graph a rows >>= λ vs. Ok (c.name, summarized a.summary vs) ]
       ≡ Ok (c.name, elim o as (λ o. Value) [ None ↦ first_or_null cell | Some a ↦ summarized a.summary cell ])
   told_by c None [] cell h = ap (λ (l : List Value). let b : List ℕ × Value = (c.name, first_or_null l) in Ok b) (sym h)
   told_by c None (row ∷ rows) cell h = ap (λ (r : Result Value Fault). r >>= λ v. Ok (c.name, v)) h.1 ∙ ap (λ (l : List Value). let b : List ℕ × Value = (c.name, first_or_null l) in Ok b) (sym h.2)
   told_by c (Some a) rows cell h = ap (λ (r : Result (List Value) Fault). r >>= λ vs. Ok (c.name, summarized a.summary vs)) h
 
-  pub group_told : (columns : List Column) (cells : List (List Value)) (rows : List Row) → AllZip (Holds rows) columns cells → each_answer (group_value (given s) graph rows) columns ≡ Ok (group_columns columns cells)
+  pub group_told : (columns : List Column) (cells : List (List Value)) (rows : List Row) → AllZip (Holds rows) columns cells → each_answer (group_value (given_in s) graph rows) columns ≡ Ok (group_columns columns cells)
   group_told [] [] rows h = refl
   group_told [] (cell ∷ cells) rows h = absurd h
   group_told (c ∷ cs) [] rows h = absurd h
   group_told (c ∷ cs) (cell ∷ cells) rows h =
-      ap (λ r. r >>= λ b. each_answer (group_value (given s) graph rows) cs >>= λ bs. Ok (b ∷ bs)) (told_by c (aggregate_of c.value) rows cell h.0)
+      ap (λ r. r >>= λ b. each_answer (group_value (given_in s) graph rows) cs >>= λ bs. Ok (b ∷ bs)) (told_by c (aggregate_of c.value) rows cell h.0)
       ∙ ap (λ r. r >>= λ bs. Ok ((c.name, cell_value c cell) ∷ bs)) (group_told cs cells rows h.1)
 
   -- a group binds the names of the columns

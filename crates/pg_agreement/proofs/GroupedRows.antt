@@ -4,7 +4,7 @@ use Rattle.std.proofs.lemmas.List.{append-nil}
 use Rattle.std.specs.List.{AllByRecursion, AllZip, list_any}
 use Rattle.pg_meaning.specs.Turns.{AtSomeRow}
 use Rattle.pg_meaning.specs.Aggregates.{Aggregate, aggregate_of, take_in}
-use Rattle.pg_meaning.specs.Agreement.{given}
+use Rattle.pg_meaning.specs.Agreement.{given_in}
 use Rattle.pg_meaning.specs.Answer.{◌>>=◌, each_answer, each_step}
 use Rattle.pg_meaning.specs.AnswerLaws.{went_well, went_wrong, same_ok}
 use Rattle.pg_meaning.specs.Expressions.{evaluate}
@@ -60,10 +60,10 @@ module _ (s : Setting) (graph : Graph) (columns : List Column) where
   GroupHolds done g = AllZip (Holds s graph (rows_with_key g.key done)) columns g.cells
 
   abbrev AggregateFault : List Keyed → Fault → Type 0
-  AggregateFault done f = (c : Column) × (a : Aggregate) × (key : Key) × IsIn c columns × (aggregate_of c.value ≡ Some a) × (taken_in (given s) graph a (rows_with_key key done) ≡ Err f)
+  AggregateFault done f = (c : Column) × (a : Aggregate) × (key : Key) × IsIn c columns × (aggregate_of c.value ≡ Some a) × (taken_in (given_in s) graph a (rows_with_key key done) ≡ Err f)
 
   abbrev StepFault : List Keyed → Row → Fault → Type 0
-  StepFault done row f = ItemFaults (given s) graph columns row f ⊎ AggregateFault done f
+  StepFault done row f = ItemFaults (given_in s) graph columns row f ⊎ AggregateFault done f
 
   -- ---- one row
 
@@ -74,9 +74,9 @@ module _ (s : Setting) (graph : Graph) (columns : List Column) where
   step_fault : (key : Key) (rows : List Row) (done : List Keyed) (row : Row) (f : Fault) → rows_with_key key done ≡ rows ++ row ∷ [] → CellsFault s graph columns rows row f → StepFault done row f
   step_fault key rows done row f more h = by_kind (either_fault s graph h.0 rows row f h.2)
     where
-      by_kind : ItemFaultBy s graph h.0 (aggregate_of h.0.value) row f ⊎ ((a : Aggregate) × (aggregate_of h.0.value ≡ Some a) × (taken_in (given s) graph a (rows ++ row ∷ []) ≡ Err f)) → StepFault done row f
+      by_kind : ItemFaultBy s graph h.0 (aggregate_of h.0.value) row f ⊎ ((a : Aggregate) × (aggregate_of h.0.value ≡ Some a) × (taken_in (given_in s) graph a (rows ++ row ∷ []) ≡ Err f)) → StepFault done row f
       by_kind (inl i) = inl (h.0, h.1, i)
-      by_kind (inr i) = inr (h.0, i.0, key, h.1, i.1, ap (taken_in (given s) graph i.0) more ∙ i.2)
+      by_kind (inr i) = inr (h.0, i.0, key, h.1, i.1, ap (taken_in (given_in s) graph i.0) more ∙ i.2)
 
   -- the row's group gets its row, from what it held before
   own_group : (key : Key) (rows : List Row) (done : List Keyed) (row : Row) (gs : List Group) (keys : List Key) (cells : Result (List (List Value)) Fault) → rows_with_key key done ≡ rows ++ row ∷ [] → key ∷ keys_in gs ≡ keys
@@ -128,11 +128,11 @@ module _ (s : Setting) (graph : Graph) (columns : List Column) where
   -- ---- row after row
 
   abbrev keyed_row : Row → Result Keyed Fault
-  keyed_row row = key_of (given s) graph columns row >>= λ k. Ok (k, row)
+  keyed_row row = key_of (given_in s) graph columns row >>= λ k. Ok (k, row)
 
   abbrev Folded : List Keyed → List Row → Result (List Group) Fault → Type 0
   Folded done rows (Ok gs) = (more : List Keyed) × (each_answer keyed_row rows ≡ Ok more) × AllByRecursion (GroupHolds (done ++ more)) gs × AreKeysOf (grouping_columns columns) (done ++ more) (keys_in gs)
-  Folded done rows (Err f) = AtSomeRow (ItemFaults (given s) graph columns) rows f ⊎ AggregateFault (done ++ keyed_rows (given s) graph columns rows) f
+  Folded done rows (Err f) = AtSomeRow (ItemFaults (given_in s) graph columns) rows f ⊎ AggregateFault (done ++ keyed_rows (given_in s) graph columns rows) f
 
   -- a fault over the first rows of a key stays one
   fault_stays : (done more : List Keyed) (f : Fault) → AggregateFault done f → AggregateFault (done ++ more) f
@@ -142,14 +142,14 @@ module _ (s : Setting) (graph : Graph) (columns : List Column) where
     h.2,
     h.3,
     h.4,
-    ap (taken_in (given s) graph h.1) (rows_joined h.2 done more) ∙ steps_fail (λ vs row. argument_value s graph row h.1 >>= take_in h.1 vs) (rows_with_key h.2 done) (rows_with_key h.2 more) [] f h.5,
+    ap (taken_in (given_in s) graph h.1) (rows_joined h.2 done more) ∙ steps_fail (λ vs row. argument_value s.parameters graph row h.1 >>= take_in h.1 vs) (rows_with_key h.2 done) (rows_with_key h.2 more) [] f h.5,
   )
 
-  keyed_first : (k : Key) (row : Row) (rows : List Row) → key_of (given s) graph columns row ≡ Ok k → keyed_rows (given s) graph columns (row ∷ rows) ≡ (k, row) ∷ keyed_rows (given s) graph columns rows
-  keyed_first k row rows e = ap (λ (r : Result Key Fault). elim r as (λ r. List Keyed) [ Ok k ↦ (k, row) ∷ [] | Err f ↦ [] ] ++ keyed_rows (given s) graph columns rows) e
+  keyed_first : (k : Key) (row : Row) (rows : List Row) → key_of (given_in s) graph columns row ≡ Ok k → keyed_rows (given_in s) graph columns (row ∷ rows) ≡ (k, row) ∷ keyed_rows (given_in s) graph columns rows
+  keyed_first k row rows e = ap (λ (r : Result Key Fault). elim r as (λ r. List Keyed) [ Ok k ↦ (k, row) ∷ [] | Err f ↦ [] ] ++ keyed_rows (given_in s) graph columns rows) e
 
   -- the first row with its key, and then the others
-  folded_on : (done : List Keyed) (k : Key) (row : Row) (rows : List Row) → key_of (given s) graph columns row ≡ Ok k → (r : Result (List Group) Fault) → Folded (done ++ (k, row) ∷ []) rows r → Folded done (row ∷ rows) r
+  folded_on : (done : List Keyed) (k : Key) (row : Row) (rows : List Row) → key_of (given_in s) graph columns row ≡ Ok k → (r : Result (List Group) Fault) → Folded (done ++ (k, row) ∷ []) rows r → Folded done (row ∷ rows) r
   folded_on done k row rows e (Ok gs) h =
       let joined = append_assoc done ((k, row) ∷ []) h.0 in (
         (k, row) ∷ h.0,
@@ -159,14 +159,14 @@ module _ (s : Setting) (graph : Graph) (columns : List Column) where
       )
   folded_on done k row rows e (Err f) (inl h) = inl (h.0, inr h.1, h.2)
   folded_on done k row rows e (Err f) (inr h) =
-      inr (subst (λ ds. AggregateFault ds f) (append_assoc done ((k, row) ∷ []) (keyed_rows (given s) graph columns rows) ∙ ap (λ ds. done ++ ds) (sym (keyed_first k row rows e))) h)
+      inr (subst (λ ds. AggregateFault ds f) (append_assoc done ((k, row) ∷ []) (keyed_rows (given_in s) graph columns rows) ∙ ap (λ ds. done ++ ds) (sym (keyed_first k row rows e))) h)
 
-  fault_at_first : (done : List Keyed) (k : Key) (row : Row) (rows : List Row) (f : Fault) → key_of (given s) graph columns row ≡ Ok k → StepFault (done ++ (k, row) ∷ []) row f → Folded done (row ∷ rows) (Err f)
+  fault_at_first : (done : List Keyed) (k : Key) (row : Row) (rows : List Row) (f : Fault) → key_of (given_in s) graph columns row ≡ Ok k → StepFault (done ++ (k, row) ∷ []) row f → Folded done (row ∷ rows) (Err f)
   fault_at_first done k row rows f e (inl h) = inl (row, inl refl, h)
   fault_at_first done k row rows f e (inr h) =
-      folded_on done k row rows e (Err f) (inr (fault_stays (done ++ (k, row) ∷ []) (keyed_rows (given s) graph columns rows) f h))
+      folded_on done k row rows e (Err f) (inr (fault_stays (done ++ (k, row) ∷ []) (keyed_rows (given_in s) graph columns rows) f h))
 
-  without_key : (done : List Keyed) (row : Row) (rows : List Row) (g : Fault) → key_of (given s) graph columns row ≡ Err g → (cells : Result (List (List Value)) Fault) → fold_cells s graph row false columns [] ≡ cells
+  without_key : (done : List Keyed) (row : Row) (rows : List Row) (g : Fault) → key_of (given_in s) graph columns row ≡ Err g → (cells : Result (List (List Value)) Fault) → fold_cells s graph row false columns [] ≡ cells
       → Folded done (row ∷ rows) (cells >>= (λ cs. let r : Result (List Group) Fault = Err g in r) >>= λ gs. each_step (group_row s graph columns) gs rows)
   without_key done row rows g e (Ok cs) h = inl (row, inl refl, key_fault s graph columns row g e)
   without_key done row rows g e (Err f) h = inl (row, inl refl, alone_fault s graph columns row f h)
@@ -180,15 +180,15 @@ module _ (s : Setting) (graph : Graph) (columns : List Column) where
   folded [] done gs h keys =
       let same = sym (append-nil done) in
       ([], refl, subst (λ ds. AllByRecursion (GroupHolds ds) gs) same h, subst (λ ds. AreKeysOf (grouping_columns columns) ds (keys_in gs)) same keys)
-  folded (row ∷ rows) done gs h keys = by_key (key_of (given s) graph columns row) refl (λ k hs. folded rows (done ++ (k, row) ∷ []) hs)
+  folded (row ∷ rows) done gs h keys = by_key (key_of (given_in s) graph columns row) refl (λ k hs. folded rows (done ++ (k, row) ∷ []) hs)
     where
-      by_group : (k : Key) → key_of (given s) graph columns row ≡ Ok k → RestFolds done row rows → (r : Result (List Group) Fault) → IntoStep (done ++ (k, row) ∷ []) row (keys_with k (keys_in gs)) r → Folded done (row ∷ rows) (r >>= λ hs. each_step (group_row s graph columns) hs rows)
+      by_group : (k : Key) → key_of (given_in s) graph columns row ≡ Ok k → RestFolds done row rows → (r : Result (List Group) Fault) → IntoStep (done ++ (k, row) ∷ []) row (keys_with k (keys_in gs)) r → Folded done (row ∷ rows) (r >>= λ hs. each_step (group_row s graph columns) hs rows)
       by_group k e rest (Ok hs) i =
           folded_on done k row rows e (each_step (group_row s graph columns) hs rows)
           (rest k hs i.1 (subst (AreKeysOf (grouping_columns columns) (done ++ (k, row) ∷ [])) (sym i.0) (keys_more (grouping_columns columns) (λ c. evaluate row s.parameters graph c.value) done (keys_in gs) k row e keys)))
       by_group k e rest (Err f) i = fault_at_first done k row rows f e i
 
-      by_key : (k : Result Key Fault) → key_of (given s) graph columns row ≡ k → RestFolds done row rows
+      by_key : (k : Result Key Fault) → key_of (given_in s) graph columns row ≡ k → RestFolds done row rows
           → Folded done (row ∷ rows) (elim k as (λ k. Result (List Group) Fault) [ Ok vs ↦ into_groups s graph columns row vs gs | Err f ↦ fold_cells s graph row false columns [] >>= λ cells. Err f ] >>= λ hs. each_step (group_row s graph columns) hs rows)
       by_key (Ok k) e rest = by_group k e rest (into_groups s graph columns row k gs) (into_step done row k gs h keys.once (all_weaker (λ (d : Keyed). list_any (same_values d.0) (keys_in gs) ≡ true) (Placed k gs) (λ d i. inl i) done keys.among))
       by_key (Err f) e rest = without_key done row rows f e (fold_cells s graph row false columns []) refl
@@ -209,7 +209,7 @@ module _ (s : Setting) (graph : Graph) (columns : List Column) where
   shown g = record { columns = group_columns columns g.cells; earlier = [] }
 
   summaries_are : (done : List Keyed) (gs : List Group) → AllByRecursion (GroupHolds done) gs
-      → AllZip (λ k (r : Projected). (each_answer (group_value (given s) graph (rows_with_key k done)) columns ≡ Ok r.columns) × (r.earlier ≡ [])) (keys_in gs) (map shown gs)
+      → AllZip (λ k (r : Projected). (each_answer (group_value (given_in s) graph (rows_with_key k done)) columns ≡ Ok r.columns) × (r.earlier ≡ [])) (keys_in gs) (map shown gs)
   summaries_are done [] h = tt
   summaries_are done (g ∷ gs) h = ((group_told s graph columns g.cells (rows_with_key g.key done) h.0, refl), summaries_are done gs h.1)
 
@@ -218,17 +218,17 @@ module _ (s : Setting) (graph : Graph) (columns : List Column) where
   all_bind done [] h = tt
   all_bind done (g ∷ gs) h = (group_binds s graph columns g.cells (rows_with_key g.key done) h.0, all_bind done gs h.1)
 
-  pub groups_agree : (rows : List Row) (ps : List Projected) → grouped s graph columns rows ≡ Ok ps → Groups (given s) graph columns rows ps × AllByRecursion (Binds columns) ps
+  pub groups_agree : (rows : List Row) (ps : List Projected) → grouped s graph columns rows ≡ Ok ps → Groups (given_in s) graph columns rows ps × AllByRecursion (Binds columns) ps
   groups_agree rows ps e =
       let groups = went_well (each_step (group_row s graph columns) (first_groups columns) rows) (λ gs. Ok (map shown gs)) ps e in
       let h : Folded [] rows (Ok groups.0) = subst (Folded [] rows) groups.1 (all_folded rows) in
-      subst (λ ps. Groups (given s) graph columns rows ps × AllByRecursion (Binds columns) ps) (same_ok (map shown groups.0) ps groups.2)
+      subst (λ ps. Groups (given_in s) graph columns rows ps × AllByRecursion (Binds columns) ps) (same_ok (map shown groups.0) ps groups.2)
       (record { keyed = h.0; evaluated = h.1; keys = keys_in groups.0; groups = are_groups columns h.0 (keys_in groups.0) h.3; summaries = summaries_are h.0 groups.0 h.2 }, all_bind h.0 groups.0 h.2)
 
-  pub groups_fault : (rows : List Row) (f : Fault) → grouped s graph columns rows ≡ Err f → AtSomeRow (ItemFaults (given s) graph columns) rows f ⊎ AggregateFaults (given s) graph columns rows f
+  pub groups_fault : (rows : List Row) (f : Fault) → grouped s graph columns rows ≡ Err f → AtSomeRow (ItemFaults (given_in s) graph columns) rows f ⊎ AggregateFaults (given_in s) graph columns rows f
   groups_fault rows f e = by_groups (went_wrong (each_step (group_row s graph columns) (first_groups columns) rows) (λ gs. Ok (map shown gs)) f e)
     where
       by_groups : (each_step (group_row s graph columns) (first_groups columns) rows ≡ Err f) ⊎ ((gs : List Group) × (each_step (group_row s graph columns) (first_groups columns) rows ≡ Ok gs) × (◌≡◌ {A = Result (List Projected) Fault} (Ok (map shown gs)) (Err f)))
-          → AtSomeRow (ItemFaults (given s) graph columns) rows f ⊎ AggregateFaults (given s) graph columns rows f
+          → AtSomeRow (ItemFaults (given_in s) graph columns) rows f ⊎ AggregateFaults (given_in s) graph columns rows f
       by_groups (inl h) = subst (Folded [] rows) h (all_folded rows)
       by_groups (inr h) = let impossible = h.2 in cc

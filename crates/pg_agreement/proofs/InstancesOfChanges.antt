@@ -13,13 +13,13 @@ use Rattle.pg_meaning.specs.declared.fault.Fault.TheVariants.{NodeStillConnected
 use Rattle.pg_agreement.specs.Changing.{Removal}
 use Rattle.pg_agreement.specs.InstancesOfChanges.{with_k, without_k, second_alone, set_k, remove_k, a_alone, at_zero, InstancesOfChanges}
 use Rattle.pg_agreement.proofs.ChangesComputed.{set_is_computed, remove_is_computed}
-use Rattle.pg_agreement.proofs.DeletesComputed.{delete_is_computed}
+use Rattle.pg_agreement.proofs.DeletesComputed.{some_setting, delete_is_computed}
 
 abbrev k_is_one : Graph → Bool
 k_is_one g = elim (node_at g 0) [ Some e ↦ is_equivalent (value_at (codes "k") e.properties) one | None ↦ false ]
 
 abbrev given_a : Setting
-given_a = within (codes "a" ∷ [])
+given_a = some_setting (within (codes "a" ∷ []))
 
 is_pair : IsGraph pair_graph
 is_pair = instances_of_graphs.0

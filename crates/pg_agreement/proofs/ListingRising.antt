@@ -21,7 +21,7 @@ use Rattle.pg_meaning.specs.Patterns.{Trail, Assignment, node_name, texts_of}
 use Rattle.pg_meaning.specs.Plans.{Anchor, Fixed}
 use Rattle.pg_meaning.specs.Rows.{Row, bind_if_named}
 use Rattle.pg_meaning.specs.Value.{Value, null, boolean, integer, text, list, mapping, node, relationship, path, Entries}
-use Rattle.pg_meaning.specs.Walks.{Listing, each_listing, and_then, NodeWanted, HopWanted, PathWanted, node_fits, Reach, all_hops, wanted_nodes, rightwards, leftwards, fixed_value, with_value, labelled_or_all, free_candidates, bound_candidates, bound_value, candidates, Found, trail_of, from_anchor, left_walks, path_walks, walks_from, walks}
+use Rattle.pg_meaning.specs.Walks.{Listing, each_listing, and_then, NodeWanted, HopWanted, PathWanted, node_fits, Reach, all_hops, wanted_nodes, rightwards, leftwards, fixed_value, with_value, labelled_or_all, free_candidates, bound_candidates, bound_value, candidates, PathsWalked, trail_of, from_anchor, left_walks, path_walks, walks_from, walks}
 use Rattle.pg_agreement.proofs.ListingHops.{Before, entries_rise, ids_rise, Code, Lower, Apart, bond_code, code_on, ids_apart_by, hops_rise, hops_long}
 use Rattle.pg_agreement.proofs.ListingOrders.{pairs_weaker, all_each, all_if, parts_on, comes_less, parts_less, begins_itself, begins_same, Rising, rising_one, rising_if, rising_each}
 use Rattle.pg_agreement.proofs.MatchHops.{Arrival}
@@ -149,11 +149,11 @@ lefts_long zero first hops w e = refl
 lefts_long (suc place) first [] w e = cc
 lefts_long (suc place) first (h ∷ hops) w e = ap suc (lefts_long place h.1 hops w e)
 
-module _ (graph : Graph) (g : IsGraph graph) (parameters : Entries) (leads : List Fixed) (done : List Anchor) (p : PathWanted) (a : Anchor) (found : Found) (long : length done ≡ length found.trails) where
+module _ (graph : Graph) (g : IsGraph graph) (parameters : Entries) (leads : List Fixed) (done : List Anchor) (p : PathWanted) (a : Anchor) (found : PathsWalked) (long : length done ≡ length found.trails) where
   abbrev before : Code
   before = walks_of done found.trails
 
-  abbrev found_code : Found → Code
+  abbrev found_code : PathsWalked → Code
   found_code y = walks_of (done ++ (a ∷ [])) y.trails
 
   module _ (w : NodeWanted) (placed : slice_get (wanted_nodes p) a.place ≡ Some w) where
@@ -169,7 +169,7 @@ module _ (graph : Graph) (g : IsGraph graph) (parameters : Entries) (leads : Lis
     abbrev back : Reach → Reach → Reach
     back f right = record { row = right.row; used = right.used; at = f.at; walked = [] }
 
-    abbrev whole : Reach → Reach → Reach → Found
+    abbrev whole : Reach → Reach → Reach → PathsWalked
     whole f right left = record { row = left.row; used = left.used; trails = found.trails ++ (trail_of f.at left.walked (reverse right.walked) ∷ []) }
 
     abbrev lefts : List (HopWanted × NodeWanted)
@@ -195,7 +195,7 @@ module _ (graph : Graph) (g : IsGraph graph) (parameters : Entries) (leads : Lis
         (λ left e. rising_one Apart found_code (left_code f right left) (whole f right left) (begins_same (left_code f right left) (found_code (whole f right left)) (whole_code f right left e)))
         (right_code f right) (all_hops graph true lefts (back f right)).0 (left_long f right) (hops_rise graph g true (right_code f right) lefts (back f right))
 
-    abbrev sides : Reach → Listing Found
+    abbrev sides : Reach → Listing PathsWalked
     sides f = and_then (all_hops graph false (rightwards p a.place) f) (left_walks graph p a found.trails f)
 
     sides_rise : (f : Reach) → f.walked ≡ [] → Rising Apart found_code (first_code f) (sides f).0
@@ -229,7 +229,7 @@ module _ (graph : Graph) (g : IsGraph graph) (parameters : Entries) (leads : Lis
     placed_rises : Rising Apart found_code before (and_then firsts sides).0
     placed_rises = rising_each Lower Apart (parts_on Lower) first_code (λ f. f.walked ≡ []) sides found_code sides_rise before firsts.0 firsts_begin firsts_rise
 
-    abbrev IsOneMore : Found → Type 0
+    abbrev IsOneMore : PathsWalked → Type 0
     IsOneMore y = length (done ++ (a ∷ [])) ≡ length y.trails
 
     placed_long : AllByRecursion IsOneMore (and_then firsts sides).0
@@ -243,22 +243,22 @@ module _ (graph : Graph) (g : IsGraph graph) (parameters : Entries) (leads : Lis
         one_more : (t : Trail) → length (done ++ (a ∷ [])) ≡ length (found.trails ++ (t ∷ []))
         one_more t = one_longer done a ∙ ap suc long ∙ sym (one_longer found.trails t)
 
-  abbrev found_from : Option NodeWanted → Listing Found
-  found_from o = elim o as (λ o. Listing Found) [
+  abbrev found_from : Option NodeWanted → Listing PathsWalked
+  found_from o = elim o as (λ o. Listing PathsWalked) [
     | None ↦ ([], 0)
     | Some w ↦ and_then (each_listing (λ n. (from_anchor graph found.row found.used w n, 1)) (candidates graph parameters leads found.row a w)) (λ f. and_then (all_hops graph false (rightwards p a.place) f) (left_walks graph p a found.trails f))
   ]
 
-  pub path_rises : Rising Apart (λ (y : Found). walks_of (done ++ (a ∷ [])) y.trails) (walks_of done found.trails) (path_walks graph parameters leads p a found).0
+  pub path_rises : Rising Apart (λ (y : PathsWalked). walks_of (done ++ (a ∷ [])) y.trails) (walks_of done found.trails) (path_walks graph parameters leads p a found).0
   path_rises =
       elim (slice_get (wanted_nodes p) a.place) as (λ o. slice_get (wanted_nodes p) a.place ≡ o → Rising Apart found_code before (found_from o).0) [
         | None ↦ λ e. record { begins = tt; pairs = tt }
         | Some w ↦ λ e. placed_rises w e
       ] refl
 
-  pub path_long : AllByRecursion (λ (y : Found). length (done ++ (a ∷ [])) ≡ length y.trails) (path_walks graph parameters leads p a found).0
+  pub path_long : AllByRecursion (λ (y : PathsWalked). length (done ++ (a ∷ [])) ≡ length y.trails) (path_walks graph parameters leads p a found).0
   path_long =
-      elim (slice_get (wanted_nodes p) a.place) as (λ o. slice_get (wanted_nodes p) a.place ≡ o → AllByRecursion (λ (y : Found). length (done ++ (a ∷ [])) ≡ length y.trails) (found_from o).0) [
+      elim (slice_get (wanted_nodes p) a.place) as (λ o. slice_get (wanted_nodes p) a.place ≡ o → AllByRecursion (λ (y : PathsWalked). length (done ++ (a ∷ [])) ≡ length y.trails) (found_from o).0) [
         | None ↦ λ e. tt
         | Some w ↦ λ e. placed_long w e
       ] refl
@@ -275,13 +275,13 @@ zipped_anchors (p ∷ ps) (a ∷ as_) e = ap (λ zs. a ∷ zs) (zipped_anchors p
     one_less m n e = omega (arith, e)
 
 module _ (graph : Graph) (g : IsGraph graph) (parameters : Entries) (leads : List Fixed) where
-  from_rises : (ps : List (PathWanted × Anchor)) (done : List Anchor) (found : Found) → length done ≡ length found.trails
-      → Rising Apart (λ (y : Found). walks_of (done ++ map (λ p. p.1) ps) y.trails) (walks_of done found.trails) (walks_from graph parameters leads ps found).0
+  from_rises : (ps : List (PathWanted × Anchor)) (done : List Anchor) (found : PathsWalked) → length done ≡ length found.trails
+      → Rising Apart (λ (y : PathsWalked). walks_of (done ++ map (λ p. p.1) ps) y.trails) (walks_of done found.trails) (walks_from graph parameters leads ps found).0
   from_rises [] done found long =
-      rising_one Apart (λ (y : Found). walks_of (done ++ []) y.trails) (walks_of done found.trails) found (begins_same (walks_of done found.trails) (walks_of (done ++ []) found.trails) (ap (λ as_. walks_of as_ found.trails) (append-nil done)))
+      rising_one Apart (λ (y : PathsWalked). walks_of (done ++ []) y.trails) (walks_of done found.trails) found (begins_same (walks_of done found.trails) (walks_of (done ++ []) found.trails) (ap (λ as_. walks_of as_ found.trails) (append-nil done)))
   from_rises (p ∷ ps) done found long =
-      rising_each Lower Apart (parts_on Lower) (λ (y : Found). walks_of (done ++ (p.1 ∷ [])) y.trails) (λ (y : Found). length (done ++ (p.1 ∷ [])) ≡ length y.trails) (λ next. walks_from graph parameters leads ps next) (λ (y : Found). walks_of (done ++ map (λ q. q.1) (p ∷ ps)) y.trails)
-      (λ next e. subst (λ as_. Rising Apart (λ (y : Found). walks_of as_ y.trails) (walks_of (done ++ (p.1 ∷ [])) next.trails) (walks_from graph parameters leads ps next).0) (append_assoc done (p.1 ∷ []) (map (λ q. q.1) ps)) (from_rises ps (done ++ (p.1 ∷ [])) next e))
+      rising_each Lower Apart (parts_on Lower) (λ (y : PathsWalked). walks_of (done ++ (p.1 ∷ [])) y.trails) (λ (y : PathsWalked). length (done ++ (p.1 ∷ [])) ≡ length y.trails) (λ next. walks_from graph parameters leads ps next) (λ (y : PathsWalked). walks_of (done ++ map (λ q. q.1) (p ∷ ps)) y.trails)
+      (λ next e. subst (λ as_. Rising Apart (λ (y : PathsWalked). walks_of as_ y.trails) (walks_of (done ++ (p.1 ∷ [])) next.trails) (walks_from graph parameters leads ps next).0) (append_assoc done (p.1 ∷ []) (map (λ q. q.1) ps)) (from_rises ps (done ++ (p.1 ∷ [])) next e))
       (walks_of done found.trails) (path_walks graph parameters leads p.0 p.1 found).0
       (path_long graph g parameters leads done p.0 p.1 found long)
       (path_rises graph g parameters leads done p.0 p.1 found long)
@@ -295,12 +295,12 @@ module _ (graph : Graph) (g : IsGraph graph) (parameters : Entries) (leads : Lis
   -- what is listed of a row rises
   pub walks_rise : (ps : List PathWanted) (as_ : List Anchor) (row : Row) → length ps ≡ length as_ → AllPairsByRecursion (λ x y. walk_order as_ x y ≡ Less) (walks graph parameters leads ps as_ row).0
   walks_rise ps as_ row e =
-      pairs_mapped (λ (y : Found). y.trails) (λ x y. walk_order as_ x.trails y.trails ≡ Less) (λ x y. walk_order as_ x y ≡ Less) (λ x y l. l) items
-      (pairs_weaker (λ (x : Found) y. Apart (walks_of as_ x.trails) (walks_of as_ y.trails)) (λ x y. walk_order as_ x.trails y.trails ≡ Less) (λ x y l. codes_less (walks_of as_ x.trails) (walks_of as_ y.trails) l) items
-      (subst (λ bs. AllPairsByRecursion (λ (x : Found) y. Apart (walks_of bs x.trails) (walks_of bs y.trails)) items) (zipped_anchors ps as_ e) (from_rises (zip ps as_) [] none refl).pairs))
+      pairs_mapped (λ (y : PathsWalked). y.trails) (λ x y. walk_order as_ x.trails y.trails ≡ Less) (λ x y. walk_order as_ x y ≡ Less) (λ x y l. l) items
+      (pairs_weaker (λ (x : PathsWalked) y. Apart (walks_of as_ x.trails) (walks_of as_ y.trails)) (λ x y. walk_order as_ x.trails y.trails ≡ Less) (λ x y l. codes_less (walks_of as_ x.trails) (walks_of as_ y.trails) l) items
+      (subst (λ bs. AllPairsByRecursion (λ (x : PathsWalked) y. Apart (walks_of bs x.trails) (walks_of bs y.trails)) items) (zipped_anchors ps as_ e) (from_rises (zip ps as_) [] none refl).pairs))
     where
-      none : Found
+      none : PathsWalked
       none = record { row = row; used = []; trails = [] }
 
-      items : List Found
+      items : List PathsWalked
       items = (walks_from graph parameters leads (zip ps as_) none).0

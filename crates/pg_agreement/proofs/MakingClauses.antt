@@ -7,7 +7,7 @@ use Rattle.pg_agreement.proofs.MakingPlaces.{count_made, counted}
 use Rattle.pg_agreement.proofs.MakingProgress.{IsNamed, all_pairs, at_start}
 use Rattle.pg_agreement.proofs.MakingRows.{HasShape, binds_match}
 use Rattle.pg_agreement.specs.Making.{CreateAgrees}
-use Rattle.pg_meaning.specs.Agreement.{given}
+use Rattle.pg_meaning.specs.Agreement.{given_in}
 use Rattle.pg_meaning.specs.Answer.{◌>>=◌, ◌>>◌}
 use Rattle.pg_agreement.proofs.MakingTurns.{RowAgrees, rows_make_create}
 use Rattle.pg_agreement.proofs.RowNames.{BindsOnly}
@@ -80,8 +80,8 @@ same_ids bound x y (inr e) (inr f) some same = ap (λ o. elim o [ Some v ↦ eli
 
 -- what making gives of a row
 abbrev pub MakeAgrees : Setting → List PathPattern → Graph → Row → Result (Graph × Row) Fault → Type 0
-MakeAgrees s paths graph row (Ok made) = CreateRow (given s) paths graph row made.0 (made.1 ∷ []) × BindsOnly (add_path_names paths s.scope) made.1
-MakeAgrees s paths graph row (Err f) = CreateFaults (given s) paths graph row f
+MakeAgrees s paths graph row (Ok made) = CreateRow (given_in s) paths graph row made.0 (made.1 ∷ []) × BindsOnly (add_path_names paths s.scope) made.1
+MakeAgrees s paths graph row (Err f) = CreateFaults (given_in s) paths graph row f
 
 module _ (s : Setting) (paths : List PathPattern) (graph : Graph) (row : Row) (g : IsGraph graph) where
   parts : BoundNodesLive false graph row paths → AllByRecursion (AreParts s paths graph row g) paths

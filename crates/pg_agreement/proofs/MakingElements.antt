@@ -4,7 +4,7 @@ use Rattle.std.proofs.lemmas.List.{length-append}
 use Rattle.std.specs.List.{AllByRecursion}
 use Rattle.pg_agreement.proofs.MakingPlaces.{known, known_with, count_made, made_and_left, one_less}
 use Rattle.pg_agreement.proofs.MakingProgress.{Progress, newness, bound_is_live, with_old, with_new, with_relationship}
-use Rattle.pg_meaning.specs.Agreement.{given}
+use Rattle.pg_meaning.specs.Agreement.{given_in}
 use Rattle.pg_meaning.specs.Answer.{◌>>=◌, ◌>>◌, unless}
 use Rattle.pg_meaning.specs.AnswerLaws.{by_answer}
 use Rattle.pg_agreement.proofs.MakingTurns.{by_unless, not_below}
@@ -41,14 +41,14 @@ module _ (s : Setting) (paths : List PathPattern) (graph : Graph) (row : Row) (g
   Reached = Progress s graph row
 
   abbrev pub Fails : Fault → Type 0
-  Fails = CreateFaults (given s) paths graph row
+  Fails = CreateFaults (given_in s) paths graph row
 
   -- a node of the paths, bound to no other than a node that is there
   abbrev pub IsOne : NodePattern → Type 0
   IsOne n = IsIn n.properties (all_properties paths) × (test_bound false graph (bound_value (node_name n) row) ≡ Ok tt)
 
   abbrev pub Left : List (NodePattern × ℕ) → List NodePattern → Type 0
-  Left ps ns = made_and_left s.scope ps ns ≡ new_nodes (given s) paths
+  Left ps ns = made_and_left s.scope ps ns ≡ new_nodes (given_in s) paths
 
   -- ---- nodes
 
@@ -63,12 +63,12 @@ module _ (s : Setting) (paths : List PathPattern) (graph : Graph) (row : Row) (g
   one_is_new : (m : Making) (n : NodePattern) (ps : List (NodePattern × ℕ)) (ms : List Made) (more : List NodePattern) → Reached m.graph m.bound ps ms → bound_value (node_name n) m.bound ≡ None
       → IsIn n.properties (all_properties paths) → Left ps (n ∷ more) → length ms ≤ new_relationships paths → NodeMade m n ps ms (make_new_node s graph row n m)
   one_is_new m n ps ms more so_far free among left hops =
-      by_answer (NodeMade m n ps ms) (given_properties s graph row n.properties) roomy
+      by_answer (NodeMade m n ps ms) (given_properties s.parameters graph row n.properties) roomy
       (λ props given_by. by_unless (NodeMade m n ps ms) (nat_lt (element_count m.graph) s.quota.max_elements) ElementQuota (counted props)
       (λ room. by_unless (NodeMade m n ps ms) (nat_lt m.graph.next_node greatest_id) IdsExhausted (made props)
       (λ ids. (m.graph.next_node, refl, with_new s graph row m.graph m.bound ps ms so_far n props free given_by room ids))
-      (λ full. inr (inr (inr (inl (refl, no_id_left greatest_id m.graph.next_node graph.next_node (length (new_places s.scope ps)) rest (new_nodes (given s) paths) (not_below _ _ full) so_far.next_node total))))))
-      (λ full. inr (inr (inl (refl, no_room_for_node s.quota.max_elements (element_count m.graph) (element_count graph) (length (new_places s.scope ps)) rest (new_nodes (given s) paths) (new_relationships paths) (length ms) (not_below _ _ full) so_far.count total hops)))))
+      (λ full. inr (inr (inr (inl (refl, no_id_left greatest_id m.graph.next_node graph.next_node (length (new_places s.scope ps)) rest (new_nodes (given_in s) paths) (not_below _ _ full) so_far.next_node total))))))
+      (λ full. inr (inr (inl (refl, no_room_for_node s.quota.max_elements (element_count m.graph) (element_count graph) (length (new_places s.scope ps)) rest (new_nodes (given_in s) paths) (new_relationships paths) (length ms) (not_below _ _ full) so_far.count total hops)))))
       (λ f fault. inr (inl (n.properties, among, fault)))
     where
       made : Entries → Result Making Fault
@@ -83,7 +83,7 @@ module _ (s : Setting) (paths : List PathPattern) (graph : Graph) (row : Row) (g
       rest : ℕ
       rest = count_made (known_with (known s.scope ps) (node_name n)) more
 
-      total : length (new_places s.scope ps) + (1 + rest) ≡ new_nodes (given s) paths
+      total : length (new_places s.scope ps) + (1 + rest) ≡ new_nodes (given_in s) paths
       total = ap (λ b. length (new_places s.scope ps) + (cond b 1 0 + rest)) (sym (newness s graph row m.graph m.bound ps ms so_far (node_name n) free)) ∙ left
 
   one_made : (m : Making) (n : NodePattern) (ps : List (NodePattern × ℕ)) (ms : List Made) (more : List NodePattern) → Reached m.graph m.bound ps ms → IsOne n → Left ps (n ∷ more)
@@ -137,14 +137,14 @@ module _ (s : Setting) (paths : List PathPattern) (graph : Graph) (row : Row) (g
 
   one_hop : (bound : Row) (r : RelationshipPattern) (left right : ℕ) (before : Graph) (ps : List (NodePattern × ℕ)) (ms : List Made) (others : ℕ) → Reached before bound ps ms
       → IsIn (relationship_properties r) (all_properties paths) → IsTrue (has_node before left) → IsTrue (has_node before right)
-      → length (new_places s.scope ps) ≤ new_nodes (given s) paths → length ms + (1 + others) ≡ new_relationships paths → HopMade bound r left right before ps ms (make_relationship s graph row r left right before)
+      → length (new_places s.scope ps) ≤ new_nodes (given_in s) paths → length ms + (1 + others) ≡ new_relationships paths → HopMade bound r left right before ps ms (make_relationship s graph row r left right before)
   one_hop bound r left right before ps ms others so_far among from to nodes hops =
-      by_answer (HopMade bound r left right before ps ms) (given_properties s graph row (relationship_properties r)) roomy
+      by_answer (HopMade bound r left right before ps ms) (given_properties s.parameters graph row (relationship_properties r)) roomy
       (λ props given_by. by_unless (HopMade bound r left right before ps ms) (nat_lt (element_count before) s.quota.max_elements) ElementQuota (counted props)
       (λ room. by_unless (HopMade bound r left right before ps ms) (nat_lt before.next_relationship greatest_id) IdsExhausted (made props)
       (λ ids. (with_relationship s graph row before bound ps ms so_far r left right props given_by from to room ids, stays props (way_of r)))
       (λ full. inr (inr (inr (inr (refl, no_id_left greatest_id before.next_relationship graph.next_relationship (length ms) others (new_relationships paths) (not_below _ _ full) so_far.next_relationship hops))))))
-      (λ full. inr (inr (inl (refl, no_room_for_hop s.quota.max_elements (element_count before) (element_count graph) (length (new_places s.scope ps)) (new_nodes (given s) paths) (new_relationships paths) (length ms) others (not_below _ _ full) so_far.count nodes hops)))))
+      (λ full. inr (inr (inl (refl, no_room_for_hop s.quota.max_elements (element_count before) (element_count graph) (length (new_places s.scope ps)) (new_nodes (given_in s) paths) (new_relationships paths) (length ms) others (not_below _ _ full) so_far.count nodes hops)))))
       (λ f fault. inr (inl (relationship_properties r, among, fault)))
     where
       made : Entries → Result Graph Fault
@@ -164,7 +164,7 @@ module _ (s : Setting) (paths : List PathPattern) (graph : Graph) (row : Row) (g
   pub hops_made : (bound : Row) (hs : List (RelationshipPattern × NodePattern)) (left : ℕ) (ns : List ℕ) (before : Graph) (ps : List (NodePattern × ℕ)) (ms : List Made) (others : ℕ) → Reached before bound ps ms
       → length ns ≡ length hs → AllByRecursion (λ h. IsIn (relationship_properties h.0) (all_properties paths)) hs
       → IsTrue (has_node before left) → AllByRecursion (λ n. IsTrue (has_node before n)) ns
-      → length (new_places s.scope ps) ≤ new_nodes (given s) paths → length ms + (length hs + others) ≡ new_relationships paths
+      → length (new_places s.scope ps) ≤ new_nodes (given_in s) paths → length ms + (length hs + others) ≡ new_relationships paths
       → HopsMade bound hs (left ∷ ns) ps ms (make_hops s graph row hs left ns before)
   hops_made bound [] left ns before ps ms others so_far e among from to nodes hops = (refl, tt, subst (Reached before bound ps) (sym (append-nil ms)) so_far)
   hops_made bound (h ∷ hs) left [] before ps ms others so_far e among from to nodes hops = cc

@@ -6,7 +6,7 @@ use Rattle.pg_agreement.proofs.MakingElements.{all_properties, Reached, Fails, I
 use Rattle.pg_agreement.proofs.MakingPlaces.{known, count_made, all_less}
 use Rattle.pg_agreement.proofs.MakingProgress.{Progress}
 use Rattle.pg_agreement.proofs.MakingRows.{as_many_nodes}
-use Rattle.pg_meaning.specs.Agreement.{given}
+use Rattle.pg_meaning.specs.Agreement.{given_in}
 use Rattle.pg_meaning.specs.Answer.{◌>>=◌}
 use Rattle.pg_meaning.specs.Graph.{Graph, IsGraph, has_node}
 use Rattle.pg_meaning.specs.Lists.{IsIn}
@@ -74,7 +74,7 @@ module _ (s : Setting) (paths : List PathPattern) (graph : Graph) (row : Row) (g
           let there = ids_of_placed (λ id. IsTrue (has_node after id)) (nodes_of p) (n ∷ ns) e (all_back (λ q. IsTrue (has_node after q.1)) ps (placed (nodes_of p) (n ∷ ns)) reached.live) in
           finished after more_bound (n ∷ ns) e (make_hops s graph row p.hops n ns after)
           (hops_made s paths graph row g more_bound p.hops n ns after (ps ++ placed (nodes_of p) (n ∷ ns)) ms others reached (ap pred e ∙ as_many_nodes p.hops) parts.1 there.0 there.1
-          (no_more (length (new_places s.scope (ps ++ placed (nodes_of p) (n ∷ ns)))) (count_made (known s.scope (ps ++ placed (nodes_of p) (n ∷ ns))) more) (new_nodes (given s) paths) (all_less s.scope ps (nodes_of p) (n ∷ ns) more e ∙ left)) hops)
+          (no_more (length (new_places s.scope (ps ++ placed (nodes_of p) (n ∷ ns)))) (count_made (known s.scope (ps ++ placed (nodes_of p) (n ∷ ns))) more) (new_nodes (given_in s) paths) (all_less s.scope ps (nodes_of p) (n ∷ ns) more e ∙ left)) hops)
 
       by_nodes : (r : Result Making Fault) → NodesMade s paths graph row g (record { graph = before; bound = bound; ids = [] }) (nodes_of p) ps ms r
           → PathMade p ps ms (r >>= λ m. make_bonds s graph row p.hops m.ids m.graph >>= λ made. Ok (made.0, m.bound, record { nodes = m.ids; bonds = made.1 }))

@@ -5,7 +5,7 @@ use Rattle.std.proofs.lemmas.List.{length-append}
 use Rattle.std.specs.List.{AllByRecursion}
 use Rattle.pg_agreement.proofs.MakingPlaces.{is_new, known_with, known, new_places_with, known_joined}
 use Rattle.pg_agreement.proofs.MakingRows.{binds_known, still_bound, value_still_bound, now_bound, bound_before}
-use Rattle.pg_meaning.specs.Agreement.{given}
+use Rattle.pg_meaning.specs.Agreement.{given_in}
 use Rattle.pg_meaning.specs.Answer.{unless}
 use Rattle.pg_agreement.proofs.MakingTurns.{below, given_rises, put_is_longer, next_below}
 use Rattle.pg_agreement.proofs.RowNames.{BindsOnly}
@@ -81,10 +81,10 @@ pub record Progress (s : Setting) (graph : Graph) (row : Row) (after : Graph) (b
   pub kept : (q : List ℕ) (v : Value) → value_in q row ≡ Some v → value_in q bound ≡ Some v
   pub earlier : (q : List ℕ) (v : Value) → value_in q bound ≡ Some v → (value_in q row ≡ Some v) ⊎ ((id : ℕ) × (v ≡ node id) × IsTrue (has_node after id))
   pub binds : (q : List ℕ) → is_some (value_in q bound) ≡ is_among (known s.scope ps) q
-  pub nodes : AllByRecursion (IsMadeNode (given s) graph row after) (new_places s.scope ps)
+  pub nodes : AllByRecursion (IsMadeNode (given_in s) graph row after) (new_places s.scope ps)
   pub node_ids : AllPairsByRecursion (λ p q. p.1 ≢ q.1) (new_places s.scope ps)
   pub next_node : after.next_node ≡ graph.next_node + length (new_places s.scope ps)
-  pub relationships : AllByRecursion (IsMadeRelationship (given s) graph row after) ms
+  pub relationships : AllByRecursion (IsMadeRelationship (given_in s) graph row after) ms
   pub relationship_ids : AllPairsByRecursion (λ m n. m.id ≢ n.id) ms
   pub next_relationship : after.next_relationship ≡ graph.next_relationship + length ms
   pub old_nodes : (n : ℕ) → n < graph.next_node → node_at after n ≡ node_at graph n
@@ -202,7 +202,7 @@ module _ (s : Setting) (graph : Graph) (row : Row) where
           kept = so_far.kept;
           earlier = so_far.earlier;
           binds = λ q. so_far.binds q ∙ ap (λ names. is_among names q) (sym (names_with (n, id) ∙ old_names (node_name n) (node id) e));
-          nodes = subst (AllByRecursion (IsMadeNode (given s) graph row after)) (sym places) so_far.nodes;
+          nodes = subst (AllByRecursion (IsMadeNode (given_in s) graph row after)) (sym places) so_far.nodes;
           node_ids = subst (AllPairsByRecursion (λ p q. p.1 ≢ q.1)) (sym places) so_far.node_ids;
           next_node = so_far.next_node ∙ ap (λ xs. graph.next_node + length xs) (sym places);
           relationships = so_far.relationships;
@@ -218,7 +218,7 @@ module _ (s : Setting) (graph : Graph) (row : Row) where
         }
 
     -- a new node
-    pub with_new : (n : NodePattern) (props : Entries) → bound_value (node_name n) bound ≡ None → given_properties s graph row n.properties ≡ Ok props
+    pub with_new : (n : NodePattern) (props : Entries) → bound_value (node_name n) bound ≡ None → given_properties s.parameters graph row n.properties ≡ Ok props
         → nat_lt (element_count after) s.quota.max_elements ≡ true → nat_lt after.next_node greatest_id ≡ true
         → Progress s graph row (add_node (texts_of n.labels) props after) (bind_if_named (node_name n) (node after.next_node) bound) (ps ++ (n, after.next_node) ∷ []) ms
     with_new n props e given_by roomy counted =
@@ -241,13 +241,13 @@ module _ (s : Setting) (graph : Graph) (row : Row) where
           kept = λ q v h. still_bound (node_name n) (node id) v q bound (so_far.kept q v h);
           earlier = λ q v h. by_origin q v (bound_before (node_name n) (node id) v q bound h);
           binds = λ q. binds_known (known s.scope ps) bound (node_name n) (node id) so_far.binds q ∙ ap (λ names. is_among names q) (sym (names_with p));
-          nodes = subst (AllByRecursion (IsMadeNode (given s) graph row next)) (sym places)
-              (all_joined (IsMadeNode (given s) graph row next) (new_places s.scope ps) (p ∷ [])
-              (all_weaker (IsMadeNode (given s) graph row after) (IsMadeNode (given s) graph row next) (λ x. still_made x) (new_places s.scope ps) so_far.nodes)
+          nodes = subst (AllByRecursion (IsMadeNode (given_in s) graph row next)) (sym places)
+              (all_joined (IsMadeNode (given_in s) graph row next) (new_places s.scope ps) (p ∷ [])
+              (all_weaker (IsMadeNode (given_in s) graph row after) (IsMadeNode (given_in s) graph row next) (λ x. still_made x) (new_places s.scope ps) so_far.nodes)
               ((record { labels = in_byte_order (texts_of n.labels); properties = props }, begins, next_below id, adds.itself, refl, given_by), tt));
           node_ids = subst (AllPairsByRecursion (λ x y. x.1 ≢ y.1)) (sym places)
               (pairs_with (λ x y. x.1 ≢ y.1) (new_places s.scope ps) p so_far.node_ids
-              (all_weaker (IsMadeNode (given s) graph row after) (λ x. x.1 ≢ id) (λ x h same. lt_irrefl id (subst (λ k. k < id) same h.2)) (new_places s.scope ps) so_far.nodes));
+              (all_weaker (IsMadeNode (given_in s) graph row after) (λ x. x.1 ≢ id) (λ x h same. lt_irrefl id (subst (λ k. k < id) same h.2)) (new_places s.scope ps) so_far.nodes));
           next_node = grown_by_one id graph.next_node (length (new_places s.scope ps)) so_far.next_node ∙ ap (λ k. graph.next_node + k) (sym made);
           relationships = so_far.relationships;
           relationship_ids = so_far.relationship_ids;
@@ -266,7 +266,7 @@ module _ (s : Setting) (graph : Graph) (row : Row) where
         still_named x (inl h) = inl h
         still_named x (inr h) = inr (value_still_bound (node_name n) (node after.next_node) (node x.1) (node_name x.0) bound h)
 
-        still_made : (x : NodePattern × ℕ) → IsMadeNode (given s) graph row after x → IsMadeNode (given s) graph row (add_node (texts_of n.labels) props after) x
+        still_made : (x : NodePattern × ℕ) → IsMadeNode (given_in s) graph row after x → IsMadeNode (given_in s) graph row (add_node (texts_of n.labels) props after) x
         still_made x h = (
           h.0,
           h.1,
@@ -293,7 +293,7 @@ module _ (s : Setting) (graph : Graph) (row : Row) where
     new_relationship r source target props = record { type = first_text (types_of r); source = source; target = target; properties = props }
 
     between : (r : RelationshipPattern) (left right source target : ℕ) (props : Entries) → HasEnds (way_of r) (hop_made r left right) (new_relationship r source target props)
-        → given_properties s graph row (relationship_properties r) ≡ Ok props → IsTrue (has_node after source) → IsTrue (has_node after target)
+        → given_properties s.parameters graph row (relationship_properties r) ≡ Ok props → IsTrue (has_node after source) → IsTrue (has_node after target)
         → nat_lt (element_count after) s.quota.max_elements ≡ true → nat_lt after.next_relationship greatest_id ≡ true
         → Progress s graph row (add_relationship (first_text (types_of r)) source target props after) bound ps (ms ++ hop_made r left right ∷ [])
     between r left right source target props ends given_by from to roomy counted =
@@ -314,11 +314,11 @@ module _ (s : Setting) (graph : Graph) (row : Row) where
           nodes = so_far.nodes;
           node_ids = so_far.node_ids;
           next_node = so_far.next_node;
-          relationships = all_joined (IsMadeRelationship (given s) graph row next) ms (m ∷ [])
-              (all_weaker (IsMadeRelationship (given s) graph row after) (IsMadeRelationship (given s) graph row next) (λ x. still_made x) ms so_far.relationships)
+          relationships = all_joined (IsMadeRelationship (given_in s) graph row next) ms (m ∷ [])
+              (all_weaker (IsMadeRelationship (given_in s) graph row after) (IsMadeRelationship (given_in s) graph row next) (λ x. still_made x) ms so_far.relationships)
               ((new_relationship r source target props, begins, next_below id, adds.itself, refl, ends, given_by), tt);
           relationship_ids = pairs_with (λ x y. x.id ≢ y.id) ms m so_far.relationship_ids
-              (all_weaker (IsMadeRelationship (given s) graph row after) (λ x. x.id ≢ id) (λ x h same. lt_irrefl id (subst (λ k. k < id) same h.2)) ms so_far.relationships);
+              (all_weaker (IsMadeRelationship (given_in s) graph row after) (λ x. x.id ≢ id) (λ x h same. lt_irrefl id (subst (λ k. k < id) same h.2)) ms so_far.relationships);
           next_relationship = grown_by_one id graph.next_relationship (length ms) so_far.next_relationship ∙ ap (λ k. graph.next_relationship + k) (sym made);
           old_nodes = so_far.old_nodes;
           old_relationships = λ q l. adds.others q (λ same. lt_irrefl id (subst (λ k. k < id) same (lt_of_lt_of_le l begins))) ∙ so_far.old_relationships q l;
@@ -330,7 +330,7 @@ module _ (s : Setting) (graph : Graph) (row : Row) where
               (relationship_counted (length next.relationships) (length after.relationships) (length after.nodes) (element_count graph) (length (new_places s.scope ps)) (length ms) grows so_far.count);
         }
       where
-        still_made : (x : Made) → IsMadeRelationship (given s) graph row after x → IsMadeRelationship (given s) graph row (add_relationship (first_text (types_of r)) source target props after) x
+        still_made : (x : Made) → IsMadeRelationship (given_in s) graph row after x → IsMadeRelationship (given_in s) graph row (add_relationship (first_text (types_of r)) source target props after) x
         still_made x h = (
           h.0,
           h.1,
@@ -342,7 +342,7 @@ module _ (s : Setting) (graph : Graph) (row : Row) where
         )
 
     -- a new relationship
-    pub with_relationship : (r : RelationshipPattern) (left right : ℕ) (props : Entries) → given_properties s graph row (relationship_properties r) ≡ Ok props
+    pub with_relationship : (r : RelationshipPattern) (left right : ℕ) (props : Entries) → given_properties s.parameters graph row (relationship_properties r) ≡ Ok props
         → IsTrue (has_node after left) → IsTrue (has_node after right)
         → nat_lt (element_count after) s.quota.max_elements ≡ true → nat_lt after.next_relationship greatest_id ≡ true
         → Progress s graph row (add_between (way_of r) (first_text (types_of r)) left right props after) bound ps (ms ++ record { pattern = r; left = left; right = right; id = after.next_relationship } ∷ [])

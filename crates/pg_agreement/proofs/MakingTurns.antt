@@ -3,7 +3,7 @@ use Rattle.std.proofs.Common.{◌≡◌, ℕ, ◌+◌, ◌*◌, ◌<◌, ◌≤�
 use Rattle.std.specs.FinMap.Entries as by_id
 use Rattle.std.specs.Ordering.{nat_cmp}
 use Rattle.pg_meaning.specs.Turns.{RowByRow, AtSomeTurn}
-use Rattle.pg_meaning.specs.Agreement.{given, AreRowsOf, AnswerAgrees}
+use Rattle.pg_meaning.specs.Agreement.{given_in, AreRowsOf, AnswerAgrees}
 use Rattle.pg_meaning.specs.Answer.{◌>>=◌, ◌>>◌, unless, each_step}
 use Rattle.pg_meaning.specs.AnswerLaws.{by_answer, went_well, same_ok}
 use Rattle.pg_meaning.specs.Entries.{are_rising, set_keys}
@@ -26,13 +26,13 @@ use Rattle.pg_agreement.proofs.RowNames.{BindsOnly}
 -- what CREATE gives of one row
 abbrev pub RowAgrees : Setting → List PathPattern → State → Row → Result State Fault → Type 0
 RowAgrees s paths state row (Ok next) =
-    (results : List Row) × (next.rows ≡ state.rows ++ results) × CreateRow (given s) paths state.graph row next.graph results × IsGraph next.graph × AreRowsOf (add_path_names paths s.scope) results
-RowAgrees s paths state row (Err f) = CreateFaults (given s) paths state.graph row f
+    (results : List Row) × (next.rows ≡ state.rows ++ results) × CreateRow (given_in s) paths state.graph row next.graph results × IsGraph next.graph × AreRowsOf (add_path_names paths s.scope) results
+RowAgrees s paths state row (Err f) = CreateFaults (given_in s) paths state.graph row f
 
 abbrev TurnsAgree : Setting → List PathPattern → State → List Row → Result State Fault → Type 0
 TurnsAgree s paths state rows (Ok next) =
-    (results : List Row) × (next.rows ≡ state.rows ++ results) × RowByRow (CreateRow (given s) paths) state.graph rows next.graph results × IsGraph next.graph × AreRowsOf (add_path_names paths s.scope) results
-TurnsAgree s paths state rows (Err f) = AtSomeTurn (CreateRow (given s) paths) (CreateFaults (given s) paths) state.graph rows f
+    (results : List Row) × (next.rows ≡ state.rows ++ results) × RowByRow (CreateRow (given_in s) paths) state.graph rows next.graph results × IsGraph next.graph × AreRowsOf (add_path_names paths s.scope) results
+TurnsAgree s paths state rows (Err f) = AtSomeTurn (CreateRow (given_in s) paths) (CreateFaults (given_in s) paths) state.graph rows f
 
 module _ (s : Setting) (paths : List PathPattern) (each : (state : State) (row : Row) → IsGraph state.graph → BindsOnly s.scope row → RowAgrees s paths state row (create_row s paths state row)) where
   one_turn : (rows : List Row) (state : State) (row : Row) (r : Result State Fault) → RowAgrees s paths state row r
@@ -63,7 +63,7 @@ module _ (s : Setting) (paths : List PathPattern) (each : (state : State) (row :
       (λ f e. inl (spend_fault s state.steps (length state.rows * count_new s.scope paths) f e))
     where
       of_turns : (steps : ℕ) (r : Result State Fault) → TurnsAgree s paths (record { graph = state.graph; rows = []; steps = steps }) state.rows r → AnswerAgrees s (create paths) state r
-      of_turns steps (Ok next) t = (subst (RowByRow (CreateRow (given s) paths) state.graph state.rows next.graph) (sym t.1) t.2, t.3, subst (AreRowsOf (add_path_names paths s.scope)) (sym t.1) t.4)
+      of_turns steps (Ok next) t = (subst (RowByRow (CreateRow (given_in s) paths) state.graph state.rows next.graph) (sym t.1) t.2, t.3, subst (AreRowsOf (add_path_names paths s.scope)) (sym t.1) t.4)
       of_turns steps (Err f) t = inr t
 
 -- ---- tests
@@ -78,9 +78,9 @@ below a b e = ltb→lt a b (subst T (sym e) tt)
 pub not_below : (a b : ℕ) → nat_lt a b ≡ false → b ≤ a
 not_below a b e = nltb→le a b (subst (λ c. T (not c)) (sym e) tt)
 
-pub given_rises : (s : Setting) (graph : Graph) (row : Row) (ps : Properties) (props : Entries) → given_properties s graph row ps ≡ Ok props → IsTrue (are_rising props)
+pub given_rises : (s : Setting) (graph : Graph) (row : Row) (ps : Properties) (props : Entries) → given_properties s.parameters graph row ps ≡ Ok props → IsTrue (are_rising props)
 given_rises s graph row ps props e =
-    let pairs = went_well (given_pairs s graph row ps) (λ pairs. test_storable pairs >> Ok (set_keys pairs no_entries)) props e in
+    let pairs = went_well (given_pairs s.parameters graph row ps) (λ pairs. test_storable pairs >> Ok (set_keys pairs no_entries)) props e in
     subst (λ es. are_rising es ≡ true) (by_test (test_storable pairs.0) pairs.0 pairs.2) (set_keys_keeps_rising pairs.0 no_entries refl)
   where
     by_test : (t : Result (Unit {0}) Fault) (pairs : List (List ℕ × Value)) → (t >> Ok (set_keys pairs no_entries)) ≡ Ok props → set_keys pairs no_entries ≡ props

@@ -1,7 +1,7 @@
 -- MATCH at one row: what the walks list and the condition lets through is what matches.
 use Rattle.std.proofs.Common.{◌≡◌, ◌≢◌, ℕ, Bool, true, false, cond, inl, inr, ◌⊎◌, List, [], ◌∷◌, map, filter, flat_map, Option, Result, Ok, Err, refl, sym, ap, subst, ◌∙◌, true≢false}
 use Rattle.std.specs.List.{AllByRecursion, AllZip, zip}
-use Rattle.pg_meaning.specs.Agreement.{given, AreGiven, AreRowsOf}
+use Rattle.pg_meaning.specs.Agreement.{given_in, AreGiven, AreRowsOf}
 use Rattle.pg_meaning.specs.AgreementLaws.{named_in}
 use Rattle.pg_meaning.specs.Answer.{◌>>=◌, ◌>>◌}
 use Rattle.pg_meaning.specs.AnswerLaws.{went_well, went_wrong, same_ok}
@@ -61,10 +61,10 @@ module _ (s : Setting) (is_optional : Bool) (paths : List PathPattern) (where_ :
       by_outcome true others h = ap (λ rs. bind_match graph paths a row ∷ rs) h
       by_outcome false others h = h
 
-  abbrev FaultAt : List Assignment → Fault → Type 0
-  FaultAt as_ f = (a : Assignment) × IsIn a as_ × (tested a ≡ Err f)
+  abbrev PlacedFault : List Assignment → Fault → Type 0
+  PlacedFault as_ f = (a : Assignment) × IsIn a as_ × (tested a ≡ Err f)
 
-  passing_fault : (as_ : List Assignment) (f : Fault) → passing s graph where_ (rows_of as_) ≡ Err f → FaultAt as_ f
+  passing_fault : (as_ : List Assignment) (f : Fault) → passing s graph where_ (rows_of as_) ≡ Err f → PlacedFault as_ f
   passing_fault [] f e = cc
   passing_fault (a ∷ as_) f e =
       by_first (went_wrong (tested a) (λ b. passing s graph where_ (rows_of as_) >>= rest_after b) f e) (passing_fault as_ f)
@@ -72,11 +72,11 @@ module _ (s : Setting) (is_optional : Bool) (paths : List PathPattern) (where_ :
       rest_after : Bool → List Row → Result (List Row) Fault
       rest_after b others = Ok (elim b [ true ↦ bind_match graph paths a row ∷ others | false ↦ others ])
 
-      by_rest : (b : Bool) → (passing s graph where_ (rows_of as_) ≡ Err f) ⊎ ((others : List Row) × (passing s graph where_ (rows_of as_) ≡ Ok others) × (rest_after b others ≡ Err f)) → (passing s graph where_ (rows_of as_) ≡ Err f → FaultAt as_ f) → FaultAt (a ∷ as_) f
+      by_rest : (b : Bool) → (passing s graph where_ (rows_of as_) ≡ Err f) ⊎ ((others : List Row) × (passing s graph where_ (rows_of as_) ≡ Ok others) × (rest_after b others ≡ Err f)) → (passing s graph where_ (rows_of as_) ≡ Err f → PlacedFault as_ f) → PlacedFault (a ∷ as_) f
       by_rest b (inl h) rest = let q = rest h in (q.0, inr q.1, q.2)
       by_rest b (inr h) rest = let impossible = h.2 in cc
 
-      by_first : (tested a ≡ Err f) ⊎ ((b : Bool) × (tested a ≡ Ok b) × ((passing s graph where_ (rows_of as_) >>= rest_after b) ≡ Err f)) → (passing s graph where_ (rows_of as_) ≡ Err f → FaultAt as_ f) → FaultAt (a ∷ as_) f
+      by_first : (tested a ≡ Err f) ⊎ ((b : Bool) × (tested a ≡ Ok b) × ((passing s graph where_ (rows_of as_) >>= rest_after b) ≡ Err f)) → (passing s graph where_ (rows_of as_) ≡ Err f → PlacedFault as_ f) → PlacedFault (a ∷ as_) f
       by_first (inl h) rest = (a, inl refl, h)
       by_first (inr h) rest = by_rest h.0 (went_wrong (passing s graph where_ (rows_of as_)) (rest_after h.0) f h.2) rest
 
@@ -100,7 +100,7 @@ module _ (s : Setting) (is_optional : Bool) (paths : List PathPattern) (where_ :
       by_test (Err f) is e = cc
 
   abbrev pub FaultHere : Fault → Type 0
-  FaultHere f = MatchFaults (given s) graph paths where_ row f
+  FaultHere f = MatchFaults (given_in s) graph paths where_ row f
 
   pub not_ready : (f : Fault) → prepared s graph paths row ≡ Err f → FaultHere f
   not_ready f e = by_test (test_paths true graph row paths) refl e
@@ -185,7 +185,7 @@ module _ (s : Setting) (is_optional : Bool) (paths : List PathPattern) (where_ :
     abbrev or_nulls_here : List Row → Result (List Row) Fault
     or_nulls_here rs = Ok (or_nulls is_optional paths row rs)
 
-    pub row_matched : (rs : List Row) → matched s graph is_optional paths where_ here ≡ Ok rs → MatchRow (given s) graph is_optional paths where_ row rs × AreRowsOf scope_behind rs
+    pub row_matched : (rs : List Row) → matched s graph is_optional paths where_ here ≡ Ok rs → MatchRow (given_in s) graph is_optional paths where_ row rs × AreRowsOf scope_behind rs
     row_matched rs e =
         let went = went_well (passing s graph where_ (rows_of listed)) or_nulls_here rs e in
         let passed = passing_are listed went.0 went.1 in

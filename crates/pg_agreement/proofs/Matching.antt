@@ -2,7 +2,7 @@
 use Rattle.std.proofs.Common.{◌≡◌, ℕ, Bool, inl, inr, List, [], ◌∷◌, map, sum, Option, Result, Ok, Err, refl, subst}
 use Rattle.std.specs.List.{AllByRecursion, AllZip}
 use Rattle.pg_meaning.specs.Turns.{RowAfterRow, AtSomeRow}
-use Rattle.pg_meaning.specs.Agreement.{given, AreGiven, AreRowsOf, AnswerAgrees}
+use Rattle.pg_meaning.specs.Agreement.{given_in, AreGiven, AreRowsOf, AnswerAgrees}
 use Rattle.pg_meaning.specs.AgreementLaws.{named_in}
 use Rattle.pg_meaning.specs.Answer.{◌>>=◌, each_answer}
 use Rattle.pg_meaning.specs.AnswerLaws.{by_answer, answers_zip, answers_fault}
@@ -41,7 +41,7 @@ module _ (s : Setting) (is_optional : Bool) (paths : List PathPattern) (where_ :
   ArePrepared rows ready = AllZip (λ row r. prepared s graph paths row ≡ Ok r) rows ready
 
   abbrev Rows : List Row → List Row → Type 0
-  Rows rows results = RowAfterRow (MatchRow (given s) graph is_optional paths where_) rows results × AreRowsOf (add_path_names paths s.scope) results
+  Rows rows results = RowAfterRow (MatchRow (given_in s) graph is_optional paths where_) rows results × AreRowsOf (add_path_names paths s.scope) results
 
   rows_agree : (rows : List Row) (ready : List (Row × List PathWanted)) (found : List (List Row)) → AreRowsOf s.scope rows → ArePrepared rows ready → AllZip (λ l rs. match_row l ≡ Ok rs) (map listed ready) found → Rows rows (joined_rows found)
   rows_agree [] [] [] h z m = (refl, tt)
@@ -56,7 +56,7 @@ module _ (s : Setting) (is_optional : Bool) (paths : List PathPattern) (where_ :
       ((rs, joined_rows found, first.0, others.0, refl), all_joined _ rs (joined_rows found) first.1 others.1)
 
   abbrev SomeRowFaults : List Row → Fault → Type 0
-  SomeRowFaults rows f = AtSomeRow (MatchFaults (given s) graph paths where_) rows f
+  SomeRowFaults rows f = AtSomeRow (MatchFaults (given_in s) graph paths where_) rows f
 
   fault_at : (rows : List Row) (ready : List (Row × List PathWanted)) (f : Fault) → AreRowsOf s.scope rows → ArePrepared rows ready → (l : Row × Listing Assignment) → IsIn l (map listed ready) → match_row l ≡ Err f → SomeRowFaults rows f
   fault_at [] [] f h z l i e = absurd i

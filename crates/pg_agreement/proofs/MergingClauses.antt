@@ -9,7 +9,7 @@ use Rattle.pg_agreement.proofs.MergingItems.{Keeps, rows_keep, ItemsRun, items_r
 use Rattle.pg_agreement.proofs.MergingProperties.{NullTested, WantedAgrees, wanted_agrees}
 use Rattle.pg_agreement.specs.Making.{MergeAgrees}
 use Rattle.pg_meaning.specs.Turns.{RowByRow, AtSomeTurn}
-use Rattle.pg_meaning.specs.Agreement.{given, AreRowsOf, AnswerAgrees}
+use Rattle.pg_meaning.specs.Agreement.{given_in, AreRowsOf, AnswerAgrees}
 use Rattle.pg_meaning.specs.Answer.{◌>>=◌, ◌>>◌, each_step}
 use Rattle.pg_agreement.proofs.RowNames.{BindsOnly}
 use Rattle.pg_meaning.specs.Graph.{Graph, IsGraph}
@@ -60,8 +60,8 @@ module _ (parameters : Entries) (graph : Graph) (row : Row) where
 -- what MERGE gives of one row
 abbrev RowMerges : Setting → PathPattern → List (Bool × List SetItem) → State → Row → Result State Fault → Type 0
 RowMerges s p parts state row (Ok next) =
-    (results : List Row) × (next.rows ≡ state.rows ++ results) × MergeRow (given s) p parts state.graph row next.graph results × IsGraph next.graph × AreRowsOf (add_path_names (p ∷ []) s.scope) results
-RowMerges s p parts state row (Err f) = (f ≡ StepQuota) ⊎ MergeFaults (given s) p parts state.graph row f
+    (results : List Row) × (next.rows ≡ state.rows ++ results) × MergeRow (given_in s) p parts state.graph row next.graph results × IsGraph next.graph × AreRowsOf (add_path_names (p ∷ []) s.scope) results
+RowMerges s p parts state row (Err f) = (f ≡ StepQuota) ⊎ MergeFaults (given_in s) p parts state.graph row f
 
 same_answer : {X : Type 0} (r : Result X Fault) → (r >>= λ x. Ok x) ≡ r
 same_answer (Ok x) = refl
@@ -71,7 +71,7 @@ kept : (r : Result Graph Fault) (after : Graph) → Keeps r → r ≡ Ok after �
 kept r after h e = subst Keeps e h
 
 module _ (s : Setting) (p : PathPattern) (parts : List (Bool × List SetItem)) (state : State) (row : Row) (g : IsGraph state.graph) (h : BindsOnly s.scope row)
-    (tested : MergeTests (given s) p state.graph row) where
+    (tested : MergeTests (given_in s) p state.graph row) where
   abbrev Merges : Result State Fault → Type 0
   Merges = RowMerges s p parts state row
 
@@ -88,11 +88,11 @@ module _ (s : Setting) (p : PathPattern) (parts : List (Bool × List SetItem)) (
       by_run : (r : Result State Fault) → ItemsRun s (items_on false parts) (charged steps state.graph) (map (λ a. bind_match state.graph (p ∷ []) a row) found) r → Merges r
       by_run (Err f) (inl e) = inl e
       by_run (Err f) (inr e) =
-          inr (inr (inr (inr (inr (tested, inl (found, matches, (set_fault_is_computed (given s) (items_on false parts) state.graph (map (λ a. bind_match state.graph (p ∷ []) a row) found) f g).0 e))))))
+          inr (inr (inr (inr (inr (tested, inl (found, matches, (set_fault_is_computed s (items_on false parts) state.graph (map (λ a. bind_match state.graph (p ∷ []) a row) found) f g).0 e))))))
       by_run (Ok next) k = (
         map (λ a. bind_match state.graph (p ∷ []) a row) found,
         k.1,
-        record { tested = tested; one = inl (record { found = found; matches = matches; some = some; rows = refl; items_run = (set_is_computed (given s) (items_on false parts) state.graph next.graph (map (λ a. bind_match state.graph (p ∷ []) a row) found) g).0 k.0 }) },
+        record { tested = tested; one = inl (record { found = found; matches = matches; some = some; rows = refl; items_run = (set_is_computed s (items_on false parts) state.graph next.graph (map (λ a. bind_match state.graph (p ∷ []) a row) found) g).0 k.0 }) },
         kept (each_step (set_row s (items_on false parts)) state.graph (map (λ a. bind_match state.graph (p ∷ []) a row) found)) next.graph
             (rows_keep s (items_on false parts) (map (λ a. bind_match state.graph (p ∷ []) a row) found) state.graph g) k.0,
         rows_of_fits s.parameters state.graph row (p ∷ []) s.scope found h matches.each,
@@ -106,11 +106,11 @@ module _ (s : Setting) (p : PathPattern) (parts : List (Bool × List SetItem)) (
       by_run : (after : Graph × Row) → MakeAgrees s (p ∷ []) state.graph row (Ok after) → (more : ℕ) (r : Result State Fault) → ItemsRun s (items_on true parts) (charged more after.0) (after.1 ∷ []) r → Merges r
       by_run after k more (Err f) (inl e) = inl e
       by_run after k more (Err f) (inr e) =
-          inr (inr (inr (inr (inr (tested, inr (after.0, after.1 ∷ [], none, k.0, (set_fault_is_computed (given s) (items_on true parts) after.0 (after.1 ∷ []) f k.0.graph_again).0 e))))))
+          inr (inr (inr (inr (inr (tested, inr (after.0, after.1 ∷ [], none, k.0, (set_fault_is_computed s (items_on true parts) after.0 (after.1 ∷ []) f k.0.graph_again).0 e))))))
       by_run after k more (Ok next) run = (
         after.1 ∷ [],
         run.1,
-        record { tested = tested; one = inr (record { none = none; made = after.0; creation = k.0; items_run = (set_is_computed (given s) (items_on true parts) after.0 next.graph (after.1 ∷ []) k.0.graph_again).0 run.0 }) },
+        record { tested = tested; one = inr (record { none = none; made = after.0; creation = k.0; items_run = (set_is_computed s (items_on true parts) after.0 next.graph (after.1 ∷ []) k.0.graph_again).0 run.0 }) },
         kept (each_step (set_row s (items_on true parts)) after.0 (after.1 ∷ [])) next.graph (rows_keep s (items_on true parts) (after.1 ∷ []) after.0 k.0.graph_again) run.0,
         (k.1, tt),
       )
@@ -137,13 +137,13 @@ row_merges : (s : Setting) (p : PathPattern) (parts : List (Bool × List SetItem
     → IsGraph state.graph → BindsOnly s.scope row → RowMerges s p parts state row (merge_row s p parts state row)
 row_merges s p parts state row planned g h = by_live (test_paths false state.graph row (p ∷ [])) (bound_tested false state.graph row (p ∷ []))
   where
-    by_steps : (wanted : List PathWanted) → paths_wanted row s.parameters state.graph (p ∷ []) ≡ Ok wanted → MergeTests (given s) p state.graph row → (r : Result ℕ Fault) → ((f : Fault) → r ≡ Err f → f ≡ StepQuota)
+    by_steps : (wanted : List PathWanted) → paths_wanted row s.parameters state.graph (p ∷ []) ≡ Ok wanted → MergeTests (given_in s) p state.graph row → (r : Result ℕ Fault) → ((f : Fault) → r ≡ Err f → f ≡ StepQuota)
         → RowMerges s p parts state row (r >>= λ steps. merge_found s p parts (record { graph = state.graph; rows = state.rows; steps = steps }) row (walks state.graph s.parameters [] wanted s.anchors row))
     by_steps wanted is tested (Err f) quota = inl (quota f refl)
     by_steps wanted is tested (Ok steps) quota =
         listed_merges s p parts state row g h tested steps (walks state.graph s.parameters [] wanted s.anchors row) (walks_list_fits s.parameters state.graph row (p ∷ []) wanted s.anchors g is planned)
 
-    by_null : (wanted : List PathWanted) → paths_wanted row s.parameters state.graph (p ∷ []) ≡ Ok wanted → BoundNodesLive false state.graph row (p ∷ []) → PropertiesEvaluate (given s) state.graph (p ∷ []) row
+    by_null : (wanted : List PathWanted) → paths_wanted row s.parameters state.graph (p ∷ []) ≡ Ok wanted → BoundNodesLive false state.graph row (p ∷ []) → PropertiesEvaluate (given_in s) state.graph (p ∷ []) row
         → (t : Result (Unit {0}) Fault) → NullTested row s.parameters state.graph p t
         → RowMerges s p parts state row (t >> (spend s state.steps (walks state.graph s.parameters [] wanted s.anchors row).1
         >>= λ steps. merge_found s p parts (record { graph = state.graph; rows = state.rows; steps = steps }) row (walks state.graph s.parameters [] wanted s.anchors row)))
@@ -168,8 +168,8 @@ row_merges s p parts state row planned g h = by_live (test_paths false state.gra
 
 abbrev TurnsMerge : Setting → PathPattern → List (Bool × List SetItem) → State → List Row → Result State Fault → Type 0
 TurnsMerge s p parts state rows (Ok next) =
-    (results : List Row) × (next.rows ≡ state.rows ++ results) × RowByRow (MergeRow (given s) p parts) state.graph rows next.graph results × IsGraph next.graph × AreRowsOf (add_path_names (p ∷ []) s.scope) results
-TurnsMerge s p parts state rows (Err f) = (f ≡ StepQuota) ⊎ AtSomeTurn (MergeRow (given s) p parts) (MergeFaults (given s) p parts) state.graph rows f
+    (results : List Row) × (next.rows ≡ state.rows ++ results) × RowByRow (MergeRow (given_in s) p parts) state.graph rows next.graph results × IsGraph next.graph × AreRowsOf (add_path_names (p ∷ []) s.scope) results
+TurnsMerge s p parts state rows (Err f) = (f ≡ StepQuota) ⊎ AtSomeTurn (MergeRow (given_in s) p parts) (MergeFaults (given_in s) p parts) state.graph rows f
 
 module _ (s : Setting) (p : PathPattern) (parts : List (Bool × List SetItem)) (each : (state : State) (row : Row) → IsGraph state.graph → BindsOnly s.scope row → RowMerges s p parts state row (merge_row s p parts state row)) where
   one_turn : (rows : List Row) (state : State) (row : Row) (r : Result State Fault) → RowMerges s p parts state row r
@@ -199,7 +199,7 @@ module _ (s : Setting) (p : PathPattern) (parts : List (Bool × List SetItem)) (
       of_turns (each_step (merge_row s p parts) (record { graph = state.graph; rows = []; steps = state.steps }) state.rows) (turns_merge state.rows (record { graph = state.graph; rows = []; steps = state.steps }) g h)
     where
       of_turns : (r : Result State Fault) → TurnsMerge s p parts (record { graph = state.graph; rows = []; steps = state.steps }) state.rows r → AnswerAgrees s (merge p parts) state r
-      of_turns (Ok next) t = (subst (RowByRow (MergeRow (given s) p parts) state.graph state.rows next.graph) (sym t.1) t.2, t.3, subst (AreRowsOf (add_path_names (p ∷ []) s.scope)) (sym t.1) t.4)
+      of_turns (Ok next) t = (subst (RowByRow (MergeRow (given_in s) p parts) state.graph state.rows next.graph) (sym t.1) t.2, t.3, subst (AreRowsOf (add_path_names (p ∷ []) s.scope)) (sym t.1) t.4)
       of_turns (Err f) (inl quota) = inl quota
       of_turns (Err f) (inr t) = inr t
 

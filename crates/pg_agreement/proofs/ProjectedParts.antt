@@ -4,7 +4,7 @@ use Rattle.std.specs.Cmp.{eq_by_cmp_equiv}
 use Rattle.std.specs.List.{AllByRecursion, AllZip, list_any}
 use Rattle.std.specs.Map.{lookup}
 use Rattle.pg_meaning.specs.Aggregates.{Aggregate, aggregate_of}
-use Rattle.pg_meaning.specs.Agreement.{given, AreRowsOf}
+use Rattle.pg_meaning.specs.Agreement.{given_in, AreRowsOf}
 use Rattle.pg_meaning.specs.Answer.{◌>>=◌, ◌>>◌, unless, each_answer}
 use Rattle.pg_meaning.specs.AnswerLaws.{went_well, went_wrong, same_ok, answers_fault}
 use Rattle.pg_meaning.specs.Conditions.{condition}
@@ -39,13 +39,13 @@ spend_fault s steps more f e = by_test _ e
 unfoldable pub Binds : List Column → Projected → Type 0
 Binds columns p = (name : List ℕ) → is_some (value_in name p.columns) ≡ is_among (map (λ (c : Column). c.name) columns) name
 
-pub columns_bind : (s : Setting) (graph : Graph) (row : Row) (columns : List Column) (vs : Row) → each_answer (column_value s graph row) columns ≡ Ok vs
+pub columns_bind : (s : Setting) (graph : Graph) (row : Row) (columns : List Column) (vs : Row) → each_answer (column_value s.parameters graph row) columns ≡ Ok vs
     → (name : List ℕ) → is_some (value_in name vs) ≡ is_among (map (λ (c : Column). c.name) columns) name
 columns_bind s graph row [] vs e name = subst (λ ws. is_some (value_in name ws) ≡ false) (same_ok [] vs e) refl
 columns_bind s graph row (c ∷ cs) vs e name =
-    let first = went_well (column_value s graph row c) (λ b. each_answer (column_value s graph row) cs >>= λ bs. Ok (b ∷ bs)) vs e in
+    let first = went_well (column_value s.parameters graph row c) (λ b. each_answer (column_value s.parameters graph row) cs >>= λ bs. Ok (b ∷ bs)) vs e in
     let value = went_well (evaluate row s.parameters graph c.value) (λ v. Ok (c.name, v)) first.0 first.1 in
-    let rest = went_well (each_answer (column_value s graph row) cs) (λ bs. Ok (first.0 ∷ bs)) vs first.2 in
+    let rest = went_well (each_answer (column_value s.parameters graph row) cs) (λ bs. Ok (first.0 ∷ bs)) vs first.2 in
     let named : c.name ≡ first.0.0 = ap (λ b. b.0) (same_ok (c.name, value.0) first.0 value.2) in
     let inner = columns_bind s graph row cs rest.0 rest.1 name in
     subst (λ ws. is_some (value_in name ws) ≡ (bytes_eq name c.name || is_among (map (λ (c : Column). c.name) cs) name)) (same_ok (first.0 ∷ rest.0) vs rest.2)
@@ -55,20 +55,20 @@ columns_bind s graph row (c ∷ cs) vs e name =
     either_way true v o r h = refl
     either_way false v o r h = h
 
-projected_binds : (s : Setting) (graph : Graph) (distinct : Bool) (columns : List Column) (row : Row) (p : Projected) → projected s graph distinct columns row ≡ Ok p → Binds columns p
+projected_binds : (s : Setting) (graph : Graph) (distinct : Bool) (columns : List Column) (row : Row) (p : Projected) → projected s.parameters graph distinct columns row ≡ Ok p → Binds columns p
 unfolding Binds
 projected_binds s graph distinct columns row p e name =
-    let vs = went_well (each_answer (column_value s graph row) columns) (λ vs. Ok (record { columns = vs; earlier = cond distinct [] row })) p e in
+    let vs = went_well (each_answer (column_value s.parameters graph row) columns) (λ vs. Ok (record { columns = vs; earlier = cond distinct [] row })) p e in
     subst (λ (q : Projected). is_some (value_in name q.columns) ≡ is_among (map (λ (c : Column). c.name) columns) name) (same_ok _ p vs.2) (columns_bind s graph row columns vs.0 vs.1 name)
 
-pub all_bind : (s : Setting) (graph : Graph) (distinct : Bool) (columns : List Column) (rows : List Row) (ps : List Projected) → AllZip (λ row p. projected s graph distinct columns row ≡ Ok p) rows ps → AllByRecursion (Binds columns) ps
+pub all_bind : (s : Setting) (graph : Graph) (distinct : Bool) (columns : List Column) (rows : List Row) (ps : List Projected) → AllZip (λ row p. projected s.parameters graph distinct columns row ≡ Ok p) rows ps → AllByRecursion (Binds columns) ps
 all_bind s graph distinct columns [] [] h = tt
 all_bind s graph distinct columns [] (p ∷ ps) h = absurd h
 all_bind s graph distinct columns (row ∷ rows) [] h = absurd h
 all_bind s graph distinct columns (row ∷ rows) (p ∷ ps) h = (projected_binds s graph distinct columns row p h.0, all_bind s graph distinct columns rows ps h.1)
 
 abbrev FaultBy : Setting → Graph → Row → Fault → Column → Option Aggregate → Type 0
-FaultBy s graph row f c o = elim o [ None ↦ evaluate row s.parameters graph c.value ≡ Err f | Some a ↦ ArgumentFaults (given s) graph row a f ]
+FaultBy s graph row f c o = elim o [ None ↦ evaluate row s.parameters graph c.value ≡ Err f | Some a ↦ ArgumentFaults (given_in s) graph row a f ]
 
 pub none_in : {X : Type 0} (test : X → Bool) (xs : List X) (x : X) → list_any test xs ≡ false → IsIn x xs → test x ≡ false
 none_in test [] x h i = absurd i
@@ -88,19 +88,19 @@ item_fault : (s : Setting) (graph : Graph) (row : Row) (f : Fault) (c : Column) 
 item_fault s graph row f c None none e = e
 item_fault s graph row f c (Some a) none e = cc
 
-pub row_fault : (s : Setting) (graph : Graph) (distinct : Bool) (columns : List Column) (row : Row) (f : Fault) → list_any is_aggregate columns ≡ false → projected s graph distinct columns row ≡ Err f → ItemFaults (given s) graph columns row f
-row_fault s graph distinct columns row f none e = by_columns (went_wrong (each_answer (column_value s graph row) columns) (λ vs. let p : Projected = record { columns = vs; earlier = cond distinct [] row } in Ok p) f e)
+pub row_fault : (s : Setting) (graph : Graph) (distinct : Bool) (columns : List Column) (row : Row) (f : Fault) → list_any is_aggregate columns ≡ false → projected s.parameters graph distinct columns row ≡ Err f → ItemFaults (given_in s) graph columns row f
+row_fault s graph distinct columns row f none e = by_columns (went_wrong (each_answer (column_value s.parameters graph row) columns) (λ vs. let p : Projected = record { columns = vs; earlier = cond distinct [] row } in Ok p) f e)
   where
-    of_column : (c : Column) → IsIn c columns → column_value s graph row c ≡ Err f → ItemFaults (given s) graph columns row f
+    of_column : (c : Column) → IsIn c columns → column_value s.parameters graph row c ≡ Err f → ItemFaults (given_in s) graph columns row f
     of_column c i h = (c, i, item_fault s graph row f c (aggregate_of c.value) (none_in is_aggregate columns c none i) (value_fault (went_wrong (evaluate row s.parameters graph c.value) (λ v. Ok (c.name, v)) f h)))
       where
         value_fault : (evaluate row s.parameters graph c.value ≡ Err f) ⊎ ((v : Value) × (evaluate row s.parameters graph c.value ≡ Ok v) × (◌≡◌ {A = Result (List ℕ × Value) Fault} (Ok (c.name, v)) (Err f))) → evaluate row s.parameters graph c.value ≡ Err f
         value_fault (inl h) = h
         value_fault (inr h) = let impossible = h.2 in cc
 
-    by_columns : (each_answer (column_value s graph row) columns ≡ Err f) ⊎ ((vs : Row) × (each_answer (column_value s graph row) columns ≡ Ok vs) × (◌≡◌ {A = Result Projected Fault} (Ok (record { columns = vs; earlier = cond distinct [] row })) (Err f)))
-        → ItemFaults (given s) graph columns row f
-    by_columns (inl h) = let found = answers_fault (column_value s graph row) columns f h in of_column found.0 found.1 found.2
+    by_columns : (each_answer (column_value s.parameters graph row) columns ≡ Err f) ⊎ ((vs : Row) × (each_answer (column_value s.parameters graph row) columns ≡ Ok vs) × (◌≡◌ {A = Result Projected Fault} (Ok (record { columns = vs; earlier = cond distinct [] row })) (Err f)))
+        → ItemFaults (given_in s) graph columns row f
+    by_columns (inl h) = let found = answers_fault (column_value s.parameters graph row) columns f h in of_column found.0 found.1 found.2
     by_columns (inr h) = let impossible = h.2 in cc
 
 -- ---- DISTINCT
@@ -199,7 +199,7 @@ all_distinct P false ps h = h
 
 -- ---- WHERE, SKIP and LIMIT
 
-pub passing_agrees : (s : Setting) (graph : Graph) (where_ : Option Expression) (ps kept : List Projected) → passing_rows s graph where_ ps ≡ Ok kept → Passing (given s) graph where_ ps kept
+pub passing_agrees : (s : Setting) (graph : Graph) (where_ : Option Expression) (ps kept : List Projected) → passing_rows s graph where_ ps ≡ Ok kept → Passing (given_in s) graph where_ ps kept
 passing_agrees s graph where_ [] kept e = sym (same_ok [] kept e)
 passing_agrees s graph where_ (p ∷ ps) kept e =
     let first = went_well (condition where_ (visible p) s.parameters graph) (λ b. passing_rows s graph where_ ps >>= λ others. Ok (elim b [ true ↦ p ∷ others | false ↦ others ])) kept e in
@@ -247,7 +247,7 @@ module _ (P : Projected → Type 0) where
   all_cut (Some m) None ps h = all_dropped m ps h
   all_cut (Some m) (Some n) ps h = all_taken n (drop m ps) (all_dropped m ps h)
 
-  pub all_passing : (s : Setting) (graph : Graph) (where_ : Option Expression) (ps kept : List Projected) → Passing (given s) graph where_ ps kept → AllByRecursion P ps → AllByRecursion P kept
+  pub all_passing : (s : Setting) (graph : Graph) (where_ : Option Expression) (ps kept : List Projected) → Passing (given_in s) graph where_ ps kept → AllByRecursion P ps → AllByRecursion P kept
   all_passing s graph where_ [] kept e h = subst (AllByRecursion P) (sym e) tt
   all_passing s graph where_ (p ∷ ps) kept e h = subst (AllByRecursion P) (sym e.4) (by_first e.0 (all_passing s graph where_ ps e.1 e.3 h.1))
     where
@@ -263,5 +263,5 @@ rows_bind columns (p ∷ ps) h = (h.0, rows_bind columns ps h.1)
 -- ---- the clause
 
 abbrev pub ProjectionAgrees : Setting → List Column → Projection → Option Expression → State → Result State Fault → Type 0
-ProjectionAgrees s columns p where_ state (Ok next) = (next.graph ≡ state.graph) × Projects (given s) state.graph columns p where_ state.rows next.rows × AreRowsOf (column_names columns) next.rows
-ProjectionAgrees s columns p where_ state (Err f) = (f ≡ StepQuota) ⊎ ProjectFaults (given s) state.graph columns p where_ state.rows f
+ProjectionAgrees s columns p where_ state (Ok next) = (next.graph ≡ state.graph) × Projects (given_in s) state.graph columns p where_ state.rows next.rows × AreRowsOf (column_names columns) next.rows
+ProjectionAgrees s columns p where_ state (Err f) = (f ≡ StepQuota) ⊎ ProjectFaults (given_in s) state.graph columns p where_ state.rows f

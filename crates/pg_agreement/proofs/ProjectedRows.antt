@@ -2,7 +2,7 @@
 use Rattle.std.proofs.Common.{◌≡◌, ℕ, Bool, true, false, ◌⊎◌, inl, inr, List, map, length, Option, None, Result, Ok, Err, refl, sym, subst}
 use Rattle.std.specs.List.{AllByRecursion, AllZip, list_any}
 use Rattle.pg_meaning.specs.Turns.{AtSomeRow}
-use Rattle.pg_meaning.specs.Agreement.{given, AnswerAgrees}
+use Rattle.pg_meaning.specs.Agreement.{given_in, AnswerAgrees}
 use Rattle.pg_meaning.specs.Answer.{◌>>=◌, each_answer}
 use Rattle.pg_meaning.specs.AnswerLaws.{by_answer, answers_zip, answers_fault}
 use Rattle.pg_meaning.specs.Conditions.{condition}
@@ -24,18 +24,18 @@ use Rattle.pg_agreement.proofs.SortedRows.{sort_agrees, all_ordered, sort_fault}
 
 module _ (s : Setting) (graph : Graph) (distinct : Bool) (columns : List Column) (rows : List Row) where
   abbrev items_by : (has_aggregate : Bool) → Result (List Projected) Fault
-  items_by has_aggregate = elim has_aggregate [ true ↦ grouped s graph columns rows | false ↦ each_answer (projected s graph distinct columns) rows ]
+  items_by has_aggregate = elim has_aggregate [ true ↦ grouped s graph columns rows | false ↦ each_answer (projected s.parameters graph distinct columns) rows ]
 
   abbrev ItemsBy : List Projected → (has_aggregate : Bool) → Type 0
-  ItemsBy ps has_aggregate = elim has_aggregate [ true ↦ Groups (given s) graph columns rows ps | false ↦ AllZip (λ row r. projected (given s) graph distinct columns row ≡ Ok r) rows ps ]
+  ItemsBy ps has_aggregate = elim has_aggregate [ true ↦ Groups (given_in s) graph columns rows ps | false ↦ AllZip (λ row r. projected s.parameters graph distinct columns row ≡ Ok r) rows ps ]
 
   items_agree : (ps : List Projected) (b : Bool) → items_by b ≡ Ok ps → ItemsBy ps b × AllByRecursion (Binds columns) ps
   items_agree ps true e = groups_agree s graph columns rows ps e
-  items_agree ps false e = let zipped = answers_zip (projected s graph distinct columns) rows ps e in (zipped, all_bind s graph distinct columns rows ps zipped)
+  items_agree ps false e = let zipped = answers_zip (projected s.parameters graph distinct columns) rows ps e in (zipped, all_bind s graph distinct columns rows ps zipped)
 
-  items_fault : (f : Fault) (b : Bool) → list_any is_aggregate columns ≡ b → items_by b ≡ Err f → AtSomeRow (ItemFaults (given s) graph columns) rows f ⊎ AggregateFaults (given s) graph columns rows f
+  items_fault : (f : Fault) (b : Bool) → list_any is_aggregate columns ≡ b → items_by b ≡ Err f → AtSomeRow (ItemFaults (given_in s) graph columns) rows f ⊎ AggregateFaults (given_in s) graph columns rows f
   items_fault f true some e = groups_fault s graph columns rows f e
-  items_fault f false none e = let found = answers_fault (projected s graph distinct columns) rows f e in inl (found.0, found.1, row_fault s graph distinct columns found.0 f none found.2)
+  items_fault f false none e = let found = answers_fault (projected s.parameters graph distinct columns) rows f e in inl (found.0, found.1, row_fault s graph distinct columns found.0 f none found.2)
 
 -- ---- the clause
 
@@ -53,22 +53,22 @@ module _ (s : Setting) (columns : List Column) (p : Projection) (where_ : Option
   limited_state steps skip limit = item_rows s state.graph p.distinct columns state.rows >>= sorted_state steps skip limit
 
   abbrev skipped_state : ℕ → Option ℕ → Result State Fault
-  skipped_state steps skip = count_given s state.graph p.limit >>= limited_state steps skip
+  skipped_state steps skip = count_given s.parameters state.graph p.limit >>= limited_state steps skip
 
   abbrev charged_state : ℕ → Result State Fault
-  charged_state steps = count_given s state.graph p.skip >>= skipped_state steps
+  charged_state steps = count_given s.parameters state.graph p.skip >>= skipped_state steps
 
   abbrev Agrees : Result State Fault → Type 0
   Agrees = ProjectionAgrees s columns p where_ state
 
   -- what the parts before the condition gave
   record SoFar (skip limit : Option ℕ) (made sorted : List Projected) : Type 0 where
-    skip_is : count_given s state.graph p.skip ≡ Ok skip
-    limit_is : count_given s state.graph p.limit ≡ Ok limit
+    skip_is : count_given s.parameters state.graph p.skip ≡ Ok skip
+    limit_is : count_given s.parameters state.graph p.limit ≡ Ok limit
     made_is : item_rows s state.graph p.distinct columns state.rows ≡ Ok made
     sorted_is : ordered_rows s state.graph columns p.order (distinct_rows p.distinct made) ≡ Ok sorted
 
-  made_agree : (made : List Projected) → item_rows s state.graph p.distinct columns state.rows ≡ Ok made → Items (given s) state.graph p.distinct columns state.rows made × AllByRecursion (Binds columns) made
+  made_agree : (made : List Projected) → item_rows s state.graph p.distinct columns state.rows ≡ Ok made → Items (given_in s) state.graph p.distinct columns state.rows made × AllByRecursion (Binds columns) made
   made_agree made e = items_agree s state.graph p.distinct columns state.rows made (list_any is_aggregate columns) e
 
   went : (steps : ℕ) (skip limit : Option ℕ) (made sorted kept : List Projected) → SoFar skip limit made sorted → passing_rows s state.graph where_ (limited limit (skipped skip sorted)) ≡ Ok kept → Agrees (kept_state steps kept)
@@ -97,7 +97,7 @@ module _ (s : Setting) (columns : List Column) (p : Projection) (where_ : Option
 
   where_fault : (skip limit : Option ℕ) (made sorted : List Projected) (f : Fault) → SoFar skip limit made sorted
       → (r : Projected) × IsIn r (limited limit (skipped skip sorted)) × (condition where_ (visible r) s.parameters state.graph ≡ Err f)
-      → PassingFaults (given s) state.graph columns p where_ state.rows f
+      → PassingFaults (given_in s) state.graph columns p where_ state.rows f
   where_fault skip limit made sorted f before h = (
     skip,
     limit,
@@ -114,19 +114,19 @@ module _ (s : Setting) (columns : List Column) (p : Projection) (where_ : Option
     h.2,
   )
 
-  order_fault : (made : List Projected) (f : Fault) → item_rows s state.graph p.distinct columns state.rows ≡ Ok made → (r : Projected) × IsIn r (distinct_rows p.distinct made) × (keys_at (given s) state.graph columns p.order r ≡ Err f)
-      → SortFaults (given s) state.graph columns p state.rows f
+  order_fault : (made : List Projected) (f : Fault) → item_rows s state.graph p.distinct columns state.rows ≡ Ok made → (r : Projected) × IsIn r (distinct_rows p.distinct made) × (keys_at (given_in s) state.graph columns p.order r ≡ Err f)
+      → SortFaults (given_in s) state.graph columns p state.rows f
   order_fault made f e h = (made, distinct_rows p.distinct made, h.0, (made_agree made e).0, distinct_agrees p.distinct made, h.1, h.2)
 
-  made_fault : (f : Fault) → AtSomeRow (ItemFaults (given s) state.graph columns) state.rows f ⊎ AggregateFaults (given s) state.graph columns state.rows f → Agrees (Err f)
+  made_fault : (f : Fault) → AtSomeRow (ItemFaults (given_in s) state.graph columns) state.rows f ⊎ AggregateFaults (given_in s) state.graph columns state.rows f → Agrees (Err f)
   made_fault f (inl h) = inr (inr (inr (inl h)))
   made_fault f (inr h) = inr (inr (inr (inr (inl h))))
 
   projection_agrees : Agrees (project_clause s columns p where_ state)
   projection_agrees =
       by_answer Agrees (spend s state.steps (length state.rows)) charged_state
-      (λ steps e0. by_answer Agrees (count_given s state.graph p.skip) (skipped_state steps)
-      (λ skip e1. by_answer Agrees (count_given s state.graph p.limit) (limited_state steps skip)
+      (λ steps e0. by_answer Agrees (count_given s.parameters state.graph p.skip) (skipped_state steps)
+      (λ skip e1. by_answer Agrees (count_given s.parameters state.graph p.limit) (limited_state steps skip)
       (λ limit e2. by_answer Agrees (item_rows s state.graph p.distinct columns state.rows) (sorted_state steps skip limit)
       (λ made e3. by_answer Agrees (ordered_rows s state.graph columns p.order (distinct_rows p.distinct made)) (cut_state steps skip limit)
       (λ sorted e4. by_answer Agrees (passing_rows s state.graph where_ (limited limit (skipped skip sorted))) (kept_state steps)

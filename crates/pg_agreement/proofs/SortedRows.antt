@@ -7,7 +7,7 @@ use Rattle.std.specs.Cmp.{IsTotalOrder}
 use Rattle.std.specs.List.{AllByRecursion}
 use Rattle.std.specs.List.Sorted.{IsPermutation}
 use Rattle.std.specs.Ordering.{ordering_then, ordering_reverse, is_gt}
-use Rattle.pg_meaning.specs.Agreement.{given}
+use Rattle.pg_meaning.specs.Agreement.{given_in}
 use Rattle.pg_meaning.specs.Answer.{◌>>=◌, each_answer}
 use Rattle.pg_meaning.specs.AnswerLaws.{went_well, went_wrong, same_ok, answers_fault}
 use Rattle.pg_meaning.specs.Graph.{Graph}
@@ -134,14 +134,14 @@ has_keys f (o ∷ os) vs e =
 module _ (s : Setting) (graph : Graph) (columns : List Column) (order : List SortItem) where
   -- beside its keys
   IsKeyed : Keyed → Type 0
-  IsKeyed k = keys_at (given s) graph columns order k.1 ≡ Ok k.0
+  IsKeyed k = keys_at (given_in s) graph columns order k.1 ≡ Ok k.0
 
   keyed_is : (p : Projected) (k : Keyed) → keyed s graph columns order p ≡ Ok k → (p ≡ k.1) × IsKeyed k
   unfolding IsKeyed
   keyed_is p k e =
-      let keys = went_well (keys_at (given s) graph columns order p) (λ vs. Ok (vs, p)) k e in
+      let keys = went_well (keys_at (given_in s) graph columns order p) (λ vs. Ok (vs, p)) k e in
       let same = same_ok (keys.0, p) k keys.2 in
-      (ap (λ (l : Keyed). l.1) same, subst (λ (l : Keyed). keys_at (given s) graph columns order l.1 ≡ Ok l.0) same keys.1)
+      (ap (λ (l : Keyed). l.1) same, subst (λ (l : Keyed). keys_at (given_in s) graph columns order l.1 ≡ Ok l.0) same keys.1)
 
   all_keyed : (ps : List Projected) (ks : List Keyed) → each_answer (keyed s graph columns order) ps ≡ Ok ks → (ps ≡ map (λ (k : Keyed). k.1) ks) × AllByRecursion IsKeyed ks
   all_keyed [] ks e = let same = same_ok [] ks e in (ap (map (λ (k : Keyed). k.1)) same, subst (AllByRecursion IsKeyed) same tt)
@@ -153,19 +153,19 @@ module _ (s : Setting) (graph : Graph) (columns : List Column) (order : List Sor
       let more = all_keyed ps rest.0 rest.1 in
       ((λ i. here.0 i ∷ more.0 i) ∙ ap (map (λ (k : Keyed). k.1)) same, subst (AllByRecursion IsKeyed) same (here.1, more.1))
 
-  keys_again : (ks : List Keyed) → AllByRecursion IsKeyed ks → each_answer (keys_at (given s) graph columns order) (map (λ (k : Keyed). k.1) ks) ≡ Ok (map (λ (k : Keyed). k.0) ks)
+  keys_again : (ks : List Keyed) → AllByRecursion IsKeyed ks → each_answer (keys_at (given_in s) graph columns order) (map (λ (k : Keyed). k.1) ks) ≡ Ok (map (λ (k : Keyed). k.0) ks)
   unfolding IsKeyed
   keys_again [] h = refl
   keys_again (k ∷ ks) h =
-      ap (λ r. r >>= λ v. each_answer (keys_at (given s) graph columns order) (map (λ (k : Keyed). k.1) ks) >>= λ vs. Ok (v ∷ vs)) h.0
+      ap (λ r. r >>= λ v. each_answer (keys_at (given_in s) graph columns order) (map (λ (k : Keyed). k.1) ks) >>= λ vs. Ok (v ∷ vs)) h.0
       ∙ ap (λ r. r >>= λ vs. Ok (k.0 ∷ vs)) (keys_again ks h.1)
 
   all_have_keys : (ks : List Keyed) → AllByRecursion IsKeyed ks → AllByRecursion (λ (k : Keyed). HasKeys order k.0) ks
   unfolding IsKeyed
-  all_have_keys ks h = all_weaker IsKeyed (λ (k : Keyed). HasKeys order k.0) (λ k e. has_keys (sort_key s graph columns k.1) order k.0 e) ks h
+  all_have_keys ks h = all_weaker IsKeyed (λ (k : Keyed). HasKeys order k.0) (λ k e. has_keys (sort_key s.parameters graph columns k.1) order k.0 e) ks h
 
 module _ (s : Setting) (graph : Graph) (columns : List Column) where
-  pub sort_agrees : (order : List SortItem) (ps sorted : List Projected) → ordered_rows s graph columns order ps ≡ Ok sorted → Sorted (given s) graph columns order ps sorted
+  pub sort_agrees : (order : List SortItem) (ps sorted : List Projected) → ordered_rows s graph columns order ps ≡ Ok sorted → Sorted (given_in s) graph columns order ps sorted
   sort_agrees [] ps sorted e = sym (same_ok ps sorted e)
   sort_agrees (o ∷ os) ps sorted e =
       let order = o ∷ os in
@@ -173,7 +173,7 @@ module _ (s : Setting) (graph : Graph) (columns : List Column) where
       let all = all_keyed s graph columns order ps keys.0 keys.1 in
       let again = all_sorted order (IsKeyed s graph columns order) keys.0 all.1 in
       let have = all_have_keys s graph columns order keys.0 all.1 in
-      subst (Sorted (given s) graph columns order ps) (same_ok (map (λ (k : Keyed). k.1) (sorted_keyed order keys.0)) sorted keys.2) (record {
+      subst (Sorted (given_in s) graph columns order ps) (same_ok (map (λ (k : Keyed). k.1) (sorted_keyed order keys.0)) sorted keys.2) (record {
         same = subst (λ qs. IsPermutation qs (map (λ (k : Keyed). k.1) (sorted_keyed order keys.0))) (sym all.0) (IsPermutation-map (λ (k : Keyed). k.1) keys.0 (sorted_keyed order keys.0) (sort_moves order keys.0));
         keys = map (λ (k : Keyed). k.0) (sorted_keyed order keys.0);
         evaluated = keys_again s graph columns order (sorted_keyed order keys.0) again;
@@ -198,15 +198,15 @@ module _ (s : Setting) (graph : Graph) (columns : List Column) where
       into [] h = tt
       into (k ∷ ks) h = (h.0, into ks h.1)
 
-  pub sort_fault : (order : List SortItem) (ps : List Projected) (f : Fault) → ordered_rows s graph columns order ps ≡ Err f → (r : Projected) × IsIn r ps × (keys_at (given s) graph columns order r ≡ Err f)
+  pub sort_fault : (order : List SortItem) (ps : List Projected) (f : Fault) → ordered_rows s graph columns order ps ≡ Err f → (r : Projected) × IsIn r ps × (keys_at (given_in s) graph columns order r ≡ Err f)
   sort_fault [] ps f e = cc
   sort_fault (o ∷ os) ps f e = by_keys (went_wrong (each_answer (keyed s graph columns (o ∷ os)) ps) (λ ks. Ok (map (λ (k : Keyed). k.1) (sorted_keyed (o ∷ os) ks))) f e)
     where
-      of_row : (r : Projected) → (keys_at (given s) graph columns (o ∷ os) r ≡ Err f) ⊎ ((vs : List Value) × (keys_at (given s) graph columns (o ∷ os) r ≡ Ok vs) × (◌≡◌ {A = Result Keyed Fault} (Ok (vs, r)) (Err f))) → keys_at (given s) graph columns (o ∷ os) r ≡ Err f
+      of_row : (r : Projected) → (keys_at (given_in s) graph columns (o ∷ os) r ≡ Err f) ⊎ ((vs : List Value) × (keys_at (given_in s) graph columns (o ∷ os) r ≡ Ok vs) × (◌≡◌ {A = Result Keyed Fault} (Ok (vs, r)) (Err f))) → keys_at (given_in s) graph columns (o ∷ os) r ≡ Err f
       of_row r (inl h) = h
       of_row r (inr h) = let impossible = h.2 in cc
 
       by_keys : (each_answer (keyed s graph columns (o ∷ os)) ps ≡ Err f) ⊎ ((ks : List Keyed) × (each_answer (keyed s graph columns (o ∷ os)) ps ≡ Ok ks) × (◌≡◌ {A = Result (List Projected) Fault} (Ok (map (λ (k : Keyed). k.1) (sorted_keyed (o ∷ os) ks))) (Err f)))
-          → (r : Projected) × IsIn r ps × (keys_at (given s) graph columns (o ∷ os) r ≡ Err f)
-      by_keys (inl h) = let found = answers_fault (keyed s graph columns (o ∷ os)) ps f h in (found.0, found.1, of_row found.0 (went_wrong (keys_at (given s) graph columns (o ∷ os) found.0) (λ vs. Ok (vs, found.0)) f found.2))
+          → (r : Projected) × IsIn r ps × (keys_at (given_in s) graph columns (o ∷ os) r ≡ Err f)
+      by_keys (inl h) = let found = answers_fault (keyed s graph columns (o ∷ os)) ps f h in (found.0, found.1, of_row found.0 (went_wrong (keys_at (given_in s) graph columns (o ∷ os) found.0) (λ vs. Ok (vs, found.0)) f found.2))
       by_keys (inr h) = let impossible = h.2 in cc

@@ -1,7 +1,7 @@
 -- UNWIND: the items of each row's list in order, and the names that they bind.
 use Rattle.std.proofs.Common.{◌≡◌, ℕ, inl, inr, List, [], ◌∷◌, map, flat_map, sum, length, Result, Ok, Err, refl, sym, ap, subst}
 use Rattle.pg_meaning.specs.Turns.{RowAfterRow}
-use Rattle.pg_meaning.specs.Agreement.{given, AreRowsOf, AnswerAgrees}
+use Rattle.pg_meaning.specs.Agreement.{given_in, AreRowsOf, AnswerAgrees}
 use Rattle.pg_meaning.specs.Answer.{◌>>=◌, each_answer}
 use Rattle.pg_meaning.specs.AnswerLaws.{by_answer, went_well, same_ok, answers_fault}
 use Rattle.pg_agreement.proofs.RowNames.{BindsOnly, binds_new}
@@ -33,7 +33,7 @@ module _ (s : Setting) (graph : Graph) (e : Expression) where
   abbrev beside : Row → List Value → Result Unwound Fault
   beside row vs = Ok (row, vs)
 
-  list_at : (row : Row) (l : Unwound) → unwound_at s graph e row ≡ Ok l → (row ≡ l.0) × (items_at (given s) graph e row ≡ Ok l.1)
+  list_at : (row : Row) (l : Unwound) → unwound_at s graph e row ≡ Ok l → (row ≡ l.0) × (items_at (given_in s) graph e row ≡ Ok l.1)
   list_at row l h = by_value (evaluate row s.parameters graph e) h
     where
       by_items : (a : Result (List Value) Fault) → (a >>= beside row) ≡ Ok l → (row ≡ l.0) × (a ≡ Ok l.1)
@@ -44,7 +44,7 @@ module _ (s : Setting) (graph : Graph) (e : Expression) where
       by_value (Ok v) h = by_items (unwound v) h
       by_value (Err f) h = cc
 
-  fault_at : (row : Row) (f : Fault) → unwound_at s graph e row ≡ Err f → items_at (given s) graph e row ≡ Err f
+  fault_at : (row : Row) (f : Fault) → unwound_at s graph e row ≡ Err f → items_at (given_in s) graph e row ≡ Err f
   fault_at row f h = by_value (evaluate row s.parameters graph e) h
     where
       by_items : (a : Result (List Value) Fault) → (a >>= beside row) ≡ Err f → a ≡ Err f
@@ -55,7 +55,7 @@ module _ (s : Setting) (graph : Graph) (e : Expression) where
       by_value (Ok v) h = by_items (unwound v) h
       by_value (Err g) h = cc
 
-  lists_unwind : (name : Name) (rows : List Row) (lists : List Unwound) → each_answer (unwound_at s graph e) rows ≡ Ok lists → RowAfterRow (UnwindRow (given s) graph e name) rows (flat_map (extended name) lists)
+  lists_unwind : (name : Name) (rows : List Row) (lists : List Unwound) → each_answer (unwound_at s graph e) rows ≡ Ok lists → RowAfterRow (UnwindRow (given_in s) graph e name) rows (flat_map (extended name) lists)
   lists_unwind name [] lists h = ap (flat_map (extended name)) (sym (same_ok [] lists h))
   lists_unwind name (row ∷ rows) lists h =
       let first = went_well (unwound_at s graph e row) (λ l. each_answer (unwound_at s graph e) rows >>= λ ls. Ok (l ∷ ls)) lists h in

@@ -8,8 +8,8 @@ use Rattle.pg_meaning.specs.Grammar.{parameters_of}
 use Rattle.pg_meaning.specs.Graph.{Graph, IsGraph}
 use Rattle.pg_meaning.specs.Meaning.{Means}
 use Rattle.pg_meaning.specs.Names.{Names}
-use Rattle.pg_meaning.specs.Plans.{Catalogue, Plan, plan_of, IsPlanOf}
-use Rattle.pg_meaning.specs.Queries.{Outcome, ordered, output_rows, returns}
+use Rattle.pg_meaning.specs.Plans.{Catalogue, Plan, plan_of, plan_over, IsPlanOf}
+use Rattle.pg_meaning.specs.Queries.{Outcome, under_plan, output_rows, returns}
 use Rattle.pg_meaning.specs.Scopes.{scope_after, columns_from}
 use Rattle.pg_meaning.specs.StaticFaults.{static_faults}
 use Rattle.pg_meaning.specs.Tree.{Clause, match_paths, unwind, create, merge, set_items, remove_items, delete, with_rows, return_rows, Query}
@@ -168,7 +168,7 @@ no_return_no_rows q parameters most graph columns rows after none h = (h.named �
 
 -- what is meant of a query is so of its answer
 answer_means : (q : Query) (plan : Plan) (catalogue : Catalogue) (parameters : Entries) (graph : Graph) (max_steps max_elements : ℕ) (answer : Outcome) → static_faults q ≡ [] → AreGiven (parameters_of q) parameters → IsPlanOf plan q → IsGraph graph
-    → ordered plan catalogue q parameters graph max_steps max_elements ≡ Ok answer → Means q parameters max_elements graph answer.columns answer.rows answer.graph × IsGraph answer.graph
+    → under_plan (plan_over catalogue plan) q parameters graph max_steps max_elements ≡ Ok answer → Means q parameters max_elements graph answer.columns answer.rows answer.graph × IsGraph answer.graph
 answer_means q plan catalogue parameters graph max_steps max_elements answer faults given_here planned g is =
     subst (OutcomeAgrees q parameters max_elements graph) is (meaning_of_queries q plan catalogue parameters graph max_steps max_elements faults given_here planned g)
 

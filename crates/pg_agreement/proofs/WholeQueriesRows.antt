@@ -35,10 +35,10 @@ answers_length f (x ∷ xs) ys e =
     let rest = went_well (each_answer f xs) (λ zs. Ok (first.0 ∷ zs)) ys first.2 in
     ap length (sym (same_ok (first.0 ∷ rest.0) ys rest.2)) ∙ ap suc (answers_length f xs rest.0 rest.1)
 
-projected_wide : (g : Given) (graph : Graph) (distinct : Bool) (columns : List Column) (row : Row) (p : Projected) → projected g graph distinct columns row ≡ Ok p → IsWide columns p
+projected_wide : (g : Given) (graph : Graph) (distinct : Bool) (columns : List Column) (row : Row) (p : Projected) → projected g.parameters graph distinct columns row ≡ Ok p → IsWide columns p
 projected_wide g graph distinct columns row p e =
-    let vs = went_well (each_answer (column_value g graph row) columns) (λ vs. Ok (record { columns = vs; earlier = cond distinct [] row })) p e in
-    ap (λ (q : Projected). length q.columns) (sym (same_ok _ p vs.2)) ∙ answers_length (column_value g graph row) columns vs.0 vs.1
+    let vs = went_well (each_answer (column_value g.parameters graph row) columns) (λ vs. Ok (record { columns = vs; earlier = cond distinct [] row })) p e in
+    ap (λ (q : Projected). length q.columns) (sym (same_ok _ p vs.2)) ∙ answers_length (column_value g.parameters graph row) columns vs.0 vs.1
 
 zip_second : {X Y : Type 0} (R : X → Y → Type 0) (P : Y → Type 0) → ((x : X) (y : Y) → R x y → P y) → (xs : List X) (ys : List Y) → AllZip R xs ys → AllByRecursion P ys
 zip_second R P f [] [] h = tt
@@ -49,11 +49,11 @@ zip_second R P f (x ∷ xs) (y ∷ ys) h = (f x y h.0, zip_second R P f xs ys h.
 items_wide : (g : Given) (graph : Graph) (distinct : Bool) (columns : List Column) (rows : List Row) (made : List Projected) → Items g graph distinct columns rows made → AllByRecursion (IsWide columns) made
 items_wide g graph distinct columns rows made = by_kind (list_any is_aggregate columns)
   where
-    by_kind : (b : Bool) → elim b as (λ b. Type 0) [ true ↦ Groups g graph columns rows made | false ↦ AllZip (λ row r. projected g graph distinct columns row ≡ Ok r) rows made ] → AllByRecursion (IsWide columns) made
+    by_kind : (b : Bool) → elim b as (λ b. Type 0) [ true ↦ Groups g graph columns rows made | false ↦ AllZip (λ row r. projected g.parameters graph distinct columns row ≡ Ok r) rows made ] → AllByRecursion (IsWide columns) made
     by_kind true h =
         zip_second (λ k r. (each_answer (group_value g graph (rows_with_key k h.keyed)) columns ≡ Ok r.columns) × (r.earlier ≡ [])) (IsWide columns)
         (λ k r e. answers_length (group_value g graph (rows_with_key k h.keyed)) columns r.columns e.0) h.keys made h.summaries
-    by_kind false h = zip_second (λ row r. projected g graph distinct columns row ≡ Ok r) (IsWide columns) (λ row r e. projected_wide g graph distinct columns row r e) rows made h
+    by_kind false h = zip_second (λ row r. projected g.parameters graph distinct columns row ≡ Ok r) (IsWide columns) (λ row r e. projected_wide g graph distinct columns row r e) rows made h
 
 -- ---- what is kept, sorted and cut was made
 

@@ -15,7 +15,7 @@ use Rattle.pg_meaning.specs.Value.{Value, null, boolean, integer, text, list, ma
 use Rattle.pg_meaning.specs.Changes.{NodeChanges, RelationshipChanges, ElementChanges, PropertiesChange, LabelsChange, SetsItem, RemovesItem, Sets, Removes}
 use Rattle.pg_agreement.specs.WholeQueries.{makes, changes, removes}
 use Rattle.pg_agreement.proofs.ChangesRows.{set_keeps, remove_keeps, set_row_keeps, remove_row_keeps, sets_keep, removes_keep}
-use Rattle.pg_agreement.proofs.DeletesComputed.{delete_is_computed}
+use Rattle.pg_agreement.proofs.DeletesComputed.{some_setting, delete_is_computed}
 
 -- ---- one element changes, and it keeps its type and its ends
 
@@ -163,7 +163,7 @@ module _ (most : ℕ) (P : Graph → Graph → Type 0) (M C D : Type 0)
   step_law parameters scope (set_items items) may graph rows after results g h = set_rows_law (given_of parameters most scope) items (λ i x. may.1 refl) graph rows after g h.0
   step_law parameters scope (remove_items items) may graph rows after results g h = (removes_law (may.1 refl) items graph rows after g h.0, removes_keep items graph rows after g h.0)
   step_law parameters scope (delete is_detach es) may graph rows after results g h =
-      let made = (delete_is_computed (given_of parameters most scope) is_detach es graph after rows g).1 h.0 in
+      let made = (delete_is_computed (some_setting (given_of parameters most scope)) is_detach es graph after rows g).1 h.0 in
       (subst (P graph) (sym made.removed) (removed (may.2 refl) (doomed_nodes graph made.doomed) (doomed_relationships is_detach graph made.doomed) graph g), (h.0).graph_again)
 
   -- ---- queries

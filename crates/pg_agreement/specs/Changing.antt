@@ -1,10 +1,11 @@
 -- SET, REMOVE and DELETE agree with their meaning, which their functions compute.
 use Rattle.std.specs.Prelude.{◌≡◌, Bool, ◌⊎◌, List, [], Ok, Err}
 use Rattle.pg_meaning.specs.Turns.{Given, AtSomeRow}
-use Rattle.pg_meaning.specs.Agreement.{ClauseAgrees}
+use Rattle.pg_meaning.specs.Agreement.{given_in, ClauseAgrees}
 use Rattle.pg_meaning.specs.Answer.{each_step}
 use Rattle.pg_meaning.specs.Graph.{Graph, IsGraph, remove_elements}
 use Rattle.pg_meaning.specs.Meaning.{Step, StepFaults}
+use Rattle.pg_meaning.specs.Meters.{Setting}
 use Rattle.pg_meaning.specs.Rows.{Row}
 use Rattle.pg_meaning.specs.Tree.{Expression, SetItem, RemoveItem, Clause, set_items, remove_items, delete}
 use Rattle.pg_meaning.specs.Updates.{set_row, remove_row, Doomed, doom_row, doomed_nodes, doomed_relationships, test_unconnected}
@@ -28,10 +29,10 @@ abbrev pub Both : Type 0 → Type 0 → Type 0
 Both A B = (A → B) × (B → A)
 
 abbrev pub SetIsComputed : Type 0
-SetIsComputed = (g : Given) (items : List SetItem) (graph after : Graph) (rows : List Row) → IsGraph graph → Both (each_step (set_row g items) graph rows ≡ Ok after) (Sets g items graph rows after)
+SetIsComputed = (s : Setting) (items : List SetItem) (graph after : Graph) (rows : List Row) → IsGraph graph → Both (each_step (set_row s items) graph rows ≡ Ok after) (Sets (given_in s) items graph rows after)
 
 abbrev pub SetFaultIsComputed : Type 0
-SetFaultIsComputed = (g : Given) (items : List SetItem) (graph : Graph) (rows : List Row) (f : Fault) → IsGraph graph → Both (each_step (set_row g items) graph rows ≡ Err f) (SetFaults g items graph rows f)
+SetFaultIsComputed = (s : Setting) (items : List SetItem) (graph : Graph) (rows : List Row) (f : Fault) → IsGraph graph → Both (each_step (set_row s items) graph rows ≡ Err f) (SetFaults (given_in s) items graph rows f)
 
 abbrev pub RemoveIsComputed : Type 0
 RemoveIsComputed = (items : List RemoveItem) (graph after : Graph) (rows : List Row) → IsGraph graph → Both (each_step (remove_row items) graph rows ≡ Ok after) (Removes items graph rows after)
@@ -40,22 +41,22 @@ abbrev pub RemoveFaultIsComputed : Type 0
 RemoveFaultIsComputed = (items : List RemoveItem) (graph : Graph) (rows : List Row) (f : Fault) → IsGraph graph → Both (each_step (remove_row items) graph rows ≡ Err f) (RemoveFaults items graph rows f)
 
 -- what DELETE computes: the ids that are named, that none of them stays connected, and the graph without them
-pub record Removal (g : Given) (is_detach : Bool) (es : List Expression) (graph : Graph) (rows : List Row) (after : Graph) : Type 0 where
+pub record Removal (s : Setting) (is_detach : Bool) (es : List Expression) (graph : Graph) (rows : List Row) (after : Graph) : Type 0 where
   pub doomed : Doomed
-  pub named : each_step (doom_row g graph es) ([], []) rows ≡ Ok doomed
+  pub named : each_step (doom_row s graph es) ([], []) rows ≡ Ok doomed
   pub connected : test_unconnected (remove_elements [] (doomed_relationships is_detach graph doomed) graph) (doomed_nodes graph doomed) ≡ Ok tt
   pub removed : after ≡ remove_elements (doomed_nodes graph doomed) (doomed_relationships is_detach graph doomed) graph
 
-abbrev pub RemovalFaults : Given → (is_detach : Bool) → List Expression → Graph → List Row → Fault → Type 0
-RemovalFaults g is_detach es graph rows f =
-    AtSomeRow (λ row e. doom_row g graph es ([], []) row ≡ Err e) rows f
-    ⊎ ((d : Doomed) × (each_step (doom_row g graph es) ([], []) rows ≡ Ok d) × (test_unconnected (remove_elements [] (doomed_relationships is_detach graph d) graph) (doomed_nodes graph d) ≡ Err f))
+abbrev pub RemovalFaults : Setting → (is_detach : Bool) → List Expression → Graph → List Row → Fault → Type 0
+RemovalFaults s is_detach es graph rows f =
+    AtSomeRow (λ row e. doom_row s graph es ([], []) row ≡ Err e) rows f
+    ⊎ ((d : Doomed) × (each_step (doom_row s graph es) ([], []) rows ≡ Ok d) × (test_unconnected (remove_elements [] (doomed_relationships is_detach graph d) graph) (doomed_nodes graph d) ≡ Err f))
 
 abbrev pub DeleteIsComputed : Type 0
-DeleteIsComputed = (g : Given) (is_detach : Bool) (es : List Expression) (graph after : Graph) (rows : List Row) → IsGraph graph → Both (Removal g is_detach es graph rows after) (ElementsGo g is_detach es graph rows after)
+DeleteIsComputed = (s : Setting) (is_detach : Bool) (es : List Expression) (graph after : Graph) (rows : List Row) → IsGraph graph → Both (Removal s is_detach es graph rows after) (ElementsGo (given_in s) is_detach es graph rows after)
 
 abbrev pub DeleteFaultIsComputed : Type 0
-DeleteFaultIsComputed = (g : Given) (is_detach : Bool) (es : List Expression) (graph : Graph) (rows : List Row) (f : Fault) → IsGraph graph → Both (RemovalFaults g is_detach es graph rows f) (GoFaults g is_detach es graph rows f)
+DeleteFaultIsComputed = (s : Setting) (is_detach : Bool) (es : List Expression) (graph : Graph) (rows : List Row) (f : Fault) → IsGraph graph → Both (RemovalFaults s is_detach es graph rows f) (GoFaults (given_in s) is_detach es graph rows f)
 
 -- the meaning leaves one graph at most
 abbrev pub OneChange : Type 0

@@ -9,8 +9,8 @@ use Rattle.pg_meaning.specs.Grammar.{marks, clause_parameters, parameters_of, Is
 use Rattle.pg_meaning.specs.Graph.{Graph}
 use Rattle.pg_meaning.specs.Meters.{Setting, State}
 use Rattle.pg_meaning.specs.Names.{Names, is_among}
-use Rattle.pg_meaning.specs.Plans.{Catalogue, Plan, ArePlanned, IsPlanOf}
-use Rattle.pg_meaning.specs.Queries.{clause_step, ordered}
+use Rattle.pg_meaning.specs.Plans.{Catalogue, Plan, plan_over, ArePlanned, IsPlanOf}
+use Rattle.pg_meaning.specs.Queries.{clause_step, under_plan}
 use Rattle.pg_meaning.specs.Rows.{Row, value_in}
 use Rattle.pg_meaning.specs.Scopes.{scope_after}
 use Rattle.pg_meaning.specs.StaticFaults.{faults_of, clause_faults, static_faults}
@@ -44,7 +44,7 @@ ClauseEndsWell c =
 abbrev pub QueryEndsWell : Query → Type 0
 QueryEndsWell q =
     (plan : Plan) (catalogue : Catalogue) (parameters : Entries) (graph : Graph) (max_steps max_elements : ℕ) → AllByRecursion IsClause q.clauses → static_faults q ≡ [] → AreGiven (parameters_of q) parameters → IsPlanOf plan q
-    → (f : Fault) → ordered plan catalogue q parameters graph max_steps max_elements ≡ Err f → is_of_run f ≡ true
+    → (f : Fault) → under_plan (plan_over catalogue plan) q parameters graph max_steps max_elements ≡ Err f → is_of_run f ≡ true
 
 -- a query ends so whose clauses do
 abbrev pub ClausesEndQueries : Type 0

@@ -7,8 +7,8 @@ use Rattle.pg_meaning.specs.Graph.{Graph, Relationship, IsGraph, node_at, relati
 use Rattle.pg_meaning.specs.Lists.{IsIn}
 use Rattle.pg_meaning.specs.Meaning.{Means}
 use Rattle.pg_meaning.specs.Meters.{greatest_id}
-use Rattle.pg_meaning.specs.Plans.{Catalogue, Plan, IsPlanOf}
-use Rattle.pg_meaning.specs.Queries.{Outcome, ordered, answer_of, returns}
+use Rattle.pg_meaning.specs.Plans.{Catalogue, Plan, plan_over, IsPlanOf}
+use Rattle.pg_meaning.specs.Queries.{Outcome, under_plan, answer_of, returns}
 use Rattle.pg_meaning.specs.StaticFaults.{static_faults}
 use Rattle.pg_meaning.specs.Tree.{Projection, Clause, create, merge, set_items, remove_items, delete, return_rows, Query}
 use Rattle.pg_meaning.specs.Value.{Value, list, mapping, node, relationship, path, Values, no_items, item, Entries, no_entries, entry}
@@ -196,7 +196,7 @@ RowsShowWhatIsThere =
 abbrev pub OfAnswers : (Query → Type 0) → (ℕ → Graph → Outcome → Type 0) → Type 0
 OfAnswers If Then =
     (q : Query) (plan : Plan) (catalogue : Catalogue) (parameters : Entries) (graph : Graph) (max_steps max_elements : ℕ) (answer : Outcome) → If q → static_faults q ≡ [] → AreGiven (parameters_of q) parameters → IsPlanOf plan q → IsGraph graph
-    → ordered plan catalogue q parameters graph max_steps max_elements ≡ Ok answer → Then max_elements graph answer
+    → under_plan (plan_over catalogue plan) q parameters graph max_steps max_elements ≡ Ok answer → Then max_elements graph answer
 
 -- under the plan that a catalogue fixes, where it is the tenant's own
 abbrev pub AnswersAreMeant : Type 0

@@ -43,7 +43,7 @@ pub fn law_of_cost()
 {}
 
 /// The plan that is made of a query, over whatever indexes, is a plan of it, and names none but these.
-pub fn law_of_plans()
+pub fn law_of_planning()
     ensures plan { PlanOfIsPlan }
     ensures whole { PlanOfIsWhole }
 {}

@@ -10,8 +10,8 @@ ghost use Rattle.pg_meaning.specs.Texts.{text_checked};
 use crate::key::Key;
 use lru::LruCache;
 use pg_headroom::test_headroom;
+use pg_meaning::Fault;
 use pg_plan::{Catalogue, Plan, plan_text};
-use pg_value_core::Fault;
 use std::alloc::{AllocError, Global};
 use std::hash::BuildHasher;
 use std::marker::Model;
@@ -37,7 +37,12 @@ impl<S: BuildHasher + Drop> Model for PlanCache<S> {
 
     ghost coded = { Prim.hlevel (codes, expression.the_row.coded, plan_from-prop) };
 
-    ghost view = { λ c. record { entries = map entry_view c.plans.entries; capacity = c.plans.cap; hits = c.hits; misses = c.misses } };
+    ghost view = { λ c. record {
+      entries = map entry_view c.plans.entries;
+      capacity = c.plans.cap;
+      hits = c.hits;
+      misses = c.misses;
+    } };
 
     ghost invariant = { λ c. ArePlanned (map entry_view c.plans.entries) };
 }
@@ -63,10 +68,14 @@ impl<S: BuildHasher + Drop> PlanCache<S> {
         text: String,
         catalogue: Rc<Catalogue>,
     ) -> Result<Rc<Plan>, Fault>
-        ensures ok { IfOk result (λ p. IsPlanOfText (string_bytes text) (catalogue_view catalogue.value.items) p.value) }
-        ensures err { IfErr result (λ e. e ≢ OutOfMemory → text_checked (string_bytes text) ≡ Err e) }
-        ensures hit { (plan : _) → kept self.old (key_of text catalogue) ≡ Some plan → IsHit self.old self.new (key_of text catalogue) plan result }
-        ensures miss { kept self.old (key_of text catalogue) ≡ None → IsMiss self.old self.new (key_of text catalogue) result }
+        ensures ok { IfOk result
+            (λ p. IsPlanOfText (string_bytes text) (catalogue_view catalogue.value.items) p.value) }
+        ensures err { IfErr result (λ e. e ≢ OutOfMemory
+            → text_checked (string_bytes text) ≡ Err e) }
+        ensures hit { (plan : _) → kept self.old (key_of text catalogue) ≡ Some plan
+            → IsHit self.old self.new (key_of text catalogue) plan result }
+        ensures miss { kept self.old (key_of text catalogue) ≡ None
+            → IsMiss self.old self.new (key_of text catalogue) result }
     {
         let key = Key { text, catalogue };
         if let Some(plan) = self.plans.get(&key) {

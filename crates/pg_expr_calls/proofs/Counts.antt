@@ -2,20 +2,20 @@
 use Rattle.std.proofs.Common.{◌≡◌, ℕ, zero, suc, ◌/◌, ◌<◌, ◌≤◌, List, [], ◌∷◌, length, get_or, refl, ap, sym, arith, rules, ◌-◌, ℤ, pos, negsuc, true}
 use Rattle.std.proofs.lemmas.List.Sums.{count_by-le-length, count_by_more_no, count_by_more_yes}
 use Rattle.std.proofs.lemmas.Bool.Decides.{nat_tests}
-use Rattle.pg_meaning.specs.Functions.{count_of, item_at, path_relationships}
+use Rattle.pg_meaning.specs.Functions.{item_count, item_at, path_relationships}
 use Rattle.pg_meaning.specs.Value.{null, Values, Value as Datum}
 use Rattle.pg_meaning.specs.Expressions.{item_of}
 use Rattle.std.specs.Prelude.{int_lt, unsigned_abs, nat_le, if◌then◌else◌}
 use Rattle.pg_value_core.specs.View.{view, values_view}
 use Rattle.pg_value_core.specs.declared.value.Value.{Value}
 
-pub count_of_items : (xs : List Value) → count_of (values_view xs) ≡ length xs
+pub count_of_items : (xs : List Value) → item_count (values_view xs) ≡ length xs
 count_of_items [] = refl
 count_of_items (x ∷ xs) = omega (arith, count_of_items xs)
 
 pub ruleset counts = (count_of_items)
 
-pub count_of_path : (ids : List ℕ) → count_of (path_relationships ids) ≡ length ids / 2
+pub count_of_path : (ids : List ℕ) → item_count (path_relationships ids) ≡ length ids / 2
 count_of_path [] = omega arith
 count_of_path (n ∷ []) = omega arith
 count_of_path (n ∷ r ∷ ids) = omega (arith, count_of_path ids)

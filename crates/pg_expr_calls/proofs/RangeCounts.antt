@@ -7,7 +7,7 @@ use Rattle.std.specs.Int.{w64}
 use Rattle.std.specs.Prelude.{◌-ℤ◌, ◌<ℤ◌, ◌≤ℤ◌, FitsSigned, nat_le, unsigned_abs}
 use Rattle.pg_expr_calls.specs.Ranges.{AllFit}
 use Rattle.pg_meaning.specs.Answer.{Answer, ◌>>=◌}
-use Rattle.pg_meaning.specs.Functions.{count_of, integers_from, range_by, size_of, steps_within}
+use Rattle.pg_meaning.specs.Functions.{item_count, integers_from, range_by, size_of, steps_within}
 use Rattle.pg_meaning.specs.Measure.{greatest_weight}
 use Rattle.pg_meaning.specs.Value.{integer, list}
 use Rattle.pg_meaning.specs.declared.fault.Fault.{Fault}
@@ -116,7 +116,7 @@ pub ruleset ranges = (light_range, heavy_range, all_fit)
 
 -- ---- its length
 
-counted_from : (n : ℕ) (i step : ℤ) → count_of (integers_from n i step) ≡ n
+counted_from : (n : ℕ) (i step : ℤ) → item_count (integers_from n i step) ≡ n
 counted_from zero i step = refl
 counted_from (suc n) i step = omega (arith, counted_from n (i +ℤ step) step)
 

@@ -4,7 +4,7 @@ use Rattle.pg_expr_calls.specs.Sums.{have_no_sum}
 use Rattle.pg_meaning.specs.Arithmetic.{plus, appended}
 use Rattle.pg_meaning.specs.Measure.{made}
 use Rattle.pg_meaning.specs.Value.{Value as Datum, list, item, no_items, Values}
-use Rattle.pg_value_core.specs.Parts.{value_of}
+use Rattle.pg_value_core.specs.Parts.{value_of_parts}
 use Rattle.pg_value_core.specs.View.{view, values_view}
 use Rattle.pg_value_core.specs.declared.parts.Parts.{Parts}
 use Rattle.pg_value_core.specs.declared.parts.Parts.TheVariants as parts
@@ -20,7 +20,7 @@ sum_of_list : (vs : Values) (w : Value) → (w ≡ Null → ⊥) → ((xs : Vec 
 sum_of_list vs w no_null no_list = search (rules, the_lemmas)
 
 -- a list and parts that are neither null nor a list
-pub sum_with_parts : (vs : Values) (p : Parts) (w : Value) → value_of p ≡ w → (p ≡ parts.Null → ⊥) → ((xs : Vec Value Global) → p ≡ parts.List xs → ⊥) → plus (list vs) (view w) ≡ made (list (appended vs (item (view w) no_items)))
+pub sum_with_parts : (vs : Values) (p : Parts) (w : Value) → value_of_parts p ≡ w → (p ≡ parts.Null → ⊥) → ((xs : Vec Value Global) → p ≡ parts.List xs → ⊥) → plus (list vs) (view w) ≡ made (list (appended vs (item (view w) no_items)))
 sum_with_parts vs parts.Null w is no_null no_list = absurd (no_null refl)
 sum_with_parts vs (parts.Bool b) w is no_null no_list = sum_of_list vs w (λ e. cc) (λ xs e. cc)
 sum_with_parts vs (parts.Int i) w is no_null no_list = sum_of_list vs w (λ e. cc) (λ xs e. cc)

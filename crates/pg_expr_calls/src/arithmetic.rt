@@ -4,7 +4,8 @@ ghost use Rattle.std.specs.Prelude.{◌≡◌, IfOk, IfErr, Ok, Err, true, false
 ghost use Rattle.pg_meaning.specs.Arithmetic.{minus, times, divide, modulo, signed};
 ghost use Rattle.pg_value_core.specs.View.{view};
 
-use pg_value_core::{Fault, Value};
+use pg_meaning::Fault;
+use pg_value_core::Value;
 
 /// `v - w`.
 #[tactic(auto, using(crate::proofs::Checked::in_range))]

@@ -7,9 +7,9 @@ ghost use Rattle.pg_meaning.specs.Logic.{and3, or3, xor3, not3};
 ghost use Rattle.pg_meaning.specs.declared.operators.Operator.TheVariants.{Or, Xor, And};
 ghost use Rattle.pg_value_core.specs.View.{view};
 
-use pg_meaning::Operator;
+use pg_meaning::{Fault, Operator, Tri};
 use pg_value::{and, eq3, less3, not, or, truth_of, value_of, xor};
-use pg_value_core::{Fault, Tri, Value};
+use pg_value_core::Value;
 
 /// What a comparison gives at two neighbours; any other operator is no comparison.
 pub fn compared(operator: Operator, v: &Value, w: &Value) -> Result<Tri, Fault>

@@ -3,13 +3,14 @@
 ghost use Rattle.std.specs.Prelude.{◌≡◌, ◌≢◌, ◌<◌, ◌≤◌, ◌^◌, ◌-◌, IfOk, IfErr, Ok, Err, pos, length, count_by, string_bytes};
 ghost use Rattle.pg_meaning.specs.Answer.{Answer};
 ghost use Rattle.pg_meaning.specs.Expressions.{item_of};
-ghost use Rattle.pg_meaning.specs.Functions.{size_of, length_of, head_of, last_of, string_of, integer_of, integer_in, absolute_of, is_first_byte, item_at, digits_of, count_of, path_relationships};
+ghost use Rattle.pg_meaning.specs.Functions.{size_of, length_of, head_of, last_of, string_of, integer_of, integer_in, absolute_of, is_first_byte, item_at, digits_of, item_count, path_relationships};
 ghost use Rattle.pg_meaning.specs.Value.{integer, null, text};
 ghost use Rattle.pg_meaning.specs.declared.fault.Fault.TheVariants.{OutOfMemory};
 ghost use Rattle.pg_value_core.specs.View.{view, values_view};
 
 use itoa::Buffer;
-use pg_value_core::{Fault, Parts, Value};
+use pg_meaning::Fault;
+use pg_value_core::{Parts, Value};
 use std::alloc::{AllocError, Global};
 
 /// The number of a list's items or of a text's characters.
@@ -26,7 +27,7 @@ pub fn size(v: &Value) -> Result<Value, Fault>
 
 #[tactic(auto, using(crate::proofs::Counts::counts))]
 fn count_items(items: &Vec<Value>) -> Value
-    ensures { view result ≡ integer (pos (count_of (values_view items.now.items))) }
+    ensures { view result ≡ integer (pos (item_count (values_view items.now.items))) }
 {
     count(items.len())
 }
@@ -65,7 +66,7 @@ pub fn length(v: &Value) -> Result<Value, Fault>
 
 #[tactic(auto, using(crate::proofs::Counts::count_of_path))]
 fn count_relationships(ids: &[u64]) -> Value
-    ensures { view result ≡ integer (pos (count_of (path_relationships ids.now))) }
+    ensures { view result ≡ integer (pos (item_count (path_relationships ids.now))) }
 {
     count(ids.len() / 2)
 }
@@ -94,7 +95,8 @@ pub fn last(v: Value) -> Result<Value, Fault>
 
 #[tactic(auto, using(crate::proofs::Counts::counts))]
 fn last_item(items: Vec<Value>) -> Value
-    ensures { view result ≡ item_at (count_of (values_view items.items) - 1) (values_view items.items) }
+    ensures { view result
+        ≡ item_at (item_count (values_view items.items) - 1) (values_view items.items) }
 {
     let place = items.len().saturating_sub(1);
     item_at(items, place)
@@ -150,7 +152,8 @@ pub fn to_text(alloc: Global, v: Value) -> Result<Value, Fault>
 
 // A text that was made, as a value.
 fn as_text(made: Result<String, AllocError>) -> Result<Value, Fault>
-    ensures ok { (answer : Answer) → IfOk made (λ s. answer ≡ Ok (text (string_bytes s))) → IfOk result (λ u. answer ≡ Ok (view u)) }
+    ensures ok { (answer : Answer) → IfOk made (λ s. answer ≡ Ok (text (string_bytes s)))
+        → IfOk result (λ u. answer ≡ Ok (view u)) }
     ensures err { IfErr result (λ e. e ≡ OutOfMemory) }
 {
     Ok(Value::Text(made?))

@@ -9,7 +9,8 @@ ghost use Rattle.pg_meaning.specs.declared.fault.Fault.TheVariants.{OutOfMemory}
 ghost use Rattle.pg_value_core.specs.View.{view, values_view};
 
 use crate::limits::made;
-use pg_value_core::{Fault, Parts, Value};
+use pg_meaning::Fault;
+use pg_value_core::{Parts, Value};
 
 /// `v + w`.
 pub fn plus(v: Value, w: Value) -> Result<Value, Fault>
@@ -49,7 +50,8 @@ fn integer_plus(x: i64, w: Value) -> Result<Value, Fault>
 
 fn text_plus(mut s: String, w: Value) -> Result<Value, Fault>
     ensures ok { IfOk result (λ u. plus (text (string_bytes s)) (view w) ≡ Ok (view u)) }
-    ensures err { IfErr result (λ e. e ≢ OutOfMemory → plus (text (string_bytes s)) (view w) ≡ Err e) }
+    ensures err { IfErr result (λ e. e ≢ OutOfMemory
+        → plus (text (string_bytes s)) (view w) ≡ Err e) }
 {
     match w.into_parts() {
         Parts::Text(t) => {
@@ -62,7 +64,8 @@ fn text_plus(mut s: String, w: Value) -> Result<Value, Fault>
 
 fn list_plus(xs: Vec<Value>, w: Value) -> Result<Value, Fault>
     ensures ok { IfOk result (λ u. plus (list (values_view xs.items)) (view w) ≡ Ok (view u)) }
-    ensures err { IfErr result (λ e. e ≢ OutOfMemory → plus (list (values_view xs.items)) (view w) ≡ Err e) }
+    ensures err { IfErr result (λ e. e ≢ OutOfMemory
+        → plus (list (values_view xs.items)) (view w) ≡ Err e) }
 {
     match w.into_parts() {
         Parts::Null => Ok(Value::Null),
@@ -85,24 +88,30 @@ fn other_plus(v: Value, w: Value) -> Result<Value, Fault>
 }
 
 fn join_lists(mut xs: Vec<Value>, mut ys: Vec<Value>) -> Result<Value, Fault>
-    ensures ok { IfOk result (λ u. made (list (appended (values_view xs.items) (values_view ys.items))) ≡ Ok (view u)) }
-    ensures err { IfErr result (λ e. e ≢ OutOfMemory → made (list (appended (values_view xs.items) (values_view ys.items))) ≡ Err e) }
+    ensures ok { IfOk result
+        (λ u. made (list (appended (values_view xs.items) (values_view ys.items))) ≡ Ok (view u)) }
+    ensures err { IfErr result (λ e. e ≢ OutOfMemory
+        → made (list (appended (values_view xs.items) (values_view ys.items))) ≡ Err e) }
 {
     xs.append(&mut ys)?;
     made_list(xs)
 }
 
 fn append(mut xs: Vec<Value>, w: Value) -> Result<Value, Fault>
-    ensures ok { IfOk result (λ u. made (list (appended (values_view xs.items) (item (view w) no_items))) ≡ Ok (view u)) }
-    ensures err { IfErr result (λ e. e ≢ OutOfMemory → made (list (appended (values_view xs.items) (item (view w) no_items))) ≡ Err e) }
+    ensures ok { IfOk result (λ u.
+        made (list (appended (values_view xs.items) (item (view w) no_items))) ≡ Ok (view u)) }
+    ensures err { IfErr result (λ e. e ≢ OutOfMemory
+        → made (list (appended (values_view xs.items) (item (view w) no_items))) ≡ Err e) }
 {
     xs.push(w)?;
     made_list(xs)
 }
 
 fn prepend(v: Value, mut ys: Vec<Value>) -> Result<Value, Fault>
-    ensures ok { IfOk result (λ u. made (list (item (view v) (values_view ys.items))) ≡ Ok (view u)) }
-    ensures err { IfErr result (λ e. e ≢ OutOfMemory → made (list (item (view v) (values_view ys.items))) ≡ Err e) }
+    ensures ok { IfOk result
+        (λ u. made (list (item (view v) (values_view ys.items))) ≡ Ok (view u)) }
+    ensures err { IfErr result (λ e. e ≢ OutOfMemory
+        → made (list (item (view v) (values_view ys.items))) ≡ Err e) }
 {
     ys.insert(0, v)?;
     made_list(ys)

@@ -8,7 +8,8 @@ ghost use Rattle.pg_meaning.specs.Value.{text, values_of, node, relationship, it
 ghost use Rattle.pg_meaning.specs.declared.fault.Fault.TheVariants.{OutOfMemory};
 ghost use Rattle.pg_value_core.specs.View.{view, values_view, entries_view};
 
-use pg_value_core::{Fault, NodeId, RelId, Value};
+use pg_meaning::Fault;
+use pg_value_core::{NodeId, RelId, Value};
 use std::alloc::{AllocError, Global};
 use std::collections::BTreeMap;
 
@@ -21,7 +22,8 @@ pub fn keys(alloc: Global, entries: &BTreeMap<String, Value>) -> Result<Value, A
 
 #[tactic(auto, using(crate::proofs::Joins::none_more))]
 fn key_texts(alloc: Global, entries: &BTreeMap<String, Value>) -> Result<Vec<Value>, AllocError>
-    ensures { IfOk result (λ vs. values_view vs.items ≡ values_of (map text (keys_of (entries_view entries.now.entries)))) }
+    ensures { IfOk result (λ vs. values_view vs.items
+        ≡ values_of (map text (keys_of (entries_view entries.now.entries)))) }
 {
     let mut keys = Vec::new(alloc);
     for (key, _) in entries.iter() {
@@ -31,26 +33,30 @@ fn key_texts(alloc: Global, entries: &BTreeMap<String, Value>) -> Result<Vec<Val
 }
 
 fn push_text(alloc: Global, values: &mut Vec<Value>, bytes: &str) -> Result<(), AllocError>
-    ensures { OnOk result ((ws : Values) → appended (values_view values.new.items) ws ≡ appended (values_view values.old.items) (item (text bytes.now) ws)) }
+    ensures { OnOk result ((ws : Values) → appended (values_view values.new.items) ws
+        ≡ appended (values_view values.old.items) (item (text bytes.now) ws)) }
 {
     push(values, Value::Text(String::from_str(alloc, bytes)?))
 }
 
 pub(crate) fn push(values: &mut Vec<Value>, value: Value) -> Result<(), AllocError>
-    ensures { OnOk result ((ws : Values) → appended (values_view values.new.items) ws ≡ appended (values_view values.old.items) (item (view value) ws)) }
+    ensures { OnOk result ((ws : Values) → appended (values_view values.new.items) ws
+        ≡ appended (values_view values.old.items) (item (view value) ws)) }
 {
     values.push(value)?;
     Ok(())
 }
 
 fn push_node(values: &mut Vec<Value>, id: u64) -> Result<(), AllocError>
-    ensures { OnOk result ((ws : Values) → appended (values_view values.new.items) ws ≡ appended (values_view values.old.items) (item (node id) ws)) }
+    ensures { OnOk result ((ws : Values) → appended (values_view values.new.items) ws
+        ≡ appended (values_view values.old.items) (item (node id) ws)) }
 {
     push(values, Value::Node(NodeId(id)))
 }
 
 fn push_relationship(values: &mut Vec<Value>, id: u64) -> Result<(), AllocError>
-    ensures { OnOk result ((ws : Values) → appended (values_view values.new.items) ws ≡ appended (values_view values.old.items) (item (relationship id) ws)) }
+    ensures { OnOk result ((ws : Values) → appended (values_view values.new.items) ws
+        ≡ appended (values_view values.old.items) (item (relationship id) ws)) }
 {
     push(values, Value::Rel(RelId(id)))
 }

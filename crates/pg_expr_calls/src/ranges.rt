@@ -12,7 +12,8 @@ ghost use Rattle.pg_value_core.specs.View.{view, values_view};
 use crate::functions::count;
 use crate::limits::GREATEST_WEIGHT;
 use crate::parts::push;
-use pg_value_core::{Fault, Value};
+use pg_meaning::Fault;
+use pg_value_core::Value;
 use std::alloc::{AllocError, Global};
 
 /// So many integers from a first one by a step, all of which fit.
@@ -38,7 +39,8 @@ pub fn integers_from(
 }
 
 fn push_integer(values: &mut Vec<Value>, i: i64) -> Result<(), AllocError>
-    ensures { OnOk result ((ws : Values) → appended (values_view values.new.items) ws ≡ appended (values_view values.old.items) (item (integer i) ws)) }
+    ensures { OnOk result ((ws : Values) → appended (values_view values.new.items) ws
+        ≡ appended (values_view values.old.items) (item (integer i) ws)) }
 {
     push(values, Value::Int(i))
 }

@@ -6,7 +6,7 @@ use Rattle.pg_meaning.specs.declared.lexemes.Keyword.TheVariants as k
 use Rattle.pg_meaning.specs.Tokens.{Token}
 use Rattle.pg_meaning.specs.Tree.{Expression, Perhaps, Whens}
 use Rattle.pg_meaning.specs.Tree as tree
-use Rattle.pg_meaning.specs.Grammar.{Mark, key, keyed, joined, marks, optional_marks, perhaps_marks, when_marks, Fit, HasWhens, IsWellFormed, MayBe, AreWhens, Each as EachOf}
+use Rattle.pg_meaning.specs.Grammar.{Mark, key, keyed, concatenated, marks, optional_marks, perhaps_marks, when_marks, Fit, HasWhens, IsWellFormed, MayBe, AreWhens, Each as EachOf}
 use Rattle.pg_meaning.specs.Parse as parse
 use Rattle.pg_meaning.specs.Parse.{Parser, ◌>>=◌, ◌>>◌, pure, sees_keyword, keyword, many, maybe, whens_of, perhaps_of, not_yet, one_when, case}
 use Rattle.pg_grammar.specs.Rules.{Exactly, Anything, Ends, Exact}
@@ -29,7 +29,7 @@ when_mark p = key k.When ∷ (marks p.0 ++ from_then p)
 abbrev IsWhen : When → Type 0
 IsWhen p = IsWellFormed p.0 × (IsWellFormed p.1 × Free p)
 
-whens_marks : (ps : List When) → joined (map when_mark ps) ≡ when_marks (whens_of ps)
+whens_marks : (ps : List When) → concatenated (map when_mark ps) ≡ when_marks (whens_of ps)
 whens_marks [] = refl
 whens_marks (p ∷ ps) = rw (whens_marks ps, append-nil) (ap (λ (ms : List Mark). key k.When ∷ ms) (append_assoc (marks p.0) (key k.Then ∷ marks p.1) (when_marks (whens_of ps))))
 
@@ -93,7 +93,7 @@ abbrev WhenSpelled : When → List Token → Type 0
 WhenSpelled = Fitting IsWhen when_mark
 
 abbrev Others : When → List When → List Token → Type 0
-Others p = Made (λ ps. (p ∷ []) ++ ps) (Fitting (AllByRecursion IsWhen) (λ ps. joined (map when_mark ps)))
+Others p = Made (λ ps. (p ∷ []) ++ ps) (Fitting (AllByRecursion IsWhen) (λ ps. concatenated (map when_mark ps)))
 
 abbrev made_case : Option Expression → List When → Option Expression → Expression
 made_case subject whens otherwise = tree.case (perhaps_of subject) (whens_of whens) (perhaps_of otherwise)
@@ -112,7 +112,7 @@ abbrev from_else : Option Expression → List Mark
 from_else otherwise = optional_marks (keyed k.Else) otherwise ++ key k.End ∷ []
 
 abbrev from_others : List When → Option Expression → List Mark
-from_others ps otherwise = joined (map when_mark ps) ++ from_else otherwise
+from_others ps otherwise = concatenated (map when_mark ps) ++ from_else otherwise
 
 same_marks : (subject otherwise : Option Expression) (p : When) (ps : List When)
     → optional_marks marks subject ++ (when_mark p ++ from_others ps otherwise) ≡ perhaps_marks [] (perhaps_of subject) ++ when_marks (whens_of (p ∷ ps)) ++ perhaps_marks (key k.Else ∷ []) (perhaps_of otherwise) ++ key k.End ∷ []
@@ -124,7 +124,7 @@ case_out a front h =
     let v = m.first in let p = w.value in
     let end = behind_fits b [] (rw b.inner.1 tt) in
     let behind_whens = sequence_fits e (optional_marks (keyed k.Else) e.value) (key k.End ∷ []) e.first.fits end in
-    let others = sequence_fits m (joined (map when_mark v.value)) (from_else e.value) v.inner.fits behind_whens in
+    let others = sequence_fits m (concatenated (map when_mark v.value)) (from_else e.value) v.inner.fits behind_whens in
     let fits = sequence_fits h (optional_marks marks h.value) (when_mark p ++ from_others v.value e.value) h.first.fits (sequence_fits w (when_mark p) (from_others v.value e.value) w.first.fits others) in
     record {
       subject = perhaps_of h.value;
@@ -153,7 +153,7 @@ case_into a front h = by (option_of h.subject) (list_of h.whens) (option_of h.ot
         let fits : Fit front (optional_marks marks s ++ (when_mark p ++ from_others ps o)) = subst (Fit front) (sym (same_marks s o p ps ∙ same_parts all_marks subject whens otherwise)) h.fits in
         sequence_of s (optional_marks marks s) (when_mark p ++ from_others ps o) fits (λ f q. fitting (be_may s (subst MayBe (sym subject) h.well.0)) q)
         (λ g q. sequence_of p (when_mark p) (from_others ps o) q (λ f q. fitting all.0 q)
-        (λ g q. sequence_of (p ∷ ps) (joined (map when_mark ps)) (from_else o) q (λ f q. record { value = ps; is = refl; inner = fitting all.1 q })
+        (λ g q. sequence_of (p ∷ ps) (concatenated (map when_mark ps)) (from_else o) q (λ f q. record { value = ps; is = refl; inner = fitting all.1 q })
         (λ g q. sequence_of o (optional_marks (keyed k.Else) o) (key k.End ∷ []) q (λ f q. fitting (be_may o (subst MayBe (sym otherwise) h.well.3)) q)
         (λ g q. behind_of q (λ g q. (is, no_tokens g q))))))
 
@@ -192,7 +192,7 @@ module _ (limit : ℕ) (whole : Parser Expression) (exact : Exact limit 1 whole)
       let fits = sequence_fits e (optional_marks (keyed k.Else) e.value) (key k.End ∷ []) e.first.fits (behind_fits e.second [] (rw e.second.inner.1 tt)) in
       rw there (by h.first.value h.f h.first.inner.fits (end_follows e.value h.g more fits).1)
     where
-      by : (ps : List When) (f : List Token) → Fit f (joined (map when_mark ps)) → Ends 1 (h.g ++ more) → Ends 1 (f ++ (h.g ++ more))
+      by : (ps : List When) (f : List Token) → Fit f (concatenated (map when_mark ps)) → Ends 1 (h.g ++ more) → Ends 1 (f ++ (h.g ++ more))
       by [] f fits ends = ending (Ends 1) f (h.g ++ more) fits ends
       by (q ∷ ps) f fits ends = when_ends (f ++ (h.g ++ more)) (keyword_begins k.When _ f (h.g ++ more) fits)
 

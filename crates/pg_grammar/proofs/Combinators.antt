@@ -5,7 +5,7 @@ use Rattle.pg_meaning.specs.declared.lexemes.Keyword.{Keyword}
 use Rattle.pg_meaning.specs.declared.lexemes.Symbol.{Symbol}
 use Rattle.pg_meaning.specs.declared.lexemes.Symbol.TheVariants as s
 use Rattle.pg_meaning.specs.Tokens.{Token}
-use Rattle.pg_meaning.specs.Grammar.{Mark, key, sign, begun, flag, further, commas, joined, optional_marks, Accepts, Fit, IsNonEmpty, Each as EachOf}
+use Rattle.pg_meaning.specs.Grammar.{Mark, key, sign, begun, flag, further, commas, concatenated, optional_marks, Accepts, Fit, IsNonEmpty, Each as EachOf}
 use Rattle.pg_meaning.specs.Grammar as grammar
 use Rattle.pg_meaning.specs.Parse as parse
 use Rattle.pg_meaning.specs.Parse.{Parser, Test, and_then, rest, ◌>>=◌, ◌>>◌, ◌<$>◌, pure, branch, maybe, many, comma_and, separated, sees_symbol, sees_keyword, here, start_of}
@@ -331,25 +331,25 @@ or_none_exact {A} {n} {p} {P} {Q} {m} begins empty none weaker stronger exact se
 -- any number, each with its marks, behind those found
 pub row_exact : {A : Type 0} {n : ℕ} {piece : Parser A} {P : A → Type 0} {m : A → List Mark} {E F : List Token → Type 0} (begins : Test) (found : List A) → begins [] ≡ false → Exactly n piece (Fitting P m) E
     → ((a : A) (front more : List Token) → Fitting P m a front → begins (front ++ more) ≡ true) → ((more : List Token) → F more → After begins E more) → ((more : List Token) → begins more ≡ true → E more)
-    → Exactly n (many begins piece found) (Made (λ xs. found ++ xs) (Fitting (AllByRecursion P) (λ xs. joined (map m xs)))) F
+    → Exactly n (many begins piece found) (Made (λ xs. found ++ xs) (Fitting (AllByRecursion P) (λ xs. concatenated (map m xs)))) F
 row_exact {A} {n} {piece} {P} {m} begins found none exact seen ends goes =
     restated (many_exact begins found none exact seen ends goes)
     (λ all front h. record { value = h.value; is = h.is; inner = out h.value front h.inner }) (λ all front h. record { value = h.value; is = h.is; inner = into h.value front h.inner.well h.inner.fits }) (λ more h. h)
   where
-    out : (xs : List A) (front : List Token) → Each (Fitting P m) xs front → Fitting (AllByRecursion P) (λ xs. joined (map m xs)) xs front
+    out : (xs : List A) (front : List Token) → Each (Fitting P m) xs front → Fitting (AllByRecursion P) (λ xs. concatenated (map m xs)) xs front
     out [] front each = rw each (fitting tt tt)
-    out (x ∷ xs) front each = let r = out xs each.1 each.4 in fitting (each.3.well, r.well) (rw each.2 (fit_append each.0 each.1 (m x) (joined (map m xs)) each.3.fits r.fits))
+    out (x ∷ xs) front each = let r = out xs each.1 each.4 in fitting (each.3.well, r.well) (rw each.2 (fit_append each.0 each.1 (m x) (concatenated (map m xs)) each.3.fits r.fits))
 
-    into : (xs : List A) (front : List Token) → AllByRecursion P xs → Fit front (joined (map m xs)) → Each (Fitting P m) xs front
+    into : (xs : List A) (front : List Token) → AllByRecursion P xs → Fit front (concatenated (map m xs)) → Each (Fitting P m) xs front
     into [] front well fits = no_tokens front fits
-    into (x ∷ xs) front well fits = let r = fit_split front (m x) (joined (map m xs)) fits in (r.0, r.1, r.2, fitting well.0 r.3, into xs r.1 well.1 r.4)
+    into (x ∷ xs) front well fits = let r = fit_split front (m x) (concatenated (map m xs)) fits in (r.0, r.1, r.2, fitting well.0 r.3, into xs r.1 well.1 r.4)
 
 pub rows_exact : {A : Type 0} {n : ℕ} {piece : Parser A} {P : A → Type 0} {m : A → List Mark} {E F : List Token → Type 0} (begins : Test) → begins [] ≡ false → Exactly n piece (Fitting P m) E
     → ((a : A) (front more : List Token) → Fitting P m a front → begins (front ++ more) ≡ true) → ((more : List Token) → F more → After begins E more) → ((more : List Token) → begins more ≡ true → E more)
-    → Exactly n (many begins piece []) (Fitting (AllByRecursion P) (λ xs. joined (map m xs))) F
+    → Exactly n (many begins piece []) (Fitting (AllByRecursion P) (λ xs. concatenated (map m xs))) F
 rows_exact {A} {n} {piece} {P} {m} begins none exact seen ends goes =
     restated (row_exact begins [] none exact seen ends goes)
-    (λ all front h. subst (λ (xs : List A). Fitting (AllByRecursion P) (λ xs. joined (map m xs)) xs front) (sym h.is) h.inner) (λ all front h. record { value = all; is = refl; inner = h }) (λ more h. h)
+    (λ all front h. subst (λ (xs : List A). Fitting (AllByRecursion P) (λ xs. concatenated (map m xs)) xs front) (sym h.is) h.inner) (λ all front h. record { value = all; is = refl; inner = h }) (λ more h. h)
 
 -- ---- one token
 
@@ -446,9 +446,9 @@ Closing ok ms close f = Made f (Fitting (AllByRecursion ok) (λ xs. commas (map 
 
 module _ {A : Type 0} {limit : ℕ} {ok : A → Type 0} {ms : A → List Mark} {E : List Token → Type 0} {item : Parser A} (exact : Exactly limit item (Fitting ok ms) E) (goes : (more : List Token) → sees_symbol s.Comma more ≡ true → E more) where
   abbrev Behinds : List A → List Token → Type 0
-  Behinds = Fitting (AllByRecursion ok) (λ xs. joined (map (λ x. sign s.Comma ∷ ms x) xs))
+  Behinds = Fitting (AllByRecursion ok) (λ xs. concatenated (map (λ x. sign s.Comma ∷ ms x) xs))
 
-  further_is : (xs : List A) → joined (map (λ x. sign s.Comma ∷ ms x) xs) ≡ further (map ms xs)
+  further_is : (xs : List A) → concatenated (map (λ x. sign s.Comma ∷ ms x) xs) ≡ further (map ms xs)
   further_is [] = refl
   further_is (x ∷ xs) = ap (λ (ns : List Mark). sign s.Comma ∷ ms x ++ ns) (further_is xs)
 
@@ -468,7 +468,7 @@ module _ {A : Type 0} {limit : ℕ} {ok : A → Type 0} {ms : A → List Mark} {
       follows : (x : A) (xs : List A) (front more : List Token) → Made (λ xs. (x ∷ []) ++ xs) Behinds xs front → AfterItems E more → E (front ++ more)
       follows x xs front more h ends = by h.value h.inner.fits
         where
-          by : (ys : List A) → Fit front (joined (map (λ x. sign s.Comma ∷ ms x) ys)) → E (front ++ more)
+          by : (ys : List A) → Fit front (concatenated (map (λ x. sign s.Comma ∷ ms x) ys)) → E (front ++ more)
           by [] fits = ending E front more fits ends.1
           by (y ∷ ys) fits = goes (front ++ more) (symbol_begins s.Comma _ front more fits)
 

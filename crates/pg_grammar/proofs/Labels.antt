@@ -4,7 +4,7 @@ use Rattle.std.specs.List.{AllByRecursion}
 use Rattle.pg_meaning.specs.declared.lexemes.Symbol.TheVariants as s
 use Rattle.pg_meaning.specs.Tokens.{Token}
 use Rattle.pg_meaning.specs.Tree.{Name}
-use Rattle.pg_meaning.specs.Grammar.{Mark, sign, name, label_marks, joined, IsNonEmpty}
+use Rattle.pg_meaning.specs.Grammar.{Mark, sign, name, label_marks, concatenated, IsNonEmpty}
 use Rattle.pg_meaning.specs.Parse.{sees_symbol, label, labels, labels_if_any}
 use Rattle.pg_grammar.specs.Rules.{Exactly, Anything, LabelsSpelled, LabelsAreExact, NoColon}
 use Rattle.pg_grammar.proofs.Combinators.{narrowed, or_none_exact, Fitting, Free, Sequence, Made, fitting, restated, sequence_exact, sequence_fits, sequence_of, behind, row_exact, symbol_exact, name_exact, all_free, symbol_begins}
@@ -15,12 +15,12 @@ label_mark n = sign s.Colon ∷ name n ∷ []
 label_exact : (limit : ℕ) → Exactly limit label (Fitting Free label_mark) Anything
 label_exact limit = behind (symbol_exact s.Colon) (name_exact limit)
 
-marks_of : (ns : List Name) → joined (map label_mark ns) ≡ label_marks ns
+marks_of : (ns : List Name) → concatenated (map label_mark ns) ≡ label_marks ns
 marks_of [] = refl
 marks_of (n ∷ ns) = ap (λ (ms : List Mark). sign s.Colon ∷ name n ∷ ms) (marks_of ns)
 
 abbrev Parts : List Name → List Token → Type 0
-Parts = Sequence (Fitting Free label_mark) (λ n. Made (λ ns. (n ∷ []) ++ ns) (Fitting (AllByRecursion Free) (λ ns. joined (map label_mark ns))))
+Parts = Sequence (Fitting Free label_mark) (λ n. Made (λ ns. (n ∷ []) ++ ns) (Fitting (AllByRecursion Free) (λ ns. concatenated (map label_mark ns))))
 
 pub labels_exact : LabelsAreExact
 unfolding labels

@@ -5,7 +5,7 @@ use Rattle.pg_meaning.specs.declared.lexemes.Keyword.TheVariants as k
 use Rattle.pg_meaning.specs.Tokens.{Token}
 use Rattle.pg_meaning.specs.Tree.{Expression, PathPattern, SetItem, Clause}
 use Rattle.pg_meaning.specs.Tree as tree
-use Rattle.pg_meaning.specs.Grammar.{Mark, key, commas, joined, path_marks, set_marks, event_mark, on_marks, AreSetItems, Fit}
+use Rattle.pg_meaning.specs.Grammar.{Mark, key, commas, concatenated, path_marks, set_marks, event_mark, on_marks, AreSetItems, Fit}
 use Rattle.pg_meaning.specs.Grammar as grammar
 use Rattle.pg_meaning.specs.Parse as parse
 use Rattle.pg_meaning.specs.Parse.{Parser, ◌>>=◌, ◌>>◌, ◌<$>◌, is_keyword, sees_keyword, many, event, on_items, merge_clause}
@@ -65,7 +65,7 @@ on_exact {limit} {whole} exact labels = restated
 abbrev OnsSpelled : List On → List Token → Type 0
 OnsSpelled = Fitting (AllByRecursion (λ o. AreSetItems o.1)) on_marks
 
-on_marks-of : (os : List On) → on_marks os ≡ joined (map on_mark os)
+on_marks-of : (os : List On) → on_marks os ≡ concatenated (map on_mark os)
 on_marks-of [] = refl
 on_marks-of (o ∷ os) = ap (λ (ms : List Mark). on_mark o ++ ms) (on_marks-of os)
 

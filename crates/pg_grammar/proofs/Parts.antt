@@ -7,7 +7,7 @@ use Rattle.pg_meaning.specs.ListsLaws.{all_joined, all_weaker, all_both}
 use Rattle.pg_meaning.specs.Tokens.{Token, is_empty}
 use Rattle.pg_meaning.specs.Tree.{Expression, Clause}
 use Rattle.pg_meaning.specs.Tree as tree
-use Rattle.pg_meaning.specs.Grammar.{Mark, joined, clause_marks, Fit, IsNonEmpty, AreParts, Kind, reading, updating, passing, returning, kind_of, items_of}
+use Rattle.pg_meaning.specs.Grammar.{Mark, concatenated, clause_marks, Fit, IsNonEmpty, AreParts, Kind, reading, updating, passing, returning, kind_of, items_of}
 use Rattle.pg_meaning.specs.Parse as parse
 use Rattle.pg_meaning.specs.Parse.{Parser, Test, ◌>>=◌, pure, refuse, branch, sees_keyword, begins_reading, begins_updating, many, with_clause, return_clause, last, parts}
 use Rattle.pg_grammar.specs.Rules.{Exactly, ExpressionsAreExact, ExpressionsOpen, ReadingClausesAreExact, UpdatingClausesAreExact, ClauseEnds, ClauseSpelled}
@@ -21,7 +21,7 @@ use Rattle.pg_grammar.proofs.Shapes.{kinds, AllOf, Ending, shape_of, parts_made}
 -- ---- clauses in a row
 
 abbrev pub all_marks : List Clause → List Mark
-all_marks cs = joined (map clause_marks cs)
+all_marks cs = concatenated (map clause_marks cs)
 
 marks_joined : (cs ds : List Clause) → all_marks (cs ++ ds) ≡ all_marks cs ++ all_marks ds
 marks_joined [] ds = refl

@@ -5,7 +5,7 @@ use Rattle.std.specs.List.{AllByRecursion}
 use Rattle.pg_meaning.specs.declared.lexemes.Symbol.TheVariants as s
 use Rattle.pg_meaning.specs.Tokens.{Lexeme, Token}
 use Rattle.pg_meaning.specs.Tree.{Name, Expression, NodePattern, RelationshipPattern, PathPattern}
-use Rattle.pg_meaning.specs.Grammar.{Mark, sign, begun, flag, joined, optional_marks, node_marks, relationship_marks, hop_marks, path_variable_marks, path_marks, variable_name, IsHop, IsSpelled, Fit, Each as EachOf}
+use Rattle.pg_meaning.specs.Grammar.{Mark, sign, begun, flag, concatenated, optional_marks, node_marks, relationship_marks, hop_marks, path_variable_marks, path_marks, variable_name, IsHop, IsSpelled, Fit, Each as EachOf}
 use Rattle.pg_meaning.specs.Parse as parse
 use Rattle.pg_meaning.specs.Parse.{Parser, ◌>>=◌, ◌>>◌, pure, many, maybe, is_symbol, sees_symbol, begins_var, begins_relationship, hop, node, path, path_variable}
 use Rattle.pg_grammar.specs.Patterns.{opens_path, PathOpened, PathsOpen}
@@ -60,7 +60,7 @@ hop_exact limit whole exact =
     (λ h y more well fits ends. tt))
     (λ h y more well fits ends. no_head h.1 [] y more fits)
 
-same_hops : (hs : List Hop) → joined (map from_relationship hs) ≡ hop_marks hs
+same_hops : (hs : List Hop) → concatenated (map from_relationship hs) ≡ hop_marks hs
 same_hops [] = refl
 same_hops (h ∷ hs) = rw (same_hops hs) (simp (append_assoc, append-nil))
 
@@ -88,10 +88,10 @@ hops_exact limit whole exact =
     (rows_exact begins_relationship refl (hop_exact limit whole exact) (λ h front more f. relationship_begins h.0 (from_node h) front more f.fits) (λ more h. (h, tt)) (λ more h. tt))
     out into (λ more h. h)
   where
-    out : (hs : List Hop) (front : List Token) → Fitting (AllByRecursion HopWell) (λ hs. joined (map from_relationship hs)) hs front → Fitting (AllByRecursion IsHop) hop_marks hs front
+    out : (hs : List Hop) (front : List Token) → Fitting (AllByRecursion HopWell) (λ hs. concatenated (map from_relationship hs)) hs front → Fitting (AllByRecursion IsHop) hop_marks hs front
     out hs front h = fitting (well_hops hs h.well) (rw (← same_hops hs) h.fits)
 
-    into : (hs : List Hop) (front : List Token) → Fitting (AllByRecursion IsHop) hop_marks hs front → Fitting (AllByRecursion HopWell) (λ hs. joined (map from_relationship hs)) hs front
+    into : (hs : List Hop) (front : List Token) → Fitting (AllByRecursion IsHop) hop_marks hs front → Fitting (AllByRecursion HopWell) (λ hs. concatenated (map from_relationship hs)) hs front
     into hs front h = fitting (hops_well hs h.well) (rw (same_hops hs) h.fits)
 
 -- ---- a path

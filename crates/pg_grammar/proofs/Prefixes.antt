@@ -8,7 +8,7 @@ use Rattle.pg_meaning.specs.declared.lexemes.Symbol.TheVariants as s
 use Rattle.pg_meaning.specs.Tokens.{Token}
 use Rattle.pg_meaning.specs.Tree.{Expression}
 use Rattle.pg_meaning.specs.Tree as tree
-use Rattle.pg_meaning.specs.Grammar.{Mark, key, sign, joined, sign_marks, level, marks, Fit, IsWellFormed}
+use Rattle.pg_meaning.specs.Grammar.{Mark, key, sign, concatenated, sign_marks, level, marks, Fit, IsWellFormed}
 use Rattle.pg_meaning.specs.Parse as parse
 use Rattle.pg_meaning.specs.Parse.{Parser, ◌>>=◌, pure, many, sees_symbol, sees_keyword, keyword, begins_sign, one_sign, signed, negated}
 use Rattle.pg_grammar.specs.Rules.{Exactly, Anything, Spelled, Exact}
@@ -20,7 +20,7 @@ use Rattle.pg_grammar.proofs.Terminals.{symbol_seen}
 -- ---- NOT
 
 abbrev not_marks : List (Unit {0}) → List Mark
-not_marks us = joined (map (λ u. key k.Not ∷ []) us)
+not_marks us = concatenated (map (λ u. key k.Not ∷ []) us)
 
 nots_are : (us : List (Unit {0})) → not_marks us ≡ replicate (length us) (key k.Not)
 nots_are [] = refl
@@ -74,7 +74,7 @@ sign_mark true = sign s.Minus
 sign_mark false = sign s.Plus
 
 abbrev all_signs : List Bool → List Mark
-all_signs bs = joined (map (λ b. sign_mark b ∷ []) bs)
+all_signs bs = concatenated (map (λ b. sign_mark b ∷ []) bs)
 
 signs_are : (bs : List Bool) → all_signs bs ≡ sign_marks bs
 signs_are [] = refl

@@ -6,7 +6,7 @@ use Rattle.pg_meaning.specs.declared.lexemes.Symbol.TheVariants as s
 use Rattle.pg_meaning.specs.Tokens.{Lexeme, Token}
 use Rattle.pg_meaning.specs.Tokens as lexeme
 use Rattle.pg_meaning.specs.Tree.{Name, Expression, Properties, Range, Detail, RelationshipPattern}
-use Rattle.pg_meaning.specs.Grammar.{Mark, mark, sign, name, begun, flag, joined, integer as integer_what, var_marks, optional_marks, integer_marks, properties_marks, more_types_marks, types_marks, range_marks, detail_marks, relationship_marks, AreProperties, AreTypes, IsRange, IsDetail, IsSpelled, Accepts, Fit, Each as EachOf}
+use Rattle.pg_meaning.specs.Grammar.{Mark, mark, sign, name, begun, flag, concatenated, integer as integer_what, var_marks, optional_marks, integer_marks, properties_marks, more_types_marks, types_marks, range_marks, detail_marks, relationship_marks, AreProperties, AreTypes, IsRange, IsDetail, IsSpelled, Accepts, Fit, Each as EachOf}
 use Rattle.pg_meaning.specs.Grammar as grammar
 use Rattle.pg_meaning.specs.Parse as parse
 use Rattle.pg_meaning.specs.Parse.{Parser, ◌>>=◌, ◌>>◌, pure, branch, many, is_symbol, sees, sees_symbol, integer_of, with_rest, begins_var, begins_integer, symbol, eat_symbol, maybe, properties, other_type, types, range, detail, relationship}
@@ -53,7 +53,7 @@ all_others : (ps : List (Bool × Name)) → AllByRecursion Other ps
 all_others [] = tt
 all_others (p ∷ ps) = ((tt, (tt, tt)), all_others ps)
 
-more_types : (ps : List (Bool × Name)) → more_types_marks ps ≡ joined (map type_mark ps)
+more_types : (ps : List (Bool × Name)) → more_types_marks ps ≡ concatenated (map type_mark ps)
 more_types [] = refl
 more_types (p ∷ ps) = rw (more_types ps, append_assoc) refl
 
@@ -65,7 +65,7 @@ abbrev NoBar : List Token → Type 0
 NoBar more = sees_symbol s.Bar more ≡ false
 
 abbrev Typed : List (Bool × Name) → List Token → Type 0
-Typed = Behind (sign s.Colon) (Sequence (Is name) (λ n. Made (λ ps. (made_type true n ∷ []) ++ ps) (Fitting (AllByRecursion Other) (λ ps. joined (map type_mark ps)))))
+Typed = Behind (sign s.Colon) (Sequence (Is name) (λ n. Made (λ ps. (made_type true n ∷ []) ++ ps) (Fitting (AllByRecursion Other) (λ ps. concatenated (map type_mark ps)))))
 
 types_exact : (limit : ℕ) → Exactly limit types (Fitting HasColon types_marks) NoBar
 unfolding types

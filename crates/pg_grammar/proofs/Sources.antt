@@ -7,7 +7,7 @@ use Rattle.pg_meaning.specs.ListsLaws.{all_weaker}
 use Rattle.pg_meaning.specs.Tokens.{Token}
 use Rattle.pg_meaning.specs.Tree.{Item, Projection, Clause}
 use Rattle.pg_meaning.specs.Tree as tree
-use Rattle.pg_meaning.specs.Grammar.{Mark, key, flag, keyed, begun, ended, further, joined, marks, optional_marks, alias_marks, item_marks, items_marks, order_marks, clause_marks, projection_marks, Fit, IsClause, IsProjection, IsWellFormed, HasSource, items_of}
+use Rattle.pg_meaning.specs.Grammar.{Mark, key, flag, keyed, begun, ended, further, concatenated, marks, optional_marks, alias_marks, item_marks, items_marks, order_marks, clause_marks, projection_marks, Fit, IsClause, IsProjection, IsWellFormed, HasSource, items_of}
 use Rattle.pg_grammar.specs.Rules.{ExpressionsOpen}
 use Rattle.pg_grammar.proofs.Fits.{all_front, all_back}
 use Rattle.pg_grammar.proofs.Items.{IsCut}
@@ -77,9 +77,9 @@ module _ (text : List ℕ) (utf8 : IsUtf8 text) (opened : ExpressionsOpen) where
   clause_cut (tree.return_rows p) well h sources = projection_cut p well h.1 sources
   clause_cut _ well h sources = tt
 
-  pub clauses_cut : (cs : List Clause) → AllByRecursion IsClause cs → AllByRecursion Between (joined (map clause_marks cs)) → AllByRecursion (λ c. AllByRecursion (HasSource text) (items_of c)) cs → AllByRecursion (λ c. AllByRecursion (IsCut text) (items_of c)) cs
+  pub clauses_cut : (cs : List Clause) → AllByRecursion IsClause cs → AllByRecursion Between (concatenated (map clause_marks cs)) → AllByRecursion (λ c. AllByRecursion (HasSource text) (items_of c)) cs → AllByRecursion (λ c. AllByRecursion (IsCut text) (items_of c)) cs
   clauses_cut [] well h sources = tt
   clauses_cut (c ∷ cs) well h sources = (
-    clause_cut c well.0 (all_front Between (clause_marks c) (joined (map clause_marks cs)) h) sources.0,
-    clauses_cut cs well.1 (all_back Between (clause_marks c) (joined (map clause_marks cs)) h) sources.1,
+    clause_cut c well.0 (all_front Between (clause_marks c) (concatenated (map clause_marks cs)) h) sources.0,
+    clauses_cut cs well.1 (all_back Between (clause_marks c) (concatenated (map clause_marks cs)) h) sources.1,
   )

@@ -51,7 +51,8 @@ fn add_flags(code: &mut Vec<u8>, flags: &Vec<bool>) -> Result<(), AllocError>
 }
 
 fn add_names(code: &mut Vec<u8>, names: &Vec<Name>) -> Result<(), AllocError>
-    ensures { OnOk result (code.new.items ≡ spec.with_names (names_view names.now.items) code.old.items) }
+    ensures { OnOk result
+        (code.new.items ≡ spec.with_names (names_view names.now.items) code.old.items) }
 {
     for name in names {
         add_byte(code, 1)?;
@@ -62,7 +63,8 @@ fn add_names(code: &mut Vec<u8>, names: &Vec<Name>) -> Result<(), AllocError>
 
 /// An integer below zero stands for no tree that a text has.
 fn add_literal(code: &mut Vec<u8>, literal: &Literal) -> Result<(), AllocError>
-    ensures { OnOk result (code.new.items ≡ spec.with_literal (literal_view literal.now) code.old.items) }
+    ensures { OnOk result
+        (code.new.items ≡ spec.with_literal (literal_view literal.now) code.old.items) }
 {
     match literal {
         Literal::Null => add_byte(code, 1),
@@ -118,7 +120,8 @@ fn byte_of_test(test: TextTest) -> u8
 
 /// What a call has before its arguments: the name in small letters, as far as it is ASCII.
 fn add_call(code: &mut Vec<u8>, name: &Name, star: bool, distinct: bool) -> Result<(), AllocError>
-    ensures { OnOk result (code.new.items ≡ spec.with_flag distinct (spec.with_flag star (spec.with_text (str_to_ascii_lowercase (name_view name.now).text) code.old.items))) }
+    ensures { OnOk result (code.new.items ≡ spec.with_flag distinct (spec.with_flag star
+        (spec.with_text (str_to_ascii_lowercase (name_view name.now).text) code.old.items))) }
 {
     for byte in name.text.as_bytes() {
         code.push(byte.to_ascii_lowercase())?;
@@ -153,7 +156,8 @@ fn byte_of_form(expression: &Expression) -> u8
 #[cycle(codes)]
 #[tactic(auto, using(pg_syntax_tree::proofs::Views::map_is, pg_syntax_tree::proofs::Views::case_is, pg_syntax_tree::proofs::Views::chain_is, pg_syntax_tree::proofs::Views::tests_is, pg_syntax_tree::proofs::Views::suffixes_is))]
 pub(crate) fn add_expression(code: &mut Vec<u8>, expression: &Expression) -> Result<(), AllocError>
-    ensures { OnOk result (code.new.items ≡ spec.with_expression (expression_view expression.now) code.old.items) }
+    ensures { OnOk result
+        (code.new.items ≡ spec.with_expression (expression_view expression.now) code.old.items) }
 {
     add_byte(code, byte_of_form(expression))?;
     match expression {
@@ -198,7 +202,8 @@ pub(crate) fn add_expression(code: &mut Vec<u8>, expression: &Expression) -> Res
 
 #[cycle(codes)]
 fn add_perhaps(code: &mut Vec<u8>, expression: &Option<Box<Expression>>) -> Result<(), AllocError>
-    ensures { OnOk result (code.new.items ≡ spec.with_perhaps (perhaps_view expression.now) code.old.items) }
+    ensures { OnOk result
+        (code.new.items ≡ spec.with_perhaps (perhaps_view expression.now) code.old.items) }
 {
     match expression {
         None => add_byte(code, 0),
@@ -208,7 +213,8 @@ fn add_perhaps(code: &mut Vec<u8>, expression: &Option<Box<Expression>>) -> Resu
 
 #[cycle(codes)]
 fn add_all(code: &mut Vec<u8>, expressions: &Vec<Expression>) -> Result<(), AllocError>
-    ensures { OnOk result (code.new.items ≡ spec.with_expressions (expressions_of (map expression_view expressions.now.items)) code.old.items) }
+    ensures { OnOk result (code.new.items ≡ spec.with_expressions
+        (expressions_of (map expression_view expressions.now.items)) code.old.items) }
 {
     for expression in expressions {
         add_expression(code, expression)?;
@@ -218,7 +224,8 @@ fn add_all(code: &mut Vec<u8>, expressions: &Vec<Expression>) -> Result<(), Allo
 
 #[cycle(codes)]
 fn add_pairs(code: &mut Vec<u8>, pairs: &Vec<(Name, Expression)>) -> Result<(), AllocError>
-    ensures { OnOk result (code.new.items ≡ spec.with_pairs (pairs_of (map pair_view pairs.now.items)) code.old.items) }
+    ensures { OnOk result (code.new.items
+        ≡ spec.with_pairs (pairs_of (map pair_view pairs.now.items)) code.old.items) }
 {
     for pair in pairs {
         add_byte(code, 1)?;
@@ -230,7 +237,8 @@ fn add_pairs(code: &mut Vec<u8>, pairs: &Vec<(Name, Expression)>) -> Result<(), 
 
 #[cycle(codes)]
 fn add_whens(code: &mut Vec<u8>, whens: &Vec<(Expression, Expression)>) -> Result<(), AllocError>
-    ensures { OnOk result (code.new.items ≡ spec.with_whens (whens_of (map when_view whens.now.items)) code.old.items) }
+    ensures { OnOk result (code.new.items
+        ≡ spec.with_whens (whens_of (map when_view whens.now.items)) code.old.items) }
 {
     for when in whens {
         add_expression(code, &when.0)?;
@@ -244,7 +252,8 @@ fn add_operands(
     code: &mut Vec<u8>,
     operands: &Vec<(Operator, Expression)>,
 ) -> Result<(), AllocError>
-    ensures { OnOk result (code.new.items ≡ spec.with_operands (operands_of (map operand_view operands.now.items)) code.old.items) }
+    ensures { OnOk result (code.new.items
+        ≡ spec.with_operands (operands_of (map operand_view operands.now.items)) code.old.items) }
 {
     for operand in operands {
         add_byte(code, byte_of_operator(operand.0))?;
@@ -255,7 +264,8 @@ fn add_operands(
 
 #[cycle(codes)]
 fn add_tests(code: &mut Vec<u8>, tests: &Vec<Test<Expression>>) -> Result<(), AllocError>
-    ensures { OnOk result (code.new.items ≡ spec.with_tests (tests_of (map test_view tests.now.items)) code.old.items) }
+    ensures { OnOk result (code.new.items
+        ≡ spec.with_tests (tests_of (map test_view tests.now.items)) code.old.items) }
 {
     for test in tests {
         match test {
@@ -274,7 +284,8 @@ fn add_tests(code: &mut Vec<u8>, tests: &Vec<Test<Expression>>) -> Result<(), Al
 
 #[cycle(codes)]
 fn add_suffixes(code: &mut Vec<u8>, suffixes: &Vec<Suffix<Expression>>) -> Result<(), AllocError>
-    ensures { OnOk result (code.new.items ≡ spec.with_suffixes (suffixes_of (map suffix_view suffixes.now.items)) code.old.items) }
+    ensures { OnOk result (code.new.items
+        ≡ spec.with_suffixes (suffixes_of (map suffix_view suffixes.now.items)) code.old.items) }
 {
     for suffix in suffixes {
         match suffix {

@@ -41,7 +41,9 @@ pub fn index_of<'a>(alloc: Global, items: &'a Vec<Item>) -> Result<ItemIndex<'a>
 }
 
 fn is_among(expressions: &Vec<&Expression>, key: &Expression) -> bool
-    ensures { result ≡ list_any (λ x. same_expression x (expression_view key.now)) (map (λ b. expression_view b.now) expressions.now.items) }
+    ensures { result
+        ≡ list_any (λ x. same_expression x (expression_view key.now))
+        (map (λ b. expression_view b.now) expressions.now.items) }
 {
     for expression in expressions {
         if same_expression(*expression, key) {
@@ -59,7 +61,8 @@ pub fn is_item(
     key: &Expression,
 ) -> Result<bool, AllocError>
     requires { IsIndex index.now (map item_view items.now.items) }
-    ensures { IfOk result (λ b. b ≡ list_any (λ x. same_expression x.value (expression_view key.now)) (map item_view items.now.items)) }
+    ensures { IfOk result (λ b. b ≡ list_any
+        (λ x. same_expression x.value (expression_view key.now)) (map item_view items.now.items)) }
 {
     let code = code_of(alloc, key)?;
     Ok(match index.get(&code) {

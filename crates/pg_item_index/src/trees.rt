@@ -73,7 +73,8 @@ fn same_call(
     with_star: bool,
     with_distinct: bool,
 ) -> bool
-    ensures { result ≡ str_eq_ignore_ascii_case (name_view a.now).text (name_view b.now).text && beq star with_star && beq distinct with_distinct }
+    ensures { result ≡ str_eq_ignore_ascii_case (name_view a.now).text (name_view b.now).text
+        && beq star with_star && beq distinct with_distinct }
 {
     a.text.as_str().eq_ignore_ascii_case(b.text.as_str())
         && star == with_star
@@ -167,7 +168,9 @@ fn same_perhaps(a: &Option<Box<Expression>>, b: &Option<Box<Expression>>) -> boo
 #[cycle(trees)]
 #[tactic(auto, using(crate::proofs::TreeLemmas::other_expressions))]
 fn same_all(a: &Vec<Expression>, b: &Vec<Expression>) -> bool
-    ensures { result ≡ spec.same_expressions (expressions_of (map expression_view a.now.items)) (expressions_of (map expression_view b.now.items)) }
+    ensures { result
+        ≡ spec.same_expressions (expressions_of (map expression_view a.now.items))
+        (expressions_of (map expression_view b.now.items)) }
 {
     if a.len() != b.len() {
         return false;
@@ -183,7 +186,9 @@ fn same_all(a: &Vec<Expression>, b: &Vec<Expression>) -> bool
 #[cycle(trees)]
 #[tactic(auto, using(crate::proofs::TreeLemmas::other_pairs))]
 fn same_pairs(a: &Vec<(Name, Expression)>, b: &Vec<(Name, Expression)>) -> bool
-    ensures { result ≡ spec.same_pairs (pairs_of (map pair_view a.now.items)) (pairs_of (map pair_view b.now.items)) }
+    ensures { result
+        ≡ spec.same_pairs
+        (pairs_of (map pair_view a.now.items)) (pairs_of (map pair_view b.now.items)) }
 {
     if a.len() != b.len() {
         return false;
@@ -201,7 +206,9 @@ fn same_pairs(a: &Vec<(Name, Expression)>, b: &Vec<(Name, Expression)>) -> bool
 #[cycle(trees)]
 #[tactic(auto, using(crate::proofs::TreeLemmas::other_whens))]
 fn same_whens(a: &Vec<(Expression, Expression)>, b: &Vec<(Expression, Expression)>) -> bool
-    ensures { result ≡ spec.same_whens (whens_of (map when_view a.now.items)) (whens_of (map when_view b.now.items)) }
+    ensures { result
+        ≡ spec.same_whens
+        (whens_of (map when_view a.now.items)) (whens_of (map when_view b.now.items)) }
 {
     if a.len() != b.len() {
         return false;
@@ -219,7 +226,9 @@ fn same_whens(a: &Vec<(Expression, Expression)>, b: &Vec<(Expression, Expression
 #[cycle(trees)]
 #[tactic(auto, using(crate::proofs::TreeLemmas::other_operands))]
 fn same_operands(a: &Vec<(Operator, Expression)>, b: &Vec<(Operator, Expression)>) -> bool
-    ensures { result ≡ spec.same_operands (operands_of (map operand_view a.now.items)) (operands_of (map operand_view b.now.items)) }
+    ensures { result
+        ≡ spec.same_operands
+        (operands_of (map operand_view a.now.items)) (operands_of (map operand_view b.now.items)) }
 {
     if a.len() != b.len() {
         return false;
@@ -237,7 +246,9 @@ fn same_operands(a: &Vec<(Operator, Expression)>, b: &Vec<(Operator, Expression)
 #[cycle(trees)]
 #[tactic(auto, using(crate::proofs::TreeLemmas::other_tests))]
 fn same_tests(a: &Vec<Test<Expression>>, b: &Vec<Test<Expression>>) -> bool
-    ensures { result ≡ spec.same_tests (tests_of (map test_view a.now.items)) (tests_of (map test_view b.now.items)) }
+    ensures { result
+        ≡ spec.same_tests
+        (tests_of (map test_view a.now.items)) (tests_of (map test_view b.now.items)) }
 {
     if a.len() != b.len() {
         return false;
@@ -253,7 +264,9 @@ fn same_tests(a: &Vec<Test<Expression>>, b: &Vec<Test<Expression>>) -> bool
 #[cycle(trees)]
 #[tactic(auto, using(crate::proofs::TreeLemmas::other_suffixes))]
 fn same_suffixes(a: &Vec<Suffix<Expression>>, b: &Vec<Suffix<Expression>>) -> bool
-    ensures { result ≡ spec.same_suffixes (suffixes_of (map suffix_view a.now.items)) (suffixes_of (map suffix_view b.now.items)) }
+    ensures { result
+        ≡ spec.same_suffixes
+        (suffixes_of (map suffix_view a.now.items)) (suffixes_of (map suffix_view b.now.items)) }
 {
     if a.len() != b.len() {
         return false;

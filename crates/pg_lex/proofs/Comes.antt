@@ -5,7 +5,7 @@ use Rattle.std.proofs.lemmas.Bool.{eqb-true, eqb-false, ne_eqb, le-leb, false≢
 use Rattle.pg_meaning.specs.declared.lexemes.Keyword.{Keyword}
 use Rattle.pg_meaning.specs.declared.lexemes.Symbol.{Symbol}
 use Rattle.pg_meaning.specs.declared.lexemes.Symbol.TheVariants as s
-use Rattle.pg_meaning.specs.Tokens.{class, Class, letter, digit, backquote, quotation, dollar, other, Lexeme, word, keyword, quoted_name, integer, string, parameter, symbol, Front, Spells, Longest, MayFollow, Starts, All, IsWord, AreDigits, after, worded, keyword_of, continues_word, begins_word, is_digit, integer_at, is_empty, value_of, greatest_integer, utf8, doubled, named, made, quoted_from, string_from, outside, pieces_text, parameter_at, parameter_by, lexeme_by, symbol_text, is_line_end, comment_from, closed, Next, gap, found, next, next_lexeme, Segment, blank, line_comment, block_comment, lexeme, segment_text, segments_text, Stands, AllStand}
+use Rattle.pg_meaning.specs.Tokens.{class, Class, letter, digit, backquote, quotation, dollar, other, Lexeme, word, keyword, quoted_name, integer, string, parameter, symbol, Front, Spells, Longest, MayFollow, Starts, All, IsWord, AreDigits, after, worded, keyword_of, continues_word, begins_word, is_digit, integer_at, is_empty, numeral_value, greatest_integer, utf8, doubled, named, decoded, quoted_from, string_from, outside, pieces_text, parameter_at, parameter_by, lexeme_by, symbol_text, is_line_end, comment_from, closed, Next, gap, found, next, next_lexeme, Segment, blank, line_comment, block_comment, lexeme, segment_text, segments_text, Stands, AllStand}
 use Rattle.pg_lex.specs.Scans.{is_in_line, pair_front, with_rest}
 use Rattle.pg_lex.proofs.Pairs.{both}
 use Rattle.pg_lex.proofs.Whites.{white_no_word, at_each}
@@ -97,7 +97,7 @@ abbrev number : Bool → ℕ → List ℕ → Front Lexeme
 number t n more = elim t [ true ↦ answer (integer n) more | false ↦ None ]
 
 abbrev well : ℕ → List ℕ → List ℕ → Bool
-well c f more = (not (eqb c 48) || is_empty f) && not (Starts begins_word more) && leb (value_of (c ∷ f)) greatest_integer
+well c f more = (not (eqb c 48) || is_empty f) && not (Starts begins_word more) && leb (numeral_value (c ∷ f)) greatest_integer
 
 all_well : (x y z : Bool) → x ≡ true → y ≡ false → z ≡ true → (x && not y && z) ≡ true
 all_well x y z p q r = rw (p, q, r) refl
@@ -111,13 +111,13 @@ digit_no_white c h = let b = digit_bounds c h in not-true (is_whitespace c) (at_
 digit_no_slash : (c : ℕ) → is_digit c ≡ true → c ≡ 47 → ⊥
 digit_no_slash c h e = absurd (omega (arith, (digit_bounds c h).0))
 
-integer_found : (c : ℕ) (f more : List ℕ) → Spells (integer (value_of (c ∷ f))) (c ∷ f) → MayFollow (integer (value_of (c ∷ f))) more → next c (f ++ more) ≡ found (integer (value_of (c ∷ f))) more
+integer_found : (c : ℕ) (f more : List ℕ) → Spells (integer (numeral_value (c ∷ f))) (c ∷ f) → MayFollow (integer (numeral_value (c ∷ f))) more → next c (f ++ more) ≡ found (integer (numeral_value (c ∷ f))) more
 integer_found c f more h may =
     let ends = starts_parts is_digit begins_word more may in
-    let test : well c f more ≡ true = all_well (not (eqb c 48) || is_empty f) (Starts begins_word more) (leb (value_of (c ∷ f)) greatest_integer) (zero_alone c f h.0.1) ends.1 (le-leb (value_of (c ∷ f)) greatest_integer h.2) in
-    lexeme_comes c (f ++ more) (integer (value_of (c ∷ f))) more (digit_no_white c h.0.0.0) (digit_no_slash c h.0.0.0)
+    let test : well c f more ≡ true = all_well (not (eqb c 48) || is_empty f) (Starts begins_word more) (leb (numeral_value (c ∷ f)) greatest_integer) (zero_alone c f h.0.1) ends.1 (le-leb (numeral_value (c ∷ f)) greatest_integer h.2) in
+    lexeme_comes c (f ++ more) (integer (numeral_value (c ∷ f))) more (digit_no_white c h.0.0.0) (digit_no_slash c h.0.0.0)
     (ap (λ (x : Class). lexeme_by x c (f ++ more)) (class_digit c h.0.0.0) ∙ ap (λ (r : List ℕ). integer_at c r (after is_digit (f ++ more))) (run_is is_digit f more h.0.0.1 ends.0) ∙ ap (integer_at c f) (after_is is_digit f more h.0.0.1 ends.0)
-    ∙ ap (λ (t : Bool). number t (value_of (c ∷ f)) more) test)
+    ∙ ap (λ (t : Bool). number t (numeral_value (c ∷ f)) more) test)
 
 -- ---- in backquotes
 
@@ -310,7 +310,7 @@ word_comes (c ∷ f) more k h e longest = record { first = c; behind = f ++ more
 integer_comes : (n : ℕ) (front more : List ℕ) → Stands (lexeme (integer n) front) more → Comes (lexeme (integer n) front) more
 integer_comes n [] more h = absurd h.0.0
 integer_comes n (c ∷ f) more h =
-    let made : Comes (lexeme (integer (value_of (c ∷ f))) (c ∷ f)) more = record { first = c; behind = f ++ more; whole = refl; comes = integer_found c f more (subst (λ (n : ℕ). Spells (integer n) (c ∷ f)) h.0.1 h.0) (subst (λ (n : ℕ). MayFollow (integer n) more) h.0.1 h.2) } in
+    let made : Comes (lexeme (integer (numeral_value (c ∷ f))) (c ∷ f)) more = record { first = c; behind = f ++ more; whole = refl; comes = integer_found c f more (subst (λ (n : ℕ). Spells (integer n) (c ∷ f)) h.0.1 h.0) (subst (λ (n : ℕ). MayFollow (integer n) more) h.0.1 h.2) } in
     subst (λ (n : ℕ). Comes (lexeme (integer n) (c ∷ f)) more) (sym h.0.1) made
 
 string_first : (q : ℕ) (ps more means : List ℕ) → (q ≡ 39) ⊎ (q ≡ 34) → (is_whitespace q ≡ false) × (q ≡ 47 → ⊥) × (class q ≡ quotation)
@@ -337,7 +337,7 @@ lexeme_next (string t) front xs h all =
       behind = (pieces_text h.0.1 ++ q ∷ []) ++ more;
       whole = refl;
       comes = lexeme_comes q ((pieces_text h.0.1 ++ q ∷ []) ++ more) (string (utf8 h.0.2)) more f.0 f.1
-          (ap (λ (k : Class). lexeme_by k q ((pieces_text h.0.1 ++ q ∷ []) ++ more)) f.2 ∙ ap (λ (r : List ℕ). made string (string_from q outside r)) (append_assoc (pieces_text h.0.1) (q ∷ []) more) ∙ ap (made string) read);
+          (ap (λ (k : Class). lexeme_by k q ((pieces_text h.0.1 ++ q ∷ []) ++ more)) f.2 ∙ ap (λ (r : List ℕ). decoded string (string_from q outside r)) (append_assoc (pieces_text h.0.1) (q ∷ []) more) ∙ ap (decoded string) read);
     } in
     subst (λ (t : List ℕ). Comes (lexeme (string t) front) more) (sym h.0.6) (subst (λ (f : List ℕ). Comes (lexeme (string (utf8 h.0.2)) f) more) (sym h.0.5) made')
 lexeme_next (parameter false w) front xs h all =

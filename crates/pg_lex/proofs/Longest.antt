@@ -3,7 +3,7 @@ use Rattle.std.proofs.Common.{◌≡◌, ℕ, ◌≤◌, Bool, true, false, ◌�
 use Rattle.std.proofs.lemmas.Bool.{eqb-false}
 use Rattle.pg_meaning.specs.declared.lexemes.Symbol.{Symbol}
 use Rattle.pg_meaning.specs.declared.lexemes.Symbol.TheVariants as s
-use Rattle.pg_meaning.specs.Tokens.{class, Class, letter, digit, backquote, quotation, dollar, other, Lexeme, word, keyword, quoted_name, integer, string, parameter, symbol, Front, Spells, Longest, Starts, IsWord, AreDigits, run, after, word_at, worded, keyword_of, continues_word, begins_word, is_digit, integer_at, is_empty, value_of, greatest_integer, utf8, doubled, named, made, quoted_from, string_from, outside, pieces_text, parameter_at, parameter_by, lexeme_by, symbol_among, symbols, symbol_text}
+use Rattle.pg_meaning.specs.Tokens.{class, Class, letter, digit, backquote, quotation, dollar, other, Lexeme, word, keyword, quoted_name, integer, string, parameter, symbol, Front, Spells, Longest, Starts, IsWord, AreDigits, run, after, word_at, worded, keyword_of, continues_word, begins_word, is_digit, integer_at, is_empty, numeral_value, greatest_integer, utf8, doubled, named, decoded, quoted_from, string_from, outside, pieces_text, parameter_at, parameter_by, lexeme_by, symbol_among, symbols, symbol_text}
 use Rattle.pg_lex.proofs.Pairs.{both, same_pair}
 use Rattle.pg_lex.proofs.Runs.{after_len}
 use Rattle.pg_lex.proofs.Classes.{kind, class_letter, class_digit}
@@ -68,10 +68,10 @@ pub no_backslash : (q : ℕ) → (q ≡ 39) ⊎ (q ≡ 34) → 92 ≡ q → ⊥
 no_backslash q (inl h) e = absurd (omega arith)
 no_backslash q (inr h) e = absurd (omega arith)
 
-made_parts : (o : Front (List ℕ)) (means m : List ℕ) (l : Lexeme) (more : List ℕ) → o ≡ both means m → made string o ≡ found l more → m ≡ more
-made_parts o means m l more e h = (same_pair (string (utf8 means)) l m more (sym (ap (made string) e) ∙ h)).1
+made_parts : (o : Front (List ℕ)) (means m : List ℕ) (l : Lexeme) (more : List ℕ) → o ≡ both means m → decoded string o ≡ found l more → m ≡ more
+made_parts o means m l more e h = (same_pair (string (utf8 means)) l m more (sym (ap (decoded string) e) ∙ h)).1
 
-string_len_by : (c : ℕ) (f m : List ℕ) (k : Lexeme) (more : List ℕ) → class c ≡ quotation → made string (string_from c outside (f ++ m)) ≡ found k more → NoShorter c f m more
+string_len_by : (c : ℕ) (f m : List ℕ) (k : Lexeme) (more : List ℕ) → class c ≡ quotation → decoded string (string_from c outside (f ++ m)) ≡ found k more → NoShorter c f m more
 string_len_by c f m k more q e (word w) h = let e : quotation ≡ letter = sym q ∙ kind (word w) c f h in absurd cc
 string_len_by c f m k more q e (keyword x w) h = let e : quotation ≡ letter = sym q ∙ kind (keyword x w) c f h in absurd cc
 string_len_by c f m k more q e (quoted_name w) h = let e : quotation ≡ backquote = sym q ∙ kind (quoted_name w) c f h in absurd cc
@@ -201,10 +201,10 @@ symbol_len_by c f m k more q e (symbol x) h = symbol_len x c f m k more e h
 -- ---- any of them
 
 integer_rest : (c : ℕ) (ds more : List ℕ) (l : Lexeme) (rest : List ℕ) → integer_at c ds more ≡ found l rest → more ≡ rest
-integer_rest c ds more l rest e = at ((not (eqb c 48) || is_empty ds) && not (Starts begins_word more) && leb (value_of (c ∷ ds)) greatest_integer) e
+integer_rest c ds more l rest e = at ((not (eqb c 48) || is_empty ds) && not (Starts begins_word more) && leb (numeral_value (c ∷ ds)) greatest_integer) e
   where
-    at : (x : Bool) → elim x as (λ _. Front Lexeme) [ true ↦ found (integer (value_of (c ∷ ds))) more | false ↦ None ] ≡ found l rest → more ≡ rest
-    at true g = (same_pair (integer (value_of (c ∷ ds))) l more rest g).1
+    at : (x : Bool) → elim x as (λ _. Front Lexeme) [ true ↦ found (integer (numeral_value (c ∷ ds))) more | false ↦ None ] ≡ found l rest → more ≡ rest
+    at true g = (same_pair (integer (numeral_value (c ∷ ds))) l more rest g).1
     at false g = absurd cc
 
 no_shorter : (k : Class) (c : ℕ) (f m : List ℕ) (l : Lexeme) (more : List ℕ) → class c ≡ k → lexeme_by k c (f ++ m) ≡ found l more → NoShorter c f m more

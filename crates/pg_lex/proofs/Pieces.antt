@@ -1,7 +1,7 @@
 -- A string in pieces, each of which stands for a character.
 use Rattle.std.proofs.Common.{◌≡◌, ℕ, suc, zero, ◌+◌, ◌*◌, ◌≤◌, Bool, true, false, cond, eqb, List, [], ◌∷◌, ◌++◌, length, Option, Some, None, refl, sym, ap, ◌∙◌, subst, append_assoc, length-append, arith}
 use Rattle.std.proofs.lemmas.Bool.{eqb-true, eqb-false, eq-eqb, ne_eqb}
-use Rattle.pg_meaning.specs.Tokens.{Front, string_from, outside, backslash, put, hexadecimal_value, escape_of, is_surrogate, Piece, plain, escaped, coded, piece_text, pieces_text, StandsFor, AllStandFor}
+use Rattle.pg_meaning.specs.Tokens.{Front, string_from, outside, backslash, prepended, hexadecimal_value, escape_of, is_surrogate, Piece, plain, escaped, coded, piece_text, pieces_text, StandsFor, AllStandFor}
 use Rattle.pg_lex.specs.Scans.{meant_front, escaped as escaped_front, coded_front, hexadecimal_front, with_rest, character_of, ◌>>=◌}
 use Rattle.pg_lex.proofs.Pairs.{same_pair}
 use Rattle.pg_lex.proofs.Quotes.{put_parts}
@@ -109,7 +109,7 @@ string_sound zero q (c ∷ cs) means more le e = absurd (omega arith)
 string_sound (suc n) q (c ∷ cs) means more le e = at (eqb c q) refl (λ rest ms small g. string_sound n q rest ms more small g)
   where
     begun : Bool → Front (List ℕ)
-    begun t = elim t [ true ↦ Some ([], cs) | false ↦ elim (eqb c 92) as (λ _. Front (List ℕ)) [ true ↦ string_from q backslash cs | false ↦ put c (string_from q outside cs) ] ]
+    begun t = elim t [ true ↦ Some ([], cs) | false ↦ elim (eqb c 92) as (λ _. Front (List ℕ)) [ true ↦ string_from q backslash cs | false ↦ prepended c (string_from q outside cs) ] ]
 
     after : (o : Front ℕ) → meant_front c cs ≡ o → (c ≡ q → ⊥) → next_part q o ≡ all means more → ((rest ms : List ℕ) → length rest ≤ n → string_from q outside rest ≡ all ms more → Content q rest ms more) → Content q (c ∷ cs) means more
     after None h other g others = absurd cc
@@ -152,9 +152,9 @@ escaped_complete c m more h = at (eqb c 117) refl
     at true e = let none : escape_of c ≡ None = ap escape_of (eqb-true c 117 e) in absurd cc
     at false e = ap (with_rest more) h
 
-meant_complete : (q m : ℕ) (p : Piece) (more : List ℕ) → (92 ≡ q → ⊥) → StandsFor q p m → string_from q outside (piece_text p ++ more) ≡ put m (string_from q outside more)
+meant_complete : (q m : ℕ) (p : Piece) (more : List ℕ) → (92 ≡ q → ⊥) → StandsFor q p m → string_from q outside (piece_text p ++ more) ≡ prepended m (string_from q outside more)
 meant_complete q m (plain c) more other h =
-    string_step q c more (ne_eqb c q h.1) ∙ ap (λ (x : Bool). next_part q (cond x (escaped_front more) (one c more))) (ne_eqb c 92 h.2) ∙ ap (λ (x : ℕ). put x (string_from q outside more)) (sym h.0)
+    string_step q c more (ne_eqb c q h.1) ∙ ap (λ (x : Bool). next_part q (cond x (escaped_front more) (one c more))) (ne_eqb c 92 h.2) ∙ ap (λ (x : ℕ). prepended x (string_from q outside more)) (sym h.0)
 meant_complete q m (escaped c) more other h = string_step q 92 (c ∷ more) (ne_eqb 92 q other) ∙ ap (next_part q) (escaped_complete c m more h)
 meant_complete q m (coded a b c d) more other h = string_step q 92 (117 ∷ a ∷ b ∷ c ∷ d ∷ more) (ne_eqb 92 q other) ∙ ap (next_part q) (coded_complete q a b c d m more h)
 
@@ -162,11 +162,11 @@ closing : (q : ℕ) (more : List ℕ) → string_from q outside (q ∷ more) ≡
 closing q more = ap (λ (t : Bool). begun t) (eq-eqb q q refl)
   where
     begun : Bool → Front (List ℕ)
-    begun t = elim t [ true ↦ Some ([], more) | false ↦ elim (eqb q 92) as (λ _. Front (List ℕ)) [ true ↦ string_from q backslash more | false ↦ put q (string_from q outside more) ] ]
+    begun t = elim t [ true ↦ Some ([], more) | false ↦ elim (eqb q 92) as (λ _. Front (List ℕ)) [ true ↦ string_from q backslash more | false ↦ prepended q (string_from q outside more) ] ]
 
 pub string_complete : (q : ℕ) (ps : List Piece) (means more : List ℕ) → (92 ≡ q → ⊥) → AllStandFor q ps means → string_from q outside (pieces_text ps ++ q ∷ more) ≡ all means more
 string_complete q [] [] more other h = closing q more
 string_complete q [] (m ∷ ms) more other h = absurd h
 string_complete q (p ∷ ps) [] more other h = absurd h
 string_complete q (p ∷ ps) (m ∷ ms) more other h =
-    ap (string_from q outside) (append_assoc (piece_text p) (pieces_text ps) (q ∷ more)) ∙ meant_complete q m p (pieces_text ps ++ q ∷ more) other h.0 ∙ ap (put m) (string_complete q ps ms more other h.1)
+    ap (string_from q outside) (append_assoc (piece_text p) (pieces_text ps) (q ∷ more)) ∙ meant_complete q m p (pieces_text ps ++ q ∷ more) other h.0 ∙ ap (prepended m) (string_complete q ps ms more other h.1)

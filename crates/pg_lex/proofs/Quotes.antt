@@ -1,13 +1,13 @@
 -- What stands in backquotes, with each backquote twice.
 use Rattle.std.proofs.Common.{◌≡◌, ℕ, ◌≤◌, Bool, true, false, cond, eqb, List, [], ◌∷◌, ◌++◌, length, Some, None, refl, sym, ap, ◌∙◌, arith}
 use Rattle.std.proofs.lemmas.Bool.{eqb-true}
-use Rattle.pg_meaning.specs.Tokens.{Front, quoted_from, put, doubled, Starts}
+use Rattle.pg_meaning.specs.Tokens.{Front, quoted_from, prepended, doubled, Starts}
 use Rattle.pg_lex.proofs.Pairs.{both, same_pair}
 
 abbrev pub is_quote : ℕ → Bool
 is_quote c = eqb c 96
 
-pub put_parts : (c : ℕ) (o : Front (List ℕ)) (name more : List ℕ) → put c o ≡ both name more → (front : List ℕ) × (o ≡ both front more) × (c ∷ front ≡ name)
+pub put_parts : (c : ℕ) (o : Front (List ℕ)) (name more : List ℕ) → prepended c o ≡ both name more → (front : List ℕ) × (o ≡ both front more) × (c ∷ front ≡ name)
 put_parts c None name more e = absurd cc
 put_parts c (Some p) name more e =
     let h = same_pair (c ∷ p.0) name p.1 more e in
@@ -28,7 +28,7 @@ pub quoted_sound : (b : Bool) (cs name more : List ℕ) → quoted_from b cs ≡
 quoted_sound false [] name more e = absurd cc
 quoted_sound false (c ∷ cs) name more e = at (eqb c 96) refl e (λ n g. quoted_sound true cs n more g) (λ n g. quoted_sound false cs n more g)
   where
-    at : (x : Bool) → eqb c 96 ≡ x → elim x as (λ _. Front (List ℕ)) [ true ↦ quoted_from true cs | false ↦ put c (quoted_from false cs) ] ≡ both name more
+    at : (x : Bool) → eqb c 96 ≡ x → elim x as (λ _. Front (List ℕ)) [ true ↦ quoted_from true cs | false ↦ prepended c (quoted_from false cs) ] ≡ both name more
         → ((n : List ℕ) → quoted_from true cs ≡ both n more → 96 ∷ cs ≡ doubled n ++ 96 ∷ more) → ((n : List ℕ) → quoted_from false cs ≡ both n more → cs ≡ doubled n ++ 96 ∷ more)
         → c ∷ cs ≡ doubled name ++ 96 ∷ more
     at true h g first second = ap (λ (x : ℕ). x ∷ cs) (eqb-true c 96 h) ∙ first name g
@@ -38,7 +38,7 @@ quoted_sound false (c ∷ cs) name more e = at (eqb c 96) refl e (λ n g. quoted
 quoted_sound true [] name more e = let h = same_pair [] name [] more e in ap (λ (r : List ℕ). 96 ∷ r) h.1 ∙ ap (λ (n : List ℕ). doubled n ++ 96 ∷ more) h.0
 quoted_sound true (c ∷ cs) name more e = at (eqb c 96) refl e (λ n g. quoted_sound false cs n more g)
   where
-    at : (x : Bool) → eqb c 96 ≡ x → elim x as (λ _. Front (List ℕ)) [ true ↦ put 96 (quoted_from false cs) | false ↦ Some ([], c ∷ cs) ] ≡ both name more
+    at : (x : Bool) → eqb c 96 ≡ x → elim x as (λ _. Front (List ℕ)) [ true ↦ prepended 96 (quoted_from false cs) | false ↦ Some ([], c ∷ cs) ] ≡ both name more
         → ((n : List ℕ) → quoted_from false cs ≡ both n more → cs ≡ doubled n ++ 96 ∷ more) → 96 ∷ c ∷ cs ≡ doubled name ++ 96 ∷ more
     at true h g rest =
         let p = put_parts 96 (quoted_from false cs) name more g in
@@ -50,26 +50,26 @@ quoted_sound true (c ∷ cs) name more e = at (eqb c 96) refl e (λ n g. quoted_
 -- characters before those of an answer
 abbrev pub put_all : List ℕ → Front (List ℕ) → Front (List ℕ)
 put_all [] o = o
-put_all (c ∷ cs) o = put c (put_all cs o)
+put_all (c ∷ cs) o = prepended c (put_all cs o)
 
 abbrev first_step : Bool → ℕ → List ℕ → Front (List ℕ)
-first_step t c cs = elim t [ true ↦ quoted_from true cs | false ↦ put c (quoted_from false cs) ]
+first_step t c cs = elim t [ true ↦ quoted_from true cs | false ↦ prepended c (quoted_from false cs) ]
 
 pub name_read : (name m : List ℕ) → quoted_from false (doubled name ++ 96 ∷ m) ≡ put_all name (quoted_from true m)
 name_read [] m = refl
 name_read (c ∷ name) m = at (eqb c 96) refl (name_read name m)
   where
-    at : (x : Bool) → eqb c 96 ≡ x → quoted_from false (doubled name ++ 96 ∷ m) ≡ put_all name (quoted_from true m) → quoted_from false (doubled_by x c name ++ 96 ∷ m) ≡ put c (put_all name (quoted_from true m))
-    at true h more = ap (put 96) more ∙ ap (λ (x : ℕ). put x (put_all name (quoted_from true m))) (sym (eqb-true c 96 h))
-    at false h more = ap (λ (t : Bool). first_step t c (doubled name ++ 96 ∷ m)) h ∙ ap (put c) more
+    at : (x : Bool) → eqb c 96 ≡ x → quoted_from false (doubled name ++ 96 ∷ m) ≡ put_all name (quoted_from true m) → quoted_from false (doubled_by x c name ++ 96 ∷ m) ≡ prepended c (put_all name (quoted_from true m))
+    at true h more = ap (prepended 96) more ∙ ap (λ (x : ℕ). prepended x (put_all name (quoted_from true m))) (sym (eqb-true c 96 h))
+    at false h more = ap (λ (t : Bool). first_step t c (doubled name ++ 96 ∷ m)) h ∙ ap (prepended c) more
 
 put_all_some : (cs name more : List ℕ) → put_all cs (both name more) ≡ both (cs ++ name) more
 put_all_some [] name more = refl
-put_all_some (c ∷ cs) name more = ap (put c) (put_all_some cs name more)
+put_all_some (c ∷ cs) name more = ap (prepended c) (put_all_some cs name more)
 
 ends_there : (m : List ℕ) → Starts is_quote m ≡ false → quoted_from true m ≡ both [] m
 ends_there [] h = refl
-ends_there (c ∷ m) h = ap (λ (t : Bool). elim t as (λ _. Front (List ℕ)) [ true ↦ put 96 (quoted_from false m) | false ↦ Some ([], c ∷ m) ]) h
+ends_there (c ∷ m) h = ap (λ (t : Bool). elim t as (λ _. Front (List ℕ)) [ true ↦ prepended 96 (quoted_from false m) | false ↦ Some ([], c ∷ m) ]) h
 
 append_none : (l : List ℕ) → l ++ [] ≡ l
 append_none [] = refl
@@ -90,7 +90,7 @@ shrinks false (c ∷ cs) name more e = at (eqb c 96) e (λ n g. shrinks true cs 
 shrinks true [] name more e = let h = ap (length {A = ℕ}) (same_pair [] name [] more e).1 in omega arith
 shrinks true (c ∷ cs) name more e = at (eqb c 96) e (λ n g. shrinks false cs n more g)
   where
-    at : (x : Bool) → elim x as (λ _. Front (List ℕ)) [ true ↦ put 96 (quoted_from false cs) | false ↦ Some ([], c ∷ cs) ] ≡ both name more → ((n : List ℕ) → quoted_from false cs ≡ both n more → length more ≤ length cs) → length more ≤ length (c ∷ cs)
+    at : (x : Bool) → elim x as (λ _. Front (List ℕ)) [ true ↦ prepended 96 (quoted_from false cs) | false ↦ Some ([], c ∷ cs) ] ≡ both name more → ((n : List ℕ) → quoted_from false cs ≡ both n more → length more ≤ length cs) → length more ≤ length (c ∷ cs)
     at true g rest = let p = put_parts 96 (quoted_from false cs) name more g in omega (arith, rest p.0 p.1)
     at false g rest = let h = ap (length {A = ℕ}) (same_pair [] name (c ∷ cs) more g).1 in omega arith
 

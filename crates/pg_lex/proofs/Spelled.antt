@@ -4,7 +4,7 @@ use Rattle.std.proofs.lemmas.Bool.{eqb-true, leb-true}
 use Rattle.pg_meaning.specs.declared.lexemes.Keyword.{Keyword}
 use Rattle.pg_meaning.specs.declared.lexemes.Symbol.{Symbol}
 use Rattle.pg_meaning.specs.declared.lexemes.Symbol.TheVariants as s
-use Rattle.pg_meaning.specs.Tokens.{class, Class, letter, digit, backquote, quotation, dollar, other, Lexeme, quoted_name, integer, string, parameter, symbol, Front, Spells, MayFollow, Starts, IsWord, run, after, word_at, worded, keyword_of, continues_word, begins_word, is_digit, integer_at, is_empty, value_of, greatest_integer, utf8, doubled, named, made, quoted_from, string_from, outside, pieces_text, parameter_at, parameter_by, lexeme_by, symbol_among, symbols, symbol_text, behind}
+use Rattle.pg_meaning.specs.Tokens.{class, Class, letter, digit, backquote, quotation, dollar, other, Lexeme, quoted_name, integer, string, parameter, symbol, Front, Spells, MayFollow, Starts, IsWord, run, after, word_at, worded, keyword_of, continues_word, begins_word, is_digit, integer_at, is_empty, numeral_value, greatest_integer, utf8, doubled, named, decoded, quoted_from, string_from, outside, pieces_text, parameter_at, parameter_by, lexeme_by, symbol_among, symbols, symbol_text, behind}
 use Rattle.pg_lex.proofs.Pairs.{both, same_pair}
 use Rattle.pg_lex.proofs.Runs.{run_after, run_all, after_starts, starts_or, utf8_digits}
 use Rattle.pg_lex.proofs.Classes.{letter_begins, digit_is, backquote_is, quotation_is, dollar_is}
@@ -53,14 +53,14 @@ one_zero c [] h e = refl
 one_zero c (d ∷ ds) h e = let z : eqb c 48 ≡ true = rw e refl in absurd (let no' : (not true || false) ≡ true = rw z at h in cc)
 
 integer_spelled : (c : ℕ) (cs : List ℕ) (l : Lexeme) (more : List ℕ) → is_digit c ≡ true → integer_at c (run is_digit cs) (after is_digit cs) ≡ found l more → Spelled c cs l more
-integer_spelled c cs l more h e = at (not (eqb c 48) || is_empty (run is_digit cs)) refl (Starts begins_word (after is_digit cs)) refl (leb (value_of (c ∷ run is_digit cs)) greatest_integer) refl e
+integer_spelled c cs l more h e = at (not (eqb c 48) || is_empty (run is_digit cs)) refl (Starts begins_word (after is_digit cs)) refl (leb (numeral_value (c ∷ run is_digit cs)) greatest_integer) refl e
   where
-    at : (x : Bool) → (not (eqb c 48) || is_empty (run is_digit cs)) ≡ x → (y : Bool) → Starts begins_word (after is_digit cs) ≡ y → (z : Bool) → leb (value_of (c ∷ run is_digit cs)) greatest_integer ≡ z
-        → elim (x && not y && z) as (λ _. Front Lexeme) [ true ↦ found (integer (value_of (c ∷ run is_digit cs))) (after is_digit cs) | false ↦ None ] ≡ found l more → Spelled c cs l more
-    at true p false q true r g = along c cs (integer (value_of (c ∷ run is_digit cs))) l (after is_digit cs) more g (record {
+    at : (x : Bool) → (not (eqb c 48) || is_empty (run is_digit cs)) ≡ x → (y : Bool) → Starts begins_word (after is_digit cs) ≡ y → (z : Bool) → leb (numeral_value (c ∷ run is_digit cs)) greatest_integer ≡ z
+        → elim (x && not y && z) as (λ _. Front Lexeme) [ true ↦ found (integer (numeral_value (c ∷ run is_digit cs))) (after is_digit cs) | false ↦ None ] ≡ found l more → Spelled c cs l more
+    at true p false q true r g = along c cs (integer (numeral_value (c ∷ run is_digit cs))) l (after is_digit cs) more g (record {
       front = run is_digit cs;
       whole = run_after is_digit cs;
-      spells = (((h, run_all is_digit cs), one_zero c (run is_digit cs) p), refl, leb-true (value_of (c ∷ run is_digit cs)) greatest_integer r);
+      spells = (((h, run_all is_digit cs), one_zero c (run is_digit cs) p), refl, leb-true (numeral_value (c ∷ run is_digit cs)) greatest_integer r);
       may = starts_or is_digit begins_word (after is_digit cs) (after_starts is_digit cs) q;
     })
     at false p y q z r g = absurd cc
@@ -96,10 +96,10 @@ quoted_spelled cs l more e =
 
 -- ---- strings
 
-string_spelled : (q : ℕ) (cs : List ℕ) (l : Lexeme) (more : List ℕ) → (q ≡ 39) ⊎ (q ≡ 34) → made string (string_from q outside cs) ≡ found l more → Spelled q cs l more
+string_spelled : (q : ℕ) (cs : List ℕ) (l : Lexeme) (more : List ℕ) → (q ≡ 39) ⊎ (q ≡ 34) → decoded string (string_from q outside cs) ≡ found l more → Spelled q cs l more
 string_spelled q cs l more h e = at (string_from q outside cs) refl e
   where
-    at : (o : Front (List ℕ)) → string_from q outside cs ≡ o → made string o ≡ found l more → Spelled q cs l more
+    at : (o : Front (List ℕ)) → string_from q outside cs ≡ o → decoded string o ≡ found l more → Spelled q cs l more
     at None i g = absurd cc
     at (Some p) i g =
         let c : Content q cs p.0 p.1 = string_sound (length cs) q cs p.0 p.1 (omega arith) i in

@@ -4,7 +4,7 @@ use Rattle.std.specs.Str.{IsUtf8}
 use Rattle.pg_meaning.specs.Tokens.{Lexeme, Token, Next, gap, found, bad, next, turn, put_token, passed, lex_from, lex, width, characters, segment_text, tokens_of}
 use Rattle.pg_lex.specs.declared.token.Token.{Token as CodeToken}
 use Rattle.pg_lex.specs.Scans.{next_at}
-use Rattle.pg_lex.specs.Turns.{lex_at, joined}
+use Rattle.pg_lex.specs.Turns.{lex_at, continued}
 use Rattle.pg_lex.specs.View.{tokens_view, token_view}
 use Rattle.pg_lex.proofs.Texts.{width_characters}
 use Rattle.pg_lex.proofs.Places.{Gapped, Found, gap_sound, found_sound}
@@ -53,9 +53,9 @@ found_turn at c cs l more e =
 
 -- what the loop has reached: a place, and the tokens before it
 abbrev At : List ℕ → List ℕ → List Token → Option (List Token)
-At text rest front = joined front (lex_at (length text - length rest) (characters rest))
+At text rest front = continued front (lex_at (length text - length rest) (characters rest))
 
-joined_put : (front : List Token) (t : Token) (o : Option (List Token)) → joined front (put_token t o) ≡ joined (front ++ t ∷ []) o
+joined_put : (front : List Token) (t : Token) (o : Option (List Token)) → continued front (put_token t o) ≡ continued (front ++ t ∷ []) o
 joined_put front t None = refl
 joined_put front t (Some ts) = ap (λ (l : List Token). some l) (sym (append_assoc front (t ∷ []) ts))
   where
@@ -82,7 +82,7 @@ gap_step text rest more front o u v le e h = by (characters rest) refl e
         let p = place text rest more c cs (segment_text s.part) u v i s.stood.whole le in
         let step = gap_turn (length text - length rest) c cs (characters more) (sym g) in
         let small = ap (length {A = ℕ}) i in
-        (p.1, omega (arith, gap_shorter c cs (characters more) (sym g)), ap (λ (n : ℕ). joined front (lex_at n (characters more))) (sym p.0) ∙ ap (joined front) (sym step) ∙ ap (λ (r : List ℕ). joined front (lex_at (length text - length rest) r)) (sym i) ∙ h)
+        (p.1, omega (arith, gap_shorter c cs (characters more) (sym g)), ap (λ (n : ℕ). continued front (lex_at n (characters more))) (sym p.0) ∙ ap (continued front) (sym step) ∙ ap (λ (r : List ℕ). continued front (lex_at (length text - length rest) r)) (sym i) ∙ h)
 
 pub found_step : (text rest more : List ℕ) (l : Lexeme) (front : List Token) (o : Option (List Token)) → IsUtf8 rest → IsUtf8 more → length rest ≤ length text → found l (characters more) ≡ next_at (characters rest) → At text rest front ≡ o
     → (length more ≤ length rest) × (length (characters more) < length (characters rest)) × (At text more (front ++ record { lexeme = l; start = length text - length rest; finish = length text - length more } ∷ []) ≡ o)
@@ -98,7 +98,7 @@ found_step text rest more l front o u v le e h = by (characters rest) refl e
           p.1,
           omega (arith, found_shorter c cs l (characters more) (sym g)),
           sym (joined_put front (record { lexeme = l; start = length text - length rest; finish = length text - length more }) (lex_at (length text - length more) (characters more)))
-              ∙ ap (λ (n : ℕ). joined front (put_token (record { lexeme = l; start = length text - length rest; finish = n }) (lex_at n (characters more)))) (sym p.0) ∙ ap (joined front) (sym step) ∙ ap (λ (r : List ℕ). joined front (lex_at (length text - length rest) r)) (sym i) ∙ h,
+              ∙ ap (λ (n : ℕ). continued front (put_token (record { lexeme = l; start = length text - length rest; finish = n }) (lex_at n (characters more)))) (sym p.0) ∙ ap (continued front) (sym step) ∙ ap (λ (r : List ℕ). continued front (lex_at (length text - length rest) r)) (sym i) ∙ h,
         )
 
 pub bad_step : (text rest : List ℕ) (front : List Token) (o : Option (List Token)) → (characters rest ≡ [] → ⊥) → bad ≡ next_at (characters rest) → At text rest front ≡ o → None ≡ o
@@ -109,7 +109,7 @@ bad_step text rest front o some e h = by (characters rest) refl e
     by (c ∷ cs) i g =
         let n : length (c ∷ cs) ≡ suc (length cs) = omega arith in
         let step : lex_at (length text - length rest) (c ∷ cs) ≡ None = ap (λ (n : ℕ). lex_from n (length text - length rest) (c ∷ cs)) n ∙ ap (turn (length text - length rest) (c ∷ cs) (lex_from (length cs))) (sym g) in
-        sym (ap (joined front) step) ∙ ap (λ (r : List ℕ). joined front (lex_at (length text - length rest) r)) (sym i) ∙ h
+        sym (ap (continued front) step) ∙ ap (λ (r : List ℕ). continued front (lex_at (length text - length rest) r)) (sym i) ∙ h
 
 pub tokens_more : (ts : List CodeToken) (t : CodeToken) → tokens_view (ts ++ t ∷ []) ≡ tokens_view ts ++ token_view t ∷ []
 tokens_more [] t = refl
@@ -127,7 +127,7 @@ characters_none [] e = refl
 characters_none (b ∷ rest) e = absurd (omega arith)
 
 pub end_step : (text rest : List ℕ) (front : List Token) (o : Option (List Token)) → length rest ≡ 0 → At text rest front ≡ o → Some front ≡ o
-end_step text rest front o none h = ap (λ (l : List Token). some l) (sym (append-nil front)) ∙ ap (λ (r : List ℕ). joined front (lex_at (length text - length rest) r)) (sym (characters_none rest none)) ∙ h
+end_step text rest front o none h = ap (λ (l : List Token). some l) (sym (append-nil front)) ∙ ap (λ (r : List ℕ). continued front (lex_at (length text - length rest) r)) (sym (characters_none rest none)) ∙ h
   where
     some : List Token → Option (List Token)
     some l = Some l

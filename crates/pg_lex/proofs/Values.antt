@@ -1,7 +1,7 @@
 -- The value of digits.
 use Rattle.std.proofs.Common.{◌≡◌, ℕ, suc, ◌+◌, ◌-◌, ◌*◌, ◌<◌, ◌≤◌, ◌||◌, ◌&&◌, Bool, true, false, cond, not, List, [], ◌∷◌, Option, Some, None, refl, sym, ap, ◌∙◌, arith, fold, drop, leb, eqb, get_or, length, drop-cons}
 use Rattle.std.proofs.lemmas.Bool.{lt-leb}
-use Rattle.pg_meaning.specs.Tokens.{digit_more, value_of, greatest_integer, is_digit, run, after, integer_at, integer, Lexeme, Starts, begins_word, is_empty}
+use Rattle.pg_meaning.specs.Tokens.{digit_more, numeral_value, greatest_integer, is_digit, run, after, integer_at, integer, Lexeme, Starts, begins_word, is_empty}
 use Rattle.pg_lex.proofs.Pairs.{same_pair}
 use Rattle.pg_lex.specs.Scans.{small_value, natural_of, digits_front, integer_front}
 
@@ -9,11 +9,11 @@ fold_grows : (n : ℕ) (cs : List ℕ) → n ≤ fold digit_more n cs
 fold_grows n [] = omega arith
 fold_grows n (c ∷ cs) = omega (arith, fold_grows (digit_more n c) cs)
 
-pub too_large : (ds : List ℕ) (i n : ℕ) → i < length ds → fold digit_more n (drop i ds) ≡ value_of ds → greatest_integer < 10 * n + (get_or ds i 0 - 48) → None ≡ small_value ds
+pub too_large : (ds : List ℕ) (i n : ℕ) → i < length ds → fold digit_more n (drop i ds) ≡ numeral_value ds → greatest_integer < 10 * n + (get_or ds i 0 - 48) → None ≡ small_value ds
 too_large ds i n lt e more =
     let step = ap (λ (l : List ℕ). fold digit_more n l) (drop-cons ds i 0 lt) in
-    let large : greatest_integer < value_of ds = omega (arith, fold_grows (digit_more n (get_or ds i 0)) (drop (suc i) ds), step, e) in
-    rw (lt-leb (value_of ds) greatest_integer large) refl
+    let large : greatest_integer < numeral_value ds = omega (arith, fold_grows (digit_more n (get_or ds i 0)) (drop (suc i) ds), step, e) in
+    rw (lt-leb (numeral_value ds) greatest_integer large) refl
 
 -- ---- a numeral with what stands behind it
 
@@ -28,17 +28,17 @@ abbrev starts_well : ℕ → List ℕ → Bool
 starts_well c ds = not (eqb c 48) || is_empty ds
 
 at_is : (c : ℕ) (ds more : List ℕ) → Starts begins_word more ≡ false → integer_at c ds more ≡ as_lexeme more (natural_of (c ∷ ds))
-at_is c ds more h = ap (λ (t : Bool). chosen (starts_well c ds && not t && leb (value_of (c ∷ ds)) greatest_integer) (value_of (c ∷ ds)) more) h ∙ at (starts_well c ds) (leb (value_of (c ∷ ds)) greatest_integer)
+at_is c ds more h = ap (λ (t : Bool). chosen (starts_well c ds && not t && leb (numeral_value (c ∷ ds)) greatest_integer) (numeral_value (c ∷ ds)) more) h ∙ at (starts_well c ds) (leb (numeral_value (c ∷ ds)) greatest_integer)
   where
-    at : (x y : Bool) → chosen (x && true && y) (value_of (c ∷ ds)) more ≡ as_lexeme more (cond x (cond y (Some (value_of (c ∷ ds))) None) None)
+    at : (x y : Bool) → chosen (x && true && y) (numeral_value (c ∷ ds)) more ≡ as_lexeme more (cond x (cond y (Some (numeral_value (c ∷ ds))) None) None)
     at true true = refl
     at true false = refl
     at false y = refl
 
 at_none : (c : ℕ) (ds more : List ℕ) → Starts begins_word more ≡ true → integer_at c ds more ≡ None
-at_none c ds more h = ap (λ (t : Bool). chosen (starts_well c ds && not t && leb (value_of (c ∷ ds)) greatest_integer) (value_of (c ∷ ds)) more) h ∙ at (starts_well c ds) (leb (value_of (c ∷ ds)) greatest_integer)
+at_none c ds more h = ap (λ (t : Bool). chosen (starts_well c ds && not t && leb (numeral_value (c ∷ ds)) greatest_integer) (numeral_value (c ∷ ds)) more) h ∙ at (starts_well c ds) (leb (numeral_value (c ∷ ds)) greatest_integer)
   where
-    at : (x y : Bool) → chosen (x && false && y) (value_of (c ∷ ds)) more ≡ None
+    at : (x y : Bool) → chosen (x && false && y) (numeral_value (c ∷ ds)) more ≡ None
     at true y = refl
     at false y = refl
 

@@ -4,7 +4,7 @@ use Rattle.std.specs.Borrow.{Bor}
 use Rattle.std.specs.Prelude.{String, string_bytes}
 use Rattle.std.specs.declared.alloc.Global.{Global}
 use Rattle.pg_lex.specs.declared.token.Natural.{Natural}
-use Rattle.pg_meaning.specs.Tokens.{characters, utf8, Front, hexadecimal_value, escape_of, is_surrogate, value_of, greatest_integer, is_empty, word_at, after, run, continues_word, is_digit, is_line_end, Next, bad, next, Lexeme, worded, keyword_of, parameter, integer_at}
+use Rattle.pg_meaning.specs.Tokens.{characters, utf8, Front, hexadecimal_value, escape_of, is_surrogate, numeral_value, greatest_integer, is_empty, word_at, after, run, continues_word, is_digit, is_line_end, Next, bad, next, Lexeme, worded, keyword_of, parameter, integer_at}
 use Rattle.pg_meaning.specs.declared.lexemes.Symbol.{Symbol}
 use Rattle.pg_meaning.specs.declared.lexemes.Symbol.TheVariants as s
 
@@ -83,7 +83,7 @@ past_front c cs = if c == 96 then strip_backquote cs else Some cs
 
 -- the value of digits, unless it is too large
 abbrev pub small_value : List ℕ → Option ℕ
-small_value cs = if nat_le (value_of cs) greatest_integer then Some (value_of cs) else None
+small_value cs = if nat_le (numeral_value cs) greatest_integer then Some (numeral_value cs) else None
 
 -- the value of digits, unless a 0 stands in front of others or it is too large
 abbrev pub natural_of : List ℕ → Option ℕ

@@ -7,6 +7,6 @@ abbrev pub lex_at : ℕ → List ℕ → Option (List Token)
 lex_at at cs = lex_from (length cs) at cs
 
 -- tokens, before others
-abbrev pub joined : List Token → Option (List Token) → Option (List Token)
-joined front None = None
-joined front (Some ts) = Some (front ++ ts)
+abbrev pub continued : List Token → Option (List Token) → Option (List Token)
+continued front None = None
+continued front (Some ts) = Some (front ++ ts)

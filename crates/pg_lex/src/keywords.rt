@@ -51,7 +51,9 @@ const KEYWORDS: [(&str, Keyword); 40] = [
 
 /// The keyword of those that a word is, whatever the ASCII case of either.
 fn keyword_among(keywords: &[(&str, Keyword)], word: &str) -> Option<Keyword>
-    ensures { result ≡ spec.keyword_among (map (λ p. (str_to_ascii_lowercase p.0.now, p.1)) keywords.now) (str_to_ascii_lowercase word.now) }
+    ensures { result
+        ≡ spec.keyword_among (map (λ p. (str_to_ascii_lowercase p.0.now, p.1)) keywords.now)
+        (str_to_ascii_lowercase word.now) }
 {
     for (text, keyword) in keywords {
         if word.eq_ignore_ascii_case(text) {

@@ -21,7 +21,8 @@ use std::alloc::{AllocError, Global};
 /// The parameter behind a dollar.
 #[tactic(auto, using(crate::proofs::Backquotes::named_some, crate::proofs::Backquotes::named_none))]
 fn parameter(alloc: Global, text: &str) -> Result<Option<(Lexeme<'_>, &str)>, AllocError>
-    ensures { IfOk result (λ o. scan.Fronts lexeme_view (spec.parameter_at (spec.characters text.now)) o) }
+    ensures { IfOk result
+        (λ o. scan.Fronts lexeme_view (spec.parameter_at (spec.characters text.now)) o) }
 {
     let Some((first, behind)) = split_first(text) else {
         return Ok(None);
@@ -48,7 +49,8 @@ fn parameter(alloc: Global, text: &str) -> Result<Option<(Lexeme<'_>, &str)>, Al
 /// The lexeme at the front of a text.
 #[tactic(auto, using(crate::proofs::Backquotes::named_some, crate::proofs::Backquotes::named_none))]
 fn lexeme(alloc: Global, text: &str) -> Result<Option<(Lexeme<'_>, &str)>, AllocError>
-    ensures { IfOk result (λ o. scan.Fronts lexeme_view (spec.lexeme_at (spec.characters text.now)) o) }
+    ensures { IfOk result
+        (λ o. scan.Fronts lexeme_view (spec.lexeme_at (spec.characters text.now)) o) }
 {
     let Some((first, behind)) = split_first(text) else {
         return Ok(None);
@@ -97,7 +99,8 @@ fn next(alloc: Global, text: &str) -> Result<Next<'_>, AllocError>
 
 /// All tokens of a text; None where some place has no lexeme.
 fn lexed(alloc: Global, text: &str) -> Result<Option<Vec<Token<'_>>>, AllocError>
-    ensures { IfOk result (λ o. option_map (λ ts. tokens_view ts.items) o ≡ spec.tokens_of text.now) }
+    ensures { IfOk result
+        (λ o. option_map (λ ts. tokens_view ts.items) o ≡ spec.tokens_of text.now) }
 {
     let mut found = Vec::new(alloc);
     let mut rest = text;
@@ -122,14 +125,17 @@ fn lexed(alloc: Global, text: &str) -> Result<Option<Vec<Token<'_>>>, AllocError
 pub fn tokens(alloc: Global, text: &str) -> Result<Vec<Token<'_>>, Fault>
     // They are those that the function of the definitions finds.
     ensures found { IfOk result (λ ts. spec.tokens_of text.now ≡ Some (tokens_view ts.items)) }
-    // A refusal for want of memory says nothing of the text. Any other says that some place has no lexeme.
-    ensures refused { IfErr result (λ e. (e ≡ Fault.OutOfMemory) ⊎ ((e ≡ Fault.BadLexeme) × (spec.tokens_of text.now ≡ None))) }
+    // Out of memory says nothing of the text. The other refusal says that some place has no lexeme.
+    ensures refused { IfErr result (λ e. (e ≡ Fault.OutOfMemory)
+        ⊎ ((e ≡ Fault.BadLexeme) × (spec.tokens_of text.now ≡ None))) }
     // The text is whitespace, comments and these lexemes, each the longest at its place.
     ensures lexes { IfOk result (λ ts. spec.Lexes text.now (tokens_view ts.items)) }
     // It lexes in no other way.
-    ensures only { (ts : List spec.Token) → spec.Lexes text.now ts → IfOk result (λ r. tokens_view r.items ≡ ts) }
+    ensures only { (ts : List spec.Token)
+        → spec.Lexes text.now ts → IfOk result (λ r. tokens_view r.items ≡ ts) }
     // A text that lexes is no bad one.
-    ensures none { IsErrOf result Fault.BadLexeme → (ts : List spec.Token) → ¬ (spec.Lexes text.now ts) }
+    ensures none { IsErrOf result Fault.BadLexeme
+        → (ts : List spec.Token) → ¬ (spec.Lexes text.now ts) }
 {
     lexed(alloc, text)?.ok_or(Fault::BadLexeme)
 }

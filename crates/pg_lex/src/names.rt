@@ -24,7 +24,8 @@ fn past(first: char, behind: &str) -> Option<&str>
 /// What stands in backquotes, behind the first of them, and the text behind the last, where it is at least one character.
 #[tactic(auto, using(crate::proofs::Backquotes::unended))]
 pub(crate) fn name(alloc: Global, text: &str) -> Result<Option<(String, &str)>, AllocError>
-    ensures { IfOk result (λ o. scan.Fronts scan.content (scan.behind_text [] (scan.nonempty (spec.quoted_from false (spec.characters text.now)))) o) }
+    ensures { IfOk result (λ o. scan.Fronts scan.content (scan.behind_text
+        [] (scan.nonempty (spec.quoted_from false (spec.characters text.now)))) o) }
 {
     let mut name = String::new(alloc);
     let mut rest = text;

@@ -8,7 +8,8 @@ use crate::text::split_first;
 use std::alloc::{AllocError, Global};
 
 fn hexadecimal(text: &str) -> Option<(u32, &str)>
-    ensures digit { scan.Fronts scan.same (scan.hexadecimal_front (spec.characters text.now)) result }
+    ensures digit { scan.Fronts scan.same
+        (scan.hexadecimal_front (spec.characters text.now)) result }
     ensures small { IfSome result (λ p. p.0 < 16) }
     ensures no_longer { IfSome result (λ p. length p.1.now ≤ length text.now) }
 {
@@ -65,7 +66,8 @@ fn escaped(text: &str) -> Option<(char, &str)>
 
 /// The character that is meant in a string, and the text behind it.
 fn meant(first: char, behind: &str) -> Option<(char, &str)>
-    ensures front { scan.Fronts scan.same (scan.meant_front first (spec.characters behind.now)) result }
+    ensures front { scan.Fronts scan.same
+        (scan.meant_front first (spec.characters behind.now)) result }
     ensures no_longer { IfSome result (λ p. length p.1.now ≤ length behind.now) }
 {
     if first == '\\' {
@@ -81,7 +83,8 @@ pub(crate) fn content(
     quote: char,
     text: &str,
 ) -> Result<Option<(String, &str)>, AllocError>
-    ensures { IfOk result (λ o. scan.Fronts scan.content (scan.behind_text [] (spec.string_from quote spec.outside (spec.characters text.now))) o) }
+    ensures { IfOk result (λ o. scan.Fronts scan.content
+        (scan.behind_text [] (spec.string_from quote spec.outside (spec.characters text.now))) o) }
 {
     let mut content = String::new(alloc);
     let mut rest = text;

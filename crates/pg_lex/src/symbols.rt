@@ -51,7 +51,8 @@ fn pair_of(c: char, d: char) -> Option<Symbol>
 
 /// The longest symbol at the front.
 pub(crate) fn symbol(text: &str) -> Option<(Lexeme<'_>, &str)>
-    ensures { scan.Fronts lexeme_view (spec.symbol_among spec.symbols (spec.characters text.now)) result }
+    ensures { scan.Fronts lexeme_view
+        (spec.symbol_among spec.symbols (spec.characters text.now)) result }
 {
     let (first, behind) = split_first(text)?;
     if let Some((second, rest)) = split_first(behind) {

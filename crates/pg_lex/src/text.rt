@@ -17,7 +17,8 @@ pub(crate) fn split_first(text: &str) -> Option<(char, &str)>
 /// What stands in the text before its end `rest`.
 pub(crate) fn before<'a>(text: &'a str, rest: &str) -> &'a str
     requires { EndsWith text.now rest.now }
-    ensures { (front : List ℕ) → spec.characters text.now ≡ front ++ spec.characters rest.now → result.now ≡ spec.utf8 front }
+    ensures { (front : List ℕ) → spec.characters text.now ≡ front ++ spec.characters rest.now
+        → result.now ≡ spec.utf8 front }
 {
     &text[..text.len() - rest.len()]
 }

@@ -8,7 +8,8 @@ use crate::text::split_first;
 
 /// The text behind the characters at its front that continue a word.
 pub(crate) fn after_word(text: &str) -> &str
-    ensures { spec.characters result.now ≡ spec.after spec.continues_word (spec.characters text.now) }
+    ensures { spec.characters result.now
+        ≡ spec.after spec.continues_word (spec.characters text.now) }
 {
     let mut rest = text;
     while let Some((first, behind)) = split_first(rest) {

@@ -4,22 +4,23 @@ use Rattle.std.specs.List.{AllByRecursion}
 use Rattle.pg_meaning.specs.Entries.{at_key}
 use Rattle.pg_meaning.specs.Grammar.{clause_parameters, parameters_of}
 use Rattle.pg_meaning.specs.Graph.{Graph, IsGraph}
-use Rattle.pg_meaning.specs.Meaning.{given_of, Step, StepFaults, Means, MayFault}
+use Rattle.pg_meaning.specs.Meaning.{Step, StepFaults, Means, MayFault}
 use Rattle.pg_meaning.specs.Meters.{Setting, State}
 use Rattle.pg_meaning.specs.Names.{Names, is_among}
-use Rattle.pg_meaning.specs.Plans.{Catalogue, Plan, ArePlanned, IsPlanOf}
-use Rattle.pg_meaning.specs.Queries.{Outcome, clause_step, ordered}
+use Rattle.pg_meaning.specs.Plans.{Catalogue, Plan, plan_over, ArePlanned, IsPlanOf}
+use Rattle.pg_meaning.specs.Queries.{Outcome, clause_step, under_plan}
 use Rattle.pg_meaning.specs.Rows.{Row, value_in}
 use Rattle.pg_meaning.specs.Scopes.{scope_after}
 use Rattle.pg_meaning.specs.StaticFaults.{clause_faults, static_faults}
 use Rattle.pg_meaning.specs.Tree.{Clause, Query}
+use Rattle.pg_meaning.specs.Turns.{Given}
 use Rattle.pg_meaning.specs.Value.{Entries}
 use Rattle.pg_meaning.specs.declared.fault.Fault.{Fault}
 use Rattle.pg_meaning.specs.declared.fault.Fault.TheVariants.{StepQuota}
 
--- what the relations are given of a clause's setting
-abbrev pub given : Setting → Setting
-given s = given_of s.parameters s.quota.max_elements s.scope
+-- what the meaning is given of a clause's setting: neither steps nor anchors
+abbrev pub given_in : Setting → Given
+given_in s = record { parameters = s.parameters; max_elements = s.quota.max_elements; scope = s.scope }
 
 -- each row binds the names in scope and no other
 abbrev pub AreRowsOf : Names → List Row → Type 0
@@ -27,8 +28,8 @@ AreRowsOf scope rows = AllByRecursion (λ row. (name : List ℕ) → is_some (va
 
 -- the rows and the graph are ones that the clause may give, and a fault but the quota of steps is one in which it may end
 abbrev pub AnswerAgrees : Setting → Clause → State → Result State Fault → Type 0
-AnswerAgrees s c state (Ok next) = Step (given s) c state.graph state.rows next.graph next.rows × IsGraph next.graph × AreRowsOf (scope_after s.scope c) next.rows
-AnswerAgrees s c state (Err f) = (f ≡ StepQuota) ⊎ StepFaults (given s) c state.graph state.rows f
+AnswerAgrees s c state (Ok next) = Step (given_in s) c state.graph state.rows next.graph next.rows × IsGraph next.graph × AreRowsOf (scope_after s.scope c) next.rows
+AnswerAgrees s c state (Err f) = (f ≡ StepQuota) ⊎ StepFaults (given_in s) c state.graph state.rows f
 
 -- the request gives each of these parameters, which is tested before anything runs
 abbrev pub AreGiven : Names → Entries → Type 0
@@ -48,7 +49,7 @@ OutcomeAgrees q parameters max_elements graph (Err f) = (f ≡ StepQuota) ⊎ Ma
 abbrev pub QueryAgrees : Query → Type 0
 QueryAgrees q =
     (plan : Plan) (catalogue : Catalogue) (parameters : Entries) (graph : Graph) (max_steps max_elements : ℕ) → static_faults q ≡ [] → AreGiven (parameters_of q) parameters → IsPlanOf plan q → IsGraph graph
-    → OutcomeAgrees q parameters max_elements graph (ordered plan catalogue q parameters graph max_steps max_elements)
+    → OutcomeAgrees q parameters max_elements graph (under_plan (plan_over catalogue plan) q parameters graph max_steps max_elements)
 
 -- a query agrees whose clauses do
 abbrev pub ClausesMakeQueries : Type 0

@@ -4,7 +4,7 @@ use Rattle.std.specs.List.{AllByRecursion, AllZip}
 use Rattle.pg_meaning.specs.Agreement.{AreGiven, AreRowsOf, AnswerAgrees, ClauseAgrees, OutcomeAgrees, ClausesMakeQueries}
 use Rattle.pg_meaning.specs.Answer.{◌>>=◌, ◌>>◌, unless, each_step}
 use Rattle.pg_meaning.specs.Entries.{at_key}
-use Rattle.pg_meaning.specs.Grammar.{Mark, joined as joined_marks, clause_marks, parameter_name, clause_parameters}
+use Rattle.pg_meaning.specs.Grammar.{Mark, concatenated, clause_marks, parameter_name, clause_parameters}
 use Rattle.pg_meaning.specs.Graph.{Graph, IsGraph, has_node, has_relationship}
 use Rattle.pg_meaning.specs.Lists.{IsIn}
 use Rattle.pg_meaning.specs.ListsLaws.{all_joined}
@@ -46,9 +46,9 @@ given_split parameters (m ∷ ms) more h =
     (all_joined (λ name. is_some (at_key name parameters) ≡ true) (parameter_name m.what) (named_in ms) first.0 rest.0, rest.1)
 
 -- a query's parameters are those of its clauses
-given_each : (parameters : Entries) (cs : List Clause) → AreGiven (named_in (joined_marks (map clause_marks cs))) parameters → AllByRecursion (λ c. AreGiven (clause_parameters c) parameters) cs
+given_each : (parameters : Entries) (cs : List Clause) → AreGiven (named_in (concatenated (map clause_marks cs))) parameters → AllByRecursion (λ c. AreGiven (clause_parameters c) parameters) cs
 given_each parameters [] h = tt
-given_each parameters (c ∷ cs) h = let both = given_split parameters (clause_marks c) (joined_marks (map clause_marks cs)) h in (both.0, given_each parameters cs both.1)
+given_each parameters (c ∷ cs) h = let both = given_split parameters (clause_marks c) (concatenated (map clause_marks cs)) h in (both.0, given_each parameters cs both.1)
 
 -- ---- plans over the indexes that there are
 
@@ -212,4 +212,4 @@ unfolding static_faults
 clauses_make_queries q agrees plan catalogue parameters graph max_steps max_elements faults given planned g =
     let quota : Quota = record { max_steps = max_steps; max_elements = max_elements } in
     outcome_agrees q parameters quota graph (clauses_run parameters quota [] (plan_over catalogue plan) q.clauses (record { graph = graph; rows = [] ∷ []; steps = 0 }))
-    (rest_agrees parameters quota q [] q.clauses (plan_over catalogue plan) (record { graph = graph; rows = [] ∷ []; steps = 0 }) agrees faults (given_each parameters q.clauses (given_split parameters (joined_marks (map clause_marks q.clauses)) _ given).0) (planned_over catalogue [] q.clauses plan planned) g ((λ name. refl), tt))
+    (rest_agrees parameters quota q [] q.clauses (plan_over catalogue plan) (record { graph = graph; rows = [] ∷ []; steps = 0 }) agrees faults (given_each parameters q.clauses (given_split parameters (concatenated (map clause_marks q.clauses)) _ given).0) (planned_over catalogue [] q.clauses plan planned) g ((λ name. refl), tt))

@@ -3,8 +3,8 @@ use Rattle.std.specs.Prelude.{ℕ, true, false, [], ◌∷◌, Result, Ok, Some,
 use Rattle.pg_meaning.specs.Answer.{◌>>=◌}
 use Rattle.pg_meaning.specs.ExampleTrees.{named, var, number, string, dot, node_place, detail, hop, path_of, column, project, query_of, ask, told, answered, refused}
 use Rattle.pg_meaning.specs.Graph.{Graph}
-use Rattle.pg_meaning.specs.Plans.{Catalogue, plan_of}
-use Rattle.pg_meaning.specs.Queries.{ordered}
+use Rattle.pg_meaning.specs.Plans.{Catalogue, plan_of, plan_over}
+use Rattle.pg_meaning.specs.Queries.{under_plan}
 use Rattle.pg_meaning.specs.Tree.{parameter, call, chain, no_expressions, expression, no_pairs, pair, no_operands, operand, no_properties, given, set_property, match_paths, create, set_items, with_rows, return_rows, Query}
 use Rattle.pg_meaning.specs.Value.{integer, text, no_entries, entry}
 use Rattle.pg_meaning.specs.declared.fault.Fault.{Fault}
@@ -152,7 +152,7 @@ two_named = record {
 
 -- the steps under the plan that is made over some indexes, where there are others
 abbrev pub steps_under : (planned there : Catalogue) → Query → Result ℕ Fault
-steps_under planned there q = ordered (plan_of planned q) there q no_entries two_named 1000 10 >>= λ o. Ok o.steps
+steps_under planned there q = under_plan (plan_over there (plan_of planned q)) q no_entries two_named 1000 10 >>= λ o. Ok o.steps
 
 abbrev pub on_name : Catalogue
 on_name = (codes "P", codes "name") ∷ []

@@ -10,7 +10,6 @@ use Rattle.pg_meaning.specs.Graph.{Graph, Node, empty_graph, add_node, node_at, 
 use Rattle.pg_meaning.specs.GraphLaws.{empty_is_graph, add_node_keeps_graph}
 use Rattle.pg_meaning.specs.Lists.{IsIn}
 use Rattle.pg_meaning.specs.Meaning.{given_of, Step, MatchRow, UnwindRow, Passing, Projects, CreateRow, CreateFaults, MergeMatched, MergeMade, MergeFaults, IsTrailOf, new_places, all_placed, Means, MayFault, Ordered}
-use Rattle.pg_meaning.specs.Meters.{Setting}
 use Rattle.pg_meaning.specs.Names.{Names}
 use Rattle.pg_meaning.specs.Order.{is_equivalent}
 use Rattle.pg_meaning.specs.Patterns.{Assignment, Fits, node_name, bind_match}
@@ -20,6 +19,7 @@ use Rattle.pg_meaning.specs.Reading.{test_bound}
 use Rattle.pg_meaning.specs.Rows.{Row}
 use Rattle.pg_meaning.specs.Scopes.{Column}
 use Rattle.pg_meaning.specs.Tree.{Expression, literal, list_literal, chain, operand, no_operands, no_expressions, expression, PathPattern, Properties, no_properties, given, pair, no_pairs, SetItem, Clause, match_paths, unwind, create, merge, set_items, set_property, remove_items, remove_property, delete, with_rows, return_rows, Query}
+use Rattle.pg_meaning.specs.Turns.{Given}
 use Rattle.pg_meaning.specs.Updates.{given_properties, doomed_nodes, doomed_relationships, test_unconnected}
 use Rattle.pg_meaning.specs.Value.{Entries, Value, null, integer, node, no_entries, entry}
 use Rattle.pg_meaning.specs.Walks.{bound_value}
@@ -27,7 +27,7 @@ use Rattle.pg_meaning.specs.declared.fault.Fault.{Fault}
 use Rattle.pg_meaning.specs.declared.fault.Fault.TheVariants.{NodeStillConnected, DivisionByZero, ElementQuota, IdsExhausted, MergeNull}
 use Rattle.pg_meaning.specs.declared.operators.Operator.TheVariants.{Divide}
 
-abbrev pub within : Names → Setting
+abbrev pub within : Names → Given
 within scope = given_of no_entries 10 scope
 
 abbrev pub one : Value
@@ -134,7 +134,7 @@ none_projected : Projects (within []) empty_graph (column_a ∷ []) (project fal
 none_projected p =
     let unskipped = subst (λ k. Passing (within []) empty_graph None (limited p.limit (skipped k p.sorted)) p.passing) (sym (same_ok None p.skip p.skip_given)) p.condition in
     let unlimited = subst (λ k. Passing (within []) empty_graph None (limited k p.sorted) p.passing) (sym (same_ok None p.limit p.limit_given)) unskipped in
-    some_passing p.made p.passing (λ row r. projected (within []) empty_graph false (column_a ∷ []) row ≡ Ok r) p.items (subst (λ ps. Passing (within []) empty_graph None ps p.passing) (p.order ∙ p.distinct) unlimited) p.shown
+    some_passing p.made p.passing (λ row r. projected no_entries empty_graph false (column_a ∷ []) row ≡ Ok r) p.items (subst (λ ps. Passing (within []) empty_graph None ps p.passing) (p.order ∙ p.distinct) unlimited) p.shown
 
 pub instances_of_return : InstancesOfReturn
 instances_of_return = ((refl, projects_one), (λ s. none_projected s.1), (refl, projects_one), (λ s. none_projected s.1))
@@ -271,7 +271,7 @@ no_id_is_wanted (inl (n, inr (inl e), h)) = fine (subst (λ m. test_bound false 
     fine : ◌≡◌ {A = Result (Unit {0}) Fault} (Ok tt) (Err IdsExhausted) → ⊥
     fine e = cc
 no_id_is_wanted (inl (n, inr (inr i), h)) = absurd i
-no_id_is_wanted (inr (inl (ps, i, h))) = fine (subst (λ p. given_properties (within (codes "b" ∷ codes "a" ∷ [])) spent_graph both_rows p ≡ Err IdsExhausted) (bare ps i) h)
+no_id_is_wanted (inr (inl (ps, i, h))) = fine (subst (λ p. given_properties no_entries spent_graph both_rows p ≡ Err IdsExhausted) (bare ps i) h)
   where
     bare : (ps : Properties) → IsIn ps (no_properties ∷ no_properties ∷ no_properties ∷ []) → ps ≡ no_properties
     bare ps (inl e) = e
@@ -345,7 +345,7 @@ creates_without_fault f (inl (n, inl e, h)) = fine (subst (λ m. test_bound fals
     fine : ◌≡◌ {A = Result (Unit {0}) Fault} (Ok tt) (Err f) → ⊥
     fine e = cc
 creates_without_fault f (inl (n, inr i, h)) = absurd i
-creates_without_fault f (inr (inl (ps, inl e, h))) = fine (subst (λ p. given_properties (within []) empty_graph [] p ≡ Err f) e h)
+creates_without_fault f (inr (inl (ps, inl e, h))) = fine (subst (λ p. given_properties no_entries empty_graph [] p ≡ Err f) e h)
   where
     fine : ◌≡◌ {A = Result Entries Fault} (Ok no_entries) (Err f) → ⊥
     fine e = cc

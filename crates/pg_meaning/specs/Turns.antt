@@ -1,14 +1,17 @@
 -- What the relations of clauses are given, and how they go row after row, or one thing after the other, each in the graph that the one before it left.
-use Rattle.std.specs.Prelude.{◌≡◌, ◌⊎◌, List, [], ◌∷◌, ◌++◌}
+use Rattle.std.specs.Prelude.{◌≡◌, ℕ, ◌⊎◌, List, [], ◌∷◌, ◌++◌}
 use Rattle.pg_meaning.specs.Graph.{Graph}
 use Rattle.pg_meaning.specs.Lists.{IsIn}
-use Rattle.pg_meaning.specs.Meters.{Setting}
+use Rattle.pg_meaning.specs.Names.{Names}
 use Rattle.pg_meaning.specs.Rows.{Row}
+use Rattle.pg_meaning.specs.Value.{Entries}
 use Rattle.pg_meaning.specs.declared.fault.Fault.{Fault}
 
--- what a clause is given: parameters, the variables of earlier clauses, the greatest number of elements; steps play no part here
-abbrev pub Given : Type 0
-Given = Setting
+-- what a clause is given besides the rows and the graph: the request's parameters, how many elements there may be, and the variables of earlier clauses
+pub record Given : Type 0 where
+  pub parameters : Entries
+  pub max_elements : ℕ
+  pub scope : Names
 
 -- ---- rows
 

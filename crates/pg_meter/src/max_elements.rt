@@ -23,6 +23,7 @@ impl Model for MaxElements {
 impl MaxElements {
     ghost use Rattle.std.specs.Prelude.{◌≡◌, ◌≤◌, ◌^◌};
 
+    /// A quota of nodes and relationships together.
     pub fn new(most: u64) -> MaxElements
         requires { most ≤ 2 ^ 63 }
         ensures { result ≡ most }

@@ -35,7 +35,8 @@ impl Meter {
 
     /// Takes in more steps, or none where they would pass the quota.
     pub fn spend(&mut self, steps: u64) -> Result<(), Fault>
-        ensures spends { (s : Setting) → s.quota.max_steps ≡ self.old.limit → spend s self.old.used steps ≡ after_test result self.new.used }
+        ensures spends { (s : Setting) → s.quota.max_steps ≡ self.old.limit
+            → spend s self.old.used steps ≡ after_test result self.new.used }
         ensures limit { self.new.limit ≡ self.old.limit }
         ensures refused { OnErr result (self.new ≡ self.old) }
     {
@@ -46,6 +47,7 @@ impl Meter {
         Ok(())
     }
 
+    /// The steps that a reply reports.
     pub fn used(&self) -> u64
         ensures { result ≡ self.now.used }
     {

@@ -21,6 +21,7 @@ impl Model for NameId {
 }
 
 impl NameId {
+    /// The place of the name's text in the table that gave the number.
     pub fn as_u64(&self) -> u64
         ensures { result ≡ self.now }
     {

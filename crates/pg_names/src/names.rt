@@ -34,6 +34,7 @@ impl<K: TextSet> Model for Names<K> {
 }
 
 impl<K: TextSet> Names<K> {
+    /// A table without texts. The hasher's keys are to be random where a stranger chooses the texts.
     pub fn new(alloc: Global, hasher: RandomState) -> Self
         ensures { result ≡ [] }
     {

@@ -3,14 +3,14 @@ use Rattle.std.proofs.Common.{◌≡◌, List, [], ◌∷◌, true, false, Resul
 use Rattle.pg_agreement.proofs.PlanningPlans.{plan_of_is_plan, plan_of_is_whole}
 use Rattle.pg_agreement.proofs.WholeQueriesAnswers.{answers_are_meant}
 use Rattle.pg_meaning.specs.Plans.{Catalogue, Plan, plan_of, plan_over, IsPlanOf}
-use Rattle.pg_meaning.specs.StaticFaults.{Found, goes_before, least, static_fault, static_faults}
+use Rattle.pg_meaning.specs.StaticFaults.{PlacedFault, goes_before, least, static_fault, static_faults}
 use Rattle.pg_meaning.specs.Texts.{checked_query, checked_by, read}
 use Rattle.pg_meaning.specs.Tree.{Query}
 use Rattle.pg_meaning.specs.declared.fault.Fault.{Fault}
 use Rattle.pg_plan.specs.Laws.{PlansAreGood, TextsMean}
 use Rattle.pg_plan.specs.Plans.{plan_query, plan_anchors}
 
-some_stays : (b : Found) (fs : List Found) → is_some (least (Some b) fs) ≡ true
+some_stays : (b : PlacedFault) (fs : List PlacedFault) → is_some (least (Some b) fs) ≡ true
 some_stays b [] = refl
 some_stays b (f ∷ fs) =
     elim (goes_before f b) as (λ t. is_some (elim t [ true ↦ least (Some f) fs | false ↦ least (Some b) fs ]) ≡ true) [
@@ -18,11 +18,11 @@ some_stays b (f ∷ fs) =
       | false ↦ some_stays b fs
     ]
 
-none_found : (fs : List Found) → least None fs ≡ None → fs ≡ []
+none_found : (fs : List PlacedFault) → least None fs ≡ None → fs ≡ []
 none_found [] e = refl
 none_found (f ∷ fs) e = absurd (true≢false (sym (some_stays f fs) ∙ ap is_some e))
 
-without_fault : (p : Query) (found : Option Found) (q : Query) → static_fault p ≡ found → checked_by found p ≡ Ok q → static_fault q ≡ None
+without_fault : (p : Query) (found : Option PlacedFault) (q : Query) → static_fault p ≡ found → checked_by found p ≡ Ok q → static_fault q ≡ None
 without_fault p None q is h = let same : p ≡ q = cc in ap static_fault (sym same) ∙ is
 without_fault p (Some f) q is h = absurd cc
 

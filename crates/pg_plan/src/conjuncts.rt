@@ -23,7 +23,8 @@ fn all_operands<'a>(
     first: &'a Expression,
     operands: &'a Vec<(Operator, Expression)>,
 ) -> Result<Vec<&'a Expression>, AllocError>
-    ensures { IfOk result (λ es. expressions_in es.items ≡ expression_view first.now ∷ operands_in operands.now.items) }
+    ensures { IfOk result (λ es. expressions_in es.items
+        ≡ expression_view first.now ∷ operands_in operands.now.items) }
 {
     let mut conjuncts = Vec::new(alloc);
     conjuncts.push(first)?;
@@ -46,7 +47,8 @@ pub(crate) fn conjuncts_of<'a>(
     alloc: Global,
     condition: &'a Option<Expression>,
 ) -> Result<Vec<&'a Expression>, AllocError>
-    ensures { IfOk result (λ es. expressions_in es.items ≡ conjuncts_of (option_map expression_view condition.now)) }
+    ensures { IfOk result
+        (λ es. expressions_in es.items ≡ conjuncts_of (option_map expression_view condition.now)) }
 {
     let Some(condition) = condition else {
         return Ok(Vec::new(alloc));

@@ -27,7 +27,8 @@ pub(crate) fn nodes_of<'a>(
 }
 
 fn add_path_nodes<'a>(names: &mut Names<'a>, path: &'a PathPattern) -> Result<(), AllocError>
-    ensures { OnOk result (HasMore (names_in names.old) (nodes_of (path_view path.now)) (names_in names.new)) }
+    ensures { OnOk result
+        (HasMore (names_in names.old) (nodes_of (path_view path.now)) (names_in names.new)) }
 {
     add_variable(names, &path.first.variable)?;
     for (_, node) in &path.hops {
@@ -41,7 +42,8 @@ pub(crate) fn node_names<'a>(
     alloc: Global,
     paths: &'a Vec<PathPattern>,
 ) -> Result<Names<'a>, AllocError>
-    ensures { IfOk result (λ names. HasNames (flat_map nodes_of (map path_view paths.now.items)) (names_in names)) }
+    ensures { IfOk result
+        (λ names. HasNames (flat_map nodes_of (map path_view paths.now.items)) (names_in names)) }
 {
     let mut names = BTreeSet::new(alloc);
     for path in paths {

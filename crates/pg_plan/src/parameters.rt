@@ -11,7 +11,8 @@ pub(crate) fn parameter_names(
     alloc: Global,
     tokens: &Vec<Token<'_>>,
 ) -> Result<Vec<String>, AllocError>
-    ensures { IfOk result (λ names. map string_bytes names.items ≡ named_in_tokens (tokens_view tokens.now.items)) }
+    ensures { IfOk result
+        (λ names. map string_bytes names.items ≡ named_in_tokens (tokens_view tokens.now.items)) }
 {
     let mut names = Vec::new(alloc);
     for token in tokens {
@@ -24,7 +25,8 @@ pub(crate) fn parameter_names(
 }
 
 fn parameter_name<'a>(lexeme: &'a Lexeme<'_>) -> Option<&'a str>
-    ensures { option_to_list (option_map (λ name. name.now) result) ≡ lexeme_parameter (lexeme_view lexeme.now) }
+    ensures { option_to_list (option_map (λ name. name.now) result)
+        ≡ lexeme_parameter (lexeme_view lexeme.now) }
 {
     match lexeme {
         Lexeme::Parameter(name) => Some(*name),

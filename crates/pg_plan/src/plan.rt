@@ -30,7 +30,8 @@ pub struct Plan {
     ghost returning: { returns ≡ queries.returns (query_view query).clauses },
     ghost ending: { ReturnsLast (query_view query) },
     ghost naming: { map string_bytes parameters.items ≡ parameters_of (query_view query) },
-    ghost anchoring: { IsPlanOf (plan_view anchors.items) (query_view query) } by { plan-prop (plan_view anchors.items) (query_view query) },
+    ghost anchoring: { IsPlanOf (plan_view anchors.items)
+        (query_view query) } by { plan-prop (plan_view anchors.items) (query_view query) },
 }
 
 impl Plan {
@@ -54,6 +55,7 @@ impl Plan {
         }
     }
 
+    /// The tree that was read, with its places in the text.
     pub fn query(&self) -> &Query
         ensures { query_view result.now ≡ plan_query self.now }
     {

@@ -48,7 +48,8 @@ pub fn plan_text(alloc: Global, text: &str, catalogue: &Catalogue) -> Result<Pla
 /// The tree of a text, and the parameters that it names.
 fn read(alloc: Global, text: &str) -> Result<(Query, Vec<String>), Fault>
     ensures ok { IfOk result (λ r. spec.read text.now ≡ Ok (query_view r.0)) }
-    ensures parameters { IfOk result (λ r. map string_bytes r.1.items ≡ parameters_of (query_view r.0)) }
+    ensures parameters { IfOk result
+        (λ r. map string_bytes r.1.items ≡ parameters_of (query_view r.0)) }
     ensures ends { IfOk result (λ r. ReturnsLast (query_view r.0)) }
     ensures err { IfErr result (λ e. e ≢ OutOfMemory → spec.read text.now ≡ Err e) }
 {

@@ -89,21 +89,21 @@ module _ (a : Aggregate) where
 
   module _ (g : Given) (graph : Graph) where
     abbrev step : List Value → Row → Result (List Value) Fault
-    step vs row = argument_value g graph row a >>= take_in a vs
+    step vs row = argument_value g.parameters graph row a >>= take_in a vs
 
     no_fault_from : (rows : List Row) (row : Row) (f : Fault) (vs ws : List Value) → AllPass a.summary vs → each_step step vs rows ≡ Ok ws → IsIn row rows → ArgumentFaults g graph row a f → ⊥
     no_fault_from [] row f vs ws h e i x = absurd i
     no_fault_from (r ∷ rows) row f vs ws h e (inr i) x =
         let first = went_well (step vs r) (λ t. each_step step t rows) ws e in
-        let value = went_well (argument_value g graph r a) (take_in a vs) first.0 first.1 in
+        let value = went_well (argument_value g.parameters graph r a) (take_in a vs) first.0 first.1 in
         no_fault_from rows row f first.0 ws (taken_passes vs first.0 value.0 h value.2).0 first.2 i x
     no_fault_from (r ∷ rows) row f vs ws h e (inl same) x =
         let first = went_well (step vs r) (λ t. each_step step t rows) ws e in
-        let value = went_well (argument_value g graph r a) (take_in a vs) first.0 first.1 in
+        let value = went_well (argument_value g.parameters graph r a) (take_in a vs) first.0 first.1 in
         here value.0 value.1 (taken_passes vs first.0 value.0 h value.2).1 (subst (λ q. ArgumentFaults g graph q a f) same x)
       where
-        here : (v : Value) → argument_value g graph r a ≡ Ok v → Passes a.summary v → ArgumentFaults g graph r a f → ⊥
-        here v is p (inl y) = ok_or_err (argument_value g graph r a) v f is y
+        here : (v : Value) → argument_value g.parameters graph r a ≡ Ok v → Passes a.summary v → ArgumentFaults g graph r a f → ⊥
+        here v is p (inl y) = ok_or_err (argument_value g.parameters graph r a) v f is y
         here v is p (inr y) = ok_or_err (test_alone a.summary y.0) tt f (subst (Passes a.summary) (same_ok v y.0 (sym is ∙ y.1)) p) y.2
 
     -- where an aggregate takes in some rows, it has no fault at any of them

@@ -36,25 +36,25 @@ module _ (g : Given) (paths : List PathPattern) (graph : Graph) (row : Row) (aft
 
   -- ---- properties
 
-  node_given : (n : NodePattern) (f : Fault) → DescribesNew g paths → IsIn n (all_nodes paths) → given_properties g graph row n.properties ≡ Err f → ⊥
+  node_given : (n : NodePattern) (f : Fault) → DescribesNew g paths → IsIn n (all_nodes paths) → given_properties g.parameters graph row n.properties ≡ Err f → ⊥
   node_given n f new i x = by_kind (all_at (λ (n : NodePattern). (n.properties ≡ no_properties) ⊎ IsIn n (map pattern (new_places g.scope (map (λ n. (n, 0)) (all_nodes paths))))) n (all_nodes paths) new i)
     where
       fine : ◌≡◌ {A = Result Entries Fault} (Ok no_entries) (Err f) → ⊥
       fine e = cc
 
       by_kind : (n.properties ≡ no_properties) ⊎ IsIn n (map pattern (new_places g.scope (map (λ n. (n, 0)) (all_nodes paths)))) → ⊥
-      by_kind (inl none) = fine (subst (λ ps. given_properties g graph row ps ≡ Err f) none x)
+      by_kind (inl none) = fine (subst (λ ps. given_properties g.parameters graph row ps ≡ Err f) none x)
       by_kind (inr j) =
           let place = of_mapped pattern n places (subst (IsIn n) (sym (made_where g.scope paths c.assignment c.shape)) j) in
           let made = all_at (IsMadeNode g graph row after) place.0 places c.nodes place.1 in
-          ok_or_err (given_properties g graph row (pattern place.0).properties) made.0.properties f made.5 (subst (λ (m : NodePattern). given_properties g graph row m.properties ≡ Err f) place.2 x)
+          ok_or_err (given_properties g.parameters graph row (pattern place.0).properties) made.0.properties f made.5 (subst (λ (m : NodePattern). given_properties g.parameters graph row m.properties ≡ Err f) place.2 x)
 
-  hop_given : (h : RelationshipPattern × NodePattern) (f : Fault) → IsIn h (flat_map (λ (p : PathPattern). p.hops) paths) → given_properties g graph row (relationship_properties h.0) ≡ Err f → ⊥
+  hop_given : (h : RelationshipPattern × NodePattern) (f : Fault) → IsIn h (flat_map (λ (p : PathPattern). p.hops) paths) → given_properties g.parameters graph row (relationship_properties h.0) ≡ Err f → ⊥
   hop_given h f i x =
       let there = in_mapped (λ (h : RelationshipPattern × NodePattern). h.0) h (flat_map (λ (p : PathPattern). p.hops) paths) i in
       let m = of_mapped hop_of h.0 makings (subst (IsIn h.0) (sym (all_hop_patterns paths c.assignment c.shape)) there) in
       let made = all_at (IsMadeRelationship g graph row after) m.0 makings c.relationships m.1 in
-      ok_or_err (given_properties g graph row (relationship_properties (hop_of m.0))) made.0.properties f made.6 (subst (λ r. given_properties g graph row (relationship_properties r) ≡ Err f) m.2 x)
+      ok_or_err (given_properties g.parameters graph row (relationship_properties (hop_of m.0))) made.0.properties f made.6 (subst (λ r. given_properties g.parameters graph row (relationship_properties r) ≡ Err f) m.2 x)
 
   abbrev hop_properties : RelationshipPattern × NodePattern → List Properties
   hop_properties h = relationship_properties h.0 ∷ h.1.properties ∷ []
@@ -63,13 +63,13 @@ module _ (g : Given) (paths : List PathPattern) (graph : Graph) (row : Row) (aft
   properties_apart f new (ps, i, x) = let p = of_flat (λ (p : PathPattern). p.first.properties ∷ flat_map hop_properties p.hops) ps paths i in at_path p.0 p.1 p.2
     where
       at_hop : (p : PathPattern) (h : RelationshipPattern × NodePattern) → IsIn p paths → IsIn h p.hops → IsIn ps (hop_properties h) → ⊥
-      at_hop p h k j (inl e) = hop_given h f (in_flat (λ (p : PathPattern). p.hops) p h paths k j) (subst (λ q. given_properties g graph row q ≡ Err f) e x)
+      at_hop p h k j (inl e) = hop_given h f (in_flat (λ (p : PathPattern). p.hops) p h paths k j) (subst (λ q. given_properties g.parameters graph row q ≡ Err f) e x)
       at_hop p h k j (inr (inl e)) =
-          node_given h.1 f new (in_flat nodes_of p h.1 paths k (inr (in_mapped (λ (h : RelationshipPattern × NodePattern). h.1) h p.hops j))) (subst (λ q. given_properties g graph row q ≡ Err f) e x)
+          node_given h.1 f new (in_flat nodes_of p h.1 paths k (inr (in_mapped (λ (h : RelationshipPattern × NodePattern). h.1) h p.hops j))) (subst (λ q. given_properties g.parameters graph row q ≡ Err f) e x)
       at_hop p h k j (inr (inr i)) = absurd i
 
       at_path : (p : PathPattern) → IsIn p paths → IsIn ps (p.first.properties ∷ flat_map hop_properties p.hops) → ⊥
-      at_path p k (inl e) = node_given p.first f new (in_flat nodes_of p p.first paths k (inl refl)) (subst (λ q. given_properties g graph row q ≡ Err f) e x)
+      at_path p k (inl e) = node_given p.first f new (in_flat nodes_of p p.first paths k (inl refl)) (subst (λ q. given_properties g.parameters graph row q ≡ Err f) e x)
       at_path p k (inr j) = let h = of_flat hop_properties ps p.hops j in at_hop p h.0 k h.1 h.2
 
   -- ---- room and ids
@@ -115,7 +115,7 @@ module _ (g : Given) (paths : List PathPattern) (graph : Graph) (row : Row) (aft
   create_apart f is new (inl x) = bound_apart graph row paths f c.live x
   create_apart f is new (inr (inl x)) = properties_apart f new x
   create_apart f is new (inr (inr (inl x))) =
-      past_room g.quota.max_elements (length after.nodes) (length after.relationships) (length graph.nodes) (length graph.relationships) (length places) (length makings) (new_nodes g paths) (new_relationships paths)
+      past_room g.max_elements (length after.nodes) (length after.relationships) (length graph.nodes) (length graph.relationships) (length places) (length makings) (new_nodes g paths) (new_relationships paths)
       (more_nodes is) (more_relationships is) nodes_counted hops_counted c.room x.1.0 x.1.1
   create_apart f is new (inr (inr (inr (inl x)))) = past_ids greatest_id after.next_node graph.next_node (length places) (new_nodes g paths) c.next_node nodes_counted c.node_counter x.1.0 x.1.1
   create_apart f is new (inr (inr (inr (inr x)))) =

@@ -30,7 +30,7 @@ module _ (g : Given) (paths : List PathPattern) (graph : Graph) (row : Row) (aft
   same_node : (p q : NodePattern × ℕ) → pattern p ≡ pattern q → IsMadeNode g graph row after p → IsMadeNode g graph row other q → SameNode after other p q
   same_node p q e h k =
       let labels = h.4 ∙ ap (λ (n : NodePattern). in_byte_order (texts_of n.labels)) e ∙ sym k.4 in
-      let properties = same_ok h.0.properties k.0.properties (sym h.5 ∙ ap (λ (n : NodePattern). given_properties g graph row n.properties) e ∙ k.5) in
+      let properties = same_ok h.0.properties k.0.properties (sym h.5 ∙ ap (λ (n : NodePattern). given_properties g.parameters graph row n.properties) e ∙ k.5) in
       (e, h.3 ∙ (λ i. Some (record { labels = labels i; properties = properties i })) ∙ sym k.3)
 
   same_relationship : (m n : Made) → hop_of m ≡ hop_of n → IsMadeRelationship g graph row after m → IsMadeRelationship g graph row other n → SameRelationship after other m n
@@ -41,7 +41,7 @@ module _ (g : Given) (paths : List PathPattern) (graph : Graph) (row : Row) (aft
     h.3,
     k.3,
     h.4 ∙ ap (λ (r : RelationshipPattern). first_text (types_of r)) e ∙ sym k.4,
-    same_ok h.0.properties k.0.properties (sym h.6 ∙ ap (λ (r : RelationshipPattern). given_properties g graph row (relationship_properties r)) e ∙ k.6),
+    same_ok h.0.properties k.0.properties (sym h.6 ∙ ap (λ (r : RelationshipPattern). given_properties g.parameters graph row (relationship_properties r)) e ∙ k.6),
     h.5,
     k.5,
   )

@@ -65,21 +65,21 @@ same_bare columns p q h k e =
 -- ---- items without aggregates
 
 module _ (g : Given) (graph : Graph) (columns : List Column) where
-  value_named : (row : Row) (c : Column) (b : Bound) → column_value g graph row c ≡ Ok b → b.0 ≡ c.name
+  value_named : (row : Row) (c : Column) (b : Bound) → column_value g.parameters graph row c ≡ Ok b → b.0 ≡ c.name
   value_named row c b e = let v = went_well (evaluate row g.parameters graph c.value) (λ v. Ok (c.name, v)) b e in ap (λ (b : Bound). b.0) (sym (same_ok (c.name, v.0) b v.2))
 
   abbrev shown : Bool → Row → Row → Projected
   shown distinct row vs = record { columns = vs; earlier = cond distinct [] row }
 
-  pub projected_bare : (row : Row) (r : Projected) → projected g graph true columns row ≡ Ok r → IsBare columns r
+  pub projected_bare : (row : Row) (r : Projected) → projected g.parameters graph true columns row ≡ Ok r → IsBare columns r
   projected_bare row r e =
-      let vs = went_well (each_answer (column_value g graph row) columns) (λ vs. Ok (shown true row vs)) r e in
-      subst (IsBare columns) (same_ok (shown true row vs.0) r vs.2) (columns_named (column_value g graph row) (value_named row) columns vs.0 vs.1, refl)
+      let vs = went_well (each_answer (column_value g.parameters graph row) columns) (λ vs. Ok (shown true row vs)) r e in
+      subst (IsBare columns) (same_ok (shown true row vs.0) r vs.2) (columns_named (column_value g.parameters graph row) (value_named row) columns vs.0 vs.1, refl)
 
-  item_evaluates : (distinct : Bool) (row : Row) (r : Projected) (c : Column) (f : Fault) → projected g graph distinct columns row ≡ Ok r → IsIn c columns → evaluate row g.parameters graph c.value ≡ Err f → ⊥
+  item_evaluates : (distinct : Bool) (row : Row) (r : Projected) (c : Column) (f : Fault) → projected g.parameters graph distinct columns row ≡ Ok r → IsIn c columns → evaluate row g.parameters graph c.value ≡ Err f → ⊥
   item_evaluates distinct row r c f e i x =
-      let vs = went_well (each_answer (column_value g graph row) columns) (λ vs. Ok (shown distinct row vs)) r e in
-      let b = answered_at (column_value g graph row) c columns vs.0 vs.1 i in
+      let vs = went_well (each_answer (column_value g.parameters graph row) columns) (λ vs. Ok (shown distinct row vs)) r e in
+      let b = answered_at (column_value g.parameters graph row) c columns vs.0 vs.1 i in
       let v = went_well (evaluate row g.parameters graph c.value) (λ v. Ok (c.name, v)) b.0 b.2 in
       ok_or_err (evaluate row g.parameters graph c.value) v.0 f v.1 x
 
@@ -90,9 +90,9 @@ module _ (g : Given) (graph : Graph) (columns : List Column) where
   plain_fault row f c None n h = h
   plain_fault row f c (Some a) n h = cc
 
-  pub no_plain_fault : (distinct : Bool) (rows : List Row) (made : List Projected) (f : Fault) → list_any is_aggregate columns ≡ false → AllZip (λ row r. projected g graph distinct columns row ≡ Ok r) rows made → AtSomeRow (ItemFaults g graph columns) rows f → ⊥
+  pub no_plain_fault : (distinct : Bool) (rows : List Row) (made : List Projected) (f : Fault) → list_any is_aggregate columns ≡ false → AllZip (λ row r. projected g.parameters graph distinct columns row ≡ Ok r) rows made → AtSomeRow (ItemFaults g graph columns) rows f → ⊥
   no_plain_fault distinct rows made f none z x =
-      let r = zipped_at (λ row r. projected g graph distinct columns row ≡ Ok r) x.0 rows made z x.1 in
+      let r = zipped_at (λ row r. projected g.parameters graph distinct columns row ≡ Ok r) x.0 rows made z x.1 in
       let c = x.2.0 in
       item_evaluates distinct x.0 r.0 c f r.2 x.2.1 (plain_fault x.0 f c (aggregate_of c.value) (none_in is_aggregate columns c none x.2.1) x.2.2)
 
@@ -104,7 +104,7 @@ module _ (g : Given) (graph : Graph) (columns : List Column) where
       some_is_none (Some b) a e n = cc
 
   -- the items of some rows are one list
-  pub same_items : (distinct : Bool) (rows : List Row) (made others : List Projected) → AllZip (λ row r. projected g graph distinct columns row ≡ Ok r) rows made → AllZip (λ row r. projected g graph distinct columns row ≡ Ok r) rows others → made ≡ others
+  pub same_items : (distinct : Bool) (rows : List Row) (made others : List Projected) → AllZip (λ row r. projected g.parameters graph distinct columns row ≡ Ok r) rows made → AllZip (λ row r. projected g.parameters graph distinct columns row ≡ Ok r) rows others → made ≡ others
   same_items distinct [] [] [] z y = refl
   same_items distinct [] [] (q ∷ qs) z y = absurd y
   same_items distinct [] (p ∷ ps) qs z y = absurd z

@@ -23,7 +23,7 @@ use Rattle.pg_relations.specs.Decided.{WithIsOne, ReturnIsOne}
 
 module _ (g : Given) (graph : Graph) (columns : List Column) where
   abbrev pub ItemsBy : Bool → List Row → List Projected → Bool → Type 0
-  ItemsBy distinct rows made b = elim b [ true ↦ Groups g graph columns rows made | false ↦ AllZip (λ row r. projected g graph distinct columns row ≡ Ok r) rows made ]
+  ItemsBy distinct rows made b = elim b [ true ↦ Groups g graph columns rows made | false ↦ AllZip (λ row r. projected g.parameters graph distinct columns row ≡ Ok r) rows made ]
 
   -- ---- items
 
@@ -48,7 +48,7 @@ module _ (g : Given) (graph : Graph) (columns : List Column) where
     where
       by_kind : (b : Bool) → ItemsBy true rows made b → IsBare columns r
       by_kind true h = groups_bare g graph columns rows made r h i
-      by_kind false h = let row = zipped_back (λ row r. projected g graph true columns row ≡ Ok r) r rows made h i in projected_bare g graph columns row.0 r row.2
+      by_kind false h = let row = zipped_back (λ row r. projected g.parameters graph true columns row ≡ Ok r) r rows made h i in projected_bare g graph columns row.0 r row.2
 
   -- ---- DISTINCT
 
@@ -96,14 +96,14 @@ module _ (g : Given) (graph : Graph) (columns : List Column) where
         let here = sorted_in p.order h.kept h.sorted r h.order (kept_in p.distinct rows h.made made h.kept kept r h.items items h.distinct distinct there) in
         no_where_fault where_ (limited h.limit (skipped h.skip h.sorted)) h.passing r f h.condition (cut h.skip h.limit h.sorted h.skip_given h.limit_given here) x
       where
-        none_given : (o : Option Expression) (n : Option ℕ) → o ≡ None → count_given g graph o ≡ Ok n → None ≡ n
-        none_given o n none e = same_ok None n (subst (λ o. count_given g graph o ≡ Ok n) none e)
+        none_given : (o : Option Expression) (n : Option ℕ) → o ≡ None → count_given g.parameters graph o ≡ Ok n → None ≡ n
+        none_given o n none e = same_ok None n (subst (λ o. count_given g.parameters graph o ≡ Ok n) none e)
 
-        uncut : (skip limit : Option ℕ) (sorted : List Projected) → count_given g graph p.skip ≡ Ok skip → count_given g graph p.limit ≡ Ok limit → IsIn r (limited limit (skipped skip sorted)) → IsIn r sorted
+        uncut : (skip limit : Option ℕ) (sorted : List Projected) → count_given g.parameters graph p.skip ≡ Ok skip → count_given g.parameters graph p.limit ≡ Ok limit → IsIn r (limited limit (skipped skip sorted)) → IsIn r sorted
         uncut skip limit sorted s l i =
             subst (λ k. IsIn r (skipped k sorted)) (sym (none_given p.skip skip no_skip s)) (subst (λ k. IsIn r (limited k (skipped skip sorted))) (sym (none_given p.limit limit no_limit l)) i)
 
-        cut : (skip limit : Option ℕ) (sorted : List Projected) → count_given g graph p.skip ≡ Ok skip → count_given g graph p.limit ≡ Ok limit → IsIn r sorted → IsIn r (limited limit (skipped skip sorted))
+        cut : (skip limit : Option ℕ) (sorted : List Projected) → count_given g.parameters graph p.skip ≡ Ok skip → count_given g.parameters graph p.limit ≡ Ok limit → IsIn r sorted → IsIn r (limited limit (skipped skip sorted))
         cut skip limit sorted s l i =
             subst (λ k. IsIn r (limited k (skipped skip sorted))) (none_given p.limit limit no_limit l) (subst (λ k. IsIn r (skipped k sorted)) (none_given p.skip skip no_skip s) i)
 
@@ -115,8 +115,8 @@ module _ (g : Given) (graph : Graph) (columns : List Column) where
         fine e = cc
 
     apart : (PassingFaults g graph columns p where_ rows f → ⊥) → ProjectFaults g graph columns p where_ rows f → ⊥
-    apart passing (inl x) = ok_or_err (count_given g graph p.skip) h.skip f h.skip_given x
-    apart passing (inr (inl x)) = ok_or_err (count_given g graph p.limit) h.limit f h.limit_given x
+    apart passing (inl x) = ok_or_err (count_given g.parameters graph p.skip) h.skip f h.skip_given x
+    apart passing (inr (inl x)) = ok_or_err (count_given g.parameters graph p.limit) h.limit f h.limit_given x
     apart passing (inr (inr (inl x))) = no_faults p.distinct rows h.made f h.items (inl x)
     apart passing (inr (inr (inr (inl x)))) = no_faults p.distinct rows h.made f h.items (inr x)
     apart passing (inr (inr (inr (inr (inl x))))) = order_apart x

@@ -100,8 +100,8 @@ module _ (g : Given) (graph : Graph) (columns : List Column) where
       subst (λ rs. IsPermutation rs others) (sym (shown results h)) (subst (IsPermutation (map (λ (r : Projected). r.columns) h.sorted)) (sym (shown others m))
       (IsPermutation-map (λ (r : Projected). r.columns) h.sorted m.sorted (same_sorted p None rows results others h m)))
     where
-      none_given : (o : Option Expression) (n : Option ℕ) → o ≡ None → count_given g graph o ≡ Ok n → n ≡ None
-      none_given o n none e = sym (same_ok None n (subst (λ o. count_given g graph o ≡ Ok n) none e))
+      none_given : (o : Option Expression) (n : Option ℕ) → o ≡ None → count_given g.parameters graph o ≡ Ok n → n ≡ None
+      none_given o n none e = sym (same_ok None n (subst (λ o. count_given g.parameters graph o ≡ Ok n) none e))
 
       shown : (rs : List Row) (k : Projects g graph columns p None rows rs) → rs ≡ map (λ (r : Projected). r.columns) k.sorted
       shown rs k =

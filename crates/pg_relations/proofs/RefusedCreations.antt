@@ -279,7 +279,7 @@ not_ids (inl (n, inl e, h)) = fine (subst (λ m. test_bound false empty_graph (b
     fine : ◌≡◌ {A = Result (Unit {0}) Fault} (Ok tt) (Err IdsExhausted) → ⊥
     fine e = cc
 not_ids (inl (n, inr i, h)) = absurd i
-not_ids (inr (inl (ps, inl e, h))) = fine (subst (λ p. given_properties (given_of no_entries 0 []) empty_graph [] p ≡ Err IdsExhausted) e h)
+not_ids (inr (inl (ps, inl e, h))) = fine (subst (λ p. given_properties no_entries empty_graph [] p ≡ Err IdsExhausted) e h)
   where
     fine : ◌≡◌ {A = Result Entries Fault} (Ok no_entries) (Err IdsExhausted) → ⊥
     fine e = cc
@@ -303,7 +303,7 @@ not_quota (inl (n, inl e, h)) = fine (subst (λ m. test_bound false spent_graph 
     fine : ◌≡◌ {A = Result (Unit {0}) Fault} (Ok tt) (Err ElementQuota) → ⊥
     fine e = cc
 not_quota (inl (n, inr i, h)) = absurd i
-not_quota (inr (inl (ps, inl e, h))) = fine (subst (λ p. given_properties (within []) spent_graph [] p ≡ Err ElementQuota) e h)
+not_quota (inr (inl (ps, inl e, h))) = fine (subst (λ p. given_properties no_entries spent_graph [] p ≡ Err ElementQuota) e h)
   where
     fine : ◌≡◌ {A = Result Entries Fault} (Ok no_entries) (Err ElementQuota) → ⊥
     fine e = cc
@@ -331,7 +331,7 @@ not_joined (inl (n, i, h)) = by_node i
     by_node (inl e) = fine (subst (λ m. test_bound false unjoined_graph (bound_value (node_name m) both_rows) ≡ Err ElementQuota) e h)
     by_node (inr (inl e)) = fine (subst (λ m. test_bound false unjoined_graph (bound_value (node_name m) both_rows) ≡ Err ElementQuota) e h)
     by_node (inr (inr i)) = absurd i
-not_joined (inr (inl (ps, i, h))) = fine (subst (λ p. given_properties (within (codes "b" ∷ codes "a" ∷ [])) unjoined_graph both_rows p ≡ Err ElementQuota) (bare ps i) h)
+not_joined (inr (inl (ps, i, h))) = fine (subst (λ p. given_properties no_entries unjoined_graph both_rows p ≡ Err ElementQuota) (bare ps i) h)
   where
     bare : (ps : Properties) → IsIn ps (no_properties ∷ no_properties ∷ no_properties ∷ []) → ps ≡ no_properties
     bare ps (inl e) = e

@@ -12,7 +12,7 @@ use Rattle.pg_meaning.specs.Lists.{IsIn, AllPairsByRecursion}
 use Rattle.pg_meaning.specs.Meaning.{Passing, Projects, ProjectFaults}
 use Rattle.pg_meaning.specs.Projections.{Projected, projected, skipped, limited, keys_order}
 use Rattle.pg_meaning.specs.Rows.{Row}
-use Rattle.pg_meaning.specs.Value.{Value, integer}
+use Rattle.pg_meaning.specs.Value.{Value, integer, no_entries}
 use Rattle.pg_meaning.specs.declared.fault.Fault.{Fault}
 use Rattle.pg_meaning.specs.declared.fault.Fault.TheVariants.{DivisionByZero}
 use Rattle.pg_relations.proofs.Lists.{in_moved}
@@ -73,7 +73,7 @@ faulty_row passing p = fault_is p.0 p.2
 all_cut : (skip limit : Option ℕ) (sorted passing : List Projected) → (limited limit (skipped skip sorted) ≡ []) → Passing (within []) empty_graph None (limited limit (skipped skip sorted)) passing → row_a one ∷ [] ≡ map (λ (r : Projected). r.columns) passing → ⊥
 all_cut skip limit sorted passing none p e = no_row (row_a one) [] (sym (e ∙ ap (map (λ (r : Projected). r.columns)) (subst (λ ps. Passing (within []) empty_graph None ps passing) none p)))
 
-one_made : (made : List Projected) → AllZip (λ row r. projected (within []) empty_graph false (column_a ∷ []) row ≡ Ok r) ([] ∷ []) made → (r : Projected) × (made ≡ r ∷ [])
+one_made : (made : List Projected) → AllZip (λ row r. projected no_entries empty_graph false (column_a ∷ []) row ≡ Ok r) ([] ∷ []) made → (r : Projected) × (made ≡ r ∷ [])
 one_made [] z = absurd z
 one_made (r ∷ []) z = (r, refl)
 one_made (r ∷ q ∷ rs) z = absurd z.1

@@ -139,7 +139,7 @@ module _ (g : Given) (graph : Graph) (columns : List Column) (order : List SortI
   all_have [] [] z = tt
   all_have [] (k ∷ ks) z = absurd z
   all_have (p ∷ ps) [] z = absurd z
-  all_have (p ∷ ps) (k ∷ ks) z = (any_keys (λ o v. sort_key g graph columns p o ≡ Ok v) order k (answers_zip (sort_key g graph columns p) order k z.0), all_have ps ks z.1)
+  all_have (p ∷ ps) (k ∷ ks) z = (any_keys (λ o v. sort_key g.parameters graph columns p o ≡ Ok v) order k (answers_zip (sort_key g.parameters graph columns p) order k z.0), all_have ps ks z.1)
 
   keys_are : (ps : List Projected) (ks : List Key) → AllZip IsKeyOf ps ks → ks ≡ map key_of ps
   keys_are = zipped_map IsKeyOf key_of (λ p k e. sym (ap key_in e))

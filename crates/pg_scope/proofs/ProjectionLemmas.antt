@@ -12,7 +12,7 @@ use Rattle.pg_meaning.specs.Aggregates.{aggregate_of}
 use Rattle.pg_meaning.specs.Names.{Names, is_among, put_texts, in_byte_order}
 use Rattle.pg_meaning.specs.Order.{text_order}
 use Rattle.pg_meaning.specs.Scopes.{Column, variable_column, star_columns, projection_columns, column_names, is_aggregate}
-use Rattle.pg_meaning.specs.StaticFaults.{Found, found_if, elsewhere, faults_of, faults_if_any, item_faults, visible_of, sort_faults, projection_faults}
+use Rattle.pg_meaning.specs.StaticFaults.{PlacedFault, found_if, elsewhere, faults_of, faults_if_any, item_faults, visible_of, sort_faults, projection_faults}
 use Rattle.pg_meaning.specs.Tree.{Expression, Item, SortItem, Projection}
 use Rattle.pg_meaning.specs.Tree as tree
 use Rattle.pg_meaning.specs.Trees.{same_expression}
@@ -128,7 +128,7 @@ stands x cs = list_any (λ c. same_expression c.value x.key) cs
 abbrev stands_for_item : SortItem → List Item → Bool
 stands_for_item x items = list_any (λ i. same_expression i.value x.key) items
 
-abbrev without : Names → SortItem → Bool → List Found
+abbrev without : Names → SortItem → Bool → List PlacedFault
 without visible x true = []
 without visible x false = faults_of visible x.key
 
@@ -235,11 +235,11 @@ module _ (naming : Naming) (scope : Names) (p : Projection) where
   sorts_are [] = refl
   sorts_are (x ∷ xs) = ap (λ fs. fs ++ flat_map (sorts p.items visible) xs) (sort_is x) ∙ ap (λ fs. sort_faults columns visible x ++ fs) (sorts_are xs)
 
-  pub projected : (condition : Option Expression) {ns : Names} {first next last : Option Found} → HasSame ns visible → IsFirst first (item_faults (column_of naming) scope (starred (is_some p.star) scope) p.items) next
+  pub projected : (condition : Option Expression) {ns : Names} {first next last : Option PlacedFault} → HasSame ns visible → IsFirst first (item_faults (column_of naming) scope (starred (is_some p.star) scope) p.items) next
       → IsTail p condition ns next last → IsFirst first (projection_faults (column_of naming) scope p condition) last
   projected condition {ns} {first} {next} {last} s h t =
       let fronts = items_same (column_of naming) scope scope (same_self scope) (starred (is_some p.star) scope) (column_names (star_columns scope p.star)) (record { is = λ n. sym ((star_names scope p.star).is n) }) p.items in
-      let whole : List Found → List Found → List Found → List Found = λ front order rest. front ++ order ++ faults_if_any [] p.skip ++ faults_if_any [] p.limit ++ rest in
+      let whole : List PlacedFault → List PlacedFault → List PlacedFault → List PlacedFault = λ front order rest. front ++ order ++ faults_if_any [] p.skip ++ faults_if_any [] p.limit ++ rest in
       let front = item_faults (column_of naming) scope (starred (is_some p.star) scope) p.items in
       let given = t.is first front h in
       let moved = ap (λ fs. whole fs (flat_map (sorts p.items ns) p.order) (faults_if_any ns condition)) fronts
@@ -248,10 +248,10 @@ module _ (naming : Naming) (scope : Names) (p : Projection) where
       subst (λ fs. IsFirst first fs last) moved given
 
 -- a sort that stands for no item, and one that does
-pub sort_seen : (items : List Item) (names : Names) (x : SortItem) {first next : Option Found} → false ≡ list_any (λ (i : Item). same_expression i.value x.key) items → IsFirst first (faults_of names x.key) next → IsFirst first (sorts items names x) next
+pub sort_seen : (items : List Item) (names : Names) (x : SortItem) {first next : Option PlacedFault} → false ≡ list_any (λ (i : Item). same_expression i.value x.key) items → IsFirst first (faults_of names x.key) next → IsFirst first (sorts items names x) next
 sort_seen items names x {first} {next} other h = subst (λ b. IsFirst first (without names x b) next) other h
 
-pub sort_passed : (items : List Item) (names : Names) (x : SortItem) {first : Option Found} → true ≡ list_any (λ (i : Item). same_expression i.value x.key) items → IsFirst first (sorts items names x) first
+pub sort_passed : (items : List Item) (names : Names) (x : SortItem) {first : Option PlacedFault} → true ≡ list_any (λ (i : Item). same_expression i.value x.key) items → IsFirst first (sorts items names x) first
 sort_passed items names x {first} same = subst (λ b. IsFirst first (without names x b) first) same (no_more first)
 
 -- ---- the same names bring the same faults
@@ -284,10 +284,10 @@ module _ (naming : Naming) (ns ms : Names) (s : HasSame ns ms) (p : Projection) 
 
   pub projection_same : (condition : Option Expression) → projection_faults (column_of naming) ns p condition ≡ projection_faults (column_of naming) ms p condition
   projection_same condition =
-      let whole : List Found → List Found → List Found → List Found = λ front order rest. front ++ order ++ faults_if_any [] p.skip ++ faults_if_any [] p.limit ++ rest in
+      let whole : List PlacedFault → List PlacedFault → List PlacedFault → List PlacedFault = λ front order rest. front ++ order ++ faults_if_any [] p.skip ++ faults_if_any [] p.limit ++ rest in
       let names : Names → Names = λ ls. column_names (star_columns ls p.star) in
       let before : HasSame (names ns) (names ms) = record { is = λ n. (star_names ns p.star).is n ∙ starred_same (is_some p.star) n ∙ sym ((star_names ms p.star).is n) } in
-      let sorted : List SortItem → List Found = λ xs. flat_map (sort_faults (projection_columns (column_of naming) ns p) (visible naming ns p)) xs in
+      let sorted : List SortItem → List PlacedFault = λ xs. flat_map (sort_faults (projection_columns (column_of naming) ns p) (visible naming ns p)) xs in
       ap (λ fs. whole fs (sorted p.order) (faults_if_any (visible naming ns p) condition)) (items_same (column_of naming) ns ms s (names ns) (names ms) before p.items)
       ∙ ap (λ fs. whole (item_faults (column_of naming) ms (names ms) p.items) fs (faults_if_any (visible naming ns p) condition))
       (sym (sorts_are naming ns p p.order) ∙ sorts_same p.items (visible naming ns p) (visible naming ms p) visible_same p.order ∙ sorts_are naming ms p p.order)

@@ -3,14 +3,14 @@ use Rattle.std.proofs.Common.{◌≡◌, ℕ, Bool, not, List, [], ◌∷◌, �
 use Rattle.std.specs.Prelude.{◌||◌, ◌&&◌, bytes_eq}
 use Rattle.pg_meaning.specs.Names.{Names, is_among}
 use Rattle.pg_meaning.specs.Scopes.{Column}
-use Rattle.pg_meaning.specs.StaticFaults.{Found, Mode, Part, path_part, node_part, relationship_part, Used, used_with, relationship_variable, is_used, is_matching, is_described, new_faults, node_variable_faults, key_faults, properties_faults, detail_faults, relationship_faults, is_free, found_if, part_faults, parts_faults, Role, elsewhere, expression_faults, all_faults, pair_faults, perhaps_faults, when_faults, operand_faults, test_faults, suffix_faults, faults_if_any, item_faults, whole_item}
+use Rattle.pg_meaning.specs.StaticFaults.{PlacedFault, Mode, Part, path_part, node_part, relationship_part, Used, used_with, relationship_variable, is_used, is_matching, is_described, new_faults, node_variable_faults, key_faults, properties_faults, detail_faults, relationship_faults, is_free, found_if, part_faults, parts_faults, Role, elsewhere, expression_faults, all_faults, pair_faults, perhaps_faults, when_faults, operand_faults, test_faults, suffix_faults, faults_if_any, item_faults, whole_item}
 use Rattle.pg_meaning.specs.Tree.{Name, Expression, Expressions, Pairs, Perhaps, Whens, Operands, Tests, Suffixes, Properties, NodePattern, Detail, RelationshipPattern, Item}
 use Rattle.pg_meaning.specs.Tree as tree
 use Rattle.pg_meaning.specs.declared.fault.Fault.TheVariants.{UndefinedVariable, VariableAlreadyBound, BadPattern, BadAggregate, UnknownFunction, DuplicateColumn}
-use Rattle.pg_meaning.specs.StaticFaults.{is_aggregate, is_elsewhere, is_known, count_of}
+use Rattle.pg_meaning.specs.StaticFaults.{is_aggregate, is_elsewhere, is_known, argument_count}
 use Rattle.pg_scope.specs.Names.{HasSame}
 
-joined : {a b c d : List Found} → a ≡ b → c ≡ d → a ++ c ≡ b ++ d
+joined : {a b c d : List PlacedFault} → a ≡ b → c ≡ d → a ++ c ≡ b ++ d
 joined {a} {b} {c} {d} e h = ap (λ x. x ++ c) e ∙ ap (λ x. b ++ x) h
 
 module _ (ns ms : Names) (s : HasSame ns ms) where
@@ -23,7 +23,7 @@ module _ (ns ms : Names) (s : HasSame ns ms) where
     expression_same role (tree.map_literal ps) = pair_same ps
     expression_same role (tree.parentheses x) = expression_same elsewhere x
     expression_same role (tree.call n star distinct xs) =
-        ap (λ fs. found_if (is_aggregate n && is_elsewhere role) n.place BadAggregate ++ found_if (not (is_known n star distinct (count_of xs))) n.place UnknownFunction ++ fs) (all_same xs)
+        ap (λ fs. found_if (is_aggregate n && is_elsewhere role) n.place BadAggregate ++ found_if (not (is_known n star distinct (argument_count xs))) n.place UnknownFunction ++ fs) (all_same xs)
     expression_same role (tree.case subject whens otherwise) = joined (joined (perhaps_same subject) (when_same whens)) (perhaps_same otherwise)
     expression_same role (tree.chain x os) = joined (expression_same elsewhere x) (operand_same os)
     expression_same role (tree.negation n x) = expression_same elsewhere x

@@ -3,7 +3,7 @@ use Rattle.std.proofs.Common.{◌≡◌, map, option_map, ℕ, List, [], ◌∷�
 use Rattle.std.specs.Prelude.{flat_map, bytes_eq, ◌||◌}
 use Rattle.pg_meaning.specs.Names.{Names, is_among}
 use Rattle.pg_meaning.specs.Patterns.{add_path_names}
-use Rattle.pg_meaning.specs.StaticFaults.{Found, faults_if_any, set_faults, faults_of, target_faults, found_if}
+use Rattle.pg_meaning.specs.StaticFaults.{PlacedFault, faults_if_any, set_faults, faults_of, target_faults, found_if}
 use Rattle.pg_meaning.specs.Tree.{Expression, SetItem, RemoveItem, Name, PathPattern, Clause}
 use Rattle.pg_meaning.specs.Tree as tree
 use Rattle.pg_meaning.specs.declared.fault.Fault.TheVariants.{UndefinedVariable, VariableAlreadyBound}
@@ -28,7 +28,7 @@ use Rattle.pg_scope.specs.First.{IsFirst}
 use Rattle.pg_scope.specs.Names.{HasSame}
 
 -- an expression that sees other sets of the same names
-pub if_any_seen : {ns ms : Names} (x : Option Expression) {first next : Option Found} → HasSame ns ms → IsFirst first (faults_if_any ns x) next → IsFirst first (faults_if_any ms x) next
+pub if_any_seen : {ns ms : Names} (x : Option Expression) {first next : Option PlacedFault} → HasSame ns ms → IsFirst first (faults_if_any ns x) next → IsFirst first (faults_if_any ms x) next
 if_any_seen {ns} {ms} x {first} {next} s h = subst (λ fs. IsFirst first fs next) (if_any_same ns ms s x) h
 
 set_same : (ns ms : Names) → HasSame ns ms → (x : SetItem) → set_faults ns x ≡ set_faults ms x
@@ -37,20 +37,20 @@ set_same ns ms s (tree.set_all n x) = ap (λ b. found_if (not b) n.place Undefin
 set_same ns ms s (tree.set_more n x) = ap (λ b. found_if (not b) n.place UndefinedVariable ++ faults_of ns x) (s.is n.text) ∙ ap (λ fs. target_faults ms n ++ fs) (expression_same ns ms s elsewhere x)
 set_same ns ms s (tree.set_labels n ls) = ap (λ b. found_if (not b) n.place UndefinedVariable) (s.is n.text)
 
-each_same : {X : Type 0} (f g : X → List Found) → ((x : X) → f x ≡ g x) → (xs : List X) → flat_map f xs ≡ flat_map g xs
+each_same : {X : Type 0} (f g : X → List PlacedFault) → ((x : X) → f x ≡ g x) → (xs : List X) → flat_map f xs ≡ flat_map g xs
 each_same f g e [] = refl
 each_same f g e (x ∷ xs) = ap (λ fs. fs ++ flat_map f xs) (e x) ∙ ap (λ fs. g x ++ fs) (each_same f g e xs)
 
-pub ons_seen : {ns ms : Names} (os : List (Bool × List SetItem)) {first next : Option Found} → HasSame ns ms → IsFirst first (flat_map (λ o. flat_map (set_faults ns) o.1) os) next
+pub ons_seen : {ns ms : Names} (os : List (Bool × List SetItem)) {first next : Option PlacedFault} → HasSame ns ms → IsFirst first (flat_map (λ o. flat_map (set_faults ns) o.1) os) next
     → IsFirst first (flat_map (λ o. flat_map (set_faults ms) o.1) os) next
 ons_seen {ns} {ms} os {first} {next} s h =
     subst (λ fs. IsFirst first fs next) (each_same (λ (o : Bool × List SetItem). flat_map (set_faults ns) o.1) (λ (o : Bool × List SetItem). flat_map (set_faults ms) o.1) (λ o. each_same (set_faults ns) (set_faults ms) (set_same ns ms s) o.1) os) h
 
-nothing_behind : {first next last : Option Found} {fs : List Found} → IsFirst first fs next → IsFirst next [] last → IsFirst first fs last
+nothing_behind : {first next last : Option PlacedFault} {fs : List PlacedFault} → IsFirst first fs next → IsFirst next [] last → IsFirst first fs last
 nothing_behind {first} {next} {last} {fs} e h = subst (IsFirst first fs) (sym (h.is ∙ least_of_none next)) e
 
 -- a clause that is neither WITH nor RETURN, from its two parts
-pub stepped : {ns ms : Names} {first next last : Option Found} (x : ProgramClause)
+pub stepped : {ns ms : Names} {first next last : Option PlacedFault} (x : ProgramClause)
     → ((p : ProgramProjection) (condition : Option ProgramExpression) → x ≡ clause.With p condition → ⊥) → ((p : ProgramProjection) → x ≡ clause.Return p → ⊥)
     → IsFirst first (faults_before ns (clause_view x)) next → HasSame ms (scope_after ns (clause_view x)) → IsFirst next (faults_behind ms (clause_view x)) last → Steps ns (clause_view x) first last ms
 stepped (clause.Match is_optional ps condition) w r e s h = record { faults = in_turn e (if_any_seen (option_map expression_view condition) s h); names_behind = s }
@@ -79,7 +79,7 @@ star_same (n ∷ ns) [] s star = absurd (false≢true (sym (s.is n) ∙ ap (λ b
 star_same (n ∷ ns) (m ∷ ms) s None = refl
 star_same (n ∷ ns) (m ∷ ms) s (Some at) = refl
 
-both : {a b c d : List Found} → a ≡ b → c ≡ d → a ++ c ≡ b ++ d
+both : {a b c d : List PlacedFault} → a ≡ b → c ≡ d → a ++ c ≡ b ++ d
 both {a} {b} {c} {d} e h = ap (λ x. x ++ c) e ∙ ap (λ x. b ++ x) h
 
 clause_same : (ns ms : Names) → HasSame ns ms → (c : Clause) → clause_faults ns c ≡ clause_faults ms c
@@ -109,5 +109,5 @@ after_same ns ms s (tree.with_rows p condition) = names_same Variable ns ms s p
 after_same ns ms s (tree.return_rows p) = names_same Source ns ms s p
 
 -- one clause more
-pub steps_more : {names ns behind : Names} {c : Clause} {before first : Option Found} → HasSame names ns → Steps names c before first behind → IsFirst before (clause_faults ns c) first × HasSame behind (scope_after ns c)
+pub steps_more : {names ns behind : Names} {c : Clause} {before first : Option PlacedFault} → HasSame names ns → Steps names c before first behind → IsFirst before (clause_faults ns c) first × HasSame behind (scope_after ns c)
 steps_more {names} {ns} {behind} {c} {before} {first} s h = (subst (λ fs. IsFirst before fs first) (clause_same names ns s c) h.faults, same_in_turn h.names_behind (after_same names ns s c))

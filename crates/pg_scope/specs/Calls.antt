@@ -4,7 +4,7 @@ use Rattle.std.specs.Map.{lookup}
 use Rattle.std.specs.Str.{str_to_ascii_lowercase}
 use Rattle.pg_meaning.specs.Aggregates as summary
 use Rattle.pg_meaning.specs.Functions as function
-use Rattle.pg_meaning.specs.StaticFaults.{Role, is_elsewhere, is_aggregate, is_known, Found, found_if}
+use Rattle.pg_meaning.specs.StaticFaults.{Role, is_elsewhere, is_aggregate, is_known, PlacedFault, found_if}
 use Rattle.pg_meaning.specs.Tree.{Name}
 use Rattle.pg_meaning.specs.declared.fault.Fault.TheVariants.{BadAggregate, UnknownFunction}
 use Rattle.pg_scope.specs.declared.calls.Function.{Function}
@@ -40,7 +40,7 @@ summary_view Greatest = summary.greatest
 summary_view Collecting = summary.collecting
 
 -- the faults of a call itself, with so many arguments
-abbrev pub own_faults : Role → Name → (star distinct : Bool) → ℕ → List Found
+abbrev pub own_faults : Role → Name → (star distinct : Bool) → ℕ → List PlacedFault
 own_faults role n star distinct count =
     found_if (is_aggregate n && is_elsewhere role) n.place BadAggregate ++ found_if (not (is_known n star distinct count)) n.place UnknownFunction
 

@@ -4,7 +4,7 @@ use Rattle.std.specs.List.{list_any}
 use Rattle.pg_meaning.specs.Aggregates.{aggregate_of}
 use Rattle.pg_meaning.specs.Names.{Names}
 use Rattle.pg_meaning.specs.Scopes.{Column, with_column, return_column}
-use Rattle.pg_meaning.specs.StaticFaults.{Found, faults_of, faults_if_any}
+use Rattle.pg_meaning.specs.StaticFaults.{PlacedFault, faults_of, faults_if_any}
 use Rattle.pg_meaning.specs.Tree.{Expression, Item, SortItem, Projection}
 use Rattle.pg_meaning.specs.Trees.{same_expression}
 use Rattle.pg_scope.specs.First.{IsFirst}
@@ -25,10 +25,10 @@ abbrev pub narrow : Projection → Bool
 narrow p = is_none p.star && (p.distinct || list_any (λ x. is_some (aggregate_of x.value)) p.items)
 
 -- a sort that is no item's expression
-abbrev pub sorts : List Item → Names → SortItem → List Found
+abbrev pub sorts : List Item → Names → SortItem → List PlacedFault
 sorts items visible x = elim (list_any (λ i. same_expression i.value x.key) items) [ true ↦ [] | false ↦ faults_of visible x.key ]
 
 -- behind any faults: those of what stands behind the items
-pub record IsTail (p : Projection) (condition : Option Expression) (visible : Names) (next last : Option Found) : Type 0 where
-  pub is : (first : Option Found) (front : List Found) → IsFirst first front next
+pub record IsTail (p : Projection) (condition : Option Expression) (visible : Names) (next last : Option PlacedFault) : Type 0 where
+  pub is : (first : Option PlacedFault) (front : List PlacedFault) → IsFirst first front next
       → IsFirst first (front ++ flat_map (sorts p.items visible) p.order ++ faults_if_any [] p.skip ++ faults_if_any [] p.limit ++ faults_if_any visible condition) last

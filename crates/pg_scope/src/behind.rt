@@ -20,7 +20,8 @@ fn behind_projection<'a>(
     mut scope: Names<'a>,
     projection: &'a Projection,
 ) -> Result<Names<'a>, AllocError>
-    ensures { IfOk result (λ names. HasSame (names_in names) (column_names (projection_columns (column_of naming) (names_in scope.entry) (projection_view projection.now)))) }
+    ensures { IfOk result (λ names. HasSame (names_in names) (column_names (projection_columns
+        (column_of naming) (names_in scope.entry) (projection_view projection.now)))) }
 {
     if projection.star.is_some() {
         add_columns(naming, &mut scope, &projection.items)?;
@@ -37,7 +38,8 @@ pub fn names_behind<'a>(
     mut scope: Names<'a>,
     clause: &'a Clause,
 ) -> Result<Names<'a>, AllocError>
-    ensures { IfOk result (λ names. HasSame (names_in names) (scope_after (names_in scope.entry) (clause_view clause.now))) }
+    ensures { IfOk result (λ names.
+        HasSame (names_in names) (scope_after (names_in scope.entry) (clause_view clause.now))) }
 {
     match clause {
         Clause::Match(_, paths, _) | Clause::Create(paths) => add_paths(&mut scope, paths)?,

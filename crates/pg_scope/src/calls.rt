@@ -82,12 +82,14 @@ fn named<T: Copy>(known: &[(&str, T)], name: &str) -> Option<T>
     None
 }
 
+/// The function of a name, whatever its case; none for an aggregate function.
 pub fn function_named(name: &str) -> Option<Function>
     ensures { option_map function_view result ≡ meaning.function_named name.now }
 {
     named(&FUNCTIONS, name)
 }
 
+/// The aggregate function of a name, whatever its case.
 pub fn summary_named(name: &str) -> Option<Summary>
     ensures { option_map summary_view result ≡ aggregate_named name.now }
 {
@@ -118,7 +120,8 @@ fn is_known_aggregate(summary: Summary, star: bool, count: usize) -> bool
 
 /// A function takes neither `*` nor DISTINCT.
 fn is_known_function(function: Option<Function>, star: bool, distinct: bool, count: usize) -> bool
-    ensures { result ≡ spec.is_known_function (option_map function_view function) star distinct count }
+    ensures { result
+        ≡ spec.is_known_function (option_map function_view function) star distinct count }
 {
     match function {
         Some(function) => !star && !distinct && takes(function, count),

@@ -6,16 +6,17 @@ ghost use Rattle.pg_scope.specs.Names.{names_in};
 ghost use Rattle.pg_syntax_tree.specs.View.{expression_view, on_view, remove_item_view, set_item_view};
 
 use crate::expressions::{Role, fault_in_expression, fault_in_variable};
-use crate::found::Found;
+use crate::found::PlacedFault;
 use crate::names::Names;
 use pg_syntax_tree::{Expression, On, RemoveItem, SetItem};
 
 pub(crate) fn fault_in_sets<'a>(
     scope: &Names<'a>,
     items: &'a Vec<SetItem>,
-    mut first: Option<Found>,
-) -> Option<Found>
-    ensures { IsFirst first (flat_map (spec.set_faults (names_in scope.now)) (map set_item_view items.now.items)) result }
+    mut first: Option<PlacedFault>,
+) -> Option<PlacedFault>
+    ensures { IsFirst first (flat_map
+        (spec.set_faults (names_in scope.now)) (map set_item_view items.now.items)) result }
 {
     for item in items {
         first = match item {
@@ -34,9 +35,10 @@ pub(crate) fn fault_in_sets<'a>(
 pub(crate) fn fault_in_ons<'a>(
     scope: &Names<'a>,
     ons: &'a Vec<On>,
-    mut first: Option<Found>,
-) -> Option<Found>
-    ensures { IsFirst first (flat_map (λ o. flat_map (spec.set_faults (names_in scope.now)) o.1) (map on_view ons.now.items)) result }
+    mut first: Option<PlacedFault>,
+) -> Option<PlacedFault>
+    ensures { IsFirst first (flat_map (λ o. flat_map (spec.set_faults (names_in scope.now)) o.1)
+        (map on_view ons.now.items)) result }
 {
     for on in ons {
         first = fault_in_sets(scope, &on.items, first);
@@ -47,9 +49,10 @@ pub(crate) fn fault_in_ons<'a>(
 pub(crate) fn fault_in_removes<'a>(
     scope: &Names<'a>,
     items: &'a Vec<RemoveItem>,
-    mut first: Option<Found>,
-) -> Option<Found>
-    ensures { IsFirst first (flat_map (spec.remove_faults (names_in scope.now)) (map remove_item_view items.now.items)) result }
+    mut first: Option<PlacedFault>,
+) -> Option<PlacedFault>
+    ensures { IsFirst first (flat_map
+        (spec.remove_faults (names_in scope.now)) (map remove_item_view items.now.items)) result }
 {
     for item in items {
         match item {
@@ -64,9 +67,10 @@ pub(crate) fn fault_in_removes<'a>(
 pub(crate) fn fault_in_each<'a>(
     scope: &Names<'a>,
     items: &'a Vec<Expression>,
-    mut first: Option<Found>,
-) -> Option<Found>
-    ensures { IsFirst first (flat_map (spec.faults_of (names_in scope.now)) (map expression_view items.now.items)) result }
+    mut first: Option<PlacedFault>,
+) -> Option<PlacedFault>
+    ensures { IsFirst first (flat_map
+        (spec.faults_of (names_in scope.now)) (map expression_view items.now.items)) result }
 {
     for item in items {
         first = fault_in_expression(scope, Role::Elsewhere, item, first);

@@ -53,7 +53,8 @@ fn has_aggregate(item: &Item) -> bool
 
 /// Whether any item is an aggregate.
 pub(crate) fn have_aggregate(items: &Vec<Item>) -> bool
-    ensures { result ≡ list_any (λ x. is_some (aggregate_of x.value)) (map item_view items.now.items) }
+    ensures { result
+        ≡ list_any (λ x. is_some (aggregate_of x.value)) (map item_view items.now.items) }
 {
     for item in items {
         if has_aggregate(item) {

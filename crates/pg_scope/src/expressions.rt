@@ -9,7 +9,7 @@ ghost use Rattle.pg_scope.specs.Roles.{role_view};
 ghost use Rattle.pg_syntax_tree.specs.View.{expression_view, name_view, pair_view, suffixes_of, tests_of, when_view, operand_view, test_view, suffix_view, perhaps_view};
 
 use crate::calls::{is_aggregate, is_known};
-use crate::found::{Found, noted};
+use crate::found::{PlacedFault, noted};
 use crate::names::{Names, is_among};
 use pg_meaning::{Fault, Operator};
 use pg_syntax_tree::{Expression, Name, Suffix, Test};
@@ -25,9 +25,10 @@ pub(crate) enum Role {
 pub(crate) fn fault_in_variable<'a>(
     visible: &Names<'a>,
     name: &'a Name,
-    first: Option<Found>,
-) -> Option<Found>
-    ensures { IsFirst first (spec.target_faults (names_in visible.now) (name_view name.now)) result }
+    first: Option<PlacedFault>,
+) -> Option<PlacedFault>
+    ensures { IsFirst first
+        (spec.target_faults (names_in visible.now) (name_view name.now)) result }
 {
     let undefined = !is_among(visible, name.text.as_str());
     noted(undefined, name.place, Fault::UndefinedVariable, first)
@@ -35,7 +36,8 @@ pub(crate) fn fault_in_variable<'a>(
 
 /// An aggregate is the whole of an item.
 fn is_misplaced(role: Role, name: &Name) -> bool
-    ensures { result ≡ spec.is_aggregate (name_view name.now) && spec.is_elsewhere (role_view role) }
+    ensures { result
+        ≡ spec.is_aggregate (name_view name.now) && spec.is_elsewhere (role_view role) }
 {
     is_aggregate(name) && role == Role::Elsewhere
 }
@@ -47,9 +49,10 @@ fn fault_in_call(
     star: bool,
     distinct: bool,
     count: usize,
-    first: Option<Found>,
-) -> Option<Found>
-    ensures { IsFirst first (own_faults (role_view role) (name_view name.now) star distinct count) result }
+    first: Option<PlacedFault>,
+) -> Option<PlacedFault>
+    ensures { IsFirst first
+        (own_faults (role_view role) (name_view name.now) star distinct count) result }
 {
     let misplaced = is_misplaced(role, name);
     let first = noted(misplaced, name.place, Fault::BadAggregate, first);
@@ -63,9 +66,10 @@ pub(crate) fn fault_in_expression<'a>(
     visible: &Names<'a>,
     role: Role,
     expression: &'a Expression,
-    first: Option<Found>,
-) -> Option<Found>
-    ensures { IsFirst first (spec.expression_faults (names_in visible.now) (role_view role) (expression_view expression.now)) result }
+    first: Option<PlacedFault>,
+) -> Option<PlacedFault>
+    ensures { IsFirst first (spec.expression_faults
+        (names_in visible.now) (role_view role) (expression_view expression.now)) result }
 {
     match expression {
         Expression::Literal(_) | Expression::Parameter(_) => first,
@@ -109,9 +113,10 @@ pub(crate) fn fault_in_expression<'a>(
 fn fault_in_all<'a>(
     visible: &Names<'a>,
     items: &'a Vec<Expression>,
-    mut first: Option<Found>,
-) -> Option<Found>
-    ensures { IsFirst first (spec.all_faults (names_in visible.now) (expressions_of (map expression_view items.now.items))) result }
+    mut first: Option<PlacedFault>,
+) -> Option<PlacedFault>
+    ensures { IsFirst first (spec.all_faults
+        (names_in visible.now) (expressions_of (map expression_view items.now.items))) result }
 {
     for item in items {
         first = fault_in_expression(visible, Role::Elsewhere, item, first);
@@ -123,9 +128,10 @@ fn fault_in_all<'a>(
 fn fault_in_pairs<'a>(
     visible: &Names<'a>,
     pairs: &'a Vec<(Name, Expression)>,
-    mut first: Option<Found>,
-) -> Option<Found>
-    ensures { IsFirst first (spec.pair_faults (names_in visible.now) (pairs_of (map pair_view pairs.now.items))) result }
+    mut first: Option<PlacedFault>,
+) -> Option<PlacedFault>
+    ensures { IsFirst first (spec.pair_faults
+        (names_in visible.now) (pairs_of (map pair_view pairs.now.items))) result }
 {
     for (_, value) in pairs {
         first = fault_in_expression(visible, Role::Elsewhere, value, first);
@@ -137,9 +143,10 @@ fn fault_in_pairs<'a>(
 fn fault_in_perhaps<'a>(
     visible: &Names<'a>,
     expression: &'a Option<Box<Expression>>,
-    first: Option<Found>,
-) -> Option<Found>
-    ensures { IsFirst first (spec.perhaps_faults (names_in visible.now) (perhaps_view expression.now)) result }
+    first: Option<PlacedFault>,
+) -> Option<PlacedFault>
+    ensures { IsFirst first
+        (spec.perhaps_faults (names_in visible.now) (perhaps_view expression.now)) result }
 {
     match expression {
         Some(inner) => fault_in_expression(visible, Role::Elsewhere, inner, first),
@@ -151,9 +158,10 @@ fn fault_in_perhaps<'a>(
 fn fault_in_whens<'a>(
     visible: &Names<'a>,
     whens: &'a Vec<(Expression, Expression)>,
-    mut first: Option<Found>,
-) -> Option<Found>
-    ensures { IsFirst first (spec.when_faults (names_in visible.now) (whens_of (map when_view whens.now.items))) result }
+    mut first: Option<PlacedFault>,
+) -> Option<PlacedFault>
+    ensures { IsFirst first (spec.when_faults
+        (names_in visible.now) (whens_of (map when_view whens.now.items))) result }
 {
     for (condition, value) in whens {
         first = fault_in_expression(visible, Role::Elsewhere, condition, first);
@@ -166,9 +174,10 @@ fn fault_in_whens<'a>(
 fn fault_in_operands<'a>(
     visible: &Names<'a>,
     operands: &'a Vec<(Operator, Expression)>,
-    mut first: Option<Found>,
-) -> Option<Found>
-    ensures { IsFirst first (spec.operand_faults (names_in visible.now) (operands_of (map operand_view operands.now.items))) result }
+    mut first: Option<PlacedFault>,
+) -> Option<PlacedFault>
+    ensures { IsFirst first (spec.operand_faults
+        (names_in visible.now) (operands_of (map operand_view operands.now.items))) result }
 {
     for (_, operand) in operands {
         first = fault_in_expression(visible, Role::Elsewhere, operand, first);
@@ -180,9 +189,10 @@ fn fault_in_operands<'a>(
 fn fault_in_tests<'a>(
     visible: &Names<'a>,
     tests: &'a Vec<Test<Expression>>,
-    mut first: Option<Found>,
-) -> Option<Found>
-    ensures { IsFirst first (spec.test_faults (names_in visible.now) (tests_of (map test_view tests.now.items))) result }
+    mut first: Option<PlacedFault>,
+) -> Option<PlacedFault>
+    ensures { IsFirst first (spec.test_faults
+        (names_in visible.now) (tests_of (map test_view tests.now.items))) result }
 {
     for test in tests {
         first = match test {
@@ -197,9 +207,10 @@ fn fault_in_tests<'a>(
 fn fault_in_suffixes<'a>(
     visible: &Names<'a>,
     suffixes: &'a Vec<Suffix<Expression>>,
-    mut first: Option<Found>,
-) -> Option<Found>
-    ensures { IsFirst first (spec.suffix_faults (names_in visible.now) (suffixes_of (map suffix_view suffixes.now.items))) result }
+    mut first: Option<PlacedFault>,
+) -> Option<PlacedFault>
+    ensures { IsFirst first (spec.suffix_faults
+        (names_in visible.now) (suffixes_of (map suffix_view suffixes.now.items))) result }
 {
     for suffix in suffixes {
         first = match suffix {

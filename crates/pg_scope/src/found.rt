@@ -6,10 +6,10 @@ ghost use Rattle.pg_scope.specs.First.{IsFirst};
 use pg_meaning::Fault;
 
 /// A fault and where it stands.
-pub(crate) type Found = (usize, Fault);
+pub(crate) type PlacedFault = (usize, Fault);
 
 /// The least place counts, then the least number.
-fn goes_before(a: Found, b: Found) -> bool
+fn goes_before(a: PlacedFault, b: PlacedFault) -> bool
     ensures { result ≡ goes_before a b }
 {
     a.0 < b.0 || (a.0 == b.0 && a.1.code() < b.1.code())
@@ -20,8 +20,8 @@ pub(crate) fn noted(
     is_fault: bool,
     place: usize,
     fault: Fault,
-    first: Option<Found>,
-) -> Option<Found>
+    first: Option<PlacedFault>,
+) -> Option<PlacedFault>
     ensures { IsFirst first (found_if is_fault place fault) result }
 {
     if !is_fault {

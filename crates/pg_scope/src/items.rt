@@ -10,7 +10,7 @@ ghost use Rattle.pg_syntax_tree.specs.View.{item_view};
 
 use crate::columns::{Naming, column_name};
 use crate::expressions::{Role, fault_in_expression};
-use crate::found::{Found, noted};
+use crate::found::{PlacedFault, noted};
 use crate::names::{Names, add, is_among};
 use pg_meaning::Fault;
 use pg_syntax_tree::Item;
@@ -30,11 +30,14 @@ pub(crate) fn fault_in_items<'a>(
     star: bool,
     items: &'a Vec<Item>,
     columns: &mut Names<'a>,
-    mut first: Option<Found>,
-) -> Result<Option<Found>, AllocError>
+    mut first: Option<PlacedFault>,
+) -> Result<Option<PlacedFault>, AllocError>
     requires { columns.old.keys ≡ [] }
-    ensures first { IfOk result (λ found. IsFirst first (spec.item_faults (column_of naming) (names_in scope.now) (starred star (names_in scope.now)) (map item_view items.now.items)) found) }
-    ensures names { OnOk result (HasSame (names_in columns.new) (column_names (map (column_of naming) (map item_view items.now.items)))) }
+    ensures first { IfOk result
+        (λ found. IsFirst first (spec.item_faults (column_of naming) (names_in scope.now)
+        (starred star (names_in scope.now)) (map item_view items.now.items)) found) }
+    ensures names { OnOk result (HasSame (names_in columns.new)
+        (column_names (map (column_of naming) (map item_view items.now.items)))) }
 {
     for item in items {
         let name = column_name(naming, item);
@@ -52,7 +55,8 @@ pub(crate) fn add_columns<'a>(
     names: &mut Names<'a>,
     items: &'a Vec<Item>,
 ) -> Result<(), AllocError>
-    ensures { OnOk result (HasSame (names_in names.new) (column_names (map (column_of naming) (map item_view items.now.items)) ++ names_in names.old)) }
+    ensures { OnOk result (HasSame (names_in names.new) (column_names
+        (map (column_of naming) (map item_view items.now.items)) ++ names_in names.old)) }
 {
     for item in items {
         add(names, column_name(naming, item))?;

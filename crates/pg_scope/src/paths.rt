@@ -8,7 +8,7 @@ ghost use Rattle.pg_scope.specs.Names.{names_in};
 ghost use Rattle.pg_scope.specs.Used.{used_in, Passes};
 ghost use Rattle.pg_syntax_tree.specs.View.{hop_view, node_view, path_view};
 
-use crate::found::Found;
+use crate::found::PlacedFault;
 use crate::modes::Mode;
 use crate::names::{Names, add};
 use crate::patterns::{fault_in_new, fault_in_node_variable, fault_in_relationship_variable};
@@ -26,9 +26,11 @@ fn pass_node<'a>(
     used: &mut Used<'a>,
     is_whole: bool,
     node: &'a NodePattern,
-    first: Option<Found>,
-) -> Result<Option<Found>, AllocError>
-    ensures { IfOk result (λ found. Passes (mode_view mode) (names_in outer.now) (spec.node_part is_whole (node_view node.now) ∷ []) (used_in used.old) first (used_in used.new) found) }
+    first: Option<PlacedFault>,
+) -> Result<Option<PlacedFault>, AllocError>
+    ensures { IfOk result (λ found. Passes
+        (mode_view mode) (names_in outer.now) (spec.node_part is_whole (node_view node.now) ∷ [])
+        (used_in used.old) first (used_in used.new) found) }
 {
     let first = fault_in_node_variable(mode, outer, used, is_whole, node, first);
     let first = fault_in_properties(alloc, mode, outer, node.place, &node.properties, first)?;
@@ -43,9 +45,11 @@ fn pass_hops<'a>(
     outer: &Names<'a>,
     used: &mut Used<'a>,
     hops: &'a Vec<(RelationshipPattern, NodePattern)>,
-    mut first: Option<Found>,
-) -> Result<Option<Found>, AllocError>
-    ensures { IfOk result (λ found. Passes (mode_view mode) (names_in outer.now) (flat_map spec.hop_parts (map hop_view hops.now.items)) (used_in used.old) first (used_in used.new) found) }
+    mut first: Option<PlacedFault>,
+) -> Result<Option<PlacedFault>, AllocError>
+    ensures { IfOk result (λ found. Passes (mode_view mode)
+        (names_in outer.now) (flat_map spec.hop_parts (map hop_view hops.now.items))
+        (used_in used.old) first (used_in used.new) found) }
 {
     for (relationship, node) in hops {
         first = fault_in_relationship_variable(outer, used, relationship, first);
@@ -70,9 +74,10 @@ fn pass_path<'a>(
     outer: &Names<'a>,
     used: &mut Used<'a>,
     path: &'a PathPattern,
-    mut first: Option<Found>,
-) -> Result<Option<Found>, AllocError>
-    ensures { IfOk result (λ found. Passes (mode_view mode) (names_in outer.now) (spec.path_parts (path_view path.now)) (used_in used.old) first (used_in used.new) found) }
+    mut first: Option<PlacedFault>,
+) -> Result<Option<PlacedFault>, AllocError>
+    ensures { IfOk result (λ found. Passes (mode_view mode) (names_in outer.now)
+        (spec.path_parts (path_view path.now)) (used_in used.old) first (used_in used.new) found) }
 {
     if let Some(name) = &path.variable {
         first = fault_in_new(outer, used, name, first);
@@ -90,9 +95,11 @@ fn pass_paths<'a>(
     outer: &Names<'a>,
     used: &mut Used<'a>,
     paths: &'a Vec<PathPattern>,
-    mut first: Option<Found>,
-) -> Result<Option<Found>, AllocError>
-    ensures { IfOk result (λ found. Passes (mode_view mode) (names_in outer.now) (flat_map spec.path_parts (map path_view paths.now.items)) (used_in used.old) first (used_in used.new) found) }
+    mut first: Option<PlacedFault>,
+) -> Result<Option<PlacedFault>, AllocError>
+    ensures { IfOk result (λ found. Passes (mode_view mode)
+        (names_in outer.now) (flat_map spec.path_parts (map path_view paths.now.items))
+        (used_in used.old) first (used_in used.new) found) }
 {
     for path in paths {
         first = pass_path(alloc, mode, outer, used, path, first)?;
@@ -106,9 +113,10 @@ pub(crate) fn fault_in_path<'a>(
     mode: Mode,
     outer: &Names<'a>,
     path: &'a PathPattern,
-    first: Option<Found>,
-) -> Result<Option<Found>, AllocError>
-    ensures { IfOk result (λ found. IsFirst first (spec.paths_faults (mode_view mode) (names_in outer.now) (path_view path.now ∷ [])) found) }
+    first: Option<PlacedFault>,
+) -> Result<Option<PlacedFault>, AllocError>
+    ensures { IfOk result (λ found. IsFirst first
+        (spec.paths_faults (mode_view mode) (names_in outer.now) (path_view path.now ∷ [])) found) }
 {
     let mut used = Used::new(alloc);
     pass_path(alloc, mode, outer, &mut used, path, first)
@@ -120,9 +128,10 @@ pub(crate) fn fault_in_paths<'a>(
     mode: Mode,
     outer: &Names<'a>,
     paths: &'a Vec<PathPattern>,
-    first: Option<Found>,
-) -> Result<Option<Found>, AllocError>
-    ensures { IfOk result (λ found. IsFirst first (spec.paths_faults (mode_view mode) (names_in outer.now) (map path_view paths.now.items)) found) }
+    first: Option<PlacedFault>,
+) -> Result<Option<PlacedFault>, AllocError>
+    ensures { IfOk result (λ found. IsFirst first (spec.paths_faults
+        (mode_view mode) (names_in outer.now) (map path_view paths.now.items)) found) }
 {
     let mut used = Used::new(alloc);
     pass_paths(alloc, mode, outer, &mut used, paths, first)

@@ -8,7 +8,7 @@ ghost use Rattle.pg_scope.specs.Names.{names_in, HasSame};
 ghost use Rattle.pg_scope.specs.Used.{used_in};
 ghost use Rattle.pg_syntax_tree.specs.View.{name_view, node_view, relationship_view};
 
-use crate::found::{Found, noted};
+use crate::found::{PlacedFault, noted};
 use crate::modes::Mode;
 use crate::names::{Names, is_among};
 use crate::used::Used;
@@ -23,7 +23,8 @@ fn is_used<'a>(used: &Used<'a>, name: &'a str) -> bool
 
 /// Whether the clause or those before it have the variable.
 fn is_bound<'a>(outer: &Names<'a>, used: &Used<'a>, name: &'a str) -> bool
-    ensures { result ≡ is_among (names_in outer.now) name.now || spec.is_used (used_in used.now) name.now }
+    ensures { result ≡ is_among (names_in outer.now) name.now
+        || spec.is_used (used_in used.now) name.now }
 {
     is_among(outer, name) || is_used(used, name)
 }
@@ -33,9 +34,10 @@ pub(crate) fn fault_in_new<'a>(
     outer: &Names<'a>,
     used: &Used<'a>,
     name: &'a Name,
-    first: Option<Found>,
-) -> Option<Found>
-    ensures { IsFirst first (spec.new_faults (names_in outer.now) (used_in used.now) (Some (name_view name.now))) result }
+    first: Option<PlacedFault>,
+) -> Option<PlacedFault>
+    ensures { IsFirst first (spec.new_faults
+        (names_in outer.now) (used_in used.now) (Some (name_view name.now))) result }
 {
     let bound = is_bound(outer, used, name.text.as_str());
     noted(bound, name.place, Fault::VariableAlreadyBound, first)
@@ -46,9 +48,10 @@ pub(crate) fn fault_in_relationship_variable<'a>(
     outer: &Names<'a>,
     used: &Used<'a>,
     relationship: &'a RelationshipPattern,
-    first: Option<Found>,
-) -> Option<Found>
-    ensures { IsFirst first (spec.new_faults (names_in outer.now) (used_in used.now) (spec.relationship_variable (relationship_view relationship.now))) result }
+    first: Option<PlacedFault>,
+) -> Option<PlacedFault>
+    ensures { IsFirst first (spec.new_faults (names_in outer.now) (used_in used.now)
+        (spec.relationship_variable (relationship_view relationship.now))) result }
 {
     match &relationship.detail {
         Some(detail) => match &detail.variable {
@@ -79,7 +82,9 @@ fn is_misused<'a>(
     node: &NodePattern,
     name: &'a str,
 ) -> bool
-    ensures { result ≡ spec.is_misused (mode_view mode) (names_in outer.now) (used_in used.now) is_whole (node_view node.now) name.now }
+    ensures { result
+        ≡ spec.is_misused (mode_view mode)
+        (names_in outer.now) (used_in used.now) is_whole (node_view node.now) name.now }
 {
     if is_among(&used.others, name) {
         return true;
@@ -94,9 +99,10 @@ pub(crate) fn fault_in_node_variable<'a>(
     used: &Used<'a>,
     is_whole: bool,
     node: &'a NodePattern,
-    first: Option<Found>,
-) -> Option<Found>
-    ensures { IsFirst first (spec.node_variable_faults (mode_view mode) (names_in outer.now) (used_in used.now) is_whole (node_view node.now) (node_view node.now).variable) result }
+    first: Option<PlacedFault>,
+) -> Option<PlacedFault>
+    ensures { IsFirst first (spec.node_variable_faults (mode_view mode) (names_in outer.now)
+        (used_in used.now) is_whole (node_view node.now) (node_view node.now).variable) result }
 {
     match &node.variable {
         Some(name) => {

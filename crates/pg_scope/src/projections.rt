@@ -10,7 +10,7 @@ ghost use Rattle.pg_syntax_tree.specs.View.{expression_view, item_view, projecti
 
 use crate::columns::{Naming, have_aggregate};
 use crate::expressions::{Role, fault_in_expression};
-use crate::found::Found;
+use crate::found::PlacedFault;
 use crate::items::{add_columns, fault_in_items};
 use crate::names::Names;
 use pg_item_index::{index_of, is_item};
@@ -22,9 +22,10 @@ use std::collections::BTreeSet;
 pub(crate) fn fault_if_any<'a>(
     visible: &Names<'a>,
     expression: &'a Option<Expression>,
-    first: Option<Found>,
-) -> Option<Found>
-    ensures { IsFirst first (spec.faults_if_any (names_in visible.now) (option_map expression_view expression.now)) result }
+    first: Option<PlacedFault>,
+) -> Option<PlacedFault>
+    ensures { IsFirst first (spec.faults_if_any
+        (names_in visible.now) (option_map expression_view expression.now)) result }
 {
     match expression {
         Some(expression) => fault_in_expression(visible, Role::Elsewhere, expression, first),
@@ -36,9 +37,10 @@ pub(crate) fn fault_if_any<'a>(
 fn fault_if_seen<'a>(
     visible: &Names<'a>,
     condition: Option<&'a Expression>,
-    first: Option<Found>,
-) -> Option<Found>
-    ensures { IsFirst first (spec.faults_if_any (names_in visible.now) (seen condition.entry)) result }
+    first: Option<PlacedFault>,
+) -> Option<PlacedFault>
+    ensures { IsFirst first
+        (spec.faults_if_any (names_in visible.now) (seen condition.entry)) result }
 {
     match condition {
         Some(condition) => fault_in_expression(visible, Role::Elsewhere, condition, first),
@@ -52,9 +54,11 @@ fn fault_in_sorts<'a>(
     visible: &Names<'a>,
     items: &'a Vec<Item>,
     order: &'a Vec<SortItem>,
-    mut first: Option<Found>,
-) -> Result<Option<Found>, AllocError>
-    ensures { IfOk result (λ found. IsFirst first (flat_map (sorts (map item_view items.now.items) (names_in visible.now)) (map sort_item_view order.now.items)) found) }
+    mut first: Option<PlacedFault>,
+) -> Result<Option<PlacedFault>, AllocError>
+    ensures { IfOk result (λ found.
+        IsFirst first (flat_map (sorts (map item_view items.now.items) (names_in visible.now))
+        (map sort_item_view order.now.items)) found) }
 {
     if order.is_empty() {
         return Ok(first);
@@ -74,9 +78,10 @@ fn fault_in_tail<'a>(
     visible: &Names<'a>,
     projection: &'a Projection,
     condition: Option<&'a Expression>,
-    first: Option<Found>,
-) -> Result<Option<Found>, AllocError>
-    ensures { IfOk result (λ found. IsTail (projection_view projection.now) (seen condition.entry) (names_in visible.now) first found) }
+    first: Option<PlacedFault>,
+) -> Result<Option<PlacedFault>, AllocError>
+    ensures { IfOk result (λ found. IsTail (projection_view projection.now)
+        (seen condition.entry) (names_in visible.now) first found) }
 {
     let first = fault_in_sorts(alloc, visible, &projection.items, &projection.order, first)?;
     let nothing = BTreeSet::new(alloc);
@@ -99,9 +104,12 @@ pub(crate) fn fault_in_projection<'a>(
     mut scope: Names<'a>,
     projection: &'a Projection,
     condition: Option<&'a Expression>,
-    first: Option<Found>,
-) -> Result<(Option<Found>, Names<'a>), AllocError>
-    ensures { IfOk result (λ r. IsFirst first (spec.projection_faults (column_of naming) (names_in scope.entry) (projection_view projection.now) (seen condition.entry)) r.0 × HasSame (names_in r.1) (column_names (projection_columns (column_of naming) (names_in scope.entry) (projection_view projection.now)))) }
+    first: Option<PlacedFault>,
+) -> Result<(Option<PlacedFault>, Names<'a>), AllocError>
+    ensures { IfOk result (λ r. IsFirst first (spec.projection_faults (column_of naming)
+        (names_in scope.entry) (projection_view projection.now) (seen condition.entry)) r.0
+        × HasSame (names_in r.1) (column_names (projection_columns
+        (column_of naming) (names_in scope.entry) (projection_view projection.now)))) }
 {
     let star = projection.star.is_some();
     let items = &projection.items;

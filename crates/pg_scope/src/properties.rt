@@ -8,7 +8,7 @@ ghost use Rattle.pg_scope.specs.Names.{names_in};
 ghost use Rattle.pg_syntax_tree.specs.View.{pair_view, properties_view};
 
 use crate::expressions::{Role, fault_in_expression};
-use crate::found::{Found, noted};
+use crate::found::{PlacedFault, noted};
 use crate::modes::Mode;
 use crate::names::{Names, add};
 use pg_meaning::Fault;
@@ -21,9 +21,10 @@ fn fault_in_keys<'a>(
     alloc: Global,
     outer: &Names<'a>,
     pairs: &'a Vec<(Name, Expression)>,
-    mut first: Option<Found>,
-) -> Result<Option<Found>, AllocError>
-    ensures { IfOk result (λ found. IsFirst first (spec.key_faults (names_in outer.now) [] (pairs_of (map pair_view pairs.now.items))) found) }
+    mut first: Option<PlacedFault>,
+) -> Result<Option<PlacedFault>, AllocError>
+    ensures { IfOk result (λ found. IsFirst first (spec.key_faults
+        (names_in outer.now) [] (pairs_of (map pair_view pairs.now.items))) found) }
 {
     let mut before = BTreeSet::new(alloc);
     for (key, value) in pairs {
@@ -41,9 +42,10 @@ pub(crate) fn fault_in_properties<'a>(
     outer: &Names<'a>,
     place: usize,
     properties: &'a Properties,
-    first: Option<Found>,
-) -> Result<Option<Found>, AllocError>
-    ensures { IfOk result (λ found. IsFirst first (spec.properties_faults (mode_view mode) (names_in outer.now) place (properties_view properties.now)) found) }
+    first: Option<PlacedFault>,
+) -> Result<Option<PlacedFault>, AllocError>
+    ensures { IfOk result (λ found. IsFirst first (spec.properties_faults
+        (mode_view mode) (names_in outer.now) place (properties_view properties.now)) found) }
 {
     match properties {
         Properties::None => Ok(first),

@@ -7,7 +7,7 @@ ghost use Rattle.pg_scope.specs.Modes.{mode_view};
 ghost use Rattle.pg_scope.specs.Names.{names_in};
 ghost use Rattle.pg_syntax_tree.specs.View.{detail_view, range_view, relationship_view};
 
-use crate::found::{Found, noted};
+use crate::found::{PlacedFault, noted};
 use crate::modes::Mode;
 use crate::names::Names;
 use crate::properties::fault_in_properties;
@@ -49,14 +49,16 @@ fn is_fixed(detail: &Option<Detail>) -> bool
 
 /// Whether a clause that makes relationships can't make this one.
 fn is_unfixed(mode: Mode, detail: &Option<Detail>) -> bool
-    ensures { result ≡ not (spec.is_matching (mode_view mode)) && not (spec.is_fixed (option_map detail_view detail.now)) }
+    ensures { result ≡ not (spec.is_matching (mode_view mode))
+        && not (spec.is_fixed (option_map detail_view detail.now)) }
 {
     !mode.is_matching() && !is_fixed(detail)
 }
 
 /// Whether CREATE can't tell its direction.
 fn is_undirected(mode: Mode, relationship: &RelationshipPattern) -> bool
-    ensures { result ≡ spec.is_creating (mode_view mode) && beq relationship.now.left_head relationship.now.right_head }
+    ensures { result ≡ spec.is_creating (mode_view mode)
+        && beq relationship.now.left_head relationship.now.right_head }
 {
     mode.is_creating() && relationship.left_head == relationship.right_head
 }
@@ -67,9 +69,10 @@ pub(crate) fn fault_in_relationship<'a>(
     mode: Mode,
     outer: &Names<'a>,
     relationship: &'a RelationshipPattern,
-    first: Option<Found>,
-) -> Result<Option<Found>, AllocError>
-    ensures { IfOk result (λ found. IsFirst first (spec.relationship_faults (mode_view mode) (names_in outer.now) (relationship_view relationship.now)) found) }
+    first: Option<PlacedFault>,
+) -> Result<Option<PlacedFault>, AllocError>
+    ensures { IfOk result (λ found. IsFirst first (spec.relationship_faults
+        (mode_view mode) (names_in outer.now) (relationship_view relationship.now)) found) }
 {
     let place = relationship.place;
     let unfixed = is_unfixed(mode, &relationship.detail);

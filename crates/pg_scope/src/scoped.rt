@@ -13,6 +13,7 @@ pub struct Scoped {
 }
 
 impl Scoped {
+    /// The tree, of which nothing is kept.
     pub fn into_query(self) -> Query
         ensures { result ≡ self.query }
     {

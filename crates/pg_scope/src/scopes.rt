@@ -14,7 +14,8 @@ fn add_hops<'a>(
     names: &mut Names<'a>,
     hops: &'a Vec<(RelationshipPattern, NodePattern)>,
 ) -> Result<(), AllocError>
-    ensures { OnOk result (HasSame (names_in names.new) (meaning.add_hop_names (map hop_view hops.now.items) (names_in names.old))) }
+    ensures { OnOk result (HasSame (names_in names.new)
+        (meaning.add_hop_names (map hop_view hops.now.items) (names_in names.old))) }
 {
     for (relationship, node) in hops {
         add_relationship_variable(names, relationship)?;
@@ -25,7 +26,8 @@ fn add_hops<'a>(
 
 /// Brings in the variables of a path.
 pub fn add_path<'a>(names: &mut Names<'a>, path: &'a PathPattern) -> Result<(), AllocError>
-    ensures { OnOk result (HasSame (names_in names.new) (meaning.add_path_names (path_view path.now ∷ []) (names_in names.old))) }
+    ensures { OnOk result (HasSame (names_in names.new)
+        (meaning.add_path_names (path_view path.now ∷ []) (names_in names.old))) }
 {
     add_variable(names, &path.variable)?;
     add_variable(names, &path.first.variable)?;
@@ -37,7 +39,8 @@ pub(crate) fn add_paths<'a>(
     names: &mut Names<'a>,
     paths: &'a Vec<PathPattern>,
 ) -> Result<(), AllocError>
-    ensures { OnOk result (HasSame (names_in names.new) (meaning.add_path_names (map path_view paths.now.items) (names_in names.old))) }
+    ensures { OnOk result (HasSame (names_in names.new)
+        (meaning.add_path_names (map path_view paths.now.items) (names_in names.old))) }
 {
     for path in paths {
         add_path(names, path)?;

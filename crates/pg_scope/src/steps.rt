@@ -10,7 +10,7 @@ use crate::behind::names_behind;
 use crate::clauses::{fault_in_each, fault_in_ons, fault_in_removes, fault_in_sets};
 use crate::columns::Naming;
 use crate::expressions::{Role, fault_in_expression};
-use crate::found::{Found, noted};
+use crate::found::{PlacedFault, noted};
 use crate::modes::Mode;
 use crate::names::{Names, is_among};
 use crate::paths::{fault_in_path, fault_in_paths};
@@ -20,16 +20,17 @@ use pg_syntax_tree::{Clause, Projection};
 use std::alloc::{AllocError, Global};
 
 /// The first fault, and the names behind a clause.
-type Step<'a> = (Option<Found>, Names<'a>);
+type Step<'a> = (Option<PlacedFault>, Names<'a>);
 
 /// The first fault, with those of a clause that sees the names before it, but for WITH and RETURN.
 fn fault_before<'a>(
     alloc: Global,
     scope: &Names<'a>,
     clause: &'a Clause,
-    first: Option<Found>,
-) -> Result<Option<Found>, AllocError>
-    ensures { IfOk result (λ found. IsFirst first (faults_before (names_in scope.now) (clause_view clause.now)) found) }
+    first: Option<PlacedFault>,
+) -> Result<Option<PlacedFault>, AllocError>
+    ensures { IfOk result (λ found.
+        IsFirst first (faults_before (names_in scope.now) (clause_view clause.now)) found) }
 {
     match clause {
         Clause::Match(_, paths, _) => fault_in_paths(alloc, Mode::Matching, scope, paths, first),
@@ -48,7 +49,11 @@ fn fault_before<'a>(
 }
 
 /// The first fault, with those of what sees the names behind its clause, but for WITH.
-fn fault_behind<'a>(scope: &Names<'a>, clause: &'a Clause, first: Option<Found>) -> Option<Found>
+fn fault_behind<'a>(
+    scope: &Names<'a>,
+    clause: &'a Clause,
+    first: Option<PlacedFault>,
+) -> Option<PlacedFault>
     ensures { IsFirst first (faults_behind (names_in scope.now) (clause_view clause.now)) result }
 {
     match clause {
@@ -59,7 +64,11 @@ fn fault_behind<'a>(scope: &Names<'a>, clause: &'a Clause, first: Option<Found>)
 }
 
 /// The first fault, with `*` that stands for no variable.
-fn fault_in_star(scope: &Names, projection: &Projection, first: Option<Found>) -> Option<Found>
+fn fault_in_star(
+    scope: &Names,
+    projection: &Projection,
+    first: Option<PlacedFault>,
+) -> Option<PlacedFault>
     ensures { IsFirst first (spec.star_faults (names_in scope.now) projection.now.star) result }
 {
     match projection.star {
@@ -73,9 +82,10 @@ pub(crate) fn through_clause<'a>(
     alloc: Global,
     scope: Names<'a>,
     clause: &'a Clause,
-    first: Option<Found>,
+    first: Option<PlacedFault>,
 ) -> Result<Step<'a>, AllocError>
-    ensures { IfOk result (λ r. Steps (names_in scope.entry) (clause_view clause.now) first r.0 (names_in r.1)) }
+    ensures { IfOk result
+        (λ r. Steps (names_in scope.entry) (clause_view clause.now) first r.0 (names_in r.1)) }
 {
     match clause {
         Clause::With(projection, condition) => fault_in_projection(

@@ -30,7 +30,8 @@ impl<'a> Used<'a> {
 
 /// Puts a variable among the names, where there is one.
 pub fn add_variable<'a>(names: &mut Names<'a>, variable: &'a Option<Name>) -> Result<(), AllocError>
-    ensures { OnOk result (HasSame (names_in names.new) (spec.with_variable (option_map name_view variable.now) (names_in names.old))) }
+    ensures { OnOk result (HasSame (names_in names.new)
+        (spec.with_variable (option_map name_view variable.now) (names_in names.old))) }
 {
     if let Some(name) = variable {
         add(names, name.text.as_str())?;
@@ -43,7 +44,8 @@ pub(crate) fn add_relationship_variable<'a>(
     names: &mut Names<'a>,
     relationship: &'a RelationshipPattern,
 ) -> Result<(), AllocError>
-    ensures { OnOk result (HasSame (names_in names.new) (spec.with_variable (spec.relationship_variable (relationship_view relationship.now)) (names_in names.old))) }
+    ensures { OnOk result (HasSame (names_in names.new) (spec.with_variable
+        (spec.relationship_variable (relationship_view relationship.now)) (names_in names.old))) }
 {
     match &relationship.detail {
         Some(detail) => add_variable(names, &detail.variable),

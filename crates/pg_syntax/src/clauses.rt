@@ -27,7 +27,8 @@ pub(crate) fn expression_behind(
     depth: usize,
     keyword: Keyword,
 ) -> Result<Option<Expression>, ParseError>
-    ensures { Gives (option_map expression_view) (pieces.behind keyword (parse.expr depth) (tokens_view tokens.old.rest.now)) result tokens.new.rest.now }
+    ensures { Gives (option_map expression_view) (pieces.behind keyword
+        (parse.expr depth) (tokens_view tokens.old.rest.now)) result tokens.new.rest.now }
 {
     if !tokens.eat_keyword(keyword) {
         return Ok(None);
@@ -37,7 +38,8 @@ pub(crate) fn expression_behind(
 
 /// AS and a variable.
 fn alias(alloc: Global, tokens: &mut Tokens<'_, '_>) -> Result<Name, ParseError>
-    ensures { Gives name_view (parse.alias (tokens_view tokens.old.rest.now)) result tokens.new.rest.now }
+    ensures { Gives name_view
+        (parse.alias (tokens_view tokens.old.rest.now)) result tokens.new.rest.now }
 {
     tokens.expect_keyword(Keyword::As)?;
     tokens.var(alloc)

@@ -28,7 +28,8 @@ fn properties(
     tokens: &mut Tokens<'_, '_>,
     depth: usize,
 ) -> Result<Properties, ParseError>
-    ensures { Gives properties_view (parse.properties (parse.expr depth) (tokens_view tokens.old.rest.now)) result tokens.new.rest.now }
+    ensures { Gives properties_view (parse.properties
+        (parse.expr depth) (tokens_view tokens.old.rest.now)) result tokens.new.rest.now }
 {
     if tokens.sees(Symbol::OpenBrace) {
         return Ok(Properties::Given(map_pairs(&Whole { alloc, depth }, tokens)?));
@@ -41,7 +42,8 @@ fn properties(
 
 #[tactic(auto, unfolding(pg_meaning::specs::Parse::node, pg_meaning::specs::Parse::here))]
 fn node(alloc: Global, tokens: &mut Tokens<'_, '_>, depth: usize) -> Result<NodePattern, ParseError>
-    ensures { Gives node_view (parse.node (parse.expr depth) (tokens_view tokens.old.rest.now)) result tokens.new.rest.now }
+    ensures { Gives node_view (parse.node (parse.expr depth) (tokens_view tokens.old.rest.now))
+        result tokens.new.rest.now }
 {
     let place = start_of(tokens.rest);
     tokens.expect(Symbol::OpenParenthesis)?;
@@ -96,7 +98,8 @@ impl Row for OtherType {
 
 #[tactic(auto, unfolding(pg_meaning::specs::Parse::types, pg_meaning::specs::Parse::symbol, pg_meaning::specs::Parse::eat_symbol))]
 fn types_if_any(alloc: Global, tokens: &mut Tokens<'_, '_>) -> Result<Vec<TypeName>, ParseError>
-    ensures { Gives (λ v. map type_view v.items) (pieces.types_if_any (tokens_view tokens.old.rest.now)) result tokens.new.rest.now }
+    ensures { Gives (λ v. map type_view v.items)
+        (pieces.types_if_any (tokens_view tokens.old.rest.now)) result tokens.new.rest.now }
 {
     if !tokens.eat(Symbol::Colon) {
         return Ok(Vec::new(alloc));
@@ -108,7 +111,8 @@ fn types_if_any(alloc: Global, tokens: &mut Tokens<'_, '_>) -> Result<Vec<TypeNa
 }
 
 fn integer_if_any(tokens: &mut Tokens<'_, '_>) -> Result<Option<u64>, ParseError>
-    ensures { Gives same (parse.maybe parse.begins_integer parse.integer (tokens_view tokens.old.rest.now)) result tokens.new.rest.now }
+    ensures { Gives same (parse.maybe parse.begins_integer parse.integer
+        (tokens_view tokens.old.rest.now)) result tokens.new.rest.now }
 {
     if !tokens.sees_integer() {
         return Ok(None);
@@ -118,7 +122,8 @@ fn integer_if_any(tokens: &mut Tokens<'_, '_>) -> Result<Option<u64>, ParseError
 
 #[tactic(auto, unfolding(pg_meaning::specs::Parse::range, pg_meaning::specs::Parse::symbol, pg_meaning::specs::Parse::eat_symbol))]
 fn range_if_any(tokens: &mut Tokens<'_, '_>) -> Result<Option<Range>, ParseError>
-    ensures { Gives (option_map range_view) (parse.maybe (parse.sees_symbol s.Star) parse.range (tokens_view tokens.old.rest.now)) result tokens.new.rest.now }
+    ensures { Gives (option_map range_view) (parse.maybe (parse.sees_symbol s.Star) parse.range
+        (tokens_view tokens.old.rest.now)) result tokens.new.rest.now }
 {
     if !tokens.eat(Symbol::Star) {
         return Ok(None);
@@ -135,7 +140,9 @@ fn detail_if_any(
     tokens: &mut Tokens<'_, '_>,
     depth: usize,
 ) -> Result<Option<Detail>, ParseError>
-    ensures { Gives (option_map detail_view) (parse.maybe (parse.sees_symbol s.OpenBracket) (parse.detail (parse.expr depth)) (tokens_view tokens.old.rest.now)) result tokens.new.rest.now }
+    ensures { Gives (option_map detail_view) (parse.maybe (parse.sees_symbol s.OpenBracket)
+        (parse.detail (parse.expr depth)) (tokens_view tokens.old.rest.now))
+        result tokens.new.rest.now }
 {
     if !tokens.eat(Symbol::OpenBracket) {
         return Ok(None);

@@ -46,7 +46,8 @@ fn source_of(alloc: Global, text: &str, start: usize, finish: usize) -> Result<S
 
 #[tactic(auto, unfolding(pg_meaning::specs::Parse::keyword, pg_meaning::specs::Parse::eat_keyword))]
 fn alias_if_any(alloc: Global, tokens: &mut Tokens<'_, '_>) -> Result<Option<Name>, ParseError>
-    ensures { Gives (option_map name_view) (parse.maybe (parse.sees_keyword k.As) parse.alias (tokens_view tokens.old.rest.now)) result tokens.new.rest.now }
+    ensures { Gives (option_map name_view) (parse.maybe (parse.sees_keyword k.As) parse.alias
+        (tokens_view tokens.old.rest.now)) result tokens.new.rest.now }
 {
     if !tokens.eat_keyword(Keyword::As) {
         return Ok(None);
@@ -56,7 +57,8 @@ fn alias_if_any(alloc: Global, tokens: &mut Tokens<'_, '_>) -> Result<Option<Nam
 
 /// Whether WITH may have it as an item.
 fn may_stand(value: &Expression, alias: &Option<Name>) -> bool
-    ensures { result ≡ parse.may_stand (expression_view value.now) (option_map name_view alias.now) }
+    ensures { result
+        ≡ parse.may_stand (expression_view value.now) (option_map name_view alias.now) }
 {
     match (value, alias) {
         (_, Some(_)) | (Expression::Variable(_), None) => true,
@@ -110,7 +112,9 @@ fn item_row(
     tokens: &mut Tokens<'_, '_>,
     star: bool,
 ) -> Result<Vec<Item>, ParseError>
-    ensures { Gives (λ v. map item_view v.items) (pieces.items star (pieces.item piece.now.of_with piece.now.text.now (parse.expr piece.now.depth)) (tokens_view tokens.old.rest.now)) result tokens.new.rest.now }
+    ensures { Gives (λ v. map item_view v.items) (pieces.items star
+        (pieces.item piece.now.of_with piece.now.text.now (parse.expr piece.now.depth))
+        (tokens_view tokens.old.rest.now)) result tokens.new.rest.now }
 {
     if star {
         return further(piece, tokens, Vec::new(piece.alloc));
@@ -120,7 +124,8 @@ fn item_row(
 
 #[tactic(auto, unfolding(pg_meaning::specs::Parse::direction))]
 fn direction(tokens: &mut Tokens<'_, '_>) -> Option<Sort>
-    ensures { parse.maybe (parse.sees (λ l. is_some (parse.direction_of l))) parse.direction (tokens_view tokens.old.rest.now) ≡ Some (result, tokens_view tokens.new.rest.now) }
+    ensures { parse.maybe (parse.sees (λ l. is_some (parse.direction_of l))) parse.direction
+        (tokens_view tokens.old.rest.now) ≡ Some (result, tokens_view tokens.new.rest.now) }
 {
     let [token, rest @ ..] = tokens.rest else {
         return None;
@@ -167,7 +172,8 @@ fn ordering(
     tokens: &mut Tokens<'_, '_>,
     depth: usize,
 ) -> Result<Vec<SortItem>, ParseError>
-    ensures { Gives (λ v. map sort_item_view v.items) (parse.ordering (parse.expr depth) (tokens_view tokens.old.rest.now)) result tokens.new.rest.now }
+    ensures { Gives (λ v. map sort_item_view v.items) (parse.ordering
+        (parse.expr depth) (tokens_view tokens.old.rest.now)) result tokens.new.rest.now }
 {
     if !tokens.eat_keyword(Keyword::Order) {
         return Ok(Vec::new(alloc));
@@ -184,7 +190,9 @@ fn projection(
     depth: usize,
     of_with: bool,
 ) -> Result<Projection, ParseError>
-    ensures { Gives projection_view (parse.projection (parse.expr depth) (pieces.item of_with text.now (parse.expr depth)) (tokens_view tokens.old.rest.now)) result tokens.new.rest.now }
+    ensures { Gives projection_view (parse.projection (parse.expr depth)
+        (pieces.item of_with text.now (parse.expr depth)) (tokens_view tokens.old.rest.now))
+        result tokens.new.rest.now }
 {
     let distinct = tokens.eat_keyword(Keyword::Distinct);
     let place = start_of(tokens.rest);
@@ -220,7 +228,8 @@ fn condition_behind<T: Drop>(
     tokens: &mut Tokens<'_, '_>,
     depth: usize,
 ) -> Result<(T, Option<Expression>), ParseError>
-    ensures condition { Gives (λ p. option_map expression_view p.1) (pieces.behind k.Where (parse.expr depth) (tokens_view tokens.old.rest.now)) result tokens.new.rest.now }
+    ensures condition { Gives (λ p. option_map expression_view p.1) (pieces.behind k.Where
+        (parse.expr depth) (tokens_view tokens.old.rest.now)) result tokens.new.rest.now }
     ensures found { IfOk result (λ p. p.0 ≡ found) }
 {
     let condition = expression_behind(alloc, tokens, depth, Keyword::Where)?;
@@ -234,7 +243,8 @@ pub(crate) fn with_clause(
     tokens: &mut Tokens<'_, '_>,
     depth: usize,
 ) -> Result<Clause, ParseError>
-    ensures { Gives clause_view (parse.with_clause text.now (parse.expr depth) (tokens_view tokens.old.rest.now)) result tokens.new.rest.now }
+    ensures { Gives clause_view (parse.with_clause text.now
+        (parse.expr depth) (tokens_view tokens.old.rest.now)) result tokens.new.rest.now }
 {
     tokens.expect_keyword(Keyword::With)?;
     let projection = projection(alloc, text, tokens, depth, true)?;
@@ -249,7 +259,8 @@ pub(crate) fn return_clause(
     tokens: &mut Tokens<'_, '_>,
     depth: usize,
 ) -> Result<Clause, ParseError>
-    ensures { Gives clause_view (parse.return_clause text.now (parse.expr depth) (tokens_view tokens.old.rest.now)) result tokens.new.rest.now }
+    ensures { Gives clause_view (parse.return_clause text.now
+        (parse.expr depth) (tokens_view tokens.old.rest.now)) result tokens.new.rest.now }
 {
     tokens.expect_keyword(Keyword::Return)?;
     Ok(Clause::Return(projection(alloc, text, tokens, depth, false)?))

@@ -29,7 +29,9 @@ fn part(
     depth: usize,
     found: Vec<Clause>,
 ) -> Result<(Vec<Clause>, bool), ParseError>
-    ensures { Gives (λ r. (map clause_view r.0.items, r.1)) (pieces.part (parse.expr depth) (map clause_view found.items) (tokens_view tokens.old.rest.now)) result tokens.new.rest.now }
+    ensures { Gives (λ r. (map clause_view r.0.items, r.1)) (pieces.part
+        (parse.expr depth) (map clause_view found.items) (tokens_view tokens.old.rest.now))
+        result tokens.new.rest.now }
 {
     let read = many(&ReadingClauses { alloc, depth }, tokens, found)?;
     let before = read.len();
@@ -55,7 +57,9 @@ fn last(
     found: Vec<Clause>,
     updates: bool,
 ) -> Result<Vec<Clause>, ParseError>
-    ensures { Gives (λ v. map clause_view v.items) (pieces.last text.now (parse.expr depth) (map clause_view found.items) updates (tokens_view tokens.old.rest.now)) result tokens.new.rest.now }
+    ensures { Gives (λ v. map clause_view v.items) (pieces.last text.now
+        (parse.expr depth) (map clause_view found.items) updates (tokens_view tokens.old.rest.now))
+        result tokens.new.rest.now }
 {
     if tokens.sees_keyword(Keyword::Return) {
         let clause = return_clause(alloc, text, tokens, depth)?;
@@ -76,7 +80,8 @@ fn parts(
     depth: usize,
 ) -> Result<Vec<Clause>, ParseError>
     requires { is_too_deep (tokens_view tokens.old.rest.now) ≡ false }
-    ensures { Gives (λ v. map clause_view v.items) (parse.parts text.now (parse.expr depth) (length tokens.old.rest.now) (tokens_view tokens.old.rest.now)) result tokens.new.rest.now }
+    ensures { Gives (λ v. map clause_view v.items) (parse.parts text.now (parse.expr depth)
+        (length tokens.old.rest.now) (tokens_view tokens.old.rest.now)) result tokens.new.rest.now }
 {
     let (mut found, mut updates) = part(alloc, tokens, depth, Vec::new(alloc))?;
     'parts: while tokens.sees_keyword(Keyword::With) {
@@ -96,7 +101,8 @@ fn query(
     depth: usize,
 ) -> Result<Query, ParseError>
     requires { is_too_deep (tokens_view tokens.old.rest.now) ≡ false }
-    ensures { Gives query_view (parse.query text.now (parse.expr depth) (length tokens.old.rest.now) (tokens_view tokens.old.rest.now)) result tokens.new.rest.now }
+    ensures { Gives query_view (parse.query text.now (parse.expr depth)
+        (length tokens.old.rest.now) (tokens_view tokens.old.rest.now)) result tokens.new.rest.now }
 {
     let clauses = parts(alloc, text, tokens, depth)?;
     let semicolon = tokens.eat(Symbol::Semicolon);
@@ -109,7 +115,8 @@ fn query(
 /// The tree of the tokens, unless they nest too deep.
 #[tactic(auto, unfolding(pg_meaning::specs::Parse::query_of))]
 fn answer(alloc: Global, text: &str, tokens: &[Token<'_>]) -> Result<Query, Fault>
-    ensures answers { Answers query_view (read_tokens text.now (Some (tokens_view tokens.now))) result }
+    ensures answers { Answers query_view
+        (read_tokens text.now (Some (tokens_view tokens.now))) result }
     ensures deep { is_too_deep (tokens_view tokens.now) ≡ true → result ≡ Err Fault.TooDeep }
 {
     if is_too_deep(tokens) {
@@ -123,17 +130,24 @@ fn answer(alloc: Global, text: &str, tokens: &[Token<'_>]) -> Result<Query, Faul
 /// goes deeper than they nest.
 pub fn parse(alloc: Global, text: &str, tokens: &[Token<'_>]) -> Result<Query, Fault>
     // It is refused as too deep exactly where the tokens nest too deep.
-    ensures too_deep { IsErrOf result Fault.TooDeep ↔ (is_too_deep (tokens_view tokens.now) ≡ true) }
+    ensures too_deep { IsErrOf result Fault.TooDeep
+        ↔ (is_too_deep (tokens_view tokens.now) ≡ true) }
     // What is read of the tokens of the text is a tree that has these tokens.
-    ensures found { IfOk result (λ q. Lexes text.now (tokens_view tokens.now) → Reads text.now (tokens_view tokens.now) (query_view q)) }
+    ensures found { IfOk result (λ q. Lexes text.now (tokens_view tokens.now)
+        → Reads text.now (tokens_view tokens.now) (query_view q)) }
     // It is the only one.
-    ensures only { (q : tree.Query) → Lexes text.now (tokens_view tokens.now) → Reads text.now (tokens_view tokens.now) q → IfOk result (λ r. query_view r ≡ q) }
+    ensures only { (q : tree.Query) → Lexes text.now (tokens_view tokens.now)
+        → Reads text.now (tokens_view tokens.now) q → IfOk result (λ r. query_view r ≡ q) }
     // Where the tokens of the text have a tree, they are no bad syntax.
-    ensures none { IsErrOf result Fault.BadSyntax → (q : tree.Query) → Lexes text.now (tokens_view tokens.now) → Reads text.now (tokens_view tokens.now) q → ⊥ }
-    ensures faults { IfErr result (λ e. (e ≡ Fault.TooDeep) ⊎ ((e ≡ Fault.BadSyntax) ⊎ (e ≡ Fault.OutOfMemory))) }
+    ensures none { IsErrOf result Fault.BadSyntax → (q : tree.Query)
+        → Lexes text.now (tokens_view tokens.now) → Reads text.now (tokens_view tokens.now) q → ⊥ }
+    ensures faults { IfErr result
+        (λ e. (e ≡ Fault.TooDeep) ⊎ ((e ≡ Fault.BadSyntax) ⊎ (e ≡ Fault.OutOfMemory))) }
     // The same, as the answer of a function.
-    ensures ok { IfOk result (λ q. read_tokens text.now (Some (tokens_view tokens.now)) ≡ Ok (query_view q)) }
-    ensures err { IfErr result (λ e. e ≢ Fault.OutOfMemory → read_tokens text.now (Some (tokens_view tokens.now)) ≡ Err e) }
+    ensures ok { IfOk result
+        (λ q. read_tokens text.now (Some (tokens_view tokens.now)) ≡ Ok (query_view q)) }
+    ensures err { IfErr result (λ e. e ≢ Fault.OutOfMemory
+        → read_tokens text.now (Some (tokens_view tokens.now)) ≡ Err e) }
 {
     answer(alloc, text, tokens)
 }

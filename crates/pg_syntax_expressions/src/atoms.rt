@@ -52,7 +52,8 @@ pub fn map_pairs<W: Expressions>(
     tokens: &mut Tokens<'_, '_>,
 ) -> Result<Vec<(Name, Expression)>, ParseError>
     requires { W.ready whole.now }
-    ensures { Gives (λ v. pairs_of (map pair_view v.items)) (parse.map_pairs (W.parser whole.now) (tokens_view tokens.old.rest.now)) result tokens.new.rest.now }
+    ensures { Gives (λ v. pairs_of (map pair_view v.items)) (parse.map_pairs
+        (W.parser whole.now) (tokens_view tokens.old.rest.now)) result tokens.new.rest.now }
 {
     tokens.expect(Symbol::OpenBrace)?;
     if tokens.eat(Symbol::CloseBrace) {
@@ -70,7 +71,8 @@ fn call<W: Expressions>(
     tokens: &mut Tokens<'_, '_>,
 ) -> Result<Expression, ParseError>
     requires { W.ready whole.now }
-    ensures { Gives expression_view (parse.call (W.parser whole.now) (name_view function) (tokens_view tokens.old.rest.now)) result tokens.new.rest.now }
+    ensures { Gives expression_view (parse.call (W.parser whole.now)
+        (name_view function) (tokens_view tokens.old.rest.now)) result tokens.new.rest.now }
 {
     if tokens.eat(Symbol::Star) {
         tokens.expect(Symbol::CloseParenthesis)?;
@@ -131,7 +133,8 @@ fn perhaps<W: Expressions>(
     tokens: &mut Tokens<'_, '_>,
 ) -> Result<Option<Box<Expression>>, ParseError>
     requires { W.ready whole.now }
-    ensures { Gives perhaps_view (parse.maybe (λ _. begins) (W.parser whole.now) (tokens_view tokens.old.rest.now)) result tokens.new.rest.now }
+    ensures { Gives perhaps_view (parse.maybe (λ _. begins)
+        (W.parser whole.now) (tokens_view tokens.old.rest.now)) result tokens.new.rest.now }
 {
     if !begins {
         return Ok(None);
@@ -147,7 +150,8 @@ fn one_or_more<R: Row>(
     tokens: &mut Tokens<'_, '_>,
 ) -> Result<Vec<R::Tree>, ParseError>
     requires { R.ready rule.now }
-    ensures { Gives (λ v. map R.view v.items) (one_or_more (R.begins rule.now) (R.parser rule.now) (tokens_view tokens.old.rest.now)) result tokens.new.rest.now }
+    ensures { Gives (λ v. map R.view v.items) (one_or_more (R.begins rule.now)
+        (R.parser rule.now) (tokens_view tokens.old.rest.now)) result tokens.new.rest.now }
 {
     let mut found = Vec::new(alloc);
     found.push(rule.read(tokens)?)?;
@@ -157,7 +161,8 @@ fn one_or_more<R: Row>(
 /// What stands behind CASE.
 fn case<W: Expressions>(whole: &W, tokens: &mut Tokens<'_, '_>) -> Result<Expression, ParseError>
     requires { W.ready whole.now }
-    ensures { Gives expression_view (parse.case (W.parser whole.now) (tokens_view tokens.old.rest.now)) result tokens.new.rest.now }
+    ensures { Gives expression_view (parse.case
+        (W.parser whole.now) (tokens_view tokens.old.rest.now)) result tokens.new.rest.now }
 {
     let subject = perhaps(!tokens.sees_keyword(Keyword::When), whole, tokens)?;
     let whens = one_or_more(whole.alloc(), &When(whole), tokens)?;
@@ -214,7 +219,9 @@ fn suffixed(
     suffixes: Vec<Suffix<Expression>>,
     labels: Vec<Name>,
 ) -> Result<Expression, ParseError>
-    ensures { GivesValue expression_view (Some (parse.suffixed (expression_view first) (map suffix_view suffixes.items) (names_view labels.items))) result }
+    ensures { GivesValue expression_view (Some (parse.suffixed
+        (expression_view first) (map suffix_view suffixes.items) (names_view labels.items)))
+        result }
 {
     if suffixes.is_empty() && labels.is_empty() {
         return Ok(first);
@@ -229,7 +236,8 @@ fn word_atom<W: Expressions>(
     tokens: &mut Tokens<'_, '_>,
 ) -> Result<Expression, ParseError>
     requires { W.ready whole.now }
-    ensures { Gives expression_view (parse.word_atom (W.parser whole.now) (name_view name) (tokens_view tokens.old.rest.now)) result tokens.new.rest.now }
+    ensures { Gives expression_view (parse.word_atom (W.parser whole.now)
+        (name_view name) (tokens_view tokens.old.rest.now)) result tokens.new.rest.now }
 {
     if tokens.eat(Symbol::OpenParenthesis) {
         return call(name, whole, tokens);
@@ -241,7 +249,8 @@ fn word_atom<W: Expressions>(
 #[tactic(auto, unfolding(pg_meaning::specs::Parse::listed))]
 fn list<W: Expressions>(whole: &W, tokens: &mut Tokens<'_, '_>) -> Result<Expression, ParseError>
     requires { W.ready whole.now }
-    ensures { Gives expression_view (list_behind (W.parser whole.now) (tokens_view tokens.old.rest.now)) result tokens.new.rest.now }
+    ensures { Gives expression_view (list_behind
+        (W.parser whole.now) (tokens_view tokens.old.rest.now)) result tokens.new.rest.now }
 {
     if tokens.eat(Symbol::CloseBracket) {
         return Ok(Expression::ListLiteral(Vec::new(whole.alloc())));
@@ -256,7 +265,8 @@ fn parentheses<W: Expressions>(
     tokens: &mut Tokens<'_, '_>,
 ) -> Result<Expression, ParseError>
     requires { W.ready whole.now }
-    ensures { Gives expression_view (parentheses_behind (W.parser whole.now) (tokens_view tokens.old.rest.now)) result tokens.new.rest.now }
+    ensures { Gives expression_view (parentheses_behind
+        (W.parser whole.now) (tokens_view tokens.old.rest.now)) result tokens.new.rest.now }
 {
     let inner = whole.expression(tokens)?;
     tokens.expect(Symbol::CloseParenthesis)?;
@@ -306,7 +316,8 @@ fn atom_by<W: Expressions>(
     tokens: &mut Tokens<'_, '_>,
 ) -> Result<Expression, ParseError>
     requires { W.ready whole.now }
-    ensures { Gives expression_view (parse.atom_by (W.parser whole.now) place (lexeme_view lexeme.now) (tokens_view tokens.old.rest.now)) result tokens.new.rest.now }
+    ensures { Gives expression_view (parse.atom_by (W.parser whole.now) place
+        (lexeme_view lexeme.now) (tokens_view tokens.old.rest.now)) result tokens.new.rest.now }
 {
     match lexeme {
         Lexeme::Keyword(Keyword::Case, _) => case(whole, tokens),
@@ -321,7 +332,8 @@ fn atom_by<W: Expressions>(
 
 fn atom<W: Expressions>(whole: &W, tokens: &mut Tokens<'_, '_>) -> Result<Expression, ParseError>
     requires { W.ready whole.now }
-    ensures { Gives expression_view (parse.atom (W.parser whole.now) (tokens_view tokens.old.rest.now)) result tokens.new.rest.now }
+    ensures { Gives expression_view (parse.atom
+        (W.parser whole.now) (tokens_view tokens.old.rest.now)) result tokens.new.rest.now }
 {
     if tokens.sees(Symbol::OpenBrace) {
         return Ok(Expression::MapLiteral(map_pairs(whole, tokens)?));
@@ -339,7 +351,8 @@ pub(crate) fn post<W: Expressions>(
     tokens: &mut Tokens<'_, '_>,
 ) -> Result<Expression, ParseError>
     requires { W.ready whole.now }
-    ensures { Gives expression_view (parse.post (W.parser whole.now) (tokens_view tokens.old.rest.now)) result tokens.new.rest.now }
+    ensures { Gives expression_view (parse.post
+        (W.parser whole.now) (tokens_view tokens.old.rest.now)) result tokens.new.rest.now }
 {
     let alloc = whole.alloc();
     let first = atom(whole, tokens)?;

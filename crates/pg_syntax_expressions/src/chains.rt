@@ -121,7 +121,8 @@ fn chained(
     first: Expression,
     operands: Vec<(Operator, Expression)>,
 ) -> Result<Expression, ParseError>
-    ensures { GivesValue expression_view (Some (parse.chained (expression_view first) (map operand_view operands.items))) result }
+    ensures { GivesValue expression_view
+        (Some (parse.chained (expression_view first) (map operand_view operands.items))) result }
 {
     if operands.is_empty() {
         return Ok(first);

@@ -58,7 +58,8 @@ impl Row for Sign {
 
 #[tactic(auto, using(pg_syntax_tree::proofs::Views::signs_is))]
 fn signed(alloc: Global, signs: Vec<bool>, operand: Expression) -> Result<Expression, ParseError>
-    ensures { GivesValue expression_view (Some (parse.signed signs.items (expression_view operand))) result }
+    ensures { GivesValue expression_view
+        (Some (parse.signed signs.items (expression_view operand))) result }
 {
     if signs.is_empty() {
         return Ok(operand);
@@ -89,7 +90,8 @@ impl<'w, W: Expressions> Expressions for Unary<'w, W> {
 }
 
 fn null_test(tokens: &mut Tokens<'_, '_>) -> Result<Test<Expression>, ParseError>
-    ensures { Gives test_view (parse.null_test (tokens_view tokens.old.rest.now)) result tokens.new.rest.now }
+    ensures { Gives test_view
+        (parse.null_test (tokens_view tokens.old.rest.now)) result tokens.new.rest.now }
 {
     tokens.expect_keyword(Keyword::Is)?;
     let negated = tokens.eat_keyword(Keyword::Not);
@@ -106,7 +108,8 @@ fn test_by<O: Expressions>(
     tokens: &mut Tokens<'_, '_>,
 ) -> Result<Test<Expression>, ParseError>
     requires { O.ready right.now }
-    ensures { Gives test_view (parse.test_by test (words_of word with) (O.parser right.now) (tokens_view tokens.old.rest.now)) result tokens.new.rest.now }
+    ensures { Gives test_view (parse.test_by test (words_of word with)
+        (O.parser right.now) (tokens_view tokens.old.rest.now)) result tokens.new.rest.now }
 {
     tokens.expect_keyword(word)?;
     if with {
@@ -171,7 +174,8 @@ fn tested(
     first: Expression,
     tests: Vec<Test<Expression>>,
 ) -> Result<Expression, ParseError>
-    ensures { GivesValue expression_view (Some (parse.tested (expression_view first) (map test_view tests.items))) result }
+    ensures { GivesValue expression_view
+        (Some (parse.tested (expression_view first) (map test_view tests.items))) result }
 {
     if tests.is_empty() {
         return Ok(first);
@@ -244,7 +248,8 @@ impl Row for Not {
 
 #[tactic(auto, using(pg_syntax_tree::proofs::Views::negation_is))]
 fn negated(alloc: Global, nots: Vec<()>, operand: Expression) -> Result<Expression, ParseError>
-    ensures { GivesValue expression_view (Some (parse.negated nots.items (expression_view operand))) result }
+    ensures { GivesValue expression_view
+        (Some (parse.negated nots.items (expression_view operand))) result }
 {
     if nots.is_empty() {
         return Ok(operand);

@@ -46,7 +46,8 @@ pub fn expression(
     tokens: &mut Tokens<'_, '_>,
     depth: usize,
 ) -> Result<Expression, ParseError>
-    ensures { Gives expression_view (parse.expr depth (tokens_view tokens.old.rest.now)) result tokens.new.rest.now }
+    ensures { Gives expression_view
+        (parse.expr depth (tokens_view tokens.old.rest.now)) result tokens.new.rest.now }
 {
     if depth == 0 {
         return Err(ParseError::BadSyntax);

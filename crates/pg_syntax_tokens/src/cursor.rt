@@ -27,6 +27,7 @@ pub(crate) fn is_symbol(lexeme: &Lexeme<'_>, symbol: Symbol) -> bool
     }
 }
 
+/// The byte at which the first token begins, or 0 where none is left.
 pub fn start_of(tokens: &[Token<'_>]) -> usize
     ensures { result ≡ spec.start_of (tokens_view tokens.now) }
 {
@@ -37,6 +38,7 @@ pub fn start_of(tokens: &[Token<'_>]) -> usize
 }
 
 impl<'t, 'a> Tokens<'t, 'a> {
+    /// Whether the next token is a given symbol. Nothing is taken.
     pub fn sees(&self, symbol: Symbol) -> bool
         ensures { result ≡ spec.sees_symbol symbol (tokens_view self.now.rest.now) }
     {
@@ -46,6 +48,8 @@ impl<'t, 'a> Tokens<'t, 'a> {
         }
     }
 
+    /// Whether the next token is a given keyword, in any case and without backquotes. Nothing is
+    /// taken.
     #[tactic(auto, unfolding(pg_meaning::specs::Parse::same_keyword))]
     pub fn sees_keyword(&self, keyword: Keyword) -> bool
         ensures { result ≡ spec.sees_keyword keyword (tokens_view self.now.rest.now) }
@@ -69,6 +73,7 @@ impl<'t, 'a> Tokens<'t, 'a> {
         }
     }
 
+    /// Whether the next token is a parameter, in backquotes or not. Nothing is taken.
     pub fn sees_parameter(&self) -> bool
         ensures { result ≡ spec.begins_parameter (tokens_view self.now.rest.now) }
     {
@@ -81,6 +86,7 @@ impl<'t, 'a> Tokens<'t, 'a> {
         }
     }
 
+    /// Whether the next token is an integer. Nothing is taken.
     pub fn sees_integer(&self) -> bool
         ensures { result ≡ spec.begins_integer (tokens_view self.now.rest.now) }
     {
@@ -113,7 +119,8 @@ impl<'t, 'a> Tokens<'t, 'a> {
     /// Passes over the symbol, if it stands next.
     #[tactic(auto, using(crate::proofs::Steps::symbol_eaten, crate::proofs::Steps::symbol_left))]
     pub fn eat(&mut self, symbol: Symbol) -> bool
-        ensures { spec.eat_symbol symbol (tokens_view self.old.rest.now) ≡ Some (result, tokens_view self.new.rest.now) }
+        ensures { spec.eat_symbol symbol (tokens_view self.old.rest.now)
+            ≡ Some (result, tokens_view self.new.rest.now) }
     {
         let found = self.sees(symbol);
         if found {
@@ -125,7 +132,8 @@ impl<'t, 'a> Tokens<'t, 'a> {
     /// Passes over the keyword, if it stands next.
     #[tactic(auto, using(crate::proofs::Steps::keyword_eaten, crate::proofs::Steps::keyword_left))]
     pub fn eat_keyword(&mut self, keyword: Keyword) -> bool
-        ensures { spec.eat_keyword keyword (tokens_view self.old.rest.now) ≡ Some (result, tokens_view self.new.rest.now) }
+        ensures { spec.eat_keyword keyword (tokens_view self.old.rest.now)
+            ≡ Some (result, tokens_view self.new.rest.now) }
     {
         let found = self.sees_keyword(keyword);
         if found {
@@ -134,9 +142,11 @@ impl<'t, 'a> Tokens<'t, 'a> {
         found
     }
 
+    /// Takes a symbol, or refuses the text as bad syntax and takes nothing.
     #[tactic(auto, using(crate::proofs::Steps::symbol_yes, crate::proofs::Steps::symbol_no))]
     pub fn expect(&mut self, symbol: Symbol) -> Result<(), ParseError>
-        ensures { Gives same (spec.symbol symbol (tokens_view self.old.rest.now)) result self.new.rest.now }
+        ensures { Gives same
+            (spec.symbol symbol (tokens_view self.old.rest.now)) result self.new.rest.now }
     {
         if !self.sees(symbol) {
             return Err(ParseError::BadSyntax);
@@ -145,9 +155,11 @@ impl<'t, 'a> Tokens<'t, 'a> {
         Ok(())
     }
 
+    /// Takes a keyword, or refuses the text as bad syntax and takes nothing.
     #[tactic(auto, using(crate::proofs::Steps::keyword_yes, crate::proofs::Steps::keyword_no))]
     pub fn expect_keyword(&mut self, keyword: Keyword) -> Result<(), ParseError>
-        ensures { Gives same (spec.keyword keyword (tokens_view self.old.rest.now)) result self.new.rest.now }
+        ensures { Gives same
+            (spec.keyword keyword (tokens_view self.old.rest.now)) result self.new.rest.now }
     {
         if !self.sees_keyword(keyword) {
             return Err(ParseError::BadSyntax);
@@ -156,9 +168,11 @@ impl<'t, 'a> Tokens<'t, 'a> {
         Ok(())
     }
 
+    /// Takes the name of a variable, decoded, which is a keyword only in backquotes.
     #[tactic(auto, unfolding(pg_meaning::specs::Parse::var))]
     pub fn var(&mut self, alloc: Global) -> Result<Name, ParseError>
-        ensures { Gives name_view (spec.var (tokens_view self.old.rest.now)) result self.new.rest.now }
+        ensures { Gives name_view
+            (spec.var (tokens_view self.old.rest.now)) result self.new.rest.now }
     {
         let [token, rest @ ..] = self.rest else {
             return Err(ParseError::BadSyntax);
@@ -179,7 +193,8 @@ impl<'t, 'a> Tokens<'t, 'a> {
     /// A name, which may be spelled as a keyword is.
     #[tactic(auto, unfolding(pg_meaning::specs::Parse::name))]
     pub fn name(&mut self, alloc: Global) -> Result<Name, ParseError>
-        ensures { Gives name_view (spec.name (tokens_view self.old.rest.now)) result self.new.rest.now }
+        ensures { Gives name_view
+            (spec.name (tokens_view self.old.rest.now)) result self.new.rest.now }
     {
         let [token, rest @ ..] = self.rest else {
             return Err(ParseError::BadSyntax);
@@ -197,9 +212,11 @@ impl<'t, 'a> Tokens<'t, 'a> {
         })
     }
 
+    /// Takes a parameter: its name without the `$` and decoded.
     #[tactic(auto, unfolding(pg_meaning::specs::Parse::parameter))]
     pub fn parameter(&mut self, alloc: Global) -> Result<Name, ParseError>
-        ensures { Gives name_view (spec.parameter (tokens_view self.old.rest.now)) result self.new.rest.now }
+        ensures { Gives name_view
+            (spec.parameter (tokens_view self.old.rest.now)) result self.new.rest.now }
     {
         let [token, rest @ ..] = self.rest else {
             return Err(ParseError::BadSyntax);
@@ -217,9 +234,11 @@ impl<'t, 'a> Tokens<'t, 'a> {
         })
     }
 
+    /// Takes an integer, which has no sign and is at most 2^63 - 1, as greater ones are no lexemes.
     #[tactic(auto, unfolding(pg_meaning::specs::Parse::integer))]
     pub fn integer(&mut self) -> Result<u64, ParseError>
-        ensures { Gives same (spec.integer (tokens_view self.old.rest.now)) result self.new.rest.now }
+        ensures { Gives same
+            (spec.integer (tokens_view self.old.rest.now)) result self.new.rest.now }
     {
         let [token, rest @ ..] = self.rest else {
             return Err(ParseError::BadSyntax);

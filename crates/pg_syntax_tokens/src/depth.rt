@@ -31,7 +31,9 @@ fn is_at(token: Option<&Token<'_>>, symbol: Symbol) -> bool
 
 /// CASE is a name directly behind a dot and directly before a colon.
 fn case_turn(before: Option<&Token<'_>>, after: Option<&Token<'_>>) -> Turn
-    ensures { turn_view result ≡ case_by (is_beside Symbol.Dot (beside before.entry)) (is_beside Symbol.Colon (beside after.entry)) }
+    ensures { turn_view result
+        ≡ case_by
+        (is_beside Symbol.Dot (beside before.entry)) (is_beside Symbol.Colon (beside after.entry)) }
 {
     if is_at(before, Symbol::Dot) || is_at(after, Symbol::Colon) {
         Turn::Stays
@@ -57,7 +59,8 @@ fn end_turn(before: Option<&Token<'_>>) -> Turn
 
 #[tactic(auto, using(crate::proofs::Turns::case_is))]
 fn turn_of(before: Option<&Token<'_>>, token: &Token<'_>, after: Option<&Token<'_>>) -> Turn
-    ensures { turn_view result ≡ spec.turn_of (beside before.entry) (lexeme_view token.now.lexeme) (beside after.entry) }
+    ensures { turn_view result
+        ≡ spec.turn_of (beside before.entry) (lexeme_view token.now.lexeme) (beside after.entry) }
 {
     match token.lexeme {
         Lexeme::Symbol(Symbol::OpenParenthesis | Symbol::OpenBracket | Symbol::OpenBrace) =>
@@ -87,6 +90,7 @@ fn is_nested(tokens: &[Token<'_>]) -> bool
     let mut before = None;
     let mut opened = 0;
     let mut closed = 0;
+    // closers before any opener make room, so both are counted and neither is taken from the other
     while let Some(token) = left.take() {
         let after = left.rest.first();
         match turn_of(before, token, after) {
@@ -122,6 +126,8 @@ fn has_long_row(tokens: &[Token<'_>]) -> bool
     false
 }
 
+/// Whether a text nests deeper than the rule on nesting lets a parser recurse. It is asked before
+/// anything is parsed.
 #[tactic(auto, unfolding(pg_meaning::specs::Depth::is_too_deep))]
 pub fn is_too_deep(tokens: &[Token<'_>]) -> bool
     ensures { result ≡ spec.is_too_deep (tokens_view tokens.now) }

@@ -16,8 +16,10 @@ use pg_meaning::Symbol;
 use pg_syntax_tree::Name;
 use std::alloc::Global;
 
+/// The variable of a node or a relationship, if the text names one.
 pub fn variable(alloc: Global, tokens: &mut Tokens<'_, '_>) -> Result<Option<Name>, ParseError>
-    ensures { Gives (option_map name_view) (parse.maybe parse.begins_var parse.var (tokens_view tokens.old.rest.now)) result tokens.new.rest.now }
+    ensures { Gives (option_map name_view) (parse.maybe parse.begins_var parse.var
+        (tokens_view tokens.old.rest.now)) result tokens.new.rest.now }
 {
     if !tokens.sees_var() {
         return Ok(None);
@@ -63,7 +65,8 @@ impl Row for Label {
 /// One or more.
 #[tactic(auto, unfolding(pg_meaning::specs::Parse::labels))]
 pub fn labels(alloc: Global, tokens: &mut Tokens<'_, '_>) -> Result<Vec<Name>, ParseError>
-    ensures { Gives (λ v. names_view v.items) (parse.labels (tokens_view tokens.old.rest.now)) result tokens.new.rest.now }
+    ensures { Gives (λ v. names_view v.items)
+        (parse.labels (tokens_view tokens.old.rest.now)) result tokens.new.rest.now }
 {
     let label = Label { alloc };
     let mut found = Vec::new(alloc);
@@ -71,8 +74,10 @@ pub fn labels(alloc: Global, tokens: &mut Tokens<'_, '_>) -> Result<Vec<Name>, P
     many(&label, tokens, found)
 }
 
+/// Any number of labels, each after its colon.
 pub fn labels_if_any(alloc: Global, tokens: &mut Tokens<'_, '_>) -> Result<Vec<Name>, ParseError>
-    ensures { Gives (λ v. names_view v.items) (parse.labels_if_any (tokens_view tokens.old.rest.now)) result tokens.new.rest.now }
+    ensures { Gives (λ v. names_view v.items)
+        (parse.labels_if_any (tokens_view tokens.old.rest.now)) result tokens.new.rest.now }
 {
     if !tokens.sees(Symbol::Colon) {
         return Ok(Vec::new(alloc));

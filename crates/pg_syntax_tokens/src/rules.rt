@@ -28,7 +28,8 @@ pub trait Rule {
 
     fn read(&self, tokens: &mut Tokens<'_, '_>) -> Result<Self::Tree, ParseError>
         requires { ready self.now }
-        ensures { Gives view (parser self.now (tokens_view tokens.old.rest.now)) result tokens.new.rest.now };
+        ensures { Gives view
+            (parser self.now (tokens_view tokens.old.rest.now)) result tokens.new.rest.now };
 
     ghost shrinks: { (rule : Self) → Shrinks (parser rule) };
 }
@@ -52,7 +53,8 @@ pub fn many<R: Row>(
     mut found: Vec<R::Tree>,
 ) -> Result<Vec<R::Tree>, ParseError>
     requires { R.ready rule.now }
-    ensures { Gives (λ v. map R.view v.items) (parse.many (R.begins rule.now) (R.parser rule.now) (map R.view found.items) (tokens_view tokens.old.rest.now)) result tokens.new.rest.now }
+    ensures { Gives (λ v. map R.view v.items) (parse.many (R.begins rule.now) (R.parser rule.now)
+        (map R.view found.items) (tokens_view tokens.old.rest.now)) result tokens.new.rest.now }
 {
     while rule.begins(tokens) {
         found.push(rule.read(tokens)?)?;
@@ -67,7 +69,8 @@ pub fn pieces<R: Row>(
     tokens: &mut Tokens<'_, '_>,
 ) -> Result<Vec<R::Tree>, ParseError>
     requires { R.ready rule.now }
-    ensures { Gives (λ v. map R.view v.items) (parse.many (R.begins rule.now) (R.parser rule.now) [] (tokens_view tokens.old.rest.now)) result tokens.new.rest.now }
+    ensures { Gives (λ v. map R.view v.items) (parse.many (R.begins rule.now)
+        (R.parser rule.now) [] (tokens_view tokens.old.rest.now)) result tokens.new.rest.now }
 {
     many(rule, tokens, Vec::new(alloc))
 }
@@ -116,7 +119,9 @@ pub fn further<R: Rule>(
     found: Vec<R::Tree>,
 ) -> Result<Vec<R::Tree>, ParseError>
     requires { R.ready rule.now }
-    ensures { Gives (λ v. map R.view v.items) (parse.many (sees_symbol s.Comma) (comma_and (R.parser rule.now)) (map R.view found.items) (tokens_view tokens.old.rest.now)) result tokens.new.rest.now }
+    ensures { Gives (λ v. map R.view v.items) (parse.many (sees_symbol s.Comma)
+        (comma_and (R.parser rule.now)) (map R.view found.items) (tokens_view tokens.old.rest.now))
+        result tokens.new.rest.now }
 {
     many(&CommaAnd { rule }, tokens, found)
 }
@@ -128,7 +133,8 @@ pub fn separated<R: Rule>(
     tokens: &mut Tokens<'_, '_>,
 ) -> Result<Vec<R::Tree>, ParseError>
     requires { R.ready rule.now }
-    ensures { Gives (λ v. map R.view v.items) (parse.separated (R.parser rule.now) (tokens_view tokens.old.rest.now)) result tokens.new.rest.now }
+    ensures { Gives (λ v. map R.view v.items) (parse.separated
+        (R.parser rule.now) (tokens_view tokens.old.rest.now)) result tokens.new.rest.now }
 {
     let mut found = Vec::new(alloc);
     found.push(rule.read(tokens)?)?;

@@ -23,7 +23,8 @@ pub trait Expressions {
 
     fn expression(&self, tokens: &mut Tokens<'_, '_>) -> Result<Expression, ParseError>
         requires { ready self.now }
-        ensures { Gives expression_view (parser self.now (tokens_view tokens.old.rest.now)) result tokens.new.rest.now };
+        ensures { Gives expression_view
+            (parser self.now (tokens_view tokens.old.rest.now)) result tokens.new.rest.now };
 
     ghost shrinks: { (whole : Self) → Shrinks (parser whole) };
 }

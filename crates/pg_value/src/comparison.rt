@@ -5,7 +5,8 @@ ghost use Rattle.pg_meaning.specs.Order.{less3};
 ghost use Rattle.pg_value_core.specs.View.{view};
 
 use crate::logic::truth;
-use pg_value_core::{Fault, Tri, Value};
+use pg_meaning::{Fault, Tri};
+use pg_value_core::Value;
 
 /// Whether an integer, a text or a boolean is below another; a fault at two values of any other
 /// type, and null between types.

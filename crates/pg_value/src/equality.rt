@@ -5,7 +5,8 @@ ghost use Rattle.pg_meaning.specs.Equality.{eq3, items_eq3, entries_eq3};
 ghost use Rattle.pg_value_core.specs.View.{view, values_view, entries_view};
 
 use crate::logic::{and, truth};
-use pg_value_core::{Tri, Value};
+use pg_meaning::Tri;
+use pg_value_core::Value;
 use std::collections::BTreeMap;
 
 /// Whether two values are equal.

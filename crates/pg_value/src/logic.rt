@@ -4,7 +4,8 @@ ghost use Rattle.std.specs.Prelude.{◌≡◌};
 ghost use Rattle.pg_meaning.specs.Logic.{and3, or3, xor3, not3, tri_of, truth_of, value_of};
 ghost use Rattle.pg_value_core.specs.View.{view};
 
-use pg_value_core::{Fault, Tri, Value};
+use pg_meaning::{Fault, Tri};
+use pg_value_core::Value;
 
 /// The truth value that a boolean is.
 pub fn truth(b: bool) -> Tri
@@ -13,6 +14,7 @@ pub fn truth(b: bool) -> Tri
     if b { Tri::True } else { Tri::False }
 }
 
+/// AND of openCypher: false wins over null.
 pub fn and(a: Tri, b: Tri) -> Tri
     ensures { result ≡ and3 a b }
 {
@@ -23,6 +25,7 @@ pub fn and(a: Tri, b: Tri) -> Tri
     }
 }
 
+/// OR of openCypher: true wins over null.
 pub fn or(a: Tri, b: Tri) -> Tri
     ensures { result ≡ or3 a b }
 {
@@ -33,6 +36,7 @@ pub fn or(a: Tri, b: Tri) -> Tri
     }
 }
 
+/// XOR of openCypher: null where a side is null.
 pub fn xor(a: Tri, b: Tri) -> Tri
     ensures { result ≡ xor3 a b }
 {
@@ -42,6 +46,7 @@ pub fn xor(a: Tri, b: Tri) -> Tri
     }
 }
 
+/// NOT of openCypher: null of null.
 pub fn not(a: Tri) -> Tri
     ensures { result ≡ not3 a }
 {

@@ -10,13 +10,15 @@ ghost use Rattle.pg_value_core.specs.View.{view, values_view};
 
 use crate::equality::eq3;
 use crate::logic::{or, truth};
-use pg_value_core::{Fault, Tri, Value};
+use pg_meaning::{Fault, Tri};
+use pg_value_core::Value;
 
 /// Whether the value is in the list; a null may be any list, and no other type has members.
 #[tactic(auto, using(crate::proofs::Memberships::membership_is_in))]
 pub fn is_in(value: &Value, list: &Value) -> Result<Tri, Fault>
     ensures answer { result ≡ membership (view value.now) (view list.now) }
-    ensures operator { and_then result (λ t. Ok (value_of t)) ≡ is_in (view value.now) (view list.now) }
+    ensures operator { and_then result (λ t. Ok (value_of t))
+        ≡ is_in (view value.now) (view list.now) }
 {
     match list {
         Value::Null => Ok(Tri::Null),

@@ -50,7 +50,8 @@ fn feed_items<H: Hasher>(items: &Vec<Value>, state: &mut H)
 
 #[cycle(feed)]
 fn feed_entries<H: Hasher>(entries: &BTreeMap<String, Value>, state: &mut H)
-    ensures { state.new ≡ fold H.write state.old (hashed_entries (entries_view entries.now.entries)) }
+    ensures { state.new
+        ≡ fold H.write state.old (hashed_entries (entries_view entries.now.entries)) }
 {
     for (key, value) in entries.iter() {
         state.write_u8(1);

@@ -69,7 +69,9 @@ fn order_items(xs: &Vec<Value>, ys: &Vec<Value>) -> Ordering
 }
 
 fn order_keys(xs: &BTreeMap<String, Value>, ys: &BTreeMap<String, Value>) -> Ordering
-    ensures { result ≡ slice_cmp text_order (keys_of (entries_view xs.now.entries)) (keys_of (entries_view ys.now.entries)) }
+    ensures { result
+        ≡ slice_cmp text_order
+        (keys_of (entries_view xs.now.entries)) (keys_of (entries_view ys.now.entries)) }
 {
     let mut others = ys.iter();
     for (key, _) in xs.iter() {
@@ -146,7 +148,8 @@ impl PartialOrd for Value {
 
     ghost partial_cmp = { as_partial_cmp (on view value_order) };
 
-    ghost laws = { partial_order_from_agreeing_total (on view value_order) (on_total view order_total) (λ _ _. refl) (λ _ _. refl) };
+    ghost laws = { partial_order_from_agreeing_total
+        (on view value_order) (on_total view order_total) (λ _ _. refl) (λ _ _. refl) };
 
     fn partial_cmp(&self, other: &Value) -> Option<Ordering> {
         Some(order(self, other))

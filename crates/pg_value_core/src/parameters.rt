@@ -22,6 +22,7 @@ impl Parameters {
         Parameters { values }
     }
 
+    /// The value that a request gives for a name, written without the `$`.
     pub fn get(&self, name: &str) -> Option<&Value>
         ensures { option_map (λ v. view v.now) result ≡ at_key name.now (parameters_view self.now) }
     {

@@ -1,6 +1,6 @@
 //! A value taken apart.
 ghost use Rattle.std.specs.Prelude.{◌≡◌};
-ghost use Rattle.pg_value_core.specs.Parts.{value_of};
+ghost use Rattle.pg_value_core.specs.Parts.{value_of_parts};
 
 use crate::ids::{NodeId, Path, RelId};
 use crate::value::Value;
@@ -21,8 +21,9 @@ pub enum Parts {
 }
 
 impl Parts {
+    /// The value that has these parts. Nothing is copied.
     pub fn into_value(self) -> Value
-        ensures { result ≡ value_of self }
+        ensures { result ≡ value_of_parts self }
     {
         match self {
             Parts::Null => Value::Null,

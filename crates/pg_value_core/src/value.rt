@@ -1,6 +1,6 @@
 //! Values as an expression gives them and a property keeps them.
 ghost use Rattle.std.specs.Prelude.{◌≡◌};
-ghost use Rattle.pg_value_core.specs.Parts.{value_of};
+ghost use Rattle.pg_value_core.specs.Parts.{value_of_parts};
 
 use crate::ids::{NodeId, Path, RelId};
 use crate::parts::Parts;
@@ -37,8 +37,9 @@ impl Drop for Value {
 }
 
 impl Value {
+    /// The parts of a value, each owned by the caller. Nothing is copied.
     pub fn into_parts(self) -> Parts
-        ensures { value_of result ≡ self }
+        ensures { value_of_parts result ≡ self }
     {
         match self {
             Value::Null => Parts::Null,

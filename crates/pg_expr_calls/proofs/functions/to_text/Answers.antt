@@ -8,7 +8,7 @@ use Rattle.pg_meaning.specs.Value.{text}
 use Rattle.pg_meaning.specs.declared.fault.Fault.{Fault}
 use Rattle.pg_meaning.specs.declared.fault.Fault.TheVariants.{OutOfMemory}
 use Rattle.pg_value_core.proofs.Forms.{int_seen}
-use Rattle.pg_value_core.specs.Parts.{value_of}
+use Rattle.pg_value_core.specs.Parts.{value_of_parts}
 use Rattle.pg_value_core.specs.View.{view}
 use Rattle.pg_expr_calls.proofs.functions.to_text.Goals as goal
 
@@ -19,7 +19,7 @@ memory_short answer (Err e) short = λ other. absurd (other short)
 pub returns-in-Int-clause-ok : goal.returns-in-Int-clause-ok
 returns-in-Int-clause-ok c =
     let fits : SFits w64 c.in-Int.i = search rules in
-    let seen = int_seen c.in-Int.i (sym c.into_parts.ensures ∙ ap value_of c.in-Int.is) in
+    let seen = int_seen c.in-Int.i (sym c.into_parts.ensures ∙ ap value_of_parts c.in-Int.is) in
     c.as_text.ensures.ok (string_of (view c.args.v)) (IfOk-weaker c.digits.result (λ s. string_bytes s ≡ digits_of (to_z w64 (of_z w64 c.in-Int.i))) _ (λ s e. ap string_of seen ∙ ap (λ b. Ok (text b)) (sym (e ∙ ap digits_of (to_z-of_z w64 c.in-Int.i fits)))) c.digits.ensures)
 
 pub returns-in-Int-clause-err : goal.returns-in-Int-clause-err

@@ -1,6 +1,6 @@
 use Rattle.std.proofs.Common.{◌≡◌, ℕ, Bool, Option, Box, Vec, Global, length, map, List, [], ◌∷◌, ◌++◌, refl, sym, ap, subst, ◌∙◌, inl, inr, arith}
 use Rattle.pg_meaning.specs.Parse.{expressions_of, operands_of, pairs_of, whens_of}
-use Rattle.pg_meaning.specs.StaticFaults.{all_faults, pair_faults, when_faults, operand_faults, test_faults, suffix_faults, faults_of, expression_faults, count_of, Role, Found}
+use Rattle.pg_meaning.specs.StaticFaults.{all_faults, pair_faults, when_faults, operand_faults, test_faults, suffix_faults, faults_of, expression_faults, argument_count, Role, PlacedFault}
 use Rattle.pg_meaning.specs.Tree as tree
 use Rattle.pg_scope.specs.Calls.{own_faults}
 use Rattle.pg_scope.specs.First.{IsFirst}
@@ -23,7 +23,7 @@ use Rattle.pg_scope.proofs.FirstLemmas.{in_turn, walk_item, walk_ended, no_more}
 use Rattle.pg_syntax_tree.proofs.Views.{map_is, call_is, chain_is, negation_is, signs_is, tests_is, suffixes_is, case_is}
 use Rattle.pg_scope.proofs.expressions.+expressions.Goals as goal
 
-abbrev faults_in_test : Names → Test Expression → List Found
+abbrev faults_in_test : Names → Test Expression → List PlacedFault
 faults_in_test visible (test.Text t x) = faults_of visible (expression_view x)
 faults_in_test visible (test.IsNull b) = []
 
@@ -31,7 +31,7 @@ test_step : (visible : Names) (x : Test Expression) (xs : List (Test Expression)
 test_step visible (test.Text t x) xs = refl
 test_step visible (test.IsNull b) xs = refl
 
-abbrev faults_in_suffix : Names → Suffix Expression → List Found
+abbrev faults_in_suffix : Names → Suffix Expression → List PlacedFault
 faults_in_suffix visible (suffix.Property n) = []
 faults_in_suffix visible (suffix.Index x) = faults_of visible (expression_view x)
 
@@ -54,12 +54,12 @@ parentheses_is x = ap expression_view (sym (rolls-Parentheses x)) ∙ fold-roll-
 list_is : (xs : Vec Expression Global) → expression_view (expression.ListLiteral xs) ≡ tree.list_literal (expressions_of (map expression_view xs.items))
 list_is xs = ap expression_view (sym (rolls-ListLiteral xs)) ∙ fold-roll-Expression tree.Expression view_step (Expression-F.ListLiteral xs)
 
-count_is : (xs : List Expression) → length xs ≡ count_of (expressions_of (map expression_view xs))
+count_is : (xs : List Expression) → length xs ≡ argument_count (expressions_of (map expression_view xs))
 count_is [] = refl
 count_is (x ∷ xs) = let rest = count_is xs in omega arith
 
 -- a call, with so many arguments
-called : (visible : Names) (role : Role) (n : tree.Name) (star distinct : Bool) (count : ℕ) (xs : List Expression) {first next last : Option Found} → count ≡ length xs
+called : (visible : Names) (role : Role) (n : tree.Name) (star distinct : Bool) (count : ℕ) (xs : List Expression) {first next last : Option PlacedFault} → count ≡ length xs
     → IsFirst first (own_faults role n star distinct count) next → IsFirst next (all_faults visible (expressions_of (map expression_view xs))) last
     → IsFirst first (expression_faults visible role (tree.call n star distinct (expressions_of (map expression_view xs)))) last
 called visible role n star distinct count xs {first} {next} {last} is e h = in_turn (subst (λ m. IsFirst first (own_faults role n star distinct m) next) (is ∙ count_is xs) e) h

@@ -1,5 +1,5 @@
 use Rattle.pg_agreement.proofs.PlanningPlans.{plan_of_is_plan, plan_of_is_whole}
-use Rattle.pg_agreement.proofs.law_of_plans.Goals as goal
+use Rattle.pg_agreement.proofs.law_of_planning.Goals as goal
 
 pub returns-clause-plan : goal.returns-clause-plan
 returns-clause-plan c = plan_of_is_plan

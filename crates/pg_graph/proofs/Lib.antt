@@ -12,3 +12,5 @@ pub mod Listed
 pub mod Made
 pub mod Removed
 pub mod LabelsRemoved
+pub mod RunLists
+pub mod IdSetLemmas

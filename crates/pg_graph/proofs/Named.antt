@@ -1,5 +1,5 @@
 -- Labels and properties of the graph are looked for by the numbers of their names.
-use Rattle.std.proofs.Common.{◌≡◌, ◌==◌, ◌<◌, ◌||◌, ℕ, Bool, true, false, cond, T, List, [], ◌∷◌, map as map_list, length, slice_get, Option, Some, None, unwrap_or, Less, Equal, Greater, Ordering, arith, refl, sym, ap, ◌∙◌}
+use Rattle.std.proofs.Common.{◌≡◌, ◌==◌, ◌<◌, ◌||◌, ◌&&◌, not, ℕ, Bool, true, false, cond, T, List, [], ◌∷◌, map as map_list, length, slice_get, Option, Some, None, unwrap_or, Less, Equal, Greater, Ordering, arith, refl, sym, ap, ◌∙◌}
 use Rattle.std.proofs.lemmas.Bool.Decides.{nat_tests}
 use Rattle.std.proofs.lemmas.Slice.Eq.{bytes_eq-Decides}
 use Rattle.std.specs.BTreeSet.{insert_key}
@@ -15,6 +15,7 @@ use Rattle.pg_graph.proofs.Ids.{eq_flip}
 use Rattle.pg_names.proofs.Interned.{found_text, place_of_text, same_bytes}
 use Rattle.pg_graph.proofs.Refined.{text_stays, left, right}
 use Rattle.pg_names.specs.Names.{AreDistinct}
+use Rattle.pg_graph.specs.Blank.{is_null}
 use Rattle.pg_graph.specs.Records.{shown, shown_value}
 use Rattle.pg_graph.specs.Refinement.{text_of, put_shown, named_entries, AreNamed, LabelIsRead, PropertyIsRead}
 use Rattle.pg_meaning.specs.Entries.{at_key, put, value_at}
@@ -168,6 +169,34 @@ module _ (names : List (List ℕ)) (distinct : AreDistinct names) (text : List �
   no_entry [] missing named = refl
   no_entry (e ∷ es) missing named =
       shown_is_read text (text_of names e.0) e.1 (named_entries names es) false None (by_no_number names distinct text e.0 missing named.0) (no_entry es missing named.1) (λ h. refl)
+
+-- the first entry whose key has the text decides, unless it is blank
+pub entry_is_read : (names : List (List ℕ)) (text : List ℕ) (n : ℕ) (v : Value) (es : List (ℕ × Value))
+    → at_key text (named_entries names ((n, v) ∷ es)) ≡ cond (bytes_eq text (text_of names n) && not (is_null v)) (Some v) (at_key text (named_entries names es))
+entry_is_read names text n v es = by_value v
+  where
+    both : (b : Bool) → (b && true) ≡ b
+    both true = refl
+    both false = refl
+
+    none : (b : Bool) → (b && false) ≡ false
+    none true = refl
+    none false = refl
+
+    read : (w : Value) → (bytes_eq text (text_of names n) && true ≡ bytes_eq text (text_of names n))
+        → at_key text (put (text_of names n) w (named_entries names es)) ≡ cond (bytes_eq text (text_of names n) && true) (Some w) (at_key text (named_entries names es))
+    read w same = put_is_read text (text_of names n) w (named_entries names es) ∙ ap (λ b. cond b (Some w) (at_key text (named_entries names es))) (sym same)
+
+    by_value : (w : Value) → at_key text (put_shown (text_of names n) w (named_entries names es)) ≡ cond (bytes_eq text (text_of names n) && not (is_null w)) (Some w) (at_key text (named_entries names es))
+    by_value null = ap (λ b. cond b (Some null) (at_key text (named_entries names es))) (sym (none (bytes_eq text (text_of names n))))
+    by_value (meaning.boolean b) = read (meaning.boolean b) (both _)
+    by_value (meaning.integer i) = read (meaning.integer i) (both _)
+    by_value (meaning.text s) = read (meaning.text s) (both _)
+    by_value (meaning.list vs) = read (meaning.list vs) (both _)
+    by_value (meaning.mapping fs) = read (meaning.mapping fs) (both _)
+    by_value (meaning.node m) = read (meaning.node m) (both _)
+    by_value (meaning.relationship r) = read (meaning.relationship r) (both _)
+    by_value (meaning.path ids) = read (meaning.path ids) (both _)
 
 -- what is blank and what is absent read alike
 shown_or_null : (o : Option Value) → unwrap_or (shown o) null ≡ unwrap_or o null

@@ -26,13 +26,13 @@ greater a b h = grind (arith, nat_tests)
 pub equal : (a b : ℕ) → nat_cmp a b ≡ Equal → a ≡ b
 equal a b h = grind (arith, nat_tests)
 
-itself : (a b : ℕ) → a ≡ b → (a == b) ≡ true
+pub itself : (a b : ℕ) → a ≡ b → (a == b) ≡ true
 itself a b h = grind (arith, nat_tests)
 
-other : (a b : ℕ) → a < b → (a == b) ≡ false
+pub other : (a b : ℕ) → a < b → (a == b) ≡ false
 other a b h = grind (arith, nat_tests)
 
-other_above : (a b : ℕ) → b < a → (a == b) ≡ false
+pub other_above : (a b : ℕ) → b < a → (a == b) ≡ false
 other_above a b h = grind (arith, nat_tests)
 
 index_rises : (a b k : ℕ) → a < b → ordering_index (nat_cmp a k) ≤ ordering_index (nat_cmp b k)

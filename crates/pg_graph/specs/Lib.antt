@@ -8,3 +8,5 @@ pub mod Links
 pub mod Labels
 pub mod Refinement
 pub mod Stored
+pub mod IdRuns
+pub mod IdSets

@@ -95,6 +95,7 @@ impl Held {
 }
 
 impl Labels {
+    /// No labels, which take no memory.
     pub fn new(alloc: Global) -> Self
         ensures { result ≡ [] }
     {
@@ -125,12 +126,14 @@ impl Labels {
         }
     }
 
+    /// Whether a label is one of them, by binary search.
     pub fn contains(&self, name: NameId) -> bool
         ensures { result ≡ list_any (λ n. n == name) self.now }
     {
         sorted::place(self.held.as_slice(), name.number()).is_ok()
     }
 
+    /// The numbers of the labels, from the least on, so not in the order of their texts.
     pub fn as_slice(&self) -> &[NameId]
         ensures names { result.now ≡ self.now }
         ensures rising { AreLabels self.now }

@@ -3,16 +3,19 @@
 
 mod by_id;
 mod by_text;
+mod id_set;
 mod labels;
 mod laws;
 mod links;
 mod next_ids;
 mod properties;
 mod records;
+mod runs;
 mod sorted;
 mod tables;
 
 pub use by_id::ById;
+pub use id_set::{IdSet, Members};
 pub use labels::Labels;
 pub use laws::{law_of_changes, law_of_graphs, law_of_reads};
 pub use links::{Incidence, Links};

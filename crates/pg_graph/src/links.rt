@@ -48,7 +48,8 @@ impl Links {
 
     fn add(&mut self, node: u64, id: RelId) -> Result<(), AllocError>
         requires { AllRise self.old }
-        ensures ok { OnOk result ((q : ℕ) → links_at self.new q ≡ (if q == node then with_id id.0 (links_at self.old q) else links_at self.old q)) }
+        ensures ok { OnOk result ((q : ℕ) → links_at self.new q
+            ≡ (if q == node then with_id id.0 (links_at self.old q) else links_at self.old q)) }
         ensures err { OnErr result ((q : ℕ) → links_at self.new q ≡ links_at self.old q) }
     {
         if self.lists.get(node).is_none() {
@@ -64,7 +65,9 @@ impl Links {
 
     fn remove(&mut self, node: u64, id: RelId)
         requires { AllRise self.old }
-        ensures { (q : ℕ) → links_at self.new q ≡ (if q == node then without_id id.0 (links_at self.old q) else links_at self.old q) }
+        ensures { (q : ℕ)
+            → links_at self.new q
+            ≡ (if q == node then without_id id.0 (links_at self.old q) else links_at self.old q) }
     {
         if self.lists.get(node).is_some() {
             let mut ids = self.lists.replace(node, SmallVec::new(self.alloc));
@@ -76,7 +79,8 @@ impl Links {
     // Gives a node that has a list another one. Nothing is kept for an empty list.
     fn keep(&mut self, node: u64, ids: SmallVec<RelId, 2>)
         requires { IsSome (map.get self.old.lists node) }
-        ensures { (q : ℕ) → links_at self.new q ≡ (if q == node then numbers ids.items else links_at self.old q) }
+        ensures { (q : ℕ)
+            → links_at self.new q ≡ (if q == node then numbers ids.items else links_at self.old q) }
     {
         if ids.is_empty() {
             self.lists.remove(node);
@@ -94,6 +98,7 @@ pub struct Incidence {
 }
 
 impl Incidence {
+    /// The links of a graph without relationships.
     pub fn new(alloc: Global) -> Self
         ensures { IsIncidence result map.empty }
     {
@@ -103,14 +108,20 @@ impl Incidence {
         }
     }
 
+    /// The relationships that leave a node, the oldest first; a relationship from a node to itself
+    /// is among them.
     pub fn outgoing(&self, node: NodeId) -> &[RelId]
-        ensures { (rels : map.FinMap nat_cmp RelRecord) → IsIncidence self.now rels → numbers result.now ≡ outgoing_of rels node.0 }
+        ensures { (rels : map.FinMap nat_cmp RelRecord)
+            → IsIncidence self.now rels → numbers result.now ≡ outgoing_of rels node.0 }
     {
         self.outgoing.get(node.0)
     }
 
+    /// The relationships that come to a node, the oldest first; a relationship from a node to
+    /// itself is among them.
     pub fn incoming(&self, node: NodeId) -> &[RelId]
-        ensures { (rels : map.FinMap nat_cmp RelRecord) → IsIncidence self.now rels → numbers result.now ≡ incoming_of rels node.0 }
+        ensures { (rels : map.FinMap nat_cmp RelRecord)
+            → IsIncidence self.now rels → numbers result.now ≡ incoming_of rels node.0 }
     {
         self.incoming.get(node.0)
     }
@@ -119,8 +130,11 @@ impl Incidence {
     pub fn add(&mut self, id: RelId, source: NodeId, target: NodeId) -> Result<(), AllocError>
         requires outgoing { AllRise self.old.outgoing }
         requires incoming { AllRise self.old.incoming }
-        ensures ok { OnOk result ((rels : map.FinMap nat_cmp RelRecord) (rel : RelRecord) → rel.source ≡ source → rel.target ≡ target → map.get rels id.0 ≡ None → IsIncidence self.old rels → IsIncidence self.new (map.insert rels id.0 rel)) }
-        ensures err { OnErr result ((rels : map.FinMap nat_cmp RelRecord) → map.get rels id.0 ≡ None → IsIncidence self.old rels → IsIncidence self.new rels) }
+        ensures ok { OnOk result ((rels : map.FinMap nat_cmp RelRecord) (rel : RelRecord)
+            → rel.source ≡ source → rel.target ≡ target → map.get rels id.0 ≡ None
+            → IsIncidence self.old rels → IsIncidence self.new (map.insert rels id.0 rel)) }
+        ensures err { OnErr result ((rels : map.FinMap nat_cmp RelRecord)
+            → map.get rels id.0 ≡ None → IsIncidence self.old rels → IsIncidence self.new rels) }
     {
         self.outgoing.add(source.0, id)?;
         if let Err(e) = self.incoming.add(target.0, id) {
@@ -134,7 +148,9 @@ impl Incidence {
     pub fn remove(&mut self, id: RelId, source: NodeId, target: NodeId)
         requires outgoing { AllRise self.old.outgoing }
         requires incoming { AllRise self.old.incoming }
-        ensures { (rels : map.FinMap nat_cmp RelRecord) (rel : RelRecord) → rel.source ≡ source → rel.target ≡ target → map.get rels id.0 ≡ Some rel → IsIncidence self.old rels → IsIncidence self.new (map.remove rels id.0) }
+        ensures { (rels : map.FinMap nat_cmp RelRecord) (rel : RelRecord)
+            → rel.source ≡ source → rel.target ≡ target → map.get rels id.0 ≡ Some rel
+            → IsIncidence self.old rels → IsIncidence self.new (map.remove rels id.0) }
     {
         self.outgoing.remove(source.0, id);
         self.incoming.remove(target.0, id);

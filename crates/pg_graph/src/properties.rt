@@ -55,7 +55,8 @@ fn exchange_entry(
 ) -> Result<Option<Value>, AllocError>
     requires { AreEntries entries.old.items }
     ensures ok { OnOk result (entries.new.items ≡ put (λ e. e.0) (key, value) entries.old.items) }
-    ensures before { IfOk result (λ before. option_map view before ≡ value_in entries.old.items key) }
+    ensures before { IfOk result
+        (λ before. option_map view before ≡ value_in entries.old.items key) }
     ensures err { OnErr result (entries.new.items ≡ entries.old.items) }
     ensures entries { AreEntries entries.new.items }
 {

@@ -33,8 +33,10 @@ pub trait Tables: Drop {
     /// Empty tables, over any shared part that has none of this owner.
     fn new(alloc: Global, owner: u32) -> Self
         ensures owner { seen.owner result ≡ owner }
-        ensures fits { (shared : Self.Shared) → seen.is_unused owner shared → seen.fits result shared }
-        ensures empty { (shared : Self.Shared) → seen.is_unused owner shared → seen.content result shared ≡ empty_content };
+        ensures fits { (shared : Self.Shared)
+            → seen.is_unused owner shared → seen.fits result shared }
+        ensures empty { (shared : Self.Shared)
+            → seen.is_unused owner shared → seen.content result shared ≡ empty_content };
 
     /// A node's record, if there is such a node.
     fn node<'a>(&'a self, shared: &'a Self::Shared, id: NodeId) -> Option<&'a NodeRecord>
@@ -65,8 +67,10 @@ pub trait Tables: Drop {
     ) -> Result<(), AllocError>
         requires fits { seen.fits self.old shared.old }
         requires absent { map.get (seen.content self.old shared.old).nodes id.0 ≡ None }
-        ensures ok { OnOk result (seen.content self.new shared.new ≡ with_node (seen.content self.old shared.old) id.0 node) }
-        ensures err { OnErr result (seen.content self.new shared.new ≡ seen.content self.old shared.old) }
+        ensures ok { OnOk result (seen.content self.new shared.new
+            ≡ with_node (seen.content self.old shared.old) id.0 node) }
+        ensures err { OnErr result
+            (seen.content self.new shared.new ≡ seen.content self.old shared.old) }
         ensures keeps { Keeps seen self.old shared.old self.new shared.new };
 
     /// Adds a relationship between nodes that are there, under an id that has none.
@@ -80,8 +84,10 @@ pub trait Tables: Drop {
         requires absent { map.get (seen.content self.old shared.old).rels id.0 ≡ None }
         requires source { IsSome (map.get (seen.content self.old shared.old).nodes rel.source.0) }
         requires target { IsSome (map.get (seen.content self.old shared.old).nodes rel.target.0) }
-        ensures ok { OnOk result (seen.content self.new shared.new ≡ with_rel (seen.content self.old shared.old) id.0 rel) }
-        ensures err { OnErr result (seen.content self.new shared.new ≡ seen.content self.old shared.old) }
+        ensures ok { OnOk result (seen.content self.new shared.new
+            ≡ with_rel (seen.content self.old shared.old) id.0 rel) }
+        ensures err { OnErr result
+            (seen.content self.new shared.new ≡ seen.content self.old shared.old) }
         ensures keeps { Keeps seen self.old shared.old self.new shared.new };
 
     /// Gives a node another record, and returns the one before.
@@ -89,7 +95,8 @@ pub trait Tables: Drop {
         requires fits { seen.fits self.old shared.old }
         requires present { IsSome (map.get (seen.content self.old shared.old).nodes id.0) }
         ensures before { map.get (seen.content self.old shared.old).nodes id.0 ≡ Some result }
-        ensures changed { seen.content self.new shared.new ≡ with_node (seen.content self.old shared.old) id.0 node }
+        ensures changed { seen.content self.new shared.new
+            ≡ with_node (seen.content self.old shared.old) id.0 node }
         ensures keeps { Keeps seen self.old shared.old self.new shared.new };
 
     /// Gives a relationship other properties, and returns those before. Its type and ends stay.
@@ -101,15 +108,19 @@ pub trait Tables: Drop {
     ) -> Properties
         requires fits { seen.fits self.old shared.old }
         requires present { IsSome (map.get (seen.content self.old shared.old).rels id.0) }
-        ensures before { option_map (λ r. r.properties) (map.get (seen.content self.old shared.old).rels id.0) ≡ Some result }
-        ensures changed { seen.content self.new shared.new ≡ with_rel_properties (seen.content self.old shared.old) id.0 properties }
+        ensures before { option_map
+            (λ r. r.properties) (map.get (seen.content self.old shared.old).rels id.0)
+            ≡ Some result }
+        ensures changed { seen.content self.new shared.new
+            ≡ with_rel_properties (seen.content self.old shared.old) id.0 properties }
         ensures keeps { Keeps seen self.old shared.old self.new shared.new };
 
     /// Takes a relationship out.
     fn drop_rel(&mut self, shared: &mut Self::Shared, id: RelId)
         requires fits { seen.fits self.old shared.old }
         requires present { IsSome (map.get (seen.content self.old shared.old).rels id.0) }
-        ensures dropped { seen.content self.new shared.new ≡ without_rel (seen.content self.old shared.old) id.0 }
+        ensures dropped { seen.content self.new shared.new
+            ≡ without_rel (seen.content self.old shared.old) id.0 }
         ensures keeps { Keeps seen self.old shared.old self.new shared.new };
 
     /// Takes a node out, which has no relationships.
@@ -118,6 +129,7 @@ pub trait Tables: Drop {
         requires present { IsSome (map.get (seen.content self.old shared.old).nodes id.0) }
         requires no_outgoing { outgoing_of (seen.content self.old shared.old).rels id.0 ≡ [] }
         requires no_incoming { incoming_of (seen.content self.old shared.old).rels id.0 ≡ [] }
-        ensures dropped { seen.content self.new shared.new ≡ without_node (seen.content self.old shared.old) id.0 }
+        ensures dropped { seen.content self.new shared.new
+            ≡ without_node (seen.content self.old shared.old) id.0 }
         ensures keeps { Keeps seen self.old shared.old self.new shared.new };
 }

@@ -35,7 +35,8 @@ impl<K: TextSet> PooledTables<K> {
     /// What these tables hold is exactly their owner's records in the pool, each element in one slot.
     pub fn law_of_records(&self, pool: &Pool<K>)
         requires { ⟦<PooledTables<K> as Tables>⟧.seen.fits self.now pool.now }
-        ensures { AreRecords (⟦<PooledTables<K> as Tables>⟧.seen.content self.now pool.now) self.now.owner pool.now }
+        ensures { AreRecords
+            (⟦<PooledTables<K> as Tables>⟧.seen.content self.now pool.now) self.now.owner pool.now }
     {}
 }
 

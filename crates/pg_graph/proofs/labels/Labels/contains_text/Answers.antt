@@ -1,8 +1,18 @@
-use Rattle.std.proofs.Common.{◌==◌, false, sym, ap, ◌∙◌}
+use Rattle.std.proofs.Common.{◌==◌, [], false, map, sym, ap, ◌∙◌}
 use Rattle.std.specs.List.{list_any}
 use Rattle.std.specs.Option.{option_map_or}
-use Rattle.pg_graph.proofs.Named.{label_is_read}
+use Rattle.std.specs.Str.{bytes_eq}
+use Rattle.pg_graph.proofs.Named.{any_put, either_false, label_is_read}
 use Rattle.pg_graph.proofs.labels.Labels.contains_text.Goals as goal
+use Rattle.pg_graph.specs.Refinement.{text_of}
+
+pub returns-then-labels-le-FEW : goal.returns-then-labels-le-FEW
+returns-then-labels-le-FEW g c =
+    let names = c.args.names.now in
+    let text = c.args.text.now in
+    c.has_text.ensures
+    ∙ ap (λ ls. list_any (bytes_eq text) (map (text_of names) ls)) c.as_slice-labels.ensures.names
+    ∙ sym (any_put (bytes_eq text) (map (text_of names) c.args.self.now) [] ∙ either_false _)
 
 pub returns-in-Some : goal.returns-in-Some
 returns-in-Some g c =

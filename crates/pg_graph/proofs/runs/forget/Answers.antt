@@ -1,0 +1,46 @@
+use Rattle.std.proofs.Common.{◌≡◌, ◌<◌, length, arith, sym, ap, subst, ◌∙◌}
+use Rattle.pg_graph.specs.IdRuns.{joined, AreRuns, IsRunOf}
+use Rattle.pg_graph.proofs.RunLists.{inside, run_found, run_in_rises, run_out, runs_out, runs_fewer, joined_removed, set_at, some_of}
+use Rattle.pg_graph.proofs.runs.forget.Goals as goal
+
+pub index_mut-requires : goal.index_mut-requires
+index_mut-requires c = let h = inside c.args.id c.as_slice.result.now c.in-Some.i c.in-Some.ensures.some in omega (arith, h, c.as_slice.ensures.len)
+
+pub forget-requires : goal.forget-requires
+forget-requires c =
+    run_in_rises c.args.runs.now.items c.in-Some.i c.index_mut.result.now c.requires
+    (inside c.args.id _ _ (run_found c.args.id c.args.runs.now.items _ c.in-Some.i c.as_slice.ensures.value c.in-Some.ensures.some)) c.index_mut.ensures.value
+
+pub index-requires : goal.index-requires
+index-requires c = let h = inside c.args.id c.as_slice.result.now c.in-Some.i c.in-Some.ensures.some in omega (arith, h, c.as_slice.ensures.len)
+
+pub remove-requires : goal.remove-requires
+remove-requires c = let h = inside c.args.id c.as_slice.result.now c.in-Some.i c.in-Some.ensures.some in omega (arith, h, c.as_slice.ensures.len)
+
+pub returns-then-len-eq0-clause-removed : goal.returns-then-len-eq0-clause-removed
+returns-then-len-eq0-clause-removed c =
+    let rs = c.args.runs.now.items in
+    let is : IsRunOf c.args.id rs c.in-Some.i = run_found c.args.id rs _ c.in-Some.i c.as_slice.ensures.value c.in-Some.ensures.some in
+    let none : length c.forget.new.self ≡ 0 = sym (ap length (c.index.ensures ∙ set_at rs c.in-Some.i c.forget.new.self c.index.result.now (inside c.args.id _ _ is))) ∙ sym c.len.ensures ∙ c.if-len-eq0.true in
+    ap joined c.remove.ensures.items ∙ joined_removed rs c.in-Some.i c.forget.new.self (inside c.args.id _ _ is) none
+    ∙ run_out c.args.id rs c.in-Some.i c.index_mut.result.now c.forget.new.self is c.index_mut.ensures.value c.forget.ensures
+
+pub returns-then-len-eq0-clause-runs : goal.returns-then-len-eq0-clause-runs
+returns-then-len-eq0-clause-runs c =
+    let rs = c.args.runs.now.items in
+    let is : IsRunOf c.args.id rs c.in-Some.i = run_found c.args.id rs _ c.in-Some.i c.as_slice.ensures.value c.in-Some.ensures.some in
+    let none : length c.forget.new.self ≡ 0 = sym (ap length (c.index.ensures ∙ set_at rs c.in-Some.i c.forget.new.self c.index.result.now (inside c.args.id _ _ is))) ∙ sym c.len.ensures ∙ c.if-len-eq0.true in
+    subst AreRuns (sym c.remove.ensures.items) (runs_fewer c.args.id rs c.in-Some.i c.index_mut.result.now c.forget.new.self is c.index_mut.ensures.value c.forget.ensures none c.requires)
+
+pub returns-else-len-eq0-clause-removed : goal.returns-else-len-eq0-clause-removed
+returns-else-len-eq0-clause-removed c =
+    run_out c.args.id c.args.runs.now.items c.in-Some.i c.index_mut.result.now c.forget.new.self
+    (run_found c.args.id c.args.runs.now.items _ c.in-Some.i c.as_slice.ensures.value c.in-Some.ensures.some) c.index_mut.ensures.value c.forget.ensures
+
+pub returns-else-len-eq0-clause-runs : goal.returns-else-len-eq0-clause-runs
+returns-else-len-eq0-clause-runs c =
+    let rs = c.args.runs.now.items in
+    let is : IsRunOf c.args.id rs c.in-Some.i = run_found c.args.id rs _ c.in-Some.i c.as_slice.ensures.value c.in-Some.ensures.some in
+    let same : length c.index.result.now ≡ length c.forget.new.self = ap length (c.index.ensures ∙ set_at rs c.in-Some.i c.forget.new.self c.index.result.now (inside c.args.id _ _ is)) in
+    let some : 0 < length c.forget.new.self = some_of _ (λ e. c.if-len-eq0.false (c.len.ensures ∙ same ∙ e)) in
+    runs_out c.args.id rs c.in-Some.i c.index_mut.result.now c.forget.new.self is c.index_mut.ensures.value c.forget.ensures some c.requires

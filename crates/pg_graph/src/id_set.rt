@@ -1,0 +1,248 @@
+//! A set of ids, seen as a finite map.
+ghost use Rattle.std.specs.Prelude.{◌≡◌, ◌==◌, ◌∷◌, ◌++◌, [], Some, not, OnOk, OnErr, IfOk, IfSome, IfNone, IsTrue};
+ghost use Rattle.std.specs.List.{list_any};
+ghost use Rattle.std.specs.FinMap as map;
+ghost use Rattle.pg_graph.specs.IdSets.{ids_of, IsHeld};
+ghost use Rattle.pg_graph.specs.Links.{with_id, without_id};
+
+use crate::runs;
+use crate::runs::Run;
+use std::alloc::{AllocError, Global};
+use std::marker::Model;
+use std::slice;
+
+/// A set of ids that takes least memory and time where they are put in as they rise. One id takes no
+/// memory beside the set.
+pub struct IdSet {
+    alloc: Global,
+    held: Held,
+}
+
+#[derive(Drop)]
+enum Held {
+    Nothing,
+    One(u64),
+    More(Box<Vec<Run>>),
+}
+
+// Written out, since a derived one is proved anew in each function that may let such a value go.
+impl Drop for IdSet {
+    fn drop(self) {
+        let IdSet { alloc: _, held: _ } = self;
+    }
+}
+
+impl Model for IdSet {
+    ghost use Rattle.std.specs.FinMap as map;
+    ghost use Rattle.std.specs.Ordering.{nat_cmp};
+    ghost use Rattle.std.specs.Coded.{coded_ℕ};
+    ghost use base.Stored.{coded_unit};
+
+    ghost Value = { map.FinMap nat_cmp (Unit {0}) };
+
+    ghost coded = { map.code coded_ℕ coded_unit };
+
+    ghost use Rattle.pg_graph.specs.IdRuns.{set_of};
+    ghost use Rattle.pg_graph.specs.IdSets.{ids_of, IsHeld};
+
+    ghost view = { λ s. set_of (ids_of s.held) };
+
+    ghost invariant = { λ s. IsHeld s.held };
+}
+
+impl Held {
+    fn contains(&self, id: u64) -> bool
+        requires { IsHeld self.now }
+        ensures { result ≡ list_any (λ n. n == id) (ids_of self.now) }
+    {
+        match self {
+            Held::Nothing => false,
+            Held::One(only) => *only == id,
+            Held::More(runs) => runs::has(runs.as_slice(), id),
+        }
+    }
+
+    fn insert(&mut self, alloc: Global, id: u64) -> Result<bool, AllocError>
+        requires { IsHeld self.old }
+        ensures ok { OnOk result (ids_of self.new ≡ with_id id (ids_of self.old)) }
+        ensures told { IfOk result (λ b. b ≡ not (list_any (λ n. n == id) (ids_of self.old))) }
+        ensures err { OnErr result (ids_of self.new ≡ ids_of self.old) }
+        ensures held { IsHeld self.new }
+    {
+        match self {
+            Held::Nothing => *self = Held::One(id),
+            Held::One(only) => {
+                if *only == id {
+                    return Ok(false);
+                }
+                *self = two(alloc, *only, id)?;
+            }
+            Held::More(runs) => return runs::insert(alloc, runs, id),
+        }
+        Ok(true)
+    }
+
+    fn forget(&mut self, id: u64)
+        requires { IsHeld self.old }
+        ensures removed { ids_of self.new ≡ without_id id (ids_of self.old) }
+        ensures held { IsHeld self.new }
+    {
+        match self {
+            Held::Nothing => {}
+            Held::One(only) => {
+                if *only == id {
+                    *self = Held::Nothing;
+                }
+            }
+            Held::More(runs) => {
+                runs::forget(runs, id);
+                if runs.is_empty() {
+                    *self = Held::Nothing;
+                }
+            }
+        }
+    }
+
+    fn is_empty(&self) -> bool
+        ensures { IsTrue result → ids_of self.now ≡ [] }
+    {
+        match self {
+            Held::Nothing => true,
+            Held::One(_) => false,
+            Held::More(runs) => runs.is_empty(),
+        }
+    }
+
+    // Takes the greatest id out, if there is one.
+    fn pop(&mut self) -> Option<u64>
+        requires { IsHeld self.old }
+        ensures some { IfSome result (λ id. ids_of self.old ≡ ids_of self.new ++ id ∷ []) }
+        ensures none { IfNone result (ids_of self.old ≡ []) }
+        ensures same { IfNone result (ids_of self.new ≡ ids_of self.old) }
+        ensures held { IsHeld self.new }
+    {
+        match self {
+            Held::Nothing => None,
+            Held::One(only) => {
+                let id = *only;
+                *self = Held::Nothing;
+                Some(id)
+            }
+            Held::More(runs) => runs::pop(runs),
+        }
+    }
+
+    fn ids(&self) -> Members<'_>
+        ensures { result ≡ ids_of self.now }
+    {
+        let (ids, runs): (&[u64], &[Run]) = match self {
+            Held::Nothing => (&[], &[]),
+            Held::One(only) => (slice::from_ref(only), &[]),
+            Held::More(runs) => (&[], runs.as_slice()),
+        };
+        Members { ids, runs }
+    }
+}
+
+impl IdSet {
+    pub fn new(alloc: Global) -> Self
+        ensures { result ≡ map.empty }
+    {
+        IdSet {
+            alloc,
+            held: Held::Nothing,
+        }
+    }
+
+    pub fn contains(&self, id: u64) -> bool
+        ensures { result ≡ map.contains_key self.now id }
+    {
+        self.held.contains(id)
+    }
+
+    /// Puts an id in, and tells whether it is new. Or changes nothing.
+    pub fn insert(&mut self, id: u64) -> Result<bool, AllocError>
+        ensures ok { OnOk result (self.new ≡ map.insert self.old id tt) }
+        ensures told { IfOk result (λ b. b ≡ not (map.contains_key self.old id)) }
+        ensures err { OnErr result (self.new ≡ self.old) }
+    {
+        self.held.insert(self.alloc, id)
+    }
+
+    /// Takes an id out, if it is there. It takes no memory.
+    pub fn forget(&mut self, id: u64)
+        ensures { self.new ≡ map.remove self.old id }
+    {
+        self.held.forget(id);
+    }
+
+    pub fn is_empty(&self) -> bool
+        ensures { IsTrue result → self.now ≡ map.empty }
+    {
+        self.held.is_empty()
+    }
+
+    /// Takes some id out, if there is one. It takes no memory.
+    pub fn pop(&mut self) -> Option<u64>
+        ensures before { IfSome result (λ id. map.get self.old id ≡ Some tt) }
+        ensures removed { IfSome result (λ id. self.new ≡ map.remove self.old id) }
+        ensures none { IfNone result (self.old ≡ map.empty) }
+        ensures same { IfNone result (self.new ≡ self.old) }
+    {
+        self.held.pop()
+    }
+
+    /// The ids, rising.
+    pub fn ids(&self) -> Members<'_>
+        ensures { result ≡ map.keys self.now }
+    {
+        self.held.ids()
+    }
+}
+
+// Two ids, of which the set has had one.
+#[inline(never)]
+fn two(alloc: Global, first: u64, second: u64) -> Result<Held, AllocError>
+    ensures ids { IfOk result (λ h. ids_of h ≡ with_id second (first ∷ [])) }
+    ensures held { IfOk result (λ h. IsHeld h) }
+{
+    // (a small set has one run)
+    let mut runs = Vec::with_capacity(alloc, 1)?;
+    runs::insert(alloc, &mut runs, first)?;
+    runs::insert(alloc, &mut runs, second)?;
+    Ok(Held::More(Box::new(alloc, runs)?))
+}
+
+/// Ids, seen as the list of those that are still to come.
+#[derive(Drop)]
+pub struct Members<'a> {
+    ids: &'a [u64],
+    runs: &'a [Run],
+}
+
+impl<'a> Model for Members<'a> {
+    ghost use Rattle.std.specs.Prelude.{ℕ, List, ◌++◌};
+    ghost use Rattle.pg_graph.specs.IdRuns.{joined};
+
+    ghost Value = { List ℕ };
+
+    ghost view = { λ i. i.ids.now ++ joined i.runs.now };
+}
+
+impl<'a> Members<'a> {
+    /// The next id, if there is one more.
+    pub fn next(&mut self) -> Option<u64>
+        ensures some { IfSome result (λ id. self.old ≡ id ∷ self.new) }
+        ensures none { IfNone result (self.old ≡ []) }
+        ensures same { IfNone result (self.new ≡ self.old) }
+    {
+        while self.ids.is_empty() {
+            let (run, others) = self.runs.split_first()?;
+            self.ids = run.as_slice();
+            self.runs = others;
+        }
+        let (id, others) = self.ids.split_first()?;
+        self.ids = others;
+        Some(*id)
+    }
+}

@@ -1,0 +1,261 @@
+//! Rising ids in runs, so that no change moves more of them than a run has.
+ghost use Rattle.std.specs.Prelude.{◌≡◌, ◌==◌, ◌<◌, ◌≤◌, ◌∷◌, ◌++◌, [], ℕ, List, true, not, drop, length, take, slice_index_or, OnOk, OnErr, IfOk, IfSome, IfNone};
+ghost use Rattle.std.specs.List.{list_any};
+ghost use Rattle.pg_graph.specs.IdRuns.{first_of, joined, AreRuns, IsRunOf};
+ghost use Rattle.pg_graph.specs.Links.{with_id, without_id};
+ghost use Rattle.pg_graph.specs.Sorted.{Rises, IsPlace};
+
+use crate::sorted;
+use crate::sorted::Numbered;
+use std::alloc::{AllocError, Global};
+use std::marker::Model;
+
+// How many ids a run has at most.
+const LONGEST: usize = 512;
+
+impl Numbered for u64 {
+    ghost number = { λ n. n };
+
+    fn number(&self) -> u64 {
+        *self
+    }
+}
+
+/// A list of ids.
+#[derive(Drop)]
+pub struct Run {
+    ids: Vec<u64>,
+}
+
+impl Model for Run {
+    ghost use Rattle.std.specs.Prelude.{ℕ, List};
+    ghost use Rattle.std.specs.Coded.{coded_list, coded_ℕ};
+
+    ghost Value = { List ℕ };
+
+    ghost coded = { coded_list coded_ℕ };
+
+    ghost view = { λ r. r.ids.items };
+}
+
+impl Numbered for Run {
+    ghost number = { first_of };
+
+    fn number(&self) -> u64 {
+        match self.ids.first() {
+            Some(id) => *id,
+            None => 0,
+        }
+    }
+}
+
+impl Run {
+    fn of_one(alloc: Global, id: u64) -> Result<Run, AllocError>
+        ensures { IfOk result (λ r. r ≡ id ∷ []) }
+    {
+        let mut ids = Vec::new(alloc);
+        ids.push(id)?;
+        Ok(Run { ids })
+    }
+
+    fn len(&self) -> usize
+        ensures { result ≡ length self.now }
+    {
+        self.ids.len()
+    }
+
+    pub fn as_slice(&self) -> &[u64]
+        ensures { result.now ≡ self.now }
+    {
+        self.ids.as_slice()
+    }
+
+    fn has(&self, id: u64) -> bool
+        requires { Rises (λ n. n) self.now }
+        ensures { result ≡ list_any (λ n. n == id) self.now }
+    {
+        self.place(id).is_ok()
+    }
+
+    // Where an id stands, or belongs: past the last one, mostly, which takes no search.
+    fn place(&self, id: u64) -> Result<usize, usize>
+        requires { Rises (λ n. n) self.now }
+        ensures { IsPlace (λ n. n) id self.now result }
+    {
+        match self.ids.last() {
+            Some(last) if *last < id => Err(self.ids.len()),
+            _ => sorted::place(self.ids.as_slice(), id),
+        }
+    }
+
+    // Puts an id to its place, and tells whether it is new.
+    fn insert(&mut self, id: u64) -> Result<bool, AllocError>
+        requires { Rises (λ n. n) self.old }
+        ensures ok { OnOk result (self.new ≡ with_id id self.old) }
+        ensures told { IfOk result (λ b. b ≡ not (list_any (λ n. n == id) self.old)) }
+        ensures err { OnErr result (self.new ≡ self.old) }
+    {
+        match self.place(id) {
+            Ok(_there) => Ok(false),
+            Err(place) => {
+                self.ids.insert(place, id)?;
+                Ok(true)
+            }
+        }
+    }
+
+    fn forget(&mut self, id: u64)
+        requires { Rises (λ n. n) self.old }
+        ensures { self.new ≡ without_id id self.old }
+    {
+        if let Ok(place) = sorted::place(self.ids.as_slice(), id) {
+            self.ids.remove(place);
+        }
+    }
+
+    // The ids from a place on, in memory of their own.
+    fn rest(&self, alloc: Global, place: usize) -> Result<Run, AllocError>
+        requires { place ≤ length self.now }
+        ensures { IfOk result (λ r. r ≡ drop place self.now) }
+    {
+        let ids = Vec::from_slice(alloc, &self.ids.as_slice()[place..])?;
+        Ok(Run { ids })
+    }
+
+    fn truncate(&mut self, place: usize)
+        ensures { self.new ≡ take place self.old }
+    {
+        self.ids.truncate(place);
+    }
+
+    // Takes the last id out.
+    fn pop(&mut self) -> u64
+        requires { 0 < length self.old }
+        ensures { self.old ≡ self.new ++ result ∷ [] }
+    {
+        self.ids.pop().unwrap()
+    }
+}
+
+// The place of the run where an id is or belongs, if there is any run.
+fn run_of(runs: &[Run], id: u64) -> Option<usize>
+    requires { AreRuns runs.now }
+    ensures some { IfSome result (λ i. IsRunOf id runs.now i) }
+    ensures none { IfNone result (runs.now ≡ []) }
+{
+    let last = runs.len().checked_sub(1)?;
+    if runs[last].number() <= id {
+        return Some(last);
+    }
+    match sorted::place(runs, id) {
+        Ok(i) => Some(i),
+        Err(i) => Some(i.saturating_sub(1)),
+    }
+}
+
+pub fn has(runs: &[Run], id: u64) -> bool
+    requires { AreRuns runs.now }
+    ensures { result ≡ list_any (λ n. n == id) (joined runs.now) }
+{
+    match run_of(runs, id) {
+        Some(i) => runs[i].has(id),
+        None => false,
+    }
+}
+
+/// Puts an id to its place, and tells whether it is new. Or changes nothing.
+pub fn insert(alloc: Global, runs: &mut Vec<Run>, id: u64) -> Result<bool, AllocError>
+    requires { AreRuns runs.old.items }
+    ensures ok { OnOk result (joined runs.new.items ≡ with_id id (joined runs.old.items)) }
+    ensures told { IfOk result (λ b. b ≡ not (list_any (λ n. n == id) (joined runs.old.items))) }
+    ensures err { OnErr result (joined runs.new.items ≡ joined runs.old.items) }
+    ensures runs { AreRuns runs.new.items }
+{
+    let Some(i) = run_of(runs.as_slice(), id) else {
+        return add_run(alloc, runs, id);
+    };
+    if runs[i].len() < LONGEST {
+        return insert_in(runs, i, id);
+    }
+    split(alloc, runs, i)?;
+    let i = run_of(runs.as_slice(), id).unwrap();
+    insert_in(runs, i, id)
+}
+
+// Adds a run of one id where there is none.
+#[inline(never)]
+fn add_run(alloc: Global, runs: &mut Vec<Run>, id: u64) -> Result<bool, AllocError>
+    requires { runs.old.items ≡ [] }
+    ensures ok { OnOk result (joined runs.new.items ≡ id ∷ []) }
+    ensures told { IfOk result (λ b. b ≡ true) }
+    ensures err { OnErr result (joined runs.new.items ≡ []) }
+    ensures runs { AreRuns runs.new.items }
+{
+    runs.push(Run::of_one(alloc, id)?)?;
+    Ok(true)
+}
+
+// Puts an id to its place in its run, and tells whether it is new.
+fn insert_in(runs: &mut Vec<Run>, i: usize, id: u64) -> Result<bool, AllocError>
+    requires at { IsRunOf id runs.old.items i }
+    requires runs { AreRuns runs.old.items }
+    ensures ok { OnOk result (joined runs.new.items ≡ with_id id (joined runs.old.items)) }
+    ensures told { IfOk result (λ b. b ≡ not (list_any (λ n. n == id) (joined runs.old.items))) }
+    ensures err { OnErr result (joined runs.new.items ≡ joined runs.old.items) }
+    ensures runs { AreRuns runs.new.items }
+{
+    runs[i].insert(id)
+}
+
+// Makes two of a run: the last one is split at its end, so that rising ids fill each.
+#[inline(never)]
+fn split(alloc: Global, runs: &mut Vec<Run>, i: usize) -> Result<(), AllocError>
+    requires inside { i < length runs.old.items }
+    requires long { (r : List ℕ) → 1 < length (slice_index_or runs.old.items i r) }
+    requires runs { AreRuns runs.old.items }
+    ensures same { joined runs.new.items ≡ joined runs.old.items }
+    ensures runs { AreRuns runs.new.items }
+    ensures there { 0 < length runs.new.items }
+{
+    let length = runs[i].len();
+    let place = if i + 1 == runs.len() {
+        length - 1
+    } else {
+        length / 2
+    };
+    let rest = runs[i].rest(alloc, place)?;
+    runs.insert(i + 1, rest)?;
+    runs[i].truncate(place);
+    Ok(())
+}
+
+/// Takes an id out, if it is there.
+pub fn forget(runs: &mut Vec<Run>, id: u64)
+    requires { AreRuns runs.old.items }
+    ensures removed { joined runs.new.items ≡ without_id id (joined runs.old.items) }
+    ensures runs { AreRuns runs.new.items }
+{
+    let Some(i) = run_of(runs.as_slice(), id) else {
+        return;
+    };
+    runs[i].forget(id);
+    if runs[i].len() == 0 {
+        runs.remove(i);
+    }
+}
+
+/// Takes the greatest id out, if there is one.
+pub fn pop(runs: &mut Vec<Run>) -> Option<u64>
+    requires { AreRuns runs.old.items }
+    ensures some { IfSome result (λ id. joined runs.old.items ≡ joined runs.new.items ++ id ∷ []) }
+    ensures none { IfNone result (joined runs.old.items ≡ []) }
+    ensures same { IfNone result (joined runs.new.items ≡ joined runs.old.items) }
+    ensures runs { AreRuns runs.new.items }
+{
+    let last = runs.len().checked_sub(1)?;
+    let id = runs[last].pop();
+    if runs[last].len() == 0 {
+        runs.truncate(last);
+    }
+    Some(id)
+}

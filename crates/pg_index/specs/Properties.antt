@@ -3,7 +3,7 @@ use Rattle.std.specs.Prelude.{◌==◌, ◌&&◌, ◌||◌, ℕ, Bool, true, fal
 use Rattle.std.specs.FinMap as map
 use Rattle.std.specs.List.{list_any}
 use Rattle.std.specs.Option.{option_map_or}
-use Rattle.std.specs.Ordering.{on}
+use Rattle.std.specs.Ordering.{on, is_eq}
 use Rattle.std.specs.declared.cmp.Ordering.{Ordering}
 use Rattle.pg_graph.specs.Removed.{has_id}
 use Rattle.pg_graph.specs.Stored.{has_number}
@@ -19,6 +19,10 @@ use Rattle.pg_value_core.specs.declared.value.Value.{Value}
 
 abbrev pub by_value : Value → Value → Ordering
 by_value = on view value_order
+
+-- whether two values have one set
+abbrev pub is_one_value : (v w : Value) → Bool
+is_one_value v w = is_eq (by_value v w)
 
 -- whether the index has an id under a value
 abbrev pub finds : PropertyIndex → Value → ℕ → Bool
@@ -40,6 +44,10 @@ is_for index label key = index.label == label && index.key == key
 abbrev pub all_find : List PropertyIndex → (label key : ℕ) → Value → ℕ → Bool
 all_find [] label key v id = true
 all_find (index ∷ indexes) label key v id = (not (is_for index label key) || finds index v id) && all_find indexes label key v id
+
+-- some index of the label and the key has the id under the value
+abbrev pub some_finds : List PropertyIndex → (label key : ℕ) → Value → ℕ → Bool
+some_finds indexes label key v id = list_any (λ index. is_for index label key && finds index v id) indexes
 
 abbrev pub pairs_of : List PropertyIndex → List (ℕ × ℕ)
 pairs_of indexes = map_list (λ index. (index.label, index.key)) indexes

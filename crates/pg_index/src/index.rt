@@ -4,7 +4,7 @@ ghost use Rattle.std.specs.BTreeMap.{is_at};
 ghost use Rattle.std.specs.FinMap as map;
 ghost use Rattle.pg_index.specs.Index.{ids_at, the_ids};
 
-use pg_graph::ById;
+use pg_graph::IdSet;
 use std::alloc::{AllocError, Global};
 use std::cmp::Ord;
 use std::collections::BTreeMap;
@@ -13,10 +13,11 @@ use std::collections::BTreeMap;
 #[derive(Drop)]
 pub struct Index<K: Ord> {
     alloc: Global,
-    sets: BTreeMap<K, ById<()>>,
+    sets: BTreeMap<K, IdSet>,
 }
 
 impl<K: Ord + Drop> Index<K> {
+    /// An index without keys, which takes no memory yet.
     pub fn new(alloc: Global) -> Self
         ensures { (key : K) → ids_at K.cmp result key ≡ map.empty }
     {
@@ -27,7 +28,7 @@ impl<K: Ord + Drop> Index<K> {
     }
 
     /// The ids under a key, if there are any.
-    pub fn get(&self, key: &K) -> Option<&ById<()>>
+    pub fn get(&self, key: &K) -> Option<&IdSet>
         ensures { the_ids (option_copied result) ≡ ids_at K.cmp self.now key.now }
     {
         self.sets.get(key)
@@ -35,34 +36,42 @@ impl<K: Ord + Drop> Index<K> {
 
     /// Puts an id under a key that has some already, or tells that it has none. Or changes nothing.
     pub fn join(&mut self, key: &K, id: u64) -> Result<bool, AllocError>
-        ensures joined { IfOk result (λ b. b ≡ true → (q : K) → ids_at K.cmp self.new q ≡ (if is_at (K.cmp key.now) q then map.insert (ids_at K.cmp self.old key.now) id tt else ids_at K.cmp self.old q)) }
-        ensures none { IfOk result (λ b. b ≡ false → (q : K) → ids_at K.cmp self.new q ≡ ids_at K.cmp self.old q) }
+        ensures joined { IfOk result (λ b. b ≡ true → (q : K)
+            → ids_at K.cmp self.new q ≡ (if is_at (K.cmp key.now) q
+            then map.insert (ids_at K.cmp self.old key.now) id tt else ids_at K.cmp self.old q)) }
+        ensures none { IfOk result (λ b. b ≡ false
+            → (q : K) → ids_at K.cmp self.new q ≡ ids_at K.cmp self.old q) }
         ensures err { OnErr result ((q : K) → ids_at K.cmp self.new q ≡ ids_at K.cmp self.old q) }
     {
         let Some(ids) = self.sets.get_mut(key) else {
             return Ok(false);
         };
-        ids.insert(id, ())?;
+        ids.insert(id)?;
         Ok(true)
     }
 
     /// Puts an id under a key, or changes nothing.
     pub fn cover(&mut self, key: K, id: u64) -> Result<(), AllocError>
-        ensures ok { OnOk result ((q : K) → ids_at K.cmp self.new q ≡ (if is_at (K.cmp key) q then map.insert (ids_at K.cmp self.old key) id tt else ids_at K.cmp self.old q)) }
+        ensures ok { OnOk result ((q : K) → ids_at K.cmp self.new q ≡ (if is_at (K.cmp key) q
+            then map.insert (ids_at K.cmp self.old key) id tt else ids_at K.cmp self.old q)) }
         ensures err { OnErr result ((q : K) → ids_at K.cmp self.new q ≡ ids_at K.cmp self.old q) }
     {
         if let Some(ids) = self.sets.get_mut(&key) {
-            return ids.insert(id, ());
+            ids.insert(id)?;
+            return Ok(());
         }
-        let mut ids = ById::new(self.alloc);
-        ids.insert(id, ())?;
+        let mut ids = IdSet::new(self.alloc);
+        ids.insert(id)?;
         self.sets.insert(key, ids)?;
         Ok(())
     }
 
     /// Takes an id from under a key, if it is there. It takes no memory, and keeps nothing for an empty set.
     pub fn forget(&mut self, key: &K, id: u64)
-        ensures { (q : K) → ids_at K.cmp self.new q ≡ (if is_at (K.cmp key.now) q then map.remove (ids_at K.cmp self.old key.now) id else ids_at K.cmp self.old q) }
+        ensures { (q : K)
+            → ids_at K.cmp self.new q
+            ≡ (if is_at (K.cmp key.now) q then map.remove (ids_at K.cmp self.old key.now) id
+            else ids_at K.cmp self.old q) }
     {
         let Some(ids) = self.sets.get_mut(key) else {
             return;

@@ -1,16 +1,18 @@
 //! The nodes of a label by what they have under a key.
-ghost use Rattle.std.specs.Prelude.{◌≡◌, ◌<◌, ℕ, true, false, length, slice_index_or, OnOk, IfSome, is_some, option_copied};
+ghost use Rattle.std.specs.Prelude.{◌≡◌, ◌<◌, ◌==◌, ◌&&◌, ◌||◌, ℕ, true, false, not, length, slice_index_or, OnOk, IfSome, is_some, option_copied};
 ghost use Rattle.std.specs.Option.{option_map_or};
 ghost use Rattle.pg_graph.specs.Removed.{has_id};
 ghost use Rattle.pg_index.specs.Index.{the_ids};
-ghost use Rattle.pg_index.specs.Properties.{finds, is_found_by, is_equal, is_for, all_find, pairs_of, has_pair};
+ghost use Rattle.pg_index.specs.Properties.{finds, is_found_by, is_equal, is_for, is_one_value, all_find, some_finds, pairs_of, has_pair};
 ghost use Rattle.pg_index.specs.declared.properties.PropertyIndex.{PropertyIndex};
 ghost use Rattle.pg_value_core.specs.View.{view};
 ghost use Rattle.pg_value_core.specs.declared.value.Value as code;
 
 use crate::index::Index;
-use pg_graph::{ById, NodeRecord};
+use pg_graph::{IdSet, NodeRecord};
+use pg_meaning::Tri;
 use pg_names::NameId;
+use pg_value::eq3;
 use pg_value_core::Value;
 use std::alloc::{AllocError, Global};
 
@@ -28,6 +30,7 @@ impl PropertyIndex {
     pub fn new(alloc: Global, label: NameId, key: NameId) -> Self
         ensures label { result.label ≡ label }
         ensures key { result.key ≡ key }
+        ensures empty { (v : code.Value) (i : ℕ) → finds result v i ≡ false }
     {
         PropertyIndex {
             alloc,
@@ -38,7 +41,7 @@ impl PropertyIndex {
     }
 
     /// The ids under a value, if there are any.
-    pub fn get(&self, value: &Value) -> Option<&ById<()>>
+    pub fn get(&self, value: &Value) -> Option<&IdSet>
         ensures { (i : ℕ) → has_id (the_ids (option_copied result)) i ≡ finds self.now value.now i }
     {
         self.ids.get(value)
@@ -49,27 +52,37 @@ impl PropertyIndex {
         ensures { result ≡ finds self.now value.now id }
     {
         match self.ids.get(value) {
-            Some(ids) => ids.get(id).is_some(),
+            Some(ids) => ids.contains(id),
             None => false,
         }
     }
 
-    /// The value by which a node is found here, if it is.
+    /// The value by which a node is found here, if it is. What holds null is equal to nothing, and
+    /// finds no node.
     pub fn value_of<'a>(&self, node: &'a NodeRecord) -> Option<&'a Value>
-        ensures { (v : code.Value) → is_found_by self.now.label self.now.key v node.now ≡ option_map_or (λ w. is_equal (view w.now) v) result false }
+        ensures is { (v : code.Value)
+            → is_found_by self.now.label self.now.key v node.now
+            ≡ option_map_or (λ w. is_equal (view w.now) v) result false }
+        ensures equal { IfSome result (λ w. is_equal (view w.now) w.now ≡ true) }
     {
-        if node.labels.contains(self.label) {
-            node.properties.get(self.key)
-        } else {
-            None
+        if !node.labels.contains(self.label) {
+            return None;
+        }
+        match node.properties.get(self.key) {
+            Some(value) => if_equal_to_itself(value),
+            None => None,
         }
     }
 
     fn put(&mut self, value: &Value, id: u64) -> Result<(), AllocError>
         ensures label { self.new.label ≡ self.old.label }
         ensures key { self.new.key ≡ self.old.key }
-        ensures grown { (v : code.Value) (i : ℕ) → finds self.old v i ≡ true → finds self.new v i ≡ true }
-        ensures ok { OnOk result ((v : code.Value) → is_equal (view value.now) v ≡ true → finds self.new v id ≡ true) }
+        ensures grown { (v : code.Value) (i : ℕ)
+            → finds self.old v i ≡ true → finds self.new v i ≡ true }
+        ensures come { (v : code.Value) (i : ℕ) → finds self.new v i ≡ true
+            → (finds self.old v i || (is_one_value value.now v && i == id)) ≡ true }
+        ensures ok { OnOk result ((v : code.Value)
+            → is_equal (view value.now) v ≡ true → finds self.new v id ≡ true) }
     {
         if self.ids.join(value, id)? {
             return Ok(());
@@ -82,8 +95,15 @@ impl PropertyIndex {
     pub fn cover(&mut self, node: &NodeRecord, id: u64) -> Result<(), AllocError>
         ensures label { self.new.label ≡ self.old.label }
         ensures key { self.new.key ≡ self.old.key }
-        ensures grown { (v : code.Value) (i : ℕ) → finds self.old v i ≡ true → finds self.new v i ≡ true }
-        ensures ok { OnOk result ((v : code.Value) → is_found_by self.old.label self.old.key v node.now ≡ true → finds self.new v id ≡ true) }
+        ensures grown { (v : code.Value) (i : ℕ)
+            → finds self.old v i ≡ true → finds self.new v i ≡ true }
+        ensures come { (v : code.Value) (i : ℕ) → finds self.new v i ≡ true
+            → (finds self.old v i
+            || (is_found_by self.old.label self.old.key v node.now && i == id))
+            ≡ true }
+        ensures ok { OnOk result ((v : code.Value)
+            → is_found_by self.old.label self.old.key v node.now ≡ true
+            → finds self.new v id ≡ true) }
     {
         match self.value_of(node) {
             Some(value) => self.put(value, id),
@@ -95,9 +115,38 @@ impl PropertyIndex {
     pub fn forget(&mut self, value: &Value, id: u64)
         ensures label { self.new.label ≡ self.old.label }
         ensures key { self.new.key ≡ self.old.key }
-        ensures lost { (v : code.Value) (i : ℕ) → finds self.old v i ≡ true → finds self.new v i ≡ false → (view v ≡ view value.now) × (i ≡ id) }
+        ensures lost { (v : code.Value) (i : ℕ) → finds self.old v i ≡ true
+            → finds self.new v i ≡ false → (view v ≡ view value.now) × (i ≡ id) }
+        ensures left { (v : code.Value) (i : ℕ)
+            → finds self.new v i
+            ≡ (finds self.old v i && not (is_one_value value.now v && i == id)) }
     {
         self.ids.forget(value, id);
+    }
+
+    // Takes an id from under a value, if the index is one of the label and the key.
+    fn forget_of(&mut self, label: NameId, key: NameId, value: &Value, id: u64)
+        ensures label { self.new.label ≡ self.old.label }
+        ensures key { self.new.key ≡ self.old.key }
+        ensures left { (v : code.Value) (i : ℕ)
+            → finds self.new v i ≡ (finds self.old v i
+            && not (is_for self.old label key && is_one_value value.now v && i == id)) }
+    {
+        if is_for(self, label, key) {
+            self.forget(value, id);
+        }
+    }
+}
+
+// A value that is equal to itself: one that holds no null.
+fn if_equal_to_itself(value: &Value) -> Option<&Value>
+    ensures is { (v : code.Value)
+        → option_map_or (λ w. is_equal (view w.now) v) result false ≡ is_equal (view value.now) v }
+    ensures equal { IfSome result (λ w. is_equal (view w.now) w.now ≡ true) }
+{
+    match eq3(value, value) {
+        Tri::True => Some(value),
+        _ => None,
     }
 }
 
@@ -108,8 +157,14 @@ pub fn cover_each(
     id: u64,
 ) -> Result<(), AllocError>
     ensures pairs { pairs_of indexes.new ≡ pairs_of indexes.old }
-    ensures grown { (label key : ℕ) (v : code.Value) (i : ℕ) → all_find indexes.old label key v i ≡ true → all_find indexes.new label key v i ≡ true }
-    ensures ok { OnOk result ((label key : ℕ) (v : code.Value) → is_found_by label key v node.now ≡ true → all_find indexes.new label key v id ≡ true) }
+    ensures grown { (label key : ℕ) (v : code.Value) (i : ℕ)
+        → all_find indexes.old label key v i ≡ true → all_find indexes.new label key v i ≡ true }
+    ensures come { (label key : ℕ) (v : code.Value) (i : ℕ)
+        → some_finds indexes.new label key v i ≡ true
+        → (some_finds indexes.old label key v i || (is_found_by label key v node.now && i == id))
+        ≡ true }
+    ensures ok { OnOk result ((label key : ℕ) (v : code.Value)
+        → is_found_by label key v node.now ≡ true → all_find indexes.new label key v id ≡ true) }
 {
     for property in indexes.iter_mut() {
         property.cover(node, id)?;
@@ -125,7 +180,8 @@ fn is_for(index: &PropertyIndex, label: NameId, key: NameId) -> bool
 
 /// The index of a label and a key, if there is one.
 pub fn index_of(indexes: &[PropertyIndex], label: NameId, key: NameId) -> Option<&PropertyIndex>
-    ensures some { IfSome result (λ x. (v : code.Value) (i : ℕ) → all_find indexes.now label key v i ≡ true → finds x.now v i ≡ true) }
+    ensures some { IfSome result (λ x. (v : code.Value) (i : ℕ)
+        → all_find indexes.now label key v i ≡ true → finds x.now v i ≡ true) }
     ensures there { is_some result ≡ has_pair (label, key) (pairs_of indexes.now) }
 {
     for property in indexes {
@@ -139,7 +195,8 @@ pub fn index_of(indexes: &[PropertyIndex], label: NameId, key: NameId) -> Option
 /// The place of an index of a label and a key, if there is one.
 pub fn position_of(indexes: &[PropertyIndex], label: NameId, key: NameId) -> Option<usize>
     ensures some { IfSome result (λ i. i < length indexes.now) }
-    ensures is { IfSome result (λ i. (x : PropertyIndex) → is_for (slice_index_or indexes.now i x) label key ≡ true) }
+    ensures is { IfSome result (λ i. (x : PropertyIndex)
+        → is_for (slice_index_or indexes.now i x) label key ≡ true) }
     ensures there { is_some result ≡ has_pair (label, key) (pairs_of indexes.now) }
 {
     for position in 0..indexes.len() {
@@ -150,8 +207,7 @@ pub fn position_of(indexes: &[PropertyIndex], label: NameId, key: NameId) -> Opt
     None
 }
 
-/// Takes an id from under a value in an index of the label and the key, if there is one. It takes no
-/// memory.
+/// Takes an id from under a value in each index of the label and the key. It takes no memory.
 pub fn forget_valued(
     indexes: &mut [PropertyIndex],
     label: NameId,
@@ -160,9 +216,14 @@ pub fn forget_valued(
     id: u64,
 )
     ensures pairs { pairs_of indexes.new ≡ pairs_of indexes.old }
-    ensures lost { (l k : ℕ) (v : code.Value) (i : ℕ) → all_find indexes.old l k v i ≡ true → all_find indexes.new l k v i ≡ false → (l ≡ label) × (k ≡ key) × (view v ≡ view value.now) × (i ≡ id) }
+    ensures lost { (l k : ℕ) (v : code.Value) (i : ℕ)
+        → all_find indexes.old l k v i ≡ true → all_find indexes.new l k v i ≡ false
+        → (l ≡ label) × (k ≡ key) × (view v ≡ view value.now) × (i ≡ id) }
+    ensures left { (l k : ℕ) (v : code.Value) (i : ℕ)
+        → some_finds indexes.new l k v i ≡ (some_finds indexes.old l k v i
+        && not ((label == l && key == k && is_one_value value.now v) && id == i)) }
 {
-    if let Some(position) = position_of(indexes, label, key) {
-        indexes[position].forget(value, id);
+    for property in indexes.iter_mut() {
+        property.forget_of(label, key, value, id);
     }
 }

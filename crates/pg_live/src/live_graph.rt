@@ -42,9 +42,11 @@ impl<T: Tables> Model for LiveGraph<T> {
 
     ghost coded = { live_code T.Shared.code };
 
-    ghost view = { λ l. live_of T.seen l.store l.others.items l.shared l.place l.mark l.begins.items };
+    ghost view = { λ l.
+        live_of T.seen l.store l.others.items l.shared l.place l.mark l.begins.items };
 
-    ghost invariant = { λ l. IsLive T.seen l.store l.others.items l.shared l.place l.mark l.begins.items };
+    ghost invariant = { λ l.
+        IsLive T.seen l.store l.others.items l.shared l.place l.mark l.begins.items };
 }
 
 impl<T: Tables> LiveGraph<T> {
@@ -109,7 +111,8 @@ impl<T: Tables> LiveGraph<T> {
         requires room { self.old.graph.next_node < 2 ^ 63 }
         requires count { element_count self.old.graph < 2 ^ 63 }
         ensures id { IfOk result (λ id. id.0 ≡ self.old.graph.next_node) }
-        ensures ok { OnOk result (self.new.graph ≡ add_node (texts_of labels.now.items) (set_keys (pairs_of properties.entry.items) no_entries) self.old.graph) }
+        ensures ok { OnOk result (self.new.graph ≡ add_node (texts_of labels.now.items)
+            (set_keys (pairs_of properties.entry.items) no_entries) self.old.graph) }
         ensures err { OnErr result (self.new.graph ≡ self.old.graph) }
         ensures aside { self.new.aside ≡ self.old.aside }
     {
@@ -132,7 +135,8 @@ impl<T: Tables> LiveGraph<T> {
         requires source { has_node self.old.graph source.0 ≡ true }
         requires target { has_node self.old.graph target.0 ≡ true }
         ensures id { IfOk result (λ id. id.0 ≡ self.old.graph.next_relationship) }
-        ensures ok { OnOk result (self.new.graph ≡ add_relationship kind.now source.0 target.0 (set_keys (pairs_of properties.entry.items) no_entries) self.old.graph) }
+        ensures ok { OnOk result (self.new.graph ≡ add_relationship kind.now source.0 target.0
+            (set_keys (pairs_of properties.entry.items) no_entries) self.old.graph) }
         ensures err { OnErr result (self.new.graph ≡ self.old.graph) }
         ensures aside { self.new.aside ≡ self.old.aside }
     {
@@ -148,7 +152,9 @@ impl<T: Tables> LiveGraph<T> {
         properties: Vec<(&str, Value)>,
     ) -> Result<(), AllocError>
         requires there { has_node self.old.graph id.0 ≡ true }
-        ensures ok { OnOk result (self.new.graph ≡ change_node (λ e. record e { properties = set_keys (pairs_of properties.entry.items) e.properties }) id.0 self.old.graph) }
+        ensures ok { OnOk result (self.new.graph ≡ change_node
+            (λ e. record e { properties = set_keys (pairs_of properties.entry.items) e.properties })
+            id.0 self.old.graph) }
         ensures err { OnErr result (self.new.graph ≡ self.old.graph) }
         ensures aside { self.new.aside ≡ self.old.aside }
     {
@@ -164,7 +170,9 @@ impl<T: Tables> LiveGraph<T> {
         properties: Vec<(&str, Value)>,
     ) -> Result<(), AllocError>
         requires there { has_node self.old.graph id.0 ≡ true }
-        ensures ok { OnOk result (self.new.graph ≡ change_node (λ e. record e { properties = set_keys (pairs_of properties.entry.items) no_entries }) id.0 self.old.graph) }
+        ensures ok { OnOk result (self.new.graph ≡ change_node
+            (λ e. record e { properties = set_keys (pairs_of properties.entry.items) no_entries })
+            id.0 self.old.graph) }
         ensures err { OnErr result (self.new.graph ≡ self.old.graph) }
         ensures aside { self.new.aside ≡ self.old.aside }
     {
@@ -180,7 +188,9 @@ impl<T: Tables> LiveGraph<T> {
         labels: &Vec<&str>,
     ) -> Result<(), AllocError>
         requires there { has_node self.old.graph id.0 ≡ true }
-        ensures ok { OnOk result (self.new.graph ≡ change_node (λ e. record e { labels = put_texts (texts_of labels.now.items) e.labels }) id.0 self.old.graph) }
+        ensures ok { OnOk result (self.new.graph ≡ change_node
+            (λ e. record e { labels = put_texts (texts_of labels.now.items) e.labels })
+            id.0 self.old.graph) }
         ensures err { OnErr result (self.new.graph ≡ self.old.graph) }
         ensures aside { self.new.aside ≡ self.old.aside }
     {
@@ -195,7 +205,9 @@ impl<T: Tables> LiveGraph<T> {
         labels: &Vec<&str>,
     ) -> Result<(), AllocError>
         requires there { has_node self.old.graph id.0 ≡ true }
-        ensures ok { OnOk result (self.new.graph ≡ change_node (λ e. record e { labels = filter (λ l. not (is_among (texts_of labels.now.items) l)) e.labels }) id.0 self.old.graph) }
+        ensures ok { OnOk result (self.new.graph ≡ change_node (λ e. record e {
+          labels = filter (λ l. not (is_among (texts_of labels.now.items) l)) e.labels;
+        }) id.0 self.old.graph) }
         ensures err { OnErr result (self.new.graph ≡ self.old.graph) }
         ensures aside { self.new.aside ≡ self.old.aside }
     {
@@ -211,7 +223,9 @@ impl<T: Tables> LiveGraph<T> {
         properties: Vec<(&str, Value)>,
     ) -> Result<(), AllocError>
         requires there { has_relationship self.old.graph id.0 ≡ true }
-        ensures ok { OnOk result (self.new.graph ≡ change_relationship (λ e. record e { properties = set_keys (pairs_of properties.entry.items) e.properties }) id.0 self.old.graph) }
+        ensures ok { OnOk result (self.new.graph ≡ change_relationship
+            (λ e. record e { properties = set_keys (pairs_of properties.entry.items) e.properties })
+            id.0 self.old.graph) }
         ensures err { OnErr result (self.new.graph ≡ self.old.graph) }
         ensures aside { self.new.aside ≡ self.old.aside }
     {
@@ -227,7 +241,9 @@ impl<T: Tables> LiveGraph<T> {
         properties: Vec<(&str, Value)>,
     ) -> Result<(), AllocError>
         requires there { has_relationship self.old.graph id.0 ≡ true }
-        ensures ok { OnOk result (self.new.graph ≡ change_relationship (λ e. record e { properties = set_keys (pairs_of properties.entry.items) no_entries }) id.0 self.old.graph) }
+        ensures ok { OnOk result (self.new.graph ≡ change_relationship
+            (λ e. record e { properties = set_keys (pairs_of properties.entry.items) no_entries })
+            id.0 self.old.graph) }
         ensures err { OnErr result (self.new.graph ≡ self.old.graph) }
         ensures aside { self.new.aside ≡ self.old.aside }
     {
@@ -342,8 +358,11 @@ fn empty_stores<T: Tables>(alloc: Global, count: usize) -> Result<Vec<Store<T>>,
 fn exchange<T: Tables>(store: &mut Store<T>, others: &mut Vec<Store<T>>, from: usize, to: usize)
     requires from { from < length others.old.items }
     requires to { to < length others.old.items }
-    ensures store { store.new ≡ slice_index_or (slice_set others.old.items from store.old) to store.new }
-    ensures others { others.new.items ≡ slice_set (slice_set others.old.items from store.old) to (slice_index_or others.old.items from store.old) }
+    ensures store { store.new
+        ≡ slice_index_or (slice_set others.old.items from store.old) to store.new }
+    ensures others { others.new.items
+        ≡ slice_set (slice_set others.old.items from store.old) to
+        (slice_index_or others.old.items from store.old) }
 {
     if from == to {
         return;

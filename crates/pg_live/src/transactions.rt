@@ -31,7 +31,8 @@ impl<T: Tables> LiveGraph<T> {
 
     /// The holder of the transaction that is open at a place, if there is such a place and one is open there.
     pub fn holder_at(&self, place: usize) -> Option<usize>
-        ensures { result ≡ option_map (λ b. b.holder) (slice_index_or self.now.aside.begins place None) }
+        ensures { result
+            ≡ option_map (λ b. b.holder) (slice_index_or self.now.aside.begins place None) }
     {
         if place >= self.begins.len() {
             return None;
@@ -50,7 +51,8 @@ impl<T: Tables> LiveGraph<T> {
         ensures names { self.new.names ≡ self.old.names }
         ensures tables { self.new.tables ≡ self.old.tables }
         ensures aside { self.new.aside ≡ begun_by holder self.old }
-        ensures open { open_at self.new.aside ≡ Some (record { holder = holder; graph = self.old.graph }) }
+        ensures open { open_at self.new.aside
+            ≡ Some (record { holder = holder; graph = self.old.graph }) }
     {
         let mark = self.store.mark(&self.shared);
         self.mark = mark;
@@ -97,10 +99,13 @@ pub(crate) fn no_begins(alloc: Global, count: usize) -> Result<Vec<Option<Begin>
 fn go_back<T: Tables>(store: &mut Store<T>, shared: &mut Shared<T::Shared>, begin: Option<Begin>)
     requires fit { IsFit T.seen store.old shared.old }
     requires marked { IfSome begin (λ b. HasMark T.seen store.old shared.old b.mark) }
-    ensures graph { graph_of_store T.seen store.new shared.new ≡ option_map_or (λ b. graph_at T.seen store.old shared.old b.mark) begin (graph_of_store T.seen store.old shared.old) }
+    ensures graph { graph_of_store T.seen store.new shared.new
+        ≡ option_map_or (λ b. graph_at T.seen store.old shared.old b.mark) begin
+        (graph_of_store T.seen store.old shared.old) }
     ensures names { shared.new.names ≡ shared.old.names }
     ensures fit { IsFit T.seen store.new shared.new }
-    ensures keeps { Keeps T.seen store.old.tables shared.old.tables store.new.tables shared.new.tables }
+    ensures keeps { Keeps
+        T.seen store.old.tables shared.old.tables store.new.tables shared.new.tables }
 {
     if let Some(begin) = begin {
         store.back(shared, begin.mark);

@@ -1,6 +1,7 @@
 -- A store after a change that its journal can undo, and one whose names have grown.
-use Rattle.std.proofs.Common.{◌≡◌, ◌≤◌, ℕ, List, [], ◌∷◌, ◌++◌, length, take, drop, Result, Ok, Err, OnErr, arith, refl, sym, ap, subst, ◌∙◌}
+use Rattle.std.proofs.Common.{◌≡◌, ◌≤◌, ℕ, true, List, [], ◌∷◌, ◌++◌, length, take, drop, Result, Ok, Err, OnErr, arith, refl, sym, ap, subst, ◌∙◌}
 use Rattle.std.proofs.lemmas.List.{length-append, take-append-le}
+use Rattle.std.specs.Prelude.{◌||◌}
 use Rattle.pg_graph.proofs.Others.{keeps_refl}
 use Rattle.pg_graph.specs.Content.{Seen}
 use Rattle.pg_names.specs.Names.{AreDistinct, KeepsNames}
@@ -9,9 +10,11 @@ use Rattle.pg_store.proofs.JournalLemmas.{pushed, marked_before, same_graph, sti
 use Rattle.pg_store.proofs.Kept.{first_names_stay, no_fewer_names}
 use Rattle.pg_store.proofs.Marks.{same_moment, still_marked}
 use Rattle.pg_store.proofs.States.{Undoes}
-use Rattle.pg_store.specs.Covers.{Covers, HasCovered, has_in}
+use Rattle.pg_store.proofs.Noting.{all_noted_still, noted_pushed}
+use Rattle.pg_store.specs.Covers.{Covers, HasCovered, Key, has_in}
+use Rattle.pg_store.specs.Noted.{AreNoted, Gains, HasNoted, StayNoted, is_in, is_noted}
 use Rattle.pg_store.specs.Journal.{State, IsWell, CanUndo, undone}
-use Rattle.pg_store.specs.Stores.{state_of, state_at, names_at, graph_of_store, IsFit, KeepsMarks, KeepsShared, HasMark}
+use Rattle.pg_store.specs.Stores.{index_pairs, state_of, state_at, names_at, graph_of_store, IsFit, KeepsMarks, KeepsShared, HasMark}
 use Rattle.pg_store.specs.declared.journal.Entry.{Entry}
 use Rattle.pg_store.specs.declared.journal.Mark.{Mark}
 use Rattle.pg_store.specs.declared.sets.Sets.{Sets}
@@ -27,37 +30,41 @@ one_longer es e n h = omega (arith, length-append es (e ∷ []))
 
 module _ {T S : Type 0} (seen : Seen T S) where
   pub marks_stay : {K : Type 0} (store : Store T) (shared : Shared S K) → KeepsMarks seen store shared store shared
-  marks_stay store shared = record { there = λ mark h. h; same = λ mark h. refl }
+  marks_stay store shared = record { there = λ mark h. h; same = λ mark h. refl; pairs = refl }
 
   pub marks_then : {K : Type 0} (a b c : Store T) (r s t : Shared S K) → KeepsMarks seen a r b s → KeepsMarks seen b s c t → KeepsMarks seen a r c t
-  marks_then a b c r s t p q = record { there = λ mark h. q.there mark (p.there mark h); same = λ mark h. q.same mark (p.there mark h) ∙ p.same mark h }
+  marks_then a b c r s t p q = record { there = λ mark h. q.there mark (p.there mark h); same = λ mark h. q.same mark (p.there mark h) ∙ p.same mark h; pairs = q.pairs ∙ p.pairs }
 
-  pub marks_alike : {K : Type 0} (old new : Store T) (before after : Shared S K) → after.names ≡ before.names → new.journal.items ≡ old.journal.items → state_of seen new after ≡ state_of seen old before → KeepsMarks seen old before new after
-  marks_alike old new before after names journal is = record {
+  pub marks_alike : {K : Type 0} (old new : Store T) (before after : Shared S K) → after.names ≡ before.names → new.journal.items ≡ old.journal.items → state_of seen new after ≡ state_of seen old before → index_pairs new ≡ index_pairs old → KeepsMarks seen old before new after
+  marks_alike old new before after names journal is pairs = record {
     there = λ mark has.
         still_marked seen old new before after mark (ap (take mark.names) names) (same_state mark) (ap (take mark.journal) journal)
         (subst (λ (es : List Entry). mark.journal ≤ length es) (sym journal) has.journal)
         (subst (λ (ns : List (List ℕ)). mark.names ≤ length ns) (sym names) has.names)
         has;
     same = λ mark has. same_moment seen old new before after mark (ap (take mark.names) names) (same_state mark);
+    pairs = pairs;
   }
     where
       same_state : (mark : Mark) → state_at seen new after mark ≡ state_at seen old before mark
       same_state mark = λ i. undone (drop mark.journal (journal i)) (is i)
 
   -- a change that joined the journal
-  module _ {K : Type 0} (old new : Store T) (before after : Shared S K) (fit : IsFit seen old before) (e : Entry) (s : State) (undoes : Undoes before.names e (state_of seen old before) s) (names : after.names ≡ before.names) (is : state_of seen new after ≡ s) (journal : new.journal.items ≡ old.journal.items ++ e ∷ []) where
+  module _ {K : Type 0} (old new : Store T) (before after : Shared S K) (fit : IsFit seen old before) (e : Entry) (s : State) (undoes : Undoes before.names e (state_of seen old before) s) (names : after.names ≡ before.names) (is : state_of seen new after ≡ s) (journal : new.journal.items ≡ old.journal.items ++ e ∷ []) (gains : Gains old.sets new.sets) where
     now : Undoes before.names e (state_of seen old before) (state_of seen new after)
     now = subst (Undoes before.names e (state_of seen old before)) (sym is) undoes
 
-    pub changed_fit : Grows (has_in old.sets) (has_in new.sets) → Covers (has_in new.sets) s → seen.fits new.tables after.tables → IsFit seen new after
-    changed_fit grows covers fits = record {
+    pub changed_fit : Grows (has_in old.sets) (has_in new.sets) → Covers (has_in new.sets) s → AreNoted (is_in new.sets) new.sets.dust.items s → seen.fits new.tables after.tables → IsFit seen new after
+    changed_fit grows covers noted fits = record {
       fits = fits;
       well = subst (λ (ns : List (List ℕ)). IsWell ns (state_of seen new after)) (sym names) now.well;
       journal = subst (λ (ns : List (List ℕ)). CanUndo ns new.journal.items (state_of seen new after)) (sym names)
           (pushed before.names old.journal.items new.journal.items e (state_of seen old before) (state_of seen new after) journal now.back now.can fit.well fit.journal);
       covered = covered_pushed (has_in new.sets) old.journal.items new.journal.items e (state_of seen old before) (state_of seen new after) journal now.back
           (grown_covered (has_in old.sets) (has_in new.sets) grows old.journal.items (state_of seen old before) fit.covered) (subst (Covers (has_in new.sets)) (sym is) covers);
+      noted = noted_pushed (is_in new.sets) new.sets.dust.items old.journal.items new.journal.items e (state_of seen old before) (state_of seen new after) journal now.back
+          (all_noted_still (is_in old.sets) (is_in new.sets) old.sets.dust.items new.sets.dust.items gains.come gains.stay old.journal.items (state_of seen old before) fit.noted)
+          (subst (AreNoted (is_in new.sets) new.sets.dust.items) (sym is) noted);
     }
 
     module _ (mark : Mark) (has : HasMark seen old before mark) where
@@ -76,18 +83,21 @@ module _ {T S : Type 0} (seen : Seen T S) where
           has
 
     pub changed_marks : KeepsMarks seen old before new after
-    changed_marks = record { there = still_there; same = λ mark has. same_moment seen old new before after mark (same_names mark has) (same_state mark has) }
+    changed_marks = record { there = still_there; same = λ mark has. same_moment seen old new before after mark (same_names mark has) (same_state mark has); pairs = gains.pairs }
 
   -- a change that was refused: the state stays, and sets may have grown
   pub refused_fit : {K : Type 0} (old new : Store T) (before after : Shared S K) → IsFit seen old before → after.names ≡ before.names → state_of seen new after ≡ state_of seen old before → new.journal.items ≡ old.journal.items
-      → Grows (has_in old.sets) (has_in new.sets) → seen.fits new.tables after.tables → IsFit seen new after
-  refused_fit old new before after fit names is journal grows fits = record {
+      → Grows (has_in old.sets) (has_in new.sets) → Gains old.sets new.sets → seen.fits new.tables after.tables → IsFit seen new after
+  refused_fit old new before after fit names is journal grows gains fits = record {
     fits = fits;
     well = subst (λ (ns : List (List ℕ)). IsWell ns (state_of seen new after)) (sym names) (subst (IsWell before.names) (sym is) fit.well);
     journal = subst (λ (ns : List (List ℕ)). CanUndo ns new.journal.items (state_of seen new after)) (sym names)
         (subst (λ (es : List Entry). CanUndo before.names es (state_of seen new after)) (sym journal) (subst (CanUndo before.names old.journal.items) (sym is) fit.journal));
     covered = subst (λ (es : List Entry). HasCovered (has_in new.sets) es (state_of seen new after)) (sym journal)
         (subst (HasCovered (has_in new.sets) old.journal.items) (sym is) (grown_covered (has_in old.sets) (has_in new.sets) grows old.journal.items (state_of seen old before) fit.covered));
+    noted = subst (λ (es : List Entry). HasNoted (is_in new.sets) new.sets.dust.items es (state_of seen new after)) (sym journal)
+        (subst (HasNoted (is_in new.sets) new.sets.dust.items old.journal.items) (sym is)
+        (all_noted_still (is_in old.sets) (is_in new.sets) old.sets.dust.items new.sets.dust.items gains.come gains.stay old.journal.items (state_of seen old before) fit.noted));
   }
 
   -- sets that grew
@@ -95,8 +105,14 @@ module _ {T S : Type 0} (seen : Seen T S) where
     abbrev pub with_sets : Store T
     with_sets = record store { sets = sets }
 
-    pub grown_fit : Grows (has_in store.sets) (has_in sets) → IsFit seen with_sets shared
-    grown_fit grows = record { fits = fit.fits; well = fit.well; journal = fit.journal; covered = grown_covered (has_in store.sets) (has_in sets) grows store.journal.items (state_of seen store shared) fit.covered }
+    pub grown_fit : Grows (has_in store.sets) (has_in sets) → ((k : Key) (i : ℕ) → is_in sets k i ≡ true → (is_in store.sets k i || is_noted sets.dust.items k i) ≡ true) → StayNoted store.sets.dust.items sets.dust.items → IsFit seen with_sets shared
+    grown_fit grows come stay = record {
+      fits = fit.fits;
+      well = fit.well;
+      journal = fit.journal;
+      covered = grown_covered (has_in store.sets) (has_in sets) grows store.journal.items (state_of seen store shared) fit.covered;
+      noted = all_noted_still (is_in store.sets) (is_in sets) store.sets.dust.items sets.dust.items come stay store.journal.items (state_of seen store shared) fit.noted;
+    }
 
   -- names that grew
   module _ {K : Type 0} (store : Store T) (shared : Shared S K) (names : List (List ℕ)) (keeps : KeepsNames shared.names names) (fit : IsFit seen store shared) where
@@ -113,6 +129,7 @@ module _ {T S : Type 0} (seen : Seen T S) where
     renamed_marks = record {
       there = λ mark has. still_marked seen store store shared renamed mark (names_stay mark has) refl refl has.journal (omega (arith, has.names, no_fewer_names shared.names names keeps)) has;
       same = λ mark has. same_moment seen store store shared renamed mark (names_stay mark has) refl;
+      pairs = refl;
     }
 
     pub renamed_fit : AreDistinct names → IsFit seen store renamed
@@ -121,6 +138,7 @@ module _ {T S : Type 0} (seen : Seen T S) where
       well = still_well shared.names names keeps distinct (state_of seen store shared) fit.well;
       journal = can_still_undo shared.names names keeps distinct store.journal.items (state_of seen store shared) fit.journal;
       covered = fit.covered;
+      noted = fit.noted;
     }
 
     pub renamed_keeps : AreDistinct names → KeepsShared seen store shared store renamed

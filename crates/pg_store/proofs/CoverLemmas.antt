@@ -69,7 +69,7 @@ module _ (has : Has) where
   ]
 
 -- a relationship that gets other properties leaves the nodes
-same_nodes : (c : Content) (id : ℕ) (ps : Properties) → (with_rel_properties c id ps).nodes ≡ c.nodes
+pub same_nodes : (c : Content) (id : ℕ) (ps : Properties) → (with_rel_properties c id ps).nodes ≡ c.nodes
 same_nodes c id ps = by_case (map.get c.rels id)
   where
     by_case : (o : Option RelRecord) → (option_map_or (λ (r : RelRecord). with_rel c id (record r { properties = ps })) o c).nodes ≡ c.nodes

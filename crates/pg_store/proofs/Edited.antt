@@ -43,7 +43,7 @@ label_taken l (x ∷ xs) h = by_order (nat_cmp l x) refl (neither (x == l) (list
     by_order Equal is h rest = absurd (cc (h.0, ap (λ m. m == l) (equal l x is), same_number l))
     by_order Greater is h rest = ap (λ b. cond b (with_label xs l) (x ∷ without_label (with_label xs l) l)) h.0 ∙ ap (λ ys. x ∷ ys) (rest h.1)
 
-any_with : (p : ℕ → Bool) (l : ℕ) (ls : List ℕ) → list_any p (with_label ls l) ≡ (p l || list_any p ls)
+pub any_with : (p : ℕ → Bool) (l : ℕ) (ls : List ℕ) → list_any p (with_label ls l) ≡ (p l || list_any p ls)
 any_with p l [] = refl
 any_with p l (x ∷ xs) = by_order (nat_cmp l x) refl (any_with p l xs)
   where

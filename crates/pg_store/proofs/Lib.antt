@@ -1,7 +1,10 @@
 pub mod JournalLemmas
 pub mod CoverLemmas
 pub mod Edited
+pub mod NoteLemmas
 pub mod SetLemmas
+pub mod GainLemmas
+pub mod Noting
 pub mod Covering
 pub mod MergedLemmas
 pub mod States

@@ -5,7 +5,7 @@ use Rattle.pg_meaning.specs.Graph.{Graph}
 use Rattle.pg_store.proofs.Kept.{names_go}
 use Rattle.pg_store.proofs.Marks.{is_marked, marks_this}
 use Rattle.pg_store.specs.Changes.{Changes}
-use Rattle.pg_store.specs.Stores.{graph_of_store, graph_at, IsFit, HasMark, KeepsMarks, KeepsShared}
+use Rattle.pg_store.specs.Stores.{index_pairs, graph_of_store, graph_at, IsFit, HasMark, KeepsMarks, KeepsShared}
 use Rattle.pg_store.specs.declared.journal.Mark.{Mark}
 use Rattle.pg_store.specs.declared.shared.Shared.{Shared}
 use Rattle.pg_store.specs.declared.store.Store.{Store}
@@ -17,6 +17,7 @@ pub record Undone {T S K : Type 0} (seen : Seen T S) (mark : Mark) (mid : Store 
   pub marks : (earlier : Mark) → earlier.journal ≤ mark.journal → earlier.names ≤ mark.names → graph_at seen new after earlier ≡ graph_at seen mid between earlier
   pub there : (earlier : Mark) → earlier.journal ≤ mark.journal → earlier.names ≤ mark.names → HasMark seen mid between earlier → HasMark seen new after earlier
   pub fit : IsFit seen new after
+  pub pairs : index_pairs new ≡ index_pairs mid
   pub keeps : Keeps seen mid.tables between.tables new.tables after.tables
 
 module _ {T S K : Type 0} (seen : Seen T S) (mark : Mark) (old mid new : Store T) (before between after : Shared S K) (journal : mark.journal ≡ length old.journal.items) (names : mark.names ≡ length before.names) (fit : IsFit seen old before)
@@ -32,6 +33,7 @@ module _ {T S K : Type 0} (seen : Seen T S) (mark : Mark) (old mid new : Store T
     marks_again = record {
       there = λ m has. undone.there m (omega (arith, has.journal, journal)) (omega (arith, has.names, names)) (marks.there m has);
       same = λ m has. undone.marks m (omega (arith, has.journal, journal)) (omega (arith, has.names, names)) ∙ marks.same m has;
+      pairs = undone.pairs ∙ marks.pairs;
     }
 
     pub changes_nothing : {X E : Type 0} (e : E) (Says : Graph → Graph → Type 0) → Says (graph_of_store seen old before) (graph_of_store seen new after) → Changes {X = X} {E = E} seen old before new after (Err e) Says

@@ -29,10 +29,10 @@ use Rattle.pg_value_core.specs.declared.value.Value.{Value}
 abbrev Indexes : Type 0
 Indexes = Vec PropertyIndex Global
 
-tied : (l : ℕ) → is_at (nat_cmp l) l ≡ true
+pub tied : (l : ℕ) → is_at (nat_cmp l) l ≡ true
 tied l = ap is_eq (tied_itself nat_cmp_total l)
 
-same_key : (l q : ℕ) → is_at (nat_cmp l) q ≡ true → l ≡ q
+pub same_key : (l q : ℕ) → is_at (nat_cmp l) q ≡ true → l ≡ q
 same_key l q h = map.nat_cmp-IsAntisymmetric l q ((Equal-is (nat_cmp l q)).0 h)
 
 module _ (old new : Sets) (id : ℕ) where

@@ -22,11 +22,14 @@ use Rattle.pg_meaning.specs.Graph.{element_count}
 use Rattle.pg_meaning.specs.Value.{null}
 use Rattle.pg_store.proofs.Changed.{node_stays, rel_stays}
 use Rattle.pg_store.proofs.CoverLemmas.{Has, covers_now, covers_with, covers_other_properties}
-use Rattle.pg_store.proofs.States.{none_out, none_in, with_node_changed, node_changed, node_change_well, with_rel_changed, rel_changed, rel_change_well}
+use Rattle.pg_store.proofs.Noting.{Dust, noted_now, noted_with, there_is}
+use Rattle.pg_store.proofs.NoteLemmas.{or_left}
+use Rattle.pg_store.proofs.States.{live_with_node_changed, none_out, none_in, with_node_changed, node_changed, node_change_well, with_rel_changed, rel_changed, rel_change_well}
 use Rattle.std.specs.Option.{option_map, option_map_or}
 use Rattle.pg_store.specs.Covers.{Key, every, with_label, with_value, belongs, Covers, HasCovered, has_in}
 use Rattle.pg_store.specs.Journal.{State, IsWell, CanUndo, live, graph_in}
-use Rattle.pg_store.specs.Stores.{state_of, graph_of_store, IsFit, Settles}
+use Rattle.pg_store.specs.Noted.{AreNoted, HasNoted, is_in}
+use Rattle.pg_store.specs.Stores.{index_pairs, state_of, graph_of_store, IsFit, Settles}
 use Rattle.pg_store.specs.declared.journal.Entry.{Entry}
 use Rattle.pg_store.specs.declared.sets.Sets.{Sets}
 use Rattle.pg_store.specs.declared.shared.Shared.{Shared}
@@ -49,7 +52,7 @@ module _ (names : List (List ℕ)) (s : State) (id : ℕ) (well : IsWell names s
     abbrev pub without_gone_rel : State
     without_gone_rel = record s { content = without_rel s.content id; gone_rels = map.remove s.gone_rels id }
 
-    live_rels : live without_gone_rel ≡ live s
+    pub live_rels : live without_gone_rel ≡ live s
     live_rels = λ t. record { nodes = (live s).nodes; rels = without_both s.content.rels s.gone_rels id gone t }
 
     pub graph_without_rel : graph_in names without_gone_rel ≡ graph_in names s
@@ -81,7 +84,7 @@ module _ (names : List (List ℕ)) (s : State) (id : ℕ) (well : IsWell names s
     abbrev pub without_gone_node : State
     without_gone_node = record s { content = without_node s.content id; gone_nodes = map.remove s.gone_nodes id }
 
-    live_nodes : live without_gone_node ≡ live s
+    pub live_nodes : live without_gone_node ≡ live s
     live_nodes = λ t. record { nodes = without_both s.content.nodes s.gone_nodes id gone t; rels = (live s).rels }
 
     pub graph_without_node : graph_in names without_gone_node ≡ graph_in names s
@@ -153,6 +156,32 @@ module _ (names : List (List ℕ)) (s : State) (id : NodeId) (key : ℕ) (n : No
   pub covers_without_blank : (has : Has) → Covers has s → Covers has without_blank
   covers_without_blank has c = covers_with has s id.0 less_node c (λ k h. c k id.0 n node_held_here (fewer_found n key k h))
 
+-- a key under which null stands finds nothing
+blank_found : (n : NodeRecord) (key : ℕ) → map.get n.properties key ≡ Some null → (k : Key) → belongs k n ≡ true → belongs k (record n { properties = map.remove n.properties key }) ≡ true
+blank_found n key blank every h = h
+blank_found n key blank (with_label l) h = h
+blank_found n key blank (with_value l q v) h = elim (cases_eq q key) [
+  | inl same ↦
+      absurd (cc (
+        last (has_number (Some l) n) (option_map_or (λ w. is_equal w v) (map.get n.properties q) false) h,
+        ap (λ (x : ℕ). option_map_or (λ w. is_equal w v) (map.get n.properties x) false) same,
+        ap (λ o. option_map_or (λ w. is_equal w v) o false) blank,
+      ))
+  | inr ne ↦ ap (λ o. has_number (Some l) n && option_map_or (λ w. is_equal w v) o false) (get_removed_other n.properties key q ne) ∙ h
+]
+  where
+    last : (a b : Bool) → (a && b) ≡ true → b ≡ true
+    last true b h = h
+    last false b h = absurd (cc)
+
+pub noted_without_blank : (names : List (List ℕ)) (s : State) (id : NodeId) (key : ℕ) (n : NodeRecord) (well : IsWell names s) (there : map.get (live s).nodes id.0 ≡ Some n) (blank : map.get n.properties key ≡ Some null) (has : Has) (dust : Dust)
+    → AreNoted has dust s → AreNoted has dust (without_blank names s id key n well there blank)
+noted_without_blank names s id key n well there blank has dust was =
+    let less = less_node names s id key n well there blank in
+    noted_with has has dust dust (λ k i h. or_left (has k i) _ h) (λ k i h. h) s (without_blank names s id key n well there blank) id.0 was less
+    (ap (λ (c : Content). c.nodes) (live_with_node_changed names s id less n well (some_node names s id key n well there blank) (node_is names s id key n well there blank).labels (keys_left names s id key n well there blank) (node_held_here names s id key n well there blank)))
+    (λ k g h. or_left (belongs k less) _ (blank_found n key blank k (sym (there_is s k id.0 n there) ∙ h)))
+
 module _ (names : List (List ℕ)) (s : State) (id : RelId) (key : ℕ) (r : RelRecord) (well : IsWell names s) (there : map.get (live s).rels id.0 ≡ Some r) (blank : map.get r.properties key ≡ Some null) where
   abbrev pub less_properties : Properties
   less_properties = map.remove r.properties key
@@ -201,15 +230,18 @@ module _ {T S : Type 0} (seen : Seen T S) where
     journal = subst (λ (es : List Entry). CanUndo shared.names es (state_of seen new shared)) (sym none) tt;
     covered = subst (λ (es : List Entry). HasCovered (has_in new.sets) es (state_of seen new shared)) (sym none)
         (subst (λ (x : Sets). Covers (has_in x) (state_of seen new shared)) (sym sets) (subst (Covers (has_in old.sets)) (sym same) (covers_now (has_in old.sets) old.journal.items (state_of seen old shared) fit.covered)));
+    noted = subst (λ (es : List Entry). HasNoted (is_in new.sets) new.sets.dust.items es (state_of seen new shared)) (sym none)
+        (subst (λ (x : Sets). AreNoted (is_in x) x.dust.items (state_of seen new shared)) (sym sets)
+        (subst (AreNoted (is_in old.sets) old.sets.dust.items) (sym same) (noted_now (is_in old.sets) old.sets.dust.items old.journal.items (state_of seen old shared) fit.noted)));
   }
 
   pub settles_first : {K : Type 0} (old : Store T) (before : Shared S K) → IsFit seen old before → old.journal.items ≡ [] → Settles seen old before old before
-  settles_first old before fit journal = record { fit = fit; journal = journal; graph = refl; names = refl; keeps = keeps_refl old.tables before.tables fit.fits }
+  settles_first old before fit journal = record { fit = fit; journal = journal; graph = refl; names = refl; keeps = keeps_refl old.tables before.tables fit.fits; pairs = refl }
 
   pub settles_on : {K : Type 0} (old now new : Store T) (before shared after : Shared S K) (s : State) → Settles seen old before now shared
-      → state_of seen new after ≡ s → IsWell shared.names s → Covers (has_in new.sets) s → graph_in shared.names s ≡ graph_of_store seen now shared → after.names ≡ shared.names → new.journal.items ≡ now.journal.items → Keeps seen now.tables shared.tables new.tables after.tables
+      → state_of seen new after ≡ s → IsWell shared.names s → Covers (has_in new.sets) s → AreNoted (is_in new.sets) new.sets.dust.items s → index_pairs new ≡ index_pairs now → graph_in shared.names s ≡ graph_of_store seen now shared → after.names ≡ shared.names → new.journal.items ≡ now.journal.items → Keeps seen now.tables shared.tables new.tables after.tables
       → Settles seen old before new after
-  settles_on old now new before shared after s was is well covers same names journal keeps =
+  settles_on old now new before shared after s was is well covers noted pairs same names journal keeps =
       let done : new.journal.items ≡ [] = journal ∙ was.journal in
       record {
         fit = record {
@@ -217,11 +249,13 @@ module _ {T S : Type 0} (seen : Seen T S) where
           well = subst (λ (ns : List (List ℕ)). IsWell ns (state_of seen new after)) (sym names) (subst (IsWell shared.names) (sym is) well);
           journal = subst (λ (es : List Entry). CanUndo after.names es (state_of seen new after)) (sym done) tt;
           covered = subst (λ (es : List Entry). HasCovered (has_in new.sets) es (state_of seen new after)) (sym done) (subst (Covers (has_in new.sets)) (sym is) covers);
+          noted = subst (λ (es : List Entry). HasNoted (is_in new.sets) new.sets.dust.items es (state_of seen new after)) (sym done) (subst (AreNoted (is_in new.sets) new.sets.dust.items) (sym is) noted);
         };
         journal = done;
         graph = ap (λ (ns : List (List ℕ)). graph_in ns (state_of seen new after)) names ∙ ap (graph_in shared.names) is ∙ same ∙ was.graph;
         names = names ∙ was.names;
         keeps = keeps_trans old.tables now.tables new.tables before.tables shared.tables after.tables was.keeps keeps;
+        pairs = pairs ∙ was.pairs;
       }
 
 -- settled, and settled again
@@ -232,6 +266,7 @@ settles_then seen old now new before shared after p q = record {
   graph = q.graph ∙ p.graph;
   names = q.names ∙ p.names;
   keeps = keeps_trans old.tables now.tables new.tables before.tables shared.tables after.tables p.keeps q.keeps;
+  pairs = q.pairs ∙ p.pairs;
 }
 
 pub fewer : {X : Type 0} (m : FinMap nat_cmp X) (k : ℕ) (v : X) → map.get m k ≡ Some v → map.len (map.remove m k) < map.len m

@@ -97,7 +97,7 @@ module _ (names : List (List ℕ)) (s : State) (n : NodeRecord) (well : IsWell n
   live_node_absent : map.get (live s).nodes s.next.node ≡ None
   live_node_absent = next_is_absent names (live s) s.next.node s.next.rel well.holds
 
-  live_with_new_node : live with_new_node ≡ with_node (live s) s.next.node n
+  pub live_with_new_node : live with_new_node ≡ with_node (live s) s.next.node n
   live_with_new_node = λ t. record { nodes = without_inserted s.content.nodes s.gone_nodes s.next.node n (not_gone s.content.nodes s.gone_nodes s.next.node well.nodes_wait node_absent) t; rels = (live s).rels }
 
   pub new_node_made : (texts : List (List ℕ)) → in_byte_order texts ≡ label_texts names n.labels → graph_in names with_new_node ≡ add_node texts (property_entries names n.properties) (graph_in names s)
@@ -216,7 +216,7 @@ module _ (names : List (List ℕ)) (s : State) (id : NodeId) (n w : NodeRecord) 
   abbrev pub with_node_changed : State
   with_node_changed = record s { content = with_node s.content id.0 n }
 
-  live_with_node_changed : live with_node_changed ≡ with_node (live s) id.0 n
+  pub live_with_node_changed : live with_node_changed ≡ with_node (live s) id.0 n
   live_with_node_changed = λ t. record { nodes = without_inserted s.content.nodes s.gone_nodes id.0 n (is_live s.content.nodes s.gone_nodes id.0 there).0 t; rels = (live s).rels }
 
   pub node_changed : graph_in names with_node_changed ≡ change_node (λ _. node_of names n) id.0 (graph_in names s)
@@ -418,7 +418,7 @@ module _ (names : List (List ℕ)) (s : State) (id : NodeId) (well : IsWell name
   abbrev pub with_node_removed : State
   with_node_removed = record s { gone_nodes = map.insert s.gone_nodes id.0 tt; elements = s.elements - 1 }
 
-  live_with_node_removed : live with_node_removed ≡ without_node (live s) id.0
+  pub live_with_node_removed : live with_node_removed ≡ without_node (live s) id.0
   live_with_node_removed = λ t. record { nodes = without_more s.content.nodes s.gone_nodes id.0 t; rels = (live s).rels }
 
   pub node_removed : graph_in names with_node_removed ≡ remove_elements (id.0 ∷ []) [] (graph_in names s)

@@ -1,5 +1,5 @@
 -- A store as a graph: the empty one, and whether it has a node.
-use Rattle.std.proofs.Common.{◌≡◌, ◌<◌, ◌^◌, ℕ, List, [], map as map_list, Bor, Option, Some, None, IsSome, is_some, true, option_copied, arith, refl, sym, ap, subst, ◌∙◌}
+use Rattle.std.proofs.Common.{◌≡◌, ◌<◌, ◌^◌, ℕ, List, [], map as map_list, Bor, Option, Some, None, IsSome, is_some, true, false, option_copied, arith, refl, sym, ap, subst, ◌∙◌}
 use Rattle.std.proofs.lemmas.List.{nil_from_length}
 use Rattle.std.specs.FinMap as map
 use Rattle.std.specs.Global.{Vec}
@@ -15,7 +15,8 @@ use Rattle.pg_graph.specs.Removed.{Ids, has_id, live_content}
 use Rattle.pg_graph.specs.declared.records.NodeRecord.{NodeRecord}
 use Rattle.pg_graph.specs.declared.records.RelRecord.{RelRecord}
 use Rattle.pg_meaning.specs.Graph.{Graph, IsGraph, empty_graph, element_count, has_node, has_relationship}
-use Rattle.pg_store.specs.Covers.{HasCovered, has_in}
+use Rattle.pg_store.specs.Covers.{Key, HasCovered, has_in}
+use Rattle.pg_store.specs.Noted.{HasNoted, is_in}
 use Rattle.pg_store.specs.Journal.{CanUndo, live}
 use Rattle.pg_store.specs.Stores.{graph_of_store, state_of, IsFit}
 use Rattle.pg_store.specs.declared.journal.Entry.{Entry}
@@ -48,8 +49,8 @@ module _ {T S K : Type 0} (seen : Seen T S) (tables : T) (shared : Shared S K) (
   holds_empty : (c : Content) → c ≡ empty_content → AreDistinct shared.names → Holds shared.names c 0 0
   holds_empty c is distinct = subst (λ (c : Content). Holds shared.names c 0 0) (sym is) (empty_holds shared.names 0 0 distinct)
 
-  pub new_is_fit : AreDistinct shared.names → seen.fits tables shared.tables → IsFit seen new_store shared
-  new_is_fit distinct fits = record {
+  pub new_is_fit : ((k : Key) (i : ℕ) → is_in sets k i ≡ false) → AreDistinct shared.names → seen.fits tables shared.tables → IsFit seen new_store shared
+  new_is_fit none distinct fits = record {
     fits = fits;
     well = record {
       held = holds_empty (seen.content tables shared.tables) empty distinct;
@@ -64,6 +65,7 @@ module _ {T S K : Type 0} (seen : Seen T S) (tables : T) (shared : Shared S K) (
     journal = subst (λ (es : List Entry). CanUndo shared.names es (state_of seen new_store shared)) (sym nothing_done) tt;
     covered = subst (λ (es : List Entry). HasCovered (has_in sets) es (state_of seen new_store shared)) (sym nothing_done)
         (λ k i n is number. absurd (cc (is, ap (λ (c : Content). map.get c.nodes i) empty, map.get-empty {X = NodeRecord} nat_cmp i)));
+    noted = subst (λ (es : List Entry). HasNoted (is_in sets) sets.dust.items es (state_of seen new_store shared)) (sym nothing_done) (λ k i h. let no = none k i in absurd (cc (h, no)));
   }
 
 pub copied_is_there : {X : Type 0} (o : Option (Bor X)) → is_some (option_copied o) ≡ is_some o
@@ -86,10 +88,6 @@ rel_is_there names c i j id o is = ap is_some (relationship_is_read names c i j 
     by_case : (o : Option RelRecord) → is_some (option_map (relationship_of names) o) ≡ is_some o
     by_case None = refl
     by_case (Some r) = refl
-
--- whether an id is one of a set, as a look-up tells
-pub id_is_among : (ids : Ids) (id : ℕ) (o : Option (Bor (Unit {0}))) → option_copied o ≡ map.get ids id → has_id ids id ≡ is_some o
-id_is_among ids id o is = ap is_some (sym is) ∙ copied_is_there o
 
 some_of : {A B : Type 0} (f : A → B) (o : Option A) → is_some (option_map f o) ≡ true → IsSome o
 some_of f None h = absurd (cc)

@@ -3,9 +3,12 @@ use Rattle.std.proofs.Common.{◌≡◌, ◌≤◌, ◌<◌, ℕ, List, [], ◌�
 use Rattle.std.proofs.lemmas.List.{take_at, drop_at, length-append}
 use Rattle.pg_graph.proofs.Others.{keeps_refl, keeps_trans}
 use Rattle.pg_graph.specs.Content.{Seen, Keeps}
-use Rattle.pg_store.proofs.CoverLemmas.{Has, covered_popped}
+use Rattle.pg_store.proofs.CoverLemmas.{covered_popped}
 use Rattle.pg_store.proofs.JournalLemmas.{popped}
+use Rattle.pg_store.proofs.Noting.{noted_popped}
 use Rattle.pg_store.specs.Covers.{HasCovered, has_in}
+use Rattle.pg_store.specs.Noted.{HasNoted, is_in}
+use Rattle.pg_store.specs.declared.sets.Sets.{Sets}
 use Rattle.pg_store.specs.Journal.{IsWell, CanUndo, CanUndoOne, undo_one, undone}
 use Rattle.pg_store.specs.Stores.{state_of, IsFit, HasMark, IsBack}
 use Rattle.pg_store.specs.declared.journal.Entry.{Entry}
@@ -22,10 +25,11 @@ pub record GoesBack {T S K : Type 0} (seen : Seen T S) (mark : ℕ) (old : Store
   pub state : state_of seen now shared ≡ undone gone (state_of seen old before)
   pub there : mark ≤ length now.journal.items
   pub keeps : Keeps seen old.tables before.tables now.tables shared.tables
+  pub sets : now.sets ≡ old.sets
 
 module _ {T S : Type 0} (seen : Seen T S) (mark : ℕ) where
   pub at_first : {K : Type 0} (old : Store T) (before : Shared S K) → IsFit seen old before → mark ≤ length old.journal.items → GoesBack seen mark old before old before
-  at_first old before fit there = record { fit = fit; names = refl; gone = []; parts = sym (append-nil old.journal.items); state = refl; there = there; keeps = keeps_refl old.tables before.tables fit.fits }
+  at_first old before fit there = record { fit = fit; names = refl; gone = []; parts = sym (append-nil old.journal.items); state = refl; there = there; keeps = keeps_refl old.tables before.tables fit.fits; sets = refl }
 
   pub can_go : {K : Type 0} (now : Store T) (shared : Shared S K) (es : List Entry) (e : Entry) → now.journal.items ≡ es ++ e ∷ [] → IsFit seen now shared → CanUndoOne e (state_of seen now shared)
   can_go now shared es e items fit = (popped shared.names es now.journal.items e (state_of seen now shared) items fit.journal).0
@@ -34,7 +38,7 @@ module _ {T S : Type 0} (seen : Seen T S) (mark : ℕ) where
   longer m xs es e is h = let longer = ap length is ∙ length-append es (e ∷ []) in omega (arith, longer)
 
   pub goes_on : {K : Type 0} (old now new : Store T) (before shared after : Shared S K) (e : Entry) → GoesBack seen mark old before now shared → mark < length now.journal.items
-      → now.journal.items ≡ new.journal.items ++ e ∷ [] → state_of seen new after ≡ undo_one e (state_of seen now shared) → after.names ≡ shared.names → has_in new.sets ≡ has_in now.sets → Keeps seen now.tables shared.tables new.tables after.tables
+      → now.journal.items ≡ new.journal.items ++ e ∷ [] → state_of seen new after ≡ undo_one e (state_of seen now shared) → after.names ≡ shared.names → new.sets ≡ now.sets → Keeps seen now.tables shared.tables new.tables after.tables
       → GoesBack seen mark old before new after
   goes_on old now new before shared after e was more items is names sets keeps =
       let es = new.journal.items in
@@ -45,8 +49,10 @@ module _ {T S : Type 0} (seen : Seen T S) (mark : ℕ) where
           fits = keeps.fits;
           well = subst (λ (ns : List (List ℕ)). IsWell ns (state_of seen new after)) (sym names) (subst (IsWell shared.names) (sym is) pop.1);
           journal = subst (λ (ns : List (List ℕ)). CanUndo ns es (state_of seen new after)) (sym names) (subst (CanUndo shared.names es) (sym is) pop.2);
-          covered = subst (λ (has : Has). HasCovered has es (state_of seen new after)) (sym sets)
+          covered = subst (λ (x : Sets). HasCovered (has_in x) es (state_of seen new after)) (sym sets)
               (subst (HasCovered (has_in now.sets) es) (sym is) (covered_popped (has_in now.sets) es now.journal.items e s items was.fit.covered));
+          noted = subst (λ (x : Sets). HasNoted (is_in x) x.dust.items es (state_of seen new after)) (sym sets)
+              (subst (HasNoted (is_in now.sets) now.sets.dust.items es) (sym is) (noted_popped (is_in now.sets) now.sets.dust.items es now.journal.items e s items was.fit.noted));
         };
         names = names ∙ was.names;
         gone = e ∷ was.gone;
@@ -54,6 +60,7 @@ module _ {T S : Type 0} (seen : Seen T S) (mark : ℕ) where
         state = is ∙ ap (undo_one e) was.state;
         there = longer mark now.journal.items es e items more;
         keeps = keeps_trans old.tables now.tables new.tables before.tables shared.tables after.tables was.keeps keeps;
+        sets = sets ∙ was.sets;
       }
 
 -- at the mark
@@ -78,4 +85,5 @@ back_is_fit {S = S} seen mark old now before shared after has back fit cut same 
           (subst (λ (es : List Entry). CanUndo (take mark.names before.names) es (state_of seen now after)) (sym back.journal)
           (subst (CanUndo (take mark.names before.names) (take mark.journal old.journal.items)) (sym (is ∙ back.state)) has.undo));
       covered = subst (HasCovered (has_in now.sets) now.journal.items) (sym is) fit.covered;
+      noted = subst (HasNoted (is_in now.sets) now.sets.dust.items now.journal.items) (sym is) fit.noted;
     }

@@ -5,6 +5,7 @@ pub mod GraphCode
 pub mod Indexed
 pub mod Journal
 pub mod Merged
+pub mod Noted
 pub mod Stores
 pub mod Views
 pub mod Wanted

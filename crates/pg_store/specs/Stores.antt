@@ -6,7 +6,9 @@ use Rattle.pg_meaning.specs.Graph.{Graph, Node, Relationship}
 use Rattle.pg_meaning.specs.Value.{Value}
 use Rattle.pg_names.specs.Names.{AreDistinct, KeepsNames}
 use Rattle.pg_store.specs.Covers.{has_in, HasCovered}
+use Rattle.pg_index.specs.Properties as index
 use Rattle.pg_store.specs.Journal.{State, IsWell, CanUndo, graph_in, undone}
+use Rattle.pg_store.specs.Noted.{HasNoted, is_in}
 use Rattle.pg_store.specs.declared.journal.Mark.{Mark}
 use Rattle.pg_store.specs.declared.shared.Shared.{Shared}
 use Rattle.pg_store.specs.declared.store.Store.{Store}
@@ -28,12 +30,14 @@ module _ {T S K : Type 0} (seen : Seen T S) (store : Store T) (shared : Shared S
   abbrev pub graph_of_store : Graph
   graph_of_store = graph_in shared.names state_of
 
-  -- the shared part is the store's, what it holds stands for a graph, and all that was done since each mark can be undone
+  -- the shared part is the store's, what it holds stands for a graph, all that was done since each mark can be undone, each
+  -- node is found where it belongs, and what is found where it doesn't belong is noted
   pub record IsFit : Type 0 where
     pub fits : seen.fits store.tables shared.tables
     pub well : IsWell shared.names state_of
     pub journal : CanUndo shared.names store.journal.items state_of
     pub covered : HasCovered (has_in store.sets) store.journal.items state_of
+    pub noted : HasNoted (is_in store.sets) store.sets.dust.items store.journal.items state_of
 
   -- the names and the state at the moment of a mark
   abbrev pub names_at : Mark → List (List ℕ)
@@ -52,6 +56,10 @@ module _ {T S K : Type 0} (seen : Seen T S) (store : Store T) (shared : Shared S
     pub well : IsWell (names_at mark) (state_at mark)
     pub undo : CanUndo (names_at mark) (take mark.journal store.journal.items) (state_at mark)
 
+-- the indexes of a store, by the numbers of their labels and keys
+abbrev pub index_pairs : {T : Type 0} → Store T → List (ℕ × ℕ)
+index_pairs store = index.pairs_of store.sets.indexes.items
+
 -- the store `now` is `old` with all taken back that was done since the mark
 pub record IsBack {T S K : Type 0} (seen : Seen T S) (mark : Mark) (old : Store T) (before : Shared S K) (now : Store T) (after : Shared S K) : Type 0 where
   pub state : state_of seen now after ≡ state_at seen old before mark
@@ -64,11 +72,13 @@ pub record Settles {T S K : Type 0} (seen : Seen T S) (old : Store T) (before : 
   pub graph : graph_of_store seen now shared ≡ graph_of_store seen old before
   pub names : shared.names ≡ before.names
   pub keeps : Keeps seen old.tables before.tables now.tables shared.tables
+  pub pairs : index_pairs now ≡ index_pairs old
 
--- each mark of the old store is one of the new, of the same graph
+-- each mark of the old store is one of the new, of the same graph, and the indexes are the same
 pub record KeepsMarks {T S K : Type 0} (seen : Seen T S) (old : Store T) (before : Shared S K) (new : Store T) (after : Shared S K) : Type 0 where
   pub there : (mark : Mark) → HasMark seen old before mark → HasMark seen new after mark
   pub same : (mark : Mark) → HasMark seen old before mark → graph_at seen new after mark ≡ graph_at seen old before mark
+  pub pairs : index_pairs new ≡ index_pairs old
 
 -- A call on the store `old`, lent the shared part `before`, left the store `new` and the part `after`. Nothing that
 -- others have in the part of the tables changed, and each number has its text still.

@@ -37,10 +37,19 @@ impl<T: Tables> Store<T> {
     ) -> Result<(), AllocError>
         requires fit { IsFit T.seen self.old shared.old }
         requires there { IsSome (map.get (live (state_of T.seen self.old shared.old)).nodes id.0) }
-        requires change { (n : NodeRecord) → map.get (live (state_of T.seen self.old shared.old)).nodes id.0 ≡ Some n → IsChangeOf change n }
-        requires named { (n : NodeRecord) → map.get (live (state_of T.seen self.old shared.old)).nodes id.0 ≡ Some n → IsNamedNode shared.old.names (changed_node change n) }
-        ensures ok { OnOk result ((n : NodeRecord) → map.get (live (state_of T.seen self.old shared.old)).nodes id.0 ≡ Some n → graph_of_store T.seen self.new shared.new ≡ change_node (λ _. node_of shared.old.names (changed_node change n)) id.0 (graph_of_store T.seen self.old shared.old)) }
-        ensures err { OnErr result (graph_of_store T.seen self.new shared.new ≡ graph_of_store T.seen self.old shared.old) }
+        requires change { (n : NodeRecord)
+            → map.get (live (state_of T.seen self.old shared.old)).nodes id.0 ≡ Some n
+            → IsChangeOf change n }
+        requires named { (n : NodeRecord)
+            → map.get (live (state_of T.seen self.old shared.old)).nodes id.0 ≡ Some n
+            → IsNamedNode shared.old.names (changed_node change n) }
+        ensures ok { OnOk result ((n : NodeRecord)
+            → map.get (live (state_of T.seen self.old shared.old)).nodes id.0 ≡ Some n
+            → graph_of_store T.seen self.new shared.new
+            ≡ change_node (λ _. node_of shared.old.names (changed_node change n)) id.0
+            (graph_of_store T.seen self.old shared.old)) }
+        ensures err { OnErr result (graph_of_store T.seen self.new shared.new
+            ≡ graph_of_store T.seen self.old shared.old) }
         ensures marks { KeepsMarks T.seen self.old shared.old self.new shared.new }
         ensures fit { IsFit T.seen self.new shared.new }
         ensures keeps { KeepsShared T.seen self.old shared.old self.new shared.new }
@@ -64,9 +73,17 @@ impl<T: Tables> Store<T> {
     ) -> Result<(), AllocError>
         requires fit { IsFit T.seen self.old shared.old }
         requires there { IsSome (map.get (live (state_of T.seen self.old shared.old)).rels id.0) }
-        requires named { (r : RelRecord) → map.get (live (state_of T.seen self.old shared.old)).rels id.0 ≡ Some r → AreNamed shared.old.names (map.keys (changed_properties change r.properties)) }
-        ensures ok { OnOk result ((r : RelRecord) → map.get (live (state_of T.seen self.old shared.old)).rels id.0 ≡ Some r → graph_of_store T.seen self.new shared.new ≡ change_relationship (λ e. record e { properties = property_entries shared.old.names (changed_properties change r.properties) }) id.0 (graph_of_store T.seen self.old shared.old)) }
-        ensures err { OnErr result (graph_of_store T.seen self.new shared.new ≡ graph_of_store T.seen self.old shared.old) }
+        requires named { (r : RelRecord)
+            → map.get (live (state_of T.seen self.old shared.old)).rels id.0 ≡ Some r
+            → AreNamed shared.old.names (map.keys (changed_properties change r.properties)) }
+        ensures ok { OnOk result ((r : RelRecord)
+            → map.get (live (state_of T.seen self.old shared.old)).rels id.0 ≡ Some r
+            → graph_of_store T.seen self.new shared.new ≡ change_relationship (λ e. record e {
+              properties = property_entries shared.old.names
+                  (changed_properties change r.properties);
+            }) id.0 (graph_of_store T.seen self.old shared.old)) }
+        ensures err { OnErr result (graph_of_store T.seen self.new shared.new
+            ≡ graph_of_store T.seen self.old shared.old) }
         ensures marks { KeepsMarks T.seen self.old shared.old self.new shared.new }
         ensures fit { IsFit T.seen self.new shared.new }
         ensures keeps { KeepsShared T.seen self.old shared.old self.new shared.new }
@@ -92,7 +109,10 @@ impl<T: Tables> Store<T> {
         requires fit { IsFit T.seen self.old shared.old }
         requires there { has_node (graph_of_store T.seen self.old shared.old) id.0 ≡ true }
         requires named { key < length shared.old.names }
-        ensures ok { OnOk result (graph_of_store T.seen self.new shared.new ≡ change_node (λ e. record e { properties = set_key (text_of shared.old.names key) (view value) e.properties }) id.0 (graph_of_store T.seen self.old shared.old)) }
+        ensures ok { OnOk result
+            (graph_of_store T.seen self.new shared.new ≡ change_node (λ e. record e {
+              properties = set_key (text_of shared.old.names key) (view value) e.properties;
+            }) id.0 (graph_of_store T.seen self.old shared.old)) }
         ensures marks { KeepsMarks T.seen self.old shared.old self.new shared.new }
         ensures fit { IsFit T.seen self.new shared.new }
         ensures keeps { KeepsShared T.seen self.old shared.old self.new shared.new }
@@ -116,7 +136,10 @@ impl<T: Tables> Store<T> {
         requires fit { IsFit T.seen self.old shared.old }
         requires there { has_relationship (graph_of_store T.seen self.old shared.old) id.0 ≡ true }
         requires named { key < length shared.old.names }
-        ensures ok { OnOk result (graph_of_store T.seen self.new shared.new ≡ change_relationship (λ e. record e { properties = set_key (text_of shared.old.names key) (view value) e.properties }) id.0 (graph_of_store T.seen self.old shared.old)) }
+        ensures ok { OnOk result
+            (graph_of_store T.seen self.new shared.new ≡ change_relationship (λ e. record e {
+              properties = set_key (text_of shared.old.names key) (view value) e.properties;
+            }) id.0 (graph_of_store T.seen self.old shared.old)) }
         ensures marks { KeepsMarks T.seen self.old shared.old self.new shared.new }
         ensures fit { IsFit T.seen self.new shared.new }
         ensures keeps { KeepsShared T.seen self.old shared.old self.new shared.new }
@@ -137,7 +160,9 @@ impl<T: Tables> Store<T> {
     ) -> Result<(), AllocError>
         requires fit { IsFit T.seen self.old shared.old }
         requires there { has_node (graph_of_store T.seen self.old shared.old) id.0 ≡ true }
-        ensures ok { OnOk result (graph_of_store T.seen self.new shared.new ≡ change_node (λ e. record e { properties = set_keys (pairs_of pairs.entry.items) e.properties }) id.0 (graph_of_store T.seen self.old shared.old)) }
+        ensures ok { OnOk result (graph_of_store T.seen self.new shared.new ≡ change_node
+            (λ e. record e { properties = set_keys (pairs_of pairs.entry.items) e.properties }) id.0
+            (graph_of_store T.seen self.old shared.old)) }
         ensures marks { KeepsMarks T.seen self.old shared.old self.new shared.new }
         ensures fit { IsFit T.seen self.new shared.new }
         ensures keeps { KeepsShared T.seen self.old shared.old self.new shared.new }
@@ -158,7 +183,9 @@ impl<T: Tables> Store<T> {
     ) -> Result<(), AllocError>
         requires fit { IsFit T.seen self.old shared.old }
         requires there { has_relationship (graph_of_store T.seen self.old shared.old) id.0 ≡ true }
-        ensures ok { OnOk result (graph_of_store T.seen self.new shared.new ≡ change_relationship (λ e. record e { properties = set_keys (pairs_of pairs.entry.items) e.properties }) id.0 (graph_of_store T.seen self.old shared.old)) }
+        ensures ok { OnOk result (graph_of_store T.seen self.new shared.new ≡ change_relationship
+            (λ e. record e { properties = set_keys (pairs_of pairs.entry.items) e.properties }) id.0
+            (graph_of_store T.seen self.old shared.old)) }
         ensures marks { KeepsMarks T.seen self.old shared.old self.new shared.new }
         ensures fit { IsFit T.seen self.new shared.new }
         ensures keeps { KeepsShared T.seen self.old shared.old self.new shared.new }
@@ -180,7 +207,9 @@ impl<T: Tables> Store<T> {
         requires fit { IsFit T.seen self.old shared.old }
         requires there { has_node (graph_of_store T.seen self.old shared.old) id.0 ≡ true }
         requires named { label < length shared.old.names }
-        ensures ok { OnOk result (graph_of_store T.seen self.new shared.new ≡ change_node (λ e. record e { labels = put_texts (text_of shared.old.names label ∷ []) e.labels }) id.0 (graph_of_store T.seen self.old shared.old)) }
+        ensures ok { OnOk result (graph_of_store T.seen self.new shared.new ≡ change_node
+            (λ e. record e { labels = put_texts (text_of shared.old.names label ∷ []) e.labels })
+            id.0 (graph_of_store T.seen self.old shared.old)) }
         ensures marks { KeepsMarks T.seen self.old shared.old self.new shared.new }
         ensures fit { IsFit T.seen self.new shared.new }
         ensures keeps { KeepsShared T.seen self.old shared.old self.new shared.new }
@@ -200,7 +229,9 @@ impl<T: Tables> Store<T> {
     ) -> Result<(), AllocError>
         requires fit { IsFit T.seen self.old shared.old }
         requires there { has_node (graph_of_store T.seen self.old shared.old) id.0 ≡ true }
-        ensures ok { OnOk result (graph_of_store T.seen self.new shared.new ≡ change_node (λ e. record e { labels = put_texts (texts_of labels.now.items) e.labels }) id.0 (graph_of_store T.seen self.old shared.old)) }
+        ensures ok { OnOk result (graph_of_store T.seen self.new shared.new ≡ change_node
+            (λ e. record e { labels = put_texts (texts_of labels.now.items) e.labels }) id.0
+            (graph_of_store T.seen self.old shared.old)) }
         ensures marks { KeepsMarks T.seen self.old shared.old self.new shared.new }
         ensures fit { IsFit T.seen self.new shared.new }
         ensures keeps { KeepsShared T.seen self.old shared.old self.new shared.new }
@@ -222,7 +253,10 @@ impl<T: Tables> Store<T> {
     ) -> Result<(), AllocError>
         requires fit { IsFit T.seen self.old shared.old }
         requires there { has_node (graph_of_store T.seen self.old shared.old) id.0 ≡ true }
-        ensures changes { Changes T.seen self.old shared.old self.new shared.new result (λ start end. OnOk result (end ≡ change_node (λ e. record e { properties = set_keys (pairs_of properties.entry.items) e.properties }) id.0 start)) }
+        ensures changes { Changes T.seen self.old shared.old self.new shared.new result
+            (λ start end. OnOk result (end ≡ change_node
+            (λ e. record e { properties = set_keys (pairs_of properties.entry.items) e.properties })
+            id.0 start)) }
         ensures marks { KeepsMarks T.seen self.old shared.old self.new shared.new }
     {
         let mark = Mark {
@@ -248,7 +282,10 @@ impl<T: Tables> Store<T> {
     ) -> Result<(), AllocError>
         requires fit { IsFit T.seen self.old shared.old }
         requires there { has_node (graph_of_store T.seen self.old shared.old) id.0 ≡ true }
-        ensures changes { Changes T.seen self.old shared.old self.new shared.new result (λ start end. OnOk result (end ≡ change_node (λ e. record e { properties = set_keys (pairs_of properties.entry.items) no_entries }) id.0 start)) }
+        ensures changes { Changes T.seen self.old shared.old self.new shared.new result
+            (λ start end. OnOk result (end ≡ change_node
+            (λ e. record e { properties = set_keys (pairs_of properties.entry.items) no_entries })
+            id.0 start)) }
         ensures marks { KeepsMarks T.seen self.old shared.old self.new shared.new }
     {
         let properties = properties_of(alloc, &mut shared.names, properties)?;
@@ -266,7 +303,9 @@ impl<T: Tables> Store<T> {
     ) -> Result<(), AllocError>
         requires fit { IsFit T.seen self.old shared.old }
         requires there { has_node (graph_of_store T.seen self.old shared.old) id.0 ≡ true }
-        ensures changes { Changes T.seen self.old shared.old self.new shared.new result (λ start end. OnOk result (end ≡ change_node (λ e. record e { labels = put_texts (texts_of labels.now.items) e.labels }) id.0 start)) }
+        ensures changes { Changes T.seen self.old shared.old self.new shared.new result
+            (λ start end. OnOk result (end ≡ change_node (λ e.
+            record e { labels = put_texts (texts_of labels.now.items) e.labels }) id.0 start)) }
         ensures marks { KeepsMarks T.seen self.old shared.old self.new shared.new }
     {
         let mark = Mark {
@@ -292,7 +331,10 @@ impl<T: Tables> Store<T> {
     ) -> Result<(), AllocError>
         requires fit { IsFit T.seen self.old shared.old }
         requires there { has_node (graph_of_store T.seen self.old shared.old) id.0 ≡ true }
-        ensures changes { Changes T.seen self.old shared.old self.new shared.new result (λ start end. OnOk result (end ≡ change_node (λ e. record e { labels = filter (λ l. not (is_among (texts_of labels.now.items) l)) e.labels }) id.0 start)) }
+        ensures changes { Changes T.seen self.old shared.old self.new shared.new result
+            (λ start end. OnOk result (end ≡ change_node (λ e. record e {
+              labels = filter (λ l. not (is_among (texts_of labels.now.items) l)) e.labels;
+            }) id.0 start)) }
         ensures marks { KeepsMarks T.seen self.old shared.old self.new shared.new }
     {
         let before = self.node(shared, id).unwrap().labels.copy(alloc)?;
@@ -310,7 +352,10 @@ impl<T: Tables> Store<T> {
     ) -> Result<(), AllocError>
         requires fit { IsFit T.seen self.old shared.old }
         requires there { has_relationship (graph_of_store T.seen self.old shared.old) id.0 ≡ true }
-        ensures changes { Changes T.seen self.old shared.old self.new shared.new result (λ start end. OnOk result (end ≡ change_relationship (λ e. record e { properties = set_keys (pairs_of properties.entry.items) e.properties }) id.0 start)) }
+        ensures changes { Changes T.seen self.old shared.old self.new shared.new result
+            (λ start end. OnOk result (end ≡ change_relationship
+            (λ e. record e { properties = set_keys (pairs_of properties.entry.items) e.properties })
+            id.0 start)) }
         ensures marks { KeepsMarks T.seen self.old shared.old self.new shared.new }
     {
         let mark = Mark {
@@ -336,7 +381,10 @@ impl<T: Tables> Store<T> {
     ) -> Result<(), AllocError>
         requires fit { IsFit T.seen self.old shared.old }
         requires there { has_relationship (graph_of_store T.seen self.old shared.old) id.0 ≡ true }
-        ensures changes { Changes T.seen self.old shared.old self.new shared.new result (λ start end. OnOk result (end ≡ change_relationship (λ e. record e { properties = set_keys (pairs_of properties.entry.items) no_entries }) id.0 start)) }
+        ensures changes { Changes T.seen self.old shared.old self.new shared.new result
+            (λ start end. OnOk result (end ≡ change_relationship
+            (λ e. record e { properties = set_keys (pairs_of properties.entry.items) no_entries })
+            id.0 start)) }
         ensures marks { KeepsMarks T.seen self.old shared.old self.new shared.new }
     {
         let properties = properties_of(alloc, &mut shared.names, properties)?;
@@ -346,7 +394,8 @@ impl<T: Tables> Store<T> {
 
 // Whether a value is null, and a key reads as absent already.
 fn takes_nothing(properties: &Properties, key: NameId, value: &Value) -> bool
-    ensures { result ≡ true → (view value.now ≡ null) × (shown (map.get properties.now key) ≡ None) }
+    ensures { result ≡ true
+        → (view value.now ≡ null) × (shown (map.get properties.now key) ≡ None) }
 {
     if !matches!(value, Value::Null) {
         return false;

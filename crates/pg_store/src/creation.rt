@@ -31,8 +31,11 @@ impl<T: Tables> Store<T> {
         requires fit { IsFit T.seen self.old shared.old }
         requires room { self.old.next.node < 2 ^ 63 }
         requires count { self.old.elements < 2 ^ 63 }
-        ensures id { IfOk result (λ id. id.0 ≡ (graph_of_store T.seen self.old shared.old).next_node) }
-        ensures changes { Changes T.seen self.old shared.old self.new shared.new result (λ start end. OnOk result (end ≡ add_node (texts_of labels.now.items) (set_keys (pairs_of properties.entry.items) no_entries) start)) }
+        ensures id { IfOk result
+            (λ id. id.0 ≡ (graph_of_store T.seen self.old shared.old).next_node) }
+        ensures changes { Changes T.seen self.old shared.old self.new shared.new result
+            (λ start end. OnOk result (end ≡ add_node (texts_of labels.now.items)
+            (set_keys (pairs_of properties.entry.items) no_entries) start)) }
         ensures marks { KeepsMarks T.seen self.old shared.old self.new shared.new }
     {
         let labels = more_labels(&mut shared.names, Labels::new(alloc), labels)?;
@@ -51,9 +54,15 @@ impl<T: Tables> Store<T> {
         requires count { self.old.elements < 2 ^ 63 }
         requires labels { AreNamed shared.old.names node.labels }
         requires keys { AreNamed shared.old.names (map.keys node.properties) }
-        ensures id { IfOk result (λ id. id.0 ≡ (graph_of_store T.seen self.old shared.old).next_node) }
-        ensures ok { OnOk result ((labels : List (List ℕ)) → in_byte_order labels ≡ label_texts shared.old.names node.labels → graph_of_store T.seen self.new shared.new ≡ add_node labels (property_entries shared.old.names node.properties) (graph_of_store T.seen self.old shared.old)) }
-        ensures err { OnErr result (graph_of_store T.seen self.new shared.new ≡ graph_of_store T.seen self.old shared.old) }
+        ensures id { IfOk result
+            (λ id. id.0 ≡ (graph_of_store T.seen self.old shared.old).next_node) }
+        ensures ok { OnOk result ((labels : List (List ℕ))
+            → in_byte_order labels ≡ label_texts shared.old.names node.labels
+            → graph_of_store T.seen self.new shared.new
+            ≡ add_node labels (property_entries shared.old.names node.properties)
+            (graph_of_store T.seen self.old shared.old)) }
+        ensures err { OnErr result (graph_of_store T.seen self.new shared.new
+            ≡ graph_of_store T.seen self.old shared.old) }
         ensures marks { KeepsMarks T.seen self.old shared.old self.new shared.new }
         ensures fit { IsFit T.seen self.new shared.new }
         ensures keeps { KeepsShared T.seen self.old shared.old self.new shared.new }
@@ -84,8 +93,11 @@ impl<T: Tables> Store<T> {
         requires count { self.old.elements < 2 ^ 63 }
         requires source { has_node (graph_of_store T.seen self.old shared.old) source.0 ≡ true }
         requires target { has_node (graph_of_store T.seen self.old shared.old) target.0 ≡ true }
-        ensures id { IfOk result (λ id. id.0 ≡ (graph_of_store T.seen self.old shared.old).next_relationship) }
-        ensures changes { Changes T.seen self.old shared.old self.new shared.new result (λ start end. OnOk result (end ≡ add_relationship kind.now source.0 target.0 (set_keys (pairs_of properties.entry.items) no_entries) start)) }
+        ensures id { IfOk result
+            (λ id. id.0 ≡ (graph_of_store T.seen self.old shared.old).next_relationship) }
+        ensures changes { Changes T.seen self.old shared.old self.new shared.new result
+            (λ start end. OnOk result (end ≡ add_relationship kind.now source.0 target.0
+            (set_keys (pairs_of properties.entry.items) no_entries) start)) }
         ensures marks { KeepsMarks T.seen self.old shared.old self.new shared.new }
     {
         let kind = shared.names.intern(kind)?;
@@ -110,11 +122,18 @@ impl<T: Tables> Store<T> {
         requires count { self.old.elements < 2 ^ 63 }
         requires kind { rel.kind < length shared.old.names }
         requires keys { AreNamed shared.old.names (map.keys rel.properties) }
-        requires source { IsSome (map.get (live (state_of T.seen self.old shared.old)).nodes rel.source.0) }
-        requires target { IsSome (map.get (live (state_of T.seen self.old shared.old)).nodes rel.target.0) }
-        ensures id { IfOk result (λ id. id.0 ≡ (graph_of_store T.seen self.old shared.old).next_relationship) }
-        ensures ok { OnOk result (graph_of_store T.seen self.new shared.new ≡ add_relationship (text_of shared.old.names rel.kind) rel.source.0 rel.target.0 (property_entries shared.old.names rel.properties) (graph_of_store T.seen self.old shared.old)) }
-        ensures err { OnErr result (graph_of_store T.seen self.new shared.new ≡ graph_of_store T.seen self.old shared.old) }
+        requires source { IsSome
+            (map.get (live (state_of T.seen self.old shared.old)).nodes rel.source.0) }
+        requires target { IsSome
+            (map.get (live (state_of T.seen self.old shared.old)).nodes rel.target.0) }
+        ensures id { IfOk result
+            (λ id. id.0 ≡ (graph_of_store T.seen self.old shared.old).next_relationship) }
+        ensures ok { OnOk result (graph_of_store T.seen self.new shared.new
+            ≡ add_relationship (text_of shared.old.names rel.kind) rel.source.0 rel.target.0
+            (property_entries shared.old.names rel.properties)
+            (graph_of_store T.seen self.old shared.old)) }
+        ensures err { OnErr result (graph_of_store T.seen self.new shared.new
+            ≡ graph_of_store T.seen self.old shared.old) }
         ensures marks { KeepsMarks T.seen self.old shared.old self.new shared.new }
         ensures fit { IsFit T.seen self.new shared.new }
         ensures keeps { KeepsShared T.seen self.old shared.old self.new shared.new }

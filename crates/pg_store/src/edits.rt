@@ -1,6 +1,10 @@
 //! One change of a record in its place, and what takes it back.
-ghost use Rattle.std.specs.Prelude.{◌≡◌, OnOk, OnErr, IfOk};
+ghost use Rattle.std.specs.Prelude.{◌≡◌, Some, OnOk, OnErr, IfOk, IfSome, IfNone};
+ghost use Rattle.std.specs.FinMap as map;
+ghost use Rattle.pg_graph.specs.Records as records;
+ghost use Rattle.pg_meaning.specs.Value as meaning;
 ghost use Rattle.pg_store.specs.Edits.{CanGiveBack, CanGoBack, changed_properties, node_before, properties_before};
+ghost use Rattle.pg_value_core.specs.View.{view};
 
 use pg_graph::{Labels, NodeRecord, Properties};
 use pg_names::NameId;
@@ -40,7 +44,12 @@ pub enum NodeBefore {
 
 impl PropertiesBefore {
     // What stood under a key, where it may no longer stand.
-    pub(crate) fn value(&self, key: NameId) -> Option<&Value> {
+    pub(crate) fn value(&self, key: NameId) -> Option<&Value>
+        ensures some { IfSome result (λ v. (ps : records.Properties)
+            → map.get (properties_before self.now ps) key ≡ Some (view v.now)) }
+        ensures none { IfNone result ((ps : records.Properties) (w : meaning.Value)
+            → map.get (properties_before self.now ps) key ≡ Some w → map.get ps key ≡ Some w) }
+    {
         match self {
             PropertiesBefore::Key(changed, value) if changed.as_u64() == key.as_u64() =>
                 value.as_ref(),
@@ -56,7 +65,8 @@ pub(crate) fn exchange(
     change: PropertyChange,
 ) -> Result<PropertiesBefore, AllocError>
     ensures ok { OnOk result (properties.new ≡ changed_properties change properties.old) }
-    ensures back { IfOk result (λ before. properties_before before properties.new ≡ properties.old) }
+    ensures back { IfOk result
+        (λ before. properties_before before properties.new ≡ properties.old) }
     ensures can { IfOk result (λ before. CanGiveBack before properties.new) }
     ensures err { OnErr result (properties.new ≡ properties.old) }
 {

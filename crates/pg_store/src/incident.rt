@@ -5,7 +5,7 @@ ghost use Rattle.pg_graph.specs.Removed.{live_ids};
 ghost use Rattle.pg_meaning.specs.Graph.{both, incident, incoming, outgoing};
 
 use crate::snapshot::Snapshot;
-use pg_graph::{ById, Tables};
+use pg_graph::{IdSet, Tables};
 use pg_value_core::{NodeId, RelId};
 use std::cmp::Ordering;
 use std::marker::Model;
@@ -66,7 +66,7 @@ impl<'a> Merged<'a> {
 #[derive(Drop)]
 pub struct Incident<'a> {
     ids: Merged<'a>,
-    gone: &'a ById<()>,
+    gone: &'a IdSet,
 }
 
 impl<'a> Model for Incident<'a> {
@@ -84,8 +84,9 @@ impl<'a> Incident<'a> {
         ensures some { IfSome result (λ id. self.old ≡ id.0 ∷ self.new) }
         ensures none { IfNone result (self.old ≡ []) }
     {
+        // what was removed stays in the lists until the work is kept
         while let Some(id) = self.ids.next() {
-            if self.gone.get(id.0).is_none() {
+            if !self.gone.contains(id.0) {
                 return Some(id);
             }
         }

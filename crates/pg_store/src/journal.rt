@@ -4,7 +4,8 @@ ghost use Rattle.std.specs.FinMap as map;
 ghost use Rattle.pg_graph.specs.Content.{Keeps};
 ghost use Rattle.pg_store.specs.Journal.{CanUndoOne, undo_one};
 ghost use Rattle.pg_store.specs.declared.journal.Entry.TheVariants.{NodeChanged, RelChanged};
-ghost use Rattle.pg_store.specs.Stores.{graph_of_store, graph_at, state_of, IsFit, HasMark, IsBack, Settles};
+ghost use Rattle.pg_store.specs.Noted.{AreExact};
+ghost use Rattle.pg_store.specs.Stores.{graph_of_store, graph_at, index_pairs, state_of, IsFit, HasMark, IsBack, Settles};
 
 use crate::edits::{NodeBefore, PropertiesBefore, give_back, give_node_back};
 use crate::node_changes::blank_node;
@@ -38,7 +39,8 @@ impl<T: Tables> Store<T> {
     pub fn mark(&self, shared: &Shared<T::Shared>) -> Mark
         requires fit { IsFit T.seen self.now shared.now }
         ensures there { HasMark T.seen self.now shared.now result }
-        ensures graph { graph_at T.seen self.now shared.now result ≡ graph_of_store T.seen self.now shared.now }
+        ensures graph { graph_at T.seen self.now shared.now result
+            ≡ graph_of_store T.seen self.now shared.now }
         ensures names { result.names ≡ length shared.now.names }
         ensures journal { result.journal ≡ length self.now.journal.items }
     {
@@ -52,16 +54,27 @@ impl<T: Tables> Store<T> {
     pub fn undo(&mut self, shared: &mut Shared<T::Shared>, mark: Mark)
         requires fit { IsFit T.seen self.old shared.old }
         requires mark { HasMark T.seen self.old shared.old mark }
-        ensures graph { graph_of_store T.seen self.new shared.new ≡ graph_at T.seen self.old shared.old mark }
+        ensures graph { graph_of_store T.seen self.new shared.new
+            ≡ graph_at T.seen self.old shared.old mark }
         ensures names { shared.new.names ≡ take mark.names shared.old.names }
-        ensures marks { (earlier : Mark) → earlier.journal ≤ mark.journal → earlier.names ≤ mark.names → graph_at T.seen self.new shared.new earlier ≡ graph_at T.seen self.old shared.old earlier }
-        ensures there { (earlier : Mark) → earlier.journal ≤ mark.journal → earlier.names ≤ mark.names → HasMark T.seen self.old shared.old earlier → HasMark T.seen self.new shared.new earlier }
+        ensures marks { (earlier : Mark)
+            → earlier.journal ≤ mark.journal → earlier.names ≤ mark.names
+            → graph_at T.seen self.new shared.new earlier
+            ≡ graph_at T.seen self.old shared.old earlier }
+        ensures there { (earlier : Mark) → earlier.journal ≤ mark.journal
+            → earlier.names ≤ mark.names → HasMark T.seen self.old shared.old earlier
+            → HasMark T.seen self.new shared.new earlier }
         ensures fit { IsFit T.seen self.new shared.new }
-        ensures keeps { Keeps T.seen self.old.tables shared.old.tables self.new.tables shared.new.tables }
+        ensures pairs { index_pairs self.new ≡ index_pairs self.old }
+        ensures keeps { Keeps
+            T.seen self.old.tables shared.old.tables self.new.tables shared.new.tables }
     {
         self.go_back(shared, mark);
         shared.names.truncate(mark.names);
         if self.journal.len() > 0 {
+            return;
+        }
+        if !self.gone_nodes.is_empty() {
             return;
         }
         self.sweep(shared);
@@ -71,13 +84,19 @@ impl<T: Tables> Store<T> {
     pub fn back(&mut self, shared: &mut Shared<T::Shared>, mark: Mark)
         requires fit { IsFit T.seen self.old shared.old }
         requires mark { HasMark T.seen self.old shared.old mark }
-        ensures graph { graph_of_store T.seen self.new shared.new ≡ graph_at T.seen self.old shared.old mark }
+        ensures graph { graph_of_store T.seen self.new shared.new
+            ≡ graph_at T.seen self.old shared.old mark }
         ensures names { shared.new.names ≡ shared.old.names }
         ensures fit { IsFit T.seen self.new shared.new }
-        ensures keeps { Keeps T.seen self.old.tables shared.old.tables self.new.tables shared.new.tables }
+        ensures pairs { index_pairs self.new ≡ index_pairs self.old }
+        ensures keeps { Keeps
+            T.seen self.old.tables shared.old.tables self.new.tables shared.new.tables }
     {
         self.go_back(shared, mark);
         if !self.journal.is_empty() {
+            return;
+        }
+        if !self.gone_nodes.is_empty() {
             return;
         }
         self.sweep(shared);
@@ -88,10 +107,13 @@ impl<T: Tables> Store<T> {
         requires fit { IsFit T.seen self.old shared.old }
         requires mark { mark.journal ≤ length self.old.journal.items }
         ensures back { IsBack T.seen mark self.old shared.old self.new shared.new }
+        ensures sets { self.new.sets ≡ self.old.sets }
         ensures names { shared.new.names ≡ shared.old.names }
         ensures fit { IsFit T.seen self.new shared.new }
-        ensures keeps { Keeps T.seen self.old.tables shared.old.tables self.new.tables shared.new.tables }
+        ensures keeps { Keeps
+            T.seen self.old.tables shared.old.tables self.new.tables shared.new.tables }
     {
+        // the newest entry is always that of the last change that still stands
         while self.journal.len() > mark.journal {
             let entry = self.journal.pop().unwrap();
             self.take_back(shared, entry);
@@ -102,11 +124,13 @@ impl<T: Tables> Store<T> {
     fn take_back(&mut self, shared: &mut Shared<T::Shared>, entry: Entry)
         requires fits { T.seen.fits self.old.tables shared.old.tables }
         requires can { CanUndoOne entry (state_of T.seen self.old shared.old) }
-        ensures state { state_of T.seen self.new shared.new ≡ undo_one entry (state_of T.seen self.old shared.old) }
+        ensures state { state_of T.seen self.new shared.new
+            ≡ undo_one entry (state_of T.seen self.old shared.old) }
         ensures names { shared.new.names ≡ shared.old.names }
         ensures journal { self.new.journal ≡ self.old.journal }
         ensures sets { self.new.sets ≡ self.old.sets }
-        ensures keeps { Keeps T.seen self.old.tables shared.old.tables self.new.tables shared.new.tables }
+        ensures keeps { Keeps
+            T.seen self.old.tables shared.old.tables self.new.tables shared.new.tables }
     {
         match entry {
             Entry::NodeAdded => {
@@ -128,11 +152,11 @@ impl<T: Tables> Store<T> {
                 self.give_rel_back(shared, id, before);
             }
             Entry::NodeRemoved(id) => {
-                self.gone_nodes.remove(id.0);
+                self.gone_nodes.forget(id.0);
                 self.elements += 1;
             }
             Entry::RelRemoved(id) => {
-                self.gone_rels.remove(id.0);
+                self.gone_rels.forget(id.0);
                 self.elements += 1;
             }
         }
@@ -142,11 +166,13 @@ impl<T: Tables> Store<T> {
     fn give_node_back(&mut self, shared: &mut Shared<T::Shared>, id: NodeId, before: NodeBefore)
         requires fits { T.seen.fits self.old.tables shared.old.tables }
         requires can { CanUndoOne (NodeChanged id before) (state_of T.seen self.old shared.old) }
-        ensures state { state_of T.seen self.new shared.new ≡ undo_one (NodeChanged id before) (state_of T.seen self.old shared.old) }
+        ensures state { state_of T.seen self.new shared.new
+            ≡ undo_one (NodeChanged id before) (state_of T.seen self.old shared.old) }
         ensures names { shared.new.names ≡ shared.old.names }
         ensures journal { self.new.journal ≡ self.old.journal }
         ensures sets { self.new.sets ≡ self.old.sets }
-        ensures keeps { Keeps T.seen self.old.tables shared.old.tables self.new.tables shared.new.tables }
+        ensures keeps { Keeps
+            T.seen self.old.tables shared.old.tables self.new.tables shared.new.tables }
     {
         let blank = blank_node(self.sets.alloc);
         let mut node = self.tables.change(&mut shared.tables, id, blank);
@@ -158,11 +184,13 @@ impl<T: Tables> Store<T> {
     fn give_rel_back(&mut self, shared: &mut Shared<T::Shared>, id: RelId, before: PropertiesBefore)
         requires fits { T.seen.fits self.old.tables shared.old.tables }
         requires can { CanUndoOne (RelChanged id before) (state_of T.seen self.old shared.old) }
-        ensures state { state_of T.seen self.new shared.new ≡ undo_one (RelChanged id before) (state_of T.seen self.old shared.old) }
+        ensures state { state_of T.seen self.new shared.new
+            ≡ undo_one (RelChanged id before) (state_of T.seen self.old shared.old) }
         ensures names { shared.new.names ≡ shared.old.names }
         ensures journal { self.new.journal ≡ self.old.journal }
         ensures sets { self.new.sets ≡ self.old.sets }
-        ensures keeps { Keeps T.seen self.old.tables shared.old.tables self.new.tables shared.new.tables }
+        ensures keeps { Keeps
+            T.seen self.old.tables shared.old.tables self.new.tables shared.new.tables }
     {
         let blank = Properties::new(self.sets.alloc);
         let mut properties = self.tables.change_rel(&mut shared.tables, id, blank);
@@ -173,11 +201,16 @@ impl<T: Tables> Store<T> {
     /// Forgets all marks, and keeps what was done. It takes no memory.
     pub fn commit(&mut self, shared: &mut Shared<T::Shared>)
         requires fit { IsFit T.seen self.old shared.old }
-        ensures graph { graph_of_store T.seen self.new shared.new ≡ graph_of_store T.seen self.old shared.old }
+        ensures graph { graph_of_store T.seen self.new shared.new
+            ≡ graph_of_store T.seen self.old shared.old }
         ensures names { shared.new.names ≡ shared.old.names }
         ensures fit { IsFit T.seen self.new shared.new }
         ensures no_mark { self.new.journal.items ≡ [] }
-        ensures keeps { Keeps T.seen self.old.tables shared.old.tables self.new.tables shared.new.tables }
+        ensures none_gone { self.new.gone_nodes ≡ map.empty }
+        ensures exact { AreExact self.new.sets (state_of T.seen self.new shared.new) }
+        ensures pairs { index_pairs self.new ≡ index_pairs self.old }
+        ensures keeps { Keeps
+            T.seen self.old.tables shared.old.tables self.new.tables shared.new.tables }
     {
         let alloc = self.sets.alloc;
         let mut entries = mem::replace(&mut self.journal, Vec::new(alloc));
@@ -192,9 +225,12 @@ impl<T: Tables> Store<T> {
     fn sweep(&mut self, shared: &Shared<T::Shared>)
         requires fit { IsFit T.seen self.old shared.now }
         requires journal { self.old.journal.items ≡ [] }
+        requires none_gone { self.old.gone_nodes ≡ map.empty }
         ensures swept { Settles T.seen self.old shared.now self.new shared.now }
         ensures state { state_of T.seen self.new shared.now ≡ state_of T.seen self.old shared.now }
+        ensures exact { AreExact self.new.sets (state_of T.seen self.new shared.now) }
     {
+        // an id may have come to belong again, so each is tested by the record that stands now
         while let Some((place, id)) = self.sets.dust.pop() {
             if !is_sought(
                 self.tables.node(&shared.tables, NodeId(id)),
@@ -209,14 +245,17 @@ impl<T: Tables> Store<T> {
     fn settle_rels(&mut self, shared: &mut Shared<T::Shared>)
         requires fit { IsFit T.seen self.old shared.old }
         requires journal { self.old.journal.items ≡ [] }
-        ensures graph { graph_of_store T.seen self.new shared.new ≡ graph_of_store T.seen self.old shared.old }
+        ensures graph { graph_of_store T.seen self.new shared.new
+            ≡ graph_of_store T.seen self.old shared.old }
         ensures names { shared.new.names ≡ shared.old.names }
         ensures fit { IsFit T.seen self.new shared.new }
         ensures journal { self.new.journal.items ≡ [] }
         ensures none { self.new.gone_rels ≡ map.empty }
-        ensures keeps { Keeps T.seen self.old.tables shared.old.tables self.new.tables shared.new.tables }
+        ensures pairs { index_pairs self.new ≡ index_pairs self.old }
+        ensures keeps { Keeps
+            T.seen self.old.tables shared.old.tables self.new.tables shared.new.tables }
     {
-        while let Some((id, _)) = self.gone_rels.pop_first() {
+        while let Some(id) = self.gone_rels.pop() {
             self.tables.drop_rel(&mut shared.tables, RelId(id));
         }
     }
@@ -226,13 +265,17 @@ impl<T: Tables> Store<T> {
         requires fit { IsFit T.seen self.old shared.old }
         requires journal { self.old.journal.items ≡ [] }
         requires none { self.old.gone_rels ≡ map.empty }
-        ensures graph { graph_of_store T.seen self.new shared.new ≡ graph_of_store T.seen self.old shared.old }
+        ensures graph { graph_of_store T.seen self.new shared.new
+            ≡ graph_of_store T.seen self.old shared.old }
         ensures names { shared.new.names ≡ shared.old.names }
         ensures fit { IsFit T.seen self.new shared.new }
         ensures journal { self.new.journal.items ≡ [] }
-        ensures keeps { Keeps T.seen self.old.tables shared.old.tables self.new.tables shared.new.tables }
+        ensures none { self.new.gone_nodes ≡ map.empty }
+        ensures pairs { index_pairs self.new ≡ index_pairs self.old }
+        ensures keeps { Keeps
+            T.seen self.old.tables shared.old.tables self.new.tables shared.new.tables }
     {
-        while let Some((id, _)) = self.gone_nodes.pop_first() {
+        while let Some(id) = self.gone_nodes.pop() {
             self.tables.drop_node(&mut shared.tables, NodeId(id));
         }
     }

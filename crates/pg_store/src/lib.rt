@@ -10,6 +10,7 @@ mod journal;
 mod names;
 mod node_changes;
 mod nodes;
+mod notes;
 mod reads;
 mod removal;
 mod sets;

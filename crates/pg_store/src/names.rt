@@ -21,7 +21,8 @@ pub(crate) fn more_labels<K: TextSet>(
 ) -> Result<Labels, AllocError>
     requires distinct { AreDistinct names.old }
     requires named { AreNamed names.old before }
-    ensures labels { IfOk result (λ labels. label_texts names.new labels ≡ put_texts (texts_of texts.now.items) (label_texts names.old before)) }
+    ensures labels { IfOk result (λ labels. label_texts names.new labels
+        ≡ put_texts (texts_of texts.now.items) (label_texts names.old before)) }
     ensures named { IfOk result (λ labels. AreNamed names.new labels) }
     ensures keeps { KeepsNames names.old names.new }
     ensures distinct { AreDistinct names.new }
@@ -36,7 +37,8 @@ pub(crate) fn more_labels<K: TextSet>(
 // The labels without those of these texts.
 pub(crate) fn less_labels<K: TextSet>(names: &Names<K>, before: Labels, texts: &Vec<&str>) -> Labels
     requires { AreNamed names.now before }
-    ensures labels { label_texts names.now result ≡ without_texts (texts_of texts.now.items) (label_texts names.now before) }
+    ensures labels { label_texts names.now result
+        ≡ without_texts (texts_of texts.now.items) (label_texts names.now before) }
     ensures named { AreNamed names.now result }
 {
     let mut labels = before;
@@ -53,7 +55,8 @@ pub(crate) fn properties_of<K: TextSet>(
     pairs: Vec<(&str, Value)>,
 ) -> Result<Properties, AllocError>
     requires { AreDistinct names.old }
-    ensures properties { IfOk result (λ properties. property_entries names.new properties ≡ set_keys (pairs_of pairs.entry.items) no_entries) }
+    ensures properties { IfOk result (λ properties. property_entries names.new properties
+        ≡ set_keys (pairs_of pairs.entry.items) no_entries) }
     ensures named { IfOk result (λ properties. AreNamed names.new (map.keys properties)) }
     ensures keeps { KeepsNames names.old names.new }
     ensures distinct { AreDistinct names.new }
@@ -70,7 +73,8 @@ pub(crate) fn more_properties<K: TextSet>(
 ) -> Result<Properties, AllocError>
     requires distinct { AreDistinct names.old }
     requires named { AreNamed names.old (map.keys before) }
-    ensures properties { IfOk result (λ properties. property_entries names.new properties ≡ set_keys (pairs_of pairs.entry.items) (property_entries names.old before)) }
+    ensures properties { IfOk result (λ properties. property_entries names.new properties
+        ≡ set_keys (pairs_of pairs.entry.items) (property_entries names.old before)) }
     ensures named { IfOk result (λ properties. AreNamed names.new (map.keys properties)) }
     ensures keeps { KeepsNames names.old names.new }
     ensures distinct { AreDistinct names.new }

@@ -1,17 +1,17 @@
 //! A node changed in its place, and its id put where it then belongs.
-ghost use Rattle.std.specs.Prelude.{◌≡◌, ◌==◌, ℕ, true, false, OnOk, OnErr, IfOk};
+ghost use Rattle.std.specs.Prelude.{◌≡◌, ◌==◌, ◌||◌, ℕ, true, false, OnOk, OnErr, IfOk};
 ghost use Rattle.std.specs.List.{list_any};
 ghost use Rattle.pg_graph.specs.Records.{with_label};
 ghost use Rattle.pg_index.specs.Properties.{all_find, is_found_by};
 ghost use Rattle.pg_store.specs.Covers.{Key, belongs, has_in, with_label as label_key};
-ghost use Rattle.pg_store.specs.Edits.{CanGoBack, IsChangeOf, changed_node, changed_properties, node_before};
+ghost use Rattle.pg_store.specs.Edits.{CanGiveBack, CanGoBack, IsChangeOf, changed_node, changed_properties, node_before, properties_before};
+ghost use Rattle.pg_store.specs.Noted.{Gains, is_in, is_noted};
 ghost use Rattle.pg_value_core.specs.declared.value.Value as code;
 
 use crate::edits::{NodeBefore, NodeChange, PropertiesBefore, PropertyChange, exchange, give_back};
-use crate::sets::{Sets, note_value};
-use crate::wanted::{Place, Wanted, is_sought};
+use crate::notes::{note_label_values_left, note_labels_left, note_values_left};
+use crate::sets::Sets;
 use pg_graph::{Labels, NodeRecord, Properties};
-use pg_index::PropertyIndex;
 use pg_names::NameId;
 use std::alloc::{AllocError, Global};
 use std::mem;
@@ -34,11 +34,17 @@ impl Sets {
     ) -> Result<NodeBefore, AllocError>
         requires change { IsChangeOf change node.old }
         requires covered { (k : Key) → belongs k node.old ≡ true → has_in self.old k id ≡ true }
-        ensures grown { (k : Key) (i : ℕ) → has_in self.old k i ≡ true → has_in self.new k i ≡ true }
+        ensures grown { (k : Key) (i : ℕ)
+            → has_in self.old k i ≡ true → has_in self.new k i ≡ true }
+        ensures gains { Gains self.old self.new }
         ensures ok { OnOk result (node.new ≡ changed_node change node.old) }
         ensures back { IfOk result (λ before. node_before before node.new ≡ node.old) }
         ensures can { IfOk result (λ before. CanGoBack before node.new) }
-        ensures covered { OnOk result ((k : Key) → belongs k node.new ≡ true → has_in self.new k id ≡ true) }
+        ensures covered { OnOk result ((k : Key)
+            → belongs k node.new ≡ true → has_in self.new k id ≡ true) }
+        ensures left { OnOk result ((k : Key)
+            → is_in self.old k id ≡ true → belongs k node.old ≡ true
+            → (belongs k node.new || is_noted self.new.dust.items k id) ≡ true) }
         ensures err { OnErr result (node.new ≡ node.old) }
     {
         match change {
@@ -55,11 +61,18 @@ impl Sets {
         change: PropertyChange,
     ) -> Result<NodeBefore, AllocError>
         requires { (k : Key) → belongs k node.old ≡ true → has_in self.old k id ≡ true }
-        ensures grown { (k : Key) (i : ℕ) → has_in self.old k i ≡ true → has_in self.new k i ≡ true }
-        ensures ok { OnOk result (node.new ≡ record node.old { properties = changed_properties change node.old.properties }) }
+        ensures grown { (k : Key) (i : ℕ)
+            → has_in self.old k i ≡ true → has_in self.new k i ≡ true }
+        ensures gains { Gains self.old self.new }
+        ensures ok { OnOk result (node.new
+            ≡ record node.old { properties = changed_properties change node.old.properties }) }
         ensures back { IfOk result (λ before. node_before before node.new ≡ node.old) }
         ensures can { IfOk result (λ before. CanGoBack before node.new) }
-        ensures covered { OnOk result ((k : Key) → belongs k node.new ≡ true → has_in self.new k id ≡ true) }
+        ensures covered { OnOk result ((k : Key)
+            → belongs k node.new ≡ true → has_in self.new k id ≡ true) }
+        ensures left { OnOk result ((k : Key)
+            → is_in self.old k id ≡ true → belongs k node.old ≡ true
+            → (belongs k node.new || is_noted self.new.dust.items k id) ≡ true) }
         ensures err { OnErr result (node.new ≡ node.old) }
     {
         let before = exchange(&mut node.properties, change)?;
@@ -79,10 +92,19 @@ impl Sets {
         id: u64,
         before: &PropertiesBefore,
     ) -> Result<(), AllocError>
+        requires { CanGiveBack before.now node.now.properties }
         ensures all { self.new.all ≡ self.old.all }
         ensures labels { self.new.labels ≡ self.old.labels }
-        ensures grown { (label key : ℕ) (v : code.Value) (i : ℕ) → all_find self.old.indexes.items label key v i ≡ true → all_find self.new.indexes.items label key v i ≡ true }
-        ensures ok { OnOk result ((label key : ℕ) (v : code.Value) → is_found_by label key v node.now ≡ true → all_find self.new.indexes.items label key v id ≡ true) }
+        ensures grown { (label key : ℕ) (v : code.Value) (i : ℕ)
+            → all_find self.old.indexes.items label key v i ≡ true
+            → all_find self.new.indexes.items label key v i ≡ true }
+        ensures gains { Gains self.old self.new }
+        ensures ok { OnOk result ((label key : ℕ) (v : code.Value)
+            → is_found_by label key v node.now ≡ true
+            → all_find self.new.indexes.items label key v id ≡ true) }
+        ensures left { OnOk result ((k : Key) → is_in self.old k id ≡ true → belongs k
+            (record node.now { properties = properties_before before.now node.now.properties })
+            ≡ true → (belongs k node.now || is_noted self.new.dust.items k id) ≡ true) }
     {
         let indexes = self.indexes.as_slice();
         note_values_left(self.alloc, &mut self.dust, indexes, node, id, before)?;
@@ -97,11 +119,18 @@ impl Sets {
     ) -> Result<NodeBefore, AllocError>
         requires new { list_any (λ l. l == label) node.old.labels ≡ false }
         requires covered { (k : Key) → belongs k node.old ≡ true → has_in self.old k id ≡ true }
-        ensures grown { (k : Key) (i : ℕ) → has_in self.old k i ≡ true → has_in self.new k i ≡ true }
-        ensures ok { OnOk result (node.new ≡ record node.old { labels = with_label node.old.labels label }) }
+        ensures grown { (k : Key) (i : ℕ)
+            → has_in self.old k i ≡ true → has_in self.new k i ≡ true }
+        ensures gains { Gains self.old self.new }
+        ensures ok { OnOk result
+            (node.new ≡ record node.old { labels = with_label node.old.labels label }) }
         ensures back { IfOk result (λ before. node_before before node.new ≡ node.old) }
         ensures can { IfOk result (λ before. CanGoBack before node.new) }
-        ensures covered { OnOk result ((k : Key) → belongs k node.new ≡ true → has_in self.new k id ≡ true) }
+        ensures covered { OnOk result ((k : Key)
+            → belongs k node.new ≡ true → has_in self.new k id ≡ true) }
+        ensures left { OnOk result ((k : Key)
+            → is_in self.old k id ≡ true → belongs k node.old ≡ true
+            → (belongs k node.new || is_noted self.new.dust.items k id) ≡ true) }
         ensures err { OnErr result (node.new ≡ node.old) }
     {
         node.labels.insert(label)?;
@@ -121,9 +150,13 @@ impl Sets {
         id: u64,
         label: NameId,
     ) -> Result<(), AllocError>
-        ensures grown { (k : Key) (i : ℕ) → has_in self.old k i ≡ true → has_in self.new k i ≡ true }
+        ensures grown { (k : Key) (i : ℕ)
+            → has_in self.old k i ≡ true → has_in self.new k i ≡ true }
+        ensures gains { Gains self.old self.new }
         ensures label { OnOk result (has_in self.new (label_key label) id ≡ true) }
-        ensures values { OnOk result ((label key : ℕ) (v : code.Value) → is_found_by label key v node.now ≡ true → all_find self.new.indexes.items label key v id ≡ true) }
+        ensures values { OnOk result ((label key : ℕ) (v : code.Value)
+            → is_found_by label key v node.now ≡ true
+            → all_find self.new.indexes.items label key v id ≡ true) }
     {
         self.cover_label(label, id)?;
         self.cover_values(node, id)
@@ -136,11 +169,17 @@ impl Sets {
         id: u64,
         labels: Labels,
     ) -> Result<NodeBefore, AllocError>
-        ensures grown { (k : Key) (i : ℕ) → has_in self.old k i ≡ true → has_in self.new k i ≡ true }
+        ensures grown { (k : Key) (i : ℕ)
+            → has_in self.old k i ≡ true → has_in self.new k i ≡ true }
+        ensures gains { Gains self.old self.new }
         ensures ok { OnOk result (node.new ≡ record node.old { labels = labels }) }
         ensures back { IfOk result (λ before. node_before before node.new ≡ node.old) }
         ensures can { IfOk result (λ before. CanGoBack before node.new) }
-        ensures covered { OnOk result ((k : Key) → belongs k node.new ≡ true → has_in self.new k id ≡ true) }
+        ensures covered { OnOk result ((k : Key)
+            → belongs k node.new ≡ true → has_in self.new k id ≡ true) }
+        ensures left { OnOk result ((k : Key)
+            → is_in self.old k id ≡ true → belongs k node.old ≡ true
+            → (belongs k node.new || is_noted self.new.dust.items k id) ≡ true) }
         ensures err { OnErr result (node.new ≡ node.old) }
     {
         let before = mem::replace(&mut node.labels, labels);
@@ -155,68 +194,18 @@ impl Sets {
 
     // Notes the labels that a node has no longer, and puts its id where it belongs.
     fn move_labels(&mut self, node: &NodeRecord, id: u64, before: &Labels) -> Result<(), AllocError>
-        ensures grown { (k : Key) (i : ℕ) → has_in self.old k i ≡ true → has_in self.new k i ≡ true }
-        ensures covered { OnOk result ((k : Key) → belongs k node.now ≡ true → has_in self.new k id ≡ true) }
+        ensures grown { (k : Key) (i : ℕ)
+            → has_in self.old k i ≡ true → has_in self.new k i ≡ true }
+        ensures gains { Gains self.old self.new }
+        ensures covered { OnOk result ((k : Key)
+            → belongs k node.now ≡ true → has_in self.new k id ≡ true) }
+        ensures left { OnOk result ((k : Key) → is_in self.old k id ≡ true
+            → belongs k (record node.now { labels = before.now }) ≡ true
+            → (belongs k node.now || is_noted self.new.dust.items k id) ≡ true) }
     {
         note_labels_left(&mut self.dust, before, &node.labels, id)?;
         let indexes = self.indexes.as_slice();
         note_label_values_left(self.alloc, &mut self.dust, indexes, node, id, before)?;
         self.cover_node(node, id)
     }
-}
-
-// Notes the values under which indexes find a node no longer.
-fn note_values_left(
-    alloc: Global,
-    dust: &mut Vec<(Place, u64)>,
-    indexes: &[PropertyIndex],
-    node: &NodeRecord,
-    id: u64,
-    before: &PropertiesBefore,
-) -> Result<(), AllocError> {
-    for index in indexes {
-        let Some(value) = before.value(index.key) else {
-            continue;
-        };
-        let wanted = Wanted::Valued(index.label, index.key, value);
-        if node.labels.contains(index.label) && !is_sought(Some(node), &wanted) {
-            note_value(alloc, dust, index, value, id)?;
-        }
-    }
-    Ok(())
-}
-
-// Notes the labels that a node has no longer.
-fn note_labels_left(
-    dust: &mut Vec<(Place, u64)>,
-    before: &Labels,
-    labels: &Labels,
-    id: u64,
-) -> Result<(), AllocError> {
-    for label in before.as_slice() {
-        if !labels.contains(*label) {
-            dust.push((Place::Labelled(*label), id))?;
-        }
-    }
-    Ok(())
-}
-
-// Notes the values by which indexes found a node under labels that it has no longer.
-fn note_label_values_left(
-    alloc: Global,
-    dust: &mut Vec<(Place, u64)>,
-    indexes: &[PropertyIndex],
-    node: &NodeRecord,
-    id: u64,
-    before: &Labels,
-) -> Result<(), AllocError> {
-    for index in indexes {
-        if node.labels.contains(index.label) || !before.contains(index.label) {
-            continue;
-        }
-        if let Some(value) = node.properties.get(index.key) {
-            note_value(alloc, dust, index, value, id)?;
-        }
-    }
-    Ok(())
 }

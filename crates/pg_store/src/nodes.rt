@@ -8,9 +8,8 @@ use crate::shared::Shared;
 use crate::snapshot::Snapshot;
 use crate::store::Store;
 use crate::wanted::{Wanted, is_sought};
-use pg_graph::Tables;
+use pg_graph::{Members, Tables};
 use pg_value_core::{NodeId, Value};
-use std::collections::btree_map::Keys;
 use std::marker::Model;
 
 /// Ids of nodes, rising, seen as the list of those that are still to come.
@@ -19,7 +18,7 @@ pub struct Nodes<'a, T: Tables> {
     store: &'a Store<T>,
     shared: &'a Shared<T::Shared>,
     wanted: Wanted<'a>,
-    ids: Keys<'a, u64, ()>,
+    ids: Members<'a>,
 }
 
 impl<'a, T: Tables> Model for Nodes<'a, T> {
@@ -31,7 +30,8 @@ impl<'a, T: Tables> Model for Nodes<'a, T> {
 
     ghost Value = { List ℕ };
 
-    ghost view = { λ n. filter (passes (belongs (wanted_key n.wanted)) (live (state_of T.seen n.store.now n.shared.now)).nodes) n.ids };
+    ghost view = { λ n. filter (passes (belongs (wanted_key n.wanted))
+        (live (state_of T.seen n.store.now n.shared.now)).nodes) n.ids };
 
     ghost invariant = { λ n. T.seen.fits n.store.now.tables n.shared.now.tables };
 }
@@ -42,9 +42,10 @@ impl<'a, T: Tables> Nodes<'a, T> {
         ensures some { IfSome result (λ id. self.old ≡ id.0 ∷ self.new) }
         ensures none { IfNone result (self.old ≡ []) }
     {
+        // a set may hold ids that no longer belong in it, and the record decides
         while let Some(id) = self.ids.next() {
-            if is_sought(self.store.node(self.shared, NodeId(*id)), &self.wanted) {
-                return Some(NodeId(*id));
+            if is_sought(self.store.node(self.shared, NodeId(id)), &self.wanted) {
+                return Some(NodeId(id));
             }
         }
         None

@@ -17,9 +17,10 @@ impl<T: Tables> Store<T> {
         id: NodeId,
     ) -> Option<&'a NodeRecord>
         requires { T.seen.fits self.now.tables shared.now.tables }
-        ensures { option_copied result ≡ map.get (live (state_of T.seen self.now shared.now)).nodes id.0 }
+        ensures { option_copied result
+            ≡ map.get (live (state_of T.seen self.now shared.now)).nodes id.0 }
     {
-        if self.gone_nodes.get(id.0).is_some() {
+        if self.gone_nodes.contains(id.0) {
             return None;
         }
         self.tables.node(&shared.tables, id)
@@ -32,9 +33,10 @@ impl<T: Tables> Store<T> {
         id: RelId,
     ) -> Option<&'a RelRecord>
         requires { T.seen.fits self.now.tables shared.now.tables }
-        ensures { option_copied result ≡ map.get (live (state_of T.seen self.now shared.now)).rels id.0 }
+        ensures { option_copied result
+            ≡ map.get (live (state_of T.seen self.now shared.now)).rels id.0 }
     {
-        if self.gone_rels.get(id.0).is_some() {
+        if self.gone_rels.contains(id.0) {
             return None;
         }
         self.tables.rel(&shared.tables, id)

@@ -1,13 +1,14 @@
 //! The sets of ids by which nodes are found: all of them, those of each label, and those of property
 //! indexes.
-ghost use Rattle.std.specs.Prelude.{◌≡◌, ◌<◌, ◌++◌, ◌∷◌, [], ℕ, Option, true, false, length, OnOk, OnErr, IfSome};
+ghost use Rattle.std.specs.Prelude.{◌≡◌, ◌==◌, ◌&&◌, ◌<◌, ◌++◌, ◌∷◌, [], ℕ, Option, true, false, not, filter, length, OnOk, OnErr, IfSome};
 ghost use Rattle.pg_graph.specs.Removed.{has_id};
 ghost use Rattle.pg_graph.specs.Stored.{has_number};
 ghost use Rattle.pg_graph.specs.declared.records.NodeRecord.{NodeRecord};
 ghost use Rattle.std.specs.FinMap as map;
 
+use crate::notes::{note_arrivals, note_labels, note_values};
 use crate::wanted::Place;
-use pg_graph::{ById, Labels, NodeRecord};
+use pg_graph::{IdSet, Labels, NodeRecord};
 use pg_index::{Index, PropertyIndex, cover_each, forget_valued, index_of, position_of};
 use pg_names::NameId;
 use pg_value_core::Value;
@@ -17,11 +18,11 @@ use std::alloc::{AllocError, Global};
 #[derive(Drop)]
 pub struct Sets {
     pub(crate) alloc: Global,
-    pub(crate) all: ById<()>,
+    pub(crate) all: IdSet,
     pub(crate) labels: Index<u64>,
     pub(crate) indexes: Vec<PropertyIndex>,
     pub(crate) dust: Vec<(Place, u64)>,
-    pub(crate) none: ById<()>,
+    pub(crate) none: IdSet,
     ghost none_is_empty: { none ≡ map.empty },
 }
 
@@ -30,22 +31,26 @@ impl Sets {
     ghost use Rattle.pg_index.specs.Index.{ids_at};
     ghost use Rattle.pg_index.specs.Properties.{all_find, has_pair, is_found_by, pairs_of};
     ghost use Rattle.pg_store.specs.Covers.{FindAlike, Key, key_of, with_label, with_value, belongs, has_in};
+    ghost use Rattle.pg_store.specs.Noted.{Gains, is_in, is_noted, same_key};
     ghost use Rattle.pg_store.specs.Wanted.{place_key};
     ghost use Rattle.pg_value_core.specs.declared.value.Value as code;
 
-    pub(crate) fn new(alloc: Global) -> Self {
+    pub(crate) fn new(alloc: Global) -> Self
+        ensures none { (k : Key) (i : ℕ) → is_in result k i ≡ false }
+        ensures dust { result.dust.items ≡ [] }
+    {
         Sets {
             alloc,
-            all: ById::new(alloc),
+            all: IdSet::new(alloc),
             labels: Index::new(alloc),
             indexes: Vec::new(alloc),
             dust: Vec::new(alloc),
-            none: ById::new(alloc),
+            none: IdSet::new(alloc),
         }
     }
 
     // The ids of the nodes with a label, and perhaps of others.
-    pub(crate) fn labelled(&self, label: NameId) -> &ById<()>
+    pub(crate) fn labelled(&self, label: NameId) -> &IdSet
         ensures { result.now ≡ ids_at nat_cmp self.now.labels label }
     {
         match self.labels.get(&label.as_u64()) {
@@ -56,10 +61,12 @@ impl Sets {
 
     // Puts an id under a label. What is new there is swept if it does not belong.
     pub(crate) fn cover_label(&mut self, label: NameId, id: u64) -> Result<(), AllocError>
-        ensures grown { (k : Key) (i : ℕ) → has_in self.old k i ≡ true → has_in self.new k i ≡ true }
+        ensures grown { (k : Key) (i : ℕ)
+            → has_in self.old k i ≡ true → has_in self.new k i ≡ true }
+        ensures gains { Gains self.old self.new }
         ensures ok { OnOk result (has_in self.new (with_label label) id ≡ true) }
     {
-        if self.labelled(label).get(id).is_some() {
+        if self.labelled(label).contains(id) {
             return Ok(());
         }
         self.dust.push((Place::Labelled(label), id))?;
@@ -68,23 +75,30 @@ impl Sets {
 
     // Puts a node's id into the set of all nodes and into those of its labels.
     fn cover_labels(&mut self, labels: &Labels, id: u64) -> Result<(), AllocError>
-        ensures grown { (k : Key) (i : ℕ) → has_in self.old k i ≡ true → has_in self.new k i ≡ true }
-        ensures ok { OnOk result ((n : NodeRecord) (k : Option ℕ) → n.labels ≡ labels.now → has_number k n ≡ true → has_in self.new (key_of k) id ≡ true) }
+        ensures grown { (k : Key) (i : ℕ)
+            → has_in self.old k i ≡ true → has_in self.new k i ≡ true }
+        ensures gains { Gains self.old self.new }
+        ensures ok { OnOk result ((n : NodeRecord) (k : Option ℕ) → n.labels ≡ labels.now
+            → has_number k n ≡ true → has_in self.new (key_of k) id ≡ true) }
     {
         for label in labels.as_slice() {
             self.cover_label(*label, id)?;
         }
-        if self.all.get(id).is_some() {
+        if self.all.contains(id) {
             return Ok(());
         }
         self.dust.push((Place::All, id))?;
-        self.all.insert(id, ())
+        self.all.insert(id)?;
+        Ok(())
     }
 
     // Puts a node's id into each set and each property index where it belongs.
     pub(crate) fn cover_node(&mut self, node: &NodeRecord, id: u64) -> Result<(), AllocError>
-        ensures grown { (k : Key) (i : ℕ) → has_in self.old k i ≡ true → has_in self.new k i ≡ true }
-        ensures ok { OnOk result ((k : Key) → belongs k node.now ≡ true → has_in self.new k id ≡ true) }
+        ensures grown { (k : Key) (i : ℕ)
+            → has_in self.old k i ≡ true → has_in self.new k i ≡ true }
+        ensures gains { Gains self.old self.new }
+        ensures ok { OnOk result ((k : Key)
+            → belongs k node.now ≡ true → has_in self.new k id ≡ true) }
     {
         self.cover_labels(&node.labels, id)?;
         self.cover_values(node, id)
@@ -94,8 +108,13 @@ impl Sets {
     pub(crate) fn cover_values(&mut self, node: &NodeRecord, id: u64) -> Result<(), AllocError>
         ensures all { self.new.all ≡ self.old.all }
         ensures labels { self.new.labels ≡ self.old.labels }
-        ensures grown { (label key : ℕ) (v : code.Value) (i : ℕ) → all_find self.old.indexes.items label key v i ≡ true → all_find self.new.indexes.items label key v i ≡ true }
-        ensures ok { OnOk result ((label key : ℕ) (v : code.Value) → is_found_by label key v node.now ≡ true → all_find self.new.indexes.items label key v id ≡ true) }
+        ensures grown { (label key : ℕ) (v : code.Value) (i : ℕ)
+            → all_find self.old.indexes.items label key v i ≡ true
+            → all_find self.new.indexes.items label key v i ≡ true }
+        ensures gains { Gains self.old self.new }
+        ensures ok { OnOk result ((label key : ℕ) (v : code.Value)
+            → is_found_by label key v node.now ≡ true
+            → all_find self.new.indexes.items label key v id ≡ true) }
     {
         let indexes = self.indexes.as_slice();
         note_arrivals(self.alloc, &mut self.dust, indexes, node, id)?;
@@ -104,8 +123,10 @@ impl Sets {
 
     // The ids of an index under a value, where there is such an index, or those of the label; and
     // perhaps of others.
-    pub(crate) fn valued(&self, label: NameId, key: NameId, value: &Value) -> &ById<()>
-        ensures { (i : ℕ) → has_in self.now (with_label label) i ≡ true → has_in self.now (with_value label key value.now) i ≡ true → has_id result.now i ≡ true }
+    pub(crate) fn valued(&self, label: NameId, key: NameId, value: &Value) -> &IdSet
+        ensures { (i : ℕ) → has_in self.now (with_label label) i ≡ true
+            → has_in self.now (with_value label key value.now) i ≡ true
+            → has_id result.now i ≡ true }
     {
         match index_of(self.indexes.as_slice(), label, key) {
             Some(index) => match index.get(value) {
@@ -120,9 +141,16 @@ impl Sets {
     pub(crate) fn give_up(&mut self, label: NameId, key: NameId)
         ensures all { self.new.all ≡ self.old.all }
         ensures labels { self.new.labels ≡ self.old.labels }
-        ensures fewer { (l k : ℕ) (v : code.Value) (i : ℕ) → all_find self.old.indexes.items l k v i ≡ true → all_find self.new.indexes.items l k v i ≡ true }
+        ensures fewer { (l k : ℕ) (v : code.Value) (i : ℕ)
+            → all_find self.old.indexes.items l k v i ≡ true
+            → all_find self.new.indexes.items l k v i ≡ true }
+        ensures less { (k : Key) (i : ℕ) → is_in self.new k i ≡ true → is_in self.old k i ≡ true }
+        ensures dust { self.new.dust ≡ self.old.dust }
+        ensures pairs { pairs_of self.new.indexes.items
+            ≡ filter (λ p. not (p.0 == label && p.1 == key)) (pairs_of self.old.indexes.items) }
         ensures gone { has_pair (label, key) (pairs_of self.new.indexes.items) ≡ false }
     {
+        // (there is one at most, but nothing need know that)
         while let Some(position) = position_of(self.indexes.as_slice(), label, key) {
             self.indexes.remove(position);
         }
@@ -133,19 +161,25 @@ impl Sets {
         ensures all { self.new.all ≡ self.old.all }
         ensures labels { self.new.labels ≡ self.old.labels }
         ensures indexes { self.new.indexes ≡ self.old.indexes }
+        ensures gains { Gains self.old self.new }
+        ensures ok { OnOk result ((k : Key) → is_in self.old k id ≡ true
+            → belongs k was.now ≡ true → is_noted self.new.dust.items k id ≡ true) }
     {
         self.dust.push((Place::All, id))?;
-        for label in was.labels.as_slice() {
-            self.dust.push((Place::Labelled(*label), id))?;
-        }
+        note_labels(&mut self.dust, &was.labels, id)?;
         let indexes = self.indexes.as_slice();
         note_values(self.alloc, &mut self.dust, indexes, was, id)
     }
 
     // Takes an id from where it was kept.
     pub(crate) fn forget(&mut self, place: &Place, id: u64)
-        ensures lost { (k : Key) (i : ℕ) → has_in self.old k i ≡ true → has_in self.new k i ≡ false → FindAlike k (place_key place.now) × (i ≡ id) }
+        ensures lost { (k : Key) (i : ℕ) → has_in self.old k i ≡ true
+            → has_in self.new k i ≡ false → FindAlike k (place_key place.now) × (i ≡ id) }
+        ensures left { (k : Key) (i : ℕ)
+            → is_in self.new k i
+            ≡ (is_in self.old k i && not (same_key (place_key place.now) k && id == i)) }
         ensures dust { self.new.dust ≡ self.old.dust }
+        ensures pairs { pairs_of self.new.indexes.items ≡ pairs_of self.old.indexes.items }
     {
         match place {
             Place::All => self.all.forget(id),
@@ -155,52 +189,4 @@ impl Sets {
             }
         }
     }
-}
-
-// Notes the values by which indexes find a node.
-fn note_values(
-    alloc: Global,
-    dust: &mut Vec<(Place, u64)>,
-    indexes: &[PropertyIndex],
-    was: &NodeRecord,
-    id: u64,
-) -> Result<(), AllocError> {
-    for index in indexes {
-        if let Some(value) = index.value_of(was) {
-            note_value(alloc, dust, index, value, id)?;
-        }
-    }
-    Ok(())
-}
-
-// Notes the values by which indexes will find a node and do not find it yet.
-fn note_arrivals(
-    alloc: Global,
-    dust: &mut Vec<(Place, u64)>,
-    indexes: &[PropertyIndex],
-    node: &NodeRecord,
-    id: u64,
-) -> Result<(), AllocError> {
-    for index in indexes {
-        let Some(value) = index.value_of(node) else {
-            continue;
-        };
-        if !index.has(value, id) {
-            note_value(alloc, dust, index, value, id)?;
-        }
-    }
-    Ok(())
-}
-
-// Notes an id under a value of an index.
-pub(crate) fn note_value(
-    alloc: Global,
-    dust: &mut Vec<(Place, u64)>,
-    index: &PropertyIndex,
-    value: &Value,
-    id: u64,
-) -> Result<(), AllocError> {
-    let value = value.copy(alloc)?;
-    dust.push((Place::Valued(index.label, index.key, value), id))?;
-    Ok(())
 }

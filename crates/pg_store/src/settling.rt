@@ -76,7 +76,10 @@ impl<T: Tables> Store<T> {
     // Whether there is such a node, and the key is blank there.
     fn has_blank(&self, shared: &Shared<T::Shared>, id: NodeId, key: NameId) -> bool
         requires { IsFit T.seen self.now shared.now }
-        ensures { result ≡ true → (n : NodeRecord) × (map.get (live (state_of T.seen self.now shared.now)).nodes id.0 ≡ Some n) × (map.get n.properties key ≡ Some null) }
+        ensures { result ≡ true
+            → (n : NodeRecord)
+            × (map.get (live (state_of T.seen self.now shared.now)).nodes id.0 ≡ Some n)
+            × (map.get n.properties key ≡ Some null) }
     {
         match self.node(shared, id) {
             Some(node) => is_blank(&node.properties, key),
@@ -87,7 +90,10 @@ impl<T: Tables> Store<T> {
     // Whether there is such a relationship, and the key is blank there.
     fn has_blank_rel(&self, shared: &Shared<T::Shared>, id: RelId, key: NameId) -> bool
         requires { IsFit T.seen self.now shared.now }
-        ensures { result ≡ true → (r : RelRecord) × (map.get (live (state_of T.seen self.now shared.now)).rels id.0 ≡ Some r) × (map.get r.properties key ≡ Some null) }
+        ensures { result ≡ true
+            → (r : RelRecord)
+            × (map.get (live (state_of T.seen self.now shared.now)).rels id.0 ≡ Some r)
+            × (map.get r.properties key ≡ Some null) }
     {
         match self.rel(shared, id) {
             Some(rel) => is_blank(&rel.properties, key),

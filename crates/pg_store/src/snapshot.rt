@@ -68,6 +68,7 @@ impl<'a, T: Tables> Snapshot<'a, T> {
         self.store.next_ids()
     }
 
+    /// Whether a node exists. A value may hold the id of one that was deleted.
     pub fn has_node(&self, id: NodeId) -> bool
         ensures is { result ≡ has_node self.now id.0 }
         ensures below { result ≡ true → id.0 < 2 ^ 63 }
@@ -75,6 +76,7 @@ impl<'a, T: Tables> Snapshot<'a, T> {
         self.store.node(self.shared, id).is_some()
     }
 
+    /// Whether a relationship exists. A value may hold the id of one that was deleted.
     pub fn has_rel(&self, id: RelId) -> bool
         ensures is { result ≡ has_relationship self.now id.0 }
         ensures below { result ≡ true → id.0 < 2 ^ 63 }
@@ -94,7 +96,8 @@ impl<'a, T: Tables> Snapshot<'a, T> {
 
     /// What a relationship holds, if there is such a relationship.
     pub fn rel_texts(&self, alloc: Global, id: RelId) -> Result<Option<RelTexts>, AllocError>
-        ensures { IfOk result (λ found. option_map rel_texts_view found ≡ relationship_at self.now id.0) }
+        ensures { IfOk result
+            (λ found. option_map rel_texts_view found ≡ relationship_at self.now id.0) }
     {
         match self.rel(id) {
             Some(rel) => Ok(Some(rel.texts(alloc)?)),

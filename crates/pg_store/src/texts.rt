@@ -28,7 +28,8 @@ pub struct RelTexts {
 
 // These texts, in memory of their own.
 pub(crate) fn strings_of(alloc: Global, texts: &[&str]) -> Result<Vec<String>, AllocError>
-    ensures { IfOk result (λ strings. map_list string_bytes strings.items ≡ map_list (λ t. t.now) texts.now) }
+    ensures { IfOk result
+        (λ strings. map_list string_bytes strings.items ≡ map_list (λ t. t.now) texts.now) }
 {
     let mut strings = Vec::with_capacity(alloc, texts.len())?;
     for text in texts {

@@ -38,6 +38,7 @@ impl<'a, T: Tables> Model for NodeView<'a, T> {
 }
 
 impl<'a, T: Tables> NodeView<'a, T> {
+    /// Whether the node has a label, by its exact text.
     pub fn has_label(&self, label: &str) -> bool
         ensures { result ≡ is_among self.now.labels label.now }
     {
@@ -98,18 +99,21 @@ impl<'a, T: Tables> RelView<'a, T> {
         self.shared.names.text(self.record.kind)
     }
 
+    /// Whether the type is this text exactly.
     pub fn has_type(&self, kind: &str) -> bool
         ensures { result ≡ bytes_eq self.now.type kind.now }
     {
         self.kind() == kind
     }
 
+    /// The node at which the relationship begins.
     pub fn source(&self) -> NodeId
         ensures { result.0 ≡ self.now.source }
     {
         self.record.source
     }
 
+    /// The node at which the relationship ends.
     pub fn target(&self) -> NodeId
         ensures { result.0 ≡ self.now.target }
     {

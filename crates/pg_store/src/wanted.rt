@@ -63,7 +63,8 @@ fn has_value(node: &NodeRecord, label: NameId, key: NameId, value: &Value) -> bo
 }
 
 pub(crate) fn is_sought(node: Option<&NodeRecord>, wanted: &Wanted<'_>) -> bool
-    ensures { result ≡ option_map_or (belongs (wanted_key wanted.now)) (option_copied node.entry) false }
+    ensures { result
+        ≡ option_map_or (belongs (wanted_key wanted.now)) (option_copied node.entry) false }
 {
     match node {
         Some(node) => match wanted {

@@ -1,7 +1,11 @@
-use Rattle.std.proofs.Common.{refl, ap, ◌∙◌}
+use Rattle.std.proofs.Common.{◌==◌, refl, sym, ap, ◌∙◌}
+use Rattle.std.specs.Ordering.{is_eq}
+use Rattle.std.specs.Prelude.{◌&&◌, ◌||◌}
 use Rattle.pg_graph.specs.Removed.{Ids, has_id}
-use Rattle.pg_index.proofs.PropertyLemmas.{put_grows, put_there, value_grows, value_there}
+use Rattle.pg_index.proofs.PropertyLemmas.{put_comes, put_grows, put_there, value_comes, value_grows, value_there}
 use Rattle.pg_index.proofs.properties.PropertyIndex.put.Goals as goal
+use Rattle.pg_index.specs.Properties.{finds, is_one_value}
+use Rattle.pg_meaning.specs.Order.{value_order}
 use Rattle.pg_value_core.specs.View.{view}
 
 pub returns-then-branch-clause-grown : goal.returns-then-branch-clause-grown
@@ -18,3 +22,14 @@ returns-clause-grown c = λ q i h.
 
 pub returns-clause-ok : goal.returns-clause-ok
 returns-clause-ok c = value_there (record c.args.self.now { ids = c.join.new.self }) (record c.args.self.now { ids = c.cover.new.self }) c.in_ok-value.value c.args.id c.cover.result (view c.args.value.now) c.in_ok-value.ensures c.cover.ensures.ok
+
+pub returns-then-branch-clause-come : goal.returns-then-branch-clause-come
+returns-then-branch-clause-come c = put_comes c.args.self.now (record c.args.self.now { ids = c.join.new.self }) c.args.value.now c.args.id (c.in_ok-join.ensures.joined c.if-branch.true)
+
+pub returns-clause-come : goal.returns-clause-come
+returns-clause-come c = λ v i h.
+    let mid = record c.args.self.now { ids = c.join.new.self } in
+    let value = c.args.value.now in
+    ap (λ (ids : Ids). has_id ids i || (is_one_value value v && i == c.args.id)) (sym (c.in_ok-join.ensures.none c.if-branch.false v))
+    ∙ ap (λ x. finds mid v i || (is_eq (value_order x (view v)) && i == c.args.id)) (sym c.in_ok-value.ensures)
+    ∙ value_comes mid (record c.args.self.now { ids = c.cover.new.self }) c.in_ok-value.value c.args.id c.cover.result c.cover.ensures.ok c.cover.ensures.err v i h

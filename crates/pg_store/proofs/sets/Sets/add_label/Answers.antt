@@ -1,8 +1,11 @@
-use Rattle.std.proofs.Common.{ℕ, List, ap, ◌∙◌}
+use Rattle.std.proofs.Common.{ℕ, List, refl, ap, ◌∙◌}
 use Rattle.pg_graph.specs.Records.{without_label}
 use Rattle.pg_store.proofs.Edited.{label_covered, label_taken}
 use Rattle.pg_store.proofs.sets.Sets.add_label.Goals as goal
-use Rattle.pg_store.specs.Covers.{has_in}
+use Rattle.pg_store.proofs.GainLemmas.{gains_none, more_belongs}
+use Rattle.pg_store.proofs.NoteLemmas.{or_left}
+use Rattle.pg_store.specs.Covers.{belongs, has_in}
+use Rattle.pg_store.specs.Noted.{is_noted}
 
 pub returns-in-Ok : goal.returns-in-Ok
 returns-in-Ok c =
@@ -15,6 +18,8 @@ returns-in-Ok c =
       ok = ap (λ (ls : List ℕ). record n { labels = ls }) more;
       back = ap (λ (ls : List ℕ). record n { labels = ls }) (ap (λ (ls : List ℕ). without_label ls c.args.label) more ∙ label_taken c.args.label n.labels c.requires.new);
       can = tt;
+      gains = c.cover_new_label.ensures.gains;
+      left = λ k there h. or_left (belongs k (record n { labels = c.insert.new.self })) (is_noted new.dust.items k c.args.id) (more_belongs n (record n { labels = c.insert.new.self }) c.args.label more refl k h);
       covered = label_covered (has_in old) (has_in new) n (record n { labels = c.insert.new.self }) c.args.id c.cover_new_label.ensures.grown c.requires.covered (λ label key v found. c.in-Ok.ensures.values label key v found) c.args.label more c.in-Ok.ensures.label;
       err = tt;
     }
@@ -28,5 +33,10 @@ returns-in-Err c =
       back = tt;
       can = tt;
       covered = tt;
+      gains = c.cover_new_label.ensures.gains;
+      left = tt;
       err = ap (λ (ls : List ℕ). record n { labels = ls }) (c.remove.ensures.removed ∙ ap (λ (ls : List ℕ). without_label ls c.args.label) c.in_ok-insert.ensures.ok ∙ label_taken c.args.label n.labels c.requires.new);
     }
+
+pub returns-in_err-insert-clause-gains : goal.returns-in_err-insert-clause-gains
+returns-in_err-insert-clause-gains c = gains_none c.args.self.now

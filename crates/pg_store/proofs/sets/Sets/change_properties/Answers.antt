@@ -3,7 +3,8 @@ use Rattle.pg_graph.specs.Records.{Properties}
 use Rattle.pg_store.proofs.Edited.{properties_covered}
 use Rattle.pg_store.proofs.SetLemmas.{values_grow}
 use Rattle.pg_store.proofs.sets.Sets.change_properties.Goals as goal
-use Rattle.pg_store.specs.Covers.{has_in}
+use Rattle.pg_store.proofs.GainLemmas.{gains_none}
+use Rattle.pg_store.specs.Covers.{belongs, has_in}
 
 pub returns-in-Ok : goal.returns-in-Ok
 returns-in-Ok c =
@@ -18,6 +19,8 @@ returns-in-Ok c =
       ok = ap (λ (ps : Properties). record n { properties = ps }) edit.ok;
       back = ap (λ (ps : Properties). record n { properties = ps }) edit.back;
       can = edit.can;
+      gains = moved.gains;
+      left = λ k there h. c.in-Ok.ensures.left k there (ap (λ (ps : Properties). belongs k (record n { properties = ps })) edit.back ∙ h);
       covered = properties_covered (has_in old) (has_in new) n (record n { properties = c.exchange.new.properties }) c.args.id grows c.requires (λ label key v found. c.in-Ok.ensures.ok label key v found) refl;
       err = tt;
     }
@@ -34,5 +37,13 @@ returns-in-Err c =
       back = tt;
       can = tt;
       covered = tt;
+      gains = moved.gains;
+      left = tt;
       err = ap (λ (ps : Properties). record c.args.node.now { properties = ps }) (c.give_back.ensures ∙ c.in_ok-before.ensures.back);
     }
+
+pub move_values-requires : goal.move_values-requires
+move_values-requires c = c.in_ok-before.ensures.can
+
+pub returns-in_err-before-clause-gains : goal.returns-in_err-before-clause-gains
+returns-in_err-before-clause-gains c = gains_none c.args.self.now

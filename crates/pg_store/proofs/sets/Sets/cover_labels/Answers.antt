@@ -1,12 +1,14 @@
-use Rattle.std.proofs.Common.{◌≡◌, ◌≤◌, ◌==◌, ◌+◌, ◌∷◌, ℕ, List, Option, Some, None, true, false, length, drop, refl, sym, ap, ◌∙◌}
+use Rattle.std.proofs.Common.{◌≡◌, ◌≤◌, ◌==◌, ◌+◌, ◌∷◌, ℕ, List, Option, Some, None, Result, Ok, true, false, length, drop, refl, sym, ap, ◌∙◌}
 use Rattle.std.proofs.lemmas.List.{at_drop_more, at_drop_all}
-use Rattle.std.proofs.lemmas.Result.{on_ok_weaker}
 use Rattle.std.specs.List.{list_any}
 use Rattle.pg_graph.specs.Stored.{has_number}
 use Rattle.pg_graph.specs.declared.records.NodeRecord.{NodeRecord}
+use Rattle.std.specs.Result.{is_ok}
 use Rattle.pg_store.proofs.CoverLemmas.{Has, grows_on}
+use Rattle.pg_store.proofs.GainLemmas.{all_gains, gains_none, gains_notes, gains_then}
+use Rattle.pg_store.proofs.NoteLemmas.{pushed_noted, pushed_stay}
+use Rattle.pg_store.specs.declared.wanted.Place.TheVariants as place
 use Rattle.pg_store.proofs.SetLemmas.{all_grows, all_there, labels_on}
-use Rattle.pg_store.proofs.Stores.{id_is_among}
 use Rattle.pg_store.proofs.sets.Sets.cover_labels.Goals as goal
 use Rattle.pg_store.specs.Covers.{every, with_label, key_of, has_in}
 
@@ -27,18 +29,20 @@ loop-label-preserved c =
     let grows = c.cover_label.ensures.grown in
     record {
       grown = grows_on (has_in c.args.self.now) (has_in c.loop-label.self) (has_in c.cover_label.new.self) was.grown grows;
+      gains = gains_then c.args.self.now c.loop-label.self c.cover_label.new.self was.gains c.cover_label.ensures.gains;
       labels = labels_on (has_in c.loop-label.self) (has_in c.cover_label.new.self) c.args.id c.label-item.result items more grows c.in_ok-cover_label.ensures.ok
           (λ m among none. was.labels m among (at_drop_more (λ xs. list_any (λ n. n == m) xs) items i c.label-item.result c.loop-label-test.true ∙ sym (ap (λ x. list_any (λ n. n == m) (x ∷ more)) c.label-item.is) ∙ none));
       items = was.items;
     }
 
-pub returns-then-is_some : goal.returns-then-is_some
-returns-then-is_some c =
+pub returns-then-contains : goal.returns-then-contains
+returns-then-contains c =
     let l = c.loop-label in
     record {
       grown = l.invariant.grown;
+      gains = l.invariant.gains;
       ok = numbered (has_in l.self) c.args.id c.as_slice-label-items.result.now c.args.labels.now l.label-index l.invariant.items c.loop-label-test.false
-          (id_is_among l.self.all c.args.id c.get.result c.get.ensures ∙ sym c.is_some.ensures ∙ c.if-is_some.true) l.invariant.labels;
+          (sym c.contains.ensures ∙ c.if-contains.true) l.invariant.labels;
     }
 
 pub returns : goal.returns
@@ -46,9 +50,31 @@ returns c =
     let l = c.loop-label in
     let new = record l.self { all = c.insert.new.self; dust = c.push.new.self } in
     let grows = all_grows l.self new c.args.id refl refl c.insert.result c.insert.ensures.ok c.insert.ensures.err in
+    let done : Result (Unit {0}) (Unit {0}) = Ok tt in
+    let added = all_there l.self new c.args.id refl refl done in
     record {
       grown = grows_on (has_in c.args.self.now) (has_in l.self) (has_in new) l.invariant.grown grows;
-      ok = on_ok_weaker c.insert.result (λ all. numbered (has_in new) c.args.id c.as_slice-label-items.result.now c.args.labels.now l.label-index l.invariant.items c.loop-label-test.false all
-          (λ m among none. grows (with_label m) c.args.id (l.invariant.labels m among none)))
-          (all_there l.self new c.args.id refl refl c.insert.result c.insert.ensures.ok);
+      gains = gains_then c.args.self.now l.self new l.invariant.gains
+          (all_gains l.self new c.args.id (pushed_stay (is_ok c.push.result) l.self.dust.items c.push.new.self.items _ c.push.ensures.items) refl refl c.insert.result c.insert.ensures.ok c.insert.ensures.err
+          (pushed_noted l.self.dust.items c.push.new.self.items place.All c.args.id c.in_ok-push.ensures.items every refl));
+      ok = numbered (has_in new) c.args.id c.as_slice-label-items.result.now c.args.labels.now l.label-index l.invariant.items c.loop-label-test.false
+          (added c.in_ok-insert.ensures.ok)
+          (λ m among none. grows (with_label m) c.args.id (l.invariant.labels m among none));
     }
+
+pub loop-label-init : goal.loop-label-init
+loop-label-init c = record {
+  grown = λ k i h. h;
+  gains = gains_none c.args.self.now;
+  labels = λ m among none. absurd (cc (among, none));
+  items = c.as_slice-label-items.ensures.names;
+}
+
+pub returns-in_err-cover_label-clause-gains : goal.returns-in_err-cover_label-clause-gains
+returns-in_err-cover_label-clause-gains c = gains_then c.args.self.now c.loop-label.self c.cover_label.new.self c.loop-label.invariant.gains c.cover_label.ensures.gains
+
+pub returns-in_err-push-clause-gains : goal.returns-in_err-push-clause-gains
+returns-in_err-push-clause-gains c =
+    let l = c.loop-label.self in
+    gains_then c.args.self.now l (record l { dust = c.push.new.self }) c.loop-label.invariant.gains
+    (gains_notes l (record l { dust = c.push.new.self }) (refl, refl, refl) (pushed_stay (is_ok c.push.result) l.dust.items c.push.new.self.items _ c.push.ensures.items))

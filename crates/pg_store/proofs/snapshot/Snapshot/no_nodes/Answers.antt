@@ -10,4 +10,4 @@ use Rattle.pg_store.specs.Stores.{state_of}
 pub returns : goal.returns
 returns g c =
     let s = state_of g.T.Tables.seen c.self.inside.store.now c.self.inside.shared.now in
-    ap (filter (passes (belongs every) (live s).nodes)) (c.ids.ensures.ids ∙ ap (λ (ids : Ids). map.keys ids) c.self.inside.store.now.sets.none_is_empty ∙ ap (map_list (λ (e : ℕ × Unit {0}). e.0)) (nothing_held (Unit {0})))
+    ap (filter (passes (belongs every) (live s).nodes)) (c.ids.ensures ∙ ap (λ (ids : Ids). map.keys ids) c.self.inside.store.now.sets.none_is_empty ∙ ap (map_list (λ (e : ℕ × Unit {0}). e.0)) (nothing_held (Unit {0})))

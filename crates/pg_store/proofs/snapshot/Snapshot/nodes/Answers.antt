@@ -11,7 +11,7 @@ pub returns : goal.returns
 returns g c =
     let store = c.self.inside.store.now in
     let s = state_of g.T.Tables.seen store c.self.inside.shared.now in
-    ap (filter (passes (belongs every) (live s).nodes)) c.ids.ensures.ids
+    ap (filter (passes (belongs every) (live s).nodes)) c.ids.ensures
     ∙ all_read (has_in store.sets) store.journal.items s c.self.invariant.covered every store.sets.all (λ i h. h)
     ∙ sym (all_listed c.self.inside.shared.now.names (live s) store.next.node store.next.rel)
     ∙ ap (λ (graph : Graph). ids_of graph.nodes) c.self.view_is

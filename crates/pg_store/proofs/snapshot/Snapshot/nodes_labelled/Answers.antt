@@ -12,7 +12,7 @@ pub returns : goal.returns
 returns g c =
     let store = c.self.inside.store.now in
     let s = state_of g.T.Tables.seen store c.self.inside.shared.now in
-    ap (filter (passes (belongs (with_label c.in-Some.name)) (live s).nodes)) c.ids.ensures.ids
+    ap (filter (passes (belongs (with_label c.in-Some.name)) (live s).nodes)) c.ids.ensures
     ∙ all_read (has_in store.sets) store.journal.items s c.self.invariant.covered (with_label c.in-Some.name) c.labelled.result.now (λ i h. ap (λ (ids : Ids). has_id ids i) c.labelled.ensures ∙ h)
     ∙ sym (with_label_listed c.self.inside.shared.now.names (live s) store.next.node store.next.rel c.args.label.now c.in-Some.name c.self.invariant.well.holds (sym c.in-Some.ensures.found))
     ∙ ap (λ (graph : Graph). nodes_with_label graph c.args.label.now) c.self.view_is

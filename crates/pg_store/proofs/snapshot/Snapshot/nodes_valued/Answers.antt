@@ -15,7 +15,7 @@ returns g c =
     let s = state_of g.T.Tables.seen store c.self.inside.shared.now in
     let label = c.in-Some.label in
     let key = c.in-Some-find.key in
-    ap (filter (passes (belongs (with_value label key c.args.value.now)) (live s).nodes)) c.ids.ensures.ids
+    ap (filter (passes (belongs (with_value label key c.args.value.now)) (live s).nodes)) c.ids.ensures
     ∙ valued_read (has_in store.sets) store.journal.items s c.self.invariant.covered label key c.args.value.now c.valued.result.now c.valued.ensures
     ∙ sym (valued_listed c.self.inside.shared.now.names (live s) store.next.node store.next.rel c.args.label.now c.args.key.now c.args.value.now label key c.self.invariant.well.holds (sym c.in-Some.ensures.found) (sym c.in-Some-find.ensures.found))
     ∙ ap (λ (graph : Graph). with_value_in graph c.args.label.now c.args.key.now (view c.args.value.now)) c.self.view_is

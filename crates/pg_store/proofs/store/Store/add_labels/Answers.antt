@@ -18,7 +18,7 @@ returns-in-Err g c =
     let done = c.add_each_label.ensures in
     let back = c.undo.ensures in
     let mark : Mark = record { journal = c.len.result; names = c.len-2.result } in
-    let undone : Undone g.T.Tables.seen mark c.add_each_label.new.self c.add_each_label.new.shared c.undo.new.self c.undo.new.shared = record { graph = back.graph; names = back.names; marks = back.marks; there = back.there; fit = back.fit; keeps = back.keeps } in
+    let undone : Undone g.T.Tables.seen mark c.add_each_label.new.self c.add_each_label.new.shared c.undo.new.self c.undo.new.shared = record { graph = back.graph; names = back.names; marks = back.marks; there = back.there; fit = back.fit; pairs = back.pairs; keeps = back.keeps } in
     record {
       changes = changes_nothing g.T.Tables.seen mark c.args.self.now c.add_each_label.new.self c.undo.new.self c.args.shared.now c.add_each_label.new.shared c.undo.new.shared (omega (arith, c.len.ensures)) c.len-2.ensures.len c.requires.fit done.marks done.keeps undone c.in-Err.refused _ tt;
       marks = marks_again g.T.Tables.seen mark c.args.self.now c.add_each_label.new.self c.undo.new.self c.args.shared.now c.add_each_label.new.shared c.undo.new.shared (omega (arith, c.len.ensures)) c.len-2.ensures.len c.requires.fit done.marks done.keeps undone;

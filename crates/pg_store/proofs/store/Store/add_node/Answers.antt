@@ -6,10 +6,13 @@ use Rattle.pg_graph.specs.Content.{Content}
 use Rattle.pg_store.proofs.ChangeLemmas.{changed_fit, refused_fit, changed_marks, marks_alike, at_err}
 use Rattle.pg_store.proofs.Kept.{tables_kept}
 use Rattle.pg_store.proofs.CoverLemmas.{covers_now, grown_covers, covers_with}
-use Rattle.pg_store.proofs.States.{with_new_node, new_node_made, new_node_undone}
+use Rattle.pg_store.proofs.GainLemmas.{gains_none}
+use Rattle.pg_store.proofs.Noting.{absent_there, noted_now, noted_with}
+use Rattle.pg_store.proofs.States.{live_with_new_node, with_new_node, new_node_made, new_node_undone}
 use Rattle.pg_store.proofs.store.Store.add_node.Goals as goal
 use Rattle.pg_store.specs.Covers.{has_in}
-use Rattle.pg_store.specs.Journal.{graph_in}
+use Rattle.pg_store.specs.Journal.{graph_in, live}
+use Rattle.pg_store.specs.Noted.{is_in}
 use Rattle.pg_store.specs.Stores.{state_of}
 use Rattle.pg_store.specs.declared.journal.Entry.TheVariants.{NodeAdded}
 
@@ -36,6 +39,7 @@ returns-clause-marks g c =
     refl
     (ap (λ (content : Content). record made { content = content }) c.in_ok-add_node.ensures.ok)
     (c.push_reserved.ensures.items ∙ ap (λ es. es ++ NodeAdded ∷ []) c.in_ok-reserve.ensures.items)
+    c.cover_node.ensures.gains
 
 pub returns-clause-fit : goal.returns-clause-fit
 returns-clause-fit g c =
@@ -47,8 +51,13 @@ returns-clause-fit g c =
     refl
     (ap (λ (content : Content). record made { content = content }) c.in_ok-add_node.ensures.ok)
     (c.push_reserved.ensures.items ∙ ap (λ es. es ++ NodeAdded ∷ []) c.in_ok-reserve.ensures.items)
+    c.cover_node.ensures.gains
     c.cover_node.ensures.grown
     (covers_with (has_in c.cover_node.new.self) s store.next.node c.args.node (grown_covers (has_in store.sets) (has_in c.cover_node.new.self) c.cover_node.ensures.grown s (covers_now (has_in store.sets) store.journal.items s c.requires.fit.covered)) (λ k found. c.in_ok-cover_node.ensures.ok k found))
+    (noted_with (is_in store.sets) (is_in c.cover_node.new.self) store.sets.dust.items c.cover_node.new.self.dust.items c.cover_node.ensures.gains.come c.cover_node.ensures.gains.stay s made store.next.node
+    (noted_now (is_in store.sets) store.sets.dust.items store.journal.items s c.requires.fit.noted) c.args.node
+    (ap (λ (x : Content). x.nodes) (live_with_new_node c.args.shared.now.names s c.args.node c.requires.fit.well c.requires.labels c.requires.keys c.requires.room c.requires.count))
+    (λ k g there. absurd (absent_there s k store.next.node (next_is_absent c.args.shared.now.names (live s) store.next.node store.next.rel c.requires.fit.well.holds) there)))
     c.add_node.ensures.keeps.fits
 
 pub returns-clause-keeps : goal.returns-clause-keeps
@@ -63,8 +72,8 @@ returns-in_err-reserve g c =
       id = IfOk-from_err c.from_residual.result _ c.from_residual.ensures.0;
       ok = IfOk-from_err c.from_residual.result _ c.from_residual.ensures.0;
       err = at_err c.from_residual.result refl;
-      marks = marks_alike g.T.Tables.seen store left shared shared refl c.reserve.ensures.items refl;
-      fit = refused_fit g.T.Tables.seen store left shared shared c.requires.fit refl refl c.reserve.ensures.items (λ k i h. h) c.requires.fit.fits;
+      marks = marks_alike g.T.Tables.seen store left shared shared refl c.reserve.ensures.items refl refl;
+      fit = refused_fit g.T.Tables.seen store left shared shared c.requires.fit refl refl c.reserve.ensures.items (λ k i h. h) (gains_none store.sets) c.requires.fit.fits;
       keeps = tables_kept store left shared shared c.requires.fit (keeps_refl store.tables shared.tables c.requires.fit.fits) refl;
     }
 
@@ -77,8 +86,8 @@ returns-in_err-cover_node g c =
       id = IfOk-from_err c.from_residual-in_err-cover_node.result _ c.from_residual-in_err-cover_node.ensures.0;
       ok = IfOk-from_err c.from_residual-in_err-cover_node.result _ c.from_residual-in_err-cover_node.ensures.0;
       err = at_err c.from_residual-in_err-cover_node.result refl;
-      marks = marks_alike g.T.Tables.seen store left shared shared refl c.reserve.ensures.items refl;
-      fit = refused_fit g.T.Tables.seen store left shared shared c.requires.fit refl refl c.reserve.ensures.items c.cover_node.ensures.grown c.requires.fit.fits;
+      marks = marks_alike g.T.Tables.seen store left shared shared refl c.reserve.ensures.items refl c.cover_node.ensures.gains.pairs;
+      fit = refused_fit g.T.Tables.seen store left shared shared c.requires.fit refl refl c.reserve.ensures.items c.cover_node.ensures.grown c.cover_node.ensures.gains c.requires.fit.fits;
       keeps = tables_kept store left shared shared c.requires.fit (keeps_refl store.tables shared.tables c.requires.fit.fits) refl;
     }
 
@@ -93,7 +102,7 @@ returns-in_err-add_node g c =
       id = IfOk-from_err c.from_residual-in_err-add_node.result _ c.from_residual-in_err-add_node.ensures.0;
       ok = IfOk-from_err c.from_residual-in_err-add_node.result _ c.from_residual-in_err-add_node.ensures.0;
       err = at_err c.from_residual-in_err-add_node.result (λ t. graph_in shared.names (record s { content = c.in_err-add_node.ensures.err t }));
-      marks = marks_alike g.T.Tables.seen store left shared after refl c.reserve.ensures.items (λ t. record s { content = c.in_err-add_node.ensures.err t });
-      fit = refused_fit g.T.Tables.seen store left shared after c.requires.fit refl (λ t. record s { content = c.in_err-add_node.ensures.err t }) c.reserve.ensures.items c.cover_node.ensures.grown c.add_node.ensures.keeps.fits;
+      marks = marks_alike g.T.Tables.seen store left shared after refl c.reserve.ensures.items (λ t. record s { content = c.in_err-add_node.ensures.err t }) c.cover_node.ensures.gains.pairs;
+      fit = refused_fit g.T.Tables.seen store left shared after c.requires.fit refl (λ t. record s { content = c.in_err-add_node.ensures.err t }) c.reserve.ensures.items c.cover_node.ensures.grown c.cover_node.ensures.gains c.add_node.ensures.keeps.fits;
       keeps = tables_kept store left shared after c.requires.fit c.add_node.ensures.keeps refl;
     }

@@ -6,10 +6,13 @@ use Rattle.pg_graph.specs.Content.{Content}
 use Rattle.pg_store.proofs.ChangeLemmas.{changed_fit, changed_marks, marks_alike, refused_fit, at_err}
 use Rattle.pg_store.proofs.Kept.{tables_kept}
 use Rattle.pg_store.proofs.CoverLemmas.{covers_now}
+use Rattle.pg_store.proofs.GainLemmas.{gains_none}
+use Rattle.pg_store.proofs.Noting.{noted_alike, noted_now}
 use Rattle.pg_store.proofs.States.{next_rel_is_absent, with_new_rel, new_rel_made, new_rel_undone}
 use Rattle.pg_store.proofs.store.Store.add_rel.Goals as goal
 use Rattle.pg_store.specs.Covers.{has_in}
 use Rattle.pg_store.specs.Journal.{graph_in}
+use Rattle.pg_store.specs.Noted.{is_in}
 use Rattle.pg_store.specs.Stores.{state_of}
 use Rattle.pg_store.specs.declared.journal.Entry.TheVariants.{RelAdded}
 
@@ -48,6 +51,7 @@ returns-clause-marks g c =
     refl
     (ap (λ (content : Content). record made { content = content }) c.in_ok-add_rel.ensures.ok)
     (c.push_reserved.ensures.items ∙ ap (λ es. es ++ RelAdded ∷ []) c.in_ok-reserve.ensures.items)
+    (gains_none store.sets)
 
 pub returns-clause-fit : goal.returns-clause-fit
 returns-clause-fit g c =
@@ -60,8 +64,10 @@ returns-clause-fit g c =
     refl
     (ap (λ (content : Content). record made { content = content }) c.in_ok-add_rel.ensures.ok)
     (c.push_reserved.ensures.items ∙ ap (λ es. es ++ RelAdded ∷ []) c.in_ok-reserve.ensures.items)
+    (gains_none store.sets)
     (λ k i h. h)
     (covers_now (has_in store.sets) store.journal.items s c.requires.fit.covered)
+    (noted_alike (is_in store.sets) store.sets.dust.items s made refl (noted_now (is_in store.sets) store.sets.dust.items store.journal.items s r.fit.noted))
     c.add_rel.ensures.keeps.fits
 
 pub returns-clause-keeps : goal.returns-clause-keeps
@@ -76,8 +82,8 @@ returns-in_err-reserve g c =
       id = IfOk-from_err c.from_residual.result _ c.from_residual.ensures.0;
       ok = IfOk-from_err c.from_residual.result _ c.from_residual.ensures.0;
       err = at_err c.from_residual.result refl;
-      marks = marks_alike g.T.Tables.seen store left shared shared refl c.reserve.ensures.items refl;
-      fit = refused_fit g.T.Tables.seen store left shared shared c.requires.fit refl refl c.reserve.ensures.items (λ k i h. h) c.requires.fit.fits;
+      marks = marks_alike g.T.Tables.seen store left shared shared refl c.reserve.ensures.items refl refl;
+      fit = refused_fit g.T.Tables.seen store left shared shared c.requires.fit refl refl c.reserve.ensures.items (λ k i h. h) (gains_none store.sets) c.requires.fit.fits;
       keeps = tables_kept store left shared shared c.requires.fit (keeps_refl store.tables shared.tables c.requires.fit.fits) refl;
     }
 
@@ -92,7 +98,7 @@ returns-in_err-add_rel g c =
       id = IfOk-from_err c.from_residual-in_err-add_rel.result _ c.from_residual-in_err-add_rel.ensures.0;
       ok = IfOk-from_err c.from_residual-in_err-add_rel.result _ c.from_residual-in_err-add_rel.ensures.0;
       err = at_err c.from_residual-in_err-add_rel.result (λ t. graph_in shared.names (record s { content = c.in_err-add_rel.ensures.err t }));
-      marks = marks_alike g.T.Tables.seen store left shared after refl c.reserve.ensures.items (λ t. record s { content = c.in_err-add_rel.ensures.err t });
-      fit = refused_fit g.T.Tables.seen store left shared after c.requires.fit refl (λ t. record s { content = c.in_err-add_rel.ensures.err t }) c.reserve.ensures.items (λ k i h. h) c.add_rel.ensures.keeps.fits;
+      marks = marks_alike g.T.Tables.seen store left shared after refl c.reserve.ensures.items (λ t. record s { content = c.in_err-add_rel.ensures.err t }) refl;
+      fit = refused_fit g.T.Tables.seen store left shared after c.requires.fit refl (λ t. record s { content = c.in_err-add_rel.ensures.err t }) c.reserve.ensures.items (λ k i h. h) (gains_none store.sets) c.add_rel.ensures.keeps.fits;
       keeps = tables_kept store left shared after c.requires.fit c.add_rel.ensures.keeps refl;
     }

@@ -9,11 +9,14 @@ use Rattle.pg_meaning.specs.Graph.{change_node}
 use Rattle.pg_store.proofs.ChangeLemmas.{changed_fit, refused_fit, changed_marks, marks_alike, at_err}
 use Rattle.pg_store.proofs.CoverLemmas.{covers_now, grown_covers, covers_with}
 use Rattle.pg_store.proofs.Kept.{tables_kept}
-use Rattle.pg_store.proofs.States.{with_node_changed, node_changed, node_change_undone, held_live, the_same, taken_and_put, node_as_it_was, node_stays_there}
+use Rattle.pg_store.proofs.GainLemmas.{gains_none}
+use Rattle.pg_store.proofs.Noting.{noted_now, noted_with, there_is}
+use Rattle.pg_store.proofs.States.{live_with_node_changed, with_node_changed, node_changed, node_change_undone, held_live, the_same, taken_and_put, node_as_it_was, node_stays_there}
 use Rattle.pg_store.proofs.store.Store.change_node.Goals as goal
 use Rattle.pg_store.specs.Covers.{has_in}
 use Rattle.pg_store.specs.Edits.{changed_node}
 use Rattle.pg_store.specs.Journal.{graph_in}
+use Rattle.pg_store.specs.Noted.{is_in}
 use Rattle.pg_store.specs.Stores.{state_of, graph_of_store}
 use Rattle.pg_store.specs.Views.{IsNamedNode}
 use Rattle.pg_store.specs.declared.journal.Entry.TheVariants.{NodeChanged}
@@ -65,10 +68,14 @@ returns g c =
           ∙ node_changed names s id n w r.fit.well r.there named.labels named.keys was
           ∙ ap (λ (x : NodeRecord). change_node (λ _. node_of names x) id.0 (graph_of_store g.T.Tables.seen store shared)) (edit.ok ∙ ap (changed_node c.args.change) (the_same w m held is));
       err = tt;
-      marks = changed_marks g.T.Tables.seen store _ shared _ r.fit (NodeChanged id c.in_ok-before.before) changed undone refl state journal;
-      fit = changed_fit g.T.Tables.seen store _ shared _ r.fit (NodeChanged id c.in_ok-before.before) changed undone refl state journal
+      marks = changed_marks g.T.Tables.seen store _ shared _ r.fit (NodeChanged id c.in_ok-before.before) changed undone refl state journal c.change_node-changed.ensures.gains;
+      fit = changed_fit g.T.Tables.seen store _ shared _ r.fit (NodeChanged id c.in_ok-before.before) changed undone refl state journal c.change_node-changed.ensures.gains
           c.change_node-changed.ensures.grown
           (covers_with (has_in c.change_node-changed.new.self) s id.0 n (grown_covers (has_in store.sets) (has_in c.change_node-changed.new.self) c.change_node-changed.ensures.grown s (covers_now (has_in store.sets) store.journal.items s r.fit.covered)) (λ k found. edit.covered k found))
+          (noted_with (is_in store.sets) (is_in c.change_node-changed.new.self) store.sets.dust.items c.change_node-changed.new.self.dust.items c.change_node-changed.ensures.gains.come c.change_node-changed.ensures.gains.stay s changed id.0
+          (noted_now (is_in store.sets) store.sets.dust.items store.journal.items s r.fit.noted) n
+          (ap (λ (x : Content). x.nodes) (live_with_node_changed names s id n w r.fit.well r.there named.labels named.keys was))
+          (λ k g there. edit.left k g (sym (there_is s k id.0 w held) ∙ there)))
           keeps.fits;
       keeps = tables_kept store _ shared _ r.fit keeps refl;
     }
@@ -81,8 +88,8 @@ returns-in_err-reserve g c =
     record {
       ok = IfOk-from_err c.from_residual.result _ c.from_residual.ensures.0;
       err = at_err c.from_residual.result refl;
-      marks = marks_alike g.T.Tables.seen store left shared shared refl c.reserve.ensures.items refl;
-      fit = refused_fit g.T.Tables.seen store left shared shared c.requires.fit refl refl c.reserve.ensures.items (λ k i h. h) c.requires.fit.fits;
+      marks = marks_alike g.T.Tables.seen store left shared shared refl c.reserve.ensures.items refl refl;
+      fit = refused_fit g.T.Tables.seen store left shared shared c.requires.fit refl refl c.reserve.ensures.items (λ k i h. h) (gains_none store.sets) c.requires.fit.fits;
       keeps = tables_kept store left shared shared c.requires.fit (keeps_refl store.tables shared.tables c.requires.fit.fits) refl;
     }
 
@@ -101,7 +108,7 @@ returns-in_err-before g c =
     record {
       ok = IfOk-from_err c.from_residual-in_err-before.result _ c.from_residual-in_err-before.ensures.0;
       err = at_err c.from_residual-in_err-before.result (ap (graph_in shared.names) state);
-      marks = marks_alike g.T.Tables.seen store left shared after refl c.reserve.ensures.items state;
-      fit = refused_fit g.T.Tables.seen store left shared after c.requires.fit refl state c.reserve.ensures.items c.change_node-changed.ensures.grown keeps.fits;
+      marks = marks_alike g.T.Tables.seen store left shared after refl c.reserve.ensures.items state c.change_node-changed.ensures.gains.pairs;
+      fit = refused_fit g.T.Tables.seen store left shared after c.requires.fit refl state c.reserve.ensures.items c.change_node-changed.ensures.grown c.change_node-changed.ensures.gains keeps.fits;
       keeps = tables_kept store left shared after c.requires.fit keeps refl;
     }

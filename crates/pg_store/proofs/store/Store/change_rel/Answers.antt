@@ -10,13 +10,20 @@ use Rattle.pg_graph.specs.declared.records.RelRecord.{RelRecord}
 use Rattle.pg_meaning.specs.Graph.{change_relationship}
 use Rattle.pg_store.proofs.ChangeLemmas.{changed_fit, refused_fit, changed_marks, marks_alike, at_err}
 use Rattle.pg_store.proofs.Changed.{rel_before}
-use Rattle.pg_store.proofs.CoverLemmas.{covers_now, covers_other_properties}
+use Rattle.pg_store.proofs.CoverLemmas.{same_nodes, covers_now, covers_other_properties}
 use Rattle.pg_store.proofs.Kept.{tables_kept}
 use Rattle.pg_store.proofs.States.{with_rel_changed, rel_changed, rel_change_undone, held_live_rel, the_same, properties_taken_and_put, rel_as_it_was, rel_stays_there}
 use Rattle.pg_store.proofs.store.Store.change_rel.Goals as goal
 use Rattle.pg_store.specs.Covers.{has_in}
 use Rattle.pg_store.specs.Edits.{changed_properties}
 use Rattle.pg_store.specs.Journal.{graph_in}
+use Rattle.std.specs.FinMap.{FinMap}
+use Rattle.std.specs.Ordering.{nat_cmp}
+use Rattle.pg_graph.specs.Removed.{without_ids}
+use Rattle.pg_graph.specs.declared.records.NodeRecord.{NodeRecord}
+use Rattle.pg_store.proofs.GainLemmas.{gains_none}
+use Rattle.pg_store.proofs.Noting.{noted_alike, noted_now}
+use Rattle.pg_store.specs.Noted.{is_in}
 use Rattle.pg_store.specs.Stores.{state_of, graph_of_store}
 use Rattle.pg_store.specs.declared.journal.Entry.TheVariants.{RelChanged}
 
@@ -62,9 +69,11 @@ returns g c =
           ∙ ap (λ (qs : Properties). change_relationship (λ e. record e { properties = property_entries names qs }) id.0 (graph_of_store g.T.Tables.seen store shared))
           (made ∙ ap (λ (x : RelRecord). changed_properties c.args.change x.properties) (the_same rel.0 m is_there is));
       err = tt;
-      marks = changed_marks g.T.Tables.seen store _ shared _ r.fit (RelChanged id c.in_ok-before.before) changed undone refl state journal;
-      fit = changed_fit g.T.Tables.seen store _ shared _ r.fit (RelChanged id c.in_ok-before.before) changed undone refl state journal (λ k i h. h)
-          (covers_other_properties (has_in store.sets) s id.0 ps (covers_now (has_in store.sets) store.journal.items s r.fit.covered)) keeps.fits;
+      marks = changed_marks g.T.Tables.seen store _ shared _ r.fit (RelChanged id c.in_ok-before.before) changed undone refl state journal (gains_none store.sets);
+      fit = changed_fit g.T.Tables.seen store _ shared _ r.fit (RelChanged id c.in_ok-before.before) changed undone refl state journal (gains_none store.sets) (λ k i h. h)
+          (covers_other_properties (has_in store.sets) s id.0 ps (covers_now (has_in store.sets) store.journal.items s r.fit.covered))
+          (noted_alike (is_in store.sets) store.sets.dust.items s changed (ap (λ (m : FinMap nat_cmp NodeRecord). without_ids m s.gone_nodes) (same_nodes s.content id.0 ps)) (noted_now (is_in store.sets) store.sets.dust.items store.journal.items s r.fit.noted))
+          keeps.fits;
       keeps = tables_kept store _ shared _ r.fit keeps refl;
     }
 
@@ -76,8 +85,8 @@ returns-in_err-reserve g c =
     record {
       ok = IfOk-from_err c.from_residual.result _ c.from_residual.ensures.0;
       err = at_err c.from_residual.result refl;
-      marks = marks_alike g.T.Tables.seen store left shared shared refl c.reserve.ensures.items refl;
-      fit = refused_fit g.T.Tables.seen store left shared shared c.requires.fit refl refl c.reserve.ensures.items (λ k i h. h) c.requires.fit.fits;
+      marks = marks_alike g.T.Tables.seen store left shared shared refl c.reserve.ensures.items refl refl;
+      fit = refused_fit g.T.Tables.seen store left shared shared c.requires.fit refl refl c.reserve.ensures.items (λ k i h. h) (gains_none store.sets) c.requires.fit.fits;
       keeps = tables_kept store left shared shared c.requires.fit (keeps_refl store.tables shared.tables c.requires.fit.fits) refl;
     }
 
@@ -98,7 +107,7 @@ returns-in_err-before g c =
     record {
       ok = IfOk-from_err c.from_residual-in_err-before.result _ c.from_residual-in_err-before.ensures.0;
       err = at_err c.from_residual-in_err-before.result (ap (graph_in shared.names) state);
-      marks = marks_alike g.T.Tables.seen store left shared after refl c.reserve.ensures.items state;
-      fit = refused_fit g.T.Tables.seen store left shared after c.requires.fit refl state c.reserve.ensures.items (λ k i h. h) keeps.fits;
+      marks = marks_alike g.T.Tables.seen store left shared after refl c.reserve.ensures.items state refl;
+      fit = refused_fit g.T.Tables.seen store left shared after c.requires.fit refl state c.reserve.ensures.items (λ k i h. h) (gains_none store.sets) keeps.fits;
       keeps = tables_kept store left shared after c.requires.fit keeps refl;
     }

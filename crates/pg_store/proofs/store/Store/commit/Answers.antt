@@ -3,6 +3,7 @@ use Rattle.std.specs.Global.{Vec}
 use Rattle.pg_graph.proofs.Others.{keeps_trans}
 use Rattle.pg_store.proofs.Settled.{forgotten_fit}
 use Rattle.pg_store.proofs.store.Store.commit.Goals as goal
+use Rattle.pg_store.specs.Journal.{State}
 use Rattle.pg_store.specs.declared.journal.Entry.{Entry}
 
 pub settle_keys-requires : goal.settle_keys-requires
@@ -20,7 +21,7 @@ pub settle_nodes-requires : goal.settle_nodes-requires
 settle_nodes-requires g c = record { fit = c.settle_rels.ensures.fit; journal = c.settle_rels.ensures.journal; none = c.settle_rels.ensures.none }
 
 pub sweep-requires : goal.sweep-requires
-sweep-requires g c = record { fit = c.settle_nodes.ensures.fit; journal = c.settle_nodes.ensures.journal }
+sweep-requires g c = record { fit = c.settle_nodes.ensures.fit; journal = c.settle_nodes.ensures.journal; none_gone = c.settle_nodes.ensures.none }
 
 pub returns : goal.returns
 returns g c =
@@ -35,6 +36,9 @@ returns g c =
       names = nodes.names ∙ rels.names ∙ keys.names;
       fit = swept.fit;
       no_mark = swept.journal;
+      none_gone = ap (λ (s : State). s.gone_nodes) c.sweep.ensures.state ∙ nodes.none;
+      exact = c.sweep.ensures.exact;
+      pairs = swept.pairs ∙ nodes.pairs ∙ rels.pairs ∙ keys.pairs;
       keeps = keeps_trans start c.settle_keys.new.self.tables c.sweep.new.self.tables c.args.shared.now.tables c.settle_keys.new.shared.tables end keys.keeps
           (keeps_trans c.settle_keys.new.self.tables c.settle_nodes.new.self.tables c.sweep.new.self.tables c.settle_keys.new.shared.tables end end
           (keeps_trans c.settle_keys.new.self.tables c.settle_rels.new.self.tables c.settle_nodes.new.self.tables c.settle_keys.new.shared.tables c.settle_rels.new.shared.tables end rels.keeps nodes.keeps)

@@ -4,7 +4,6 @@ use Rattle.std.specs.Global.{Vec}
 use Rattle.std.specs.Option.{option_to_list}
 use Rattle.pg_store.proofs.TakenBack.{at_first, can_go, goes_on, is_back}
 use Rattle.pg_store.proofs.store.Store.go_back.Goals as goal
-use Rattle.pg_store.specs.Covers.{has_in}
 use Rattle.pg_store.specs.declared.journal.Entry.{Entry}
 
 pub loop-mark-init : goal.loop-mark-init
@@ -32,7 +31,7 @@ loop-mark-preserved g c =
     c.loop-mark.invariant
     (omega (arith, c.loop-mark-test.true, c.len.ensures))
     (c.pop.ensures.items ∙ ap (λ o. c.pop.new.self.items ++ option_to_list o) c.unwrap-entry.ensures ∙ ap (λ es. es ++ c.unwrap-entry.result ∷ []) (ap (λ (v : Vec Entry). v.items) (sym c.take_back.ensures.journal)))
-    c.take_back.ensures.state c.take_back.ensures.names (ap has_in c.take_back.ensures.sets) c.take_back.ensures.keeps
+    c.take_back.ensures.state c.take_back.ensures.names c.take_back.ensures.sets c.take_back.ensures.keeps
 
 pub returns-clause-back : goal.returns-clause-back
 returns-clause-back g c =
@@ -46,3 +45,6 @@ returns-clause-fit g c = c.loop-mark.invariant.fit
 
 pub returns-clause-keeps : goal.returns-clause-keeps
 returns-clause-keeps g c = c.loop-mark.invariant.keeps
+
+pub returns-clause-sets : goal.returns-clause-sets
+returns-clause-sets g c = c.loop-mark.invariant.sets

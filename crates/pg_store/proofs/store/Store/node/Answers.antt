@@ -1,15 +1,14 @@
 use Rattle.std.proofs.Common.{sym, ◌∙◌}
 use Rattle.pg_graph.proofs.Removed.{get_gone, get_kept}
-use Rattle.pg_store.proofs.Stores.{id_is_among}
 use Rattle.pg_store.proofs.store.Store.node.Goals as goal
 
-pub returns-then-is_some : goal.returns-then-is_some
-returns-then-is_some g c =
+pub returns-then-contains : goal.returns-then-contains
+returns-then-contains g c =
     let store = c.args.self.now in
-    sym (get_gone (g.T.Tables.seen.content store.tables c.args.shared.now.tables).nodes store.gone_nodes c.args.id.0 (id_is_among store.gone_nodes c.args.id.0 c.get.result c.get.ensures ∙ sym c.is_some.ensures ∙ c.if-is_some.true))
+    sym (get_gone (g.T.Tables.seen.content store.tables c.args.shared.now.tables).nodes store.gone_nodes c.args.id.0 (sym c.contains.ensures ∙ c.if-contains.true))
 
 pub returns : goal.returns
 returns g c =
     let store = c.args.self.now in
     c.node.ensures
-    ∙ sym (get_kept (g.T.Tables.seen.content store.tables c.args.shared.now.tables).nodes store.gone_nodes c.args.id.0 (id_is_among store.gone_nodes c.args.id.0 c.get.result c.get.ensures ∙ sym c.is_some.ensures ∙ c.if-is_some.false))
+    ∙ sym (get_kept (g.T.Tables.seen.content store.tables c.args.shared.now.tables).nodes store.gone_nodes c.args.id.0 (sym c.contains.ensures ∙ c.if-contains.false))

@@ -4,10 +4,12 @@ use Rattle.pg_graph.proofs.Others.{keeps_trans}
 use Rattle.pg_graph.specs.Content.{Content, with_node}
 use Rattle.pg_graph.specs.declared.records.NodeRecord.{NodeRecord}
 use Rattle.pg_store.proofs.CoverLemmas.{covers_now}
-use Rattle.pg_store.proofs.Settled.{settles_first, settles_on, without_blank, well_without_blank, graph_without_blank, covers_without_blank, node_held_here}
+use Rattle.pg_store.proofs.Noting.{noted_now}
+use Rattle.pg_store.proofs.Settled.{noted_without_blank, settles_first, settles_on, without_blank, well_without_blank, graph_without_blank, covers_without_blank, node_held_here}
 use Rattle.pg_store.proofs.States.{taken_and_put, node_stays_there, the_same}
 use Rattle.pg_store.proofs.store.Store.settle_node_key.Goals as goal
 use Rattle.pg_store.specs.Covers.{has_in}
+use Rattle.pg_store.specs.Noted.{is_in}
 use Rattle.pg_store.specs.Stores.{state_of}
 
 pub returns-then-not-has_blank : goal.returns-then-not-has_blank
@@ -44,6 +46,8 @@ returns g c =
     (ap (λ (content : Content). record s { content = content }) content)
     (well_without_blank names s id c.args.key n well found.1 found.2)
     (covers_without_blank names s id c.args.key n well found.1 found.2 (has_in store.sets) (covers_now (has_in store.sets) store.journal.items s c.requires.fit.covered))
+    (noted_without_blank names s id c.args.key n well found.1 found.2 (is_in store.sets) store.sets.dust.items (noted_now (is_in store.sets) store.sets.dust.items store.journal.items s c.requires.fit.noted))
+    refl
     (graph_without_blank names s id c.args.key n well found.1 found.2)
     refl refl
     (keeps_trans store.tables _ _ shared.tables _ _ c.change-node.ensures.keeps c.change.ensures.keeps)

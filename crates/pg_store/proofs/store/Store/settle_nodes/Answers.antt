@@ -1,10 +1,13 @@
-use Rattle.std.proofs.Common.{subst, sym, refl, ◌<◌}
+use Rattle.std.proofs.Common.{subst, sym, ap, refl, ◌<◌}
+use Rattle.pg_graph.specs.Content.{Content}
 use Rattle.std.specs.FinMap as map
 use Rattle.pg_graph.specs.Removed.{Ids}
 use Rattle.pg_store.proofs.CoverLemmas.{covers_now, covers_without}
-use Rattle.pg_store.proofs.Settled.{among, settles_on, fewer, graph_without_node, well_without_node, without_gone_node, nothing_out, nothing_in}
+use Rattle.pg_store.proofs.Noting.{noted_alike, noted_now}
+use Rattle.pg_store.proofs.Settled.{live_nodes, among, settles_on, fewer, graph_without_node, well_without_node, without_gone_node, nothing_out, nothing_in}
 use Rattle.pg_store.proofs.store.Store.settle_nodes.Goals as goal
 use Rattle.pg_store.specs.Covers.{has_in}
+use Rattle.pg_store.specs.Noted.{is_in}
 use Rattle.pg_store.specs.Stores.{state_of}
 
 pub drop_node-requires-clause-no_outgoing : goal.drop_node-requires-clause-no_outgoing
@@ -35,6 +38,8 @@ loop-id-preserved g c =
           (λ t. record s { content = c.drop_node.ensures.dropped t; gone_nodes = c.in-Some.ensures.removed t })
           (well_without_node c.loop-id.shared.names s c.in-Some.id was.settles.fit.well gone was.no_rels)
           (covers_without (has_in now.sets) s c.in-Some.id (covers_now (has_in now.sets) now.journal.items s was.settles.fit.covered))
+          (noted_alike (is_in now.sets) now.sets.dust.items s (without_gone_node c.loop-id.shared.names s c.in-Some.id was.settles.fit.well gone was.no_rels) (ap (λ (x : Content). x.nodes) (live_nodes c.loop-id.shared.names s c.in-Some.id was.settles.fit.well gone was.no_rels)) (noted_now (is_in now.sets) now.sets.dust.items now.journal.items s was.settles.fit.noted))
+          refl
           (graph_without_node c.loop-id.shared.names s c.in-Some.id was.settles.fit.well gone was.no_rels)
           refl refl c.drop_node.ensures.keeps;
       no_rels = was.no_rels;

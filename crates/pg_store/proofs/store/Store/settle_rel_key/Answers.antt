@@ -3,11 +3,17 @@ use Rattle.std.specs.FinMap as map
 use Rattle.pg_graph.proofs.Others.{keeps_trans}
 use Rattle.pg_graph.specs.Content.{Content, with_rel_properties}
 use Rattle.pg_graph.specs.Records.{Properties}
-use Rattle.pg_store.proofs.CoverLemmas.{covers_now}
+use Rattle.std.specs.FinMap.{FinMap}
+use Rattle.std.specs.Ordering.{nat_cmp}
+use Rattle.pg_graph.specs.Removed.{without_ids}
+use Rattle.pg_graph.specs.declared.records.NodeRecord.{NodeRecord}
+use Rattle.pg_store.proofs.CoverLemmas.{covers_now, same_nodes}
+use Rattle.pg_store.proofs.Noting.{noted_alike, noted_now}
 use Rattle.pg_store.proofs.Settled.{settles_first, settles_on, rel_without_blank, well_rel_without_blank, graph_rel_without_blank, covers_rel_without_blank, rel_held_here, properties_here}
 use Rattle.pg_store.proofs.States.{properties_taken_and_put, rel_stays_there, the_same}
 use Rattle.pg_store.proofs.store.Store.settle_rel_key.Goals as goal
 use Rattle.pg_store.specs.Covers.{has_in}
+use Rattle.pg_store.specs.Noted.{is_in}
 use Rattle.pg_store.specs.Stores.{state_of}
 
 pub returns-then-not-has_blank_rel : goal.returns-then-not-has_blank_rel
@@ -47,6 +53,9 @@ returns g c =
     (ap (λ (content : Content). record s { content = content }) content)
     (well_rel_without_blank names s id c.args.key r well found.1 found.2)
     (covers_rel_without_blank names s id c.args.key r well found.1 found.2 (has_in store.sets) (covers_now (has_in store.sets) store.journal.items s c.requires.fit.covered))
+    (noted_alike (is_in store.sets) store.sets.dust.items s (rel_without_blank names s id c.args.key r well found.1 found.2) (ap (λ (m : FinMap nat_cmp NodeRecord). without_ids m s.gone_nodes) (same_nodes s.content id.0 (map.remove r.properties c.args.key)))
+    (noted_now (is_in store.sets) store.sets.dust.items store.journal.items s c.requires.fit.noted))
+    refl
     (graph_rel_without_blank names s id c.args.key r well found.1 found.2)
     refl refl
     (keeps_trans store.tables _ _ shared.tables _ _ c.change_rel-properties.ensures.keeps c.change_rel.ensures.keeps)

@@ -2,9 +2,11 @@ use Rattle.std.proofs.Common.{subst, sym, refl, ◌<◌}
 use Rattle.std.specs.FinMap as map
 use Rattle.pg_graph.specs.Removed.{Ids}
 use Rattle.pg_store.proofs.CoverLemmas.{covers_now}
+use Rattle.pg_store.proofs.Noting.{noted_alike, noted_now}
 use Rattle.pg_store.proofs.Settled.{among, settles_first, settles_on, fewer, graph_without_rel, well_without_rel, without_gone_rel}
 use Rattle.pg_store.proofs.store.Store.settle_rels.Goals as goal
 use Rattle.pg_store.specs.Covers.{has_in}
+use Rattle.pg_store.specs.Noted.{is_in}
 use Rattle.pg_store.specs.Stores.{state_of}
 
 pub loop-id-init : goal.loop-id-init
@@ -30,5 +32,7 @@ loop-id-preserved g c =
     (λ t. record s { content = c.drop_rel.ensures.dropped t; gone_rels = c.in-Some.ensures.removed t })
     (well_without_rel c.loop-id.shared.names s c.in-Some.id was.fit.well gone)
     (covers_now (has_in now.sets) now.journal.items s was.fit.covered)
+    (noted_alike (is_in now.sets) now.sets.dust.items s (without_gone_rel c.loop-id.shared.names s c.in-Some.id was.fit.well gone) refl (noted_now (is_in now.sets) now.sets.dust.items now.journal.items s was.fit.noted))
+    refl
     (graph_without_rel c.loop-id.shared.names s c.in-Some.id was.fit.well gone)
     refl refl c.drop_rel.ensures.keeps

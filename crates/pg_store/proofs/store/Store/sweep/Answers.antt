@@ -1,41 +1,55 @@
-use Rattle.std.proofs.Common.{◌≡◌, ℕ, true, false, refl, sym, ap, subst, ◌∙◌}
+use Rattle.std.proofs.Common.{◌≡◌, ◌==◌, ◌++◌, ◌∷◌, [], ℕ, Some, true, false, not, refl, sym, ap, subst, ◌∙◌}
+use Rattle.std.proofs.lemmas.List.{nil_from_length}
 use Rattle.std.specs.FinMap as map
+use Rattle.std.specs.FinMap.{FinMap}
 use Rattle.std.specs.Option.{option_map_or}
+use Rattle.std.specs.Ordering.{nat_cmp}
+use Rattle.std.specs.Prelude.{◌&&◌}
 use Rattle.pg_graph.proofs.Others.{keeps_refl}
 use Rattle.pg_graph.specs.Content.{Seen}
-use Rattle.pg_store.proofs.ChangeLemmas.{grown_fit}
+use Rattle.pg_graph.specs.declared.records.NodeRecord.{NodeRecord}
+use Rattle.pg_index.specs.Properties.{pairs_of}
 use Rattle.pg_store.proofs.CoverLemmas.{covers_now, swept_covers}
-use Rattle.pg_store.proofs.SetLemmas.{same_grow}
+use Rattle.pg_store.proofs.Noting.{exact_when, none_gone_there, noted_gone, noted_kept, noted_now}
 use Rattle.pg_store.proofs.Settled.{settles_on}
 use Rattle.pg_store.proofs.store.Store.sweep.Goals as goal
 use Rattle.pg_store.proofs.store.Store.sweep.Goals.{then-not-is_sought, else-not-is_sought}
 use Rattle.pg_store.specs.Covers.{FindAlike, Key, belongs, has_in}
+use Rattle.pg_store.specs.Journal.{State}
+use Rattle.pg_store.specs.Noted.{AreNoted, is_in, is_there, same_key}
 use Rattle.pg_store.specs.Stores.{state_of, Settles}
 use Rattle.pg_store.specs.Wanted.{place_key, wanted_key}
 use Rattle.pg_store.specs.declared.sets.Sets.{Sets}
 use Rattle.pg_store.specs.declared.shared.Shared.{Shared}
 use Rattle.pg_store.specs.declared.store.Store.{Store}
+use Rattle.pg_store.specs.declared.wanted.Place.{Place}
 
--- one place fewer is noted
-noted : {T S K : Type 0} (seen : Seen T S) (start now : Store T) (shared : Shared S K) (sets : Sets) → Settles seen start shared now shared → sets.all ≡ now.sets.all → sets.labels ≡ now.sets.labels → sets.indexes ≡ now.sets.indexes
-    → Settles seen start shared (record now { sets = sets }) shared
-noted seen start now shared sets was all labels indexes = record {
-  fit = grown_fit seen now shared sets was.fit (same_grow now.sets sets all labels indexes);
-  journal = was.journal;
-  graph = was.graph;
-  names = was.names;
-  keeps = was.keeps;
-}
+module _ {T S K : Type 0} (seen : Seen T S) (start now : Store T) (shared : Shared S K) (was : Settles seen start shared now shared) (place : Place) (id : ℕ) where
+  abbrev here : State
+  here = state_of seen now shared
 
--- an id is taken from where it doesn't belong
-swept : {T S K : Type 0} (seen : Seen T S) (start now : Store T) (shared : Shared S K) (left : Sets) (place : Key) (id : ℕ)
-    → ((k : Key) (i : ℕ) → has_in now.sets k i ≡ true → has_in left k i ≡ false → FindAlike k place × (i ≡ id)) → option_map_or (belongs place) (map.get (state_of seen now shared).content.nodes id) false ≡ false
-    → Settles seen start shared now shared → Settles seen start shared (record now { sets = left }) shared
-swept seen start now shared left place id lost other was =
-    let s = state_of seen now shared in
-    settles_on seen start now (record now { sets = left }) shared shared shared s was refl was.fit.well
-    (swept_covers (has_in now.sets) (has_in left) place id s lost other (covers_now (has_in now.sets) now.journal.items s was.fit.covered))
-    refl refl refl (keeps_refl now.tables shared.tables was.fit.fits)
+  -- an id is taken from where it doesn't belong
+  swept : (left : Sets) → now.sets.dust.items ≡ left.dust.items ++ (place, id) ∷ []
+      → ((k : Key) (i : ℕ) → has_in now.sets k i ≡ true → has_in left k i ≡ false → FindAlike k (place_key place) × (i ≡ id))
+      → ((k : Key) (i : ℕ) → is_in left k i ≡ (is_in now.sets k i && not (same_key (place_key place) k && id == i)))
+      → pairs_of left.indexes.items ≡ pairs_of now.sets.indexes.items
+      → option_map_or (belongs (place_key place)) (map.get here.content.nodes id) false ≡ false
+      → Settles seen start shared (record now { sets = left }) shared
+  swept left dust lost gone pairs other =
+      settles_on seen start now (record now { sets = left }) shared shared shared here was refl was.fit.well
+      (swept_covers (has_in now.sets) (has_in left) (place_key place) id here lost other (covers_now (has_in now.sets) now.journal.items here was.fit.covered))
+      (noted_gone here now.sets.dust.items left.dust.items place id dust (is_in now.sets) (is_in left) gone (noted_now (is_in now.sets) now.sets.dust.items now.journal.items here was.fit.noted))
+      pairs refl refl refl (keeps_refl now.tables shared.tables was.fit.fits)
+
+  -- a note of an id that belongs is dropped
+  dropped : (sets : Sets) → now.sets.dust.items ≡ sets.dust.items ++ (place, id) ∷ [] → has_in sets ≡ has_in now.sets → is_in sets ≡ is_in now.sets → pairs_of sets.indexes.items ≡ pairs_of now.sets.indexes.items
+      → is_there here (place_key place) id ≡ true → Settles seen start shared (record now { sets = sets }) shared
+  dropped sets dust has is pairs there =
+      settles_on seen start now (record now { sets = sets }) shared shared shared here was refl was.fit.well
+      (subst (λ has. (k : Key) (i : ℕ) (n : NodeRecord) → map.get here.content.nodes i ≡ Some n → belongs k n ≡ true → has k i ≡ true) (sym has) (covers_now (has_in now.sets) now.journal.items here was.fit.covered))
+      (subst (λ has. AreNoted has sets.dust.items here) (sym is)
+      (noted_kept here now.sets.dust.items sets.dust.items place id dust (is_in now.sets) there (noted_now (is_in now.sets) now.sets.dust.items now.journal.items here was.fit.noted)))
+      pairs refl refl refl (keeps_refl now.tables shared.tables was.fit.fits)
 
 pub loop-place-preserved : goal.loop-place-preserved
 loop-place-preserved g c =
@@ -44,25 +58,51 @@ loop-place-preserved g c =
     let shared = c.args.shared.now in
     let old = c.loop-place.self in
     let was = c.loop-place.invariant in
-    let nodes = (state_of seen old shared).content.nodes in
+    let s = state_of seen old shared in
     let place = c.in-Some.place in
     let id = c.in-Some.id in
+    let test = ap (λ k. option_map_or (belongs k) (map.get s.content.nodes id) false) (sym c.wanted.ensures) ∙ ap (λ o. option_map_or (belongs (wanted_key c.wanted.result)) o false) (sym c.node.ensures) ∙ sym c.is_sought.ensures in
+    let none = ap (λ (x : State). x.gone_nodes) was.state ∙ c.requires.none_gone in
     elim c.if-not-is_sought.branch [
       | then-not-is_sought w ↦ record {
         settles = subst (λ store. Settles seen start shared store shared) (sym w.self-is)
-            (swept seen start old shared w.forget.new.self (place_key place) id w.forget.ensures.lost
-            (ap (λ k. option_map_or (belongs k) (map.get nodes id) false) (sym c.wanted.ensures) ∙ ap (λ o. option_map_or (belongs (wanted_key c.wanted.result)) o false) (sym c.node.ensures) ∙ sym c.is_sought.ensures ∙ w.if-not-is_sought.true)
-            was.settles);
+            (swept seen start old shared was.settles place id w.forget.new.self
+            (c.in-Some.ensures.items ∙ ap (λ ds. ds.items ++ (place, id) ∷ []) (sym w.forget.ensures.dust))
+            w.forget.ensures.lost w.forget.ensures.left w.forget.ensures.pairs
+            (test ∙ w.if-not-is_sought.true));
         state = ap (λ store. state_of seen store shared) w.self-is ∙ was.state;
       }
       | else-not-is_sought w ↦ record {
-        settles = subst (λ store. Settles seen start shared store shared) (sym w.self-is) (noted seen start old shared _ was.settles refl refl refl);
+        settles = subst (λ store. Settles seen start shared store shared) (sym w.self-is)
+            (dropped seen start old shared was.settles place id _ c.in-Some.ensures.items refl refl refl
+            (ap (λ (m : FinMap nat_cmp NodeRecord). option_map_or (belongs (place_key place)) (map.get m id) false) (none_gone_there s none) ∙ test ∙ w.if-not-is_sought.false));
         state = ap (λ store. state_of seen store shared) w.self-is ∙ was.state;
       }
     ]
 
+-- no note is left
+done : {T S K : Type 0} (seen : Seen T S) (start now : Store T) (shared : Shared S K) (sets : Sets) → Settles seen start shared now shared → now.sets.dust.items ≡ [] → sets.dust.items ≡ [] → has_in sets ≡ has_in now.sets → is_in sets ≡ is_in now.sets → pairs_of sets.indexes.items ≡ pairs_of now.sets.indexes.items
+    → Settles seen start shared (record now { sets = sets }) shared
+done seen start now shared sets was old none has is pairs =
+    let s = state_of seen now shared in
+    settles_on seen start now (record now { sets = sets }) shared shared shared s was refl was.fit.well
+    (subst (λ has. (k : Key) (i : ℕ) (n : NodeRecord) → map.get s.content.nodes i ≡ Some n → belongs k n ≡ true → has k i ≡ true) (sym has) (covers_now (has_in now.sets) now.journal.items s was.fit.covered))
+    (subst (λ has. AreNoted has sets.dust.items s) (sym is) (subst (λ ns. AreNoted (is_in now.sets) ns s) (old ∙ sym none) (noted_now (is_in now.sets) now.sets.dust.items now.journal.items s was.fit.noted)))
+    pairs refl refl refl (keeps_refl now.tables shared.tables was.fit.fits)
+
 pub returns-clause-swept : goal.returns-clause-swept
-returns-clause-swept g c = noted g.T.Tables.seen c.args.self.now c.loop-place.self c.args.shared.now _ c.loop-place.invariant.settles refl refl refl
+returns-clause-swept g c =
+    let cases = c.in_default.ensures.cases in
+    done g.T.Tables.seen c.args.self.now c.loop-place.self c.args.shared.now _ c.loop-place.invariant.settles (nil_from_length c.loop-place.self.sets.dust.items (sym c.loop-place.self.sets.dust.ok.0 ∙ cases.0)) (nil_from_length c.pop.new.self.items (sym c.pop.new.self.ok.0 ∙ cases.1)) refl refl refl
 
 pub returns-clause-state : goal.returns-clause-state
 returns-clause-state g c = c.loop-place.invariant.state
+
+pub returns-clause-exact : goal.returns-clause-exact
+returns-clause-exact g c =
+    let seen = g.T.Tables.seen in
+    let shared = c.args.shared.now in
+    let now = c.loop-place.self in
+    let cases = c.in_default.ensures.cases in
+    let after = done seen c.args.self.now now shared (record now.sets { dust = c.pop.new.self }) c.loop-place.invariant.settles (nil_from_length c.loop-place.self.sets.dust.items (sym c.loop-place.self.sets.dust.ok.0 ∙ cases.0)) (nil_from_length c.pop.new.self.items (sym c.pop.new.self.ok.0 ∙ cases.1)) refl refl refl in
+    exact_when (record now.sets { dust = c.pop.new.self }) (state_of seen now shared) (nil_from_length c.pop.new.self.items (sym c.pop.new.self.ok.0 ∙ cases.1)) (covers_now (has_in (record now.sets { dust = c.pop.new.self })) now.journal.items (state_of seen now shared) after.fit.covered) (noted_now (is_in (record now.sets { dust = c.pop.new.self })) c.pop.new.self.items now.journal.items (state_of seen now shared) after.fit.noted)

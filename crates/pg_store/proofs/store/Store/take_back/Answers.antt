@@ -82,9 +82,6 @@ returns-in-RelChanged g c =
       keeps = back.keeps;
     }
 
-pub remove-requires : goal.remove-requires
-remove-requires g c = (subst (λ (e : Entry). CanUndoOne e (state_of g.T.Tables.seen c.args.self.now c.args.shared.now)) c.in-NodeRemoved.is c.requires.can).0
-
 pub overflow_add-self : goal.overflow_add-self
 overflow_add-self g c =
     let few = (subst (λ (e : Entry). CanUndoOne e (state_of g.T.Tables.seen c.args.self.now c.args.shared.now)) c.in-NodeRemoved.is c.requires.can).1 in
@@ -94,15 +91,12 @@ pub returns-in-NodeRemoved : goal.returns-in-NodeRemoved
 returns-in-NodeRemoved g c =
     let s = state_of g.T.Tables.seen c.args.self.now c.args.shared.now in
     record {
-      state = ap (λ (gone : Ids). record (undo_one (NodeRemoved c.in-NodeRemoved.id) s) { gone_nodes = gone }) c.remove.ensures.removed ∙ ap (λ (e : Entry). undo_one e s) (sym c.in-NodeRemoved.is);
+      state = ap (λ (gone : Ids). record (undo_one (NodeRemoved c.in-NodeRemoved.id) s) { gone_nodes = gone }) c.forget.ensures ∙ ap (λ (e : Entry). undo_one e s) (sym c.in-NodeRemoved.is);
       names = refl;
       journal = refl;
       sets = refl;
       keeps = keeps_refl c.args.self.now.tables c.args.shared.now.tables c.requires.fits;
     }
-
-pub remove-requires-in-RelRemoved : goal.remove-requires-in-RelRemoved
-remove-requires-in-RelRemoved g c = (subst (λ (e : Entry). CanUndoOne e (state_of g.T.Tables.seen c.args.self.now c.args.shared.now)) c.in-RelRemoved.is c.requires.can).0
 
 pub overflow_add-self-in-RelRemoved : goal.overflow_add-self-in-RelRemoved
 overflow_add-self-in-RelRemoved g c =
@@ -113,7 +107,7 @@ pub returns-in-RelRemoved : goal.returns-in-RelRemoved
 returns-in-RelRemoved g c =
     let s = state_of g.T.Tables.seen c.args.self.now c.args.shared.now in
     record {
-      state = ap (λ (gone : Ids). record (undo_one (RelRemoved c.in-RelRemoved.id) s) { gone_rels = gone }) c.remove-in-RelRemoved.ensures.removed ∙ ap (λ (e : Entry). undo_one e s) (sym c.in-RelRemoved.is);
+      state = ap (λ (gone : Ids). record (undo_one (RelRemoved c.in-RelRemoved.id) s) { gone_rels = gone }) c.forget-in-RelRemoved.ensures ∙ ap (λ (e : Entry). undo_one e s) (sym c.in-RelRemoved.is);
       names = refl;
       journal = refl;
       sets = refl;

@@ -1,0 +1,37 @@
+use Rattle.std.proofs.Common.{sym, ap, ◌∙◌}
+use Rattle.std.specs.Prelude.{◌||◌}
+use Rattle.pg_index.specs.Properties.{is_found_by}
+use Rattle.pg_store.proofs.NoteLemmas.{first_to_come, index_is, none_to_come, one_fewer, or_on, stay_all}
+use Rattle.pg_store.proofs.notes.note_values_left.Goals as goal
+use Rattle.pg_store.specs.Covers.{with_value}
+use Rattle.pg_store.specs.Edits.{properties_before}
+use Rattle.pg_store.specs.Noted.{is_noted}
+
+pub loop-index-init : goal.loop-index-init
+loop-index-init c = record {
+  notes = λ key id h. h;
+  done = λ l k v pair found. first_to_come _ l k c.args.indexes.now pair;
+}
+
+pub loop-index-preserved : goal.loop-index-preserved
+loop-index-preserved c =
+    let xs = c.args.indexes.now in
+    let at = c.loop-index.index-index in
+    let x = c.index-item.result in
+    let id = c.args.id in
+    let n = c.args.node.now in
+    record {
+      notes = stay_all c.args.dust.now.items c.loop-index.dust.items c.note_value_left.new.dust.items c.loop-index.invariant.notes c.note_value_left.ensures.notes;
+      done = λ l k v pair found.
+          one_fewer (is_found_by l k v n || is_noted c.loop-index.dust.items (with_value l k v) id) (is_found_by l k v n || is_noted c.note_value_left.new.dust.items (with_value l k v) id) l k xs at x c.index-item.is c.loop-index-test.true
+          (or_on (is_found_by l k v n) (is_noted c.loop-index.dust.items (with_value l k v) id) (is_found_by l k v n) (is_noted c.note_value_left.new.dust.items (with_value l k v) id) (λ h. h) (c.note_value_left.ensures.notes (with_value l k v) id))
+          (λ for. let is = index_is x l k for in
+          ap (λ m. is_found_by m k v n || is_noted c.note_value_left.new.dust.items (with_value m k v) id) (sym is.0) ∙ ap (λ m. is_found_by x.label m v n || is_noted c.note_value_left.new.dust.items (with_value x.label m v) id) (sym is.1) ∙ c.in_ok-note_value_left.ensures.ok v (ap (λ m. is_found_by m x.key v (record n { properties = properties_before c.args.before.now n.properties })) is.0 ∙ ap (λ m. is_found_by l m v (record n { properties = properties_before c.args.before.now n.properties })) is.1 ∙ found))
+          (c.loop-index.invariant.done l k v pair found);
+    }
+
+pub returns-in_err-note_value_left-clause-notes : goal.returns-in_err-note_value_left-clause-notes
+returns-in_err-note_value_left-clause-notes c = stay_all c.args.dust.now.items c.loop-index.dust.items c.note_value_left.new.dust.items c.loop-index.invariant.notes c.note_value_left.ensures.notes
+
+pub returns-clause-ok : goal.returns-clause-ok
+returns-clause-ok c = λ l k v pair found. none_to_come _ l k c.args.indexes.now c.loop-index.index-index c.loop-index-test.false (c.loop-index.invariant.done l k v pair found)

@@ -19,9 +19,10 @@ use crate::ranges::range_of;
 use crate::reads::item_at;
 use pg_expr_calls as values;
 use pg_graph::Tables;
+use pg_meaning::Fault;
 use pg_scope::{Function, summary_named};
 use pg_store::Snapshot;
-use pg_value_core::{Fault, Value};
+use pg_value_core::Value;
 use std::alloc::Global;
 
 /// What a call of no function is.
@@ -61,7 +62,8 @@ pub(crate) fn applied<'a, T: Tables>(
     function: Function,
     arguments: Result<Vec<Found<'a>>, Fault>,
 ) -> Result<Found<'a>, Fault>
-    ensures { After arguments.entry result (λ fs. applied graph.now (function_view function) (founds_view fs.items)) found_view }
+    ensures { After arguments.entry result
+        (λ fs. applied graph.now (function_view function) (founds_view fs.items)) found_view }
 {
     let arguments = arguments?;
     if has_deleted(graph, &arguments) {
@@ -119,8 +121,12 @@ fn at_all<'a, T: Tables>(
 ) -> Result<Found<'a>, Fault>
     requires there { has_deleted graph.now (founds_view arguments.items) ≡ false }
     requires one { is_range (function_view function) ≡ false }
-    ensures ok { IfOk result (λ f. function_at graph.now (function_view function) (founds_view arguments.entry.items) ≡ Ok (found_view f)) }
-    ensures err { IfErr result (λ e. e ≢ OutOfMemory → function_at graph.now (function_view function) (founds_view arguments.entry.items) ≡ Err e) }
+    ensures ok { IfOk result
+        (λ f. function_at graph.now (function_view function) (founds_view arguments.entry.items)
+        ≡ Ok (found_view f)) }
+    ensures err { IfErr result (λ e. e ≢ OutOfMemory
+        → function_at graph.now (function_view function) (founds_view arguments.entry.items)
+        ≡ Err e) }
 {
     match only(arguments) {
         Some(argument) => at_one(alloc, graph, function, argument),
@@ -131,7 +137,8 @@ fn at_all<'a, T: Tables>(
 /// The one argument, where it is one.
 #[tactic(auto, using(crate::proofs::Applied::other_count, crate::proofs::Applied::one_left))]
 fn only(arguments: Vec<Found<'_>>) -> Option<Found<'_>>
-    ensures one { IfSome result (λ f. founds_view arguments.entry.items ≡ item (found_view f) no_items) }
+    ensures one { IfSome result
+        (λ f. founds_view arguments.entry.items ≡ item (found_view f) no_items) }
     ensures none { IfNone result (IsNotOne (founds_view arguments.entry.items)) }
 {
     let mut left = arguments;
@@ -151,8 +158,11 @@ fn at_one<'a, T: Tables>(
 ) -> Result<Found<'a>, Fault>
     requires there { is_deleted graph.now (found_view argument) ≡ false }
     requires one { is_range (function_view function) ≡ false }
-    ensures ok { IfOk result (λ f. function_at graph.now (function_view function) (item (found_view argument.entry) no_items) ≡ Ok (found_view f)) }
-    ensures err { IfErr result (λ e. e ≢ OutOfMemory → function_at graph.now (function_view function) (item (found_view argument.entry) no_items) ≡ Err e) }
+    ensures ok { IfOk result (λ f. function_at graph.now
+        (function_view function) (item (found_view argument.entry) no_items) ≡ Ok (found_view f)) }
+    ensures err { IfErr result (λ e. e ≢ OutOfMemory
+        → function_at graph.now (function_view function) (item (found_view argument.entry) no_items)
+        ≡ Err e) }
 {
     match function {
         Function::Properties => properties(alloc, graph, argument),
@@ -174,8 +184,10 @@ fn at_look<T: Tables>(
 ) -> Result<Value, Fault>
     requires there { is_deleted graph.now (view v.now) ≡ false }
     requires looks { looks (function_view function) ≡ true }
-    ensures ok { IfOk result (λ u. function_at graph.now (function_view function) (item (view v.now) no_items) ≡ Ok (view u)) }
-    ensures err { IfErr result (λ e. e ≢ OutOfMemory → function_at graph.now (function_view function) (item (view v.now) no_items) ≡ Err e) }
+    ensures ok { IfOk result (λ u.
+        function_at graph.now (function_view function) (item (view v.now) no_items) ≡ Ok (view u)) }
+    ensures err { IfErr result (λ e. e ≢ OutOfMemory
+        → function_at graph.now (function_view function) (item (view v.now) no_items) ≡ Err e) }
 {
     match function {
         Function::Id => number(graph, v),
@@ -202,7 +214,8 @@ fn at_look<T: Tables>(
 #[inline(never)]
 fn to_text<'a>(alloc: Global, argument: Found<'a>) -> Result<Found<'a>, Fault>
     ensures ok { IfOk result (λ f. string_of (found_view argument.entry) ≡ Ok (found_view f)) }
-    ensures err { IfErr result (λ e. e ≢ OutOfMemory → string_of (found_view argument.entry) ≡ Err e) }
+    ensures err { IfErr result (λ e. e ≢ OutOfMemory
+        → string_of (found_view argument.entry) ≡ Err e) }
 {
     let value = argument.take(alloc)?;
     Ok(Found::Made(values::to_text(alloc, value)?))
@@ -211,7 +224,8 @@ fn to_text<'a>(alloc: Global, argument: Found<'a>) -> Result<Found<'a>, Fault>
 /// The first item of a list, or its last.
 #[inline(never)]
 fn end_item<'a>(argument: Found<'a>, is_last: bool) -> Result<Found<'a>, Fault>
-    ensures ok { IfOk result (λ f. item_at_end is_last (found_view argument.entry) ≡ Ok (found_view f)) }
+    ensures ok { IfOk result
+        (λ f. item_at_end is_last (found_view argument.entry) ≡ Ok (found_view f)) }
     ensures err { IfErr result (λ e. item_at_end is_last (found_view argument.entry) ≡ Err e) }
 {
     match argument {
@@ -236,7 +250,9 @@ fn end_item<'a>(argument: Found<'a>, is_last: bool) -> Result<Found<'a>, Fault>
 
 #[tactic(auto, using(pg_expr_calls::proofs::Counts::counts))]
 fn last_item<'a>(items: &'a Vec<Value>) -> Found<'a>
-    ensures { found_view result ≡ functions.item_at (functions.count_of (values_view items.now.items) - 1) (values_view items.now.items) }
+    ensures { found_view result
+        ≡ functions.item_at
+        (functions.item_count (values_view items.now.items) - 1) (values_view items.now.items) }
 {
     let place = items.len().saturating_sub(1);
     item_at(items, place)

@@ -11,9 +11,9 @@ use crate::found::{Found, null};
 use crate::ranges::size_of_range;
 use pg_expr_calls as values;
 use pg_graph::Tables;
+use pg_meaning::Fault;
 use pg_scope::{Function, function_named};
 use pg_store::Snapshot;
-use pg_value_core::Fault;
 use std::alloc::Global;
 
 pub(crate) fn is_range_named(name: &str) -> bool
@@ -51,7 +51,8 @@ pub(crate) fn range_counted<'a, T: Tables>(
     graph: &Snapshot<'a, T>,
     arguments: Result<Vec<Found<'a>>, Fault>,
 ) -> Result<Found<'a>, Fault>
-    ensures { After arguments.entry result (λ fs. range_sized graph.now (founds_view fs.items)) found_view }
+    ensures { After arguments.entry result
+        (λ fs. range_sized graph.now (founds_view fs.items)) found_view }
 {
     let arguments = arguments?;
     if has_deleted(graph, &arguments) {

@@ -11,8 +11,9 @@ ghost use Rattle.pg_value_core.specs.View.{view, entries_view};
 
 use crate::found::Found;
 use pg_graph::Tables;
+use pg_meaning::Fault;
 use pg_store::Snapshot;
-use pg_value_core::{Fault, NodeId, RelId, Value};
+use pg_value_core::{NodeId, RelId, Value};
 use std::alloc::{AllocError, Global};
 use std::collections::BTreeMap;
 
@@ -117,8 +118,10 @@ fn element_properties<T: Tables>(
     graph: &Snapshot<'_, T>,
     v: &Value,
 ) -> Result<BTreeMap<String, Value>, Fault>
-    ensures ok { IfOk result (λ m. element_properties graph.now (view v.now) ≡ Ok (entries_view m.entries)) }
-    ensures err { IfErr result (λ e. e ≢ OutOfMemory → element_properties graph.now (view v.now) ≡ Err e) }
+    ensures ok { IfOk result
+        (λ m. element_properties graph.now (view v.now) ≡ Ok (entries_view m.entries)) }
+    ensures err { IfErr result (λ e. e ≢ OutOfMemory
+        → element_properties graph.now (view v.now) ≡ Err e) }
 {
     match v {
         Value::Node(id) => match graph.node_texts(alloc, *id)? {
@@ -140,8 +143,10 @@ pub(crate) fn properties<'a, T: Tables>(
     graph: &Snapshot<'a, T>,
     found: Found<'a>,
 ) -> Result<Found<'a>, Fault>
-    ensures ok { IfOk result (λ f. properties_given graph.now (found_view found.entry) ≡ Ok (found_view f)) }
-    ensures err { IfErr result (λ e. e ≢ OutOfMemory → properties_given graph.now (found_view found.entry) ≡ Err e) }
+    ensures ok { IfOk result
+        (λ f. properties_given graph.now (found_view found.entry) ≡ Ok (found_view f)) }
+    ensures err { IfErr result (λ e. e ≢ OutOfMemory
+        → properties_given graph.now (found_view found.entry) ≡ Err e) }
 {
     match found.look() {
         Value::Map(_) => Ok(found),

@@ -25,12 +25,12 @@ use crate::prepared::Prepared;
 use crate::reads::{index, labels, property};
 use crate::row_context::RowContext;
 use pg_graph::Tables;
-use pg_meaning::Operator;
+use pg_meaning::{Fault, Operator};
 use pg_rows::Columns;
 use pg_scope::function_named;
 use pg_store::Snapshot;
 use pg_syntax_tree::{Expression, Name, Suffix, Test};
-use pg_value_core::{Fault, Parameters, Value};
+use pg_value_core::{Parameters, Value};
 use std::alloc::Global;
 use std::collections::BTreeMap;
 
@@ -43,7 +43,8 @@ pub fn evaluate<T: Tables>(
     parameters: &Parameters,
     graph: &Snapshot<'_, T>,
 ) -> Result<Value, Fault>
-    ensures { Gives result (evaluate (row_of names.now (map view row.now)) (parameters_view parameters.now) graph.now (tree_of names.now prepared.now)) view }
+    ensures { Gives result (evaluate (row_of names.now (map view row.now))
+        (parameters_view parameters.now) graph.now (tree_of names.now prepared.now)) view }
 {
     let context = RowContext {
         alloc,
@@ -60,7 +61,9 @@ pub fn evaluate_at<T: Tables>(
     prepared: &Prepared<'_>,
     graph: &Snapshot<'_, T>,
 ) -> Result<Value, Fault>
-    ensures { Gives result (evaluate (row_of context.now.names.now (map view context.now.row.now)) (parameters_view context.now.parameters.now) graph.now (tree_of context.now.names.now prepared.now)) view }
+    ensures { Gives result (evaluate (row_of context.now.names.now (map view context.now.row.now))
+        (parameters_view context.now.parameters.now) graph.now
+        (tree_of context.now.names.now prepared.now)) view }
 {
     let found = find(context, graph, prepared.tree)?;
     Ok(found.take(context.alloc)?)
@@ -73,7 +76,8 @@ pub(crate) fn find<'a, T: Tables>(
     graph: &Snapshot<'a, T>,
     expression: &Expression,
 ) -> Result<Found<'a>, Fault>
-    ensures { Gives result (given context.now graph.now (expression_view expression.now)) found_view }
+    ensures { Gives result
+        (given context.now graph.now (expression_view expression.now)) found_view }
 {
     match expression {
         Expression::Literal(literal) => literal_found(context.alloc, literal),
@@ -99,7 +103,9 @@ fn each<'a, T: Tables>(
     graph: &Snapshot<'a, T>,
     items: &Vec<Expression>,
 ) -> Result<Vec<Found<'a>>, Fault>
-    ensures { Gives result (given_each context.now graph.now (expressions_of (map expression_view items.now.items))) (λ fs. founds_view fs.items) }
+    ensures { Gives result
+        (given_each context.now graph.now (expressions_of (map expression_view items.now.items)))
+        (λ fs. founds_view fs.items) }
 {
     let mut found = Vec::with_capacity(context.alloc, items.len())?;
     for item in items {
@@ -117,7 +123,8 @@ fn mapping<'a, T: Tables>(
     graph: &Snapshot<'a, T>,
     pairs: &Vec<(Name, Expression)>,
 ) -> Result<Found<'a>, Fault>
-    ensures { Gives result (given_map context.now graph.now (pairs_of (map pair_view pairs.now.items))) found_view }
+    ensures { Gives result
+        (given_map context.now graph.now (pairs_of (map pair_view pairs.now.items))) found_view }
 {
     let mut entries = BTreeMap::new(context.alloc);
     for (key, value) in pairs {
@@ -135,7 +142,8 @@ fn call<'a, T: Tables>(
     name: &Name,
     arguments: &Vec<Expression>,
 ) -> Result<Found<'a>, Fault>
-    ensures { Gives result (given_call context.now graph.now (string_bytes name.now.text) (expressions_of (map expression_view arguments.now.items))) found_view }
+    ensures { Gives result (given_call context.now graph.now (string_bytes name.now.text)
+        (expressions_of (map expression_view arguments.now.items))) found_view }
 {
     let Some(function) = function_named(name.text.as_str()) else {
         return Err(call_fault(name.text.as_str()));
@@ -164,7 +172,8 @@ fn size<'a, T: Tables>(
     graph: &Snapshot<'a, T>,
     argument: &Expression,
 ) -> Result<Found<'a>, Fault>
-    ensures { Gives result (given_size context.now graph.now (expression_view argument.now)) found_view }
+    ensures { Gives result
+        (given_size context.now graph.now (expression_view argument.now)) found_view }
 {
     match argument {
         Expression::Parentheses(inner) => size(context, graph, inner),
@@ -187,7 +196,8 @@ fn first_given<'a, T: Tables>(
     graph: &Snapshot<'a, T>,
     items: &Vec<Expression>,
 ) -> Result<Found<'a>, Fault>
-    ensures { Gives result (given_first context.now graph.now (expressions_of (map expression_view items.now.items))) found_view }
+    ensures { Gives result (given_first context.now graph.now
+        (expressions_of (map expression_view items.now.items))) found_view }
 {
     for item in items {
         let next = find(context, graph, item)?;
@@ -207,7 +217,9 @@ fn first_true<'a, T: Tables>(
     subject: &Option<Found<'a>>,
     whens: &Vec<(Expression, Expression)>,
 ) -> Result<Option<Found<'a>>, Fault>
-    ensures { Gives result (given_true context.now graph.now (option_map found_view subject.now) (whens_of (map when_view whens.now.items))) (option_map found_view) }
+    ensures { Gives result (given_true context.now graph.now
+        (option_map found_view subject.now) (whens_of (map when_view whens.now.items)))
+        (option_map found_view) }
 {
     for (condition, value) in whens {
         let tested = find(context, graph, condition)?;
@@ -226,7 +238,8 @@ fn case<'a, T: Tables>(
     expression: &Expression,
 ) -> Result<Found<'a>, Fault>
     requires { IsCase expression.now }
-    ensures { Gives result (given context.now graph.now (expression_view expression.now)) found_view }
+    ensures { Gives result
+        (given context.now graph.now (expression_view expression.now)) found_view }
 {
     let Expression::Case(subject, whens, otherwise) = expression else {
         unreachable!()
@@ -256,7 +269,8 @@ fn chain<'a, T: Tables>(
     expression: &Expression,
 ) -> Result<Found<'a>, Fault>
     requires { IsChain expression.now }
-    ensures { Gives result (given context.now graph.now (expression_view expression.now)) found_view }
+    ensures { Gives result
+        (given context.now graph.now (expression_view expression.now)) found_view }
 {
     let Expression::Chain(first, operands) = expression else {
         unreachable!()
@@ -280,7 +294,8 @@ fn joined<'a, T: Tables>(
     first: Found<'a>,
     operands: &Vec<(Operator, Expression)>,
 ) -> Result<Found<'a>, Fault>
-    ensures { Gives result (given_chain context.now graph.now (found_view first.entry) (operands_of (map operand_view operands.now.items))) found_view }
+    ensures { Gives result (given_chain context.now graph.now
+        (found_view first.entry) (operands_of (map operand_view operands.now.items))) found_view }
 {
     let mut left = first;
     for (operator, operand) in operands {
@@ -297,7 +312,9 @@ fn each_operand<'a, T: Tables>(
     graph: &Snapshot<'a, T>,
     operands: &Vec<(Operator, Expression)>,
 ) -> Result<Vec<(Operator, Found<'a>)>, Fault>
-    ensures { Gives result (given_operands context.now graph.now (operands_of (map operand_view operands.now.items))) (λ ps. pairs_view ps.items) }
+    ensures { Gives result
+        (given_operands context.now graph.now (operands_of (map operand_view operands.now.items)))
+        (λ ps. pairs_view ps.items) }
 {
     let mut found = Vec::with_capacity(context.alloc, operands.len())?;
     for (operator, operand) in operands {
@@ -315,7 +332,8 @@ fn pass_tests<'a, T: Tables>(
     expression: &Expression,
 ) -> Result<Found<'a>, Fault>
     requires { AreTests expression.now }
-    ensures { Gives result (given context.now graph.now (expression_view expression.now)) found_view }
+    ensures { Gives result
+        (given context.now graph.now (expression_view expression.now)) found_view }
 {
     let Expression::Tests(inner, tests) = expression else {
         unreachable!()
@@ -339,7 +357,8 @@ fn read<'a, T: Tables>(
     expression: &Expression,
 ) -> Result<Found<'a>, Fault>
     requires { AreSuffixes expression.now }
-    ensures { Gives result (given context.now graph.now (expression_view expression.now)) found_view }
+    ensures { Gives result
+        (given context.now graph.now (expression_view expression.now)) found_view }
 {
     let Expression::Suffixes(inner, suffixes, names) = expression else {
         unreachable!()

@@ -9,9 +9,10 @@ ghost use Rattle.pg_value_core.specs.View.{values_view, entries_view};
 
 use crate::found::Found;
 use pg_expr_calls::is_within_limits;
+use pg_meaning::Fault;
 use pg_syntax_tree::Name;
 use pg_value::{depth, weight};
-use pg_value_core::{Fault, Value};
+use pg_value_core::Value;
 use std::alloc::{AllocError, Global};
 use std::collections::BTreeMap;
 
@@ -77,7 +78,8 @@ pub(crate) fn put(
     key: &Name,
     found: Found<'_>,
 ) -> Result<BTreeMap<String, Value>, AllocError>
-    ensures { IfOk result (λ m. entries_view m.entries ≡ put (string_bytes key.now.text) (found_view found.entry) (entries_view entries.entries)) }
+    ensures { IfOk result (λ m. entries_view m.entries
+        ≡ put (string_bytes key.now.text) (found_view found.entry) (entries_view entries.entries)) }
 {
     let mut entries = entries;
     let value = found.take(alloc)?;

@@ -13,10 +13,10 @@ ghost use Rattle.pg_value_core.specs.View.{view};
 
 use crate::found::Found;
 use pg_expr_calls as values;
-use pg_meaning::{Operator, TextTest};
+use pg_meaning::{Fault, Operator, TextTest, Tri};
 use pg_syntax_tree::Expression;
 use pg_value::{and, eq3, is_in, not, truth_of, value_of};
-use pg_value_core::{Fault, Tri, Value};
+use pg_value_core::Value;
 use std::alloc::Global;
 
 /// Logic and arithmetic; a comparison is neither.
@@ -27,8 +27,10 @@ pub(crate) fn combined<'a>(
     v: Found<'a>,
     w: Found<'a>,
 ) -> Result<Found<'a>, Fault>
-    ensures ok { IfOk result (λ f. combined operator (found_view v.entry) (found_view w.entry) ≡ Ok (found_view f)) }
-    ensures err { IfErr result (λ e. e ≢ OutOfMemory → combined operator (found_view v.entry) (found_view w.entry) ≡ Err e) }
+    ensures ok { IfOk result
+        (λ f. combined operator (found_view v.entry) (found_view w.entry) ≡ Ok (found_view f)) }
+    ensures err { IfErr result (λ e. e ≢ OutOfMemory
+        → combined operator (found_view v.entry) (found_view w.entry) ≡ Err e) }
 {
     match operator {
         Operator::Plus => sum(alloc, v, w),
@@ -38,7 +40,8 @@ pub(crate) fn combined<'a>(
 
 fn made_at_look<'a>(operator: Operator, v: &Value, w: &Value) -> Result<Found<'a>, Fault>
     requires { takes_operands operator ≡ false }
-    ensures ok { IfOk result (λ f. combined operator (view v.now) (view w.now) ≡ Ok (found_view f)) }
+    ensures ok { IfOk result
+        (λ f. combined operator (view v.now) (view w.now) ≡ Ok (found_view f)) }
     ensures err { IfErr result (λ e. combined operator (view v.now) (view w.now) ≡ Err e) }
 {
     Ok(Found::Made(looked_at(operator, v, w)?))
@@ -64,8 +67,10 @@ fn looked_at(operator: Operator, v: &Value, w: &Value) -> Result<Value, Fault>
 }
 
 fn sum<'a>(alloc: Global, v: Found<'a>, w: Found<'a>) -> Result<Found<'a>, Fault>
-    ensures ok { IfOk result (λ f. plus (found_view v.entry) (found_view w.entry) ≡ Ok (found_view f)) }
-    ensures err { IfErr result (λ e. e ≢ OutOfMemory → plus (found_view v.entry) (found_view w.entry) ≡ Err e) }
+    ensures ok { IfOk result
+        (λ f. plus (found_view v.entry) (found_view w.entry) ≡ Ok (found_view f)) }
+    ensures err { IfErr result (λ e. e ≢ OutOfMemory
+        → plus (found_view v.entry) (found_view w.entry) ≡ Err e) }
 {
     match (v.look(), w.look()) {
         (Value::Int(x), Value::Int(y)) => Ok(Found::Made(values::sum(*x, *y)?)),
@@ -75,8 +80,10 @@ fn sum<'a>(alloc: Global, v: Found<'a>, w: Found<'a>) -> Result<Found<'a>, Fault
 
 #[inline(never)]
 fn sum_taken<'a>(alloc: Global, v: Found<'a>, w: Found<'a>) -> Result<Found<'a>, Fault>
-    ensures ok { IfOk result (λ f. plus (found_view v.entry) (found_view w.entry) ≡ Ok (found_view f)) }
-    ensures err { IfErr result (λ e. e ≢ OutOfMemory → plus (found_view v.entry) (found_view w.entry) ≡ Err e) }
+    ensures ok { IfOk result
+        (λ f. plus (found_view v.entry) (found_view w.entry) ≡ Ok (found_view f)) }
+    ensures err { IfErr result (λ e. e ≢ OutOfMemory
+        → plus (found_view v.entry) (found_view w.entry) ≡ Err e) }
 {
     let left = v.take(alloc)?;
     let right = w.take(alloc)?;
@@ -90,7 +97,8 @@ pub(crate) fn compared_once<'a>(
     v: Found<'_>,
     w: Result<Found<'_>, Fault>,
 ) -> Result<Found<'a>, Fault>
-    ensures { After w.entry result (λ u. truth_compared (found_view v.entry) ((operator, found_view u) ∷ [])) found_view }
+    ensures { After w.entry result
+        (λ u. truth_compared (found_view v.entry) ((operator, found_view u) ∷ [])) found_view }
 {
     match w {
         Ok(found) => {
@@ -107,7 +115,8 @@ pub(crate) fn compared<'a>(
     first: Found<'_>,
     others: Result<Vec<(Operator, Found<'_>)>, Fault>,
 ) -> Result<Found<'a>, Fault>
-    ensures { After others.entry result (λ ps. truth_compared (found_view first.entry) (pairs_view ps.items)) found_view }
+    ensures { After others.entry result
+        (λ ps. truth_compared (found_view first.entry) (pairs_view ps.items)) found_view }
 {
     match others {
         Ok(pairs) => {
@@ -135,8 +144,10 @@ fn all_compared(first: &Found<'_>, others: &Vec<(Operator, Found<'_>)>) -> Resul
 
 /// Whether a condition of CASE is true: equal to the subject where there is one, else true itself.
 pub(crate) fn is_chosen(subject: &Option<Found<'_>>, v: Found<'_>) -> Result<bool, Fault>
-    ensures ok { IfOk result (λ b. is_chosen (option_map found_view subject.now) (found_view v.entry) ≡ Ok b) }
-    ensures err { IfErr result (λ e. is_chosen (option_map found_view subject.now) (found_view v.entry) ≡ Err e) }
+    ensures ok { IfOk result
+        (λ b. is_chosen (option_map found_view subject.now) (found_view v.entry) ≡ Ok b) }
+    ensures err { IfErr result
+        (λ e. is_chosen (option_map found_view subject.now) (found_view v.entry) ≡ Err e) }
 {
     match subject {
         Some(subject) => Ok(is_true(eq3(subject.look(), v.look()))),
@@ -151,7 +162,8 @@ pub(crate) fn tested<'a>(
     v: Found<'_>,
     w: Result<Found<'_>, Fault>,
 ) -> Result<Found<'a>, Fault>
-    ensures { After w.entry result (λ u. tested test (found_view v.entry) (found_view u)) found_view }
+    ensures { After w.entry result
+        (λ u. tested test (found_view v.entry) (found_view u)) found_view }
 {
     let found = w?;
     let left = v.look();
@@ -217,7 +229,8 @@ pub(crate) fn all_signed<'a>(
 /// The last sign goes first.
 #[tactic(auto, using(crate::proofs::Comparisons::last_sign))]
 fn signed_value<'a>(signs: &Vec<bool>, v: Found<'a>) -> Result<Found<'a>, Fault>
-    ensures ok { IfOk result (λ f. all_signed signs.now.items (found_view v.entry) ≡ Ok (found_view f)) }
+    ensures ok { IfOk result
+        (λ f. all_signed signs.now.items (found_view v.entry) ≡ Ok (found_view f)) }
     ensures err { IfErr result (λ e. all_signed signs.now.items (found_view v.entry) ≡ Err e) }
 {
     let mut signed = v;

@@ -19,6 +19,8 @@ pub struct PreparedCondition<'a> {
     pub(crate) whole: Option<&'a Expression>,
 }
 
+/// Borrows the expression and asks for no memory today; the error leaves room for a form that is
+/// made once a clause.
 pub fn prepare<'a>(
     _alloc: Global,
     expression: &'a Expression,
@@ -29,12 +31,14 @@ pub fn prepare<'a>(
     Ok(Prepared { tree: expression })
 }
 
+/// The same for a WHERE, or for the lack of one, which each row meets.
 pub fn prepare_condition<'a>(
     _alloc: Global,
     condition: &'a Option<Expression>,
     _names: &Columns,
 ) -> Result<PreparedCondition<'a>, AllocError>
-    ensures { IfOk result (λ p. condition_of _names.now p ≡ option_map expression_view condition.now) }
+    ensures { IfOk result
+        (λ p. condition_of _names.now p ≡ option_map expression_view condition.now) }
 {
     let whole = match condition {
         Some(expression) => Some(expression),

@@ -9,12 +9,15 @@ ghost use Rattle.pg_value_core.specs.View.{view};
 
 use crate::found::Found;
 use pg_expr_calls::{range, range_size};
-use pg_value_core::{Fault, Value};
+use pg_meaning::Fault;
+use pg_value_core::Value;
 use std::alloc::Global;
 
 pub(crate) fn range_of<'a>(alloc: Global, arguments: &Vec<Found<'a>>) -> Result<Found<'a>, Fault>
-    ensures ok { IfOk result (λ f. given_range (founds_view arguments.now.items) ≡ Ok (found_view f)) }
-    ensures err { IfErr result (λ e. e ≢ OutOfMemory → given_range (founds_view arguments.now.items) ≡ Err e) }
+    ensures ok { IfOk result
+        (λ f. given_range (founds_view arguments.now.items) ≡ Ok (found_view f)) }
+    ensures err { IfErr result (λ e. e ≢ OutOfMemory
+        → given_range (founds_view arguments.now.items) ≡ Err e) }
 {
     let integers = integers(alloc, arguments)?;
     Ok(Found::Made(range_over(alloc, &integers)?))
@@ -25,8 +28,10 @@ pub(crate) fn size_of_range<'a>(
     alloc: Global,
     arguments: &Vec<Found<'a>>,
 ) -> Result<Found<'a>, Fault>
-    ensures ok { IfOk result (λ f. and_then (given_range (founds_view arguments.now.items)) size_of ≡ Ok (found_view f)) }
-    ensures err { IfErr result (λ e. e ≢ OutOfMemory → and_then (given_range (founds_view arguments.now.items)) size_of ≡ Err e) }
+    ensures ok { IfOk result (λ f. and_then (given_range (founds_view arguments.now.items)) size_of
+        ≡ Ok (found_view f)) }
+    ensures err { IfErr result (λ e. e ≢ OutOfMemory
+        → and_then (given_range (founds_view arguments.now.items)) size_of ≡ Err e) }
 {
     let integers = integers(alloc, arguments)?;
     Ok(Found::Made(size_over(&integers)?))
@@ -35,7 +40,8 @@ pub(crate) fn size_of_range<'a>(
 /// The integers that all arguments are.
 fn integers(alloc: Global, arguments: &Vec<Found<'_>>) -> Result<Vec<i64>, Fault>
     ensures ok { IfOk result (λ is. integers_of (founds_view arguments.now.items) ≡ Ok is.items) }
-    ensures err { IfErr result (λ e. e ≢ OutOfMemory → integers_of (founds_view arguments.now.items) ≡ Err e) }
+    ensures err { IfErr result (λ e. e ≢ OutOfMemory
+        → integers_of (founds_view arguments.now.items) ≡ Err e) }
 {
     let mut integers = Vec::with_capacity(alloc, arguments.len())?;
     for argument in arguments {

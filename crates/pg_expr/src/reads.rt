@@ -17,9 +17,10 @@ ghost use Rattle.pg_value_core.specs.View.{view, values_view, entries_view};
 use crate::found::{Found, lent_or_null, null};
 use pg_expr_calls::{item_of, value_at};
 use pg_graph::Tables;
+use pg_meaning::Fault;
 use pg_store::{NodeView, Snapshot};
 use pg_syntax_tree::Name;
-use pg_value_core::{Fault, NodeId, Parts, RelId, Value};
+use pg_value_core::{NodeId, Parts, RelId, Value};
 use std::alloc::Global;
 use std::collections::BTreeMap;
 
@@ -42,7 +43,8 @@ fn relationship_property<'a, T: Tables>(
     id: RelId,
     key: &str,
 ) -> Result<Found<'a>, Fault>
-    ensures ok { IfOk result (λ f. property_of graph.now (relationship id.0) key.now ≡ Ok (found_view f)) }
+    ensures ok { IfOk result
+        (λ f. property_of graph.now (relationship id.0) key.now ≡ Ok (found_view f)) }
     ensures err { IfErr result (λ e. property_of graph.now (relationship id.0) key.now ≡ Err e) }
 {
     match graph.rel(id) {
@@ -65,8 +67,10 @@ pub(crate) fn property<'a, T: Tables>(
     value: Found<'a>,
     key: &str,
 ) -> Result<Found<'a>, Fault>
-    ensures ok { IfOk result (λ f. property_of graph.now (found_view value.entry) key.now ≡ Ok (found_view f)) }
-    ensures err { IfErr result (λ e. property_of graph.now (found_view value.entry) key.now ≡ Err e) }
+    ensures ok { IfOk result
+        (λ f. property_of graph.now (found_view value.entry) key.now ≡ Ok (found_view f)) }
+    ensures err { IfErr result
+        (λ e. property_of graph.now (found_view value.entry) key.now ≡ Err e) }
 {
     match value {
         Found::Lent(value) => match value {
@@ -107,7 +111,8 @@ pub(crate) fn index<'a, T: Tables>(
     value: Found<'a>,
     place: Result<Found<'a>, Fault>,
 ) -> Result<Found<'a>, Fault>
-    ensures { After place.entry result (λ i. indexed graph.now (found_view value.entry) (found_view i)) found_view }
+    ensures { After place.entry result
+        (λ i. indexed graph.now (found_view value.entry) (found_view i)) found_view }
 {
     match place {
         Ok(at) => match value {
@@ -123,7 +128,8 @@ fn index_lent<'a, T: Tables>(
     value: &'a Value,
     place: &Value,
 ) -> Result<Found<'a>, Fault>
-    ensures ok { IfOk result (λ f. indexed graph.now (view value.now) (view place.now) ≡ Ok (found_view f)) }
+    ensures ok { IfOk result
+        (λ f. indexed graph.now (view value.now) (view place.now) ≡ Ok (found_view f)) }
     ensures err { IfErr result (λ e. indexed graph.now (view value.now) (view place.now) ≡ Err e) }
 {
     match (value, place) {
@@ -169,8 +175,10 @@ fn index_made<'a, T: Tables>(
     value: Value,
     place: &Value,
 ) -> Result<Found<'a>, Fault>
-    ensures ok { IfOk result (λ f. indexed graph.now (view value) (view place.now) ≡ Ok (found_view f)) }
-    ensures err { IfErr result (λ e. e ≢ OutOfMemory → indexed graph.now (view value) (view place.now) ≡ Err e) }
+    ensures ok { IfOk result
+        (λ f. indexed graph.now (view value) (view place.now) ≡ Ok (found_view f)) }
+    ensures err { IfErr result (λ e. e ≢ OutOfMemory
+        → indexed graph.now (view value) (view place.now) ≡ Err e) }
 {
     if let Value::Int(at) = place {
         return item_made(value, *at);
@@ -180,7 +188,8 @@ fn index_made<'a, T: Tables>(
 }
 
 fn item_made<'a>(value: Value, place: i64) -> Result<Found<'a>, Fault>
-    ensures ok { (g : Graph) → IfOk result (λ f. indexed g (view value) (integer place) ≡ Ok (found_view f)) }
+    ensures ok { (g : Graph)
+        → IfOk result (λ f. indexed g (view value) (integer place) ≡ Ok (found_view f)) }
     ensures err { (g : Graph) → IfErr result (λ e. indexed g (view value) (integer place) ≡ Err e) }
 {
     match value.into_parts() {
@@ -196,8 +205,11 @@ pub(crate) fn labels<'a, T: Tables>(
     value: Found<'a>,
     labels: &Vec<Name>,
 ) -> Result<Found<'a>, Fault>
-    ensures ok { IfOk result (λ f. labelled graph.now (found_view value.entry) (names_view labels.now.items) ≡ Ok (found_view f)) }
-    ensures err { IfErr result (λ e. labelled graph.now (found_view value.entry) (names_view labels.now.items) ≡ Err e) }
+    ensures ok { IfOk result
+        (λ f. labelled graph.now (found_view value.entry) (names_view labels.now.items)
+        ≡ Ok (found_view f)) }
+    ensures err { IfErr result
+        (λ e. labelled graph.now (found_view value.entry) (names_view labels.now.items) ≡ Err e) }
 {
     if labels.is_empty() {
         return Ok(value);
@@ -212,8 +224,11 @@ fn some_labels<'a, T: Tables>(
     labels: &Vec<Name>,
 ) -> Result<Found<'a>, Fault>
     requires { (vec_len labels.now == 0) ≡ false }
-    ensures ok { IfOk result (λ f. labelled graph.now (found_view value.entry) (names_view labels.now.items) ≡ Ok (found_view f)) }
-    ensures err { IfErr result (λ e. labelled graph.now (found_view value.entry) (names_view labels.now.items) ≡ Err e) }
+    ensures ok { IfOk result
+        (λ f. labelled graph.now (found_view value.entry) (names_view labels.now.items)
+        ≡ Ok (found_view f)) }
+    ensures err { IfErr result
+        (λ e. labelled graph.now (found_view value.entry) (names_view labels.now.items) ≡ Err e) }
 {
     match value.look() {
         Value::Null => Ok(null()),
@@ -228,8 +243,10 @@ fn node_labels<'a, T: Tables>(
     id: NodeId,
     labels: &Vec<Name>,
 ) -> Result<Found<'a>, Fault>
-    ensures ok { IfOk result (λ f. labels_tested graph.now id.0 (names_view labels.now.items) ≡ Ok (found_view f)) }
-    ensures err { IfErr result (λ e. labels_tested graph.now id.0 (names_view labels.now.items) ≡ Err e) }
+    ensures ok { IfOk result
+        (λ f. labels_tested graph.now id.0 (names_view labels.now.items) ≡ Ok (found_view f)) }
+    ensures err { IfErr result
+        (λ e. labels_tested graph.now id.0 (names_view labels.now.items) ≡ Err e) }
 {
     match graph.node(id) {
         Some(node) => Ok(Found::Made(Value::Bool(has_all(&node, labels)))),
@@ -238,7 +255,8 @@ fn node_labels<'a, T: Tables>(
 }
 
 fn has_all<T: Tables>(node: &NodeView<'_, T>, labels: &Vec<Name>) -> bool
-    ensures { result ≡ list_all (λ l. is_among node.now.labels l.text) (names_view labels.now.items) }
+    ensures { result
+        ≡ list_all (λ l. is_among node.now.labels l.text) (names_view labels.now.items) }
 {
     for label in labels {
         if !node.has_label(label.text.as_str()) {

@@ -89,7 +89,7 @@ module _ (s : Setting) (graph : Graph) (columns earlier : List (List ℕ)) (es :
   key_at w e (Some i) h = value_in_first columns w i h
   key_at w e None h = ap (λ row. evaluate row s.parameters graph e) (seen_as columns earlier w)
 
-  pub one_key : (w : List Value) (o : SortItem) → sort_key s graph (columns_of columns es) (stands columns earlier w) o ≡ key_given s.parameters graph (columns ++ earlier) w (key_of es o.key)
+  pub one_key : (w : List Value) (o : SortItem) → sort_key s.parameters graph (columns_of columns es) (stands columns earlier w) o ≡ key_given s.parameters graph (columns ++ earlier) w (key_of es o.key)
   one_key w o =
       let t : Expression → Bool = λ x. same_expression x o.key in
       (λ i. elim (place_is t i) [
@@ -101,7 +101,7 @@ module _ (s : Setting) (graph : Graph) (columns earlier : List (List ℕ)) (es :
 
   module _ (order : List SortItem) where
     row_keys : (w : List Value) → keyed s graph (columns_of columns es) order (stands columns earlier w) ≡ (keys_given s.parameters graph (columns ++ earlier) (map (λ x. key_of es x.key) order) w >>= λ vs. Ok (vs, stands columns earlier w))
-    row_keys w = ap (λ a. a >>= λ vs. Ok (vs, stands columns earlier w)) (each_mapped (key_given s.parameters graph (columns ++ earlier) w) (λ (x : SortItem). key_of es x.key) (sort_key s graph (columns_of columns es) (stands columns earlier w)) (one_key w) order)
+    row_keys w = ap (λ a. a >>= λ vs. Ok (vs, stands columns earlier w)) (each_mapped (key_given s.parameters graph (columns ++ earlier) w) (λ (x : SortItem). key_of es x.key) (sort_key s.parameters graph (columns_of columns es) (stands columns earlier w)) (one_key w) order)
 
     all_keys : (ws : List (List Value)) → each_answer (keyed s graph (columns_of columns es) order) (map (stands columns earlier) ws)
         ≡ (all_keys_given s.parameters graph (columns ++ earlier) (map (λ x. key_of es x.key) order) ws >>= λ ks. Ok (zip ks (map (stands columns earlier) ws)))

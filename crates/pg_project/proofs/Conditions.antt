@@ -1,5 +1,5 @@
 -- Rows that meet a condition, one after the other.
-use Rattle.std.proofs.Common.{◌≡◌, ℕ, zero, suc, ◌-◌, ◌<◌, ◌≤◌, Bool, true, false, List, [], ◌∷◌, ◌++◌, length, take, drop, Result, Ok, Err, Option, Some, None, refl, sym, ap, ◌∙◌, arith}
+use Rattle.std.proofs.Common.{◌≡◌, ℕ, zero, suc, ◌+◌, ◌-◌, ◌<◌, ◌≤◌, Bool, true, false, List, [], ◌∷◌, ◌++◌, length, take, drop, Result, Ok, Err, Option, Some, None, refl, sym, ap, ◌∙◌, arith}
 use Rattle.std.proofs.lemmas.List.{length-drop}
 use Rattle.std.specs.List.{AllByRecursion}
 use Rattle.std.specs.Prelude.{unwrap_or}
@@ -10,9 +10,10 @@ use Rattle.pg_meaning.specs.Projections.{limited}
 use Rattle.pg_meaning.specs.Tree.{Expression}
 use Rattle.pg_meaning.specs.Value.{Value, Entries}
 use Rattle.pg_meaning.specs.declared.fault.Fault.{Fault}
-use Rattle.pg_rows.proofs.Tabled.{all_taken}
+use Rattle.pg_rows.proofs.Tabled.{all_taken, take_take}
 use Rattle.pg_rows.specs.Named.{row_of}
 use Rattle.pg_project.proofs.InTurn.{after, after_one, nothing_behind}
+use Rattle.pg_project.specs.Cuts.{Reaches}
 use Rattle.pg_project.specs.Given.{Cut, cut_of, passing_given}
 
 pub same_others : (rest : Result (List (List Value)) Fault) → (rest >>= λ others. Ok others) ≡ rest
@@ -72,3 +73,20 @@ all_pass parameters graph names width (r ∷ rs) wide =
 pub whole_passes : (parameters : Entries) (graph : Graph) (names : List (List ℕ)) (where_ : Option Expression) (width : ℕ) (c : Cut) (rows : List (List Value)) → c ≡ record { skip = 0; limit = None } → where_ ≡ None → AllByRecursion (λ r. length r ≡ width) rows
     → passing_given parameters graph names where_ width (cut_of c rows) ≡ Ok rows
 whole_passes parameters graph names where_ width c rows cut none wide = (λ i. passing_given parameters graph names (none i) width (cut_of (cut i) rows)) ∙ all_pass parameters graph names width rows wide
+
+-- the first of rows have all that stand before some place of them
+still_first : (skip most first : ℕ) (rows : List (List Value)) → skip + most ≤ first → take most (drop skip (take first rows)) ≡ take most (drop skip rows)
+still_first zero most first rows h =
+    let more : first ≡ most + (first - most) = omega (arith, h) in
+    ap (λ n. take most (take n rows)) more ∙ take_take most (first - most) rows
+still_first (suc skip) most zero rows h = absurd (omega (arith, h))
+still_first (suc skip) most (suc first) [] h = refl
+still_first (suc skip) most (suc first) (r ∷ rs) h = still_first skip most first rs (omega (arith, h))
+
+pub reaches_end : (c : Cut) (most count first : ℕ) → c.limit ≡ Some most → first ≡ c.skip + most → Reaches c count first
+reaches_end c most count first l e = λ rows n.
+    let enough : c.skip + most ≤ first = omega (arith, e) in
+    (λ i. limited (l i) (drop c.skip (take first rows))) ∙ still_first c.skip most first rows enough ∙ sym (λ i. limited (l i) (drop c.skip rows))
+
+pub reaches_all : (c : Cut) (count : ℕ) → Reaches c count count
+reaches_all c count = λ rows n. ap (cut_of c) (sym (all_taken count rows (let e : length rows ≤ count = omega (arith, n) in e)))

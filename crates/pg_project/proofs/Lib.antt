@@ -9,6 +9,7 @@ pub mod Moves
 pub mod Projecting
 pub mod ReturnedInTurn
 pub mod SortPlaces
+pub mod Spending
 pub mod Standing
 pub mod TailLemmas
 pub mod TurnLemmas

@@ -8,7 +8,7 @@ use Rattle.std.specs.Global.{Vec}
 use Rattle.std.specs.List.{list_any, position_or_len}
 use Rattle.std.specs.Ordering.{on, eq_by_cmp}
 use Rattle.pg_project.specs.Kept.{Kept, Answers, all_taken_in, begun, first_kept, into_kept}
-use Rattle.pg_project.specs.KeptGroups.{groups_of}
+use Rattle.pg_project.specs.KeptGroups.{groups_of, same_keys}
 use Rattle.pg_project.specs.Summaries as kept
 use Rattle.pg_project.specs.Views.{takens_view}
 use Rattle.pg_project.specs.declared.taken.Taken.{Taken}
@@ -122,9 +122,6 @@ module _ (at : Answers) (aggregates : List Aggregate) (k : List Datum) where
           ∙ joined (all_taken_in at aggregates (begun aggregates)) (λ ts. groups_of (us ++ k ∷ []) (tss ++ ts ∷ [])) (λ hs. record { key = u; taken = t } ∷ hs)
 
 -- ---- as the program keeps them
-
-abbrev pub same_keys : Vec Value → Vec Value → Bool
-same_keys x y = pointwise (on view (eq_by_cmp value_order)) x.items y.items
 
 abbrev seen : List (Vec Taken) → List (List kept.Taken)
 seen tss = map (λ ts. takens_view ts.items) tss

@@ -33,7 +33,7 @@ use Rattle.pg_project.specs.Parts.{rows_ended, rows_projected, stands}
 
 -- ---- the clause by its parts
 
-count_is : (s : Setting) (graph : Graph) (e : Option Expression) → count_given s graph e ≡ count_at s.parameters graph e
+count_is : (s : Setting) (graph : Graph) (e : Option Expression) → count_given s.parameters graph e ≡ count_at s.parameters graph e
 count_is s graph None = refl
 count_is s graph (Some e) = refl
 
@@ -85,8 +85,8 @@ module _ (s : Setting) (graph : Graph) (columns : List Column) (p : Projection) 
 
   abbrev behind_steps : Result State Fault
   behind_steps = do
-    skip ← count_given s graph p.skip
-    limit ← count_given s graph p.limit
+    skip ← count_given s.parameters graph p.skip
+    limit ← count_given s.parameters graph p.limit
     items ← item_rows s graph p.distinct columns rows
     sorted ← ordered_rows s graph columns p.order (distinct_rows p.distinct items)
     kept ← passing_rows s graph where_ (limited limit (skipped skip sorted))
@@ -139,7 +139,7 @@ of_columns_stand ns (w ∷ ws) = λ i. (let p : Projected = record { columns = s
 
 module _ (s : Setting) (graph : Graph) (columns names : List (List ℕ)) (es : List Expression) (distinct : Bool) (rows : List (List Value)) (same : length columns ≡ length es) where
   abbrev items_by : Bool → Result (List Projected) Fault
-  items_by b = elim b [ true ↦ grouped s graph (columns_of columns es) (rows_named names rows) | false ↦ each_answer (projected s graph distinct (columns_of columns es)) (rows_named names rows) ]
+  items_by b = elim b [ true ↦ grouped s graph (columns_of columns es) (rows_named names rows) | false ↦ each_answer (projected s.parameters graph distinct (columns_of columns es)) (rows_named names rows) ]
 
   abbrev seen_by : Bool → Table → List Projected
   seen_by b t = map (stands columns (earlier_names (b || distinct) names)) (seen t).rows
@@ -205,11 +205,11 @@ module _ (s : Setting) (graph : Graph) (columns : List Column) where
   in_columns items = Ok (map (λ (r : Projected). r.columns) items)
 
   abbrev pub column_rows : List Row → Result (List Row) Fault
-  column_rows rows = each_answer (λ row. each_answer (column_value s graph row) columns) rows
+  column_rows rows = each_answer (λ row. each_answer (column_value s.parameters graph row) columns) rows
 
-  pub columns_only : (hidden : Bool) (rows : List Row) → (each_answer (projected s graph hidden columns) rows >>= in_columns) ≡ column_rows rows
+  pub columns_only : (hidden : Bool) (rows : List Row) → (each_answer (projected s.parameters graph hidden columns) rows >>= in_columns) ≡ column_rows rows
   columns_only hidden [] = refl
-  columns_only hidden (row ∷ rows) = by (each_answer (column_value s graph row) columns) (each_answer (projected s graph hidden columns) rows) (columns_only hidden rows)
+  columns_only hidden (row ∷ rows) = by (each_answer (column_value s.parameters graph row) columns) (each_answer (projected s.parameters graph hidden columns) rows) (columns_only hidden rows)
     where
       by_rest : (vs : Row) (rest : Result (List Projected) Fault)
           → ((rest >>= λ ys. Ok ((let p : Projected = record { columns = vs; earlier = cond hidden [] row } in p) ∷ ys)) >>= in_columns) ≡ ((rest >>= in_columns) >>= λ ys. Ok (vs ∷ ys))
@@ -239,14 +239,14 @@ module _ (s : Setting) (graph : Graph) (columns : List Column) where
     cut_later (Err f) = refl
 
     abbrev items_by_kind : (hidden aggregated : Bool) → Result (List Projected) Fault
-    items_by_kind hidden aggregated = elim aggregated [ true ↦ grouped s graph columns rows | false ↦ each_answer (projected s graph hidden columns) rows ]
+    items_by_kind hidden aggregated = elim aggregated [ true ↦ grouped s graph columns rows | false ↦ each_answer (projected s.parameters graph hidden columns) rows ]
 
     hidden_alike : (aggregated : Bool) → (items_by_kind false aggregated >>= behind [] false None) ≡ (items_by_kind true aggregated >>= behind [] false None)
     hidden_alike true = refl
     hidden_alike false =
-        cut_later (each_answer (projected s graph false columns) rows)
+        cut_later (each_answer (projected s.parameters graph false columns) rows)
         ∙ ap (λ a. a >>= cut_rows) (columns_only false rows ∙ sym (columns_only true rows))
-        ∙ sym (cut_later (each_answer (projected s graph true columns) rows))
+        ∙ sym (cut_later (each_answer (projected s.parameters graph true columns) rows))
 
     hidden_by : (distinct : Bool) (order : List SortItem) (where_ : Option Expression)
         → (item_rows s graph distinct columns rows >>= behind order distinct where_) ≡ (item_rows s graph (distinct || (has_none order && is_none where_)) columns rows >>= behind order distinct where_)

@@ -36,10 +36,10 @@ module _ (s : Setting) (graph : Graph) (names columns : List (List ℕ)) (es : L
   input = rows_named names rows
 
   each_row : column_rows s graph all input ≡ (given >>= λ found. Ok (rows_named columns found))
-  each_row = each_seen (λ row. each_answer (column_value s graph row) all) (row_of names) (values_given s.parameters graph names es) (row_of columns) (λ r. pairs_of s graph (row_of names r) columns es same) rows
+  each_row = each_seen (λ row. each_answer (column_value s.parameters graph row) all) (row_of names) (values_given s.parameters graph names es) (row_of columns) (λ r. pairs_of s graph (row_of names r) columns es same) rows
 
   abbrev by_kind : Bool → Result (List Projected) Fault
-  by_kind aggregated = elim aggregated [ true ↦ grouped s graph all input | false ↦ each_answer (projected s graph false all) input ]
+  by_kind aggregated = elim aggregated [ true ↦ grouped s graph all input | false ↦ each_answer (projected s.parameters graph false all) input ]
 
   module _ (apart : has_aggregate es ≡ false) (c : Cut) where
     columns_cut : (a : Result (List (List Value)) Fault) → ((a >>= λ found. Ok (rows_named columns found)) >>= cut_rows s graph all c input) ≡ (a >>= λ found. Ok (rows_named columns (cut_of c found)))
@@ -49,7 +49,7 @@ module _ (s : Setting) (graph : Graph) (names columns : List (List ℕ)) (es : L
     each_cut : (item_rows s graph false all input >>= behind s graph all c input [] false None) ≡ (given >>= λ found. Ok (rows_named columns (cut_of c found)))
     each_cut =
         ap (λ b. by_kind b >>= behind s graph all c input [] false None) (aggregates_are columns es same ∙ apart)
-        ∙ cut_later s graph all c input (each_answer (projected s graph false all) input)
+        ∙ cut_later s graph all c input (each_answer (projected s.parameters graph false all) input)
         ∙ ap (λ a. a >>= cut_rows s graph all c input) (columns_only s graph all false input ∙ each_row)
         ∙ columns_cut given
 

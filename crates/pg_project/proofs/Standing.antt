@@ -41,7 +41,7 @@ value_in_first (n ∷ ns) (v ∷ vs) (suc i) h = value_in_first ns vs i (omega a
 
 module _ (s : Setting) (graph : Graph) where
   pub pairs_of : (row : Row) (ns : List (List ℕ)) (es : List Expression) → length ns ≡ length es
-      → each_answer (column_value s graph row) (columns_of ns es) ≡ (each_answer (λ e. evaluate row s.parameters graph e) es >>= λ vs. Ok (zip ns vs))
+      → each_answer (column_value s.parameters graph row) (columns_of ns es) ≡ (each_answer (λ e. evaluate row s.parameters graph e) es >>= λ vs. Ok (zip ns vs))
   pairs_of row [] [] h = refl
   pairs_of row [] (e ∷ es) h = absurd (omega arith)
   pairs_of row (n ∷ ns) [] h = absurd (omega arith)
@@ -80,7 +80,7 @@ module _ (s : Setting) (graph : Graph) where
         back : row ≡ drop (length columns) (vs ++ row)
         back = sym (ap (λ n. drop n (vs ++ row)) (sym h) ∙ drop-append_seam vs row)
 
-    one_row : (row : List Value) → projected s graph distinct (columns_of columns es) (row_of names row) ≡ (wide_given s.parameters graph names es (not distinct) row >>= λ w. Ok (stands columns behind w))
+    one_row : (row : List Value) → projected s.parameters graph distinct (columns_of columns es) (row_of names row) ≡ (wide_given s.parameters graph names es (not distinct) row >>= λ w. Ok (stands columns behind w))
     one_row row =
         ap (λ a. a >>= λ vs. Ok (record { columns = vs; earlier = cond distinct [] (row_of names row) })) (pairs_of (row_of names row) columns es same)
         ∙ by_case
@@ -89,5 +89,5 @@ module _ (s : Setting) (graph : Graph) where
         (λ vs e. ap Ok (put distinct row vs (as_many (λ x. evaluate (row_of names row) s.parameters graph x) es vs e ∙ sym same)))
         (λ f e. refl)
 
-    pub all_rows : (rows : List (List Value)) → each_answer (projected s graph distinct (columns_of columns es)) (rows_named names rows) ≡ (wide_rows_given s.parameters graph names es (not distinct) rows >>= λ ws. Ok (map (stands columns behind) ws))
-    all_rows rows = each_seen (projected s graph distinct (columns_of columns es)) (row_of names) (wide_given s.parameters graph names es (not distinct)) (stands columns behind) one_row rows
+    pub all_rows : (rows : List (List Value)) → each_answer (projected s.parameters graph distinct (columns_of columns es)) (rows_named names rows) ≡ (wide_rows_given s.parameters graph names es (not distinct) rows >>= λ ws. Ok (map (stands columns behind) ws))
+    all_rows rows = each_seen (projected s.parameters graph distinct (columns_of columns es)) (row_of names) (wide_given s.parameters graph names es (not distinct)) (stands columns behind) one_row rows

@@ -97,6 +97,10 @@ cut_given parameters graph skip limit = count_at parameters graph skip >>= λ n.
 abbrev pub cut_of : Cut → List (List Datum) → List (List Datum)
 cut_of c rows = limited c.limit (drop c.skip rows)
 
+-- the sorted rows that are let in
+abbrev pub let_in_given : Entries → Graph → (names : List (List ℕ)) → List Expression → List SortItem → Cut → List (List Datum) → Result (List (List Datum)) Fault
+let_in_given parameters graph names es order c rows = ordered_given parameters graph names es order rows >>= λ sorted. Ok (cut_of c sorted)
+
 -- ---- behind the items
 
 abbrev pub tail_given : Entries → Graph → (names : List (List ℕ)) → List Expression → (distinct : Bool) → List SortItem → Cut → Option Expression → (width : ℕ) → List (List Datum) → Result (List (List Datum)) Fault

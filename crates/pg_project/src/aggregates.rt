@@ -21,7 +21,8 @@ pub(crate) fn is_aggregate(expression: &Expression) -> bool
 
 /// Whether any of the expressions is an aggregate.
 pub(crate) fn have_aggregate(expressions: &Vec<&Expression>) -> bool
-    ensures { result ≡ list_any (λ e. is_some (aggregate_of e)) (expressions_view expressions.now.items) }
+    ensures { result
+        ≡ list_any (λ e. is_some (aggregate_of e)) (expressions_view expressions.now.items) }
 {
     for expression in expressions {
         if is_aggregate(expression) {

@@ -3,8 +3,9 @@ ghost use Rattle.std.specs.Prelude.{◌≡◌, ◌<◌, ◌&&◌, nat_lt};
 ghost use Rattle.pg_meaning.specs.Measure.{items_weight, items_depth};
 ghost use Rattle.pg_value_core.specs.View.{values_view};
 
+use pg_meaning::Fault;
 use pg_value::{depth, weight};
-use pg_value_core::{Fault, Value};
+use pg_value_core::Value;
 use std::alloc::Global;
 
 const GREATEST_WEIGHT: u64 = 1_048_576;
@@ -48,7 +49,8 @@ impl Collected {
 
     /// The values with one more, where the list of them is within the limits.
     pub(crate) fn with(self, value: Value) -> Result<Collected, Fault>
-        ensures { Gives result (collected (map view self.items.items) (view value)) (λ c. map view c.items.items) }
+        ensures { Gives result
+            (collected (map view self.items.items) (view value)) (λ c. map view c.items.items) }
     {
         let heavier = self.weight.saturating_add(weight(&value));
         let deeper = self.depth.max(depth(&value));

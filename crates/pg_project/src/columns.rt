@@ -29,7 +29,8 @@ pub(crate) fn make_columns<'a>(
     scope: &Columns,
     projection: &'a Projection,
 ) -> Result<ProjectionColumns<'a>, AllocError>
-    ensures { IfOk result (λ c. columns_view c ≡ naming_columns naming scope.now (projection_view projection.now)) }
+    ensures { IfOk result
+        (λ c. columns_view c ≡ naming_columns naming scope.now (projection_view projection.now)) }
 {
     let mut names = star_names(alloc, scope, projection.star)?;
     let starred = variables(alloc, &names)?;
@@ -86,7 +87,8 @@ fn push_names(
     names: &mut Columns,
     items: &Vec<Item>,
 ) -> Result<(), AllocError>
-    ensures { OnOk result (names.new ≡ names.old ++ column_names (map (column_of naming) (map item_view items.now.items))) }
+    ensures { OnOk result (names.new
+        ≡ names.old ++ column_names (map (column_of naming) (map item_view items.now.items))) }
 {
     for item in items {
         names.push(alloc, column_name(naming, item))?;
@@ -118,6 +120,7 @@ fn variable_text(expression: &Expression) -> &str
 }
 
 impl<'a> ProjectionColumns<'a> {
+    /// The columns' names from left to right, those of `*` first.
     pub fn names(&self) -> &Columns
         ensures { result.now ≡ self.now.names }
     {
@@ -126,7 +129,8 @@ impl<'a> ProjectionColumns<'a> {
 
     /// What the columns hold, in turn.
     pub fn expressions(&self, alloc: Global) -> Result<Vec<&Expression>, AllocError>
-        ensures trees { IfOk result (λ found. columns_view self.now ≡ columns_of self.now.names (expressions_view found.items)) }
+        ensures trees { IfOk result (λ found. columns_view self.now
+            ≡ columns_of self.now.names (expressions_view found.items)) }
         ensures len { IfOk result (λ found. length found.items ≡ length self.now.names) }
     {
         let mut found = Vec::new(alloc);

@@ -11,10 +11,11 @@ ghost use Rattle.pg_value_core.specs.View.{view};
 use crate::passing::Cut;
 use pg_expr::{evaluate, prepare};
 use pg_graph::Tables;
+use pg_meaning::Fault;
 use pg_rows::Columns;
 use pg_store::Snapshot;
 use pg_syntax_tree::{Expression, Projection};
-use pg_value_core::{Fault, Parameters, Value};
+use pg_value_core::{Parameters, Value};
 use std::alloc::Global;
 
 /// SKIP, then LIMIT, each evaluated over no variable.
@@ -24,8 +25,12 @@ pub fn cut_at<T: Tables>(
     parameters: &Parameters,
     graph: &Snapshot<'_, T>,
 ) -> Result<Cut, Fault>
-    ensures ok { IfOk result (λ c. cut_given (parameters_view parameters.now) graph.now (projection_view projection.now).skip (projection_view projection.now).limit ≡ Ok (cut_view c)) }
-    ensures err { IfErr result (λ e. e ≢ OutOfMemory → cut_given (parameters_view parameters.now) graph.now (projection_view projection.now).skip (projection_view projection.now).limit ≡ Err e) }
+    ensures ok { IfOk result (λ c. cut_given (parameters_view parameters.now) graph.now
+        (projection_view projection.now).skip (projection_view projection.now).limit
+        ≡ Ok (cut_view c)) }
+    ensures err { IfErr result (λ e. e ≢ OutOfMemory
+        → cut_given (parameters_view parameters.now) graph.now
+        (projection_view projection.now).skip (projection_view projection.now).limit ≡ Err e) }
 {
     let skip = count_at(alloc, &projection.skip, parameters, graph)?;
     let limit = count_at(alloc, &projection.limit, parameters, graph)?;
@@ -41,8 +46,11 @@ fn count_at<T: Tables>(
     parameters: &Parameters,
     graph: &Snapshot<'_, T>,
 ) -> Result<Option<u64>, Fault>
-    ensures ok { IfOk result (λ n. count_at (parameters_view parameters.now) graph.now (option_map expression_view count.now) ≡ Ok n) }
-    ensures err { IfErr result (λ e. e ≢ OutOfMemory → count_at (parameters_view parameters.now) graph.now (option_map expression_view count.now) ≡ Err e) }
+    ensures ok { IfOk result (λ n. count_at
+        (parameters_view parameters.now) graph.now (option_map expression_view count.now) ≡ Ok n) }
+    ensures err { IfErr result (λ e. e ≢ OutOfMemory
+        → count_at (parameters_view parameters.now) graph.now (option_map expression_view count.now)
+        ≡ Err e) }
 {
     let Some(expression) = count else {
         return Ok(None);

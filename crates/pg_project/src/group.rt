@@ -11,10 +11,10 @@ use crate::rows::groups_of_rows;
 use crate::scope::Scope;
 use crate::told::told_rows;
 use pg_graph::Tables;
+use pg_meaning::Fault;
 use pg_rows::Rows;
 use pg_store::Snapshot;
 use pg_syntax_tree::Expression;
-use pg_value_core::Fault;
 
 /// The rows of groups: for each group a row with a value for each of the expressions.
 pub(crate) fn group_rows<T: Tables>(
@@ -23,7 +23,8 @@ pub(crate) fn group_rows<T: Tables>(
     rows: &Rows,
     graph: &Snapshot<'_, T>,
 ) -> Result<Rows, Fault>
-    ensures rows { Gives result (rows_given (parameters_view scope.now.query.now.parameters.now) graph.now scope.now.names.now (expressions_view items.now.items) (table rows.now)) table }
+    ensures rows { Gives result (rows_given (parameters_view scope.now.query.now.parameters.now)
+        graph.now scope.now.names.now (expressions_view items.now.items) (table rows.now)) table }
     ensures width { IfOk result (λ found. found.width ≡ length items.now.items) }
 {
     let ready = Items::new(scope.query.alloc, items, scope.names)?;

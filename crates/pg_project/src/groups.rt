@@ -1,4 +1,8 @@
 //! Groups of rows, in the order of their first rows.
+ghost use Rattle.indexmap.specs.IndexSet.{insert_key};
+ghost use Rattle.std.specs.List.{list_any, position_or_len};
+ghost use Rattle.std.specs.Prelude.{◌≡◌, ◌<◌, length, not, true, IfOk, OnOk};
+ghost use Rattle.pg_project.specs.KeptGroups.{same_keys, BeginsEmpty};
 
 use crate::items::{Aggregate, Items};
 use crate::made::push_made;
@@ -7,8 +11,9 @@ use crate::taking::{begun, take_in_all};
 use indexmap::IndexSet;
 use pg_expr::RowContext;
 use pg_graph::Tables;
+use pg_meaning::Fault;
 use pg_store::Snapshot;
-use pg_value_core::{Fault, Value};
+use pg_value_core::Value;
 use std::alloc::{AllocError, Global};
 use std::hash::RandomState;
 
@@ -34,7 +39,9 @@ impl Groups {
         hasher: RandomState,
         items: &Items<'_>,
     ) -> Result<Groups, AllocError>
-        ensures groups { (names : List (List ℕ)) → IfOk result (λ g. groups_view g ≡ first_kept (keys_of names items.now.keys.items) (aggregates_view names items.now.aggregates.items)) }
+        ensures groups { (names : List (List ℕ))
+            → IfOk result (λ g. groups_view g ≡ first_kept (keys_of names items.now.keys.items)
+            (aggregates_view names items.now.aggregates.items)) }
         ensures paired { IfOk result (λ g. Paired g) }
     {
         let mut groups = Groups {
@@ -57,11 +64,15 @@ impl Groups {
         key: Vec<Value>,
     ) -> Result<(), Fault>
         requires { Paired self.old }
-        ensures ok { OnOk result (into_kept (given context.now graph.now) (aggregates_view context.now.names.now aggregates.now.items) (map view key.items) (groups_view self.old) ≡ Ok (groups_view self.new)) }
+        ensures ok { OnOk result (into_kept (given context.now graph.now)
+            (aggregates_view context.now.names.now aggregates.now.items)
+            (map view key.items) (groups_view self.old) ≡ Ok (groups_view self.new)) }
         ensures paired { OnOk result (Paired self.new) }
-        ensures err { IfErr result (λ e. e ≢ OutOfMemory → into_kept (given context.now graph.now) (aggregates_view context.now.names.now aggregates.now.items) (map view key.items) (groups_view self.old) ≡ Err e) }
+        ensures err { IfErr result (λ e. e ≢ OutOfMemory → into_kept (given context.now graph.now)
+            (aggregates_view context.now.names.now aggregates.now.items)
+            (map view key.items) (groups_view self.old) ≡ Err e) }
     {
-        let (number, is_new) = self.keys.insert_full(key)?;
+        let (number, is_new) = number_of(&mut self.keys, key)?;
         if is_new {
             push_made(
                 &mut self.taken,
@@ -69,5 +80,32 @@ impl Groups {
             )?;
         }
         take_in_all(context, graph, aggregates, &mut self.taken[number])
+    }
+}
+
+/// The number of a key's group, and whether the group is new. Where no item groups, the one group needs no look-up.
+#[inline(never)]
+fn number_of(
+    keys: &mut IndexSet<Vec<Value>, RandomState>,
+    key: Vec<Value>,
+) -> Result<(usize, bool), AllocError>
+    ensures keys { OnOk result (keys.new.keys ≡ insert_key same_keys keys.old.keys key) }
+    ensures number { IfOk result (λ n. n.0 ≡ position_or_len (same_keys key) keys.old.keys) }
+    ensures added { IfOk result (λ n. n.1 ≡ not (list_any (same_keys key) keys.old.keys)) }
+    ensures within { IfOk result (λ n. n.0 < length keys.new.keys) }
+{
+    if key.is_empty() && begins_empty(keys) {
+        return Ok((0, false));
+    }
+    Ok(keys.insert_full(key)?)
+}
+
+/// Whether the first key has no values.
+fn begins_empty(keys: &IndexSet<Vec<Value>, RandomState>) -> bool
+    ensures { result ≡ true → BeginsEmpty keys.now.keys }
+{
+    match keys.get_index(0) {
+        Some(first) => first.is_empty(),
+        None => false,
     }
 }

@@ -8,8 +8,9 @@ ghost use Rattle.pg_value_core.specs.Gives.{Gives};
 ghost use Rattle.pg_value_core.specs.View.{view};
 
 use crate::collected::Collected;
+use pg_meaning::Fault;
 use pg_scope::Summary;
-use pg_value_core::{Fault, Value, order};
+use pg_value_core::{Value, order};
 use std::alloc::Global;
 
 /// A count, a sum, the best value so far, or the values.

@@ -33,7 +33,8 @@ fn first_argument<'a>(
     arguments: &'a Vec<Expression>,
     names: &Columns,
 ) -> Result<Option<Prepared<'a>>, AllocError>
-    ensures { IfOk result (λ o. option_map (tree_of names.now) o ≡ first_argument (expressions_of (map expression_view arguments.now.items))) }
+    ensures { IfOk result (λ o. option_map (tree_of names.now) o
+        ≡ first_argument (expressions_of (map expression_view arguments.now.items))) }
 {
     match arguments.first() {
         Some(argument) => Ok(Some(prepare(alloc, argument, names)?)),
@@ -76,9 +77,12 @@ impl<'a> Items<'a> {
         expressions: &Vec<&'a Expression>,
         names: &Columns,
     ) -> Result<Items<'a>, AllocError>
-        ensures keys { IfOk result (λ i. keys_of names.now i.keys.items ≡ keys_in (expressions_view expressions.now.items)) }
-        ensures aggregates { IfOk result (λ i. aggregates_view names.now i.aggregates.items ≡ aggregates_in (expressions_view expressions.now.items)) }
-        ensures kinds { IfOk result (λ i. i.are_aggregates.items ≡ are_aggregates (expressions_view expressions.now.items)) }
+        ensures keys { IfOk result (λ i. keys_of names.now i.keys.items
+            ≡ keys_in (expressions_view expressions.now.items)) }
+        ensures aggregates { IfOk result (λ i. aggregates_view names.now i.aggregates.items
+            ≡ aggregates_in (expressions_view expressions.now.items)) }
+        ensures kinds { IfOk result (λ i. i.are_aggregates.items
+            ≡ are_aggregates (expressions_view expressions.now.items)) }
     {
         let mut items = Items {
             keys: Vec::new(alloc),
@@ -92,9 +96,16 @@ impl<'a> Items<'a> {
     }
 
     fn push(&mut self, item: Item<'a>) -> Result<(), AllocError>
-        ensures keys { (names : List (List ℕ)) → OnOk result (keys_of names self.new.keys.items ≡ keys_of names self.old.keys.items ++ before_keys (item_view names item.entry) []) }
-        ensures aggregates { (names : List (List ℕ)) → OnOk result (aggregates_view names self.new.aggregates.items ≡ aggregates_view names self.old.aggregates.items ++ before_aggregates (item_view names item.entry) []) }
-        ensures kinds { (names : List (List ℕ)) → OnOk result (self.new.are_aggregates.items ≡ self.old.are_aggregates.items ++ is_aggregate (item_view names item.entry) ∷ []) }
+        ensures keys { (names : List (List ℕ))
+            → OnOk result (keys_of names self.new.keys.items
+            ≡ keys_of names self.old.keys.items ++ before_keys (item_view names item.entry) []) }
+        ensures aggregates { (names : List (List ℕ))
+            → OnOk result (aggregates_view names self.new.aggregates.items
+            ≡ aggregates_view names self.old.aggregates.items
+            ++ before_aggregates (item_view names item.entry) []) }
+        ensures kinds { (names : List (List ℕ))
+            → OnOk result (self.new.are_aggregates.items
+            ≡ self.old.are_aggregates.items ++ is_aggregate (item_view names item.entry) ∷ []) }
     {
         match item {
             Item::Key(key) => {

@@ -1,7 +1,9 @@
 //! The lists that UNWIND goes over, and the rows that it makes of them.
 ghost use Rattle.std.specs.Prelude.{◌≡◌, ◌≢◌, ◌∷◌, [], ◌++◌, length, map, sum, IfOk, IfErr, OnOk, Ok, Err};
 ghost use Rattle.pg_expr.specs.Prepared.{tree_of};
+ghost use Rattle.pg_meaning.specs.Meters.{Setting, spend};
 ghost use Rattle.pg_meaning.specs.declared.fault.Fault.TheVariants.{OutOfMemory};
+ghost use Rattle.pg_meter.specs.Quotas.{after_test};
 ghost use Rattle.pg_project.specs.Unwound.{list_given, lists_given, lists_view, rows_unwound, with_column, with_item, with_items};
 ghost use Rattle.pg_rows.specs.Tables.{table};
 ghost use Rattle.pg_value_core.specs.Given.{parameters_view};
@@ -10,9 +12,11 @@ ghost use Rattle.pg_value_core.specs.View.{view};
 use crate::scope::Scope;
 use pg_expr::{Prepared, RowContext, evaluate_at};
 use pg_graph::Tables;
+use pg_meaning::Fault;
+use pg_meter::Meter;
 use pg_rows::{Rows, copy_row};
 use pg_store::Snapshot;
-use pg_value_core::{Fault, Parts, Value};
+use pg_value_core::{Parts, Value};
 use std::alloc::{AllocError, Global};
 
 /// The list at each row.
@@ -23,9 +27,14 @@ pub(crate) fn lists_at<T: Tables>(
     rows: &Rows,
     graph: &Snapshot<'_, T>,
 ) -> Result<Vec<Vec<Value>>, Fault>
-    ensures ok { IfOk result (λ lists. lists_given (parameters_view scope.now.query.now.parameters.now) graph.now (tree_of scope.now.names.now prepared.now) scope.now.names.now (table rows.now) ≡ Ok (lists_view lists.items)) }
+    ensures ok { IfOk result
+        (λ lists. lists_given (parameters_view scope.now.query.now.parameters.now) graph.now
+        (tree_of scope.now.names.now prepared.now) scope.now.names.now (table rows.now)
+        ≡ Ok (lists_view lists.items)) }
     ensures len { IfOk result (λ lists. length lists.items ≡ length (table rows.now)) }
-    ensures err { IfErr result (λ e. e ≢ OutOfMemory → lists_given (parameters_view scope.now.query.now.parameters.now) graph.now (tree_of scope.now.names.now prepared.now) scope.now.names.now (table rows.now) ≡ Err e) }
+    ensures err { IfErr result (λ e. e ≢ OutOfMemory
+        → lists_given (parameters_view scope.now.query.now.parameters.now) graph.now
+        (tree_of scope.now.names.now prepared.now) scope.now.names.now (table rows.now) ≡ Err e) }
 {
     let mut lists = Vec::new(scope.query.alloc);
     for at in 0..rows.len() {
@@ -46,8 +55,13 @@ fn list_at<T: Tables>(
     prepared: &Prepared<'_>,
     graph: &Snapshot<'_, T>,
 ) -> Result<Vec<Value>, Fault>
-    ensures ok { IfOk result (λ items. list_given (parameters_view context.now.parameters.now) graph.now (tree_of context.now.names.now prepared.now) context.now.names.now (map view context.now.row.now) ≡ Ok (map view items.items)) }
-    ensures err { IfErr result (λ e. e ≢ OutOfMemory → list_given (parameters_view context.now.parameters.now) graph.now (tree_of context.now.names.now prepared.now) context.now.names.now (map view context.now.row.now) ≡ Err e) }
+    ensures ok { IfOk result (λ items. list_given (parameters_view context.now.parameters.now)
+        graph.now (tree_of context.now.names.now prepared.now) context.now.names.now
+        (map view context.now.row.now) ≡ Ok (map view items.items)) }
+    ensures err { IfErr result (λ e. e ≢ OutOfMemory
+        → list_given (parameters_view context.now.parameters.now) graph.now
+        (tree_of context.now.names.now prepared.now) context.now.names.now
+        (map view context.now.row.now) ≡ Err e) }
 {
     let value = evaluate_at(context, prepared, graph)?;
     match value.into_parts() {
@@ -57,18 +71,18 @@ fn list_at<T: Tables>(
     }
 }
 
-/// How many items the lists have together.
-pub(crate) fn total_length(lists: &Vec<Vec<Value>>) -> Result<u64, AllocError>
-    ensures { IfOk result (λ n. n ≡ sum (map length (lists_view lists.now.items))) }
+/// Spends a step for each item of the lists.
+pub(crate) fn spend_items(lists: &Vec<Vec<Value>>, meter: &mut Meter) -> Result<(), Fault>
+    ensures spends { (s : Setting) → s.quota.max_steps ≡ meter.old.limit
+        → spend s meter.old.used (sum (map length (lists_view lists.now.items)))
+        ≡ after_test result meter.new.used }
+    ensures limit { meter.new.limit ≡ meter.old.limit }
 {
-    let mut total = 0u64;
     for list in lists {
-        let Some(more) = total.checked_add(list.len() as u64) else {
-            return Err(AllocError);
-        };
-        total = more;
+        meter.spend(list.len() as u64)?;
     }
-    Ok(total)
+    let _left = meter.left();
+    Ok(())
 }
 
 /// Each row with each item of its list behind it, where the items have a column of their own.
@@ -80,7 +94,8 @@ pub(crate) fn unwound(
     width: usize,
 ) -> Result<Rows, AllocError>
     requires { width ≡ with_column has_column rows.width }
-    ensures rows { IfOk result (λ found. table found ≡ rows_unwound has_column (table rows) (lists_view lists.items)) }
+    ensures rows { IfOk result
+        (λ found. table found ≡ rows_unwound has_column (table rows) (lists_view lists.items)) }
     ensures width { IfOk result (λ found. found.width ≡ width) }
 {
     let mut found = Rows::new(alloc, width);
@@ -103,7 +118,8 @@ fn push_items(
     has_column: bool,
 ) -> Result<(), AllocError>
     requires { found.old.width ≡ with_column has_column (length row.items) }
-    ensures rows { OnOk result (table found.new ≡ table found.old ++ with_items has_column (map view row.items) (map view items.items)) }
+    ensures rows { OnOk result (table found.new
+        ≡ table found.old ++ with_items has_column (map view row.items) (map view items.items)) }
     ensures width { found.new.width ≡ found.old.width }
 {
     let Some(last) = items.pop() else {
@@ -122,7 +138,8 @@ fn push_copies(
     has_column: bool,
 ) -> Result<(), AllocError>
     requires { found.old.width ≡ with_column has_column (length row.now) }
-    ensures rows { OnOk result (table found.new ≡ table found.old ++ with_items has_column (map view row.now) (map view items.items)) }
+    ensures rows { OnOk result (table found.new
+        ≡ table found.old ++ with_items has_column (map view row.now) (map view items.items)) }
     ensures width { found.new.width ≡ found.old.width }
 {
     let mut copy = Vec::new(alloc);
@@ -141,7 +158,8 @@ fn push_item(
     has_column: bool,
 ) -> Result<(), AllocError>
     requires { found.old.width ≡ with_column has_column (length row.old.items) }
-    ensures rows { OnOk result (table found.new ≡ table found.old ++ with_item has_column (map view row.old.items) (view item) ∷ []) }
+    ensures rows { OnOk result (table found.new
+        ≡ table found.old ++ with_item has_column (map view row.old.items) (view item) ∷ []) }
     ensures emptied { OnOk result (row.new.items ≡ []) }
     ensures width { found.new.width ≡ found.old.width }
 {

@@ -3,7 +3,7 @@ ghost use Rattle.std.specs.Prelude.{◌≡◌, ◌≢◌, ◌≤◌, true, None,
 ghost use Rattle.pg_expr.specs.Prepared.{condition_of};
 ghost use Rattle.pg_meaning.specs.Conditions.{condition};
 ghost use Rattle.pg_meaning.specs.declared.fault.Fault.TheVariants.{OutOfMemory};
-ghost use Rattle.pg_project.specs.Cuts.{LetsIn, cut_view};
+ghost use Rattle.pg_project.specs.Cuts.{LetsIn, Reaches, cut_view};
 ghost use Rattle.pg_project.specs.Given.{cut_of, passing_given};
 ghost use Rattle.pg_rows.specs.Left.{rows_left};
 ghost use Rattle.pg_rows.specs.Named.{row_of};
@@ -14,10 +14,10 @@ ghost use Rattle.pg_value_core.specs.Given.{parameters_view};
 use crate::scope::Scope;
 use pg_expr::{PreparedCondition, condition};
 use pg_graph::Tables;
+use pg_meaning::Fault;
 use pg_rows::{Rows, RowsLeft};
 use pg_store::Snapshot;
 use pg_syntax_tree::Expression;
-use pg_value_core::Fault;
 
 /// How many rows SKIP leaves out, and how many LIMIT lets in.
 #[derive(Clone, Copy)]
@@ -39,11 +39,27 @@ impl Cut {
             None => true,
         }
     }
+
+    /// How many of the first of so many rows have all that are let in among them.
+    #[tactic(auto, using(crate::proofs::Conditions::reaches_end, crate::proofs::Conditions::reaches_all))]
+    pub(crate) fn reach(self, count: usize) -> usize
+        ensures { Reaches (cut_view self) count result }
+    {
+        let Some(most) = self.limit else {
+            return count;
+        };
+        match self.skip.checked_add(most) {
+            Some(end) if end < count as u64 => end as usize,
+            _ => count,
+        }
+    }
 }
 
 /// Whether all rows are let in, under no condition.
 pub(crate) fn lets_all_pass(cut: Cut, condition: &Option<Expression>) -> bool
-    ensures { result ≡ true → (cut_view cut ≡ record { skip = 0; limit = None }) × (option_map expression_view condition.now ≡ None) }
+    ensures { result ≡ true
+        → (cut_view cut ≡ record { skip = 0; limit = None })
+        × (option_map expression_view condition.now ≡ None) }
 {
     cut.skip == 0 && cut.limit.is_none() && condition.is_none()
 }
@@ -58,9 +74,15 @@ pub(crate) fn passing_rows<T: Tables>(
     graph: &Snapshot<'_, T>,
 ) -> Result<Rows, Fault>
     requires { width ≤ rows.width }
-    ensures ok { IfOk result (λ found. passing_given (parameters_view scope.now.query.now.parameters.now) graph.now scope.now.names.now (condition_of scope.now.names.now wanted.now) width (cut_of (cut_view cut) (table rows)) ≡ Ok (table found)) }
+    ensures ok { IfOk result (λ found. passing_given
+        (parameters_view scope.now.query.now.parameters.now) graph.now scope.now.names.now
+        (condition_of scope.now.names.now wanted.now) width (cut_of (cut_view cut) (table rows))
+        ≡ Ok (table found)) }
     ensures width { IfOk result (λ found. found.width ≡ width) }
-    ensures err { IfErr result (λ e. e ≢ OutOfMemory → passing_given (parameters_view scope.now.query.now.parameters.now) graph.now scope.now.names.now (condition_of scope.now.names.now wanted.now) width (cut_of (cut_view cut) (table rows)) ≡ Err e) }
+    ensures err { IfErr result (λ e. e ≢ OutOfMemory → passing_given
+        (parameters_view scope.now.query.now.parameters.now) graph.now scope.now.names.now
+        (condition_of scope.now.names.now wanted.now) width (cut_of (cut_view cut) (table rows))
+        ≡ Err e) }
 {
     let most = cut.limit.unwrap_or(rows.len() as u64);
     let mut left = rows.into_left();
@@ -78,14 +100,20 @@ fn first_rows<T: Tables>(
     graph: &Snapshot<'_, T>,
 ) -> Result<Rows, Fault>
     requires { width ≤ left.rows.width }
-    ensures ok { IfOk result (λ found. passing_given (parameters_view scope.now.query.now.parameters.now) graph.now scope.now.names.now (condition_of scope.now.names.now wanted.now) width (take most (rows_left left)) ≡ Ok (table found)) }
+    ensures ok { IfOk result (λ found. passing_given
+        (parameters_view scope.now.query.now.parameters.now) graph.now scope.now.names.now
+        (condition_of scope.now.names.now wanted.now) width (take most (rows_left left))
+        ≡ Ok (table found)) }
     ensures width { IfOk result (λ found. found.width ≡ width) }
-    ensures err { IfErr result (λ e. e ≢ OutOfMemory → passing_given (parameters_view scope.now.query.now.parameters.now) graph.now scope.now.names.now (condition_of scope.now.names.now wanted.now) width (take most (rows_left left)) ≡ Err e) }
+    ensures err { IfErr result (λ e. e ≢ OutOfMemory → passing_given
+        (parameters_view scope.now.query.now.parameters.now) graph.now scope.now.names.now
+        (condition_of scope.now.names.now wanted.now) width (take most (rows_left left)) ≡ Err e) }
 {
     let query = scope.query;
     let mut found = Rows::new(query.alloc, width);
     let mut values = Vec::new(query.alloc);
     let mut more = most;
+    // `more` rows may still be looked at; `values` is empty at each turn
     while more > 0 {
         let Some(row) = left.look() else {
             return Ok(found);

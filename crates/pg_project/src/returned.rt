@@ -19,7 +19,8 @@ pub fn return_columns<'a>(
     scope: &Columns,
     projection: &'a Projection,
 ) -> Result<ProjectionColumns<'a>, AllocError>
-    ensures { IfOk result (λ c. columns_view c ≡ return_columns scope.now (projection_view projection.now)) }
+    ensures { IfOk result
+        (λ c. columns_view c ≡ return_columns scope.now (projection_view projection.now)) }
 {
     make_columns(alloc, Naming::Source, scope, projection)
 }
@@ -27,7 +28,8 @@ pub fn return_columns<'a>(
 /// Whether the rows of RETURN come in turn, each by itself: it neither groups these items nor sorts, and equal
 /// rows stay.
 pub fn come_in_turn(projection: &Projection, items: &Vec<&Expression>) -> bool
-    ensures { result ≡ true → ComeInTurn (projection_view projection.now) (expressions_view items.now.items) }
+    ensures { result ≡ true
+        → ComeInTurn (projection_view projection.now) (expressions_view items.now.items) }
 {
     !projection.distinct && projection.order.is_empty() && !have_aggregate(items)
 }

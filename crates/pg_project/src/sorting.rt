@@ -4,7 +4,8 @@ ghost use Rattle.pg_meaning.specs.Projections.{is_descending};
 ghost use Rattle.pg_meaning.specs.Trees.{same_expression};
 ghost use Rattle.pg_meaning.specs.Value.{null};
 ghost use Rattle.pg_meaning.specs.declared.fault.Fault.TheVariants.{OutOfMemory};
-ghost use Rattle.pg_project.specs.Given.{all_keys_given, distinct_given, key_given, key_of, keys_given, ordered_given};
+ghost use Rattle.pg_project.specs.Cuts.{cut_view};
+ghost use Rattle.pg_project.specs.Given.{all_keys_given, cut_of, distinct_given, key_given, key_of, keys_given, let_in_given, ordered_given};
 ghost use Rattle.pg_project.specs.Items.{expressions_view};
 ghost use Rattle.pg_project.specs.Sources.{source_view, sources_view};
 ghost use Rattle.pg_rows.specs.Sorts.{directions, sorted_places};
@@ -14,15 +15,16 @@ ghost use Rattle.pg_value_core.specs.Given.{parameters_view};
 ghost use Rattle.pg_value_core.specs.View.{view};
 
 use crate::made::push_made;
+use crate::passing::Cut;
 use crate::scope::Scope;
 use pg_expr::{Prepared, RowContext, evaluate_at, prepare};
 use pg_graph::Tables;
 use pg_item_index::same_expression;
-use pg_meaning::Sort;
-use pg_rows::{Columns, Rows, distinct, sort};
+use pg_meaning::{Fault, Sort};
+use pg_rows::{Columns, Rows, distinct, least};
 use pg_store::Snapshot;
 use pg_syntax_tree::{Expression, SortItem};
-use pg_value_core::{Fault, Value};
+use pg_value_core::Value;
 use std::alloc::{AllocError, Global};
 use std::hash::RandomState;
 
@@ -51,40 +53,50 @@ pub(crate) fn distinct_rows(
     rows.pick(&places, alloc)
 }
 
-/// The rows, sorted by the keys where ORDER BY is written.
+/// The rows, sorted by the keys where ORDER BY is written; those behind all that the cut lets in may be left out.
 pub(crate) fn ordered_rows<T: Tables>(
     scope: &Scope<'_>,
     items: &Vec<&Expression>,
     order: &Vec<SortItem>,
+    cut: Cut,
     rows: Rows,
     graph: &Snapshot<'_, T>,
 ) -> Result<Rows, Fault>
-    ensures ok { IfOk result (λ found. ordered_given (parameters_view scope.now.query.now.parameters.now) graph.now scope.now.names.now (expressions_view items.now.items) (map sort_item_view order.now.items) (table rows) ≡ Ok (table found)) }
+    ensures ok { IfOk result (λ found. let_in_given
+        (parameters_view scope.now.query.now.parameters.now) graph.now scope.now.names.now
+        (expressions_view items.now.items) (map sort_item_view order.now.items)
+        (cut_view cut) (table rows) ≡ Ok (cut_of (cut_view cut) (table found))) }
     ensures width { IfOk result (λ found. found.width ≡ rows.width) }
-    ensures err { IfErr result (λ e. e ≢ OutOfMemory → ordered_given (parameters_view scope.now.query.now.parameters.now) graph.now scope.now.names.now (expressions_view items.now.items) (map sort_item_view order.now.items) (table rows) ≡ Err e) }
+    ensures err { IfErr result (λ e. e ≢ OutOfMemory → ordered_given
+        (parameters_view scope.now.query.now.parameters.now) graph.now scope.now.names.now
+        (expressions_view items.now.items) (map sort_item_view order.now.items) (table rows)
+        ≡ Err e) }
 {
     if order.is_empty() {
         return Ok(rows);
     }
     let sources = sources(scope.query.alloc, items, order, scope.names)?;
     let keys = keys(scope, &sources, &rows, graph)?;
-    Ok(sorted_rows(scope.query.alloc, &keys, order, rows)?)
+    Ok(sorted_rows(scope.query.alloc, &keys, order, cut, rows)?)
 }
 
-/// The rows in the order of their keys.
-#[tactic(auto, using(crate::proofs::Moves::sorted_moved))]
+/// The rows in the order of their keys, as far as the cut lets any in.
 fn sorted_rows(
     alloc: Global,
     keys: &Rows,
     order: &Vec<SortItem>,
+    cut: Cut,
     mut rows: Rows,
 ) -> Result<Rows, AllocError>
     requires { length (table keys.now) ≡ length (table rows) }
-    ensures rows { IfOk result (λ found. table found ≡ rows_at_places (table rows) (sorted_places (directions (map sort_item_view order.now.items)) (table keys.now))) }
+    ensures rows { IfOk result (λ found. cut_of (cut_view cut) (table found)
+        ≡ cut_of (cut_view cut) (rows_at_places (table rows)
+        (sorted_places (directions (map sort_item_view order.now.items)) (table keys.now)))) }
     ensures width { IfOk result (λ found. found.width ≡ rows.width) }
 {
     let descending = descending(alloc, order)?;
-    let places = sort(keys, descending.as_slice(), alloc)?;
+    let most = cut.reach(keys.len());
+    let places = least(keys, descending.as_slice(), most, alloc)?;
     rows.pick(&places, alloc)
 }
 
@@ -115,7 +127,9 @@ fn sources<'a>(
     order: &'a Vec<SortItem>,
     names: &Columns,
 ) -> Result<Vec<SortKey<'a>>, AllocError>
-    ensures sources { IfOk result (λ found. sources_view names.now found.items ≡ map (λ o. key_of (expressions_view items.now.items) o.key) (map sort_item_view order.now.items)) }
+    ensures sources { IfOk result (λ found. sources_view names.now found.items
+        ≡ map (λ o. key_of (expressions_view items.now.items) o.key)
+        (map sort_item_view order.now.items)) }
     ensures len { IfOk result (λ found. length found.items ≡ length order.now.items) }
 {
     let mut found = Vec::new(alloc);
@@ -132,7 +146,8 @@ fn sort_key<'a>(
     key: &'a Expression,
     names: &Columns,
 ) -> Result<SortKey<'a>, AllocError>
-    ensures { IfOk result (λ s. source_view names.now s ≡ key_of (expressions_view items.now.items) (expression_view key.now)) }
+    ensures { IfOk result (λ s. source_view names.now s
+        ≡ key_of (expressions_view items.now.items) (expression_view key.now)) }
 {
     match item_place(items, key) {
         Some(at) => Ok(SortKey::Item(at)),
@@ -142,7 +157,9 @@ fn sort_key<'a>(
 
 /// The place of the first item of this tree.
 fn item_place(items: &Vec<&Expression>, key: &Expression) -> Option<usize>
-    ensures { result ≡ position (λ x. same_expression x (expression_view key.now)) (expressions_view items.now.items) }
+    ensures { result
+        ≡ position
+        (λ x. same_expression x (expression_view key.now)) (expressions_view items.now.items) }
 {
     for (at, item) in items.iter().enumerate() {
         if same_expression(item, key) {
@@ -160,9 +177,14 @@ fn keys<T: Tables>(
     rows: &Rows,
     graph: &Snapshot<'_, T>,
 ) -> Result<Rows, Fault>
-    ensures ok { IfOk result (λ found. all_keys_given (parameters_view scope.now.query.now.parameters.now) graph.now scope.now.names.now (sources_view scope.now.names.now sources.now.items) (table rows.now) ≡ Ok (table found)) }
+    ensures ok { IfOk result (λ found. all_keys_given
+        (parameters_view scope.now.query.now.parameters.now) graph.now scope.now.names.now
+        (sources_view scope.now.names.now sources.now.items) (table rows.now) ≡ Ok (table found)) }
     ensures len { IfOk result (λ found. length (table found) ≡ length (table rows.now)) }
-    ensures err { IfErr result (λ e. e ≢ OutOfMemory → all_keys_given (parameters_view scope.now.query.now.parameters.now) graph.now scope.now.names.now (sources_view scope.now.names.now sources.now.items) (table rows.now) ≡ Err e) }
+    ensures err { IfErr result (λ e. e ≢ OutOfMemory
+        → all_keys_given (parameters_view scope.now.query.now.parameters.now) graph.now
+        scope.now.names.now (sources_view scope.now.names.now sources.now.items) (table rows.now)
+        ≡ Err e) }
 {
     let mut found = Rows::new(scope.query.alloc, sources.len());
     let mut keys = Vec::new(scope.query.alloc);
@@ -187,9 +209,15 @@ fn push_keys<T: Tables>(
     keys: &mut Vec<Value>,
 ) -> Result<(), Fault>
     requires { keys.old.items ≡ [] }
-    ensures ok { OnOk result (keys_given (parameters_view context.now.parameters.now) graph.now context.now.names.now (sources_view context.now.names.now sources.now.items) (map view context.now.row.now) ≡ Ok (map view keys.new.items)) }
+    ensures ok { OnOk result
+        (keys_given (parameters_view context.now.parameters.now) graph.now context.now.names.now
+        (sources_view context.now.names.now sources.now.items) (map view context.now.row.now)
+        ≡ Ok (map view keys.new.items)) }
     ensures len { OnOk result (length keys.new.items ≡ length sources.now.items) }
-    ensures err { IfErr result (λ e. e ≢ OutOfMemory → keys_given (parameters_view context.now.parameters.now) graph.now context.now.names.now (sources_view context.now.names.now sources.now.items) (map view context.now.row.now) ≡ Err e) }
+    ensures err { IfErr result (λ e. e ≢ OutOfMemory
+        → keys_given (parameters_view context.now.parameters.now) graph.now context.now.names.now
+        (sources_view context.now.names.now sources.now.items) (map view context.now.row.now)
+        ≡ Err e) }
 {
     for source in sources {
         keys.push(key(context, source, graph)?)?;
@@ -202,8 +230,13 @@ fn key<T: Tables>(
     source: &SortKey<'_>,
     graph: &Snapshot<'_, T>,
 ) -> Result<Value, Fault>
-    ensures ok { IfOk result (λ v. key_given (parameters_view context.now.parameters.now) graph.now context.now.names.now (map view context.now.row.now) (source_view context.now.names.now source.now) ≡ Ok (view v)) }
-    ensures err { IfErr result (λ e. e ≢ OutOfMemory → key_given (parameters_view context.now.parameters.now) graph.now context.now.names.now (map view context.now.row.now) (source_view context.now.names.now source.now) ≡ Err e) }
+    ensures ok { IfOk result
+        (λ v. key_given (parameters_view context.now.parameters.now) graph.now context.now.names.now
+        (map view context.now.row.now) (source_view context.now.names.now source.now)
+        ≡ Ok (view v)) }
+    ensures err { IfErr result (λ e. e ≢ OutOfMemory
+        → key_given (parameters_view context.now.parameters.now) graph.now context.now.names.now
+        (map view context.now.row.now) (source_view context.now.names.now source.now) ≡ Err e) }
 {
     match source {
         SortKey::Item(at) => Ok(item_value(context.alloc, context.row, *at)?),

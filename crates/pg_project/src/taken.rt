@@ -8,8 +8,9 @@ ghost use Rattle.pg_value_core.specs.View.{view};
 
 use crate::held::Held;
 use indexmap::IndexSet;
+use pg_meaning::Fault;
 use pg_scope::Summary;
-use pg_value_core::{Fault, Value};
+use pg_value_core::Value;
 use std::alloc::{AllocError, Global};
 use std::hash::RandomState;
 use std::mem;
@@ -58,8 +59,10 @@ impl Taken {
 
     /// Takes in one value more, if it counts.
     pub(crate) fn take(&mut self, alloc: Global, value: Value) -> Result<(), Fault>
-        ensures ok { OnOk result (taken_with (taken_view self.old) (view value) ≡ Ok (taken_view self.new)) }
-        ensures err { IfErr result (λ e. e ≢ OutOfMemory → taken_with (taken_view self.old) (view value) ≡ Err e) }
+        ensures ok { OnOk result
+            (taken_with (taken_view self.old) (view value) ≡ Ok (taken_view self.new)) }
+        ensures err { IfErr result (λ e. e ≢ OutOfMemory
+            → taken_with (taken_view self.old) (view value) ≡ Err e) }
     {
         if !counts(alloc, &mut self.different, &value)? {
             return Ok(());
@@ -76,7 +79,8 @@ fn counts(
     different: &mut Option<IndexSet<Value, RandomState>>,
     value: &Value,
 ) -> Result<bool, AllocError>
-    ensures { IfOk result (λ b. Counts (option_map (λ s. map view s.keys) different.old) (option_map (λ s. map view s.keys) different.new) (view value.now) b) }
+    ensures { IfOk result (λ b. Counts (option_map (λ s. map view s.keys) different.old)
+        (option_map (λ s. map view s.keys) different.new) (view value.now) b) }
 {
     if is_null(value) {
         return Ok(false);

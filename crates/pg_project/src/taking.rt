@@ -13,8 +13,9 @@ use crate::items::Aggregate;
 use crate::taken::Taken;
 use pg_expr::{RowContext, evaluate_at};
 use pg_graph::Tables;
+use pg_meaning::Fault;
 use pg_store::Snapshot;
-use pg_value_core::{Fault, Value};
+use pg_value_core::Value;
 use std::alloc::{AllocError, Global};
 use std::hash::RandomState;
 
@@ -24,7 +25,9 @@ pub(crate) fn begun(
     hasher: RandomState,
     aggregates: &Vec<Aggregate<'_>>,
 ) -> Result<Vec<Taken>, AllocError>
-    ensures { (names : List (List ℕ)) → IfOk result (λ ts. takens_view ts.items ≡ kept.begun (aggregates_view names aggregates.now.items)) }
+    ensures { (names : List (List ℕ))
+        → IfOk result
+        (λ ts. takens_view ts.items ≡ kept.begun (aggregates_view names aggregates.now.items)) }
 {
     let mut begun = Vec::with_capacity(alloc, aggregates.len())?;
     for aggregate in aggregates {
@@ -39,7 +42,8 @@ pub(crate) fn argument_value<T: Tables>(
     graph: &Snapshot<'_, T>,
     aggregate: &Aggregate<'_>,
 ) -> Result<Value, Fault>
-    ensures { Gives result (argument_given (given context.now graph.now) (aggregate_view context.now.names.now aggregate.now)) view }
+    ensures { Gives result (argument_given
+        (given context.now graph.now) (aggregate_view context.now.names.now aggregate.now)) view }
 {
     match &aggregate.argument {
         Some(argument) => evaluate_at(context, argument, graph),
@@ -54,8 +58,12 @@ pub(crate) fn take_in_all<T: Tables>(
     aggregates: &Vec<Aggregate<'_>>,
     taken: &mut Vec<Taken>,
 ) -> Result<(), Fault>
-    ensures ok { OnOk result (all_taken_in (given context.now graph.now) (aggregates_view context.now.names.now aggregates.now.items) (takens_view taken.old.items) ≡ Ok (takens_view taken.new.items)) }
-    ensures err { IfErr result (λ e. e ≢ OutOfMemory → all_taken_in (given context.now graph.now) (aggregates_view context.now.names.now aggregates.now.items) (takens_view taken.old.items) ≡ Err e) }
+    ensures ok { OnOk result (all_taken_in (given context.now graph.now)
+        (aggregates_view context.now.names.now aggregates.now.items) (takens_view taken.old.items)
+        ≡ Ok (takens_view taken.new.items)) }
+    ensures err { IfErr result (λ e. e ≢ OutOfMemory → all_taken_in (given context.now graph.now)
+        (aggregates_view context.now.names.now aggregates.now.items) (takens_view taken.old.items)
+        ≡ Err e) }
 {
     let count = aggregates.len().min(taken.len());
     for at in 0..count {

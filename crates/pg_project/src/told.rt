@@ -19,7 +19,8 @@ pub(crate) fn told_rows(
     are_aggregates: &Vec<bool>,
     groups: Groups,
 ) -> Result<Rows, AllocError>
-    ensures rows { IfOk result (λ found. table found ≡ map (λ g. merged are_aggregates.now.items g.key (told_each g.taken)) (groups_view groups)) }
+    ensures rows { IfOk result (λ found. table found ≡ map
+        (λ g. merged are_aggregates.now.items g.key (told_each g.taken)) (groups_view groups)) }
     ensures width { IfOk result (λ found. found.width ≡ length are_aggregates.now.items) }
 {
     let mut found = Rows::new(alloc, are_aggregates.len());
@@ -40,7 +41,8 @@ fn told_row(
     key: Vec<Value>,
     taken: Vec<Taken>,
 ) -> Result<Vec<Value>, AllocError>
-    ensures values { IfOk result (λ row. map view row.items ≡ merged are_aggregates.now.items (map view key.items) (told_each (takens_view taken.items))) }
+    ensures values { IfOk result (λ row. map view row.items ≡ merged are_aggregates.now.items
+        (map view key.items) (told_each (takens_view taken.items))) }
     ensures len { IfOk result (λ row. length row.items ≡ length are_aggregates.now.items) }
 {
     let mut row = Vec::with_capacity(alloc, are_aggregates.len())?;
@@ -58,7 +60,8 @@ fn told_row(
 }
 
 fn told_or_null(taken: Option<Taken>) -> Value
-    ensures { view result ≡ first_or_null (told_each (option_to_list (option_map taken_view taken))) }
+    ensures { view result
+        ≡ first_or_null (told_each (option_to_list (option_map taken_view taken))) }
 {
     match taken {
         Some(taken) => taken.held.tell(),

@@ -11,15 +11,16 @@ ghost use Rattle.pg_syntax_tree.specs.View.{expression_view, name_view};
 ghost use Rattle.pg_value_core.specs.Given.{parameters_view};
 ghost use Rattle.pg_value_core.specs.Gives.{Gives};
 
-use crate::lists::{lists_at, total_length, unwound};
+use crate::lists::{lists_at, spend_items, unwound};
 use crate::scope::Scope;
 use pg_expr::{QueryContext, prepare};
 use pg_graph::Tables;
+use pg_meaning::Fault;
 use pg_meter::Meter;
 use pg_rows::{Columns, Rows, Table};
 use pg_store::Snapshot;
 use pg_syntax_tree::{Expression, Name};
-use pg_value_core::{Fault, Value};
+use pg_value_core::Value;
 use std::alloc::{AllocError, Global};
 
 /// One row for each item of each row's list.
@@ -31,8 +32,13 @@ pub fn unwind_rows<T: Tables>(
     table: Table,
     meter: &mut Meter,
 ) -> Result<Table, Fault>
-    ensures unwinds { (s : Setting) → Suits s (parameters_view query.now.parameters.now) meter.old.limit (seen table).names → Gives result (unwind_clause s (expression_view list.now) (name_view name.now) (state_of graph.now (seen table) meter.old.used)) (λ t. state_of graph.now (seen t) meter.new.used) }
-    ensures names { IfOk result (λ t. (seen t).names ≡ add_name (seen table).names (name_view name.now).text) }
+    ensures unwinds { (s : Setting)
+        → Suits s (parameters_view query.now.parameters.now) meter.old.limit (seen table).names
+        → Gives result (unwind_clause s (expression_view list.now)
+        (name_view name.now) (state_of graph.now (seen table) meter.old.used))
+        (λ t. state_of graph.now (seen t) meter.new.used) }
+    ensures names { IfOk result
+        (λ t. (seen t).names ≡ add_name (seen table).names (name_view name.now).text) }
     ensures limit { meter.new.limit ≡ meter.old.limit }
 {
     let (names, rows) = table.split();
@@ -42,7 +48,7 @@ pub fn unwind_rows<T: Tables>(
         names: &names,
     };
     let lists = lists_at(&scope, &prepared, &rows, graph)?;
-    meter.spend(total_length(&lists)?)?;
+    spend_items(&lists, meter)?;
     Ok(unwound_table(query.alloc, names, rows, name.text.as_str(), lists)?)
 }
 
@@ -56,7 +62,8 @@ fn unwound_table(
 ) -> Result<Table, AllocError>
     requires { rows.width ≡ length names }
     ensures names { IfOk result (λ t. (seen t).names ≡ with_name name.now names) }
-    ensures rows { IfOk result (λ t. (seen t).rows ≡ rows_unwound (is_none (position (bytes_eq name.now) names)) (table rows) (lists_view lists.items)) }
+    ensures rows { IfOk result (λ t. (seen t).rows ≡ rows_unwound
+        (is_none (position (bytes_eq name.now) names)) (table rows) (lists_view lists.items)) }
 {
     let has_column = names.find(name).is_none();
     names.add(alloc, name)?;

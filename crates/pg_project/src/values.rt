@@ -12,10 +12,11 @@ use crate::made::push_made;
 use crate::scope::Scope;
 use pg_expr::{Prepared, RowContext, evaluate_at, prepare};
 use pg_graph::Tables;
+use pg_meaning::Fault;
 use pg_rows::{Columns, Rows, RowsLeft};
 use pg_store::Snapshot;
 use pg_syntax_tree::Expression;
-use pg_value_core::{Fault, Value};
+use pg_value_core::Value;
 use std::alloc::{AllocError, Global};
 
 /// The expressions, made ready for rows under the names.
@@ -24,7 +25,8 @@ pub fn prepare_each<'a>(
     expressions: &Vec<&'a Expression>,
     names: &Columns,
 ) -> Result<Vec<Prepared<'a>>, AllocError>
-    ensures trees { IfOk result (λ ready. trees_of names.now ready.items ≡ expressions_view expressions.now.items) }
+    ensures trees { IfOk result
+        (λ ready. trees_of names.now ready.items ≡ expressions_view expressions.now.items) }
     ensures len { IfOk result (λ ready. length ready.items ≡ length expressions.now.items) }
 {
     let mut ready = Vec::new(alloc);
@@ -42,9 +44,14 @@ pub(crate) fn push_values<T: Tables>(
     values: &mut Vec<Value>,
 ) -> Result<(), Fault>
     requires { values.old.items ≡ [] }
-    ensures ok { OnOk result (values_given (parameters_view context.now.parameters.now) graph.now context.now.names.now (trees_of context.now.names.now ready.now.items) (map view context.now.row.now) ≡ Ok (map view values.new.items)) }
+    ensures ok { OnOk result
+        (values_given (parameters_view context.now.parameters.now) graph.now context.now.names.now
+        (trees_of context.now.names.now ready.now.items) (map view context.now.row.now)
+        ≡ Ok (map view values.new.items)) }
     ensures len { OnOk result (length values.new.items ≡ length ready.now.items) }
-    ensures err { IfErr result (λ e. e ≢ OutOfMemory → values_given (parameters_view context.now.parameters.now) graph.now context.now.names.now (trees_of context.now.names.now ready.now.items) (map view context.now.row.now) ≡ Err e) }
+    ensures err { IfErr result (λ e. e ≢ OutOfMemory
+        → values_given (parameters_view context.now.parameters.now) graph.now context.now.names.now
+        (trees_of context.now.names.now ready.now.items) (map view context.now.row.now) ≡ Err e) }
 {
     for one in ready {
         let value = evaluate_at(context, one, graph)?;
@@ -56,8 +63,10 @@ pub(crate) fn push_values<T: Tables>(
 /// Goes to the next row; where the row is kept, it moves behind the values.
 fn pass(left: &mut RowsLeft, keeps: bool, values: &mut Vec<Value>) -> Result<(), AllocError>
     requires { 0 < length (rows_left left.old) }
-    ensures values { OnOk result (map view values.new.items ≡ map view values.old.items ++ cond keeps (first_row (rows_left left.old)) []) }
-    ensures len { OnOk result (length values.new.items ≡ length values.old.items + cond keeps left.old.rows.width 0) }
+    ensures values { OnOk result (map view values.new.items
+        ≡ map view values.old.items ++ cond keeps (first_row (rows_left left.old)) []) }
+    ensures len { OnOk result
+        (length values.new.items ≡ length values.old.items + cond keeps left.old.rows.width 0) }
     ensures rows { OnOk result (rows_left left.new ≡ drop 1 (rows_left left.old)) }
     ensures width { left.new.rows.width ≡ left.old.rows.width }
 {
@@ -79,13 +88,19 @@ pub(crate) fn wide_rows<T: Tables>(
     graph: &Snapshot<'_, T>,
 ) -> Result<Rows, Fault>
     requires { width ≡ length ready.now.items + cond keeps rows.width 0 }
-    ensures ok { IfOk result (λ found. wide_rows_given (parameters_view scope.now.query.now.parameters.now) graph.now scope.now.names.now (trees_of scope.now.names.now ready.now.items) keeps (table rows) ≡ Ok (table found)) }
+    ensures ok { IfOk result (λ found. wide_rows_given
+        (parameters_view scope.now.query.now.parameters.now) graph.now scope.now.names.now
+        (trees_of scope.now.names.now ready.now.items) keeps (table rows) ≡ Ok (table found)) }
     ensures width { IfOk result (λ found. found.width ≡ width) }
-    ensures err { IfErr result (λ e. e ≢ OutOfMemory → wide_rows_given (parameters_view scope.now.query.now.parameters.now) graph.now scope.now.names.now (trees_of scope.now.names.now ready.now.items) keeps (table rows) ≡ Err e) }
+    ensures err { IfErr result (λ e. e ≢ OutOfMemory
+        → wide_rows_given (parameters_view scope.now.query.now.parameters.now) graph.now
+        scope.now.names.now (trees_of scope.now.names.now ready.now.items) keeps (table rows)
+        ≡ Err e) }
 {
     let mut found = Rows::new(scope.query.alloc, width);
     let mut values = Vec::new(scope.query.alloc);
     let mut left = rows.into_left();
+    // `values` is empty at each turn: what a row gave is moved out, and its memory stays
     while let Some(row) = left.look() {
         let context = RowContext {
             alloc: scope.query.alloc,

@@ -1,18 +1,18 @@
 -- Keys with their places, as the program and the definitions have them.
-use Rattle.std.proofs.Common.{◌≡◌, Bool, ℕ, zero, suc, ◌+◌, List, [], ◌∷◌, ◌++◌, map, take, length, slice_get, Some, Bor, refl, sym, ap, ◌∙◌, arith}
+use Rattle.std.proofs.Common.{◌≡◌, Bool, ℕ, zero, suc, ◌+◌, List, [], ◌∷◌, ◌++◌, map, take, length, slice_get, Some, Result, Bor, refl, sym, ap, subst, ◌∙◌, arith}
 use Rattle.std.proofs.Math.Seq.{take-length}
 use Rattle.std.proofs.lemmas.List.Sorted.{ranks_by}
+use Rattle.std.proofs.lemmas.Result.{IfOk-weaker}
 use Rattle.std.specs.Cmp.{IsStrictWeakOrder}
+use Rattle.std.specs.Global.{Vec}
+use Rattle.std.specs.Result.{IfOk}
 use Rattle.std.specs.List.Sorted.{IsSortedBy, IsStableBy}
 use Rattle.pg_meaning.specs.Value.{Value as Datum}
 use Rattle.pg_value_core.specs.View.{view}
 use Rattle.pg_value_core.specs.declared.value.Value.{Value}
-use Rattle.pg_rows.specs.Sorts.{numbered, sorted_by, sorted_places, keyed_below}
+use Rattle.pg_rows.specs.Sorts.{numbered, sorted_by, keyed_below, entry_of, entries_view}
 use Rattle.pg_rows.proofs.Orders.{key_order_total}
 use Rattle.pg_rows.proofs.Stable.{stable_is, sorted_map}
-
-abbrev pub entry_of : Bor (List Value) × ℕ → List Datum × ℕ
-entry_of e = (map view e.0.now, e.1)
 
 pub length_numbered : (n : ℕ) (ks : List (List Datum)) → length (numbered n ks) ≡ length ks
 length_numbered n [] = refl
@@ -39,13 +39,14 @@ pub all_numbered : (ks : List (List Datum)) (i : ℕ) → i ≡ length ks → ta
 all_numbered ks i h = ap (λ c. take c (numbered 0 ks)) (h ∙ sym (length_numbered 0 ks)) ∙ take-length (numbered 0 ks)
 
 -- entries sorted by a stable sort, seen as keys with places
-pub sorted_entries : (ds : List Bool) (xs ys : List (Bor (List Value) × ℕ)) (ks : List (List Datum)) → map entry_of xs ≡ numbered 0 ks
-    → IsSortedBy (λ a b. keyed_below ds (entry_of a) (entry_of b)) ys → IsStableBy (λ a b. keyed_below ds (entry_of a) (entry_of b)) xs ys → map (λ e. e.1) ys ≡ sorted_places ds ks
-sorted_entries ds xs ys ks seen up stable =
-    ap (map (λ e. e.1)) (stable_is (entry_order ds) xs ys up stable)
-    ∙ places_of (sorted_by (λ a b. keyed_below ds (entry_of a) (entry_of b)) xs)
-    ∙ ap (map (λ k. k.1)) (sym (sorted_map entry_of (keyed_below ds) xs) ∙ ap (sorted_by (keyed_below ds)) seen)
-  where
-    places_of : (es : List (Bor (List Value) × ℕ)) → map (λ e. e.1) es ≡ map (λ k. k.1) (map entry_of es)
-    places_of [] = refl
-    places_of (e ∷ es) = ap (λ zs. e.1 ∷ zs) (places_of es)
+pub entries_sorted : (ds : List Bool) (xs ys : List (Bor (List Value) × ℕ)) → IsSortedBy (λ a b. keyed_below ds (entry_of a) (entry_of b)) ys → IsStableBy (λ a b. keyed_below ds (entry_of a) (entry_of b)) xs ys
+    → entries_view ys ≡ sorted_by (keyed_below ds) (entries_view xs)
+entries_sorted ds xs ys up stable = ap entries_view (stable_is (entry_order ds) xs ys up stable) ∙ sym (sorted_map entry_of (keyed_below ds) xs)
+
+pub places_in : (es : List (Bor (List Value) × ℕ)) → map (λ e. e.1) es ≡ map (λ k. k.1) (entries_view es)
+places_in [] = refl
+places_in (e ∷ es) = ap (λ zs. e.1 ∷ zs) (places_in es)
+
+-- what is known of a list holds for a result that is the list
+pub known_of : {X E : Type 0} (r : Result (Vec X) E) (P : List X → Type 0) (xs : List X) → P xs → IfOk r (λ v. v.items ≡ xs) → IfOk r (λ v. P v.items)
+known_of r P xs known is = IfOk-weaker r (λ v. v.items ≡ xs) (λ v. P v.items) (λ v e. subst P (sym e) known) is

@@ -6,6 +6,7 @@ pub mod NamedRows
 pub mod Occurrences
 pub mod Grouped
 pub mod Keyed
+pub mod Leasts
 pub mod Orders
 pub mod Places
 pub mod Stable

@@ -15,7 +15,7 @@ module _ {X : Type 0} (lt : X → X → Bool) where
   Rises (x ∷ xs) = Every (λ w. lt w x ≡ false) xs × Rises xs
 
 module _ {X : Type 0} {lt : X → X → Bool} (o : IsStrictWeakOrder lt) where
-  itself : (x : X) → lt x x ≡ false
+  pub itself : (x : X) → lt x x ≡ false
   itself x = by (lt x x) refl
     where
       by : (b : Bool) → lt x x ≡ b → lt x x ≡ false

@@ -4,7 +4,7 @@ use Rattle.pg_meaning.specs.Projections.{Projected, sorted_keyed, firsts}
 use Rattle.pg_meaning.specs.Rows.{values_in}
 use Rattle.pg_meaning.specs.Tree.{SortItem}
 use Rattle.pg_meaning.specs.Value.{Value}
-use Rattle.pg_rows.specs.Sorts.{sorted_by, sorted_places, keyed_below, directions}
+use Rattle.pg_rows.specs.Sorts.{sorted_by, sorted_places, least_places, keyed_below, directions}
 use Rattle.pg_rows.specs.Tables.{first_places, moved_rows, rows_at_places, EachBelow, AreApart}
 
 abbrev pub AllLong : {X : Type 0} → ℕ → List (List Value × X) → Type 0
@@ -34,3 +34,6 @@ FirstPlacesAreApart = (rows : List (List Value)) → AreApart (first_places [] 0
 
 abbrev pub SortedPlacesAreApart : Type 0
 SortedPlacesAreApart = (descending : List Bool) (keys : List (List Value)) → AreApart (sorted_places descending keys)
+
+abbrev pub LeastPlacesAreApart : Type 0
+LeastPlacesAreApart = (most : ℕ) (descending : List Bool) (keys : List (List Value)) → AreApart (least_places most descending keys)

@@ -1,5 +1,6 @@
 pub mod Groups
 pub mod Laws
+pub mod LeastKeys
 pub mod Left
 pub mod Named
 pub mod Sorts

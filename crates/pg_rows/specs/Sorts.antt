@@ -1,5 +1,6 @@
 -- Rows sorted by keys that stand beside them.
-use Rattle.std.specs.Prelude.{ℕ, suc, Bool, cond, List, [], ◌∷◌, map}
+use Rattle.std.specs.Borrow.{Bor}
+use Rattle.std.specs.Prelude.{ℕ, suc, Bool, cond, List, [], ◌∷◌, map, take}
 use Rattle.std.specs.Ordering.{ordering_then, is_lt}
 use Rattle.std.specs.declared.cmp.Ordering.{Ordering}
 use Rattle.std.specs.declared.cmp.Ordering.TheVariants.{Equal}
@@ -7,6 +8,8 @@ use Rattle.pg_meaning.specs.Order.{value_order}
 use Rattle.pg_meaning.specs.Projections.{directed, first_or_null, is_descending}
 use Rattle.pg_meaning.specs.Tree.{SortItem}
 use Rattle.pg_meaning.specs.Value.{Value}
+use Rattle.pg_value_core.specs.View.{view}
+use Rattle.pg_value_core.specs.declared.value.Value.{Value as Code}
 
 abbrev pub other_values : List Value → List Value
 other_values [] = []
@@ -39,3 +42,14 @@ numbered n (k ∷ ks) = (k, n) ∷ numbered (suc n) ks
 -- the places of the keys, sorted by the keys
 abbrev pub sorted_places : (descending : List Bool) → List (List Value) → List ℕ
 sorted_places descending keys = map (λ k. k.1) (sorted_by (keyed_below descending) (numbered 0 keys))
+
+-- the first of them, at most so many
+abbrev pub least_places : (most : ℕ) → (descending : List Bool) → List (List Value) → List ℕ
+least_places most descending keys = take most (sorted_places descending keys)
+
+-- a key of the program and its place, as data
+abbrev pub entry_of : Bor (List Code) × ℕ → List Value × ℕ
+entry_of e = (map view e.0.now, e.1)
+
+abbrev pub entries_view : List (Bor (List Code) × ℕ) → List (List Value × ℕ)
+entries_view es = map entry_of es

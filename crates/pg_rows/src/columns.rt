@@ -18,6 +18,7 @@ impl Model for Columns {
 }
 
 impl Columns {
+    /// No columns.
     pub fn new(alloc: Global) -> Self
         ensures { result ≡ [] }
     {
@@ -33,6 +34,7 @@ impl Columns {
         self.names.len()
     }
 
+    /// The name of a column, counted from 0.
     pub fn name(&self, at: usize) -> &str
         requires { at < length self.now }
         ensures { slice_get self.now at ≡ Some result.now }

@@ -24,7 +24,8 @@ fn unseen<'a>(
     seen: &mut IndexSet<&'a [Value], RandomState>,
     alloc: Global,
 ) -> Result<Vec<usize>, AllocError>
-    ensures { IfOk result (λ places. places.items ≡ first_places (map (λ r. map view r.now) seen.old.keys) 0 (table rows.now)) }
+    ensures { IfOk result (λ places. places.items
+        ≡ first_places (map (λ r. map view r.now) seen.old.keys) 0 (table rows.now)) }
 {
     let mut places = Vec::new(alloc);
     for at in 0..rows.len() {

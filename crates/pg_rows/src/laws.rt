@@ -1,6 +1,6 @@
 //! What places of rows are in the definitions.
 ghost use Rattle.pg_rows.specs.Named.{ValuesStandInColumns, NewColumnsBind, OldColumnsStay, ValuesAreTheRow};
-ghost use Rattle.pg_rows.specs.Laws.{SortsByKeys, FirstsAreAtPlaces, MovesKeepRows, FirstPlacesAreApart, SortedPlacesAreApart};
+ghost use Rattle.pg_rows.specs.Laws.{SortsByKeys, FirstsAreAtPlaces, MovesKeepRows, FirstPlacesAreApart, SortedPlacesAreApart, LeastPlacesAreApart};
 
 /// The definition's sort is by the order of keys.
 #[tactic(auto, using(crate::proofs::Orders::sorts_by_keys))]
@@ -15,11 +15,12 @@ pub fn law_of_distinct()
 {}
 
 /// Rows that are picked are those at the places, and no place is told twice.
-#[tactic(auto, using(crate::proofs::Apart::moves_keep, crate::proofs::Apart::firsts_apart, crate::proofs::Apart::sorted_apart))]
+#[tactic(auto, using(crate::proofs::Apart::moves_keep, crate::proofs::Apart::firsts_apart, crate::proofs::Apart::sorted_apart, crate::proofs::Leasts::least_apart))]
 pub fn law_of_places()
     ensures moves { MovesKeepRows }
     ensures firsts { FirstPlacesAreApart }
     ensures sorted { SortedPlacesAreApart }
+    ensures least { LeastPlacesAreApart }
 {}
 
 /// Columns beside the values of a row are the definitions' row.

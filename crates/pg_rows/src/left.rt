@@ -16,6 +16,7 @@ impl Rows {
     ghost use Rattle.pg_rows.specs.Left.{rows_left};
     ghost use Rattle.pg_rows.specs.Tables.{table};
 
+    /// The rows, to be moved out from the first on. Nothing is copied.
     pub fn into_left(self) -> RowsLeft
         ensures rows { rows_left result ≡ table self }
         ensures width { result.rows.width ≡ self.width }
@@ -31,9 +32,11 @@ impl RowsLeft {
 
     /// The next row, if there is one.
     pub fn next_row(&mut self, alloc: Global) -> Result<Option<Vec<Value>>, AllocError>
-        ensures row { IfOk result (λ found. IfSome found (λ row. rows_left self.old ≡ map view row.items ∷ rows_left self.new)) }
+        ensures row { IfOk result (λ found.
+            IfSome found (λ row. rows_left self.old ≡ map view row.items ∷ rows_left self.new)) }
         ensures none { IfOk result (λ found. IfNone found (rows_left self.old ≡ [])) }
-        ensures len { IfOk result (λ found. IfSome found (λ row. length row.items ≡ self.old.rows.width)) }
+        ensures len { IfOk result
+            (λ found. IfSome found (λ row. length row.items ≡ self.old.rows.width)) }
         ensures width { self.new.rows.width ≡ self.old.rows.width }
     {
         if self.at >= self.rows.count {
@@ -47,7 +50,8 @@ impl RowsLeft {
     /// Lends the next row, if there is one.
     #[tactic(auto, using(crate::proofs::Taken::looked, crate::proofs::Taken::none_left))]
     pub fn look(&self) -> Option<&[Value]>
-        ensures row { IfSome result (λ row. rows_left self.now ≡ map view row.now ∷ drop 1 (rows_left self.now)) }
+        ensures row { IfSome result
+            (λ row. rows_left self.now ≡ map view row.now ∷ drop 1 (rows_left self.now)) }
         ensures none { IfNone result (rows_left self.now ≡ []) }
     {
         if self.at < self.rows.len() {
@@ -61,9 +65,11 @@ impl RowsLeft {
     #[tactic(auto, using(crate::proofs::Taken::more_left, crate::proofs::Taken::skipped))]
     pub fn next_into(&mut self, values: &mut Vec<Value>) -> Result<(), AllocError>
         requires { 0 < length (rows_left self.old) }
-        ensures values { OnOk result (map view values.new.items ≡ map view values.old.items ++ first_row (rows_left self.old)) }
+        ensures values { OnOk result (map view values.new.items
+            ≡ map view values.old.items ++ first_row (rows_left self.old)) }
         ensures rows { OnOk result (rows_left self.new ≡ drop 1 (rows_left self.old)) }
-        ensures len { OnOk result (length values.new.items ≡ length values.old.items + self.old.rows.width) }
+        ensures len { OnOk result
+            (length values.new.items ≡ length values.old.items + self.old.rows.width) }
         ensures width { self.new.rows.width ≡ self.old.rows.width }
     {
         let _count = self.rows.count;
@@ -96,9 +102,12 @@ impl Rows {
     /// Moves a row behind the values, and leaves nulls.
     pub(crate) fn take_into(&mut self, at: usize, values: &mut Vec<Value>) -> Result<(), AllocError>
         requires { at < self.old.count }
-        ensures values { OnOk result (map view values.new.items ≡ map view values.old.items ++ first_row (drop at (table self.old))) }
-        ensures rows { OnOk result (drop (at + 1) (table self.new) ≡ drop (at + 1) (table self.old)) }
-        ensures len { OnOk result (length values.new.items ≡ length values.old.items + self.old.width) }
+        ensures values { OnOk result (map view values.new.items
+            ≡ map view values.old.items ++ first_row (drop at (table self.old))) }
+        ensures rows { OnOk result
+            (drop (at + 1) (table self.new) ≡ drop (at + 1) (table self.old)) }
+        ensures len { OnOk result
+            (length values.new.items ≡ length values.old.items + self.old.width) }
         ensures width { self.new.width ≡ self.old.width }
         ensures count { self.new.count ≡ self.old.count }
     {
@@ -108,7 +117,8 @@ impl Rows {
     /// Moves a row out, and leaves nulls.
     pub(crate) fn take_row(&mut self, at: usize, alloc: Global) -> Result<Vec<Value>, AllocError>
         requires { at < self.old.count }
-        ensures row { IfOk result (λ row. drop at (table self.old) ≡ map view row.items ∷ drop (at + 1) (table self.new)) }
+        ensures row { IfOk result (λ row. drop at (table self.old)
+            ≡ map view row.items ∷ drop (at + 1) (table self.new)) }
         ensures len { IfOk result (λ row. length row.items ≡ self.old.width) }
         ensures width { self.new.width ≡ self.old.width }
         ensures count { self.new.count ≡ self.old.count }

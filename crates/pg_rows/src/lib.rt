@@ -4,6 +4,7 @@
 mod columns;
 mod firsts;
 mod laws;
+mod least_keys;
 mod left;
 mod moves;
 mod named;
@@ -12,6 +13,7 @@ mod table;
 
 pub use columns::Columns;
 pub use firsts::distinct;
+pub use least_keys::least;
 pub use left::RowsLeft;
 pub use moves::{copy_of, copy_row};
 pub use named::Table;

@@ -15,8 +15,10 @@ pub(crate) fn move_row(
     moved: &mut Vec<Value>,
 ) -> Result<(), AllocError>
     requires { start + width ≤ length values.old.items }
-    ensures moved { OnOk result (moved.new.items ≡ moved.old.items ++ take width (drop start values.old.items)) }
-    ensures left { OnOk result (values.new.items ≡ take start values.old.items ++ (replicate width Null ++ drop (start + width) values.old.items)) }
+    ensures moved { OnOk result
+        (moved.new.items ≡ moved.old.items ++ take width (drop start values.old.items)) }
+    ensures left { OnOk result (values.new.items ≡ take start values.old.items
+        ++ (replicate width Null ++ drop (start + width) values.old.items)) }
     ensures len { length values.new.items ≡ length values.old.items }
 {
     for offset in 0..width {
@@ -29,7 +31,8 @@ pub(crate) fn move_row(
 /// Copies a row to the end of the values; where memory is wanted, a part of it may stand there.
 #[tactic(auto, using(crate::proofs::Copied::still_before))]
 pub fn copy_row(alloc: Global, row: &[Value], values: &mut Vec<Value>) -> Result<(), AllocError>
-    ensures copied { OnOk result (map view values.new.items ≡ map view values.old.items ++ map view row.now) }
+    ensures copied { OnOk result
+        (map view values.new.items ≡ map view values.old.items ++ map view row.now) }
     ensures before { take (length values.old.items) values.new.items ≡ values.old.items }
     ensures len { OnOk result (length values.new.items ≡ length values.old.items + length row.now) }
 {

@@ -30,6 +30,7 @@ impl Table {
         })
     }
 
+    /// Joins rows to the names of their columns. Nothing is copied.
     pub fn new(names: Columns, rows: Rows) -> Table
         requires { rows.width ≡ length names }
         ensures { seen result ≡ record { names = names; rows = table rows } }
@@ -37,12 +38,14 @@ impl Table {
         Table { names, rows }
     }
 
+    /// The names of the columns, from left to right.
     pub fn names(&self) -> &Columns
         ensures { result.now ≡ (seen self.now).names }
     {
         &self.names
     }
 
+    /// The rows without their names.
     pub fn rows(&self) -> &Rows
         ensures rows { table result.now ≡ (seen self.now).rows }
         ensures width { result.now.width ≡ length (seen self.now).names }

@@ -19,6 +19,7 @@ impl Rows {
     ghost use Rattle.pg_value_core.specs.View.{view};
     ghost use Rattle.pg_rows.specs.Tables.{table, EachBelow, moved_rows};
 
+    /// No rows yet, of a given number of columns, which may be none.
     pub fn new(alloc: Global, width: usize) -> Self
         ensures rows { table result ≡ [] }
         ensures width { result.width ≡ width }
@@ -30,6 +31,7 @@ impl Rows {
         }
     }
 
+    /// How many values each row has.
     pub fn width(&self) -> usize
         ensures { result ≡ self.now.width }
     {
@@ -56,7 +58,8 @@ impl Rows {
     /// Moves the values out to be the last row; their list keeps its memory for the next row.
     pub fn push_from(&mut self, row: &mut Vec<Value>) -> Result<(), AllocError>
         requires { length row.old.items ≡ self.old.width }
-        ensures rows { OnOk result (table self.new ≡ table self.old ++ map view row.old.items ∷ []) }
+        ensures rows { OnOk result
+            (table self.new ≡ table self.old ++ map view row.old.items ∷ []) }
         ensures emptied { OnOk result (row.new.items ≡ []) }
         ensures err { OnErr result (table self.new ≡ table self.old) }
         ensures width { self.new.width ≡ self.old.width }
@@ -89,6 +92,7 @@ impl Rows {
         Ok(())
     }
 
+    /// The values of a row, counted from 0, borrowed.
     pub fn row(&self, at: usize) -> &[Value]
         requires { at < length (table self.now) }
         ensures { slice_get (table self.now) at ≡ Some (map view result.now) }
@@ -100,10 +104,12 @@ impl Rows {
     /// The rows of these places, in their order; each is moved, and leaves nulls.
     pub fn pick(&mut self, places: &[usize], alloc: Global) -> Result<Rows, AllocError>
         requires { EachBelow (length (table self.old)) places.now }
-        ensures rows { IfOk result (λ r. table r ≡ moved_rows self.old.width (table self.old) places.now) }
+        ensures rows { IfOk result
+            (λ r. table r ≡ moved_rows self.old.width (table self.old) places.now) }
         ensures width { IfOk result (λ r. r.width ≡ self.old.width) }
     {
-        let mut moved = Vec::with_capacity(alloc, self.values.len())?;
+        let room = places.len().saturating_mul(self.width);
+        let mut moved = Vec::with_capacity(alloc, room.min(self.values.len()))?;
         for place in places {
             move_row(
                 &mut self.values,

@@ -1,8 +1,7 @@
-use Rattle.std.proofs.Common.{◌≡◌, ◌≤◌, length, option_map, Ok, Err, sym, ap, subst, ◌∙◌}
+use Rattle.std.proofs.Common.{◌≡◌, ◌≤◌, length, option_map, Ok, Err, refl, sym, ap, subst, ◌∙◌}
 use Rattle.std.proofs.lemmas.Result.{IfOk-from_err, IfOk-weaker, IfErr-weaker}
 use Rattle.std.specs.List.{AllByRecursion}
 use Rattle.pg_expr.specs.Prepared.{condition_of}
-use Rattle.pg_meaning.specs.Answer.{◌>>=◌}
 use Rattle.pg_project.proofs.Conditions.{whole_passes}
 use Rattle.pg_expr.proofs.ExitLemmas.{fault_passed}
 use Rattle.pg_project.proofs.ExitLemmas.{memory_passed}
@@ -10,7 +9,7 @@ use Rattle.pg_project.proofs.TailLemmas.{sorts_fail, passed_on}
 use Rattle.pg_project.proofs.Wide.{table_wide}
 use Rattle.pg_project.specs.Cuts.{cut_view}
 use Rattle.pg_project.specs.Items.{expressions_view}
-use Rattle.pg_project.specs.Given.{cut_of, distinct_given, ordered_given, passing_given}
+use Rattle.pg_project.specs.Given.{cut_of, distinct_given, passing_given}
 use Rattle.pg_rows.specs.States.{seen}
 use Rattle.pg_rows.specs.Tables.{table}
 use Rattle.pg_syntax_tree.specs.View.{expression_view, projection_view}
@@ -28,14 +27,12 @@ returns-then-width-len-clause-ok g c =
     let width = length c.args.items.now.items in
     let cut = cut_view c.args.cut in
     let sorted = c.in_ok-sorted.sorted in
-    let first : distinct_given p.distinct t.rows ≡ table c.in_ok-first.first = sym (c.in_ok-first.ensures.rows ∙ ap (distinct_given p.distinct) c.split-names.ensures.rows) in
-    let in_order : ordered_given ps graph t.names es p.order (distinct_given p.distinct t.rows) ≡ Ok (table sorted) =
-    (λ i. ordered_given ps graph (sym c.split-names.ensures.names i) es p.order (first i)) ∙ c.in_ok-sorted.ensures.ok in
     let same : sorted.width ≡ width = sym c.width.ensures ∙ c.if-width-len.true ∙ c.len.ensures ∙ c.args.items.now.ok.0 in
     let wide : AllByRecursion (λ r. length r ≡ width) (table sorted) = subst (λ n. AllByRecursion (λ r. length r ≡ n) (table sorted)) same (table_wide sorted) in
     let all = c.lets_all_pass.ensures c.if-lets_all_pass.true in
-    ap (λ a. a >>= λ us. passing_given ps graph t.names where_ width (cut_of cut us)) in_order
-    ∙ whole_passes ps graph t.names where_ width cut (table sorted) all.0 all.1 wide
+    passed_on ps graph c.split-names.result.0 t.names es p.distinct p.order cut where_ width t.rows (table c.in_ok-first.first) c.split-names.ensures.names
+    (c.in_ok-first.ensures.rows ∙ ap (distinct_given p.distinct) c.split-names.ensures.rows) (cut_of cut (table sorted)) where_ width c.in_ok-sorted.ensures.ok refl refl (Ok (table sorted))
+    ((λ i. passing_given ps graph (c.split-names.ensures.names i) where_ width (cut_of cut (table sorted))) ∙ whole_passes ps graph t.names where_ width cut (table sorted) all.0 all.1 wide)
 
 pub returns-in_err-first-clause-ok : goal.returns-in_err-first-clause-ok
 returns-in_err-first-clause-ok g c = IfOk-from_err c.from_residual.result _ c.from_residual.ensures.0
@@ -90,7 +87,7 @@ returns-clause-ok g c =
     IfOk-weaker c.passing_rows.result _ _
     (λ found passes. passed_on (parameters_view c.args.query.now.parameters.now) c.args.graph.now c.split-names.result.0 t.names (expressions_view c.args.items.now.items) p.distinct p.order
     (cut_view c.args.cut) (option_map expression_view c.args.clause.now.condition.now) (length c.args.items.now.items) t.rows (table c.in_ok-first.first) c.split-names.ensures.names
-    (c.in_ok-first.ensures.rows ∙ ap (distinct_given p.distinct) c.split-names.ensures.rows) (table c.in_ok-sorted.sorted)
+    (c.in_ok-first.ensures.rows ∙ ap (distinct_given p.distinct) c.split-names.ensures.rows) (cut_of (cut_view c.args.cut) (table c.in_ok-sorted.sorted))
     (condition_of c.split-names.result.0 c.in_ok-wanted.wanted) c.len-2.result c.in_ok-sorted.ensures.ok c.in_ok-wanted.ensures (c.len-2.ensures ∙ c.args.items.now.ok.0) (Ok (table found)) passes)
     c.passing_rows.ensures.ok
 
@@ -104,6 +101,6 @@ returns-clause-err g c =
     IfErr-weaker c.passing_rows.result _ _
     (λ e fails other. passed_on (parameters_view c.args.query.now.parameters.now) c.args.graph.now c.split-names.result.0 t.names (expressions_view c.args.items.now.items) p.distinct p.order
     (cut_view c.args.cut) (option_map expression_view c.args.clause.now.condition.now) (length c.args.items.now.items) t.rows (table c.in_ok-first.first) c.split-names.ensures.names
-    (c.in_ok-first.ensures.rows ∙ ap (distinct_given p.distinct) c.split-names.ensures.rows) (table c.in_ok-sorted.sorted)
+    (c.in_ok-first.ensures.rows ∙ ap (distinct_given p.distinct) c.split-names.ensures.rows) (cut_of (cut_view c.args.cut) (table c.in_ok-sorted.sorted))
     (condition_of c.split-names.result.0 c.in_ok-wanted.wanted) c.len-2.result c.in_ok-sorted.ensures.ok c.in_ok-wanted.ensures (c.len-2.ensures ∙ c.args.items.now.ok.0) (Err e) (fails other))
     c.passing_rows.ensures.err

@@ -1,14 +1,17 @@
-use Rattle.std.proofs.Common.{◌≡◌, ◌<◌, length, map, Err, sym, ap, ◌∙◌, arith, refl}
+use Rattle.std.proofs.Common.{◌≡◌, ◌<◌, length, map, Ok, Err, sym, ap, ◌∙◌, arith, refl}
 use Rattle.std.proofs.lemmas.Bool.Decides.{nat_tests}
 use Rattle.std.proofs.lemmas.Result.{IfOk-from_err}
 use Rattle.pg_meaning.specs.declared.fault.Fault.{Fault}
 use Rattle.pg_expr.proofs.ExitLemmas.{fault_passed}
 use Rattle.pg_project.proofs.ExitLemmas.{memory_passed}
 use Rattle.pg_project.proofs.SortPlaces.{ordered_fails, ordered_done, ordered_unsorted}
+use Rattle.pg_meaning.specs.Answer.{◌>>=◌}
+use Rattle.pg_project.specs.Cuts.{cut_view}
 use Rattle.pg_project.specs.Items.{expressions_view}
-use Rattle.pg_project.specs.Given.{all_keys_given, ordered_given}
+use Rattle.pg_project.specs.Given.{all_keys_given, cut_of, ordered_given}
 use Rattle.pg_project.specs.Sources.{sources_view}
-use Rattle.pg_rows.specs.Tables.{table}
+use Rattle.pg_rows.specs.Sorts.{directions, sorted_places}
+use Rattle.pg_rows.specs.Tables.{rows_at_places, table}
 use Rattle.pg_syntax_tree.specs.View.{sort_item_view}
 use Rattle.pg_value_core.specs.Given.{parameters_view}
 use Rattle.pg_project.proofs.sorting.ordered_rows.Goals as goal
@@ -52,7 +55,8 @@ returns-clause-err g c = tt
 pub returns-then-is_empty-clause-ok : goal.returns-then-is_empty-clause-ok
 returns-then-is_empty-clause-ok g c =
     let none : length c.args.order.now.items ≡ 0 = grind (arith, nat_tests, c.if-is_empty.ensures) in
-    ordered_unsorted (parameters_view c.args.scope.now.query.now.parameters.now) c.args.graph.now c.args.scope.now.names.now (expressions_view c.args.items.now.items) c.args.order.now.items (table c.args.rows) none
+    ap (λ a. a >>= λ sorted. Ok (cut_of (cut_view c.args.cut) sorted))
+    (ordered_unsorted (parameters_view c.args.scope.now.query.now.parameters.now) c.args.graph.now c.args.scope.now.names.now (expressions_view c.args.items.now.items) c.args.order.now.items (table c.args.rows) none)
 
 pub returns-then-is_empty-clause-width : goal.returns-then-is_empty-clause-width
 returns-then-is_empty-clause-width g c = refl
@@ -68,9 +72,12 @@ returns-clause-ok g c =
     let some : 0 < length c.args.order.now.items = grind (arith, nat_tests, c.if-is_empty.ensures) in
     let rows = table c.args.rows in
     let keys = table c.in_ok-keys.keys in
-    ordered_done (parameters_view c.args.scope.now.query.now.parameters.now) c.args.graph.now c.args.scope.now.names.now (expressions_view c.args.items.now.items) c.args.order.now.items rows keys (table c.in_ok-sorted_rows.field-0) some
+    let sorted = rows_at_places rows (sorted_places (directions (map sort_item_view c.args.order.now.items)) keys) in
+    ap (λ a. a >>= λ sorted. Ok (cut_of (cut_view c.args.cut) sorted))
+    (ordered_done (parameters_view c.args.scope.now.query.now.parameters.now) c.args.graph.now c.args.scope.now.names.now (expressions_view c.args.items.now.items) c.args.order.now.items rows keys sorted some
     (ap (λ ks. all_keys_given (parameters_view c.args.scope.now.query.now.parameters.now) c.args.graph.now c.args.scope.now.names.now ks rows) (sym c.in_ok-sources.ensures.sources) ∙ c.in_ok-keys.ensures.ok)
-    c.in_ok-sorted_rows.ensures.rows
+    refl)
+    ∙ ap Ok (sym c.in_ok-sorted_rows.ensures.rows)
 
 pub returns-clause-width : goal.returns-clause-width
 returns-clause-width g c = c.in_ok-sorted_rows.ensures.width

@@ -1,4 +1,4 @@
-use Rattle.std.proofs.Common.{◌≡◌, length, map, position, bytes_eq, is_none, Ok, Err, refl, sym, ap, subst, ◌∙◌}
+use Rattle.std.proofs.Common.{◌≡◌, length, map, position, bytes_eq, is_none, sum, Ok, Err, refl, sym, ap, subst, ◌∙◌}
 use Rattle.std.proofs.lemmas.List.{length-map}
 use Rattle.std.specs.List.{AllByRecursion}
 use Rattle.pg_expr.specs.Prepared.{tree_of}
@@ -36,25 +36,25 @@ returns-in_err-lists-clause-unwinds g c =
       err = fault_passed _ c.in_err-lists.field-0.0 c.from_residual-in_err-lists.result c.from_residual-in_err-lists.ensures.1 (λ other. refused c.in_err-lists.field-0.0 (c.in_err-lists.ensures.err other));
     }
 
-pub returns-in_err-spend-clause-unwinds : goal.returns-in_err-spend-clause-unwinds
-returns-in_err-spend-clause-unwinds g c =
+pub returns-in_err-spend_items-clause-unwinds : goal.returns-in_err-spend_items-clause-unwinds
+returns-in_err-spend_items-clause-unwinds g c =
     let ps = parameters_view c.args.query.now.parameters.now in
     let graph = c.args.graph.now in
     let e = expression_view c.args.list.now in
     let t = seen c.args.table in
     let ls = lists_view c.in_ok-lists.lists.items in
-    let n = c.in_ok-total_length.field-0 in
+    let n = sum (map length ls) in
     let used = c.args.meter.now.used in
     λ s suits.
     let listed : lists_given ps graph e t.names t.rows ≡ Ok ls =
     (λ i. lists_given ps graph (sym c.in_ok-prepared.ensures i) (sym c.split-names.ensures.names i) (sym c.split-names.ensures.rows i)) ∙ c.in_ok-lists.ensures.ok in
     let long : length ls ≡ length t.rows = length-map c.in_ok-lists.lists.items (λ l. map view l.items) ∙ c.in_ok-lists.ensures.len ∙ ap length c.split-names.ensures.rows in
     let refused : (f : Fault) → spend s used n ≡ Err f → unwind_clause s e (name_view c.args.name.now) (state_of graph t used) ≡ Err f =
-    λ f h. steps_fail s graph e (name_view c.args.name.now) t used ps c.args.meter.now.limit suits ls n f listed long c.in_ok-total_length.ensures h in
-    let tested = c.in_err-spend.ensures.spends s suits.steps_are in
+    λ f h. steps_fail s graph e (name_view c.args.name.now) t used ps c.args.meter.now.limit suits ls n f listed long refl h in
+    let tested = c.in_err-spend_items.ensures.spends s suits.steps_are in
     record {
-      ok = IfOk-from_err c.from_residual-in_err-spend.result _ c.from_residual-in_err-spend.ensures.0;
-      err = fault_passed _ c.in_err-spend.field-0.0 c.from_residual-in_err-spend.result c.from_residual-in_err-spend.ensures.1 (λ other. refused c.in_err-spend.field-0.0 tested);
+      ok = IfOk-from_err c.from_residual-in_err-spend_items.result _ c.from_residual-in_err-spend_items.ensures.0;
+      err = fault_passed _ c.in_err-spend_items.field-0.0 c.from_residual-in_err-spend_items.result c.from_residual-in_err-spend_items.ensures.1 (λ other. refused c.in_err-spend_items.field-0.0 tested);
     }
 
 pub returns-clause-unwinds : goal.returns-clause-unwinds
@@ -65,7 +65,7 @@ returns-clause-unwinds g c =
     let name = name_view c.args.name.now in
     let t = seen c.args.table in
     let ls = lists_view c.in_ok-lists.lists.items in
-    let n = c.in_ok-total_length.field-0 in
+    let n = sum (map length ls) in
     let used = c.args.meter.now.used in
     let made = c.in_ok-unwound_table in
     λ s suits.
@@ -77,7 +77,7 @@ returns-clause-unwinds g c =
     let filled : (seen made.field-0).rows ≡ rows_unwound (is_none (position (bytes_eq name.text) t.names)) t.rows ls =
     made.ensures.rows ∙ (λ i. rows_unwound (is_none (position (bytes_eq (c.as_str.ensures.value i)) (c.split-names.ensures.names i))) (c.split-names.ensures.rows i) ls) in
     record {
-      ok = all_unwound s graph e name t used ps c.args.meter.now.limit suits ls n c.spend.new.self.used (seen made.field-0) listed long c.in_ok-total_length.ensures (c.in_ok-spend.ensures.spends s suits.steps_are) wide named filled;
+      ok = all_unwound s graph e name t used ps c.args.meter.now.limit suits ls n c.spend_items.new.meter.used (seen made.field-0) listed long refl (c.in_ok-spend_items.ensures.spends s suits.steps_are) wide named filled;
       err = tt;
     }
 
@@ -93,12 +93,6 @@ returns-in_err-prepared-clause-unwinds g c = λ s suits. record {
   err = memory_passed _ c.from_residual.result c.from_residual.ensures.1;
 }
 
-pub returns-in_err-total_length-clause-unwinds : goal.returns-in_err-total_length-clause-unwinds
-returns-in_err-total_length-clause-unwinds g c = λ s suits. record {
-  ok = IfOk-from_err c.from_residual-in_err-total_length.result _ c.from_residual-in_err-total_length.ensures.0;
-  err = memory_passed _ c.from_residual-in_err-total_length.result c.from_residual-in_err-total_length.ensures.1;
-}
-
 pub returns-in_err-unwound_table-clause-unwinds : goal.returns-in_err-unwound_table-clause-unwinds
 returns-in_err-unwound_table-clause-unwinds g c = λ s suits. record {
   ok = IfOk-from_err c.from_residual-in_err-unwound_table.result _ c.from_residual-in_err-unwound_table.ensures.0;
@@ -111,11 +105,8 @@ returns-in_err-prepared-clause-names g c = IfOk-from_err c.from_residual.result 
 pub returns-in_err-lists-clause-names : goal.returns-in_err-lists-clause-names
 returns-in_err-lists-clause-names g c = IfOk-from_err c.from_residual-in_err-lists.result _ c.from_residual-in_err-lists.ensures.0
 
-pub returns-in_err-total_length-clause-names : goal.returns-in_err-total_length-clause-names
-returns-in_err-total_length-clause-names g c = IfOk-from_err c.from_residual-in_err-total_length.result _ c.from_residual-in_err-total_length.ensures.0
-
-pub returns-in_err-spend-clause-names : goal.returns-in_err-spend-clause-names
-returns-in_err-spend-clause-names g c = IfOk-from_err c.from_residual-in_err-spend.result _ c.from_residual-in_err-spend.ensures.0
+pub returns-in_err-spend_items-clause-names : goal.returns-in_err-spend_items-clause-names
+returns-in_err-spend_items-clause-names g c = IfOk-from_err c.from_residual-in_err-spend_items.result _ c.from_residual-in_err-spend_items.ensures.0
 
 pub returns-in_err-unwound_table-clause-names : goal.returns-in_err-unwound_table-clause-names
 returns-in_err-unwound_table-clause-names g c = IfOk-from_err c.from_residual-in_err-unwound_table.result _ c.from_residual-in_err-unwound_table.ensures.0
@@ -126,17 +117,14 @@ returns-in_err-prepared-clause-limit g c = refl
 pub returns-in_err-lists-clause-limit : goal.returns-in_err-lists-clause-limit
 returns-in_err-lists-clause-limit g c = refl
 
-pub returns-in_err-total_length-clause-limit : goal.returns-in_err-total_length-clause-limit
-returns-in_err-total_length-clause-limit g c = refl
-
-pub returns-in_err-spend-clause-limit : goal.returns-in_err-spend-clause-limit
-returns-in_err-spend-clause-limit g c = c.spend.ensures.limit
+pub returns-in_err-spend_items-clause-limit : goal.returns-in_err-spend_items-clause-limit
+returns-in_err-spend_items-clause-limit g c = c.spend_items.ensures.limit
 
 pub returns-in_err-unwound_table-clause-limit : goal.returns-in_err-unwound_table-clause-limit
-returns-in_err-unwound_table-clause-limit g c = c.spend.ensures.limit
+returns-in_err-unwound_table-clause-limit g c = c.spend_items.ensures.limit
 
 pub returns-clause-limit : goal.returns-clause-limit
-returns-clause-limit g c = c.spend.ensures.limit
+returns-clause-limit g c = c.spend_items.ensures.limit
 
 pub unwound_table-requires : goal.unwound_table-requires
 unwound_table-requires g c = c.split-names.ensures.width ∙ sym (ap length c.split-names.ensures.names)

@@ -1,0 +1,34 @@
+use Rattle.std.proofs.Common.{◌≡◌, ◌++◌, ◌∷◌, [], map, ap, sym, ◌∙◌}
+use Rattle.pg_rows.proofs.Leasts.{Placed, none_wanted, still_bounds, bound_stays, one_later}
+use Rattle.pg_rows.proofs.Orders.{below_order}
+use Rattle.pg_rows.proofs.Tabled.{map_append}
+use Rattle.pg_value_core.specs.View.{view}
+use Rattle.pg_rows.specs.LeastKeys.{bound_view, least_of}
+use Rattle.pg_rows.specs.Sorts.{entries_view, entry_of}
+use Rattle.pg_rows.proofs.least_keys.LeastSoFar.take.Goals as goal
+
+pub returns-then-is_behind : goal.returns-then-is_behind
+returns-then-is_behind c = λ keyed h.
+    let ds = c.args.descending.now in
+    let m = c.args.most in
+    let key : Placed = (map view c.args.key.now, c.args.place) in
+    let unchanged : least_of m ds keyed ≡ least_of m ds (keyed ++ key ∷ []) = none_wanted ds m keyed key (bound_view c.args.self.now.bound) (sym c.is_behind.ensures ∙ c.if-is_behind.true) h.bound in
+    record {
+      same = h.same ∙ unchanged;
+      bound = bound_stays ds m keyed (keyed ++ key ∷ []) (bound_view c.args.self.now.bound) unchanged h.bound;
+    }
+
+pub returns : goal.returns
+returns c = λ keyed h.
+    let ds = c.args.descending.now in
+    let m = c.args.most in
+    let key : Placed = (map view c.args.key.now, c.args.place) in
+    let now = c.make_room.new.self in
+    let made = c.in_ok-make_room.ensures keyed h in
+    record {
+      same =
+          ap (λ es. least_of m ds (entries_view es)) c.in_ok-push.ensures.items
+          ∙ ap (least_of m ds) (map_append entry_of now.entries.items ((c.args.key, c.args.place) ∷ []))
+          ∙ one_later (below_order ds) m (entries_view now.entries.items) keyed key made.same;
+      bound = still_bounds ds m keyed key (bound_view now.bound) made.bound;
+    }

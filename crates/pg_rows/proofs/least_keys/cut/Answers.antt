@@ -1,0 +1,7 @@
+use Rattle.std.proofs.Common.{take, ap, ◌∙◌}
+use Rattle.pg_rows.proofs.Leasts.{map_take}
+use Rattle.pg_rows.specs.Sorts.{entries_view, entry_of}
+use Rattle.pg_rows.proofs.least_keys.cut.Goals as goal
+
+pub returns-clause-least : goal.returns-clause-least
+returns-clause-least c = ap entries_view c.truncate.ensures.items ∙ map_take entry_of c.args.most c.sort_entries.new.entries.items ∙ ap (take c.args.most) c.in_ok-sort_entries.ensures.sorted

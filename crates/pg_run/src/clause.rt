@@ -14,11 +14,11 @@ use pg_graph::Tables;
 use pg_live::LiveGraph;
 use pg_match::{Matching, match_rows};
 use pg_match_stages::Anchor;
+use pg_meaning::Fault;
 use pg_meter::Meter;
 use pg_project::{project_return, project_with, unwind_rows};
 use pg_rows::Table;
 use pg_syntax_tree::Clause;
-use pg_value_core::Fault;
 use pg_write::{Merge, delete_elements, merge_path, remove_items, set_items};
 use pg_write_make::create_paths;
 
@@ -31,9 +31,14 @@ pub(crate) fn run_clause<T: Tables>(
     table: Table,
     meter: &mut Meter,
 ) -> Result<Table, Fault>
-    requires planned { ArePlanned (seen table).names (clause_view clause.now) (anchors_view anchors.now) }
-    ensures gives { Gives result (clause_step (setting_of (parameters_view query.now.parameters.now) meter.old.limit query.now.max_elements (seen table).names (anchors_view anchors.now)) (clause_view clause.now) (state_of live.old.graph (seen table) meter.old.used)) (λ t. state_of live.new.graph (seen t) meter.new.used) }
-    ensures names { IfOk result (λ t. (seen t).names ≡ scope_after (seen table).names (clause_view clause.now)) }
+    requires planned { ArePlanned
+        (seen table).names (clause_view clause.now) (anchors_view anchors.now) }
+    ensures gives { Gives result (clause_step (setting_of (parameters_view query.now.parameters.now)
+        meter.old.limit query.now.max_elements (seen table).names (anchors_view anchors.now))
+        (clause_view clause.now) (state_of live.old.graph (seen table) meter.old.used))
+        (λ t. state_of live.new.graph (seen t) meter.new.used) }
+    ensures names { IfOk result
+        (λ t. (seen t).names ≡ scope_after (seen table).names (clause_view clause.now)) }
     ensures limit { meter.new.limit ≡ meter.old.limit }
     ensures aside { live.new.aside ≡ live.old.aside }
 {

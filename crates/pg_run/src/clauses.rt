@@ -14,10 +14,10 @@ use pg_expr::QueryContext;
 use pg_graph::Tables;
 use pg_live::LiveGraph;
 use pg_match_stages::Anchor;
+use pg_meaning::Fault;
 use pg_meter::Meter;
 use pg_rows::Table;
 use pg_syntax_tree::Clause;
-use pg_value_core::Fault;
 
 /// The rows after all clauses, from one row without columns on.
 pub(crate) fn run_clauses<T: Tables>(
@@ -28,8 +28,13 @@ pub(crate) fn run_clauses<T: Tables>(
     meter: &mut Meter,
 ) -> Result<Table, Fault>
     requires planned { IsPlanFrom [] (map clause_view clauses.now) (plan_view plan.now) }
-    ensures gives { Gives result (clauses_run (parameters_view query.now.parameters.now) (quota_of meter.old.limit query.now.max_elements) [] (plan_view plan.now) (map clause_view clauses.now) (state_of live.old.graph (record { names = []; rows = [] ∷ [] }) meter.old.used)) (λ t. state_of live.new.graph (seen t) meter.new.used) }
-    ensures names { IfOk result (λ t. (seen t).names ≡ fold scope_after [] (map clause_view clauses.now)) }
+    ensures gives { Gives result (clauses_run
+        (parameters_view query.now.parameters.now) (quota_of meter.old.limit query.now.max_elements)
+        [] (plan_view plan.now) (map clause_view clauses.now)
+        (state_of live.old.graph (record { names = []; rows = [] ∷ [] }) meter.old.used))
+        (λ t. state_of live.new.graph (seen t) meter.new.used) }
+    ensures names { IfOk result
+        (λ t. (seen t).names ≡ fold scope_after [] (map clause_view clauses.now)) }
     ensures limit { meter.new.limit ≡ meter.old.limit }
     ensures aside { live.new.aside ≡ live.old.aside }
 {

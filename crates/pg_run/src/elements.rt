@@ -11,8 +11,9 @@ ghost use Rattle.pg_run.specs.Spelt.{DataSpelt};
 use crate::room::within;
 use crate::stored::spell_stored_entries;
 use pg_graph::Tables;
+use pg_meaning::Fault;
 use pg_store::Snapshot;
-use pg_value_core::{Fault, NodeId, Out, Path, RelId};
+use pg_value_core::{NodeId, Out, Path, RelId};
 use std::alloc::Global;
 
 /// A node, or else a relationship.
@@ -23,7 +24,8 @@ pub(crate) fn spell_element<T: Tables>(
     id: u64,
     room: &mut usize,
 ) -> Result<Out, Fault>
-    ensures { DataSpelt (test_place graph.now is_node id) (shown_place graph.now is_node id) result room.old room.new }
+    ensures { DataSpelt (test_place graph.now is_node id)
+        (shown_place graph.now is_node id) result room.old room.new }
 {
     if is_node {
         if *room == 0 {
@@ -52,8 +54,10 @@ fn nothing_shown(is_there: bool) -> Result<Out, Fault>
 
 fn whole_node<T: Tables>(alloc: Global, graph: &Snapshot<'_, T>, id: NodeId) -> Result<Out, Fault>
     ensures live { IfOk result (λ out. test_present (has_node graph.now id.0) ≡ Ok tt) }
-    ensures data { IfOk result (λ out. data_of out ≡ shown_node graph.now id.0 (node_at graph.now id.0)) }
-    ensures err { IfErr result (λ e. e ≢ OutOfMemory → test_present (has_node graph.now id.0) ≡ Err e) }
+    ensures data { IfOk result
+        (λ out. data_of out ≡ shown_node graph.now id.0 (node_at graph.now id.0)) }
+    ensures err { IfErr result (λ e. e ≢ OutOfMemory
+        → test_present (has_node graph.now id.0) ≡ Err e) }
 {
     match graph.node_texts(alloc, id)? {
         Some(node) => Ok(Out::Node {
@@ -67,8 +71,10 @@ fn whole_node<T: Tables>(alloc: Global, graph: &Snapshot<'_, T>, id: NodeId) -> 
 
 fn whole_rel<T: Tables>(alloc: Global, graph: &Snapshot<'_, T>, id: RelId) -> Result<Out, Fault>
     ensures live { IfOk result (λ out. test_present (has_relationship graph.now id.0) ≡ Ok tt) }
-    ensures data { IfOk result (λ out. data_of out ≡ shown_relationship graph.now id.0 (relationship_at graph.now id.0)) }
-    ensures err { IfErr result (λ e. e ≢ OutOfMemory → test_present (has_relationship graph.now id.0) ≡ Err e) }
+    ensures data { IfOk result
+        (λ out. data_of out ≡ shown_relationship graph.now id.0 (relationship_at graph.now id.0)) }
+    ensures err { IfErr result (λ e. e ≢ OutOfMemory
+        → test_present (has_relationship graph.now id.0) ≡ Err e) }
 {
     match graph.rel_texts(alloc, id)? {
         Some(rel) => Ok(Out::Rel {
@@ -88,7 +94,8 @@ pub(crate) fn spell_path<T: Tables>(
     path: Path,
     room: &mut usize,
 ) -> Result<Out, Fault>
-    ensures { DataSpelt (test_ids graph.now path.0.items) (path_data (path_items graph.now path.0.items)) result room.old room.new }
+    ensures { DataSpelt (test_ids graph.now path.0.items)
+        (path_data (path_items graph.now path.0.items)) result room.old room.new }
 {
     *room = room.saturating_sub(11);
     let mut found = Vec::with_capacity(alloc, path.0.len())?;

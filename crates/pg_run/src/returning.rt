@@ -19,12 +19,12 @@ use crate::telling::Telling;
 use pg_expr::QueryContext;
 use pg_graph::Tables;
 use pg_json::QueryReply;
+use pg_meaning::Fault;
 use pg_meter::Meter;
 use pg_project::{come_in_turn, cut_at, prepare_each, project_return, return_columns};
 use pg_rows::{Rows, Table};
 use pg_store::Snapshot;
 use pg_syntax_tree::Projection;
-use pg_value_core::Fault;
 
 /// The reply of RETURN, which ends a query. `notes` tells whether the ends of its rows are to be noted. A reply that
 /// would be too long is given up early: then the values that come are looked at for their faults alone, and nothing

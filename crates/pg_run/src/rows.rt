@@ -10,10 +10,11 @@ ghost use Rattle.pg_value_core.specs.View.{view};
 use crate::telling::Telling;
 use pg_expr::{Prepared, QueryContext, evaluate};
 use pg_graph::Tables;
+use pg_meaning::Fault;
 use pg_project::Cut;
 use pg_rows::{Columns, Rows};
 use pg_store::Snapshot;
-use pg_value_core::{Fault, Out, Value};
+use pg_value_core::{Out, Value};
 
 /// The items of RETURN made ready, and what they are evaluated with at each row.
 #[derive(Clone, Copy)]
@@ -31,8 +32,10 @@ pub(crate) fn tell_rows<T: Tables>(
     graph: &Snapshot<'_, T>,
     telling: &mut Telling,
 ) -> Result<(), Fault>
-    ensures ok { IfOk result (λ u. RowsTold graph.now (cut_view cut) (each_answer (items_given items.now graph.now) (table rows.now)) telling.old telling.new) }
-    ensures err { IfErr result (λ e. e ≢ OutOfMemory → each_answer (items_given items.now graph.now) (table rows.now) ≡ Err e) }
+    ensures ok { IfOk result (λ u. RowsTold graph.now (cut_view cut)
+        (each_answer (items_given items.now graph.now) (table rows.now)) telling.old telling.new) }
+    ensures err { IfErr result (λ e. e ≢ OutOfMemory
+        → each_answer (items_given items.now graph.now) (table rows.now) ≡ Err e) }
 {
     for at in 0..rows.len() {
         let is_in = cut.lets_in(at as u64);
@@ -49,8 +52,10 @@ fn tell_row<T: Tables>(
     graph: &Snapshot<'_, T>,
     telling: &mut Telling,
 ) -> Result<(), Fault>
-    ensures ok { IfOk result (λ u. RowPassed graph.now is_in (items_given items.now graph.now (map view row.now)) telling.old telling.new) }
-    ensures err { IfErr result (λ e. e ≢ OutOfMemory → items_given items.now graph.now (map view row.now) ≡ Err e) }
+    ensures ok { IfOk result (λ u. RowPassed graph.now is_in
+        (items_given items.now graph.now (map view row.now)) telling.old telling.new) }
+    ensures err { IfErr result (λ e. e ≢ OutOfMemory
+        → items_given items.now graph.now (map view row.now) ≡ Err e) }
 {
     if !is_in {
         return test_items(items, row, graph);
@@ -67,8 +72,10 @@ fn tell_items<T: Tables>(
     graph: &Snapshot<'_, T>,
     telling: &mut Telling,
 ) -> Result<Vec<Out>, Fault>
-    ensures ok { IfOk result (λ found. RowTold graph.now (items_given items.now graph.now (map view row.now)) telling.old telling.new found.items) }
-    ensures err { IfErr result (λ e. e ≢ OutOfMemory → items_given items.now graph.now (map view row.now) ≡ Err e) }
+    ensures ok { IfOk result (λ found. RowTold graph.now
+        (items_given items.now graph.now (map view row.now)) telling.old telling.new found.items) }
+    ensures err { IfErr result (λ e. e ≢ OutOfMemory
+        → items_given items.now graph.now (map view row.now) ≡ Err e) }
 {
     let query = items.query;
     let mut found = Vec::with_capacity(query.alloc, items.ready.len())?;
@@ -86,7 +93,8 @@ fn test_items<T: Tables>(
     graph: &Snapshot<'_, T>,
 ) -> Result<(), Fault>
     ensures ok { IfOk result (λ u. IsGiven (items_given items.now graph.now (map view row.now))) }
-    ensures err { IfErr result (λ e. e ≢ OutOfMemory → items_given items.now graph.now (map view row.now) ≡ Err e) }
+    ensures err { IfErr result (λ e. e ≢ OutOfMemory
+        → items_given items.now graph.now (map view row.now) ≡ Err e) }
 {
     let query = items.query;
     for one in items.ready {

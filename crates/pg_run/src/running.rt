@@ -20,11 +20,11 @@ use pg_graph::Tables;
 use pg_json::QueryReply;
 use pg_live::LiveGraph;
 use pg_match_stages::Anchor;
+use pg_meaning::Fault;
 use pg_meter::Meter;
 use pg_rows::{Columns, Table};
 use pg_store::Snapshot;
 use pg_syntax_tree::Clause;
-use pg_value_core::Fault;
 use std::alloc::Global;
 
 /// A query's clauses and the anchors of each, whether RETURN is among them, and whether the ends of the reply's rows

@@ -5,8 +5,9 @@ ghost use Rattle.pg_value_core.specs.View.{view, entries_view};
 use crate::elements::{spell_element, spell_path};
 use crate::room::within;
 use pg_graph::Tables;
+use pg_meaning::Fault;
 use pg_store::Snapshot;
-use pg_value_core::{Fault, Out, Parts, Value};
+use pg_value_core::{Out, Parts, Value};
 use std::alloc::Global;
 use std::collections::BTreeMap;
 

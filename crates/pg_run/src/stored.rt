@@ -34,7 +34,8 @@ pub(crate) fn spell_stored_entries(
     alloc: Global,
     entries: BTreeMap<String, Value>,
 ) -> Result<BTreeMap<String, Out>, AllocError>
-    ensures { IfOk result (λ found. named_outs found.entries ≡ stored_members (entries_view entries.entries)) }
+    ensures { IfOk result
+        (λ found. named_outs found.entries ≡ stored_members (entries_view entries.entries)) }
 {
     let mut found = BTreeMap::new(alloc);
     for (key, value) in entries {

@@ -2,9 +2,10 @@
 use crate::spelling::spell;
 use pg_graph::Tables;
 use pg_json::{QueryReply, ReplyColumns, RowsReply};
+use pg_meaning::Fault;
 use pg_rows::Columns;
 use pg_store::Snapshot;
-use pg_value_core::{Fault, Out, Value};
+use pg_value_core::{Out, Value};
 use std::alloc::{AllocError, Global};
 
 const WHOLE_ROOM: usize = 16_777_217;

@@ -13,11 +13,11 @@ use Rattle.pg_rows.specs.Named.{rows_named}
 use Rattle.pg_rows.specs.Tables.{table}
 use Rattle.pg_rows.specs.declared.table.Rows.{Rows}
 use Rattle.pg_write.specs.Mergings.{row_merged}
-use Rattle.pg_write.specs.Ready.{created_in, created_said, matched_in, matched_said, names_in, path_in, path_said, setting_given, setting_in, state_in, Means}
+use Rattle.pg_write.specs.Ready.{created_in, created_said, matched_in, matched_said, names_in, path_in, path_said, setting_given, setting_in, state_in, IsMergingOf}
 use Rattle.pg_write.specs.declared.merging.Merge.{Merge}
 use Rattle.pg_write.specs.declared.merging.Merging.{Merging}
 
-module _ (query : QueryContext) (merge : Merge) (names : Names) (bound : ℕ) (m : Merging) (means : Means query merge names bound m) (max_steps : ℕ) (graph : Graph) (used : ℕ) (rows : List (List Value)) where
+module _ (query : QueryContext) (merge : Merge) (names : Names) (bound : ℕ) (m : Merging) (means : IsMergingOf query merge names bound m) (max_steps : ℕ) (graph : Graph) (used : ℕ) (rows : List (List Value)) where
   abbrev start : State
   start = record { graph = graph; rows = []; steps = used }
 

@@ -11,6 +11,6 @@ keys_of es = map (λ e. string_bytes e.0) es
 abbrev pub values_of : List (String Global × Value) → List Datum
 values_of es = map (λ e. view e.1) es
 
--- what stands apart, together
-abbrev pub joined : List (String Global) → List Value → List (List ℕ × Datum)
-joined keys values = zip (map string_bytes keys) (map view values)
+-- keys and values that stand apart, in pairs
+abbrev pub paired : List (String Global) → List Value → List (List ℕ × Datum)
+paired keys values = zip (map string_bytes keys) (map view values)

@@ -79,7 +79,7 @@ created_said m = items_on true (map on_view m.items.now.items)
 abbrev pub matched_said : Merge → List tree.SetItem
 matched_said m = items_on false (map on_view m.items.now.items)
 
-pub record Means (query : QueryContext) (merge : Merge) (names : List (List ℕ)) (bound : ℕ) (m : Merging) : Type 0 where
+pub record IsMergingOf (query : QueryContext) (merge : Merge) (names : List (List ℕ)) (bound : ℕ) (m : Merging) : Type 0 where
   pub names_are : names_in m ≡ names
   pub setting_is : (max_steps : ℕ) → setting_in m max_steps ≡ setting_given query merge (take bound names) max_steps
   pub path_is : path_in m ≡ path_said merge

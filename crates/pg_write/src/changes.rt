@@ -11,8 +11,9 @@ ghost use Rattle.pg_write.specs.Targets.{target_view, IsThere};
 use crate::targets::Target;
 use pg_graph::Tables;
 use pg_live::LiveGraph;
+use pg_meaning::Fault;
 use pg_syntax_tree::Name;
-use pg_value_core::{Fault, Value};
+use pg_value_core::Value;
 use pg_write_make::label_texts;
 use std::alloc::{AllocError, Global};
 
@@ -26,7 +27,8 @@ pub(crate) fn put_properties<T: Tables>(
     is_whole: bool,
 ) -> Result<(), AllocError>
     requires there { IsThere live.old.graph (target_view target) }
-    ensures ok { OnOk result (change_properties (put_map is_whole (pairs_of pairs.entry.items)) (target_view target) live.old.graph ≡ live.new.graph) }
+    ensures ok { OnOk result (change_properties (put_map is_whole (pairs_of pairs.entry.items))
+        (target_view target) live.old.graph ≡ live.new.graph) }
     ensures aside { live.new.aside ≡ live.old.aside }
 {
     match target {
@@ -47,8 +49,12 @@ pub(crate) fn change_labels<T: Tables>(
     is_put: bool,
 ) -> Result<(), Fault>
     requires there { IsThere live.old.graph (target_view target) }
-    ensures ok { OnOk result (change_labels (labels_by is_put (texts_of (names_view labels.now.items))) (target_view target) live.old.graph ≡ Ok live.new.graph) }
-    ensures err { IfErr result (λ e. e ≢ OutOfMemory → change_labels (labels_by is_put (texts_of (names_view labels.now.items))) (target_view target) live.old.graph ≡ Err e) }
+    ensures ok { OnOk result
+        (change_labels (labels_by is_put (texts_of (names_view labels.now.items)))
+        (target_view target) live.old.graph ≡ Ok live.new.graph) }
+    ensures err { IfErr result (λ e. e ≢ OutOfMemory
+        → change_labels (labels_by is_put (texts_of (names_view labels.now.items)))
+        (target_view target) live.old.graph ≡ Err e) }
     ensures aside { live.new.aside ≡ live.old.aside }
 {
     match target {

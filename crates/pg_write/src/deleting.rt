@@ -14,14 +14,16 @@ use crate::removal::take_out;
 use pg_expr::QueryContext;
 use pg_graph::Tables;
 use pg_live::LiveGraph;
+use pg_meaning::Fault;
 use pg_meter::Meter;
 use pg_rows::Table;
 use pg_syntax_tree::Expression;
-use pg_value_core::Fault;
 
 // Takes in a step for each element, or none where they would pass the quota.
 fn spend_for(meter: &mut Meter, doomed: &Doomed) -> Result<(), Fault>
-    ensures spends { (s : Setting) → s.quota.max_steps ≡ meter.old.limit → spend s meter.old.used (length doomed.now.0 + length doomed.now.1) ≡ after_test result meter.new.used }
+    ensures spends { (s : Setting) → s.quota.max_steps ≡ meter.old.limit
+        → spend s meter.old.used (length doomed.now.0 + length doomed.now.1)
+        ≡ after_test result meter.new.used }
     ensures limit { meter.new.limit ≡ meter.old.limit }
 {
     let steps = doomed.nodes().len() + doomed.rels().len();
@@ -39,7 +41,11 @@ pub fn delete_elements<T: Tables>(
     table: Table,
     meter: &mut Meter,
 ) -> Result<Table, Fault>
-    ensures gives { (s : Setting) → Suits s (parameters_view query.now.parameters.now) meter.old.limit (seen table).names → Gives result (delete_clause s is_detach (map expression_view elements.now.items) (state_of live.old.graph (seen table) meter.old.used)) (λ t. state_of live.new.graph (seen t) meter.new.used) }
+    ensures gives { (s : Setting)
+        → Suits s (parameters_view query.now.parameters.now) meter.old.limit (seen table).names
+        → Gives result (delete_clause s is_detach (map expression_view elements.now.items)
+        (state_of live.old.graph (seen table) meter.old.used))
+        (λ t. state_of live.new.graph (seen t) meter.new.used) }
     ensures names { IfOk result (λ t. (seen t).names ≡ (seen table).names) }
     ensures limit { meter.new.limit ≡ meter.old.limit }
     ensures names_kept { live.new.names ≡ live.old.names }

@@ -6,8 +6,9 @@ ghost use Rattle.pg_value_core.specs.View.{view};
 ghost use Rattle.pg_write.specs.Gathered.{put_all, put_incident, put_live, put_node, put_relationship, put_path, put_value, put_detached};
 
 use pg_graph::Tables;
+use pg_meaning::Fault;
 use pg_store::{Incident, Snapshot};
-use pg_value_core::{Fault, NodeId, RelId, Value};
+use pg_value_core::{NodeId, RelId, Value};
 use std::alloc::{AllocError, Global};
 use std::collections::BTreeSet;
 use std::marker::Model;
@@ -103,6 +104,7 @@ impl Doomed {
         ensures { OnOk result (self.new ≡ put_path graph.now ids.now self.old) }
     {
         let mut rest = ids;
+        // a whole path has a node more than relationships, so a turn may end after its node
         while let Some((node, others)) = rest.split_first() {
             self.put_node(graph, NodeId(*node))?;
             let Some((rel, others)) = others.split_first() else {
@@ -121,7 +123,8 @@ impl Doomed {
         value: &Value,
     ) -> Result<(), Fault>
         ensures ok { OnOk result (put_value graph.now self.old (view value.now) ≡ Ok self.new) }
-        ensures err { IfErr result (λ e. e ≢ OutOfMemory → put_value graph.now self.old (view value.now) ≡ Err e) }
+        ensures err { IfErr result (λ e. e ≢ OutOfMemory
+            → put_value graph.now self.old (view value.now) ≡ Err e) }
     {
         match value {
             Value::Null => Ok(()),

@@ -14,10 +14,11 @@ ghost use Rattle.pg_write_make.specs.Scenes.{row_in, parameters_in};
 use crate::doomed::Doomed;
 use pg_expr::{Prepared, QueryContext, prepare};
 use pg_graph::Tables;
+use pg_meaning::Fault;
 use pg_rows::{Columns, Rows, Table};
 use pg_store::Snapshot;
 use pg_syntax_tree::Expression;
-use pg_value_core::{Fault, Value};
+use pg_value_core::Value;
 use pg_write_make::Scene;
 use std::alloc::{AllocError, Global};
 
@@ -27,7 +28,8 @@ fn prepare_all<'a>(
     names: &Columns,
     elements: &'a Vec<Expression>,
 ) -> Result<Vec<Prepared<'a>>, AllocError>
-    ensures { IfOk result (λ ready. map (tree_of names.now) ready.items ≡ map expression_view elements.now.items) }
+    ensures { IfOk result
+        (λ ready. map (tree_of names.now) ready.items ≡ map expression_view elements.now.items) }
 {
     let mut ready = Vec::with_capacity(alloc, elements.len())?;
     for element in elements {
@@ -44,8 +46,12 @@ fn gather_row<T: Tables>(
     row: &[Value],
     elements: &Vec<Prepared<'_>>,
 ) -> Result<(), Fault>
-    ensures ok { OnOk result (put_row (parameters_in scene.now) graph.now (map (tree_of scene.now.names.now) elements.now.items) doomed.old (row_in scene.now row.now) ≡ Ok doomed.new) }
-    ensures err { IfErr result (λ e. e ≢ OutOfMemory → put_row (parameters_in scene.now) graph.now (map (tree_of scene.now.names.now) elements.now.items) doomed.old (row_in scene.now row.now) ≡ Err e) }
+    ensures ok { OnOk result (put_row (parameters_in scene.now) graph.now
+        (map (tree_of scene.now.names.now) elements.now.items) doomed.old (row_in scene.now row.now)
+        ≡ Ok doomed.new) }
+    ensures err { IfErr result (λ e. e ≢ OutOfMemory → put_row (parameters_in scene.now) graph.now
+        (map (tree_of scene.now.names.now) elements.now.items) doomed.old (row_in scene.now row.now)
+        ≡ Err e) }
 {
     for element in elements {
         let value = scene.evaluate(graph, row, element)?;
@@ -62,8 +68,12 @@ fn gather_rows<T: Tables>(
     rows: &Rows,
     elements: &Vec<Prepared<'_>>,
 ) -> Result<(), Fault>
-    ensures ok { OnOk result (each_step (put_row (parameters_in scene.now) graph.now (map (tree_of scene.now.names.now) elements.now.items)) doomed.old (rows_named scene.now.names.now (table rows.now)) ≡ Ok doomed.new) }
-    ensures err { IfErr result (λ e. e ≢ OutOfMemory → each_step (put_row (parameters_in scene.now) graph.now (map (tree_of scene.now.names.now) elements.now.items)) doomed.old (rows_named scene.now.names.now (table rows.now)) ≡ Err e) }
+    ensures ok { OnOk result (each_step (put_row
+        (parameters_in scene.now) graph.now (map (tree_of scene.now.names.now) elements.now.items))
+        doomed.old (rows_named scene.now.names.now (table rows.now)) ≡ Ok doomed.new) }
+    ensures err { IfErr result (λ e. e ≢ OutOfMemory → each_step (put_row
+        (parameters_in scene.now) graph.now (map (tree_of scene.now.names.now) elements.now.items))
+        doomed.old (rows_named scene.now.names.now (table rows.now)) ≡ Err e) }
 {
     for at in 0..rows.len() {
         gather_row(doomed, scene, graph, rows.row(at), elements)?;
@@ -79,8 +89,12 @@ fn gather_ready<T: Tables>(
     elements: &Vec<Prepared<'_>>,
     is_detach: bool,
 ) -> Result<Doomed, Fault>
-    ensures ok { IfOk result (λ d. gathered is_detach (parameters_in scene.now) graph.now (map (tree_of scene.now.names.now) elements.now.items) (rows_named scene.now.names.now (table rows.now)) ≡ Ok d) }
-    ensures err { IfErr result (λ e. e ≢ OutOfMemory → gathered is_detach (parameters_in scene.now) graph.now (map (tree_of scene.now.names.now) elements.now.items) (rows_named scene.now.names.now (table rows.now)) ≡ Err e) }
+    ensures ok { IfOk result (λ d. gathered is_detach
+        (parameters_in scene.now) graph.now (map (tree_of scene.now.names.now) elements.now.items)
+        (rows_named scene.now.names.now (table rows.now)) ≡ Ok d) }
+    ensures err { IfErr result (λ e. e ≢ OutOfMemory → gathered is_detach
+        (parameters_in scene.now) graph.now (map (tree_of scene.now.names.now) elements.now.items)
+        (rows_named scene.now.names.now (table rows.now)) ≡ Err e) }
 {
     let mut doomed = Doomed::new(scene.query.alloc);
     gather_rows(&mut doomed, scene, graph, rows, elements)?;
@@ -98,8 +112,11 @@ pub(crate) fn gather<T: Tables>(
     graph: &Snapshot<'_, T>,
     table: &Table,
 ) -> Result<Doomed, Fault>
-    ensures ok { IfOk result (λ d. gathered is_detach (parameters_view query.now.parameters.now) graph.now (map expression_view elements.now.items) (named_rows (seen table.now)) ≡ Ok d) }
-    ensures err { IfErr result (λ e. e ≢ OutOfMemory → gathered is_detach (parameters_view query.now.parameters.now) graph.now (map expression_view elements.now.items) (named_rows (seen table.now)) ≡ Err e) }
+    ensures ok { IfOk result (λ d. gathered is_detach (parameters_view query.now.parameters.now)
+        graph.now (map expression_view elements.now.items) (named_rows (seen table.now)) ≡ Ok d) }
+    ensures err { IfErr result (λ e. e ≢ OutOfMemory
+        → gathered is_detach (parameters_view query.now.parameters.now) graph.now
+        (map expression_view elements.now.items) (named_rows (seen table.now)) ≡ Err e) }
 {
     let ready = prepare_all(query.alloc, table.names(), elements)?;
     let scene = Scene {

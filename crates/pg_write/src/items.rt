@@ -58,7 +58,8 @@ pub(crate) fn push_ready<'a>(
     items: &'a Vec<SetItem>,
     ready: &mut Vec<ReadySet<'a>>,
 ) -> Result<(), AllocError>
-    ensures { OnOk result (map (item_of names.now) ready.new.items ≡ map (item_of names.now) ready.old.items ++ map set_item_view items.now.items) }
+    ensures { OnOk result (map (item_of names.now) ready.new.items
+        ≡ map (item_of names.now) ready.old.items ++ map set_item_view items.now.items) }
 {
     for item in items {
         ready.push(ready_set(alloc, names, item)?)?;

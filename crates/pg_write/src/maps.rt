@@ -5,9 +5,10 @@ ghost use Rattle.pg_meaning.specs.Value.{entries_of};
 ghost use Rattle.pg_meaning.specs.declared.fault.Fault.TheVariants.{OutOfMemory};
 ghost use Rattle.pg_store.specs.Stores.{pairs_of};
 ghost use Rattle.pg_value_core.specs.View.{view, entries_view};
-ghost use Rattle.pg_write.specs.Maps.{joined};
+ghost use Rattle.pg_write.specs.Maps.{paired};
 
-use pg_value_core::{Fault, Parts, Value};
+use pg_meaning::Fault;
+use pg_value_core::{Parts, Value};
 use std::alloc::{AllocError, Global};
 use std::collections::BTreeMap;
 
@@ -16,7 +17,8 @@ fn split(
     alloc: Global,
     entries: BTreeMap<String, Value>,
 ) -> Result<(Vec<String>, Vec<Value>), AllocError>
-    ensures { IfOk result (λ parts. entries_of (entries_view entries.entries) ≡ joined parts.0.items parts.1.items) }
+    ensures { IfOk result
+        (λ parts. entries_of (entries_view entries.entries) ≡ paired parts.0.items parts.1.items) }
 {
     let mut keys = Vec::with_capacity(alloc, entries.len())?;
     let mut values = Vec::with_capacity(alloc, entries.len())?;
@@ -29,7 +31,8 @@ fn split(
 
 /// The keys and the values of what has to be a map.
 pub(crate) fn map_parts(alloc: Global, value: Value) -> Result<(Vec<String>, Vec<Value>), Fault>
-    ensures ok { IfOk result (λ parts. mapping_pairs (view value) ≡ Ok (joined parts.0.items parts.1.items)) }
+    ensures ok { IfOk result
+        (λ parts. mapping_pairs (view value) ≡ Ok (paired parts.0.items parts.1.items)) }
     ensures err { IfErr result (λ e. e ≢ OutOfMemory → mapping_pairs (view value) ≡ Err e) }
 {
     match value.into_parts() {
@@ -44,7 +47,7 @@ pub(crate) fn join<'a>(
     keys: &'a Vec<String>,
     values: Vec<Value>,
 ) -> Result<Vec<(&'a str, Value)>, AllocError>
-    ensures { IfOk result (λ pairs. pairs_of pairs.items ≡ joined keys.now.items values.items) }
+    ensures { IfOk result (λ pairs. pairs_of pairs.items ≡ paired keys.now.items values.items) }
 {
     let mut pairs = Vec::with_capacity(alloc, keys.len())?;
     let mut rest = values.into_iter();

@@ -15,9 +15,9 @@ use pg_expr::QueryContext;
 use pg_graph::Tables;
 use pg_live::LiveGraph;
 use pg_match_rows::bind_names;
+use pg_meaning::Fault;
 use pg_meter::Meter;
 use pg_rows::Table;
-use pg_value_core::Fault;
 use pg_write_make::count_new;
 use std::slice::from_ref;
 
@@ -32,8 +32,16 @@ pub fn merge_path<'a, T: Tables>(
     meter: &mut Meter,
 ) -> Result<Table, Fault>
     requires anchors { length merge.now.anchors.now ≡ 1 }
-    ensures gives { (s : Setting) → Suits s (parameters_view query.now.parameters.now) meter.old.limit (seen table).names → s.quota.max_elements ≡ query.now.max_elements → s.anchors ≡ map anchor_view merge.now.anchors.now → Gives result (merge_clause s (path_view merge.now.path.now) (map on_view merge.now.items.now.items) (state_of live.old.graph (seen table) meter.old.used)) (λ t. state_of live.new.graph (seen t) meter.new.used) }
-    ensures names { IfOk result (λ t. (seen t).names ≡ add_path_names (path_view merge.now.path.now ∷ []) (seen table).names) }
+    ensures gives { (s : Setting)
+        → Suits s (parameters_view query.now.parameters.now) meter.old.limit (seen table).names
+        → s.quota.max_elements ≡ query.now.max_elements
+        → s.anchors ≡ map anchor_view merge.now.anchors.now
+        → Gives result
+        (merge_clause s (path_view merge.now.path.now) (map on_view merge.now.items.now.items)
+        (state_of live.old.graph (seen table) meter.old.used))
+        (λ t. state_of live.new.graph (seen t) meter.new.used) }
+    ensures names { IfOk result (λ t. (seen t).names
+        ≡ add_path_names (path_view merge.now.path.now ∷ []) (seen table).names) }
     ensures aside { live.new.aside ≡ live.old.aside }
     ensures limit { meter.new.limit ≡ meter.old.limit }
 {

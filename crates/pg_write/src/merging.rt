@@ -5,7 +5,7 @@ ghost use Rattle.pg_meaning.specs.Patterns.{add_path_names};
 ghost use Rattle.pg_meaning.specs.Updates.{count_new, items_on};
 ghost use Rattle.pg_syntax_tree.specs.View.{on_view, path_view};
 ghost use Rattle.pg_write.specs.Items.{item_of};
-ghost use Rattle.pg_write.specs.Ready.{IsReady, Means};
+ghost use Rattle.pg_write.specs.Ready.{IsReady, IsMergingOf};
 
 use crate::items::{ReadySet, push_ready};
 use pg_expr::QueryContext;
@@ -47,7 +47,8 @@ pub(crate) fn items_on<'a>(
     on_create: bool,
     parts: &'a Vec<On>,
 ) -> Result<Vec<ReadySet<'a>>, AllocError>
-    ensures { IfOk result (λ ready. map (item_of names.now) ready.items ≡ items_on on_create (map on_view parts.now.items)) }
+    ensures { IfOk result (λ ready. map (item_of names.now) ready.items
+        ≡ items_on on_create (map on_view parts.now.items)) }
 {
     let mut ready = Vec::new(alloc);
     for part in parts {
@@ -68,12 +69,15 @@ pub(crate) fn prepare<'a>(
     parts: Vec<Part>,
 ) -> Result<Merging<'a>, AllocError>
     requires within { bound ≤ length names.now }
-    requires names { add_path_names (path_view merge.now.path.now ∷ []) (take bound names.now) ≡ names.now }
-    requires parts { parts.items ≡ parts_of (take bound names.now) (path_view merge.now.path.now ∷ []) }
+    requires names { add_path_names (path_view merge.now.path.now ∷ []) (take bound names.now)
+        ≡ names.now }
+    requires parts { parts.items
+        ≡ parts_of (take bound names.now) (path_view merge.now.path.now ∷ []) }
     requires count { count ≡ count_new (take bound names.now) (path_view merge.now.path.now ∷ []) }
     requires anchors { length merge.now.anchors.now ≡ 1 }
     ensures ready { IfOk result (λ merging. IsReady merging) }
-    ensures means { IfOk result (λ merging. Means query.now merge.now names.now bound merging) }
+    ensures means { IfOk result
+        (λ merging. IsMergingOf query.now merge.now names.now bound merging) }
 {
     let alloc = query.alloc;
     let on_create = items_on(alloc, names, true, merge.items)?;

@@ -5,7 +5,8 @@ ghost use Rattle.pg_match_stages.specs.View.{wanted_hop_and_node, wanted_pairs, 
 ghost use Rattle.pg_meaning.specs.Updates.{has_null, test_not_null};
 
 use pg_match_stages::{HopWanted, NodeWanted, PathWanted};
-use pg_value_core::{Fault, Value};
+use pg_meaning::Fault;
+use pg_value_core::Value;
 
 fn has_null(properties: &Vec<(&str, Value)>) -> bool
     ensures { result ≡ has_null (wanted_pairs properties.now.items) }
@@ -19,7 +20,9 @@ fn has_null(properties: &Vec<(&str, Value)>) -> bool
 }
 
 fn hops_want_null(hops: &Vec<(HopWanted<'_>, NodeWanted<'_>)>) -> bool
-    ensures { result ≡ list_any (λ h. has_null h.0.properties || has_null h.1.properties) (map_list wanted_hop_and_node hops.now.items) }
+    ensures { result
+        ≡ list_any (λ h. has_null h.0.properties || has_null h.1.properties)
+        (map_list wanted_hop_and_node hops.now.items) }
 {
     for hop in hops {
         if has_null(&hop.0.properties) || has_null(&hop.1.properties) {

@@ -9,8 +9,9 @@ ghost use Rattle.pg_write.specs.Gathered.{taken_out, AreThere, Rises};
 use crate::doomed::Doomed;
 use pg_graph::Tables;
 use pg_live::LiveGraph;
+use pg_meaning::Fault;
 use pg_store::Snapshot;
-use pg_value_core::{Fault, NodeId, RelId};
+use pg_value_core::{NodeId, RelId};
 use std::alloc::AllocError;
 use std::collections::BTreeSet;
 
@@ -27,9 +28,11 @@ fn test_unconnected<T: Tables>(graph: &Snapshot<'_, T>, nodes: &BTreeSet<u64>) -
 }
 
 fn remove_rels<T: Tables>(live: &mut LiveGraph<T>, rels: &BTreeSet<u64>) -> Result<(), AllocError>
-    requires there { AllByRecursion (λ r. IsTrue (has_relationship live.old.graph r)) rels.now.keys }
+    requires there { AllByRecursion
+        (λ r. IsTrue (has_relationship live.old.graph r)) rels.now.keys }
     requires rises { Rises rels.now.keys }
-    ensures removed { OnOk result (live.new.graph ≡ remove_elements [] rels.now.keys live.old.graph) }
+    ensures removed { OnOk result
+        (live.new.graph ≡ remove_elements [] rels.now.keys live.old.graph) }
     ensures names { live.new.names ≡ live.old.names }
     ensures tables { live.new.tables ≡ live.old.tables }
     ensures aside { live.new.aside ≡ live.old.aside }
@@ -44,7 +47,8 @@ fn remove_nodes<T: Tables>(live: &mut LiveGraph<T>, nodes: &BTreeSet<u64>) -> Re
     requires there { AllByRecursion (λ n. IsTrue (has_node live.old.graph n)) nodes.now.keys }
     requires rises { Rises nodes.now.keys }
     requires apart { AllByRecursion (λ n. incident both n live.old.graph ≡ []) nodes.now.keys }
-    ensures removed { OnOk result (live.new.graph ≡ remove_elements nodes.now.keys [] live.old.graph) }
+    ensures removed { OnOk result
+        (live.new.graph ≡ remove_elements nodes.now.keys [] live.old.graph) }
     ensures names { live.new.names ≡ live.old.names }
     ensures tables { live.new.tables ≡ live.old.tables }
     ensures aside { live.new.aside ≡ live.old.aside }
@@ -60,7 +64,8 @@ fn remove_nodes<T: Tables>(live: &mut LiveGraph<T>, nodes: &BTreeSet<u64>) -> Re
 pub(crate) fn take_out<T: Tables>(live: &mut LiveGraph<T>, doomed: &Doomed) -> Result<(), Fault>
     requires there { AreThere live.old.graph doomed.now }
     ensures ok { OnOk result (taken_out doomed.now live.old.graph ≡ Ok live.new.graph) }
-    ensures err { IfErr result (λ e. e ≢ OutOfMemory → taken_out doomed.now live.old.graph ≡ Err e) }
+    ensures err { IfErr result (λ e. e ≢ OutOfMemory
+        → taken_out doomed.now live.old.graph ≡ Err e) }
     ensures names { live.new.names ≡ live.old.names }
     ensures tables { live.new.tables ≡ live.old.tables }
     ensures aside { live.new.aside ≡ live.old.aside }

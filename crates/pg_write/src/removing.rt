@@ -17,10 +17,11 @@ use crate::targets::{Target, target_of};
 use pg_expr::QueryContext;
 use pg_graph::Tables;
 use pg_live::LiveGraph;
+use pg_meaning::Fault;
 use pg_meter::Meter;
 use pg_rows::Table;
 use pg_syntax_tree::{Name, RemoveItem};
-use pg_value_core::{Fault, Value};
+use pg_value_core::Value;
 use pg_write_make::{Scene, spend_for_rows};
 use std::alloc::Global;
 
@@ -41,7 +42,8 @@ fn take_key<T: Tables>(
     target: Target,
 ) -> Result<(), Fault>
     requires there { IsThere live.old.graph (target_view target) }
-    ensures ok { OnOk result (change_properties (without_key (string_bytes key.now.text)) (target_view target) live.old.graph ≡ live.new.graph) }
+    ensures ok { OnOk result (change_properties (without_key (string_bytes key.now.text))
+        (target_view target) live.old.graph ≡ live.new.graph) }
     ensures err { IfErr result (λ e. e ≡ OutOfMemory) }
     ensures aside { live.new.aside ≡ live.old.aside }
 {
@@ -57,8 +59,12 @@ fn remove_item<T: Tables>(
     row: &[Value],
     item: &RemoveItem,
 ) -> Result<(), Fault>
-    ensures ok { OnOk result (remove_item (row_in scene.now row.now) live.old.graph (remove_item_view item.now) ≡ Ok live.new.graph) }
-    ensures err { IfErr result (λ e. e ≢ OutOfMemory → remove_item (row_in scene.now row.now) live.old.graph (remove_item_view item.now) ≡ Err e) }
+    ensures ok { OnOk result
+        (remove_item (row_in scene.now row.now) live.old.graph (remove_item_view item.now)
+        ≡ Ok live.new.graph) }
+    ensures err { IfErr result (λ e. e ≢ OutOfMemory
+        → remove_item (row_in scene.now row.now) live.old.graph (remove_item_view item.now)
+        ≡ Err e) }
     ensures aside { live.new.aside ≡ live.old.aside }
 {
     match target_of(&live.graph(), scene, row, target_name(item))? {
@@ -79,8 +85,11 @@ fn remove_row<T: Tables>(
     row: &[Value],
     items: &Vec<RemoveItem>,
 ) -> Result<(), Fault>
-    ensures ok { OnOk result (remove_row (map remove_item_view items.now.items) live.old.graph (row_in scene.now row.now) ≡ Ok live.new.graph) }
-    ensures err { IfErr result (λ e. e ≢ OutOfMemory → remove_row (map remove_item_view items.now.items) live.old.graph (row_in scene.now row.now) ≡ Err e) }
+    ensures ok { OnOk result
+        (remove_row (map remove_item_view items.now.items) live.old.graph (row_in scene.now row.now)
+        ≡ Ok live.new.graph) }
+    ensures err { IfErr result (λ e. e ≢ OutOfMemory → remove_row
+        (map remove_item_view items.now.items) live.old.graph (row_in scene.now row.now) ≡ Err e) }
     ensures aside { live.new.aside ≡ live.old.aside }
 {
     for item in items {
@@ -98,7 +107,11 @@ pub fn remove_items<T: Tables>(
     table: &Table,
     meter: &mut Meter,
 ) -> Result<(), Fault>
-    ensures answer { (s : Setting) → Suits s (parameters_view query.now.parameters.now) meter.old.limit (seen table.now).names → Gives result (remove_clause s (map remove_item_view items.now.items) (state_of live.old.graph (seen table.now) meter.old.used)) (λ _. state_of live.new.graph (seen table.now) meter.new.used) }
+    ensures answer { (s : Setting)
+        → Suits s (parameters_view query.now.parameters.now) meter.old.limit (seen table.now).names
+        → Gives result (remove_clause s (map remove_item_view items.now.items)
+        (state_of live.old.graph (seen table.now) meter.old.used))
+        (λ _. state_of live.new.graph (seen table.now) meter.new.used) }
     ensures aside { live.new.aside ≡ live.old.aside }
     ensures limit { meter.new.limit ≡ meter.old.limit }
 {

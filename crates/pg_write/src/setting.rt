@@ -23,10 +23,11 @@ use crate::targets::{Target, target_of};
 use pg_expr::{Prepared, QueryContext};
 use pg_graph::Tables;
 use pg_live::LiveGraph;
+use pg_meaning::Fault;
 use pg_meter::Meter;
 use pg_rows::{Rows, Table};
 use pg_syntax_tree::{Name, SetItem};
-use pg_value_core::{Fault, Value};
+use pg_value_core::Value;
 use pg_write_make::{Scene, spend_for_rows, test_storable};
 
 // Gives a target a value under one key.
@@ -39,8 +40,12 @@ fn set_key<T: Tables>(
     target: Target,
 ) -> Result<(), Fault>
     requires there { IsThere live.old.graph (target_view target) }
-    ensures ok { OnOk result (set_pairs live.old.graph (one_pair (string_bytes key.now.text)) set_keys (given scene.now live.old.graph row.now value.now) (target_view target) ≡ Ok live.new.graph) }
-    ensures err { IfErr result (λ e. e ≢ OutOfMemory → set_pairs live.old.graph (one_pair (string_bytes key.now.text)) set_keys (given scene.now live.old.graph row.now value.now) (target_view target) ≡ Err e) }
+    ensures ok { OnOk result (set_pairs live.old.graph (one_pair (string_bytes key.now.text))
+        set_keys (given scene.now live.old.graph row.now value.now) (target_view target)
+        ≡ Ok live.new.graph) }
+    ensures err { IfErr result (λ e. e ≢ OutOfMemory
+        → set_pairs live.old.graph (one_pair (string_bytes key.now.text)) set_keys
+        (given scene.now live.old.graph row.now value.now) (target_view target) ≡ Err e) }
     ensures aside { live.new.aside ≡ live.old.aside }
 {
     let value = scene.evaluate(&live.graph(), row, value)?;
@@ -60,8 +65,12 @@ fn set_map<T: Tables>(
     is_whole: bool,
 ) -> Result<(), Fault>
     requires there { IsThere live.old.graph (target_view target) }
-    ensures ok { OnOk result (set_pairs live.old.graph mapping_pairs (put_map is_whole) (given scene.now live.old.graph row.now value.now) (target_view target) ≡ Ok live.new.graph) }
-    ensures err { IfErr result (λ e. e ≢ OutOfMemory → set_pairs live.old.graph mapping_pairs (put_map is_whole) (given scene.now live.old.graph row.now value.now) (target_view target) ≡ Err e) }
+    ensures ok { OnOk result (set_pairs live.old.graph mapping_pairs
+        (put_map is_whole) (given scene.now live.old.graph row.now value.now) (target_view target)
+        ≡ Ok live.new.graph) }
+    ensures err { IfErr result (λ e. e ≢ OutOfMemory
+        → set_pairs live.old.graph mapping_pairs (put_map is_whole)
+        (given scene.now live.old.graph row.now value.now) (target_view target) ≡ Err e) }
     ensures aside { live.new.aside ≡ live.old.aside }
 {
     let value = scene.evaluate(&live.graph(), row, value)?;
@@ -78,8 +87,11 @@ fn set_item<T: Tables>(
     row: &[Value],
     item: &ReadySet<'_>,
 ) -> Result<(), Fault>
-    ensures ok { OnOk result (set_item (reading (parameters_in scene.now)) (row_in scene.now row.now) live.old.graph (item_of scene.now.names.now item.now) ≡ Ok live.new.graph) }
-    ensures err { IfErr result (λ e. e ≢ OutOfMemory → set_item (reading (parameters_in scene.now)) (row_in scene.now row.now) live.old.graph (item_of scene.now.names.now item.now) ≡ Err e) }
+    ensures ok { OnOk result (set_item (reading (parameters_in scene.now))
+        (row_in scene.now row.now) live.old.graph (item_of scene.now.names.now item.now)
+        ≡ Ok live.new.graph) }
+    ensures err { IfErr result (λ e. e ≢ OutOfMemory → set_item (reading (parameters_in scene.now))
+        (row_in scene.now row.now) live.old.graph (item_of scene.now.names.now item.now) ≡ Err e) }
     ensures aside { live.new.aside ≡ live.old.aside }
 {
     match target_of(&live.graph(), scene, row, item.target)? {
@@ -104,8 +116,12 @@ pub(crate) fn set_row<T: Tables>(
     row: &[Value],
     items: &Vec<ReadySet<'_>>,
 ) -> Result<(), Fault>
-    ensures ok { OnOk result (set_row (reading (parameters_in scene.now)) (map (item_of scene.now.names.now) items.now.items) live.old.graph (row_in scene.now row.now) ≡ Ok live.new.graph) }
-    ensures err { IfErr result (λ e. e ≢ OutOfMemory → set_row (reading (parameters_in scene.now)) (map (item_of scene.now.names.now) items.now.items) live.old.graph (row_in scene.now row.now) ≡ Err e) }
+    ensures ok { OnOk result (set_row (reading (parameters_in scene.now))
+        (map (item_of scene.now.names.now) items.now.items) live.old.graph
+        (row_in scene.now row.now) ≡ Ok live.new.graph) }
+    ensures err { IfErr result (λ e. e ≢ OutOfMemory → set_row (reading (parameters_in scene.now))
+        (map (item_of scene.now.names.now) items.now.items) live.old.graph
+        (row_in scene.now row.now) ≡ Err e) }
     ensures aside { live.new.aside ≡ live.old.aside }
 {
     for item in items {
@@ -121,8 +137,12 @@ fn set_rows<T: Tables>(
     rows: &Rows,
     items: &Vec<ReadySet<'_>>,
 ) -> Result<(), Fault>
-    ensures ok { OnOk result (each_step (set_row (reading (parameters_in scene.now)) (map (item_of scene.now.names.now) items.now.items)) live.old.graph (rows_named scene.now.names.now (table rows.now)) ≡ Ok live.new.graph) }
-    ensures err { IfErr result (λ e. e ≢ OutOfMemory → each_step (set_row (reading (parameters_in scene.now)) (map (item_of scene.now.names.now) items.now.items)) live.old.graph (rows_named scene.now.names.now (table rows.now)) ≡ Err e) }
+    ensures ok { OnOk result (each_step (set_row
+        (reading (parameters_in scene.now)) (map (item_of scene.now.names.now) items.now.items))
+        live.old.graph (rows_named scene.now.names.now (table rows.now)) ≡ Ok live.new.graph) }
+    ensures err { IfErr result (λ e. e ≢ OutOfMemory → each_step (set_row
+        (reading (parameters_in scene.now)) (map (item_of scene.now.names.now) items.now.items))
+        live.old.graph (rows_named scene.now.names.now (table rows.now)) ≡ Err e) }
     ensures aside { live.new.aside ≡ live.old.aside }
 {
     for at in 0..rows.len() {
@@ -140,7 +160,11 @@ pub fn set_items<T: Tables>(
     table: &Table,
     meter: &mut Meter,
 ) -> Result<(), Fault>
-    ensures answer { (s : Setting) → Suits s (parameters_view query.now.parameters.now) meter.old.limit (seen table.now).names → Gives result (set_clause s (map set_item_view items.now.items) (state_of live.old.graph (seen table.now) meter.old.used)) (λ _. state_of live.new.graph (seen table.now) meter.new.used) }
+    ensures answer { (s : Setting)
+        → Suits s (parameters_view query.now.parameters.now) meter.old.limit (seen table.now).names
+        → Gives result (set_clause s (map set_item_view items.now.items)
+        (state_of live.old.graph (seen table.now) meter.old.used))
+        (λ _. state_of live.new.graph (seen table.now) meter.new.used) }
     ensures aside { live.new.aside ≡ live.old.aside }
     ensures limit { meter.new.limit ≡ meter.old.limit }
 {

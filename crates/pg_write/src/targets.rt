@@ -6,9 +6,10 @@ ghost use Rattle.pg_write.specs.Targets.{target_view, IsThere};
 ghost use Rattle.pg_write_make.specs.Scenes.{row_in};
 
 use pg_graph::Tables;
+use pg_meaning::Fault;
 use pg_store::Snapshot;
 use pg_syntax_tree::Name;
-use pg_value_core::{Fault, NodeId, RelId, Value};
+use pg_value_core::{NodeId, RelId, Value};
 use pg_write_make::Scene;
 
 /// An element that is there, or nothing where the variable is null.
@@ -26,8 +27,10 @@ pub(crate) fn target_of<T: Tables>(
     row: &[Value],
     name: &Name,
 ) -> Result<Target, Fault>
-    ensures ok { IfOk result (λ t. target_of graph.now (row_in scene.now row.now) (name_view name.now) ≡ Ok (target_view t)) }
-    ensures err { IfErr result (λ e. target_of graph.now (row_in scene.now row.now) (name_view name.now) ≡ Err e) }
+    ensures ok { IfOk result (λ t.
+        target_of graph.now (row_in scene.now row.now) (name_view name.now) ≡ Ok (target_view t)) }
+    ensures err { IfErr result
+        (λ e. target_of graph.now (row_in scene.now row.now) (name_view name.now) ≡ Err e) }
     ensures there { IfOk result (λ t. IsThere graph.now (target_view t)) }
 {
     let Some(value) = scene.find(row, name.text.as_str()) else {

@@ -1,17 +1,15 @@
 -- CREATE of all rows, from its cost and what is made at the rows.
 use Rattle.std.proofs.Common.{◌≡◌, ◌≤◌, ◌*◌, ℕ, zero, suc, false, List, [], ◌∷◌, ◌++◌, map, length, take, drop, Result, Ok, Err, refl, ap, ◌∙◌, append_assoc, arith}
 use Rattle.std.proofs.lemmas.List.{length-map, length-take}
-use Rattle.pg_meaning.specs.Answer.{◌>>=◌, ◌>>◌, each_answer, each_step}
-use Rattle.pg_meaning.specs.Entries.{set_keys, value_at}
-use Rattle.pg_meaning.specs.Expressions.{evaluate}
+use Rattle.pg_meaning.specs.Answer.{◌>>=◌, ◌>>◌, each_step}
 use Rattle.pg_meaning.specs.Graph.{Graph}
 use Rattle.pg_meaning.specs.Meters.{Setting, State, spend}
-use Rattle.pg_meaning.specs.Patterns.{Assignment, bind_match, nodes_of, pair_list, relationship_properties}
+use Rattle.pg_meaning.specs.Patterns.{Assignment, bind_match, nodes_of, relationship_properties}
 use Rattle.pg_meaning.specs.Reading.{test_paths}
 use Rattle.pg_meaning.specs.Rows.{Row}
-use Rattle.pg_meaning.specs.Tree.{Properties, no_properties, given, from_parameter, PathPattern}
-use Rattle.pg_meaning.specs.Updates.{count_new, create_clause, create_row, given_properties, make, mapping_pairs, test_storable}
-use Rattle.pg_meaning.specs.Value.{Value, Entries, no_entries}
+use Rattle.pg_meaning.specs.Tree.{Properties, PathPattern}
+use Rattle.pg_meaning.specs.Updates.{count_new, create_clause, create_row, given_properties, make}
+use Rattle.pg_meaning.specs.Value.{Value, Entries}
 use Rattle.pg_meaning.specs.declared.fault.Fault.{Fault}
 use Rattle.pg_rows.specs.Named.{row_of, rows_named}
 use Rattle.pg_rows.specs.States.{Named, named_rows, state_of}
@@ -32,10 +30,8 @@ nothing_behind (x ∷ xs) = ap (λ ys. x ∷ ys) (nothing_behind xs)
 -- ---- the parameters and the quota of elements alone are read
 
 module _ (s : Setting) (parameters : Entries) (is : s.parameters ≡ parameters) (graph : Graph) (row : Row) where
-  given_same : (ps : Properties) → given_properties s graph row ps ≡ given_properties (reading parameters) graph row ps
-  given_same no_properties = refl
-  given_same (given ps) = ap (λ (p : Entries). each_answer (λ q. evaluate row p graph q.1 >>= λ v. Ok (q.0, v)) (pair_list ps) >>= λ pairs. test_storable pairs >> Ok (set_keys pairs no_entries)) is
-  given_same (from_parameter name) = ap (λ (p : Entries). mapping_pairs (value_at name.text p) >>= λ pairs. test_storable pairs >> Ok (set_keys pairs no_entries)) is
+  given_same : (ps : Properties) → given_properties s.parameters graph row ps ≡ given_properties parameters graph row ps
+  given_same ps = ap (λ (p : Entries). given_properties p graph row ps) is
 
   outcomes_same : (p : PathPattern) → path_outcomes s graph row p ≡ path_outcomes (reading parameters) graph row p
   outcomes_same p = λ i. (

@@ -117,10 +117,10 @@ paths_made max_elements (o ∷ os) (p ∷ ps) so_far = do
 -- ---- the outcomes at a row, of the graph that it found
 
 abbrev pub node_outcome : Setting → Graph → Row → NodePattern → Outcome
-node_outcome s graph row n = given_properties s graph row n.properties
+node_outcome s graph row n = given_properties s.parameters graph row n.properties
 
 abbrev pub relationship_outcome : Setting → Graph → Row → RelationshipPattern → Outcome
-relationship_outcome s graph row r = given_properties s graph row (relationship_properties r)
+relationship_outcome s graph row r = given_properties s.parameters graph row (relationship_properties r)
 
 abbrev pub path_outcomes : Setting → Graph → Row → PathPattern → Outcomes
 path_outcomes s graph row p = (map (node_outcome s graph row) (nodes_of p), map (relationship_outcome s graph row) (relationships_of p))

@@ -11,7 +11,7 @@ use Rattle.pg_syntax_tree.specs.declared.expression.Expression.{Expression as Co
 use Rattle.pg_syntax_tree.specs.declared.expression.Name.{Name}
 use Rattle.pg_syntax_tree.specs.declared.patterns.Properties.{Properties}
 use Rattle.pg_value_core.specs.declared.value.Value.{Value}
-use Rattle.pg_write_make.specs.Scenes.{value_given, row_in, parameters_in, reading}
+use Rattle.pg_write_make.specs.Scenes.{value_given, row_in, parameters_in}
 use Rattle.pg_write_make.specs.declared.scene.Scene.{Scene}
 
 -- keys with their expressions
@@ -30,7 +30,7 @@ pairs_given s graph row ps = each_answer (pair_given s graph row) ps
 
 -- the pairs of an element
 abbrev pub element_pairs : Scene → Graph → List Value → Properties → Result (List (List ℕ × Datum)) Fault
-element_pairs s graph row ps = given_pairs (reading (parameters_in s)) graph (row_in s row) (properties_view ps)
+element_pairs s graph row ps = given_pairs (parameters_in s) graph (row_in s row) (properties_view ps)
 
 -- answers of one thing after the other, from those that are there and what is left
 abbrev pub after : {Y : Type 0} → List Y → Result (List Y) Fault → Result (List Y) Fault

@@ -16,8 +16,11 @@ pub(crate) fn bind_all(
     values: &mut Vec<Value>,
     bindings: Vec<(&str, Value)>,
 ) -> Result<(), AllocError>
-    requires { EndsWith scene.now.names.now (map view values.old.items) (bindings_view bindings.items) }
-    ensures bound { OnOk result (row_of scene.now.names.now (map view values.new.items) ≡ bind_each (bindings_view bindings.entry.items) (row_of scene.now.names.now (map view values.old.items))) }
+    requires { EndsWith scene.now.names.now
+        (map view values.old.items) (bindings_view bindings.items) }
+    ensures bound { OnOk result (row_of scene.now.names.now (map view values.new.items)
+        ≡ bind_each (bindings_view bindings.entry.items)
+        (row_of scene.now.names.now (map view values.old.items))) }
     ensures whole { OnOk result (length values.new.items ≡ length scene.now.names.now) }
 {
     for (name, value) in bindings {

@@ -10,9 +10,10 @@ ghost use Rattle.pg_write_make.specs.Scenes.{row_in};
 
 use crate::scene::Scene;
 use pg_graph::Tables;
+use pg_meaning::Fault;
 use pg_store::Snapshot;
 use pg_syntax_tree::{NodePattern, PathPattern, RelationshipPattern};
-use pg_value_core::{Fault, Value};
+use pg_value_core::Value;
 
 fn test_node<T: Tables>(
     scene: &Scene<'_>,
@@ -20,7 +21,9 @@ fn test_node<T: Tables>(
     row: &[Value],
     pattern: &NodePattern,
 ) -> Result<(), Fault>
-    ensures { result ≡ test_bound false graph.now (bound_value (node_name (node_view pattern.now)) (row_in scene.now row.now)) }
+    ensures { result
+        ≡ test_bound false graph.now
+        (bound_value (node_name (node_view pattern.now)) (row_in scene.now row.now)) }
 {
     let Some(name) = &pattern.variable else {
         return Ok(());
@@ -39,7 +42,8 @@ fn test_others<T: Tables>(
     row: &[Value],
     hops: &Vec<(RelationshipPattern, NodePattern)>,
 ) -> Result<(), Fault>
-    ensures { result ≡ test_nodes false graph.now (row_in scene.now row.now) (others_view hops.now.items) }
+    ensures { result
+        ≡ test_nodes false graph.now (row_in scene.now row.now) (others_view hops.now.items) }
 {
     for hop in hops {
         test_node(scene, graph, row, &hop.1)?;
@@ -53,7 +57,8 @@ fn test_path<T: Tables>(
     row: &[Value],
     path: &PathPattern,
 ) -> Result<(), Fault>
-    ensures { result ≡ test_nodes false graph.now (row_in scene.now row.now) (nodes_of (path_view path.now)) }
+    ensures { result
+        ≡ test_nodes false graph.now (row_in scene.now row.now) (nodes_of (path_view path.now)) }
 {
     test_node(scene, graph, row, &path.first)?;
     test_others(scene, graph, row, &path.hops)
@@ -67,7 +72,8 @@ pub(crate) fn test_paths<T: Tables>(
     row: &[Value],
     paths: &[PathPattern],
 ) -> Result<(), Fault>
-    ensures { result ≡ test_paths false graph.now (row_in scene.now row.now) (paths_view paths.now) }
+    ensures { result
+        ≡ test_paths false graph.now (row_in scene.now row.now) (paths_view paths.now) }
 {
     for path in paths {
         test_path(scene, graph, row, path)?;

@@ -9,7 +9,8 @@ use pg_meter::Meter;
 /// Takes in so many steps for each row, or none where they would pass the quota.
 #[tactic(auto, using(crate::proofs::Charges::too_many))]
 pub fn spend_for_rows(meter: &mut Meter, rows: usize, steps: usize) -> Result<(), Fault>
-    ensures spends { (s : Setting) → s.quota.max_steps ≡ meter.old.limit → spend s meter.old.used (rows * steps) ≡ after_test result meter.new.used }
+    ensures spends { (s : Setting) → s.quota.max_steps ≡ meter.old.limit
+        → spend s meter.old.used (rows * steps) ≡ after_test result meter.new.used }
     ensures limit { meter.new.limit ≡ meter.old.limit }
 {
     let left = meter.left();

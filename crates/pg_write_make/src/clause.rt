@@ -16,10 +16,10 @@ use pg_expr::QueryContext;
 use pg_graph::Tables;
 use pg_live::LiveGraph;
 use pg_match_rows::bind_names;
+use pg_meaning::Fault;
 use pg_meter::Meter;
 use pg_rows::Table;
 use pg_syntax_tree::PathPattern;
-use pg_value_core::Fault;
 
 /// Makes the paths at each row, for a step an element, and gives the rows with their new variables.
 /// An error leaves a part of it done, and the caller takes that back.
@@ -30,8 +30,14 @@ pub fn create_paths<T: Tables>(
     table: Table,
     meter: &mut Meter,
 ) -> Result<Table, Fault>
-    ensures gives { (s : Setting) → Suits s (parameters_view query.now.parameters.now) meter.old.limit (seen table).names → s.quota.max_elements ≡ query.now.max_elements → Gives result (create_clause s (map path_view paths.now.items) (state_of live.old.graph (seen table) meter.old.used)) (λ t. state_of live.new.graph (seen t) meter.new.used) }
-    ensures names { IfOk result (λ t. (seen t).names ≡ add_path_names (map path_view paths.now.items) (seen table).names) }
+    ensures gives { (s : Setting)
+        → Suits s (parameters_view query.now.parameters.now) meter.old.limit (seen table).names
+        → s.quota.max_elements ≡ query.now.max_elements
+        → Gives result (create_clause s
+        (map path_view paths.now.items) (state_of live.old.graph (seen table) meter.old.used))
+        (λ t. state_of live.new.graph (seen t) meter.new.used) }
+    ensures names { IfOk result
+        (λ t. (seen t).names ≡ add_path_names (map path_view paths.now.items) (seen table).names) }
     ensures aside { live.new.aside ≡ live.old.aside }
     ensures limit { meter.new.limit ≡ meter.old.limit }
 {

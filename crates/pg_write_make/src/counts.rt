@@ -15,7 +15,8 @@ use pg_syntax_tree::{NodePattern, PathPattern};
 use std::alloc::{AllocError, Global};
 
 fn push_nodes<'a>(nodes: &mut Vec<&'a NodePattern>, path: &'a PathPattern) -> Result<(), AllocError>
-    ensures { OnOk result (patterns_view nodes.new.items ≡ patterns_view nodes.old.items ++ nodes_of (path_view path.now)) }
+    ensures { OnOk result (patterns_view nodes.new.items
+        ≡ patterns_view nodes.old.items ++ nodes_of (path_view path.now)) }
 {
     nodes.push(&path.first)?;
     for hop in &path.hops {
@@ -28,7 +29,8 @@ fn all_nodes<'a>(
     alloc: Global,
     paths: &'a [PathPattern],
 ) -> Result<Vec<&'a NodePattern>, AllocError>
-    ensures { IfOk result (λ nodes. patterns_view nodes.items ≡ flat_map nodes_of (paths_view paths.now)) }
+    ensures { IfOk result
+        (λ nodes. patterns_view nodes.items ≡ flat_map nodes_of (paths_view paths.now)) }
 {
     let mut nodes = Vec::new(alloc);
     for path in paths {
@@ -62,7 +64,9 @@ fn makes_node<'a>(
     seen: &mut Vec<&'a str>,
     pattern: &'a NodePattern,
 ) -> Result<bool, AllocError>
-    ensures { IfOk result (λ makes. (ns : List Pattern) → count_nodes (texts_of seen.old.items ++ names.now) (node_view pattern.now ∷ ns) ≡ count_one makes (count_nodes (texts_of seen.new.items ++ names.now) ns)) }
+    ensures { IfOk result (λ makes. (ns : List Pattern)
+        → count_nodes (texts_of seen.old.items ++ names.now) (node_view pattern.now ∷ ns)
+        ≡ count_one makes (count_nodes (texts_of seen.new.items ++ names.now) ns)) }
 {
     let Some(name) = &pattern.variable else {
         return Ok(true);
@@ -80,7 +84,8 @@ fn count_nodes(
     names: &Columns,
     nodes: &Vec<&NodePattern>,
 ) -> Result<usize, AllocError>
-    ensures count { IfOk result (λ count. count ≡ count_nodes names.now (patterns_view nodes.now.items)) }
+    ensures count { IfOk result
+        (λ count. count ≡ count_nodes names.now (patterns_view nodes.now.items)) }
     ensures few { IfOk result (λ count. count ≤ length nodes.now.items) }
 {
     let mut seen = Vec::new(alloc);

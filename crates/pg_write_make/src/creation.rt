@@ -18,9 +18,10 @@ use crate::scene::{RowScene, Scene};
 use crate::trails::row_bindings;
 use pg_graph::Tables;
 use pg_live::LiveGraph;
+use pg_meaning::Fault;
 use pg_rows::Rows;
 use pg_syntax_tree::PathPattern;
-use pg_value_core::{Fault, Value};
+use pg_value_core::Value;
 
 /// Makes the paths at a row whose bound nodes are there, and gives the row with its new variables.
 /// The names are those behind the clause.
@@ -32,11 +33,18 @@ pub fn make_row<'a, T: Tables>(
     paths: &'a [PathPattern],
 ) -> Result<Vec<Value>, Fault>
     requires within { length row.items ≤ length scene.now.names.now }
-    requires names { add_path_names (paths_view paths.now) (take (length row.items) scene.now.names.now) ≡ scene.now.names.now }
-    requires tested { test_paths false live.old.graph (row_in scene.now row.items) (paths_view paths.now) ≡ Ok tt }
-    ensures ok { IfOk result (λ values. row_made (parameters_in scene.now) (max_elements_in scene.now) (paths_view paths.now) live.old.graph (row_in scene.now row.items) ≡ Ok (live.new.graph, row_of scene.now.names.now (map view values.items))) }
+    requires names { add_path_names
+        (paths_view paths.now) (take (length row.items) scene.now.names.now) ≡ scene.now.names.now }
+    requires tested { test_paths false live.old.graph
+        (row_in scene.now row.items) (paths_view paths.now) ≡ Ok tt }
+    ensures ok { IfOk result
+        (λ values. row_made (parameters_in scene.now) (max_elements_in scene.now)
+        (paths_view paths.now) live.old.graph (row_in scene.now row.items)
+        ≡ Ok (live.new.graph, row_of scene.now.names.now (map view values.items))) }
     ensures whole { IfOk result (λ values. length values.items ≡ length scene.now.names.now) }
-    ensures err { IfErr result (λ e. e ≢ OutOfMemory → row_made (parameters_in scene.now) (max_elements_in scene.now) (paths_view paths.now) live.old.graph (row_in scene.now row.items) ≡ Err e) }
+    ensures err { IfErr result (λ e. e ≢ OutOfMemory
+        → row_made (parameters_in scene.now) (max_elements_in scene.now)
+        (paths_view paths.now) live.old.graph (row_in scene.now row.items) ≡ Err e) }
     ensures aside { live.new.aside ≡ live.old.aside }
 {
     let kept = kept_values(scene, &live.graph(), &row, paths)?;
@@ -60,10 +68,17 @@ pub(crate) fn create_rows<'a, T: Tables>(
     paths: &'a [PathPattern],
 ) -> Result<Rows, Fault>
     requires within { rows.width ≤ length scene.now.names.now }
-    requires names { add_path_names (paths_view paths.now) (take rows.width scene.now.names.now) ≡ scene.now.names.now }
-    ensures ok { IfOk result (λ made. rows_created (parameters_in scene.now) (max_elements_in scene.now) (paths_view paths.now) live.old.graph (rows_named scene.now.names.now (table rows)) ≡ Ok (live.new.graph, rows_named scene.now.names.now (table made))) }
+    requires names { add_path_names (paths_view paths.now) (take rows.width scene.now.names.now)
+        ≡ scene.now.names.now }
+    ensures ok { IfOk result
+        (λ made. rows_created (parameters_in scene.now) (max_elements_in scene.now)
+        (paths_view paths.now) live.old.graph (rows_named scene.now.names.now (table rows))
+        ≡ Ok (live.new.graph, rows_named scene.now.names.now (table made))) }
     ensures width { IfOk result (λ made. made.width ≡ length scene.now.names.now) }
-    ensures err { IfErr result (λ e. e ≢ OutOfMemory → rows_created (parameters_in scene.now) (max_elements_in scene.now) (paths_view paths.now) live.old.graph (rows_named scene.now.names.now (table rows)) ≡ Err e) }
+    ensures err { IfErr result (λ e. e ≢ OutOfMemory
+        → rows_created (parameters_in scene.now) (max_elements_in scene.now)
+        (paths_view paths.now) live.old.graph (rows_named scene.now.names.now (table rows))
+        ≡ Err e) }
     ensures aside { live.new.aside ≡ live.old.aside }
 {
     let mut made = Rows::new(scene.query.alloc, scene.names.len());

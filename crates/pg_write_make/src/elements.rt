@@ -15,10 +15,11 @@ use crate::texts::{label_texts, type_text};
 use pg_expr::QueryContext;
 use pg_graph::Tables;
 use pg_live::LiveGraph;
+use pg_meaning::Fault;
 use pg_meter::{MaxElements, Room};
 use pg_store::Snapshot;
 use pg_syntax_tree::{NodePattern, RelationshipPattern};
-use pg_value_core::{Fault, NodeId, RelId, Value};
+use pg_value_core::{NodeId, RelId, Value};
 use std::alloc::{AllocError, Global};
 
 /// A counter that stands here hands out no id.
@@ -56,9 +57,11 @@ pub(crate) fn add_node<T: Tables>(
     pattern: &NodePattern,
     outcome: Result<Vec<(&str, Value)>, Fault>,
 ) -> Result<NodeId, Fault>
-    ensures ok { OnOk result (node_added query.now.max_elements (outcome_view outcome.entry) (node_view pattern.now) live.old.graph ≡ Ok live.new.graph) }
+    ensures ok { OnOk result (node_added query.now.max_elements
+        (outcome_view outcome.entry) (node_view pattern.now) live.old.graph ≡ Ok live.new.graph) }
     ensures id { IfOk result (λ id. id.0 ≡ live.old.graph.next_node) }
-    ensures err { IfErr result (λ e. e ≢ OutOfMemory → node_added query.now.max_elements (outcome_view outcome.entry) (node_view pattern.now) live.old.graph ≡ Err e) }
+    ensures err { IfErr result (λ e. e ≢ OutOfMemory → node_added query.now.max_elements
+        (outcome_view outcome.entry) (node_view pattern.now) live.old.graph ≡ Err e) }
     ensures aside { live.new.aside ≡ live.old.aside }
 {
     let properties = outcome?;
@@ -80,7 +83,9 @@ fn add_between<T: Tables>(
     requires count { element_count live.old.graph < 2 ^ 63 }
     requires left { has_node live.old.graph left.0 ≡ true }
     requires right { has_node live.old.graph right.0 ≡ true }
-    ensures ok { OnOk result (add_between (way_of (relationship_view pattern.now)) (first_text (types_of (relationship_view pattern.now))) left.0 right.0 (set_keys (pairs_of properties.entry.items) no_entries) live.old.graph ≡ live.new.graph) }
+    ensures ok { OnOk result (add_between (way_of (relationship_view pattern.now))
+        (first_text (types_of (relationship_view pattern.now))) left.0 right.0
+        (set_keys (pairs_of properties.entry.items) no_entries) live.old.graph ≡ live.new.graph) }
     ensures id { IfOk result (λ id. id.0 ≡ live.old.graph.next_relationship) }
     ensures aside { live.new.aside ≡ live.old.aside }
 {
@@ -104,9 +109,12 @@ pub(crate) fn add_relationship<T: Tables>(
 ) -> Result<RelId, Fault>
     requires left { has_node live.old.graph left.0 ≡ true }
     requires right { has_node live.old.graph right.0 ≡ true }
-    ensures ok { OnOk result (relationship_of query.now.max_elements (outcome_view outcome.entry) (relationship_view pattern.now) left.0 right.0 live.old.graph ≡ Ok live.new.graph) }
+    ensures ok { OnOk result (relationship_of query.now.max_elements (outcome_view outcome.entry)
+        (relationship_view pattern.now) left.0 right.0 live.old.graph ≡ Ok live.new.graph) }
     ensures id { IfOk result (λ id. id.0 ≡ live.old.graph.next_relationship) }
-    ensures err { IfErr result (λ e. e ≢ OutOfMemory → relationship_of query.now.max_elements (outcome_view outcome.entry) (relationship_view pattern.now) left.0 right.0 live.old.graph ≡ Err e) }
+    ensures err { IfErr result (λ e. e ≢ OutOfMemory
+        → relationship_of query.now.max_elements (outcome_view outcome.entry)
+        (relationship_view pattern.now) left.0 right.0 live.old.graph ≡ Err e) }
     ensures aside { live.new.aside ≡ live.old.aside }
 {
     let properties = outcome?;

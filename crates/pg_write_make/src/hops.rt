@@ -9,8 +9,9 @@ use crate::elements::add_relationship;
 use pg_expr::QueryContext;
 use pg_graph::Tables;
 use pg_live::LiveGraph;
+use pg_meaning::Fault;
 use pg_syntax_tree::{NodePattern, RelationshipPattern};
-use pg_value_core::{Fault, NodeId, RelId, Value};
+use pg_value_core::{NodeId, RelId, Value};
 
 // Each relationship from the node before it to its own.
 #[tactic(auto, using(crate::proofs::GrowthLemmas::joined_grows, crate::proofs::GrowthLemmas::grows_not, crate::proofs::GrowthLemmas::grows_twice, crate::proofs::GrowthLemmas::there_grows, crate::proofs::StepLemmas::hop_made, crate::proofs::StepLemmas::hop_refused))]
@@ -24,8 +25,13 @@ fn make_hops<T: Tables>(
 ) -> Result<Vec<RelId>, Fault>
     requires first { has_node live.old.graph first.0 ≡ true }
     requires others { AreThere live.old.graph (node_ids others.now) }
-    ensures ok { IfOk result (λ made. hops_made query.now.max_elements (outcomes_view outcomes.entry.items) (relationships_view hops.now.items) first.0 (node_ids others.now) live.old.graph ≡ Ok (live.new.graph, relationship_ids made.items)) }
-    ensures err { IfErr result (λ e. e ≢ OutOfMemory → hops_made query.now.max_elements (outcomes_view outcomes.entry.items) (relationships_view hops.now.items) first.0 (node_ids others.now) live.old.graph ≡ Err e) }
+    ensures ok { IfOk result
+        (λ made. hops_made query.now.max_elements (outcomes_view outcomes.entry.items)
+        (relationships_view hops.now.items) first.0 (node_ids others.now) live.old.graph
+        ≡ Ok (live.new.graph, relationship_ids made.items)) }
+    ensures err { IfErr result (λ e. e ≢ OutOfMemory
+        → hops_made query.now.max_elements (outcomes_view outcomes.entry.items)
+        (relationships_view hops.now.items) first.0 (node_ids others.now) live.old.graph ≡ Err e) }
     ensures aside { live.new.aside ≡ live.old.aside }
     ensures grows { OnOk result (Grows live.old.graph live.new.graph) }
 {
@@ -56,8 +62,13 @@ pub(crate) fn make_bonds<T: Tables>(
     ids: &Vec<NodeId>,
 ) -> Result<Vec<RelId>, Fault>
     requires there { AreThere live.old.graph (node_ids ids.now.items) }
-    ensures ok { IfOk result (λ made. bonds_made query.now.max_elements (outcomes_view outcomes.entry.items) (relationships_view hops.now.items) (node_ids ids.now.items) live.old.graph ≡ Ok (live.new.graph, relationship_ids made.items)) }
-    ensures err { IfErr result (λ e. e ≢ OutOfMemory → bonds_made query.now.max_elements (outcomes_view outcomes.entry.items) (relationships_view hops.now.items) (node_ids ids.now.items) live.old.graph ≡ Err e) }
+    ensures ok { IfOk result
+        (λ made. bonds_made query.now.max_elements (outcomes_view outcomes.entry.items)
+        (relationships_view hops.now.items) (node_ids ids.now.items) live.old.graph
+        ≡ Ok (live.new.graph, relationship_ids made.items)) }
+    ensures err { IfErr result (λ e. e ≢ OutOfMemory
+        → bonds_made query.now.max_elements (outcomes_view outcomes.entry.items)
+        (relationships_view hops.now.items) (node_ids ids.now.items) live.old.graph ≡ Err e) }
     ensures aside { live.new.aside ≡ live.old.aside }
     ensures grows { OnOk result (Grows live.old.graph live.new.graph) }
 {

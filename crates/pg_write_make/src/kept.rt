@@ -10,9 +10,10 @@ ghost use Rattle.pg_write_make.specs.Scenes.{parameters_in, reading, row_in};
 use crate::scene::Scene;
 use crate::values::outcome;
 use pg_graph::Tables;
+use pg_meaning::Fault;
 use pg_store::Snapshot;
 use pg_syntax_tree::{NodePattern, PathPattern, RelationshipPattern};
-use pg_value_core::{Fault, Value};
+use pg_value_core::Value;
 
 // What the expressions of a relationship give, kept.
 fn relationship_outcome<'a, T: Tables>(
@@ -21,7 +22,9 @@ fn relationship_outcome<'a, T: Tables>(
     row: &[Value],
     pattern: &'a RelationshipPattern,
 ) -> Result<Result<Vec<(&'a str, Value)>, Fault>, Fault>
-    ensures kept { IfOk result (λ kept. outcome_view kept ≡ relationship_outcome (reading (parameters_in scene.now)) graph.now (row_in scene.now row.now) (relationship_view pattern.now)) }
+    ensures kept { IfOk result (λ kept. outcome_view kept
+        ≡ relationship_outcome (reading (parameters_in scene.now)) graph.now
+        (row_in scene.now row.now) (relationship_view pattern.now)) }
     ensures err { IfErr result (λ e. e ≡ OutOfMemory) }
 {
     match &pattern.detail {
@@ -39,8 +42,14 @@ fn keep_hops<'a, T: Tables>(
     nodes: &mut Vec<Result<Vec<(&'a str, Value)>, Fault>>,
     relationships: &mut Vec<Result<Vec<(&'a str, Value)>, Fault>>,
 ) -> Result<(), Fault>
-    ensures nodes { OnOk result (outcomes_view nodes.new.items ≡ outcomes_view nodes.old.items ++ map (node_outcome (reading (parameters_in scene.now)) graph.now (row_in scene.now row.now)) (others_view hops.now.items)) }
-    ensures relationships { OnOk result (outcomes_view relationships.new.items ≡ outcomes_view relationships.old.items ++ map (relationship_outcome (reading (parameters_in scene.now)) graph.now (row_in scene.now row.now)) (relationships_view hops.now.items)) }
+    ensures nodes { OnOk result
+        (outcomes_view nodes.new.items ≡ outcomes_view nodes.old.items ++ map
+        (node_outcome (reading (parameters_in scene.now)) graph.now (row_in scene.now row.now))
+        (others_view hops.now.items)) }
+    ensures relationships { OnOk result (outcomes_view relationships.new.items
+        ≡ outcomes_view relationships.old.items ++ map (relationship_outcome
+        (reading (parameters_in scene.now)) graph.now (row_in scene.now row.now))
+        (relationships_view hops.now.items)) }
     ensures err { IfErr result (λ e. e ≡ OutOfMemory) }
 {
     for hop in hops {
@@ -64,7 +73,9 @@ fn kept_of<'a, T: Tables>(
     row: &[Value],
     path: &'a PathPattern,
 ) -> Result<Kept<'a>, Fault>
-    ensures ok { IfOk result (λ kept. kept_view kept ≡ path_outcomes (reading (parameters_in scene.now)) graph.now (row_in scene.now row.now) (path_view path.now)) }
+    ensures ok { IfOk result (λ kept. kept_view kept
+        ≡ path_outcomes (reading (parameters_in scene.now)) graph.now
+        (row_in scene.now row.now) (path_view path.now)) }
     ensures err { IfErr result (λ e. e ≡ OutOfMemory) }
 {
     let first = outcome(scene, graph, row, &path.first.properties)?;
@@ -92,7 +103,9 @@ pub(crate) fn kept_values<'a, T: Tables>(
     row: &[Value],
     paths: &'a [PathPattern],
 ) -> Result<Vec<Kept<'a>>, Fault>
-    ensures ok { IfOk result (λ kept. map kept_view kept.items ≡ map (path_outcomes (reading (parameters_in scene.now)) graph.now (row_in scene.now row.now)) (paths_view paths.now)) }
+    ensures ok { IfOk result (λ kept. map kept_view kept.items ≡ map
+        (path_outcomes (reading (parameters_in scene.now)) graph.now (row_in scene.now row.now))
+        (paths_view paths.now)) }
     ensures err { IfErr result (λ e. e ≡ OutOfMemory) }
 {
     let mut kept = Vec::with_capacity(scene.query.alloc, paths.len())?;

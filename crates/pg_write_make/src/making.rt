@@ -17,12 +17,14 @@ use crate::elements::add_node;
 use crate::scene::RowScene;
 use pg_graph::Tables;
 use pg_live::LiveGraph;
+use pg_meaning::Fault;
 use pg_syntax_tree::{Name, NodePattern, PathPattern, RelationshipPattern};
-use pg_value_core::{Fault, NodeId, Value};
+use pg_value_core::{NodeId, Value};
 use std::alloc::AllocError;
 
 fn find_named(named: &Vec<(&str, NodeId)>, name: &str) -> Option<NodeId>
-    ensures { lookup (bytes_eq name.now) (bindings named.now.items) ≡ option_map (λ id. node id.0) result }
+    ensures { lookup (bytes_eq name.now) (bindings named.now.items)
+        ≡ option_map (λ id. node id.0) result }
 {
     for binding in named {
         if name == binding.0 {
@@ -49,8 +51,11 @@ fn find_node(
     named: &Vec<(&str, NodeId)>,
     name: &str,
 ) -> Result<Option<NodeId>, Fault>
-    ensures ok { IfOk result (λ found. node_found (value_in name.now (row_at row.now ++ bindings named.now.items)) ≡ Ok (option_map (λ id. id.0) found)) }
-    ensures err { IfErr result (λ e. node_found (value_in name.now (row_at row.now ++ bindings named.now.items)) ≡ Err e) }
+    ensures ok { IfOk result
+        (λ found. node_found (value_in name.now (row_at row.now ++ bindings named.now.items))
+        ≡ Ok (option_map (λ id. id.0) found)) }
+    ensures err { IfErr result
+        (λ e. node_found (value_in name.now (row_at row.now ++ bindings named.now.items)) ≡ Err e) }
 {
     match row.scene.find(row.values, name) {
         Some(value) => Ok(Some(node_id(value)?)),
@@ -63,8 +68,12 @@ fn find_bound(
     named: &Vec<(&str, NodeId)>,
     variable: &Option<Name>,
 ) -> Result<Option<NodeId>, Fault>
-    ensures ok { IfOk result (λ found. node_found (bound_value (text_of (option_map name_view variable.now)) (row_at row.now ++ bindings named.now.items)) ≡ Ok (option_map (λ id. id.0) found)) }
-    ensures err { IfErr result (λ e. node_found (bound_value (text_of (option_map name_view variable.now)) (row_at row.now ++ bindings named.now.items)) ≡ Err e) }
+    ensures ok { IfOk result (λ found. node_found (bound_value
+        (text_of (option_map name_view variable.now)) (row_at row.now ++ bindings named.now.items))
+        ≡ Ok (option_map (λ id. id.0) found)) }
+    ensures err { IfErr result (λ e. node_found (bound_value
+        (text_of (option_map name_view variable.now)) (row_at row.now ++ bindings named.now.items))
+        ≡ Err e) }
 {
     match variable {
         Some(name) => find_node(row, named, name.text.as_str()),
@@ -78,9 +87,13 @@ fn bind_new<'a>(
     variable: &'a Option<Name>,
     id: NodeId,
 ) -> Result<(), AllocError>
-    ensures none { OnOk result (text_of (option_map name_view variable.now) ≡ None → named.new.items ≡ named.old.items) }
-    ensures bound { OnOk result ((name : List ℕ) → text_of (option_map name_view variable.now) ≡ Some name → bindings named.new.items ≡ bindings named.old.items ++ (name, node id.0) ∷ []) }
-    ensures ids { OnOk result (IsSome (text_of (option_map name_view variable.now)) → named_ids named.new.items ≡ named_ids named.old.items ++ id.0 ∷ []) }
+    ensures none { OnOk result (text_of (option_map name_view variable.now) ≡ None
+        → named.new.items ≡ named.old.items) }
+    ensures bound { OnOk result ((name : List ℕ)
+        → text_of (option_map name_view variable.now) ≡ Some name
+        → bindings named.new.items ≡ bindings named.old.items ++ (name, node id.0) ∷ []) }
+    ensures ids { OnOk result (IsSome (text_of (option_map name_view variable.now))
+        → named_ids named.new.items ≡ named_ids named.old.items ++ id.0 ∷ []) }
 {
     if let Some(name) = variable {
         named.push((name.text.as_str(), id))?;
@@ -98,10 +111,16 @@ fn make_node<'a, T: Tables>(
     named: &mut Vec<(&'a str, NodeId)>,
     ids: &mut Vec<NodeId>,
 ) -> Result<(), Fault>
-    requires tested { test_bound false live.old.graph (bound_value (node_name (node_view pattern.now)) (row_at row.now)) ≡ Ok tt }
+    requires tested { test_bound false live.old.graph
+        (bound_value (node_name (node_view pattern.now)) (row_at row.now)) ≡ Ok tt }
     requires there { AllThere live.old.graph named.old.items ids.old.items }
-    ensures ok { OnOk result (node_of (max_elements_in row.now.scene.now) (outcome_view outcome.entry) (node_view pattern.now) (making_of live.old.graph (row_at row.now) named.old.items ids.old.items) ≡ Ok (making_of live.new.graph (row_at row.now) named.new.items ids.new.items)) }
-    ensures err { IfErr result (λ e. e ≢ OutOfMemory → node_of (max_elements_in row.now.scene.now) (outcome_view outcome.entry) (node_view pattern.now) (making_of live.old.graph (row_at row.now) named.old.items ids.old.items) ≡ Err e) }
+    ensures ok { OnOk result (node_of
+        (max_elements_in row.now.scene.now) (outcome_view outcome.entry) (node_view pattern.now)
+        (making_of live.old.graph (row_at row.now) named.old.items ids.old.items)
+        ≡ Ok (making_of live.new.graph (row_at row.now) named.new.items ids.new.items)) }
+    ensures err { IfErr result (λ e. e ≢ OutOfMemory → node_of
+        (max_elements_in row.now.scene.now) (outcome_view outcome.entry) (node_view pattern.now)
+        (making_of live.old.graph (row_at row.now) named.old.items ids.old.items) ≡ Err e) }
     ensures aside { live.new.aside ≡ live.old.aside }
     ensures grows { OnOk result (Grows live.old.graph live.new.graph) }
     ensures there { OnOk result (AllThere live.new.graph named.new.items ids.new.items) }
@@ -130,10 +149,17 @@ fn make_others<'a, T: Tables>(
     named: &mut Vec<(&'a str, NodeId)>,
     ids: &mut Vec<NodeId>,
 ) -> Result<(), Fault>
-    requires tested { test_nodes false live.old.graph (row_at row.now) (others_view hops.now.items) ≡ Ok tt }
+    requires tested { test_nodes false live.old.graph (row_at row.now) (others_view hops.now.items)
+        ≡ Ok tt }
     requires there { AllThere live.old.graph named.old.items ids.old.items }
-    ensures ok { OnOk result (nodes_made (max_elements_in row.now.scene.now) (outcomes_view outcomes.entry.items) (others_view hops.now.items) (making_of live.old.graph (row_at row.now) named.old.items ids.old.items) ≡ Ok (making_of live.new.graph (row_at row.now) named.new.items ids.new.items)) }
-    ensures err { IfErr result (λ e. e ≢ OutOfMemory → nodes_made (max_elements_in row.now.scene.now) (outcomes_view outcomes.entry.items) (others_view hops.now.items) (making_of live.old.graph (row_at row.now) named.old.items ids.old.items) ≡ Err e) }
+    ensures ok { OnOk result (nodes_made (max_elements_in row.now.scene.now)
+        (outcomes_view outcomes.entry.items) (others_view hops.now.items)
+        (making_of live.old.graph (row_at row.now) named.old.items ids.old.items)
+        ≡ Ok (making_of live.new.graph (row_at row.now) named.new.items ids.new.items)) }
+    ensures err { IfErr result (λ e. e ≢ OutOfMemory
+        → nodes_made (max_elements_in row.now.scene.now)
+        (outcomes_view outcomes.entry.items) (others_view hops.now.items)
+        (making_of live.old.graph (row_at row.now) named.old.items ids.old.items) ≡ Err e) }
     ensures aside { live.new.aside ≡ live.old.aside }
     ensures grows { OnOk result (Grows live.old.graph live.new.graph) }
     ensures there { OnOk result (AllThere live.new.graph named.new.items ids.new.items) }
@@ -158,10 +184,18 @@ pub(crate) fn make_nodes<'a, T: Tables>(
     others: Vec<Result<Vec<(&str, Value)>, Fault>>,
     named: &mut Vec<(&'a str, NodeId)>,
 ) -> Result<Vec<NodeId>, Fault>
-    requires tested { test_nodes false live.old.graph (row_at row.now) (nodes_of (path_view path.now)) ≡ Ok tt }
+    requires tested { test_nodes false live.old.graph
+        (row_at row.now) (nodes_of (path_view path.now)) ≡ Ok tt }
     requires there { AreThere live.old.graph (named_ids named.old.items) }
-    ensures ok { IfOk result (λ ids. nodes_made (max_elements_in row.now.scene.now) (outcome_view first.entry ∷ outcomes_view others.entry.items) (nodes_of (path_view path.now)) (making_of live.old.graph (row_at row.now) named.old.items []) ≡ Ok (making_of live.new.graph (row_at row.now) named.new.items ids.items)) }
-    ensures err { IfErr result (λ e. e ≢ OutOfMemory → nodes_made (max_elements_in row.now.scene.now) (outcome_view first.entry ∷ outcomes_view others.entry.items) (nodes_of (path_view path.now)) (making_of live.old.graph (row_at row.now) named.old.items []) ≡ Err e) }
+    ensures ok { IfOk result (λ ids. nodes_made (max_elements_in row.now.scene.now)
+        (outcome_view first.entry ∷ outcomes_view others.entry.items)
+        (nodes_of (path_view path.now))
+        (making_of live.old.graph (row_at row.now) named.old.items [])
+        ≡ Ok (making_of live.new.graph (row_at row.now) named.new.items ids.items)) }
+    ensures err { IfErr result (λ e. e ≢ OutOfMemory
+        → nodes_made (max_elements_in row.now.scene.now) (outcome_view first.entry
+        ∷ outcomes_view others.entry.items) (nodes_of (path_view path.now))
+        (making_of live.old.graph (row_at row.now) named.old.items []) ≡ Err e) }
     ensures aside { live.new.aside ≡ live.old.aside }
     ensures grows { OnOk result (Grows live.old.graph live.new.graph) }
     ensures there { IfOk result (λ ids. AllThere live.new.graph named.new.items ids.items) }

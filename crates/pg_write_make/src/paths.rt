@@ -15,8 +15,9 @@ use crate::making::make_nodes;
 use crate::scene::RowScene;
 use pg_graph::Tables;
 use pg_live::LiveGraph;
+use pg_meaning::Fault;
 use pg_syntax_tree::PathPattern;
-use pg_value_core::{Fault, NodeId, RelId};
+use pg_value_core::{NodeId, RelId};
 
 /// The ids of a path's nodes and relationships at a row.
 #[derive(Drop)]
@@ -33,10 +34,16 @@ fn make_path<'a, T: Tables>(
     kept: Kept<'_>,
     named: &mut Vec<(&'a str, NodeId)>,
 ) -> Result<Trail, Fault>
-    requires tested { test_nodes false live.old.graph (row_at row.now) (nodes_of (path_view path.now)) ≡ Ok tt }
+    requires tested { test_nodes false live.old.graph
+        (row_at row.now) (nodes_of (path_view path.now)) ≡ Ok tt }
     requires there { AreThere live.old.graph (named_ids named.old.items) }
-    ensures ok { IfOk result (λ trail. path_made (max_elements_in row.now.scene.now) (kept_view kept.entry) (path_view path.now) (live.old.graph, row_at row.now ++ bindings named.old.items) ≡ Ok (live.new.graph, row_at row.now ++ bindings named.new.items, trail_view trail)) }
-    ensures err { IfErr result (λ e. e ≢ OutOfMemory → path_made (max_elements_in row.now.scene.now) (kept_view kept.entry) (path_view path.now) (live.old.graph, row_at row.now ++ bindings named.old.items) ≡ Err e) }
+    ensures ok { IfOk result
+        (λ trail. path_made (max_elements_in row.now.scene.now) (kept_view kept.entry)
+        (path_view path.now) (live.old.graph, row_at row.now ++ bindings named.old.items)
+        ≡ Ok (live.new.graph, row_at row.now ++ bindings named.new.items, trail_view trail)) }
+    ensures err { IfErr result (λ e. e ≢ OutOfMemory
+        → path_made (max_elements_in row.now.scene.now) (kept_view kept.entry)
+        (path_view path.now) (live.old.graph, row_at row.now ++ bindings named.old.items) ≡ Err e) }
     ensures aside { live.new.aside ≡ live.old.aside }
     ensures grows { OnOk result (Grows live.old.graph live.new.graph) }
     ensures there { OnOk result (AreThere live.new.graph (named_ids named.new.items)) }
@@ -58,9 +65,14 @@ pub(crate) fn make_paths<'a, T: Tables>(
     paths: &'a [PathPattern],
     kept: Vec<Kept<'_>>,
 ) -> Result<Vec<Trail>, Fault>
-    requires tested { test_paths false live.old.graph (row_at row.now) (paths_view paths.now) ≡ Ok tt }
-    ensures ok { IfOk result (λ trails. paths_made (max_elements_in row.now.scene.now) (map kept_view kept.entry.items) (paths_view paths.now) (live.old.graph, row_at row.now) ≡ Ok (live.new.graph, map trail_view trails.items)) }
-    ensures err { IfErr result (λ e. e ≢ OutOfMemory → paths_made (max_elements_in row.now.scene.now) (map kept_view kept.entry.items) (paths_view paths.now) (live.old.graph, row_at row.now) ≡ Err e) }
+    requires tested { test_paths false live.old.graph (row_at row.now) (paths_view paths.now)
+        ≡ Ok tt }
+    ensures ok { IfOk result (λ trails. paths_made (max_elements_in row.now.scene.now)
+        (map kept_view kept.entry.items) (paths_view paths.now) (live.old.graph, row_at row.now)
+        ≡ Ok (live.new.graph, map trail_view trails.items)) }
+    ensures err { IfErr result (λ e. e ≢ OutOfMemory
+        → paths_made (max_elements_in row.now.scene.now) (map kept_view kept.entry.items)
+        (paths_view paths.now) (live.old.graph, row_at row.now) ≡ Err e) }
     ensures aside { live.new.aside ≡ live.old.aside }
 {
     let alloc = row.scene.query.alloc;

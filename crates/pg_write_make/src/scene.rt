@@ -9,10 +9,11 @@ ghost use Rattle.pg_write_make.specs.Scenes.{given, row_in, value_given};
 
 use pg_expr::{Prepared, QueryContext, evaluate, prepare};
 use pg_graph::Tables;
+use pg_meaning::Fault;
 use pg_rows::Columns;
 use pg_store::Snapshot;
 use pg_syntax_tree::Expression;
-use pg_value_core::{Fault, Value};
+use pg_value_core::Value;
 
 /// The names of the columns, and what stays the same while the query runs.
 #[derive(Clone, Copy)]
@@ -29,7 +30,8 @@ pub(crate) struct RowScene<'a> {
 }
 
 fn value_at(row: &[Value], column: Option<usize>) -> Option<&Value>
-    ensures { option_map (λ v. view v.now) result ≡ option_and_then (slice_get (map view row.now)) column }
+    ensures { option_map (λ v. view v.now) result
+        ≡ option_and_then (slice_get (map view row.now)) column }
 {
     row.get(column?)
 }
@@ -38,7 +40,8 @@ impl<'a> Scene<'a> {
     /// The value of a variable of the row.
     #[tactic(auto, using(pg_rows::proofs::NamedRows::values_stand))]
     pub fn find<'r>(&self, row: &'r [Value], name: &str) -> Option<&'r Value>
-        ensures { option_map (λ v. view v.now) result ≡ value_in name.now (row_in self.now row.now) }
+        ensures { option_map (λ v. view v.now) result
+            ≡ value_in name.now (row_in self.now row.now) }
     {
         value_at(row, self.names.find(name))
     }
@@ -69,7 +72,8 @@ impl<'a> Scene<'a> {
         row: &[Value],
         expression: &Expression,
     ) -> Result<Value, Fault>
-        ensures { Gives result (value_given self.now graph.now row.now (expression_view expression.now)) view }
+        ensures { Gives result
+            (value_given self.now graph.now row.now (expression_view expression.now)) view }
     {
         let ready = prepare(self.query.alloc, expression, self.names)?;
         self.evaluate(graph, row, &ready)

@@ -4,7 +4,8 @@ ghost use Rattle.pg_meaning.specs.Updates.{is_plain, are_plain, may_be_set, test
 ghost use Rattle.pg_store.specs.Stores.{pairs_of};
 ghost use Rattle.pg_value_core.specs.View.{view, values_view};
 
-use pg_value_core::{Fault, Value};
+use pg_meaning::Fault;
+use pg_value_core::Value;
 
 /// A fault where a value may not be given to a property.
 pub fn test_storable(pairs: &Vec<(&str, Value)>) -> Result<(), Fault>

@@ -10,7 +10,8 @@ use std::alloc::{AllocError, Global};
 
 /// The texts of labels, as they stand.
 pub fn label_texts<'a>(alloc: Global, labels: &'a Vec<Name>) -> Result<Vec<&'a str>, AllocError>
-    ensures { IfOk result (λ texts. texts_of texts.items ≡ meant_texts (names_view labels.now.items)) }
+    ensures { IfOk result
+        (λ texts. texts_of texts.items ≡ meant_texts (names_view labels.now.items)) }
 {
     let mut texts = Vec::with_capacity(alloc, labels.len())?;
     for label in labels {

@@ -33,7 +33,8 @@ fn walk<T: Tables>(
     first: NodeId,
     relationships: &Vec<RelId>,
 ) -> Result<Vec<u64>, AllocError>
-    ensures { IfOk result (λ ids. ids.items ≡ first.0 ∷ walk_on graph.now first.0 (relationship_ids relationships.now.items)) }
+    ensures { IfOk result (λ ids. ids.items
+        ≡ first.0 ∷ walk_on graph.now first.0 (relationship_ids relationships.now.items)) }
 {
     let mut ids = Vec::with_capacity(alloc, relationships.len())?;
     ids.push(first.0)?;
@@ -75,7 +76,8 @@ fn bind_if_named<'a>(
     variable: &'a Option<Name>,
     value: Value,
 ) -> Result<(), AllocError>
-    ensures { OnOk result (bindings_view bindings.new.items ≡ bindings_view bindings.old.items ++ named ((text_of (option_map name_view variable.now), view value) ∷ [])) }
+    ensures { OnOk result (bindings_view bindings.new.items ≡ bindings_view bindings.old.items
+        ++ named ((text_of (option_map name_view variable.now), view value) ∷ [])) }
 {
     if let Some(name) = variable {
         bindings.push((name.text.as_str(), value))?;
@@ -88,7 +90,8 @@ fn bind_relationship<'a>(
     pattern: &'a RelationshipPattern,
     id: RelId,
 ) -> Result<(), AllocError>
-    ensures { OnOk result (bindings_view bindings.new.items ≡ bindings_view bindings.old.items ++ named ((relationship_name (relationship_view pattern.now), relationship id.0) ∷ [])) }
+    ensures { OnOk result (bindings_view bindings.new.items ≡ bindings_view bindings.old.items
+        ++ named ((relationship_name (relationship_view pattern.now), relationship id.0) ∷ [])) }
 {
     match &pattern.detail {
         Some(detail) => bind_if_named(bindings, &detail.variable, Value::Rel(id)),
@@ -104,7 +107,9 @@ fn bind_hops<'a>(
     relationships: &[RelId],
     nodes: &[NodeId],
 ) -> Result<(), AllocError>
-    ensures { OnOk result (bindings_view bindings.new.items ≡ bindings_view bindings.old.items ++ named (hop_bindings (map hop_view hops.now.items) (map single (relationship_ids relationships.now)) (node_ids nodes.now))) }
+    ensures { OnOk result (bindings_view bindings.new.items
+        ≡ bindings_view bindings.old.items ++ named (hop_bindings (map hop_view hops.now.items)
+        (map single (relationship_ids relationships.now)) (node_ids nodes.now))) }
 {
     let mut bonds = relationships;
     let mut ahead = nodes;
@@ -129,7 +134,8 @@ fn bind_nodes<'a>(
     path: &'a PathPattern,
     trail: &Trail,
 ) -> Result<(), AllocError>
-    ensures { OnOk result (bindings_view bindings.new.items ≡ bindings_view bindings.old.items ++ named (node_bindings (path_view path.now) (trail_view trail.now))) }
+    ensures { OnOk result (bindings_view bindings.new.items ≡ bindings_view bindings.old.items
+        ++ named (node_bindings (path_view path.now) (trail_view trail.now))) }
 {
     match trail.nodes.split_first() {
         Some((first, others)) => {
@@ -149,7 +155,8 @@ fn bind_path<'a, T: Tables>(
     path: &'a PathPattern,
     trail: &Trail,
 ) -> Result<(), AllocError>
-    ensures { OnOk result (bindings_view bindings.new.items ≡ bindings_view bindings.old.items ++ named (path_bindings graph.now (path_view path.now) (trail_view trail.now))) }
+    ensures { OnOk result (bindings_view bindings.new.items ≡ bindings_view bindings.old.items
+        ++ named (path_bindings graph.now (path_view path.now) (trail_view trail.now))) }
 {
     if let Some(name) = &path.variable {
         bindings.push((name.text.as_str(), path_value(alloc, graph, trail)?))?;
@@ -165,7 +172,8 @@ pub(crate) fn row_bindings<'a, T: Tables>(
     paths: &'a [PathPattern],
     trails: &Vec<Trail>,
 ) -> Result<Vec<(&'a str, Value)>, AllocError>
-    ensures { IfOk result (λ bindings. bindings_view bindings.items ≡ named (match_bindings graph.now (paths_view paths.now) (map trail_view trails.now.items))) }
+    ensures { IfOk result (λ bindings. bindings_view bindings.items ≡ named
+        (match_bindings graph.now (paths_view paths.now) (map trail_view trails.now.items))) }
 {
     let mut bindings = Vec::new(alloc);
     let mut rest = trails.as_slice();

@@ -8,15 +8,16 @@ ghost use Rattle.pg_store.specs.Stores.{pairs_of};
 ghost use Rattle.pg_syntax_tree.specs.View.{properties_view};
 ghost use Rattle.pg_value_core.specs.View.{entries_view};
 ghost use Rattle.pg_write_make.specs.Outcomes.{outcome_view};
-ghost use Rattle.pg_write_make.specs.Scenes.{row_in, parameters_in, reading};
+ghost use Rattle.pg_write_make.specs.Scenes.{row_in, parameters_in};
 ghost use Rattle.pg_write_make.specs.Values.{pairs_given, pairs_wanted, element_pairs};
 
 use crate::scene::Scene;
 use crate::storable::test_storable;
 use pg_graph::Tables;
+use pg_meaning::Fault;
 use pg_store::Snapshot;
 use pg_syntax_tree::{Expression, Name, Properties};
-use pg_value_core::{Fault, Value};
+use pg_value_core::Value;
 use std::alloc::{AllocError, Global};
 use std::collections::BTreeMap;
 
@@ -27,8 +28,11 @@ fn pair_values<'a, T: Tables>(
     row: &[Value],
     pairs: &'a Vec<(Name, Expression)>,
 ) -> Result<Vec<(&'a str, Value)>, Fault>
-    ensures ok { IfOk result (λ values. pairs_given scene.now graph.now row.now (pairs_wanted pairs.now.items) ≡ Ok (pairs_of values.items)) }
-    ensures err { IfErr result (λ e. e ≢ OutOfMemory → pairs_given scene.now graph.now row.now (pairs_wanted pairs.now.items) ≡ Err e) }
+    ensures ok { IfOk result
+        (λ values. pairs_given scene.now graph.now row.now (pairs_wanted pairs.now.items)
+        ≡ Ok (pairs_of values.items)) }
+    ensures err { IfErr result (λ e. e ≢ OutOfMemory
+        → pairs_given scene.now graph.now row.now (pairs_wanted pairs.now.items) ≡ Err e) }
 {
     let mut values = Vec::with_capacity(scene.query.alloc, pairs.len())?;
     for pair in pairs {
@@ -43,7 +47,8 @@ fn copy_pairs<'a>(
     alloc: Global,
     entries: &'a BTreeMap<String, Value>,
 ) -> Result<Vec<(&'a str, Value)>, AllocError>
-    ensures { IfOk result (λ pairs. entries_of (entries_view entries.now.entries) ≡ pairs_of pairs.items) }
+    ensures { IfOk result
+        (λ pairs. entries_of (entries_view entries.now.entries) ≡ pairs_of pairs.items) }
 {
     let mut pairs = Vec::with_capacity(alloc, entries.len())?;
     for (key, value) in entries {
@@ -54,8 +59,11 @@ fn copy_pairs<'a>(
 
 // The entries of a parameter, which has to be a map.
 fn parameter_values<'a>(scene: &Scene<'a>, name: &Name) -> Result<Vec<(&'a str, Value)>, Fault>
-    ensures ok { IfOk result (λ pairs. mapping_pairs (value_at (string_bytes name.now.text) (parameters_in scene.now)) ≡ Ok (pairs_of pairs.items)) }
-    ensures err { IfErr result (λ e. e ≢ OutOfMemory → mapping_pairs (value_at (string_bytes name.now.text) (parameters_in scene.now)) ≡ Err e) }
+    ensures ok { IfOk result
+        (λ pairs. mapping_pairs (value_at (string_bytes name.now.text) (parameters_in scene.now))
+        ≡ Ok (pairs_of pairs.items)) }
+    ensures err { IfErr result (λ e. e ≢ OutOfMemory
+        → mapping_pairs (value_at (string_bytes name.now.text) (parameters_in scene.now)) ≡ Err e) }
 {
     match scene.query.parameters.get(name.text.as_str()) {
         Some(Value::Map(entries)) => Ok(copy_pairs(scene.query.alloc, entries)?),
@@ -71,8 +79,10 @@ fn element_pairs<'a, T: Tables>(
     row: &[Value],
     properties: &'a Properties,
 ) -> Result<Vec<(&'a str, Value)>, Fault>
-    ensures ok { IfOk result (λ pairs. element_pairs scene.now graph.now row.now properties.now ≡ Ok (pairs_of pairs.items)) }
-    ensures err { IfErr result (λ e. e ≢ OutOfMemory → element_pairs scene.now graph.now row.now properties.now ≡ Err e) }
+    ensures ok { IfOk result (λ pairs. element_pairs scene.now graph.now row.now properties.now
+        ≡ Ok (pairs_of pairs.items)) }
+    ensures err { IfErr result (λ e. e ≢ OutOfMemory
+        → element_pairs scene.now graph.now row.now properties.now ≡ Err e) }
 {
     match properties {
         Properties::None => Ok(Vec::new(scene.query.alloc)),
@@ -88,8 +98,12 @@ fn storable_properties<'a, T: Tables>(
     row: &[Value],
     properties: &'a Properties,
 ) -> Result<Vec<(&'a str, Value)>, Fault>
-    ensures ok { IfOk result (λ pairs. given_properties (reading (parameters_in scene.now)) graph.now (row_in scene.now row.now) (properties_view properties.now) ≡ Ok (set_keys (pairs_of pairs.items) no_entries)) }
-    ensures err { IfErr result (λ e. e ≢ OutOfMemory → given_properties (reading (parameters_in scene.now)) graph.now (row_in scene.now row.now) (properties_view properties.now) ≡ Err e) }
+    ensures ok { IfOk result (λ pairs. given_properties (parameters_in scene.now) graph.now
+        (row_in scene.now row.now) (properties_view properties.now)
+        ≡ Ok (set_keys (pairs_of pairs.items) no_entries)) }
+    ensures err { IfErr result (λ e. e ≢ OutOfMemory
+        → given_properties (parameters_in scene.now) graph.now
+        (row_in scene.now row.now) (properties_view properties.now) ≡ Err e) }
 {
     let pairs = element_pairs(scene, graph, row, properties)?;
     test_storable(&pairs)?;
@@ -103,7 +117,8 @@ pub(crate) fn outcome<'a, T: Tables>(
     row: &[Value],
     given: &'a Properties,
 ) -> Result<Result<Vec<(&'a str, Value)>, Fault>, Fault>
-    ensures kept { IfOk result (λ kept. given_properties (reading (parameters_in scene.now)) graph.now (row_in scene.now row.now) (properties_view given.now) ≡ outcome_view kept) }
+    ensures kept { IfOk result (λ kept. given_properties (parameters_in scene.now) graph.now
+        (row_in scene.now row.now) (properties_view given.now) ≡ outcome_view kept) }
     ensures err { IfErr result (λ e. e ≡ OutOfMemory) }
 {
     match storable_properties(scene, graph, row, given) {

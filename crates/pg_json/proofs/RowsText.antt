@@ -3,6 +3,7 @@ use Rattle.std.proofs.Common.{◌≡◌, ℕ, true, false, List, [], ◌∷◌, 
 use Rattle.std.specs.Fmt.{digits}
 use Rattle.std.specs.Prelude.{codes}
 use Rattle.json.specs.Print.{print, print_from}
+use Rattle.json.specs.Token.{begin_array, end_object, key, number}
 use Rattle.json.specs.Tree.{items_tokens}
 use Rattle.serde_json.specs.Data.{Data, Items, array, object, member, no_members}
 use Rattle.serde_json.specs.Written.{compact_text, items_outline, items_text}
@@ -10,9 +11,9 @@ use Rattle.serde_json.proofs.OnLiterals.{serde_json_on_literals}
 use Rattle.serde_json.proofs.Texts.{print-outline}
 use Rattle.pg_json.specs.Joined.{steps_text}
 use Rattle.pg_json.specs.Pages.{columns_begun, further_rows, rows_joined, row_text}
-use Rattle.pg_json.specs.Replies.{natural}
+use Rattle.pg_json.specs.Replies.{natural, query_data}
 use Rattle.pg_json.specs.Rows.{rows_data, rows_text}
-use Rattle.pg_json.specs.Telling.{head_tokens, rows_begun}
+use Rattle.pg_json.specs.Telling.{columns_open, rows_begun}
 
 -- ---- rows as items
 
@@ -61,10 +62,15 @@ rows_text_ended columns rows steps =
 
 -- ---- what tokens print
 
-pub columns_printed : (columns : Items) → print (head_tokens ++ items_tokens (items_outline columns)) ≡ columns_begun columns
-unfolding print_from serde_json_on_literals digits
-columns_printed columns = ap (λ t. codes "{\"code\":0,\"columns\":" ++ t) (print-outline (array columns))
-
-pub items_printed : (items : Items) → print (items_tokens (items_outline items)) ≡ items_text false items
+items_printed : (items : Items) → print (items_tokens (items_outline items)) ≡ items_text false items
 unfolding print_from
 items_printed items = ap (drop 1) (print-outline (array items))
+
+pub columns_printed : (columns : Items) → columns_open ++ print (items_tokens (items_outline columns)) ≡ columns_begun columns
+columns_printed columns = ap (λ t. columns_open ++ t) (items_printed columns)
+
+pub reply_printed : (columns : Items) (rows : List Items) (steps : ℕ)
+    → columns_open ++ print (items_tokens (items_outline columns) ++ (key (codes "rows") ∷ begin_array ∷ (items_tokens (items_outline (rows_data rows)) ++ key (codes "steps") ∷ number (decimal steps) ∷ end_object ∷ [])))
+    ≡ rows_text columns rows steps
+unfolding print_from serde_json_on_literals digits rows_text
+reply_printed columns rows steps = print-outline (query_data columns (rows_data rows) steps)

@@ -88,15 +88,6 @@ few_keys k h = by_first (bytes_eq k (codes "op")) (bytes_eq k (codes "token")) (
     by_first false true c e = absurd (cc)
     by_first false false c e = refl
 
-no_page_key : (k : List ℕ) → is_one_of later_keys k ≡ false → bytes_eq k (codes "page") ≡ false
-no_page_key k h = by_first (bytes_eq k (codes "label")) (bytes_eq k (codes "key")) (bytes_eq k (codes "page")) h
-  where
-    by_first : (a b c : Bool) → (a || (b || (c || false))) ≡ false → c ≡ false
-    by_first true b c h = absurd (cc)
-    by_first false true c h = absurd (cc)
-    by_first false false true h = absurd (cc)
-    by_first false false false h = refl
-
 no_query_key : (k : List ℕ) → is_one_of text_keys k ≡ false → bytes_eq k (codes "params") ≡ false → bytes_eq k (codes "page") ≡ false → is_one_of query_keys k ≡ false
 no_query_key k h e page = by_first (bytes_eq k (codes "op")) (bytes_eq k (codes "token")) (bytes_eq k (codes "text")) (bytes_eq k (codes "params")) (bytes_eq k (codes "page")) h e page
   where
@@ -109,14 +100,14 @@ no_query_key k h e page = by_first (bytes_eq k (codes "op")) (bytes_eq k (codes 
     by_first false false false false false h e page = refl
 
 no_index_key : (k : List ℕ) → is_one_of text_keys k ≡ false → is_one_of later_keys k ≡ false → is_one_of index_keys k ≡ false
-no_index_key k h e = by_first (bytes_eq k (codes "op")) (bytes_eq k (codes "token")) (bytes_eq k (codes "text")) (bytes_eq k (codes "label")) (bytes_eq k (codes "key")) (bytes_eq k (codes "page")) h e
+no_index_key k h e = by_first (bytes_eq k (codes "op")) (bytes_eq k (codes "token")) (bytes_eq k (codes "text")) (bytes_eq k (codes "label")) (bytes_eq k (codes "key")) h e
   where
-    by_first : (a b c l n p : Bool) → (a || (b || (c || false))) ≡ false → (l || (n || (p || false))) ≡ false → (a || (b || (l || (n || false)))) ≡ false
-    by_first true b c l n p h e = absurd (cc)
-    by_first false true c l n p h e = absurd (cc)
-    by_first false false c true n p h e = absurd (cc)
-    by_first false false c false true p h e = absurd (cc)
-    by_first false false c false false p h e = refl
+    by_first : (a b c l n : Bool) → (a || (b || (c || false))) ≡ false → (l || (n || false)) ≡ false → (a || (b || (l || (n || false)))) ≡ false
+    by_first true b c l n h e = absurd (cc)
+    by_first false true c l n h e = absurd (cc)
+    by_first false false c true n h e = absurd (cc)
+    by_first false false c false true h e = absurd (cc)
+    by_first false false c false false h e = refl
 
 no_held_key : (k : List ℕ) → is_one_of text_keys k ≡ false → bytes_eq k (codes "page") ≡ false → is_one_of page_keys k ≡ false
 no_held_key k h page = by_first (bytes_eq k (codes "op")) (bytes_eq k (codes "token")) (bytes_eq k (codes "text")) (bytes_eq k (codes "page")) h page
@@ -127,12 +118,9 @@ no_held_key k h page = by_first (bytes_eq k (codes "op")) (bytes_eq k (codes "to
     by_first false false c true h page = absurd (cc)
     by_first false false c false h page = refl
 
--- a key that is none of a text, of parameters, of a label, of a property's key or of a page
-pub no_key : (k : List ℕ) → is_one_of text_keys k ≡ false → bytes_eq k (codes "params") ≡ false → is_one_of later_keys k ≡ false → IsStrange k
-no_key k texts parameters others =
-    let page = no_page_key k others in
-    let query = no_query_key k texts parameters page in
-    (query, few_keys k query, no_index_key k texts others, no_held_key k texts page)
+-- a key that is none of a text, of parameters, of a page, of a label or of a property's key
+pub no_key : (k : List ℕ) → is_one_of text_keys k ≡ false → bytes_eq k (codes "params") ≡ false → bytes_eq k (codes "page") ≡ false → is_one_of later_keys k ≡ false → IsStrange k
+no_key k texts parameters page others = let query = no_query_key k texts parameters page in (query, few_keys k query, no_index_key k texts others, no_held_key k texts page)
 
 pub strange_member : (p : Parse json.Json) (old : Members) (n : ℕ) (k : List ℕ) (ts s : List Token) → read_key ts ≡ Some (Some k, s) → IsStrange k
     → AsksNothing (converted (λ ms. of_members ms old) (members p n ts))

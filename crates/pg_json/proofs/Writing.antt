@@ -4,19 +4,19 @@ use Rattle.std.proofs.lemmas.List.{append_assoc, length-take-le, map_push, take-
 use Rattle.std.proofs.lemmas.Fmt.{decimal_nonempty}
 use Rattle.std.specs.Prelude.{codes}
 use Rattle.json.specs.Print.{print}
-use Rattle.json.specs.Token.{Token, begin_array, end_array, string as string_token}
+use Rattle.json.specs.Token.{Token, end_object, begin_array, end_array, key as key_token, number as number_token, string as string_token}
 use Rattle.json.specs.Tree.{items_tokens}
+use Rattle.json.specs.Written.{Written}
 use Rattle.serde_json.specs.Data.{Items, no_items, item, array, string}
 use Rattle.serde_json.specs.Written.{items_outline}
 use Rattle.pg_json.specs.Joined.{IsCut, IsReply, comma_behind, steps_text, with_end, with_row}
 use Rattle.pg_json.specs.Pages.{QueryText, columns_begun, ends_from, query_text, row_text, rows_joined, rows_start}
 use Rattle.pg_json.specs.Replies.{items_of, max_reply}
 use Rattle.pg_json.specs.Rows.{rows_before, rows_data, rows_text}
-use Rattle.pg_json.specs.Telling.{HasNamed, HasNoted, HasPlain, head_tokens, names_before, plain_end, rows_begun}
+use Rattle.pg_json.specs.Telling.{HasNames, HasNoted, HasPlain, columns_open, names_before, plain_end, rows_begun, rows_ended, with_rows}
 use Rattle.pg_json.specs.declared.plain_rows.PlainRows.{PlainRows}
-use Rattle.pg_json.specs.declared.rows.ReplyColumns.{ReplyColumns}
 use Rattle.pg_json.proofs.Joined.{comma_same, ends_push, joined_push}
-use Rattle.pg_json.proofs.RowsText.{columns_printed, items_printed, rows_items, rows_text_ended}
+use Rattle.pg_json.proofs.RowsText.{columns_printed, reply_printed, rows_text_ended}
 
 names_pushed : (ns : List (List ℕ)) (n : List ℕ) (ds : Items) → names_before (ns ++ n ∷ []) ds ≡ names_before ns (item (string n) ds)
 names_pushed [] n ds = refl
@@ -40,46 +40,63 @@ two_steps a b c x xs first second = second ∙ ap (λ ts. ts ++ xs) first ∙ ap
 pub three_steps : (a b c d : List Token) (x : Token) (xs : List Token) (y : Token) → b ≡ a ++ x ∷ [] → c ≡ b ++ xs → d ≡ c ++ y ∷ [] → d ≡ a ++ x ∷ (xs ++ y ∷ [])
 three_steps a b c d x xs y first second third = third ∙ ap (λ ts. ts ++ y ∷ []) (two_steps a b c x xs first second) ∙ append_assoc a (x ∷ xs) (y ∷ [])
 
-pub one_name : (r new : ReplyColumns) (ns : List (List ℕ)) (n : List ℕ) → new.to.before ≡ r.to.before → new.to.tokens ≡ r.to.tokens ++ string_token n ∷ [] → HasNamed r ns → HasNamed new (ns ++ n ∷ [])
-one_name r new ns n same written so_far = record {
+pub one_name : (w new : Written) (ns : List (List ℕ)) (n : List ℕ) → new.before ≡ w.before → new.tokens ≡ w.tokens ++ string_token n ∷ [] → HasNames w ns → HasNames new (ns ++ n ∷ [])
+one_name w new ns n same written so_far = record {
   before = same ∙ so_far.before;
   more = λ ds.
       ap (λ ts. ts ++ items_tokens (items_outline ds)) written
-      ∙ append_assoc r.to.tokens (string_token n ∷ []) (items_tokens (items_outline ds))
+      ∙ append_assoc w.tokens (string_token n ∷ []) (items_tokens (items_outline ds))
       ∙ so_far.more (item (string n) ds)
-      ∙ ap (λ xs. head_tokens ++ items_tokens (items_outline xs)) (sym (names_pushed ns n ds));
+      ∙ ap (λ xs. items_tokens (items_outline xs)) (sym (names_pushed ns n ds));
 }
 
-pub names_ended : (r : ReplyColumns) (before text : List ℕ) (ts : List Token) (ns : List (List ℕ)) → text ≡ before ++ print ts → before ≡ r.to.before → ts ≡ r.to.tokens ++ end_array ∷ [] → HasNamed r ns
+columns_written : (w : Written) (ts : List Token) (ns : List (List ℕ)) → ts ≡ w.tokens ++ end_array ∷ [] → HasNames w ns → ts ≡ items_tokens (items_outline (items_of (map string ns)))
+columns_written w ts ns e so_far = e ∙ so_far.more no_items ∙ ap (λ xs. items_tokens (items_outline xs)) (names_data ns)
+
+pub names_ended : (w : Written) (before text : List ℕ) (ts : List Token) (ns : List (List ℕ)) → text ≡ before ++ print ts → before ≡ w.before → ts ≡ w.tokens ++ end_array ∷ [] → HasNames w ns
     → text ≡ columns_begun (items_of (map string ns))
-names_ended r before text ts ns e f g so_far =
-    e ∙ ap (λ t. t ++ print ts) (f ∙ so_far.before)
-    ∙ ap print (g ∙ so_far.more no_items ∙ ap (λ xs. head_tokens ++ items_tokens (items_outline xs)) (names_data ns)) ∙ columns_printed (items_of (map string ns))
+names_ended w before text ts ns e f g so_far =
+    e ∙ ap (λ t. t ++ print ts) (f ∙ so_far.before) ∙ ap (λ t. columns_open ++ print t) (columns_written w ts ns g so_far) ∙ columns_printed (items_of (map string ns))
 
 -- ---- rows that are not noted
 
-pub plain_row : (r new : PlainRows) (columns : Items) (rows : List Items) (row : Items) → new.columns_end ≡ r.columns_end → new.to.before ≡ r.to.before → new.to.tokens ≡ r.to.tokens ++ begin_array ∷ items_tokens (items_outline row)
+pub plain_begun : (w : Written) (new : PlainRows) (first second : List Token) (ns : List (List ℕ)) → new.to.before ≡ w.before → first ≡ w.tokens ++ end_array ∷ [] → second ≡ first ++ key_token (codes "rows") ∷ []
+    → new.to.tokens ≡ second ++ begin_array ∷ [] → HasNames w ns → HasPlain new (items_of (map string ns)) []
+plain_begun w new first second ns same ended named written so_far =
+    let columns : List Token = items_tokens (items_outline (items_of (map string ns))) in
+    let opened : List Token = key_token (codes "rows") ∷ begin_array ∷ [] in
+    record {
+      before = same ∙ so_far.before;
+      more = λ ds.
+          ap (λ ts. ts ++ items_tokens (items_outline ds)) (two_steps first second new.to.tokens (key_token (codes "rows")) (begin_array ∷ []) named written ∙ ap (λ ts. ts ++ opened) (columns_written w first ns ended so_far))
+          ∙ append_assoc columns opened (items_tokens (items_outline ds));
+    }
+
+pub plain_row : (r new : PlainRows) (columns : Items) (rows : List Items) (row : Items) → new.to.before ≡ r.to.before → new.to.tokens ≡ r.to.tokens ++ begin_array ∷ items_tokens (items_outline row)
     → HasPlain r columns rows → HasPlain new columns (rows ++ row ∷ [])
-plain_row r new columns rows row end same written so_far = record {
-  columns_end = end ∙ so_far.columns_end;
+plain_row r new columns rows row same written so_far = record {
   before = same ∙ so_far.before;
   more = λ ds.
       ap (λ ts. ts ++ items_tokens (items_outline ds)) written
       ∙ append_assoc r.to.tokens (begin_array ∷ items_tokens (items_outline row)) (items_tokens (items_outline ds))
       ∙ so_far.more (item (array row) ds)
-      ∙ ap (λ xs. items_tokens (items_outline xs)) (sym (rows_pushed rows row ds));
+      ∙ ap (with_rows columns) (sym (rows_pushed rows row ds));
 }
 
-pub plain_text : (r : PlainRows) (before text : List ℕ) (ts : List Token) (columns : Items) (rows : List Items) (steps : ℕ) → text ≡ before ++ print ts → before ≡ r.to.before → ts ≡ r.to.tokens ++ end_array ∷ []
-    → HasPlain r columns rows → text ++ steps_text steps ≡ rows_text columns rows steps
-plain_text r before text ts columns rows steps e f g so_far =
-    let inside : List ℕ = rows_joined (map row_text rows) in
-    ap (λ t. t ++ steps_text steps) (e ∙ ap (λ t. t ++ print ts) (f ∙ so_far.before)
-    ∙ ap (λ t. rows_begun columns ++ t) (ap print (g ∙ so_far.more no_items) ∙ items_printed (rows_data rows) ∙ rows_items rows)
-    ∙ sym (append_assoc (rows_begun columns) inside (codes "]")))
-    ∙ rows_text_ended columns rows steps
+plain_text : (p : PlainRows) (columns : Items) (rows : List Items) (steps : ℕ) → HasPlain p columns rows → p.to.before ++ print (p.to.tokens ++ rows_ended steps) ≡ rows_text columns rows steps
+plain_text p columns rows steps so_far =
+    let behind : List Token = key_token (codes "steps") ∷ number_token (decimal steps) ∷ end_object ∷ [] in
+    let columns_tokens : List Token = items_tokens (items_outline columns) in
+    let rows_tokens : List Token = items_tokens (items_outline (rows_data rows)) in
+    ap (λ t. t ++ print (p.to.tokens ++ rows_ended steps)) so_far.before
+    ∙ ap (λ ts. columns_open ++ print ts)
+    (sym (append_assoc p.to.tokens (end_array ∷ []) behind) ∙ ap (λ ts. ts ++ behind) (so_far.more no_items) ∙ append_assoc columns_tokens (key_token (codes "rows") ∷ begin_array ∷ rows_tokens) behind)
+    ∙ reply_printed columns rows steps
 
 -- ---- rows that are noted
+
+pub noted_begun : (q : QueryText) (columns : Items) → q.columns_end ≡ length (columns_begun columns) → q.text ≡ rows_begun columns → q.row_ends ≡ [] → HasNoted q columns []
+noted_begun q columns place text none = record { columns_end = place; text = text ∙ sym (append-nil (rows_begun columns)); row_ends = none }
 
 pub noted_row : (q : QueryText) (columns : Items) (rows : List Items) (row : Items) → HasNoted q columns rows → HasNoted (with_row q (row_text row)) columns (rows ++ row ∷ [])
 noted_row q columns rows row so_far =
@@ -150,33 +167,30 @@ noted_reply text ended whole ends columns_end steps fits bracket all within cut 
       };
     }
 
-pub plain_reply : (before printed ended whole ends : List ℕ) (columns_end steps : ℕ) → steps < 2 ^ 64 → columns_end + 9 ≤ length before → ended ≡ before ++ printed → whole ≡ ended ++ steps_text steps → length whole ≤ max_reply
-    → ends ≡ [] → IsReply whole columns_end ends
-plain_reply before printed ended whole ends columns_end steps fits begun first all within none =
-    let long : 11 ≤ length (steps_text steps) = steps_length steps fits in
-    let front : length ended ≡ length before + length printed = ap length first ∙ length-append before printed in
-    let both : length whole ≡ length ended + length (steps_text steps) = ap length all ∙ length-append ended (steps_text steps) in
-    let rest : length (drop (columns_end + 9) whole) ≡ length whole - (columns_end + 9) = length-drop (columns_end + 9) whole in
+pub plain_reply : (before printed whole ends : List ℕ) → 20 ≤ length before → whole ≡ before ++ printed → length whole ≤ max_reply → ends ≡ [] → IsReply whole 0 ends
+plain_reply before printed whole ends begun all within none =
+    let both : length whole ≡ length before + length printed = ap length all ∙ length-append before printed in
+    let rest : length (drop 9 whole) ≡ length whole - 9 = length-drop 9 whole in
     record {
-      behind = drop (columns_end + 9) whole;
+      behind = drop 9 whole;
       last = omega arith;
       within = within;
-      cut = record { before = take (columns_end + 9) whole; rows = []; parts = sym (take-append-drop (columns_end + 9) whole); begins = length-take-le (columns_end + 9) whole (omega arith); ends = none };
+      cut = record { before = take 9 whole; rows = []; parts = sym (take-append-drop 9 whole); begins = length-take-le 9 whole (omega arith); ends = none };
     }
 
-pub same_reply : (q : QueryText) (notes : Bool) (columns : Items) (rows : List Items) (steps : ℕ) → q.text ≡ rows_text columns rows steps → q.columns_end ≡ length (columns_begun columns)
+pub same_reply : (q : QueryText) (notes : Bool) (columns : Items) (rows : List Items) (steps : ℕ) → q.text ≡ rows_text columns rows steps → q.columns_end ≡ cond notes (length (columns_begun columns)) 0
     → q.row_ends ≡ cond notes (ends_from (rows_start columns) (map row_text rows)) [] → q ≡ query_text notes columns rows steps
 same_reply q notes columns rows steps first second third =
     ap (λ t. record { text = t; columns_end = q.columns_end; row_ends = q.row_ends }) first
     ∙ ap (λ n. record { text = rows_text columns rows steps; columns_end = n; row_ends = q.row_ends }) second
-    ∙ ap (λ es. record { text = rows_text columns rows steps; columns_end = length (columns_begun columns); row_ends = es }) third
+    ∙ ap (λ es. record { text = rows_text columns rows steps; columns_end = cond notes (length (columns_begun columns)) 0; row_ends = es }) third
 
 pub plain_whole : (p : PlainRows) (notes : Bool) (columns : Items) (rows : List Items) (steps : ℕ) → notes ≡ false → HasPlain p columns rows → plain_end p steps ≡ query_text notes columns rows steps
 plain_whole p notes columns rows steps plain so_far =
-    same_reply (plain_end p steps) notes columns rows steps
-    (plain_text p p.to.before _ (p.to.tokens ++ end_array ∷ []) columns rows steps refl refl refl so_far) so_far.columns_end (sym (ap (λ b. cond b (ends_from (rows_start columns) (map row_text rows)) []) plain))
+    same_reply (plain_end p steps) notes columns rows steps (plain_text p columns rows steps so_far)
+    (sym (ap (λ b. cond b (length (columns_begun columns)) 0) plain)) (sym (ap (λ b. cond b (ends_from (rows_start columns) (map row_text rows)) []) plain))
 
 pub noted_whole : (q : QueryText) (notes : Bool) (columns : Items) (rows : List Items) (steps : ℕ) → notes ≡ true → HasNoted q columns rows → with_end q steps ≡ query_text notes columns rows steps
 noted_whole q notes columns rows steps noted so_far =
-    same_reply (with_end q steps) notes columns rows steps
-    (noted_text q columns rows steps so_far) so_far.columns_end (so_far.row_ends ∙ sym (ap (λ b. cond b (ends_from (rows_start columns) (map row_text rows)) []) noted))
+    same_reply (with_end q steps) notes columns rows steps (noted_text q columns rows steps so_far) (so_far.columns_end ∙ sym (ap (λ b. cond b (length (columns_begun columns)) 0) noted))
+    (so_far.row_ends ∙ sym (ap (λ b. cond b (ends_from (rows_start columns) (map row_text rows)) []) noted))

@@ -1,12 +1,14 @@
--- The members of an object that has texts and parameters at the keys of a query, or of a request that shows a token alone. For private clauses.
-use Rattle.std.specs.Prelude.{◌≡◌, ℕ, ⊤, Bool, true, false, MatchOption, option_and_then, unwrap_or, List, [], ◌∷◌, Option, None, Some, option_map, if◌then◌else◌, codes}
+-- The members of an object that has texts, a page and parameters at the keys of a query, or of a request that shows a token and at most a page. For private clauses.
+use Rattle.std.specs.Prelude.{◌≡◌, ◌≤◌, ℕ, pos, ⊤, Bool, true, false, MatchOption, option_and_then, unwrap_or, List, [], ◌∷◌, Option, None, Some, option_map, if◌then◌else◌, codes}
 use Rattle.std.specs.Str.{bytes_eq}
 use Rattle.serde_json.specs.Data.{Data, Members, no_members, member, string, object}
 use Rattle.pg_meaning.specs.Measure.{greatest_depth}
+use Rattle.pg_meaning.specs.Meters.{greatest_id}
 use Rattle.pg_meaning.specs.Value.{Entries, no_entries}
 use Rattle.pg_value_core.specs.View.{entries_view}
 use Rattle.pg_json.specs.Given.{EntriesAreGiven, members_giving}
-use Rattle.pg_json.specs.Requests.{Request, query, status, begin, commit, rollback, request_of, object_request}
+use Rattle.pg_json.specs.Replies.{natural}
+use Rattle.pg_json.specs.Requests.{Request, query, status, begin, commit, rollback, pull, drop_page, if_between, greatest_page, request_of, object_request}
 use Rattle.pg_json.specs.declared.fields.Fields.{Fields}
 use Rattle.pg_json.specs.declared.fields.Glance.{Glance}
 use Rattle.pg_json.specs.declared.fields.Glance.TheVariants.{Fitting, NoRequest}
@@ -16,9 +18,9 @@ use Rattle.json.specs.Token.{Token}
 abbrev pub text_keys : List (List ℕ)
 text_keys = codes "op" ∷ codes "token" ∷ codes "text" ∷ []
 
--- the keys of index requests and of pages; a body with one is not told at a glance
+-- the keys of index requests; a body with one is not told at a glance
 abbrev pub later_keys : List (List ℕ)
-later_keys = codes "label" ∷ codes "key" ∷ codes "page" ∷ []
+later_keys = codes "label" ∷ codes "key" ∷ []
 
 abbrev pub with_data : List ℕ → Option Data → Members → Members
 with_data k None ms = ms
@@ -30,19 +32,28 @@ with_text k s ms = with_data k (option_map string s) ms
 abbrev pub object_giving : Entries → Data
 object_giving es = object (members_giving es)
 
-abbrev pub members_of_fields : (op : Option (List ℕ)) (parameters : Option Entries) (text token : Option (List ℕ)) → Members
-members_of_fields op parameters text token =
-    with_text (codes "op") op (with_data (codes "params") (option_map object_giving parameters) (with_text (codes "text") text (with_text (codes "token") token no_members)))
+abbrev pub members_of_fields : (op : Option (List ℕ)) (page : Option ℕ) (parameters : Option Entries) (text token : Option (List ℕ)) → Members
+members_of_fields op page parameters text token =
+    with_text (codes "op") op (with_data (codes "page") (option_map natural page) (with_data (codes "params") (option_map object_giving parameters)
+    (with_text (codes "text") text (with_text (codes "token") token no_members))))
 
 abbrev pub parameters_of : Fields → Option Entries
 parameters_of f = option_map (λ m. entries_view m.entries) f.parameters
 
 abbrev pub members_with : Fields → Members
-members_with f = members_of_fields (option_map (λ s. s.now) f.op) (parameters_of f) (option_map (λ s. s.now) f.text) (option_map (λ s. s.now) f.token)
+members_with f = members_of_fields (option_map (λ s. s.now) f.op) f.page (parameters_of f) (option_map (λ s. s.now) f.text) (option_map (λ s. s.now) f.token)
 
 -- the parameters, where there are any, are such as an object gives
 abbrev pub HaveDepth : Option Entries → Type 0
 HaveDepth parameters = MatchOption parameters ⊤ (EntriesAreGiven greatest_depth)
+
+-- the page, where there is one, is a number of 63 bits
+abbrev pub HasSign : Option ℕ → Type 0
+HasSign page = MatchOption page ⊤ (λ n. n ≤ greatest_id)
+
+-- the fields are such as a body gives
+abbrev pub FieldsAreGiven : Fields → Type 0
+FieldsAreGiven f = HaveDepth (parameters_of f) × HasSign f.page
 
 -- the request of this name that shows a token alone
 abbrev pub asked_alone : (op token : List ℕ) → Option Request
@@ -53,20 +64,36 @@ asked_alone op token =
     else if bytes_eq op (codes "rollback") then Some (rollback token)
     else None
 
--- the request at such texts and parameters
-abbrev pub asked : (op : Option (List ℕ)) (parameters : Option Entries) (text token : Option (List ℕ)) → Option Request
-asked None parameters text token = None
-asked (Some op) parameters text None = None
-asked (Some op) (Some es) None (Some token) = None
-asked (Some op) None None (Some token) = asked_alone op token
-asked (Some op) parameters (Some text) (Some token) = if bytes_eq op (codes "query") then Some (query token text (unwrap_or parameters no_entries) None) else None
+-- the request of this name that shows a token and at most a page
+abbrev pub asked_by_page : (op : List ℕ) (page : Option ℕ) (token : List ℕ) → Option Request
+asked_by_page op None token = asked_alone op token
+asked_by_page op (Some n) token =
+    if bytes_eq op (codes "pull") then Some (pull token n)
+    else if bytes_eq op (codes "drop_page") then Some (drop_page token n)
+    else None
+
+-- how many rows a page is to have, where there is to be one
+abbrev pub size_given : Option ℕ → Option (Option ℕ)
+size_given None = Some None
+size_given (Some n) = option_map Some (if_between 1 greatest_page (pos n))
+
+abbrev pub asked_for_query : (token text : List ℕ) (parameters : Option Entries) (page : Option ℕ) → Option Request
+asked_for_query token text parameters page = option_map (λ size. query token text (unwrap_or parameters no_entries) size) (size_given page)
+
+-- the request at such texts, page and parameters
+abbrev pub asked : (op : Option (List ℕ)) (page : Option ℕ) (parameters : Option Entries) (text token : Option (List ℕ)) → Option Request
+asked None page parameters text token = None
+asked (Some op) page parameters text None = None
+asked (Some op) page (Some es) None (Some token) = None
+asked (Some op) page None None (Some token) = asked_by_page op page token
+asked (Some op) page parameters (Some text) (Some token) = if bytes_eq op (codes "query") then asked_for_query token text parameters page else None
 
 abbrev pub asked_with : Fields → Option Request
-asked_with f = asked (option_map (λ s. s.now) f.op) (parameters_of f) (option_map (λ s. s.now) f.text) (option_map (λ s. s.now) f.token)
+asked_with f = asked (option_map (λ s. s.now) f.op) f.page (parameters_of f) (option_map (λ s. s.now) f.text) (option_map (λ s. s.now) f.token)
 
 -- what a glance tells of the data that a text is
 abbrev pub IsGlance : Option Data → Glance → Type 0
-IsGlance d (Fitting f) = (d ≡ Some (object (members_with f))) × HaveDepth (parameters_of f)
+IsGlance d (Fitting f) = (d ≡ Some (object (members_with f))) × FieldsAreGiven f
 IsGlance d NoRequest = option_and_then request_of d ≡ None
 
 -- whatever members there are, they are no request

@@ -44,7 +44,7 @@ abbrev pub ends_from : (start : ℕ) → List (List ℕ) → List ℕ
 ends_from start [] = []
 ends_from start (row ∷ rows) = (start + length row) ∷ ends_from (start + length row + 1) rows
 
--- a query's reply, the place where its columns end, and where each row ends if that was noted
+-- a query's reply, and the places where its columns and each row end, if these were noted
 pub record QueryText : Type 0 where
   pub text : List ℕ
   pub columns_end : ℕ
@@ -57,6 +57,6 @@ rows_start columns = length (columns_begun columns) + 9
 abbrev pub query_text : (notes : Bool) → (columns : Items) → (rows : List Items) → (steps : ℕ) → QueryText
 query_text notes columns rows steps = record {
   text = rows_text columns rows steps;
-  columns_end = length (columns_begun columns);
+  columns_end = cond notes (length (columns_begun columns)) 0;
   row_ends = cond notes (ends_from (rows_start columns) (map row_text rows)) [];
 }

@@ -1,11 +1,11 @@
 -- A query's reply while its columns are named and its rows are told.
 use Rattle.std.specs.Prelude.{◌≡◌, ℕ, Bool, true, false, List, [], ◌∷◌, ◌++◌, length, map, codes, decimal}
-use Rattle.json.specs.Token.{Token, begin_object, begin_array, end_array, key as key_token, number as number_token}
+use Rattle.json.specs.Token.{Token, end_object, begin_array, end_array, key as key_token, number as number_token}
 use Rattle.json.specs.Print.{print}
 use Rattle.json.specs.Tree.{items_tokens}
+use Rattle.json.specs.Written.{Written}
 use Rattle.serde_json.specs.Data.{Items, item, string}
 use Rattle.serde_json.specs.Written.{items_outline}
-use Rattle.pg_json.specs.Joined.{steps_text}
 use Rattle.pg_json.specs.Pages.{QueryText, columns_begun, ends_from, row_text, rows_joined, rows_start}
 use Rattle.pg_json.specs.Rows.{rows_before}
 use Rattle.pg_json.specs.declared.plain_rows.PlainRows.{PlainRows}
@@ -14,9 +14,9 @@ use Rattle.pg_json.specs.declared.rows.Rows.{Rows}
 use Rattle.pg_json.specs.declared.rows.Rows.TheVariants.{Plain, Noted}
 use Rattle.pg_json.specs.declared.rows.RowsReply.{RowsReply}
 
--- up to the first column
-abbrev pub head_tokens : List Token
-head_tokens = begin_object ∷ key_token (codes "code") ∷ number_token (decimal 0) ∷ key_token (codes "columns") ∷ begin_array ∷ []
+-- what stands before the first column
+abbrev pub columns_open : List ℕ
+columns_open = codes "{\"code\":0,\"columns\":["
 
 -- the names, and what follows them
 abbrev pub names_before : List (List ℕ) → Items → Items
@@ -24,23 +24,33 @@ names_before [] ds = ds
 names_before (n ∷ ns) ds = item (string n) (names_before ns ds)
 
 -- with any further columns behind it, what is written is a beginning of the whole
+pub record HasNames (w : Written) (names : List (List ℕ)) : Type 0 where
+  pub before : w.before ≡ columns_open
+  pub more : (ds : Items) → w.tokens ++ items_tokens (items_outline ds) ≡ items_tokens (items_outline (names_before names ds))
+
 pub record HasNamed (r : ReplyColumns) (names : List (List ℕ)) : Type 0 where
-  pub before : r.to.before ≡ []
-  pub more : (ds : Items) → r.to.tokens ++ items_tokens (items_outline ds) ≡ head_tokens ++ items_tokens (items_outline (names_before names ds))
+  pub so_far : HasNames r.to names
 
 -- what stands before the first row
 abbrev pub rows_begun : Items → List ℕ
 rows_begun columns = columns_begun columns ++ codes ",\"rows\":["
 
+-- the columns, and the rows with what follows them
+abbrev pub with_rows : Items → Items → List Token
+with_rows columns rows = items_tokens (items_outline columns) ++ key_token (codes "rows") ∷ begin_array ∷ items_tokens (items_outline rows)
+
 -- with any further rows behind it, what is written is a beginning of the whole
 pub record HasPlain (p : PlainRows) (columns : Items) (rows : List Items) : Type 0 where
-  pub columns_end : p.columns_end ≡ length (columns_begun columns)
-  pub before : p.to.before ≡ rows_begun columns
-  pub more : (ds : Items) → p.to.tokens ++ items_tokens (items_outline ds) ≡ items_tokens (items_outline (rows_before rows ds))
+  pub before : p.to.before ≡ columns_open
+  pub more : (ds : Items) → p.to.tokens ++ items_tokens (items_outline ds) ≡ with_rows columns (rows_before rows ds)
+
+-- what ends a reply behind its rows
+abbrev pub rows_ended : ℕ → List Token
+rows_ended steps = end_array ∷ key_token (codes "steps") ∷ number_token (decimal steps) ∷ end_object ∷ []
 
 -- the reply that ends behind these rows
 abbrev pub plain_end : PlainRows → ℕ → QueryText
-plain_end p steps = record { text = p.to.before ++ print (p.to.tokens ++ end_array ∷ []) ++ steps_text steps; columns_end = p.columns_end; row_ends = [] }
+plain_end p steps = record { text = p.to.before ++ print (p.to.tokens ++ rows_ended steps); columns_end = 0; row_ends = [] }
 
 -- the text up to the rows so far, and where they end
 pub record HasNoted (q : QueryText) (columns : Items) (rows : List Items) : Type 0 where
@@ -50,7 +60,7 @@ pub record HasNoted (q : QueryText) (columns : Items) (rows : List Items) : Type
 
 abbrev pub AreWritten : Rows → (notes : Bool) → (columns : Items) → (rows : List Items) → Type 0
 AreWritten (Plain p) notes columns rows = (notes ≡ false) × HasPlain p columns rows
-AreWritten (Noted q) notes columns rows = (notes ≡ true) × HasNoted q columns rows
+AreWritten (Noted q) notes columns rows = (notes ≡ true) × HasNoted q.value columns rows
 
 -- the columns and the rows so far are written, and where these end if that is noted
 pub record HasWritten (r : RowsReply) (notes : Bool) (columns : Items) (rows : List Items) : Type 0 where

@@ -54,6 +54,7 @@ impl ReplyBytes {
         }
     }
 
+    /// The bytes of the reply's JSON text, without the length that a frame begins with.
     pub fn as_slice(&self) -> &[u8]
         ensures value { result.now ≡ self.now }
         ensures within { length self.now ≤ max_page }

@@ -1,14 +1,16 @@
 //! What stands at a request's keys, read token by token.
-ghost use Rattle.std.specs.Prelude.{◌≡◌, ◌≢◌, length, true, None, Some, IfOk, IfErr, codes};
+ghost use Rattle.std.specs.Prelude.{◌≡◌, ◌≢◌, length, true, None, Some, IfOk, IfErr, codes, option_map};
 ghost use Rattle.json.specs.Json.{members, value};
 ghost use Rattle.serde_json.specs.Data.{string, put};
 ghost use Rattle.serde_json.specs.Read.{read, of_members, converted};
 ghost use Rattle.pg_json.specs.Bodies.{request_view};
-ghost use Rattle.pg_json.specs.Fields.{members_with, object_giving, parameters_of, asked_alone, asked_with, later_keys, text_keys, HaveDepth, IsGlance, IsGlanceOfMembers};
+ghost use Rattle.pg_json.specs.Fields.{members_with, object_giving, parameters_of, asked_alone, asked_by_page, asked_for_query, asked_with, later_keys, text_keys, FieldsAreGiven, IsGlance, IsGlanceOfMembers};
+ghost use Rattle.pg_json.specs.Replies.{natural};
 ghost use Rattle.pg_json.specs.Requests.{is_one_of};
 ghost use Rattle.pg_value_core.specs.View.{entries_view};
 ghost use Rattle.pg_meaning.specs.declared.fault.Fault.TheVariants.{BadRequest, OutOfMemory};
 
+use crate::page::{page_size, read_page};
 use crate::parameters::read_parameters;
 use crate::request::RequestBody;
 use crate::unread::Unread;
@@ -18,10 +20,11 @@ use pg_value_core::{Parameters, Value};
 use std::alloc::Global;
 use std::collections::BTreeMap;
 
-/// The last text at each key, and the last parameters.
+/// The last text at each key, and the last page and parameters.
 #[derive(Drop)]
 pub(crate) struct Fields<'a> {
     pub(crate) op: Option<&'a str>,
+    pub(crate) page: Option<u64>,
     pub(crate) parameters: Option<BTreeMap<String, Value>>,
     pub(crate) text: Option<&'a str>,
     pub(crate) token: Option<&'a str>,
@@ -51,6 +54,7 @@ pub(crate) fn look<'a>(
     };
     let mut found = Fields {
         op: None,
+        page: None,
         parameters: None,
         text: None,
         token: None,
@@ -70,8 +74,10 @@ fn take_fields<'a>(
     reader: &mut Reader<'a>,
     found: &mut Fields<'a>,
 ) -> Result<bool, Unread>
-    ensures members { IfOk result (IsGlanceOfMembers (converted (λ ms. of_members ms (members_with found.old)) (members (value 126) (length reader.old) reader.old)) reader.new found.new) }
-    ensures depth { HaveDepth (parameters_of found.old) → HaveDepth (parameters_of found.new) }
+    ensures members { IfOk result
+        (IsGlanceOfMembers (converted (λ ms. of_members ms (members_with found.old))
+        (members (value 126) (length reader.old) reader.old)) reader.new found.new) }
+    ensures given { FieldsAreGiven found.old → FieldsAreGiven found.new }
 {
     'members: loop {
         let key = match reader.next_key() {
@@ -81,6 +87,10 @@ fn take_fields<'a>(
         };
         if key == "params" {
             put_parameters(found, read_parameters(alloc, reader)?);
+            continue 'members;
+        }
+        if key == "page" {
+            put_page(found, read_page(reader)?);
             continue 'members;
         }
         if is_later_key(key) {
@@ -100,7 +110,7 @@ fn take_fields<'a>(
 fn is_later_key(key: &str) -> bool
     ensures { result ≡ is_one_of later_keys key.now }
 {
-    key == "label" || key == "key" || key == "page"
+    key == "label" || key == "key"
 }
 
 fn is_text_key(key: &str) -> bool
@@ -112,8 +122,10 @@ fn is_text_key(key: &str) -> bool
 /// Puts the text at the key.
 fn put_text<'a>(found: &mut Fields<'a>, key: &str, text: &'a str)
     requires { is_one_of text_keys key.now ≡ true }
-    ensures texts { members_with found.new ≡ put key.now (string text.now) (members_with found.old) }
+    ensures texts { members_with found.new
+        ≡ put key.now (string text.now) (members_with found.old) }
     ensures parameters { parameters_of found.new ≡ parameters_of found.old }
+    ensures page { found.new.page ≡ found.old.page }
 {
     if key == "op" {
         found.op = Some(text);
@@ -125,10 +137,22 @@ fn put_text<'a>(found: &mut Fields<'a>, key: &str, text: &'a str)
 }
 
 fn put_parameters(found: &mut Fields<'_>, parameters: BTreeMap<String, Value>)
-    ensures members { members_with found.new ≡ put (codes "params") (object_giving (entries_view parameters.entries)) (members_with found.old) }
+    ensures members { members_with found.new
+        ≡ put (codes "params")
+        (object_giving (entries_view parameters.entries)) (members_with found.old) }
     ensures parameters { parameters_of found.new ≡ Some (entries_view parameters.entries) }
+    ensures page { found.new.page ≡ found.old.page }
 {
     found.parameters = Some(parameters);
+}
+
+fn put_page(found: &mut Fields<'_>, page: u64)
+    ensures members { members_with found.new
+        ≡ put (codes "page") (natural page) (members_with found.old) }
+    ensures parameters { parameters_of found.new ≡ parameters_of found.old }
+    ensures page { found.new.page ≡ Some page }
+{
+    found.page = Some(page);
 }
 
 /// The request that has these fields.
@@ -139,6 +163,7 @@ pub(crate) fn request_with(alloc: Global, found: Fields<'_>) -> Result<RequestBo
 {
     let Fields {
         op: Some(op),
+        page,
         parameters,
         text,
         token: Some(token),
@@ -147,14 +172,61 @@ pub(crate) fn request_with(alloc: Global, found: Fields<'_>) -> Result<RequestBo
         return Err(Fault::BadRequest);
     };
     match text {
-        Some(text) if op == "query" => Ok(RequestBody::Query {
-            token: String::from_str(alloc, token)?,
-            text: String::from_str(alloc, text)?,
-            parameters: Parameters::from_map(parameters.unwrap_or(BTreeMap::new(alloc))),
-            page: None,
-        }),
-        None if parameters.is_none() => request_alone(alloc, op, token),
+        Some(text) if op == "query" => query_with(alloc, token, text, parameters, page),
+        None if parameters.is_none() => request_by_page(alloc, op, token, page),
         _ => Err(Fault::BadRequest),
+    }
+}
+
+fn query_with(
+    alloc: Global,
+    token: &str,
+    text: &str,
+    parameters: Option<BTreeMap<String, Value>>,
+    page: Option<u64>,
+) -> Result<RequestBody, Fault>
+    ensures ok { IfOk result (λ r. asked_for_query token.now text.now
+        (option_map (λ m. entries_view m.entries) parameters) page ≡ Some (request_view r)) }
+    ensures kind { IfErr result (λ e. e ≢ OutOfMemory → e ≡ BadRequest) }
+    ensures refused { IfErr result (λ e. e ≢ OutOfMemory → asked_for_query token.now text.now
+        (option_map (λ m. entries_view m.entries) parameters) page ≡ None) }
+{
+    let page = page_size(page)?;
+    Ok(RequestBody::Query {
+        token: String::from_str(alloc, token)?,
+        text: String::from_str(alloc, text)?,
+        parameters: Parameters::from_map(parameters.unwrap_or(BTreeMap::new(alloc))),
+        page,
+    })
+}
+
+/// The request of this name that shows a token and at most the number of held rows.
+fn request_by_page(
+    alloc: Global,
+    op: &str,
+    token: &str,
+    page: Option<u64>,
+) -> Result<RequestBody, Fault>
+    ensures ok { IfOk result (λ r. asked_by_page op.now page token.now ≡ Some (request_view r)) }
+    ensures kind { IfErr result (λ e. e ≢ OutOfMemory → e ≡ BadRequest) }
+    ensures refused { IfErr result (λ e. e ≢ OutOfMemory
+        → asked_by_page op.now page token.now ≡ None) }
+{
+    let Some(page) = page else {
+        return request_alone(alloc, op, token);
+    };
+    if op == "pull" {
+        Ok(RequestBody::Pull {
+            token: String::from_str(alloc, token)?,
+            page,
+        })
+    } else if op == "drop_page" {
+        Ok(RequestBody::DropPage {
+            token: String::from_str(alloc, token)?,
+            page,
+        })
+    } else {
+        Err(Fault::BadRequest)
     }
 }
 

@@ -7,6 +7,7 @@ mod held_rows;
 mod laws;
 mod noted_rows;
 mod number;
+mod page;
 mod parameters;
 mod pieces;
 mod plain_rows;

@@ -34,32 +34,39 @@ impl Model for NotedRows {
 
     ghost coded = { query_text_code };
 
-    ghost view = { λ n. record { text = n.text.items; columns_end = n.columns_end; row_ends = n.row_ends.items } };
+    ghost view = { λ n.
+        record { text = n.text.items; columns_end = n.columns_end; row_ends = n.row_ends.items } };
 
     ghost invariant = { λ n. IsCut n.text.items n.columns_end n.row_ends.items [] };
 }
 
 impl NotedRows {
-    ghost use Rattle.std.specs.Prelude.{◌≡◌, ◌≢◌, ◌+◌, ◌<◌, ◌≤◌, ◌++◌, [], List, ℕ, codes, length, IfOk, IfErr, OnOk};
+    ghost use Rattle.std.specs.Prelude.{◌≡◌, ◌≢◌, ◌<◌, ◌≤◌, ◌++◌, [], List, ℕ, length, map, IfOk, IfErr, OnOk};
     ghost use Rattle.pg_json.specs.Joined.{comma_behind, with_end, with_row};
     ghost use Rattle.pg_json.specs.Pages.{row_text};
-    ghost use Rattle.pg_json.specs.Replies.{outs, max_reply};
+    ghost use Rattle.pg_json.specs.Replies.{items_of, outs, max_reply};
+    ghost use Rattle.pg_json.specs.Telling.{HasNames, HasNoted};
     ghost use Rattle.pg_meaning.specs.declared.fault.Fault.TheVariants.{OutOfMemory, ReplyTooLong};
+    ghost use Rattle.serde_json.specs.Data.{string};
 
-    /// No row yet. The text ends with what stands before the first.
-    pub(crate) fn new(text: Vec<u8>, columns_end: usize) -> NotedRows
-        requires { length text.items ≡ columns_end + 9 }
-        ensures text { result.text ≡ text.items }
-        ensures columns_end { result.columns_end ≡ columns_end }
-        ensures row_ends { result.row_ends ≡ [] }
+    /// No row yet, behind the columns that were written.
+    pub(crate) fn begin(to: Writer) -> Result<Box<NotedRows>, AllocError>
+        ensures { (names : List (List ℕ)) → HasNames to names
+            → IfOk result (λ rows. HasNoted rows.value (items_of (map string names)) []) }
     {
+        let mut to = to;
+        to.end_array()?;
+        let mut text = to.into_inner();
         let alloc = *text.allocator();
-        NotedRows {
+        let columns_end = text.len();
+        text.extend_from_slice(",\"rows\":[".as_bytes())?;
+        let rows = NotedRows {
             text,
             columns_end,
             row_ends: Vec::new(alloc),
             scratch: Vec::new(alloc),
-        }
+        };
+        Ok(Box::new(alloc, rows)?)
     }
 
     pub(crate) fn push(&mut self, row: &[Out]) -> Result<(), AllocError>

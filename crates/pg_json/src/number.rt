@@ -1,8 +1,10 @@
 //! Whole numbers as JSON writes them.
-ghost use Rattle.std.specs.Prelude.{◌≡◌, ◌==◌, ◌<◌, IsTrue, IfSome, Some, length, slice_index, true, false};
+ghost use Rattle.std.specs.Prelude.{◌≡◌, ◌==◌, ◌<◌, ◌≤◌, IsTrue, IfSome, Some, length, slice_index, true, false};
 ghost use Rattle.fast_float.specs.Text.{minus};
+ghost use Rattle.serde_json.specs.Data.{unsigned};
 ghost use Rattle.serde_json.specs.Find.{as_i64, of_integer};
 ghost use Rattle.serde_json.specs.Read.{number_of, number_from};
+ghost use Rattle.pg_meaning.specs.Meters.{greatest_id};
 
 use fast_float::Numeral;
 
@@ -16,6 +18,19 @@ pub(crate) fn whole_number(text: &str) -> Option<i64>
         below_zero(&Numeral::scan(&bytes[1..]))
     } else {
         from_zero(&Numeral::scan(bytes))
+    }
+}
+
+/// The whole number of 63 bits that a number's text writes, if it is one.
+pub(crate) fn natural_number(text: &str) -> Option<u64>
+    ensures read { IfSome result (λ n. number_of text.now ≡ Some (unsigned n)) }
+    ensures within { IfSome result (λ n. n ≤ greatest_id) }
+{
+    let number = whole_number(text)?;
+    if number < 0 {
+        None
+    } else {
+        Some(number as u64)
     }
 }
 

@@ -26,7 +26,8 @@ pub(crate) fn read_parameters(
     alloc: Global,
     reader: &mut Reader<'_>,
 ) -> Result<BTreeMap<String, Value>, Unread>
-    ensures ok { IfOk result (λ m. converted of_json (value 126 reader.old) ≡ Some (object_giving (entries_view m.entries), reader.new)) }
+    ensures ok { IfOk result (λ m. converted of_json (value 126 reader.old)
+        ≡ Some (object_giving (entries_view m.entries), reader.new)) }
     ensures given { IfOk result (λ m. EntriesAreGiven greatest_depth (entries_view m.entries)) }
     ensures shorter { OnOk result (length reader.new < length reader.old) }
 {
@@ -40,7 +41,8 @@ pub(crate) fn read_parameters(
 /// The value that comes next, if it may be a parameter's and is at most so deep.
 #[cycle(read)]
 fn read(alloc: Global, reader: &mut Reader<'_>, room: usize) -> Result<Value, Unread>
-    ensures ok { IfOk result (λ v. converted of_json (value (room + 61) reader.old) ≡ Some (data_giving (view v), reader.new)) }
+    ensures ok { IfOk result (λ v. converted of_json (value (room + 61) reader.old)
+        ≡ Some (data_giving (view v), reader.new)) }
     ensures given { IfOk result (λ v. IsGiven room (view v)) }
     ensures shorter { OnOk result (length reader.new < length reader.old) }
 {
@@ -64,7 +66,9 @@ fn read(alloc: Global, reader: &mut Reader<'_>, room: usize) -> Result<Value, Un
 
 /// The value that one token is.
 fn scalar(alloc: Global, token: Token<'_>) -> Result<Value, Unread>
-    ensures ok { (depth : ℕ) (rest : List tokens.Token) → IfOk result (λ v. converted of_json (value depth (token_of token.entry ∷ rest)) ≡ Some (data_giving (view v), rest)) }
+    ensures ok { (depth : ℕ) (rest : List tokens.Token)
+        → IfOk result (λ v. converted of_json (value depth (token_of token.entry ∷ rest))
+        ≡ Some (data_giving (view v), rest)) }
     ensures given { (room : ℕ) → 0 < room → IfOk result (λ v. IsGiven room (view v)) }
 {
     match token {
@@ -85,7 +89,9 @@ fn read_members(
     reader: &mut Reader<'_>,
     room: usize,
 ) -> Result<BTreeMap<String, Value>, Unread>
-    ensures ok { IfOk result (λ m. converted (λ ms. of_members ms no_members) (members (value (room + 61)) (length reader.old) reader.old) ≡ Some (members_giving (entries_view m.entries), reader.new)) }
+    ensures ok { IfOk result (λ m. converted (λ ms. of_members ms no_members)
+        (members (value (room + 61)) (length reader.old) reader.old)
+        ≡ Some (members_giving (entries_view m.entries), reader.new)) }
     ensures given { IfOk result (λ m. EntriesAreGiven room (entries_view m.entries)) }
     ensures shorter { OnOk result (length reader.new < length reader.old) }
 {

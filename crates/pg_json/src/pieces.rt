@@ -3,12 +3,22 @@ ghost use Rattle.std.specs.Prelude.{None, take, drop, ◌≡◌, ◌≢◌, ◌+
 ghost use Rattle.pg_json.specs.Joined.{steps_text};
 ghost use Rattle.pg_json.specs.Pages.{number_or_null};
 ghost use Rattle.pg_json.specs.Replies.{max_reply};
+ghost use Rattle.pg_json.specs.Telling.{columns_open};
 ghost use Rattle.pg_meaning.specs.declared.fault.Fault.TheVariants.{OutOfMemory, ReplyTooLong};
 
 use crate::bytes::MAX_REPLY;
 use json::Writer;
 use pg_meaning::Fault;
-use std::alloc::AllocError;
+use std::alloc::{AllocError, Global};
+
+/// What stands before the first column.
+pub(crate) fn head(alloc: Global) -> Result<Vec<u8>, AllocError>
+    ensures { IfOk result (λ v. v.items ≡ columns_open) }
+{
+    let mut text = Vec::with_capacity(alloc, 128)?;
+    text.extend_from_slice("{\"code\":0,\"columns\":[".as_bytes())?;
+    Ok(text)
+}
 
 /// The text with a page's number behind it, or `null`.
 pub(crate) fn with_page(text: Vec<u8>, page: Option<u64>) -> Result<Vec<u8>, AllocError>
@@ -37,7 +47,16 @@ pub(crate) fn with_steps(text: Vec<u8>, steps: u64) -> Result<Vec<u8>, Fault>
     ensures long { IfErr result (λ e. e ≢ OutOfMemory
         → max_reply < length (text.items ++ steps_text steps)) }
 {
-    let text = steps_behind(text, steps)?;
+    within_limit(steps_behind(text, steps)?)
+}
+
+/// The text, unless it is longer than 16 MiB.
+pub(crate) fn within_limit(text: Vec<u8>) -> Result<Vec<u8>, Fault>
+    ensures ok { IfOk result (λ v. v.items ≡ text.items) }
+    ensures within { IfOk result (λ v. length v.items ≤ max_reply) }
+    ensures err { IfErr result (λ e. e ≡ ReplyTooLong) }
+    ensures long { IfErr result (λ e. max_reply < length text.items) }
+{
     if text.len() > MAX_REPLY {
         return Err(Fault::ReplyTooLong);
     }

@@ -1,9 +1,9 @@
 //! The rows of a reply that is given whole.
-ghost use Rattle.std.specs.Prelude.{◌+◌, ◌≤◌, length};
+ghost use Rattle.std.specs.Prelude.{◌≤◌, length};
 
-use crate::pieces::with_steps;
+use crate::pieces::within_limit;
 use crate::query_reply::QueryReply;
-use crate::value::write_items;
+use crate::value::{write_items, write_natural};
 use json::Writer;
 use pg_meaning::Fault;
 use pg_value_core::Out;
@@ -13,28 +13,28 @@ use std::alloc::AllocError;
 #[derive(Drop)]
 pub(crate) struct PlainRows {
     to: Writer,
-    columns_end: usize,
-    ghost begun: { columns_end + 9 ≤ length to.before },
+    ghost begun: { 20 ≤ length to.before },
 }
 
 impl PlainRows {
-    ghost use Rattle.std.specs.Prelude.{◌≡◌, ◌≢◌, ◌+◌, ◌<◌, ◌≤◌, ◌∷◌, [], ◌++◌, length, List, IfOk, IfErr, OnOk};
-    ghost use Rattle.pg_json.specs.Replies.{outs, max_reply};
-    ghost use Rattle.pg_json.specs.Telling.{HasPlain, plain_end};
+    ghost use Rattle.std.specs.Prelude.{◌≡◌, ◌≢◌, ◌<◌, ◌≤◌, ◌∷◌, [], ◌++◌, length, map, List, ℕ, IfOk, IfErr, OnOk};
+    ghost use Rattle.json.specs.Print.{print};
+    ghost use Rattle.pg_json.specs.Replies.{items_of, outs, max_reply};
+    ghost use Rattle.pg_json.specs.Telling.{HasNames, HasPlain, plain_end, rows_ended};
     ghost use Rattle.pg_meaning.specs.declared.fault.Fault.TheVariants.{OutOfMemory, ReplyTooLong};
-    ghost use Rattle.serde_json.specs.Data.{Items};
+    ghost use Rattle.serde_json.specs.Data.{Items, string};
 
-    /// No row yet. The text ends with what stands before the first.
-    pub(crate) fn new(text: Vec<u8>, columns_end: usize) -> PlainRows
-        requires { length text.items ≡ columns_end + 9 }
-        ensures columns_end { result.columns_end ≡ columns_end }
-        ensures before { result.to.before ≡ text.items }
-        ensures tokens { result.to.tokens ≡ [] }
+    /// No row yet, behind the columns that were written.
+    pub(crate) fn begin(to: Writer) -> Result<PlainRows, AllocError>
+        requires { 20 ≤ length to.before }
+        ensures { (names : List (List ℕ)) → HasNames to names
+            → IfOk result (λ rows. HasPlain rows (items_of (map string names)) []) }
     {
-        PlainRows {
-            to: Writer::new(text),
-            columns_end,
-        }
+        let mut to = to;
+        to.end_array()?;
+        to.key("rows")?;
+        to.begin_array()?;
+        Ok(PlainRows { to })
     }
 
     pub(crate) fn push(&mut self, row: &[Out]) -> Result<(), AllocError>
@@ -51,15 +51,23 @@ impl PlainRows {
         ensures long { IfErr result (λ e. e ≢ OutOfMemory
             → max_reply < length ((plain_end self steps).text)) }
     {
-        let mut to = self.to;
-        to.end_array()?;
-        let text = to.into_inner();
+        let text = within_limit(self.ended(steps)?)?;
         let row_ends = Vec::new(*text.allocator());
-        let text = with_steps(text, steps)?;
         Ok(QueryReply {
             text,
-            columns_end: self.columns_end,
+            columns_end: 0,
             row_ends,
         })
+    }
+
+    fn ended(self, steps: u64) -> Result<Vec<u8>, AllocError>
+        ensures { IfOk result
+            (λ v. v.items ≡ self.to.before ++ print (self.to.tokens ++ rows_ended steps)) }
+    {
+        let mut to = self.to;
+        to.end_array()?;
+        write_natural("steps", steps, &mut to)?;
+        to.end_object()?;
+        Ok(to.into_inner())
     }
 }

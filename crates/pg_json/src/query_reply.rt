@@ -11,7 +11,7 @@ use crate::pieces::{part, with_page};
 use std::alloc::{AllocError, Global};
 use std::marker::Model;
 
-/// A query's reply, with the place where its columns end, and where each of its rows ends if that was noted.
+/// A query's reply, with the places where its columns and each of its rows end, if these were noted.
 #[derive(Drop)]
 pub struct QueryReply {
     pub(crate) text: Vec<u8>,
@@ -28,7 +28,8 @@ impl Model for QueryReply {
 
     ghost coded = { query_text_code };
 
-    ghost view = { λ q. record { text = q.text.items; columns_end = q.columns_end; row_ends = q.row_ends.items } };
+    ghost view = { λ q.
+        record { text = q.text.items; columns_end = q.columns_end; row_ends = q.row_ends.items } };
 
     ghost invariant = { λ q. IsReply q.text.items q.columns_end q.row_ends.items };
 }
@@ -55,8 +56,10 @@ impl QueryReply {
         size: usize,
         page: Option<u64>,
     ) -> Result<ReplyBytes, AllocError>
-        ensures { (columns : Items) (rows : List Items) (steps : ℕ) → self.now ≡ query_text true columns rows steps
-            → IfOk result (λ bytes. bytes ≡ paged_text columns page (take size (map row_text rows)) steps) }
+        ensures { (columns : Items) (rows : List Items) (steps : ℕ)
+            → self.now ≡ query_text true columns rows steps
+            → IfOk result
+            (λ bytes. bytes ≡ paged_text columns page (take size (map row_text rows)) steps) }
     {
         let rows_end = self.end_of(size.min(self.row_ends.len()));
         let last_end = self.end_of(self.row_ends.len());
@@ -68,7 +71,8 @@ impl QueryReply {
 
     /// The rows after the first `size`, in memory of their own.
     pub fn rest(&self, alloc: Global, size: usize) -> Result<HeldRows, AllocError>
-        ensures { (columns : Items) (rows : List Items) (steps : ℕ) → self.now ≡ query_text true columns rows steps
+        ensures { (columns : Items) (rows : List Items) (steps : ℕ)
+            → self.now ≡ query_text true columns rows steps
             → IfOk result (λ held. held ≡ drop size (map row_text rows)) }
     {
         if self.row_ends.len() <= size {

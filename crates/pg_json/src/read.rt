@@ -11,6 +11,7 @@ ghost use Rattle.pg_value_core.specs.View.{entries_view};
 ghost use Rattle.pg_meaning.specs.declared.fault.Fault.TheVariants.{BadRequest, OutOfMemory};
 
 use crate::fields::{Glance, look, request_with};
+use crate::page::GREATEST_PAGE;
 use crate::parameters::MAX_DEPTH;
 use crate::request::RequestBody;
 use crate::scratch::RequestScratch;
@@ -21,8 +22,6 @@ use pg_value_core::{Parameters, Value as Parameter};
 use serde_json::{Map, Value};
 use std::alloc::Global;
 use std::collections::BTreeMap;
-
-const GREATEST_PAGE: u64 = 10_000;
 
 const GREATEST_NUMBER: u64 = 9_223_372_036_854_775_807;
 
@@ -50,9 +49,11 @@ pub fn read_request(
 
 /// The request that a text is, whatever its members are.
 fn read_slowly(alloc: Global, text: &str) -> Result<RequestBody, Fault>
-    ensures ok { IfOk result (λ r. option_and_then request_of (read text.now) ≡ Some (request_view r)) }
+    ensures ok { IfOk result
+        (λ r. option_and_then request_of (read text.now) ≡ Some (request_view r)) }
     ensures kind { IfErr result (λ e. e ≢ OutOfMemory → e ≡ BadRequest) }
-    ensures refused { IfErr result (λ e. e ≢ OutOfMemory → option_and_then request_of (read text.now) ≡ None) }
+    ensures refused { IfErr result (λ e. e ≢ OutOfMemory
+        → option_and_then request_of (read text.now) ≡ None) }
 {
     match Value::from_str(alloc, text) {
         Ok(value) => match value {
@@ -65,9 +66,11 @@ fn read_slowly(alloc: Global, text: &str) -> Result<RequestBody, Fault>
 }
 
 fn object_from(alloc: Global, members: Map<String, Value>) -> Result<RequestBody, Fault>
-    ensures ok { IfOk result (λ r. object_request (members_view members.entries) ≡ Some (request_view r)) }
+    ensures ok { IfOk result
+        (λ r. object_request (members_view members.entries) ≡ Some (request_view r)) }
     ensures kind { IfErr result (λ e. e ≢ OutOfMemory → e ≡ BadRequest) }
-    ensures refused { IfErr result (λ e. e ≢ OutOfMemory → object_request (members_view members.entries) ≡ None) }
+    ensures refused { IfErr result (λ e. e ≢ OutOfMemory
+        → object_request (members_view members.entries) ≡ None) }
 {
     match operation_of(&members) {
         Some(Operation::Query) => query_from(alloc, members),
@@ -123,7 +126,8 @@ enum Operation {
 
 /// The operation that the members name.
 fn operation_of(members: &Map<String, Value>) -> Option<Operation>
-    ensures { option_and_then (λ o. asked_by o (members_view members.now.entries)) result ≡ object_request (members_view members.now.entries) }
+    ensures { option_and_then (λ o. asked_by o (members_view members.now.entries)) result
+        ≡ object_request (members_view members.now.entries) }
 {
     let op = text_at(members, "op")?;
     if op == "query" {
@@ -150,9 +154,11 @@ fn operation_of(members: &Map<String, Value>) -> Option<Operation>
 }
 
 fn query_from(alloc: Global, mut members: Map<String, Value>) -> Result<RequestBody, Fault>
-    ensures ok { IfOk result (λ r. with_only query_keys (members_view members.entries) (query_of (members_view members.entries)) ≡ Some (request_view r)) }
+    ensures ok { IfOk result (λ r. with_only query_keys (members_view members.entries)
+        (query_of (members_view members.entries)) ≡ Some (request_view r)) }
     ensures kind { IfErr result (λ e. e ≢ OutOfMemory → e ≡ BadRequest) }
-    ensures refused { IfErr result (λ e. e ≢ OutOfMemory → with_only query_keys (members_view members.entries) (query_of (members_view members.entries)) ≡ None) }
+    ensures refused { IfErr result (λ e. e ≢ OutOfMemory → with_only query_keys
+        (members_view members.entries) (query_of (members_view members.entries)) ≡ None) }
 {
     if !has_only(&members, &["op", "token", "text", "params", "page"]) {
         return Err(Fault::BadRequest);
@@ -175,9 +181,11 @@ fn query_from(alloc: Global, mut members: Map<String, Value>) -> Result<RequestB
 
 /// How many rows a page is to have, at its key, which may be absent.
 fn page_given(given: Option<&Value>) -> Result<Option<u64>, Fault>
-    ensures ok { IfOk result (λ p. spec_page_given (option_map (λ v. view v.now) given.entry) ≡ Some p) }
+    ensures ok { IfOk result
+        (λ p. spec_page_given (option_map (λ v. view v.now) given.entry) ≡ Some p) }
     ensures kind { IfErr result (λ e. e ≡ BadRequest) }
-    ensures refused { IfErr result (λ e. spec_page_given (option_map (λ v. view v.now) given.entry) ≡ None) }
+    ensures refused { IfErr result
+        (λ e. spec_page_given (option_map (λ v. view v.now) given.entry) ≡ None) }
 {
     let Some(value) = given else {
         return Ok(None);
@@ -209,9 +217,11 @@ fn parameters_from(
     alloc: Global,
     given: Option<&Value>,
 ) -> Result<BTreeMap<String, Parameter>, Fault>
-    ensures ok { IfOk result (λ m. parameters_given (option_map (λ v. view v.now) given.entry) ≡ Some (entries_view m.entries)) }
+    ensures ok { IfOk result (λ m. parameters_given (option_map (λ v. view v.now) given.entry)
+        ≡ Some (entries_view m.entries)) }
     ensures kind { IfErr result (λ e. e ≢ OutOfMemory → e ≡ BadRequest) }
-    ensures refused { IfErr result (λ e. e ≢ OutOfMemory → parameters_given (option_map (λ v. view v.now) given.entry) ≡ None) }
+    ensures refused { IfErr result (λ e. e ≢ OutOfMemory
+        → parameters_given (option_map (λ v. view v.now) given.entry) ≡ None) }
 {
     match given {
         None => Ok(BTreeMap::new(alloc)),
@@ -221,9 +231,11 @@ fn parameters_from(
 
 /// The parameters that an object's members give.
 fn parameters_in(alloc: Global, given: &Value) -> Result<BTreeMap<String, Parameter>, Fault>
-    ensures ok { IfOk result (λ m. option_and_then spec_parameters_in (as_object (view given.now)) ≡ Some (entries_view m.entries)) }
+    ensures ok { IfOk result (λ m. option_and_then spec_parameters_in (as_object (view given.now))
+        ≡ Some (entries_view m.entries)) }
     ensures kind { IfErr result (λ e. e ≢ OutOfMemory → e ≡ BadRequest) }
-    ensures refused { IfErr result (λ e. e ≢ OutOfMemory → option_and_then spec_parameters_in (as_object (view given.now)) ≡ None) }
+    ensures refused { IfErr result (λ e. e ≢ OutOfMemory
+        → option_and_then spec_parameters_in (as_object (view given.now)) ≡ None) }
 {
     match given {
         Value::Object(members) => entries_from(alloc, members, MAX_DEPTH),
@@ -233,9 +245,13 @@ fn parameters_in(alloc: Global, given: &Value) -> Result<BTreeMap<String, Parame
 
 /// The token of a request that names nothing else.
 fn token_from(mut members: Map<String, Value>) -> Result<String, Fault>
-    ensures ok { (request : List ℕ → Request) → IfOk result (λ token. with_only token_keys (members_view members.entries) (of_token request (members_view members.entries)) ≡ Some (request (string_bytes token))) }
+    ensures ok { (request : List ℕ → Request)
+        → IfOk result (λ token. with_only token_keys (members_view members.entries)
+        (of_token request (members_view members.entries)) ≡ Some (request (string_bytes token))) }
     ensures kind { IfErr result (λ e. e ≡ BadRequest) }
-    ensures refused { (request : List ℕ → Request) → IfErr result (λ e. with_only token_keys (members_view members.entries) (of_token request (members_view members.entries)) ≡ None) }
+    ensures refused { (request : List ℕ → Request)
+        → IfErr result (λ e. with_only token_keys
+        (members_view members.entries) (of_token request (members_view members.entries)) ≡ None) }
 {
     if !has_only(&members, &["op", "token"]) {
         return Err(Fault::BadRequest);
@@ -255,9 +271,14 @@ struct IndexNames {
 }
 
 fn index_names_from(mut members: Map<String, Value>) -> Result<IndexNames, Fault>
-    ensures ok { (request : List ℕ → List ℕ → List ℕ → Request) → IfOk result (λ n. with_only index_keys (members_view members.entries) (index_of request (members_view members.entries)) ≡ Some (request (string_bytes n.token) (string_bytes n.label) (string_bytes n.key))) }
+    ensures ok { (request : List ℕ → List ℕ → List ℕ → Request)
+        → IfOk result (λ n. with_only index_keys
+        (members_view members.entries) (index_of request (members_view members.entries))
+        ≡ Some (request (string_bytes n.token) (string_bytes n.label) (string_bytes n.key))) }
     ensures kind { IfErr result (λ e. e ≡ BadRequest) }
-    ensures refused { (request : List ℕ → List ℕ → List ℕ → Request) → IfErr result (λ e. with_only index_keys (members_view members.entries) (index_of request (members_view members.entries)) ≡ None) }
+    ensures refused { (request : List ℕ → List ℕ → List ℕ → Request)
+        → IfErr result (λ e. with_only index_keys
+        (members_view members.entries) (index_of request (members_view members.entries)) ≡ None) }
 {
     if !has_only(&members, &["op", "token", "label", "key"]) {
         return Err(Fault::BadRequest);
@@ -282,9 +303,14 @@ struct HeldPage {
 }
 
 fn held_page_from(mut members: Map<String, Value>) -> Result<HeldPage, Fault>
-    ensures ok { (request : List ℕ → ℕ → Request) → IfOk result (λ p. with_only page_keys (members_view members.entries) (of_page request (members_view members.entries)) ≡ Some (request (string_bytes p.token) p.page)) }
+    ensures ok { (request : List ℕ → ℕ → Request)
+        → IfOk result (λ p. with_only page_keys
+        (members_view members.entries) (of_page request (members_view members.entries))
+        ≡ Some (request (string_bytes p.token) p.page)) }
     ensures kind { IfErr result (λ e. e ≡ BadRequest) }
-    ensures refused { (request : List ℕ → ℕ → Request) → IfErr result (λ e. with_only page_keys (members_view members.entries) (of_page request (members_view members.entries)) ≡ None) }
+    ensures refused { (request : List ℕ → ℕ → Request)
+        → IfErr result (λ e. with_only page_keys
+        (members_view members.entries) (of_page request (members_view members.entries)) ≡ None) }
 {
     if !has_only(&members, &["op", "token", "page"]) {
         return Err(Fault::BadRequest);
@@ -302,29 +328,37 @@ fn held_page_from(mut members: Map<String, Value>) -> Result<HeldPage, Fault>
 }
 
 fn text_at<'a>(members: &'a Map<String, Value>, name: &str) -> Option<&'a str>
-    ensures { option_map (λ t. t.now) result ≡ spec_text_at name.now (members_view members.now.entries) }
+    ensures { option_map (λ t. t.now) result
+        ≡ spec_text_at name.now (members_view members.now.entries) }
 {
     find(members, name)?.as_str()
 }
 
 fn find<'a>(members: &'a Map<String, Value>, name: &str) -> Option<&'a Value>
-    ensures { option_map (λ v. view v.now) result ≡ get_member name.now (members_view members.now.entries) }
+    ensures { option_map (λ v. view v.now) result
+        ≡ get_member name.now (members_view members.now.entries) }
 {
     members.get(name)
 }
 
 /// The text at a key, if it has at least one byte.
 fn take_name(members: &mut Map<String, Value>, name: &str) -> Option<String>
-    ensures text { option_map string_bytes result ≡ name_at name.now (members_view members.old.entries) }
-    ensures others { (k : List ℕ) → k ≢ name.now → get_member k (members_view members.new.entries) ≡ get_member k (members_view members.old.entries) }
+    ensures text { option_map string_bytes result
+        ≡ name_at name.now (members_view members.old.entries) }
+    ensures others { (k : List ℕ) → k ≢ name.now
+        → get_member k (members_view members.new.entries)
+        ≡ get_member k (members_view members.old.entries) }
 {
     let text = take_text(members, name)?;
     if text.is_empty() { None } else { Some(text) }
 }
 
 fn take_text(members: &mut Map<String, Value>, name: &str) -> Option<String>
-    ensures text { option_map string_bytes result ≡ spec_text_at name.now (members_view members.old.entries) }
-    ensures others { (k : List ℕ) → k ≢ name.now → get_member k (members_view members.new.entries) ≡ get_member k (members_view members.old.entries) }
+    ensures text { option_map string_bytes result
+        ≡ spec_text_at name.now (members_view members.old.entries) }
+    ensures others { (k : List ℕ) → k ≢ name.now
+        → get_member k (members_view members.new.entries)
+        ≡ get_member k (members_view members.old.entries) }
 {
     match take(members, name)? {
         Value::String(text) => Some(text),
@@ -333,14 +367,18 @@ fn take_text(members: &mut Map<String, Value>, name: &str) -> Option<String>
 }
 
 fn take(members: &mut Map<String, Value>, name: &str) -> Option<Value>
-    ensures value { option_map view result ≡ get_member name.now (members_view members.old.entries) }
-    ensures others { (k : List ℕ) → k ≢ name.now → get_member k (members_view members.new.entries) ≡ get_member k (members_view members.old.entries) }
+    ensures value { option_map view result
+        ≡ get_member name.now (members_view members.old.entries) }
+    ensures others { (k : List ℕ) → k ≢ name.now
+        → get_member k (members_view members.new.entries)
+        ≡ get_member k (members_view members.old.entries) }
 {
     members.remove(name)
 }
 
 fn has_only(members: &Map<String, Value>, names: &[&str]) -> bool
-    ensures { result ≡ spec_has_only (map (λ n. n.now) names.now) (members_view members.now.entries) }
+    ensures { result
+        ≡ spec_has_only (map (λ n. n.now) names.now) (members_view members.now.entries) }
 {
     for (key, _) in members.iter() {
         if !is_one_of(names, key.as_str()) {

@@ -92,7 +92,8 @@ fn room_behind_key(room: usize, key: &str) -> usize
 
 /// A relationship's keys, brackets and numbers.
 fn room_behind_ids(room: usize, id: u64, start: u64, end: u64) -> usize
-    ensures { result ≡ room - (48 + length (decimal id) + length (decimal start) + length (decimal end)) }
+    ensures { result
+        ≡ room - (48 + length (decimal id) + length (decimal start) + length (decimal end)) }
 {
     room.saturating_sub(48 + digits(id) + digits(start) + digits(end))
 }

@@ -10,6 +10,7 @@ pub struct RequestScratch {
 }
 
 impl RequestScratch {
+    /// An empty scratch. It grows with the largest body that was read, and keeps that memory.
     pub fn new(alloc: Global) -> RequestScratch {
         RequestScratch {
             places: Scratch::new(alloc),

@@ -31,7 +31,8 @@ pub fn write_status(alloc: Global, status: &TenantStatus) -> Result<ReplyBytes, 
     ensures ok { IfOk result (λ bytes. bytes ≡ tenant_text status.now) }
     ensures within { IfOk result (λ bytes. length bytes ≤ max_reply) }
     ensures kind { IfErr result (λ e. e ≢ OutOfMemory → e ≡ ReplyTooLong) }
-    ensures long { IfErr result (λ e. e ≢ OutOfMemory → max_reply < length (tenant_text status.now)) }
+    ensures long { IfErr result (λ e. e ≢ OutOfMemory
+        → max_reply < length (tenant_text status.now)) }
 {
     let text = text_of(alloc, status)?;
     if text.len() > MAX_REPLY {
@@ -49,7 +50,8 @@ fn text_of(alloc: Global, status: &TenantStatus) -> Result<Vec<u8>, AllocError>
 }
 
 fn write_body(status: &TenantStatus, to: &mut Writer) -> Result<(), AllocError>
-    ensures ok { OnOk result (to.new.tokens ≡ to.old.tokens ++ json_tokens (outline (tenant_data status.now))) }
+    ensures ok { OnOk result
+        (to.new.tokens ≡ to.old.tokens ++ json_tokens (outline (tenant_data status.now))) }
     ensures before { to.new.before ≡ to.old.before }
 {
     to.begin_object()?;
@@ -81,7 +83,8 @@ fn write_pair(
     other: u64,
     to: &mut Writer,
 ) -> Result<(), AllocError>
-    ensures ok { OnOk result (to.new.tokens ≡ to.old.tokens ++ key_token first.now ∷ number_token (decimal one) ∷ key_token second.now ∷ number_token (decimal other) ∷ []) }
+    ensures ok { OnOk result (to.new.tokens ≡ to.old.tokens ++ key_token first.now
+        ∷ number_token (decimal one) ∷ key_token second.now ∷ number_token (decimal other) ∷ []) }
     ensures before { to.new.before ≡ to.old.before }
 {
     write_natural(first, one, to)?;
@@ -89,7 +92,8 @@ fn write_pair(
 }
 
 fn write_indexes(indexes: &[(String, String)], to: &mut Writer) -> Result<(), AllocError>
-    ensures ok { OnOk result (to.new.tokens ≡ to.old.tokens ++ key_token (codes "indexes") ∷ json_tokens (outline (array (index_items indexes.now)))) }
+    ensures ok { OnOk result (to.new.tokens ≡ to.old.tokens
+        ++ key_token (codes "indexes") ∷ json_tokens (outline (array (index_items indexes.now)))) }
     ensures before { to.new.before ≡ to.old.before }
 {
     to.key("indexes")?;
@@ -101,7 +105,8 @@ fn write_indexes(indexes: &[(String, String)], to: &mut Writer) -> Result<(), Al
 }
 
 fn write_index(label: &str, key: &str, to: &mut Writer) -> Result<(), AllocError>
-    ensures ok { OnOk result (to.new.tokens ≡ to.old.tokens ++ json_tokens (outline (index_data label.now key.now))) }
+    ensures ok { OnOk result
+        (to.new.tokens ≡ to.old.tokens ++ json_tokens (outline (index_data label.now key.now))) }
     ensures before { to.new.before ≡ to.old.before }
 {
     to.begin_array()?;

@@ -14,7 +14,8 @@ use std::collections::BTreeMap;
 
 #[cycle(write)]
 fn write(value: &Out, to: &mut Writer) -> Result<(), AllocError>
-    ensures ok { OnOk result (to.new.tokens ≡ to.old.tokens ++ json_tokens (outline (data_of value.now))) }
+    ensures ok { OnOk result
+        (to.new.tokens ≡ to.old.tokens ++ json_tokens (outline (data_of value.now))) }
     ensures before { to.new.before ≡ to.old.before }
 {
     match value {
@@ -54,7 +55,8 @@ fn write(value: &Out, to: &mut Writer) -> Result<(), AllocError>
 
 #[cycle(write)]
 pub(crate) fn write_items(items: &[Out], to: &mut Writer) -> Result<(), AllocError>
-    ensures ok { OnOk result (to.new.tokens ≡ to.old.tokens ++ json_tokens (outline (array (outs items.now)))) }
+    ensures ok { OnOk result
+        (to.new.tokens ≡ to.old.tokens ++ json_tokens (outline (array (outs items.now)))) }
     ensures before { to.new.before ≡ to.old.before }
 {
     to.begin_array()?;
@@ -66,7 +68,8 @@ pub(crate) fn write_items(items: &[Out], to: &mut Writer) -> Result<(), AllocErr
 
 #[cycle(write)]
 fn write_members(members: &BTreeMap<String, Out>, to: &mut Writer) -> Result<(), AllocError>
-    ensures ok { OnOk result (to.new.tokens ≡ to.old.tokens ++ json_tokens (outline (object (named_outs members.now.entries)))) }
+    ensures ok { OnOk result (to.new.tokens
+        ≡ to.old.tokens ++ json_tokens (outline (object (named_outs members.now.entries)))) }
     ensures before { to.new.before ≡ to.old.before }
 {
     to.begin_object()?;
@@ -79,7 +82,8 @@ fn write_members(members: &BTreeMap<String, Out>, to: &mut Writer) -> Result<(),
 
 /// What stands before a node's properties.
 fn begin_node(id: NodeId, labels: &[String], to: &mut Writer) -> Result<(), AllocError>
-    ensures ok { OnOk result (to.new.tokens ≡ to.old.tokens ++ node_begun id.0 (text_items labels.now)) }
+    ensures ok { OnOk result
+        (to.new.tokens ≡ to.old.tokens ++ node_begun id.0 (text_items labels.now)) }
     ensures before { to.new.before ≡ to.old.before }
 {
     to.begin_object()?;
@@ -111,7 +115,8 @@ fn end_rel(start: NodeId, kind: &str, to: &mut Writer) -> Result<(), AllocError>
 }
 
 fn begin_path(to: &mut Writer) -> Result<(), AllocError>
-    ensures ok { OnOk result (to.new.tokens ≡ to.old.tokens ++ begin_object ∷ key_token (codes "$path") ∷ []) }
+    ensures ok { OnOk result
+        (to.new.tokens ≡ to.old.tokens ++ begin_object ∷ key_token (codes "$path") ∷ []) }
     ensures before { to.new.before ≡ to.old.before }
 {
     to.begin_object()?;
@@ -119,7 +124,8 @@ fn begin_path(to: &mut Writer) -> Result<(), AllocError>
 }
 
 fn write_labels(labels: &[String], to: &mut Writer) -> Result<(), AllocError>
-    ensures ok { OnOk result (to.new.tokens ≡ to.old.tokens ++ key_token (codes "labels") ∷ json_tokens (outline (array (text_items labels.now)))) }
+    ensures ok { OnOk result (to.new.tokens ≡ to.old.tokens
+        ++ key_token (codes "labels") ∷ json_tokens (outline (array (text_items labels.now)))) }
     ensures before { to.new.before ≡ to.old.before }
 {
     to.key("labels")?;
@@ -127,7 +133,8 @@ fn write_labels(labels: &[String], to: &mut Writer) -> Result<(), AllocError>
 }
 
 fn write_texts(texts: &[String], to: &mut Writer) -> Result<(), AllocError>
-    ensures ok { OnOk result (to.new.tokens ≡ to.old.tokens ++ json_tokens (outline (array (text_items texts.now)))) }
+    ensures ok { OnOk result
+        (to.new.tokens ≡ to.old.tokens ++ json_tokens (outline (array (text_items texts.now)))) }
     ensures before { to.new.before ≡ to.old.before }
 {
     to.begin_array()?;
@@ -138,7 +145,8 @@ fn write_texts(texts: &[String], to: &mut Writer) -> Result<(), AllocError>
 }
 
 pub(crate) fn write_natural(name: &str, n: u64, to: &mut Writer) -> Result<(), AllocError>
-    ensures ok { OnOk result (to.new.tokens ≡ to.old.tokens ++ key_token name.now ∷ number_token (decimal n) ∷ []) }
+    ensures ok { OnOk result
+        (to.new.tokens ≡ to.old.tokens ++ key_token name.now ∷ number_token (decimal n) ∷ []) }
     ensures before { to.new.before ≡ to.old.before }
 {
     to.key(name)?;

@@ -17,7 +17,8 @@ use std::collections::BTreeMap;
 fn value_from(alloc: Global, given: &Data, room: usize) -> Result<Value, Fault>
     ensures ok { IfOk result (λ v. value_within room (data_view given.now) ≡ Some (view v)) }
     ensures kind { IfErr result (λ e. e ≢ OutOfMemory → e ≡ BadRequest) }
-    ensures refused { IfErr result (λ e. e ≢ OutOfMemory → value_within room (data_view given.now) ≡ None) }
+    ensures refused { IfErr result (λ e. e ≢ OutOfMemory
+        → value_within room (data_view given.now) ≡ None) }
 {
     if room == 0 {
         return Err(Fault::BadRequest);
@@ -49,9 +50,11 @@ pub(crate) fn entries_from(
     members: &Map<String, Data>,
     room: usize,
 ) -> Result<BTreeMap<String, Value>, Fault>
-    ensures ok { IfOk result (λ m. entries_within room (members_view members.now.entries) ≡ Some (entries_view m.entries)) }
+    ensures ok { IfOk result (λ m. entries_within room (members_view members.now.entries)
+        ≡ Some (entries_view m.entries)) }
     ensures kind { IfErr result (λ e. e ≢ OutOfMemory → e ≡ BadRequest) }
-    ensures refused { IfErr result (λ e. e ≢ OutOfMemory → entries_within room (members_view members.now.entries) ≡ None) }
+    ensures refused { IfErr result (λ e. e ≢ OutOfMemory
+        → entries_within room (members_view members.now.entries) ≡ None) }
 {
     let mut entries = BTreeMap::new(alloc);
     for (key, given) in members.iter() {
@@ -68,7 +71,8 @@ fn enter(
     name: &str,
     value: Value,
 ) -> Result<(), AllocError>
-    ensures { OnOk result (entries_view entries.new.entries ≡ put name.now (view value) (entries_view entries.old.entries)) }
+    ensures { OnOk result (entries_view entries.new.entries
+        ≡ put name.now (view value) (entries_view entries.old.entries)) }
 {
     put_entry(entries, String::from_str(alloc, name)?, value)
 }
@@ -79,7 +83,8 @@ pub(crate) fn put_entry(
     name: String,
     value: Value,
 ) -> Result<(), AllocError>
-    ensures { OnOk result (entries_view entries.new.entries ≡ put (string_bytes name) (view value) (entries_view entries.old.entries)) }
+    ensures { OnOk result (entries_view entries.new.entries
+        ≡ put (string_bytes name) (view value) (entries_view entries.old.entries)) }
 {
     drop(entries.insert(name, value)?);
     Ok(())

@@ -72,9 +72,10 @@ impl Pages {
         size: usize,
         reply: QueryReply,
     ) -> Result<ReplyBytes, Fault>
-        ensures { (columns : Items) (rows : List Items) (steps : ℕ) → reply ≡ query_text true columns rows steps
-            → GivesHeld result (first_page self.old max_held (string_bytes token) size columns (map row_text rows) steps)
-            self.old self.new }
+        ensures { (columns : Items) (rows : List Items) (steps : ℕ)
+            → reply ≡ query_text true columns rows steps
+            → GivesHeld result (first_page self.old max_held
+            (string_bytes token) size columns (map row_text rows) steps) self.old self.new }
     {
         let count = reply.row_count();
         if count <= size {

@@ -21,7 +21,7 @@ returns-in-None c =
     let told : converted (λ ms. of_members ms no_members) (members (value 126) (length rest) rest) ≡ Some (members_with f, c.take_fields.new.reader) = rw c.if-not-branch.false at c.in_ok-take_fields.ensures.members in
     let found : converted (λ ms. of_members ms no_members) (members (value 126) (length rest) rest) ≡ Some (members_with f, []) = told ∙ ap (λ r. Some (members_with f, r)) ended in
     let opened = ap (converted of_json) (ap (value 127) all ∙ value-begin_object 127 rest (omega arith)) ∙ converted-object (members (value 126) (length rest) rest) in
-    (whole_read (value 127 (tokens c.args.text.now)) _ (opened ∙ ap (parse_map object) found), c.take_fields.ensures.depth tt)
+    (whole_read (value 127 (tokens c.args.text.now)) _ (opened ∙ ap (parse_map object) found), c.take_fields.ensures.given (tt, tt))
 
 pub returns : goal.returns
 returns c =

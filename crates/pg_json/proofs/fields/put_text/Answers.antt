@@ -6,17 +6,17 @@ use Rattle.pg_json.proofs.fields.put_text.Goals as goal
 pub returns-then-eq-clause-texts : goal.returns-then-eq-clause-texts
 returns-then-eq-clause-texts c =
     let f = c.args.found.now in
-    op_put c.args.key.now c.args.text.now (option_map (λ s. s.now) f.op) (parameters_of f) (option_map (λ s. s.now) f.text) (option_map (λ s. s.now) f.token) c.if-eq.ensures
+    op_put c.args.key.now c.args.text.now (option_map (λ s. s.now) f.op) f.page (parameters_of f) (option_map (λ s. s.now) f.text) (option_map (λ s. s.now) f.token) c.if-eq.ensures
 
 pub returns-then-eq-2-clause-texts : goal.returns-then-eq-2-clause-texts
 returns-then-eq-2-clause-texts c =
     let f = c.args.found.now in
-    text_put c.args.key.now c.args.text.now (option_map (λ s. s.now) f.op) (parameters_of f) (option_map (λ s. s.now) f.text) (option_map (λ s. s.now) f.token) c.if-eq-2.ensures
+    text_put c.args.key.now c.args.text.now (option_map (λ s. s.now) f.op) f.page (parameters_of f) (option_map (λ s. s.now) f.text) (option_map (λ s. s.now) f.token) c.if-eq-2.ensures
 
 pub returns-else-eq-2-clause-texts : goal.returns-else-eq-2-clause-texts
 returns-else-eq-2-clause-texts c =
     let f = c.args.found.now in
-    token_put c.args.key.now c.args.text.now (option_map (λ s. s.now) f.op) (parameters_of f) (option_map (λ s. s.now) f.text) (option_map (λ s. s.now) f.token) c.requires c.if-eq.ensures c.if-eq-2.ensures
+    token_put c.args.key.now c.args.text.now (option_map (λ s. s.now) f.op) f.page (parameters_of f) (option_map (λ s. s.now) f.text) (option_map (λ s. s.now) f.token) c.requires c.if-eq.ensures c.if-eq-2.ensures
 
 pub returns-then-eq-clause-parameters : goal.returns-then-eq-clause-parameters
 returns-then-eq-clause-parameters c = refl

@@ -5,7 +5,8 @@ use Rattle.json.specs.Json.{read_key, members, value}
 use Rattle.json.proofs.Grammar.{value_is, read_key-shorter}
 use Rattle.serde_json.specs.Data.{string, put}
 use Rattle.serde_json.specs.Read.{of_json, of_members, converted}
-use Rattle.pg_json.specs.Fields.{AsksNothing, members_with, object_giving, later_keys, text_keys, HaveDepth}
+use Rattle.pg_json.specs.Fields.{AsksNothing, members_with, object_giving, later_keys, text_keys, HaveDepth, HasSign}
+use Rattle.pg_json.specs.Replies.{natural}
 use Rattle.pg_json.specs.Requests.{is_one_of}
 use Rattle.pg_json.proofs.Reading.{member_read, member_refused, key_refused, members_over}
 use Rattle.pg_json.proofs.Strangers.{strange_member, no_key}
@@ -33,7 +34,31 @@ members-preserved-then-eq c =
       omega (arith, l.invariant.1, less, lesser),
       l.invariant.2 ∙ turn ∙ ap (λ key. converted (λ ms. of_members ms (put key d old)) (members p (n - 1) r)) same
           ∙ ap (λ found. converted (λ ms. of_members ms found) (members p (n - 1) r)) (sym c.put_parameters.ensures.members),
-      λ _. subst HaveDepth (sym c.put_parameters.ensures.parameters) done.given,
+      λ before. (subst HaveDepth (sym c.put_parameters.ensures.parameters) done.given, subst HasSign (sym c.put_parameters.ensures.page) (l.invariant.3 before).1),
+    )
+
+pub members-preserved-then-eq-2 : goal.members-preserved-then-eq-2
+members-preserved-then-eq-2 c =
+    let p = value 126 in
+    let l = c.members in
+    let n = l.invariant.0 in
+    let old = members_with l.found in
+    let k = c.in-Ok-Some.key.now in
+    let s = c.next_key.new.self in
+    let r = c.read_page.new.reader in
+    let done = c.in_ok-read_page.ensures in
+    let d = natural c.in_ok-read_page.field-0 in
+    let named : read_key l.reader ≡ Some (Some k, s) = grind arith in
+    let is : bytes_eq k (codes "page") ≡ true = search rules in
+    let same : k ≡ codes "page" = (bytes_eq-Decides k (codes "page")).0 is in
+    let less = read_key-shorter l.reader (Some k) s named in
+    let lesser = done.shorter in
+    let turn = member_read p old n k l.reader s r d (omega (arith, l.invariant.1, less)) named done.ok in (
+      n - 1,
+      omega (arith, l.invariant.1, less, lesser),
+      l.invariant.2 ∙ turn ∙ ap (λ key. converted (λ ms. of_members ms (put key d old)) (members p (n - 1) r)) same
+          ∙ ap (λ found. converted (λ ms. of_members ms found) (members p (n - 1) r)) (sym c.put_page.ensures.members),
+      λ before. (subst HaveDepth (sym c.put_page.ensures.parameters) (l.invariant.3 before).0, subst HasSign (sym c.put_page.ensures.page) done.within),
     )
 
 pub members-preserved : goal.members-preserved
@@ -54,7 +79,7 @@ members-preserved c =
       n - 1,
       omega (arith, l.invariant.1, less, ap length first),
       l.invariant.2 ∙ turn ∙ ap (λ found. converted (λ ms. of_members ms found) (members p (n - 1) r)) (sym c.put_text.ensures.texts),
-      λ before. subst HaveDepth (sym c.put_text.ensures.parameters) (l.invariant.3 before),
+      λ before. (subst HaveDepth (sym c.put_text.ensures.parameters) (l.invariant.3 before).0, subst HasSign (sym c.put_text.ensures.page) (l.invariant.3 before).1),
     )
 
 pub returns-then-not-is_text_key-clause-members : goal.returns-then-not-is_text_key-clause-members
@@ -65,7 +90,8 @@ returns-then-not-is_text_key-clause-members c =
     let no_text : is_one_of text_keys k ≡ false = search rules in
     let not_later : is_one_of later_keys k ≡ false = search rules in
     let no_parameters : bytes_eq k (codes "params") ≡ false = search rules in
-    subst AsksNothing (sym l.invariant.2) (strange_member (value 126) (members_with l.found) l.invariant.0 k l.reader c.next_key.new.self named (no_key k no_text no_parameters not_later))
+    let no_page : bytes_eq k (codes "page") ≡ false = search rules in
+    subst AsksNothing (sym l.invariant.2) (strange_member (value 126) (members_with l.found) l.invariant.0 k l.reader c.next_key.new.self named (no_key k no_text no_parameters no_page not_later))
 
 pub returns-in-Some-Bad-clause-members : goal.returns-in-Some-Bad-clause-members
 returns-in-Some-Bad-clause-members c =

@@ -1,4 +1,4 @@
-use Rattle.std.proofs.Common.{◌≡◌, ◌≢◌, ◌<◌, length, ap, ◌∙◌, subst}
+use Rattle.std.proofs.Common.{◌≡◌, ◌≢◌, ◌<◌, IfOk, IfErr, length, ap, ◌∙◌, subst}
 use Rattle.std.proofs.lemmas.Result.{IfOk-weaker, IfErr-weaker}
 use Rattle.pg_meaning.specs.declared.fault.Fault.TheVariants.{OutOfMemory}
 use Rattle.pg_json.proofs.Writing.{noted_whole, plain_whole}
@@ -25,12 +25,14 @@ returns-in-Plain-clause-long c = λ notes columns rows h.
 pub returns-in-Noted-clause-ok : goal.returns-in-Noted-clause-ok
 returns-in-Noted-clause-ok c = λ notes columns rows h.
     let w = subst (λ r. AreWritten r notes columns rows) c.in-Noted.is h.so_far in
-    IfOk-weaker c.finish-in-Noted.result (λ reply. reply ≡ with_end c.in-Noted.rows c.args.steps) (λ reply. reply ≡ query_text notes columns rows c.args.steps)
-    (λ reply e. e ∙ noted_whole c.in-Noted.rows notes columns rows c.args.steps w.0 w.1) (rw c.in-Noted.is at c.finish-in-Noted.ensures.ok)
+    IfOk-weaker c.finish-in-Noted.result (λ reply. reply ≡ with_end c.in-Noted.rows.value c.args.steps) (λ reply. reply ≡ query_text notes columns rows c.args.steps)
+    (λ reply e. e ∙ noted_whole c.in-Noted.rows.value notes columns rows c.args.steps w.0 w.1)
+    (subst (λ q. IfOk c.finish-in-Noted.result (λ reply. reply ≡ with_end q c.args.steps)) (c.into_inner.ensures ∙ ap (λ b. b.value) c.in-Noted.rows-is) c.finish-in-Noted.ensures.ok)
 
 pub returns-in-Noted-clause-long : goal.returns-in-Noted-clause-long
 returns-in-Noted-clause-long c = λ notes columns rows h.
     let w = subst (λ r. AreWritten r notes columns rows) c.in-Noted.is h.so_far in
-    let same = ap (λ q. q.text) (noted_whole c.in-Noted.rows notes columns rows c.args.steps w.0 w.1) in
-    IfErr-weaker c.finish-in-Noted.result (λ e. e ≢ OutOfMemory → max_reply < length ((with_end c.in-Noted.rows c.args.steps).text)) (λ e. e ≢ OutOfMemory → max_reply < length (rows_text columns rows c.args.steps))
-    (λ e long other. subst (λ t. max_reply < length t) same (long other)) (rw c.in-Noted.is at c.finish-in-Noted.ensures.long)
+    let same = ap (λ q. q.text) (noted_whole c.in-Noted.rows.value notes columns rows c.args.steps w.0 w.1) in
+    IfErr-weaker c.finish-in-Noted.result (λ e. e ≢ OutOfMemory → max_reply < length ((with_end c.in-Noted.rows.value c.args.steps).text)) (λ e. e ≢ OutOfMemory → max_reply < length (rows_text columns rows c.args.steps))
+    (λ e long other. subst (λ t. max_reply < length t) same (long other))
+    (subst (λ q. IfErr c.finish-in-Noted.result (λ e. e ≢ OutOfMemory → max_reply < length ((with_end q c.args.steps).text))) (c.into_inner.ensures ∙ ap (λ b. b.value) c.in-Noted.rows-is) c.finish-in-Noted.ensures.long)

@@ -9,7 +9,7 @@ mod records;
 use command::{Command, command_of};
 use fault::ProgramFault;
 use outcome::{line_of, status_of};
-use pg_server::{Counted, End, ServeFault, serve_on};
+use pg_server::{Counted, CountedListener, End, ServeFault, serve_on};
 use pg_start::{PooledServer, StartFault, new_server, read_config, take_stack};
 use std::io::BufReader;
 use std::mem::ManuallyDrop;
@@ -59,7 +59,8 @@ fn serve(rt: &HostRuntime, command: Command<'_>) -> Result<End, ProgramFault> {
             let Ok(listener) = TcpListener::bind(rt, (Ipv4Addr::LOCALHOST, port)) else {
                 return Err(ServeFault::Accept.into());
             };
-            serve_on(&listener, &mut server, count)?;
+            let mut listener = CountedListener::new(&listener);
+            serve_on(&mut listener, &mut server, count)?;
             Ok(End::Done)
         }
     }

@@ -40,7 +40,7 @@ one_row = (codes "1", integer (pos 1)) ∷ []
 abbrev one_made : Projected
 one_made = record { columns = one_row; earlier = [] }
 
-made_one : (graph : Graph) (made : List Projected) → AllZip (λ (row : Row) (r : Projected). projected one_given graph false (return_columns [] one_returned) row ≡ Ok r) ([] ∷ []) made → made ≡ one_made ∷ []
+made_one : (graph : Graph) (made : List Projected) → AllZip (λ (row : Row) (r : Projected). projected one_given.parameters graph false (return_columns [] one_returned) row ≡ Ok r) ([] ∷ []) made → made ≡ one_made ∷ []
 made_one graph [] h = absurd h
 made_one graph (r ∷ []) h = let same : r ≡ one_made = cc in ap (λ p. p ∷ []) same
 made_one graph (r ∷ s ∷ rs) h = absurd h.1

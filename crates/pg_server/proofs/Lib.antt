@@ -2,6 +2,7 @@ pub mod AnsweredQueryInstances
 pub mod AnsweredQueryLemmas
 pub mod ConfigLemmas
 pub mod ConfigurationInstances
+pub mod ConnectionLemmas
 pub mod DistinctLemmas
 pub mod FillLemmas
 pub mod FoundLemmas
@@ -13,6 +14,7 @@ pub mod LookUpLemmas
 pub mod NameLemmas
 pub mod ReadingLemmas
 pub mod RefusalLemmas
+pub mod ReplyInstances
 pub mod ReplyLemmas
 pub mod RequestInstances
 pub mod RunLemmas

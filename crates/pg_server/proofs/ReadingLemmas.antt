@@ -6,7 +6,7 @@ use Rattle.std.specs.List.{AllByRecursion}
 use Rattle.std.proofs.lemmas.Nat.{from_be_bytes-to_be_bytes_4}
 use Rattle.std.proofs.lemmas.List.Elements.{recursion_from_All}
 use Rattle.pg_server.specs.Frames.{frame, IsShort}
-use Rattle.pg_server.specs.Served.{frames, OneReading}
+use Rattle.pg_server.specs.Served.{frames, OneListOfBodies}
 
 -- no frame is the beginning of another
 frame_front : (a b x y : List ℕ) → IsShort a → IsShort b → frame a ++ x ≡ frame b ++ y → (a ≡ b) × (x ≡ y)
@@ -28,5 +28,5 @@ one (b ∷ bs) (c ∷ cs) x y s t long e =
     let others = one bs cs x y s.1 t.1 (omega arith) front.1 in
     ap (λ k. k ∷ bs) front.0 ∙ ap (λ ks. c ∷ ks) others
 
-pub one_reading : OneReading
+pub one_reading : OneListOfBodies
 one_reading bs cs x y s t long e = one bs cs x y (recursion_from_All IsShort bs s) (recursion_from_All IsShort cs t) long e

@@ -1,11 +1,11 @@
 -- A run of a server is its first exchange and the run of the others.
-use Rattle.std.proofs.Common.{◌≡◌, ℕ, List, [], ◌∷◌, ◌++◌, Bool, true, false, cond, map, Option, refl, sym, ap, ◌∙◌, subst, get_or}
+use Rattle.std.proofs.Common.{◌≡◌, ℕ, List, [], ◌∷◌, ◌++◌, Bool, true, false, cond, map, refl, sym, ap, ◌∙◌, subst, get_or}
 use Rattle.std.proofs.Math.ListN.{get_or-map}
 use Rattle.pg_server.specs.declared.end.End.{End}
 use Rattle.pg_server.specs.Exchange.{Exchange, Chain}
 use Rattle.pg_server.specs.Handles.{Handles}
 use Rattle.pg_server.specs.Runs.{SoloRun, Runs, AnswersStrangers, IsStrangers, own, shows_one_of, asked}
-use Rattle.pg_server.specs.Served.{Served}
+use Rattle.pg_server.specs.Served.{Device, Served}
 use Rattle.pg_server.specs.Serves.{Serves}
 use Rattle.pg_server.specs.State.{ServerState, ServerSeen, state_at, settings_of}
 use Rattle.pg_tenant.specs.Settings.{TenantSettings, no_settings, token_texts}
@@ -68,11 +68,12 @@ module _ {X : Type 0} where
   chain_of_states old new [] chain = ap (λ (s : ServerSeen X). s.state) chain
   chain_of_states old new (e ∷ es) chain = (chain.0.state, chain.1, chain_of_states chain.0 new es chain.2)
 
-  pub alone : (r r' w w' : Option (List ℕ)) (old new : ServerSeen X) (most : ℕ) (end : End) → Served HandlesSeen r r' w w' old new most end → Serves r r' w w' old.state new.state most end
-  alone r r' w w' old new most end s =
-      let chain : Chain Handles old.state s.exchanges new.state = chain_of_states old new s.exchanges s.chain in (
-        record { exchanges = s.exchanges; rest = s.rest; output = s.output; read = s.read; wrote = s.wrote; short = s.short; count = s.count; ends = s.ends; chain = chain },
-        Runs-of_chain old.state new.state s.exchanges chain,
+  pub alone : (reader writer : Device) (old new : ServerSeen X) (most : ℕ) (end : End) → Served HandlesSeen reader writer old new most end → Serves reader writer old.state new.state most end
+  alone reader writer old new most end s =
+      let es : List Exchange = s.transcript.exchanges in
+      let chain : Chain Handles old.state es new.state = chain_of_states old new es s.chain in (
+        record { transcript = s.transcript; read = s.read; wrote = s.wrote; short = s.short; count = s.count; ends = s.ends; chain = chain },
+        Runs-of_chain old.state new.state es chain,
       )
 
 -- the settings that a server began with

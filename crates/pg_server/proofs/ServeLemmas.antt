@@ -11,7 +11,7 @@ use Rattle.pg_server.specs.declared.end.End.TheVariants.{Done, Cut, TooLong, Rea
 use Rattle.pg_server.specs.Frames.{frame, body_limit, IsShort}
 use Rattle.pg_server.specs.Wire.{Receives, Sends}
 use Rattle.pg_server.specs.Exchange.{Exchange, bodies_of, replies_of, Chain}
-use Rattle.pg_server.specs.Served.{Served, frames, too_long_reply}
+use Rattle.pg_server.specs.Served.{Served, device, frames, too_long_reply}
 
 -- so many frames were read and answered, and nothing else
 pub record HasServed {S : Type 0} (answers : S → List ℕ → List ℕ → S → Type 0) (a b c d : Option (List ℕ)) (old new : S) (served : ℕ) : Type 0 where
@@ -25,9 +25,9 @@ pub record HasServed {S : Type 0} (answers : S → List ℕ → List ℕ → S �
 pub none_served : {S : Type 0} (answers : S → List ℕ → List ℕ → S → Type 0) (a c : Option (List ℕ)) (s : S) → HasServed answers a a c c s s 0
 none_served answers a c s = record { exchanges = []; read = Consumes-nil a; wrote = Appends-nil c; short = All-nil _; count = refl; chain = refl }
 
-pub no_memory : {S : Type 0} (answers : S → List ℕ → List ℕ → S → Type 0) (a c : Option (List ℕ)) (s : S) (most : ℕ) → Served answers a a c c s s most NoMemory
+pub no_memory : {S : Type 0} (answers : S → List ℕ → List ℕ → S → Type 0) (a c : Option (List ℕ)) (s : S) (most : ℕ) → Served answers (device a a) (device c c) s s most NoMemory
 no_memory answers a c s most =
-    record { exchanges = []; rest = []; output = []; read = Consumes-nil a; wrote = Appends-nil c; short = All-nil _; count = omega arith; ends = (refl, refl, refl); chain = refl }
+    record { transcript = record { exchanges = []; rest = []; output = [] }; read = Consumes-nil a; wrote = Appends-nil c; short = All-nil _; count = omega arith; ends = (refl, refl, refl); chain = refl }
 
 frames-push : (bodies : List (List ℕ)) (body : List ℕ) → frames (bodies ++ body ∷ []) ≡ frames bodies ++ frame body
 frames-push bodies body = flat_map-append frame bodies (body ∷ []) ∙ ap (λ l. frames bodies ++ l) (append-nil (frame body))
@@ -44,12 +44,10 @@ module _ (S : Type 0) (answers : S → List ℕ → List ℕ → S → Type 0) (
   ended : (b' : Option (List ℕ)) (got : List ℕ) → Consumes b b' got → Consumes a b' (frames (bodies_of es) ++ got)
   ended b' got read = Consumes-trans a b b' _ _ so_far.read read
 
-  pub all_done : served ≡ most → Served answers a b c d old mid most Done
+  pub all_done : served ≡ most → Served answers (device a b) (device c d) old mid most Done
   all_done all =
       record {
-        exchanges = es;
-        rest = [];
-        output = frames (replies_of es);
+        transcript = record { exchanges = es; rest = []; output = frames (replies_of es) };
         read = subst (Consumes a b) (sym (append-nil (frames (bodies_of es)))) so_far.read;
         wrote = so_far.wrote;
         short = so_far.short;
@@ -59,12 +57,10 @@ module _ (S : Type 0) (answers : S → List ℕ → List ℕ → S → Type 0) (
       }
 
   module _ (few : served < most) (b' : Option (List ℕ)) (f0 f1 : ℕ) (buf : List ℕ) where
-    pub done : Receives b b' f0 f1 buf NoFrame → Served answers a b' c d old mid most Done
+    pub done : Receives b b' f0 f1 buf NoFrame → Served answers (device a b') (device c d) old mid most Done
     done r =
         record {
-          exchanges = es;
-          rest = r.got;
-          output = frames (replies_of es);
+          transcript = record { exchanges = es; rest = r.got; output = frames (replies_of es) };
           read = ended b' r.got r.read;
           wrote = so_far.wrote;
           short = so_far.short;
@@ -73,12 +69,10 @@ module _ (S : Type 0) (answers : S → List ℕ → List ℕ → S → Type 0) (
           chain = so_far.chain;
         }
 
-    pub cut : Receives b b' f0 f1 buf CutFrame → Served answers a b' c d old mid most Cut
+    pub cut : Receives b b' f0 f1 buf CutFrame → Served answers (device a b') (device c d) old mid most Cut
     cut r =
         record {
-          exchanges = es;
-          rest = r.got;
-          output = frames (replies_of es);
+          transcript = record { exchanges = es; rest = r.got; output = frames (replies_of es) };
           read = ended b' r.got r.read;
           wrote = so_far.wrote;
           short = so_far.short;
@@ -87,12 +81,10 @@ module _ (S : Type 0) (answers : S → List ℕ → List ℕ → S → Type 0) (
           chain = so_far.chain;
         }
 
-    pub read_failed : Receives b b' f0 f1 buf Failed → Served answers a b' c d old mid most ReadFailed
+    pub read_failed : Receives b b' f0 f1 buf Failed → Served answers (device a b') (device c d) old mid most ReadFailed
     read_failed r =
         record {
-          exchanges = es;
-          rest = r.got;
-          output = frames (replies_of es);
+          transcript = record { exchanges = es; rest = r.got; output = frames (replies_of es) };
           read = ended b' r.got r.read;
           wrote = so_far.wrote;
           short = so_far.short;
@@ -102,13 +94,11 @@ module _ (S : Type 0) (answers : S → List ℕ → List ℕ → S → Type 0) (
         }
 
     module _ (d' : Option (List ℕ)) (g0 g1 : ℕ) where
-      pub too_long : {T E : Type 0} → Receives b b' f0 f1 buf LongFrame → (u : T) (text : List ℕ) → text ≡ too_long_reply → Sends {E = E} d d' g0 g1 (frame text) (Ok u) → Served answers a b' c d' old mid most TooLong
+      pub too_long : {T E : Type 0} → Receives b b' f0 f1 buf LongFrame → (u : T) (text : List ℕ) → text ≡ too_long_reply → Sends {E = E} d d' g0 g1 (frame text) (Ok u) → Served answers (device a b') (device c d') old mid most TooLong
       too_long r u text is s =
           let all : s.sent ≡ frame too_long_reply = sym (s.parts ∙ ap (λ l. s.sent ++ l) s.ok.0 ∙ append-nil s.sent) ∙ ap frame is in
           record {
-            exchanges = es;
-            rest = r.got;
-            output = frames (replies_of es) ++ s.sent;
+            transcript = record { exchanges = es; rest = r.got; output = frames (replies_of es) ++ s.sent };
             read = ended b' r.got r.read;
             wrote = Appends-trans c d d' _ _ so_far.wrote s.wrote;
             short = so_far.short;
@@ -117,12 +107,10 @@ module _ (S : Type 0) (answers : S → List ℕ → List ℕ → S → Type 0) (
             chain = so_far.chain;
           }
 
-      pub too_long_failed : {T E : Type 0} → Receives b b' f0 f1 buf LongFrame → (e : E) (text : List ℕ) → text ≡ too_long_reply → Sends {T = T} d d' g0 g1 (frame text) (Err e) → Served answers a b' c d' old mid most WriteFailed
+      pub too_long_failed : {T E : Type 0} → Receives b b' f0 f1 buf LongFrame → (e : E) (text : List ℕ) → text ≡ too_long_reply → Sends {T = T} d d' g0 g1 (frame text) (Err e) → Served answers (device a b') (device c d') old mid most WriteFailed
       too_long_failed r e text is s =
           record {
-            exchanges = es;
-            rest = r.got;
-            output = frames (replies_of es) ++ s.sent;
+            transcript = record { exchanges = es; rest = r.got; output = frames (replies_of es) ++ s.sent };
             read = ended b' r.got r.read;
             wrote = Appends-trans c d d' _ _ so_far.wrote s.wrote;
             short = so_far.short;
@@ -168,12 +156,10 @@ module _ (S : Type 0) (answers : S → List ℕ → List ℕ → S → Type 0) (
               chain = Chain-more answers old mid new es one so_far.chain step;
             }
 
-        pub write_failed : {T E : Type 0} → (e : E) → Sends {T = T} d d' g0 g1 (frame text) (Err e) → Served answers a b' c d' old new most WriteFailed
+        pub write_failed : {T E : Type 0} → (e : E) → Sends {T = T} d d' g0 g1 (frame text) (Err e) → Served answers (device a b') (device c d') old new most WriteFailed
         write_failed e s =
             record {
-              exchanges = es ++ one ∷ [];
-              rest = [];
-              output = frames (replies_of es) ++ s.sent;
+              transcript = record { exchanges = es ++ one ∷ []; rest = []; output = frames (replies_of es) ++ s.sent };
               read = subst (Consumes a b') (sym (append-nil (frames (bodies_of (es ++ one ∷ []))))) read_more;
               wrote = Appends-trans c d d' _ _ so_far.wrote s.wrote;
               short = short_more;

@@ -11,9 +11,9 @@ use Rattle.pg_meaning.specs.declared.fault.Fault.TheVariants.{OutOfMemory}
 use Rattle.pg_server.specs.Exchange.{Exchange, Chain}
 use Rattle.pg_server.specs.Frames.{frame, body_limit, IsPartial, IsTooLong}
 use Rattle.pg_server.specs.Handles.{Handles}
-use Rattle.pg_server.specs.InstancesOfServing.{InstancesOfFrames, InstancesOfEnds, InstancesOfFailedWrites, RunsOfNoFrame, InstancesOfKeys, InstancesOfLookUps, longest, once, written, has_more, key, cache_of}
+use Rattle.pg_server.specs.InstancesOfServing.{transcript, InstancesOfFrames, InstancesOfEnds, InstancesOfFailedWrites, RunsOfNoFrame, InstancesOfKeys, InstancesOfLookUps, longest, once, written, has_more, key, cache_of}
 use Rattle.pg_server.specs.Runs.{Runs}
-use Rattle.pg_server.specs.Served.{Ends, Served, frames}
+use Rattle.pg_server.specs.Served.{Ends, Served, frames, untold}
 use Rattle.pg_server.specs.State.{ServerState, fresh_cache}
 use Rattle.pg_tenant.specs.LookUps.{LooksUp}
 use Rattle.pg_server.specs.declared.end.End.TheVariants.{Done, WriteFailed}
@@ -83,11 +83,11 @@ module _ (last sent lacking : List ℕ) (last_is : frame last ≡ sent ++ lackin
       absurd (omega (arith, some, ap length same, ap length all, ap length last_is, length-append sent lacking))
   lacks_nothing (b ∷ bs) is all = absurd (omega (arith, ap length is, length-append bs (last ∷ [])))
 
-whole_is_cut : Ends WriteFailed 1 has_more once [] written → ⊥
+whole_is_cut : Ends WriteFailed 1 has_more (transcript once [] written) → ⊥
 whole_is_cut (inl p) = lacks_nothing p.1.last p.1.sent p.1.lacking p.1.last_is p.1.some p.1.before p.1.bodies_are p.1.output_is
 whole_is_cut (inr p) = no_header p.0
 
-none_is_cut : Ends WriteFailed 1 has_more [] [] [] → ⊥
+none_is_cut : Ends WriteFailed 1 has_more (transcript [] [] []) → ⊥
 none_is_cut (inl p) = absurd (omega (arith, ap length p.1.bodies_are, length-append p.1.before (p.1.last ∷ [])))
 none_is_cut (inr p) = no_header p.0
 
@@ -108,14 +108,14 @@ none_leaves : (old new : ServerState) (es : List Exchange) → length es ≤ 0 �
 none_leaves old new [] few chain = chain
 none_leaves old new (e ∷ es) few chain = absurd (omega (arith, few))
 
-abbrev served_none : (s : ServerState) → Served Handles None None None None s s 0 Done
-served_none s = record { exchanges = []; rest = []; output = []; read = tt; wrote = tt; short = All-nil _; count = omega arith; ends = (refl, refl, inl tt); chain = refl }
+abbrev served_none : (s : ServerState) → Served Handles untold untold s s 0 Done
+served_none s = record { transcript = transcript [] [] []; read = tt; wrote = tt; short = All-nil _; count = omega arith; ends = (refl, refl, inl tt); chain = refl }
 
 ran_none : (s : ServerState) → Runs s [] s
 ran_none s = record { cache = refl; settings = refl; strangers = tt; solo = λ t. refl }
 
 pub runs_of_no_frame : RunsOfNoFrame
-runs_of_no_frame old new end = ((served_none old, ran_none old), λ s. none_leaves old new s.0.exchanges s.0.count s.0.chain)
+runs_of_no_frame old new end = ((served_none old, ran_none old), λ s. none_leaves old new s.0.transcript.exchanges s.0.count s.0.chain)
 
 -- ---- look-ups
 

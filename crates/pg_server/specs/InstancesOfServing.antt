@@ -15,7 +15,7 @@ use Rattle.pg_server.specs.Frames.{frame, IsPartial, IsTooLong}
 use Rattle.pg_server.specs.Handles.{key_asked}
 use Rattle.pg_server.specs.InstancesOfRuns.{reader, token, told}
 use Rattle.pg_server.specs.Runs.{is_short}
-use Rattle.pg_server.specs.Served.{Ends, frames, too_long_reply}
+use Rattle.pg_server.specs.Served.{Ends, Transcript, frames, too_long_reply, untold}
 use Rattle.pg_server.specs.Serves.{Serves}
 use Rattle.pg_server.specs.State.{ServerState, fresh_cache}
 use Rattle.pg_tenant.specs.LookUps.{LooksUp}
@@ -59,29 +59,32 @@ is_over = IsAtEnd (Some [])
 abbrev pub has_more : Type 0
 has_more = IsAtEnd (Some (0 ∷ []))
 
+abbrev pub transcript : (exchanges : List Exchange) → (rest output : List ℕ) → Transcript
+transcript exchanges rest output = record { exchanges = exchanges; rest = rest; output = output }
+
 abbrev pub InstancesOfEnds : Type 0
 InstancesOfEnds =
-    Ends Done 1 has_more once [] written
-    × Ends Done 2 is_over once [] written
-    × (Ends Done 2 has_more once [] written → ⊥)
-    × (Ends Done 1 has_more once (0 ∷ []) written → ⊥)
-    × (Ends Done 1 has_more once [] [] → ⊥)
-    × Ends Cut 2 is_over once (0 ∷ []) written
-    × (Ends Cut 2 is_over once [] written → ⊥)
-    × (Ends Cut 2 has_more once (0 ∷ []) written → ⊥)
-    × (Ends Cut 1 is_over once (0 ∷ []) written → ⊥)
-    × Ends TooLong 1 has_more [] longer (frames (too_long_reply ∷ []))
-    × (Ends TooLong 1 has_more [] longer [] → ⊥)
-    × Ends ReadFailed 2 has_more once (0 ∷ []) written
-    × (Ends ReadFailed 2 has_more once (0 ∷ []) [] → ⊥)
+    Ends Done 1 has_more (transcript once [] written)
+    × Ends Done 2 is_over (transcript once [] written)
+    × (Ends Done 2 has_more (transcript once [] written) → ⊥)
+    × (Ends Done 1 has_more (transcript once (0 ∷ []) written) → ⊥)
+    × (Ends Done 1 has_more (transcript once [] []) → ⊥)
+    × Ends Cut 2 is_over (transcript once (0 ∷ []) written)
+    × (Ends Cut 2 is_over (transcript once [] written) → ⊥)
+    × (Ends Cut 2 has_more (transcript once (0 ∷ []) written) → ⊥)
+    × (Ends Cut 1 is_over (transcript once (0 ∷ []) written) → ⊥)
+    × Ends TooLong 1 has_more (transcript [] longer (frames (too_long_reply ∷ [])))
+    × (Ends TooLong 1 has_more (transcript [] longer []) → ⊥)
+    × Ends ReadFailed 2 has_more (transcript once (0 ∷ []) written)
+    × (Ends ReadFailed 2 has_more (transcript once (0 ∷ []) []) → ⊥)
 
 abbrev pub InstancesOfFailedWrites : Type 0
 InstancesOfFailedWrites =
-    Ends WriteFailed 1 has_more once [] (0 ∷ [])
-    × (Ends WriteFailed 1 has_more once [] written → ⊥)
-    × (Ends WriteFailed 1 has_more [] [] [] → ⊥)
-    × Ends NoMemory 1 has_more [] [] []
-    × (Ends NoMemory 1 has_more once [] written → ⊥)
+    Ends WriteFailed 1 has_more (transcript once [] (0 ∷ []))
+    × (Ends WriteFailed 1 has_more (transcript once [] written) → ⊥)
+    × (Ends WriteFailed 1 has_more (transcript [] [] []) → ⊥)
+    × Ends NoMemory 1 has_more (transcript [] [] [])
+    × (Ends NoMemory 1 has_more (transcript once [] written) → ⊥)
     × (next_count 0 ≡ 1)
     × (next_count 18446744073709551615 ≡ 0)
 
@@ -89,7 +92,7 @@ InstancesOfFailedWrites =
 abbrev pub RunsOfNoFrame : Type 0
 RunsOfNoFrame =
     (old new : ServerState) (end : End)
-    → Serves None None None None old old 0 Done × (Serves None None None None old new 0 end → new ≡ old)
+    → Serves untold untold old old 0 Done × (Serves untold untold old new 0 end → new ≡ old)
 
 -- ---- look-ups
 

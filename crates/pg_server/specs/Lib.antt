@@ -11,6 +11,7 @@ pub mod Handles
 pub mod Holds
 pub mod InstancesOfAnsweredQueries
 pub mod InstancesOfConfigurations
+pub mod InstancesOfReplies
 pub mod InstancesOfRequests
 pub mod InstancesOfRuns
 pub mod InstancesOfServing

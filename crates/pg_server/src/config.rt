@@ -41,7 +41,8 @@ impl Model for Config {
 
     ghost view = { λ c. record { cache = non_zero_usize_get c.cache; tenants = c.tenants.items } };
 
-    ghost invariant = { λ c. HasTokensOnce c.tenants.items × (0 < length c.tenants.items) × (length c.tenants.items ≤ max_tenants) };
+    ghost invariant = { λ c. HasTokensOnce c.tenants.items
+        × (0 < length c.tenants.items) × (length c.tenants.items ≤ max_tenants) };
 }
 
 impl Config {
@@ -156,7 +157,8 @@ fn has_token_twice(alloc: Global, tenants: &[TenantSettings]) -> Result<bool, Al
 
 /// Puts the texts of the tenant's tokens behind the others.
 fn push_texts<'a>(texts: &mut Vec<&'a str>, tenant: &'a TenantSettings) -> Result<(), AllocError>
-    ensures { OnOk result (map (λ t. t.now) texts.new.items ≡ map (λ t. t.now) texts.old.items ++ texts_of tenant.now) }
+    ensures { OnOk result (map (λ t. t.now) texts.new.items
+        ≡ map (λ t. t.now) texts.old.items ++ texts_of tenant.now) }
 {
     for token in tenant.tokens() {
         texts.push(token.text())?;

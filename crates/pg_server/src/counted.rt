@@ -18,6 +18,7 @@ pub struct Counted<T> {
 }
 
 impl<T> Counted<T> {
+    /// Takes a reader or a writer that hasn't failed yet.
     pub fn new(inner: T) -> Self
         ensures inner { inner_of result ≡ inner }
         ensures faults { faults_of result ≡ 0 }
@@ -25,12 +26,14 @@ impl<T> Counted<T> {
         Counted { inner, faults: 0 }
     }
 
+    /// How often it has failed.
     pub fn faults(&self) -> u64
         ensures { result ≡ faults_of self.now }
     {
         self.faults
     }
 
+    /// The reader or the writer again, as the calls left it.
     pub fn into_inner(self) -> T
         ensures { result ≡ inner_of self }
     {
@@ -42,7 +45,8 @@ impl<R: Read> Counted<R> {
     /// One read. Each error is a fault, also one that could be tried again.
     pub fn read(&mut self, buf: &mut [u8]) -> Result<usize, DeviceFault>
         ensures bound { ReadsAtMost result buf.new }
-        ensures bytes { ReadConsumes (R.remaining (inner_of self.old)) (R.remaining (inner_of self.new)) result buf.new }
+        ensures bytes { ReadConsumes
+            (R.remaining (inner_of self.old)) (R.remaining (inner_of self.new)) result buf.new }
         ensures ok { OnOk result (faults_of self.new ≡ faults_of self.old) }
         ensures fault { OnErr result (faults_of self.new ≡ next_count (faults_of self.old)) }
     {
@@ -61,7 +65,8 @@ impl<W: Write> Counted<W> {
     pub fn write(&mut self, buf: &[u8]) -> Result<usize, DeviceFault>
         requires { 0 < length buf.now }
         ensures bound { IfOk result (λ n. (0 < n) × (n ≤ length buf.now)) }
-        ensures bytes { WriteAppends (W.contents (inner_of self.old)) (W.contents (inner_of self.new)) result buf.now }
+        ensures bytes { WriteAppends
+            (W.contents (inner_of self.old)) (W.contents (inner_of self.new)) result buf.now }
         ensures ok { OnOk result (faults_of self.new ≡ faults_of self.old) }
         ensures fault { OnErr result (faults_of self.new ≡ next_count (faults_of self.old)) }
     {

@@ -25,7 +25,12 @@ impl Model for TenantDraft {
 
     ghost Value = { Seen };
 
-    ghost view = { λ t. record { max_steps = t.max_steps; max_elements = t.max_elements; max_held = t.max_held; tokens = t.tokens.items } };
+    ghost view = { λ t. record {
+      max_steps = t.max_steps;
+      max_elements = t.max_elements;
+      max_held = t.max_held;
+      tokens = t.tokens.items;
+    } };
 }
 
 #[derive(Drop)]
@@ -59,7 +64,8 @@ pub(crate) fn draft_of(alloc: Global, value: &Json) -> Result<Draft, ConfigFault
 fn tenants_of(alloc: Global, items: &Vec<Json>) -> Result<Vec<TenantDraft>, ConfigFault>
     ensures ok { IfOk result (λ v. each seen_tenant (items_view items.now.items) ≡ Some v.items) }
     ensures kind { IfErr result (λ e. e ≢ Memory → e ≡ WrongShape) }
-    ensures refused { IfErr result (λ e. e ≢ Memory → each seen_tenant (items_view items.now.items) ≡ None) }
+    ensures refused { IfErr result (λ e. e ≢ Memory
+        → each seen_tenant (items_view items.now.items) ≡ None) }
 {
     let mut tenants = Vec::new(alloc);
     for item in items {
@@ -95,7 +101,8 @@ fn tenant_of(alloc: Global, value: &Json) -> Result<TenantDraft, ConfigFault>
 fn tokens_of(alloc: Global, items: &Vec<Json>) -> Result<Vec<TokenSettings>, ConfigFault>
     ensures ok { IfOk result (λ v. each seen_token (items_view items.now.items) ≡ Some v.items) }
     ensures kind { IfErr result (λ e. e ≢ Memory → e ≡ WrongShape) }
-    ensures refused { IfErr result (λ e. e ≢ Memory → each seen_token (items_view items.now.items) ≡ None) }
+    ensures refused { IfErr result (λ e. e ≢ Memory
+        → each seen_token (items_view items.now.items) ≡ None) }
 {
     let mut tokens = Vec::new(alloc);
     for item in items {
@@ -133,7 +140,8 @@ fn rights_of(text: &str) -> Result<Rights, ConfigFault>
 
 fn text_at<'a>(value: &'a Json, key: &str) -> Result<&'a str, ConfigFault>
     ensures ok { IfOk result (λ t. seen_text key.now (view value.now) ≡ Some t.now) }
-    ensures err { IfErr result (λ e. (e ≡ WrongShape) × (seen_text key.now (view value.now) ≡ None)) }
+    ensures err { IfErr result
+        (λ e. (e ≡ WrongShape) × (seen_text key.now (view value.now) ≡ None)) }
 {
     match value.get(key).and_then(Json::as_str) {
         Some(text) => Ok(text),
@@ -143,7 +151,8 @@ fn text_at<'a>(value: &'a Json, key: &str) -> Result<&'a str, ConfigFault>
 
 fn number_at(value: &Json, key: &str) -> Result<i64, ConfigFault>
     ensures ok { IfOk result (λ n. seen_number key.now (view value.now) ≡ Some n) }
-    ensures err { IfErr result (λ e. (e ≡ WrongShape) × (seen_number key.now (view value.now) ≡ None)) }
+    ensures err { IfErr result
+        (λ e. (e ≡ WrongShape) × (seen_number key.now (view value.now) ≡ None)) }
 {
     match value.get(key).and_then(Json::as_i64) {
         Some(number) => Ok(number),
@@ -153,8 +162,10 @@ fn number_at(value: &Json, key: &str) -> Result<i64, ConfigFault>
 
 /// A number at a key, and zero where the key is missing.
 fn number_or_zero(given: Option<&Json>) -> Result<i64, ConfigFault>
-    ensures ok { IfOk result (λ n. seen_or_zero (option_map (λ v. view v.now) given.entry) ≡ Some n) }
-    ensures err { IfErr result (λ e. (e ≡ WrongShape) × (seen_or_zero (option_map (λ v. view v.now) given.entry) ≡ None)) }
+    ensures ok { IfOk result
+        (λ n. seen_or_zero (option_map (λ v. view v.now) given.entry) ≡ Some n) }
+    ensures err { IfErr result
+        (λ e. (e ≡ WrongShape) × (seen_or_zero (option_map (λ v. view v.now) given.entry) ≡ None)) }
 {
     let Some(value) = given else {
         return Ok(0);
@@ -166,8 +177,10 @@ fn number_or_zero(given: Option<&Json>) -> Result<i64, ConfigFault>
 }
 
 fn list_at<'a>(value: &'a Json, key: &str) -> Result<&'a Vec<Json>, ConfigFault>
-    ensures ok { IfOk result (λ v. seen_list key.now (view value.now) ≡ Some (items_view v.now.items)) }
-    ensures err { IfErr result (λ e. (e ≡ WrongShape) × (seen_list key.now (view value.now) ≡ None)) }
+    ensures ok { IfOk result
+        (λ v. seen_list key.now (view value.now) ≡ Some (items_view v.now.items)) }
+    ensures err { IfErr result
+        (λ e. (e ≡ WrongShape) × (seen_list key.now (view value.now) ≡ None)) }
 {
     match value.get(key).and_then(Json::as_array) {
         Some(items) => Ok(items),

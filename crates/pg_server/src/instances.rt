@@ -1,6 +1,7 @@
 //! Small runs and configurations. A function without a body says that the instances hold, or don't, as they are listed.
 ghost use Rattle.pg_server.specs.InstancesOfAnsweredQueries.{InstancesOfAnsweredQueries};
 ghost use Rattle.pg_server.specs.InstancesOfConfigurations.{FaultsAreInOrder, ShapesAreTested};
+ghost use Rattle.pg_server.specs.InstancesOfReplies.{InstancesOfReplies};
 ghost use Rattle.pg_server.specs.InstancesOfRequests.{InstancesOfOpenings, InstancesOfPages, InstancesOfRequests, StrangersAreRefused};
 ghost use Rattle.pg_server.specs.InstancesOfRuns.{EmptyRuns, StatusRuns, ConfigurationsAreTested};
 ghost use Rattle.pg_server.specs.InstancesOfServing.{InstancesOfEnds, InstancesOfFailedWrites, InstancesOfFrames, InstancesOfKeys, InstancesOfLookUps, RunsOfNoFrame};
@@ -11,6 +12,7 @@ pub fn instances_of_runs()
     ensures empty { EmptyRuns }
     ensures status { StatusRuns }
     ensures answered { InstancesOfAnsweredQueries }
+    ensures replies { InstancesOfReplies }
     ensures strangers { StrangersAreRefused }
     ensures requests { InstancesOfRequests }
     ensures pages { InstancesOfPages }

@@ -2,7 +2,7 @@
 ghost use Rattle.pg_server.specs.Handles.{CallsAreRuns, RefusalsKeepAll};
 ghost use Rattle.pg_server.specs.Pages.{PagesGive, PagesStay, PagesStayInRuns, PullsGive, RunsGivePages, WholesGive};
 ghost use Rattle.pg_server.specs.Runs.{RefusalsKeep, TwoWorlds};
-ghost use Rattle.pg_server.specs.Served.{OneReading};
+ghost use Rattle.pg_server.specs.Served.{OneListOfBodies};
 ghost use Rattle.pg_server.specs.Transactions.{CommitKeeps, NoneWaitsForOthers, OthersWait, RollbackTakesBack, RollbacksTakeBack};
 
 /// A tenant that begins alike in two runs, and sends the same requests, gets the same replies and
@@ -12,8 +12,8 @@ pub fn law_two_worlds()
 {}
 
 /// What was read stands for one list of bodies.
-pub fn law_one_reading()
-    ensures { OneReading }
+pub fn law_one_list_of_bodies()
+    ensures { OneListOfBodies }
 {}
 
 /// Calls of `handle`, one after another, are a run of each tenant alone too.

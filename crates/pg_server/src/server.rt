@@ -7,7 +7,7 @@ ghost use Rattle.pg_server.specs.Counts.{inner_of, faults_of};
 ghost use Rattle.pg_server.specs.Handles.{Handles, key_asked, key_at, tenant_asked};
 ghost use Rattle.pg_server.specs.Holds.{HoldTenants, shared_of};
 ghost use Rattle.pg_server.specs.Runs.{asked};
-ghost use Rattle.pg_server.specs.Served.{read_faults, write_faults};
+ghost use Rattle.pg_server.specs.Served.{device, read_faults, write_faults};
 ghost use Rattle.pg_server.specs.Serves.{Serves};
 ghost use Rattle.pg_server.specs.State.{opening_server, state_at};
 ghost use Rattle.pg_server.specs.Step.{Answers, StepAt, RepliesAt, place_of};
@@ -59,7 +59,8 @@ impl<T: Tables> Model for Server<T> {
 
     ghost view = { λ s. server_seen (cache_seen s.cache) s.tenants.items s.graphs };
 
-    ghost invariant = { λ s. AreTenants s.tokens s.tenants.items (graphs_of s.graphs) s.graphs.aside.begins };
+    ghost invariant = { λ s.
+        AreTenants s.tokens s.tenants.items (graphs_of s.graphs) s.graphs.aside.begins };
 }
 
 impl<T: Tables> Server<T> {
@@ -110,7 +111,8 @@ impl<T: Tables> Server<T> {
 
     /// The place of the tenant whose token a body shows, if the body is a request and there is memory to read it.
     pub fn tenant_of(&self, body: &[u8]) -> Option<usize>
-        ensures { IfSome result (λ place. tenant_asked self.now.state.tenants body.now ≡ Some place) }
+        ensures { IfSome result
+            (λ place. tenant_asked self.now.state.tenants body.now ≡ Some place) }
     {
         match self.request_of(body) {
             Some(request) => self.place(request.token()),
@@ -166,8 +168,10 @@ impl<T: Tables> Server<T> {
     }
 
     fn answer_request(&mut self, request: RequestBody) -> ReplyBytes
-        ensures tenants { Answers self.old.state.tenants (request_view request) result self.new.state.tenants }
-        ensures cache { LooksUp (key_asked self.old.state.tenants (request_view request)) result self.old.state.cache self.new.state.cache }
+        ensures tenants { Answers self.old.state.tenants
+            (request_view request) result self.new.state.tenants }
+        ensures cache { LooksUp (key_asked self.old.state.tenants (request_view request))
+            result self.old.state.cache self.new.state.cache }
         ensures names { AddsNames result self.old.state.names self.new.state.names }
     {
         match self.tokens.place(request.token()) {
@@ -178,8 +182,10 @@ impl<T: Tables> Server<T> {
 
     fn answer_at(&mut self, place: usize, request: RequestBody) -> ReplyBytes
         requires { place < length self.old.state.tenants }
-        ensures tenants { StepAt (Some place) self.old.state.tenants (request_view request) result self.new.state.tenants }
-        ensures cache { LooksUp (key_at place self.old.state.tenants (request_view request)) result self.old.state.cache self.new.state.cache }
+        ensures tenants { StepAt (Some place) self.old.state.tenants
+            (request_view request) result self.new.state.tenants }
+        ensures cache { LooksUp (key_at place self.old.state.tenants (request_view request))
+            result self.old.state.cache self.new.state.cache }
         ensures names { AddsNames result self.old.state.names self.new.state.names }
     {
         match self.reply_at(place, request) {
@@ -190,8 +196,10 @@ impl<T: Tables> Server<T> {
 
     fn reply_at(&mut self, place: usize, request: RequestBody) -> Result<ReplyBytes, Fault>
         requires { place < length self.old.state.tenants }
-        ensures tenants { RepliesAt place self.old.state.tenants (request_view request) result self.new.state.tenants }
-        ensures cache { LooksUp (key_at place self.old.state.tenants (request_view request)) (reply_of result) self.old.state.cache self.new.state.cache }
+        ensures tenants { RepliesAt place self.old.state.tenants
+            (request_view request) result self.new.state.tenants }
+        ensures cache { LooksUp (key_at place self.old.state.tenants (request_view request))
+            (reply_of result) self.old.state.cache self.new.state.cache }
         ensures names { AddsNames (reply_of result) self.old.state.names self.new.state.names }
     {
         self.graphs.turn_to(place);
@@ -208,7 +216,8 @@ impl<T: Tables> Server<T> {
     /// The body of a request that rolls back the transaction that the tenant at this place has open, if there is memory for it. There is none
     /// where the token is so long that only a shorter request can show it.
     pub fn rollback_body(&self, place: usize) -> Option<Vec<u8>>
-        ensures { IfSome result (λ body. RollsBack (state_at self.now.state place) (asked body.items)) }
+        ensures { IfSome result
+            (λ body. RollsBack (state_at self.now.state place) (asked body.items)) }
     {
         let Some(holder) = self.graphs.holder_at(place) else {
             return None;
@@ -232,8 +241,10 @@ impl<T: Tables> Server<T> {
         writer: &mut Counted<W>,
         max_frames: u64,
     ) -> End
-        ensures serves { Serves (R.remaining (inner_of reader.old)) (R.remaining (inner_of reader.new))
-            (W.contents (inner_of writer.old)) (W.contents (inner_of writer.new)) self.old.state self.new.state max_frames result }
+        ensures serves { Serves
+            (device (R.remaining (inner_of reader.old)) (R.remaining (inner_of reader.new)))
+            (device (W.contents (inner_of writer.old)) (W.contents (inner_of writer.new)))
+            self.old.state self.new.state max_frames result }
         ensures tenants { HoldTenants T.seen self.new }
         ensures read_faults { faults_of reader.new ≡ read_faults result (faults_of reader.old) }
         ensures write_faults { faults_of writer.new ≡ write_faults result (faults_of writer.old) }
@@ -259,7 +270,8 @@ impl<T: Tables> Service for Server<T> {
 
 /// Each tenant with no index.
 fn opening_tenants(alloc: Global, settings: Vec<TenantSettings>) -> Result<Vec<Tenant>, AllocError>
-    ensures { IfOk result (λ tenants. map opening_state tenants.items ≡ map opening settings.items) }
+    ensures { IfOk result
+        (λ tenants. map opening_state tenants.items ≡ map opening settings.items) }
 {
     let mut tenants = Vec::with_capacity(alloc, settings.len())?;
     for one in settings {

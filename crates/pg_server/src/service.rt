@@ -2,7 +2,7 @@
 ghost use Rattle.std.specs.Prelude.{◌≡◌, ℕ, List, length};
 ghost use Rattle.pg_server.specs.Counts.{inner_of, faults_of};
 ghost use Rattle.pg_server.specs.Frames.{frame, body_limit};
-ghost use Rattle.pg_server.specs.Served.{Served, too_long_reply, read_faults, write_faults};
+ghost use Rattle.pg_server.specs.Served.{Served, device, too_long_reply, read_faults, write_faults};
 ghost use Rattle.pg_server.specs.Wire.{Sends};
 
 use crate::counted::{Counted, DeviceFault};
@@ -30,8 +30,9 @@ pub(crate) fn serve<S: Service, R: Read, W: Write>(
     max_frames: u64,
 ) -> End
     requires { length buffer.old ≡ body_limit }
-    ensures serves { Served S.answers (R.remaining (inner_of reader.old)) (R.remaining (inner_of reader.new))
-        (W.contents (inner_of writer.old)) (W.contents (inner_of writer.new))
+    ensures serves { Served S.answers
+        (device (R.remaining (inner_of reader.old)) (R.remaining (inner_of reader.new)))
+        (device (W.contents (inner_of writer.old)) (W.contents (inner_of writer.new)))
         service.old service.new max_frames result }
     ensures read_faults { faults_of reader.new ≡ read_faults result (faults_of reader.old) }
     ensures write_faults { faults_of writer.new ≡ write_faults result (faults_of writer.old) }

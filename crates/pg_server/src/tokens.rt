@@ -24,6 +24,7 @@ impl TokenPlaces {
             places: BTreeMap::new(alloc),
         };
         let mut place = tenants.len();
+        // from the last tenant on, so that the first of two stays
         while place > 0 {
             place -= 1;
             tokens.put(alloc, &tenants[place], place)?;
@@ -38,7 +39,9 @@ impl TokenPlaces {
         tenant: &TenantSettings,
         place: usize,
     ) -> Result<(), AllocError>
-        ensures { OnOk result ((token : List ℕ) → place_in self.new token ≡ (if is_among (token_texts tenant.now) token then Some place else place_in self.old token)) }
+        ensures { OnOk result ((token : List ℕ)
+            → place_in self.new token ≡ (if is_among (token_texts tenant.now) token then Some place
+            else place_in self.old token)) }
     {
         for token in tenant.tokens() {
             let text = String::from_str(alloc, token.text())?;

@@ -6,14 +6,13 @@ use Rattle.pg_meaning.specs.Graph.{Graph}
 use Rattle.pg_meaning.specs.Meters.{State}
 use Rattle.pg_meaning.specs.Names.{Names}
 use Rattle.pg_meaning.specs.Plans.{IsPlanFrom, IsPlanOf, Plan}
-use Rattle.pg_meaning.specs.Queries.{Outcome, clauses_run, output_rows, returns, test_output}
+use Rattle.pg_meaning.specs.Queries.{Outcome, clauses_run, output_rows, returns, test_output, under_plan}
 use Rattle.pg_meaning.specs.Scopes.{columns}
 use Rattle.pg_meaning.specs.Tree.{Clause, Query}
 use Rattle.pg_meaning.specs.Value.{Entries}
 use Rattle.pg_meaning.specs.declared.fault.Fault.{Fault}
 use Rattle.pg_meter.specs.Quotas.{Steps}
 use Rattle.pg_rows.specs.States.{state_of}
-use Rattle.pg_tenant.specs.Outcomes.{under_plan}
 
 -- the output of the last rows under these columns
 abbrev pub output : Bool → Names → State → Result Outcome Fault
@@ -34,5 +33,4 @@ module _ (plan : Plan) (q : Query) (parameters : Entries) (graph : Graph) (max_s
     planned h = subst (λ r. IsPlanFrom [] cs r) (sym plan_is) (subst (λ ds. IsPlanFrom [] ds plan) (sym clauses_are) h)
 
     pub answer_run : answer ≡ (run p cs m >>= output (returns q.clauses) (columns q))
-    unfolding under_plan
     answer_run = sym (λ i. run (plan_is i) (clauses_are i) (steps_are i) >>= output (returns q.clauses) (columns q))

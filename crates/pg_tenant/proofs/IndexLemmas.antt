@@ -15,7 +15,7 @@ use Rattle.pg_meaning.specs.Order.{text_order}
 use Rattle.pg_meaning.specs.Plans.{Catalogue, is_indexed}
 use Rattle.pg_meaning.specs.declared.fault.Fault.{Fault}
 use Rattle.pg_meaning.specs.declared.fault.Fault.TheVariants.{IndexExists, NoSuchIndex, TooManyIndexes}
-use Rattle.pg_tenant.specs.Indexes.{Index, IndexesRise, index_order, index_tested, is_on_side, is_same, most_indexes, with_index, without_index}
+use Rattle.pg_tenant.specs.Indexes.{Index, IndexesRise, index_order, index_tested, is_same, most_indexes, stands_before, with_index, without_index}
 
 total : IsTotalOrder index_order
 total = then_total (on_total (λ (i : Index). i.0) (lists_total nat_cmp_total)) (on_total (λ (i : Index). i.1) (lists_total nat_cmp_total))
@@ -39,10 +39,10 @@ join i (x ∷ xs) ys h before behind k = (onward xs h.0, join i xs ys h.1 before
     onward [] all = (before.0, beyond ys behind)
     onward (y ∷ xs) all = (all.0, onward xs all.1)
 
-those_before : (i : Index) (indexes : Catalogue) → AllByRecursion (λ j. Before j i) (filter (λ j. is_on_side true j i) indexes)
+those_before : (i : Index) (indexes : Catalogue) → AllByRecursion (λ j. Before j i) (filter (λ j. stands_before j i) indexes)
 those_before i [] = tt
 those_before i (j ∷ js) =
-    elim (index_order j i) as (λ r. index_order j i ≡ r → AllByRecursion (λ k. Before k i) (cond (is_lt r) (j ∷ filter (λ k. is_on_side true k i) js) (filter (λ k. is_on_side true k i) js))) [
+    elim (index_order j i) as (λ r. index_order j i ≡ r → AllByRecursion (λ k. Before k i) (cond (is_lt r) (j ∷ filter (λ k. stands_before k i) js) (filter (λ k. stands_before k i) js))) [
       | Less ↦ λ e. (e, those_before i js)
       | Equal ↦ λ e. those_before i js
       | Greater ↦ λ e. those_before i js
@@ -63,10 +63,10 @@ tied i j e =
       | Greater ↦ λ l. absurd (let no : Greater ≡ Equal = sym (ap (then_key i j) l) ∙ e in cc)
     ] refl
 
-those_behind : (i : Index) (indexes : Catalogue) → is_indexed indexes i ≡ false → AllByRecursion (λ j. Before i j) (filter (λ j. is_on_side false j i) indexes)
+those_behind : (i : Index) (indexes : Catalogue) → is_indexed indexes i ≡ false → AllByRecursion (λ j. Before i j) (filter (λ j. not (stands_before j i)) indexes)
 those_behind i [] absent = tt
 those_behind i (j ∷ js) absent =
-    elim (index_order j i) as (λ r. index_order j i ≡ r → AllByRecursion (λ k. Before i k) (cond (not (is_lt r)) (j ∷ filter (λ k. is_on_side false k i) js) (filter (λ k. is_on_side false k i) js))) [
+    elim (index_order j i) as (λ r. index_order j i ≡ r → AllByRecursion (λ k. Before i k) (cond (not (is_lt r)) (j ∷ filter (λ k. not (stands_before k i)) js) (filter (λ k. not (stands_before k i)) js))) [
       | Less ↦ λ e. those_behind i js (others (is_same i j) absent)
       | Equal ↦ λ e. absurd (let no : true ≡ false = ap (λ b. b || is_indexed js i) (sym (tied i j e)) ∙ absent in cc)
       | Greater ↦ λ e. (total.antisymm i j ∙ ap ordering_reverse e, those_behind i js (others (is_same i j) absent))
@@ -78,8 +78,8 @@ those_behind i (j ∷ js) absent =
 
 one_more : (i : Index) (indexes : Catalogue) → is_indexed indexes i ≡ false → IsStrictlySortedBy index_order indexes → IsStrictlySortedBy index_order (with_index i indexes)
 one_more i indexes absent h =
-    join i (filter (λ j. is_on_side true j i) indexes) (filter (λ j. is_on_side false j i) indexes) (IsStrictlySortedBy-filter index_order (λ j. is_on_side true j i) indexes h)
-    (those_before i indexes) (those_behind i indexes absent) (IsStrictlySortedBy-filter index_order (λ j. is_on_side false j i) indexes h)
+    join i (filter (λ j. stands_before j i) indexes) (filter (λ j. not (stands_before j i)) indexes) (IsStrictlySortedBy-filter index_order (λ j. stands_before j i) indexes h)
+    (those_before i indexes) (those_behind i indexes absent) (IsStrictlySortedBy-filter index_order (λ j. not (stands_before j i)) indexes h)
 
 -- ---- requests
 

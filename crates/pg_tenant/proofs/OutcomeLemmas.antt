@@ -9,7 +9,7 @@ use Rattle.pg_meaning.specs.Grammar.{parameters_of}
 use Rattle.pg_meaning.specs.Graph.{Graph}
 use Rattle.pg_meaning.specs.Names.{Names}
 use Rattle.pg_meaning.specs.Plans.{Catalogue, Plan, plan_of}
-use Rattle.pg_meaning.specs.Queries.{answer_of}
+use Rattle.pg_meaning.specs.Queries.{answer_of, under_plan}
 use Rattle.pg_meaning.specs.Texts.{text_checked}
 use Rattle.pg_meaning.specs.Tree.{Query}
 use Rattle.pg_meaning.specs.Value.{Entries}
@@ -18,7 +18,7 @@ use Rattle.pg_meaning.specs.declared.fault.Fault.TheVariants.{TextTooLong, Missi
 use Rattle.pg_plan.proofs.MeaningLemmas.{texts_mean}
 use Rattle.pg_plan.specs.Plans.{plan_anchors, plan_query}
 use Rattle.pg_plan.specs.Reading.{greatest_text, tested_length}
-use Rattle.pg_tenant.specs.Outcomes.{all_given, are_given, permitted, query_outcome, under_plan, PlansAnswer, TextMeans}
+use Rattle.pg_tenant.specs.Outcomes.{all_given, are_given, permitted, query_outcome, PlansAnswer, TextMeans}
 
 -- ---- the plan of the text
 
@@ -28,7 +28,6 @@ short text h = ap (λ b. unless b TextTooLong) (le-leb (length text) greatest_te
 -- the plan that is made for some indexes names no others
 under_its_plan : (indexes : Catalogue) (q : Query) (plan : Plan) (parameters : Entries) (graph : Graph) (max_steps max_elements : ℕ) → plan ≡ plan_of indexes q
     → answer_of indexes q parameters graph max_steps max_elements ≡ under_plan plan q parameters graph max_steps max_elements
-unfolding under_plan
 under_its_plan indexes q plan parameters graph max_steps max_elements is =
     ap (λ p. under_plan p q parameters graph max_steps max_elements) (plan_of_is_whole indexes q ∙ sym is)
 

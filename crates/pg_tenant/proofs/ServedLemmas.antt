@@ -13,7 +13,7 @@ use Rattle.pg_live.specs.Settled.{Settles}
 use Rattle.pg_meaning.specs.Answer.{◌>>=◌, ◌>>◌, unless}
 use Rattle.pg_meaning.specs.Graph.{Graph}
 use Rattle.pg_meaning.specs.Plans.{Catalogue}
-use Rattle.pg_meaning.specs.Queries.{Outcome}
+use Rattle.pg_meaning.specs.Queries.{Outcome, under_plan}
 use Rattle.pg_meaning.specs.Value.{Entries}
 use Rattle.pg_meaning.specs.declared.fault.Fault.{Fault}
 use Rattle.pg_meaning.specs.declared.fault.Fault.TheVariants.{OutOfMemory, ReadOnly, TenantBusy, TransactionOpen, NoTransaction, NoSuchPage}
@@ -29,7 +29,7 @@ use Rattle.pg_tenant.proofs.OutcomeLemmas.{plans_answer}
 use Rattle.pg_tenant.proofs.SettledLemmas.{answer_or_refused, shown_settled}
 use Rattle.pg_tenant.specs.Answers.{Answered, shown_if_fitting}
 use Rattle.pg_tenant.specs.Indexes.{indexes_of}
-use Rattle.pg_tenant.specs.Outcomes.{are_given, early_tests, plan_outcome, query_outcome, text_outcome, text_query, under_plan}
+use Rattle.pg_tenant.specs.Outcomes.{are_given, early_tests, plan_outcome, query_outcome, text_outcome, text_query}
 use Rattle.pg_tenant.specs.Replies.{IsAnswer, IsShown}
 use Rattle.pg_tenant.specs.Settings.{TenantSettings, may_write}
 use Rattle.pg_tenant.specs.Solo.{Replied, done, end_tested, gone_back, is_busy, page_tested, pages_tested, pulls, replies, reported, serves, with_answer, with_status}

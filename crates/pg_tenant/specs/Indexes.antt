@@ -1,5 +1,5 @@
 -- A tenant's indexes: pairs of a label and a key, each once, in the order of their bytes; and what index requests make of them.
-use Rattle.std.specs.Prelude.{◌≡◌, ◌≢◌, ℕ, nat_lt, Bool, true, false, not, ◌&&◌, List, ◌∷◌, ◌++◌, filter, length, Result, Ok, Err, IfOk, IfErr, Vec, String}
+use Rattle.std.specs.Prelude.{◌≡◌, ◌≢◌, ℕ, nat_lt, Bool, not, ◌&&◌, List, ◌∷◌, ◌++◌, filter, length, Result, Ok, Err, IfOk, IfErr, Vec, String}
 use Rattle.std.specs.List.Sorted.{IsStrictlySortedBy}
 use Rattle.std.specs.Ordering.{is_lt, ordering_then}
 use Rattle.std.specs.Str.{bytes_eq}
@@ -29,13 +29,9 @@ index_order i j = ordering_then (text_order i.0 j.0) (text_order i.1 j.1)
 abbrev pub stands_before : Index → Index → Bool
 stands_before i j = is_lt (index_order i j)
 
-abbrev pub is_on_side : (before : Bool) → Index → Index → Bool
-is_on_side true i j = stands_before i j
-is_on_side false i j = not (stands_before i j)
-
 -- those before it, itself, then the others
 abbrev pub with_index : Index → Catalogue → Catalogue
-with_index i indexes = filter (λ j. is_on_side true j i) indexes ++ i ∷ filter (λ j. is_on_side false j i) indexes
+with_index i indexes = filter (λ j. stands_before j i) indexes ++ i ∷ filter (λ j. not (stands_before j i)) indexes
 
 abbrev pub is_same : Index → Index → Bool
 is_same i j = bytes_eq j.0 i.0 && bytes_eq j.1 i.1

@@ -1,17 +1,14 @@
 -- What a query text gives over a tenant's graph and indexes: the text's own tests, whether its token may write, whether its parameters are given, then its clauses.
-use Rattle.std.specs.Prelude.{◌≡◌, ℕ, ◌≤◌, Bool, ◌||◌, not, List, [], ◌∷◌, flat_map, length, Result, Ok, is_some}
+use Rattle.std.specs.Prelude.{◌≡◌, ℕ, ◌≤◌, Bool, ◌||◌, not, List, length, Result, Ok, is_some}
 use Rattle.std.specs.List.{list_all}
 use Rattle.pg_meaning.specs.Agreement.{OutcomeAgrees}
-use Rattle.pg_meaning.specs.Answer.{◌>>=◌, ◌>>◌, unless, each_step}
+use Rattle.pg_meaning.specs.Answer.{◌>>=◌, ◌>>◌, unless}
 use Rattle.pg_meaning.specs.Entries.{at_key}
 use Rattle.pg_meaning.specs.Grammar.{parameters_of}
 use Rattle.pg_meaning.specs.Graph.{Graph, IsGraph}
-use Rattle.pg_meaning.specs.Meters.{Quota, State}
 use Rattle.pg_meaning.specs.Names.{Names}
-use Rattle.pg_meaning.specs.Plans as plans
 use Rattle.pg_meaning.specs.Plans.{Catalogue}
-use Rattle.pg_meaning.specs.Queries.{Outcome, answer_of, clauses_run, output_rows, returns, test_output}
-use Rattle.pg_meaning.specs.Scopes.{columns}
+use Rattle.pg_meaning.specs.Queries.{Outcome, answer_of, under_plan}
 use Rattle.pg_meaning.specs.Tree.{Query}
 use Rattle.pg_meaning.specs.Value.{Entries}
 use Rattle.pg_meaning.specs.declared.fault.Fault.{Fault}
@@ -37,16 +34,6 @@ are_given parameters q = unless (all_given (parameters_of q) parameters) Missing
 -- the tests of a query that come before any clause
 abbrev pub early_tests : Bool → (parameters : Entries) → Query → Result (Unit {0}) Fault
 early_tests may_write parameters q = unless (may_write || not (updates q)) ReadOnly >> are_given parameters q
-
--- the answer under a plan whose indexes are all there
-unfoldable pub under_plan : plans.Plan → Query → (parameters : Entries) → Graph → (max_steps max_elements : ℕ) → Result Outcome Fault
-under_plan plan q parameters graph max_steps max_elements = do
-  let quota : Quota = record { max_steps = max_steps; max_elements = max_elements }
-  let begin : State = record { graph = graph; rows = [] ∷ []; steps = 0 }
-  last ← clauses_run parameters quota [] plan q.clauses begin
-  let rows = output_rows (returns q.clauses) last.rows
-  each_step (λ done v. test_output last.graph v) tt (flat_map (λ r. r) rows)
-  Ok (record { columns = columns q; rows = rows; graph = last.graph; steps = last.steps })
 
 module _ (may_write : Bool) (max_steps max_elements : ℕ) (parameters : Entries) where
   abbrev pub permitted : Query → Result (Unit {0}) Fault

@@ -1,8 +1,8 @@
 //! The indexes of a tenant as texts, in the order of their bytes.
-ghost use Rattle.std.specs.Prelude.{◌≡◌, ◌++◌, filter, IfOk, OnOk, string_bytes};
+ghost use Rattle.std.specs.Prelude.{◌≡◌, ◌++◌, filter, not, IfOk, OnOk, string_bytes};
 ghost use Rattle.pg_plan.specs.Catalogue.{catalogue_view};
 ghost use Rattle.pg_meaning.specs.Plans as spec;
-ghost use Rattle.pg_tenant.specs.Indexes.{is_same, is_on_side as on_side, stands_before, with_index as with_one, without_index as without_one};
+ghost use Rattle.pg_tenant.specs.Indexes.{is_same, stands_before, with_index as with_one, without_index as without_one};
 
 use pg_plan::Catalogue;
 use std::alloc::{AllocError, Global};
@@ -11,27 +11,19 @@ use std::alloc::{AllocError, Global};
 pub(crate) const MAX_INDEXES: usize = 16;
 
 fn is_index(index: &(String, String), label: &str, key: &str) -> bool
-    ensures { result ≡ is_same (label.now, key.now) (string_bytes index.now.0, string_bytes index.now.1) }
+    ensures { result
+        ≡ is_same (label.now, key.now) (string_bytes index.now.0, string_bytes index.now.1) }
 {
     index.0.as_str() == label && index.1.as_str() == key
 }
 
 fn is_before(index: &(String, String), label: &str, key: &str) -> bool
-    ensures { result ≡ stands_before (string_bytes index.now.0, string_bytes index.now.1) (label.now, key.now) }
+    ensures { result
+        ≡ stands_before (string_bytes index.now.0, string_bytes index.now.1) (label.now, key.now) }
 {
     let by_label = index.0.as_str().cmp(label);
     let by_key = index.1.as_str().cmp(key);
     by_label.then(by_key).is_lt()
-}
-
-fn is_on_side(index: &(String, String), label: &str, key: &str, before: bool) -> bool
-    ensures { result ≡ on_side before (string_bytes index.now.0, string_bytes index.now.1) (label.now, key.now) }
-{
-    if before {
-        is_before(index, label, key)
-    } else {
-        !is_before(index, label, key)
-    }
 }
 
 pub(crate) fn is_indexed(catalogue: &Catalogue, label: &str, key: &str) -> bool
@@ -61,19 +53,40 @@ fn copied(alloc: Global, index: &(String, String)) -> Result<(String, String), A
     index_of(alloc, index.0.as_str(), index.1.as_str())
 }
 
-/// Copies the indexes that stand before this one, or else those that don't.
-fn push_side(
+/// Copies the indexes that stand before this one.
+fn push_earlier(
     alloc: Global,
     indexes: &mut Catalogue,
     catalogue: &Catalogue,
     label: &str,
     key: &str,
-    before: bool,
 ) -> Result<(), AllocError>
-    ensures { OnOk result (catalogue_view indexes.new.items ≡ catalogue_view indexes.old.items ++ filter (λ j. on_side before j (label.now, key.now)) (catalogue_view catalogue.now.items)) }
+    ensures { OnOk result
+        (catalogue_view indexes.new.items ≡ catalogue_view indexes.old.items ++ filter
+        (λ j. stands_before j (label.now, key.now)) (catalogue_view catalogue.now.items)) }
 {
     for index in catalogue {
-        if is_on_side(index, label, key, before) {
+        if is_before(index, label, key) {
+            indexes.push(copied(alloc, index)?)?;
+        }
+    }
+    Ok(())
+}
+
+/// Copies the indexes that don't.
+fn push_others(
+    alloc: Global,
+    indexes: &mut Catalogue,
+    catalogue: &Catalogue,
+    label: &str,
+    key: &str,
+) -> Result<(), AllocError>
+    ensures { OnOk result
+        (catalogue_view indexes.new.items ≡ catalogue_view indexes.old.items ++ filter
+        (λ j. not (stands_before j (label.now, key.now))) (catalogue_view catalogue.now.items)) }
+{
+    for index in catalogue {
+        if !is_before(index, label, key) {
             indexes.push(copied(alloc, index)?)?;
         }
     }
@@ -87,18 +100,20 @@ pub(crate) fn with_index(
     label: &str,
     key: &str,
 ) -> Result<Catalogue, AllocError>
-    ensures { IfOk result (λ indexes. catalogue_view indexes.items ≡ with_one (label.now, key.now) (catalogue_view catalogue.now.items)) }
+    ensures { IfOk result (λ indexes. catalogue_view indexes.items
+        ≡ with_one (label.now, key.now) (catalogue_view catalogue.now.items)) }
 {
     let mut indexes = Vec::with_capacity(alloc, MAX_INDEXES)?;
-    push_side(alloc, &mut indexes, catalogue, label, key, true)?;
+    push_earlier(alloc, &mut indexes, catalogue, label, key)?;
     indexes.push(index_of(alloc, label, key)?)?;
-    push_side(alloc, &mut indexes, catalogue, label, key, false)?;
+    push_others(alloc, &mut indexes, catalogue, label, key)?;
     Ok(indexes)
 }
 
 /// A copy of the list, in its order.
 pub fn copy_indexes(alloc: Global, catalogue: &Catalogue) -> Result<Catalogue, AllocError>
-    ensures { IfOk result (λ indexes. catalogue_view indexes.items ≡ catalogue_view catalogue.now.items) }
+    ensures { IfOk result
+        (λ indexes. catalogue_view indexes.items ≡ catalogue_view catalogue.now.items) }
 {
     let mut indexes = Vec::with_capacity(alloc, catalogue.len())?;
     for index in catalogue {
@@ -114,7 +129,8 @@ pub(crate) fn without_index(
     label: &str,
     key: &str,
 ) -> Result<Catalogue, AllocError>
-    ensures { IfOk result (λ indexes. catalogue_view indexes.items ≡ without_one (label.now, key.now) (catalogue_view catalogue.now.items)) }
+    ensures { IfOk result (λ indexes. catalogue_view indexes.items
+        ≡ without_one (label.now, key.now) (catalogue_view catalogue.now.items)) }
 {
     let mut indexes = Vec::new(alloc);
     for index in catalogue {

@@ -5,8 +5,9 @@ ghost use Rattle.pg_plan.specs.Updates.{updates};
 ghost use Rattle.pg_tenant.specs.Outcomes.{all_given, early_tests};
 ghost use Rattle.pg_value_core.specs.Given.{parameters_view};
 
+use pg_meaning::Fault;
 use pg_plan::Plan;
-use pg_value_core::{Fault, Parameters};
+use pg_value_core::Parameters;
 
 /// Whether the token's right lets the query run.
 fn is_permitted(may_write: bool, plan: &Plan) -> bool
@@ -17,7 +18,8 @@ fn is_permitted(may_write: bool, plan: &Plan) -> bool
 
 /// Whether each of these parameters is given.
 fn are_given(names: &Vec<String>, parameters: &Parameters) -> bool
-    ensures { result ≡ all_given (map string_bytes names.now.items) (parameters_view parameters.now) }
+    ensures { result
+        ≡ all_given (map string_bytes names.now.items) (parameters_view parameters.now) }
 {
     for name in names {
         if parameters.get(name.as_str()).is_none() {
@@ -29,7 +31,8 @@ fn are_given(names: &Vec<String>, parameters: &Parameters) -> bool
 
 /// Whether the token's right lets the query run, and whether its parameters are given. It takes no memory.
 pub(crate) fn test_early(may_write: bool, parameters: &Parameters, plan: &Plan) -> Result<(), Fault>
-    ensures { result ≡ early_tests may_write (parameters_view parameters.now) (plan_query plan.now) }
+    ensures { result
+        ≡ early_tests may_write (parameters_view parameters.now) (plan_query plan.now) }
 {
     if !is_permitted(may_write, plan) {
         return Err(Fault::ReadOnly);

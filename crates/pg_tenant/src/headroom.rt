@@ -4,9 +4,9 @@ ghost use Rattle.pg_meaning.specs.declared.fault.Fault.TheVariants.{OutOfMemory}
 
 use pg_headroom::test_headroom;
 use pg_json::QueryReply;
+use pg_meaning::Fault;
 use pg_plan::Plan;
 use pg_syntax_tree::{Clause, Expression, Literal, SetItem};
-use pg_value_core::Fault;
 use std::alloc::Global;
 
 /// The reply to a query, or out of memory where its query stores something and too little memory is left after it. What only takes

@@ -14,8 +14,8 @@ use crate::tenant::Tenant;
 use pg_graph::Tables;
 use pg_json::{ReplyBytes, done};
 use pg_live::LiveGraph;
+use pg_meaning::Fault;
 use pg_plan::{Catalogue, check_length};
-use pg_value_core::Fault;
 use std::alloc::Global;
 use std::rc::Rc;
 
@@ -29,7 +29,8 @@ impl Tenant {
         label: &str,
         key: &str,
     ) -> Result<ReplyBytes, Fault>
-        ensures { Serves self.old self.new live.old live.new (create_index token.now label.now key.now) result }
+        ensures { Serves self.old self.new live.old live.new
+            (create_index token.now label.now key.now) result }
     {
         self.test_index(live, token, label, key)?;
         let indexes = with_one_more(alloc, &self.indexes, label, key)?;
@@ -47,7 +48,8 @@ impl Tenant {
         label: &str,
         key: &str,
     ) -> Result<ReplyBytes, Fault>
-        ensures { Serves self.old self.new live.old live.new (drop_index token.now label.now key.now) result }
+        ensures { Serves self.old self.new live.old live.new
+            (drop_index token.now label.now key.now) result }
     {
         self.test_index(live, token, label, key)?;
         let indexes = with_one_less(alloc, &self.indexes, label, key)?;
@@ -64,7 +66,9 @@ impl Tenant {
         label: &str,
         key: &str,
     ) -> Result<(), Fault>
-        ensures { result ≡ index_tested (may_write self.now.settings token.now) (is_open (state_over self.now live.now)) label.now key.now }
+        ensures { result
+            ≡ index_tested (may_write self.now.settings token.now)
+            (is_open (state_over self.now live.now)) label.now key.now }
     {
         if !self.settings.may_write(token) {
             return Err(Fault::ReadOnly);
@@ -84,8 +88,10 @@ fn with_one_more(
     label: &str,
     key: &str,
 ) -> Result<Rc<Catalogue>, Fault>
-    ensures ok { IfOk result (λ list. one_more (catalogue_view catalogue.now.items) label.now key.now ≡ Ok (indexes_of list)) }
-    ensures err { IfErr result (λ e. e ≢ OutOfMemory → one_more (catalogue_view catalogue.now.items) label.now key.now ≡ Err e) }
+    ensures ok { IfOk result (λ list.
+        one_more (catalogue_view catalogue.now.items) label.now key.now ≡ Ok (indexes_of list)) }
+    ensures err { IfErr result (λ e. e ≢ OutOfMemory
+        → one_more (catalogue_view catalogue.now.items) label.now key.now ≡ Err e) }
 {
     if is_indexed(catalogue, label, key) {
         return Err(Fault::IndexExists);
@@ -104,8 +110,10 @@ fn with_one_less(
     label: &str,
     key: &str,
 ) -> Result<Rc<Catalogue>, Fault>
-    ensures ok { IfOk result (λ list. one_less (catalogue_view catalogue.now.items) label.now key.now ≡ Ok (indexes_of list)) }
-    ensures err { IfErr result (λ e. e ≢ OutOfMemory → one_less (catalogue_view catalogue.now.items) label.now key.now ≡ Err e) }
+    ensures ok { IfOk result (λ list.
+        one_less (catalogue_view catalogue.now.items) label.now key.now ≡ Ok (indexes_of list)) }
+    ensures err { IfErr result (λ e. e ≢ OutOfMemory
+        → one_less (catalogue_view catalogue.now.items) label.now key.now ≡ Err e) }
 {
     if !is_indexed(catalogue, label, key) {
         return Err(Fault::NoSuchIndex);

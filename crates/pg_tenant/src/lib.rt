@@ -22,7 +22,7 @@ pub use settings::{Rights, TenantSettings, TokenSettings};
 pub use tenant::Tenant;
 
 /// Where there are some indexes, a text's answer is the one under its plan for these.
-pub fn law_of_plans()
+pub fn law_of_plan_answers()
     ensures { PlansAnswer }
 {}
 

@@ -4,14 +4,13 @@ ghost use Rattle.pg_cache.specs.Cache.{cache_seen};
 ghost use Rattle.pg_json.specs.Requests.{query as asked_query};
 ghost use Rattle.pg_live.specs.Settled.{HasBegun};
 ghost use Rattle.pg_meaning.specs.Graph.{Graph};
-ghost use Rattle.pg_meaning.specs.Queries.{Outcome};
+ghost use Rattle.pg_meaning.specs.Queries.{Outcome, under_plan};
 ghost use Rattle.pg_meaning.specs.declared.fault.Fault.{Fault as Refusal};
 ghost use Rattle.pg_names.specs.Names.{KeepsNames};
 ghost use Rattle.pg_plan.specs.Plans.{plan_anchors, plan_query};
 ghost use Rattle.pg_tenant.specs.Answers.{shown_if_fitting};
 ghost use Rattle.pg_tenant.specs.Indexes.{indexes_of};
 ghost use Rattle.pg_tenant.specs.LookUps.{FindsPlan, LooksUp, text_key};
-ghost use Rattle.pg_tenant.specs.Outcomes.{under_plan};
 ghost use Rattle.pg_tenant.specs.Replies.{IsAnswer, IsShown};
 ghost use Rattle.pg_tenant.specs.Step.{AddsNames, KeepsOthers, RunsPlan, Serves, reply_of};
 ghost use Rattle.pg_tenant.specs.TenantStates.{state_over};
@@ -25,11 +24,12 @@ use pg_expr::QueryContext;
 use pg_graph::Tables;
 use pg_json::{QueryReply, ReplyBytes};
 use pg_live::LiveGraph;
+use pg_meaning::Fault;
 use pg_meter::Meter;
 use pg_pages::Pages;
 use pg_plan::{Plan, check_length};
 use pg_run::{PlannedQuery, answer_clauses};
-use pg_value_core::{Fault, Parameters};
+use pg_value_core::Parameters;
 use std::alloc::Global;
 use std::hash::RandomState;
 use std::rc::Rc;
@@ -53,10 +53,13 @@ impl Tenant {
         asked: Asked,
     ) -> Result<ReplyBytes, Fault>
         requires begun { HasBegun live.old }
-        ensures serves { Serves self.old self.new live.old live.new (asked_query (string_bytes asked.token) (string_bytes text)
-            (parameters_view asked.parameters) asked.page) result }
-        ensures cache { LooksUp (text_key (state_over self.old live.old) (asked_query (string_bytes asked.token) (string_bytes text)
-            (parameters_view asked.parameters) asked.page)) (reply_of result) (cache_seen cache.old) (cache_seen cache.new) }
+        ensures serves { Serves self.old self.new live.old live.new
+            (asked_query (string_bytes asked.token)
+            (string_bytes text) (parameters_view asked.parameters) asked.page) result }
+        ensures cache { LooksUp
+            (text_key (state_over self.old live.old) (asked_query (string_bytes asked.token)
+            (string_bytes text) (parameters_view asked.parameters) asked.page))
+            (reply_of result) (cache_seen cache.old) (cache_seen cache.new) }
     {
         self.test_page(live, asked.page)?;
         let plan = self.plan_of(alloc, cache, text)?;
@@ -70,7 +73,8 @@ impl Tenant {
         cache: &mut PlanCache<RandomState>,
         text: String,
     ) -> Result<Rc<Plan>, Fault>
-        ensures { FindsPlan (string_bytes text) (indexes_of self.now.indexes) result (cache_seen cache.old) (cache_seen cache.new) }
+        ensures { FindsPlan (string_bytes text)
+            (indexes_of self.now.indexes) result (cache_seen cache.old) (cache_seen cache.new) }
     {
         check_length(text.as_str())?;
         let indexes = self.indexes.clone()?;
@@ -87,7 +91,8 @@ impl Tenant {
         asked: Asked,
     ) -> Result<ReplyBytes, Fault>
         requires begun { HasBegun live.old }
-        ensures answers { RunsPlan (string_bytes asked.token) plan.now (parameters_view asked.parameters) asked.page
+        ensures answers { RunsPlan
+            (string_bytes asked.token) plan.now (parameters_view asked.parameters) asked.page
             (state_over self.old live.old) result (state_over self.new live.new) }
         ensures names { AddsNames (reply_of result) live.old.names live.new.names }
         ensures others { KeepsOthers live.old live.new }
@@ -132,8 +137,10 @@ fn run_query<T: Tables>(
     plan: &Plan,
     notes: bool,
 ) -> Result<QueryReply, Fault>
-    ensures answers { IsAnswer notes result (under_plan (plan_anchors plan.now) (plan_query plan.now)
-        (parameters_view query.now.parameters.now) live.old.graph max_steps query.now.max_elements) live.new.graph }
+    ensures answers { IsAnswer notes result
+        (under_plan (plan_anchors plan.now) (plan_query plan.now)
+        (parameters_view query.now.parameters.now) live.old.graph max_steps query.now.max_elements)
+        live.new.graph }
     ensures aside { live.new.aside ≡ live.old.aside }
 {
     let mut meter = Meter::new(max_steps);
@@ -154,8 +161,10 @@ fn shown(
     asked: Asked,
     reply: Result<QueryReply, Fault>,
 ) -> Result<ReplyBytes, Fault>
-    ensures { (outcome : Result Outcome Refusal) (left : Graph) → IsAnswer (is_some asked.page) reply outcome left
-        → IsShown result (shown_if_fitting pages.old max_held (string_bytes asked.token) asked.page outcome) left pages.old pages.new }
+    ensures { (outcome : Result Outcome Refusal) (left : Graph)
+        → IsAnswer (is_some asked.page) reply outcome left
+        → IsShown result (shown_if_fitting pages.old max_held
+        (string_bytes asked.token) asked.page outcome) left pages.old pages.new }
 {
     let reply = reply?;
     match asked.page {

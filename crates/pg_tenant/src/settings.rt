@@ -31,12 +31,14 @@ impl Model for TokenSettings {
 }
 
 impl TokenSettings {
+    /// A token by its text, which a request shows, and what it may do.
     pub fn new(text: String, rights: Rights) -> TokenSettings
         ensures { result ≡ record { text = string_bytes text; rights = rights } }
     {
         TokenSettings { text, rights }
     }
 
+    /// The token itself, so a secret.
     pub fn text(&self) -> &str
         ensures { result.now ≡ self.now.text }
     {
@@ -65,17 +67,29 @@ impl Model for TenantSettings {
 
     ghost Value = { Seen };
 
-    ghost view = { λ t. record { max_steps = t.max_steps; max_elements = t.max_elements; max_held = t.max_held; tokens = t.tokens.items } };
+    ghost view = { λ t. record {
+      max_steps = t.max_steps;
+      max_elements = t.max_elements;
+      max_held = t.max_held;
+      tokens = t.tokens.items;
+    } };
 }
 
 impl TenantSettings {
+    /// The quotas, in steps a request, in nodes and relationships together, and in rows that may
+    /// wait to be pulled, and the tokens.
     pub fn new(
         max_steps: u64,
         max_elements: MaxElements,
         max_held: u64,
         tokens: Vec<TokenSettings>,
     ) -> TenantSettings
-        ensures { result ≡ record { max_steps = max_steps; max_elements = max_elements; max_held = max_held; tokens = tokens.items } }
+        ensures { result ≡ record {
+          max_steps = max_steps;
+          max_elements = max_elements;
+          max_held = max_held;
+          tokens = tokens.items;
+        } }
     {
         TenantSettings {
             max_steps,
@@ -85,12 +99,14 @@ impl TenantSettings {
         }
     }
 
+    /// How many steps one request may use.
     pub fn max_steps(&self) -> u64
         ensures { result ≡ self.now.max_steps }
     {
         self.max_steps
     }
 
+    /// How many nodes and relationships together the tenant's graph may have.
     pub fn max_elements(&self) -> MaxElements
         ensures { result ≡ self.now.max_elements }
     {
@@ -104,6 +120,7 @@ impl TenantSettings {
         self.max_held
     }
 
+    /// The tokens in the order of the configuration.
     pub fn tokens(&self) -> &[TokenSettings]
         ensures { result.now ≡ self.now.tokens }
     {

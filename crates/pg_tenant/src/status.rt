@@ -11,7 +11,7 @@ use crate::tenant::Tenant;
 use pg_graph::Tables;
 use pg_json::{ReplyBytes, TenantStatus, write_status};
 use pg_live::LiveGraph;
-use pg_value_core::Fault;
+use pg_meaning::Fault;
 use std::alloc::{AllocError, Global};
 
 impl Tenant {
@@ -21,7 +21,8 @@ impl Tenant {
         alloc: Global,
         live: &LiveGraph<T>,
     ) -> Result<ReplyBytes, Fault>
-        ensures { (token : List ℕ) → Serves self.now self.now live.now live.now (status token) result }
+        ensures { (token : List ℕ)
+            → Serves self.now self.now live.now live.now (status token) result }
     {
         let status = self.status_of(alloc, live)?;
         write_status(alloc, &status)
@@ -33,7 +34,8 @@ impl Tenant {
         alloc: Global,
         live: &LiveGraph<T>,
     ) -> Result<TenantStatus, AllocError>
-        ensures { IfOk result (λ status. tenant_text status ≡ status_text (state_over self.now live.now)) }
+        ensures { IfOk result
+            (λ status. tenant_text status ≡ status_text (state_over self.now live.now)) }
     {
         let indexes = copy_indexes(alloc, &self.indexes)?;
         let graph = live.graph();

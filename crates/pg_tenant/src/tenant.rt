@@ -15,9 +15,9 @@ use pg_cache::PlanCache;
 use pg_graph::Tables;
 use pg_json::{ReplyBytes, RequestBody};
 use pg_live::LiveGraph;
+use pg_meaning::Fault;
 use pg_pages::Pages;
 use pg_plan::Catalogue;
-use pg_value_core::Fault;
 use std::alloc::{AllocError, Global};
 use std::hash::RandomState;
 use std::rc::Rc;
@@ -68,10 +68,11 @@ impl Tenant {
         ensures names { AddsNames (reply_of result) live.old.names live.new.names }
         ensures others { KeepsOthers live.old live.new }
         ensures settings { self.new.settings ≡ self.old.settings }
-        ensures cache { LooksUp (key_of (state_over self.old live.old) (request_view request)) (reply_of result)
-            (cache_seen cache.old) (cache_seen cache.new) }
+        ensures cache { LooksUp (key_of (state_over self.old live.old) (request_view request))
+            (reply_of result) (cache_seen cache.old) (cache_seen cache.new) }
         // what begins or ends a transaction is never refused for want of memory
-        ensures memory { takes_memory (request_view request) ≡ false → IfErr result (λ e. e ≢ OutOfMemory) }
+        ensures memory { takes_memory (request_view request) ≡ false
+            → IfErr result (λ e. e ≢ OutOfMemory) }
     {
         if self.is_busy(live, request.token()) {
             return Err(Fault::TenantBusy);
@@ -89,8 +90,8 @@ impl Tenant {
     ) -> Result<ReplyBytes, Fault>
         requires begun { HasBegun live.old }
         ensures serves { Serves self.old self.new live.old live.new (request_view request) result }
-        ensures cache { LooksUp (text_key (state_over self.old live.old) (request_view request)) (reply_of result)
-            (cache_seen cache.old) (cache_seen cache.new) }
+        ensures cache { LooksUp (text_key (state_over self.old live.old) (request_view request))
+            (reply_of result) (cache_seen cache.old) (cache_seen cache.new) }
     {
         match request {
             RequestBody::Query {

@@ -9,7 +9,7 @@ use crate::tenant::Tenant;
 use pg_graph::Tables;
 use pg_json::{ReplyBytes, done};
 use pg_live::LiveGraph;
-use pg_value_core::Fault;
+use pg_meaning::Fault;
 
 impl Tenant {
     /// Whether another token has a transaction open.

@@ -1,5 +1,6 @@
 use Rattle.pg_server.proofs.AnsweredQueryInstances.{instances_of_answered_queries}
 use Rattle.pg_server.proofs.InstanceLemmas.{empty_runs, status_runs}
+use Rattle.pg_server.proofs.ReplyInstances.{instances_of_replies}
 use Rattle.pg_server.proofs.RequestInstances.{instances_of_pages, instances_of_requests, strangers_are_refused}
 use Rattle.pg_server.proofs.ServingInstances.{instances_of_ends, instances_of_failed_writes, instances_of_frames, instances_of_keys, instances_of_look_ups, runs_of_no_frame}
 use Rattle.pg_server.proofs.instances.instances_of_runs.Goals as goal
@@ -12,6 +13,9 @@ returns-clause-status c = status_runs
 
 pub returns-clause-answered : goal.returns-clause-answered
 returns-clause-answered c = instances_of_answered_queries
+
+pub returns-clause-replies : goal.returns-clause-replies
+returns-clause-replies c = instances_of_replies
 
 pub returns-clause-strangers : goal.returns-clause-strangers
 returns-clause-strangers c = strangers_are_refused

@@ -1,5 +1,5 @@
 use Rattle.pg_tenant.proofs.OutcomeLemmas.{plans_answer}
-use Rattle.pg_tenant.proofs.law_of_plans.Goals as goal
+use Rattle.pg_tenant.proofs.law_of_plan_answers.Goals as goal
 
 pub returns : goal.returns
 returns c = plans_answer

@@ -1,9 +1,0 @@
-use Rattle.std.proofs.Common.{◌≡◌, ◌++◌, drop, filter}
-use Rattle.pg_plan.specs.Catalogue.{catalogue_view}
-use Rattle.pg_tenant.specs.Indexes.{is_on_side}
-use Rattle.pg_tenant.proofs.catalogue.push_side.Given as goal
-
-abbrev pub invariant-loop-index : goal.invariant-loop-index
-invariant-loop-index l =
-    catalogue_view l.indexes.items ++ filter (λ j. is_on_side l.before j (l.label, l.key)) (catalogue_view (drop l.index-index l.catalogue.items))
-    ≡ catalogue_view l.fn.indexes.items ++ filter (λ j. is_on_side l.before j (l.label, l.key)) (catalogue_view l.catalogue.items)

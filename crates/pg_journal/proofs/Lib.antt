@@ -1,0 +1,11 @@
+mod Found
+mod Moments
+mod Parts
+mod Reading
+mod Appended
+mod Begun
+mod Contents
+mod Decoded
+mod Flushes
+mod Spared
+mod Unique

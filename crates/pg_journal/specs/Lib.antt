@@ -1,0 +1,10 @@
+pub mod Digest
+pub mod Records
+pub mod Device
+pub mod Files
+pub mod Memory
+pub mod Past
+pub mod Reading
+pub mod Ready
+pub mod Steps
+pub mod Views

@@ -12,6 +12,9 @@ const MOST_WAITING: usize = 268_435_456;
 /// How many of one tenant's.
 const MOST_WAITING_OF_TENANT: usize = 33_554_432;
 
+/// No configuration has more of them.
+const MOST_TENANTS: usize = 4_096;
+
 /// What the program is asked for, with the path of its configuration.
 #[derive(Clone, Copy)]
 pub(crate) enum Command<'a> {
@@ -35,6 +38,7 @@ pub(crate) struct Options<'a> {
     keep_open: bool,
     log: Option<&'a str>,
     metrics: Option<SocketAddr>,
+    journal: Option<&'a str>,
 }
 
 /// The command of these words behind the program's name, if they are one.
@@ -64,6 +68,7 @@ impl<'a> Options<'a> {
             ),
             "--log" => set_once(&mut self.log, value),
             "--metrics" => set_once(&mut self.metrics, value.parse().ok()?),
+            "--journal" => set_once(&mut self.journal, value),
             _ => None,
         }
     }
@@ -90,12 +95,22 @@ impl<'a> Options<'a> {
             waiting: MOST_WAITING,
             tenant_waiting: MOST_WAITING_OF_TENANT,
             keep_open: self.keep_open,
+            left_open: if self.journal.is_some() {
+                MOST_TENANTS
+            } else {
+                0
+            },
         }
     }
 
     /// The path of the log, or a dash.
     pub(crate) fn log(&self) -> Option<&'a str> {
         self.log
+    }
+
+    /// The path of the journal.
+    pub(crate) fn journal(&self) -> Option<&'a str> {
+        self.journal
     }
 
     /// Where the metrics are told.
@@ -121,6 +136,7 @@ fn options_of(words: &[String]) -> Option<Options<'_>> {
         keep_open: false,
         log: None,
         metrics: None,
+        journal: None,
     };
     let mut left = words;
     for _taken in 0..words.len() {

@@ -3,8 +3,8 @@ use crate::connection::{Connection, TRIES};
 use crate::connection_table::ConnectionTable;
 use crate::counts::{Counts, word_of};
 use crate::lines::{
-    Seconds, closed_line, lost_line, not_accepted_line, refused_line, rolled_back_line, start_line,
-    stop_line,
+    Seconds, answered_line, closed_line, lost_line, not_accepted_line, refused_line,
+    rolled_back_line, start_line, stop_line,
 };
 use crate::log::Log;
 use crate::scrapes::{Known, Scrapes};
@@ -183,6 +183,13 @@ impl<'a, C: Clock> Connections<'a, C> {
     /// Says that it begins.
     pub(crate) fn say_start(&mut self, address: SocketAddr) {
         if let Ok(line) = start_line(self.alloc, self.time(), address) {
+            self.log.push(&line);
+        }
+    }
+
+    /// Says how many requests of the journal were answered again.
+    pub(crate) fn say_answered(&mut self, requests: u64) {
+        if let Ok(line) = answered_line(self.alloc, self.time(), requests) {
             self.log.push(&line);
         }
     }

@@ -1,9 +1,10 @@
 //! Why the program ends with an error.
 ghost use Rattle.std.specs.Prelude.{◌≡◌};
-ghost use Rattle.graphd_listen.specs.Lines.{program_line, program_status};
+ghost use Rattle.graphd_listen.specs.Lines.{journal_line, journal_status, program_line, program_status};
 ghost use Rattle.graphd_listen.specs.declared.fault.ProgramFault.TheVariants.{Start};
 ghost use Rattle.pg_start.specs.declared.start_fault.StartFault.TheVariants.{OutOfMemory};
 
+use pg_journal::JournalError;
 use pg_start::StartFault;
 use std::alloc::AllocError;
 use std::io;
@@ -16,6 +17,12 @@ pub(crate) enum ProgramFault {
     Start(StartFault),
     /// The log can't be opened.
     Log,
+    /// The journal can't be opened.
+    OpenJournal,
+    /// The server isn't as its journal has it.
+    Journal(JournalError),
+    /// What was done can't be kept.
+    NotKept,
     /// The address can't be listened on.
     Listen,
     /// The system tells no more what connections are ready for, or what time it is.
@@ -55,10 +62,13 @@ impl ProgramFault {
     {
         match self {
             ProgramFault::Usage => {
-                "usage: graphd_listen CONFIG ADDRESS:PORT [--clients N] [--patience SECONDS] [--tenant-clients N] [--keep-open] [--log FILE] [--metrics ADDRESS:PORT] | graphd_listen --check CONFIG"
+                "usage: graphd_listen CONFIG ADDRESS:PORT [--clients N] [--patience SECONDS] [--tenant-clients N] [--keep-open] [--log FILE] [--metrics ADDRESS:PORT] [--journal FILE] | graphd_listen --check CONFIG"
             }
             ProgramFault::Start(fault) => fault.line(),
             ProgramFault::Log => "cannot open the log",
+            ProgramFault::OpenJournal => "cannot open the journal",
+            ProgramFault::Journal(fault) => line_of(*fault),
+            ProgramFault::NotKept => "cannot keep requests in the journal",
             ProgramFault::Listen => "cannot listen",
             ProgramFault::Wait => "cannot wait for connections",
         }
@@ -71,7 +81,37 @@ impl ProgramFault {
         match self {
             ProgramFault::Usage => 2,
             ProgramFault::Start(fault) => fault.status(),
-            ProgramFault::Log | ProgramFault::Listen | ProgramFault::Wait => 1,
+            ProgramFault::Journal(fault) => status_of(*fault),
+            ProgramFault::NotKept => 6,
+            ProgramFault::Log
+            | ProgramFault::OpenJournal
+            | ProgramFault::Listen
+            | ProgramFault::Wait => 1,
         }
+    }
+}
+
+/// What is told of a journal.
+fn line_of(fault: JournalError) -> &'static str
+    ensures { result.now ≡ journal_line fault }
+{
+    match fault {
+        JournalError::Memory => "out of memory",
+        JournalError::Failed => "the disk of the journal has failed",
+        JournalError::Full => "the journal can't grow further",
+        JournalError::Foreign => "the file is no journal",
+        JournalError::Damaged => "the journal is damaged",
+        JournalError::Differs => "a request of the journal is answered otherwise than before",
+    }
+}
+
+fn status_of(fault: JournalError) -> u8
+    ensures { result ≡ journal_status fault }
+{
+    match fault {
+        JournalError::Memory | JournalError::Failed | JournalError::Full => 1,
+        JournalError::Foreign => 3,
+        JournalError::Damaged => 4,
+        JournalError::Differs => 5,
     }
 }

@@ -44,6 +44,15 @@ pub(crate) fn start_line(
     format!(in alloc; "{{\"time\":{time},\"event\":\"start\",\"address\":\"{address}\"}}\n")
 }
 
+/// Requests of the journal were answered again.
+pub(crate) fn answered_line(
+    alloc: Global,
+    time: Seconds,
+    requests: u64,
+) -> Result<String, AllocError> {
+    format!(in alloc; "{{\"time\":{time},\"event\":\"journal\",\"requests\":{requests}}}\n")
+}
+
 pub(crate) fn stop_line(alloc: Global, time: Seconds, why: &str) -> Result<String, AllocError> {
     format!(in alloc; "{{\"time\":{time},\"event\":\"stop\",\"why\":\"{why}\"}}\n")
 }

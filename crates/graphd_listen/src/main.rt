@@ -17,7 +17,8 @@ use command::{Command, Options, command_of};
 use connections::Connections;
 use fault::ProgramFault;
 use log::{Log, Sink};
-use pg_listen::{ListenEnd, listen_on};
+use pg_journal::DiskFile;
+use pg_listen::{Journaled, ListenEnd, Unstarted, listen_on, listen_on_journal};
 use pg_start::{PooledServer, StartFault, new_server, read_config, take_stack};
 use std::env;
 use std::fs::OpenOptions;
@@ -68,8 +69,22 @@ fn serve(
     options: Options<'_>,
 ) -> Result<(), ProgramFault> {
     let config = read_config(rt, config)?;
+    let server = new_server(rt, config)?;
+    match options.journal() {
+        Some(path) => serve_kept(rt, server, path, address, options),
+        None => serve_unkept(rt, server, address, options),
+    }
+}
+
+/// Serves clients over a server of which nothing outlasts the process.
+fn serve_unkept(
+    rt: &HostRuntime,
+    server: PooledServer,
+    address: SocketAddr,
+    options: Options<'_>,
+) -> Result<(), ProgramFault> {
     // Its memory is left to the end of the process: to let go of each record would only take time.
-    let mut server: ManuallyDrop<PooledServer> = ManuallyDrop::new(new_server(rt, config)?);
+    let mut server: ManuallyDrop<PooledServer> = ManuallyDrop::new(server);
     let mut connections = begin(rt, address, options)?;
     let end = listen_on(
         rt.alloc(),
@@ -78,10 +93,70 @@ fn serve(
         options.limits(),
         u64::MAX,
     );
+    finish(&mut connections, end)
+}
+
+/// Serves clients over a server that answers again what its journal has, and keeps in it what it does.
+fn serve_kept(
+    rt: &HostRuntime,
+    server: PooledServer,
+    path: &str,
+    address: SocketAddr,
+    options: Options<'_>,
+) -> Result<(), ProgramFault> {
+    let Ok(file) = DiskFile::open(rt, path, folder_of(path)) else {
+        return Err(ProgramFault::OpenJournal);
+    };
+    let (service, requests) = match Journaled::start(rt.alloc(), server, file) {
+        Ok(started) => started,
+        Err(unstarted) => return Err(fault_of(rt, unstarted)),
+    };
+    let mut service = ManuallyDrop::new(service);
+    say_answered(rt, requests);
+    let mut connections = begin(rt, address, options)?;
+    connections.say_answered(requests);
+    let end = listen_on_journal(
+        rt.alloc(),
+        &mut connections,
+        &mut service,
+        options.limits(),
+        u64::MAX,
+    );
+    finish(&mut connections, end)
+}
+
+fn say_answered(rt: &HostRuntime, requests: u64) {
+    let _ = println!(rt; "graphd_listen: answered {requests} requests of the journal again");
+}
+
+/// Why a server isn't started with its journal; it is told how far it came.
+fn fault_of(rt: &HostRuntime, unstarted: Unstarted) -> ProgramFault {
+    let requests = unstarted.requests;
+    let _ = eprintln!(rt;
+        "graphd_listen: answered {requests} requests of the journal again, and no further one"
+    );
+    ProgramFault::Journal(unstarted.fault)
+}
+
+/// The folder of a file's path.
+fn folder_of(path: &str) -> &str {
+    match path.rsplit_once('/') {
+        Some(("", _)) => "/",
+        Some((folder, _)) => folder,
+        None => ".",
+    }
+}
+
+/// Tells what is left to tell, and how it ended.
+fn finish(
+    connections: &mut Connections<'_, HostRuntime>,
+    end: ListenEnd,
+) -> Result<(), ProgramFault> {
     connections.finish();
     connections.say_stop(word_of(end));
     match end {
         ListenEnd::Stopped => Ok(()),
+        ListenEnd::NotKept => Err(ProgramFault::NotKept),
         ListenEnd::Enough | ListenEnd::Failed => Err(ProgramFault::Wait),
         ListenEnd::NoMemory => Err(StartFault::OutOfMemory.into()),
     }
@@ -128,6 +203,7 @@ fn word_of(end: ListenEnd) -> &'static str {
     match end {
         ListenEnd::Stopped => "asked",
         ListenEnd::Enough | ListenEnd::Failed => "failed",
+        ListenEnd::NotKept => "not_kept",
         ListenEnd::NoMemory => "no_memory",
     }
 }

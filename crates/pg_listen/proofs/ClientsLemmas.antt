@@ -1,5 +1,5 @@
 -- The table of clients changes at one client at a time.
-use Rattle.std.proofs.Common.{◌≡◌, ◌≢◌, ℕ, ◌+◌, ◌≤◌, false, List, [], ◌∷◌, ◌++◌, Option, Some, None, refl, sym, ap, ◌∙◌, subst, append-nil, cond, nat_eq, arith}
+use Rattle.std.proofs.Common.{◌≡◌, ◌≢◌, ℕ, ◌+◌, ◌≤◌, false, List, [], ◌∷◌, ◌++◌, Option, Some, None, sym, ap, ◌∙◌, subst, append-nil, cond, nat_eq, arith}
 use Rattle.std.specs.Prelude.{All}
 use Rattle.std.proofs.Common.{inl, inr}
 use Rattle.std.proofs.lemmas.Bool.{cases_eq, false≢true}
@@ -8,7 +8,7 @@ use Rattle.std.proofs.lemmas.List.{map-append}
 use Rattle.std.proofs.lemmas.List.Elements.{All-nil, All-append}
 use Rattle.pg_listen.specs.Client.{seen}
 use Rattle.pg_listen.specs.declared.client.Client.{Client}
-use Rattle.pg_listen.specs.Events.{Event, by_server, received_at, sent_at, exchange_at, received_from, sent_to, exchanges_by, IsSilent}
+use Rattle.pg_listen.specs.Events.{Event, received_at, sent_at, exchange_at, received_from, sent_to, exchanges_by, IsSilent}
 use Rattle.pg_server.specs.Exchange.{Exchange, bodies_of, replies_of}
 use Rattle.pg_server.specs.Frames.{frame, IsShort}
 use Rattle.pg_server.specs.Served.{frames}
@@ -200,35 +200,32 @@ module _ (before : List Event) (at at' : ℕ → Option Client) (next : ℕ) (s 
   stand_kept k client is others new now same =
       subst (λ l. Stand l at' next) (append-nil before) (stand_moved k client is (seen client) [] (Passes-nil k (seen client)) others new now same)
 
--- a request of the server's own concerns no client
-module _ (e : Exchange) (c : ℕ) where
-  own_silent : IsSilent c (by_server e ∷ [])
-  own_silent = record { received = refl; exchanges = refl; sent = refl }
-
-  beginning_silent : (front back : List Event) → front ++ back ≡ by_server e ∷ [] → IsSilent c front
+-- an event that concerns no client
+module _ (event : Event) (c : ℕ) (quiet : IsSilent c (event ∷ [])) where
+  beginning_silent : (front back : List Event) → front ++ back ≡ event ∷ [] → IsSilent c front
   beginning_silent [] back are = silent-nil c
   beginning_silent (f ∷ []) back are =
-      let head : f ≡ by_server e = cc are in
-      subst (λ x. IsSilent c (x ∷ [])) (sym head) own_silent
+      let head : f ≡ event = cc are in
+      subst (λ x. IsSilent c (x ∷ [])) (sym head) quiet
   beginning_silent (f ∷ h ∷ front) back are = absurd (too_many are)
     where
-      too_many : f ∷ (h ∷ (front ++ back)) ≡ by_server e ∷ [] → ⊥
+      too_many : f ∷ (h ∷ (front ++ back)) ≡ event ∷ [] → ⊥
       too_many p = cc p
 
-module _ (before : List Event) (at : ℕ → Option Client) (next : ℕ) (s : Stand before at next) (e : Exchange) where
-  own_moments : (front back : List Event) → front ++ back ≡ before ++ by_server e ∷ [] → (c : ℕ) → Converses c front
-  own_moments front back are c =
-      elim (split front back before (by_server e ∷ []) are) [
+module _ (before : List Event) (at : ℕ → Option Client) (next : ℕ) (s : Stand before at next) (event : Event) (quiet : (c : ℕ) → IsSilent c (event ∷ [])) where
+  quiet_moments : (front back : List Event) → front ++ back ≡ before ++ event ∷ [] → (c : ℕ) → Converses c front
+  quiet_moments front back are c =
+      elim (split front back before (event ∷ []) are) [
         | inl p ↦ s.moments front p.0 p.1 c
         | inr p ↦
             let was = s.moments before [] (append-nil before) c in
-            subst (Converses c) (sym p.1) (was.0, stands_still c before p.0 was.0 (beginning_silent e c p.0 back p.2) was.1)
+            subst (Converses c) (sym p.1) (was.0, stands_still c before p.0 was.0 (beginning_silent event c (quiet c) p.0 back p.2) was.1)
       ]
 
-  pub stand_own : Stand (before ++ by_server e ∷ []) at next
-  stand_own =
+  pub stand_quiet : Stand (before ++ event ∷ []) at next
+  stand_quiet =
       record {
-        moments = own_moments;
-        live = λ c client is. stands_still c before (by_server e ∷ []) (seen client) (own_silent e c) (s.live c client is);
-        fresh = λ c above. (silent-append c before (by_server e ∷ []) (s.fresh c above).0 (own_silent e c), (s.fresh c above).1);
+        moments = quiet_moments;
+        live = λ c client is. stands_still c before (event ∷ []) (seen client) (quiet c) (s.live c client is);
+        fresh = λ c above. (silent-append c before (event ∷ []) (s.fresh c above).0 (quiet c), (s.fresh c above).1);
       }

@@ -1,8 +1,9 @@
 -- Events, one after the other.
 use Rattle.std.proofs.Common.{◌≡◌, ◌≢◌, ℕ, ◌==◌, List, [], ◌∷◌, ◌++◌, Option, None, Some, refl, sym, ap, ◌∙◌, subst, append_assoc, append-nil, if◌then◌else◌, arith}
 use Rattle.std.proofs.lemmas.Grind.{flat_map-append}
-use Rattle.pg_listen.specs.Events.{Event, received, answered, sent, received_at, sent_at, exchange_at, received_from, sent_to, exchanges_by, Adds, IsSilent}
-use Rattle.pg_server.specs.Exchange.{Exchange, Chain}
+use Rattle.pg_listen.specs.Courses.{Does, Course, OnlyCarried}
+use Rattle.pg_listen.specs.Events.{Event, received, answered, sent, by_server, settling, received_at, sent_at, exchange_at, received_from, sent_to, exchanges_by, Adds, IsSilent}
+use Rattle.pg_server.specs.Exchange.{Exchange}
 
 pub Adds-nil : (a : Option (List Event)) → Adds a a []
 Adds-nil None = tt
@@ -14,9 +15,19 @@ Adds-trans (Some a) None c xs ys p q = absurd p
 Adds-trans (Some a) (Some b) None xs ys p q = absurd q
 Adds-trans (Some a) (Some b) (Some c) xs ys p q = q ∙ ap (λ l. l ++ ys) p ∙ append_assoc a xs ys
 
-pub Chain-trans : {S : Type 0} (answers : S → List ℕ → List ℕ → S → Type 0) (old mid new : S) (xs ys : List Exchange) → Chain answers old xs mid → Chain answers mid ys new → Chain answers old (xs ++ ys) new
-Chain-trans {S = S} answers old mid new [] ys p q = subst (λ (s : S). Chain answers s ys new) p q
-Chain-trans answers old mid new (x ∷ xs) ys p q = (p.0, p.1, Chain-trans answers p.0 mid new xs ys p.2 q)
+pub Course-trans : {S : Type 0} (does : S → Event → S → Type 0) (old mid new : S) (xs ys : List Event) → Course does old xs mid → Course does mid ys new → Course does old (xs ++ ys) new
+Course-trans {S = S} does old mid new [] ys p q = subst (λ (s : S). Course does s ys new) p q
+Course-trans does old mid new (x ∷ xs) ys p q = (p.0, p.1, Course-trans does p.0 mid new xs ys p.2 q)
+
+-- what goes over the network leaves a service as it was
+module _ {S : Type 0} (answers : S → List ℕ → List ℕ → S → Type 0) (settles : S → S → Type 0) (all_kept : S → Type 0) where
+  pub carried_course : (may_send : Type 0) (s : S) → (may_send → all_kept s) → (events : List Event) → OnlyCarried may_send events → Course (Does answers settles all_kept) s events s
+  carried_course may_send s may [] only = refl
+  carried_course may_send s may (received c bytes ∷ events) only = (s, refl, carried_course may_send s may events only)
+  carried_course may_send s may (answered c e ∷ events) only = absurd only
+  carried_course may_send s may (sent c bytes ∷ events) only = (s, (may only.0, refl), carried_course may_send s may events only.1)
+  carried_course may_send s may (by_server e ∷ events) only = absurd only
+  carried_course may_send s may (settling ∷ events) only = absurd only
 
 -- a client is itself, and no other
 pub here : {X : Type 0} (c : ℕ) (x y : X) → (if c == c then x else y) ≡ x

@@ -1,6 +1,7 @@
 pub mod EventLemmas
 pub mod FrontLemmas
 pub mod ClientsLemmas
+pub mod KeepingLemmas
 pub mod ListenLemmas
 pub mod ManyLemmas
 pub mod MoveLemmas

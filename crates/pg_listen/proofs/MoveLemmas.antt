@@ -3,12 +3,13 @@ use Rattle.std.proofs.Common.{◌≡◌, ℕ, Bool, true, false, List, [], ◌�
 use Rattle.std.proofs.lemmas.Grind.{flat_map-append}
 use Rattle.std.proofs.lemmas.List.{map-append}
 use Rattle.std.proofs.lemmas.List.Elements.{All-nil, All-append}
-use Rattle.pg_listen.specs.Events.{Event, received_at, sent_at, exchange_at, exchange_of, own_of, own_in, carried_at, received_from, sent_to, exchanges_by, carried_in, Adds}
-use Rattle.pg_server.specs.Exchange.{Exchange, bodies_of, replies_of, Chain}
+use Rattle.pg_listen.specs.Events.{Event, received_at, sent_at, exchange_at, own_of, own_in, carried_at, received_from, sent_to, exchanges_by, carried_in, Adds}
+use Rattle.pg_listen.specs.Courses.{Does}
+use Rattle.pg_server.specs.Exchange.{Exchange, bodies_of, replies_of}
 use Rattle.pg_server.specs.Frames.{frame, IsShort}
 use Rattle.pg_server.specs.Served.{frames}
 use Rattle.pg_listen.specs.Moves.{Seen, refusal_of, Goes, Passes, Moves, Carries, Answers}
-use Rattle.pg_listen.proofs.EventLemmas.{Adds-nil, Adds-trans, Chain-trans, silent-nil, silent-append}
+use Rattle.pg_listen.proofs.EventLemmas.{Adds-nil, Adds-trans, Course-trans, carried_course, silent-nil, silent-append}
 
 -- a refusal comes once, and last
 pub joined : (o m n : Bool) (r1 r2 : List (List ℕ)) → (o ≡ true → m ≡ true) → (m ≡ true → (n ≡ true) × (r2 ≡ [])) → (r1 ++ r2) ++ refusal_of o n ≡ (r1 ++ refusal_of o m) ++ (r2 ++ refusal_of m n)
@@ -124,65 +125,68 @@ single c old new event g = record { whole = g; moments = moments }
 pub Passes-nil : (c : ℕ) (s : Seen) → Passes c s s []
 Passes-nil c s = still c s s (Goes-nil c s)
 
-module _ {S : Type 0} (answers : S → List ℕ → List ℕ → S → Type 0) (c : ℕ) where
-  pub Answers-nil : (s : S) (old : Seen) → Answers answers c s s old old []
-  Answers-nil s old = record { passes = Passes-nil c old; none = refl; chain = refl }
+module _ {S : Type 0} (does : S → Event → S → Type 0) (c : ℕ) where
+  pub Answers-nil : (s : S) (old : Seen) → Answers does c s s old old []
+  Answers-nil s old = record { passes = Passes-nil c old; none = refl; course = refl }
 
   module _ (old mid new : Seen) (xs ys : List Event) where
-    pub Answers-trans : (s t u : S) → Answers answers c s t old mid xs → Answers answers c t u mid new ys → Answers answers c s u old new (xs ++ ys)
+    pub Answers-trans : (s t u : S) → Answers does c s t old mid xs → Answers does c t u mid new ys → Answers does c s u old new (xs ++ ys)
     Answers-trans s t u a b =
         record {
           passes = Passes-trans c old mid new xs ys a.passes b.passes;
           none = flat_map-append carried_at xs ys ∙ ap (λ l. l ++ carried_in ys) a.none ∙ b.none;
-          chain = subst (λ l. Chain answers s l u) (sym (flat_map-append exchange_of xs ys)) (Chain-trans answers s t u _ _ a.chain b.chain);
+          course = Course-trans does s t u _ _ a.course b.course;
         }
 
-    pub Moves-trans : (s t u : S) (p q r : Option (List Event)) → Moves answers c p q s t old mid xs → Moves answers c q r t u mid new ys → Moves answers c p r s u old new (xs ++ ys)
+    pub Moves-trans : (s t u : S) (p q r : Option (List Event)) → Moves does c p q s t old mid xs → Moves does c q r t u mid new ys → Moves does c p r s u old new (xs ++ ys)
     Moves-trans s t u p q r a b =
         record {
           passes = Passes-trans c old mid new xs ys a.passes b.passes;
           known = subst (Adds p r) (sym (flat_map-append carried_at xs ys)) (Adds-trans p q r _ _ a.known b.known);
-          chain = subst (λ l. Chain answers s l u) (sym (flat_map-append exchange_of xs ys)) (Chain-trans answers s t u _ _ a.chain b.chain);
+          course = Course-trans does s t u _ _ a.course b.course;
         }
 
-  pub Moves-nil : (s : S) (p : Option (List Event)) (old : Seen) → Moves answers c p p s s old old []
-  Moves-nil s p old = record { passes = Passes-nil c old; known = Adds-nil p; chain = refl }
+  pub Moves-nil : (s : S) (p : Option (List Event)) (old : Seen) → Moves does c p p s s old old []
+  Moves-nil s p old = record { passes = Passes-nil c old; known = Adds-nil p; course = refl }
 
-  pub from_answers : (s t : S) (p : Option (List Event)) (old new : Seen) (xs : List Event) → Answers answers c s t old new xs → Moves answers c p p s t old new xs
-  from_answers s t p old new xs a = record { passes = a.passes; known = subst (Adds p p) (sym a.none) (Adds-nil p); chain = a.chain }
-
-  pub from_carries : (s : S) (p q : Option (List Event)) (old new : Seen) (xs : List Event) → Carries c p q old new xs → Moves answers c p q s s old new xs
-  from_carries s p q old new xs a = record { passes = a.passes; known = a.known; chain = subst (λ l. Chain answers s l s) (sym a.none) refl }
+  pub from_answers : (s t : S) (p : Option (List Event)) (old new : Seen) (xs : List Event) → Answers does c s t old new xs → Moves does c p p s t old new xs
+  from_answers s t p old new xs a = record { passes = a.passes; known = subst (Adds p p) (sym a.none) (Adds-nil p); course = a.course }
 
   -- what went on so far, and then one call, of which P is known
-  pub answers_then : (old mid : Seen) (P : Seen → Type 0) (s t u : S) → ((xs : List Event) × Answers answers c s t old mid xs) → ((after : Seen) × (ys : List Event) × Answers answers c t u mid after ys × P after) → (after : Seen) × (zs : List Event) × Answers answers c s u old after zs × P after
+  pub answers_then : (old mid : Seen) (P : Seen → Type 0) (s t u : S) → ((xs : List Event) × Answers does c s t old mid xs) → ((after : Seen) × (ys : List Event) × Answers does c t u mid after ys × P after) → (after : Seen) × (zs : List Event) × Answers does c s u old after zs × P after
   answers_then old mid P s t u a b = (b.0, a.0 ++ b.1, Answers-trans old mid b.0 a.0 b.1 s t u a.1 b.2, b.3)
 
-  pub moves_then : (old mid : Seen) (P : Seen → Type 0) (s t u : S) (p q o : Option (List Event)) → ((xs : List Event) × Moves answers c p q s t old mid xs) → ((after : Seen) × (ys : List Event) × Moves answers c q o t u mid after ys × P after) → (after : Seen) × (zs : List Event) × Moves answers c p o s u old after zs × P after
+  pub moves_then : (old mid : Seen) (P : Seen → Type 0) (s t u : S) (p q o : Option (List Event)) → ((xs : List Event) × Moves does c p q s t old mid xs) → ((after : Seen) × (ys : List Event) × Moves does c q o t u mid after ys × P after) → (after : Seen) × (zs : List Event) × Moves does c p o s u old after zs × P after
   moves_then old mid P s t u p q o a b = (b.0, a.0 ++ b.1, Moves-trans old mid b.0 a.0 b.1 s t u p q o a.1 b.2, b.3)
 
-  pub answers_more : (old mid new : Seen) (s t u : S) → ((xs : List Event) × Answers answers c s t old mid xs) → ((after : Seen) × (ys : List Event) × Answers answers c t u mid after ys × (after ≡ new)) → (zs : List Event) × Answers answers c s u old new zs
+  pub answers_more : (old mid new : Seen) (s t u : S) → ((xs : List Event) × Answers does c s t old mid xs) → ((after : Seen) × (ys : List Event) × Answers does c t u mid after ys × (after ≡ new)) → (zs : List Event) × Answers does c s u old new zs
   answers_more old mid new s t u a b =
       let all = a.0 ++ b.1 in
-      (all, subst (λ l. Answers answers c s u old l all) b.3 (Answers-trans old mid b.0 a.0 b.1 s t u a.1 b.2))
+      (all, subst (λ l. Answers does c s u old l all) b.3 (Answers-trans old mid b.0 a.0 b.1 s t u a.1 b.2))
 
-  pub moves_more : (old mid new : Seen) (s t u : S) (p q o : Option (List Event)) → ((xs : List Event) × Moves answers c p q s t old mid xs) → ((after : Seen) × (ys : List Event) × Moves answers c q o t u mid after ys × (after ≡ new)) → (zs : List Event) × Moves answers c p o s u old new zs
+  pub moves_more : (old mid new : Seen) (s t u : S) (p q o : Option (List Event)) → ((xs : List Event) × Moves does c p q s t old mid xs) → ((after : Seen) × (ys : List Event) × Moves does c q o t u mid after ys × (after ≡ new)) → (zs : List Event) × Moves does c p o s u old new zs
   moves_more old mid new s t u p q o a b =
       let all = a.0 ++ b.1 in
-      (all, subst (λ l. Moves answers c p o s u old l all) b.3 (Moves-trans old mid b.0 a.0 b.1 s t u p q o a.1 b.2))
+      (all, subst (λ l. Moves does c p o s u old l all) b.3 (Moves-trans old mid b.0 a.0 b.1 s t u p q o a.1 b.2))
 
   -- one call that answers, and then one that reads or writes
-  pub answers_carries : (old mid : Seen) (P : Seen → Type 0) (s t : S) (p q : Option (List Event)) → ((after : Seen) × (xs : List Event) × Answers answers c s t old after xs × (after ≡ mid)) → ((after : Seen) × (ys : List Event) × Carries c p q mid after ys × P after) → (after : Seen) × (zs : List Event) × Moves answers c p q s t old after zs × P after
+  pub answers_carries : (old mid : Seen) (P : Seen → Type 0) (s t : S) (p q : Option (List Event)) → ((after : Seen) × (xs : List Event) × Answers does c s t old after xs × (after ≡ mid)) → ((after : Seen) × (ys : List Event) × Moves does c p q t t mid after ys × P after) → (after : Seen) × (zs : List Event) × Moves does c p q s t old after zs × P after
   answers_carries old mid P s t p q a b =
-      let first : Moves answers c p p s t old mid a.1 = subst (λ l. Moves answers c p p s t old l a.1) a.3 (from_answers s t p old a.0 a.1 a.2) in
-      (b.0, a.1 ++ b.1, Moves-trans old mid b.0 a.1 b.1 s t t p p q first (from_carries t p q mid b.0 b.1 b.2), b.3)
+      let first : Moves does c p p s t old mid a.1 = subst (λ l. Moves does c p p s t old l a.1) a.3 (from_answers s t p old a.0 a.1 a.2) in
+      (b.0, a.1 ++ b.1, Moves-trans old mid b.0 a.1 b.1 s t t p p q first b.2, b.3)
 
   -- what went on, of which the network is told then
-  pub moves_told : (old mid : Seen) (P : Seen → Type 0) (s t : S) (p q o : Option (List Event)) → mid ≡ old → ((after : Seen) × (xs : List Event) × Moves answers c p q s t mid after xs × P after) → Adds q o [] → (after : Seen) × (xs : List Event) × Moves answers c p o s t old after xs × P after
+  pub moves_told : (old mid : Seen) (P : Seen → Type 0) (s t : S) (p q o : Option (List Event)) → mid ≡ old → ((after : Seen) × (xs : List Event) × Moves does c p q s t mid after xs × P after) → Adds q o [] → (after : Seen) × (xs : List Event) × Moves does c p o s t old after xs × P after
   moves_told old mid P s t p q o is m told =
       let known : Adds p o (carried_in m.1) = subst (Adds p o) (append-nil (carried_in m.1)) (Adds-trans p q o (carried_in m.1) [] m.2.known told) in
-      let moves : Moves answers c p o s t mid m.0 m.1 = record { passes = m.2.passes; known = known; chain = m.2.chain } in
-      (m.0, m.1, subst (λ seen. Moves answers c p o s t seen m.0 m.1) is moves, m.3)
+      let moves : Moves does c p o s t mid m.0 m.1 = record { passes = m.2.passes; known = known; course = m.2.course } in
+      (m.0, m.1, subst (λ seen. Moves does c p o s t seen m.0 m.1) is moves, m.3)
+
+-- bytes alone went over the network, and were sent only where that may be
+pub from_carries : {S : Type 0} (answers : S → List ℕ → List ℕ → S → Type 0) (settles : S → S → Type 0) (all_kept : S → Type 0) (may_send : Type 0) (c : ℕ) (P : Seen → Type 0) (s : S) (p q : Option (List Event)) (old : Seen)
+    → (may_send → all_kept s) → ((after : Seen) × (xs : List Event) × Carries may_send c p q old after xs × P after) → (after : Seen) × (xs : List Event) × Moves (Does answers settles all_kept) c p q s s old after xs × P after
+from_carries answers settles all_kept may_send c P s p q old may a =
+    (a.0, a.1, record { passes = a.2.passes; known = a.2.known; course = carried_course answers settles all_kept may_send s may a.1 a.2.only }, a.3)
 
 -- what holds whatever the result is
 pub whatever : {T E P : Type 0} (result : Result T E) → P → OnOk result P

@@ -2,8 +2,9 @@
 use Rattle.std.specs.Prelude.{◌≡◌, ℕ, ◌≤◌, List, [], ◌++◌, Option, Some, None, nat_eq, All}
 use Rattle.std.specs.HashMap.{get}
 use Rattle.pg_listen.specs.Client.{seen}
-use Rattle.pg_listen.specs.Events.{Event, exchanges_in, own_in, carried_in, Adds, IsSilent}
-use Rattle.pg_server.specs.Exchange.{Chain, bodies_of}
+use Rattle.pg_listen.specs.Events.{Event, own_in, carried_in, Adds, IsSilent}
+use Rattle.pg_server.specs.Exchange.{bodies_of}
+use Rattle.pg_listen.specs.Courses.{Course}
 use Rattle.pg_listen.specs.Listens.{StandsAt, Converses}
 use Rattle.pg_listen.specs.declared.client.Client.{Client}
 use Rattle.pg_listen.specs.declared.clients.Clients.{Clients}
@@ -30,11 +31,11 @@ pub record Rests (trace trace' : Option (List Event)) (old new : Clients) : Type
   pub stand : Keeps old new
 
 -- these events happen, whatever was before
-pub record AllMove {S : Type 0} (answers : S → List ℕ → List ℕ → S → Type 0) (is_own : List ℕ → Type 0) (trace trace' : Option (List Event)) (s s' : S) (old new : Clients) (events : List Event) : Type 0 where
+pub record AllMove {S : Type 0} (does : S → Event → S → Type 0) (is_own : List ℕ → Type 0) (trace trace' : Option (List Event)) (s s' : S) (old new : Clients) (events : List Event) : Type 0 where
   pub known : Adds trace trace' (carried_in events)
-  pub chain : Chain answers s (exchanges_in events) s'
+  pub course : Course does s events s'
   pub own : All is_own (bodies_of (own_in events))
   pub stand : (before : List Event) → AllStand before old → AllStand (before ++ events) new
 
-abbrev pub AllMoveOn : {S : Type 0} → (S → List ℕ → List ℕ → S → Type 0) → (List ℕ → Type 0) → Option (List Event) → Option (List Event) → S → S → Clients → Clients → Type 0
-AllMoveOn answers is_own trace trace' s s' old new = (events : List Event) × AllMove answers is_own trace trace' s s' old new events
+abbrev pub AllMoveOn : {S : Type 0} → (S → Event → S → Type 0) → (List ℕ → Type 0) → Option (List Event) → Option (List Event) → S → S → Clients → Clients → Type 0
+AllMoveOn does is_own trace trace' s s' old new = (events : List Event) × AllMove does is_own trace trace' s s' old new events

@@ -1,7 +1,9 @@
 pub mod Client
 pub mod Events
 pub mod Frames
+pub mod Keeping
 pub mod Clients
+pub mod Courses
 pub mod Listens
 pub mod Moves
 pub mod Network

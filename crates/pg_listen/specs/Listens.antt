@@ -1,5 +1,6 @@
 -- Listens: what serving many clients at once promises.
 use Rattle.std.specs.Prelude.{◌≡◌, ℕ, true, false, List, ◌++◌, Option, Some, All}
+use Rattle.pg_listen.specs.Courses.{Course}
 use Rattle.pg_listen.specs.Events.{Event, received_from, sent_to, exchanges_by, exchanges_in, own_in, carried_in, Adds}
 use Rattle.pg_json.specs.Requests.{rollback}
 use Rattle.pg_server.specs.Exchange.{bodies_of, replies_of, Chain}
@@ -21,6 +22,14 @@ pub record StandsAt (c : ℕ) (events : List Event) (seen : Seen) : Type 0 where
 
 abbrev pub Converses : ℕ → List Event → Type 0
 Converses c events = (seen : Seen) × StandsAt c events seen
+
+-- What happened, in order, as a course of the service; the server's own requests are of one kind; and each client converses, at each moment.
+pub record Serves {S : Type 0} (does : S → Event → S → Type 0) (is_own : List ℕ → Type 0) (trace trace' : Option (List Event)) (old new : S) : Type 0 where
+  pub events : List Event
+  pub known : Adds trace trace' (carried_in events)
+  pub course : Course does old events new
+  pub own : All is_own (bodies_of (own_in events))
+  pub moments : (front back : List Event) → front ++ back ≡ events → (c : ℕ) → Converses c front
 
 -- What happened, in order: the requests of all clients, and the server's own, are one chain of answers; its own are of one kind; and each
 -- client converses, at each moment.

@@ -1,7 +1,8 @@
 -- How one client's side goes on, and where it stands.
 use Rattle.std.specs.Prelude.{◌≡◌, ◌≢◌, ℕ, Bool, true, false, List, [], ◌∷◌, ◌++◌, Option, Result, OnOk, All}
-use Rattle.pg_listen.specs.Events.{Event, received_from, sent_to, exchanges_by, exchanges_in, own_in, carried_in, Adds, IsSilent}
-use Rattle.pg_server.specs.Exchange.{bodies_of, replies_of, Chain}
+use Rattle.pg_listen.specs.Events.{Event, received_from, sent_to, exchanges_by, own_in, carried_in, Adds, IsSilent}
+use Rattle.pg_listen.specs.Courses.{Course, OnlyCarried}
+use Rattle.pg_server.specs.Exchange.{bodies_of, replies_of}
 use Rattle.pg_server.specs.Frames.{IsShort}
 use Rattle.pg_server.specs.Served.{frames, too_long_reply}
 use Rattle.pg_listen.specs.Frames.{BeginsTooLong}
@@ -38,29 +39,29 @@ pub record Passes (c : ℕ) (old new : Seen) (events : List Event) : Type 0 wher
   pub moments : (front back : List Event) → front ++ back ≡ events → (mid : Seen) × Goes c old mid front
 
 -- and so much of them the network and the service did
-pub record Moves {S : Type 0} (answers : S → List ℕ → List ℕ → S → Type 0) (c : ℕ) (trace trace' : Option (List Event)) (s s' : S) (old new : Seen) (events : List Event) : Type 0 where
+pub record Moves {S : Type 0} (does : S → Event → S → Type 0) (c : ℕ) (trace trace' : Option (List Event)) (s s' : S) (old new : Seen) (events : List Event) : Type 0 where
   pub passes : Passes c old new events
   pub known : Adds trace trace' (carried_in events)
-  pub chain : Chain answers s (exchanges_in events) s'
+  pub course : Course does s events s'
 
 -- bytes went over the network, and nothing was answered
-pub record Carries (c : ℕ) (trace trace' : Option (List Event)) (old new : Seen) (events : List Event) : Type 0 where
+pub record Carries (may_send : Type 0) (c : ℕ) (trace trace' : Option (List Event)) (old new : Seen) (events : List Event) : Type 0 where
   pub passes : Passes c old new events
   pub known : Adds trace trace' (carried_in events)
-  pub none : exchanges_in events ≡ []
+  pub only : OnlyCarried may_send events
 
 -- the service answered, and nothing went over the network
-pub record Answers {S : Type 0} (answers : S → List ℕ → List ℕ → S → Type 0) (c : ℕ) (s s' : S) (old new : Seen) (events : List Event) : Type 0 where
+pub record Answers {S : Type 0} (does : S → Event → S → Type 0) (c : ℕ) (s s' : S) (old new : Seen) (events : List Event) : Type 0 where
   pub passes : Passes c old new events
   pub none : carried_in events ≡ []
-  pub chain : Chain answers s (exchanges_in events) s'
+  pub course : Course does s events s'
 
 -- At Ok the client stands at `new`. At Err its side went on to somewhere too, of which the client itself tells nothing: it is let go.
-abbrev pub CarriesOn : {T E : Type 0} → ℕ → Option (List Event) → Option (List Event) → Seen → Seen → Result T E → Type 0
-CarriesOn c trace trace' old new result = (after : Seen) × (events : List Event) × Carries c trace trace' old after events × OnOk result (after ≡ new)
+abbrev pub CarriesOn : {T E : Type 0} → Type 0 → ℕ → Option (List Event) → Option (List Event) → Seen → Seen → Result T E → Type 0
+CarriesOn may_send c trace trace' old new result = (after : Seen) × (events : List Event) × Carries may_send c trace trace' old after events × OnOk result (after ≡ new)
 
-abbrev pub AnswersOn : {S T E : Type 0} → (S → List ℕ → List ℕ → S → Type 0) → ℕ → S → S → Seen → Seen → Result T E → Type 0
-AnswersOn answers c s s' old new result = (after : Seen) × (events : List Event) × Answers answers c s s' old after events × OnOk result (after ≡ new)
+abbrev pub AnswersOn : {S T E : Type 0} → (S → Event → S → Type 0) → ℕ → S → S → Seen → Seen → Result T E → Type 0
+AnswersOn does c s s' old new result = (after : Seen) × (events : List Event) × Answers does c s s' old after events × OnOk result (after ≡ new)
 
-abbrev pub MovesOn : {S T E : Type 0} → (S → List ℕ → List ℕ → S → Type 0) → ℕ → Option (List Event) → Option (List Event) → S → S → Seen → Seen → Result T E → Type 0
-MovesOn answers c trace trace' s s' old new result = (after : Seen) × (events : List Event) × Moves answers c trace trace' s s' old after events × OnOk result (after ≡ new)
+abbrev pub MovesOn : {S T E : Type 0} → (S → Event → S → Type 0) → ℕ → Option (List Event) → Option (List Event) → S → S → Seen → Seen → Result T E → Type 0
+MovesOn does c trace trace' s s' old new result = (after : Seen) × (events : List Event) × Moves does c trace trace' s s' old after events × OnOk result (after ≡ new)

@@ -139,11 +139,11 @@ impl Client {
         tenants.release(self.tenant);
     }
 
-    /// Its turn has come.
-    pub(crate) fn take_turn(&mut self)
+    /// Its turn has come, or one that is for sending alone and counts for none.
+    pub(crate) fn take_turn(&mut self, only_sends: bool)
         ensures { seen self.new ≡ seen self.old }
     {
-        self.has_turn = false;
+        self.has_turn = self.has_turn && only_sends;
     }
 
     /// Gives it a turn, unless it has one to come.
@@ -157,12 +157,14 @@ impl Client {
         Ok(())
     }
 
-    /// Gives it a turn once fewer bytes of replies wait.
+    /// Gives it a turn once fewer bytes of replies wait, unless it has one to come.
     pub(crate) fn hold(&mut self, number: u64, tenants: &mut Tenants) -> Result<(), AllocError>
         ensures { seen self.new ≡ seen self.old }
     {
-        tenants.hold(self.tenant, number)?;
-        self.has_turn = true;
+        if !self.has_turn {
+            tenants.hold(self.tenant, number)?;
+            self.has_turn = true;
+        }
         Ok(())
     }
 }

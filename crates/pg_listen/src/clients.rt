@@ -1,7 +1,8 @@
 //! All clients of one service.
 ghost use Rattle.std.specs.Prelude.{◌≡◌, [], IfOk};
 ghost use Rattle.pg_listen.specs.Clients.{AllMoveOn, AllStand, Keeps, Rests};
-ghost use Rattle.pg_listen.specs.Listens.{Listens};
+ghost use Rattle.pg_listen.specs.Courses.{Does};
+ghost use Rattle.pg_listen.specs.Listens.{Serves};
 
 use crate::client::Client;
 use crate::frames::code_of;
@@ -25,6 +26,8 @@ pub enum ListenEnd {
     Enough,
     /// The network can't go on.
     Failed,
+    /// What was answered can't be kept, and so nothing more was sent.
+    NotKept,
     NoMemory,
 }
 
@@ -43,6 +46,8 @@ pub(crate) struct Clients {
     waits: bool,
     // the network can't go on
     failed: bool,
+    // what was answered can't be kept
+    not_kept: bool,
 }
 
 impl Clients {
@@ -50,16 +55,19 @@ impl Clients {
         ensures { IfOk result (λ clients. AllStand [] clients) }
     {
         let allowance = Allowance::new(alloc)?;
+        let mut tenants = Tenants::new(alloc, limits);
+        tenants.sessions.leave_first(limits.left_open)?;
         Ok(Clients {
             limits,
             by_number: HashMap::new(alloc),
             next: 0,
-            tenants: Tenants::new(alloc, limits),
+            tenants,
             allowance,
             stopping: false,
             until: 0,
             waits: false,
             failed: false,
+            not_kept: false,
         })
     }
 
@@ -125,7 +133,8 @@ impl Clients {
 
     /// A client's turn.
     fn serve<N: Network, S: Service>(&mut self, net: &mut N, service: &mut S, number: u64)
-        ensures { AllMoveOn S.answers S.is_own (N.trace net.old) (N.trace net.new) service.old service.new self.old self.new }
+        ensures { AllMoveOn (Does S.answers S.settles S.all_kept) S.is_own
+            (N.trace net.old) (N.trace net.new) service.old service.new self.old self.new }
     {
         let Some(client) = self.by_number.get_mut(&number) else {
             return;
@@ -287,7 +296,8 @@ impl Clients {
 
     /// Has the transaction of a tenant rolled back, by a request as any other, whose reply goes to nobody.
     fn roll_back<N: Network, S: Service>(&mut self, net: &mut N, service: &mut S, place: usize)
-        ensures { AllMoveOn S.answers S.is_own (N.trace net.old) (N.trace net.new) service.old service.new self.old self.new }
+        ensures { AllMoveOn (Does S.answers S.settles S.all_kept) S.is_own
+            (N.trace net.old) (N.trace net.new) service.old service.new self.old self.new }
     {
         let Some(body) = service.rollback(place) else {
             let is_open = service.is_open(place);
@@ -307,7 +317,8 @@ impl Clients {
 
     /// Has a transaction rolled back that was left, or else goes on, so that nothing else of it is answered meanwhile.
     fn step<N: Network, S: Service>(&mut self, net: &mut N, service: &mut S)
-        ensures { AllMoveOn S.answers S.is_own (N.trace net.old) (N.trace net.new) service.old service.new self.old self.new }
+        ensures { AllMoveOn (Does S.answers S.settles S.all_kept) S.is_own
+            (N.trace net.old) (N.trace net.new) service.old service.new self.old self.new }
     {
         match self.next_left() {
             Some(place) => self.roll_back(net, service, place),
@@ -317,12 +328,35 @@ impl Clients {
 
     /// Takes one turn, or asks the network.
     fn go_on<N: Network, S: Service>(&mut self, net: &mut N, service: &mut S)
-        ensures { AllMoveOn S.answers S.is_own (N.trace net.old) (N.trace net.new) service.old service.new self.old self.new }
+        ensures { AllMoveOn (Does S.answers S.settles S.all_kept) S.is_own
+            (N.trace net.old) (N.trace net.new) service.old service.new self.old self.new }
     {
+        if self.tenants.must_settle() {
+            self.keep_and_send(net, service);
+            return;
+        }
         match self.next_turn() {
             Some(number) => self.serve(net, service, number),
             None => self.look(net),
         }
+    }
+
+    /// Has all kept that was answered, and then sends what was put off until it is.
+    #[inline(never)]
+    fn keep_and_send<N: Network, S: Service>(&mut self, net: &mut N, service: &mut S)
+        ensures { AllMoveOn (Does S.answers S.settles S.all_kept) S.is_own
+            (N.trace net.old) (N.trace net.new) service.old service.new self.old self.new }
+    {
+        if !service.settle() {
+            self.not_kept = true;
+            return;
+        }
+        self.allowance.set_only_sends(true);
+        let numbers = self.tenants.take_put_off();
+        for number in &numbers {
+            self.serve(net, service, *number);
+        }
+        self.allowance.set_only_sends(false);
     }
 }
 
@@ -341,7 +375,8 @@ pub(crate) fn listen<N: Network, S: Service>(
     limits: Limits,
     steps: u64,
 ) -> ListenEnd
-    ensures { Listens S.answers S.is_own (N.trace net.old) (N.trace net.new) service.old service.new }
+    ensures { Serves (Does S.answers S.settles S.all_kept) S.is_own
+        (N.trace net.old) (N.trace net.new) service.old service.new }
 {
     let Ok(mut clients) = Clients::new(alloc, limits) else {
         return ListenEnd::NoMemory;
@@ -350,6 +385,9 @@ pub(crate) fn listen<N: Network, S: Service>(
         clients.step(net, service);
         if clients.failed {
             return ListenEnd::Failed;
+        }
+        if clients.not_kept {
+            return ListenEnd::NotKept;
         }
         if clients.is_over() {
             return ListenEnd::Stopped;

@@ -1,9 +1,12 @@
 //! Many clients of one server at once: frames in, reply frames out.
 #![tactic(auto)]
 
+mod again;
 mod client;
 mod clients;
 mod frames;
+mod journaled;
+mod keeper;
 mod limits;
 mod listen;
 mod network;
@@ -14,6 +17,8 @@ mod tenants;
 mod turn;
 
 pub use clients::ListenEnd;
+pub use journaled::{Journaled, Unstarted, listen_on_journal};
+pub use keeper::Keeper;
 pub use limits::Limits;
 pub use listen::listen_on;
 pub use network::{Closing, Network, Received, ReplyNote, Sent, Signal};

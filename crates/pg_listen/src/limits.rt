@@ -15,4 +15,6 @@ pub struct Limits {
     pub tenant_waiting: usize,
     /// Whether a transaction stays open when the client is gone that began it.
     pub keep_open: bool,
+    /// At how many places, from the first on, a tenant may have a transaction open at the start that no client began: it is rolled back.
+    pub left_open: usize,
 }

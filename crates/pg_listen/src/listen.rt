@@ -18,7 +18,8 @@ pub fn listen_on<N: Network, T: Tables>(
     limits: Limits,
     steps: u64,
 ) -> ListenEnd
-    ensures serves { ServesMany (N.trace net.old) (N.trace net.new) server.old.state server.new.state }
+    ensures serves { ServesMany
+        (N.trace net.old) (N.trace net.new) server.old.state server.new.state }
     ensures tenants { HoldTenants T.seen server.new }
 {
     law_calls();

@@ -1,5 +1,5 @@
 //! What answers requests.
-ghost use Rattle.std.specs.Prelude.{ℕ, List, IfSome};
+ghost use Rattle.std.specs.Prelude.{◌≡◌, true, ℕ, List, IfSome, ⊤};
 ghost use Rattle.pg_listen.specs.Listens.{IsRollback};
 ghost use Rattle.pg_server.specs.Handles.{Handles};
 
@@ -11,11 +11,25 @@ pub(crate) trait Service {
     // From the first state, a body may get this reply, which leaves the second state.
     ghost answers: { Self → List ℕ → List ℕ → Self → Type 0 };
 
+    // Keeping what was answered, or trying to, may lead from the first state to the second.
+    ghost settles: { Self → Self → Type 0 };
+
+    // All that was answered is kept, as far as it is to be.
+    ghost all_kept: { Self → Type 0 };
+
     // What the server asks on its own.
     ghost is_own: { List ℕ → Type 0 };
 
     fn answer(&mut self, body: &[u8]) -> ReplyBytes
         ensures { answers self.old body.now result self.new };
+
+    /// Whether all that was answered is known to be kept.
+    fn is_settled(&self) -> bool
+        ensures { result ≡ true → all_kept self.now };
+
+    /// Has all kept that was answered, and says whether it is. If it isn't, it never will be.
+    fn settle(&mut self) -> bool
+        ensures { settles self.old self.new };
 
     /// The place of the tenant whose token a body shows, if it is a request and does.
     fn tenant(&self, body: &[u8]) -> Option<usize>;
@@ -31,10 +45,23 @@ pub(crate) trait Service {
 impl<T: Tables> Service for Server<T> {
     ghost answers = { λ old body reply new. Handles old.state body reply new.state };
 
+    // Nothing of it outlasts its process.
+    ghost settles = { λ old new. new ≡ old };
+
+    ghost all_kept = { λ _. ⊤ };
+
     ghost is_own = { IsRollback };
 
     fn answer(&mut self, body: &[u8]) -> ReplyBytes {
         self.handle(body)
+    }
+
+    fn is_settled(&self) -> bool {
+        true
+    }
+
+    fn settle(&mut self) -> bool {
+        true
     }
 
     fn tenant(&self, body: &[u8]) -> Option<usize> {

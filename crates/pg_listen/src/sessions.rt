@@ -18,6 +18,11 @@ const NONE: Session = Session {
     is_left: false,
 };
 
+const LEFT: Session = Session {
+    begun: None,
+    is_left: true,
+};
+
 impl Session {
     /// A request of the client was done, and a transaction is open now or none is.
     fn after(client: u64, is_open: bool) -> Session
@@ -59,6 +64,15 @@ impl Sessions {
             of: Vec::new(alloc),
             is_due: false,
         }
+    }
+
+    /// What is open at so many places was begun by nobody who is there.
+    pub(crate) fn leave_first(&mut self, places: usize) -> Result<(), AllocError> {
+        for _left in self.of.len()..places {
+            self.of.push(LEFT)?;
+            self.is_due = true;
+        }
+        Ok(())
     }
 
     /// A request of the client was done by the tenant at this place, of which a transaction is open now or none is.

@@ -5,6 +5,10 @@ use crate::network::Closing;
 use crate::sessions::Sessions;
 use std::alloc::{AllocError, Global};
 use std::collections::VecDeque;
+use std::mem::replace;
+
+/// So many turns may put off what they send before all that was answered is kept.
+const MOST_PUT_OFF: usize = 64;
 
 /// The clients of one tenant, or those that have shown no tenant's token.
 #[derive(Drop)]
@@ -34,6 +38,8 @@ pub(crate) struct Tenants {
     turns: usize,
     // bytes of replies that no client has taken yet
     waiting: usize,
+    // the clients that are sent what waits once all that was answered is kept
+    unsent: Vec<u64>,
     pub(crate) sessions: Sessions,
 }
 
@@ -55,6 +61,7 @@ impl Tenants {
             order: VecDeque::new(alloc),
             turns: 0,
             waiting: 0,
+            unsent: Vec::new(alloc),
             sessions: Sessions::new(alloc),
         }
     }
@@ -139,6 +146,22 @@ impl Tenants {
         }
         self.turns = self.turns.saturating_add(1);
         Ok(())
+    }
+
+    /// The client is sent what waits once all that was answered is kept.
+    pub(crate) fn put_off(&mut self, client: u64) -> Result<(), AllocError> {
+        self.unsent.push(client)?;
+        Ok(())
+    }
+
+    /// Whether clients were put off, and either no other one has a turn to come or as many were as may be.
+    pub(crate) fn must_settle(&self) -> bool {
+        !self.unsent.is_empty() && (self.turns == 0 || MOST_PUT_OFF <= self.unsent.len())
+    }
+
+    /// The clients that were put off, which are no longer.
+    pub(crate) fn take_put_off(&mut self) -> Vec<u64> {
+        replace(&mut self.unsent, Vec::new(self.alloc))
     }
 
     /// The client whose turn it is.

@@ -1,6 +1,7 @@
 //! A client's turn: a few of its requests are answered, and bytes read and sent.
-ghost use Rattle.std.specs.Prelude.{◌≡◌, false, ℕ};
+ghost use Rattle.std.specs.Prelude.{◌≡◌, false, ℕ, ⊤};
 ghost use Rattle.pg_listen.specs.Client.{seen};
+ghost use Rattle.pg_listen.specs.Courses.{Does};
 ghost use Rattle.pg_listen.specs.Moves.{AnswersOn, CarriesOn, MovesOn};
 
 use crate::client::Client;
@@ -47,6 +48,8 @@ pub(crate) enum Step {
     Waits,
     /// There is more to do once fewer bytes of replies wait.
     Held,
+    /// There is more to send once what was answered is kept.
+    Unsettled,
 }
 
 /// What a turn may still use, and what turns may before the network is asked.
@@ -56,6 +59,8 @@ pub(crate) struct Allowance {
     scratch: Vec<u8>,
     // several tenants ask
     is_shared: bool,
+    // no requests are answered in turns
+    only_sends: bool,
     // turns and requests before the network is asked
     turns: u32,
     requests_between: u32,
@@ -80,6 +85,7 @@ impl Allowance {
             alloc,
             scratch,
             is_shared: false,
+            only_sends: false,
             turns: 0,
             requests_between: 0,
             requests: 0,
@@ -115,9 +121,18 @@ impl Allowance {
         true
     }
 
+    /// Whether turns are for sending alone.
+    pub(crate) fn set_only_sends(&mut self, only_sends: bool) {
+        self.only_sends = only_sends;
+    }
+
     /// What a turn may use that begins now.
     fn begin(&mut self, now: u64, room: usize) {
-        self.requests = self.most_requests();
+        self.requests = if self.only_sends {
+            0
+        } else {
+            self.most_requests()
+        };
         self.has_answered = false;
         self.room = room;
         self.until = now.saturating_add(MICROSECONDS);
@@ -176,7 +191,8 @@ fn receive<N: Network>(
     scratch: &mut [u8],
 ) -> Result<Step, Closing>
     requires { client.old.refused ≡ false }
-    ensures { CarriesOn number (N.trace net.old) (N.trace net.new) (seen client.old) (seen client.new) result }
+    ensures { CarriesOn ⊥ number
+        (N.trace net.old) (N.trace net.new) (seen client.old) (seen client.new) result }
 {
     match net.receive(number, scratch) {
         Received::Bytes(n) => match client.inbox.push(&scratch[..n]) {
@@ -226,7 +242,9 @@ fn answer<S: Service>(
     allowance: &mut Allowance,
 ) -> Result<Step, Closing>
     requires { client.old.refused ≡ false }
-    ensures { (c : ℕ) → AnswersOn S.answers c service.old service.new (seen client.old) (seen client.new) result }
+    ensures { (c : ℕ)
+        → AnswersOn (Does S.answers S.settles S.all_kept) c service.old service.new
+        (seen client.old) (seen client.new) result }
 {
     match front_of(client.inbox.front()) {
         Front::Partial => Ok(Step::Waits),
@@ -262,7 +280,8 @@ fn answer<S: Service>(
 
 /// Sends what waits, as far as it is taken.
 fn send<N: Network>(client: &mut Client, number: u64, net: &mut N) -> Result<Step, Closing>
-    ensures { CarriesOn number (N.trace net.old) (N.trace net.new) (seen client.old) (seen client.new) result }
+    ensures { CarriesOn ⊤ number
+        (N.trace net.old) (N.trace net.new) (seen client.old) (seen client.new) result }
 {
     match net.send(number, client.outbox.front()) {
         Sent::Taken(n) => {
@@ -283,7 +302,9 @@ fn answer_some<N: Network, S: Service>(
     tenants: &mut Tenants,
     allowance: &mut Allowance,
 ) -> Result<bool, Closing>
-    ensures { (c : ℕ) → AnswersOn S.answers c service.old service.new (seen client.old) (seen client.new) result }
+    ensures { (c : ℕ)
+        → AnswersOn (Does S.answers S.settles S.all_kept) c service.old service.new
+        (seen client.old) (seen client.new) result }
 {
     let mut any = false;
     for _answered in 0..REQUESTS {
@@ -304,16 +325,21 @@ fn answer_some<N: Network, S: Service>(
     Ok(any)
 }
 
-/// Sends what waits; where nothing does and no frame is whole, reads what is there.
-fn transfer<N: Network>(
+/// Sends what waits, once all that was answered is kept; where nothing waits and no frame is whole, reads what is there.
+fn transfer<N: Network, S: Service>(
     client: &mut Client,
     number: u64,
     net: &mut N,
+    service: &S,
     allowance: &mut Allowance,
 ) -> Result<Step, Closing>
-    ensures { CarriesOn number (N.trace net.old) (N.trace net.new) (seen client.old) (seen client.new) result }
+    ensures { MovesOn (Does S.answers S.settles S.all_kept) number (N.trace net.old)
+        (N.trace net.new) service.now service.now (seen client.old) (seen client.new) result }
 {
     if client.outbox.len() > 0 {
+        if !service.is_settled() {
+            return Ok(Step::Unsettled);
+        }
         send(client, number, net)
     } else if client.refused {
         Err(Closing::TooLong)
@@ -335,13 +361,14 @@ fn round<N: Network, S: Service>(
     tenants: &mut Tenants,
     allowance: &mut Allowance,
 ) -> Result<Step, Closing>
-    ensures { MovesOn S.answers number (N.trace net.old) (N.trace net.new) service.old service.new (seen client.old) (seen client.new) result }
+    ensures { MovesOn (Does S.answers S.settles S.all_kept) number (N.trace net.old)
+        (N.trace net.new) service.old service.new (seen client.old) (seen client.new) result }
 {
     allowance.set_now(net.now());
     match answer_some(client, number, net, service, tenants, allowance) {
         Ok(any) => {
             client.note_time(any, allowance.now);
-            transfer(client, number, net, allowance)
+            transfer(client, number, net, service, allowance)
         }
         Err(closing) => Err(closing),
     }
@@ -357,7 +384,8 @@ fn counted_round<N: Network, S: Service>(
     tenants: &mut Tenants,
     allowance: &mut Allowance,
 ) -> Result<Step, Closing>
-    ensures { MovesOn S.answers number (N.trace net.old) (N.trace net.new) service.old service.new (seen client.old) (seen client.new) result }
+    ensures { MovesOn (Does S.answers S.settles S.all_kept) number (N.trace net.old)
+        (N.trace net.new) service.old service.new (seen client.old) (seen client.new) result }
 {
     let had_tenant = client.has_tenant();
     match client.join(service, tenants) {
@@ -378,7 +406,8 @@ fn rounds<N: Network, S: Service>(
     tenants: &mut Tenants,
     allowance: &mut Allowance,
 ) -> Result<Step, Closing>
-    ensures { MovesOn S.answers number (N.trace net.old) (N.trace net.new) service.old service.new (seen client.old) (seen client.new) result }
+    ensures { MovesOn (Does S.answers S.settles S.all_kept) number (N.trace net.old)
+        (N.trace net.new) service.old service.new (seen client.old) (seen client.new) result }
 {
     for _round in 0..ROUNDS {
         match counted_round(client, number, net, service, tenants, allowance) {
@@ -398,9 +427,10 @@ pub(crate) fn turn<N: Network, S: Service>(
     tenants: &mut Tenants,
     allowance: &mut Allowance,
 ) -> Result<(), Closing>
-    ensures { MovesOn S.answers number (N.trace net.old) (N.trace net.new) service.old service.new (seen client.old) (seen client.new) result }
+    ensures { MovesOn (Does S.answers S.settles S.all_kept) number (N.trace net.old)
+        (N.trace net.new) service.old service.new (seen client.old) (seen client.new) result }
 {
-    client.take_turn();
+    client.take_turn(allowance.only_sends);
     allowance.begin(net.now(), client.room(tenants));
     let end = rounds(client, number, net, service, tenants, allowance);
     net.note(number, client.tenant(), &allowance.replies);
@@ -423,6 +453,7 @@ fn end_turn(
     let given = match step {
         Step::More | Step::Over => client.give_turn(number, tenants),
         Step::Held => client.hold(number, tenants),
+        Step::Unsettled => tenants.put_off(number),
         Step::Waits => Ok(()),
     };
     client.release(tenants);

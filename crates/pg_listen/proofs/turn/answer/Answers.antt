@@ -8,13 +8,13 @@ use Rattle.pg_listen.proofs.StepLemmas.{went_nowhere, was_refused, was_answered}
 use Rattle.pg_listen.proofs.turn.answer.Goals as goal
 
 pub returns-in-Partial : goal.returns-in-Partial
-returns-in-Partial g c = λ n. (seen c.args.client.now, [], record { passes = went_nowhere n _; none = refl; chain = refl }, refl)
+returns-in-Partial g c = λ n. (seen c.args.client.now, [], record { passes = went_nowhere n _; none = refl; course = refl }, refl)
 
 pub returns-in-Ok : goal.returns-in-Ok
 returns-in-Ok g c = λ n. (
   record (seen c.args.client.now) { pending = (seen c.args.client.now).pending ++ frame too_long_reply; refused = true },
   [],
-  record { passes = was_refused n (seen c.args.client.now) c.requires (subst BeginsTooLong c.front.ensures c.in-TooLong.ensures); none = refl; chain = refl },
+  record { passes = was_refused n (seen c.args.client.now) c.requires (subst BeginsTooLong c.front.ensures c.in-TooLong.ensures); none = refl; course = refl },
   ap (λ l. record (seen c.args.client.now) { pending = l; refused = true }) (ap (λ l. (seen c.args.client.now).pending ++ frame l) (sym (c.as_slice-text.ensures.value ∙ c.refusal-reply.ensures)) ∙ sym c.in-Ok.ensures),
 )
 
@@ -22,7 +22,7 @@ pub returns-in-TooLong : goal.returns-in-TooLong
 returns-in-TooLong g c = λ n. (
   record (seen c.args.client.now) { pending = (seen c.args.client.now).pending ++ frame too_long_reply; refused = true },
   [],
-  record { passes = was_refused n (seen c.args.client.now) c.requires (subst BeginsTooLong c.front.ensures c.in-TooLong.ensures); none = refl; chain = refl },
+  record { passes = was_refused n (seen c.args.client.now) c.requires (subst BeginsTooLong c.front.ensures c.in-TooLong.ensures); none = refl; course = refl },
   tt,
 )
 
@@ -41,7 +41,7 @@ returns-in-Ok-push_frame g c = λ client.
       record {
         passes = was_answered client (seen c.args.client.now) c.requires body reply rest stands short;
         none = refl;
-        chain = (c.answer-reply.new.self, subst (λ l. g.S.Service.answers c.args.service.now l reply c.answer-reply.new.self) is c.answer-reply.ensures, refl);
+        course = (c.answer-reply.new.self, subst (λ l. g.S.Service.answers c.args.service.now l reply c.answer-reply.new.self) is c.answer-reply.ensures, refl);
       },
       ap (λ l. record { inbox = l; pending = (seen c.args.client.now).pending ++ frame reply; refused = (seen c.args.client.now).refused }) (sym c.skip.ensures)
           ∙ ap (λ l. record { inbox = (seen (record c.args.client.now { inbox = c.skip.new.self })).inbox; pending = l; refused = (seen c.args.client.now).refused })
@@ -63,7 +63,7 @@ returns g c = λ client.
       record {
         passes = was_answered client (seen c.args.client.now) c.requires body reply rest stands short;
         none = refl;
-        chain = (c.answer-reply.new.self, subst (λ l. g.S.Service.answers c.args.service.now l reply c.answer-reply.new.self) is c.answer-reply.ensures, refl);
+        course = (c.answer-reply.new.self, subst (λ l. g.S.Service.answers c.args.service.now l reply c.answer-reply.new.self) is c.answer-reply.ensures, refl);
       },
       tt,
     )

@@ -2,7 +2,7 @@ use Rattle.std.proofs.Common.{[], ◌∷◌, refl, sym, subst}
 use Rattle.std.proofs.lemmas.List.Elements.{All-nil, All-cons}
 use Rattle.pg_listen.specs.Clients.{client_at}
 use Rattle.pg_listen.specs.Events.{by_server}
-use Rattle.pg_listen.proofs.ClientsLemmas.{stand_own}
+use Rattle.pg_listen.proofs.ClientsLemmas.{stand_quiet}
 use Rattle.pg_listen.proofs.EventLemmas.{Adds-nil}
 use Rattle.pg_listen.proofs.ListenLemmas.{rests_moves}
 use Rattle.pg_listen.proofs.clients.Clients.roll_back.Goals as goal
@@ -15,8 +15,8 @@ returns g c = (
   by_server (record { body = c.deref.result.now; reply = c.answer-reply.result }) ∷ [],
   record {
     known = c.note_rollback.ensures;
-    chain = (c.answer-reply.new.self, c.answer-reply.ensures, refl);
+    course = (c.answer-reply.new.self, c.answer-reply.ensures, refl);
     own = All-cons g.S.Service.is_own c.deref.result.now [] (subst g.S.Service.is_own (sym c.deref.ensures.value) c.in-Some.ensures) (All-nil g.S.Service.is_own);
-    stand = λ before s. stand_own before (client_at c.args.self.now) c.args.self.now.next s _;
+    stand = λ before s. stand_quiet before (client_at c.args.self.now) c.args.self.now.next s _ (λ n. record { received = refl; exchanges = refl; sent = refl });
   },
 )

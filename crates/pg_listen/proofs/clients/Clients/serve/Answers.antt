@@ -12,7 +12,7 @@ returns-in_default g c = (
   [],
   record {
     known = Adds-nil _;
-    chain = refl;
+    course = refl;
     own = All-nil g.S.Service.is_own;
     stand = λ before s. subst (λ l. Stand l (λ q. get nat_eq c.get_mut.follows.lender-at-none q) c.args.self.now.next) (sym (append-nil before))
         (subst (λ m. Stand before (λ q. get nat_eq m q) c.args.self.now.next) (sym c.get_mut.follows.holds-at-none) s);
@@ -26,7 +26,7 @@ returns-in-Ok g c =
       m.1,
       record {
         known = m.2.known;
-        chain = m.2.chain;
+        course = m.2.course;
         own = none_own g.S.Service.is_own m.1 m.2.passes.whole.none_own;
         stand = λ before s. stand_moved before (client_at c.args.self.now) _ _ s c.args.number c.in-Some.client.now (search rules) m.0 m.1 m.2.passes (at_others (client_at c.args.self.now) _ _ _ change) c.turn.new.client (at_key (client_at c.args.self.now) _ _ _ change) m.3;
       },
@@ -41,7 +41,7 @@ returns-in-Err g c =
       m.1,
       record {
         known = Adds-more _ _ _ _ m.2.known c.close.ensures;
-        chain = m.2.chain;
+        course = m.2.course;
         own = none_own g.S.Service.is_own m.1 m.2.passes.whole.none_own;
         stand = λ before s. stand_lost before (client_at c.args.self.now) (λ q. get nat_eq c.remove.new.self q) _ s c.args.number c.in-Some.client.now (search rules) m.0 m.1 m.2.passes
             (λ q apart. at_others (λ q. get nat_eq mid q) (λ q. get nat_eq c.remove.new.self q) _ _ removed q apart ∙ at_others (client_at c.args.self.now) (λ q. get nat_eq mid q) _ _ change q apart)

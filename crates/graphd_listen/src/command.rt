@@ -6,11 +6,17 @@ const MOST_CLIENTS: u64 = 65_536;
 
 const MOST_SECONDS: u64 = 86_400;
 
+/// How many seconds what was done may be on no disk.
+const MOST_SYNC_SECONDS: u64 = 60;
+
 /// How many bytes of replies may wait for being taken, over all clients.
 const MOST_WAITING: usize = 268_435_456;
 
 /// How many of one tenant's.
 const MOST_WAITING_OF_TENANT: usize = 33_554_432;
+
+/// How many bytes of records may wait before they are written.
+const MOST_UNSETTLED: usize = 4_194_304;
 
 /// No configuration has more of them.
 const MOST_TENANTS: usize = 4_096;
@@ -39,6 +45,18 @@ pub(crate) struct Options<'a> {
     log: Option<&'a str>,
     metrics: Option<SocketAddr>,
     journal: Option<&'a str>,
+    sync: Option<Sync>,
+}
+
+/// When requests that are done are on the disk.
+#[derive(Clone, Copy)]
+pub(crate) enum Sync {
+    /// Each before the next one is answered.
+    Every,
+    /// All that were answered before any reply is sent.
+    Turn,
+    /// At most so many seconds behind the reply.
+    Seconds(u64),
 }
 
 /// The command of these words behind the program's name, if they are one.
@@ -69,6 +87,7 @@ impl<'a> Options<'a> {
             "--log" => set_once(&mut self.log, value),
             "--metrics" => set_once(&mut self.metrics, value.parse().ok()?),
             "--journal" => set_once(&mut self.journal, value),
+            "--sync" => set_once(&mut self.sync, sync_of(value)?),
             _ => None,
         }
     }
@@ -94,6 +113,15 @@ impl<'a> Options<'a> {
             patience: self.patience.unwrap_or(30).saturating_mul(1_000_000),
             waiting: MOST_WAITING,
             tenant_waiting: MOST_WAITING_OF_TENANT,
+            unsettled: match self.sync {
+                Some(Sync::Every) => 1,
+                Some(Sync::Turn | Sync::Seconds(_)) | None => MOST_UNSETTLED,
+            },
+            // (ticks are a second apart)
+            delay: match self.sync {
+                Some(Sync::Seconds(seconds)) => seconds.saturating_sub(1).saturating_mul(1_000_000),
+                _ => 0,
+            },
             keep_open: self.keep_open,
             left_open: if self.journal.is_some() {
                 MOST_TENANTS
@@ -111,6 +139,11 @@ impl<'a> Options<'a> {
     /// The path of the journal.
     pub(crate) fn journal(&self) -> Option<&'a str> {
         self.journal
+    }
+
+    /// Whether replies leave before what was done is in the journal.
+    pub(crate) fn is_trailing(&self) -> bool {
+        matches!(self.sync, Some(Sync::Seconds(_)))
     }
 
     /// Where the metrics are told.
@@ -137,11 +170,12 @@ fn options_of(words: &[String]) -> Option<Options<'_>> {
         log: None,
         metrics: None,
         journal: None,
+        sync: None,
     };
     let mut left = words;
     for _taken in 0..words.len() {
         left = match left {
-            [] => return Some(options),
+            [] => break,
             [name, more @ ..] if name.as_str() == "--keep-open" => {
                 options.keep_open()?;
                 more
@@ -153,7 +187,18 @@ fn options_of(words: &[String]) -> Option<Options<'_>> {
             _ => return None,
         };
     }
+    if options.sync.is_some() && options.journal.is_none() {
+        return None;
+    }
     Some(options)
+}
+
+fn sync_of(word: &str) -> Option<Sync> {
+    match word {
+        "every" => Some(Sync::Every),
+        "turn" => Some(Sync::Turn),
+        _ => Some(Sync::Seconds(number_of(word, MOST_SYNC_SECONDS)?)),
+    }
 }
 
 /// One or more ASCII digits as a number from one to the greatest.

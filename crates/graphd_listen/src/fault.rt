@@ -19,6 +19,8 @@ pub(crate) enum ProgramFault {
     Log,
     /// The journal can't be opened.
     OpenJournal,
+    /// Two tenants have one name, and a journal knows tenants by their names.
+    NameTwice,
     /// The server isn't as its journal has it.
     Journal(JournalError),
     /// What was done can't be kept.
@@ -62,11 +64,12 @@ impl ProgramFault {
     {
         match self {
             ProgramFault::Usage => {
-                "usage: graphd_listen CONFIG ADDRESS:PORT [--clients N] [--patience SECONDS] [--tenant-clients N] [--keep-open] [--log FILE] [--metrics ADDRESS:PORT] [--journal FILE] | graphd_listen --check CONFIG"
+                "usage: graphd_listen CONFIG ADDRESS:PORT [--clients N] [--patience SECONDS] [--tenant-clients N] [--keep-open] [--log FILE] [--metrics ADDRESS:PORT] [--journal FILE] [--sync every|turn|SECONDS] | graphd_listen --check CONFIG"
             }
             ProgramFault::Start(fault) => fault.line(),
             ProgramFault::Log => "cannot open the log",
             ProgramFault::OpenJournal => "cannot open the journal",
+            ProgramFault::NameTwice => "with a journal, each tenant needs a name of its own",
             ProgramFault::Journal(fault) => line_of(*fault),
             ProgramFault::NotKept => "cannot keep requests in the journal",
             ProgramFault::Listen => "cannot listen",
@@ -79,7 +82,7 @@ impl ProgramFault {
         ensures { result ≡ program_status self.now }
     {
         match self {
-            ProgramFault::Usage => 2,
+            ProgramFault::Usage | ProgramFault::NameTwice => 2,
             ProgramFault::Start(fault) => fault.status(),
             ProgramFault::Journal(fault) => status_of(*fault),
             ProgramFault::NotKept => 6,

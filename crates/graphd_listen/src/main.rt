@@ -10,6 +10,7 @@ mod fault;
 mod lines;
 mod log;
 mod page;
+mod progress;
 mod scrape;
 mod scrapes;
 
@@ -18,8 +19,13 @@ use connections::Connections;
 use fault::ProgramFault;
 use log::{Log, Sink};
 use pg_journal::DiskFile;
-use pg_listen::{Journaled, ListenEnd, Unstarted, listen_on, listen_on_journal};
+use pg_listen::{
+    Difference, Journaled, ListenEnd, Trailing, Unstarted, listen_on, listen_on_journal,
+    listen_on_trailing,
+};
+use pg_server::{Config, TenantNames};
 use pg_start::{PooledServer, StartFault, new_server, read_config, take_stack};
+use progress::Progress;
 use std::env;
 use std::fs::OpenOptions;
 use std::mem::ManuallyDrop;
@@ -69,10 +75,21 @@ fn serve(
     options: Options<'_>,
 ) -> Result<(), ProgramFault> {
     let config = read_config(rt, config)?;
-    let server = new_server(rt, config)?;
     match options.journal() {
-        Some(path) => serve_kept(rt, server, path, address, options),
-        None => serve_unkept(rt, server, address, options),
+        Some(path) => {
+            let names = names_of(rt, &config)?;
+            let server = new_server(rt, config)?;
+            serve_kept(rt, server, names, path, address, options)
+        }
+        None => serve_unkept(rt, new_server(rt, config)?, address, options),
+    }
+}
+
+/// The tenants' names, by which a journal knows them.
+fn names_of(rt: &HostRuntime, config: &Config) -> Result<TenantNames, ProgramFault> {
+    match TenantNames::of(rt.alloc(), config)? {
+        Some(names) => Ok(names),
+        None => Err(ProgramFault::NameTwice),
     }
 }
 
@@ -100,6 +117,7 @@ fn serve_unkept(
 fn serve_kept(
     rt: &HostRuntime,
     server: PooledServer,
+    names: TenantNames,
     path: &str,
     address: SocketAddr,
     options: Options<'_>,
@@ -107,21 +125,40 @@ fn serve_kept(
     let Ok(file) = DiskFile::open(rt, path, folder_of(path)) else {
         return Err(ProgramFault::OpenJournal);
     };
-    let (service, requests) = match Journaled::start(rt.alloc(), server, file) {
+    let progress = Progress::new(rt);
+    let (service, requests, progress) = match Journaled::start(
+        rt.alloc(),
+        server,
+        names,
+        file,
+        progress,
+    ) {
         Ok(started) => started,
         Err(unstarted) => return Err(fault_of(rt, unstarted)),
     };
-    let mut service = ManuallyDrop::new(service);
+    progress.tell();
     say_answered(rt, requests);
     let mut connections = begin(rt, address, options)?;
     connections.say_answered(requests);
-    let end = listen_on_journal(
-        rt.alloc(),
-        &mut connections,
-        &mut service,
-        options.limits(),
-        u64::MAX,
-    );
+    let end = if options.is_trailing() {
+        let mut service = ManuallyDrop::new(Trailing::new(service));
+        listen_on_trailing(
+            rt.alloc(),
+            &mut connections,
+            &mut service,
+            options.limits(),
+            u64::MAX,
+        )
+    } else {
+        let mut service = ManuallyDrop::new(service);
+        listen_on_journal(
+            rt.alloc(),
+            &mut connections,
+            &mut service,
+            options.limits(),
+            u64::MAX,
+        )
+    };
     finish(&mut connections, end)
 }
 
@@ -129,13 +166,30 @@ fn say_answered(rt: &HostRuntime, requests: u64) {
     let _ = println!(rt; "graphd_listen: answered {requests} requests of the journal again");
 }
 
-/// Why a server isn't started with its journal; it is told how far it came.
+/// Why a server isn't started with its journal; it is told how far it came, and where in the file.
 fn fault_of(rt: &HostRuntime, unstarted: Unstarted) -> ProgramFault {
-    let requests = unstarted.requests;
+    let (requests, at) = (unstarted.requests, unstarted.at);
     let _ = eprintln!(rt;
-        "graphd_listen: answered {requests} requests of the journal again, and no further one"
+        "graphd_listen: answered {requests} requests of the journal again, up to byte {at}, and no further one"
     );
+    if unstarted.is_unknown {
+        let _ = eprintln!(rt;
+            "graphd_listen: the request at byte {at} has a token that no tenant of the configuration has, or its tenant has none"
+        );
+    }
+    if let Some(difference) = unstarted.difference {
+        say_difference(rt, difference);
+    }
     ProgramFault::Journal(unstarted.fault)
+}
+
+fn say_difference(rt: &HostRuntime, difference: Difference) {
+    let (before, now) = (difference.before, difference.now);
+    let (length, digest) = (before.length, before.digest);
+    let (length_now, digest_now) = (now.length, now.digest);
+    let _ = eprintln!(rt;
+        "graphd_listen: the reply had {length} bytes with digest {digest} before, and has {length_now} bytes with digest {digest_now} now"
+    );
 }
 
 /// The folder of a file's path.

@@ -9,6 +9,7 @@ pub mod Integers
 pub mod LabelLemmas
 pub mod Presence
 pub mod RowReads
+pub mod ScalarLemmas
 pub mod TextListLemmas
 pub mod Turns
 pub mod Walks

@@ -6,4 +6,5 @@ pub mod Kinds
 pub mod Operators
 pub mod Prepared
 pub mod Reads
+pub mod Scalars
 pub mod Contexts

@@ -24,6 +24,8 @@ use crate::operators::{
 use crate::prepared::Prepared;
 use crate::reads::{index, labels, property};
 use crate::row_context::RowContext;
+use crate::scalar::{Scalar, copied, text_copied};
+use crate::scalar_evaluation::scalar;
 use pg_graph::Tables;
 use pg_meaning::{Fault, Operator};
 use pg_rows::Columns;
@@ -65,7 +67,30 @@ pub fn evaluate_at<T: Tables>(
         (parameters_view context.now.parameters.now) graph.now
         (tree_of context.now.names.now prepared.now)) view }
 {
-    let found = find(context, graph, prepared.tree)?;
+    if !prepared.tells {
+        return found_at(context, graph, prepared.tree);
+    }
+    match scalar(context, graph, prepared.tree) {
+        Scalar::Untold => found_at(context, graph, prepared.tree),
+        Scalar::Null => Ok(Value::Null),
+        Scalar::Bool(b) => Ok(Value::Bool(b)),
+        Scalar::Int(i) => Ok(Value::Int(i)),
+        Scalar::Text(text) => text_copied(context.alloc, text),
+        Scalar::Lent(value) => copied(context.alloc, value),
+    }
+}
+
+/// The same by `find`, whatever the value.
+#[inline(never)]
+fn found_at<T: Tables>(
+    context: &RowContext<'_>,
+    graph: &Snapshot<'_, T>,
+    expression: &Expression,
+) -> Result<Value, Fault>
+    ensures { Gives result
+        (given context.now graph.now (expression_view expression.now)) view }
+{
+    let found = find(context, graph, expression)?;
     Ok(found.take(context.alloc)?)
 }
 

@@ -15,6 +15,10 @@ mod query_context;
 mod ranges;
 mod reads;
 mod row_context;
+mod scalar;
+mod scalar_evaluation;
+mod scalar_operators;
+mod scalar_trees;
 
 pub use conditions::condition;
 pub use evaluation::{evaluate, evaluate_at};

@@ -202,7 +202,7 @@ pub(crate) fn negated<'a>(count: usize, v: Result<Found<'_>, Fault>) -> Result<F
     }
 }
 
-fn turned(count: usize, t: Tri) -> Tri
+pub(crate) fn turned(count: usize, t: Tri) -> Tri
     ensures { result ≡ negated count t }
 {
     let mut turned = t;

@@ -114,6 +114,10 @@ sorted (x ∷ xs) rise = (each xs rise.0, sorted xs rise.1)
 pub keys_is : (xs : List ℕ) → Rises (λ n. n) xs → map.keys (set_of xs) ≡ xs
 keys_is xs rise = keys_of_entries (map_list entry_of xs) (subst (IsStrictlySortedBy nat_cmp) (sym (keys_back xs)) (sorted xs rise)) ∙ keys_back xs
 
+-- the empty set has no list but the empty one
+pub no_ids : (xs : List ℕ) → Rises (λ n. n) xs → set_of xs ≡ map.empty → xs ≡ []
+no_ids xs rise is = sym (keys_is xs rise) ∙ ap (λ m. map.keys m) is ∙ keys_is [] tt
+
 module _ (id : ℕ) (xs : List ℕ) (rise : Rises (λ n. n) (xs ++ id ∷ [])) where
   -- the last id is in the set
   pub last_is_in : map.get (set_of (xs ++ id ∷ [])) id ≡ Some tt

@@ -151,6 +151,12 @@ nothing_of : {A : Type 0} (xs : List A) → length xs ≡ 0 → xs ≡ []
 nothing_of [] e = refl
 nothing_of (x ∷ xs) e = absurd (omega arith)
 
+-- where there are no ids, there are no runs
+pub no_runs : (rs : List (List ℕ)) → AreRuns rs → joined rs ≡ [] → length rs ≡ 0
+no_runs [] runs none = refl
+no_runs ([] ∷ rs) runs none = absurd (let e = runs.filled.0 in omega arith)
+no_runs ((x ∷ xs) ∷ rs) runs none = absurd cc
+
 -- an empty run is taken out
 pub joined_removed : (rs : List (List ℕ)) (i : ℕ) (r : List ℕ) → i < length rs → length r ≡ 0 → joined (remove (slice_set rs i r) i) ≡ joined (slice_set rs i r)
 joined_removed [] i r h e = absurd (omega arith)
@@ -416,6 +422,12 @@ set_at [] i r d h = absurd (omega arith)
 set_at (s ∷ rs) zero r d h = refl
 set_at (s ∷ rs) (suc i) r d h = set_at rs i r d (omega arith)
 
+pub inside_set : (rs : List (List ℕ)) (i k : ℕ) (r : List ℕ) → k < length rs → k < length (slice_set rs i r)
+inside_set [] i k r h = absurd (omega arith)
+inside_set (s ∷ rs) zero k r h = omega (arith, h)
+inside_set (s ∷ rs) (suc i) zero r h = omega arith
+inside_set (s ∷ rs) (suc i) (suc k) r h = let f = inside_set rs i k r (omega arith) in omega (arith, f)
+
 pub some_of : (n : ℕ) → (n ≡ 0 → ⊥) → 0 < n
 some_of zero ne = absurd (ne refl)
 some_of (suc n) ne = omega arith
@@ -423,3 +435,37 @@ some_of (suc n) ne = omega arith
 pub last_there : (xs : List ℕ) (last : ℕ) → slice_get xs (length xs - 1) ≡ Some last → (0 < length xs) × (slice_index_or xs (length xs - 1) last ≡ last)
 last_there [] last is = absurd cc
 last_there (x ∷ xs) last is = (omega arith, get_or_from_slice_get (x ∷ xs) (length (x ∷ xs) - 1) last last is)
+
+-- ---- two runs that are joined
+
+pub joined_pair : (rs : List (List ℕ)) (i : ℕ) (c d : List ℕ) → suc i < length rs → joined (remove (slice_set rs i (slice_index_or rs i c ++ slice_index_or rs (suc i) d)) (suc i)) ≡ joined rs
+joined_pair [] i c d h = absurd (omega arith)
+joined_pair (r ∷ []) i c d h = absurd (omega arith)
+joined_pair (r ∷ s ∷ rs) zero c d h = append_assoc r s (joined rs)
+joined_pair (r ∷ s ∷ rs) (suc i) c d h = ap (λ q. r ++ q) (joined_pair (s ∷ rs) i c d (omega arith))
+
+filled_pair : (rs : List (List ℕ)) (i : ℕ) (both : List ℕ) → 0 < length both → AllByRecursion (λ r. 0 < length r) rs → AllByRecursion (λ r. 0 < length r) (remove (slice_set rs i both) (suc i))
+filled_pair [] i both some all = tt
+filled_pair (r ∷ []) zero both some all = (some, tt)
+filled_pair (r ∷ []) (suc i) both some all = (all.0, tt)
+filled_pair (r ∷ s ∷ rs) zero both some all = (some, all.1.1)
+filled_pair (r ∷ s ∷ rs) (suc i) both some all = (all.0, filled_pair (s ∷ rs) i both some all.1)
+
+some_front : (xs ys : List ℕ) → 0 < length xs → 0 < length (xs ++ ys)
+some_front [] ys h = absurd (omega arith)
+some_front (x ∷ xs) ys h = omega arith
+
+module _ (rs : List (List ℕ)) (i j : ℕ) (first second both : List ℕ) (next : j ≡ suc i) (more : suc i < length rs)
+    (at : first ≡ slice_index_or rs i first) (after : second ≡ slice_index_or rs j second) (is : both ≡ first ++ second) where
+  both_is : both ≡ slice_index_or rs i first ++ slice_index_or rs (suc i) second
+  both_is = is ∙ ap (λ q. q ++ second) at ∙ ap (λ q. slice_index_or rs i first ++ q) (after ∙ ap (λ k. slice_index_or rs k second) next)
+
+  pub pair_joined : joined (remove (slice_set rs i both) j) ≡ joined rs
+  pair_joined = ap (λ k. joined (remove (slice_set rs i both) k)) next ∙ ap (λ q. joined (remove (slice_set rs i q) (suc i))) both_is ∙ joined_pair rs i first second more
+
+  pub pair_runs : AreRuns rs → AreRuns (remove (slice_set rs i both) j)
+  pair_runs runs = record {
+    rise = subst (Rises (λ n. n)) (sym pair_joined) runs.rise;
+    filled = subst (λ k. AllByRecursion (λ r. 0 < length r) (remove (slice_set rs i both) k)) (sym next)
+        (filled_pair rs i both (subst (λ q. 0 < length q) (sym is) (some_front first second (run_at_has_some rs i first runs (omega arith) at))) runs.filled);
+  }

@@ -1,7 +1,8 @@
 //! A set of ids, seen as a finite map.
-ghost use Rattle.std.specs.Prelude.{◌≡◌, ◌==◌, ◌∷◌, ◌++◌, [], Some, not, OnOk, OnErr, IfOk, IfSome, IfNone, IsTrue};
+ghost use Rattle.std.specs.Prelude.{◌≡◌, ◌==◌, ◌∷◌, ◌++◌, [], Some, not, OnOk, OnErr, IfOk, IfSome, IfNone, IsTrue, true};
 ghost use Rattle.std.specs.List.{list_any};
 ghost use Rattle.std.specs.FinMap as map;
+ghost use Rattle.pg_graph.specs.IdRuns.{joined, AreRuns};
 ghost use Rattle.pg_graph.specs.IdSets.{ids_of, IsHeld};
 ghost use Rattle.pg_graph.specs.Links.{with_id, without_id};
 
@@ -82,7 +83,7 @@ impl Held {
         Ok(true)
     }
 
-    fn forget(&mut self, id: u64)
+    fn forget(&mut self, alloc: Global, id: u64)
         requires { IsHeld self.old }
         ensures removed { ids_of self.new ≡ without_id id (ids_of self.old) }
         ensures held { IsHeld self.new }
@@ -95,16 +96,18 @@ impl Held {
                 }
             }
             Held::More(runs) => {
-                runs::forget(runs, id);
-                if runs.is_empty() {
-                    *self = Held::Nothing;
+                runs::forget(alloc, runs, id);
+                if let Some(few) = few(runs.as_slice()) {
+                    *self = few;
                 }
             }
         }
     }
 
     fn is_empty(&self) -> bool
-        ensures { IsTrue result → ids_of self.now ≡ [] }
+        requires { IsHeld self.now }
+        ensures empty { IsTrue result → ids_of self.now ≡ [] }
+        ensures exact { ids_of self.now ≡ [] → result ≡ true }
     {
         match self {
             Held::Nothing => true,
@@ -128,7 +131,13 @@ impl Held {
                 *self = Held::Nothing;
                 Some(id)
             }
-            Held::More(runs) => runs::pop(runs),
+            Held::More(runs) => {
+                let id = runs::pop(runs);
+                if let Some(few) = few(runs.as_slice()) {
+                    *self = few;
+                }
+                id
+            }
         }
     }
 
@@ -173,11 +182,12 @@ impl IdSet {
     pub fn forget(&mut self, id: u64)
         ensures { self.new ≡ map.remove self.old id }
     {
-        self.held.forget(id);
+        self.held.forget(self.alloc, id);
     }
 
     pub fn is_empty(&self) -> bool
-        ensures { IsTrue result → self.now ≡ map.empty }
+        ensures empty { IsTrue result → self.now ≡ map.empty }
+        ensures exact { self.now ≡ map.empty → result ≡ true }
     {
         self.held.is_empty()
     }
@@ -211,6 +221,18 @@ fn two(alloc: Global, first: u64, second: u64) -> Result<Held, AllocError>
     runs::insert(alloc, &mut runs, first)?;
     runs::insert(alloc, &mut runs, second)?;
     Ok(Held::More(Box::new(alloc, runs)?))
+}
+
+// What takes no memory beside the set, where there is one id at most.
+fn few(runs: &[Run]) -> Option<Held>
+    requires { AreRuns runs.now }
+    ensures ids { IfSome result (λ h. ids_of h ≡ joined runs.now) }
+    ensures held { IfSome result (λ h. IsHeld h) }
+{
+    if runs.is_empty() {
+        return Some(Held::Nothing);
+    }
+    Some(Held::One(runs::only(runs)?))
 }
 
 /// Ids, seen as the list of those that are still to come.

@@ -1,5 +1,5 @@
 //! Rising ids in runs, so that no change moves more of them than a run has.
-ghost use Rattle.std.specs.Prelude.{◌≡◌, ◌==◌, ◌<◌, ◌≤◌, ◌∷◌, ◌++◌, [], ℕ, List, true, not, drop, length, take, slice_index_or, OnOk, OnErr, IfOk, IfSome, IfNone};
+ghost use Rattle.std.specs.Prelude.{◌≡◌, ◌==◌, ◌<◌, ◌≤◌, ◌∷◌, ◌++◌, [], ℕ, List, true, false, not, drop, length, take, slice_index_or, OnOk, OnErr, IfOk, IfSome, IfNone};
 ghost use Rattle.std.specs.List.{list_any};
 ghost use Rattle.pg_graph.specs.IdRuns.{first_of, joined, AreRuns, IsRunOf};
 ghost use Rattle.pg_graph.specs.Links.{with_id, without_id};
@@ -113,6 +113,30 @@ impl Run {
         }
     }
 
+    // Whether most of its room is empty.
+    fn is_sparse(&self) -> bool
+        ensures { length self.now ≡ 0 → result ≡ true }
+    {
+        self.ids.len() <= self.ids.capacity() / 4
+    }
+
+    // Gives room back, but for as many ids again. Where that fails, the room stays.
+    fn shrink(&mut self)
+        ensures { self.new ≡ self.old }
+    {
+        self.ids.shrink_to(self.ids.len().saturating_mul(2));
+    }
+
+    // The ids of this run and those of a later one, in memory of their own.
+    fn with_later(&self, alloc: Global, later: &Run, room: usize) -> Result<Run, AllocError>
+        ensures { IfOk result (λ r. r ≡ self.now ++ later.now) }
+    {
+        let mut ids = Vec::with_capacity(alloc, room)?;
+        ids.extend_from_slice(self.as_slice())?;
+        ids.extend_from_slice(later.as_slice())?;
+        Ok(Run { ids })
+    }
+
     // The ids from a place on, in memory of their own.
     fn rest(&self, alloc: Global, place: usize) -> Result<Run, AllocError>
         requires { place ≤ length self.now }
@@ -133,7 +157,11 @@ impl Run {
         requires { 0 < length self.old }
         ensures { self.old ≡ self.new ++ result ∷ [] }
     {
-        self.ids.pop().unwrap()
+        let id = self.ids.pop().unwrap();
+        if self.is_sparse() {
+            self.shrink();
+        }
+        id
     }
 }
 
@@ -230,7 +258,7 @@ fn split(alloc: Global, runs: &mut Vec<Run>, i: usize) -> Result<(), AllocError>
 }
 
 /// Takes an id out, if it is there.
-pub fn forget(runs: &mut Vec<Run>, id: u64)
+pub fn forget(alloc: Global, runs: &mut Vec<Run>, id: u64)
     requires { AreRuns runs.old.items }
     ensures removed { joined runs.new.items ≡ without_id id (joined runs.old.items) }
     ensures runs { AreRuns runs.new.items }
@@ -239,9 +267,61 @@ pub fn forget(runs: &mut Vec<Run>, id: u64)
         return;
     };
     runs[i].forget(id);
-    if runs[i].len() == 0 {
-        runs.remove(i);
+    if runs[i].is_sparse() {
+        if runs[i].len() == 0 {
+            runs.remove(i);
+            shrink_list(runs);
+        } else {
+            thin(alloc, runs, i);
+        }
     }
+}
+
+// Gives room of the list back where most of it is empty.
+fn shrink_list(runs: &mut Vec<Run>)
+    ensures { runs.new.items ≡ runs.old.items }
+{
+    if runs.len() <= runs.capacity() / 4 {
+        runs.shrink_to(runs.len().saturating_mul(2));
+    }
+}
+
+// Gives room of a run back: joins it with a neighbour where both fill half a run at most.
+#[inline(never)]
+fn thin(alloc: Global, runs: &mut Vec<Run>, i: usize)
+    requires inside { i < length runs.old.items }
+    requires runs { AreRuns runs.old.items }
+    ensures same { joined runs.new.items ≡ joined runs.old.items }
+    ensures runs { AreRuns runs.new.items }
+{
+    if !join(alloc, runs, i) && (i == 0 || !join(alloc, runs, i - 1)) {
+        runs[i].shrink();
+    }
+}
+
+// Makes one of a run and the next one, if there is one, and they are short. Tells whether it has.
+fn join(alloc: Global, runs: &mut Vec<Run>, i: usize) -> bool
+    requires inside { i < length runs.old.items }
+    requires runs { AreRuns runs.old.items }
+    ensures same { joined runs.new.items ≡ joined runs.old.items }
+    ensures runs { AreRuns runs.new.items }
+    ensures told { result ≡ false → runs.new.items ≡ runs.old.items }
+{
+    let next = i + 1;
+    if next == runs.len() {
+        return false;
+    }
+    let length = runs[i].len().saturating_add(runs[next].len());
+    if length > LONGEST / 2 {
+        return false;
+    }
+    let Ok(both) = runs[i].with_later(alloc, &runs[next], length * 2) else {
+        return false;
+    };
+    runs[i] = both;
+    runs.remove(next);
+    shrink_list(runs);
+    true
 }
 
 /// Takes the greatest id out, if there is one.
@@ -256,6 +336,18 @@ pub fn pop(runs: &mut Vec<Run>) -> Option<u64>
     let id = runs[last].pop();
     if runs[last].len() == 0 {
         runs.truncate(last);
+        shrink_list(runs);
     }
     Some(id)
+}
+
+/// The only id of some runs, if they have just one.
+pub fn only(runs: &[Run]) -> Option<u64>
+    requires { AreRuns runs.now }
+    ensures { IfSome result (λ id. joined runs.now ≡ id ∷ []) }
+{
+    if runs.len() != 1 || runs[0].len() != 1 {
+        return None;
+    }
+    Some(runs[0].number())
 }

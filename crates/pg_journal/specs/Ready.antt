@@ -1,5 +1,5 @@
 -- A journal that can keep records: some are in the file, all of it on the disk, and others wait.
-use Rattle.std.specs.Prelude.{◌≡◌, ◌⊎◌, ◌≤◌, Bool, ℕ, ◌+◌, List, [], ◌∷◌, ◌++◌, length, take}
+use Rattle.std.specs.Prelude.{◌≡◌, ◌⊎◌, ◌≤◌, Bool, ℕ, ◌+◌, List, [], ◌∷◌, ◌++◌, length, take, vec_len, vec_capacity}
 use Rattle.pg_journal.specs.Device.{part, Only}
 use Rattle.pg_journal.specs.Records.{Kept, records, last_digest, all_written, digest_after_all}
 use Rattle.pg_journal.specs.Files.{name, mark, place_of, first_record, tally, IsJournalOf}
@@ -26,3 +26,7 @@ pub record IsReady {D : Type 0} (seen : D → List ℕ) (may_leave : D → List 
 -- the file stands for these records, with all those that waited or with none
 abbrev pub IsBeforeOrAfter : List Kept → List Kept → List ℕ → Type 0
 IsBeforeOrAfter kept waiting file = IsJournalOf kept file ⊎ IsJournalOf (kept ++ waiting) file
+
+-- a record whose texts have so many bytes fits into the memory that there is for those that wait
+abbrev pub HasRoom : {D : Type 0} → Journal D → ℕ → Type 0
+HasRoom journal texts = vec_len journal.waiting + (40 + texts) ≤ vec_capacity journal.waiting

@@ -5,7 +5,10 @@ use crate::{Device, JournalError};
 use std::alloc::{AllocError, Global};
 use std::fs::{File, OpenOptions};
 use std::io;
-use std::os::unix::fs::FileExt;
+use std::os::unix::fs::{FileExt, OpenOptionsExt};
+
+/// The owner may read and write.
+const OWNER_ALONE: u32 = 0o600;
 
 /// A file that is open, and that no other process may open so.
 ///
@@ -16,12 +19,14 @@ pub struct DiskFile {
 }
 
 impl DiskFile {
-    /// Opens a file, and makes one where there is none. It fails where another process has it open.
+    /// Opens a file, and makes one where there is none, which its owner alone may read: it has tokens.
+    /// It fails where another process has it open.
     pub fn open(rt: &HostRuntime, path: &str, folder: &str) -> io::Result<DiskFile> {
         let file = OpenOptions::new()
             .read(true)
             .write(true)
             .create(true)
+            .mode(OWNER_ALONE)
             .open(rt, path)?;
         if file.try_lock().is_err() {
             return Err(io::Error::from(io::ErrorKind::ResourceBusy));

@@ -7,7 +7,8 @@ ghost use Rattle.pg_journal.specs.Reading.{Tells};
 
 use crate::steps::place_of;
 
-pub(crate) const FIRST_RECORD: usize = 41;
+/// Where the records of a file begin.
+pub const FIRST_RECORD: usize = 41;
 
 /// What a head tells.
 #[derive(Clone, Copy)]

@@ -1,15 +1,15 @@
 //! Keeps records: first in memory, and then all that wait at once on the disk.
-ghost use Rattle.std.specs.Prelude.{◌≡◌, ◌⊎◌, ◌<◌, ◌≤◌, ◌+◌, ◌^◌, ◌++◌, [], ◌∷◌, List, length, OnOk, OnErr, IsErrOf};
+ghost use Rattle.std.specs.Prelude.{◌≡◌, ◌⊎◌, ◌<◌, ◌≤◌, ◌+◌, ◌^◌, ◌++◌, [], ◌∷◌, List, length, OnOk, OnErr, IsOk, IsErrOf};
 ghost use Rattle.pg_journal.specs.Device.{LeavesOnly, Only};
 ghost use Rattle.pg_journal.specs.Files.{Recovers};
 ghost use Rattle.pg_journal.specs.Reading.{RecoversAlike, Replayed};
 ghost use Rattle.pg_journal.specs.Records.{Kept};
-ghost use Rattle.pg_journal.specs.Ready.{IsReady, IsBeforeOrAfter, device_of};
+ghost use Rattle.pg_journal.specs.Ready.{IsReady, IsBeforeOrAfter, HasRoom, device_of};
 ghost use Rattle.pg_journal.specs.Views.{kept};
 
 use crate::digest::NONE;
 use crate::read::find;
-use crate::records::{tally, written};
+use crate::records::{FIXED, put, tally};
 use crate::steps::{mark, stage};
 use crate::{Device, JournalError, Replay, Reply};
 use std::alloc::{AllocError, Global};
@@ -72,14 +72,26 @@ impl<D: Device> Journal<D> {
         Ok(())
     }
 
-    /// Takes a record, to be written by the next `flush`.
-    pub fn keep(
-        &mut self,
-        alloc: Global,
-        tenant: &[u8],
-        body: &[u8],
-        reply: Reply,
-    ) -> Result<(), AllocError>
+    /// Makes room for one more record, of a tenant's name and a body of these lengths: to keep that takes no memory then.
+    pub fn reserve(&mut self, tenant: usize, body: usize) -> Result<(), AllocError>
+        ensures same { (ks waiting : List Kept)
+            → IsReady D.seen D.may_leave self.old ks waiting
+            → IsReady D.seen D.may_leave self.new ks waiting }
+        ensures file { device_of self.new ≡ device_of self.old }
+        ensures room { OnOk result (HasRoom self.new (tenant + body)) }
+        ensures fits { HasRoom self.old (tenant + body) → IsOk result }
+    {
+        let Some(texts) = tenant.checked_add(body) else {
+            return Err(AllocError);
+        };
+        let Some(count) = texts.checked_add(FIXED) else {
+            return Err(AllocError);
+        };
+        self.waiting.reserve(count)
+    }
+
+    /// Takes a record, to be written by the next `flush`. It takes no memory where there is room.
+    pub fn keep(&mut self, tenant: &[u8], body: &[u8], reply: Reply) -> Result<(), AllocError>
         ensures waits { OnOk result ((ks waiting : List Kept)
             → IsReady D.seen D.may_leave self.old ks waiting
             → IsReady D.seen D.may_leave self.new ks
@@ -87,11 +99,18 @@ impl<D: Device> Journal<D> {
         ensures same { OnErr result ((ks waiting : List Kept)
             → IsReady D.seen D.may_leave self.old ks waiting
             → IsReady D.seen D.may_leave self.new ks waiting) }
+        ensures file { device_of self.new ≡ device_of self.old }
+        ensures fits { HasRoom self.old (length tenant.now + length body.now) → IsOk result }
     {
-        let (bytes, digest) = written(alloc, self.waiting_digest, tenant, body, reply)?;
-        self.waiting.extend_from_slice(&bytes)?;
+        self.reserve(tenant.len(), body.len())?;
+        let digest = put(&mut self.waiting, self.waiting_digest, tenant, body, reply)?;
         self.waiting_digest = digest;
         Ok(())
+    }
+
+    /// How many bytes wait to be written.
+    pub fn waiting(&self) -> usize {
+        self.waiting.len()
     }
 
     /// Writes all that waits. At `Ok` it is on the disk: from then on each crash leaves a file that has it.

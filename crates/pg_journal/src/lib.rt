@@ -17,6 +17,8 @@ pub use device::Device;
 pub use digest::Reply;
 pub use fault::JournalError;
 pub use file::DiskFile;
+pub use head::FIRST_RECORD;
 pub use journal::Journal;
 pub use memory::Memory;
+pub use records::record_len;
 pub use replay::Replay;

@@ -7,13 +7,12 @@ ghost use Rattle.pg_journal.specs.Reading.{IsRead, IsSized, Tells, IsNext, IsFou
 
 use crate::digest::{NONE, digest_on};
 use crate::head::{FIRST_RECORD, Head, number_at, read_head};
+use crate::records::FIXED;
 use crate::steps::begin;
 use crate::{Device, JournalError, Replay, Reply};
 use std::alloc::Global;
 
-// The bytes of a record beside its tenant's name and its body, and those of them that stand in front.
-const FIXED: usize = 40;
-
+// The bytes of a record that stand before its tenant's name.
 const FRONT: usize = 32;
 
 // Gives a record to be replayed, if its digest is right.

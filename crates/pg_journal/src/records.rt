@@ -1,15 +1,32 @@
 //! A record's bytes.
-ghost use Rattle.std.specs.Prelude.{◌≡◌, ◌++◌, length, IfOk, OnOk};
+ghost use Rattle.std.specs.Prelude.{◌≡◌, ◌<◌, ◌≤◌, ◌+◌, ◌^◌, ◌++◌, ℕ, length, vec_len, vec_capacity, IfOk, OnOk, IsOk};
+ghost use Rattle.pg_journal.specs.declared.digest.Reply.{Reply};
 ghost use Rattle.pg_journal.specs.Records.{number, written, digest_after};
 ghost use Rattle.pg_journal.specs.Views.{kept};
 
 use crate::Reply;
 use crate::digest::digest_on;
-use std::alloc::{AllocError, Global};
+use std::alloc::AllocError;
+
+/// The bytes of a record beside its tenant's name and its body.
+pub(crate) const FIXED: usize = 40;
+
+/// How many bytes a record takes in the file.
+pub fn record_len(tenant: &[u8], body: &[u8]) -> u64
+    ensures { (digest : ℕ) (reply : Reply) → length tenant.now + length body.now + 40 < 2 ^ 64
+        → result ≡ length (written digest (kept tenant.now body.now reply)) }
+{
+    (tenant.len() as u64)
+        .saturating_add(body.len() as u64)
+        .saturating_add(FIXED as u64)
+}
 
 #[tactic(auto, unfolding(crate::specs::Records::number))]
-pub(crate) fn put_number(made: &mut Vec<u8>, n: u64) -> Result<(), AllocError>
-    ensures { OnOk result (made.new.items ≡ made.old.items ++ number n) }
+fn put_number(made: &mut Vec<u8>, n: u64) -> Result<(), AllocError>
+    ensures items { OnOk result (made.new.items ≡ made.old.items ++ number n) }
+    ensures len { OnOk result (vec_len made.new ≡ vec_len made.old + 8) }
+    ensures capacity { vec_capacity made.old ≤ vec_capacity made.new }
+    ensures fits { vec_len made.old + 8 ≤ vec_capacity made.old → IsOk result }
 {
     made.extend_from_slice(&n.to_be_bytes())
 }
@@ -20,8 +37,11 @@ fn put_lengths(
     body: usize,
     reply: Reply,
 ) -> Result<(), AllocError>
-    ensures { OnOk result (made.new.items ≡ made.old.items
+    ensures items { OnOk result (made.new.items ≡ made.old.items
         ++ (number tenant ++ number body ++ number reply.length ++ number reply.digest)) }
+    ensures len { OnOk result (vec_len made.new ≡ vec_len made.old + 32) }
+    ensures capacity { vec_capacity made.old ≤ vec_capacity made.new }
+    ensures fits { vec_len made.old + 32 ≤ vec_capacity made.old → IsOk result }
 {
     put_number(made, tenant as u64)?;
     put_number(made, body as u64)?;
@@ -29,26 +49,29 @@ fn put_lengths(
     put_number(made, reply.digest)
 }
 
-/// A record behind those with a digest, and the digest up to it.
-pub(crate) fn written(
-    alloc: Global,
+/// Puts a record behind the bytes that are there, where the digest of the records is this one, and gives the digest
+/// up to it. It fails only where there is no room.
+pub(crate) fn put(
+    made: &mut Vec<u8>,
     digest: u64,
     tenant: &[u8],
     body: &[u8],
     reply: Reply,
-) -> Result<(Vec<u8>, u64), AllocError>
-    ensures bytes { IfOk result
-        (λ made. made.0.items ≡ written digest (kept tenant.now body.now reply)) }
+) -> Result<u64, AllocError>
+    ensures bytes { OnOk result (made.new.items
+        ≡ made.old.items ++ written digest (kept tenant.now body.now reply)) }
     ensures digest { IfOk result
-        (λ made. made.1 ≡ digest_after digest (kept tenant.now body.now reply)) }
+        (λ next. next ≡ digest_after digest (kept tenant.now body.now reply)) }
+    ensures fits { vec_len made.old + (40 + (length tenant.now + length body.now))
+        ≤ vec_capacity made.old → IsOk result }
 {
-    let mut made = Vec::new(alloc);
-    put_lengths(&mut made, tenant.len(), body.len(), reply)?;
+    let start = made.len();
+    put_lengths(made, tenant.len(), body.len(), reply)?;
     made.extend_from_slice(tenant)?;
     made.extend_from_slice(body)?;
-    let digest = digest_on(digest, &made);
-    put_number(&mut made, digest)?;
-    Ok((made, digest))
+    let digest = digest_on(digest, &made[start..]);
+    put_number(made, digest)?;
+    Ok(digest)
 }
 
 /// What a slot says of the records.

@@ -1,7 +1,7 @@
 //! What a client asks for.
-ghost use Rattle.std.specs.Prelude.{◌≡◌};
+ghost use Rattle.std.specs.Prelude.{◌≡◌, string_bytes};
 ghost use Rattle.pg_json.specs.Bodies.{request_view};
-ghost use Rattle.pg_json.specs.Requests.{token_of};
+ghost use Rattle.pg_json.specs.Requests.{token_of, with_token};
 
 use pg_value_core::Parameters;
 
@@ -75,6 +75,36 @@ impl RequestBody {
             | RequestBody::Rollback { token }
             | RequestBody::Pull { token, page: _ }
             | RequestBody::DropPage { token, page: _ } => token.as_str(),
+        }
+    }
+
+    /// Has the request show this token, whatever it showed.
+    pub fn set_token(&mut self, shown: String)
+        ensures { request_view self.new ≡ with_token (string_bytes shown) (request_view self.old) }
+    {
+        match self {
+            RequestBody::Query {
+                token,
+                text: _,
+                parameters: _,
+                page: _,
+            } => *token = shown,
+            RequestBody::Status { token } => *token = shown,
+            RequestBody::CreateIndex {
+                token,
+                label: _,
+                key: _,
+            } => *token = shown,
+            RequestBody::DropIndex {
+                token,
+                label: _,
+                key: _,
+            } => *token = shown,
+            RequestBody::Begin { token } => *token = shown,
+            RequestBody::Commit { token } => *token = shown,
+            RequestBody::Rollback { token } => *token = shown,
+            RequestBody::Pull { token, page: _ } => *token = shown,
+            RequestBody::DropPage { token, page: _ } => *token = shown,
         }
     }
 }

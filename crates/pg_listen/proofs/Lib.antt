@@ -1,8 +1,11 @@
 pub mod EventLemmas
 pub mod FrontLemmas
 pub mod ClientsLemmas
+pub mod AgainLemmas
+pub mod CrashLemmas
 pub mod KeepingLemmas
 pub mod ListenLemmas
 pub mod ManyLemmas
 pub mod MoveLemmas
+pub mod RefusalLemmas
 pub mod StepLemmas

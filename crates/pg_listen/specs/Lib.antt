@@ -5,6 +5,7 @@ pub mod Keeping
 pub mod Clients
 pub mod Courses
 pub mod Listens
+pub mod Moments
 pub mod Moves
 pub mod Network
 pub mod Queue

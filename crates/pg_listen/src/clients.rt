@@ -48,6 +48,10 @@ pub(crate) struct Clients {
     failed: bool,
     // what was answered can't be kept
     not_kept: bool,
+    // what waits to be kept has waited as long as it may
+    is_due: bool,
+    // when that is so again
+    due: u64,
 }
 
 impl Clients {
@@ -68,6 +72,8 @@ impl Clients {
             waits: false,
             failed: false,
             not_kept: false,
+            is_due: false,
+            due: 0,
         })
     }
 
@@ -215,6 +221,21 @@ impl Clients {
         self.close_largest(net);
         self.tenants.release_all();
         self.tenants.sessions.try_again();
+        self.note_due(net.now());
+    }
+
+    fn note_due(&mut self, now: u64)
+        ensures { Keeps self.old self.new }
+    {
+        if self.due <= now {
+            self.is_due = true;
+            self.due = now.saturating_add(self.limits.delay);
+        }
+    }
+
+    /// Whether what waits is to be kept before anything else is done.
+    fn must_write(&self, unsettled: usize) -> bool {
+        self.tenants.must_write(unsettled) || (self.is_due && unsettled > 0)
     }
 
     fn numbers(&self) -> Result<Vec<u64>, AllocError> {
@@ -315,11 +336,16 @@ impl Clients {
         net.note_rollback(place, &note);
     }
 
-    /// Has a transaction rolled back that was left, or else goes on, so that nothing else of it is answered meanwhile.
+    /// Has kept what waits where no more may, or a transaction rolled back that was left, or else goes on, so that nothing else of it is
+    /// answered meanwhile.
     fn step<N: Network, S: Service>(&mut self, net: &mut N, service: &mut S)
         ensures { AllMoveOn (Does S.answers S.settles S.all_kept) S.is_own
             (N.trace net.old) (N.trace net.new) service.old service.new self.old self.new }
     {
+        if self.must_write(service.unsettled()) {
+            self.keep_and_send(net, service);
+            return;
+        }
         match self.next_left() {
             Some(place) => self.roll_back(net, service, place),
             None => self.go_on(net, service),
@@ -351,6 +377,7 @@ impl Clients {
             self.not_kept = true;
             return;
         }
+        self.is_due = false;
         self.allowance.set_only_sends(true);
         let numbers = self.tenants.take_put_off();
         for number in &numbers {

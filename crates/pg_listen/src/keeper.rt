@@ -1,62 +1,59 @@
 //! What keeps the requests that are done in a journal.
-ghost use Rattle.std.specs.Prelude.{◌≡◌, true, [], ◌++◌, List};
-ghost use Rattle.pg_journal.specs.Ready.{IsReady};
+ghost use Rattle.std.specs.Prelude.{◌≡◌, ◌+◌, true, [], ◌∷◌, List, length};
+ghost use Rattle.pg_journal.specs.Ready.{HasRoom, IsReady};
 ghost use Rattle.pg_journal.specs.Records.{Kept};
-ghost use Rattle.pg_listen.specs.Keeping.{is_done, kept_of, HasKept, IsSettled};
+ghost use Rattle.pg_listen.specs.Keeping.{record_of, HasKept, IsSettled, Takes, Writes};
 
 use pg_journal::{Device, Journal, Reply};
-use std::alloc::Global;
-
-/// How many bytes stand before a reply's code: `{"code":`.
-const BEFORE_CODE: usize = 8;
 
 /// A journal, and whether all that was done is in it.
 #[derive(Drop)]
 pub struct Keeper<D: Device> {
     journal: Journal<D>,
-    alloc: Global,
     // No record waits to be written.
     is_settled: bool,
     // A record couldn't be taken or written.
     lost: bool,
 }
 
-/// Whether the request of this reply was done.
-fn is_done(reply: &[u8]) -> bool
-    ensures { result ≡ is_done reply.now }
-{
-    reply.len() > BEFORE_CODE && reply[BEFORE_CODE] == b'0'
-}
-
 impl<D: Device> Keeper<D> {
     /// Keeps in a journal that is ready, and in which nothing waits.
-    pub(crate) fn new(alloc: Global, journal: Journal<D>) -> Keeper<D>
-        ensures { (log : List Kept)
-            → IsReady D.seen D.may_leave journal log [] → HasKept D.seen D.may_leave log result }
+    pub(crate) fn new(journal: Journal<D>) -> Keeper<D>
+        ensures { (ks : List Kept)
+            → IsReady D.seen D.may_leave journal ks [] → HasKept D.seen D.may_leave ks [] result }
     {
         Keeper {
             journal,
-            alloc,
             is_settled: true,
             lost: false,
         }
     }
 
-    /// Takes a request that was answered, if it was done.
-    pub(crate) fn keep(&mut self, body: &[u8], reply: &[u8])
-        ensures { (log : List Kept) → HasKept D.seen D.may_leave log self.old
-            → HasKept D.seen D.may_leave (log ++ kept_of body.now reply.now) self.new }
+    /// Makes room for the record of a request of a tenant whose name has so many bytes at most, and says whether there is.
+    pub(crate) fn make_room(&mut self, name: usize, body: &[u8]) -> bool
+        ensures same { Takes D.seen D.may_leave self.old self.new [] }
+        ensures room { result ≡ true → HasRoom self.new.journal (name + length body.now) }
     {
-        if !is_done(reply) {
-            return;
-        }
+        self.journal.reserve(name, body.len()).is_ok()
+    }
+
+    /// Takes a request of the tenant of this name, for which there is room.
+    pub(crate) fn keep(&mut self, tenant: &str, body: &[u8], reply: &[u8])
+        requires { HasRoom self.old.journal (length tenant.now + length body.now) }
+        ensures { Takes D.seen D.may_leave self.old self.new
+            (record_of tenant.now body.now reply.now ∷ []) }
+    {
         self.is_settled = false;
-        let no_name: [u8; 0] = [];
         let noted = Reply::of(reply);
-        match self.journal.keep(self.alloc, &no_name, body, noted) {
+        match self.journal.keep(tenant.as_bytes(), body, noted) {
             Ok(()) => {}
             Err(_) => self.lost = true,
         }
+    }
+
+    /// How many bytes of records wait.
+    pub(crate) fn waiting(&self) -> usize {
+        self.journal.waiting()
     }
 
     /// Whether all that was taken is on the disk.
@@ -68,8 +65,8 @@ impl<D: Device> Keeper<D> {
 
     /// Writes what was taken, and says whether all is on the disk. If it isn't, it never will be.
     pub(crate) fn settle(&mut self) -> bool
-        ensures { D.is_honest → (log : List Kept)
-            → HasKept D.seen D.may_leave log self.old → HasKept D.seen D.may_leave log self.new }
+        ensures { D.is_honest
+            → Writes D.seen D.may_leave D.moment D.left_since self.old self.new }
     {
         if self.lost {
             return false;

@@ -13,6 +13,10 @@ pub struct Limits {
     pub waiting: usize,
     /// How many of one tenant's clients, before its requests wait.
     pub tenant_waiting: usize,
+    /// How many bytes of records may wait before they are written; where it is 1, each is written before the next request is answered.
+    pub unsettled: usize,
+    /// For how many microseconds records may wait for which no reply waits, before they are written at the next tick.
+    pub delay: u64,
     /// Whether a transaction stays open when the client is gone that began it.
     pub keep_open: bool,
     /// At how many places, from the first on, a tenant may have a transaction open at the start that no client began: it is rolled back.

@@ -31,6 +31,9 @@ pub(crate) trait Service {
     fn settle(&mut self) -> bool
         ensures { settles self.old self.new };
 
+    /// How many bytes of it wait to be kept.
+    fn unsettled(&self) -> usize;
+
     /// The place of the tenant whose token a body shows, if it is a request and does.
     fn tenant(&self, body: &[u8]) -> Option<usize>;
 
@@ -62,6 +65,10 @@ impl<T: Tables> Service for Server<T> {
 
     fn settle(&mut self) -> bool {
         true
+    }
+
+    fn unsettled(&self) -> usize {
+        0
     }
 
     fn tenant(&self, body: &[u8]) -> Option<usize> {

@@ -159,6 +159,11 @@ impl Tenants {
         !self.unsent.is_empty() && (self.turns == 0 || MOST_PUT_OFF <= self.unsent.len())
     }
 
+    /// Whether as many bytes wait to be kept as may.
+    pub(crate) fn must_write(&self, unsettled: usize) -> bool {
+        unsettled > 0 && self.limits.unsettled <= unsettled
+    }
+
     /// The clients that were put off, which are no longer.
     pub(crate) fn take_put_off(&mut self) -> Vec<u64> {
         replace(&mut self.unsent, Vec::new(self.alloc))

@@ -318,6 +318,7 @@ fn answer_some<N: Network, S: Service>(
             Err(closing) => return Err(closing),
         }
         allowance.spend(client.outbox.len().saturating_sub(waiting), net.now());
+        allowance.end_where(tenants.must_write(service.unsettled()));
         if !client.has_tenant() {
             return Ok(any);
         }

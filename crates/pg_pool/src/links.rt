@@ -57,6 +57,16 @@ fn take(ids: &mut SmallVec<RelId, 2>, id: RelId)
 {
     if let Ok(i) = place(ids.as_slice(), id.0) {
         ids.remove(i);
+        shrink(ids);
+    }
+}
+
+// Gives room back where most of it is empty, but for as many ids again.
+fn shrink(ids: &mut SmallVec<RelId, 2>)
+    ensures { ids.new.items ≡ ids.old.items }
+{
+    if ids.len() <= ids.capacity() / 4 {
+        let _never_fails = ids.grow(ids.len().saturating_mul(2));
     }
 }
 

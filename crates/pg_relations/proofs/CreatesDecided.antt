@@ -126,7 +126,7 @@ create_row_is_one g paths graph row after results f is new c x = create_apart g 
 
 -- ---- MERGE
 
-no_items_fault : (g : Given) (graph : Graph) (rows : List Row) (f : Fault) → SetFaults g [] graph rows f → ⊥
+pub no_items_fault : (g : Given) (graph : Graph) (rows : List Row) (f : Fault) → SetFaults g [] graph rows f → ⊥
 no_items_fault g graph [] f x = absurd x
 no_items_fault g graph (row ∷ rows) f (inl x) = absurd x
 no_items_fault g graph (row ∷ rows) f (inr x) = no_items_fault g x.0 rows f x.2

@@ -20,20 +20,20 @@ use Rattle.pg_relations.proofs.ProjectedItems.{first_of, rest_of}
 use Rattle.pg_relations.specs.Created.{SameNode, SameRelationship, CreateRowMakesOne}
 
 -- lists that show one list stand side by side
-beside : {X Z : Type 0} (f : X → Z) (P Q : X → Type 0) (R : X → X → Type 0) → ((x y : X) → f x ≡ f y → P x → Q y → R x y) → (xs ys : List X) → map f xs ≡ map f ys → AllByRecursion P xs → AllByRecursion Q ys → AllZip R xs ys
+pub beside : {X Z : Type 0} (f : X → Z) (P Q : X → Type 0) (R : X → X → Type 0) → ((x y : X) → f x ≡ f y → P x → Q y → R x y) → (xs ys : List X) → map f xs ≡ map f ys → AllByRecursion P xs → AllByRecursion Q ys → AllZip R xs ys
 beside f P Q R join [] [] e h k = tt
 beside f P Q R join [] (y ∷ ys) e h k = cc
 beside f P Q R join (x ∷ xs) [] e h k = cc
 beside f P Q R join (x ∷ xs) (y ∷ ys) e h k = (join x y (ap (first_of (f x)) e) h.0 k.0, beside f P Q R join xs ys (ap rest_of e) h.1 k.1)
 
 module _ (g : Given) (paths : List PathPattern) (graph : Graph) (row : Row) (after other : Graph) where
-  same_node : (p q : NodePattern × ℕ) → pattern p ≡ pattern q → IsMadeNode g graph row after p → IsMadeNode g graph row other q → SameNode after other p q
+  pub same_node : (p q : NodePattern × ℕ) → pattern p ≡ pattern q → IsMadeNode g graph row after p → IsMadeNode g graph row other q → SameNode after other p q
   same_node p q e h k =
       let labels = h.4 ∙ ap (λ (n : NodePattern). in_byte_order (texts_of n.labels)) e ∙ sym k.4 in
       let properties = same_ok h.0.properties k.0.properties (sym h.5 ∙ ap (λ (n : NodePattern). given_properties g.parameters graph row n.properties) e ∙ k.5) in
       (e, h.3 ∙ (λ i. Some (record { labels = labels i; properties = properties i })) ∙ sym k.3)
 
-  same_relationship : (m n : Made) → hop_of m ≡ hop_of n → IsMadeRelationship g graph row after m → IsMadeRelationship g graph row other n → SameRelationship after other m n
+  pub same_relationship : (m n : Made) → hop_of m ≡ hop_of n → IsMadeRelationship g graph row after m → IsMadeRelationship g graph row other n → SameRelationship after other m n
   same_relationship m n e h k = (
     e,
     h.0,

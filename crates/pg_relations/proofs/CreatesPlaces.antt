@@ -58,7 +58,7 @@ placed_patterns [] ids e = refl
 placed_patterns (n ∷ ns) [] e = cc
 placed_patterns (n ∷ ns) (id ∷ ids) e = ap (λ ms. n ∷ ms) (placed_patterns ns ids (ap pred e))
 
-all_patterns : (paths : List PathPattern) (a : Assignment) → AllZip IsTrailOf paths a → map pattern (all_placed paths a) ≡ all_nodes paths
+pub all_patterns : (paths : List PathPattern) (a : Assignment) → AllZip IsTrailOf paths a → map pattern (all_placed paths a) ≡ all_nodes paths
 all_patterns [] [] h = refl
 all_patterns [] (t ∷ ts) h = absurd h
 all_patterns (p ∷ ps) [] h = absurd h

@@ -65,7 +65,7 @@ same_bare columns p q h k e =
 -- ---- items without aggregates
 
 module _ (g : Given) (graph : Graph) (columns : List Column) where
-  value_named : (row : Row) (c : Column) (b : Bound) → column_value g.parameters graph row c ≡ Ok b → b.0 ≡ c.name
+  pub value_named : (row : Row) (c : Column) (b : Bound) → column_value g.parameters graph row c ≡ Ok b → b.0 ≡ c.name
   value_named row c b e = let v = went_well (evaluate row g.parameters graph c.value) (λ v. Ok (c.name, v)) b e in ap (λ (b : Bound). b.0) (sym (same_ok (c.name, v.0) b v.2))
 
   abbrev shown : Bool → Row → Row → Projected

@@ -71,7 +71,7 @@ module _ (g : Given) (graph : Graph) (columns : List Column) where
   sorted_of [] all sorted q s i = subst (IsIn q) s i
   sorted_of (o ∷ os) all sorted q s i = in_moved sorted all q (IsPermutation-sym all sorted s.same) i
 
-  no_sort_fault : (order : List SortItem) (all sorted : List Projected) (q : Projected) (f : Fault) → Sorted g graph columns order all sorted → IsIn q all → keys_at g graph columns order q ≡ Err f → ⊥
+  pub no_sort_fault : (order : List SortItem) (all sorted : List Projected) (q : Projected) (f : Fault) → Sorted g graph columns order all sorted → IsIn q all → keys_at g graph columns order q ≡ Err f → ⊥
   no_sort_fault [] all sorted q f s i x = cc
   no_sort_fault (o ∷ os) all sorted q f s i x =
       let k = answered_at (keys_at g graph columns (o ∷ os)) q sorted s.keys s.evaluated (in_moved all sorted q s.same i) in
@@ -79,7 +79,7 @@ module _ (g : Given) (graph : Graph) (columns : List Column) where
 
   -- ---- WHERE
 
-  no_where_fault : (where_ : Option Expression) (all passing : List Projected) (q : Projected) (f : Fault) → Passing g graph where_ all passing → IsIn q all → condition where_ (visible q) g.parameters graph ≡ Err f → ⊥
+  pub no_where_fault : (where_ : Option Expression) (all passing : List Projected) (q : Projected) (f : Fault) → Passing g graph where_ all passing → IsIn q all → condition where_ (visible q) g.parameters graph ≡ Err f → ⊥
   no_where_fault where_ [] passing q f h i x = absurd i
   no_where_fault where_ (p ∷ ps) passing q f h (inl e) x = ok_or_err (condition where_ (visible p) g.parameters graph) h.0 f h.2 (subst (λ r. condition where_ (visible r) g.parameters graph ≡ Err f) e x)
   no_where_fault where_ (p ∷ ps) passing q f h (inr i) x = no_where_fault where_ ps h.1 q f h.3 i x
@@ -114,7 +114,7 @@ module _ (g : Given) (graph : Graph) (columns : List Column) where
         fine : ◌≡◌ {A = Result Bool Fault} (Ok true) (Err f) → ⊥
         fine e = cc
 
-    apart : (PassingFaults g graph columns p where_ rows f → ⊥) → ProjectFaults g graph columns p where_ rows f → ⊥
+    pub apart : (PassingFaults g graph columns p where_ rows f → ⊥) → ProjectFaults g graph columns p where_ rows f → ⊥
     apart passing (inl x) = ok_or_err (count_given g.parameters graph p.skip) h.skip f h.skip_given x
     apart passing (inr (inl x)) = ok_or_err (count_given g.parameters graph p.limit) h.limit f h.limit_given x
     apart passing (inr (inr (inl x))) = no_faults p.distinct rows h.made f h.items (inl x)

@@ -36,7 +36,7 @@ module _ (g : Given) (graph : Graph) (columns : List Column) where
       by_kind true h m = groups_moved g graph columns rows made others h m
       by_kind false h m = subst (IsPermutation made) (same_items g graph columns distinct rows made others h m) (IsPermutation-refl made)
 
-  kept_moved : (distinct : Bool) (rows : List Row) (made others kept some : List Projected) → Items g graph distinct columns rows made → Items g graph distinct columns rows others → Distinct distinct made kept → Distinct distinct others some → IsPermutation kept some
+  pub kept_moved : (distinct : Bool) (rows : List Row) (made others kept some : List Projected) → Items g graph distinct columns rows made → Items g graph distinct columns rows others → Distinct distinct made kept → Distinct distinct others some → IsPermutation kept some
   kept_moved true rows made others kept some h m d e =
       once_moved kept some (rows_apart kept d.once) (rows_apart some e.once)
       (λ q i. kept_in g graph columns true rows others made some kept q m h e d i)

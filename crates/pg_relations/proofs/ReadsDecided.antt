@@ -30,7 +30,7 @@ pub unwind_is_one : UnwindIsOne
 unwind_is_one e name g graph after rows results f s =
     rows_apart _ (λ row x. items_at g graph e row ≡ Err x) f (λ row first u. ok_or_err (items_at g graph e row) u.0 f u.1) rows results s.1
 
-match_apart : (g : Given) (graph : Graph) (is_optional : Bool) (paths : List PathPattern) (where_ : Option Expression) (f : Fault) (row : Row) (first : List Row) → MatchRow g graph is_optional paths where_ row first → MatchFaults g graph paths where_ row f → ⊥
+pub match_apart : (g : Given) (graph : Graph) (is_optional : Bool) (paths : List PathPattern) (where_ : Option Expression) (f : Fault) (row : Row) (first : List Row) → MatchRow g graph is_optional paths where_ row first → MatchFaults g graph paths where_ row f → ⊥
 match_apart g graph is_optional paths where_ f row first m (inl b) =
     ok_or_err (test_bound true graph (bound_value (node_name b.0) row)) tt f (all_at (λ n. test_bound true graph (bound_value (node_name n) row) ≡ Ok tt) b.0 (all_nodes paths) m.live b.1) b.2
 match_apart g graph is_optional paths where_ f row first m (inr (inl p)) =

@@ -33,7 +33,7 @@ module _ (g : Given) (graph : Graph) (is_optional : Bool) (paths : List PathPatt
   nulls_moved row true (x ∷ xs) [] s = let impossible = length_permutation (x ∷ xs) [] s in cc
   nulls_moved row true (x ∷ xs) (y ∷ ys) s = s
 
-  row_moved : (row : Row) (first other : List Row) → MatchRow g graph is_optional paths where_ row first → MatchRow g graph is_optional paths where_ row other → IsPermutation first other
+  pub row_moved : (row : Row) (first other : List Row) → MatchRow g graph is_optional paths where_ row first → MatchRow g graph is_optional paths where_ row other → IsPermutation first other
   row_moved row first other m n =
       let found =
       once_moved m.found n.found m.matches.once n.matches.once

@@ -2,3 +2,12 @@ pub mod RefusedSteps
 pub mod Decided
 pub mod Determined
 pub mod Created
+pub mod Merged
+pub mod Exact
+pub mod Closed
+pub mod Tested
+pub mod Numbered
+pub mod HandedOut
+pub mod AnyOrder
+pub mod OpenOrders
+pub mod RefusedTurns

@@ -1,5 +1,5 @@
 -- Connections that are served one after the other, one more at a time.
-use Rattle.std.proofs.Common.{◌≡◌, ℕ, suc, List, [], ◌∷◌, ◌++◌, refl, subst}
+use Rattle.std.proofs.Common.{ℕ, suc, List, [], ◌∷◌, ◌++◌, refl, subst}
 use Rattle.pg_server.specs.declared.end.End.{End}
 use Rattle.pg_server.specs.Connections.{AnswersInTurn, endless}
 use Rattle.pg_server.specs.Exchange.{Exchange, Chain}

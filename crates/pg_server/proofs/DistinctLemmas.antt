@@ -8,11 +8,11 @@ use Rattle.pg_value.specs.Texts.{comes_again}
 use Rattle.pg_server.specs.Settings.{all_tokens}
 use Rattle.pg_tenant.specs.Settings.{TenantSettings, token_texts}
 
-or_false : (a b : Bool) → a || b ≡ false → (a ≡ false) × (b ≡ false)
+pub or_false : (a b : Bool) → a || b ≡ false → (a ≡ false) × (b ≡ false)
 or_false true b h = cc
 or_false false b h = (refl, h)
 
-or_here : (a b : Bool) → a ≡ true → a || b ≡ true
+pub or_here : (a b : Bool) → a ≡ true → a || b ≡ true
 or_here true b h = refl
 or_here false b h = cc
 
@@ -34,7 +34,7 @@ absent_step before texts y x true is new h rest =
 absent_step before texts y x false is new h rest = or_rest (bytes_eq x y) _ is (rest (or_there (bytes_eq x y) _ h))
 
 -- what came before does not come again
-absent : (before texts : List (List ℕ)) (x : List ℕ) → comes_again before texts ≡ false → is_among before x ≡ true → is_among texts x ≡ false
+pub absent : (before texts : List (List ℕ)) (x : List ℕ) → comes_again before texts ≡ false → is_among before x ≡ true → is_among texts x ≡ false
 absent before [] x once h = refl
 absent before (y ∷ texts) x once h =
     let parts = or_false (is_among before y) (comes_again (y ∷ before) texts) once in

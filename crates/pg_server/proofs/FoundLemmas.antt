@@ -25,6 +25,9 @@ pub one_more_found : {A : Type 0} (found now : List A) (x : A) (first : Option A
 one_more_found found now x first left all is pushed so_far =
     so_far ∙ ap (λ o. behind found (before o left)) is ∙ joined found x left ∙ sym (ap (λ xs. behind xs left) pushed)
 
+pub pushed : {X A : Type 0} (f : X → A) (old new : List X) (x : X) → new ≡ old ++ x ∷ [] → map f new ≡ map f old ++ f x ∷ []
+pushed f old new x is = ap (map f) is ∙ map-append f old (x ∷ [])
+
 pub none_of_all : {A : Type 0} (found : List A) (first : Option A) (left all : Option (List A)) → first ≡ None → all ≡ behind found (before first left) → all ≡ None
 none_of_all found first left all is so_far = so_far ∙ ap (λ o. behind found (before o left)) is
 
@@ -40,8 +43,8 @@ pub none_left : {X : Type 0} (lent xs : List X) (i : ℕ) → lent ≡ xs → le
 none_left lent xs i same past = sym (ap (drop i) same) ∙ drop_all i lent past
 
 pub one_more_seen : {X A : Type 0} (f : X → A) (old new : List X) (x : X) (left all : List A) → new ≡ old ++ x ∷ [] → all ≡ map f old ++ f x ∷ left → all ≡ map f new ++ left
-one_more_seen f old new x left all pushed so_far =
-    so_far ∙ sym (append_assoc (map f old) (f x ∷ []) left) ∙ sym (ap (λ ts. ts ++ left) (ap (map f) pushed ∙ map-append f old (x ∷ [])))
+one_more_seen f old new x left all is so_far =
+    so_far ∙ sym (append_assoc (map f old) (f x ∷ []) left) ∙ sym (ap (λ ts. ts ++ left) (pushed f old new x is))
 
 pub fault_passed : {X : Type 0} (P : ConfigFault → Type 0) (e : ConfigFault) (result : Result X ConfigFault) → IsErrAnd result (λ f. f ≡ e) → P e → IfErr result P
 fault_passed P e (Ok x) h given = absurd h

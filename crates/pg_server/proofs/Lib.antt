@@ -1,5 +1,6 @@
 pub mod AnsweredQueryInstances
 pub mod AnsweredQueryLemmas
+pub mod ChangeLemmas
 pub mod ConfigLemmas
 pub mod ConfigurationInstances
 pub mod ConnectionLemmas
@@ -23,6 +24,7 @@ pub mod ServingInstances
 pub mod SoloLemmas
 pub mod StepLemmas
 pub mod TenantLemmas
+pub mod TenantNameLemmas
 pub mod TokenLemmas
 pub mod TransactionInstances
 pub mod TransactionLemmas

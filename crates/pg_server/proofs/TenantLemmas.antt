@@ -1,21 +1,22 @@
 -- Tenants beside the graphs of their places, and beside what was begun there.
-use Rattle.std.proofs.Common.{◌≡◌, ℕ, zero, suc, ◌<◌, List, [], ◌∷◌, length, get_or, set, map, drop, Option, Some, None, false, arith, refl, sym, ap, ap₂, subst, ◌∙◌}
+use Rattle.std.proofs.Common.{◌≡◌, ℕ, zero, suc, ◌<◌, ◌≤◌, List, [], ◌∷◌, length, get_or, set, map, drop, Option, Some, None, false, arith, refl, sym, ap, ap₂, subst, ◌∙◌}
 use Rattle.std.specs.Prelude.{position, replicate, option_map, is_some, IfSome}
 use Rattle.std.proofs.Math.Seq.{map-set_same}
-use Rattle.std.proofs.lemmas.List.{length-set}
+use Rattle.std.proofs.lemmas.List.{get_or-map, get_or_past, length-map, length-set}
 use Rattle.pg_json.specs.Requests.{Request, rollback}
 use Rattle.pg_live.specs.Live.{Begun}
 use Rattle.pg_meaning.specs.Graph.{Graph, IsGraph, empty_graph}
 use Rattle.pg_meaning.specs.GraphLaws.{empty_is_graph}
 use Rattle.pg_meaning.specs.Names.{is_among}
 use Rattle.pg_names.proofs.Interned.{position_map}
+use Rattle.pg_server.proofs.RunLemmas.{settings_at}
 use Rattle.pg_server.specs.Settings.{all_tokens}
 use Rattle.pg_server.specs.State.{state_in}
 use Rattle.pg_server.specs.Tenants.{states_of, AreTenants}
 use Rattle.pg_server.specs.Tokens.{TellsTenants, tenant_of}
 use Rattle.pg_server.specs.Transactions.{RollsBack}
 use Rattle.pg_server.specs.declared.tokens.TokenPlaces.{TokenPlaces}
-use Rattle.pg_tenant.specs.Settings.{TenantSettings, token_texts}
+use Rattle.pg_tenant.specs.Settings.{TenantSettings, no_settings, token_texts}
 use Rattle.pg_tenant.specs.State.{State, is_open, opening, tokens_of}
 use Rattle.pg_tenant.specs.TenantStates.{opening_state, state_of, token_at, transaction_of}
 use Rattle.pg_tenant.specs.declared.tenant.Tenant.{Tenant}
@@ -125,6 +126,18 @@ still_tenants tokens tenants graphs graphs' begins begins' k was now are at same
 pub settings_seen : (tenants : List Tenant) (graphs : List Graph) (begins : List (Option Begun)) → map (λ (s : State). s.settings) (states_of tenants graphs begins) ≡ map (λ (t : Tenant). t.settings) tenants
 settings_seen [] graphs begins = refl
 settings_seen (t ∷ ts) graphs begins = ap (λ ss. t.settings ∷ ss) (settings_seen ts (drop 1 graphs) (drop 1 begins))
+
+module _ (tenants : List Tenant) (graphs : List Graph) (begins : List (Option Begun)) (place : ℕ) where
+  settings_there : (state_in (states_of tenants graphs begins) place).settings ≡ get_or (map (λ (t : Tenant). t.settings) tenants) place no_settings
+  settings_there = settings_at (states_of tenants graphs begins) place ∙ ap (λ ss. get_or ss place no_settings) (settings_seen tenants graphs begins)
+
+  -- the settings of the tenant at a place, and none where there is none
+  pub settings_of_tenant : (t : Tenant) → place < length tenants → t ≡ get_or tenants place t → (state_in (states_of tenants graphs begins) place).settings ≡ t.settings
+  settings_of_tenant t below is = settings_there ∙ get_or-map (λ (t : Tenant). t.settings) tenants place t no_settings below ∙ ap (λ (t : Tenant). t.settings) (sym is)
+
+  pub settings_of_none : length tenants ≤ place → (state_in (states_of tenants graphs begins) place).settings ≡ no_settings
+  settings_of_none past =
+      settings_there ∙ get_or_past (map (λ (t : Tenant). t.settings) tenants) place no_settings (subst (λ n. n ≤ place) (sym (length-map tenants (λ (t : Tenant). t.settings))) past)
 
 -- a tenant stands where its state does
 pub place_seen : (token : List ℕ) (tenants : List Tenant) (graphs : List Graph) (begins : List (Option Begun))

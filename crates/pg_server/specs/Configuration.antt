@@ -40,7 +40,7 @@ if_countable ts = if within 1 max_tenants (length ts) then Some ts else None
 
 abbrev pub settings_in_range : Draft → Option Settings
 settings_in_range d =
-    option_and_then (λ cache. option_map (λ tenants. record { cache = cache; tenants = tenants }) (option_and_then tenants_in_range (if_countable d.tenants)))
+    option_and_then (λ cache. option_map (λ tenants. record { cache = cache; tenants = tenants; names = d.names }) (option_and_then tenants_in_range (if_countable d.tenants)))
     (in_range 1 max_cache d.cache)
 
 abbrev pub has_token_twice : Settings → Bool

@@ -16,6 +16,7 @@ pub record TenantDraft : Type 0 where
 pub record Draft : Type 0 where
   pub cache : ℤ
   pub tenants : List TenantDraft
+  pub names : List (List ℕ)
 
 -- an object with no other keys than these
 abbrev pub is_object_of : List (List ℕ) → Option Members → Bool
@@ -66,14 +67,17 @@ token_of d =
 abbrev pub tenant_keys : List (List ℕ)
 tenant_keys = codes "name" ∷ codes "max_steps" ∷ codes "max_elements" ∷ codes "max_held" ∷ codes "tokens" ∷ []
 
--- the name is a text, and changes nothing
+abbrev pub name_of : Data → Option (List ℕ)
+name_of d = text_at (codes "name") d
+
+-- the name is a text
 abbrev pub tenant_of : Data → Option TenantDraft
 tenant_of d =
     with_only tenant_keys d
     (option_and_then (λ _. option_and_then (λ steps. option_and_then (λ elements. option_and_then (λ held.
     option_map (λ tokens. record { max_steps = steps; max_elements = elements; max_held = held; tokens = tokens })
     (option_and_then (each token_of) (list_at (codes "tokens") d)))
-    (number_or_zero (get (codes "max_held") d))) (number_at (codes "max_elements") d)) (number_at (codes "max_steps") d)) (text_at (codes "name") d))
+    (number_or_zero (get (codes "max_held") d))) (number_at (codes "max_elements") d)) (number_at (codes "max_steps") d)) (name_of d))
 
 abbrev pub config_keys : List (List ℕ)
 config_keys = codes "cache" ∷ codes "tenants" ∷ []
@@ -81,6 +85,7 @@ config_keys = codes "cache" ∷ codes "tenants" ∷ []
 abbrev pub draft_of : Data → Option Draft
 draft_of d =
     with_only config_keys d
-    (option_and_then (λ cache. option_map (λ tenants. record { cache = cache; tenants = tenants })
+    (option_and_then (λ cache. option_and_then (λ tenants. option_map (λ names. record { cache = cache; tenants = tenants; names = names })
+    (option_and_then (each name_of) (list_at (codes "tenants") d)))
     (option_and_then (each tenant_of) (list_at (codes "tenants") d)))
     (number_at (codes "cache") d))

@@ -21,7 +21,7 @@ token_data text rights = object (member (codes "token") (string text) (member (c
 -- with some members more
 abbrev pub tenant_data_with : Members → (steps : Data) → (tokens : Items) → Data
 tenant_data_with more steps tokens =
-    object (member (codes "name") (string []) (member (codes "max_steps") steps (member (codes "max_elements") (natural 0) (member (codes "tokens") (array tokens) more))))
+    object (member (codes "name") (string (codes "A")) (member (codes "max_steps") steps (member (codes "max_elements") (natural 0) (member (codes "tokens") (array tokens) more))))
 
 abbrev pub tenant_data : (steps : Data) → (tokens : Items) → Data
 tenant_data steps tokens = tenant_data_with no_members steps tokens
@@ -67,7 +67,7 @@ FaultsAreInOrder =
     × (settings_of_data (with_numbers (natural 0) (natural 3)) ≡ Err OutOfRange)
     × (settings_of_data (with_numbers (natural 1) (natural 1000000001)) ≡ Err OutOfRange)
     × (settings_of_data (with_numbers (natural 1) (natural 1000000000)) ≡ Ok (settings 1 1000000000 0 []))
-    × (settings_of_draft (record { cache = pos 1; tenants = record { max_steps = pos 0; max_elements = pos 0; max_held = pos 0; tokens = token (codes "a") ∷ [] } ∷ record { max_steps = pos 0; max_elements = pos 0; max_held = pos 0; tokens = token (codes "a") ∷ [] } ∷ [] }) ≡ Err TokenTwice)
+    × (settings_of_draft (record { cache = pos 1; tenants = record { max_steps = pos 0; max_elements = pos 0; max_held = pos 0; tokens = token (codes "a") ∷ [] } ∷ record { max_steps = pos 0; max_elements = pos 0; max_held = pos 0; tokens = token (codes "a") ∷ [] } ∷ []; names = codes "A" ∷ codes "B" ∷ [] }) ≡ Err TokenTwice)
     × ((bytes : List ℕ) → is_utf8 bytes ≡ false → configuration bytes ≡ Err NotJson)
     × ((bytes : List ℕ) → is_utf8 bytes ≡ true → read bytes ≡ None → configuration bytes ≡ Err NotJson)
     × ((bytes : List ℕ) → is_utf8 bytes ≡ true → read bytes ≡ Some null → configuration bytes ≡ Err WrongShape)

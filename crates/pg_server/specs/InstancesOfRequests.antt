@@ -72,7 +72,7 @@ cache_of capacity = record { capacity = capacity; keys = []; hits = 0; misses = 
 
 abbrev pub InstancesOfOpenings : Type 0
 InstancesOfOpenings =
-    let server : ServerState = opening_server (record { cache = 7; tenants = reader ∷ writer ∷ [] }) in
+    let server : ServerState = opening_server (record { cache = 7; tenants = reader ∷ writer ∷ []; names = codes "A" ∷ codes "B" ∷ [] }) in
     (server.cache ≡ cache_of 7) × (state_at server 0 ≡ opening reader) × (state_at server 1 ≡ bare) × (state_at server 2 ≡ no_state) × (length server.tenants ≡ 2)
 
 -- ---- requests of no tenant

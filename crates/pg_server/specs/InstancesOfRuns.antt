@@ -24,7 +24,7 @@ abbrev pub reader : TenantSettings
 reader = record { max_steps = 3; max_elements = 2; max_held = 5; tokens = token (codes "a") ∷ [] }
 
 abbrev pub one_reader : ServerState
-one_reader = opening_server (record { cache = 1; tenants = reader ∷ [] })
+one_reader = opening_server (record { cache = 1; tenants = reader ∷ []; names = codes "A" ∷ [] })
 
 abbrev pub told : List ℕ → List ℕ → List Exchange
 told body reply = record { body = body; reply = reply } ∷ []
@@ -42,14 +42,14 @@ StatusRuns =
 -- one tenant's, which may hold so many rows
 abbrev pub holding : ℤ → ℤ → ℤ → ℤ → List TokenSettings → Draft
 holding cache steps elements held tokens =
-    record { cache = cache; tenants = record { max_steps = steps; max_elements = elements; max_held = held; tokens = tokens } ∷ [] }
+    record { cache = cache; tenants = record { max_steps = steps; max_elements = elements; max_held = held; tokens = tokens } ∷ []; names = codes "A" ∷ [] }
 
 abbrev pub draft : ℤ → ℤ → ℤ → List TokenSettings → Draft
 draft cache steps elements tokens = holding cache steps elements (pos 0) tokens
 
 abbrev pub settings_holding : ℕ → ℕ → ℕ → ℕ → List TokenSettings → Settings
 settings_holding cache steps elements held tokens =
-    record { cache = cache; tenants = record { max_steps = steps; max_elements = elements; max_held = held; tokens = tokens } ∷ [] }
+    record { cache = cache; tenants = record { max_steps = steps; max_elements = elements; max_held = held; tokens = tokens } ∷ []; names = codes "A" ∷ [] }
 
 abbrev pub settings : ℕ → ℕ → ℕ → List TokenSettings → Settings
 settings cache steps elements tokens = settings_holding cache steps elements 0 tokens
@@ -65,6 +65,6 @@ ConfigurationsAreTested =
     × (settings_of_draft (holding (pos 1) (pos 0) (pos 0) (pos 1000000000) []) ≡ Ok (settings_holding 1 0 0 1000000000 []))
     × (settings_of_draft (holding (pos 1) (pos 0) (pos 0) (pos 1000000001) []) ≡ Err OutOfRange)
     × (settings_of_draft (holding (pos 1) (pos 0) (pos 0) (negsuc 0) []) ≡ Err OutOfRange)
-    × (settings_of_draft (record { cache = pos 1; tenants = [] }) ≡ Err OutOfRange)
+    × (settings_of_draft (record { cache = pos 1; tenants = []; names = [] }) ≡ Err OutOfRange)
     × (settings_of_draft (draft (pos 1) (pos 0) (pos 0) (token (codes "a") ∷ token (codes "a") ∷ [])) ≡ Err TokenTwice)
     × (settings_of_draft (draft (pos 0) (pos 0) (pos 0) (token (codes "a") ∷ token (codes "a") ∷ [])) ≡ Err OutOfRange)

@@ -1,4 +1,5 @@
 pub mod AnsweredQueries
+pub mod Changes
 pub mod ConfigLines
 pub mod Configuration
 pub mod Connections
@@ -24,6 +25,7 @@ pub mod Settings
 pub mod State
 pub mod StateCode
 pub mod Step
+pub mod TenantNames
 pub mod Tenants
 pub mod Tokens
 pub mod Transactions

@@ -1,5 +1,5 @@
 //! The configuration of a server.
-ghost use Rattle.std.specs.Prelude.{◌≡◌, ◌≢◌, ◌<◌, ◌≤◌, ℕ, ◌++◌, [], length, IfOk, IfErr, OnOk, Ok, Err, Some, None, map};
+ghost use Rattle.std.specs.Prelude.{◌≡◌, ◌≢◌, ◌<◌, ◌≤◌, ℕ, ◌++◌, [], length, IfOk, IfErr, OnOk, Ok, Err, Some, None, map, string_bytes};
 ghost use Rattle.std.specs.NonZero.{non_zero_usize_get};
 ghost use Rattle.pg_server.specs.Settings.{all_tokens};
 ghost use Rattle.pg_tenant.specs.Settings.{token_texts as texts_of};
@@ -24,22 +24,28 @@ const MAX_TENANTS: usize = 4_096;
 
 const MAX_QUOTA: u64 = 1_000_000_000;
 
-/// What a server begins with: a size for its plan cache, and its tenants, of which there is one at least. No two tokens are equal.
+/// What a server begins with: a size for its plan cache, and its tenants, of which there is one at least, with their names. No two tokens are
+/// equal, and names may be.
 #[derive(Drop)]
 pub struct Config {
     cache: NonZeroUsize,
     tenants: Vec<TenantSettings>,
+    names: Vec<String>,
 }
 
 impl Model for Config {
-    ghost use Rattle.std.specs.Prelude.{◌<◌, ◌≤◌, length};
+    ghost use Rattle.std.specs.Prelude.{◌<◌, ◌≤◌, length, map, string_bytes};
     ghost use Rattle.std.specs.NonZero.{non_zero_usize_get};
     ghost use Rattle.pg_server.specs.Settings.{Settings};
     ghost use Rattle.pg_server.specs.Configuration.{HasTokensOnce, max_tenants};
 
     ghost Value = { Settings };
 
-    ghost view = { λ c. record { cache = non_zero_usize_get c.cache; tenants = c.tenants.items } };
+    ghost view = { λ c. record {
+      cache = non_zero_usize_get c.cache;
+      tenants = c.tenants.items;
+      names = map string_bytes c.names.items;
+    } };
 
     ghost invariant = { λ c. HasTokensOnce c.tenants.items
         × (0 < length c.tenants.items) × (length c.tenants.items ≤ max_tenants) };
@@ -59,6 +65,13 @@ impl Config {
             Err(e) if e.is_memory() => Err(ConfigFault::Memory),
             Err(_) => Err(ConfigFault::NotJson),
         }
+    }
+
+    /// The names of the tenants, by their places.
+    pub fn names(&self) -> &[String]
+        ensures { map string_bytes result.now ≡ self.now.names }
+    {
+        self.names.as_slice()
     }
 
     /// How many plans the cache holds, and what each tenant begins with.
@@ -97,7 +110,11 @@ fn checked(alloc: Global, draft: Draft) -> Result<Config, ConfigFault>
     if has_token_twice(alloc, &tenants)? {
         return Err(ConfigFault::TokenTwice);
     }
-    Ok(Config { cache, tenants })
+    Ok(Config {
+        cache,
+        tenants,
+        names: draft.names,
+    })
 }
 
 fn tenants_in_range(

@@ -1,9 +1,9 @@
 //! A configuration whose shape is right and whose numbers may be any.
-ghost use Rattle.std.specs.Prelude.{◌≡◌, ◌≢◌, IfOk, IfErr, Some, None, map, bytes_eq, option_map, option_and_then};
+ghost use Rattle.std.specs.Prelude.{◌≡◌, ◌≢◌, IfOk, IfErr, Some, None, map, bytes_eq, option_map, option_and_then, string_bytes};
 ghost use Rattle.pg_json.specs.Requests.{has_only as seen_only, is_one_of as seen_one_of};
 ghost use Rattle.serde_json.specs.Find.{as_object};
 ghost use Rattle.serde_json.specs.View.{view, items_view, members_view};
-ghost use Rattle.pg_server.specs.Draft.{text_at as seen_text, number_at as seen_number, number_or_zero as seen_or_zero, list_at as seen_list, if_any, each, rights_of as seen_rights, token_of as seen_token, tenant_of as seen_tenant, draft_of as seen_draft, is_object_of};
+ghost use Rattle.pg_server.specs.Draft.{text_at as seen_text, number_at as seen_number, number_or_zero as seen_or_zero, list_at as seen_list, if_any, each, rights_of as seen_rights, token_of as seen_token, tenant_of as seen_tenant, draft_of as seen_draft, name_of as seen_name, is_object_of};
 ghost use Rattle.pg_server.specs.declared.config_fault.ConfigFault.TheVariants.{WrongShape, Memory};
 
 use crate::config_fault::ConfigFault;
@@ -37,14 +37,21 @@ impl Model for TenantDraft {
 pub(crate) struct Draft {
     pub(crate) cache: i64,
     pub(crate) tenants: Vec<TenantDraft>,
+    // by their places
+    pub(crate) names: Vec<String>,
 }
 
 impl Model for Draft {
+    ghost use Rattle.std.specs.Prelude.{map, string_bytes};
     ghost use Rattle.pg_server.specs.Draft.{Draft as Seen};
 
     ghost Value = { Seen };
 
-    ghost view = { λ d. record { cache = d.cache; tenants = d.tenants.items } };
+    ghost view = { λ d. record {
+      cache = d.cache;
+      tenants = d.tenants.items;
+      names = map string_bytes d.names.items;
+    } };
 }
 
 /// The configuration that a value of JSON is.
@@ -57,8 +64,14 @@ pub(crate) fn draft_of(alloc: Global, value: &Json) -> Result<Draft, ConfigFault
         return Err(ConfigFault::WrongShape);
     }
     let cache = number_at(value, "cache")?;
-    let tenants = tenants_of(alloc, list_at(value, "tenants")?)?;
-    Ok(Draft { cache, tenants })
+    let items = list_at(value, "tenants")?;
+    let tenants = tenants_of(alloc, items)?;
+    let names = names_of(alloc, items)?;
+    Ok(Draft {
+        cache,
+        tenants,
+        names,
+    })
 }
 
 fn tenants_of(alloc: Global, items: &Vec<Json>) -> Result<Vec<TenantDraft>, ConfigFault>
@@ -72,6 +85,29 @@ fn tenants_of(alloc: Global, items: &Vec<Json>) -> Result<Vec<TenantDraft>, Conf
         tenants.push(tenant_of(alloc, item)?)?;
     }
     Ok(tenants)
+}
+
+fn names_of(alloc: Global, items: &Vec<Json>) -> Result<Vec<String>, ConfigFault>
+    ensures ok { IfOk result
+        (λ v. each seen_name (items_view items.now.items) ≡ Some (map string_bytes v.items)) }
+    ensures kind { IfErr result (λ e. e ≢ Memory → e ≡ WrongShape) }
+    ensures refused { IfErr result (λ e. e ≢ Memory
+        → each seen_name (items_view items.now.items) ≡ None) }
+{
+    let mut names = Vec::new(alloc);
+    for item in items {
+        names.push(name_of(alloc, item)?)?;
+    }
+    Ok(names)
+}
+
+fn name_of(alloc: Global, value: &Json) -> Result<String, ConfigFault>
+    ensures ok { IfOk result (λ t. seen_name (view value.now) ≡ Some (string_bytes t)) }
+    ensures kind { IfErr result (λ e. e ≢ Memory → e ≡ WrongShape) }
+    ensures refused { IfErr result (λ e. e ≢ Memory → seen_name (view value.now) ≡ None) }
+{
+    let text = text_at(value, "name")?;
+    Ok(String::from_str(alloc, text)?)
 }
 
 fn tenant_of(alloc: Global, value: &Json) -> Result<TenantDraft, ConfigFault>

@@ -1,6 +1,7 @@
 //! Frames in, frames out: the server, its configuration, and what one of its runs promises.
 #![tactic(auto)]
 
+mod answered;
 mod config;
 mod config_fault;
 mod connections;
@@ -14,9 +15,11 @@ mod serve_fault;
 mod server;
 mod service;
 mod shared;
+mod tenant_names;
 mod tokens;
 mod wire;
 
+pub use answered::Answered;
 pub use config::Config;
 pub use config_fault::ConfigFault;
 pub use connections::serve_on;
@@ -32,3 +35,4 @@ pub use pg_tenant::Rights;
 pub use serve_fault::ServeFault;
 pub use server::Server;
 pub use shared::Shared;
+pub use tenant_names::TenantNames;

@@ -1,22 +1,29 @@
 //! The server: tenants, and the requests that reach them.
-ghost use Rattle.std.specs.Prelude.{◌≡◌, ◌<◌, ℕ, List, length, map, Some, IfOk, IfSome};
+ghost use Rattle.std.specs.Prelude.{◌≡◌, ◌<◌, ℕ, [], false, List, length, map, is_some, Some, None, IfOk, IfErr, IfSome};
 ghost use Rattle.pg_cache.specs.Cache.{cache_seen};
 ghost use Rattle.pg_json.specs.Bodies.{request_view};
+ghost use Rattle.pg_json.specs.Requests.{token_of};
 ghost use Rattle.pg_meaning.specs.Graph.{IsGraph};
+ghost use Rattle.pg_server.specs.Changes.{Notes, TellsChange};
 ghost use Rattle.pg_server.specs.Counts.{inner_of, faults_of};
-ghost use Rattle.pg_server.specs.Handles.{Handles, key_asked, key_at, tenant_asked};
+ghost use Rattle.pg_server.specs.Handles.{AsksFor, Handles, HandlesFor, IsRead, IsUnread, is_at, key_asked, key_at, request_for, tenant_asked};
 ghost use Rattle.pg_server.specs.Holds.{HoldTenants, shared_of};
 ghost use Rattle.pg_server.specs.Runs.{asked};
 ghost use Rattle.pg_server.specs.Served.{device, read_faults, write_faults};
 ghost use Rattle.pg_server.specs.Serves.{Serves};
-ghost use Rattle.pg_server.specs.State.{opening_server, state_at};
+ghost use Rattle.pg_server.specs.Settings.{all_tokens};
+ghost use Rattle.pg_server.specs.State.{opening_server, settings_of, state_at};
 ghost use Rattle.pg_server.specs.Step.{Answers, StepAt, RepliesAt, place_of};
 ghost use Rattle.pg_server.specs.Transactions.{RollsBack};
+ghost use Rattle.pg_tenant.specs.Changes.{IsNoRefusal, may_change, reply_in};
 ghost use Rattle.pg_tenant.specs.LookUps.{LooksUp};
+ghost use Rattle.pg_tenant.specs.Settings.{standing_token};
 ghost use Rattle.pg_tenant.specs.State.{is_open, opening};
 ghost use Rattle.pg_tenant.specs.Step.{AddsNames, reply_of};
 ghost use Rattle.pg_tenant.specs.TenantStates.{opening_state};
+ghost use Rattle.pg_value.specs.Texts.{comes_again};
 
+use crate::answered::{Answered, refused};
 use crate::config::Config;
 use crate::counted::Counted;
 use crate::end::End;
@@ -26,10 +33,10 @@ use crate::tokens::TokenPlaces;
 use crate::wire::MAX_BODY;
 use pg_cache::PlanCache;
 use pg_graph::Tables;
-use pg_json::{ReplyBytes, RequestBody, RequestScratch, read_request, refusal, rollback_body};
+use pg_json::{ReplyBytes, RequestBody, RequestScratch, read_request, rollback_body};
 use pg_live::LiveGraph;
 use pg_meaning::Fault;
-use pg_tenant::{Tenant, TenantSettings};
+use pg_tenant::{Noted, Tenant, TenantSettings};
 use std::alloc::{AllocError, Global};
 use std::hash::RandomState;
 use std::io::{Read, Write};
@@ -102,9 +109,10 @@ impl<T: Tables> Server<T> {
         }
     }
 
-    /// Shows that each tenant's graph is one.
-    fn show_graphs(&self)
-        ensures { (t : ℕ) → IsGraph (state_at self.now.state t).graph }
+    /// Shows that each tenant's graph is one, and that no token is two tenants'.
+    fn show_tenants(&self)
+        ensures graphs { (t : ℕ) → IsGraph (state_at self.now.state t).graph }
+        ensures distinct { comes_again [] (all_tokens (settings_of self.now.state)) ≡ false }
     {
         let _ = self.graphs.shared();
     }
@@ -146,61 +154,168 @@ impl<T: Tables> Server<T> {
         ensures handles { Handles self.old.state body.now result self.new.state }
         ensures tenants { HoldTenants T.seen self.new }
     {
-        let reply = self.answer_body(body);
+        self.handle_noting(body).reply
+    }
+
+    /// Answers one request as `handle` does, and tells which tenant it may have changed: its graph, indexes, transaction or held rows.
+    pub fn handle_noting(&mut self, body: &[u8]) -> Answered
+        ensures handles { Handles self.old.state body.now result.reply self.new.state }
+        ensures tenants { HoldTenants T.seen self.new }
+        ensures told { TellsChange (asked body.now) result.reply (is_some result.changed) }
+        ensures unchanged { result.changed ≡ None
+            → self.new.state.tenants ≡ self.old.state.tenants }
+        ensures place { IfSome result.changed
+            (λ place. tenant_asked self.old.state.tenants body.now ≡ Some place) }
+    {
+        let answered = self.answer_body(body);
         // which ensures of any server what is ensured here of its tenants
         let _ = self.shared();
-        reply
+        answered
     }
 
-    fn answer_body(&mut self, body: &[u8]) -> ReplyBytes
-        ensures { Handles self.old.state body.now result self.new.state }
+    /// Answers one request for the tenant at a place, whose token it needn't show: where it shows none of that tenant's, the one that stands
+    /// for the tenant takes its place.
+    pub fn handle_for(&mut self, place: usize, body: &[u8]) -> ReplyBytes
+        ensures handles { HandlesFor place self.old.state body.now result self.new.state }
+        ensures tenants { HoldTenants T.seen self.new }
     {
-        if body.len() > MAX_BODY {
-            return refusal(Fault::FrameTooLong);
-        }
-        match read_request(self.alloc, &mut self.scratch, body) {
+        let answered = self.answer_for(place, body);
+        // as in `handle_noting`
+        let _ = self.shared();
+        answered.reply
+    }
+
+    fn answer_body(&mut self, body: &[u8]) -> Answered
+        ensures handles { Handles self.old.state body.now result.reply self.new.state }
+        ensures told { TellsChange (asked body.now) result.reply (is_some result.changed) }
+        ensures unchanged { result.changed ≡ None
+            → self.new.state.tenants ≡ self.old.state.tenants }
+        ensures place { IfSome result.changed
+            (λ place. tenant_asked self.old.state.tenants body.now ≡ Some place) }
+    {
+        match self.request_in(body) {
             Ok(request) => {
-                self.show_graphs();
+                self.show_tenants();
                 self.answer_request(request)
             }
-            Err(fault) => refusal(fault),
+            Err(fault) => refused(fault),
         }
     }
 
-    fn answer_request(&mut self, request: RequestBody) -> ReplyBytes
+    /// The request that a body is.
+    fn request_in(&mut self, body: &[u8]) -> Result<RequestBody, Fault>
+        ensures same { self.new.state ≡ self.old.state }
+        ensures read { IfOk result (λ request. IsRead body.now (request_view request)) }
+        ensures unread { IfErr result (λ fault. IsUnread body.now fault) }
+    {
+        if body.len() > MAX_BODY {
+            return Err(Fault::FrameTooLong);
+        }
+        read_request(self.alloc, &mut self.scratch, body)
+    }
+
+    fn answer_for(&mut self, place: usize, body: &[u8]) -> Answered
+        ensures { HandlesFor place self.old.state body.now result.reply self.new.state }
+    {
+        match self.request_in(body) {
+            Ok(request) => {
+                self.show_tenants();
+                self.answer_request_for(place, request)
+            }
+            Err(fault) => refused(fault),
+        }
+    }
+
+    fn answer_request_for(&mut self, place: usize, request: RequestBody) -> Answered
+        ensures { AsksFor place self.old.state
+            (request_view request) result.reply self.new.state }
+    {
+        match self.request_for(place, request) {
+            Ok(request) => self.answer_request(request),
+            Err(_) => refused(Fault::OutOfMemory),
+        }
+    }
+
+    /// The request as the tenant at this place asks it.
+    fn request_for(&self, place: usize, mut request: RequestBody) -> Result<RequestBody, AllocError>
+        ensures { IfOk result (λ asked. request_view asked
+            ≡ request_for place self.now.state.tenants (request_view request)) }
+    {
+        if self.is_at(place, request.token()) {
+            return Ok(request);
+        }
+        let shown = String::from_str(self.alloc, self.standing_token(place))?;
+        request.set_token(shown);
+        Ok(request)
+    }
+
+    /// Whether the tenant with this token stands at this place.
+    fn is_at(&self, place: usize, token: &str) -> bool
+        ensures { result ≡ is_at place (place_of token.now self.now.state.tenants) }
+    {
+        match self.place(token) {
+            Some(found) => found == place,
+            None => false,
+        }
+    }
+
+    /// The token that stands for the tenant at this place, which is empty where there is none.
+    fn standing_token(&self, place: usize) -> &str
+        ensures { result.now ≡ standing_token (state_at self.now.state place).settings }
+    {
+        match self.tenants.get(place) {
+            Some(tenant) => tenant.standing_token(),
+            None => "",
+        }
+    }
+
+    fn answer_request(&mut self, request: RequestBody) -> Answered
         ensures tenants { Answers self.old.state.tenants
-            (request_view request) result self.new.state.tenants }
+            (request_view request) result.reply self.new.state.tenants }
         ensures cache { LooksUp (key_asked self.old.state.tenants (request_view request))
-            result self.old.state.cache self.new.state.cache }
-        ensures names { AddsNames result self.old.state.names self.new.state.names }
+            result.reply self.old.state.cache self.new.state.cache }
+        ensures names { AddsNames result.reply self.old.state.names self.new.state.names }
+        ensures notes { Notes self.old.state.tenants
+            (request_view request) result.reply (is_some result.changed) self.new.state.tenants }
+        ensures place { IfSome result.changed
+            (λ place. place_of (token_of (request_view request)) self.old.state.tenants ≡ Some place) }
     {
         match self.tokens.place(request.token()) {
             Some(place) => self.answer_at(place, request),
-            None => refusal(Fault::UnknownToken),
+            None => refused(Fault::UnknownToken),
         }
     }
 
-    fn answer_at(&mut self, place: usize, request: RequestBody) -> ReplyBytes
+    fn answer_at(&mut self, place: usize, request: RequestBody) -> Answered
         requires { place < length self.old.state.tenants }
         ensures tenants { StepAt (Some place) self.old.state.tenants
-            (request_view request) result self.new.state.tenants }
+            (request_view request) result.reply self.new.state.tenants }
         ensures cache { LooksUp (key_at place self.old.state.tenants (request_view request))
-            result self.old.state.cache self.new.state.cache }
-        ensures names { AddsNames result self.old.state.names self.new.state.names }
+            result.reply self.old.state.cache self.new.state.cache }
+        ensures names { AddsNames result.reply self.old.state.names self.new.state.names }
+        ensures notes { Notes self.old.state.tenants
+            (request_view request) result.reply (is_some result.changed) self.new.state.tenants }
+        ensures place { IfSome result.changed (λ changed. changed ≡ place) }
     {
         match self.reply_at(place, request) {
-            Ok(bytes) => bytes,
-            Err(fault) => refusal(fault),
+            Ok(noted) => Answered {
+                reply: noted.reply,
+                changed: noted.changes.then_some(place),
+            },
+            Err(fault) => refused(fault),
         }
     }
 
-    fn reply_at(&mut self, place: usize, request: RequestBody) -> Result<ReplyBytes, Fault>
+    fn reply_at(&mut self, place: usize, request: RequestBody) -> Result<Noted, Fault>
         requires { place < length self.old.state.tenants }
         ensures tenants { RepliesAt place self.old.state.tenants
-            (request_view request) result self.new.state.tenants }
+            (request_view request) (reply_in result) self.new.state.tenants }
         ensures cache { LooksUp (key_at place self.old.state.tenants (request_view request))
-            (reply_of result) self.old.state.cache self.new.state.cache }
-        ensures names { AddsNames (reply_of result) self.old.state.names self.new.state.names }
+            (reply_of (reply_in result)) self.old.state.cache self.new.state.cache }
+        ensures names { AddsNames
+            (reply_of (reply_in result)) self.old.state.names self.new.state.names }
+        ensures accepted { IfOk result (λ noted. IsNoRefusal noted.reply) }
+        ensures told { IfOk result (λ noted. noted.changes ≡ may_change (request_view request)) }
     {
         self.graphs.turn_to(place);
         self.tenants[place].answer(self.alloc, &mut self.graphs, &mut self.cache, request)

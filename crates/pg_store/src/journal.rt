@@ -5,7 +5,7 @@ ghost use Rattle.pg_graph.specs.Content.{Keeps};
 ghost use Rattle.pg_store.specs.Journal.{CanUndoOne, undo_one};
 ghost use Rattle.pg_store.specs.declared.journal.Entry.TheVariants.{NodeChanged, RelChanged};
 ghost use Rattle.pg_store.specs.Noted.{AreExact};
-ghost use Rattle.pg_store.specs.Stores.{graph_of_store, graph_at, index_pairs, state_of, IsFit, HasMark, IsBack, Settles};
+ghost use Rattle.pg_store.specs.Stores.{graph_of_store, graph_at, index_pairs, state_at, state_of, IsFit, HasMark, IsBack, Settles};
 
 use crate::edits::{NodeBefore, PropertiesBefore, give_back, give_node_back};
 use crate::node_changes::blank_node;
@@ -50,7 +50,8 @@ impl<T: Tables> Store<T> {
         }
     }
 
-    /// Takes back all that was done since the mark, and cuts off the names that it brought. It takes no memory.
+    /// Takes back all that was done since the mark, and cuts off the names that it brought. Where that leaves
+    /// nothing to undo, the sets are swept. It takes no memory.
     pub fn undo(&mut self, shared: &mut Shared<T::Shared>, mark: Mark)
         requires fit { IsFit T.seen self.old shared.old }
         requires mark { HasMark T.seen self.old shared.old mark }
@@ -65,6 +66,9 @@ impl<T: Tables> Store<T> {
             → earlier.names ≤ mark.names → HasMark T.seen self.old shared.old earlier
             → HasMark T.seen self.new shared.new earlier }
         ensures fit { IsFit T.seen self.new shared.new }
+        ensures exact { mark.journal ≡ 0
+            → (state_at T.seen self.old shared.old mark).gone_nodes ≡ map.empty
+            → AreExact self.new.sets (state_of T.seen self.new shared.new) }
         ensures pairs { index_pairs self.new ≡ index_pairs self.old }
         ensures keeps { Keeps
             T.seen self.old.tables shared.old.tables self.new.tables shared.new.tables }
@@ -80,7 +84,8 @@ impl<T: Tables> Store<T> {
         self.sweep(shared);
     }
 
-    /// Takes back all that was done since the mark, and leaves the names: others may have added some since. It takes no memory.
+    /// Takes back all that was done since the mark, and leaves the names: others may have added some since. Where
+    /// that leaves nothing to undo, the sets are swept. It takes no memory.
     pub fn back(&mut self, shared: &mut Shared<T::Shared>, mark: Mark)
         requires fit { IsFit T.seen self.old shared.old }
         requires mark { HasMark T.seen self.old shared.old mark }
@@ -88,6 +93,9 @@ impl<T: Tables> Store<T> {
             ≡ graph_at T.seen self.old shared.old mark }
         ensures names { shared.new.names ≡ shared.old.names }
         ensures fit { IsFit T.seen self.new shared.new }
+        ensures exact { mark.journal ≡ 0
+            → (state_at T.seen self.old shared.old mark).gone_nodes ≡ map.empty
+            → AreExact self.new.sets (state_of T.seen self.new shared.new) }
         ensures pairs { index_pairs self.new ≡ index_pairs self.old }
         ensures keeps { Keeps
             T.seen self.old.tables shared.old.tables self.new.tables shared.new.tables }

@@ -1,4 +1,5 @@
 pub mod AnswerLemmas
+pub mod ChangeLemmas
 mod FinishedLemmas
 mod IndexLemmas
 mod InstanceLemmas

@@ -16,9 +16,12 @@ use Rattle.pg_meaning.specs.Value.{Entries}
 use Rattle.pg_meaning.specs.declared.fault.Fault.{Fault}
 use Rattle.pg_meaning.specs.declared.fault.Fault.TheVariants.{TextTooLong, MissingParameter}
 use Rattle.pg_plan.proofs.MeaningLemmas.{texts_mean}
-use Rattle.pg_plan.specs.Plans.{plan_anchors, plan_query}
+use Rattle.pg_plan.specs.Plans.{IsPlanOfText, plan_anchors, plan_query}
 use Rattle.pg_plan.specs.Reading.{greatest_text, tested_length}
-use Rattle.pg_tenant.specs.Outcomes.{all_given, are_given, permitted, query_outcome, PlansAnswer, TextMeans}
+use Rattle.pg_plan.specs.Updates.{updates}
+use Rattle.pg_plan.specs.declared.plan.Plan.{Plan as KeptPlan}
+use Rattle.pg_tenant.specs.Changes.{is_update}
+use Rattle.pg_tenant.specs.Outcomes.{all_given, are_given, permitted, query_outcome, text_query, PlansAnswer, TextMeans}
 
 -- ---- the plan of the text
 
@@ -37,6 +40,10 @@ plans_answer may_write max_steps max_elements parameters indexes graph text plan
     ap (λ r. (r >> text_checked text) >>= query_outcome may_write max_steps max_elements parameters indexes graph) (short text fits)
     ∙ ap (λ r. r >>= query_outcome may_write max_steps max_elements parameters indexes graph) h.is
     ∙ ap (λ r. permitted may_write max_steps max_elements parameters q >> (are_given parameters q >> r)) (under_its_plan indexes q (plan_anchors plan) parameters graph max_steps max_elements h.anchored)
+
+-- a text has an updating clause where the query of its plan has one
+pub is_update_of : (text : List ℕ) (indexes : Catalogue) (plan : KeptPlan) → length text ≤ greatest_text → IsPlanOfText text indexes plan → is_update (text_query text) ≡ updates (plan_query plan)
+is_update_of text indexes plan fits h = ap is_update (ap (λ r. r >> text_checked text) (short text fits) ∙ h.is)
 
 -- ---- its meaning
 

@@ -1,13 +1,13 @@
 -- From what the parts of an answer ensure to what the request does.
 use Rattle.std.proofs.Common.{◌≡◌, ◌≢◌, ◌≤◌, ℕ, Bool, true, false, not, bytes_eq, List, length, get_or, set, Option, Some, None, is_some, Result, Ok, Err, refl, sym, ap, subst, ◌∙◌, inl, inr, arith}
-use Rattle.std.specs.Prelude.{◌||◌, IfErr, IfOk, OnErr, OnOk, option_map}
+use Rattle.std.specs.Prelude.{◌||◌, IfErr, IfOk, OnErr, OnOk, drop, option_map, take}
 use Rattle.std.proofs.lemmas.Bool.{cases_lt}
 use Rattle.std.proofs.lemmas.List.{get_or-set_same, get_or_past, length-set, set-get_or}
 use Rattle.std.specs.Option.{option_map_or}
-use Rattle.pg_json.proofs.Codes.{done_is_no_refusal}
+use Rattle.pg_json.proofs.Codes.{done_is_no_refusal, pulled_is_no_refusal}
 use Rattle.pg_json.specs.Refusals.{refusal_text, done_text}
 use Rattle.pg_json.specs.Requests.{Request, token_of, query, status, begin, commit, rollback, pull, drop_page}
-use Rattle.pg_json.specs.Pages.{QueryText}
+use Rattle.pg_json.specs.Pages.{QueryText, pulled_text}
 use Rattle.pg_live.specs.Live.{Aside, Begun, Live, begun_at, open_at, with_open}
 use Rattle.pg_live.specs.Settled.{Settles}
 use Rattle.pg_meaning.specs.Answer.{◌>>=◌, ◌>>◌, unless}
@@ -23,11 +23,12 @@ use Rattle.pg_plan.specs.Reading.{greatest_text}
 use Rattle.pg_plan.specs.Updates.{updates}
 use Rattle.pg_plan.specs.declared.plan.Plan.{Plan}
 use Rattle.pg_pages.specs.Gives.{GivesHeld}
-use Rattle.pg_pages.specs.Held.{Held, Page, dropped, page_of, pulled, without_page}
+use Rattle.pg_pages.specs.Held.{Held, Page, dropped, left_with, page_of, pulled, without_page}
 use Rattle.pg_tenant.proofs.AnswerLemmas.{NoRefusal, shown_is_no_refusal}
 use Rattle.pg_tenant.proofs.OutcomeLemmas.{plans_answer}
 use Rattle.pg_tenant.proofs.SettledLemmas.{answer_or_refused, shown_settled}
 use Rattle.pg_tenant.specs.Answers.{Answered, shown_if_fitting}
+use Rattle.pg_tenant.specs.Changes.{IsNoRefusal}
 use Rattle.pg_tenant.specs.Indexes.{indexes_of}
 use Rattle.pg_tenant.specs.Outcomes.{are_given, early_tests, plan_outcome, query_outcome, text_outcome, text_query}
 use Rattle.pg_tenant.specs.Replies.{IsAnswer, IsShown}
@@ -85,6 +86,7 @@ refuses tenant live request e h memory = record {
   others = none_touched live;
   settings = refl;
   memory = memory;
+  accepted = tt;
 }
 
 -- ---- what is done
@@ -97,6 +99,7 @@ does was now old new request bytes after is served same names others settings = 
   others = others;
   settings = settings;
   memory = λ h. tt;
+  accepted = λ fault told. done_is_no_refusal fault (sym is ∙ told);
 }
 
 -- ---- the tests before any clause
@@ -184,7 +187,7 @@ module _ {L : Type 0} (was now : Tenant) (old new : Live L) (settings : now.sett
         shown_settled r reply shows mid end was.pages now.pages same
         (subst (λ (m : ℕ). IsShown reply (shown_if_fitting was.pages m token page outcome) mid was.pages now.pages) most_is is_shown) kept
 
-  no_refusal : (r : Result (List ℕ) Fault) → IsShown r shows new.graph was.pages now.pages → IfOk r (λ bytes. (fault : Fault) → bytes ≢ refusal_text fault)
+  pub no_refusal : (r : Result (List ℕ) Fault) → IsShown r shows new.graph was.pages now.pages → IfOk r IsNoRefusal
   no_refusal (Ok bytes) is = subst NoRefusal is (shown_is_no_refusal was.pages was.settings.max_held token page outcome)
   no_refusal (Err e) is = tt
 
@@ -215,15 +218,16 @@ module _ {L : Type 0} (was now : Tenant) (old new : Live L) (token text : List �
   behind_test test answer = with_answer here (test >> answer)
 
   pub serves_plan : (plan : Plan) (r : Result (List ℕ) Fault) → page_tested here page ≡ Ok tt → length text ≤ greatest_text → IsPlanOfText text here.indexes plan
-      → RunsPlan token plan parameters page here r (state_over now new) → AddsNames (reply_of r) old.names new.names → KeepsOthers old new → now.settings ≡ was.settings
+      → RunsPlan token plan parameters page here r (state_over now new) → AddsNames (reply_of r) old.names new.names → KeepsOthers old new → now.settings ≡ was.settings → IfOk r IsNoRefusal
       → Serves was now old new (query token text parameters page) r
-  serves_plan plan r tested short is runs names others settings = record {
+  serves_plan plan r tested short is runs names others settings accepted = record {
     answers = subst (λ a. Gives here (reported here a) r (state_over now new))
         (ap (with_answer here) (answers_alike here token text parameters page plan short is) ∙ sym (ap (λ t. behind_test t (text_answered here token text parameters page)) tested)) runs;
     names = names;
     others = others;
     settings = settings;
     memory = λ h. absurd (let no : true ≡ false = h in cc);
+    accepted = accepted;
   }
 
 -- ---- a query that is refused before it has a plan
@@ -269,6 +273,10 @@ module _ {L : Type 0} (was now : Tenant) (live : Live L) (settings : now.setting
   held_same : now.pages ≡ was.pages → state_over now live ≡ state_over was live
   held_same pages = with_pages ∙ ap (λ (h : Held). let s : State = record (state_over was live) { held = h } in s) pages
 
+  -- the rows of a page that is there
+  abbrev rows_of : Result Page Fault → Result (List ℕ × Held) Fault
+  rows_of found = found >>= λ p. let left = left_with p (drop p.size p.rows) was.pages in Ok (pulled_text left.0 (take p.size p.rows), left.1)
+
   -- what a change of the pages alone gives
   abbrev pull_given : (t : Result (Unit {0}) Fault) → Result (List ℕ × Held) Fault → Result Replied Fault
   pull_given t pulled = t >> (pulled >>= λ p. Ok (replies p.0 (record held_before { held = p.1 })))
@@ -286,6 +294,14 @@ module _ {L : Type 0} (was now : Tenant) (live : Live L) (settings : now.setting
         (sym (ap (λ o. (reported held_before o).reply) is), ap (λ o. (reported held_before o).state) is),
   )
 
+  pulled_rows : (p : Result Page Fault) → IfOk (rows_of p) (λ g. IsNoRefusal g.0)
+  pulled_rows (Ok p) = pulled_is_no_refusal (left_with p (drop p.size p.rows) was.pages).0 (take p.size p.rows)
+  pulled_rows (Err e) = tt
+
+  pull_accepted : (token : List ℕ) (number : ℕ) (r : Result (List ℕ) Fault) → GivesHeld r (pulled was.pages token number) was.pages now.pages → IfOk r IsNoRefusal
+  pull_accepted token number (Ok bytes) given = subst (λ (g : Result (List ℕ × Held) Fault). IfOk g (λ x. IsNoRefusal x.0)) given (pulled_rows (page_of was.pages token number))
+  pull_accepted token number (Err e) given = tt
+
   pub serves_pull : (token : List ℕ) (number : ℕ) (r : Result (List ℕ) Fault) → pages_tested held_before ≡ Ok tt → GivesHeld r (pulled was.pages token number) was.pages now.pages
       → Serves was now live live (pull token number) r
   serves_pull token number r tested given = record {
@@ -294,6 +310,7 @@ module _ {L : Type 0} (was now : Tenant) (live : Live L) (settings : now.setting
     others = none_touched live;
     settings = settings;
     memory = λ h. absurd (let no : true ≡ false = h in cc);
+    accepted = pull_accepted token number r given;
   }
 
   abbrev drop_given : (t : Result (Unit {0}) Fault) → Result Held Fault → Result Replied Fault
@@ -460,10 +477,16 @@ module _ {L : Type 0} (tenant : Tenant) (live : Live L) (token : List ℕ) where
 
 -- ---- status
 
-pub serves_status : {L : Type 0} (tenant : Tenant) (live : Live L) (r : Result (List ℕ) Fault) (token : List ℕ) → Gives (state_over tenant live) (reported (state_over tenant live) (with_status (state_over tenant live))) r (state_over tenant live)
+pub serves_status : {L : Type 0} (tenant : Tenant) (live : Live L) (r : Result (List ℕ) Fault) (token : List ℕ) → IfOk r IsNoRefusal → Gives (state_over tenant live) (reported (state_over tenant live) (with_status (state_over tenant live))) r (state_over tenant live)
     → Serves tenant tenant live live (status token) r
-serves_status tenant live r token given =
-    record { answers = given; names = names_stay (reply_of r) live.names; others = none_touched live; settings = refl; memory = λ none. absurd (let no : true ≡ false = none in cc) }
+serves_status tenant live r token accepted given = record {
+  answers = given;
+  names = names_stay (reply_of r) live.names;
+  others = none_touched live;
+  settings = refl;
+  memory = λ none. absurd (let no : true ≡ false = none in cc);
+  accepted = accepted;
+}
 
 -- ---- index requests
 
@@ -491,6 +514,7 @@ module _ {L : Type 0} (was now : Tenant) (old new : Live L) (graph : new.graph �
     others = index_others;
     settings = refl;
     memory = λ no. absurd (let clash : true ≡ false = sym memory ∙ no in cc);
+    accepted = tt;
   }
 
 -- ---- who waits, and who doesn't

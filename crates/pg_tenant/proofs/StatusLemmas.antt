@@ -6,6 +6,7 @@ use Rattle.std.specs.Prelude.{nat_le, cond, map, IfOk, IfErr, String, string_byt
 use Rattle.std.specs.declared.alloc.Global.{Global}
 use Rattle.serde_json.specs.Data.{Data}
 use Rattle.serde_json.specs.Written.{compact_text}
+use Rattle.pg_json.proofs.Codes.{statuses_are_no_refusals}
 use Rattle.pg_json.specs.Refusals.{refusal_text}
 use Rattle.pg_json.specs.Replies as replies
 use Rattle.pg_json.specs.Replies.{tenant_text, max_reply, status_data, index_data, items_of}
@@ -16,6 +17,7 @@ use Rattle.pg_meaning.specs.declared.fault.Fault.{Fault}
 use Rattle.pg_meaning.specs.declared.fault.Fault.TheVariants.{ReplyTooLong, OutOfMemory}
 use Rattle.pg_plan.specs.Catalogue.{catalogue_view}
 use Rattle.pg_tenant.specs.Answers.{limited}
+use Rattle.pg_tenant.specs.Changes.{IsNoRefusal}
 use Rattle.pg_tenant.specs.Solo as solo
 use Rattle.pg_tenant.specs.Solo.{Replied, index_items, reported, status_text, with_status}
 use Rattle.pg_tenant.specs.State.{State}
@@ -58,3 +60,8 @@ pub status_is : (s : State) (r : TenantStatus) → r.elements ≡ element_count 
 unfolding tenant_text status_text
 status_is s r elements indexes most_elements most_steps next_node next_rel =
     λ i. compact_text (status_data (elements i) ((indexes_told r.indexes.items ∙ ap index_items indexes) i) (most_elements i) (most_steps i) (next_node i) (next_rel i))
+
+-- what a status is told is no refusal
+pub status_accepted : (made : TenantStatus) (r : Result (List ℕ) Fault) → IfOk r (λ bytes. bytes ≡ tenant_text made) → IfOk r IsNoRefusal
+status_accepted made (Ok bytes) is = λ f told. statuses_are_no_refusals made f (sym is ∙ told)
+status_accepted made (Err e) is = tt

@@ -1,7 +1,7 @@
 -- Small requests and what a tenant answers them: some that the definitions let in, and some that they refuse.
-use Rattle.std.specs.Prelude.{◌≡◌, ℕ, true, false, List, [], ◌∷◌, length, Option, None, Ok, Err, codes}
+use Rattle.std.specs.Prelude.{◌≡◌, ℕ, true, false, List, [], ◌∷◌, length, Option, Some, None, Ok, Err, codes}
 use Rattle.pg_json.specs.Refusals.{refusal_text, done_text}
-use Rattle.pg_json.specs.Requests.{query, status, create_index, drop_index}
+use Rattle.pg_json.specs.Requests.{query, status, create_index, drop_index, pull}
 use Rattle.pg_meaning.specs.Grammar.{parameters_of}
 use Rattle.pg_meaning.specs.Graph.{empty_graph}
 use Rattle.pg_meaning.specs.Plans.{Catalogue, is_indexed}
@@ -12,6 +12,7 @@ use Rattle.pg_meaning.specs.declared.fault.Fault.TheVariants.{ReadOnly, MissingP
 use Rattle.pg_pages.specs.Held.{no_pages}
 use Rattle.pg_plan.specs.Updates.{updates}
 use Rattle.pg_tenant.specs.Answers.{limited}
+use Rattle.pg_tenant.specs.Changes.{may_change}
 use Rattle.pg_tenant.specs.Indexes.{index_created}
 use Rattle.pg_tenant.specs.Outcomes.{all_given, text_query}
 use Rattle.pg_tenant.specs.Settings.{TenantSettings, TokenSettings, may_write}
@@ -76,3 +77,13 @@ InstancesOfReplies =
     × (done_text ≡ codes "{\"code\":0}")
     × ((reply : List ℕ) → length reply ≡ 16777216 → limited reply ≡ Ok reply)
     × ((reply : List ℕ) → length reply ≡ 16777217 → limited reply ≡ Err ReplyTooLong)
+
+-- what only reads changes nothing, unless it holds rows
+abbrev pub InstancesOfChanges : Type 0
+InstancesOfChanges =
+    (token text : List ℕ) (parameters : Entries) (size : ℕ) (q : Query) → text_query text ≡ Ok q
+    → (updates q ≡ true → may_change (query token text parameters None) ≡ true)
+    × (updates q ≡ false → may_change (query token text parameters None) ≡ false)
+    × (may_change (query token text parameters (Some size)) ≡ true)
+    × (may_change (status token) ≡ false)
+    × (may_change (pull token size) ≡ true)

@@ -1,5 +1,5 @@
 -- What one request does to a tenant, and to all that tenants share.
-use Rattle.std.specs.Prelude.{◌≡◌, ◌≢◌, ℕ, Bool, true, false, List, Option, Result, Ok, Err, IfErr, slice_set}
+use Rattle.std.specs.Prelude.{◌≡◌, ◌≢◌, ℕ, Bool, true, false, List, Option, Result, Ok, Err, IfOk, IfErr, slice_set}
 use Rattle.pg_json.specs.Refusals.{refusal_text}
 use Rattle.pg_json.specs.Requests.{Request, begin, commit, rollback, drop_page}
 use Rattle.pg_live.specs.Live.{Live, open_at}
@@ -9,6 +9,7 @@ use Rattle.pg_meaning.specs.declared.fault.Fault.TheVariants.{OutOfMemory}
 use Rattle.pg_names.specs.Names.{KeepsNames}
 use Rattle.pg_plan.specs.declared.plan.Plan.{Plan}
 use Rattle.pg_tenant.specs.Answers.{Answered, shown_if_fitting}
+use Rattle.pg_tenant.specs.Changes.{IsNoRefusal}
 use Rattle.pg_tenant.specs.Outcomes.{plan_outcome}
 use Rattle.pg_tenant.specs.Settings.{may_write}
 use Rattle.pg_tenant.specs.Solo.{Replied, reported, serves, solo, with_answer}
@@ -65,3 +66,4 @@ pub record Serves {L : Type 0} (was now : Tenant) (old new : Live L) (request : 
   pub others : KeepsOthers old new
   pub settings : now.settings ≡ was.settings
   pub memory : takes_memory request ≡ false → IfErr result (λ e. e ≢ OutOfMemory)
+  pub accepted : IfOk result IsNoRefusal

@@ -1,5 +1,5 @@
 //! The tests of a query that come before its clauses.
-ghost use Rattle.std.specs.Prelude.{◌≡◌, ◌||◌, not, map, string_bytes};
+ghost use Rattle.std.specs.Prelude.{◌≡◌, ◌||◌, is_some, not, map, string_bytes};
 ghost use Rattle.pg_plan.specs.Plans.{plan_query};
 ghost use Rattle.pg_plan.specs.Updates.{updates};
 ghost use Rattle.pg_tenant.specs.Outcomes.{all_given, early_tests};
@@ -14,6 +14,13 @@ fn is_permitted(may_write: bool, plan: &Plan) -> bool
     ensures { result ≡ (may_write || not (updates (plan_query plan.now))) }
 {
     may_write || !plan.writes()
+}
+
+/// Whether the query may change what its tenant has: the graph, or by a page the rows that are held.
+pub(crate) fn may_change(page: Option<u64>, plan: &Plan) -> bool
+    ensures { result ≡ (is_some page || updates (plan_query plan.now)) }
+{
+    page.is_some() || plan.writes()
 }
 
 /// Whether each of these parameters is given.

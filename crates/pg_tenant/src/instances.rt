@@ -1,5 +1,5 @@
 //! Small requests. A function without a body says that the instances hold, or don't, as they are listed.
-ghost use Rattle.pg_tenant.specs.InstancesOfTenants.{InstancesOfEarlyTests, InstancesOfIndexes, InstancesOfReplies, InstancesOfRights, InstancesOfTexts};
+ghost use Rattle.pg_tenant.specs.InstancesOfTenants.{InstancesOfChanges, InstancesOfEarlyTests, InstancesOfIndexes, InstancesOfReplies, InstancesOfRights, InstancesOfTexts};
 ghost use Rattle.pg_tenant.specs.InstancesOfPages.{InstancesOfHeldRows, InstancesOfPulls};
 ghost use Rattle.pg_tenant.specs.InstancesOfTransactions.{InstancesOfTransactions, InstancesOfWaiting};
 
@@ -10,6 +10,7 @@ pub fn instances_of_tenants()
     ensures early { InstancesOfEarlyTests }
     ensures texts { InstancesOfTexts }
     ensures replies { InstancesOfReplies }
+    ensures changes { InstancesOfChanges }
 {}
 
 /// What a tenant answers while a transaction is open, and while none is.

@@ -1,6 +1,7 @@
 //! One tenant: its settings, its indexes, and its answer to a request.
 #![tactic(auto)]
 
+ghost use Rattle.pg_tenant.specs.Changes.{OthersLeave};
 ghost use Rattle.pg_tenant.specs.Indexes.{IndexesRise};
 ghost use Rattle.pg_tenant.specs.Outcomes.{PlansAnswer, TextMeans};
 ghost use Rattle.pg_tenant.specs.TransactionLaws.{BeginsAreWritten, CommitsKeep, OnlyTheGraph, OthersWait, RefusalsLeave, RollbacksGoBack};
@@ -10,6 +11,7 @@ mod early;
 mod headroom;
 mod indexes;
 mod instances;
+mod noted;
 mod pages;
 mod query;
 mod settings;
@@ -18,6 +20,7 @@ mod tenant;
 mod transaction;
 
 pub use instances::{instances_of_pages, instances_of_tenants, instances_of_transactions};
+pub use noted::Noted;
 pub use settings::{Rights, TenantSettings, TokenSettings};
 pub use tenant::Tenant;
 
@@ -44,4 +47,9 @@ pub fn law_of_transactions()
     ensures commits { CommitsKeep }
     ensures rollbacks { RollbacksGoBack }
     ensures refusals { RefusalsLeave }
+{}
+
+/// A request that may not change what its tenant has, as a query without a page and without an updating clause, leaves all of it.
+pub fn law_of_changes()
+    ensures { OthersLeave }
 {}

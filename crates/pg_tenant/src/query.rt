@@ -1,5 +1,5 @@
 //! A query over a tenant's graph, all or nothing.
-ghost use Rattle.std.specs.Prelude.{◌≡◌, OnOk, OnErr, Result, is_some, string_bytes};
+ghost use Rattle.std.specs.Prelude.{◌≡◌, IfOk, OnOk, OnErr, Result, is_some, string_bytes};
 ghost use Rattle.pg_cache.specs.Cache.{cache_seen};
 ghost use Rattle.pg_json.specs.Requests.{query as asked_query};
 ghost use Rattle.pg_live.specs.Settled.{HasBegun};
@@ -9,6 +9,7 @@ ghost use Rattle.pg_meaning.specs.declared.fault.Fault.{Fault as Refusal};
 ghost use Rattle.pg_names.specs.Names.{KeepsNames};
 ghost use Rattle.pg_plan.specs.Plans.{plan_anchors, plan_query};
 ghost use Rattle.pg_tenant.specs.Answers.{shown_if_fitting};
+ghost use Rattle.pg_tenant.specs.Changes.{IsNoRefusal, may_change as asked_change, reply_in};
 ghost use Rattle.pg_tenant.specs.Indexes.{indexes_of};
 ghost use Rattle.pg_tenant.specs.LookUps.{FindsPlan, LooksUp, text_key};
 ghost use Rattle.pg_tenant.specs.Replies.{IsAnswer, IsShown};
@@ -16,8 +17,9 @@ ghost use Rattle.pg_tenant.specs.Step.{AddsNames, KeepsOthers, RunsPlan, Serves,
 ghost use Rattle.pg_tenant.specs.TenantStates.{state_over};
 ghost use Rattle.pg_value_core.specs.Given.{parameters_view};
 
-use crate::early::test_early;
+use crate::early::{may_change, test_early};
 use crate::headroom::with_headroom;
+use crate::noted::{Noted, with_note};
 use crate::tenant::Tenant;
 use pg_cache::PlanCache;
 use pg_expr::QueryContext;
@@ -51,19 +53,23 @@ impl Tenant {
         cache: &mut PlanCache<RandomState>,
         text: String,
         asked: Asked,
-    ) -> Result<ReplyBytes, Fault>
+    ) -> Result<Noted, Fault>
         requires begun { HasBegun live.old }
         ensures serves { Serves self.old self.new live.old live.new
             (asked_query (string_bytes asked.token)
-            (string_bytes text) (parameters_view asked.parameters) asked.page) result }
+            (string_bytes text) (parameters_view asked.parameters) asked.page) (reply_in result) }
         ensures cache { LooksUp
             (text_key (state_over self.old live.old) (asked_query (string_bytes asked.token)
             (string_bytes text) (parameters_view asked.parameters) asked.page))
-            (reply_of result) (cache_seen cache.old) (cache_seen cache.new) }
+            (reply_of (reply_in result)) (cache_seen cache.old) (cache_seen cache.new) }
+        ensures told { IfOk result (λ noted. noted.changes ≡ asked_change
+            (asked_query (string_bytes asked.token)
+            (string_bytes text) (parameters_view asked.parameters) asked.page)) }
     {
         self.test_page(live, asked.page)?;
         let plan = self.plan_of(alloc, cache, text)?;
-        self.answer_plan(alloc, live, &plan, asked)
+        let changes = may_change(asked.page, &plan);
+        with_note(self.answer_plan(alloc, live, &plan, asked), changes)
     }
 
     /// The plan of a query's text for the tenant's indexes.
@@ -97,6 +103,7 @@ impl Tenant {
         ensures names { AddsNames (reply_of result) live.old.names live.new.names }
         ensures others { KeepsOthers live.old live.new }
         ensures settings { self.new.settings ≡ self.old.settings }
+        ensures accepted { IfOk result IsNoRefusal }
     {
         // no memory is asked for before these tests are passed
         test_early(

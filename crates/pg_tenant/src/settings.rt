@@ -1,7 +1,7 @@
 //! What a configuration sets for a tenant.
 ghost use Rattle.std.specs.Prelude.{◌≡◌, ◌&&◌, string_bytes, is_some, IfSome};
 ghost use Rattle.std.specs.Str.{bytes_eq};
-ghost use Rattle.pg_tenant.specs.Settings.{is_write, may_write};
+ghost use Rattle.pg_tenant.specs.Settings.{is_write, may_write, standing_token};
 ghost use Rattle.pg_tenant.specs.TenantStates.{token_at};
 
 use pg_meter::MaxElements;
@@ -45,11 +45,17 @@ impl TokenSettings {
         self.text.as_str()
     }
 
+    fn may_write(&self) -> bool
+        ensures { result ≡ is_write self.now.rights }
+    {
+        matches!(self.rights, Rights::Write)
+    }
+
     /// Whether it is this text, and lets requests change the graph.
     fn lets_write(&self, text: &str) -> bool
         ensures { result ≡ bytes_eq self.now.text text.now && is_write self.now.rights }
     {
-        self.text.as_str() == text && matches!(self.rights, Rights::Write)
+        self.text.as_str() == text && self.may_write()
     }
 }
 
@@ -157,5 +163,17 @@ impl TenantSettings {
             Some(token) => token.text(),
             None => "",
         }
+    }
+
+    /// The text of the first token that may write, or else of the first one; it is empty where there is none.
+    pub(crate) fn standing_token(&self) -> &str
+        ensures { result.now ≡ standing_token self.now }
+    {
+        for token in &self.tokens {
+            if token.may_write() {
+                return token.text();
+            }
+        }
+        self.token_at(0)
     }
 }

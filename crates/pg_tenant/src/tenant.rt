@@ -4,16 +4,19 @@ ghost use Rattle.pg_cache.specs.Cache.{cache_seen};
 ghost use Rattle.pg_json.specs.Bodies.{request_view};
 ghost use Rattle.pg_live.specs.Settled.{HasBegun};
 ghost use Rattle.pg_meaning.specs.declared.fault.Fault.TheVariants.{OutOfMemory};
+ghost use Rattle.pg_tenant.specs.Changes.{IsNoRefusal, may_change, reply_in};
 ghost use Rattle.pg_tenant.specs.LookUps.{LooksUp, key_of, text_key};
+ghost use Rattle.pg_tenant.specs.Settings.{standing_token};
 ghost use Rattle.pg_tenant.specs.State.{opening};
 ghost use Rattle.pg_tenant.specs.Step.{AddsNames, Answers, KeepsOthers, Serves, reply_of, takes_memory};
 ghost use Rattle.pg_tenant.specs.TenantStates.{opening_state, state_over, token_at};
 
+use crate::noted::{Noted, with_note};
 use crate::query::Asked;
 use crate::settings::TenantSettings;
 use pg_cache::PlanCache;
 use pg_graph::Tables;
-use pg_json::{ReplyBytes, RequestBody};
+use pg_json::RequestBody;
 use pg_live::LiveGraph;
 use pg_meaning::Fault;
 use pg_pages::Pages;
@@ -53,6 +56,13 @@ impl Tenant {
         self.settings.token_at(holder)
     }
 
+    /// The text of the token that stands for the tenant: the first that may write, or else the first; it is empty where there is none.
+    pub fn standing_token(&self) -> &str
+        ensures { result.now ≡ standing_token self.now.settings }
+    {
+        self.settings.standing_token()
+    }
+
     /// The reply to a request with a token of this tenant, over the graph at work. What is refused changes nothing; what a query changes is
     /// kept only once the reply's bytes are made.
     pub fn answer<T: Tables>(
@@ -61,18 +71,20 @@ impl Tenant {
         live: &mut LiveGraph<T>,
         cache: &mut PlanCache<RandomState>,
         request: RequestBody,
-    ) -> Result<ReplyBytes, Fault>
+    ) -> Result<Noted, Fault>
         requires begun { HasBegun live.old }
-        ensures answers { Answers (state_over self.old live.old) (request_view request) result
-            (state_over self.new live.new) }
-        ensures names { AddsNames (reply_of result) live.old.names live.new.names }
+        ensures answers { Answers (state_over self.old live.old) (request_view request)
+            (reply_in result) (state_over self.new live.new) }
+        ensures names { AddsNames (reply_of (reply_in result)) live.old.names live.new.names }
         ensures others { KeepsOthers live.old live.new }
         ensures settings { self.new.settings ≡ self.old.settings }
         ensures cache { LooksUp (key_of (state_over self.old live.old) (request_view request))
-            (reply_of result) (cache_seen cache.old) (cache_seen cache.new) }
+            (reply_of (reply_in result)) (cache_seen cache.old) (cache_seen cache.new) }
         // what begins or ends a transaction is never refused for want of memory
         ensures memory { takes_memory (request_view request) ≡ false
             → IfErr result (λ e. e ≢ OutOfMemory) }
+        ensures accepted { IfOk result (λ noted. IsNoRefusal noted.reply) }
+        ensures told { IfOk result (λ noted. noted.changes ≡ may_change (request_view request)) }
     {
         if self.is_busy(live, request.token()) {
             return Err(Fault::TenantBusy);
@@ -87,11 +99,13 @@ impl Tenant {
         live: &mut LiveGraph<T>,
         cache: &mut PlanCache<RandomState>,
         request: RequestBody,
-    ) -> Result<ReplyBytes, Fault>
+    ) -> Result<Noted, Fault>
         requires begun { HasBegun live.old }
-        ensures serves { Serves self.old self.new live.old live.new (request_view request) result }
+        ensures serves { Serves self.old self.new live.old live.new (request_view request)
+            (reply_in result) }
         ensures cache { LooksUp (text_key (state_over self.old live.old) (request_view request))
-            (reply_of result) (cache_seen cache.old) (cache_seen cache.new) }
+            (reply_of (reply_in result)) (cache_seen cache.old) (cache_seen cache.new) }
+        ensures told { IfOk result (λ noted. noted.changes ≡ may_change (request_view request)) }
     {
         match request {
             RequestBody::Query {
@@ -107,18 +121,36 @@ impl Tenant {
                 };
                 self.query(alloc, live, cache, text, asked)
             }
-            RequestBody::Status { token: _ } => self.status(alloc, live),
+            RequestBody::Status { token: _ } => with_note(self.status(alloc, live), false),
             RequestBody::CreateIndex { token, label, key } => {
-                self.create_index(alloc, live, token.as_str(), label.as_str(), key.as_str())
+                let reply = self.create_index(
+                    alloc,
+                    live,
+                    token.as_str(),
+                    label.as_str(),
+                    key.as_str(),
+                );
+                with_note(reply, true)
             }
             RequestBody::DropIndex { token, label, key } => {
-                self.drop_index(alloc, live, token.as_str(), label.as_str(), key.as_str())
+                let reply = self.drop_index(
+                    alloc,
+                    live,
+                    token.as_str(),
+                    label.as_str(),
+                    key.as_str(),
+                );
+                with_note(reply, true)
             }
-            RequestBody::Begin { token } => self.begin(live, token.as_str()),
-            RequestBody::Commit { token } => self.commit(live, token.as_str()),
-            RequestBody::Rollback { token } => self.rollback(live, token.as_str()),
-            RequestBody::Pull { token, page } => self.pull(alloc, live, token.as_str(), page),
-            RequestBody::DropPage { token, page } => self.drop_page(live, token.as_str(), page),
+            RequestBody::Begin { token } => with_note(self.begin(live, token.as_str()), true),
+            RequestBody::Commit { token } => with_note(self.commit(live, token.as_str()), true),
+            RequestBody::Rollback { token } => with_note(self.rollback(live, token.as_str()), true),
+            RequestBody::Pull { token, page } => {
+                with_note(self.pull(alloc, live, token.as_str(), page), true)
+            }
+            RequestBody::DropPage { token, page } => {
+                with_note(self.drop_page(live, token.as_str(), page), true)
+            }
         }
     }
 }

@@ -1,6 +1,6 @@
-use Rattle.std.proofs.Common.{◌≡◌, ◌<◌, length, arith, sym, ap, subst, ◌∙◌}
+use Rattle.std.proofs.Common.{◌≡◌, ◌<◌, true, length, arith, sym, ap, subst, ◌∙◌}
 use Rattle.pg_graph.specs.IdRuns.{joined, AreRuns, IsRunOf}
-use Rattle.pg_graph.proofs.RunLists.{inside, run_found, run_in_rises, run_out, runs_out, runs_fewer, joined_removed, set_at, some_of}
+use Rattle.pg_graph.proofs.RunLists.{inside, run_found, run_in_rises, run_out, runs_out, runs_fewer, joined_removed, set_at, some_of, inside_set}
 use Rattle.pg_graph.proofs.runs.forget.Goals as goal
 
 pub index_mut-requires : goal.index_mut-requires
@@ -14,6 +14,9 @@ forget-requires c =
 pub index-requires : goal.index-requires
 index-requires c = let h = inside c.args.id c.as_slice.result.now c.in-Some.i c.in-Some.ensures.some in omega (arith, h, c.as_slice.ensures.len)
 
+pub index-requires-then-is_sparse : goal.index-requires-then-is_sparse
+index-requires-then-is_sparse c = let h = inside c.args.id c.as_slice.result.now c.in-Some.i c.in-Some.ensures.some in omega (arith, h, c.as_slice.ensures.len)
+
 pub remove-requires : goal.remove-requires
 remove-requires c = let h = inside c.args.id c.as_slice.result.now c.in-Some.i c.in-Some.ensures.some in omega (arith, h, c.as_slice.ensures.len)
 
@@ -21,26 +24,49 @@ pub returns-then-len-eq0-clause-removed : goal.returns-then-len-eq0-clause-remov
 returns-then-len-eq0-clause-removed c =
     let rs = c.args.runs.now.items in
     let is : IsRunOf c.args.id rs c.in-Some.i = run_found c.args.id rs _ c.in-Some.i c.as_slice.ensures.value c.in-Some.ensures.some in
-    let none : length c.forget.new.self ≡ 0 = sym (ap length (c.index.ensures ∙ set_at rs c.in-Some.i c.forget.new.self c.index.result.now (inside c.args.id _ _ is))) ∙ sym c.len.ensures ∙ c.if-len-eq0.true in
-    ap joined c.remove.ensures.items ∙ joined_removed rs c.in-Some.i c.forget.new.self (inside c.args.id _ _ is) none
+    let same : length c.index-then-is_sparse.result.now ≡ length c.forget.new.self = ap length (c.index-then-is_sparse.ensures ∙ set_at rs c.in-Some.i c.forget.new.self c.index-then-is_sparse.result.now (inside c.args.id _ _ is)) in
+    let none : length c.forget.new.self ≡ 0 = sym same ∙ sym c.len.ensures ∙ c.if-len-eq0.true in
+    ap joined (c.shrink_list.ensures ∙ c.remove.ensures.items) ∙ joined_removed rs c.in-Some.i c.forget.new.self (inside c.args.id _ _ is) none
     ∙ run_out c.args.id rs c.in-Some.i c.index_mut.result.now c.forget.new.self is c.index_mut.ensures.value c.forget.ensures
 
 pub returns-then-len-eq0-clause-runs : goal.returns-then-len-eq0-clause-runs
 returns-then-len-eq0-clause-runs c =
     let rs = c.args.runs.now.items in
     let is : IsRunOf c.args.id rs c.in-Some.i = run_found c.args.id rs _ c.in-Some.i c.as_slice.ensures.value c.in-Some.ensures.some in
-    let none : length c.forget.new.self ≡ 0 = sym (ap length (c.index.ensures ∙ set_at rs c.in-Some.i c.forget.new.self c.index.result.now (inside c.args.id _ _ is))) ∙ sym c.len.ensures ∙ c.if-len-eq0.true in
-    subst AreRuns (sym c.remove.ensures.items) (runs_fewer c.args.id rs c.in-Some.i c.index_mut.result.now c.forget.new.self is c.index_mut.ensures.value c.forget.ensures none c.requires)
+    let same : length c.index-then-is_sparse.result.now ≡ length c.forget.new.self = ap length (c.index-then-is_sparse.ensures ∙ set_at rs c.in-Some.i c.forget.new.self c.index-then-is_sparse.result.now (inside c.args.id _ _ is)) in
+    let none : length c.forget.new.self ≡ 0 = sym same ∙ sym c.len.ensures ∙ c.if-len-eq0.true in
+    subst AreRuns (sym (c.shrink_list.ensures ∙ c.remove.ensures.items))
+    (runs_fewer c.args.id rs c.in-Some.i c.index_mut.result.now c.forget.new.self is c.index_mut.ensures.value c.forget.ensures none c.requires)
+
+pub thin-requires-clause-inside : goal.thin-requires-clause-inside
+thin-requires-clause-inside c =
+    let rs = c.args.runs.now.items in
+    let is : IsRunOf c.args.id rs c.in-Some.i = run_found c.args.id rs _ c.in-Some.i c.as_slice.ensures.value c.in-Some.ensures.some in
+    inside_set rs c.in-Some.i c.in-Some.i c.forget.new.self (inside c.args.id _ _ is)
+
+pub thin-requires-clause-runs : goal.thin-requires-clause-runs
+thin-requires-clause-runs c =
+    let rs = c.args.runs.now.items in
+    let is : IsRunOf c.args.id rs c.in-Some.i = run_found c.args.id rs _ c.in-Some.i c.as_slice.ensures.value c.in-Some.ensures.some in
+    let same : length c.index-then-is_sparse.result.now ≡ length c.forget.new.self = ap length (c.index-then-is_sparse.ensures ∙ set_at rs c.in-Some.i c.forget.new.self c.index-then-is_sparse.result.now (inside c.args.id _ _ is)) in
+    let some : 0 < length c.forget.new.self = some_of _ (λ e. c.if-len-eq0.false (c.len.ensures ∙ same ∙ e)) in
+    runs_out c.args.id rs c.in-Some.i c.index_mut.result.now c.forget.new.self is c.index_mut.ensures.value c.forget.ensures some c.requires
 
 pub returns-else-len-eq0-clause-removed : goal.returns-else-len-eq0-clause-removed
 returns-else-len-eq0-clause-removed c =
+    c.thin.ensures.same
+    ∙ run_out c.args.id c.args.runs.now.items c.in-Some.i c.index_mut.result.now c.forget.new.self
+    (run_found c.args.id c.args.runs.now.items _ c.in-Some.i c.as_slice.ensures.value c.in-Some.ensures.some) c.index_mut.ensures.value c.forget.ensures
+
+pub returns-else-is_sparse-clause-removed : goal.returns-else-is_sparse-clause-removed
+returns-else-is_sparse-clause-removed c =
     run_out c.args.id c.args.runs.now.items c.in-Some.i c.index_mut.result.now c.forget.new.self
     (run_found c.args.id c.args.runs.now.items _ c.in-Some.i c.as_slice.ensures.value c.in-Some.ensures.some) c.index_mut.ensures.value c.forget.ensures
 
-pub returns-else-len-eq0-clause-runs : goal.returns-else-len-eq0-clause-runs
-returns-else-len-eq0-clause-runs c =
+pub returns-else-is_sparse-clause-runs : goal.returns-else-is_sparse-clause-runs
+returns-else-is_sparse-clause-runs c =
     let rs = c.args.runs.now.items in
     let is : IsRunOf c.args.id rs c.in-Some.i = run_found c.args.id rs _ c.in-Some.i c.as_slice.ensures.value c.in-Some.ensures.some in
     let same : length c.index.result.now ≡ length c.forget.new.self = ap length (c.index.ensures ∙ set_at rs c.in-Some.i c.forget.new.self c.index.result.now (inside c.args.id _ _ is)) in
-    let some : 0 < length c.forget.new.self = some_of _ (λ e. c.if-len-eq0.false (c.len.ensures ∙ same ∙ e)) in
+    let some : 0 < length c.forget.new.self = some_of _ (λ e. let t : c.is_sparse.result ≡ true = c.is_sparse.ensures (same ∙ e) in absurd cc) in
     runs_out c.args.id rs c.in-Some.i c.index_mut.result.now c.forget.new.self is c.index_mut.ensures.value c.forget.ensures some c.requires

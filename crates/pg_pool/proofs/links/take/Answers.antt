@@ -16,7 +16,7 @@ pub returns-in-Ok : goal.returns-in-Ok
 returns-in-Ok c =
     let items = c.args.ids.now.items in
     let at : IsPlace (λ (r : RelId). r.0) c.args.id.0 items (Ok c.in-Ok.i) = subst (λ xs. IsPlace (λ (r : RelId). r.0) c.args.id.0 xs (Ok c.in-Ok.i)) c.as_slice.ensures c.in-Ok.ensures in
-    ap numbers (c.remove.ensures.items ∙ sym (without_found (λ (r : RelId). r.0) c.args.id.0 items c.in-Ok.i (rises_of_numbers (λ (r : RelId). r.0) items c.requires) at.0 at.1))
+    ap numbers (c.shrink.ensures ∙ c.remove.ensures.items ∙ sym (without_found (λ (r : RelId). r.0) c.args.id.0 items c.in-Ok.i (rises_of_numbers (λ (r : RelId). r.0) items c.requires) at.0 at.1))
     ∙ numbers_without (λ (r : RelId). r.0) c.args.id.0 items
 
 pub returns-in_default : goal.returns-in_default

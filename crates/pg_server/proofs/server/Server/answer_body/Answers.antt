@@ -1,37 +1,45 @@
-use Rattle.std.proofs.Common.{◌≡◌, ℕ, [], length, arith, false, sym, subst, ap, ◌∙◌}
-use Rattle.std.proofs.lemmas.Bool.{le-leb}
+use Rattle.std.proofs.Common.{◌≡◌, Some, is_some, subst, ap, ◌∙◌}
+use Rattle.std.specs.Prelude.{IfSome}
 use Rattle.pg_json.specs.Bodies.{request_view}
-use Rattle.pg_live.specs.Live.{graphs_of}
-use Rattle.pg_meaning.specs.Graph.{IsGraph}
-use Rattle.pg_server.specs.Frames.{body_limit}
-use Rattle.pg_server.specs.Handles.{Handles, key_asked}
-use Rattle.pg_server.specs.Settings.{all_tokens}
-use Rattle.pg_server.specs.State.{ServerState, settings_of, state_at}
-use Rattle.pg_server.specs.Step.{Answers}
+use Rattle.pg_json.specs.Requests.{token_of}
+use Rattle.pg_server.specs.Handles.{Handles}
+use Rattle.pg_server.specs.Runs.{asked}
+use Rattle.pg_server.specs.State.{ServerState, state_at}
+use Rattle.pg_server.specs.Step.{place_of}
 use Rattle.pg_server.proofs.AnsweredQueryLemmas.{answered_by_meaning}
-use Rattle.pg_server.proofs.HandleLemmas.{handled, handled_unread}
-use Rattle.pg_server.proofs.TenantLemmas.{settings_seen}
-use Rattle.pg_server.proofs.HoldLemmas.{state_seen}
+use Rattle.pg_server.proofs.ChangeLemmas.{told_of, tenant_of_asked}
+use Rattle.pg_server.proofs.HandleLemmas.{handled, not_read}
+use Rattle.pg_server.proofs.StepLemmas.{asked_is}
 use Rattle.pg_server.proofs.server.Server.answer_body.Goals as goal
-use Rattle.pg_tenant.specs.LookUps.{LooksUp}
-use Rattle.pg_tenant.specs.Step.{AddsNames}
-use Rattle.pg_value.specs.Texts.{comes_again}
 
-pub returns-in-Ok : goal.returns-in-Ok
-returns-in-Ok g c =
-    let distinct : comes_again [] (all_tokens (settings_of c.args.self.now.state)) ≡ false =
-    ap (λ (s : ServerState). comes_again [] (all_tokens (settings_of s))) (sym (ap state_seen c.self.view_is))
-    ∙ ap (λ ss. comes_again [] (all_tokens ss)) (settings_seen c.self.inside.tenants.items (graphs_of c.self.inside.graphs) c.self.inside.graphs.aside.begins) ∙ c.self.invariant.distinct in
-    let graphs : (t : ℕ) → IsGraph (state_at c.args.self.now.state t).graph =
-    λ t. subst (λ (s : ServerState). IsGraph (state_at s t).graph) (ap state_seen c.self.view_is) (c.show_graphs.ensures t) in
+pub returns-in-Ok-clause-handles : goal.returns-in-Ok-clause-handles
+returns-in-Ok-clause-handles g c =
+    let server = c.request_in.new.self.state in
     let request = request_view c.in-Ok.request in
-    handled c.args.self.now.state c.answer_request.new.self.state c.args.body.now c.answer_request.result request distinct (λ t. answered_by_meaning (state_at c.args.self.now.state t) request (graphs t))
-    (le-leb (length c.args.body.now) body_limit (omega (arith, c.if-body-gt-MAX_BODY.false))) c.in-Ok.ensures.ok
-    (subst (λ (s : ServerState). Answers s.tenants request c.answer_request.result c.answer_request.new.self.state.tenants) (ap state_seen c.self.view_is) c.answer_request.ensures.tenants)
-    (subst (λ (s : ServerState). LooksUp (key_asked s.tenants request) c.answer_request.result s.cache c.answer_request.new.self.state.cache) (ap state_seen c.self.view_is) c.answer_request.ensures.cache)
-    (subst (λ (s : ServerState). AddsNames c.answer_request.result s.names c.answer_request.new.self.state.names) (ap state_seen c.self.view_is) c.answer_request.ensures.names)
+    subst (λ (s : ServerState). Handles s c.args.body.now c.answer_request.result.reply c.answer_request.new.self.state) c.request_in.ensures.same
+    (handled server c.answer_request.new.self.state c.args.body.now c.answer_request.result.reply request c.show_tenants.ensures.distinct
+    (λ t. answered_by_meaning (state_at server t) request (c.show_tenants.ensures.graphs t)) c.in-Ok.ensures.read.0 c.in-Ok.ensures.read.1
+    c.answer_request.ensures.tenants c.answer_request.ensures.cache c.answer_request.ensures.names)
 
-pub returns-in-Err : goal.returns-in-Err
-returns-in-Err g c =
-    subst (Handles c.args.self.now.state c.args.body.now c.refusal-in-Err.result) (sym (ap state_seen c.self.view_is))
-    (handled_unread c.args.self.now.state c.args.body.now c.refusal-in-Err.result c.in-Err.fault (le-leb (length c.args.body.now) body_limit (omega (arith, c.if-body-gt-MAX_BODY.false))) c.refusal-in-Err.ensures c.in-Err.ensures.kind c.in-Err.ensures.refused)
+pub returns-in-Err-clause-handles : goal.returns-in-Err-clause-handles
+returns-in-Err-clause-handles g c =
+    let server = c.request_in.new.self.state in
+    subst (λ (s : ServerState). Handles s c.args.body.now c.refused.result.reply server) c.request_in.ensures.same
+    (not_read server c.args.body.now c.refused.result.reply c.in-Err.fault c.in-Err.ensures.unread c.refused.ensures.reply)
+
+pub returns-in-Ok-clause-told : goal.returns-in-Ok-clause-told
+returns-in-Ok-clause-told g c =
+    let request = request_view c.in-Ok.request in
+    told_of (asked c.args.body.now) request c.answer_request.result.reply (is_some c.answer_request.result.changed)
+    (asked_is c.args.body.now request c.in-Ok.ensures.read.0 c.in-Ok.ensures.read.1) c.answer_request.ensures.notes.told
+
+pub returns-in-Ok-clause-unchanged : goal.returns-in-Ok-clause-unchanged
+returns-in-Ok-clause-unchanged g c none =
+    c.answer_request.ensures.notes.unchanged c.show_tenants.ensures.graphs (ap is_some none) ∙ ap (λ (s : ServerState). s.tenants) c.request_in.ensures.same
+
+pub returns-in-Ok-clause-place : goal.returns-in-Ok-clause-place
+returns-in-Ok-clause-place g c =
+    let request = request_view c.in-Ok.request in
+    tenant_of_asked (asked c.args.body.now) request c.args.self.now.state.tenants c.answer_request.result.changed
+    (asked_is c.args.body.now request c.in-Ok.ensures.read.0 c.in-Ok.ensures.read.1)
+    (subst (λ (s : ServerState). IfSome c.answer_request.result.changed (λ t. place_of (token_of request) s.tenants ≡ Some t)) c.request_in.ensures.same c.answer_request.ensures.place)

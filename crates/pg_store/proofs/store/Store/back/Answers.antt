@@ -1,5 +1,6 @@
-use Rattle.std.proofs.Common.{ap, ◌∙◌}
+use Rattle.std.proofs.Common.{◌≡◌, true, length, take, arith, rules, ap, ◌∙◌}
 use Rattle.pg_index.specs.Properties.{pairs_of}
+use Rattle.pg_store.specs.Journal.{State}
 use Rattle.pg_store.specs.declared.sets.Sets.{Sets}
 use Rattle.pg_store.proofs.Kept.{back_uncut}
 use Rattle.pg_store.proofs.store.Store.back.Goals as goal
@@ -11,9 +12,20 @@ pub returns-then-not-is_empty-clause-graph : goal.returns-then-not-is_empty-clau
 returns-then-not-is_empty-clause-graph g c =
     back_uncut g.T.Tables.seen c.args.mark c.args.self.now c.go_back.new.self c.args.shared.now c.go_back.new.shared c.requires.mark c.go_back.ensures.back c.go_back.ensures.names
 
+pub returns-then-not-is_empty-clause-exact : goal.returns-then-not-is_empty-clause-exact
+returns-then-not-is_empty-clause-exact g c = λ first none.
+    let done : length c.go_back.new.self.journal.items ≡ 0 = ap length (c.go_back.ensures.back.journal ∙ ap (λ n. take n c.args.self.now.journal.items) first) in
+    let empty : c.is_empty.result ≡ true = search (rules, done, arith) in
+    absurd (cc (empty, c.if-not-is_empty.true))
+
 pub returns-then-not-is_empty-2-clause-graph : goal.returns-then-not-is_empty-2-clause-graph
 returns-then-not-is_empty-2-clause-graph g c =
     back_uncut g.T.Tables.seen c.args.mark c.args.self.now c.go_back.new.self c.args.shared.now c.go_back.new.shared c.requires.mark c.go_back.ensures.back c.go_back.ensures.names
+
+pub returns-then-not-is_empty-2-clause-exact : goal.returns-then-not-is_empty-2-clause-exact
+returns-then-not-is_empty-2-clause-exact g c = λ first none.
+    let empty : c.is_empty-2.result ≡ true = c.is_empty-2.ensures.exact (ap (λ (s : State). s.gone_nodes) c.go_back.ensures.back.state ∙ none) in
+    absurd (cc (empty, c.if-not-is_empty-2.true))
 
 pub returns-clause-graph : goal.returns-clause-graph
 returns-clause-graph g c =

@@ -1,9 +1,9 @@
-use Rattle.std.proofs.Common.{◌≡◌, string_bytes, sym, ap, subst, ◌∙◌}
+use Rattle.std.proofs.Common.{string_bytes, ap, subst, ◌∙◌}
 use Rattle.std.proofs.lemmas.Result.{on_err_weaker}
 use Rattle.pg_live.specs.Live.{Aside}
 use Rattle.pg_live.specs.Settled.{Settles}
 use Rattle.pg_names.specs.Names.{KeepsNames}
-use Rattle.pg_tenant.proofs.ServedLemmas.{plan_names, plan_shown, runs_plan}
+use Rattle.pg_tenant.proofs.ServedLemmas.{no_refusal, plan_names, plan_shown, runs_plan}
 use Rattle.pg_tenant.specs.Answers.{shown_if_fitting}
 use Rattle.pg_tenant.specs.Outcomes.{plan_outcome}
 use Rattle.pg_tenant.specs.Replies.{IsShown}
@@ -52,3 +52,8 @@ pub returns-clause-names : goal.returns-clause-names
 returns-clause-names g c =
     plan_names c.args.self.now (now g c) c.args.live.now c.settled.new.live refl refl (string_bytes c.args.asked.token) c.args.plan.now (parameters_view c.args.asked.parameters) c.args.asked.page
     c.settled.result (settles g c) (shown g c)
+
+pub returns-clause-accepted : goal.returns-clause-accepted
+returns-clause-accepted g c =
+    no_refusal c.args.self.now (now g c) c.args.live.now c.settled.new.live refl refl (string_bytes c.args.asked.token) c.args.plan.now (parameters_view c.args.asked.parameters) c.args.asked.page
+    c.settled.result (shown g c)

@@ -1,0 +1,141 @@
+//! What an expression gives, where scalars tell it: `find` is asked for anything else.
+ghost use Rattle.std.specs.Prelude.{map};
+ghost use Rattle.pg_expr.specs.Contexts.{given, given_chain};
+ghost use Rattle.pg_expr.specs.Kinds.{IsChain, AreTests, AreSuffixes};
+ghost use Rattle.pg_expr.specs.Scalars.{scalar_view, Tells, ThenTells};
+ghost use Rattle.pg_meaning.specs.Parse.{operands_of};
+ghost use Rattle.pg_syntax_tree.specs.View.{expression_view, operand_view};
+
+use crate::operators::begins_comparison;
+use crate::row_context::RowContext;
+use crate::scalar::{Scalar, is_untold, literal, parameter, property, variable};
+use crate::scalar_operators::{combined, compared, negated, null_tested, signed};
+use pg_graph::Tables;
+use pg_meaning::Operator;
+use pg_store::Snapshot;
+use pg_syntax_tree::{Expression, Suffix, Test};
+
+/// What an expression gives, or nothing. It is asked once for an expression, from its top, so that
+/// where nothing is told little is done twice.
+#[cycle(scalar)]
+pub(crate) fn scalar<'a, T: Tables>(
+    context: &RowContext<'a>,
+    graph: &Snapshot<'a, T>,
+    expression: &'a Expression,
+) -> Scalar<'a>
+    ensures { Tells (scalar_view result)
+        (given context.now graph.now (expression_view expression.now)) }
+{
+    match expression {
+        Expression::Literal(held) => literal(held),
+        Expression::Parameter(name) => parameter(context, name.text.as_str()),
+        Expression::Variable(name) => variable(context, name.text.as_str()),
+        Expression::Parentheses(inner) => scalar(context, graph, inner),
+        Expression::Chain(_, _) => chain(context, graph, expression),
+        Expression::Negation(count, inner) => negated(*count, scalar(context, graph, inner)),
+        Expression::Signs(signs, inner) => signed(signs, scalar(context, graph, inner)),
+        Expression::Tests(_, _) => null_test(context, graph, expression),
+        Expression::Suffixes(_, _, _) => read(context, graph, expression),
+        Expression::ListLiteral(_)
+        | Expression::MapLiteral(_)
+        | Expression::Call(_, _, _, _)
+        | Expression::Case(_, _, _) => Scalar::Untold,
+    }
+}
+
+/// One comparison, or a chain of logic or arithmetic.
+#[cycle(scalar)]
+#[inline(never)]
+fn chain<'a, T: Tables>(
+    context: &RowContext<'a>,
+    graph: &Snapshot<'a, T>,
+    expression: &'a Expression,
+) -> Scalar<'a>
+    requires { IsChain expression.now }
+    ensures { Tells (scalar_view result)
+        (given context.now graph.now (expression_view expression.now)) }
+{
+    let Expression::Chain(first, operands) = expression else {
+        unreachable!()
+    };
+    let left = scalar(context, graph, first);
+    if is_untold(left) {
+        return Scalar::Untold;
+    }
+    if !begins_comparison(operands) {
+        return joined(context, graph, left, operands);
+    }
+    match operands.as_slice() {
+        [(operator, operand)] => compared(*operator, left, scalar(context, graph, operand)),
+        _ => Scalar::Untold,
+    }
+}
+
+/// A chain of logic or arithmetic groups to the left.
+#[cycle(scalar)]
+fn joined<'a, T: Tables>(
+    context: &RowContext<'a>,
+    graph: &Snapshot<'a, T>,
+    first: Scalar<'a>,
+    operands: &'a Vec<(Operator, Expression)>,
+) -> Scalar<'a>
+    ensures { ThenTells (scalar_view first.entry) (scalar_view result)
+        (λ v. given_chain context.now graph.now v
+        (operands_of (map operand_view operands.now.items))) }
+{
+    let mut left = first;
+    for (operator, operand) in operands {
+        let right = scalar(context, graph, operand);
+        left = combined(*operator, left, right);
+        if is_untold(left) {
+            return Scalar::Untold;
+        }
+    }
+    left
+}
+
+#[cycle(scalar)]
+#[inline(never)]
+fn null_test<'a, T: Tables>(
+    context: &RowContext<'a>,
+    graph: &Snapshot<'a, T>,
+    expression: &'a Expression,
+) -> Scalar<'a>
+    requires { AreTests expression.now }
+    ensures { Tells (scalar_view result)
+        (given context.now graph.now (expression_view expression.now)) }
+{
+    let Expression::Tests(inner, tests) = expression else {
+        unreachable!()
+    };
+    match tests.as_slice() {
+        [Test::IsNull(is_negated)] => null_tested(*is_negated, scalar(context, graph, inner)),
+        _ => Scalar::Untold,
+    }
+}
+
+/// One property; indexes and labels aren't told.
+#[cycle(scalar)]
+#[inline(never)]
+fn read<'a, T: Tables>(
+    context: &RowContext<'a>,
+    graph: &Snapshot<'a, T>,
+    expression: &'a Expression,
+) -> Scalar<'a>
+    requires { AreSuffixes expression.now }
+    ensures { Tells (scalar_view result)
+        (given context.now graph.now (expression_view expression.now)) }
+{
+    let Expression::Suffixes(inner, suffixes, labels) = expression else {
+        unreachable!()
+    };
+    if !labels.is_empty() {
+        return Scalar::Untold;
+    }
+    match suffixes.as_slice() {
+        [Suffix::Property(key)] => {
+            property(graph, scalar(context, graph, inner), key.text.as_str())
+        }
+        _ => Scalar::Untold,
+    }
+}

@@ -1,0 +1,261 @@
+//! What operators, signs and tests give at scalars. A fault is never told: `find` gives it.
+ghost use Rattle.std.specs.Prelude.{◌≡◌, IfSome, Ok, Some, [], ◌∷◌, if◌then◌else◌, not, option_map, string_bytes};
+ghost use Rattle.pg_expr.specs.Operators.{all_negated, truth_compared};
+ghost use Rattle.pg_expr.specs.Scalars.{scalar_view, Tells, ThenTells, BothTell, TruthIn};
+ghost use Rattle.pg_meaning.specs.Arithmetic.{divide, modulo, signed};
+ghost use Rattle.pg_meaning.specs.Expressions.{all_signed, combined, compared, null_tested};
+ghost use Rattle.pg_meaning.specs.Logic.{truth_of, value_of};
+ghost use Rattle.pg_meaning.specs.Value.{Value, boolean, integer, text};
+
+use crate::operators::turned;
+use crate::scalar::Scalar;
+use pg_meaning::{Operator, Tri};
+use pg_value::{and, not, or, truth, xor};
+
+/// The integer that an operation gave, if it is within 64 bits.
+fn told<'a>(n: Option<i64>) -> Scalar<'a>
+    ensures { scalar_view result ≡ option_map integer n }
+{
+    match n {
+        Some(n) => Scalar::Int(n),
+        None => Scalar::Untold,
+    }
+}
+
+fn of_truth<'a>(t: Tri) -> Scalar<'a>
+    ensures { scalar_view result ≡ Some (value_of t) }
+{
+    match t {
+        Tri::True => Scalar::Bool(true),
+        Tri::False => Scalar::Bool(false),
+        Tri::Null => Scalar::Null,
+    }
+}
+
+fn truth_in(v: Scalar<'_>) -> Option<Tri>
+    ensures { TruthIn (scalar_view v.entry) result }
+{
+    match v {
+        Scalar::Bool(b) => Some(truth(b)),
+        Scalar::Null => Some(Tri::Null),
+        _ => None,
+    }
+}
+
+/// Logic, and arithmetic of integers; a sum of texts isn't told.
+pub(crate) fn combined<'a>(operator: Operator, v: Scalar<'_>, w: Scalar<'_>) -> Scalar<'a>
+    ensures { BothTell (scalar_view v.entry) (scalar_view w.entry) (scalar_view result)
+        (combined operator) }
+{
+    match v {
+        Scalar::Int(x) => integer_combined(operator, x, w),
+        _ => logic(operator, v, w),
+    }
+}
+
+fn integer_combined<'a>(operator: Operator, x: i64, w: Scalar<'_>) -> Scalar<'a>
+    ensures { ThenTells (scalar_view w.entry) (scalar_view result) (combined operator (integer x)) }
+{
+    match w {
+        Scalar::Int(y) => integers(operator, x, y),
+        _ => Scalar::Untold,
+    }
+}
+
+fn integers<'a>(operator: Operator, x: i64, y: i64) -> Scalar<'a>
+    ensures { Tells (scalar_view result) (combined operator (integer x) (integer y)) }
+{
+    match operator {
+        Operator::Plus => told(x.checked_add(y)),
+        Operator::Minus => told(x.checked_sub(y)),
+        Operator::Times => told(x.checked_mul(y)),
+        Operator::Divide => quotient(x, y),
+        Operator::Modulo => remainder(x, y),
+        _ => Scalar::Untold,
+    }
+}
+
+fn quotient<'a>(x: i64, y: i64) -> Scalar<'a>
+    ensures { Tells (scalar_view result) (divide (integer x) (integer y)) }
+{
+    if y == 0 {
+        return Scalar::Untold;
+    }
+    told(x.checked_div(y))
+}
+
+fn remainder<'a>(x: i64, y: i64) -> Scalar<'a>
+    ensures { Tells (scalar_view result) (modulo (integer x) (integer y)) }
+{
+    if y == 0 || y == -1 {
+        return Scalar::Untold;
+    }
+    Scalar::Int(x % y)
+}
+
+fn logic<'a>(operator: Operator, v: Scalar<'_>, w: Scalar<'_>) -> Scalar<'a>
+    ensures { BothTell (scalar_view v.entry) (scalar_view w.entry) (scalar_view result)
+        (combined operator) }
+{
+    match truth_in(v) {
+        Some(s) => truth_combined(operator, s, w),
+        None => Scalar::Untold,
+    }
+}
+
+fn truth_combined<'a>(operator: Operator, s: Tri, w: Scalar<'_>) -> Scalar<'a>
+    ensures { (v : Value) → truth_of v ≡ Ok s
+        → ThenTells (scalar_view w.entry) (scalar_view result) (combined operator v) }
+{
+    match truth_in(w) {
+        Some(t) => judged(truths(operator, s, t)),
+        None => Scalar::Untold,
+    }
+}
+
+fn truths(operator: Operator, s: Tri, t: Tri) -> Option<Tri>
+    ensures { IfSome result (λ u. (v w : Value) → truth_of v ≡ Ok s → truth_of w ≡ Ok t
+        → combined operator v w ≡ Ok (value_of u)) }
+{
+    match operator {
+        Operator::Or => Some(or(s, t)),
+        Operator::Xor => Some(xor(s, t)),
+        Operator::And => Some(and(s, t)),
+        _ => None,
+    }
+}
+
+fn judged<'a>(t: Option<Tri>) -> Scalar<'a>
+    ensures { scalar_view result ≡ option_map value_of t }
+{
+    match t {
+        Some(t) => of_truth(t),
+        None => Scalar::Untold,
+    }
+}
+
+/// One comparison of two integers or two texts.
+pub(crate) fn compared<'a>(operator: Operator, v: Scalar<'_>, w: Scalar<'_>) -> Scalar<'a>
+    ensures { BothTell (scalar_view v.entry) (scalar_view w.entry) (scalar_view result)
+        (λ x y. truth_compared x ((operator, y) ∷ [])) }
+{
+    match v {
+        Scalar::Int(x) => integer_compared(operator, x, w),
+        Scalar::Text(s) => text_compared(operator, s, w),
+        _ => Scalar::Untold,
+    }
+}
+
+fn integer_compared<'a>(operator: Operator, x: i64, w: Scalar<'_>) -> Scalar<'a>
+    ensures { ThenTells (scalar_view w.entry) (scalar_view result)
+        (λ y. truth_compared (integer x) ((operator, y) ∷ [])) }
+{
+    match w {
+        Scalar::Int(y) => judged(integers_compared(operator, x, y)),
+        _ => Scalar::Untold,
+    }
+}
+
+fn integers_compared(operator: Operator, x: i64, y: i64) -> Option<Tri>
+    ensures { IfSome result (λ t. compared operator (integer x) (integer y) ≡ Ok t) }
+{
+    match operator {
+        Operator::Equal => Some(truth(x == y)),
+        Operator::NotEqual => Some(not(truth(x == y))),
+        Operator::Less => Some(truth(x < y)),
+        Operator::LessOrEqual => Some(not(truth(y < x))),
+        Operator::Greater => Some(truth(y < x)),
+        Operator::GreaterOrEqual => Some(not(truth(x < y))),
+        _ => None,
+    }
+}
+
+fn text_compared<'a>(operator: Operator, s: &String, w: Scalar<'_>) -> Scalar<'a>
+    ensures { ThenTells (scalar_view w.entry) (scalar_view result)
+        (λ y. truth_compared (text (string_bytes s.now)) ((operator, y) ∷ [])) }
+{
+    match w {
+        Scalar::Text(t) => judged(texts_compared(operator, s, t)),
+        _ => Scalar::Untold,
+    }
+}
+
+fn texts_compared(operator: Operator, s: &String, t: &String) -> Option<Tri>
+    ensures { IfSome result (λ u. compared operator (text (string_bytes s.now))
+        (text (string_bytes t.now)) ≡ Ok u) }
+{
+    match operator {
+        Operator::Equal => Some(truth(s == t)),
+        Operator::NotEqual => Some(not(truth(s == t))),
+        Operator::Less => Some(truth(s < t)),
+        Operator::LessOrEqual => Some(not(truth(t < s))),
+        Operator::Greater => Some(truth(t < s)),
+        Operator::GreaterOrEqual => Some(not(truth(s < t))),
+        _ => None,
+    }
+}
+
+/// NOT, so many times.
+pub(crate) fn negated<'a>(count: usize, v: Scalar<'_>) -> Scalar<'a>
+    ensures { ThenTells (scalar_view v.entry) (scalar_view result) (all_negated count) }
+{
+    match truth_in(v) {
+        Some(t) => of_truth(turned(count, t)),
+        None => Scalar::Untold,
+    }
+}
+
+/// One sign before an integer; more of them aren't told.
+pub(crate) fn signed<'a>(signs: &Vec<bool>, v: Scalar<'_>) -> Scalar<'a>
+    ensures { ThenTells (scalar_view v.entry) (scalar_view result) (all_signed signs.now.items) }
+{
+    match v {
+        Scalar::Int(i) => with_signs(signs, i),
+        _ => Scalar::Untold,
+    }
+}
+
+fn with_signs<'a>(signs: &Vec<bool>, i: i64) -> Scalar<'a>
+    ensures { Tells (scalar_view result) (all_signed signs.now.items (integer i)) }
+{
+    match signs.as_slice() {
+        [is_minus] => with_sign(*is_minus, i),
+        _ => Scalar::Untold,
+    }
+}
+
+fn with_sign<'a>(is_minus: bool, i: i64) -> Scalar<'a>
+    ensures { Tells (scalar_view result) (signed is_minus (integer i)) }
+{
+    if is_minus {
+        told(i.checked_neg())
+    } else {
+        Scalar::Int(i)
+    }
+}
+
+/// IS NULL, and IS NOT NULL where it is negated.
+pub(crate) fn null_tested<'a>(is_negated: bool, v: Scalar<'_>) -> Scalar<'a>
+    ensures { ThenTells (scalar_view v.entry) (scalar_view result)
+        (λ u. Ok (null_tested is_negated u)) }
+{
+    match v {
+        Scalar::Untold => Scalar::Untold,
+        Scalar::Null => null_test(is_negated, true),
+        Scalar::Bool(_) => null_test(is_negated, false),
+        Scalar::Int(_) => null_test(is_negated, false),
+        Scalar::Text(_) => null_test(is_negated, false),
+        Scalar::Lent(_) => Scalar::Untold,
+    }
+}
+
+fn null_test<'a>(is_negated: bool, is_null: bool) -> Scalar<'a>
+    ensures { scalar_view result
+        ≡ Some (boolean (if is_negated then not is_null else is_null)) }
+{
+    if is_negated {
+        Scalar::Bool(!is_null)
+    } else {
+        Scalar::Bool(is_null)
+    }
+}

@@ -27,9 +27,10 @@ class Paging:
         """What becomes of the rows that are left: DROPS, KEEPS, or None where the next ones are wanted."""
         if not self.is_watched:
             return None
-        sys.stdout.write(ASKED)
-        sys.stdout.flush()
         try:
+            # (an interrupt may come as soon as a person sees this)
+            sys.stdout.write(ASKED)
+            sys.stdout.flush()
             key = _key()
         except KeyboardInterrupt:
             key = "q"

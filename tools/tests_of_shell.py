@@ -245,23 +245,36 @@ class Scripts(unittest.TestCase):
             status, after, _ = shell(config, "t0", "--format", "table", text=f":restore {made}/one\n:status\n:dump {made}/two\n")
             self.assertEqual((status, after.splitlines()[0]), (0, "58 elements restored, with their ids"))
             self.assertEqual((made / "one").read_text(), (made / "two").read_text())
-            # the next node's id comes behind the greatest that there is, though a greater one was given
+            # a node with a greater id than those that there are was deleted: the next one's comes behind it
             self.assertIn("next node id 488, next relationship id 485", before)
-            self.assertIn("next node id 487, next relationship id 485", after)
+            self.assertIn("next node id 488, next relationship id 485", after)
             again = f"CREATE (n) DELETE n;\n:restore {made}/one\nMATCH (n:A) RETURN min(id(n)) AS least;\n"
             status, told, _ = shell(config, "t0", "--format", "table", text=again)
             self.assertEqual((status, "58 elements restored, under new ids" in told, "\n1\n" in told), (0, True, True))
 
     def test_a_dump_fills_ids_within_bounds(self):
-        status = graphd.Status(3, 1000, 1000, 10**6, 10**6, [])
+        status = graphd.Status(3, 1000, 1000, 1001, 0, [])
         nodes = [graphd.Node(at, (), {}) for at in (0, 450, 1000)]
         texts = [line for line in dumps.Dump(nodes, [], status).lines() if line.startswith("UNWIND range")]
         self.assertEqual([line.split(")")[0] for line in texts], [f"UNWIND range(1, {count}" for count in (300, 149, 300, 249)])
         # a tenant without room for more, and one that has given more ids than are filled
-        tight = dumps.Dump(nodes, [], graphd.Status(3, 3, 1000, 10**6, 10**6, []))
+        tight = dumps.Dump(nodes, [], graphd.Status(3, 3, 1000, 1001, 0, []))
         self.assertEqual(sum(line.startswith("UNWIND range(1, 2)") for line in tight.lines()), 224)
-        far = dumps.Dump([*nodes, graphd.Node(dumps.MOST_FILLED + 5, (), {})], [], status)
+        far = dumps.Dump(nodes, [], graphd.Status(3, 1000, 1000, dumps.MOST_FILLED + 5, 0, []))
         self.assertEqual((far.keeps_ids, any("range" in line for line in far.lines())), (False, False))
+
+    def test_a_dump_of_what_no_request_holds(self):
+        # (a letter that JSON spells with six)
+        text = json.dumps(chr(1) * 160_000)
+        make = f""":param t {text}
+            CREATE (n:L {{t: $t, i: 1}})-[:T]->(:M), (:N)-[:U]->(:L);
+            MATCH (n:L {{i: 1}})-[r]->() SET n.t = n.t + $t SET r.t = n.t SET n.l = ['a', n.t, true];\n"""
+        with folder() as made:
+            config = configuration(made, 1)
+            status, _, _ = shell(config, "t0", text=f"{make}:dump {made}/one\n")
+            restored = shell(config, "t0", "--format", "table", text=f":restore {made}/one\n:dump {made}/two\nMATCH (n:L)-[r]->() RETURN size(n.t), size(r.t), size(n.l[1]), n.l[2];\n")
+            self.assertEqual((status, restored[0], (made / "one").read_text() == (made / "two").read_text()), (0, 0, True))
+            self.assertIn("320000 | 320000 | 320000 | true", " ".join(restored[1].split()))
 
     def test_the_schema(self):
         text = "CREATE (:A:B {x: 1})-[:T {y: 2}]->(:A);\n:schema\n"

@@ -7,8 +7,7 @@ use Rattle.std.specs.FinMap as map
 use Rattle.std.specs.Ordering.{nat_cmp}
 use Rattle.pg_graph.proofs.Maps.{same_numbered, get_removed, get_removed_other}
 use Rattle.pg_graph.specs.Removed.{Ids}
-use Rattle.pg_index.specs.Index.{ids_at, the_ids}
-use Rattle.pg_index.specs.declared.index.Index.{Index}
+use Rattle.pg_index.specs.Index.{the_ids}
 
 abbrev no_ids : Ids
 no_ids = map.empty
@@ -24,19 +23,19 @@ module _ {K : Type 0} {R : K → K → Ordering} (o : IsTotalOrder R) where
   tied_alike m k q h = sym (ap (λ (c : K → Ordering). get_by c m) (λ i z. o.congr k q z ((Equal-is (R k q)).0 h) i))
 
   -- nothing leaves where there is no set
-  pub nothing_there : (old new : Index K) (key : K) (id : ℕ) → new.sets ≡ old.sets → get R old.sets key ≡ None → (q : K)
-      → ids_at R new q ≡ cond (is_at (R key) q) (map.remove (ids_at R old key) id) (ids_at R old q)
+  pub nothing_there : (old new : BTreeMap K Ids) (key : K) (id : ℕ) → new ≡ old → get R old key ≡ None → (q : K)
+      → the_ids (get R new q) ≡ cond (is_at (R key) q) (map.remove (the_ids (get R old key)) id) (the_ids (get R old q))
   nothing_there old new key id same none q = ap (λ (m : BTreeMap K Ids). the_ids (get R m q)) same ∙ by_test (is_at (R key) q) refl
     where
-      by_test : (b : Bool) → is_at (R key) q ≡ b → ids_at R old q ≡ cond b (map.remove (ids_at R old key) id) (ids_at R old q)
-      by_test true is = ap the_ids (tied_alike old.sets key q is ∙ none) ∙ sym (ap (λ found. map.remove (the_ids found) id) none ∙ without_nothing id)
+      by_test : (b : Bool) → is_at (R key) q ≡ b → the_ids (get R old q) ≡ cond b (map.remove (the_ids (get R old key)) id) (the_ids (get R old q))
+      by_test true is = ap the_ids (tied_alike old key q is ∙ none) ∙ sym (ap (λ found. map.remove (the_ids found) id) none ∙ without_nothing id)
       by_test false is = refl
 
   -- a set that is put back leaves all sets as they were
-  pub same_set : (old new : Index K) (key : K) (was is : Ids) → Some was ≡ get R old.sets key → is ≡ was → ((q : K) → get R new.sets q ≡ cond (is_at (R key) q) (Some is) (get R old.sets q))
-      → (q : K) → ids_at R new q ≡ ids_at R old q
+  pub same_set : (old new : BTreeMap K Ids) (key : K) (was is : Ids) → Some was ≡ get R old key → is ≡ was → ((q : K) → get R new q ≡ cond (is_at (R key) q) (Some is) (get R old q))
+      → (q : K) → the_ids (get R new q) ≡ the_ids (get R old q)
   same_set old new key was is there same found q = ap the_ids (found q ∙ by_test (is_at (R key) q) refl)
     where
-      by_test : (b : Bool) → is_at (R key) q ≡ b → cond b (Some is) (get R old.sets q) ≡ get R old.sets q
-      by_test true at = ap Some same ∙ there ∙ sym (tied_alike old.sets key q at)
+      by_test : (b : Bool) → is_at (R key) q ≡ b → cond b (Some is) (get R old q) ≡ get R old q
+      by_test true at = ap Some same ∙ there ∙ sym (tied_alike old key q at)
       by_test false at = refl

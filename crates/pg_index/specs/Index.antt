@@ -11,5 +11,6 @@ use Rattle.pg_index.specs.declared.index.Index.{Index}
 abbrev pub the_ids : Option Ids → Ids
 the_ids found = option_map_or (λ ids. ids) found map.empty
 
-abbrev pub ids_at : {K : Type 0} → (K → K → Ordering) → Index K → K → Ids
+-- the ids under a key; o, e and p are what the bound of its keys gives the type of an index, and say nothing here
+abbrev pub ids_at : {K : Type 0} {o : _} {e : _} {p : _} → (K → K → Ordering) → Index K o e p → K → Ids
 ids_at cmp index key = the_ids (get cmp index.sets key)

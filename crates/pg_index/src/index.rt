@@ -1,22 +1,25 @@
 //! A set of ids for each key that has any.
 ghost use Rattle.std.specs.Prelude.{◌≡◌, true, false, OnOk, OnErr, IfOk, option_copied, if◌then◌else◌};
-ghost use Rattle.std.specs.BTreeMap.{is_at};
+ghost use Rattle.std.specs.BTreeMap.{is_at, values};
 ghost use Rattle.std.specs.FinMap as map;
-ghost use Rattle.pg_index.specs.Index.{ids_at, the_ids};
+ghost use Rattle.pg_index.specs.Kept.{NoneIsEmpty};
 
 use pg_graph::IdSet;
 use std::alloc::{AllocError, Global};
 use std::cmp::Ord;
 use std::collections::BTreeMap;
 
-/// A set of ids for each key. Two keys that the order has as one share their set.
+/// A set of ids for each key that has any. Two keys that the order has as one share their set.
 #[derive(Drop)]
 pub struct Index<K: Ord> {
     alloc: Global,
     sets: BTreeMap<K, IdSet>,
+    ghost none_is_empty: { NoneIsEmpty (values sets) },
 }
 
 impl<K: Ord + Drop> Index<K> {
+    ghost use Rattle.pg_index.specs.Index.{ids_at, the_ids};
+
     /// An index without keys, which takes no memory yet.
     pub fn new(alloc: Global) -> Self
         ensures { (key : K) → ids_at K.cmp result key ≡ map.empty }

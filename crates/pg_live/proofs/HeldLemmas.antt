@@ -22,7 +22,7 @@ use Rattle.pg_store.specs.declared.store.Store.{Store}
 
 -- whatever set keeps the names, a store fits the same names and part
 pub fit_of_parts : {T S J K : Type 0} (seen : Seen T S) (store : Store T) (shared : Shared S J) → IsFit seen store shared → let same : Shared S K = record { names = shared.names; tables = shared.tables } in IsFit seen store same
-fit_of_parts seen store shared fit = record { fits = fit.fits; well = fit.well; journal = fit.journal; covered = fit.covered; noted = fit.noted }
+fit_of_parts seen store shared fit = record { fits = fit.fits; well = fit.well; journal = fit.journal; covered = fit.covered; noted = fit.noted; none_gone = fit.none_gone }
 
 -- and goes back to the same
 goes_back : {T S K : Type 0} (seen : Seen T S) (store : Store T) (shared : Shared S K) (names : ℕ) (o : Option Begin)

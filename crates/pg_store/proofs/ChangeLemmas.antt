@@ -6,14 +6,14 @@ use Rattle.pg_graph.proofs.Others.{keeps_refl}
 use Rattle.pg_graph.specs.Content.{Seen}
 use Rattle.pg_names.specs.Names.{AreDistinct, KeepsNames}
 use Rattle.pg_store.proofs.CoverLemmas.{Grows, grown_covered, covered_pushed}
-use Rattle.pg_store.proofs.JournalLemmas.{pushed, marked_before, same_graph, still_well, can_still_undo}
+use Rattle.pg_store.proofs.JournalLemmas.{pushed, none_gone_pushed, marked_before, same_graph, still_well, can_still_undo}
 use Rattle.pg_store.proofs.Kept.{first_names_stay, no_fewer_names}
 use Rattle.pg_store.proofs.Marks.{same_moment, still_marked}
 use Rattle.pg_store.proofs.States.{Undoes}
 use Rattle.pg_store.proofs.Noting.{all_noted_still, noted_pushed}
 use Rattle.pg_store.specs.Covers.{Covers, HasCovered, Key, has_in}
 use Rattle.pg_store.specs.Noted.{AreNoted, Gains, HasNoted, StayNoted, is_in, is_noted}
-use Rattle.pg_store.specs.Journal.{State, IsWell, CanUndo, undone}
+use Rattle.pg_store.specs.Journal.{State, IsWell, CanUndo, NoneGone, undone}
 use Rattle.pg_store.specs.Stores.{index_pairs, state_of, state_at, names_at, graph_of_store, IsFit, KeepsMarks, KeepsShared, HasMark}
 use Rattle.pg_store.specs.declared.journal.Entry.{Entry}
 use Rattle.pg_store.specs.declared.journal.Mark.{Mark}
@@ -65,6 +65,7 @@ module _ {T S : Type 0} (seen : Seen T S) where
       noted = noted_pushed (is_in new.sets) new.sets.dust.items old.journal.items new.journal.items e (state_of seen old before) (state_of seen new after) journal now.back
           (all_noted_still (is_in old.sets) (is_in new.sets) old.sets.dust.items new.sets.dust.items gains.come gains.stay old.journal.items (state_of seen old before) fit.noted)
           (subst (AreNoted (is_in new.sets) new.sets.dust.items) (sym is) noted);
+      none_gone = none_gone_pushed old.journal.items new.journal.items e (state_of seen old before) (state_of seen new after) journal now.back fit.none_gone;
     }
 
     module _ (mark : Mark) (has : HasMark seen old before mark) where
@@ -98,6 +99,7 @@ module _ {T S : Type 0} (seen : Seen T S) where
     noted = subst (λ (es : List Entry). HasNoted (is_in new.sets) new.sets.dust.items es (state_of seen new after)) (sym journal)
         (subst (HasNoted (is_in new.sets) new.sets.dust.items old.journal.items) (sym is)
         (all_noted_still (is_in old.sets) (is_in new.sets) old.sets.dust.items new.sets.dust.items gains.come gains.stay old.journal.items (state_of seen old before) fit.noted));
+    none_gone = subst (λ (es : List Entry). NoneGone (undone es (state_of seen new after))) (sym journal) (subst (λ (s : State). NoneGone (undone old.journal.items s)) (sym is) fit.none_gone);
   }
 
   -- sets that grew
@@ -112,6 +114,7 @@ module _ {T S : Type 0} (seen : Seen T S) where
       journal = fit.journal;
       covered = grown_covered (has_in store.sets) (has_in sets) grows store.journal.items (state_of seen store shared) fit.covered;
       noted = all_noted_still (is_in store.sets) (is_in sets) store.sets.dust.items sets.dust.items come stay store.journal.items (state_of seen store shared) fit.noted;
+      none_gone = fit.none_gone;
     }
 
   -- names that grew
@@ -139,6 +142,7 @@ module _ {T S : Type 0} (seen : Seen T S) where
       journal = can_still_undo shared.names names keeps distinct store.journal.items (state_of seen store shared) fit.journal;
       covered = fit.covered;
       noted = fit.noted;
+      none_gone = fit.none_gone;
     }
 
     pub renamed_keeps : AreDistinct names → KeepsShared seen store shared store renamed

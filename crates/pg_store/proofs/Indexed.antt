@@ -295,6 +295,7 @@ indexed_fit seen store shared sets fit nothing covers noted = record {
   journal = fit.journal;
   covered = subst (λ (es : List Entry). HasCovered (has_in sets) es (state_of seen store shared)) (sym nothing) covers;
   noted = subst (λ (es : List Entry). HasNoted (is_in sets) sets.dust.items es (state_of seen store shared)) (sym nothing) noted;
+  none_gone = fit.none_gone;
 }
 
 -- sets with one index more, which has only nodes that belong there

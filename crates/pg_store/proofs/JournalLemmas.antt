@@ -5,7 +5,7 @@ use Rattle.pg_graph.proofs.Held.{holds_with_more_names}
 use Rattle.pg_graph.proofs.Refined.{names_may_grow}
 use Rattle.pg_names.specs.Names.{AreDistinct, KeepsNames}
 use Rattle.pg_meaning.specs.Graph.{element_count}
-use Rattle.pg_store.specs.Journal.{State, IsWell, CanUndoOne, CanUndo, live, graph_in, undo_one, undone}
+use Rattle.pg_store.specs.Journal.{State, IsWell, CanUndoOne, CanUndo, NoneGone, live, graph_in, undo_one, undone}
 use Rattle.pg_store.specs.declared.journal.Entry.{Entry}
 
 pub undone_last : (es : List Entry) (e : Entry) (s : State) → undone (es ++ e ∷ []) s ≡ undone es (undo_one e s)
@@ -41,6 +41,14 @@ module _ (names : List (List ℕ)) where
   -- the last change leaves the journal
   pub popped : (es es' : List Entry) (e : Entry) (s : State) → es' ≡ es ++ e ∷ [] → CanUndo names es' s → CanUndoOne e s × IsWell names (undo_one e s) × CanUndo names es (undo_one e s)
   popped es es' e s is all = can_undo_pop es e s (subst (λ xs. CanUndo names xs s) is all)
+
+-- what was removed before the first change does not hang on the last one
+pub none_gone_pushed : (es es' : List Entry) (e : Entry) (s s' : State) → es' ≡ es ++ e ∷ [] → undo_one e s' ≡ s → NoneGone (undone es s) → NoneGone (undone es' s')
+none_gone_pushed es es' e s s' is back none =
+    subst NoneGone (sym (ap (λ xs. undone xs s') is ∙ undone_last es e s' ∙ ap (undone es) back)) none
+
+pub none_gone_popped : (es es' : List Entry) (e : Entry) (s : State) → es' ≡ es ++ e ∷ [] → NoneGone (undone es' s) → NoneGone (undone es (undo_one e s))
+none_gone_popped es es' e s is none = subst NoneGone (ap (λ xs. undone xs s) is ∙ undone_last es e s) none
 
 -- earlier marks do not see the last change
 pub marked_before : (n : ℕ) (es es' : List Entry) (e : Entry) (s s' : State) → es' ≡ es ++ e ∷ [] → undo_one e s' ≡ s → n ≤ length es → undone (drop n es') s' ≡ undone (drop n es) s

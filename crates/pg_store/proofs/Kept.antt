@@ -9,7 +9,7 @@ use Rattle.pg_store.proofs.JournalLemmas.{same_graph, still_well, can_still_undo
 use Rattle.pg_store.proofs.Marks.{same_moment, still_marked}
 use Rattle.pg_store.specs.Covers.{HasCovered, has_in}
 use Rattle.pg_store.specs.Noted.{HasNoted, is_in}
-use Rattle.pg_store.specs.Journal.{State, IsWell, CanUndo, graph_in, undone}
+use Rattle.pg_store.specs.Journal.{State, IsWell, CanUndo, NoneGone, graph_in, undone}
 use Rattle.pg_store.specs.Stores.{state_of, state_at, names_at, graph_of_store, graph_at, IsFit, HasMark, IsBack, KeepsShared, OtherStoresStay}
 use Rattle.pg_store.specs.declared.journal.Mark.{Mark}
 use Rattle.pg_store.specs.declared.shared.Shared.{Shared}
@@ -100,6 +100,7 @@ module _ {T S K : Type 0} (seen : Seen T S) (store : Store T) (old new : Shared 
     journal = subst (CanUndo new.names store.journal.items) (sym same_state) (can_still_undo old.names new.names keeps distinct store.journal.items was fit.journal);
     covered = subst (HasCovered (has_in store.sets) store.journal.items) (sym same_state) fit.covered;
     noted = subst (HasNoted (is_in store.sets) store.sets.dust.items store.journal.items) (sym same_state) fit.noted;
+    none_gone = subst (λ (s : State). NoneGone (undone store.journal.items s)) (sym same_state) fit.none_gone;
   }
 
 -- a moment to which a store at rest can be taken back stays one, of the same graph, whatever others do with the shared part

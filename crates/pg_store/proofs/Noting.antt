@@ -1,5 +1,5 @@
 -- What is in a set and does not belong there stays noted, through each change and back.
-use Rattle.std.proofs.Common.{◌≡◌, ◌≢◌, ◌==◌, ℕ, Bool, true, false, not, List, [], ◌∷◌, ◌++◌, Option, Some, None, inl, inr, refl, sym, ap, subst, ◌∙◌}
+use Rattle.std.proofs.Common.{◌≡◌, ◌≢◌, ◌==◌, ℕ, Bool, true, false, not, List, [], ◌∷◌, ◌++◌, Option, Some, None, inl, inr, slice_index_or, refl, sym, ap, subst, ◌∙◌}
 use Rattle.std.specs.Prelude.{◌&&◌, ◌||◌}
 use Rattle.std.proofs.lemmas.Bool.{cases_eq}
 use Rattle.std.proofs.lemmas.List.Folds.{list_any-append}
@@ -20,7 +20,7 @@ use Rattle.pg_store.proofs.JournalLemmas.{undone_last}
 use Rattle.pg_store.proofs.NoteLemmas.{and_both, and_left, and_right, found_alike, or_either, or_left, or_on, or_right, same_number}
 use Rattle.pg_store.specs.Covers.{Key, every, with_label, with_value, Covers, belongs, has_in}
 use Rattle.pg_store.specs.Journal.{State, live, undo_one, undone}
-use Rattle.pg_store.specs.Noted.{AreExact, AreNoted, HasNoted, StayNoted, has_set, is_in, is_noted, is_there, same_key}
+use Rattle.pg_store.specs.Noted.{AreExact, AreNoted, HasNoted, NoneKeptIsEmpty, StayNoted, has_set, is_in, is_noted, is_there, same_key}
 use Rattle.pg_store.specs.declared.journal.Entry.{Entry}
 use Rattle.pg_store.specs.declared.sets.Sets.{Sets}
 use Rattle.pg_store.specs.declared.wanted.Place.{Place}
@@ -172,6 +172,10 @@ module _ (s : State) (old left : Dust) (place : Place) (id : ℕ) (is : old ≡ 
       alike : (o : Option NodeRecord) → same_key (place_key place) k ≡ true → option_map_or (belongs (place_key place)) o false ≡ true → option_map_or (belongs k) o false ≡ true
       alike None same h = h
       alike (Some n) same h = sym (one_set (place_key place) k n same) ∙ h
+
+-- so it is of all sets, by their type
+pub none_kept_is_empty : (sets : Sets) → NoneKeptIsEmpty sets
+none_kept_is_empty sets = (sets.labels.none_is_empty, λ k d h. (slice_index_or sets.indexes.items k d).ids.none_is_empty)
 
 -- ---- nothing noted: each set is exact
 

@@ -4,6 +4,7 @@ use Rattle.std.proofs.lemmas.Bool.{cases_eq}
 use Rattle.std.specs.Cmp.{nat_cmp_total}
 use Rattle.std.specs.FinMap as map
 use Rattle.std.specs.FinMap.{FinMap}
+use Rattle.std.specs.Global.{Vec}
 use Rattle.std.specs.Ordering.{nat_cmp}
 use Rattle.pg_graph.proofs.Held.{holds_without_node, holds_without_relationship}
 use Rattle.pg_graph.proofs.Others.{keeps_refl, keeps_trans}
@@ -27,11 +28,10 @@ use Rattle.pg_store.proofs.NoteLemmas.{or_left}
 use Rattle.pg_store.proofs.States.{live_with_node_changed, none_out, none_in, with_node_changed, node_changed, node_change_well, with_rel_changed, rel_changed, rel_change_well}
 use Rattle.std.specs.Option.{option_map, option_map_or}
 use Rattle.pg_store.specs.Covers.{Key, every, with_label, with_value, belongs, Covers, HasCovered, has_in}
-use Rattle.pg_store.specs.Journal.{State, IsWell, CanUndo, live, graph_in}
+use Rattle.pg_store.specs.Journal.{State, IsWell, CanUndo, NoneGone, live, graph_in, undone}
 use Rattle.pg_store.specs.Noted.{AreNoted, HasNoted, is_in}
-use Rattle.pg_store.specs.Stores.{index_pairs, state_of, graph_of_store, IsFit, Settles}
+use Rattle.pg_store.specs.Stores.{index_pairs, state_of, graph_of_store, IsFit, IsSettling, Settles}
 use Rattle.pg_store.specs.declared.journal.Entry.{Entry}
-use Rattle.pg_store.specs.declared.sets.Sets.{Sets}
 use Rattle.pg_store.specs.declared.shared.Shared.{Shared}
 use Rattle.pg_store.specs.declared.store.Store.{Store}
 use Rattle.pg_value_core.specs.declared.ids.NodeId.{NodeId}
@@ -222,47 +222,55 @@ module _ (names : List (List ℕ)) (s : State) (id : RelId) (key : ℕ) (r : Rel
   covers_rel_without_blank has c = covers_other_properties has s id.0 less_properties c
 
 module _ {T S : Type 0} (seen : Seen T S) where
-  -- the changes are forgotten
-  pub forgotten_fit : {K : Type 0} (old new : Store T) (shared : Shared S K) → IsFit seen old shared → seen.fits new.tables shared.tables → state_of seen new shared ≡ state_of seen old shared → new.journal.items ≡ [] → new.sets ≡ old.sets → IsFit seen new shared
-  forgotten_fit old new shared fit fits same none sets = record {
-    fits = fits;
-    well = subst (IsWell shared.names) (sym same) fit.well;
-    journal = subst (λ (es : List Entry). CanUndo shared.names es (state_of seen new shared)) (sym none) tt;
-    covered = subst (λ (es : List Entry). HasCovered (has_in new.sets) es (state_of seen new shared)) (sym none)
-        (subst (λ (x : Sets). Covers (has_in x) (state_of seen new shared)) (sym sets) (subst (Covers (has_in old.sets)) (sym same) (covers_now (has_in old.sets) old.journal.items (state_of seen old shared) fit.covered)));
-    noted = subst (λ (es : List Entry). HasNoted (is_in new.sets) new.sets.dust.items es (state_of seen new shared)) (sym none)
-        (subst (λ (x : Sets). AreNoted (is_in x) x.dust.items (state_of seen new shared)) (sym sets)
-        (subst (AreNoted (is_in old.sets) old.sets.dust.items) (sym same) (noted_now (is_in old.sets) old.sets.dust.items old.journal.items (state_of seen old shared) fit.noted)));
-  }
+  module _ {K : Type 0} (store : Store T) (shared : Shared S K) where
+    -- the changes are forgotten
+    pub forgotten : IsFit seen store shared → (journal : Vec Entry) → journal.items ≡ [] → IsSettling seen (record store { journal = journal }) shared
+    forgotten fit journal none = record {
+      fits = fit.fits;
+      well = fit.well;
+      journal = none;
+      covered = covers_now (has_in store.sets) store.journal.items (state_of seen store shared) fit.covered;
+      noted = noted_now (is_in store.sets) store.sets.dust.items store.journal.items (state_of seen store shared) fit.noted;
+    }
 
-  pub settles_first : {K : Type 0} (old : Store T) (before : Shared S K) → IsFit seen old before → old.journal.items ≡ [] → Settles seen old before old before
-  settles_first old before fit journal = record { fit = fit; journal = journal; graph = refl; names = refl; keeps = keeps_refl old.tables before.tables fit.fits; pairs = refl }
+    -- a store where nothing is left to undo, and what was removed is gone
+    pub none_waits : IsFit seen store shared → store.journal.items ≡ [] → NoneGone (state_of seen store shared)
+    none_waits fit none = subst (λ (es : List Entry). NoneGone (undone es (state_of seen store shared))) none fit.none_gone
+
+    pub settled_fit : IsSettling seen store shared → NoneGone (state_of seen store shared) → IsFit seen store shared
+    settled_fit was none = record {
+      fits = was.fits;
+      well = was.well;
+      journal = subst (λ (es : List Entry). CanUndo shared.names es (state_of seen store shared)) (sym was.journal) tt;
+      covered = subst (λ (es : List Entry). HasCovered (has_in store.sets) es (state_of seen store shared)) (sym was.journal) was.covered;
+      noted = subst (λ (es : List Entry). HasNoted (is_in store.sets) store.sets.dust.items es (state_of seen store shared)) (sym was.journal) was.noted;
+      none_gone = subst (λ (es : List Entry). NoneGone (undone es (state_of seen store shared))) (sym was.journal) none;
+    }
+
+    pub settles_first : IsSettling seen store shared → Settles seen store shared store shared
+    settles_first was = record { settling = was; graph = refl; names = refl; keeps = keeps_refl store.tables shared.tables was.fits; pairs = refl }
 
   pub settles_on : {K : Type 0} (old now new : Store T) (before shared after : Shared S K) (s : State) → Settles seen old before now shared
       → state_of seen new after ≡ s → IsWell shared.names s → Covers (has_in new.sets) s → AreNoted (is_in new.sets) new.sets.dust.items s → index_pairs new ≡ index_pairs now → graph_in shared.names s ≡ graph_of_store seen now shared → after.names ≡ shared.names → new.journal.items ≡ now.journal.items → Keeps seen now.tables shared.tables new.tables after.tables
       → Settles seen old before new after
-  settles_on old now new before shared after s was is well covers noted pairs same names journal keeps =
-      let done : new.journal.items ≡ [] = journal ∙ was.journal in
-      record {
-        fit = record {
-          fits = keeps.fits;
-          well = subst (λ (ns : List (List ℕ)). IsWell ns (state_of seen new after)) (sym names) (subst (IsWell shared.names) (sym is) well);
-          journal = subst (λ (es : List Entry). CanUndo after.names es (state_of seen new after)) (sym done) tt;
-          covered = subst (λ (es : List Entry). HasCovered (has_in new.sets) es (state_of seen new after)) (sym done) (subst (Covers (has_in new.sets)) (sym is) covers);
-          noted = subst (λ (es : List Entry). HasNoted (is_in new.sets) new.sets.dust.items es (state_of seen new after)) (sym done) (subst (AreNoted (is_in new.sets) new.sets.dust.items) (sym is) noted);
-        };
-        journal = done;
-        graph = ap (λ (ns : List (List ℕ)). graph_in ns (state_of seen new after)) names ∙ ap (graph_in shared.names) is ∙ same ∙ was.graph;
-        names = names ∙ was.names;
-        keeps = keeps_trans old.tables now.tables new.tables before.tables shared.tables after.tables was.keeps keeps;
-        pairs = pairs ∙ was.pairs;
-      }
+  settles_on old now new before shared after s was is well covers noted pairs same names journal keeps = record {
+    settling = record {
+      fits = keeps.fits;
+      well = subst (λ (ns : List (List ℕ)). IsWell ns (state_of seen new after)) (sym names) (subst (IsWell shared.names) (sym is) well);
+      journal = journal ∙ was.settling.journal;
+      covered = subst (Covers (has_in new.sets)) (sym is) covers;
+      noted = subst (AreNoted (is_in new.sets) new.sets.dust.items) (sym is) noted;
+    };
+    graph = ap (λ (ns : List (List ℕ)). graph_in ns (state_of seen new after)) names ∙ ap (graph_in shared.names) is ∙ same ∙ was.graph;
+    names = names ∙ was.names;
+    keeps = keeps_trans old.tables now.tables new.tables before.tables shared.tables after.tables was.keeps keeps;
+    pairs = pairs ∙ was.pairs;
+  }
 
 -- settled, and settled again
 pub settles_then : {T S K : Type 0} (seen : Seen T S) (old now new : Store T) (before shared after : Shared S K) → Settles seen old before now shared → Settles seen now shared new after → Settles seen old before new after
 settles_then seen old now new before shared after p q = record {
-  fit = q.fit;
-  journal = q.journal;
+  settling = q.settling;
   graph = q.graph ∙ p.graph;
   names = q.names ∙ p.names;
   keeps = keeps_trans old.tables now.tables new.tables before.tables shared.tables after.tables p.keeps q.keeps;

@@ -17,7 +17,7 @@ use Rattle.pg_graph.specs.declared.records.RelRecord.{RelRecord}
 use Rattle.pg_meaning.specs.Graph.{Graph, IsGraph, empty_graph, element_count, has_node, has_relationship}
 use Rattle.pg_store.specs.Covers.{Key, HasCovered, has_in}
 use Rattle.pg_store.specs.Noted.{HasNoted, is_in}
-use Rattle.pg_store.specs.Journal.{CanUndo, live}
+use Rattle.pg_store.specs.Journal.{CanUndo, NoneGone, live, undone}
 use Rattle.pg_store.specs.Stores.{graph_of_store, state_of, IsFit}
 use Rattle.pg_store.specs.declared.journal.Entry.{Entry}
 use Rattle.pg_store.specs.declared.sets.Sets.{Sets}
@@ -66,6 +66,7 @@ module _ {T S K : Type 0} (seen : Seen T S) (tables : T) (shared : Shared S K) (
     covered = subst (λ (es : List Entry). HasCovered (has_in sets) es (state_of seen new_store shared)) (sym nothing_done)
         (λ k i n is number. absurd (cc (is, ap (λ (c : Content). map.get c.nodes i) empty, map.get-empty {X = NodeRecord} nat_cmp i)));
     noted = subst (λ (es : List Entry). HasNoted (is_in sets) sets.dust.items es (state_of seen new_store shared)) (sym nothing_done) (λ k i h. let no = none k i in absurd (cc (h, no)));
+    none_gone = subst (λ (es : List Entry). NoneGone (undone es (state_of seen new_store shared))) (sym nothing_done) (record { nodes = no_nodes; rels = no_rels });
   }
 
 pub copied_is_there : {X : Type 0} (o : Option (Bor X)) → is_some (option_copied o) ≡ is_some o

@@ -4,12 +4,12 @@ use Rattle.std.proofs.lemmas.List.{take_at, drop_at, length-append}
 use Rattle.pg_graph.proofs.Others.{keeps_refl, keeps_trans}
 use Rattle.pg_graph.specs.Content.{Seen, Keeps}
 use Rattle.pg_store.proofs.CoverLemmas.{covered_popped}
-use Rattle.pg_store.proofs.JournalLemmas.{popped}
+use Rattle.pg_store.proofs.JournalLemmas.{popped, none_gone_popped}
 use Rattle.pg_store.proofs.Noting.{noted_popped}
 use Rattle.pg_store.specs.Covers.{HasCovered, has_in}
 use Rattle.pg_store.specs.Noted.{HasNoted, is_in}
 use Rattle.pg_store.specs.declared.sets.Sets.{Sets}
-use Rattle.pg_store.specs.Journal.{IsWell, CanUndo, CanUndoOne, undo_one, undone}
+use Rattle.pg_store.specs.Journal.{State, IsWell, CanUndo, CanUndoOne, NoneGone, undo_one, undone}
 use Rattle.pg_store.specs.Stores.{state_of, IsFit, HasMark, IsBack}
 use Rattle.pg_store.specs.declared.journal.Entry.{Entry}
 use Rattle.pg_store.specs.declared.journal.Mark.{Mark}
@@ -53,6 +53,7 @@ module _ {T S : Type 0} (seen : Seen T S) (mark : ℕ) where
               (subst (HasCovered (has_in now.sets) es) (sym is) (covered_popped (has_in now.sets) es now.journal.items e s items was.fit.covered));
           noted = subst (λ (x : Sets). HasNoted (is_in x) x.dust.items es (state_of seen new after)) (sym sets)
               (subst (HasNoted (is_in now.sets) now.sets.dust.items es) (sym is) (noted_popped (is_in now.sets) now.sets.dust.items es now.journal.items e s items was.fit.noted));
+          none_gone = subst (λ (t : State). NoneGone (undone es t)) (sym is) (none_gone_popped es now.journal.items e s items was.fit.none_gone);
         };
         names = names ∙ was.names;
         gone = e ∷ was.gone;
@@ -86,4 +87,5 @@ back_is_fit {S = S} seen mark old now before shared after has back fit cut same 
           (subst (CanUndo (take mark.names before.names) (take mark.journal old.journal.items)) (sym (is ∙ back.state)) has.undo));
       covered = subst (HasCovered (has_in now.sets) now.journal.items) (sym is) fit.covered;
       noted = subst (HasNoted (is_in now.sets) now.sets.dust.items now.journal.items) (sym is) fit.noted;
+      none_gone = subst (λ (t : State). NoneGone (undone now.journal.items t)) (sym is) fit.none_gone;
     }

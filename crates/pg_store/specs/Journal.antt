@@ -41,6 +41,11 @@ pub record IsWell (names : List (List ℕ)) (s : State) : Type 0 where
   pub rel_ids : s.next.rel ≤ 2 ^ 63
   pub few : s.elements ≤ 2 ^ 63
 
+-- nothing that is removed waits in the tables
+pub record NoneGone (s : State) : Type 0 where
+  pub nodes : s.gone_nodes ≡ map.empty
+  pub rels : s.gone_rels ≡ map.empty
+
 -- an element as it was before one change of it: of a property, only what stood under its key is told
 abbrev pub with_node_before : Content → ℕ → NodeBefore → Content
 with_node_before c id before = option_map_or (λ n. with_node c id (node_before before n)) (map.get c.nodes id) c

@@ -1,9 +1,11 @@
 -- Ids that stand in a set where they do not belong: each is noted, and swept when nothing is left to undo.
-use Rattle.std.specs.Prelude.{◌≡◌, ◌==◌, ◌&&◌, ◌||◌, ℕ, Bool, true, false, List, [], ◌∷◌}
+use Rattle.std.specs.Prelude.{◌≡◌, ◌==◌, ◌&&◌, ◌||◌, ℕ, Bool, true, false, List, [], ◌∷◌, All}
+use Rattle.std.specs.BTreeMap.{values}
 use Rattle.std.specs.List.{list_any}
 use Rattle.std.specs.Ordering.{nat_cmp}
 use Rattle.pg_graph.specs.Removed.{has_id}
 use Rattle.pg_index.specs.Index.{ids_at}
+use Rattle.pg_index.specs.Kept.{NoneIsEmpty}
 use Rattle.pg_index.specs.Properties.{has_pair, is_one_value, pairs_of, some_finds}
 use Rattle.pg_store.specs.Covers.{Key, every, with_label, with_value, belongs, passes}
 use Rattle.pg_store.specs.Journal.{State, live, undone}
@@ -58,6 +60,10 @@ pub record IsSwept (has : Key → ℕ → Bool) (sets : Key → Bool) (dust : Li
 
 abbrev pub AreExact : Sets → State → Type 0
 AreExact sets s = IsSwept (is_in sets) (has_set sets) sets.dust.items s
+
+-- no set of ids is empty that is kept for a label, or in an index for a value
+abbrev pub NoneKeptIsEmpty : Sets → Type 0
+NoneKeptIsEmpty sets = NoneIsEmpty (values sets.labels.sets) × All (λ index. NoneIsEmpty (values index.ids.sets)) sets.indexes.items
 
 -- sets to which ids have come, each with a note, of the same pairs of a label and a key
 pub record Gaining (old new : Key → ℕ → Bool) (noted notes : List (Place × ℕ)) (was now : List (ℕ × ℕ)) : Type 0 where

@@ -5,10 +5,10 @@ use Rattle.pg_graph.specs.Content.{Seen, Keeps}
 use Rattle.pg_meaning.specs.Graph.{Graph, Node, Relationship}
 use Rattle.pg_meaning.specs.Value.{Value}
 use Rattle.pg_names.specs.Names.{AreDistinct, KeepsNames}
-use Rattle.pg_store.specs.Covers.{has_in, HasCovered}
+use Rattle.pg_store.specs.Covers.{has_in, Covers, HasCovered}
 use Rattle.pg_index.specs.Properties as index
-use Rattle.pg_store.specs.Journal.{State, IsWell, CanUndo, graph_in, undone}
-use Rattle.pg_store.specs.Noted.{HasNoted, is_in}
+use Rattle.pg_store.specs.Journal.{State, IsWell, CanUndo, NoneGone, graph_in, undone}
+use Rattle.pg_store.specs.Noted.{AreNoted, HasNoted, is_in}
 use Rattle.pg_store.specs.declared.journal.Mark.{Mark}
 use Rattle.pg_store.specs.declared.shared.Shared.{Shared}
 use Rattle.pg_store.specs.declared.store.Store.{Store}
@@ -31,13 +31,23 @@ module _ {T S K : Type 0} (seen : Seen T S) (store : Store T) (shared : Shared S
   graph_of_store = graph_in shared.names state_of
 
   -- the shared part is the store's, what it holds stands for a graph, all that was done since each mark can be undone, each
-  -- node is found where it belongs, and what is found where it doesn't belong is noted
+  -- node is found where it belongs, what is found where it doesn't belong is noted, and before all that can be undone nothing
+  -- was removed
   pub record IsFit : Type 0 where
     pub fits : seen.fits store.tables shared.tables
     pub well : IsWell shared.names state_of
     pub journal : CanUndo shared.names store.journal.items state_of
     pub covered : HasCovered (has_in store.sets) store.journal.items state_of
     pub noted : HasNoted (is_in store.sets) store.sets.dust.items store.journal.items state_of
+    pub none_gone : NoneGone (undone store.journal.items state_of)
+
+  -- the store is being settled: nothing is left to undo, and what was removed may wait in the tables still
+  pub record IsSettling : Type 0 where
+    pub fits : seen.fits store.tables shared.tables
+    pub well : IsWell shared.names state_of
+    pub journal : store.journal.items ≡ []
+    pub covered : Covers (has_in store.sets) state_of
+    pub noted : AreNoted (is_in store.sets) store.sets.dust.items state_of
 
   -- the names and the state at the moment of a mark
   abbrev pub names_at : Mark → List (List ℕ)
@@ -67,8 +77,7 @@ pub record IsBack {T S K : Type 0} (seen : Seen T S) (mark : Mark) (old : Store 
 
 -- the store `now` is `old` with some of its removed elements gone, and nothing left to undo
 pub record Settles {T S K : Type 0} (seen : Seen T S) (old : Store T) (before : Shared S K) (now : Store T) (shared : Shared S K) : Type 0 where
-  pub fit : IsFit seen now shared
-  pub journal : now.journal.items ≡ []
+  pub settling : IsSettling seen now shared
   pub graph : graph_of_store seen now shared ≡ graph_of_store seen old before
   pub names : shared.names ≡ before.names
   pub keeps : Keeps seen old.tables before.tables now.tables shared.tables

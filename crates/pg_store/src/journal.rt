@@ -2,10 +2,10 @@
 ghost use Rattle.std.specs.Prelude.{◌≡◌, ◌≤◌, [], length, take};
 ghost use Rattle.std.specs.FinMap as map;
 ghost use Rattle.pg_graph.specs.Content.{Keeps};
-ghost use Rattle.pg_store.specs.Journal.{CanUndoOne, undo_one};
+ghost use Rattle.pg_store.specs.Journal.{CanUndoOne, NoneGone, undo_one};
 ghost use Rattle.pg_store.specs.declared.journal.Entry.TheVariants.{NodeChanged, RelChanged};
-ghost use Rattle.pg_store.specs.Noted.{AreExact};
-ghost use Rattle.pg_store.specs.Stores.{graph_of_store, graph_at, index_pairs, state_at, state_of, IsFit, HasMark, IsBack, Settles};
+ghost use Rattle.pg_store.specs.Noted.{AreExact, NoneKeptIsEmpty};
+ghost use Rattle.pg_store.specs.Stores.{graph_of_store, graph_at, index_pairs, state_of, IsFit, IsSettling, HasMark, IsBack, Settles};
 
 use crate::edits::{NodeBefore, PropertiesBefore, give_back, give_node_back};
 use crate::node_changes::blank_node;
@@ -67,7 +67,6 @@ impl<T: Tables> Store<T> {
             → HasMark T.seen self.new shared.new earlier }
         ensures fit { IsFit T.seen self.new shared.new }
         ensures exact { mark.journal ≡ 0
-            → (state_at T.seen self.old shared.old mark).gone_nodes ≡ map.empty
             → AreExact self.new.sets (state_of T.seen self.new shared.new) }
         ensures pairs { index_pairs self.new ≡ index_pairs self.old }
         ensures keeps { Keeps
@@ -76,9 +75,6 @@ impl<T: Tables> Store<T> {
         self.go_back(shared, mark);
         shared.names.truncate(mark.names);
         if self.journal.len() > 0 {
-            return;
-        }
-        if !self.gone_nodes.is_empty() {
             return;
         }
         self.sweep(shared);
@@ -94,7 +90,6 @@ impl<T: Tables> Store<T> {
         ensures names { shared.new.names ≡ shared.old.names }
         ensures fit { IsFit T.seen self.new shared.new }
         ensures exact { mark.journal ≡ 0
-            → (state_at T.seen self.old shared.old mark).gone_nodes ≡ map.empty
             → AreExact self.new.sets (state_of T.seen self.new shared.new) }
         ensures pairs { index_pairs self.new ≡ index_pairs self.old }
         ensures keeps { Keeps
@@ -102,9 +97,6 @@ impl<T: Tables> Store<T> {
     {
         self.go_back(shared, mark);
         if !self.journal.is_empty() {
-            return;
-        }
-        if !self.gone_nodes.is_empty() {
             return;
         }
         self.sweep(shared);
@@ -216,6 +208,7 @@ impl<T: Tables> Store<T> {
         ensures no_mark { self.new.journal.items ≡ [] }
         ensures none_gone { self.new.gone_nodes ≡ map.empty }
         ensures exact { AreExact self.new.sets (state_of T.seen self.new shared.new) }
+        ensures none_empty { NoneKeptIsEmpty self.new.sets }
         ensures pairs { index_pairs self.new ≡ index_pairs self.old }
         ensures keeps { Keeps
             T.seen self.old.tables shared.old.tables self.new.tables shared.new.tables }
@@ -231,10 +224,10 @@ impl<T: Tables> Store<T> {
 
     // Takes ids out of the sets where they no longer belong.
     fn sweep(&mut self, shared: &Shared<T::Shared>)
-        requires fit { IsFit T.seen self.old shared.now }
-        requires journal { self.old.journal.items ≡ [] }
-        requires none_gone { self.old.gone_nodes ≡ map.empty }
-        ensures swept { Settles T.seen self.old shared.now self.new shared.now }
+        requires settling { IsSettling T.seen self.old shared.now }
+        requires none_gone { NoneGone (state_of T.seen self.old shared.now) }
+        ensures fit { IsFit T.seen self.new shared.now }
+        ensures settled { Settles T.seen self.old shared.now self.new shared.now }
         ensures state { state_of T.seen self.new shared.now ≡ state_of T.seen self.old shared.now }
         ensures exact { AreExact self.new.sets (state_of T.seen self.new shared.now) }
     {
@@ -251,17 +244,9 @@ impl<T: Tables> Store<T> {
 
     // Lets the removed relationships go.
     fn settle_rels(&mut self, shared: &mut Shared<T::Shared>)
-        requires fit { IsFit T.seen self.old shared.old }
-        requires journal { self.old.journal.items ≡ [] }
-        ensures graph { graph_of_store T.seen self.new shared.new
-            ≡ graph_of_store T.seen self.old shared.old }
-        ensures names { shared.new.names ≡ shared.old.names }
-        ensures fit { IsFit T.seen self.new shared.new }
-        ensures journal { self.new.journal.items ≡ [] }
+        requires { IsSettling T.seen self.old shared.old }
+        ensures settled { Settles T.seen self.old shared.old self.new shared.new }
         ensures none { self.new.gone_rels ≡ map.empty }
-        ensures pairs { index_pairs self.new ≡ index_pairs self.old }
-        ensures keeps { Keeps
-            T.seen self.old.tables shared.old.tables self.new.tables shared.new.tables }
     {
         while let Some(id) = self.gone_rels.pop() {
             self.tables.drop_rel(&mut shared.tables, RelId(id));
@@ -270,18 +255,10 @@ impl<T: Tables> Store<T> {
 
     // Lets the removed nodes go.
     fn settle_nodes(&mut self, shared: &mut Shared<T::Shared>)
-        requires fit { IsFit T.seen self.old shared.old }
-        requires journal { self.old.journal.items ≡ [] }
-        requires none { self.old.gone_rels ≡ map.empty }
-        ensures graph { graph_of_store T.seen self.new shared.new
-            ≡ graph_of_store T.seen self.old shared.old }
-        ensures names { shared.new.names ≡ shared.old.names }
-        ensures fit { IsFit T.seen self.new shared.new }
-        ensures journal { self.new.journal.items ≡ [] }
-        ensures none { self.new.gone_nodes ≡ map.empty }
-        ensures pairs { index_pairs self.new ≡ index_pairs self.old }
-        ensures keeps { Keeps
-            T.seen self.old.tables shared.old.tables self.new.tables shared.new.tables }
+        requires settling { IsSettling T.seen self.old shared.old }
+        requires no_rels { self.old.gone_rels ≡ map.empty }
+        ensures settled { Settles T.seen self.old shared.old self.new shared.new }
+        ensures none_gone { NoneGone (state_of T.seen self.new shared.new) }
     {
         while let Some(id) = self.gone_nodes.pop() {
             self.tables.drop_node(&mut shared.tables, NodeId(id));

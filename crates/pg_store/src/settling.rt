@@ -5,7 +5,7 @@ ghost use Rattle.pg_graph.specs.declared.records.NodeRecord.{NodeRecord};
 ghost use Rattle.pg_graph.specs.declared.records.RelRecord.{RelRecord};
 ghost use Rattle.pg_meaning.specs.Value.{null};
 ghost use Rattle.pg_store.specs.Journal.{live};
-ghost use Rattle.pg_store.specs.Stores.{state_of, IsFit, Settles};
+ghost use Rattle.pg_store.specs.Stores.{state_of, IsSettling, Settles};
 
 use crate::edits::{NodeBefore, PropertiesBefore};
 use crate::journal::Entry;
@@ -19,8 +19,7 @@ use pg_value_core::{NodeId, RelId, Value};
 impl<T: Tables> Store<T> {
     // Takes the keys out that these changes left blank, and leaves no change.
     pub(crate) fn settle_keys(&mut self, shared: &mut Shared<T::Shared>, entries: &mut Vec<Entry>)
-        requires fit { IsFit T.seen self.old shared.old }
-        requires journal { self.old.journal.items ≡ [] }
+        requires { IsSettling T.seen self.old shared.old }
         ensures settled { Settles T.seen self.old shared.old self.new shared.new }
         ensures none { entries.new.items ≡ [] }
     {
@@ -30,8 +29,7 @@ impl<T: Tables> Store<T> {
     }
 
     fn settle_entry(&mut self, shared: &mut Shared<T::Shared>, entry: &Entry)
-        requires fit { IsFit T.seen self.old shared.old }
-        requires journal { self.old.journal.items ≡ [] }
+        requires { IsSettling T.seen self.old shared.old }
         ensures { Settles T.seen self.old shared.old self.new shared.new }
     {
         match entry {
@@ -46,8 +44,7 @@ impl<T: Tables> Store<T> {
     }
 
     fn settle_node_key(&mut self, shared: &mut Shared<T::Shared>, id: NodeId, key: NameId)
-        requires fit { IsFit T.seen self.old shared.old }
-        requires journal { self.old.journal.items ≡ [] }
+        requires { IsSettling T.seen self.old shared.old }
         ensures { Settles T.seen self.old shared.old self.new shared.new }
     {
         if !self.has_blank(shared, id, key) {
@@ -60,8 +57,7 @@ impl<T: Tables> Store<T> {
     }
 
     fn settle_rel_key(&mut self, shared: &mut Shared<T::Shared>, id: RelId, key: NameId)
-        requires fit { IsFit T.seen self.old shared.old }
-        requires journal { self.old.journal.items ≡ [] }
+        requires { IsSettling T.seen self.old shared.old }
         ensures { Settles T.seen self.old shared.old self.new shared.new }
     {
         if !self.has_blank_rel(shared, id, key) {
@@ -75,7 +71,7 @@ impl<T: Tables> Store<T> {
 
     // Whether there is such a node, and the key is blank there.
     fn has_blank(&self, shared: &Shared<T::Shared>, id: NodeId, key: NameId) -> bool
-        requires { IsFit T.seen self.now shared.now }
+        requires { T.seen.fits self.now.tables shared.now.tables }
         ensures { result ≡ true
             → (n : NodeRecord)
             × (map.get (live (state_of T.seen self.now shared.now)).nodes id.0 ≡ Some n)
@@ -89,7 +85,7 @@ impl<T: Tables> Store<T> {
 
     // Whether there is such a relationship, and the key is blank there.
     fn has_blank_rel(&self, shared: &Shared<T::Shared>, id: RelId, key: NameId) -> bool
-        requires { IsFit T.seen self.now shared.now }
+        requires { T.seen.fits self.now.tables shared.now.tables }
         ensures { result ≡ true
             → (r : RelRecord)
             × (map.get (live (state_of T.seen self.now shared.now)).rels id.0 ≡ Some r)

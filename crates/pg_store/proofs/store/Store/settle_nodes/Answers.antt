@@ -2,8 +2,8 @@ use Rattle.std.proofs.Common.{subst, sym, ap, refl, ◌<◌}
 use Rattle.pg_graph.specs.Content.{Content}
 use Rattle.std.specs.FinMap as map
 use Rattle.pg_graph.specs.Removed.{Ids}
-use Rattle.pg_store.proofs.CoverLemmas.{covers_now, covers_without}
-use Rattle.pg_store.proofs.Noting.{noted_alike, noted_now}
+use Rattle.pg_store.proofs.CoverLemmas.{covers_without}
+use Rattle.pg_store.proofs.Noting.{noted_alike}
 use Rattle.pg_store.proofs.Settled.{live_nodes, among, settles_on, fewer, graph_without_node, well_without_node, without_gone_node, nothing_out, nothing_in}
 use Rattle.pg_store.proofs.store.Store.settle_nodes.Goals as goal
 use Rattle.pg_store.specs.Covers.{has_in}
@@ -14,13 +14,13 @@ pub drop_node-requires-clause-no_outgoing : goal.drop_node-requires-clause-no_ou
 drop_node-requires-clause-no_outgoing g c =
     let now = c.loop-id.self in
     let was = c.loop-id.invariant in
-    nothing_out c.loop-id.shared.names (state_of g.T.Tables.seen now c.loop-id.shared) c.in-Some.id was.settles.fit.well (among now.gone_nodes c.in-Some.id _ c.in-Some.ensures.before) was.no_rels
+    nothing_out c.loop-id.shared.names (state_of g.T.Tables.seen now c.loop-id.shared) c.in-Some.id was.settles.settling.well (among now.gone_nodes c.in-Some.id _ c.in-Some.ensures.before) was.no_rels
 
 pub drop_node-requires-clause-no_incoming : goal.drop_node-requires-clause-no_incoming
 drop_node-requires-clause-no_incoming g c =
     let now = c.loop-id.self in
     let was = c.loop-id.invariant in
-    nothing_in c.loop-id.shared.names (state_of g.T.Tables.seen now c.loop-id.shared) c.in-Some.id was.settles.fit.well (among now.gone_nodes c.in-Some.id _ c.in-Some.ensures.before) was.no_rels
+    nothing_in c.loop-id.shared.names (state_of g.T.Tables.seen now c.loop-id.shared) c.in-Some.id was.settles.settling.well (among now.gone_nodes c.in-Some.id _ c.in-Some.ensures.before) was.no_rels
 
 pub loop-id-smaller : goal.loop-id-smaller
 loop-id-smaller g c =
@@ -34,13 +34,13 @@ loop-id-preserved g c =
     let s = state_of g.T.Tables.seen now c.loop-id.shared in
     let gone = among now.gone_nodes c.in-Some.id _ c.in-Some.ensures.before in
     record {
-      settles = settles_on g.T.Tables.seen c.args.self.now now _ c.args.shared.now c.loop-id.shared _ (without_gone_node c.loop-id.shared.names s c.in-Some.id was.settles.fit.well gone was.no_rels) was.settles
+      settles = settles_on g.T.Tables.seen c.args.self.now now _ c.args.shared.now c.loop-id.shared _ (without_gone_node c.loop-id.shared.names s c.in-Some.id was.settles.settling.well gone was.no_rels) was.settles
           (λ t. record s { content = c.drop_node.ensures.dropped t; gone_nodes = c.in-Some.ensures.removed t })
-          (well_without_node c.loop-id.shared.names s c.in-Some.id was.settles.fit.well gone was.no_rels)
-          (covers_without (has_in now.sets) s c.in-Some.id (covers_now (has_in now.sets) now.journal.items s was.settles.fit.covered))
-          (noted_alike (is_in now.sets) now.sets.dust.items s (without_gone_node c.loop-id.shared.names s c.in-Some.id was.settles.fit.well gone was.no_rels) (ap (λ (x : Content). x.nodes) (live_nodes c.loop-id.shared.names s c.in-Some.id was.settles.fit.well gone was.no_rels)) (noted_now (is_in now.sets) now.sets.dust.items now.journal.items s was.settles.fit.noted))
+          (well_without_node c.loop-id.shared.names s c.in-Some.id was.settles.settling.well gone was.no_rels)
+          (covers_without (has_in now.sets) s c.in-Some.id was.settles.settling.covered)
+          (noted_alike (is_in now.sets) now.sets.dust.items s (without_gone_node c.loop-id.shared.names s c.in-Some.id was.settles.settling.well gone was.no_rels) (ap (λ (x : Content). x.nodes) (live_nodes c.loop-id.shared.names s c.in-Some.id was.settles.settling.well gone was.no_rels)) was.settles.settling.noted)
           refl
-          (graph_without_node c.loop-id.shared.names s c.in-Some.id was.settles.fit.well gone was.no_rels)
+          (graph_without_node c.loop-id.shared.names s c.in-Some.id was.settles.settling.well gone was.no_rels)
           refl refl c.drop_node.ensures.keeps;
       no_rels = was.no_rels;
     }

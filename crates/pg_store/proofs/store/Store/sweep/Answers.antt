@@ -9,13 +9,13 @@ use Rattle.pg_graph.proofs.Others.{keeps_refl}
 use Rattle.pg_graph.specs.Content.{Seen}
 use Rattle.pg_graph.specs.declared.records.NodeRecord.{NodeRecord}
 use Rattle.pg_index.specs.Properties.{pairs_of}
-use Rattle.pg_store.proofs.CoverLemmas.{covers_now, swept_covers}
-use Rattle.pg_store.proofs.Noting.{exact_when, none_gone_there, noted_gone, noted_kept, noted_now}
-use Rattle.pg_store.proofs.Settled.{settles_on}
+use Rattle.pg_store.proofs.CoverLemmas.{swept_covers}
+use Rattle.pg_store.proofs.Noting.{exact_when, none_gone_there, noted_gone, noted_kept}
+use Rattle.pg_store.proofs.Settled.{settled_fit, settles_on}
 use Rattle.pg_store.proofs.store.Store.sweep.Goals as goal
 use Rattle.pg_store.proofs.store.Store.sweep.Goals.{then-not-is_sought, else-not-is_sought}
 use Rattle.pg_store.specs.Covers.{FindAlike, Key, belongs, has_in}
-use Rattle.pg_store.specs.Journal.{State}
+use Rattle.pg_store.specs.Journal.{State, NoneGone}
 use Rattle.pg_store.specs.Noted.{AreNoted, is_in, is_there, same_key}
 use Rattle.pg_store.specs.Stores.{state_of, Settles}
 use Rattle.pg_store.specs.Wanted.{place_key, wanted_key}
@@ -36,20 +36,20 @@ module _ {T S K : Type 0} (seen : Seen T S) (start now : Store T) (shared : Shar
       → option_map_or (belongs (place_key place)) (map.get here.content.nodes id) false ≡ false
       → Settles seen start shared (record now { sets = left }) shared
   swept left dust lost gone pairs other =
-      settles_on seen start now (record now { sets = left }) shared shared shared here was refl was.fit.well
-      (swept_covers (has_in now.sets) (has_in left) (place_key place) id here lost other (covers_now (has_in now.sets) now.journal.items here was.fit.covered))
-      (noted_gone here now.sets.dust.items left.dust.items place id dust (is_in now.sets) (is_in left) gone (noted_now (is_in now.sets) now.sets.dust.items now.journal.items here was.fit.noted))
-      pairs refl refl refl (keeps_refl now.tables shared.tables was.fit.fits)
+      settles_on seen start now (record now { sets = left }) shared shared shared here was refl was.settling.well
+      (swept_covers (has_in now.sets) (has_in left) (place_key place) id here lost other was.settling.covered)
+      (noted_gone here now.sets.dust.items left.dust.items place id dust (is_in now.sets) (is_in left) gone was.settling.noted)
+      pairs refl refl refl (keeps_refl now.tables shared.tables was.settling.fits)
 
   -- a note of an id that belongs is dropped
   dropped : (sets : Sets) → now.sets.dust.items ≡ sets.dust.items ++ (place, id) ∷ [] → has_in sets ≡ has_in now.sets → is_in sets ≡ is_in now.sets → pairs_of sets.indexes.items ≡ pairs_of now.sets.indexes.items
       → is_there here (place_key place) id ≡ true → Settles seen start shared (record now { sets = sets }) shared
   dropped sets dust has is pairs there =
-      settles_on seen start now (record now { sets = sets }) shared shared shared here was refl was.fit.well
-      (subst (λ has. (k : Key) (i : ℕ) (n : NodeRecord) → map.get here.content.nodes i ≡ Some n → belongs k n ≡ true → has k i ≡ true) (sym has) (covers_now (has_in now.sets) now.journal.items here was.fit.covered))
+      settles_on seen start now (record now { sets = sets }) shared shared shared here was refl was.settling.well
+      (subst (λ has. (k : Key) (i : ℕ) (n : NodeRecord) → map.get here.content.nodes i ≡ Some n → belongs k n ≡ true → has k i ≡ true) (sym has) was.settling.covered)
       (subst (λ has. AreNoted has sets.dust.items here) (sym is)
-      (noted_kept here now.sets.dust.items sets.dust.items place id dust (is_in now.sets) there (noted_now (is_in now.sets) now.sets.dust.items now.journal.items here was.fit.noted)))
-      pairs refl refl refl (keeps_refl now.tables shared.tables was.fit.fits)
+      (noted_kept here now.sets.dust.items sets.dust.items place id dust (is_in now.sets) there was.settling.noted))
+      pairs refl refl refl (keeps_refl now.tables shared.tables was.settling.fits)
 
 pub loop-place-preserved : goal.loop-place-preserved
 loop-place-preserved g c =
@@ -62,7 +62,7 @@ loop-place-preserved g c =
     let place = c.in-Some.place in
     let id = c.in-Some.id in
     let test = ap (λ k. option_map_or (belongs k) (map.get s.content.nodes id) false) (sym c.wanted.ensures) ∙ ap (λ o. option_map_or (belongs (wanted_key c.wanted.result)) o false) (sym c.node.ensures) ∙ sym c.is_sought.ensures in
-    let none = ap (λ (x : State). x.gone_nodes) was.state ∙ c.requires.none_gone in
+    let none = ap (λ (x : State). x.gone_nodes) was.state ∙ c.requires.none_gone.nodes in
     elim c.if-not-is_sought.branch [
       | then-not-is_sought w ↦ record {
         settles = subst (λ store. Settles seen start shared store shared) (sym w.self-is)
@@ -85,15 +85,22 @@ done : {T S K : Type 0} (seen : Seen T S) (start now : Store T) (shared : Shared
     → Settles seen start shared (record now { sets = sets }) shared
 done seen start now shared sets was old none has is pairs =
     let s = state_of seen now shared in
-    settles_on seen start now (record now { sets = sets }) shared shared shared s was refl was.fit.well
-    (subst (λ has. (k : Key) (i : ℕ) (n : NodeRecord) → map.get s.content.nodes i ≡ Some n → belongs k n ≡ true → has k i ≡ true) (sym has) (covers_now (has_in now.sets) now.journal.items s was.fit.covered))
-    (subst (λ has. AreNoted has sets.dust.items s) (sym is) (subst (λ ns. AreNoted (is_in now.sets) ns s) (old ∙ sym none) (noted_now (is_in now.sets) now.sets.dust.items now.journal.items s was.fit.noted)))
-    pairs refl refl refl (keeps_refl now.tables shared.tables was.fit.fits)
+    settles_on seen start now (record now { sets = sets }) shared shared shared s was refl was.settling.well
+    (subst (λ has. (k : Key) (i : ℕ) (n : NodeRecord) → map.get s.content.nodes i ≡ Some n → belongs k n ≡ true → has k i ≡ true) (sym has) was.settling.covered)
+    (subst (λ has. AreNoted has sets.dust.items s) (sym is) (subst (λ ns. AreNoted (is_in now.sets) ns s) (old ∙ sym none) was.settling.noted))
+    pairs refl refl refl (keeps_refl now.tables shared.tables was.settling.fits)
 
-pub returns-clause-swept : goal.returns-clause-swept
-returns-clause-swept g c =
+pub returns-clause-settled : goal.returns-clause-settled
+returns-clause-settled g c =
     let cases = c.in_default.ensures.cases in
     done g.T.Tables.seen c.args.self.now c.loop-place.self c.args.shared.now _ c.loop-place.invariant.settles (nil_from_length c.loop-place.self.sets.dust.items (sym c.loop-place.self.sets.dust.ok.0 ∙ cases.0)) (nil_from_length c.pop.new.self.items (sym c.pop.new.self.ok.0 ∙ cases.1)) refl refl refl
+
+pub returns-clause-fit : goal.returns-clause-fit
+returns-clause-fit g c =
+    let cases = c.in_default.ensures.cases in
+    settled_fit g.T.Tables.seen _ c.args.shared.now
+    (done g.T.Tables.seen c.args.self.now c.loop-place.self c.args.shared.now _ c.loop-place.invariant.settles (nil_from_length c.loop-place.self.sets.dust.items (sym c.loop-place.self.sets.dust.ok.0 ∙ cases.0)) (nil_from_length c.pop.new.self.items (sym c.pop.new.self.ok.0 ∙ cases.1)) refl refl refl).settling
+    (subst NoneGone (sym c.loop-place.invariant.state) c.requires.none_gone)
 
 pub returns-clause-state : goal.returns-clause-state
 returns-clause-state g c = c.loop-place.invariant.state
@@ -105,4 +112,4 @@ returns-clause-exact g c =
     let now = c.loop-place.self in
     let cases = c.in_default.ensures.cases in
     let after = done seen c.args.self.now now shared (record now.sets { dust = c.pop.new.self }) c.loop-place.invariant.settles (nil_from_length c.loop-place.self.sets.dust.items (sym c.loop-place.self.sets.dust.ok.0 ∙ cases.0)) (nil_from_length c.pop.new.self.items (sym c.pop.new.self.ok.0 ∙ cases.1)) refl refl refl in
-    exact_when (record now.sets { dust = c.pop.new.self }) (state_of seen now shared) (nil_from_length c.pop.new.self.items (sym c.pop.new.self.ok.0 ∙ cases.1)) (covers_now (has_in (record now.sets { dust = c.pop.new.self })) now.journal.items (state_of seen now shared) after.fit.covered) (noted_now (is_in (record now.sets { dust = c.pop.new.self })) c.pop.new.self.items now.journal.items (state_of seen now shared) after.fit.noted)
+    exact_when (record now.sets { dust = c.pop.new.self }) (state_of seen now shared) (nil_from_length c.pop.new.self.items (sym c.pop.new.self.ok.0 ∙ cases.1)) after.settling.covered after.settling.noted

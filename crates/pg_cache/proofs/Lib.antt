@@ -1,4 +1,4 @@
-pub mod Keys
+pub mod Feeding
 pub mod Entries
 pub mod Planned
 pub mod LookUps

@@ -8,7 +8,7 @@ use Rattle.lru.specs.LruCache.{LruCache, lru_cache, promoted, put_entries}
 use Rattle.pg_cache.specs.Cache.{Cache, key_view, entry_view, same_key, ArePlanned, kept, one_more, after_hit, with_plan, MayKeep, IsHit}
 use Rattle.pg_cache.specs.declared.key.Key as kept_key
 use Rattle.pg_cache.proofs.Entries.{Pair, is_key, lookup-view, promoted-view, put-view}
-use Rattle.pg_cache.proofs.Keys.{key_eq, keys_alike}
+use Rattle.pg_cache.specs.Keys.{key_eq, keys_alike}
 use Rattle.pg_cache.proofs.Planned.{planned_under, promoted_are_planned, put_are_planned}
 use Rattle.pg_meaning.specs.declared.fault.Fault.{Fault}
 use Rattle.pg_meaning.specs.declared.fault.Fault.TheVariants.{OutOfMemory}

@@ -3,7 +3,7 @@ use Rattle.std.proofs.Common.{◌≡◌, ℕ, zero, suc, true, false, cond, List
 use Rattle.std.specs.Map.{lookup, lookup_entry, remove_entry}
 use Rattle.std.specs.Option.{option_map_or}
 use Rattle.lru.specs.LruCache.{promoted}
-use Rattle.pg_cache.proofs.Keys.{same_key_is}
+use Rattle.pg_cache.specs.Keys.{same_key_is}
 use Rattle.pg_cache.specs.Cache.{Key, same_key, ArePlanned}
 use Rattle.pg_plan.specs.Plans.{IsPlanOfText}
 use Rattle.pg_plan.specs.declared.plan.Plan.{Plan}

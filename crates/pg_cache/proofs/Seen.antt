@@ -6,7 +6,7 @@ use Rattle.std.specs.Option.{option_map_or}
 use Rattle.std.specs.Result.{IsOk, is_ok}
 use Rattle.std.specs.declared.rc.Rc.{Rc}
 use Rattle.lru.specs.LruCache.{promoted}
-use Rattle.pg_cache.proofs.Keys.{same_key_is}
+use Rattle.pg_cache.specs.Keys.{same_key_is}
 use Rattle.pg_cache.specs.Cache.{Key, Cache, CacheSeen, same_key, kept, one_more, after_hit, IsHit, IsMiss, cache_seen, without_key, seen_after_miss, with_key, IsLookUp}
 use Rattle.pg_meaning.specs.Texts.{text_checked}
 use Rattle.pg_meaning.specs.declared.fault.Fault.{Fault}

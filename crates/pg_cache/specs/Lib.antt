@@ -1,1 +1,3 @@
 pub mod Cache
+pub mod Digests
+pub mod Keys

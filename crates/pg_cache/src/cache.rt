@@ -7,11 +7,12 @@ ghost use Rattle.pg_meaning.specs.declared.fault.Fault.TheVariants.{OutOfMemory}
 ghost use Rattle.pg_plan.specs.Plans.{IsPlanOfText};
 ghost use Rattle.pg_meaning.specs.Texts.{text_checked};
 
+use crate::digested::DigestedCatalogue;
 use crate::key::Key;
 use lru::LruCache;
 use pg_headroom::test_headroom;
 use pg_meaning::Fault;
-use pg_plan::{Catalogue, Plan, plan_text};
+use pg_plan::{Plan, plan_text};
 use std::alloc::{AllocError, Global};
 use std::hash::BuildHasher;
 use std::marker::Model;
@@ -66,7 +67,7 @@ impl<S: BuildHasher + Drop> PlanCache<S> {
         &mut self,
         alloc: Global,
         text: String,
-        catalogue: Rc<Catalogue>,
+        catalogue: Rc<DigestedCatalogue>,
     ) -> Result<Rc<Plan>, Fault>
         ensures ok { IfOk result
             (λ p. IsPlanOfText (string_bytes text) (catalogue_view catalogue.value.items) p.value) }
@@ -93,7 +94,7 @@ impl<S: BuildHasher + Drop> PlanCache<S> {
         ensures miss { IsMiss self.old self.new (key_view key) result }
     {
         self.misses = self.misses.saturating_add(1);
-        let plan = plan_text(alloc, key.text.as_str(), &key.catalogue)?;
+        let plan = plan_text(alloc, key.text.as_str(), key.catalogue.list())?;
         let plan = Rc::new(alloc, plan)?;
         if test_headroom(alloc).is_ok() {
             self.keep(key, &plan);

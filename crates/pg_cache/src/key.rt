@@ -1,10 +1,26 @@
 //! What a plan is kept under.
-use pg_plan::Catalogue;
+ghost use Rattle.std.specs.Prelude.{◌≡◌};
+ghost use Rattle.pg_cache.specs.Cache.{key_view};
+ghost use Rattle.pg_cache.specs.Keys.{key_writes, fed_alike};
+
+use crate::digested::DigestedCatalogue;
+use std::hash::{Hash, Hasher};
 use std::rc::Rc;
 
 /// A query text, and the indexes that its plan is for.
-#[derive(PartialEq, Eq, Hash, Drop)]
+#[derive(PartialEq, Eq, Drop)]
 pub(crate) struct Key {
     pub(crate) text: String,
-    pub(crate) catalogue: Rc<Catalogue>,
+    pub(crate) catalogue: Rc<DigestedCatalogue>,
+}
+
+impl Hash for Key {
+    ghost hash_input = { λ k. key_writes (key_view k) };
+
+    ghost respects_eq = { fed_alike };
+
+    fn hash<H: Hasher>(&self, state: &mut H) {
+        state.write(self.catalogue.digest());
+        state.write(self.text.as_str().as_bytes());
+    }
 }

@@ -2,6 +2,8 @@
 #![tactic(auto)]
 
 mod cache;
+mod digested;
 mod key;
 
 pub use cache::PlanCache;
+pub use digested::DigestedCatalogue;

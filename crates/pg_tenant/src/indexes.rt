@@ -11,6 +11,7 @@ ghost use Rattle.pg_tenant.specs.TenantStates.{state_over};
 
 use crate::catalogue::{MAX_INDEXES, is_indexed, with_index, without_index};
 use crate::tenant::Tenant;
+use pg_cache::DigestedCatalogue;
 use pg_graph::Tables;
 use pg_json::{ReplyBytes, done};
 use pg_live::LiveGraph;
@@ -33,7 +34,7 @@ impl Tenant {
             (create_index token.now label.now key.now) result }
     {
         self.test_index(live, token, label, key)?;
-        let indexes = with_one_more(alloc, &self.indexes, label, key)?;
+        let indexes = with_one_more(alloc, self.indexes.list(), label, key)?;
         live.add_index(alloc, label, key)?;
         self.indexes = indexes;
         Ok(done())
@@ -52,7 +53,7 @@ impl Tenant {
             (drop_index token.now label.now key.now) result }
     {
         self.test_index(live, token, label, key)?;
-        let indexes = with_one_less(alloc, &self.indexes, label, key)?;
+        let indexes = with_one_less(alloc, self.indexes.list(), label, key)?;
         live.drop_index(label, key);
         self.indexes = indexes;
         Ok(done())
@@ -87,7 +88,7 @@ fn with_one_more(
     catalogue: &Catalogue,
     label: &str,
     key: &str,
-) -> Result<Rc<Catalogue>, Fault>
+) -> Result<Rc<DigestedCatalogue>, Fault>
     ensures ok { IfOk result (λ list.
         one_more (catalogue_view catalogue.now.items) label.now key.now ≡ Ok (indexes_of list)) }
     ensures err { IfErr result (λ e. e ≢ OutOfMemory
@@ -100,7 +101,7 @@ fn with_one_more(
         return Err(Fault::TooManyIndexes);
     }
     let indexes = with_index(alloc, catalogue, label, key)?;
-    Ok(Rc::new(alloc, indexes)?)
+    Ok(Rc::new(alloc, DigestedCatalogue::new(indexes))?)
 }
 
 /// The list with one less.
@@ -109,7 +110,7 @@ fn with_one_less(
     catalogue: &Catalogue,
     label: &str,
     key: &str,
-) -> Result<Rc<Catalogue>, Fault>
+) -> Result<Rc<DigestedCatalogue>, Fault>
     ensures ok { IfOk result (λ list.
         one_less (catalogue_view catalogue.now.items) label.now key.now ≡ Ok (indexes_of list)) }
     ensures err { IfErr result (λ e. e ≢ OutOfMemory
@@ -119,5 +120,5 @@ fn with_one_less(
         return Err(Fault::NoSuchIndex);
     }
     let indexes = without_index(alloc, catalogue, label, key)?;
-    Ok(Rc::new(alloc, indexes)?)
+    Ok(Rc::new(alloc, DigestedCatalogue::new(indexes))?)
 }

@@ -37,7 +37,7 @@ impl Tenant {
         ensures { IfOk result
             (λ status. tenant_text status ≡ status_text (state_over self.now live.now)) }
     {
-        let indexes = copy_indexes(alloc, &self.indexes)?;
+        let indexes = copy_indexes(alloc, self.indexes.list())?;
         let graph = live.graph();
         let next = graph.next_ids();
         Ok(TenantStatus {

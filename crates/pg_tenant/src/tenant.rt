@@ -14,13 +14,12 @@ ghost use Rattle.pg_tenant.specs.TenantStates.{opening_state, state_over, token_
 use crate::noted::{Noted, with_note};
 use crate::query::Asked;
 use crate::settings::TenantSettings;
-use pg_cache::PlanCache;
+use pg_cache::{DigestedCatalogue, PlanCache};
 use pg_graph::Tables;
 use pg_json::RequestBody;
 use pg_live::LiveGraph;
 use pg_meaning::Fault;
 use pg_pages::Pages;
-use pg_plan::Catalogue;
 use std::alloc::{AllocError, Global};
 use std::hash::RandomState;
 use std::rc::Rc;
@@ -31,7 +30,7 @@ use std::rc::Rc;
 pub struct Tenant {
     pub(crate) settings: TenantSettings,
     // kept plans share it
-    pub(crate) indexes: Rc<Catalogue>,
+    pub(crate) indexes: Rc<DigestedCatalogue>,
     pub(crate) pages: Pages,
 }
 
@@ -41,7 +40,7 @@ impl Tenant {
         ensures settings { IfOk result (λ tenant. tenant.settings ≡ settings) }
         ensures opening { IfOk result (λ tenant. opening_state tenant ≡ opening settings) }
     {
-        let indexes = Rc::new(alloc, Vec::new(alloc))?;
+        let indexes = Rc::new(alloc, DigestedCatalogue::new(Vec::new(alloc)))?;
         Ok(Tenant {
             settings,
             indexes,

@@ -1,12 +1,14 @@
--- Two keys are the same just where their texts and their indexes are.
-use Rattle.std.proofs.Common.{◌≡◌, ℕ, Bool, true, false, ◌&&◌, List, [], ◌∷◌, refl, sym, ap, String, Global, true≢false}
+-- Two keys are the same just where their texts and their indexes are, and then they are hashed alike.
+use Rattle.std.proofs.Common.{◌≡◌, ℕ, Bool, true, false, ◌&&◌, List, [], ◌∷◌, refl, sym, ap, ◌∙◌, String, Global, true≢false}
 use Rattle.std.proofs.lemmas.Slice.Eq.{bytes_eq-Decides}
 use Rattle.std.specs.Cmp.Lexicographic.{pointwise, pointwise_decides}
 use Rattle.std.specs.Str.{bytes_eq}
 use Rattle.std.specs.String.{string_eq}
 use Rattle.pg_plan.specs.Catalogue.{catalogue_view}
 use Rattle.pg_meaning.specs.Plans.{Catalogue}
+use Rattle.std.specs.Hash.{HashWrites}
 use Rattle.pg_cache.specs.Cache.{Key, key_view, same_index, same_key}
+use Rattle.pg_cache.specs.Digests.{digest_of, index_eq}
 use Rattle.pg_cache.specs.declared.key.Key as kept_key
 
 left : (a b : Bool) → (a && b) ≡ true → a ≡ true
@@ -40,9 +42,6 @@ same_key_is k l h =
 
 -- ---- as the program compares them
 
-abbrev index_eq : String Global × String Global → String Global × String Global → Bool
-index_eq i j = string_eq i.0 j.0 && string_eq i.1 j.1
-
 abbrev pub key_eq : kept_key.Key → kept_key.Key → Bool
 key_eq k l = string_eq k.text l.text && pointwise index_eq k.catalogue.value.items l.catalogue.value.items
 
@@ -54,3 +53,12 @@ indexes_alike (i ∷ is) (j ∷ js) = ap (λ b. index_eq i j && b) (indexes_alik
 
 pub keys_alike : key_eq ≡ (λ k l. same_key (key_view k) (key_view l))
 keys_alike = λ t k l. string_eq k.text l.text && indexes_alike k.catalogue.value.items l.catalogue.value.items t
+
+-- ---- what is fed to the hash
+
+-- the digest, which has always 32 bytes, then the text
+abbrev pub key_writes : Key → HashWrites
+key_writes key = digest_of key.1 ∷ key.0 ∷ []
+
+pub fed_alike : (k l : kept_key.Key) → key_eq k l ≡ true → key_writes (key_view k) ≡ key_writes (key_view l)
+fed_alike k l h = ap key_writes (same_key_is (key_view k) (key_view l) (sym (ap (λ eq. eq k l) keys_alike) ∙ h))

@@ -1,5 +1,5 @@
 -- Two keys are the same just where their texts and their indexes are, and then they are hashed alike.
-use Rattle.std.proofs.Common.{◌≡◌, ℕ, Bool, true, false, ◌&&◌, List, [], ◌∷◌, refl, sym, ap, ◌∙◌, String, Global, true≢false}
+use Rattle.std.proofs.Common.{◌≡◌, ℕ, Bool, true, false, ◌&&◌, List, [], ◌∷◌, ◌++◌, refl, sym, ap, ◌∙◌, String, Global, true≢false}
 use Rattle.std.proofs.lemmas.Slice.Eq.{bytes_eq-Decides}
 use Rattle.std.specs.Cmp.Lexicographic.{pointwise, pointwise_decides}
 use Rattle.std.specs.Str.{bytes_eq}
@@ -8,7 +8,7 @@ use Rattle.pg_plan.specs.Catalogue.{catalogue_view}
 use Rattle.pg_meaning.specs.Plans.{Catalogue}
 use Rattle.std.specs.Hash.{HashWrites}
 use Rattle.pg_cache.specs.Cache.{Key, key_view, same_index, same_key}
-use Rattle.pg_cache.specs.Digests.{digest_of, index_eq}
+use Rattle.pg_cache.specs.Digests.{digest_writes, index_eq}
 use Rattle.pg_cache.specs.declared.key.Key as kept_key
 
 left : (a b : Bool) → (a && b) ≡ true → a ≡ true
@@ -56,9 +56,8 @@ keys_alike = λ t k l. string_eq k.text l.text && indexes_alike k.catalogue.valu
 
 -- ---- what is fed to the hash
 
--- the digest, which has always 32 bytes, then the text
 abbrev pub key_writes : Key → HashWrites
-key_writes key = digest_of key.1 ∷ key.0 ∷ []
+key_writes key = digest_writes key.1 ++ key.0 ∷ []
 
 pub fed_alike : (k l : kept_key.Key) → key_eq k l ≡ true → key_writes (key_view k) ≡ key_writes (key_view l)
 fed_alike k l h = ap key_writes (same_key_is (key_view k) (key_view l) (sym (ap (λ eq. eq k l) keys_alike) ∙ h))

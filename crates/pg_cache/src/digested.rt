@@ -1,13 +1,14 @@
 //! A catalogue with its digest.
-ghost use Rattle.std.specs.Prelude.{◌≡◌, ◌++◌};
+ghost use Rattle.std.specs.Prelude.{◌≡◌, ◌++◌, fold};
 ghost use Rattle.std.specs.Cmp.{on_equiv, partial_equiv_from_equiv};
 ghost use Rattle.std.specs.Cmp.Lexicographic.{lists_equiv, pointwise};
-ghost use Rattle.pg_cache.specs.Digests.{digest_of, index_eq, index_equiv, marked};
+ghost use Rattle.pg_cache.specs.Digests.{digest_of, digest_writes, index_eq, index_equiv, marked};
 ghost use Rattle.pg_plan.specs.Catalogue.{catalogue_view};
 ghost use Rattle.sha2.specs.Hashers.{Holds256};
 
 use pg_plan::Catalogue;
 use sha2::{Digest, Sha256};
+use std::hash::Hasher;
 use std::marker::Model;
 
 /// A catalogue with its digest (SHA-256), which is made once: whoever looks a plan up feeds it to the keyed hash in place of all names.
@@ -46,11 +47,14 @@ impl DigestedCatalogue {
         &self.list
     }
 
-    /// Equal lists have equal digests.
-    pub(crate) fn digest(&self) -> &[u8]
-        ensures { result.now ≡ digest_of (catalogue_view self.now.items) }
+    /// Writes the digest, or nothing where the list is empty, so that a tenant without indexes pays nothing.
+    pub(crate) fn write<H: Hasher>(&self, state: &mut H)
+        ensures { state.new
+            ≡ fold H.write state.old (digest_writes (catalogue_view self.now.items)) }
     {
-        self.digest.as_slice()
+        if !self.list.is_empty() {
+            state.write(self.digest.as_slice());
+        }
     }
 }
 

@@ -20,7 +20,7 @@ impl Hash for Key {
     ghost respects_eq = { fed_alike };
 
     fn hash<H: Hasher>(&self, state: &mut H) {
-        state.write(self.catalogue.digest());
+        self.catalogue.write(state);
         state.write(self.text.as_str().as_bytes());
     }
 }

@@ -6,6 +6,7 @@ import subprocess
 from pathlib import Path
 
 from graphd_program import Failed
+from machine import own_bytes, processor_seconds
 
 
 def body(token, text, parameters=None, page=None):
@@ -60,7 +61,10 @@ class Run:
 
     def seconds(self):
         """The processor time that it has had."""
-        return int((self.about / "schedstat").read_text().split()[0]) / 1e9
+        return processor_seconds(self.child.pid)
+
+    def own_bytes(self):
+        return own_bytes(self.child.pid)
 
     def forget_peak(self):
         (self.about / "clear_refs").write_text("5")

@@ -1,0 +1,66 @@
+"""What tests take of the machine that they run on: how long they wait, and what a program has used. So none is decided by how fast the
+machine is, by what else it has to do, or by a moment in which it stands still."""
+import contextlib
+import os
+import re
+import signal
+import threading
+import time
+from pathlib import Path
+
+# what is waited for at most that is to come at once: it ends what hangs, and is far more than a slow machine needs
+SECONDS = int(os.environ.get("GRAPHD_TEST_SECONDS", "300"))
+
+
+def comes(holds, pause=0.05):
+    """What is told once it holds, or last of all."""
+    until = time.monotonic() + SECONDS
+    while True:
+        is_last = time.monotonic() > until
+        found = holds()
+        if found or is_last:
+            return found
+        time.sleep(pause)
+
+
+@contextlib.contextmanager
+def ended_if_they_hang(pids):
+    """Kills processes that haven't done in time what is asked within: who waits for them sees their end."""
+
+    def end():
+        for pid in pids:
+            with contextlib.suppress(ProcessLookupError):
+                os.kill(pid, signal.SIGKILL)
+
+    timer = threading.Timer(SECONDS, end)
+    timer.daemon = True
+    timer.start()
+    try:
+        yield
+    finally:
+        timer.cancel()
+
+
+def processor_seconds(pid):
+    """The seconds of processor time that a process has had."""
+    # (the processor clock of a process, which Python has no name for; /proc tells the same in steps of 10 ms)
+    return time.clock_gettime(~pid << 3 | 2)
+
+
+def with_started(pid):
+    """A process, those that it started, and those that they did."""
+    parents = {}
+    for stat in Path("/proc").glob("[0-9]*/stat"):
+        with contextlib.suppress(OSError):
+            parents[int(stat.parent.name)] = int(stat.read_text().rpartition(")")[2].split()[1])
+    found = [pid]
+    for above in found:
+        found += [it for it, parent in parents.items() if parent == above]
+    return found
+
+
+def own_bytes(pid):
+    """The bytes of memory that a process has for itself, also where they were put out to the disk. What it has of files isn't counted, since
+    the system takes it and gives it back as it likes. (What /proc tells as VmRSS is counted roughly, with other systems' versions.)"""
+    told = Path(f"/proc/{pid}/smaps_rollup").read_text()
+    return 1024 * sum(int(re.search(rf"^{word}: +(\d+) kB", told, re.MULTILINE)[1]) for word in ("Anonymous", "Swap"))

@@ -87,6 +87,15 @@ class Browser:
         pointer += [{"type": kind, "button": 0} for _ in range(times) for kind in ("pointerDown", "pointerUp")]
         self.ask("/actions", {"actions": [{"type": "pointer", "id": "mouse", "parameters": {"pointerType": "mouse"}, "actions": pointer}]})
 
+    def click_until(self, selector, script):
+        """Clicks on an element that may move, and so be missed, until the script gives something true."""
+        until = time.monotonic() + SECONDS
+        while not self.run(script):
+            assert time.monotonic() < until, f"{script} didn't come to hold; {self.run('return document.body.innerText')}"
+            self.click(selector)
+            # (two clicks soon after each other are one of another kind)
+            time.sleep(1)
+
     def type(self, text, *held):
         """Types, with these keys held down."""
         keys = [("keyDown", KEYS[key]) for key in held]

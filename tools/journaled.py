@@ -9,9 +9,10 @@ from pathlib import Path
 
 from graphd_program import program
 from journal_servers import ANSWERED, READY, lines_of
+from machine import SECONDS
 
-# so many seconds anything may take that is to come at once
-SOON = 20
+# (a client that a busy machine holds up isn't cut off; the longest that there is)
+PATIENCE = "86400"
 
 
 class Given:
@@ -41,7 +42,7 @@ class Running:
     """A graphd_listen with a journal, from its start until it is ready or has ended, and what it told until then."""
 
     def __init__(self, config, journal, most_bytes=None):
-        command = [str(program(Given.program, name="graphd_listen")), str(config), "127.0.0.1:0", "--journal", str(journal)]
+        command = [str(program(Given.program, name="graphd_listen")), str(config), "127.0.0.1:0", "--journal", str(journal), "--patience", PATIENCE]
         pipe = subprocess.PIPE
         self.child = subprocess.Popen(
             command, stdin=pipe, stdout=pipe, stderr=pipe, preexec_fn=lambda: limit(most_bytes), restore_signals=False
@@ -57,7 +58,7 @@ class Running:
 
     def ended(self):
         """Its status, and what it told."""
-        told = self.child.communicate(timeout=SOON)[1].decode()
+        told = self.child.communicate(timeout=SECONDS)[1].decode()
         return self.child.returncode, told
 
     def kill(self):
@@ -76,7 +77,7 @@ class Client:
 
     def __init__(self, port, token):
         self.token = token
-        self.socket = socket.create_connection(("127.0.0.1", port), timeout=SOON)
+        self.socket = socket.create_connection(("127.0.0.1", port), timeout=SECONDS)
 
     def asks(self, op="query", **more):
         """The reply, or None where the connection ended before it was whole."""

@@ -23,6 +23,38 @@ def comes(holds, pause=0.05):
         time.sleep(pause)
 
 
+class Gate:
+    """Where what isn't to happen yet waits until it is let go. It is a file, which is there while one waits, since some are other processes."""
+
+    def __init__(self, folder):
+        self.file = folder / "waits"
+
+    def hold(self):
+        """Waits until it is let go."""
+        self.file.touch()
+        comes(lambda: not self.file.exists(), 0.01)
+
+    def holds(self):
+        return self.file.exists()
+
+    def let_go(self):
+        self.file.unlink(missing_ok=True)
+
+
+def times_as_long(most, first, second):
+    """How many times the processor time of the first work the second one takes in this process, by the least time of each: both are done
+    again, some times, while it seems to be more than `most` times."""
+    least = [float("inf"), float("inf")]
+    for _ in range(8):
+        for at, work in enumerate((first, second)):
+            before = time.process_time()
+            work()
+            least[at] = min(least[at], time.process_time() - before)
+        if least[1] <= most * least[0]:
+            break
+    return least[1] / least[0]
+
+
 @contextlib.contextmanager
 def ended_if_they_hang(pids):
     """Kills processes that haven't done in time what is asked within: who waits for them sees their end."""

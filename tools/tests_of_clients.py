@@ -5,6 +5,7 @@ import json
 import os
 import re
 import select
+import signal
 import socket
 import subprocess
 import sys
@@ -16,13 +17,17 @@ from pathlib import Path
 
 import client_path  # (finds the package graphd)
 import graphd
+import graphd.aio_transactions
+import graphd.transactions
 from graphd_program import ROOT
+from machine import SECONDS, Gate, comes
 
 CONFIG = ROOT / "examples" / "first.json"
 SHELL = [sys.executable, str(ROOT / "tools" / "graphsh")]
-SECONDS = int(os.environ.get("GRAPHD_TEST_SECONDS", "120"))  # what is waited for at most, which only a machine with much else to do needs
-SLOW = "/*slow*/"  # a text with this is answered late by `slowed` and behind a `Relay`
-LATE = 1.5  # seconds
+SLOW = "/*slow*/"  # a text with this waits at the gate of `slowed` and of a `Relay`
+LATE = 1  # seconds that a client waits for a reply which doesn't come
+# (how long a client waits for what a server on a busy machine has yet to see)
+graphd.transactions.PATIENCE = graphd.aio_transactions.PATIENCE = SECONDS
 
 
 class Given:
@@ -56,9 +61,12 @@ def configuration(folder, tenants, elements=1000, steps=1000):
     return path
 
 
-RELAY = '''#!{python}
-"""Hands frames to graphd one by one, and those with {slow} late."""
-import os, subprocess, sys, time
+RELAY = '''#!{python} -B
+"""Hands frames to graphd one by one, and those with {slow} once they are let go."""
+import subprocess, sys
+from pathlib import Path
+sys.path.insert(0, {tools!r})
+from machine import Gate
 pipe = subprocess.PIPE
 child = subprocess.Popen([{program!r}, *sys.argv[1:]], stdin=pipe, stdout=pipe)
 while True:
@@ -66,7 +74,8 @@ while True:
     body = sys.stdin.buffer.read(int.from_bytes(head, "big"))
     if not head:
         break
-    time.sleep({late} if {slow!r}.encode() in body else 0)
+    if {slow!r}.encode() in body:
+        Gate(Path({folder!r})).hold()
     child.stdin.write(head + body)
     child.stdin.flush()
     head = child.stdout.read(4)
@@ -75,10 +84,11 @@ while True:
 '''
 
 
-def slowed(folder):
-    """A program that answers as graphd does, and late to the texts that ask for it."""
-    path = folder / "slowed"
-    path.write_text(RELAY.format(python=sys.executable, program=str(Given.program), slow=SLOW, late=LATE))
+def slowed(gate):
+    """A program that answers as graphd does, and to some texts once they are let go."""
+    folder = gate.file.parent
+    path, tools = folder / "slowed", str(ROOT / "tools")
+    path.write_text(RELAY.format(python=sys.executable, program=str(Given.program), slow=SLOW, tools=tools, folder=str(folder)))
     path.chmod(0o700)
     return path
 
@@ -97,6 +107,15 @@ class Server:
 
 
 @contextlib.contextmanager
+def reserved_port():
+    """A port at which nobody listens, and that the system gives to nobody. A server that begins to listen there may have it."""
+    with socket.socket() as it:
+        it.setsockopt(socket.SOL_SOCKET, socket.SO_REUSEADDR, 1)
+        it.bind(("127.0.0.1", 0))
+        yield it.getsockname()[1]
+
+
+@contextlib.contextmanager
 def listening(config, *words):
     """A server for many clients, which ends well."""
     run = [str(Given.listener), str(config), "127.0.0.1:0", *words]
@@ -111,11 +130,11 @@ def listening(config, *words):
 
 
 class Relay:
-    """Hands the frames of all clients to a server one by one, those with SLOW late, and speaks TLS to its own clients where it is given a
-    context."""
+    """Hands the frames of all clients to a server one by one, those with SLOW once its gate lets them go, and speaks TLS to its own clients
+    where it is given a context."""
 
-    def __init__(self, server, tls=None):
-        self.server, self.tls, self.turn = server, tls, threading.Lock()
+    def __init__(self, server, gate=None, tls=None):
+        self.server, self.gate, self.tls, self.turn = server, gate, tls, threading.Lock()
         self.listener = socket.create_server(("127.0.0.1", 0))
         self.port = self.listener.getsockname()[1]
         threading.Thread(target=self.accept, daemon=True).start()
@@ -140,7 +159,8 @@ class Relay:
                 while head := asked.read(4):
                     body = asked.read(int.from_bytes(head, "big"))
                     with self.turn:
-                        time.sleep(LATE if SLOW.encode() in body else 0)
+                        if self.gate and SLOW.encode() in body:
+                            self.gate.hold()
                         server.sendall(head + body)
                         head = answered.read(4)
                         reply = head + answered.read(int.from_bytes(head, "big"))
@@ -148,10 +168,32 @@ class Relay:
 
 
 @contextlib.contextmanager
-def late(config):
-    """A server that answers late to the texts that ask for it."""
-    with listening(config) as server, Relay(server) as relay:
+def late(config, folder):
+    """A server that answers some texts once they are let go. Its gate is in the folder."""
+    with listening(config) as server, Relay(server, Gate(folder)) as relay:
         yield relay
+
+
+@contextlib.contextmanager
+def interrupted(gate):
+    """Interrupts what runs, as Ctrl-C does, while a text waits at the gate, and then lets that go."""
+
+    def interrupt(*_):
+        gate.let_go()
+        raise KeyboardInterrupt
+
+    def watch():
+        if comes(lambda: gate.holds() or is_over.is_set()) and not is_over.is_set():
+            signal.pthread_kill(threading.main_thread().ident, signal.SIGALRM)
+
+    before, is_over, watcher = signal.signal(signal.SIGALRM, interrupt), threading.Event(), threading.Thread(target=watch)
+    watcher.start()
+    try:
+        yield
+    finally:
+        is_over.set()
+        watcher.join()
+        signal.signal(signal.SIGALRM, before)
 
 
 def shell(*words, text="", seconds=SECONDS, **variables):
@@ -208,20 +250,18 @@ class Terminal:
             return False
         return True
 
+    def wait_for_rest(self):
+        """Until the shell waits for a key: Python's readline misses an interrupt in the moment before. A shell that is about to run, or held up
+        by a busy machine, doesn't sleep."""
+        stat = Path(f"/proc/{self.child.pid}/stat")
+        assert comes(lambda: stat.read_text().rpartition(")")[2].split()[0] == "S"), "the shell doesn't wait for a key"
+
     def ended(self):
         """The status of the shell, once it has ended."""
         return self.child.wait(timeout=SECONDS)
 
 
 PROMPT = r"graphd> $"
-
-
-def comes(holds):
-    """Whether it comes to hold."""
-    until = time.monotonic() + SECONDS
-    while not holds() and time.monotonic() < until:
-        time.sleep(0.05)
-    return holds()
 
 
 def elements(port, token="a1"):

@@ -13,7 +13,8 @@ import dumps
 import graphd
 import journals
 from graphd_program import ROOT, program
-from journaled import SOON, Client, Given, Running, configuration, limit, tenant
+from journaled import Client, Given, Running, configuration, limit, tenant
+from machine import SECONDS
 
 COMPACT = [sys.executable, str(ROOT / "tools" / "graphd_compact")]
 WIDE = {"list": [], "mixed": [True, "a", -1, "é\n"], "least": -(2**63), "no": False, "one": 1, "text": "'\"`\\", "odd `key{}": ""}
@@ -288,7 +289,7 @@ def stop(config, journal, seconds):
     child = subprocess.Popen([*COMPACT, str(config), str(journal), "--program", named], stdout=subprocess.PIPE, stderr=subprocess.PIPE)
     time.sleep(seconds)
     child.kill()
-    child.communicate(timeout=SOON)
+    child.communicate(timeout=SECONDS)
 
 
 def cases():

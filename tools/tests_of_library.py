@@ -6,13 +6,12 @@ import io
 import json
 import pickle
 import re
+import select
 import shutil
-import signal
 import socket
 import struct
 import subprocess
 import threading
-import time
 import unittest
 
 import client_path  # (finds the package graphd)
@@ -20,23 +19,8 @@ import graphd
 import graphd.aio as aio
 from graphd.aio_waiting import within
 from graphd_program import ROOT
-from tests_of_clients import CONFIG, LATE, SECONDS, SLOW, Relay, command, folder, late, listening, slowed
-
-
-@contextlib.contextmanager
-def interrupted(seconds):
-    """Interrupts what runs after so many seconds, as Ctrl-C does."""
-
-    def interrupt(*_):
-        raise KeyboardInterrupt
-
-    before = signal.signal(signal.SIGALRM, interrupt)
-    signal.setitimer(signal.ITIMER_REAL, seconds)
-    try:
-        yield
-    finally:
-        signal.setitimer(signal.ITIMER_REAL, 0)
-        signal.signal(signal.SIGALRM, before)
+from machine import times_as_long
+from tests_of_clients import CONFIG, LATE, SECONDS, SLOW, Relay, comes, command, folder, interrupted, late, listening, reserved_port, slowed
 
 
 def in_threads(count, work):
@@ -57,6 +41,11 @@ def in_threads(count, work):
         if thread.is_alive():
             faults.append(TimeoutError("a thread still waits"))
     return faults
+
+
+async def it_comes(holds):
+    """Whether it comes to hold, while other tasks go on."""
+    return await asyncio.get_running_loop().run_in_executor(None, comes, holds)
 
 
 def echoes(session, number, times):
@@ -162,22 +151,24 @@ class Requests(unittest.TestCase):
         self.assertIsNone(graphd.fault_of("MATCH (n) RETURN $x", ["x"]))
 
     def test_faults_of_long_texts_are_told_soon(self):
-        began = time.process_time()
-        long = "a" * 30_000
+        # in time of their length: four times as long ones may take some four times as long
+        self.assertLessEqual(times_as_long(8, lambda: self.tell_faults(7_500), lambda: self.tell_faults(30_000)), 8)
+
+    def tell_faults(self, size):
+        long = "a" * size
         for text, code in [
-            ("RETURN " + "1 + " * 15_000 + "x", 9),
-            ("RETURN " + "1 + " * 7_000 + "1 AS a ORDER BY " + "1 + " * 7_000 + "x", 9),
+            ("RETURN " + "1 + " * (size // 2) + "x", 9),
+            ("RETURN " + "1 + " * (size // 4) + "1 AS a ORDER BY " + "1 + " * (size // 4) + "x", 9),
             (f"UNWIND [1] AS {long}b RETURN {long}c", 9),
             (f"RETURN {long}x(1)", 13),
             (f"RETURN 1 {long}", 7),
-            ("UNWIND [" + ", ".join(f"a{n}" for n in range(8_000)) + "] AS x RETURN 1", 9),
-            ("RETURN " + "[" * 60_000, 8),
-            ("RETURN '" + "a" * 60_000, 6),
-            ("RETURN " + "1" * 60_000, 6),
-            ("RETURN x" + ".y" * 30_000, 9),
+            ("UNWIND [" + ", ".join(f"a{n}" for n in range(size // 4)) + "] AS x RETURN 1", 9),
+            ("RETURN " + "[" * (2 * size), 8),
+            ("RETURN '" + "a" * (2 * size), 6),
+            ("RETURN " + "1" * (2 * size), 6),
+            ("RETURN x" + ".y" * size, 9),
         ]:
             self.assertEqual(graphd.fault_of(text).code, code, text[:40])
-        self.assertLess(time.process_time() - began, 20)
 
     def test_each_refusal_has_a_class(self):
         for code, kind in graphd.REFUSALS.items():
@@ -240,9 +231,7 @@ class Requests(unittest.TestCase):
 
 class Connections(unittest.TestCase):
     def test_no_server(self):
-        with socket.create_server(("127.0.0.1", 0)) as listener:
-            port = listener.getsockname()[1]
-        with self.assertRaises(graphd.NotSent):
+        with reserved_port() as port, self.assertRaises(graphd.NotSent):
             graphd.connect(port, "a1").status()
 
     def test_addresses(self):
@@ -264,14 +253,13 @@ class Connections(unittest.TestCase):
                 graphd.connect(listener.getsockname()[1], "a1").status()
 
     def test_a_server_that_starts_later_is_waited_for(self):
-        with socket.create_server(("127.0.0.1", 0)) as listener:
-            port = listener.getsockname()[1]
-        server = subprocess.Popen(["sh", "-c", 'sleep 0.7; exec "$@"', "", command()[0], "serve", str(CONFIG), str(port), "1"])
-        try:
-            self.assertEqual(graphd.connect(port, "a1", wait=20).status().elements, 0)
-        finally:
-            server.kill()
-            server.wait()
+        with reserved_port() as port:
+            server = subprocess.Popen(["sh", "-c", 'sleep 0.7; exec "$@"', "", command()[0], "serve", str(CONFIG), str(port), "1"])
+            try:
+                self.assertEqual(graphd.connect(port, "a1", wait=SECONDS).status().elements, 0)
+            finally:
+                server.kill()
+                server.wait()
 
     def test_threads_share_a_session(self):
         with graphd.start(command(), "a1") as graph:
@@ -287,20 +275,23 @@ class Connections(unittest.TestCase):
             self.assertLessEqual(server.sockets(), before + 3)
 
     def test_an_interrupt_leaves_no_reply_for_the_next_request(self):
-        with folder() as made, late(CONFIG) as server:
-            for opened in (lambda: graphd.connect(server.port, "a1"), lambda: graphd.start([str(slowed(made)), "run", str(CONFIG)], "a1")):
+        with folder() as made, late(CONFIG, made) as server:
+            for opened in (lambda: graphd.connect(server.port, "a1"), lambda: graphd.start([str(slowed(server.gate)), "run", str(CONFIG)], "a1")):
                 with opened() as graph:
-                    with self.assertRaises(KeyboardInterrupt), interrupted(0.4):
+                    with self.assertRaises(KeyboardInterrupt), interrupted(server.gate):
                         graph.query(f"RETURN 1 AS x {SLOW}")
                     self.assertEqual(graph.query("RETURN 2 AS x").value(), 2)
 
     def test_a_reply_that_takes_too_long(self):
-        with folder() as made, late(CONFIG) as server:
-            for graph in (graphd.connect(server.port, "a1", timeout=LATE / 3), graphd.start([str(slowed(made)), "run", str(CONFIG)], "a1", LATE / 3)):
+        with folder() as made, late(CONFIG, made) as server:
+            for graph in (graphd.connect(server.port, "a1"), graphd.start([str(slowed(server.gate)), "run", str(CONFIG)], "a1")):
                 with graph:
+                    graph.timeout = LATE
                     with self.assertRaises(graphd.TimedOut):
                         graph.query(f"RETURN 1 AS x {SLOW}")
-                    graph.timeout = 20
+                    self.assertTrue(comes(server.gate.holds))
+                    server.gate.let_go()
+                    graph.timeout = SECONDS
                     self.assertEqual(graph.query("RETURN 2 AS x").value(), 2)
 
     def test_a_connection_that_the_server_closed_is_opened_anew(self):
@@ -319,7 +310,8 @@ class Connections(unittest.TestCase):
             threading.Thread(target=serve, daemon=True).start()
             with graphd.connect(listener.getsockname()[1], "a1") as graph:
                 graph.create_index("A", "k")
-                time.sleep(0.2)
+                # until the end has come
+                self.assertTrue(select.select([graph._held.connection._socket], [], [], SECONDS)[0])
                 graph.create_index("B", "k")
             self.assertEqual([json.loads(body)["label"] for body in taken], ["A", "B"])
 
@@ -333,7 +325,7 @@ class Connections(unittest.TestCase):
 
             own = ssl.SSLContext(ssl.PROTOCOL_TLS_SERVER)
             own.load_cert_chain(certificate, key)
-            with listening(CONFIG) as plain, Relay(plain, own) as server:
+            with listening(CONFIG) as plain, Relay(plain, tls=own) as server:
                 trusted = ssl.create_default_context(cafile=str(certificate))
                 with graphd.connect(f"graphds://localhost:{server.port}", "a1", ssl=trusted) as graph:
                     self.assertEqual([graph.query("RETURN 1").value() for _ in range(3)], [1, 1, 1])
@@ -377,25 +369,32 @@ class Asyncio(unittest.TestCase):
             asyncio.run(talk(server.port))
 
     def test_what_is_cancelled_leaves_no_reply_for_the_next(self):
-        async def talk(graph):
+        async def talk(graph, gate):
             async with graph:
-                for late in (asyncio.wait_for(graph.query(f"RETURN 'late' AS x {SLOW}"), 0.3), self.timed_out(graph)):
-                    with self.assertRaises((asyncio.TimeoutError, graphd.TimedOut)):
+                for late in (self.cancelled(graph, gate), self.timed_out(graph)):
+                    with self.assertRaises((asyncio.CancelledError, graphd.TimedOut)):
                         await late
+                    self.assertTrue(await it_comes(gate.holds))
+                    gate.let_go()
                     self.assertEqual((await graph.query("RETURN 'soon' AS x")).value(), "soon")
 
-        with folder() as made:
-            program = slowed(made)
-            asyncio.run(talk(aio.start([str(program), "run", str(CONFIG)], "a1", timeout=30)))
-            with late(CONFIG) as server:
-                asyncio.run(talk(aio.connect(server.port, "a1", timeout=30)))
+        with folder() as made, late(CONFIG, made) as server:
+            program = slowed(server.gate)
+            asyncio.run(talk(aio.start([str(program), "run", str(CONFIG)], "a1", timeout=SECONDS), server.gate))
+            asyncio.run(talk(aio.connect(server.port, "a1", timeout=SECONDS), server.gate))
+
+    async def cancelled(self, graph, gate):
+        asks = asyncio.ensure_future(graph.query(f"RETURN 'late' AS x {SLOW}"))
+        self.assertTrue(await it_comes(gate.holds))
+        asks.cancel()
+        return await asks
 
     def test_what_is_cancelled_as_its_reply_comes_is_cancelled(self):
         async def talk():
             loop, dropped = asyncio.get_running_loop(), []
             for ends in (lambda reply, waits: reply.set_result(1), lambda reply, waits: None):
                 reply = loop.create_future()
-                waits = asyncio.ensure_future(within(reply, 30, dropped.append))
+                waits = asyncio.ensure_future(within(reply, SECONDS, dropped.append))
                 await asyncio.sleep(0)
                 ends(reply, waits)
                 waits.cancel()
@@ -403,11 +402,11 @@ class Asyncio(unittest.TestCase):
                     await waits
                 await asyncio.sleep(0)
                 self.assertEqual(dropped, [1])
-            self.assertEqual(await within(asyncio.sleep(0, 2), 30), 2)
+            self.assertEqual(await within(asyncio.sleep(0, 2), SECONDS), 2)
             with self.assertRaises(asyncio.TimeoutError):
                 await within(loop.create_future(), 0.01)
             with self.assertRaises(ZeroDivisionError):
-                await within(self.divided(), 30)
+                await within(self.divided(), SECONDS)
 
         asyncio.run(talk())
 
@@ -415,7 +414,7 @@ class Asyncio(unittest.TestCase):
         return 1 // 0
 
     async def timed_out(self, graph):
-        before, graph.timeout = graph.timeout, 0.3
+        before, graph.timeout = graph.timeout, LATE
         try:
             return await graph.query(f"RETURN 'late' AS x {SLOW}")
         finally:

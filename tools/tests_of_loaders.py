@@ -4,7 +4,6 @@ import importlib.util
 import inspect
 import io
 import json
-import socket
 import subprocess
 import sys
 import unittest
@@ -13,7 +12,7 @@ import unittest.mock
 import client_path  # (finds the package graphd)
 import graphd
 from graphd_program import ROOT
-from tests_of_clients import CONFIG, SECONDS, Given, environment, listening
+from tests_of_clients import CONFIG, SECONDS, Given, environment, listening, reserved_port
 
 
 class Exports(unittest.TestCase):
@@ -50,11 +49,10 @@ class Loaders(unittest.TestCase):
         return done.returncode, done.stdout, done.stderr
 
     def test_a_loader_waits_for_its_server(self):
-        with socket.create_server(("127.0.0.1", 0)) as listener:
-            port = listener.getsockname()[1]
-        server = f"{Given.listener} {ROOT}/examples/parts/config.json 127.0.0.1:{port}"
-        run = f'{server} >/dev/null & "$0" {ROOT}/examples/parts/load.py {port}; status=$?; kill $!; wait; exit $status'
-        done = subprocess.run(["sh", "-c", run, sys.executable], capture_output=True, text=True, timeout=SECONDS, env=environment())
+        with reserved_port() as port:
+            server = f"{Given.listener} {ROOT}/examples/parts/config.json 127.0.0.1:{port}"
+            run = f'{server} >/dev/null & "$0" {ROOT}/examples/parts/load.py {port}; status=$?; kill $!; wait; exit $status'
+            done = subprocess.run(["sh", "-c", run, sys.executable], capture_output=True, text=True, timeout=SECONDS, env=environment())
         self.assertEqual((done.returncode, done.stdout.splitlines()[-1]), (0, "353 elements"), done.stderr)
 
     def test_a_load_may_take_any_time(self):

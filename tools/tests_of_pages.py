@@ -7,8 +7,8 @@ import unittest
 import client_path  # (finds the package graphd)
 import graphd
 import graphd.aio as aio
-from tests_of_clients import SLOW, command, folder, late, listening
-from tests_of_library import in_threads, interrupted
+from tests_of_clients import SECONDS, SLOW, command, folder, interrupted, late, listening
+from tests_of_library import in_threads
 
 MOST_HELD = 20
 ROWS = "UNWIND range(1, $n) AS x RETURN x, 10 * x AS y"
@@ -214,8 +214,8 @@ class Streams(unittest.TestCase):
                 self.assertEqual([it["op"] for it in connection.asked], ["query", "drop_page", "drop_page", "query", "drop_page", "query"])
 
     def test_an_interrupt_while_a_page_comes(self):
-        with folder() as made, late(holding(made)) as server, graphd.connect(server.port, "a1") as graph:
-            with self.assertRaises(KeyboardInterrupt), interrupted(0.4):
+        with folder() as made, late(holding(made), made) as server, graphd.connect(server.port, "a1") as graph:
+            with self.assertRaises(KeyboardInterrupt), interrupted(server.gate):
                 next(graph.stream(f"RETURN 1 AS x {SLOW}"))
             self.assertEqual(numbers(graph.stream(ROWS, page=2, n=5)), [1, 2, 3, 4, 5])
 
@@ -303,7 +303,7 @@ async def whole_quota_of(session):
 
 async def comes_to(session):
     """Waits until the tenant holds no rows."""
-    until = time.monotonic() + 20
+    until = time.monotonic() + SECONDS
     while True:
         try:
             return await whole_quota_of(session)
@@ -375,14 +375,16 @@ class OfAsyncio(unittest.TestCase):
                 self.assertTrue(whole_quota(graphd.connect(server.port, "a1")))
 
     def test_a_stream_whose_task_is_cancelled_is_dropped(self):
-        async def read(graph):
+        async def read(graph, has_row):
             async for row in graph.stream(ROWS, page=3, n=23):
-                await asyncio.sleep(60)
+                has_row.set()
+                await asyncio.sleep(SECONDS)
 
         async def talk(port):
             async with aio.connect(port, "a1") as graph:
-                task = asyncio.ensure_future(read(graph))
-                await asyncio.sleep(0.2)
+                has_row = asyncio.Event()
+                task = asyncio.ensure_future(read(graph, has_row))
+                await asyncio.wait_for(has_row.wait(), SECONDS)
                 task.cancel()
                 with self.assertRaises(asyncio.CancelledError):
                     await task

@@ -6,13 +6,13 @@ import os
 import subprocess
 import sys
 import tempfile
-import time
 from pathlib import Path
 
 import client_path  # (finds the package graphd)
 from graphd.connections import MAX_BODY
 from graphd_program import ROOT, program
-from journaled import SOON, Client, Given, Running
+from journaled import Client, Given, Running
+from machine import SECONDS, comes
 from tables import safe
 from tests_of_compaction import compacted, limit, told_of
 from tests_of_names import MAKE, ODD, config_of, did, graph, journal_of, made, numbers, of, records_of, rewrite, tokens_of, without_name
@@ -252,13 +252,12 @@ def under_way(config, old, new):
     slow.chmod(0o700)
     word = os.open(gate, os.O_RDWR)
     child = subprocess.Popen([*REPLAY, str(config), str(old), str(new), "--program", str(slow)], stdout=subprocess.DEVNULL)
-    made, end = new.with_name(f"{new.name}.replaying") / "new", time.monotonic() + SOON
+    made = new.with_name(f"{new.name}.replaying") / "new"
     try:
-        while not made.exists() and child.poll() is None and time.monotonic() < end:
-            time.sleep(0.01)
+        comes(lambda: made.exists() or child.poll() is not None)
         yield child
         os.write(word, b"go\n")
-        child.wait(timeout=SOON)
+        child.wait(timeout=SECONDS)
     finally:
         os.close(word)
         child.kill()

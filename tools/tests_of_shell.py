@@ -7,7 +7,6 @@ import shutil
 import signal
 import subprocess
 import sys
-import time
 import unittest
 import unittest.mock
 
@@ -17,9 +16,10 @@ import graphd
 import replies
 import tables
 from graphd_program import ROOT
+from machine import times_as_long
 from statements import Open, Splitter, statements
 from terminal import completions
-from tests_of_clients import CONFIG, PROMPT, SECONDS, SHELL, SLOW, Given, Terminal, configuration, elements, environment, folder, late, listening, shell, slowed
+from tests_of_clients import CONFIG, PROMPT, SECONDS, SHELL, SLOW, Given, Terminal, comes, configuration, elements, environment, folder, late, listening, shell, slowed
 
 
 def texts(text):
@@ -58,15 +58,16 @@ class Statements(unittest.TestCase):
         self.assertEqual(len(found), 5)
 
     def test_long_lines_take_time_of_their_length(self):
-        began = time.process_time()
-        self.assertEqual(len(statements("RETURN 'a', \"b\" /* c */;" * 120_000)), 120_000)
-        self.assertLess(time.process_time() - began, 40)
+        def read(count):
+            self.assertEqual(len(statements("RETURN 'a', \"b\" /* c */;" * count)), count)
+
+        self.assertLessEqual(times_as_long(8, lambda: read(30_000), lambda: read(120_000)), 8)
 
     def test_long_texts_take_time_of_their_length(self):
         with folder() as made:
             file = made / "long.cypher"
             file.write_text("RETURN 1 AS x\n" + "//\n" * 16_000 + ";\n")
-            self.assertEqual(shell(CONFIG, "a1", "--file", file, seconds=60)[0], 0)
+            self.assertEqual(shell(CONFIG, "a1", "--file", file)[0], 0)
 
 
 class Scripts(unittest.TestCase):
@@ -180,7 +181,8 @@ class Scripts(unittest.TestCase):
     def test_a_broken_pipe_ends_the_run(self):
         with folder() as made, listening(configuration(made, 1)) as server:
             file = made / "many.cypher"
-            file.write_text("CREATE (n) RETURN n;\n" * 300)
+            # (more than a pipe takes that nobody reads)
+            file.write_text("CREATE (n) RETURN n, range(1, 900);\n" * 300)
             run = [*SHELL, "--port", str(server.port), "t0", "--file", str(file)]
             child = subprocess.Popen(run, stdout=subprocess.PIPE, stderr=subprocess.PIPE, env=environment())
             child.stdout.readline()
@@ -190,15 +192,16 @@ class Scripts(unittest.TestCase):
             self.assertLess(elements(server.port, "t0"), 250)
 
     def test_an_interrupt_of_a_file(self):
-        with folder() as made, late(CONFIG) as server:
+        with folder() as made, late(CONFIG, made) as server:
             file = made / "a.cypher"
             file.write_text(f"CREATE (:P);\nRETURN 1 AS x {SLOW};\nCREATE (:P);\n")
             run = [*SHELL, "--port", str(server.port), "a1", "--file", str(file)]
             child = subprocess.Popen(run, stdout=subprocess.PIPE, stderr=subprocess.PIPE, env=environment())
             child.stdout.readline()
-            time.sleep(0.3)
+            self.assertTrue(comes(server.gate.holds))
             child.send_signal(signal.SIGINT)
             told = child.communicate(timeout=SECONDS)[1].decode()
+            server.gate.let_go()
             self.assertEqual((child.returncode, elements(server.port)), (130, 1))
             self.assertIn("at statement 2; what the server has begun goes on", told)
 
@@ -365,23 +368,23 @@ class Typed(unittest.TestCase):
             typed.wait_for(PROMPT)
             typed.type("RETURN 'half")
             typed.wait_for("half")
-            # (Python's readline misses an interrupt in the moment before it waits for a key)
-            time.sleep(0.3)
+            typed.wait_for_rest()
             typed.type("\x03")
             typed.wait_for(PROMPT)
             typed.type("MATCH (n) RETURN count(n) AS count_of_n;\n")
             self.assertIn("\n1\r\n1 row", typed.wait_for(r"1 row, "))
 
     def test_an_interrupt_of_a_query_keeps_the_shell_and_the_graph(self):
-        with folder() as made, late(CONFIG) as server:
-            for words in ([CONFIG, "a1", "--program", slowed(made)], ["--port", server.port, "a1"]):
+        with folder() as made, late(CONFIG, made) as server:
+            for words in ([CONFIG, "a1", "--program", slowed(server.gate)], ["--port", server.port, "a1"]):
                 with Terminal(*words) as typed:
                     typed.wait_for(PROMPT)
                     typed.type(f"CREATE (n:P) RETURN 'first' AS x {SLOW};\n")
-                    time.sleep(0.5)
+                    self.assertTrue(comes(server.gate.holds))
                     typed.type("\x03")
                     typed.wait_for("stopped waiting: the request goes on in the server")
                     typed.wait_for(PROMPT)
+                    server.gate.let_go()
                     typed.type("MATCH (n) RETURN 'second', count(n) AS c;\n")
                     self.assertIn('"second" | 1', typed.wait_for(r"1 row, "))
 
@@ -404,10 +407,10 @@ class Typed(unittest.TestCase):
             self.assertEqual((typed.ended(), elements(server.port)), (0, 1))
 
     def test_an_interrupt_within_a_transaction(self):
-        with folder() as made, late(CONFIG) as server:
+        with folder() as made, late(CONFIG, made) as server:
             # over a connection it ends the transaction, and in a server of the shell's own it doesn't
             wanted = r"the transaction has ended with its connection[^>]*stopped waiting\r\ngraphd> $", r"stopped waiting: the request goes on[^>]*graphd\*> $"
-            for words, told, left in ((["--port", server.port, "a1"], wanted[0], 0), ([CONFIG, "a1", "--program", slowed(made)], wanted[1], 2)):
+            for words, told, left in ((["--port", server.port, "a1"], wanted[0], 0), ([CONFIG, "a1", "--program", slowed(server.gate)], wanted[1], 2)):
                 with Terminal(*words) as typed:
                     typed.wait_for(PROMPT)
                     typed.type(":begin\n")
@@ -415,9 +418,10 @@ class Typed(unittest.TestCase):
                     typed.type("CREATE (:P);\n")
                     typed.wait_for(r"graphd\*> $")
                     typed.type(f"CREATE (:P) {SLOW};\n")
-                    time.sleep(0.5)
+                    self.assertTrue(comes(server.gate.holds))
                     typed.type("\x03")
                     typed.wait_for(told)
+                    server.gate.let_go()
                     typed.type("MATCH (n) RETURN count(n) AS count_of_n;\n")
                     self.assertIn(f"\n{left}\r\n1 row", typed.wait_for(r"1 row, "))
 

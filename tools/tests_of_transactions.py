@@ -9,8 +9,8 @@ import unittest
 import client_path  # (finds the package graphd)
 import graphd
 import graphd.aio as aio
-from tests_of_clients import CONFIG, LATE, SECONDS, SLOW, comes, command, folder, late, listening, slowed
-from tests_of_library import in_threads, interrupted
+from tests_of_clients import CONFIG, LATE, SECONDS, SLOW, comes, command, folder, interrupted, late, listening, slowed
+from tests_of_library import in_threads, it_comes
 
 COUNT = "MATCH (n) RETURN count(n) AS c"
 
@@ -147,11 +147,13 @@ class Transactions(unittest.TestCase):
 
     def test_other_threads_wait_no_longer_than_for_a_reply(self):
         with listening(CONFIG) as server:
-            for graph in (graphd.connect(server.port, "a1", timeout=0.3), graphd.pool(server.port, "a1", size=2, timeout=0.3)):
+            for graph in (graphd.connect(server.port, "a1"), graphd.pool(server.port, "a1", size=2)):
                 faults = []
                 with graph.transaction():
+                    graph.timeout = 0.3
                     faults = in_threads(2, lambda number: graph.query("CREATE (:P)"))
                     faults += in_threads(1, lambda number: graph.transaction().__enter__())
+                    graph.timeout = SECONDS
                 self.assertEqual([type(fault) for fault in faults], [graphd.NotSent] * 3)
                 self.assertEqual(count(graph), 0)
 
@@ -259,19 +261,22 @@ class Transactions(unittest.TestCase):
             self.assertEqual(found, ["begin", "begin", "begin", "rollback", "R", "S"])
 
     def test_a_reply_that_takes_too_long_within(self):
-        with folder() as made, late(CONFIG) as server:
-            for graph in (graphd.connect(server.port, "a1", timeout=LATE / 3), graphd.start([str(slowed(made)), "run", str(CONFIG)], "a1", LATE / 3)):
+        with folder() as made, late(CONFIG, made) as server:
+            for graph in (graphd.connect(server.port, "a1"), graphd.start([str(slowed(server.gate)), "run", str(CONFIG)], "a1")):
                 with graph:
                     with self.assertRaises(graphd.TimedOut), graph.transaction():
+                        graph.timeout = LATE
                         graph.query(f"CREATE (:P) {SLOW}")
+                    self.assertTrue(comes(server.gate.holds))
+                    server.gate.let_go()
                     graph.timeout = SECONDS
                     self.assertTrue(comes(lambda: count(graph) == 0))
 
     def test_an_interrupt_within(self):
-        with folder() as made, late(CONFIG) as server:
-            for graph in (graphd.connect(server.port, "a1"), graphd.start([str(slowed(made)), "run", str(CONFIG)], "a1")):
+        with folder() as made, late(CONFIG, made) as server:
+            for graph in (graphd.connect(server.port, "a1"), graphd.start([str(slowed(server.gate)), "run", str(CONFIG)], "a1")):
                 with graph:
-                    with self.assertRaises(KeyboardInterrupt), interrupted(0.4), graph.transaction():
+                    with self.assertRaises(KeyboardInterrupt), interrupted(server.gate), graph.transaction():
                         graph.query("CREATE (:P)")
                         graph.query(f"CREATE (:P) {SLOW}")
                     self.assertTrue(comes(lambda: count(graph) == 0))
@@ -287,13 +292,13 @@ async def count_of(session):
 class Asyncio(unittest.TestCase):
     """The same, awaited."""
 
-    def over_each(self, talk, **words):
+    def over_each(self, talk):
         """Awaits the talk over a session that connects for each request, one that holds a connection, and a pool."""
         async def run(port):
-            await talk(aio.connect(port, "a1", **words))
-            async with aio.connect(port, "a1", **words) as graph:
+            await talk(aio.connect(port, "a1"))
+            async with aio.connect(port, "a1") as graph:
                 await talk(graph)
-            async with aio.pool(port, "a1", size=3, **words) as graph:
+            async with aio.pool(port, "a1", size=3) as graph:
                 await talk(graph)
 
         with listening(CONFIG) as server:
@@ -386,12 +391,14 @@ class Asyncio(unittest.TestCase):
 
             tasks = [asyncio.ensure_future(behind(work)) for work in (asked, asked, begun)]
             async with graph.transaction():
+                graph.timeout = 0.3
                 waiting.set()
                 done = await asyncio.gather(*tasks, return_exceptions=True)
+                graph.timeout = SECONDS
             self.assertEqual([type(fault) for fault in done], [graphd.NotSent] * 3)
             self.assertEqual(await count_of(graph), 0)
 
-        self.over_each(talk, timeout=0.3)
+        self.over_each(talk)
 
     def test_tasks_have_transactions_one_after_the_other(self):
         async def work(graph):
@@ -413,17 +420,24 @@ class Asyncio(unittest.TestCase):
         self.over_each(talk)
 
     def test_what_is_cancelled_is_rolled_back(self):
-        async def work(graph, text):
+        async def work(graph, text, asked):
             async with graph.transaction():
                 await graph.query("CREATE (:P)")
                 await graph.query(text)
+                asked.set()
                 await asyncio.sleep(SECONDS)
 
-        async def talk(graph):
+        async def talk(graph, gate):
             async with graph:
                 for text in ("CREATE (:Q)", f"CREATE (:Q) {SLOW}"):
-                    with self.assertRaises(asyncio.TimeoutError):
-                        await asyncio.wait_for(work(graph, text), 0.4)
+                    asked = asyncio.Event()
+                    works = asyncio.ensure_future(work(graph, text, asked))
+                    self.assertTrue(await it_comes(lambda: asked.is_set() or gate.holds()))
+                    works.cancel()
+                    await asyncio.wait({works}, timeout=LATE)
+                    gate.let_go()
+                    with self.assertRaises(asyncio.CancelledError):
+                        await works
                     until = time.monotonic() + SECONDS
                     while await count_of(graph) and time.monotonic() < until:
                         await asyncio.sleep(0.05)
@@ -433,9 +447,9 @@ class Asyncio(unittest.TestCase):
                 self.assertEqual(await count_of(graph), 1)
                 await graph.query("MATCH (n) DELETE n")
 
-        with folder() as made, late(CONFIG) as server:
-            for graph in (aio.connect(server.port, "a1"), aio.pool(server.port, "a1", size=2), aio.start([str(slowed(made)), "run", str(CONFIG)], "a1")):
-                asyncio.run(talk(graph))
+        with folder() as made, late(CONFIG, made) as server:
+            for graph in (aio.connect(server.port, "a1"), aio.pool(server.port, "a1", size=2), aio.start([str(slowed(server.gate)), "run", str(CONFIG)], "a1")):
+                asyncio.run(talk(graph, server.gate))
 
     def test_a_connection_that_ends_within(self):
         async def talk(graph):

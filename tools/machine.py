@@ -74,9 +74,20 @@ def ended_if_they_hang(pids):
 
 
 def processor_seconds(pid):
-    """The seconds of processor time that a process has had."""
+    """The seconds of processor time that a process has had; of one that runs, as of some milliseconds ago."""
     # (the processor clock of a process, which Python has no name for; /proc tells the same in steps of 10 ms)
     return time.clock_gettime(~pid << 3 | 2)
+
+
+def state_of(pid):
+    """The letter by which the system tells what a process does: R where it runs or is to run, S where it waits."""
+    return Path(f"/proc/{pid}/stat").read_text().rpartition(")")[2].split()[0]
+
+
+def seconds_at_rest(pid):
+    """The seconds of processor time that a process has had, exactly, once it waits: it may be at work still when its reply is there."""
+    comes(lambda: state_of(pid) != "R", 0)
+    return processor_seconds(pid)
 
 
 def with_started(pid):

@@ -6,7 +6,7 @@ import subprocess
 from pathlib import Path
 
 from graphd_program import Failed
-from machine import own_bytes, processor_seconds
+from machine import own_bytes, seconds_at_rest
 
 
 def body(token, text, parameters=None, page=None):
@@ -61,7 +61,7 @@ class Run:
 
     def seconds(self):
         """The processor time that it has had."""
-        return processor_seconds(self.child.pid)
+        return seconds_at_rest(self.child.pid)
 
     def own_bytes(self):
         return own_bytes(self.child.pid)

@@ -20,7 +20,7 @@ import graphd
 import graphd.aio_transactions
 import graphd.transactions
 from graphd_program import ROOT
-from machine import SECONDS, Gate, comes
+from machine import SECONDS, Gate, comes, state_of
 
 CONFIG = ROOT / "examples" / "first.json"
 SHELL = [sys.executable, str(ROOT / "tools" / "graphsh")]
@@ -253,8 +253,7 @@ class Terminal:
     def wait_for_rest(self):
         """Until the shell waits for a key: Python's readline misses an interrupt in the moment before. A shell that is about to run, or held up
         by a busy machine, doesn't sleep."""
-        stat = Path(f"/proc/{self.child.pid}/stat")
-        assert comes(lambda: stat.read_text().rpartition(")")[2].split()[0] == "S"), "the shell doesn't wait for a key"
+        assert comes(lambda: state_of(self.child.pid) == "S"), "the shell doesn't wait for a key"
 
     def ended(self):
         """The status of the shell, once it has ended."""

@@ -104,6 +104,6 @@ def with_started(pid):
 
 def own_bytes(pid):
     """The bytes of memory that a process has for itself, also where they were put out to the disk. What it has of files isn't counted, since
-    the system takes it and gives it back as it likes. (What /proc tells as VmRSS is counted roughly, with other systems' versions.)"""
+    the system takes it and gives it back as it likes. (VmRSS has that too, and some versions of the system count it roughly.)"""
     told = Path(f"/proc/{pid}/smaps_rollup").read_text()
     return 1024 * sum(int(re.search(rf"^{word}: +(\d+) kB", told, re.MULTILINE)[1]) for word in ("Anonymous", "Swap"))

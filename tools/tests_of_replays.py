@@ -277,8 +277,10 @@ def of_one_client():
         more = [*[("t2", act) for act in of_pages], *made(1, "t2"), ("t2", page), ("t2", {"op": "pull", "page": 3}), ("t2", "begin")]
         yield "another token goes on with them", set(did(then, old, [*more, ("t2", "CREATE (:N {i: 9})"), ("t2", "commit")])), {0}
         wanted = graph(then, old, "t2")
+        yield "a start with a new token before it", graph(last, old, "t3"), wanted
         with Running(last, old) as server:
-            yield "a start with a new token before it stops", server.ended()[0], 5
+            found = Client(server.port, "t3").asks("pull", page=1).get("rows"), Client(server.port, "t2").asks("pull", page=3).get("rows")
+            yield "where each holds its pages", found, ([[5], [6]], [[5], [6]])
         yield "they are asked anew", told_of(replayed(last, old), f"{len(records_of(old))} requests asked, 0 answered otherwise"), (0, [])
         yield "which leads to the same graph", (graph(last, new, "t2") == wanted, numbers(last, new, "b1")), (True, [[]])
         shown = [json.loads(it.body)["token"] for it in records_of(new) if it.tenant == b"a"]

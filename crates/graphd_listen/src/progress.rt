@@ -32,10 +32,10 @@ impl<'a> Progress<'a> {
         }
     }
 
-    /// Tells which tenants are gone.
+    /// Tells which tenants are gone. A name is escaped as in Rust's texts, so none can look like a line of its own.
     pub(crate) fn tell(&self) {
         for one in &self.gone {
-            let (name, requests) = (one.name.as_str(), one.requests);
+            let (name, requests) = (one.name.as_str().escape_debug(), one.requests);
             let _ = println!(self.rt;
                 "graphd_listen: tenant {name} is not in the configuration: {requests} requests of it stay in the journal"
             );

@@ -1,13 +1,15 @@
 -- What is answered again leads every tenant to where it was led before.
-use Rattle.std.proofs.Common.{◌≡◌, inl, inr, ℕ, suc, ◌+◌, Bool, true, false, ◌&&◌, not, List, [], ◌∷◌, ◌++◌, Option, Some, None, get_or, refl, sym, ap, ◌∙◌, subst, append_assoc, append-nil, cond}
+use Rattle.std.proofs.Common.{◌≡◌, inl, inr, ℕ, suc, ◌+◌, Bool, true, false, ◌&&◌, ◌==◌, not, List, [], ◌∷◌, ◌++◌, Option, Some, None, get_or, refl, sym, ap, ◌∙◌, subst, append_assoc, append-nil, cond, arith}
 use Rattle.std.proofs.lemmas.Iterator.Adapters.{position_from-zero}
+use Rattle.std.proofs.lemmas.List.Quantifiers.{position-Some}
 use Rattle.std.specs.List.{position_from}
-use Rattle.std.specs.Prelude.{option_and_then}
+use Rattle.std.proofs.lemmas.Bool.Decides.{nat_tests}
+use Rattle.std.specs.Prelude.{option_and_then, option_map, unwrap_or}
 use Rattle.pg_journal.specs.Reading.{Replayed}
 use Rattle.pg_journal.specs.Records.{Kept}
 use Rattle.pg_listen.specs.Courses.{Course}
 use Rattle.pg_listen.specs.Events.{Event, received, answered, sent, by_server, settling}
-use Rattle.pg_json.specs.Requests.{token_of}
+use Rattle.pg_json.specs.Requests.{Request, token_of}
 use Rattle.pg_listen.specs.Keeping.{IsKeptOf, Again, AnswersFor, AnswersNamed, IsReplyOf, name_of, place_named, record_of}
 use Rattle.pg_listen.proofs.RefusalLemmas.{not_wanting}
 use Rattle.pg_meaning.specs.declared.fault.Fault.TheVariants.{OutOfMemory}
@@ -15,10 +17,16 @@ use Rattle.pg_listen.specs.Moments.{Moment, AnswersKept, SettlesKept, IsWritten,
 use Rattle.pg_server.specs.Exchange.{Exchange}
 use Rattle.pg_meaning.specs.Names.{is_among}
 use Rattle.pg_server.proofs.TenantNameLemmas.{named_once}
-use Rattle.pg_server.specs.Handles.{Handles, tenant_asked}
+use Rattle.pg_server.proofs.TransactionLemmas.{answered_alone}
+use Rattle.pg_server.specs.Handles.{Handles, is_at, own_token, tenant_asked, token_for}
 use Rattle.pg_server.specs.Runs.{asked, shows_one_of, is_want_of_memory, own, requests_of, TwoWorlds}
 use Rattle.pg_server.specs.State.{ServerState, state_at, state_in}
 use Rattle.pg_server.specs.Step.{place_of}
+use Rattle.pg_tenant.proofs.HolderLemmas.{holders_ask}
+use Rattle.pg_tenant.specs.Changes.{IsNoRefusal, may_change}
+use Rattle.pg_tenant.specs.Holders.{holder_of}
+use Rattle.pg_tenant.specs.Settings.{standing_token}
+use Rattle.pg_tenant.specs.Solo.{solo}
 use Rattle.pg_tenant.specs.State.{State, no_state, tokens_of}
 use Rattle.pg_value.specs.Texts.{comes_again}
 
@@ -79,27 +87,63 @@ same_place token xs ys alike =
     let shown : State → Bool = λ s. is_among (tokens_of s) token in
     position_from-zero shown xs ∙ same_first shown refl 0 xs ys alike ∙ sym (position_from-zero shown ys)
 
-same_tenant : (old' old : ServerState) (body : List ℕ) → AreAlike old' old → tenant_asked old'.tenants body ≡ tenant_asked old.tenants body
-same_tenant old' old body alike = ap (λ (f : List ℕ → Option ℕ). option_and_then (λ request. f (token_of request)) (asked body)) (λ i token. same_place token old'.tenants old.tenants alike i)
+itself : (t : ℕ) → (t == t) ≡ true
+itself t = grind (arith, nat_tests)
+
+-- what may change a tenant is a request
+is_asked : (o : Option Request) → option_map may_change o ≡ Some true → (request : Request) × (o ≡ Some request)
+is_asked None is = absurd (cc)
+is_asked (Some request) is = (request, refl)
+
+-- ---- with which token a request is asked again
+
+-- what was done showed the token with which its tenant asks it
+module _ (old old' new : ServerState) (body reply : List ℕ) (t : ℕ) (handles : Handles old body reply new) (is_done : IsNoRefusal reply) (asks : tenant_asked old.tenants body ≡ Some t) (alike : AreAlike old' old) where
+  shows_own : (request : Request) → asked body ≡ Some request → token_for t old'.tenants request ≡ token_of request
+  shows_own request is = by_holder (holder_of (state_in old'.tenants t) request) refl
+    where
+      here : place_of (token_of request) old.tenants ≡ Some t
+      here = ap (λ o. option_and_then (λ r. place_of (token_of r) old.tenants) o) (sym is) ∙ asks
+
+      mine : is_among (tokens_of (state_at old t)) (token_of request) ≡ true
+      mine = (position-Some (λ (s : State). is_among (tokens_of s) (token_of request)) old.tenants t no_state here).1
+
+      answer : reply ≡ (solo (state_at old t) request).reply
+      answer = answered_alone old new (record { body = body; reply = reply }) request t handles.run is mine (is_done OutOfMemory)
+
+      there : place_of (token_of request) old'.tenants ≡ Some t
+      there = same_place (token_of request) old'.tenants old.tenants alike ∙ here
+
+      by_holder : (o : Option (List ℕ)) → holder_of (state_in old'.tenants t) request ≡ o → token_for t old'.tenants request ≡ token_of request
+      by_holder (Some token) holds =
+          ap (λ o. unwrap_or o (own_token t old'.tenants (token_of request))) holds
+          ∙ holders_ask (state_at old t) request token (subst IsNoRefusal answer is_done) (ap (λ s. holder_of s request) (sym (alike t)) ∙ holds)
+      by_holder None none =
+          ap (λ o. unwrap_or o (own_token t old'.tenants (token_of request))) none
+          ∙ ap (λ o. cond (is_at t o) (token_of request) (standing_token (state_in old'.tenants t).settings)) there
+          ∙ ap (λ b. cond b (token_of request) (standing_token (state_in old'.tenants t).settings)) (itself t)
 
 -- what was kept with the name of its tenant is answered as by `handle`
-named_again : (names : List (List ℕ)) (tenant : List ℕ) (t : ℕ) (old new : ServerState) (body : List ℕ) (reply : Option (List ℕ)) → comes_again [] names ≡ false → get_or names t [] ≡ tenant → tenant_asked old.tenants body ≡ Some t
-    → AnswersNamed names tenant old body reply new → (r : List ℕ) × (reply ≡ Some r) × Handles old body r new
-named_again names [] t old new body None once is asks answers = absurd answers
-named_again names [] t old new body (Some r) once is asks answers = (r, refl, answers)
-named_again names (x ∷ xs) t old new body reply once is asks answers =
+abbrev ShowsOwn : ℕ → ServerState → List ℕ → Type 0
+ShowsOwn t server body = (request : Request) → asked body ≡ Some request → token_for t server.tenants request ≡ token_of request
+
+named_again : (names : List (List ℕ)) (tenant : List ℕ) (t : ℕ) (old new : ServerState) (body : List ℕ) (reply : Option (List ℕ)) → comes_again [] names ≡ false → get_or names t [] ≡ tenant
+    → (request : Request) → asked body ≡ Some request → ShowsOwn t old body → AnswersNamed names tenant old body reply new → (r : List ℕ) × (reply ≡ Some r) × Handles old body r new
+named_again names [] t old new body None once is request asks shows answers = absurd answers
+named_again names [] t old new body (Some r) once is request asks shows answers = (r, refl, answers)
+named_again names (x ∷ xs) t old new body reply once is request asks shows answers =
     let place : place_named names (x ∷ xs) ≡ Some t = subst (λ n. place_named names n ≡ Some t) is (named_once names t x xs once is) in
     by_reply reply (subst (λ o. AnswersFor o old body reply new) place answers)
   where
     by_reply : (reply : Option (List ℕ)) → AnswersFor (Some t) old body reply new → (r : List ℕ) × (reply ≡ Some r) × Handles old body r new
     by_reply None answers = absurd answers
-    by_reply (Some r) answers = (r, refl, answers.own asks)
+    by_reply (Some r) answers = (r, refl, answers.own request asks (shows request asks))
 
-kept_again : (names : List (List ℕ)) (o : Option ℕ) (old new : ServerState) (body : List ℕ) (reply : Option (List ℕ)) → comes_again [] names ≡ false → tenant_asked old.tenants body ≡ o
-    → AnswersNamed names (name_of names o) old body reply new → (r : List ℕ) × (reply ≡ Some r) × Handles old body r new
-kept_again names None old new body None once asks answers = absurd answers
-kept_again names None old new body (Some r) once asks answers = (r, refl, answers)
-kept_again names (Some t) old new body reply once asks answers = named_again names (get_or names t []) t old new body reply once refl asks answers
+kept_again : (names : List (List ℕ)) (o : Option ℕ) (old new : ServerState) (body : List ℕ) (reply : Option (List ℕ)) → comes_again [] names ≡ false
+    → (request : Request) → asked body ≡ Some request → ((t : ℕ) → o ≡ Some t → ShowsOwn t old body) → AnswersNamed names (name_of names o) old body reply new → (r : List ℕ) × (reply ≡ Some r) × Handles old body r new
+kept_again names None old new body None once request asks shows answers = absurd answers
+kept_again names None old new body (Some r) once request asks shows answers = (r, refl, answers)
+kept_again names (Some t) old new body reply once request asks shows answers = named_again names (get_or names t []) t old new body reply once refl request asks (shows t refl) answers
 
 module _ (two : TwoWorlds) {D : Type 0} where
   by_kind : (old : Moment D) (body reply : List ℕ) (new : Moment D) → comes_again [] old.names ≡ false → Handles old.server body reply new.server → (more : List Kept) → IsKeptOf old.names old.server body reply new.server more
@@ -110,7 +154,9 @@ module _ (two : TwoWorlds) {D : Type 0} where
     λ old' new' alike replayed.
         let one = subst (λ (l : List Kept). Replayed (Again old.names) old' l new') is.0 replayed in
         let again = one.1 in
-        let r = kept_again old.names (tenant_asked old.server.tenants body) old' one.0 body again.0 once (same_tenant old' old.server body alike) again.1 in
+        let request = is_asked (asked body) is.2 in
+        let r = kept_again old.names (tenant_asked old.server.tenants body) old' one.0 body again.0 once request.0 request.1
+        (λ t asks. shows_own old.server old' new.server body reply t handles is.1 asks alike) again.1 in
         let same = subst (IsReplyOf (record_of (name_of old.names (tenant_asked old.server.tenants body)) body reply)) r.1 again.2 in
         subst (λ s. AreAlike s new.server) (sym one.2) (alike_after two old.server new.server old' one.0 body reply r.0 handles r.2 (not_wanting reply (is.1 OutOfMemory)) same.0 alike),
   )

@@ -6,6 +6,7 @@ use Rattle.std.proofs.lemmas.List.Elements.{All-head, All-tail}
 use Rattle.std.proofs.lemmas.List.Sums.{sum-map, sum_by_push}
 use Rattle.std.proofs.lemmas.List.{map-append}
 use Rattle.std.proofs.lemmas.Map.{keys-set_value}
+use Rattle.std.proofs.lemmas.Slice.Eq.{bytes_eq-Decides}
 use Rattle.std.proofs.lemmas.Map.Entries.{sum_by-remove_entry, sum_by-set_value}
 use Rattle.std.proofs.lemmas.Map.Keys.{sorted_head, sorted_tail}
 use Rattle.std.proofs.lemmas.Map.Views.{All-keys-insert_entry, All-map-remove_entry}
@@ -22,7 +23,7 @@ use Rattle.pg_meaning.specs.Meters.{greatest_id}
 use Rattle.pg_meaning.specs.declared.fault.Fault.{Fault}
 use Rattle.pg_meaning.specs.declared.fault.Fault.TheVariants.{NoSuchPage}
 use Rattle.pg_pages.specs.Held as held
-use Rattle.pg_pages.specs.Held.{Held, held_rows, page_of, with_rows, without_page}
+use Rattle.pg_pages.specs.Held.{Held, held_rows, page_of, puller_of, with_rows, without_page}
 use Rattle.pg_pages.specs.Kept.{AreKept, shown}
 use Rattle.pg_pages.specs.declared.pages.Page.{Page}
 
@@ -240,6 +241,45 @@ page_of_other token n next p es h view s here other =
 pub no_page : (token : List ℕ) (n next : ℕ) (es : List (ℕ × Page)) (h : Held) → held_of es next ≡ h → IsStrictlySortedBy nat_cmp (keys_of es)
     → lookup (is_at (nat_cmp n)) es ≡ None → page_of h token n ≡ Err NoSuchPage
 no_page token n next es h view s absent = is_owned_page token n next es h view s ∙ ap (λ (o : Option Page). owned token n o) absent
+
+-- ---- who may pull a page
+
+abbrev is_numbered : ℕ → held.Page → Bool
+is_numbered n p = nat_eq p.number n
+
+none_numbered : (n : ℕ) (es : List (ℕ × Page)) → IsBefore n es → find (is_numbered n) (map shown es) ≡ None
+none_numbered n [] h = refl
+none_numbered n (e ∷ es) h = rw (less_is_other n e.0 h.0) (none_numbered n es h.1)
+
+abbrev token_shown : held.Page → List ℕ
+token_shown p = p.token
+
+numbered : (n : ℕ) (es : List (ℕ × Page)) → IsStrictlySortedBy nat_cmp (keys_of es) → option_map token_shown (find (is_numbered n) (map shown es)) ≡ option_map (λ (p : Page). string_bytes p.token) (lookup (is_at (nat_cmp n)) es)
+numbered n [] s = refl
+numbered n ((m, p) ∷ es) s = elim (cases_eq m n) [
+  | inl same ↦ subst (λ (k : ℕ). option_map token_shown (find (is_numbered k) (map shown ((m, p) ∷ es))) ≡ option_map (λ (q : Page). string_bytes q.token) (lookup (is_at (nat_cmp k)) ((m, p) ∷ es))) same
+      (rw (at_itself m, named_itself m) refl)
+  | inr ne ↦ rw (at_other n m ne, named_other n m ne) (numbered n es (sorted_tail nat_cmp m (keys_of es) s))
+]
+
+by_owner : (token : List ℕ) (n : ℕ) (o : Option Page)
+    → (elim (owned token n o) [ Ok p ↦ Some token | Err fault ↦ option_map (λ (p : Page). string_bytes p.token) o ]) ≡ option_map (λ (p : Page). string_bytes p.token) o
+by_owner token n None = refl
+by_owner token n (Some p) = by_test (bytes_eq (string_bytes p.token) token) refl
+  where
+    by_test : (b : Bool) → bytes_eq (string_bytes p.token) token ≡ b
+        → (elim (cond b (Ok (shown (n, p))) (Err NoSuchPage)) [ Ok p ↦ Some token | Err fault ↦ Some (string_bytes p.token) ]) ≡ Some (string_bytes p.token)
+    by_test true same = ap Some (sym ((bytes_eq-Decides (string_bytes p.token) token).0 same))
+    by_test false other = refl
+
+-- the token of the entry of a number
+pub puller_there : (token : List ℕ) (n next : ℕ) (es : List (ℕ × Page)) (h : Held) → held_of es next ≡ h → IsStrictlySortedBy nat_cmp (keys_of es)
+    → option_map (λ (p : Page). string_bytes p.token) (lookup (is_at (nat_cmp n)) es) ≡ puller_of h token n
+puller_there token n next es h view s =
+    sym (by_owner token n (lookup (is_at (nat_cmp n)) es))
+    ∙ ap (λ (r : Result held.Page Fault). elim r [ Ok p ↦ Some token | Err fault ↦ option_map (λ (p : Page). string_bytes p.token) (lookup (is_at (nat_cmp n)) es) ]) (sym (found token n next es s))
+    ∙ ap (λ (o : Option (List ℕ)). elim (page_of (held_of es next) token n) [ Ok p ↦ Some token | Err fault ↦ o ]) (sym (numbered n es s))
+    ∙ ap (λ (g : Held). puller_of g token n) view
 
 is_page : (b : Bool) (x p : held.Page) → cond b (Ok x) (Err NoSuchPage) ≡ Ok p → x ≡ p
 is_page true x p e = cc

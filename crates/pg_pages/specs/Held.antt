@@ -1,5 +1,5 @@
 -- Rows of queries that wait to be pulled, each as it was printed: what holds them, what a pull gives and what it leaves.
-use Rattle.std.specs.Prelude.{ℕ, ◌+◌, sum, nat_le, nat_lt, nat_eq, not, ◌&&◌, List, [], ◌∷◌, ◌++◌, length, map, filter, find, take, drop, Option, Some, None, Result, Ok, Err, if◌then◌else◌}
+use Rattle.std.specs.Prelude.{ℕ, ◌+◌, sum, nat_le, nat_lt, nat_eq, not, ◌&&◌, List, [], ◌∷◌, ◌++◌, length, map, filter, find, take, drop, Option, Some, None, option_map, Result, Ok, Err, if◌then◌else◌}
 use Rattle.std.specs.Str.{bytes_eq}
 use Rattle.serde_json.specs.Data.{Items}
 use Rattle.pg_json.specs.Pages.{paged_text, pulled_text}
@@ -49,6 +49,13 @@ first_page held max_held token size columns rows steps = do
 -- the page of this number, if it is the token's
 abbrev pub page_of : Held → (token : List ℕ) → (number : ℕ) → Result Page Fault
 page_of held token number = elim (find (λ p. nat_eq p.number number && bytes_eq p.token token) held.pages) [ Some p ↦ Ok p | None ↦ Err NoSuchPage ]
+
+-- the token that may pull the page of this number: this one, where the page is its, or else the one that it is held for
+abbrev pub puller_of : Held → (token : List ℕ) → (number : ℕ) → Option (List ℕ)
+puller_of held token number = elim (page_of held token number) [
+  | Ok p ↦ Some token
+  | Err fault ↦ option_map (λ p. p.token) (find (λ p. nat_eq p.number number) held.pages)
+]
 
 abbrev pub without_page : ℕ → List Page → List Page
 without_page number pages = filter (λ p. not (nat_eq p.number number)) pages

@@ -1,10 +1,10 @@
 //! Held rows by the numbers of their pages.
-ghost use Rattle.std.specs.Prelude.{◌≡◌, ◌≢◌, ◌<◌, ◌≤◌, ◌^◌, ◌+◌, ℕ, List, [], ◌∷◌, ◌++◌, string_bytes, length, map, drop, true, Ok, Err, OnOk, OnErr, IfErr, MatchResult};
+ghost use Rattle.std.specs.Prelude.{◌≡◌, ◌≢◌, ◌<◌, ◌≤◌, ◌^◌, ◌+◌, ℕ, List, [], ◌∷◌, ◌++◌, string_bytes, length, map, drop, true, Ok, Err, OnOk, OnErr, IfErr, MatchResult, option_map};
 ghost use Rattle.pg_json.specs.Pages.{query_text, row_text};
 ghost use Rattle.pg_meaning.specs.Meters.{greatest_id};
 ghost use Rattle.pg_meaning.specs.declared.fault.Fault.TheVariants.{OutOfMemory};
 ghost use Rattle.pg_pages.specs.Gives.{GivesHeld, LeavesHeld};
-ghost use Rattle.pg_pages.specs.Held.{Held, dropped, first_page, held_rows, no_pages, page_of, pulled, with_rows, without_page};
+ghost use Rattle.pg_pages.specs.Held.{Held, dropped, first_page, held_rows, no_pages, page_of, pulled, puller_of, with_rows, without_page};
 ghost use Rattle.pg_pages.specs.Held as held;
 ghost use Rattle.pg_pages.specs.Kept.{held_more, number_for, shown};
 ghost use Rattle.serde_json.specs.Data.{Items};
@@ -115,6 +115,17 @@ impl Pages {
         self.page(token, number)?;
         self.remove(number);
         Ok(())
+    }
+
+    /// The token that may pull the page of this number, if there is one.
+    pub fn puller(&self, number: u64) -> Option<&str>
+        ensures { (token : List ℕ) → option_map (λ t. t.now) result
+            ≡ puller_of self.now token number }
+    {
+        match self.by_number.get(&number) {
+            Some(page) => Some(page.token.as_str()),
+            None => None,
+        }
     }
 
     /// The number of the next page, if so many rows more may be held.

@@ -1,14 +1,13 @@
 -- One call of `handle`: each tenant's run, and what becomes of the cache of plans and of the names.
-use Rattle.std.proofs.Common.{◌≡◌, ◌≢◌, Option, ℕ, ◌==◌, List, [], Bool, true, false, cond, Some, None, inl, inr, refl, sym, ap, ◌∙◌, subst, arith}
-use Rattle.std.proofs.lemmas.Bool.Decides.{nat_tests}
+use Rattle.std.proofs.Common.{◌≡◌, ◌≢◌, Option, ℕ, List, [], Bool, true, false, cond, Some, None, inl, inr, refl, sym, ap, ◌∙◌, subst}
 use Rattle.std.specs.Prelude.{option_and_then, unwrap_or, ◌&&◌, not}
 use Rattle.std.proofs.lemmas.Bool.{true≢false}
 use Rattle.std.proofs.lemmas.Slice.Eq.{bytes_eq-Decides}
 use Rattle.pg_json.specs.Refusals.{refusal_text}
-use Rattle.pg_json.specs.Requests.{Request, meaning, token_of, with_token}
+use Rattle.pg_json.specs.Requests.{Request, meaning, token_of, with_token, query, status, create_index, drop_index, begin, commit, rollback, pull, drop_page}
 use Rattle.pg_meaning.specs.declared.fault.Fault.{Fault}
 use Rattle.pg_meaning.specs.declared.fault.Fault.TheVariants.{BadRequest, FrameTooLong, OutOfMemory}
-use Rattle.pg_server.specs.Handles.{Asks, AsksFor, Handles, HandlesFor, IsUnread, is_at, key_asked, request_for, tenant_asked}
+use Rattle.pg_server.specs.Handles.{Asks, AsksFor, Handles, HandlesFor, IsUnread, key_asked, request_for, token_for}
 use Rattle.pg_server.specs.Runs.{asked, is_short, is_want_of_memory, shows_one_of}
 use Rattle.pg_server.specs.Settings.{all_tokens}
 use Rattle.pg_server.specs.State.{ServerState, settings_of, state_at, state_in}
@@ -18,7 +17,6 @@ use Rattle.pg_server.proofs.LookUpLemmas.{capacity_kept, nothing_looked_up}
 use Rattle.pg_server.proofs.NameLemmas.{names_stay}
 use Rattle.pg_server.proofs.StepLemmas.{answered, asked_is, left_alone, out_of_memory, unread}
 use Rattle.pg_tenant.specs.LookUps.{LooksUp}
-use Rattle.pg_tenant.specs.Settings.{standing_token}
 use Rattle.pg_tenant.specs.State.{State, tokens_of}
 use Rattle.pg_tenant.specs.Step.{AddsNames}
 use Rattle.pg_value.specs.Texts.{comes_again}
@@ -79,7 +77,7 @@ unread_for : (t : ℕ) (server : ServerState) (body reply : List ℕ) (e : Fault
     → (e ≢ OutOfMemory → meaning body ≡ None) → HandlesFor t server body reply server
 unread_for t server body reply e short told kind none =
     record {
-      own = λ is. handled_unread server body reply e short told kind none;
+      own = λ request is same. handled_unread server body reply e short told kind none;
       unread = λ is. handled_unread server body reply e short told kind none;
       asks = λ request is. by_memory request is (is_want_of_memory reply) refl;
     }
@@ -98,34 +96,39 @@ not_read server body reply e (inr short) told = handled_unread server body reply
 pub not_read_for : (t : ℕ) (server : ServerState) (body reply : List ℕ) (e : Fault) → IsUnread body e → reply ≡ refusal_text e → HandlesFor t server body reply server
 not_read_for t server body reply e (inl long) told =
     let as_handled = too_long server body reply long.0 (told ∙ ap refusal_text long.1) in
-    record { own = λ is. as_handled; unread = λ is. as_handled; asks = λ request is. absurd (some≢none (asked body) request (unasked body long.0) is) }
+    record { own = λ request is same. as_handled; unread = λ is. as_handled; asks = λ request is. absurd (some≢none (asked body) request (unasked body long.0) is) }
 not_read_for t server body reply e (inr short) told = unread_for t server body reply e short.0 told (λ other. (short.1 other).0) (λ other. (short.1 other).1)
 
-same_place : (t : ℕ) → (t == t) ≡ true
-same_place t = grind (arith, nat_tests)
+-- with the token that it has a request is itself
+same_request : (request : Request) → with_token (token_of request) request ≡ request
+same_request (query token text parameters page) = refl
+same_request (status token) = refl
+same_request (create_index token label key) = refl
+same_request (drop_index token label key) = refl
+same_request (begin token) = refl
+same_request (commit token) = refl
+same_request (rollback token) = refl
+same_request (pull token page) = refl
+same_request (drop_page token page) = refl
 
--- with a token of its own the request is the tenant's as it is
-own_request : (t : ℕ) (tenants : List State) (request : Request) → place_of (token_of request) tenants ≡ Some t → request_for t tenants request ≡ request
-own_request t tenants request stands =
-    ap (λ o. cond (is_at t o) request (with_token (standing_token (state_in tenants t).settings) request)) stands
-    ∙ ap (λ b. cond b request (with_token (standing_token (state_in tenants t).settings) request)) (same_place t)
+own_request : (t : ℕ) (tenants : List State) (request : Request) → token_for t tenants request ≡ token_of request → request_for t tenants request ≡ request
+own_request t tenants request same = ap (λ token. with_token token request) same ∙ same_request request
 
 module _ (t : ℕ) (old new : ServerState) (body reply : List ℕ) (request : Request) (distinct : comes_again [] (all_tokens (settings_of old)) ≡ false) (all_answered : (r : Request) (u : ℕ) → AnsweredAlone (state_at old u) r)
     (short : is_short body ≡ true) (means : meaning body ≡ Some request) where
   is_asked : asked body ≡ Some request
   is_asked = asked_is body request short means
 
-  own_handled : tenant_asked old.tenants body ≡ Some t → AsksFor t old request reply new → Handles old body reply new
-  own_handled stands (inl (told, same)) = subst (Handles old body reply) (sym same) (no_room old body reply short told)
-  own_handled stands (inr asks) =
-      let here : place_of (token_of request) old.tenants ≡ Some t = ap (λ o. option_and_then (λ r. place_of (token_of r) old.tenants) o) (sym is_asked) ∙ stands in
-      let same : Asks old request reply new = subst (λ r. Asks old r reply new) (own_request t old.tenants request here) asks in
+  own_handled : token_for t old.tenants request ≡ token_of request → AsksFor t old request reply new → Handles old body reply new
+  own_handled shows (inl (told, same)) = subst (Handles old body reply) (sym same) (no_room old body reply short told)
+  own_handled shows (inr asks) =
+      let same : Asks old request reply new = subst (λ r. Asks old r reply new) (own_request t old.tenants request shows) asks in
       handled old new body reply request distinct (all_answered request) short means same.tenants same.cache same.names
 
   pub handled_for : AsksFor t old request reply new → HandlesFor t old body reply new
   handled_for asks =
       record {
-        own = λ stands. own_handled stands asks;
+        own = λ other is shows. own_handled (subst (λ r. token_for t old.tenants r ≡ token_of r) (ap (λ o. unwrap_or o request) (sym is ∙ is_asked)) shows) asks;
         unread = λ none. absurd (some≢none (asked body) request none is_asked);
         asks = λ other is. subst (λ r. AsksFor t old r reply new) (ap (λ o. unwrap_or o request) (sym is_asked ∙ is)) asks;
       }

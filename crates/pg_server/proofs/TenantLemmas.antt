@@ -17,7 +17,7 @@ use Rattle.pg_server.specs.Tokens.{TellsTenants, tenant_of}
 use Rattle.pg_server.specs.Transactions.{RollsBack}
 use Rattle.pg_server.specs.declared.tokens.TokenPlaces.{TokenPlaces}
 use Rattle.pg_tenant.specs.Settings.{TenantSettings, no_settings, token_texts}
-use Rattle.pg_tenant.specs.State.{State, is_open, opening, tokens_of}
+use Rattle.pg_tenant.specs.State.{State, is_open, no_state, opening, tokens_of}
 use Rattle.pg_tenant.specs.TenantStates.{opening_state, state_of, token_at, transaction_of}
 use Rattle.pg_tenant.specs.declared.tenant.Tenant.{Tenant}
 use Rattle.pg_value.specs.Texts.{comes_again}
@@ -47,6 +47,10 @@ state_there (t ∷ ts) graphs begins (suc k) d lt =
 pub state_found : (tenants : List Tenant) (graphs : List Graph) (begins : List (Option Begun)) (k : ℕ) (was : Tenant) → k < length tenants → was ≡ get_or tenants k was
     → state_of was (get_or graphs k empty_graph) (get_or begins k None) ≡ state_in (states_of tenants graphs begins) k
 state_found tenants graphs begins k was lt at = ap (λ t. state_of t (get_or graphs k empty_graph) (get_or begins k None)) at ∙ state_there tenants graphs begins k was lt
+
+-- where there is no tenant
+pub state_past : (tenants : List Tenant) (graphs : List Graph) (begins : List (Option Begun)) (k : ℕ) → length tenants ≤ k → state_in (states_of tenants graphs begins) k ≡ no_state
+state_past tenants graphs begins k past = get_or_past (states_of tenants graphs begins) k no_state (subst (λ n. n ≤ k) (sym (length_states tenants graphs begins)) past)
 
 -- the graph of the tenant at a place
 pub graph_found : (tenants : List Tenant) (graphs : List Graph) (begins : List (Option Begun)) (k : ℕ) → k < length tenants → get_or graphs k empty_graph ≡ (state_in (states_of tenants graphs begins) k).graph

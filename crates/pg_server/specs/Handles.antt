@@ -1,5 +1,5 @@
 -- Handles: what one call of `handle` does, to each tenant and to the plans and names that all tenants share.
-use Rattle.std.specs.Prelude.{◌≡◌, ◌≢◌, ◌⊎◌, ℕ, ◌==◌, Bool, true, false, List, [], ◌∷◌, Option, Some, None, option_and_then, if◌then◌else◌}
+use Rattle.std.specs.Prelude.{◌≡◌, ◌≢◌, ◌⊎◌, ℕ, ◌==◌, Bool, true, false, List, [], ◌∷◌, Option, Some, None, option_and_then, unwrap_or, if◌then◌else◌}
 use Rattle.pg_cache.specs.Cache.{Key}
 use Rattle.pg_json.specs.Refusals.{refusal_text}
 use Rattle.pg_json.specs.Requests.{Request, meaning, token_of, with_token}
@@ -9,6 +9,7 @@ use Rattle.pg_server.specs.Exchange.{Exchange, Chain}
 use Rattle.pg_server.specs.Runs.{Runs, asked, is_short}
 use Rattle.pg_server.specs.State.{ServerState, state_in}
 use Rattle.pg_server.specs.Step.{Answers, place_of}
+use Rattle.pg_tenant.specs.Holders.{holder_of}
 use Rattle.pg_tenant.specs.LookUps.{LooksUp, key_of}
 use Rattle.pg_tenant.specs.Settings.{standing_token}
 use Rattle.pg_tenant.specs.State.{State}
@@ -45,10 +46,19 @@ abbrev pub is_at : ℕ → Option ℕ → Bool
 is_at t None = false
 is_at t (Some place) = place == t
 
--- the request as the tenant at a place asks it: where it shows no token of this tenant, with the one that stands for the tenant
+-- this token, where it is one of the tenant at a place, or else the one that stands for that tenant
+abbrev pub own_token : ℕ → List State → (token : List ℕ) → List ℕ
+own_token t tenants token =
+    if is_at t (place_of token tenants) then token else standing_token (state_in tenants t).settings
+
+-- the token with which the tenant at a place asks a request: the one that holds the transaction or the page with which it goes on, or else its own
+abbrev pub token_for : ℕ → List State → Request → List ℕ
+token_for t tenants request =
+    unwrap_or (holder_of (state_in tenants t) request) (own_token t tenants (token_of request))
+
+-- the request as the tenant at a place asks it
 abbrev pub request_for : ℕ → List State → Request → Request
-request_for t tenants request =
-    if is_at t (place_of (token_of request) tenants) then request else with_token (standing_token (state_in tenants t).settings) request
+request_for t tenants request = with_token (token_for t tenants request) request
 
 -- what a request that was read does
 pub record Asks (old : ServerState) (request : Request) (reply : List ℕ) (new : ServerState) : Type 0 where
@@ -60,9 +70,9 @@ pub record Asks (old : ServerState) (request : Request) (reply : List ℕ) (new 
 abbrev pub AsksFor : ℕ → ServerState → Request → List ℕ → ServerState → Type 0
 AsksFor t old request reply new = ((reply ≡ refusal_text OutOfMemory) × (new ≡ old)) ⊎ Asks old (request_for t old.tenants request) reply new
 
--- A body is answered for the tenant at a place: a request with a token of this tenant, and what is no request, as by `handle`; another request as that tenant asks it.
+-- A body is answered for the tenant at a place: a request that has the token with which that tenant asks it, and what is no request, as by `handle`; another request as that tenant asks it.
 pub record HandlesFor (t : ℕ) (old : ServerState) (body reply : List ℕ) (new : ServerState) : Type 0 where
-  pub own : tenant_asked old.tenants body ≡ Some t → Handles old body reply new
+  pub own : (request : Request) → asked body ≡ Some request → token_for t old.tenants request ≡ token_of request → Handles old body reply new
   pub unread : asked body ≡ None → Handles old body reply new
   pub asks : (request : Request) → asked body ≡ Some request → AsksFor t old request reply new
 

@@ -1,12 +1,12 @@
 //! The server: tenants, and the requests that reach them.
-ghost use Rattle.std.specs.Prelude.{◌≡◌, ◌<◌, ℕ, [], false, List, length, map, is_some, Some, None, IfOk, IfErr, IfSome};
+ghost use Rattle.std.specs.Prelude.{◌≡◌, ◌<◌, ℕ, [], false, List, length, map, is_some, option_map, Some, None, IfOk, IfErr, IfSome};
 ghost use Rattle.pg_cache.specs.Cache.{cache_seen};
 ghost use Rattle.pg_json.specs.Bodies.{request_view};
 ghost use Rattle.pg_json.specs.Requests.{token_of};
 ghost use Rattle.pg_meaning.specs.Graph.{IsGraph};
 ghost use Rattle.pg_server.specs.Changes.{Notes, TellsChange};
 ghost use Rattle.pg_server.specs.Counts.{inner_of, faults_of};
-ghost use Rattle.pg_server.specs.Handles.{AsksFor, Handles, HandlesFor, IsRead, IsUnread, is_at, key_asked, key_at, request_for, tenant_asked};
+ghost use Rattle.pg_server.specs.Handles.{AsksFor, Handles, HandlesFor, IsRead, IsUnread, is_at, key_asked, key_at, own_token, request_for, tenant_asked, token_for};
 ghost use Rattle.pg_server.specs.Holds.{HoldTenants, shared_of};
 ghost use Rattle.pg_server.specs.Runs.{asked};
 ghost use Rattle.pg_server.specs.Served.{device, read_faults, write_faults};
@@ -16,6 +16,7 @@ ghost use Rattle.pg_server.specs.State.{opening_server, settings_of, state_at};
 ghost use Rattle.pg_server.specs.Step.{Answers, StepAt, RepliesAt, place_of};
 ghost use Rattle.pg_server.specs.Transactions.{RollsBack};
 ghost use Rattle.pg_tenant.specs.Changes.{IsNoRefusal, may_change, reply_in};
+ghost use Rattle.pg_tenant.specs.Holders.{holder_of};
 ghost use Rattle.pg_tenant.specs.LookUps.{LooksUp};
 ghost use Rattle.pg_tenant.specs.Settings.{standing_token};
 ghost use Rattle.pg_tenant.specs.State.{is_open, opening};
@@ -173,8 +174,9 @@ impl<T: Tables> Server<T> {
         answered
     }
 
-    /// Answers one request for the tenant at a place, whose token it needn't show: where it shows none of that tenant's, the one that stands
-    /// for the tenant takes its place.
+    /// Answers one request for the tenant at a place, whose token it needn't show. In a transaction of that tenant, or where a page is pulled
+    /// or dropped, it is asked with the token that holds this; else, where it shows none of that tenant's, with the one that stands for the
+    /// tenant.
     pub fn handle_for(&mut self, place: usize, body: &[u8]) -> ReplyBytes
         ensures handles { HandlesFor place self.old.state body.now result self.new.state }
         ensures tenants { HoldTenants T.seen self.new }
@@ -241,12 +243,42 @@ impl<T: Tables> Server<T> {
         ensures { IfOk result (λ asked. request_view asked
             ≡ request_for place self.now.state.tenants (request_view request)) }
     {
-        if self.is_at(place, request.token()) {
-            return Ok(request);
-        }
-        let shown = String::from_str(self.alloc, self.standing_token(place))?;
+        let shown = String::from_str(self.alloc, self.token_for(place, &request))?;
         request.set_token(shown);
         Ok(request)
+    }
+
+    /// The token with which the tenant at this place asks a request.
+    fn token_for<'a>(&'a self, place: usize, request: &'a RequestBody) -> &'a str
+        ensures { result.now
+            ≡ token_for place self.now.state.tenants (request_view request.now) }
+    {
+        match self.holder_of(place, request) {
+            Some(holder) => holder,
+            None => self.own_token(place, request.token()),
+        }
+    }
+
+    /// This token, if it is one of the tenant at this place, or else the one that stands for that tenant.
+    fn own_token<'a>(&'a self, place: usize, shown: &'a str) -> &'a str
+        ensures { result.now ≡ own_token place self.now.state.tenants shown.now }
+    {
+        if self.is_at(place, shown) {
+            shown
+        } else {
+            self.standing_token(place)
+        }
+    }
+
+    /// The token that holds what the tenant at this place goes on with by a request, where one does.
+    fn holder_of(&self, place: usize, request: &RequestBody) -> Option<&str>
+        ensures { option_map (λ t. t.now) result
+            ≡ holder_of (state_at self.now.state place) (request_view request.now) }
+    {
+        match self.tenants.get(place) {
+            Some(tenant) => tenant.holder_of(self.graphs.holder_at(place), request),
+            None => None,
+        }
     }
 
     /// Whether the tenant with this token stands at this place.

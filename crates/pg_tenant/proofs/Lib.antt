@@ -1,6 +1,7 @@
 pub mod AnswerLemmas
 pub mod ChangeLemmas
 mod FinishedLemmas
+pub mod HolderLemmas
 mod IndexLemmas
 mod InstanceLemmas
 pub mod KeptLemmas

@@ -2,6 +2,7 @@
 #![tactic(auto)]
 
 ghost use Rattle.pg_tenant.specs.Changes.{OthersLeave};
+ghost use Rattle.pg_tenant.specs.Holders.{HoldersAsk};
 ghost use Rattle.pg_tenant.specs.Indexes.{IndexesRise};
 ghost use Rattle.pg_tenant.specs.Outcomes.{PlansAnswer, TextMeans};
 ghost use Rattle.pg_tenant.specs.TransactionLaws.{BeginsAreWritten, CommitsKeep, OnlyTheGraph, OthersWait, RefusalsLeave, RollbacksGoBack};
@@ -52,4 +53,9 @@ pub fn law_of_transactions()
 /// A request that may not change what its tenant has, as a query without a page and without an updating clause, leaves all of it.
 pub fn law_of_changes()
     ensures { OthersLeave }
+{}
+
+/// A request that isn't refused shows the token that holds what it goes on with, a transaction that is open or a page.
+pub fn law_of_holders()
+    ensures { HoldersAsk }
 {}

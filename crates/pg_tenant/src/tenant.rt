@@ -1,15 +1,18 @@
 //! A tenant: what it may use, its indexes, and what it answers.
-ghost use Rattle.std.specs.Prelude.{◌≡◌, ◌≢◌, false, IfOk, IfErr};
+ghost use Rattle.std.specs.Prelude.{◌≡◌, ◌≢◌, false, Option, option_map, IfOk, IfErr};
 ghost use Rattle.pg_cache.specs.Cache.{cache_seen};
 ghost use Rattle.pg_json.specs.Bodies.{request_view};
+ghost use Rattle.pg_live.specs.Live.{Begun};
 ghost use Rattle.pg_live.specs.Settled.{HasBegun};
+ghost use Rattle.pg_meaning.specs.Graph.{Graph};
 ghost use Rattle.pg_meaning.specs.declared.fault.Fault.TheVariants.{OutOfMemory};
 ghost use Rattle.pg_tenant.specs.Changes.{IsNoRefusal, may_change, reply_in};
+ghost use Rattle.pg_tenant.specs.Holders.{holder_of, page_holder};
 ghost use Rattle.pg_tenant.specs.LookUps.{LooksUp, key_of, text_key};
 ghost use Rattle.pg_tenant.specs.Settings.{standing_token};
 ghost use Rattle.pg_tenant.specs.State.{opening};
 ghost use Rattle.pg_tenant.specs.Step.{AddsNames, Answers, KeepsOthers, Serves, reply_of, takes_memory};
-ghost use Rattle.pg_tenant.specs.TenantStates.{opening_state, state_over, token_at};
+ghost use Rattle.pg_tenant.specs.TenantStates.{opening_state, state_of, state_over, token_at};
 
 use crate::noted::{Noted, with_note};
 use crate::query::Asked;
@@ -60,6 +63,31 @@ impl Tenant {
         ensures { result.now ≡ standing_token self.now.settings }
     {
         self.settings.standing_token()
+    }
+
+    /// The token that holds what a request of this tenant goes on with, where one does: the token at the place `holder`, where that one has a
+    /// transaction open, or else the one of the page that the request names.
+    pub fn holder_of(&self, holder: Option<usize>, request: &RequestBody) -> Option<&str>
+        ensures { (graph : Graph) (begun : Option Begun) → holder ≡ option_map (λ b. b.holder) begun
+            → option_map (λ t. t.now) result
+            ≡ holder_of (state_of self.now graph begun) (request_view request.now) }
+    {
+        match holder {
+            Some(place) => Some(self.token_at(place)),
+            None => self.page_holder(request),
+        }
+    }
+
+    /// The token of the page that a request pulls or drops, if there is such a page.
+    fn page_holder(&self, request: &RequestBody) -> Option<&str>
+        ensures { option_map (λ t. t.now) result
+            ≡ page_holder self.now.pages (request_view request.now) }
+    {
+        match request {
+            RequestBody::Pull { token: _, page } => self.pages.puller(*page),
+            RequestBody::DropPage { token: _, page } => self.pages.puller(*page),
+            _ => None,
+        }
     }
 
     /// The reply to a request with a token of this tenant, over the graph at work. What is refused changes nothing; what a query changes is

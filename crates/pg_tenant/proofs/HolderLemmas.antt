@@ -29,7 +29,7 @@ module _ (s : State) (token : List ℕ) (number : ℕ) (closed : s.transaction �
   -- a page that isn't the token's can't be pulled or dropped
   pull_refused : (e : Fault) → page_of s.held token number ≡ Err e → (solo s (pull token number)).reply ≡ refusal_text e
   pull_refused e none =
-      let told : Result held.Page Fault → Result Replied Fault = λ r. (r >>= λ p. (let left = left_with p (drop p.size p.rows) s.held in Ok (pulled_text left.0 (take p.size p.rows), left.1))) >>= λ p. Ok (replies p.0 (record s { held = p.1 })) in
+      let told : Result held.Page Fault → Result Replied Fault = λ r. (r >>= λ p. (let left = left_with p (drop p.size p.rows) s.held in let given : Result (List ℕ × Held) Fault = Ok (pulled_text left.0 (take p.size p.rows), left.1) in given)) >>= λ p. Ok (replies p.0 (record s { held = p.1 })) in
       ap (λ o. (reported s (unless (not (is_busy o token)) TenantBusy >> (unless (not (is_some o)) TransactionOpen >> told (page_of s.held token number)))).reply) closed
       ∙ ap (λ r. (reported s (told r)).reply) none
 
@@ -68,14 +68,14 @@ holders_ask s request found is_done is = by_open s.transaction refl
     held_by o = elim o [ Some t ↦ Some t.token | None ↦ page_holder s.held request ]
 
     by_token : (t : Transaction) → s.transaction ≡ Some t → (b : Bool) → bytes_eq t.token (token_of request) ≡ b → t.token ≡ token_of request
-    by_token t open true same = (bytes_eq-Decides t.token (token_of request)).0 same
-    by_token t open false other = absurd (is_done TenantBusy (ap (λ (r : Replied). r.reply) (others_wait s t request open other)))
+    by_token t begun true same = (bytes_eq-Decides t.token (token_of request)).0 same
+    by_token t begun false other = absurd (is_done TenantBusy (ap (λ (r : Replied). r.reply) (others_wait s t request begun other)))
 
     by_open : (o : Option Transaction) → s.transaction ≡ o → found ≡ token_of request
-    by_open (Some t) open =
-        let same : Some t.token ≡ Some found = sym (ap held_by open) ∙ is in
+    by_open (Some t) begun =
+        let same : Some t.token ≡ Some found = sym (ap held_by begun) ∙ is in
         let here : found ≡ t.token = cc in
-        here ∙ by_token t open (bytes_eq t.token (token_of request)) refl
+        here ∙ by_token t begun (bytes_eq t.token (token_of request)) refl
     by_open None closed = by_page_held s request found closed is_done (sym (ap held_by closed) ∙ is)
 
 -- where there is no tenant nothing is held

@@ -278,7 +278,9 @@ def of_one_client():
         yield "another token goes on with them", set(did(then, old, [*more, ("t2", "CREATE (:N {i: 9})"), ("t2", "commit")])), {0}
         wanted = graph(then, old, "t2")
         yield "a start with a new token before it", graph(last, old, "t3"), wanted
-        with Running(last, old) as server:
+        copy = Path(folder) / "copy"
+        copy.write_bytes(old.read_bytes())
+        with Running(last, copy) as server:
             found = Client(server.port, "t3").asks("pull", page=1).get("rows"), Client(server.port, "t2").asks("pull", page=3).get("rows")
             yield "where each holds its pages", found, ([[5], [6]], [[5], [6]])
         yield "they are asked anew", told_of(replayed(last, old), f"{len(records_of(old))} requests asked, 0 answered otherwise"), (0, [])

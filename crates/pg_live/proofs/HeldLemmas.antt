@@ -1,11 +1,12 @@
 -- Each graph is held in a store of its place over the names and the part of the tables of now.
-use Rattle.std.proofs.Common.{◌≡◌, ◌≢◌, ℕ, ◌<◌, List, Option, Some, None, length, get_or, set, take, map, Bool, true, false, arith, refl, sym, ap, subst, inl, inr, ◌∙◌}
+use Rattle.std.proofs.Common.{◌≡◌, ◌≢◌, ℕ, ◌<◌, List, [], Option, Some, None, length, get_or, set, take, map, Bool, true, false, arith, refl, sym, ap, subst, inl, inr, ◌∙◌}
 use Rattle.std.specs.Prelude.{nat_eq, IfSome}
 use Rattle.std.specs.Option.{option_map}
 use Rattle.std.proofs.lemmas.Bool.{cases_lt}
 use Rattle.std.proofs.lemmas.Bool.Decides.{Decides-eqb, not_from_Decides}
 use Rattle.std.proofs.lemmas.List.{get_or-map, get_or-set_same, get_or-set_other, get_or_past, length-map, length-set}
 use Rattle.pg_graph.specs.Content.{Seen}
+use Rattle.pg_live.proofs.LiveLemmas.{pairs_found, pairs_there}
 use Rattle.pg_live.proofs.OpenLemmas.{all_begun_at, not_after, over_all, over_all_same}
 use Rattle.pg_live.proofs.TurnLemmas.{fits_now}
 use Rattle.pg_live.specs.Held.{GoesBackTo, HoldsGraph, HoldGraphs}
@@ -15,7 +16,7 @@ use Rattle.pg_meaning.specs.Graph.{Graph, IsGraph, empty_graph}
 use Rattle.pg_meaning.specs.GraphLaws.{empty_is_graph}
 use Rattle.pg_store.proofs.Kept.{first_are_there, graph_over}
 use Rattle.pg_store.proofs.Stores.{store_is_graph}
-use Rattle.pg_store.specs.Stores.{graph_of_store, IsFit, HasMark}
+use Rattle.pg_store.specs.Stores.{graph_of_store, index_pairs, IsFit, HasMark}
 use Rattle.pg_store.specs.declared.journal.Mark.{Mark}
 use Rattle.pg_store.specs.declared.shared.Shared.{Shared}
 use Rattle.pg_store.specs.declared.store.Store.{Store}
@@ -60,7 +61,7 @@ module _ {T S K : Type 0} (seen : Seen T S) (store : Store T) (others : List (St
   long = length-set (map (λ s. graph_of_store seen s then) others) place (graph_of_store seen store shared) ∙ length-map others (λ s. graph_of_store seen s then)
 
   abbrev Held : ℕ → Type 0
-  Held k = HoldsGraph seen (let p : Shared S (Unit {0}) = record { names = shared.names; tables = shared.tables } in p) k (get_or graphs k empty_graph) (get_or (all_begun seen then begins stores) k None)
+  Held k = HoldsGraph seen (let p : Shared S (Unit {0}) = record { names = shared.names; tables = shared.tables } in p) k (get_or graphs k empty_graph) (get_or (all_begun seen then begins stores) k None) (get_or (map index_pairs stores) k [])
 
   here : Held place
   here = record {
@@ -69,6 +70,7 @@ module _ {T S K : Type 0} (seen : Seen T S) (store : Store T) (others : List (St
     fit = fit_of_parts seen store shared live.fit;
     graph = sym (get_or-set_same (map (λ s. graph_of_store seen s then) others) place (graph_of_store seen store shared) empty_graph (omega (arith, live.within, length-map others (λ s. graph_of_store seen s then))));
     back = back_at place store live.within (get_or-set_same others place store store live.within);
+    indexes = sym (pairs_there others place store live.within);
   }
 
   there : (k : ℕ) → k < length others → k ≢ place → Held k
@@ -79,6 +81,7 @@ module _ {T S K : Type 0} (seen : Seen T S) (store : Store T) (others : List (St
     graph = graph_over seen (get_or others k store) then shared (live.fits k store lt) refl (first_are_there mark.names shared.names)
         ∙ sym (get_or-set_other (map (λ s. graph_of_store seen s then) others) place k (graph_of_store seen store shared) empty_graph ne ∙ get_or-map (λ s. graph_of_store seen s then) others k store empty_graph lt);
     back = back_at k (get_or others k store) lt (get_or-set_other others place k store store ne);
+    indexes = sym (pairs_found others place store k lt ∙ ap (λ (s : Store T). index_pairs s) (get_or-set_other others place k store store ne));
   }
 
   held_at : (k : ℕ) → k < length others → (b : Bool) → nat_eq k place ≡ b → Held k

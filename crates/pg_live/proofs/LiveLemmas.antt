@@ -3,17 +3,17 @@ use Rattle.std.proofs.Common.{◌≡◌, ◌≢◌, ℕ, zero, suc, ◌<◌, ◌
 use Rattle.std.specs.Prelude.{nat_eq, IfSome}
 use Rattle.std.specs.Option.{option_map, option_map_or}
 use Rattle.std.proofs.lemmas.Bool.Decides.{Decides-eqb, not_from_Decides}
-use Rattle.std.proofs.lemmas.List.{get_or-set_same, get_or-set_other, length-set}
+use Rattle.std.proofs.lemmas.List.{get_or-map, get_or-set_same, get_or-set_other, length-set, map-set, set-set}
 use Rattle.pg_graph.proofs.Others.{keeps_refl}
 use Rattle.pg_graph.specs.Content.{Keeps, Seen}
 use Rattle.pg_live.proofs.OpenLemmas.{all_begun_at, all_begun_same, all_begun_set, is_within, not_after, over_all, over_all_same, over_then, same_default, was_none, StaysOpen}
-use Rattle.pg_live.specs.Live.{all_begun, aside_of, begun_at, begun_in, open_at, shared_then, with_open, Aside, Begun, IsLive}
+use Rattle.pg_live.specs.Live.{all_begun, aside_of, begun_at, begun_in, open_at, pairs_at, shared_then, with_open, with_pairs, Aside, Begun, IsLive}
 use Rattle.pg_live.specs.declared.transactions.Begin.{Begin}
 use Rattle.pg_meaning.specs.Graph.{Graph}
 use Rattle.pg_names.specs.Names.{KeepsNames}
 use Rattle.pg_store.proofs.Kept.{first_are_there, first_names_stay, keeps_both, other_stores_stay}
 use Rattle.pg_store.proofs.Marks.{take_fewer}
-use Rattle.pg_store.specs.Stores.{graph_of_store, graph_at, names_at, IsFit, HasMark, KeepsMarks, KeepsShared}
+use Rattle.pg_store.specs.Stores.{graph_of_store, graph_at, index_pairs, names_at, IsFit, HasMark, KeepsMarks, KeepsShared}
 use Rattle.pg_store.specs.declared.journal.Mark.{Mark}
 use Rattle.pg_store.specs.declared.shared.Shared.{Shared}
 use Rattle.pg_store.specs.declared.store.Store.{Store}
@@ -31,6 +31,30 @@ take_all (suc n) (x ∷ xs) h = ap (λ ys. x ∷ ys) (take_all n xs (omega (arit
 
 pub no_names_lost : (old new : List (List ℕ)) → new ≡ old → KeepsNames old new
 no_names_lost old new same = subst (KeepsNames old) (sym same) (λ n t h. h)
+
+-- the indexes of all places, where one store stands for another
+module _ {T : Type 0} (others : List (Store T)) (place : ℕ) (store : Store T) where
+  abbrev pairs_with : Store T → List (List (ℕ × ℕ))
+  pairs_with s = map index_pairs (set others place s)
+
+  pub pairs_found : (k : ℕ) → k < length others → get_or (pairs_with store) k [] ≡ index_pairs (get_or (set others place store) k store)
+  pairs_found k lt = get_or-map (λ (s : Store T). index_pairs s) (set others place store) k store [] (omega (arith, lt, length-set others place store))
+
+  pub pairs_there : place < length others → get_or (pairs_with store) place [] ≡ index_pairs store
+  pairs_there lt = pairs_found place lt ∙ ap (λ (s : Store T). index_pairs s) (get_or-set_same others place store store lt)
+
+  module _ (store' : Store T) where
+    pub pairs_changed : pairs_with store' ≡ set (pairs_with store) place (index_pairs store')
+    pairs_changed =
+        map-set (λ (s : Store T). index_pairs s) others place store'
+        ∙ sym (set-set (map (λ (s : Store T). index_pairs s) others) place (index_pairs store) (index_pairs store'))
+        ∙ ap (λ ps. set ps place (index_pairs store')) (sym (map-set (λ (s : Store T). index_pairs s) others place store))
+
+    pub pairs_same : index_pairs store' ≡ index_pairs store → pairs_with store' ≡ pairs_with store
+    pairs_same same =
+        map-set (λ (s : Store T). index_pairs s) others place store'
+        ∙ ap (set (map (λ (s : Store T). index_pairs s) others) place) same
+        ∙ sym (map-set (λ (s : Store T). index_pairs s) others place store)
 
 -- what marking gives
 pub record IsNewMark {T S K : Type 0} (seen : Seen T S) (store : Store T) (shared : Shared S K) (mark : Mark) : Type 0 where
@@ -160,6 +184,7 @@ module _ {T S K : Type 0} (seen : Seen T S) (store : Store T) (others : List (St
       others = others_over store' shared' mark keeps.tables grown fit (marks.there mark live.marked) change_stays i;
       names = same_names i;
       begins = begins_over store' shared' mark keeps.tables grown fit (marks.there mark live.marked) change_stays i;
+      pairs = pairs_same others place store store' marks.pairs i;
     }
 
   -- ---- back at the mark
@@ -182,13 +207,14 @@ module _ {T S K : Type 0} (seen : Seen T S) (store : Store T) (others : List (St
     pub live_back : IsLive seen store' others shared' place mark begins
     live_back = live_over store' shared' mark keeps none_lost fit marked back_stays
 
-    pub aside_back : aside_of seen store' others shared' place mark begins ≡ aside_of seen store others shared place mark begins
-    aside_back = λ i. record {
+    pub aside_back : index_pairs store' ≡ index_pairs store → aside_of seen store' others shared' place mark begins ≡ aside_of seen store others shared place mark begins
+    aside_back pairs = λ i. record {
       place = place;
       begun = same mark (omega arith) (omega arith) i;
       others = others_over store' shared' mark keeps none_lost fit marked back_stays i;
       names = names_back i;
       begins = begins_over store' shared' mark keeps none_lost fit marked back_stays i;
+      pairs = pairs_same others place store store' pairs i;
     }
 
   -- ---- a new begin
@@ -212,14 +238,26 @@ module _ {T S K : Type 0} (seen : Seen T S) (store : Store T) (others : List (St
     pub live_anew : IsLive seen store' others shared' place mark' begins
     live_anew = live_over store' shared' mark' keeps more fit is_new.there anew_stays
 
-    pub aside_anew : aside_of seen store' others shared' place mark' begins ≡ begun_at graph shared'.names (aside_of seen store others shared place mark begins)
-    aside_anew = λ i. record {
-      place = place;
-      begun = (is_new.graph ∙ same) i;
-      others = others_over store' shared' mark' keeps more fit is_new.there anew_stays i;
-      names = names_now i;
-      begins = begins_over store' shared' mark' keeps more fit is_new.there anew_stays i;
-    }
+    module _ (pairs : List (List (ℕ × ℕ))) (are : map index_pairs (set others place store') ≡ pairs) where
+      aside_where : aside_of seen store' others shared' place mark' begins ≡ record (begun_at graph shared'.names (aside_of seen store others shared place mark begins)) { pairs = pairs }
+      aside_where = λ i. record {
+        place = place;
+        begun = (is_new.graph ∙ same) i;
+        others = others_over store' shared' mark' keeps more fit is_new.there anew_stays i;
+        names = names_now i;
+        begins = begins_over store' shared' mark' keeps more fit is_new.there anew_stays i;
+        pairs = are i;
+      }
+
+    pub aside_anew : index_pairs store' ≡ index_pairs store → aside_of seen store' others shared' place mark' begins ≡ begun_at graph shared'.names (aside_of seen store others shared place mark begins)
+    aside_anew pairs = aside_where (map index_pairs (set others place store)) (pairs_same others place store store' pairs)
+
+    -- with other indexes
+    pub aside_with_pairs : aside_of seen store' others shared' place mark' begins
+        ≡ with_pairs (pairs_at (aside_of seen store' others shared' place mark' begins)) (begun_at graph shared'.names (aside_of seen store others shared place mark begins))
+    aside_with_pairs =
+        aside_where (set (map index_pairs (set others place store)) place (index_pairs store')) (pairs_changed others place store store')
+        ∙ ap (λ ps. with_pairs ps (begun_at graph shared'.names (aside_of seen store others shared place mark begins))) (sym (pairs_there others place store' live.within))
 
   -- ---- a transaction that is opened, or ended
 
@@ -276,6 +314,7 @@ module _ {T S K : Type 0} (seen : Seen T S) (store : Store T) (others : List (St
       others = map (λ s. graph_of_store seen s then) others;
       names = names_at seen store shared mark;
       begins = entry_put i;
+      pairs = map index_pairs (set others place store);
     }
       where
         entry_put : all_begun seen then (set begins place entry) stores ≡ set (all_begun seen then begins stores) place (option_map (begun_in seen then store) entry)
@@ -301,7 +340,7 @@ module _ {T S K : Type 0} (seen : Seen T S) (store : Store T) (others : List (St
     live_again = live_anew seen store others shared place mark begins live store shared mark' same_store (λ n t h. h) is_new graph_now refl live.fit (λ b is has. (has, refl))
 
     pub aside_again : aside_of seen store others shared place mark' begins ≡ begun_at graph_now shared.names was
-    aside_again = aside_anew seen store others shared place mark begins live store shared mark' same_store (λ n t h. h) is_new graph_now refl live.fit (λ b is has. (has, refl))
+    aside_again = aside_anew seen store others shared place mark begins live store shared mark' same_store (λ n t h. h) is_new graph_now refl live.fit (λ b is has. (has, refl)) refl
 
     module _ (holder : ℕ) where
       abbrev begin : Begin
@@ -379,8 +418,8 @@ module _ {T S K : Type 0} (seen : Seen T S) (store : Store T) (others : List (St
         live_anew seen store others shared place mark rest rest_live store' shared' mark' keeps (no_names_lost shared.names shared'.names same_names) is_new (graph_of_store seen store' shared') refl fit
         (λ b is has. absurd (cc (is, none_left)))
 
-    pub ended_aside : aside_of seen store' others shared' place mark' rest ≡ with_open None (begun_at (graph_of_store seen store' shared') shared.names was)
-    ended_aside =
+    pub ended_aside : index_pairs store' ≡ index_pairs store → aside_of seen store' others shared' place mark' rest ≡ with_open None (begun_at (graph_of_store seen store' shared') shared.names was)
+    ended_aside pairs =
         aside_anew seen store others shared place mark rest rest_live store' shared' mark' keeps (no_names_lost shared.names shared'.names same_names) is_new (graph_of_store seen store' shared') refl fit
-        (λ b is has. absurd (cc (is, none_left)))
+        (λ b is has. absurd (cc (is, none_left))) pairs
         ∙ (λ i. begun_at (graph_of_store seen store' shared') (same_names i) (entry_aside seen store others shared place mark begins live None tt i))

@@ -1,7 +1,7 @@
 -- Stores that were just made, of which the first is taken to work.
-use Rattle.std.proofs.Common.{◌≡◌, ◌≢◌, ℕ, zero, suc, ◌+◌, ◌<◌, List, [], ◌∷◌, ◌++◌, Option, None, length, get_or, set, map, arith, refl, sym, ap, subst, ◌∙◌}
+use Rattle.std.proofs.Common.{◌≡◌, ℕ, zero, suc, ◌+◌, ◌<◌, List, [], ◌∷◌, ◌++◌, Option, None, length, get_or, set, map, arith, refl, sym, ap, subst, ◌∙◌}
 use Rattle.std.specs.Prelude.{replicate}
-use Rattle.std.proofs.lemmas.List.{get_or-set_same, get_or-set_other, length-set, length-map, length-replicate, map-set}
+use Rattle.std.proofs.lemmas.List.{get_or-set_same, get_or-set_other, length-set, length-replicate, map-set}
 use Rattle.pg_graph.specs.Content.{Seen}
 use Rattle.pg_live.proofs.HeldLemmas.{fit_of_parts}
 use Rattle.pg_live.proofs.LiveLemmas.{take_all}
@@ -9,9 +9,9 @@ use Rattle.pg_live.proofs.OpenLemmas.{none_begun, one_at}
 use Rattle.pg_live.specs.Live.{all_begun, graphs_of, live_of, shared_then, IsLive}
 use Rattle.pg_live.specs.declared.transactions.Begin.{Begin}
 use Rattle.pg_live.specs.Opening.{AreOpening, Opens}
-use Rattle.pg_meaning.specs.Graph.{Graph, empty_graph}
+use Rattle.pg_meaning.specs.Graph.{empty_graph}
 use Rattle.pg_names.specs.Names.{AreDistinct}
-use Rattle.pg_store.specs.Stores.{graph_of_store, graph_at, names_at, IsFit, HasMark}
+use Rattle.pg_store.specs.Stores.{graph_of_store, index_pairs, IsFit, HasMark}
 use Rattle.pg_store.specs.declared.journal.Mark.{Mark}
 use Rattle.pg_store.specs.declared.shared.Shared.{Shared}
 use Rattle.pg_store.specs.declared.store.Store.{Store}
@@ -115,6 +115,12 @@ module _ {T S K : Type 0} (seen : Seen T S) (count : ℕ) (stores : List (Store 
     opened_begins =
         ap (λ (bs : List (Option Begin)). all_begun seen then bs (set others 0 store)) none
         ∙ none_begun seen then count (set others 0 store) (length-set others 0 store ∙ long)
+
+    pub opened_pairs : (live_of seen store others shared 0 mark begins).aside.pairs ≡ replicate count []
+    opened_pairs =
+        map-set (λ (s : Store T). index_pairs s) others 0 store
+        ∙ (λ i. set (all_one (λ (s : Store T). index_pairs s) [] others (each (λ (s : Store T). index_pairs s ≡ []) spare_opens.indexes (λ k d lt. (begun.opens k d lt).indexes)) i) 0 (first_opens.indexes i))
+        ∙ set_one [] (length others) ∙ ap (λ n. replicate n []) long
 
     pub opened_graphs : graphs_of (live_of seen store others shared 0 mark begins) ≡ replicate count empty_graph
     opened_graphs =

@@ -10,7 +10,7 @@ use Rattle.pg_live.proofs.OpenLemmas.{all_begun_same, not_after, over_all, over_
 use Rattle.pg_live.specs.Live.{Live, all_begun, live_of, graphs_of, shared_then, IsLive}
 use Rattle.pg_live.specs.declared.transactions.Begin.{Begin}
 use Rattle.pg_store.proofs.Kept.{first_are_there, fit_over, graph_over}
-use Rattle.pg_store.specs.Stores.{graph_of_store, names_at, IsFit, HasMark}
+use Rattle.pg_store.specs.Stores.{graph_of_store, index_pairs, names_at, IsFit, HasMark}
 use Rattle.pg_store.specs.declared.journal.Mark.{Mark}
 use Rattle.pg_store.specs.declared.shared.Shared.{Shared}
 use Rattle.pg_store.specs.declared.store.Store.{Store}
@@ -128,6 +128,9 @@ module _ {T S K : Type 0} (seen : Seen T S) (store : Store T) (others : List (St
           ap (λ (p : Shared S K). all_begun seen p begins (set turned to next)) now_is
           ∙ ap (λ (ss : List (Store T)). all_begun seen shared begins ss) same_stores
           ∙ begins_now
+
+      pub same_pairs : (live_of seen next turned shared to mark' begins).aside.pairs ≡ (live_of seen store others shared place mark begins).aside.pairs
+      same_pairs = ap (map (λ (s : Store T). index_pairs s)) same_stores
 
       -- all graphs are as they were
       pub same_graphs : graphs_of (live_of seen next turned shared to mark' begins) ≡ graphs_of (live_of seen store others shared place mark begins)

@@ -1,4 +1,5 @@
 pub mod Live
+pub mod Indexes
 pub mod LiveCode
 pub mod Settled
 pub mod Opening

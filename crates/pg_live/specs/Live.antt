@@ -1,10 +1,10 @@
 -- What a live graph is to its callers.
-use Rattle.std.specs.Prelude.{◌≡◌, ◌≢◌, ◌<◌, ◌≤◌, ℕ, List, Option, Some, None, length, map, zip, slice_index_or, slice_set}
+use Rattle.std.specs.Prelude.{◌≡◌, ◌≢◌, ◌<◌, ◌≤◌, ℕ, List, [], Option, Some, None, length, map, zip, slice_index_or, slice_set}
 use Rattle.std.specs.Option.{option_map, option_map_or}
 use Rattle.pg_graph.specs.Content.{Seen}
 use Rattle.pg_live.specs.declared.transactions.Begin.{Begin}
 use Rattle.pg_meaning.specs.Graph.{Graph}
-use Rattle.pg_store.specs.Stores.{graph_of_store, graph_at, names_at, IsFit, HasMark}
+use Rattle.pg_store.specs.Stores.{graph_of_store, graph_at, index_pairs, names_at, IsFit, HasMark}
 use Rattle.pg_store.specs.declared.journal.Mark.{Mark}
 use Rattle.pg_store.specs.declared.shared.Shared.{Shared}
 use Rattle.pg_store.specs.declared.store.Store.{Store}
@@ -15,13 +15,15 @@ pub record Begun : Type 0 where
   pub graph : Graph
 
 -- what stays while a graph is changed: its place among all, what it was when the work began, the graphs of all other
--- places (the empty one at its own), the names of then, and for each place the transaction that is open there
+-- places (the empty one at its own), the names of then, and for each place the transaction that is open there and the
+-- indexes that its graph has, by the numbers of their labels and keys
 pub record Aside : Type 0 where
   pub place : ℕ
   pub begun : Graph
   pub others : List Graph
   pub names : List (List ℕ)
   pub begins : List (Option Begun)
+  pub pairs : List (List (ℕ × ℕ))
 
 -- the graph, the names that all have, the part X that the tables of all share, and what stays
 pub record Live (X : Type 0) : Type 0 where
@@ -40,7 +42,7 @@ begins_of l = l.aside.begins
 
 -- what stays, where work begins anew at this graph and these names
 abbrev pub begun_at : Graph → List (List ℕ) → Aside → Aside
-begun_at graph names a = record { place = a.place; begun = graph; others = a.others; names = names; begins = a.begins }
+begun_at graph names a = record { place = a.place; begun = graph; others = a.others; names = names; begins = a.begins; pairs = a.pairs }
 
 -- the transaction that is open at the graph at work
 abbrev pub open_at : Aside → Option Begun
@@ -48,7 +50,7 @@ open_at a = slice_index_or a.begins a.place None
 
 -- what stays, where this transaction or none is open at the graph at work
 abbrev pub with_open : Option Begun → Aside → Aside
-with_open begun a = record { place = a.place; begun = a.begun; others = a.others; names = a.names; begins = slice_set a.begins a.place begun }
+with_open begun a = record { place = a.place; begun = a.begun; others = a.others; names = a.names; begins = slice_set a.begins a.place begun; pairs = a.pairs }
 
 -- what stays, where this holder's transaction begins at the graph and the names of now
 abbrev pub begun_by : {X : Type 0} → ℕ → Live X → Aside
@@ -57,6 +59,14 @@ begun_by holder l = with_open (Some (record { holder = holder; graph = l.graph }
 -- what stays, where the transaction ends and work begins anew at this graph
 abbrev pub ended_at : {X : Type 0} → Graph → Live X → Aside
 ended_at graph l = with_open None (begun_at graph l.names l.aside)
+
+-- the indexes of the graph at work
+abbrev pub pairs_at : Aside → List (ℕ × ℕ)
+pairs_at a = slice_index_or a.pairs a.place []
+
+-- what stays, where the graph at work has these indexes
+abbrev pub with_pairs : List (ℕ × ℕ) → Aside → Aside
+with_pairs pairs a = record { place = a.place; begun = a.begun; others = a.others; names = a.names; begins = a.begins; pairs = slice_set a.pairs a.place pairs }
 
 -- the graph at the begin of the transaction that is open at the graph at work, or that graph where none is
 abbrev pub graph_back : {X : Type 0} → Live X → Graph
@@ -82,6 +92,7 @@ module _ {T S K : Type 0} (seen : Seen T S) (store : Store T) (others : List (St
       others = map (λ s. graph_of_store seen s shared_then) others;
       names = names_at seen store shared mark;
       begins = all_begun seen shared_then begins (slice_set others place store);
+      pairs = map index_pairs (slice_set others place store);
     }
 
     abbrev pub live_of : Live S

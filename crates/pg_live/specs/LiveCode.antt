@@ -10,10 +10,11 @@ begun_code = code_by (ℕ × Graph) (coded× coded_ℕ graph_code) (λ b. (b.hol
 
 abbrev pub aside_code : Coded Aside
 aside_code =
-    code_by (ℕ × (Graph × (List Graph × (List (List ℕ) × List (Option Begun)))))
-    (coded× coded_ℕ (coded× graph_code (coded× (coded_list graph_code) (coded× (coded_list (coded_list coded_ℕ)) (coded_list (coded_option begun_code))))))
-    (λ a. (a.place, (a.begun, (a.others, (a.names, a.begins)))))
-    (λ p. record { place = p.0; begun = p.1.0; others = p.1.1.0; names = p.1.1.1.0; begins = p.1.1.1.1 }) (λ _. refl)
+    code_by (ℕ × (Graph × (List Graph × (List (List ℕ) × (List (Option Begun) × List (List (ℕ × ℕ)))))))
+    (coded× coded_ℕ (coded× graph_code (coded× (coded_list graph_code) (coded× (coded_list (coded_list coded_ℕ))
+    (coded× (coded_list (coded_option begun_code)) (coded_list (coded_list (coded× coded_ℕ coded_ℕ))))))))
+    (λ a. (a.place, (a.begun, (a.others, (a.names, (a.begins, a.pairs))))))
+    (λ p. record { place = p.0; begun = p.1.0; others = p.1.1.0; names = p.1.1.1.0; begins = p.1.1.1.1.0; pairs = p.1.1.1.1.1 }) (λ _. refl)
 
 abbrev pub live_code : {X : Type 0} → Coded X → Coded (Live X)
 live_code {X} tables_code =

@@ -6,9 +6,11 @@ ghost use Rattle.pg_meaning.specs.Names.{is_among, put_texts};
 ghost use Rattle.pg_meaning.specs.Value.{no_entries};
 ghost use Rattle.pg_names.specs.Names.{KeepsNames};
 ghost use Rattle.pg_live.specs.Held.{HoldGraphs, shared_of};
-ghost use Rattle.pg_live.specs.Live.{begins_of, begun_at, graphs_of, open_at};
+ghost use Rattle.pg_live.specs.Indexes.{has_index};
+ghost use Rattle.pg_live.specs.Live.{begins_of, begun_at, graphs_of, open_at, pairs_at, with_pairs};
 ghost use Rattle.pg_live.specs.Opening.{AreOpening};
 ghost use Rattle.pg_live.specs.Settled.{HasBegun};
+ghost use Rattle.pg_store.specs.Indexed.{IsOneLess, IsOneMore};
 ghost use Rattle.pg_store.specs.Stores.{texts_of, pairs_of};
 
 use crate::transactions::{Begin, no_begins};
@@ -56,6 +58,7 @@ impl<T: Tables> LiveGraph<T> {
         requires few { count < 2 ^ 32 }
         ensures graphs { IfOk result (λ l. graphs_of l ≡ replicate count empty_graph) }
         ensures begins { IfOk result (λ l. begins_of l ≡ replicate count None) }
+        ensures pairs { IfOk result (λ l. l.aside.pairs ≡ replicate count []) }
         ensures names { IfOk result (λ l. l.names ≡ []) }
         ensures unused { IfOk result (λ l. (owner : ℕ) → T.seen.is_unused owner l.tables) }
     {
@@ -309,6 +312,7 @@ impl<T: Tables> LiveGraph<T> {
         ensures names { self.new.names ≡ self.old.names }
         ensures place { self.new.aside.place ≡ place }
         ensures begins { begins_of self.new ≡ begins_of self.old }
+        ensures pairs { self.new.aside.pairs ≡ self.old.aside.pairs }
         ensures begun { HasBegun self.new }
     {
         exchange(&mut self.store, &mut self.others, self.place, place);
@@ -323,7 +327,12 @@ impl<T: Tables> LiveGraph<T> {
         ensures graph { self.new.graph ≡ self.old.graph }
         ensures names { OnErr result (self.new.names ≡ self.old.names) }
         ensures grown { KeepsNames self.old.names self.new.names }
-        ensures begun { self.new.aside ≡ begun_at self.old.graph self.new.names self.old.aside }
+        ensures begun { self.new.aside ≡ with_pairs (pairs_at self.new.aside)
+            (begun_at self.old.graph self.new.names self.old.aside) }
+        ensures there { OnOk result (has_index self.new label.now key.now ≡ true) }
+        ensures more { OnOk result (IsOneMore self.new.names label.now key.now
+            (pairs_at self.old.aside) (pairs_at self.new.aside)) }
+        ensures same { OnErr result (pairs_at self.new.aside ≡ pairs_at self.old.aside) }
     {
         let result = self.store.add_index(alloc, &mut self.shared, label, key);
         self.mark = self.store.mark(&self.shared);
@@ -336,7 +345,10 @@ impl<T: Tables> LiveGraph<T> {
         ensures graph { self.new.graph ≡ self.old.graph }
         ensures names { self.new.names ≡ self.old.names }
         ensures tables { self.new.tables ≡ self.old.tables }
-        ensures begun { self.new.aside ≡ begun_at self.old.graph self.old.names self.old.aside }
+        ensures begun { self.new.aside ≡ with_pairs (pairs_at self.new.aside)
+            (begun_at self.old.graph self.old.names self.old.aside) }
+        ensures less { IsOneLess self.old.names label.now key.now
+            (pairs_at self.old.aside) (pairs_at self.new.aside) }
     {
         self.store.drop_index(&self.shared, label, key);
         self.mark = self.store.mark(&self.shared);

@@ -3,7 +3,7 @@ ghost use Rattle.std.specs.Prelude.{◌≡◌, None, Some, replicate, slice_inde
 ghost use Rattle.std.specs.Option.{option_map, option_map_or};
 ghost use Rattle.pg_graph.specs.Content.{Keeps};
 ghost use Rattle.pg_live.specs.Live.{begun_by, ended_at, graph_back, open_at};
-ghost use Rattle.pg_store.specs.Stores.{graph_at, graph_of_store, HasMark, IsFit};
+ghost use Rattle.pg_store.specs.Stores.{graph_at, graph_of_store, index_pairs, HasMark, IsFit};
 
 use crate::live_graph::LiveGraph;
 use pg_graph::Tables;
@@ -104,6 +104,7 @@ fn go_back<T: Tables>(store: &mut Store<T>, shared: &mut Shared<T::Shared>, begi
         (graph_of_store T.seen store.old shared.old) }
     ensures names { shared.new.names ≡ shared.old.names }
     ensures fit { IsFit T.seen store.new shared.new }
+    ensures pairs { index_pairs store.new ≡ index_pairs store.old }
     ensures keeps { Keeps
         T.seen store.old.tables shared.old.tables store.new.tables shared.new.tables }
 {

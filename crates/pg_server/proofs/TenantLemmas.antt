@@ -4,18 +4,23 @@ use Rattle.std.specs.Prelude.{position, replicate, option_map, is_some, IfSome}
 use Rattle.std.proofs.Math.Seq.{map-set_same}
 use Rattle.std.proofs.lemmas.List.{get_or-map, get_or_past, length-map, length-set}
 use Rattle.pg_json.specs.Requests.{Request, rollback}
+use Rattle.pg_live.proofs.OpenLemmas.{one_at}
 use Rattle.pg_live.specs.Live.{Begun}
 use Rattle.pg_meaning.specs.Graph.{Graph, IsGraph, empty_graph}
 use Rattle.pg_meaning.specs.GraphLaws.{empty_is_graph}
 use Rattle.pg_meaning.specs.Names.{is_among}
+use Rattle.pg_meaning.specs.Plans.{Catalogue}
 use Rattle.pg_names.proofs.Interned.{position_map}
 use Rattle.pg_server.proofs.RunLemmas.{settings_at}
 use Rattle.pg_server.specs.Settings.{all_tokens}
 use Rattle.pg_server.specs.State.{state_in}
-use Rattle.pg_server.specs.Tenants.{states_of, AreTenants}
+use Rattle.pg_server.specs.Tenants.{states_of, AllList, AreTenants}
 use Rattle.pg_server.specs.Tokens.{TellsTenants, tenant_of}
 use Rattle.pg_server.specs.Transactions.{RollsBack}
 use Rattle.pg_server.specs.declared.tokens.TokenPlaces.{TokenPlaces}
+use Rattle.pg_tenant.proofs.ListedLemmas.{nothing_listed}
+use Rattle.pg_tenant.specs.Indexes.{indexes_of}
+use Rattle.pg_tenant.specs.Listed.{AreListed}
 use Rattle.pg_tenant.specs.Settings.{TenantSettings, no_settings, token_texts}
 use Rattle.pg_tenant.specs.State.{State, is_open, no_state, opening, tokens_of}
 use Rattle.pg_tenant.specs.TenantStates.{opening_state, state_of, token_at, transaction_of}
@@ -68,6 +73,12 @@ begun_found P [] graphs begins k lt h = absurd (omega arith)
 begun_found P (t ∷ ts) graphs begins k lt h =
     subst (λ (s : State). IfSome s.transaction (λ t. P t.begun)) (state_there (t ∷ ts) graphs begins k t lt) (with_token P (get_or (t ∷ ts) k t).settings (get_or begins k None) h)
 
+-- what holds of the list of indexes of the tenant at a place
+pub list_found : (P : Catalogue → Type 0) (tenants : List Tenant) (graphs : List Graph) (begins : List (Option Begun)) (k : ℕ) → k < length tenants → ((d : Tenant) → P (indexes_of (get_or tenants k d).indexes))
+    → P (state_in (states_of tenants graphs begins) k).indexes
+list_found P [] graphs begins k lt h = absurd (omega arith)
+list_found P (t ∷ ts) graphs begins k lt h = subst (λ (s : State). P s.indexes) (state_there (t ∷ ts) graphs begins k t lt) (h t)
+
 -- whether a transaction is open at a place
 alike : (settings : TenantSettings) (begun : Option Begun) → is_some (option_map (λ (b : Begun). b.holder) begun) ≡ is_some (transaction_of settings begun)
 alike settings None = refl
@@ -113,9 +124,10 @@ changed (t ∷ ts) (g ∷ gs) (b ∷ bs) zero now graph begun lt lt' = refl
 changed (t ∷ ts) (g ∷ gs) (b ∷ bs) (suc k) now graph begun lt lt' = ap (λ ss. state_of t g b ∷ ss) (changed ts gs bs k now graph begun (omega arith) (omega arith))
 
 -- a tenant changes, and its settings stay
-pub still_tenants : (tokens : TokenPlaces) (tenants : List Tenant) (graphs graphs' : List Graph) (begins begins' : List (Option Begun)) (k : ℕ) (was now : Tenant) → AreTenants tokens tenants graphs begins
-    → was ≡ get_or tenants k was → now.settings ≡ was.settings → length graphs' ≡ length graphs → length begins' ≡ length begins → AreTenants tokens (set tenants k now) graphs' begins'
-still_tenants tokens tenants graphs graphs' begins begins' k was now are at same as_many as_many_begun =
+pub still_tenants : (tokens : TokenPlaces) (tenants : List Tenant) (graphs graphs' : List Graph) (begins begins' : List (Option Begun)) (names names' : List (List ℕ)) (pairs pairs' : List (List (ℕ × ℕ))) (k : ℕ) (was now : Tenant)
+    → AreTenants tokens tenants graphs begins names pairs → was ≡ get_or tenants k was → now.settings ≡ was.settings → length graphs' ≡ length graphs → length begins' ≡ length begins
+    → AllList (set tenants k now) names' pairs' → AreTenants tokens (set tenants k now) graphs' begins' names' pairs'
+still_tenants tokens tenants graphs graphs' begins begins' names names' pairs pairs' k was now are at same as_many as_many_begun lists =
     let kept : map (λ (t : Tenant). t.settings) (set tenants k now) ≡ map (λ (t : Tenant). t.settings) tenants =
     map-set_same (λ (t : Tenant). t.settings) tenants k now was (same ∙ ap (λ (t : Tenant). t.settings) at) in
     record {
@@ -123,6 +135,7 @@ still_tenants tokens tenants graphs graphs' begins begins' k was now are at same
       told = subst (TellsTenants tokens) (sym kept) are.told;
       each = as_many ∙ are.each ∙ sym (length-set tenants k now);
       each_begun = as_many_begun ∙ are.each_begun ∙ sym (length-set tenants k now);
+      lists = lists;
     }
 
 -- ---- settings
@@ -185,12 +198,25 @@ length_begun tenants settings same = ap length (sym (settings_begun tenants sett
     mapped [] = refl
     mapped (t ∷ ts) = ap suc (mapped ts)
 
-pub opening_tenants_are : (tokens : TokenPlaces) (tenants : List Tenant) (settings : List TenantSettings) (graphs : List Graph) (begins : List (Option Begun)) (n : ℕ)
-    → map opening_state tenants ≡ map opening settings → n ≡ length settings → graphs ≡ replicate n empty_graph → begins ≡ replicate n None → comes_again [] (all_tokens settings) ≡ false
-    → TellsTenants tokens settings → AreTenants tokens tenants graphs begins
-opening_tenants_are tokens tenants settings graphs begins n same all empty none distinct told = record {
+-- no tenant lists an index
+none_listed : (tenants : List Tenant) (settings : List TenantSettings) → map opening_state tenants ≡ map opening settings → (k : ℕ) (d : Tenant) → k < length tenants → indexes_of (get_or tenants k d).indexes ≡ []
+none_listed [] settings same k d lt = absurd (omega (arith, lt))
+none_listed (t ∷ ts) [] same k d lt = absurd cc
+none_listed (t ∷ ts) (s ∷ ss) same zero d lt = ap (λ (states : List State). (state_in states 0).indexes) same
+none_listed (t ∷ ts) (s ∷ ss) same (suc k) d lt = none_listed ts ss (ap (drop 1) same) k d (omega (arith, lt))
+
+pub opening_tenants_are : (tokens : TokenPlaces) (tenants : List Tenant) (settings : List TenantSettings) (graphs : List Graph) (begins : List (Option Begun)) (names : List (List ℕ)) (pairs : List (List (ℕ × ℕ))) (n : ℕ)
+    → map opening_state tenants ≡ map opening settings → n ≡ length settings → graphs ≡ replicate n empty_graph → begins ≡ replicate n None → pairs ≡ replicate n []
+    → comes_again [] (all_tokens settings) ≡ false → TellsTenants tokens settings → AreTenants tokens tenants graphs begins names pairs
+opening_tenants_are tokens tenants settings graphs begins names pairs n same all empty none no_index distinct told = record {
   distinct = ap (λ ss. comes_again [] (all_tokens ss)) (settings_begun tenants settings same) ∙ distinct;
   told = subst (TellsTenants tokens) (sym (settings_begun tenants settings same)) told;
   each = ap length empty ∙ length_replicated n empty_graph ∙ all ∙ length_begun tenants settings same;
   each_begun = ap length none ∙ length_replicated n None ∙ all ∙ length_begun tenants settings same;
+  lists = record {
+    each = ap length no_index ∙ length_replicated n [] ∙ all ∙ length_begun tenants settings same;
+    listed = λ k d lt.
+        subst (λ is. AreListed names is (get_or pairs k [])) (sym (none_listed tenants settings same k d lt))
+        (subst (AreListed names []) (sym (ap (λ ps. get_or ps k []) no_index ∙ one_at n k [])) (nothing_listed names));
+  };
 }

@@ -1,17 +1,23 @@
 -- What one tenant's answer is for the whole server.
-use Rattle.std.proofs.Common.{◌≡◌, ℕ, ◌<◌, List, length, get_or, set, None, Result, Ok, Err, arith, sym, ap, ap₂, subst, ◌∙◌}
-use Rattle.std.proofs.lemmas.List.{get_or-set_same, length-set, set-get_or, set-set}
+use Rattle.std.proofs.Common.{◌≡◌, ◌≢◌, ℕ, ◌<◌, Bool, true, false, List, [], length, get_or, set, None, Result, Ok, Err, arith, refl, sym, ap, ap₂, subst, ◌∙◌}
+use Rattle.std.specs.Prelude.{nat_eq}
+use Rattle.std.proofs.lemmas.Bool.Decides.{Decides-eqb, not_from_Decides}
+use Rattle.std.proofs.lemmas.List.{get_or-set_other, get_or-set_same, length-set, set-get_or, set-set}
 use Rattle.pg_cache.specs.Cache.{CacheSeen}
 use Rattle.pg_json.specs.Requests.{Request}
-use Rattle.pg_live.specs.Live.{Live, graphs_of, open_at}
+use Rattle.pg_live.specs.Live.{Live, graphs_of, open_at, pairs_at}
 use Rattle.pg_meaning.specs.Graph.{empty_graph}
 use Rattle.pg_meaning.specs.declared.fault.Fault.{Fault}
+use Rattle.pg_names.specs.Names.{KeepsNames}
 use Rattle.pg_server.specs.Handles.{key_at}
 use Rattle.pg_server.specs.State.{state_in}
 use Rattle.pg_server.specs.Step.{Gives, RepliesAt}
-use Rattle.pg_server.specs.Tenants.{states_of, AreTenants}
+use Rattle.pg_server.specs.Tenants.{states_of, AllList, AreTenants}
 use Rattle.pg_server.specs.declared.tokens.TokenPlaces.{TokenPlaces}
 use Rattle.pg_server.proofs.TenantLemmas.{changed, state_found, still_tenants}
+use Rattle.pg_tenant.proofs.ListedLemmas.{names_come}
+use Rattle.pg_tenant.specs.Indexes.{indexes_of}
+use Rattle.pg_tenant.specs.Listed.{AreListed, KeepsListed, Lists}
 use Rattle.pg_tenant.specs.LookUps.{LooksUp, key_of}
 use Rattle.pg_tenant.specs.Solo.{Replied, solo}
 use Rattle.pg_tenant.specs.State.{State, no_state}
@@ -72,7 +78,50 @@ module _ {X : Type 0} (tenants : List Tenant) (live mid : Live X) (t : ℕ) (was
         subst (λ s. Gives old_states t (solo s request) r new_states) here
         (gives old_states new_states t (state_over was mid) (state_over now new) (solo (state_over was mid) request) r here same answers)
 
-    pub still : (tokens : TokenPlaces) → now.settings ≡ was.settings → AreTenants tokens tenants (graphs_of live) live.aside.begins → AreTenants tokens (set tenants t now) (graphs_of new) new.aside.begins
-    still tokens settings are =
-        still_tenants tokens tenants (graphs_of live) (graphs_of new) live.aside.begins new.aside.begins t was now are at settings
-        (ap length graphs_after ∙ length-set (graphs_of live) t new.graph) (ap length begins_after ∙ length-set live.aside.begins t (open_at new.aside))
+    pub still : (tokens : TokenPlaces) → now.settings ≡ was.settings → AllList (set tenants t now) new.names new.aside.pairs
+        → AreTenants tokens tenants (graphs_of live) live.aside.begins live.names live.aside.pairs → AreTenants tokens (set tenants t now) (graphs_of new) new.aside.begins new.names new.aside.pairs
+    still tokens settings lists are =
+        still_tenants tokens tenants (graphs_of live) (graphs_of new) live.aside.begins new.aside.begins live.names new.names live.aside.pairs new.aside.pairs t was now are at settings
+        (ap length graphs_after ∙ length-set (graphs_of live) t new.graph) (ap length begins_after ∙ length-set live.aside.begins t (open_at new.aside)) lists
+
+    -- what all list, where this tenant goes on listing its own
+    module _ (pairs : mid.aside.pairs ≡ live.aside.pairs) (names : mid.names ≡ live.names) (kept : KeepsNames mid.names new.names) (listed : KeepsListed was now mid new)
+        (are : AllList tenants live.names live.aside.pairs) where
+      pairs_after : new.aside.pairs ≡ set live.aside.pairs t (pairs_at new.aside)
+      pairs_after = others.pairs ∙ (λ i. set (pairs i) (at_work i) (pairs_at new.aside))
+
+      known : KeepsNames live.names new.names
+      known = subst (λ ns. KeepsNames ns new.names) names kept
+
+      lists_before : Lists was mid
+      lists_before =
+          subst (λ ns. AreListed ns (indexes_of was.indexes) (pairs_at mid.aside)) (sym names)
+          (subst (λ ps. AreListed live.names (indexes_of was.indexes) ps) (sym (ap₂ (λ ps k. get_or ps k []) pairs at_work))
+          (subst (λ (one : Tenant). AreListed live.names (indexes_of one.indexes) (get_or live.aside.pairs t [])) (sym at) (are.listed t was lt)))
+
+      abbrev Listed : ℕ → Tenant → Type 0
+      Listed k one = AreListed new.names (indexes_of one.indexes) (get_or new.aside.pairs k [])
+
+      own : (k : ℕ) (d : Tenant) → k ≡ t → Listed k (get_or (set tenants t now) k d)
+      own k d same =
+          subst (λ j. Listed j (get_or (set tenants t now) j d)) (sym same)
+          (subst (Listed t) (sym (get_or-set_same tenants t now d lt))
+          (subst (λ ps. AreListed new.names (indexes_of now.indexes) ps)
+          (sym (ap (λ ps. get_or ps t []) pairs_after ∙ get_or-set_same live.aside.pairs t (pairs_at new.aside) [] (omega (arith, lt, are.each)))) (listed lists_before)))
+
+      another : (k : ℕ) (d : Tenant) → k < length tenants → k ≢ t → Listed k (get_or (set tenants t now) k d)
+      another k d below ne =
+          subst (Listed k) (sym (get_or-set_other tenants t k now d ne))
+          (subst (λ ps. AreListed new.names (indexes_of (get_or tenants k d).indexes) ps)
+          (sym (ap (λ ps. get_or ps k []) pairs_after ∙ get_or-set_other live.aside.pairs t k (pairs_at new.aside) [] ne))
+          (names_come live.names new.names known (indexes_of (get_or tenants k d).indexes) (get_or live.aside.pairs k []) (are.listed k d below)))
+
+      by_place : (k : ℕ) (d : Tenant) → k < length tenants → (b : Bool) → nat_eq k t ≡ b → Listed k (get_or (set tenants t now) k d)
+      by_place k d below true is = own k d ((Decides-eqb k t).0 is)
+      by_place k d below false is = another k d below (not_from_Decides (nat_eq k t) (Decides-eqb k t) is)
+
+      pub all_list : AllList (set tenants t now) new.names new.aside.pairs
+      all_list = record {
+        each = ap length pairs_after ∙ length-set live.aside.pairs t (pairs_at new.aside) ∙ are.each ∙ sym (length-set tenants t now);
+        listed = λ k d below. by_place k d (omega (arith, below, length-set tenants t now)) (nat_eq k t) refl;
+      }

@@ -68,7 +68,8 @@ impl<T: Tables> Model for Server<T> {
     ghost view = { λ s. server_seen (cache_seen s.cache) s.tenants.items s.graphs };
 
     ghost invariant = { λ s.
-        AreTenants s.tokens s.tenants.items (graphs_of s.graphs) s.graphs.aside.begins };
+        AreTenants s.tokens s.tenants.items (graphs_of s.graphs) s.graphs.aside.begins
+        s.graphs.names s.graphs.aside.pairs };
 }
 
 impl<T: Tables> Server<T> {

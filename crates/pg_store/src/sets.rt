@@ -38,6 +38,7 @@ impl Sets {
     pub(crate) fn new(alloc: Global) -> Self
         ensures none { (k : Key) (i : ℕ) → is_in result k i ≡ false }
         ensures dust { result.dust.items ≡ [] }
+        ensures no_index { result.indexes.items ≡ [] }
     {
         Sets {
             alloc,

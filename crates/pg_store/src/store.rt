@@ -1,8 +1,8 @@
 //! A tenant's graph, and what it begins with.
-ghost use Rattle.std.specs.Prelude.{◌≡◌};
+ghost use Rattle.std.specs.Prelude.{◌≡◌, []};
 ghost use Rattle.pg_meaning.specs.Graph.{IsGraph, empty_graph, element_count};
 ghost use Rattle.pg_names.specs.Names.{AreDistinct};
-ghost use Rattle.pg_store.specs.Stores.{graph_of_store, IsFit, OtherStoresStay};
+ghost use Rattle.pg_store.specs.Stores.{graph_of_store, index_pairs, IsFit, OtherStoresStay};
 ghost use Rattle.pg_store.specs.declared.shared.Shared.{Shared};
 
 use crate::journal::Entry;
@@ -32,6 +32,7 @@ impl<T: Tables> Store<T> {
         ensures empty { (shared : Shared T.Shared T.Shared.Texts)
             → T.seen.is_unused owner shared.tables
             → graph_of_store T.seen result shared ≡ empty_graph }
+        ensures indexes { index_pairs result ≡ [] }
     {
         Store {
             tables: T::new(alloc, owner),

@@ -4,6 +4,7 @@ mod FinishedLemmas
 pub mod HolderLemmas
 mod IndexLemmas
 mod InstanceLemmas
+pub mod ListedLemmas
 pub mod KeptLemmas
 mod LookUpLemmas
 pub mod OutcomeLemmas

@@ -1,5 +1,5 @@
 -- From what the parts of an answer ensure to what the request does.
-use Rattle.std.proofs.Common.{◌≡◌, ◌≢◌, ◌≤◌, ℕ, Bool, true, false, not, bytes_eq, List, length, get_or, set, Option, Some, None, is_some, Result, Ok, Err, refl, sym, ap, subst, ◌∙◌, inl, inr, arith}
+use Rattle.std.proofs.Common.{◌≡◌, ◌≢◌, ◌≤◌, ℕ, Bool, true, false, not, bytes_eq, List, [], length, get_or, set, Option, Some, None, is_some, Result, Ok, Err, refl, sym, ap, subst, ◌∙◌, inl, inr, arith}
 use Rattle.std.specs.Prelude.{◌||◌, IfErr, IfOk, OnErr, OnOk, drop, option_map, take}
 use Rattle.std.proofs.lemmas.Bool.{cases_lt}
 use Rattle.std.proofs.lemmas.List.{get_or-set_same, get_or_past, length-set, set-get_or}
@@ -8,7 +8,7 @@ use Rattle.pg_json.proofs.Codes.{done_is_no_refusal, pulled_is_no_refusal}
 use Rattle.pg_json.specs.Refusals.{refusal_text, done_text}
 use Rattle.pg_json.specs.Requests.{Request, token_of, query, status, begin, commit, rollback, pull, drop_page}
 use Rattle.pg_json.specs.Pages.{QueryText, pulled_text}
-use Rattle.pg_live.specs.Live.{Aside, Begun, Live, begun_at, open_at, with_open}
+use Rattle.pg_live.specs.Live.{Aside, Begun, Live, begun_at, open_at, pairs_at, with_open, with_pairs}
 use Rattle.pg_live.specs.Settled.{Settles}
 use Rattle.pg_meaning.specs.Answer.{◌>>=◌, ◌>>◌, unless}
 use Rattle.pg_meaning.specs.Graph.{Graph}
@@ -25,11 +25,13 @@ use Rattle.pg_plan.specs.declared.plan.Plan.{Plan}
 use Rattle.pg_pages.specs.Gives.{GivesHeld}
 use Rattle.pg_pages.specs.Held.{Held, Page, dropped, left_with, page_of, pulled, without_page}
 use Rattle.pg_tenant.proofs.AnswerLemmas.{NoRefusal, shown_is_no_refusal}
+use Rattle.pg_tenant.proofs.ListedLemmas.{still_listed}
 use Rattle.pg_tenant.proofs.OutcomeLemmas.{plans_answer}
 use Rattle.pg_tenant.proofs.SettledLemmas.{answer_or_refused, shown_settled}
 use Rattle.pg_tenant.specs.Answers.{Answered, shown_if_fitting}
 use Rattle.pg_tenant.specs.Changes.{IsNoRefusal}
 use Rattle.pg_tenant.specs.Indexes.{indexes_of}
+use Rattle.pg_tenant.specs.Listed.{KeepsListed}
 use Rattle.pg_tenant.specs.Outcomes.{are_given, early_tests, plan_outcome, query_outcome, text_outcome, text_query}
 use Rattle.pg_tenant.specs.Replies.{IsAnswer, IsShown}
 use Rattle.pg_tenant.specs.Settings.{TenantSettings, may_write}
@@ -51,15 +53,24 @@ names_added old new (Err e) kept told same = record { kept = kept; refused = λ 
 
 -- ---- the live graph
 
+-- the indexes of all places
+module _ {L : Type 0} (old new : Live L) (place : new.aside.place ≡ old.aside.place) (pairs : new.aside.pairs ≡ old.aside.pairs) where
+  pub same_pairs : pairs_at new.aside ≡ pairs_at old.aside
+  same_pairs = λ i. get_or (pairs i) (place i) []
+
+  pairs_put : new.aside.pairs ≡ set old.aside.pairs old.aside.place (pairs_at new.aside)
+  pairs_put = pairs ∙ sym (set-get_or old.aside.pairs old.aside.place []) ∙ ap (set old.aside.pairs old.aside.place) (sym same_pairs)
+
 module _ {L : Type 0} (old new : Live L) (place : new.aside.place ≡ old.aside.place) (begins : new.aside.begins ≡ old.aside.begins) where
   same_open : open_at new.aside ≡ open_at old.aside
   same_open = λ i. get_or (begins i) (place i) None
 
-  pub others_kept : new.aside.others ≡ old.aside.others → KeepsOthers old new
-  others_kept others = record {
+  pub others_kept : new.aside.others ≡ old.aside.others → new.aside.pairs ≡ old.aside.pairs → KeepsOthers old new
+  others_kept others pairs = record {
     place = place;
     others = others;
     begins = begins ∙ sym (set-get_or old.aside.begins old.aside.place None) ∙ ap (set old.aside.begins old.aside.place) (sym same_open);
+    pairs = pairs_put old new place pairs;
   }
 
   -- all but the graph is as it was
@@ -71,7 +82,7 @@ module _ {L : Type 0} (old new : Live L) (place : new.aside.place ≡ old.aside.
 
 -- nothing was done
 pub none_touched : {L : Type 0} (live : Live L) → KeepsOthers live live
-none_touched live = others_kept live live refl refl refl
+none_touched live = others_kept live live refl refl refl refl
 
 -- ---- what is refused
 
@@ -84,6 +95,7 @@ refuses tenant live request e h memory = record {
   answers = refused_as (state_over tenant live) (serves (state_over tenant live) request) e h;
   names = names_stay (refusal_text e) live.names;
   others = none_touched live;
+  listed = λ lists. lists;
   settings = refl;
   memory = memory;
   accepted = tt;
@@ -92,11 +104,12 @@ refuses tenant live request e h memory = record {
 -- ---- what is done
 
 pub does : {L : Type 0} (was now : Tenant) (old new : Live L) (request : Request) (bytes : List ℕ) (after : State) → bytes ≡ done_text → serves (state_over was old) request ≡ Ok (done after)
-    → state_over now new ≡ after → KeepsNames old.names new.names → KeepsOthers old new → now.settings ≡ was.settings → Serves was now old new request (Ok bytes)
-does was now old new request bytes after is served same names others settings = record {
+    → state_over now new ≡ after → KeepsNames old.names new.names → KeepsOthers old new → KeepsListed was now old new → now.settings ≡ was.settings → Serves was now old new request (Ok bytes)
+does was now old new request bytes after is served same names others listed settings = record {
   answers = (is ∙ sym (ap (λ o. (reported (state_over was old) o).reply) served), same ∙ sym (ap (λ o. (reported (state_over was old) o).state) served));
   names = names_added old.names new.names (Ok bytes) names (λ fault told. done_is_no_refusal fault (sym is ∙ told)) tt;
   others = others;
+  listed = listed;
   settings = settings;
   memory = λ h. tt;
   accepted = λ fault told. done_is_no_refusal fault (sym is ∙ told);
@@ -195,7 +208,10 @@ module _ {L : Type 0} (was now : Tenant) (old new : Live L) (settings : now.sett
   plan_names r settles is = names_added old.names new.names r settles.kept (no_refusal r is) settles.same_names
 
 pub plan_others : {L : Type 0} (old new : Live L) (r : Result (List ℕ) Fault) → Settles old new r → KeepsOthers old new
-plan_others old new r settles = others_kept old new settles.place settles.begins settles.others
+plan_others old new r settles = others_kept old new settles.place settles.begins settles.others settles.pairs
+
+pub plan_listed : {L : Type 0} (was now : Tenant) (old new : Live L) (r : Result (List ℕ) Fault) → now.indexes ≡ was.indexes → Settles old new r → KeepsListed was now old new
+plan_listed was now old new r indexes settles = still_listed was now old new indexes settles.kept (same_pairs old new settles.place settles.pairs)
 
 -- ---- a query's text
 
@@ -218,13 +234,14 @@ module _ {L : Type 0} (was now : Tenant) (old new : Live L) (token text : List �
   behind_test test answer = with_answer here (test >> answer)
 
   pub serves_plan : (plan : Plan) (r : Result (List ℕ) Fault) → page_tested here page ≡ Ok tt → length text ≤ greatest_text → IsPlanOfText text here.indexes plan
-      → RunsPlan token plan parameters page here r (state_over now new) → AddsNames (reply_of r) old.names new.names → KeepsOthers old new → now.settings ≡ was.settings → IfOk r IsNoRefusal
+      → RunsPlan token plan parameters page here r (state_over now new) → AddsNames (reply_of r) old.names new.names → KeepsOthers old new → KeepsListed was now old new → now.settings ≡ was.settings → IfOk r IsNoRefusal
       → Serves was now old new (query token text parameters page) r
-  serves_plan plan r tested short is runs names others settings accepted = record {
+  serves_plan plan r tested short is runs names others listed settings accepted = record {
     answers = subst (λ a. Gives here (reported here a) r (state_over now new))
         (ap (with_answer here) (answers_alike here token text parameters page plan short is) ∙ sym (ap (λ t. behind_test t (text_answered here token text parameters page)) tested)) runs;
     names = names;
     others = others;
+    listed = listed;
     settings = settings;
     memory = λ h. absurd (let no : true ≡ false = h in cc);
     accepted = accepted;
@@ -302,12 +319,16 @@ module _ {L : Type 0} (was now : Tenant) (live : Live L) (settings : now.setting
   pull_accepted token number (Ok bytes) given = subst (λ (g : Result (List ℕ × Held) Fault). IfOk g (λ x. IsNoRefusal x.0)) given (pulled_rows (page_of was.pages token number))
   pull_accepted token number (Err e) given = tt
 
+  held_listed : KeepsListed was now live live
+  held_listed = still_listed was now live live indexes (λ n t h. h) refl
+
   pub serves_pull : (token : List ℕ) (number : ℕ) (r : Result (List ℕ) Fault) → pages_tested held_before ≡ Ok tt → GivesHeld r (pulled was.pages token number) was.pages now.pages
       → Serves was now live live (pull token number) r
   serves_pull token number r tested given = record {
     answers = pull_answers token number r tested given;
     names = names_stay (reply_of r) live.names;
     others = none_touched live;
+    listed = held_listed;
     settings = settings;
     memory = λ h. absurd (let no : true ≡ false = h in cc);
     accepted = pull_accepted token number r given;
@@ -320,7 +341,7 @@ module _ {L : Type 0} (was now : Tenant) (live : Live L) (settings : now.setting
       → Serves was now live live (drop_page token number) (Ok bytes)
   serves_drop token number bytes is tested given =
       does was now live live (drop_page token number) bytes (record held_before { held = now.pages }) is
-      (ap (λ t. drop_given t (dropped was.pages token number)) tested ∙ ap (drop_given (Ok tt)) given) with_pages (λ n t h. h) (none_touched live) settings
+      (ap (λ t. drop_given t (dropped was.pages token number)) tested ∙ ap (drop_given (Ok tt)) given) with_pages (λ n t h. h) (none_touched live) held_listed settings
 
 -- a page that isn't there, or a transaction
 no_page_of : (found : Option Page) (e : Fault) → (let r : Result Page Fault = elim found [ Some p ↦ Ok p | None ↦ Err NoSuchPage ] in r) ≡ Err e → e ≡ NoSuchPage
@@ -387,7 +408,14 @@ module _ {L : Type 0} (tenant : Tenant) (old new : Live L) (token : List ℕ) wh
     place = ap (λ (a : Aside). a.place) aside;
     others = ap (λ (a : Aside). a.others) aside;
     begins = ap (λ (a : Aside). a.begins) aside ∙ ap (set old.aside.begins old.aside.place) (sym is);
+    pairs = pairs_put old new (ap (λ (a : Aside). a.place) aside) (ap (λ (a : Aside). a.pairs) aside);
   }
+
+  -- its own indexes stay
+  listed_where_opened : (begun : Option Begun) (graph : Graph) → new.aside ≡ with_open begun (begun_at graph old.names old.aside) → new.names ≡ old.names → KeepsListed tenant tenant old new
+  listed_where_opened begun graph aside names =
+      still_listed tenant tenant old new refl (subst (KeepsNames old.names) (sym names) (λ n t h. h))
+      (same_pairs old new (ap (λ (a : Aside). a.place) aside) (ap (λ (a : Aside). a.pairs) aside))
 
   begun_state : (holder : ℕ) → token_at tenant.settings holder ≡ token → new.graph ≡ old.graph → open_at new.aside ≡ Some (record { holder = holder; graph = old.graph })
       → state_over tenant new ≡ record s { transaction = Some (record { token = token; begun = old.graph }) }
@@ -405,7 +433,8 @@ module _ {L : Type 0} (tenant : Tenant) (old new : Live L) (token : List ℕ) wh
       (ap (λ w. tests w (is_open s) (Ok (done after))) (sym writes) ∙ ap (λ o. tests true o (Ok (done after))) closed)
       (begun_state holder is graph opened)
       (subst (KeepsNames old.names) (sym names) (λ n t h. h))
-      (others_where_opened (Some (record { holder = holder; graph = old.graph })) old.graph aside opened) refl
+      (others_where_opened (Some (record { holder = holder; graph = old.graph })) old.graph aside opened)
+      (listed_where_opened (Some (record { holder = holder; graph = old.graph })) old.graph aside names) refl
 
   -- ---- its end
 
@@ -427,7 +456,7 @@ module _ {L : Type 0} (tenant : Tenant) (old new : Live L) (token : List ℕ) wh
   keeps_one bytes told tested graph names aside =
       let after : State = record s { transaction = None } in
       does tenant tenant old new (commit token) bytes after told (ap (ended after) tested) (λ i. state_of tenant (graph i) (closed old.graph aside i))
-      (subst (KeepsNames old.names) (sym names) (λ n t h. h)) (others_where_opened None old.graph aside (closed old.graph aside)) refl
+      (subst (KeepsNames old.names) (sym names) (λ n t h. h)) (others_where_opened None old.graph aside (closed old.graph aside)) (listed_where_opened None old.graph aside names) refl
 
   went_back : (begun : Option Begun) → state_of tenant (option_map_or (λ b. b.graph) begun old.graph) None ≡ gone_back (state_of tenant old.graph begun)
   went_back (Some b) = refl
@@ -438,7 +467,7 @@ module _ {L : Type 0} (tenant : Tenant) (old new : Live L) (token : List ℕ) wh
   takes_back bytes told tested graph names aside =
       does tenant tenant old new (rollback token) bytes (gone_back s) told (ap (ended (gone_back s)) tested)
       ((λ i. state_of tenant (graph i) (closed new.graph aside i)) ∙ went_back (open_at old.aside))
-      (subst (KeepsNames old.names) (sym names) (λ n t h. h)) (others_where_opened None new.graph aside (closed new.graph aside)) refl
+      (subst (KeepsNames old.names) (sym names) (λ n t h. h)) (others_where_opened None new.graph aside (closed new.graph aside)) (listed_where_opened None new.graph aside names) refl
 
 -- a refusal of the tests is none of memory
 end_refusal : (writes opened : Bool) (e : Fault) → (unless writes ReadOnly >> unless opened NoTransaction) ≡ Err e → e ≢ OutOfMemory
@@ -483,6 +512,7 @@ serves_status tenant live r token accepted given = record {
   answers = given;
   names = names_stay (reply_of r) live.names;
   others = none_touched live;
+  listed = λ lists. lists;
   settings = refl;
   memory = λ none. absurd (let no : true ≡ false = none in cc);
   accepted = accepted;
@@ -490,7 +520,7 @@ serves_status tenant live r token accepted given = record {
 
 -- ---- index requests
 
-module _ {L : Type 0} (was now : Tenant) (old new : Live L) (graph : new.graph ≡ old.graph) (aside : new.aside ≡ begun_at old.graph new.names old.aside) where
+module _ {L : Type 0} (was now : Tenant) (old new : Live L) (graph : new.graph ≡ old.graph) (aside : new.aside ≡ with_pairs (pairs_at new.aside) (begun_at old.graph new.names old.aside)) where
   place : new.aside.place ≡ old.aside.place
   place = ap (λ (a : Aside). a.place) aside
 
@@ -498,20 +528,26 @@ module _ {L : Type 0} (was now : Tenant) (old new : Live L) (graph : new.graph �
   begins = ap (λ (a : Aside). a.begins) aside
 
   index_others : KeepsOthers old new
-  index_others = others_kept old new place begins (ap (λ (a : Aside). a.others) aside)
+  index_others = record {
+    place = place;
+    others = ap (λ (a : Aside). a.others) aside;
+    begins = begins ∙ sym (set-get_or old.aside.begins old.aside.place None) ∙ ap (set old.aside.begins old.aside.place) (sym (same_open old new place begins));
+    pairs = ap (λ (a : Aside). a.pairs) aside;
+  }
 
   pub index_done : (request : Request) (bytes : List ℕ) (indexes : Catalogue) → bytes ≡ done_text → serves (state_over was old) request ≡ Ok (done (record (state_over was old) { indexes = indexes }))
-      → now.settings ≡ was.settings → indexes_of now.indexes ≡ indexes → now.pages ≡ was.pages → KeepsNames old.names new.names → Serves was now old new request (Ok bytes)
-  index_done request bytes indexes told served settings is pages names =
+      → now.settings ≡ was.settings → indexes_of now.indexes ≡ indexes → now.pages ≡ was.pages → KeepsNames old.names new.names → KeepsListed was now old new → Serves was now old new request (Ok bytes)
+  index_done request bytes indexes told served settings is pages names listed =
       does was now old new request bytes (record (state_over was old) { indexes = indexes }) told served
-      (λ i. record { settings = settings i; graph = graph i; indexes = is i; transaction = transaction_of (settings i) (same_open old new place begins i); held = pages i }) names index_others settings
+      (λ i. record { settings = settings i; graph = graph i; indexes = is i; transaction = transaction_of (settings i) (same_open old new place begins i); held = pages i }) names index_others listed settings
 
   -- no memory for what an index takes
-  pub index_failed : (request : Request) (e : Fault) → e ≡ OutOfMemory → takes_memory request ≡ true → new.names ≡ old.names → Serves was was old new request (Err e)
-  index_failed request e none memory names = record {
+  pub index_failed : (request : Request) (e : Fault) → e ≡ OutOfMemory → takes_memory request ≡ true → new.names ≡ old.names → pairs_at new.aside ≡ pairs_at old.aside → Serves was was old new request (Err e)
+  index_failed request e none memory names pairs = record {
     answers = (unchanged old new place begins was graph, λ other. absurd (other none));
     names = names_added old.names new.names (Err e) (subst (KeepsNames old.names) (sym names) (λ n t h. h)) tt names;
     others = index_others;
+    listed = still_listed was was old new refl (subst (KeepsNames old.names) (sym names) (λ n t h. h)) pairs;
     settings = refl;
     memory = λ no. absurd (let clash : true ≡ false = sym memory ∙ no in cc);
     accepted = tt;

@@ -24,8 +24,8 @@ shown_settled result reply shown mid end old new same is kept = by_result result
 
 -- nothing was done
 pub nothing_done : {L X E : Type 0} (l : Live L) (r : Result X E) → Settles l l r
-nothing_done l (Ok x) = record { same = tt; same_names = tt; kept = λ n t h. h; others = refl; place = refl; begins = refl }
-nothing_done l (Err e) = record { same = refl; same_names = refl; kept = λ n t h. h; others = refl; place = refl; begins = refl }
+nothing_done l (Ok x) = record { same = tt; same_names = tt; kept = λ n t h. h; others = refl; place = refl; begins = refl; pairs = refl }
+nothing_done l (Err e) = record { same = refl; same_names = refl; kept = λ n t h. h; others = refl; place = refl; begins = refl; pairs = refl }
 
 -- work began anew in the same graph
 pub anew : {L X E : Type 0} (old new : Live L) (r : Result X E) → new.graph ≡ old.graph → OnErr r (new.names ≡ old.names) → KeepsNames old.names new.names → new.aside ≡ begun_at old.graph new.names old.aside → Settles old new r
@@ -36,6 +36,7 @@ anew {X = X} {E = E} old new r graph names kept aside = record {
   others = ap (λ (a : Aside). a.others) aside;
   place = ap (λ (a : Aside). a.place) aside;
   begins = ap (λ (a : Aside). a.begins) aside;
+  pairs = ap (λ (a : Aside). a.pairs) aside;
 }
   where
     by : (r : Result X E) → OnErr r (new.graph ≡ old.graph)

@@ -2,7 +2,7 @@
 use Rattle.std.specs.Prelude.{◌≡◌, ◌≢◌, ℕ, Bool, true, false, List, Option, Result, Ok, Err, IfOk, IfErr, slice_set}
 use Rattle.pg_json.specs.Refusals.{refusal_text}
 use Rattle.pg_json.specs.Requests.{Request, begin, commit, rollback, drop_page}
-use Rattle.pg_live.specs.Live.{Live, open_at}
+use Rattle.pg_live.specs.Live.{Live, open_at, pairs_at}
 use Rattle.pg_meaning.specs.Value.{Entries}
 use Rattle.pg_meaning.specs.declared.fault.Fault.{Fault}
 use Rattle.pg_meaning.specs.declared.fault.Fault.TheVariants.{OutOfMemory}
@@ -10,6 +10,7 @@ use Rattle.pg_names.specs.Names.{KeepsNames}
 use Rattle.pg_plan.specs.declared.plan.Plan.{Plan}
 use Rattle.pg_tenant.specs.Answers.{Answered, shown_if_fitting}
 use Rattle.pg_tenant.specs.Changes.{IsNoRefusal}
+use Rattle.pg_tenant.specs.Listed.{KeepsListed}
 use Rattle.pg_tenant.specs.Outcomes.{plan_outcome}
 use Rattle.pg_tenant.specs.Settings.{may_write}
 use Rattle.pg_tenant.specs.Solo.{Replied, reported, serves, solo, with_answer}
@@ -53,17 +54,19 @@ pub record AddsNames (reply : List ℕ) (old new : List (List ℕ)) : Type 0 whe
   pub kept : KeepsNames old new
   pub refused : (fault : Fault) → reply ≡ refusal_text fault → new ≡ old
 
--- the graphs of all other places stay, and what was begun there
+-- the graphs of all other places stay, what was begun there, and their indexes
 pub record KeepsOthers {L : Type 0} (old new : Live L) : Type 0 where
   pub place : new.aside.place ≡ old.aside.place
   pub others : new.aside.others ≡ old.aside.others
   pub begins : new.aside.begins ≡ slice_set old.aside.begins old.aside.place (open_at new.aside)
+  pub pairs : new.aside.pairs ≡ slice_set old.aside.pairs old.aside.place (pairs_at new.aside)
 
 -- a request of a tenant that isn't busy, from one tenant and live graph to the others
 pub record Serves {L : Type 0} (was now : Tenant) (old new : Live L) (request : Request) (result : Result (List ℕ) Fault) : Type 0 where
   pub answers : Gives (state_over was old) (reported (state_over was old) (serves (state_over was old) request)) result (state_over now new)
   pub names : AddsNames (reply_of result) old.names new.names
   pub others : KeepsOthers old new
+  pub listed : KeepsListed was now old new
   pub settings : now.settings ≡ was.settings
   pub memory : takes_memory request ≡ false → IfErr result (λ e. e ≢ OutOfMemory)
   pub accepted : IfOk result IsNoRefusal

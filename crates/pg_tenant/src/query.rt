@@ -11,6 +11,7 @@ ghost use Rattle.pg_plan.specs.Plans.{plan_anchors, plan_query};
 ghost use Rattle.pg_tenant.specs.Answers.{shown_if_fitting};
 ghost use Rattle.pg_tenant.specs.Changes.{IsNoRefusal, may_change as asked_change, reply_in};
 ghost use Rattle.pg_tenant.specs.Indexes.{indexes_of};
+ghost use Rattle.pg_tenant.specs.Listed.{KeepsListed};
 ghost use Rattle.pg_tenant.specs.LookUps.{FindsPlan, LooksUp, text_key};
 ghost use Rattle.pg_tenant.specs.Replies.{IsAnswer, IsShown};
 ghost use Rattle.pg_tenant.specs.Step.{AddsNames, KeepsOthers, RunsPlan, Serves, reply_of};
@@ -102,6 +103,7 @@ impl Tenant {
             (state_over self.old live.old) result (state_over self.new live.new) }
         ensures names { AddsNames (reply_of result) live.old.names live.new.names }
         ensures others { KeepsOthers live.old live.new }
+        ensures listed { KeepsListed self.old self.new live.old live.new }
         ensures settings { self.new.settings ≡ self.old.settings }
         ensures accepted { IfOk result IsNoRefusal }
     {
@@ -193,6 +195,7 @@ fn settled<T: Tables>(
     ensures others { live.new.aside.others ≡ live.old.aside.others }
     ensures place { live.new.aside.place ≡ live.old.aside.place }
     ensures begins { live.new.aside.begins ≡ live.old.aside.begins }
+    ensures pairs { live.new.aside.pairs ≡ live.old.aside.pairs }
 {
     if reply.is_err() {
         live.undo();

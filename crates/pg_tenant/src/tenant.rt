@@ -8,6 +8,7 @@ ghost use Rattle.pg_meaning.specs.Graph.{Graph};
 ghost use Rattle.pg_meaning.specs.declared.fault.Fault.TheVariants.{OutOfMemory};
 ghost use Rattle.pg_tenant.specs.Changes.{IsNoRefusal, may_change, reply_in};
 ghost use Rattle.pg_tenant.specs.Holders.{holder_of, page_holder};
+ghost use Rattle.pg_tenant.specs.Listed.{KeepsListed};
 ghost use Rattle.pg_tenant.specs.LookUps.{LooksUp, key_of, text_key};
 ghost use Rattle.pg_tenant.specs.Settings.{standing_token};
 ghost use Rattle.pg_tenant.specs.State.{opening};
@@ -104,6 +105,7 @@ impl Tenant {
             (reply_in result) (state_over self.new live.new) }
         ensures names { AddsNames (reply_of (reply_in result)) live.old.names live.new.names }
         ensures others { KeepsOthers live.old live.new }
+        ensures listed { KeepsListed self.old self.new live.old live.new }
         ensures settings { self.new.settings ≡ self.old.settings }
         ensures cache { LooksUp (key_of (state_over self.old live.old) (request_view request))
             (reply_of (reply_in result)) (cache_seen cache.old) (cache_seen cache.new) }

@@ -13,4 +13,5 @@ loop-owner-preserved g c =
       own = c.new.ensures.owner;
       fit = λ shared distinct unused. fit_of_parts g.T.Tables.seen c.new.result (record { names = shared.names; tables = shared.tables }) (c.new.ensures.fit (record { names = shared.names; tables = shared.tables }) distinct unused);
       empty = λ shared unused. c.new.ensures.empty (record { names = shared.names; tables = shared.tables }) unused;
+      indexes = c.new.ensures.indexes;
     }) c.in_ok-push.ensures.items refl

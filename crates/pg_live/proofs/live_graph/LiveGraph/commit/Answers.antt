@@ -31,6 +31,6 @@ pub returns-clause-begun : goal.returns-clause-begun
 returns-clause-begun g c =
     let m = c.mark-self-inside-2.ensures in
     let none = sym (own_entry g.T.Tables.seen c.self.inside.store c.self.inside.others.items c.self.inside.shared c.self.inside.place c.self.inside.mark c.self.inside.begins.items c.self.invariant c.index.result.now c.index.ensures) ∙ is_nothing c.index.result.now (sym c.is_some.ensures ∙ c.if-is_some.false) in
-    aside_anew g.T.Tables.seen c.self.inside.store c.self.inside.others.items c.self.inside.shared c.self.inside.place c.self.inside.mark c.self.inside.begins.items c.self.invariant c.commit.new.self c.commit.new.shared c.mark-self-inside-2.result c.commit.ensures.keeps (no_names_lost c.self.inside.shared.names c.commit.new.shared.names c.commit.ensures.names) (record { there = m.there; graph = m.graph; names = m.names; journal = m.journal }) (graph_of_store g.T.Tables.seen c.self.inside.store c.self.inside.shared) c.commit.ensures.graph c.commit.ensures.fit (λ b is has. absurd (cc (is, none)))
+    aside_anew g.T.Tables.seen c.self.inside.store c.self.inside.others.items c.self.inside.shared c.self.inside.place c.self.inside.mark c.self.inside.begins.items c.self.invariant c.commit.new.self c.commit.new.shared c.mark-self-inside-2.result c.commit.ensures.keeps (no_names_lost c.self.inside.shared.names c.commit.new.shared.names c.commit.ensures.names) (record { there = m.there; graph = m.graph; names = m.names; journal = m.journal }) (graph_of_store g.T.Tables.seen c.self.inside.store c.self.inside.shared) c.commit.ensures.graph c.commit.ensures.fit (λ b is has. absurd (cc (is, none))) c.commit.ensures.pairs
     ∙ (λ i. begun_at (c.self.view_is i).graph (c.commit.ensures.names i) (c.self.view_is i).aside)
     ∙ ap (λ names. begun_at c.args.self.now.graph names c.args.self.now.aside) (ap (λ (l : Live _). l.names) c.self.view_is)

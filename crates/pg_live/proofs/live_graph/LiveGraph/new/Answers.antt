@@ -1,7 +1,6 @@
-use Rattle.std.proofs.Common.{◌≡◌, ℕ, get_or, arith, subst, sym, ◌∙◌}
+use Rattle.std.proofs.Common.{◌≡◌, ℕ, get_or, subst, sym}
 use Rattle.pg_live.proofs.HeldLemmas.{fit_of_parts}
-use Rattle.pg_live.proofs.OpeningLemmas.{first_fits, opened_begins, opened_graphs, opened_live}
-use Rattle.pg_live.specs.Live.{graphs_of, live_of, IsLive}
+use Rattle.pg_live.proofs.OpeningLemmas.{first_fits, opened_begins, opened_graphs, opened_live, opened_pairs}
 use Rattle.pg_live.specs.Opening.{Opens}
 use Rattle.pg_live.proofs.live_graph.LiveGraph.new.Goals as goal
 
@@ -13,6 +12,7 @@ mark-mark-requires g c =
       own = c.new-store.ensures.owner;
       fit = λ shared distinct unused. fit_of_parts seen c.new-store.result (record { names = shared.names; tables = shared.tables }) (c.new-store.ensures.fit (record { names = shared.names; tables = shared.tables }) distinct unused);
       empty = λ shared unused. c.new-store.ensures.empty (record { names = shared.names; tables = shared.tables }) unused;
+      indexes = c.new-store.ensures.indexes;
     } in
     let unused : (owner : ℕ) → seen.is_unused owner c.new-shared.result.tables = λ owner. subst (seen.is_unused owner) (sym c.new-shared.ensures.tables) (c.new_shared.ensures.unused owner) in
     record { fit = first_fits seen c.args.count c.in_ok-others.others.items c.in_ok-others.ensures c.requires.some c.new-store.result c.swap.new.x spare is c.new-shared.result c.new-shared.ensures.distinct unused }
@@ -25,6 +25,7 @@ invariant_of-result g c =
       own = c.new-store.ensures.owner;
       fit = λ shared distinct unused. fit_of_parts seen c.new-store.result (record { names = shared.names; tables = shared.tables }) (c.new-store.ensures.fit (record { names = shared.names; tables = shared.tables }) distinct unused);
       empty = λ shared unused. c.new-store.ensures.empty (record { names = shared.names; tables = shared.tables }) unused;
+      indexes = c.new-store.ensures.indexes;
     }) in
     let unused : (owner : ℕ) → seen.is_unused owner c.new-shared.result.tables = λ owner. subst (seen.is_unused owner) (sym c.new-shared.ensures.tables) (c.new_shared.ensures.unused owner) in
     opened_live seen c.args.count c.in_ok-others.others.items c.in_ok-others.ensures c.requires.some c.swap.new.y c.swap.new.x spare is c.new-shared.result c.new-shared.ensures.distinct unused c.mark-mark.result c.mark-mark.ensures.names c.in_ok-begins.begins.items c.in_ok-begins.ensures c.mark-mark.ensures.there
@@ -37,6 +38,7 @@ returns-clause-graphs g c =
       own = c.new-store.ensures.owner;
       fit = λ shared distinct unused. fit_of_parts seen c.new-store.result (record { names = shared.names; tables = shared.tables }) (c.new-store.ensures.fit (record { names = shared.names; tables = shared.tables }) distinct unused);
       empty = λ shared unused. c.new-store.ensures.empty (record { names = shared.names; tables = shared.tables }) unused;
+      indexes = c.new-store.ensures.indexes;
     }) in
     let unused : (owner : ℕ) → seen.is_unused owner c.new-shared.result.tables = λ owner. subst (seen.is_unused owner) (sym c.new-shared.ensures.tables) (c.new_shared.ensures.unused owner) in
     opened_graphs seen c.args.count c.in_ok-others.others.items c.in_ok-others.ensures c.requires.some c.swap.new.y c.swap.new.x spare is c.new-shared.result c.new-shared.ensures.distinct unused c.mark-mark.result c.mark-mark.ensures.names c.in_ok-begins.begins.items c.in_ok-begins.ensures
@@ -49,6 +51,20 @@ returns-clause-begins g c =
       own = c.new-store.ensures.owner;
       fit = λ shared distinct unused. fit_of_parts seen c.new-store.result (record { names = shared.names; tables = shared.tables }) (c.new-store.ensures.fit (record { names = shared.names; tables = shared.tables }) distinct unused);
       empty = λ shared unused. c.new-store.ensures.empty (record { names = shared.names; tables = shared.tables }) unused;
+      indexes = c.new-store.ensures.indexes;
     }) in
     let unused : (owner : ℕ) → seen.is_unused owner c.new-shared.result.tables = λ owner. subst (seen.is_unused owner) (sym c.new-shared.ensures.tables) (c.new_shared.ensures.unused owner) in
     opened_begins seen c.args.count c.in_ok-others.others.items c.in_ok-others.ensures c.requires.some c.swap.new.y c.swap.new.x spare is c.new-shared.result c.new-shared.ensures.distinct unused c.mark-mark.result c.mark-mark.ensures.names c.in_ok-begins.begins.items c.in_ok-begins.ensures
+
+pub returns-clause-pairs : goal.returns-clause-pairs
+returns-clause-pairs g c =
+    let seen = g.T.Tables.seen in
+    let is : c.swap.new.x ≡ get_or c.in_ok-others.others.items 0 c.swap.new.x = subst (λ s. s ≡ get_or c.in_ok-others.others.items 0 s) (sym c.swap.ensures.x_after) c.index_mut.ensures.value in
+    let spare : Opens seen c.swap.new.y c.args.count = subst (λ s. Opens seen s c.args.count) (sym c.swap.ensures.y_after) (record {
+      own = c.new-store.ensures.owner;
+      fit = λ shared distinct unused. fit_of_parts seen c.new-store.result (record { names = shared.names; tables = shared.tables }) (c.new-store.ensures.fit (record { names = shared.names; tables = shared.tables }) distinct unused);
+      empty = λ shared unused. c.new-store.ensures.empty (record { names = shared.names; tables = shared.tables }) unused;
+      indexes = c.new-store.ensures.indexes;
+    }) in
+    let unused : (owner : ℕ) → seen.is_unused owner c.new-shared.result.tables = λ owner. subst (seen.is_unused owner) (sym c.new-shared.ensures.tables) (c.new_shared.ensures.unused owner) in
+    opened_pairs seen c.args.count c.in_ok-others.others.items c.in_ok-others.ensures c.requires.some c.swap.new.y c.swap.new.x spare is c.new-shared.result c.new-shared.ensures.distinct unused c.mark-mark.result c.mark-mark.ensures.names c.in_ok-begins.begins.items c.in_ok-begins.ensures

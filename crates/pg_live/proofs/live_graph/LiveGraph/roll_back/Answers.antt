@@ -20,5 +20,5 @@ returns-clause-graph g c =
 pub returns-clause-aside : goal.returns-clause-aside
 returns-clause-aside g c =
     let m = c.mark-self-inside.ensures in
-    ended_aside g.T.Tables.seen c.self.inside.store c.self.inside.others.items c.self.inside.shared c.self.inside.place c.self.inside.mark c.self.inside.begins.items c.self.invariant c.go_back.new.store c.go_back.new.shared c.mark-self-inside.result c.go_back.ensures.keeps c.go_back.ensures.names (record { there = m.there; graph = m.graph; names = m.names; journal = m.journal }) c.go_back.ensures.fit
+    ended_aside g.T.Tables.seen c.self.inside.store c.self.inside.others.items c.self.inside.shared c.self.inside.place c.self.inside.mark c.self.inside.begins.items c.self.invariant c.go_back.new.store c.go_back.new.shared c.mark-self-inside.result c.go_back.ensures.keeps c.go_back.ensures.names (record { there = m.there; graph = m.graph; names = m.names; journal = m.journal }) c.go_back.ensures.fit c.go_back.ensures.pairs
     ∙ ap (λ (l : Live _). with_open None (begun_at (graph_of_store g.T.Tables.seen c.go_back.new.store c.go_back.new.shared) l.names l.aside)) c.self.view_is

@@ -1,5 +1,5 @@
 use Rattle.std.proofs.Common.{◌<◌, get_or, length, ap, refl, subst, sym, ◌∙◌}
-use Rattle.pg_live.proofs.TurnLemmas.{is_place, next_fits, same_begins, same_graphs, turned_live}
+use Rattle.pg_live.proofs.TurnLemmas.{is_place, next_fits, same_begins, same_graphs, same_pairs, turned_live}
 use Rattle.pg_live.specs.Live.{Live, graphs_of, live_of, IsLive}
 use Rattle.pg_live.proofs.live_graph.LiveGraph.turn_to.Goals as goal
 
@@ -50,3 +50,14 @@ returns-clause-begins g c =
     ap (λ ss. (live_of seen c.exchange.new.store ss i.shared c.args.place c.mark-self-inside.result i.begins.items).aside.begins) c.exchange.ensures.others
     ∙ same_begins seen i.store os i.shared i.place i.mark i.begins.items c.self.invariant (get_or os i.place i.store) c.exchange.new.store refl c.args.place below c.exchange.ensures.store c.mark-self-inside.result (record { there = m.there; graph = m.graph; names = m.names; journal = m.journal })
     ∙ ap (λ (l : Live _). l.aside.begins) c.self.view_is
+
+pub returns-clause-pairs : goal.returns-clause-pairs
+returns-clause-pairs g c =
+    let seen = g.T.Tables.seen in
+    let i = c.self.inside in
+    let os = i.others.items in
+    let below : c.args.place < length os = is_place seen i.store os i.shared i.place i.mark i.begins.items c.args.place c.args.self.now c.self.view_is c.requires in
+    let m = c.mark-self-inside.ensures in
+    ap (λ ss. (live_of seen c.exchange.new.store ss i.shared c.args.place c.mark-self-inside.result i.begins.items).aside.pairs) c.exchange.ensures.others
+    ∙ same_pairs seen i.store os i.shared i.place i.mark i.begins.items c.self.invariant (get_or os i.place i.store) c.exchange.new.store refl c.args.place below c.exchange.ensures.store c.mark-self-inside.result (record { there = m.there; graph = m.graph; names = m.names; journal = m.journal })
+    ∙ ap (λ (l : Live _). l.aside.pairs) c.self.view_is

@@ -7,4 +7,4 @@ pub invariant_of-self : goal.invariant_of-self
 invariant_of-self g c = live_back g.T.Tables.seen c.self.inside.store c.self.inside.others.items c.self.inside.shared c.self.inside.place c.self.inside.mark c.self.inside.begins.items c.self.invariant c.undo.new.self c.undo.new.shared c.undo.ensures.keeps c.undo.ensures.names c.undo.ensures.there c.undo.ensures.marks c.undo.ensures.fit
 
 pub returns-clause-aside : goal.returns-clause-aside
-returns-clause-aside g c = aside_back g.T.Tables.seen c.self.inside.store c.self.inside.others.items c.self.inside.shared c.self.inside.place c.self.inside.mark c.self.inside.begins.items c.self.invariant c.undo.new.self c.undo.new.shared c.undo.ensures.keeps c.undo.ensures.names c.undo.ensures.there c.undo.ensures.marks c.undo.ensures.fit ∙ ap (λ (l : Live _). l.aside) c.self.view_is
+returns-clause-aside g c = aside_back g.T.Tables.seen c.self.inside.store c.self.inside.others.items c.self.inside.shared c.self.inside.place c.self.inside.mark c.self.inside.begins.items c.self.invariant c.undo.new.self c.undo.new.shared c.undo.ensures.keeps c.undo.ensures.names c.undo.ensures.there c.undo.ensures.marks c.undo.ensures.fit c.undo.ensures.pairs ∙ ap (λ (l : Live _). l.aside) c.self.view_is

@@ -14,8 +14,8 @@ new-requires-2 g c = record { some = omega (arith, c.len.ensures, c.into_parts-s
 
 pub invariant_of-result : goal.invariant_of-result
 invariant_of-result g c =
-    opening_tenants_are c.in_ok-tokens.tokens c.in_ok-tenants.tenants.items c.into_parts-settings.result.1.items (graphs_of c.in_ok-graphs.graphs) c.in_ok-graphs.graphs.aside.begins c.len.result c.in_ok-tenants.ensures (c.len.ensures ∙ c.into_parts-settings.result.1.ok.0)
-    c.in_ok-graphs.ensures.graphs c.in_ok-graphs.ensures.begins c.into_parts-settings.ensures.distinct (subst (TellsTenants c.in_ok-tokens.tokens) c.deref.ensures.value c.in_ok-tokens.ensures)
+    opening_tenants_are c.in_ok-tokens.tokens c.in_ok-tenants.tenants.items c.into_parts-settings.result.1.items (graphs_of c.in_ok-graphs.graphs) c.in_ok-graphs.graphs.aside.begins c.in_ok-graphs.graphs.names c.in_ok-graphs.graphs.aside.pairs c.len.result c.in_ok-tenants.ensures (c.len.ensures ∙ c.into_parts-settings.result.1.ok.0)
+    c.in_ok-graphs.ensures.graphs c.in_ok-graphs.ensures.begins c.in_ok-graphs.ensures.pairs c.into_parts-settings.ensures.distinct (subst (TellsTenants c.in_ok-tokens.tokens) c.deref.ensures.value c.in_ok-tokens.ensures)
 
 pub returns-clause-state : goal.returns-clause-state
 returns-clause-state g c =
@@ -30,7 +30,7 @@ returns-clause-unused g c owner = c.in_ok-graphs.ensures.unused owner
 
 pub returns-clause-tenants : goal.returns-clause-tenants
 returns-clause-tenants g c =
-    let are : AreTenants c.in_ok-tokens.tokens c.in_ok-tenants.tenants.items (graphs_of c.in_ok-graphs.graphs) c.in_ok-graphs.graphs.aside.begins =
-    opening_tenants_are c.in_ok-tokens.tokens c.in_ok-tenants.tenants.items c.into_parts-settings.result.1.items (graphs_of c.in_ok-graphs.graphs) c.in_ok-graphs.graphs.aside.begins c.len.result c.in_ok-tenants.ensures (c.len.ensures ∙ c.into_parts-settings.result.1.ok.0)
-    c.in_ok-graphs.ensures.graphs c.in_ok-graphs.ensures.begins c.into_parts-settings.ensures.distinct (subst (TellsTenants c.in_ok-tokens.tokens) c.deref.ensures.value c.in_ok-tokens.ensures) in
-    hold_tenants g.T.Tables.seen (cache_seen c.in_ok-cache.cache) c.in_ok-tenants.tenants.items c.in_ok-graphs.graphs are.each c.shared.ensures.held
+    let are : AreTenants c.in_ok-tokens.tokens c.in_ok-tenants.tenants.items (graphs_of c.in_ok-graphs.graphs) c.in_ok-graphs.graphs.aside.begins c.in_ok-graphs.graphs.names c.in_ok-graphs.graphs.aside.pairs =
+    opening_tenants_are c.in_ok-tokens.tokens c.in_ok-tenants.tenants.items c.into_parts-settings.result.1.items (graphs_of c.in_ok-graphs.graphs) c.in_ok-graphs.graphs.aside.begins c.in_ok-graphs.graphs.names c.in_ok-graphs.graphs.aside.pairs c.len.result c.in_ok-tenants.ensures (c.len.ensures ∙ c.into_parts-settings.result.1.ok.0)
+    c.in_ok-graphs.ensures.graphs c.in_ok-graphs.ensures.begins c.in_ok-graphs.ensures.pairs c.into_parts-settings.ensures.distinct (subst (TellsTenants c.in_ok-tokens.tokens) c.deref.ensures.value c.in_ok-tokens.ensures) in
+    hold_tenants g.T.Tables.seen (cache_seen c.in_ok-cache.cache) c.in_ok-tenants.tenants.items c.in_ok-graphs.graphs are.each are.lists c.shared.ensures.held

@@ -8,7 +8,7 @@ use Rattle.pg_server.specs.Step.{RepliesAt}
 use Rattle.pg_server.specs.Tenants.{states_of}
 use Rattle.pg_server.proofs.HoldLemmas.{state_seen}
 use Rattle.pg_server.proofs.TenantLemmas.{is_tenant}
-use Rattle.pg_server.proofs.TurnLemmas.{is_place, key_here, replies, still}
+use Rattle.pg_server.proofs.TurnLemmas.{all_list, is_place, key_here, replies, still}
 use Rattle.pg_tenant.specs.Changes.{reply_in}
 use Rattle.pg_tenant.specs.LookUps.{LooksUp}
 use Rattle.pg_tenant.specs.Step.{AddsNames, reply_of}
@@ -20,7 +20,10 @@ invariant_of-self g c =
     let live = c.self.inside.graphs in
     let lt : c.args.place < length tenants = is_tenant tenants (graphs_of live) live.aside.begins c.args.self.now.state.tenants c.args.place (ap (λ (s : ServerState). s.tenants) (ap state_seen c.self.view_is)) c.requires in
     still tenants live c.turn_to.new.self c.args.place c.index_mut.result.now lt c.index_mut.ensures.value c.self.invariant.each c.turn_to.ensures.graphs c.turn_to.ensures.begins c.turn_to.ensures.place
-    c.answer.new.self c.answer.new.live c.answer.ensures.others c.self.inside.tokens c.answer.ensures.settings c.self.invariant
+    c.answer.new.self c.answer.new.live c.answer.ensures.others c.self.inside.tokens c.answer.ensures.settings
+    (all_list tenants live c.turn_to.new.self c.args.place c.index_mut.result.now lt c.index_mut.ensures.value c.self.invariant.each c.turn_to.ensures.graphs c.turn_to.ensures.begins c.turn_to.ensures.place
+    c.answer.new.self c.answer.new.live c.answer.ensures.others c.turn_to.ensures.pairs c.turn_to.ensures.names c.answer.ensures.names.kept c.answer.ensures.listed c.self.invariant.lists)
+    c.self.invariant
 
 pub returns-clause-tenants : goal.returns-clause-tenants
 returns-clause-tenants g c =

@@ -14,4 +14,4 @@ returns-clause-stores g c = c.shared.ensures.is ∙ ap shared_of c.self.view_is
 pub returns-clause-tenants : goal.returns-clause-tenants
 returns-clause-tenants g c =
     subst (HoldTenants g.T.Tables.seen) c.self.view_is
-    (hold_tenants g.T.Tables.seen (cache_seen c.self.inside.cache) c.self.inside.tenants.items c.self.inside.graphs c.self.invariant.each c.shared.ensures.held)
+    (hold_tenants g.T.Tables.seen (cache_seen c.self.inside.cache) c.self.inside.tenants.items c.self.inside.graphs c.self.invariant.each c.self.invariant.lists c.shared.ensures.held)

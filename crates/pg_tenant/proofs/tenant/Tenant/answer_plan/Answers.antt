@@ -3,7 +3,7 @@ use Rattle.std.proofs.lemmas.Result.{on_err_weaker}
 use Rattle.pg_live.specs.Live.{Aside}
 use Rattle.pg_live.specs.Settled.{Settles}
 use Rattle.pg_names.specs.Names.{KeepsNames}
-use Rattle.pg_tenant.proofs.ServedLemmas.{no_refusal, plan_names, plan_shown, runs_plan}
+use Rattle.pg_tenant.proofs.ServedLemmas.{no_refusal, plan_listed, plan_names, plan_shown, runs_plan}
 use Rattle.pg_tenant.specs.Answers.{shown_if_fitting}
 use Rattle.pg_tenant.specs.Outcomes.{plan_outcome}
 use Rattle.pg_tenant.specs.Replies.{IsShown}
@@ -29,6 +29,7 @@ module _ (g : Over) (c : goal.After-settled g) where
         others = c.settled.ensures.others ∙ ap (λ (a : Aside). a.others) aside;
         place = c.settled.ensures.place ∙ ap (λ (a : Aside). a.place) aside;
         begins = c.settled.ensures.begins ∙ ap (λ (a : Aside). a.begins) aside;
+        pairs = c.settled.ensures.pairs ∙ ap (λ (a : Aside). a.pairs) aside;
       }
 
   shown : IsShown c.settled.result
@@ -52,6 +53,9 @@ pub returns-clause-names : goal.returns-clause-names
 returns-clause-names g c =
     plan_names c.args.self.now (now g c) c.args.live.now c.settled.new.live refl refl (string_bytes c.args.asked.token) c.args.plan.now (parameters_view c.args.asked.parameters) c.args.asked.page
     c.settled.result (settles g c) (shown g c)
+
+pub returns-clause-listed : goal.returns-clause-listed
+returns-clause-listed g c = plan_listed c.args.self.now (now g c) c.args.live.now c.settled.new.live c.settled.result refl (settles g c)
 
 pub returns-clause-accepted : goal.returns-clause-accepted
 returns-clause-accepted g c =

@@ -21,4 +21,4 @@ returns-clause-serves g c =
     (sym c.with_note.ensures.reply)
     (serves_plan c.args.self.now c.answer_plan.new.self c.args.live.now c.answer_plan.new.live (string_bytes c.args.asked.token) text (parameters_view c.args.asked.parameters) c.args.asked.page
     c.deref-2.result.now c.answer_plan.result tested short (subst (IsPlanOfText text (indexes_of c.args.self.now.indexes)) (sym lent) planned) c.answer_plan.ensures.answers c.answer_plan.ensures.names
-    c.answer_plan.ensures.others c.answer_plan.ensures.settings c.answer_plan.ensures.accepted)
+    c.answer_plan.ensures.others c.answer_plan.ensures.listed c.answer_plan.ensures.settings c.answer_plan.ensures.accepted)

@@ -4,3 +4,4 @@ pub mod Planned
 pub mod LookUps
 pub mod Capacity
 pub mod Seen
+pub mod CacheInstances

@@ -1,3 +1,4 @@
 pub mod Cache
 pub mod Digests
+pub mod InstancesOfCaches
 pub mod Keys

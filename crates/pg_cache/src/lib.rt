@@ -3,7 +3,9 @@
 
 mod cache;
 mod digested;
+mod instances;
 mod key;
 
 pub use cache::PlanCache;
 pub use digested::DigestedCatalogue;
+pub use instances::instances_of_caches;

@@ -19,3 +19,5 @@ pub mod Taking
 pub mod Texts
 pub mod Writing
 pub mod Written
+pub mod RequestInstances
+pub mod ReplyInstances

@@ -16,3 +16,5 @@ pub mod Joined
 pub mod Pages
 pub mod PagesCode
 pub mod Telling
+pub mod InstancesOfRequests
+pub mod InstancesOfReplies

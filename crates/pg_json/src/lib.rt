@@ -4,6 +4,7 @@
 mod bytes;
 mod fields;
 mod held_rows;
+mod instances;
 mod laws;
 mod noted_rows;
 mod number;
@@ -25,6 +26,7 @@ mod values;
 
 pub use bytes::{ReplyBytes, done, refusal};
 pub use held_rows::HeldRows;
+pub use instances::{instances_of_replies, instances_of_requests};
 pub use laws::{law_of_refusals, law_of_replies};
 pub use query_reply::QueryReply;
 pub use read::read_request;

@@ -5,3 +5,4 @@ pub mod PlaceLemmas
 mod ReturnLemmas
 pub mod SameLemmas
 mod TextLemmas
+pub mod PlanInstances

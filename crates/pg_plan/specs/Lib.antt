@@ -9,3 +9,4 @@ pub mod Plans
 pub mod Reading
 pub mod Returns
 pub mod Updates
+pub mod InstancesOfPlans

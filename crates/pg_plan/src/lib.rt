@@ -6,6 +6,7 @@ ghost use Rattle.pg_plan.specs.Laws.{PlansAreGood, TextsMean};
 mod anchor;
 mod anchors;
 mod conjuncts;
+mod instances;
 mod leads;
 mod nodes;
 mod parameters;
@@ -16,6 +17,7 @@ mod returning;
 mod serving;
 mod updates;
 
+pub use instances::instances_of_plans;
 pub use plan::{Catalogue, Plan};
 pub use reading::{check_length, plan_text};
 

@@ -35,3 +35,4 @@ pub mod Members
 pub mod AnyOrderQueries
 pub mod OpenOrders
 pub mod RefusedTurns
+pub mod RefusedQueries

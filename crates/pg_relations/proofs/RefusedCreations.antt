@@ -20,7 +20,7 @@ use Rattle.pg_meaning.specs.Updates.{given_properties}
 use Rattle.pg_meaning.specs.Walks.{bound_value}
 use Rattle.pg_meaning.specs.declared.fault.Fault.{Fault}
 use Rattle.pg_meaning.specs.declared.fault.Fault.TheVariants.{ElementQuota, IdsExhausted}
-use Rattle.pg_relations.specs.RefusedSteps.{made_with, named_node, unjoined_graph, stray_graph, turned_graph, back, doubled_graph, looped, unlooped_graph, RefusedCreations}
+use Rattle.pg_relations.specs.RefusedSteps.{made_with, named_node, unjoined_graph, stray_graph, turned_graph, back, doubled_graph, retyped_graph, looped, unlooped_graph, RefusedCreations}
 
 -- what a node made for (:L) has
 abbrev AsWritten : Graph → Type 0
@@ -206,6 +206,21 @@ not_turned results c =
         apart : ◌≡◌ {A = ℕ} 1 0 → ⊥
         apart e = omega arith
 
+abbrev type_of : Option Relationship → List ℕ
+type_of None = []
+type_of (Some e) = e.type
+
+not_retyped : (results : List Row) → CreateRow (within (codes "b" ∷ codes "a" ∷ [])) (between_both ∷ []) pair_graph both_rows retyped_graph results → ⊥
+not_retyped results c =
+    let p = pair_of between_both refl refl c.assignment c.shape in
+    let made = subst (λ a. AllByRecursion (IsMadeRelationship (within (codes "b" ∷ codes "a" ∷ [])) pair_graph both_rows retyped_graph) (all_made (between_both ∷ []) a)) p.3 c.relationships in
+    of_type p.2 made.0.0 made.0.1 made.0.2 made.0.3 made.0.4
+  where
+    of_type : (r : ℕ) (e : Relationship) → 1 ≤ r → r < 2 → relationship_at retyped_graph r ≡ Some e → e.type ≡ codes "K" → ⊥
+    of_type r e h l there kind =
+        let last : r ≡ 1 = omega (arith, h, l) in
+        not_true (ap (λ t. bytes_eq t (codes "K")) (ap type_of (subst (λ k. relationship_at retyped_graph k ≡ Some e) last there) ∙ kind))
+
 not_back : (results : List Row) → CreateRow (within (codes "b" ∷ codes "a" ∷ [])) (back ∷ []) pair_graph both_rows doubled_graph results → ⊥
 not_back results c =
     let p = pair_of back refl refl c.assignment c.shape in
@@ -362,7 +377,7 @@ refused_creations = (
   (λ s. not_true (ap is_l (ap labels_of (ap (λ (g : Graph). node_at g 0) s.4.0 ∙ (s.3).old_nodes 0 (omega arith))))),
   no_room,
   no_id,
-  (not_turned, not_unlooped, not_back),
+  (not_turned, not_unlooped, not_back, not_retyped),
   bound_row,
   no_stray,
   not_ids,

@@ -11,3 +11,4 @@ pub mod HandedOut
 pub mod AnyOrder
 pub mod OpenOrders
 pub mod RefusedTurns
+pub mod RefusedQueries

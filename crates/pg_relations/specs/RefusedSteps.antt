@@ -105,6 +105,14 @@ doubled_graph = record pair_graph {
   next_relationship = 2;
 }
 
+-- (0)-[0:K]->(1), and one of another type
+abbrev pub retyped_graph : Graph
+retyped_graph = record pair_graph {
+  relationships =
+      (0, record { type = codes "K"; source = 0; target = 1; properties = no_entries }) ∷ (1, record { type = codes "L"; source = 0; target = 1; properties = no_entries }) ∷ [];
+  next_relationship = 2;
+}
+
 -- (a)<-[:K]-(b)
 abbrev pub back : PathPattern
 back = path_of None (node_place (Some (named "a")) [] no_properties) ((hop true (detail None ((true, named "K") ∷ []) None no_properties) false, node_place (Some (named "b")) [] no_properties) ∷ [])
@@ -117,12 +125,13 @@ looped = path_of None (node_place (Some (named "x")) [] no_properties) ((hop fal
 abbrev pub unlooped_graph : Graph
 unlooped_graph = record pair_graph { relationships = (0, record { type = codes "K"; source = 1; target = 0; properties = no_entries }) ∷ [] }
 
--- a relationship from the node of another variable, one to another node than the variable stands for, one that is not turned
+-- a relationship from the node of another variable, one to another node than the variable stands for, one that is not turned, one of another type
 abbrev pub RefusedEnds : Type 0
 RefusedEnds =
     ((results : List Row) → CreateRow (within (codes "b" ∷ codes "a" ∷ [])) (between_both ∷ []) pair_graph both_rows turned_graph results → ⊥)
     × ((graph : Graph) (results : List Row) → graph.next_node ≡ 1 → CreateRow (within []) (looped ∷ []) graph [] unlooped_graph results → ⊥)
     × ((results : List Row) → CreateRow (within (codes "b" ∷ codes "a" ∷ [])) (back ∷ []) pair_graph both_rows doubled_graph results → ⊥)
+    × ((results : List Row) → CreateRow (within (codes "b" ∷ codes "a" ∷ [])) (between_both ∷ []) pair_graph both_rows retyped_graph results → ⊥)
 
 -- (x:L)
 abbrev pub named_node : PathPattern

@@ -11,6 +11,7 @@ ghost use Rattle.pg_relations.specs.HandedOut.{EvaluatesAlike, PathsSeeTheOld};
 ghost use Rattle.pg_relations.specs.Merged.{MergeRowMakesOne, MergeItemsAreOne};
 ghost use Rattle.pg_relations.specs.Numbered.{CreateMakesOne, CreateOfRowsIsOne};
 ghost use Rattle.pg_relations.specs.OpenOrders.{WithMayHaveBoth, IdsAreBelow};
+ghost use Rattle.pg_relations.specs.RefusedQueries.{RefusedQueries};
 ghost use Rattle.pg_relations.specs.RefusedSteps.{RefusedProjections, RefusedMatches, RefusedCreations, RefusedMerges};
 ghost use Rattle.pg_relations.specs.RefusedTurns.{RefusedTurns};
 ghost use Rattle.pg_relations.specs.Tested.{TestsItsOwn, OneOrderGivesOne, OneOrderIsOne};
@@ -131,6 +132,11 @@ pub fn instances_of_creations()
 /// What no MERGE makes or leaves.
 pub fn instances_of_merges()
     ensures { RefusedMerges }
+{}
+
+/// What no query means, where none ends, and what UNWIND and WITH don't leave.
+pub fn instances_of_queries()
+    ensures { RefusedQueries }
 {}
 
 /// What is open: WITH may have a result and a fault where WHERE tests what SKIP or LIMIT cut of an open order. The ids of

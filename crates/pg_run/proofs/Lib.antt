@@ -11,3 +11,4 @@ pub mod Tells
 pub mod Told
 pub mod ValueLemmas
 pub mod Ways
+pub mod PrintedInstances

@@ -6,3 +6,4 @@ pub mod Runs
 pub mod Spelt
 pub mod Telling
 pub mod Told
+pub mod InstancesOfPrinted

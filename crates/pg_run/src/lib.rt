@@ -5,6 +5,7 @@
 mod clause;
 mod clauses;
 mod elements;
+mod instances;
 mod returning;
 mod room;
 mod rows;
@@ -14,4 +15,5 @@ mod stored;
 mod tables;
 mod telling;
 
+pub use instances::instances_of_values;
 pub use running::{PlannedQuery, answer_clauses};

@@ -10,10 +10,10 @@ use command::{Command, command_of};
 use fault::ProgramFault;
 use outcome::{line_of, status_of};
 use pg_server::{Counted, CountedListener, End, ServeFault, serve_on};
-use pg_start::{PooledServer, StartFault, new_server, read_config, take_stack};
+use pg_start::{PooledServer, StartFault, new_server, own_address, read_config, take_stack};
 use std::io::BufReader;
 use std::mem::ManuallyDrop;
-use std::net::{Ipv4Addr, TcpListener};
+use std::net::TcpListener;
 use std::process::ExitCode;
 use std::{env, io};
 
@@ -56,7 +56,7 @@ fn serve(rt: &HostRuntime, command: Command<'_>) -> Result<End, ProgramFault> {
             Ok(server.run(&mut reader, &mut writer, u64::MAX))
         }
         Command::Serve { port, count, .. } => {
-            let Ok(listener) = TcpListener::bind(rt, (Ipv4Addr::LOCALHOST, port)) else {
+            let Ok(listener) = TcpListener::bind(rt, own_address(port)) else {
                 return Err(ServeFault::Accept.into());
             };
             let mut listener = CountedListener::new(&listener);

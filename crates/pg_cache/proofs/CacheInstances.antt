@@ -17,9 +17,9 @@ unread : IsLookUp (seen [] 0 0) (seen (other ∷ []) 0 1) other → ⊥
 unfolding texts
 unread l = by (l.miss refl)
   where
-    by : {A : Type 0} → (seen (other ∷ []) 0 1 ≡ seen [] 0 1) ⊎ (⊥ × A) → ⊥
+    by : {A : Type 0} → (seen (other ∷ []) 0 1 ≡ seen [] 0 1) ⊎ ((false ≡ true) × A) → ⊥
     by (inl e) = absurd (omega (arith, ap (λ (c : CacheSeen). length c.keys) e))
-    by (inr p) = absurd p.0
+    by (inr p) = never p.0
 
 uncounted : IsLookUp (seen [] 0 0) (seen [] 0 0) plain → ⊥
 uncounted l = by (l.miss refl)
@@ -34,7 +34,7 @@ hit_as_miss l = absurd (omega (arith, ap (λ (c : CacheSeen). c.misses) (l.hit r
 pub instances_of_look_ups : InstancesOfLookUps
 unfolding texts
 instances_of_look_ups = (
-  record { hit = λ there. absurd (never there); miss = λ gone. inr (tt, refl) },
+  record { hit = λ there. absurd (never there); miss = λ gone. inr (refl, refl) },
   record { hit = λ there. absurd (never there); miss = λ gone. inl refl },
   record { hit = λ there. refl; miss = λ gone. absurd (never (sym gone)) },
   unread,

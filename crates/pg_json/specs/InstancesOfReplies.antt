@@ -1,6 +1,6 @@
 -- Replies byte for byte: each refusal, what is done, a status, elements, rows and pages.
 use Rattle.std.specs.Prelude.{◌≡◌, ℕ, true, false, List, [], ◌∷◌, Some, None, codes}
-use Rattle.serde_json.specs.Data.{Items, number, unsigned, string, boolean, item, no_items, member, no_members}
+use Rattle.serde_json.specs.Data.{Items, string, boolean, item, no_items, member, no_members}
 use Rattle.serde_json.specs.Written.{compact_text}
 use Rattle.pg_json.specs.Pages.{paged_text, pulled_text, query_text, row_text}
 use Rattle.pg_json.specs.Refusals.{refusal_text, done_text}

@@ -1,5 +1,5 @@
 -- Bodies and the requests that they are, byte for byte: some that the definition accepts, and some that it refuses.
-use Rattle.std.specs.Prelude.{◌≡◌, ℕ, zero, suc, ◌-◌, ◌^◌, pos, negsuc, true, false, List, [], ◌∷◌, Option, Some, None, is_some, codes}
+use Rattle.std.specs.Prelude.{◌≡◌, ℕ, zero, suc, ◌-◌, ◌^◌, pos, negsuc, true, false, [], ◌∷◌, Some, None, is_some, codes}
 use Rattle.serde_json.specs.Data.{Data, number, unsigned, negative, array, member, no_members, item, no_items}
 use Rattle.pg_json.specs.Parameters.{parameters_in, value_of}
 use Rattle.pg_json.specs.Requests.{query, status, create_index, drop_index, begin, commit, rollback, pull, drop_page, with_token, meaning, number_in}

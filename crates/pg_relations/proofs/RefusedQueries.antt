@@ -10,6 +10,7 @@ use Rattle.pg_meaning.specs.GraphLaws.{empty_is_graph}
 use Rattle.pg_meaning.specs.Meaning.{UnwindRow, Means, MayFault}
 use Rattle.pg_meaning.specs.Queries.{test_output}
 use Rattle.pg_meaning.specs.Rows.{Row}
+use Rattle.pg_meaning.specs.StaticFaults.{static_faults}
 use Rattle.pg_meaning.specs.Value.{node, no_entries}
 use Rattle.pg_meaning.specs.declared.fault.Fault.{Fault}
 use Rattle.pg_meaning.specs.declared.fault.Fault.TheVariants.{DeletedEntity}
@@ -38,6 +39,7 @@ deleted m = absent (subst (λ rows. AllByRecursion (λ v. test_output empty_grap
     absent e = cc
 
 no_fault : MayFault return_one no_entries 10 empty_graph DeletedEntity → ⊥
+unfolding static_faults
 no_fault = closed_query_is_one return_one no_entries 10 empty_graph (codes "a" ∷ []) ((one ∷ []) ∷ []) empty_graph DeletedEntity nothing_open refl empty_is_graph instances_of_queries.0
 
 pub refused_queries : RefusedQueries

@@ -1,5 +1,5 @@
 -- What no query means, where no query ends, and what clauses that read don't leave.
-use Rattle.std.specs.Prelude.{ℕ, false, List, [], ◌∷◌, Some, None, codes}
+use Rattle.std.specs.Prelude.{false, List, [], ◌∷◌, Some, None, codes}
 use Rattle.pg_meaning.specs.ExampleTrees.{named, column, project, query_of}
 use Rattle.pg_meaning.specs.ExamplesOfFits.{pair_graph}
 use Rattle.pg_meaning.specs.ExamplesOfSteps.{within, one, one_item, row_a, return_one}

@@ -3,5 +3,5 @@ ghost use Rattle.pg_run.specs.InstancesOfPrinted.{InstancesOfPrinted};
 
 /// Values as replies print them.
 pub fn instances_of_values()
-    ensures printed { InstancesOfPrinted }
+    ensures { InstancesOfPrinted }
 {}

@@ -8,11 +8,11 @@ use Rattle.pg_json.specs.Requests.{meaning}
 
 pub bodies_are_requests : BodiesAreRequests
 unfolding serde_json_on_literals digits meaning is_utf8 chars
-bodies_are_requests = (refl, refl, refl, refl, refl, refl, refl, refl, refl, refl, refl, refl)
+bodies_are_requests = (refl, refl, refl, refl, refl, refl, refl, refl, refl, refl, refl, refl, refl, refl)
 
 pub bodies_are_refused : BodiesAreRefused
 unfolding serde_json_on_literals digits meaning is_utf8 chars
-bodies_are_refused = (refl, refl, refl, refl, refl, refl, refl, refl, refl, refl, refl, refl, refl, refl, refl, refl, refl, refl)
+bodies_are_refused = (refl, refl, refl, refl, refl, refl, refl, refl, refl, refl, refl, refl, refl, refl, refl, refl, refl, refl, refl, refl, refl)
 
 pub instances_of_numbers : InstancesOfNumbers
 instances_of_numbers = (refl, refl, refl, refl, refl, refl, refl, refl, refl)

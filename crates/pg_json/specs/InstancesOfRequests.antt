@@ -1,5 +1,5 @@
 -- Bodies and the requests that they are, byte for byte: some that the definition accepts, and some that it refuses.
-use Rattle.std.specs.Prelude.{◌≡◌, ℕ, zero, suc, ◌-◌, ◌^◌, pos, negsuc, true, false, [], ◌∷◌, Some, None, is_some, codes}
+use Rattle.std.specs.Prelude.{◌≡◌, ℕ, zero, suc, ◌-◌, ◌^◌, pos, negsuc, true, false, [], ◌∷◌, ◌++◌, Some, None, is_some, codes}
 use Rattle.serde_json.specs.Data.{Data, number, unsigned, negative, array, member, no_members, item, no_items}
 use Rattle.pg_json.specs.Parameters.{parameters_in, value_of}
 use Rattle.pg_json.specs.Requests.{query, status, create_index, drop_index, begin, commit, rollback, pull, drop_page, with_token, meaning, number_in}
@@ -24,6 +24,8 @@ BodiesAreRequests =
     × (meaning (codes "{\"op\":\"drop_page\",\"token\":\"a\",\"page\":3}") ≡ Some (drop_page (codes "a") 3))
     × (meaning (codes "{\"op\":\"status\",\"op\":\"begin\",\"token\":\"a\"}") ≡ Some (begin (codes "a")))
     × (meaning (codes "{\"op\":\"status\",\"token\":\"\"}") ≡ Some (status []))
+    × (meaning (codes "{\"op\":\"query\",\"token\":\"a\",\"text\":\"t\",\"page\":10000}") ≡ Some (query (codes "a") (codes "t") no_entries (Some 10000)))
+    × (meaning (codes "{\"op\":\"pull\",\"token\":\"a\",\"page\":9223372036854775807}") ≡ Some (pull (codes "a") 9223372036854775807))
 
 -- another operation, a key too many, one that lacks, one of the wrong type; no object, no JSON, no UTF-8
 abbrev pub BodiesAreRefused : Type 0
@@ -46,6 +48,9 @@ BodiesAreRefused =
     × (meaning (codes "{\"op\":\"status\",\"token\":\"a\"") ≡ None)
     × (meaning [] ≡ None)
     × (meaning (255 ∷ []) ≡ None)
+    × (meaning (codes "{\"op\":\"query\",\"token\":\"a\",\"text\":\"t\",\"page\":0}") ≡ None)
+    × (meaning (codes "{\"op\":\"query\",\"token\":\"a\",\"text\":\"t\",\"page\":10001}") ≡ None)
+    × (meaning (codes "{\"op\":\"status\",\"token\":\"" ++ 255 ∷ codes "\"}") ≡ None)
 
 -- lists within lists, one more than the number
 abbrev pub nested : ℕ → Data

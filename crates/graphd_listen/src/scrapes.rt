@@ -3,10 +3,11 @@ use crate::counts::Counts;
 use crate::log::Losses;
 use crate::page::page_of;
 use crate::scrape::{Asked, Scrape, Standing};
-use mio::net::TcpListener;
+use mio::net::{TcpListener, TcpStream};
 use mio::{Interest, Registry, Token};
 use std::alloc::{AllocError, Global};
 use std::io;
+use std::io::ErrorKind;
 use std::net::{Net, SocketAddr};
 
 /// So many connections there may be at once; one more takes the place of the oldest.
@@ -36,7 +37,8 @@ pub(crate) struct Known<'a> {
 pub(crate) struct Scrapes {
     alloc: Global,
     listener: TcpListener,
-    // the token of the first place
+    // the listener's token, and that of the first place
+    listening: Token,
     first: usize,
     places: Vec<Option<Scrape>>,
     page: String,
@@ -59,6 +61,7 @@ impl Scrapes {
         Ok(Scrapes {
             alloc,
             listener,
+            listening: token,
             first,
             places: free_places(alloc)?,
             page: String::new(alloc),
@@ -91,20 +94,27 @@ impl Scrapes {
         found
     }
 
-    /// Takes who is there.
+    /// Takes who is there, so many at once.
     pub(crate) fn accept(&mut self, registry: &Registry, known: Known<'_>) {
         for _ in 0..ACCEPTED_AT_ONCE {
-            let Ok((stream, _)) = self.listener.accept() else {
-                return;
-            };
-            let place = self.place();
-            let token = self.token(place);
-            let until = known.now.saturating_add(PATIENCE);
-            self.remove(place);
-            if let Ok(scrape) = Scrape::new(self.alloc, registry, token, stream, until) {
-                self.put(place, scrape);
-                self.go_on(registry, place, known);
+            match self.listener.accept() {
+                Ok((stream, _)) => self.take(registry, stream, known),
+                Err(e) if e.kind() == ErrorKind::ConnectionAborted => {}
+                Err(_) => return,
             }
+        }
+        // (what is ready is reported once, so those who are left wouldn't be)
+        let _ = registry.reregister(&mut self.listener, self.listening, Interest::READABLE);
+    }
+
+    fn take(&mut self, registry: &Registry, stream: TcpStream, known: Known<'_>) {
+        let place = self.place();
+        let token = self.token(place);
+        let until = known.now.saturating_add(PATIENCE);
+        self.remove(place);
+        if let Ok(scrape) = Scrape::new(self.alloc, registry, token, stream, until) {
+            self.put(place, scrape);
+            self.go_on(registry, place, known);
         }
     }
 

@@ -8,7 +8,7 @@ pub instances_of_plans_kept : InstancesOfPlansKept
 instances_of_plans_kept p q r = (refl, refl, refl, refl, refl, refl)
 
 pub instances_of_keys_kept : InstancesOfKeysKept
-instances_of_keys_kept = (refl, refl, refl, refl, refl, refl, refl)
+instances_of_keys_kept = (refl, refl, refl, refl, refl, refl, refl, refl)
 
 never : false ≡ true → ⊥
 never e = cc

@@ -3,12 +3,15 @@ use Rattle.std.specs.Prelude.{◌≡◌, ℕ, ◌-◌, ◌^◌, true, false, Lis
 use Rattle.pg_cache.specs.Cache.{Key, Cache, CacheSeen, IsLookUp, after_hit, after_miss, with_plan, kept, one_more, cache_seen, has_key, seen_after_hit, seen_after_miss, with_key}
 use Rattle.pg_plan.specs.declared.plan.Plan.{Plan}
 
--- a text without indexes, the same with one, and another text
+-- a text without indexes, the same with one, and with one of another key, and another text
 abbrev pub plain : Key
 plain = (codes "RETURN 1", [])
 
 abbrev pub indexed : Key
 indexed = (codes "RETURN 1", (codes "P", codes "k") ∷ [])
+
+abbrev pub by_another_key : Key
+by_another_key = (codes "RETURN 1", (codes "P", codes "j") ∷ [])
 
 abbrev pub other : Key
 other = (codes "x", [])
@@ -35,6 +38,7 @@ abbrev pub InstancesOfKeysKept : Type 0
 InstancesOfKeysKept =
     (has_key (seen (plain ∷ indexed ∷ []) 0 0) indexed ≡ true)
     × (has_key (seen (plain ∷ []) 0 0) indexed ≡ false)
+    × (has_key (seen (by_another_key ∷ []) 0 0) indexed ≡ false)
     × (seen_after_hit (seen (plain ∷ indexed ∷ []) 3 4) indexed ≡ seen (indexed ∷ plain ∷ []) 4 4)
     × (seen_after_miss (seen (plain ∷ []) 3 4) ≡ seen (plain ∷ []) 3 5)
     × (with_key (seen (plain ∷ indexed ∷ []) 0 0) other ≡ seen (other ∷ plain ∷ []) 0 0)

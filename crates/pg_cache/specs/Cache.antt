@@ -33,11 +33,11 @@ pub record Cache : Type 0 where
   pub misses : ℕ
 
 -- a text and a list of indexes as the program has them
-abbrev pub key_of : String Global → Rc (Vec (String Global × String Global) Global) Global → Key
-key_of text catalogue = (string_bytes text, catalogue_view catalogue.value.items)
+abbrev pub cache_key : String Global → Rc (Vec (String Global × String Global) Global) Global → Key
+cache_key text catalogue = (string_bytes text, catalogue_view catalogue.value.items)
 
 abbrev pub key_view : kept_key.Key → Key
-key_view k = key_of k.text k.catalogue
+key_view k = cache_key k.text k.catalogue
 
 abbrev pub entry_view : kept_key.Key × Rc Plan Global → Key × Plan
 entry_view e = (key_view e.0, e.1.value)

@@ -2,7 +2,7 @@
 ghost use Rattle.std.specs.Prelude.{◌≡◌, ◌≢◌, None, Some, IfOk, IfErr, Err, string_bytes};
 ghost use Rattle.std.specs.NonZero.{non_zero_usize_get};
 ghost use Rattle.pg_plan.specs.Catalogue.{catalogue_view};
-ghost use Rattle.pg_cache.specs.Cache.{empty_cache, kept, key_of, key_view, IsHit, IsMiss, MayKeep};
+ghost use Rattle.pg_cache.specs.Cache.{empty_cache, kept, cache_key, key_view, IsHit, IsMiss, MayKeep};
 ghost use Rattle.pg_meaning.specs.declared.fault.Fault.TheVariants.{OutOfMemory};
 ghost use Rattle.pg_plan.specs.Plans.{IsPlanOfText};
 ghost use Rattle.pg_meaning.specs.Texts.{text_checked};
@@ -73,10 +73,10 @@ impl<S: BuildHasher + Drop> PlanCache<S> {
             (λ p. IsPlanOfText (string_bytes text) (catalogue_view catalogue.value.items) p.value) }
         ensures err { IfErr result (λ e. e ≢ OutOfMemory
             → text_checked (string_bytes text) ≡ Err e) }
-        ensures hit { (plan : _) → kept self.old (key_of text catalogue) ≡ Some plan
-            → IsHit self.old self.new (key_of text catalogue) plan result }
-        ensures miss { kept self.old (key_of text catalogue) ≡ None
-            → IsMiss self.old self.new (key_of text catalogue) result }
+        ensures hit { (plan : _) → kept self.old (cache_key text catalogue) ≡ Some plan
+            → IsHit self.old self.new (cache_key text catalogue) plan result }
+        ensures miss { kept self.old (cache_key text catalogue) ≡ None
+            → IsMiss self.old self.new (cache_key text catalogue) result }
     {
         let key = Key { text, catalogue };
         if let Some(plan) = self.plans.get(&key) {

@@ -3,7 +3,7 @@ use Rattle.std.proofs.Common.{◌≡◌, ◌+◌, ℤ, pos, negsuc, zero, suc, t
 use Rattle.std.specs.Prelude.{◌≢◌, ◌||◌, ◌-ℤ◌, nat_le}
 use Rattle.pg_expr.specs.Calls.{given_range, is_range, range_sized, sized, IsNotOne}
 use Rattle.pg_expr.specs.Contexts.{found_view, founds_view}
-use Rattle.pg_expr.specs.declared.found.Found.{Found}
+use Rattle.pg_expr.specs.declared.value_ref.ValueRef.{ValueRef}
 use Rattle.pg_meaning.specs.Answer.{Answer, ◌>>=◌}
 use Rattle.pg_meaning.specs.Functions.{Function, applied, function_at, has_deleted, has_null, integers_from, integers_of, is_deleted, is_null, range_by, range_over, size_of, steps_within}
 use Rattle.pg_meaning.specs.Functions as function
@@ -58,12 +58,12 @@ not_one g function.abs vs h e = e _
 not_one g function.start_node vs h e = e _
 not_one g function.end_node vs h e = e _
 
-pub other_count : (fs : List Found) → length fs ≢ 1 → IsNotOne (founds_view fs)
+pub other_count : (fs : List ValueRef) → length fs ≢ 1 → IsNotOne (founds_view fs)
 other_count [] h f = refl
 other_count (x ∷ []) h f = absurd (h refl)
 other_count (x ∷ y ∷ fs) h f = refl
 
-pub one_left : (fs rest : List Found) (x : Found) → fs ≡ rest ++ x ∷ [] → length fs ≡ 1 → founds_view fs ≡ item (found_view x) no_items
+pub one_left : (fs rest : List ValueRef) (x : ValueRef) → fs ≡ rest ++ x ∷ [] → length fs ≡ 1 → founds_view fs ≡ item (found_view x) no_items
 one_left fs [] x e h = ap founds_view e
 one_left fs (y ∷ []) x e h = let both = ap length e in absurd (omega arith)
 one_left fs (y ∷ z ∷ rest) x e h = let both = ap length e in absurd (omega arith)

@@ -1,17 +1,15 @@
 -- One conjunct after the other.
 use Rattle.std.proofs.Common.{◌≡◌, Bool, true, false, cond, List, [], ◌∷◌, Result, Ok, Err, refl, ap, ◌∙◌}
-use Rattle.pg_expr.specs.Conditions.{is_met_by, all_met_by, begins_conjunction}
+use Rattle.pg_expr.specs.Conditions.{is_met_by, all_met_by}
 use Rattle.pg_expr.specs.Contexts.{given}
 use Rattle.pg_expr.specs.declared.row_context.RowContext.{RowContext}
 use Rattle.pg_meaning.specs.Answer.{Answer, ◌>>=◌}
-use Rattle.pg_meaning.specs.Conditions.{conjuncts, operands_of}
 use Rattle.pg_meaning.specs.Graph.{Graph}
 use Rattle.pg_meaning.specs.Logic.{truth_of, is_true}
 use Rattle.pg_meaning.specs.Tree as tree
 use Rattle.pg_meaning.specs.declared.fault.Fault.{Fault}
 use Rattle.pg_meaning.specs.declared.logic.Tri.{Tri}
 use Rattle.pg_meaning.specs.declared.logic.Tri.TheVariants.{True, False, Null}
-use Rattle.pg_meaning.specs.declared.operators.Operator.TheVariants.{And}
 
 by_truth : (q : Result Tri Fault) (rest : Result Bool Fault) → (q >>= λ t. elim (is_true t) [ true ↦ rest | false ↦ Ok false ]) ≡ ((q >>= λ t. Ok (is_true t)) >>= λ b. cond b rest (Ok false))
 by_truth (Ok True) rest = refl
@@ -46,11 +44,3 @@ module _ (s : RowContext) (g : Graph) where
 
   pub alone : (e : tree.Expression) → all_met_by s g (e ∷ []) ≡ is_met_by s g e
   alone e = one_more e [] ∙ whole (is_met_by s g e)
-
-pub of_chain : (e : tree.Expression) (os : tree.Operands) → begins_conjunction os ≡ true → conjuncts (tree.chain e os) ≡ e ∷ operands_of os
-of_chain e (tree.operand And f os) h = refl
-of_chain e os h = absurd (cc)
-
-pub of_other_chain : (e : tree.Expression) (os : tree.Operands) → begins_conjunction os ≡ false → conjuncts (tree.chain e os) ≡ tree.chain e os ∷ []
-of_other_chain e (tree.operand And f os) h = absurd (cc)
-of_other_chain e os h = refl

@@ -4,7 +4,7 @@ use Rattle.std.proofs.Common.{◌≡◌, ◌<◌, ◌≤◌, ◌+◌, ℕ, ℤ, 
 use Rattle.std.proofs.lemmas.Int.{to_z-of_z}
 use Rattle.std.proofs.lemmas.List.{at_drop_more, at_drop_all}
 use Rattle.pg_expr.specs.Contexts.{found_view, founds_view}
-use Rattle.pg_expr.specs.declared.found.Found.{Found}
+use Rattle.pg_expr.specs.declared.value_ref.ValueRef.{ValueRef}
 use Rattle.pg_meaning.specs.Answer.{◌>>=◌}
 use Rattle.pg_meaning.specs.Functions.{integers_of, range_by, range_over}
 use Rattle.pg_meaning.specs.Value.{Value as Datum, Values, integer, item}
@@ -29,7 +29,7 @@ moved : (is : List ℤ) (i : ℤ) (r : Result (List ℤ) Fault) → joined_integ
 moved is i (Ok js) = ap Ok (sym (pushed is js i))
 moved is i (Err e) = refl
 
-next_integer : (is : List ℤ) (i : ℤ) (f : Found) (fs : List Found) → found_view f ≡ integer i
+next_integer : (is : List ℤ) (i : ℤ) (f : ValueRef) (fs : List ValueRef) → found_view f ≡ integer i
     → joined_integers is (integers_of (founds_view (f ∷ fs))) ≡ joined_integers (is ++ i ∷ []) (integers_of (founds_view fs))
 next_integer is i f fs h = ap (λ v. joined_integers is (integers_of (item v (founds_view fs)))) h ∙ moved is i (integers_of (founds_view fs))
 
@@ -41,7 +41,7 @@ none_yet : (r : Result (List ℤ) Fault) → r ≡ joined_integers [] r
 none_yet (Ok is) = refl
 none_yet (Err e) = refl
 
-pub no_integers_yet : (is : List ℤ) (fs : List Found) → is ≡ [] → integers_of (founds_view fs) ≡ joined_integers is (integers_of (founds_view fs))
+pub no_integers_yet : (is : List ℤ) (fs : List ValueRef) → is ≡ [] → integers_of (founds_view fs) ≡ joined_integers is (integers_of (founds_view fs))
 no_integers_yet is fs none = none_yet (integers_of (founds_view fs)) ∙ ap (λ js. joined_integers js (integers_of (founds_view fs))) (sym none)
 
 -- any other value is a fault
@@ -49,8 +49,8 @@ of_other : (vs : Values) (v : Value) (part : Value-F Value) → roll-Value part 
 of_other vs v (Value-F.Int i) same other = absurd (other i (sym same ∙ rolls-Int i))
 of_other vs v part same other = ap (λ u. integers_of (item u vs)) (sym (ap view same) ∙ fold-roll-Value Datum view_step part)
 
-module _ (fs all : List Found) (same : fs ≡ all) (i : ℕ) (is : List ℤ) (so_far : integers_of (founds_view fs) ≡ joined_integers is (integers_of (founds_view (drop i fs)))) where
-  module _ (f : Found) (within : i < length fs) (at : f ≡ get_or fs i f) where
+module _ (fs all : List ValueRef) (same : fs ≡ all) (i : ℕ) (is : List ℤ) (so_far : integers_of (founds_view fs) ≡ joined_integers is (integers_of (founds_view (drop i fs)))) where
+  module _ (f : ValueRef) (within : i < length fs) (at : f ≡ get_or fs i f) where
     at_argument : integers_of (founds_view fs) ≡ joined_integers is (integers_of (founds_view (f ∷ drop (i + 1) fs)))
     at_argument =
         so_far

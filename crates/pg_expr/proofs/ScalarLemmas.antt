@@ -1,17 +1,17 @@
 -- What is told of a whole, by what is told of its parts.
 use Rattle.std.proofs.Common.{◌≡◌, ℕ, Bool, true, false, List, [], ◌∷◌, Option, Some, None, Ok, refl, sym, ap, subst, ◌∙◌}
-use Rattle.std.specs.Prelude.{IfSome, is_none, option_map}
+use Rattle.std.specs.Prelude.{IfSome, is_none, is_some, option_map}
 use Rattle.pg_expr.proofs.Turns as turn
-use Rattle.pg_expr.proofs.Walks.{chain_of}
+use Rattle.pg_expr.proofs.Walks.{chain_of, met_when, next_unmet, result_of, true_of}
 use Rattle.pg_expr.specs.Conditions.{is_true_at}
 use Rattle.pg_expr.specs.Contexts.{given}
 use Rattle.pg_expr.specs.Operators.{all_negated, truth_compared}
-use Rattle.pg_expr.specs.Scalars.{Tells, ThenTells, BothTell, TruthIn}
+use Rattle.pg_expr.specs.Scalars.{Chooses, Tells, ThenTells, BothTell, TruthIn}
 use Rattle.pg_expr.specs.declared.row_context.RowContext.{RowContext}
 use Rattle.pg_meaning.specs.Answer.{Answer, ◌>>=◌}
 use Rattle.pg_meaning.specs.Expressions.{by_truth, combined, compared}
 use Rattle.pg_meaning.specs.Graph.{Graph}
-use Rattle.pg_meaning.specs.Logic.{and3, negated, truth_of, value_of}
+use Rattle.pg_meaning.specs.Logic.{and3, negated, truth_of, value_of_truth}
 use Rattle.pg_meaning.specs.Value.{Value as Datum, boolean}
 use Rattle.pg_meaning.specs.declared.logic.Tri.{Tri}
 use Rattle.pg_meaning.specs.declared.logic.Tri.TheVariants.{True, False, Null}
@@ -56,25 +56,25 @@ nothing_of_both None p next = refl
 nothing_of_both (Some v) p next = nothing_then p (next v)
 
 -- what truth values tell
-pub by_truths : (f : Tri → Tri → Tri) (v w : Datum) (x y : Tri) → truth_of v ≡ Ok x → truth_of w ≡ Ok y → by_truth f v w ≡ Ok (value_of (f x y))
-by_truths f v w x y h k = ap (λ r. r >>= λ s. truth_of w >>= λ t. Ok (value_of (f s t))) h ∙ ap (λ r. r >>= λ t. Ok (value_of (f x t))) k
+pub by_truths : (f : Tri → Tri → Tri) (v w : Datum) (x y : Tri) → truth_of v ≡ Ok x → truth_of w ≡ Ok y → by_truth f v w ≡ Ok (value_of_truth (f x y))
+by_truths f v w x y h k = ap (λ r. r >>= λ s. truth_of w >>= λ t. Ok (value_of_truth (f s t))) h ∙ ap (λ r. r >>= λ t. Ok (value_of_truth (f x t))) k
 
-pub negated_told : (o : Option Datum) (t : Tri) (n : ℕ) (told : Option Datum) → TruthIn o (Some t) → told ≡ Some (value_of (negated n t)) → ThenTells o told (all_negated n)
+pub negated_told : (o : Option Datum) (t : Tri) (n : ℕ) (told : Option Datum) → TruthIn o (Some t) → told ≡ Some (value_of_truth (negated n t)) → ThenTells o told (all_negated n)
 negated_told None t n told h k = absurd h
-negated_told (Some v) t n told h k = told_is (value_of (negated n t)) k (ap (λ r. r >>= λ u. Ok (value_of (negated n u))) h)
+negated_told (Some v) t n told h k = told_is (value_of_truth (negated n t)) k (ap (λ r. r >>= λ u. Ok (value_of_truth (negated n u))) h)
 
 pub logic_told : (o p : Option Datum) (t : Tri) (told : Option Datum) (next : Datum → Datum → Answer) → TruthIn o (Some t) → ((v : Datum) → truth_of v ≡ Ok t → ThenTells p told (next v)) → BothTell o p told next
 logic_told None p t told next h k = absurd h
 logic_told (Some v) p t told next h k = k v h
 
-pub second_told : (p : Option Datum) (t : Tri) (u : Option Tri) (told : Option Datum) (next : Datum → Answer) → TruthIn p (Some t) → told ≡ option_map value_of u
-    → IfSome u (λ x. (w : Datum) → truth_of w ≡ Ok t → next w ≡ Ok (value_of x)) → ThenTells p told next
+pub second_told : (p : Option Datum) (t : Tri) (u : Option Tri) (told : Option Datum) (next : Datum → Answer) → TruthIn p (Some t) → told ≡ option_map value_of_truth u
+    → IfSome u (λ x. (w : Datum) → truth_of w ≡ Ok t → next w ≡ Ok (value_of_truth x)) → ThenTells p told next
 second_told None t u told next h k m = absurd h
 second_told (Some w) t None told next h k m = untold _ k
-second_told (Some w) t (Some x) told next h k m = told_is (value_of x) k (m w h)
+second_told (Some w) t (Some x) told next h k m = told_is (value_of_truth x) k (m w h)
 
-pub at_each : (o : Operator) (x y : Tri) (u : Option Tri) (v : Datum) → truth_of v ≡ Ok x → IfSome u (λ z. (v w : Datum) → truth_of v ≡ Ok x → truth_of w ≡ Ok y → combined o v w ≡ Ok (value_of z))
-    → IfSome u (λ z. (w : Datum) → truth_of w ≡ Ok y → combined o v w ≡ Ok (value_of z))
+pub at_each : (o : Operator) (x y : Tri) (u : Option Tri) (v : Datum) → truth_of v ≡ Ok x → IfSome u (λ z. (v w : Datum) → truth_of v ≡ Ok x → truth_of w ≡ Ok y → combined o v w ≡ Ok (value_of_truth z))
+    → IfSome u (λ z. (w : Datum) → truth_of w ≡ Ok y → combined o v w ≡ Ok (value_of_truth z))
 at_each o x y None v h k = tt
 at_each o x y (Some z) v h k = λ w m. k v w h m
 
@@ -84,10 +84,10 @@ and_true True = refl
 and_true False = refl
 and_true Null = refl
 
-pub compared_told : (o : Operator) (v w : Datum) (t : Option Tri) (told : Option Datum) → told ≡ option_map value_of t → IfSome t (λ u. compared o v w ≡ Ok u) → Tells told (truth_compared v ((o, w) ∷ []))
+pub compared_told : (o : Operator) (v w : Datum) (t : Option Tri) (told : Option Datum) → told ≡ option_map value_of_truth t → IfSome t (λ u. compared o v w ≡ Ok u) → Tells told (truth_compared v ((o, w) ∷ []))
 compared_told o v w None told h k = untold (truth_compared v ((o, w) ∷ [])) h
 compared_told o v w (Some u) told h k =
-    told_is (value_of u) h (ap (λ r. (r >>= λ t. (Ok True) >>= λ x. Ok (and3 t x)) >>= λ t. Ok (value_of t)) k ∙ ap (λ x. Ok (value_of x)) (and_true u))
+    told_is (value_of_truth u) h (ap (λ r. (r >>= λ t. (Ok True) >>= λ x. Ok (and3 t x)) >>= λ t. Ok (value_of_truth t)) k ∙ ap (λ x. Ok (value_of_truth x)) (and_true u))
 
 pub nothing_follows : (o : Option Datum) (next : Datum → Answer) → is_none o ≡ true → ThenTells o None next
 nothing_follows None next h = refl
@@ -105,3 +105,17 @@ module _ (s : RowContext) (g : Graph) (p : Operator × Expression) (rest : List 
   next_told (Some v) None next h both told k = untold _ (subst (λ q. ThenTells q told (λ u. chain_of s g u rest)) both k)
   next_told (Some v) (Some w) None h both told k = untold _ k
   next_told (Some v) (Some w) (Some u) h both told k = tells_by told (turn.next_combined s g v p rest w u h both) k
+
+-- what a condition of CASE tells of the conditions from there on
+module _ (s : RowContext) (g : Graph) (w : Expression × Expression) (rest : List (Expression × Expression)) where
+  pub unmet_told : (o : Option Datum) → Tells o (given s g (expression_view w.0)) → Chooses o (Some false) → true_of s g None (w ∷ rest) ≡ true_of s g None rest
+  unmet_told None h k = absurd k
+  unmet_told (Some v) h k = next_unmet s g None w rest v h k
+
+  pub met_told : (o : Option Datum) → Tells o (given s g (expression_view w.0)) → Chooses o (Some true) → true_of s g None (w ∷ rest) ≡ result_of s g w.1
+  met_told None h k = absurd k
+  met_told (Some v) h k = met_when s g None w rest v h k
+
+pub none_there : {X : Type 0} (o : Option X) → is_some o ≡ false → o ≡ None
+none_there None h = refl
+none_there (Some x) h = absurd (let no : ⊥ = cc in no)

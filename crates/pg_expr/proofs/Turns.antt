@@ -6,10 +6,10 @@ use Rattle.pg_expr.proofs.Walks.{joined, joined_pairs, each_of, pairs_given, fir
 use Rattle.pg_expr.specs.Calls.{given_call}
 use Rattle.pg_expr.specs.Operators.{truth_compared}
 use Rattle.pg_expr.specs.Contexts.{found_view, founds_view, pairs_view, given, given_each, given_map, given_first, given_compared, given_chain, given_chained, given_tests, given_perhaps, given_otherwise, given_reads, row_at, parameters_at}
-use Rattle.pg_expr.specs.declared.found.Found.{Found}
+use Rattle.pg_expr.specs.declared.value_ref.ValueRef.{ValueRef}
 use Rattle.pg_expr.specs.declared.row_context.RowContext.{RowContext}
 use Rattle.pg_meaning.specs.Answer.{Answer, ◌>>=◌}
-use Rattle.pg_meaning.specs.Entries.{at_key, put}
+use Rattle.pg_meaning.specs.Entries.{at_key, with_entry}
 use Rattle.pg_meaning.specs.Expressions.{begins_comparison, combined, fault_of_name, is_coalesce, or_fault, property_of}
 use Rattle.pg_meaning.specs.Functions.{Function, applied, function_named, is_null}
 use Rattle.pg_meaning.specs.Graph.{Graph}
@@ -51,7 +51,7 @@ pub told : {X A : Type 0} {seen : X → A} {answer : Result A Fault} (result : R
 told (Ok x) h k = record { ok = h; err = tt }
 told (Err e) h k = record { ok = tt; err = λ other. k }
 
-pub literal_gives : (l : Literal) (result : Result Found Fault) → IfOk result (λ f. found_view f ≡ literal_view l) → IfErr result (λ e. e ≡ OutOfMemory) → Gives result (Ok (literal_view l)) found_view
+pub literal_gives : (l : Literal) (result : Result ValueRef Fault) → IfOk result (λ f. found_view f ≡ literal_view l) → IfErr result (λ e. e ≡ OutOfMemory) → Gives result (Ok (literal_view l)) found_view
 literal_gives l (Ok f) h k = record { ok = ap Ok (sym h); err = tt }
 literal_gives l (Err e) h k = record { ok = tt; err = λ other. absurd (other k) }
 
@@ -96,21 +96,21 @@ behind_all (Ok vs) f h = refl
 behind_all (Err e) f h = refl
 
 module _ (s : RowContext) (g : Graph) where
-  pub first_item : (fs : List Found) (xs : List Expression) → fs ≡ [] → each_of s g xs ≡ joined (founds_view fs) (each_of s g xs)
+  pub first_item : (fs : List ValueRef) (xs : List Expression) → fs ≡ [] → each_of s g xs ≡ joined (founds_view fs) (each_of s g xs)
   first_item fs xs h = none_before (each_of s g xs) ∙ ap (λ ys. joined (founds_view ys) (each_of s g xs)) (sym h)
 
-  pub failed_item : (fs : List Found) (x : Expression) (xs : List Expression) (e : Fault) → given s g (expression_view x) ≡ Err e → joined (founds_view fs) (each_of s g (x ∷ xs)) ≡ Err e
+  pub failed_item : (fs : List ValueRef) (x : Expression) (xs : List Expression) (e : Fault) → given s g (expression_view x) ≡ Err e → joined (founds_view fs) (each_of s g (x ∷ xs)) ≡ Err e
   failed_item fs x xs e h = ap (λ r. joined (founds_view fs) (r >>= λ u. each_of s g xs >>= λ us. Ok (item u us))) h
 
-  pub first_operand : (fs : List (Operator × Found)) (os : List (Operator × Expression)) → fs ≡ [] → operands_given s g os ≡ joined_pairs (pairs_view fs) (operands_given s g os)
+  pub first_operand : (fs : List (Operator × ValueRef)) (os : List (Operator × Expression)) → fs ≡ [] → operands_given s g os ≡ joined_pairs (pairs_view fs) (operands_given s g os)
   first_operand fs os h = no_pairs_before (operands_given s g os) ∙ ap (λ ps. joined_pairs (pairs_view ps) (operands_given s g os)) (sym h)
 
-  pub failed_operand : (fs : List (Operator × Found)) (p : Operator × Expression) (os : List (Operator × Expression)) (e : Fault) → given s g (expression_view p.1) ≡ Err e
+  pub failed_operand : (fs : List (Operator × ValueRef)) (p : Operator × Expression) (os : List (Operator × Expression)) (e : Fault) → given s g (expression_view p.1) ≡ Err e
       → joined_pairs (pairs_view fs) (operands_given s g (p ∷ os)) ≡ Err e
   failed_operand fs p os e h = ap (λ r. joined_pairs (pairs_view fs) (r >>= λ u. operands_given s g os >>= λ ps. Ok ((p.0, u) ∷ ps))) h
 
   pub failed_pair : (found : Entries) (p : Name × Expression) (ps : List (Name × Expression)) (e : Fault) → given s g (expression_view p.1) ≡ Err e → pairs_given s g found (p ∷ ps) ≡ Err e
-  failed_pair found p ps e h = ap (λ r. r >>= λ u. pairs_given s g (put (string_bytes p.0.text) u found) ps) h
+  failed_pair found p ps e h = ap (λ r. r >>= λ u. pairs_given s g (with_entry (string_bytes p.0.text) u found) ps) h
 
   pub failed_first : (x : Expression) (xs : List Expression) (e : Fault) → given s g (expression_view x) ≡ Err e → first_of s g (x ∷ xs) ≡ Err e
   failed_first x xs e h = ap (λ r. r >>= λ u. elim (is_null u) [ true ↦ first_of s g xs | false ↦ Ok u ]) h

@@ -6,16 +6,17 @@ use Rattle.std.specs.declared.alloc.Global.{Global}
 use Rattle.pg_expr.specs.Calls.{given_call}
 use Rattle.pg_expr.specs.Operators.{is_chosen}
 use Rattle.pg_expr.specs.Contexts.{found_view, founds_view, pairs_view, given, given_each, given_pairs, given_first, given_true, given_chain, given_chained, given_operands, given_text_test, given_tests, given_index, given_suffixes, given_reads, given_perhaps, given_otherwise}
-use Rattle.pg_expr.specs.declared.found.Found.{Found}
+use Rattle.pg_expr.specs.declared.value_ref.ValueRef.{ValueRef}
 use Rattle.pg_expr.specs.declared.row_context.RowContext.{RowContext}
 use Rattle.pg_meaning.specs.Answer.{Answer, ◌>>=◌}
 use Rattle.pg_meaning.specs.Arithmetic.{appended}
-use Rattle.pg_meaning.specs.Entries.{put}
+use Rattle.pg_meaning.specs.Entries.{with_entry}
 use Rattle.pg_meaning.specs.Expressions.{condition_of, tested, indexed}
 use Rattle.pg_meaning.specs.Functions.{is_null}
 use Rattle.pg_meaning.specs.Graph.{Graph}
 use Rattle.pg_meaning.specs.Logic.{is_true}
 use Rattle.pg_meaning.specs.Parse.{expressions_of, operands_of, pairs_of, whens_of}
+use Rattle.pg_meaning.specs.Tree as tree
 use Rattle.pg_meaning.specs.Value.{Value as Datum, Values, null, no_items, item, Entries}
 use Rattle.pg_meaning.specs.declared.fault.Fault.{Fault}
 use Rattle.pg_meaning.specs.declared.fault.Fault.TheVariants.{OutOfMemory}
@@ -44,19 +45,19 @@ pub appended_nothing : (vs : Values) → appended vs no_items ≡ vs
 appended_nothing no_items = refl
 appended_nothing (item v vs) = ap (item v) (appended_nothing vs)
 
-pushed : (fs : List Found) (f : Found) (ws : Values) → appended (founds_view (fs ++ f ∷ [])) ws ≡ appended (founds_view fs) (item (found_view f) ws)
+pushed : (fs : List ValueRef) (f : ValueRef) (ws : Values) → appended (founds_view (fs ++ f ∷ [])) ws ≡ appended (founds_view fs) (item (found_view f) ws)
 pushed [] f ws = refl
 pushed (g ∷ fs) f ws = ap (item (found_view g)) (pushed fs f ws)
 
-moved : (fs : List Found) (f : Found) (r : Result Values Fault) → joined (founds_view fs) (r >>= λ ws. Ok (item (found_view f) ws)) ≡ joined (founds_view (fs ++ f ∷ [])) r
+moved : (fs : List ValueRef) (f : ValueRef) (r : Result Values Fault) → joined (founds_view fs) (r >>= λ ws. Ok (item (found_view f) ws)) ≡ joined (founds_view (fs ++ f ∷ [])) r
 moved fs f (Ok ws) = ap Ok (sym (pushed fs f ws))
 moved fs f (Err e) = refl
 
-pairs_pushed : (fs : List (Operator × Found)) (o : Operator) (f : Found) (ps : List (Operator × Datum)) → pairs_view (fs ++ (o, f) ∷ []) ++ ps ≡ pairs_view fs ++ (o, found_view f) ∷ ps
+pairs_pushed : (fs : List (Operator × ValueRef)) (o : Operator) (f : ValueRef) (ps : List (Operator × Datum)) → pairs_view (fs ++ (o, f) ∷ []) ++ ps ≡ pairs_view fs ++ (o, found_view f) ∷ ps
 pairs_pushed [] o f ps = refl
 pairs_pushed (g ∷ fs) o f ps = ap (λ qs. (g.0, found_view g.1) ∷ qs) (pairs_pushed fs o f ps)
 
-pairs_moved : (fs : List (Operator × Found)) (o : Operator) (f : Found) (r : Result (List (Operator × Datum)) Fault)
+pairs_moved : (fs : List (Operator × ValueRef)) (o : Operator) (f : ValueRef) (r : Result (List (Operator × Datum)) Fault)
     → joined_pairs (pairs_view fs) (r >>= λ ps. Ok ((o, found_view f) ∷ ps)) ≡ joined_pairs (pairs_view (fs ++ (o, f) ∷ [])) r
 pairs_moved fs o f (Ok ps) = ap Ok (sym (pairs_pushed fs o f ps))
 pairs_moved fs o f (Err e) = refl
@@ -72,6 +73,10 @@ in_turn (Err e) f h = refl
 as_given : (a : Answer) → ((a >>= λ v. Ok (Some v)) >>= λ o. Ok (unwrap_or o null)) ≡ a
 as_given (Ok v) = refl
 as_given (Err e) = refl
+
+picked_as : (s : RowContext) (g : Graph) (otherwise : tree.Perhaps) (a : Answer) → ((a >>= λ v. Ok (Some v)) >>= λ o. given_otherwise s g o otherwise) ≡ a
+picked_as s g otherwise (Ok v) = refl
+picked_as s g otherwise (Err e) = refl
 
 by_truth : (q : Result Tri Fault) (x y : Result (Option Datum) Fault) → (q >>= λ t. elim (is_true t) [ true ↦ x | false ↦ y ]) ≡ ((q >>= λ t. Ok (is_true t)) >>= λ b. elim b [ true ↦ x | false ↦ y ])
 by_truth (Ok True) x y = refl
@@ -104,16 +109,16 @@ module _ (s : RowContext) (g : Graph) where
   abbrev pub suffixes_given : Datum → List (Suffix Expression) → Answer
   suffixes_given v ss = given_suffixes s g v (suffixes_of (map suffix_view ss))
 
-  pub next_item : (fs : List Found) (x : Expression) (xs : List Expression) (f : Found) → given s g (expression_view x) ≡ Ok (found_view f)
+  pub next_item : (fs : List ValueRef) (x : Expression) (xs : List Expression) (f : ValueRef) → given s g (expression_view x) ≡ Ok (found_view f)
       → joined (founds_view fs) (each_of (x ∷ xs)) ≡ joined (founds_view (fs ++ f ∷ [])) (each_of xs)
   next_item fs x xs f h = ap (λ r. joined (founds_view fs) (r >>= λ u. each_of xs >>= λ us. Ok (item u us))) h ∙ moved fs f (each_of xs)
 
-  pub no_more_items : (fs : List Found) (i : ℕ) (xs : List Expression) → length xs ≤ i → joined (founds_view fs) (each_of (drop i xs)) ≡ Ok (founds_view fs)
+  pub no_more_items : (fs : List ValueRef) (i : ℕ) (xs : List Expression) → length xs ≤ i → joined (founds_view fs) (each_of (drop i xs)) ≡ Ok (founds_view fs)
   no_more_items fs i xs h = ap (λ ys. joined (founds_view fs) (each_of ys)) (drop_all i xs h) ∙ ap Ok (appended_nothing (founds_view fs))
 
   pub next_pair : (found : Entries) (p : Name × Expression) (ps : List (Name × Expression)) (v : Datum) → given s g (expression_view p.1) ≡ Ok v
-      → pairs_given found (p ∷ ps) ≡ pairs_given (put (string_bytes p.0.text) v found) ps
-  next_pair found p ps v h = ap (λ r. r >>= λ u. pairs_given (put (string_bytes p.0.text) u found) ps) h
+      → pairs_given found (p ∷ ps) ≡ pairs_given (with_entry (string_bytes p.0.text) v found) ps
+  next_pair found p ps v h = ap (λ r. r >>= λ u. pairs_given (with_entry (string_bytes p.0.text) u found) ps) h
 
   pub next_null : (x : Expression) (xs : List Expression) (v : Datum) → given s g (expression_view x) ≡ Ok v → is_null v ≡ true → first_of (x ∷ xs) ≡ first_of xs
   next_null x xs v h k =
@@ -125,7 +130,7 @@ module _ (s : RowContext) (g : Graph) where
       ap (λ r. r >>= λ u. elim (is_null u) [ true ↦ first_of xs | false ↦ Ok u ]) h
       ∙ (let P : Bool → Type 0 = λ b. ◌≡◌ {A = Answer} (elim b [ true ↦ first_of xs | false ↦ Ok v ]) (Ok v) in subst P (sym k) refl)
 
-  abbrev result_of : Expression → Result (Option Datum) Fault
+  abbrev pub result_of : Expression → Result (Option Datum) Fault
   result_of x = given s g (expression_view x) >>= λ u. Ok (Some u)
 
   abbrev picked : Option Datum → Expression → List (Expression × Expression) → Result Bool Fault → Result (Option Datum) Fault
@@ -136,6 +141,10 @@ module _ (s : RowContext) (g : Graph) where
   one_when subject w ws v h =
       ap (λ r. r >>= λ u. condition_of subject u >>= λ t. elim (is_true t) [ true ↦ result_of w.1 | false ↦ true_of subject ws ]) h
       ∙ by_truth (condition_of subject v) (result_of w.1) (true_of subject ws)
+
+  pub met_when : (subject : Option Datum) (w : Expression × Expression) (ws : List (Expression × Expression)) (v : Datum)
+      → given s g (expression_view w.0) ≡ Ok v → is_chosen subject v ≡ Ok true → true_of subject (w ∷ ws) ≡ result_of w.1
+  met_when subject w ws v h k = one_when subject w ws v h ∙ ap (picked subject w.1 ws) k
 
   pub next_unmet : (subject : Option Datum) (w : Expression × Expression) (ws : List (Expression × Expression)) (v : Datum)
       → given s g (expression_view w.0) ≡ Ok v → is_chosen subject v ≡ Ok false → true_of subject (w ∷ ws) ≡ true_of subject ws
@@ -157,11 +166,11 @@ module _ (s : RowContext) (g : Graph) where
       → given s g (expression_view w.0) ≡ Ok v → is_chosen subject v ≡ Err e → true_of subject (w ∷ ws) ≡ Err e
   next_unknown subject w ws v e h k = one_when subject w ws v h ∙ ap (picked subject w.1 ws) k
 
-  pub next_operand : (fs : List (Operator × Found)) (o : Operator) (x : Expression) (os : List (Operator × Expression)) (f : Found) → given s g (expression_view x) ≡ Ok (found_view f)
+  pub next_operand : (fs : List (Operator × ValueRef)) (o : Operator) (x : Expression) (os : List (Operator × Expression)) (f : ValueRef) → given s g (expression_view x) ≡ Ok (found_view f)
       → joined_pairs (pairs_view fs) (operands_given ((o, x) ∷ os)) ≡ joined_pairs (pairs_view (fs ++ (o, f) ∷ [])) (operands_given os)
   next_operand fs o x os f h = ap (λ r. joined_pairs (pairs_view fs) (r >>= λ u. operands_given os >>= λ ps. Ok ((o, u) ∷ ps))) h ∙ pairs_moved fs o f (operands_given os)
 
-  pub no_more_operands : (fs : List (Operator × Found)) (i : ℕ) (os : List (Operator × Expression)) → length os ≤ i → joined_pairs (pairs_view fs) (operands_given (drop i os)) ≡ Ok (pairs_view fs)
+  pub no_more_operands : (fs : List (Operator × ValueRef)) (i : ℕ) (os : List (Operator × Expression)) → length os ≤ i → joined_pairs (pairs_view fs) (operands_given (drop i os)) ≡ Ok (pairs_view fs)
   no_more_operands fs i os h = ap (λ ps. joined_pairs (pairs_view fs) (operands_given ps)) (drop_all i os h) ∙ ap Ok (append_nothing (pairs_view fs))
 
   pub next_text_test : (v : Datum) (t : TextTest) (y : Expression) (ts : List (Test Expression)) (u : Datum) → given_text_test s g v t (expression_view y) ≡ Ok u
@@ -192,18 +201,32 @@ module _ (s : RowContext) (g : Graph) where
       → given s g (expression_view (expression.Suffixes x ss ls)) ≡ given_reads s g v (suffixes_of (map suffix_view ss.items)) (names_view ls.items)
   of_suffixes x ss ls v h = ap (λ e. given s g e) (suffixes_is x ss ls) ∙ ap (λ r. r >>= λ u. given_reads s g u (suffixes_of (map suffix_view ss.items)) (names_view ls.items)) h
 
+  -- CASE without a subject
+  module _ (ws : List (Expression × Expression)) (otherwise : Option (Box Expression Global)) where
+    abbrev pub case_of : List (Expression × Expression) → Answer
+    case_of us = true_of None us >>= λ o. given_otherwise s g o (perhaps_view otherwise)
+
+    pub found_when : (x : Expression) → true_of None ws ≡ result_of x → case_of ws ≡ given s g (expression_view x)
+    found_when x h = ap (λ r. r >>= λ o. given_otherwise s g o (perhaps_view otherwise)) h ∙ picked_as s g (perhaps_view otherwise) (given s g (expression_view x))
+
+    pub found_otherwise : (x : Box Expression Global) → true_of None ws ≡ Ok None → otherwise ≡ Some x → case_of ws ≡ given s g (expression_view x.value)
+    found_otherwise x h is = ap (λ r. r >>= λ o. given_otherwise s g o (perhaps_view otherwise)) h ∙ ap (λ z. given_otherwise s g None (perhaps_view z)) is ∙ as_given (given s g (expression_view x.value))
+
+    pub found_null : true_of None ws ≡ Ok None → otherwise ≡ None → case_of ws ≡ Ok null
+    found_null h is = ap (λ r. r >>= λ o. given_otherwise s g o (perhaps_view otherwise)) h ∙ ap (λ z. given_otherwise s g None (perhaps_view z)) is
+
   module _ (subject : Option (Box Expression Global)) (ws : Vec (Expression × Expression) Global) (otherwise : Option (Box Expression Global)) (v : Option Datum) (h : given_perhaps s g (perhaps_view subject) ≡ Ok v) where
-    in_case : given s g (expression_view (expression.Case subject ws otherwise)) ≡ (true_of v ws.items >>= λ o. given_otherwise s g o (perhaps_view otherwise))
+    pub in_case : given s g (expression_view (expression.Case subject ws otherwise)) ≡ (true_of v ws.items >>= λ o. given_otherwise s g o (perhaps_view otherwise))
     in_case = ap (λ e. given s g e) (case_is subject ws otherwise) ∙ ap (λ r. r >>= λ u. true_of u ws.items >>= λ o. given_otherwise s g o (perhaps_view otherwise)) h
 
     pub failed_case : (e : Fault) → true_of v ws.items ≡ Err e → given s g (expression_view (expression.Case subject ws otherwise)) ≡ Err e
     failed_case e k = in_case ∙ ap (λ r. r >>= λ z. given_otherwise s g z (perhaps_view otherwise)) k
 
-    module _ (o : Option Found) (k : true_of v ws.items ≡ Ok (option_map found_view o)) where
-      in_choice : (p : Option Found) → o ≡ p → given s g (expression_view (expression.Case subject ws otherwise)) ≡ given_otherwise s g (option_map found_view p) (perhaps_view otherwise)
+    module _ (o : Option ValueRef) (k : true_of v ws.items ≡ Ok (option_map found_view o)) where
+      in_choice : (p : Option ValueRef) → o ≡ p → given s g (expression_view (expression.Case subject ws otherwise)) ≡ given_otherwise s g (option_map found_view p) (perhaps_view otherwise)
       in_choice p is = in_case ∙ ap (λ r. r >>= λ z. given_otherwise s g z (perhaps_view otherwise)) k ∙ ap (λ z. given_otherwise s g (option_map found_view z) (perhaps_view otherwise)) is
 
-      pub chosen_case : (f : Found) → o ≡ Some f → given s g (expression_view (expression.Case subject ws otherwise)) ≡ Ok (found_view f)
+      pub chosen_case : (f : ValueRef) → o ≡ Some f → given s g (expression_view (expression.Case subject ws otherwise)) ≡ Ok (found_view f)
       chosen_case f is = in_choice (Some f) is
 
       pub otherwise_case : (x : Box Expression Global) → o ≡ None → otherwise ≡ Some x → given s g (expression_view (expression.Case subject ws otherwise)) ≡ given s g (expression_view x.value)

@@ -1,5 +1,5 @@
 -- The conjuncts of a condition one after the other.
-use Rattle.std.specs.Prelude.{Bool, true, false, List, Result, Ok}
+use Rattle.std.specs.Prelude.{Bool, List, Result, Ok}
 use Rattle.pg_expr.specs.Contexts.{given, row_at, parameters_at}
 use Rattle.pg_expr.specs.declared.row_context.RowContext.{RowContext}
 use Rattle.pg_meaning.specs.Answer.{◌>>=◌}
@@ -9,7 +9,6 @@ use Rattle.pg_meaning.specs.Logic.{truth_of, is_true}
 use Rattle.pg_meaning.specs.Tree as tree
 use Rattle.pg_meaning.specs.Value.{Value}
 use Rattle.pg_meaning.specs.declared.fault.Fault.{Fault}
-use Rattle.pg_meaning.specs.declared.operators.Operator.TheVariants.{And}
 
 abbrev pub is_true_at : Value → Result Bool Fault
 is_true_at v = truth_of v >>= λ t. Ok (is_true t)
@@ -20,7 +19,3 @@ is_met_by s g e = given s g e >>= is_true_at
 
 abbrev pub all_met_by : RowContext → Graph → List tree.Expression → Result Bool Fault
 all_met_by s g es = all_true (row_at s) (parameters_at s) g es
-
-abbrev pub begins_conjunction : tree.Operands → Bool
-begins_conjunction (tree.operand And e os) = true
-begins_conjunction os = false

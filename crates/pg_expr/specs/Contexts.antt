@@ -1,12 +1,12 @@
 -- What expressions give at a context: a row under names, with the parameters of the request.
 use Rattle.std.specs.Prelude.{List, map, true, false, Option, Some, None, unwrap_or, Result, Ok}
-use Rattle.pg_expr.specs.declared.found.Found.{Found}
-use Rattle.pg_expr.specs.declared.found.Found.TheVariants.{Lent, Made}
+use Rattle.pg_expr.specs.declared.value_ref.ValueRef.{ValueRef}
+use Rattle.pg_expr.specs.declared.value_ref.ValueRef.TheVariants.{Lent, Made}
 use Rattle.pg_expr.specs.declared.row_context.RowContext.{RowContext}
 use Rattle.pg_meaning.specs.Answer.{Answer, ◌>>=◌}
 use Rattle.pg_meaning.specs.Expressions as meaning
 use Rattle.pg_meaning.specs.Graph.{Graph}
-use Rattle.pg_meaning.specs.Logic.{value_of}
+use Rattle.pg_meaning.specs.Logic.{value_of_truth}
 use Rattle.pg_meaning.specs.Measure.{made}
 use Rattle.pg_meaning.specs.Rows.{Row}
 use Rattle.pg_meaning.specs.Tree as tree
@@ -18,11 +18,11 @@ use Rattle.pg_rows.specs.Named.{row_of}
 use Rattle.pg_value_core.specs.Given.{parameters_view}
 use Rattle.pg_value_core.specs.View.{view}
 
-abbrev pub found_view : Found → Datum
+abbrev pub found_view : ValueRef → Datum
 found_view (Lent v) = view v.now
 found_view (Made v) = view v
 
-abbrev pub founds_view : List Found → Values
+abbrev pub founds_view : List ValueRef → Values
 founds_view fs = values_of (map found_view fs)
 
 abbrev pub row_at : RowContext → Row
@@ -34,7 +34,7 @@ parameters_at s = parameters_view s.parameters.now
 abbrev pub given : RowContext → Graph → tree.Expression → Answer
 given s g e = meaning.evaluate (row_at s) (parameters_at s) g e
 
-abbrev pub pairs_view : List (Operator × Found) → List (Operator × Datum)
+abbrev pub pairs_view : List (Operator × ValueRef) → List (Operator × Datum)
 pairs_view ps = map (λ p. (p.0, found_view p.1)) ps
 
 -- ---- what parts of expressions give
@@ -72,7 +72,7 @@ given_operands s g os = meaning.evaluate_operands (row_at s) (parameters_at s) g
 
 -- comparisons of neighbours, from a first value on
 abbrev pub given_compared : RowContext → Graph → Datum → tree.Operands → Answer
-given_compared s g v os = given_operands s g os >>= λ ps. meaning.all_compared v ps >>= λ t. Ok (value_of t)
+given_compared s g v os = given_operands s g os >>= λ ps. meaning.all_compared v ps >>= λ t. Ok (value_of_truth t)
 
 -- a chain behind its first value
 abbrev pub given_chained : RowContext → Graph → Datum → tree.Operands → Answer

@@ -1,5 +1,6 @@
 -- What scalars stand for, and what they tell of an answer: nothing, or the value that it is.
-use Rattle.std.specs.Prelude.{◌≡◌, Option, Some, None, Ok, string_bytes}
+use Rattle.std.specs.Prelude.{◌≡◌, Bool, Option, Some, None, Ok, string_bytes}
+use Rattle.pg_expr.specs.Operators.{is_chosen}
 use Rattle.pg_expr.specs.declared.scalar.Scalar.{Scalar}
 use Rattle.pg_expr.specs.declared.scalar.Scalar.TheVariants as scalar
 use Rattle.pg_meaning.specs.Answer.{Answer}
@@ -36,3 +37,9 @@ abbrev pub TruthIn : Option Datum → Option Tri → Type 0
 TruthIn v None = Unit {0}
 TruthIn None (Some t) = ⊥
 TruthIn (Some v) (Some t) = truth_of v ≡ Ok t
+
+-- whether what is told is true, as a condition of CASE, or none
+abbrev pub Chooses : Option Datum → Option Bool → Type 0
+Chooses v None = Unit {0}
+Chooses None (Some b) = ⊥
+Chooses (Some v) (Some b) = is_chosen None v ≡ Ok b

@@ -13,15 +13,15 @@ ghost use Rattle.pg_scope.specs.Calls.{function_view};
 ghost use Rattle.pg_value_core.specs.View.{view, values_view};
 
 use crate::elements::{end_node, keys, kind, labels, number, properties};
-use crate::found::{Found, null};
 use crate::made::made;
 use crate::ranges::range_of;
 use crate::reads::item_at;
+use crate::value_ref::{ValueRef, null};
 use pg_expr_calls as values;
 use pg_graph::Tables;
 use pg_meaning::Fault;
 use pg_scope::{Function, summary_named};
-use pg_store::Snapshot;
+use pg_store::GraphView;
 use pg_value_core::Value;
 use std::alloc::Global;
 
@@ -48,7 +48,7 @@ pub(crate) fn is_size(function: Function) -> bool
     matches!(function, Function::Size)
 }
 
-pub(crate) fn is_null(v: &Found<'_>) -> bool
+pub(crate) fn is_null(v: &ValueRef<'_>) -> bool
     ensures { result ≡ is_null (found_view v.now) }
 {
     matches!(v.look(), Value::Null)
@@ -58,10 +58,10 @@ pub(crate) fn is_null(v: &Found<'_>) -> bool
 #[inline(never)]
 pub(crate) fn applied<'a, T: Tables>(
     alloc: Global,
-    graph: &Snapshot<'a, T>,
+    graph: &GraphView<'a, T>,
     function: Function,
-    arguments: Result<Vec<Found<'a>>, Fault>,
-) -> Result<Found<'a>, Fault>
+    arguments: Result<Vec<ValueRef<'a>>, Fault>,
+) -> Result<ValueRef<'a>, Fault>
     ensures { After arguments.entry result
         (λ fs. applied graph.now (function_view function) (founds_view fs.items)) found_view }
 {
@@ -79,7 +79,7 @@ pub(crate) fn applied<'a, T: Tables>(
     made(value)
 }
 
-pub(crate) fn is_deleted<T: Tables>(graph: &Snapshot<'_, T>, v: &Value) -> bool
+pub(crate) fn is_deleted<T: Tables>(graph: &GraphView<'_, T>, v: &Value) -> bool
     ensures { result ≡ is_deleted graph.now (view v.now) }
 {
     match v {
@@ -89,7 +89,10 @@ pub(crate) fn is_deleted<T: Tables>(graph: &Snapshot<'_, T>, v: &Value) -> bool
     }
 }
 
-pub(crate) fn has_deleted<T: Tables>(graph: &Snapshot<'_, T>, arguments: &Vec<Found<'_>>) -> bool
+pub(crate) fn has_deleted<T: Tables>(
+    graph: &GraphView<'_, T>,
+    arguments: &Vec<ValueRef<'_>>,
+) -> bool
     ensures { result ≡ has_deleted graph.now (founds_view arguments.now.items) }
 {
     for argument in arguments {
@@ -100,7 +103,7 @@ pub(crate) fn has_deleted<T: Tables>(graph: &Snapshot<'_, T>, arguments: &Vec<Fo
     false
 }
 
-pub(crate) fn has_null(arguments: &Vec<Found<'_>>) -> bool
+pub(crate) fn has_null(arguments: &Vec<ValueRef<'_>>) -> bool
     ensures { result ≡ has_null (founds_view arguments.now.items) }
 {
     for argument in arguments {
@@ -115,10 +118,10 @@ pub(crate) fn has_null(arguments: &Vec<Found<'_>>) -> bool
 #[tactic(auto, using(crate::proofs::Applied::not_one))]
 fn at_all<'a, T: Tables>(
     alloc: Global,
-    graph: &Snapshot<'a, T>,
+    graph: &GraphView<'a, T>,
     function: Function,
-    arguments: Vec<Found<'a>>,
-) -> Result<Found<'a>, Fault>
+    arguments: Vec<ValueRef<'a>>,
+) -> Result<ValueRef<'a>, Fault>
     requires there { has_deleted graph.now (founds_view arguments.items) ≡ false }
     requires one { is_range (function_view function) ≡ false }
     ensures ok { IfOk result
@@ -136,7 +139,7 @@ fn at_all<'a, T: Tables>(
 
 /// The one argument, where it is one.
 #[tactic(auto, using(crate::proofs::Applied::other_count, crate::proofs::Applied::one_left))]
-fn only(arguments: Vec<Found<'_>>) -> Option<Found<'_>>
+fn only(arguments: Vec<ValueRef<'_>>) -> Option<ValueRef<'_>>
     ensures one { IfSome result
         (λ f. founds_view arguments.entry.items ≡ item (found_view f) no_items) }
     ensures none { IfNone result (IsNotOne (founds_view arguments.entry.items)) }
@@ -152,10 +155,10 @@ fn only(arguments: Vec<Found<'_>>) -> Option<Found<'_>>
 #[inline(never)]
 fn at_one<'a, T: Tables>(
     alloc: Global,
-    graph: &Snapshot<'a, T>,
+    graph: &GraphView<'a, T>,
     function: Function,
-    argument: Found<'a>,
-) -> Result<Found<'a>, Fault>
+    argument: ValueRef<'a>,
+) -> Result<ValueRef<'a>, Fault>
     requires there { is_deleted graph.now (found_view argument) ≡ false }
     requires one { is_range (function_view function) ≡ false }
     ensures ok { IfOk result (λ f. function_at graph.now
@@ -170,7 +173,7 @@ fn at_one<'a, T: Tables>(
         Function::Last => end_item(argument, true),
         Function::Coalesce => Ok(argument),
         Function::ToString => to_text(alloc, argument),
-        _ => Ok(Found::Made(at_look(alloc, graph, function, argument.look())?)),
+        _ => Ok(ValueRef::Made(at_look(alloc, graph, function, argument.look())?)),
     }
 }
 
@@ -178,7 +181,7 @@ fn at_one<'a, T: Tables>(
 #[inline(never)]
 fn at_look<T: Tables>(
     alloc: Global,
-    graph: &Snapshot<'_, T>,
+    graph: &GraphView<'_, T>,
     function: Function,
     v: &Value,
 ) -> Result<Value, Fault>
@@ -212,44 +215,44 @@ fn at_look<T: Tables>(
 }
 
 #[inline(never)]
-fn to_text<'a>(alloc: Global, argument: Found<'a>) -> Result<Found<'a>, Fault>
+fn to_text<'a>(alloc: Global, argument: ValueRef<'a>) -> Result<ValueRef<'a>, Fault>
     ensures ok { IfOk result (λ f. string_of (found_view argument.entry) ≡ Ok (found_view f)) }
     ensures err { IfErr result (λ e. e ≢ OutOfMemory
         → string_of (found_view argument.entry) ≡ Err e) }
 {
     let value = argument.take(alloc)?;
-    Ok(Found::Made(values::to_text(alloc, value)?))
+    Ok(ValueRef::Made(values::to_text(alloc, value)?))
 }
 
 /// The first item of a list, or its last.
 #[inline(never)]
-fn end_item<'a>(argument: Found<'a>, is_last: bool) -> Result<Found<'a>, Fault>
+fn end_item<'a>(argument: ValueRef<'a>, is_last: bool) -> Result<ValueRef<'a>, Fault>
     ensures ok { IfOk result
         (λ f. item_at_end is_last (found_view argument.entry) ≡ Ok (found_view f)) }
     ensures err { IfErr result (λ e. item_at_end is_last (found_view argument.entry) ≡ Err e) }
 {
     match argument {
-        Found::Lent(Value::List(items)) => {
+        ValueRef::Lent(Value::List(items)) => {
             if is_last {
                 Ok(last_item(items))
             } else {
                 Ok(item_at(items, 0))
             }
         }
-        Found::Lent(_) => Err(Fault::TypeFault),
-        Found::Made(value) => {
+        ValueRef::Lent(_) => Err(Fault::TypeFault),
+        ValueRef::Made(value) => {
             let item = if is_last {
                 values::last(value)?
             } else {
                 values::head(value)?
             };
-            Ok(Found::Made(item))
+            Ok(ValueRef::Made(item))
         }
     }
 }
 
 #[tactic(auto, using(pg_expr_calls::proofs::Counts::counts))]
-fn last_item<'a>(items: &'a Vec<Value>) -> Found<'a>
+fn last_item<'a>(items: &'a Vec<Value>) -> ValueRef<'a>
     ensures { found_view result
         ≡ functions.item_at
         (functions.item_count (values_view items.now.items) - 1) (values_view items.now.items) }

@@ -7,13 +7,13 @@ ghost use Rattle.pg_meaning.specs.Functions.{function_named};
 ghost use Rattle.pg_meaning.specs.Functions as functions;
 
 use crate::calls::{has_deleted, has_null, is_deleted, is_null};
-use crate::found::{Found, null};
 use crate::ranges::size_of_range;
+use crate::value_ref::{ValueRef, null};
 use pg_expr_calls as values;
 use pg_graph::Tables;
 use pg_meaning::Fault;
 use pg_scope::{Function, function_named};
-use pg_store::Snapshot;
+use pg_store::GraphView;
 use std::alloc::Global;
 
 pub(crate) fn is_range_named(name: &str) -> bool
@@ -25,12 +25,21 @@ pub(crate) fn is_range_named(name: &str) -> bool
     }
 }
 
+pub(crate) fn is_size_named(name: &str) -> bool
+    ensures { result ≡ true → function_named name.now ≡ Some functions.size }
+{
+    match function_named(name) {
+        Some(function) => matches!(function, Function::Size),
+        None => false,
+    }
+}
+
 /// The size of a value, or the fault that was found in its place.
 #[inline(never)]
 pub(crate) fn counted<'a, T: Tables>(
-    graph: &Snapshot<'a, T>,
-    argument: Result<Found<'a>, Fault>,
-) -> Result<Found<'a>, Fault>
+    graph: &GraphView<'a, T>,
+    argument: Result<ValueRef<'a>, Fault>,
+) -> Result<ValueRef<'a>, Fault>
     ensures { After argument.entry result (λ f. sized graph.now (found_view f)) found_view }
 {
     let argument = argument?;
@@ -41,16 +50,16 @@ pub(crate) fn counted<'a, T: Tables>(
         return Ok(null());
     }
     let size = values::size(argument.look())?;
-    Ok(Found::Made(size))
+    Ok(ValueRef::Made(size))
 }
 
 /// The size of a range of these ends, of which no list is made, or the fault that was found in their place.
 #[inline(never)]
 pub(crate) fn range_counted<'a, T: Tables>(
     alloc: Global,
-    graph: &Snapshot<'a, T>,
-    arguments: Result<Vec<Found<'a>>, Fault>,
-) -> Result<Found<'a>, Fault>
+    graph: &GraphView<'a, T>,
+    arguments: Result<Vec<ValueRef<'a>>, Fault>,
+) -> Result<ValueRef<'a>, Fault>
     ensures { After arguments.entry result
         (λ fs. range_sized graph.now (founds_view fs.items)) found_view }
 {

@@ -9,17 +9,17 @@ ghost use Rattle.pg_meaning.specs.Value.{integer, node, relationship};
 ghost use Rattle.pg_meaning.specs.declared.fault.Fault.TheVariants.{OutOfMemory};
 ghost use Rattle.pg_value_core.specs.View.{view, entries_view};
 
-use crate::found::Found;
+use crate::value_ref::ValueRef;
 use pg_graph::Tables;
 use pg_meaning::Fault;
-use pg_store::Snapshot;
+use pg_store::GraphView;
 use pg_value_core::{NodeId, RelId, Value};
 use std::alloc::{AllocError, Global};
 use std::collections::BTreeMap;
 
 /// The number of an element that is there.
 #[tactic(auto, using(crate::proofs::Presence::presence))]
-pub(crate) fn number<T: Tables>(graph: &Snapshot<'_, T>, v: &Value) -> Result<Value, Fault>
+pub(crate) fn number<T: Tables>(graph: &GraphView<'_, T>, v: &Value) -> Result<Value, Fault>
     requires { is_deleted graph.now (view v.now) ≡ false }
     ensures ok { IfOk result (λ u. id_of (view v.now) ≡ Ok (view u)) }
     ensures err { IfErr result (λ e. id_of (view v.now) ≡ Err e) }
@@ -41,7 +41,7 @@ pub(crate) fn number<T: Tables>(graph: &Snapshot<'_, T>, v: &Value) -> Result<Va
 #[inline(never)]
 pub(crate) fn labels<T: Tables>(
     alloc: Global,
-    graph: &Snapshot<'_, T>,
+    graph: &GraphView<'_, T>,
     v: &Value,
 ) -> Result<Value, Fault>
     ensures ok { IfOk result (λ u. labels_of graph.now (view v.now) ≡ Ok (view u)) }
@@ -73,7 +73,7 @@ fn text_list(alloc: Global, all: &Vec<&str>) -> Result<Value, AllocError>
 #[inline(never)]
 pub(crate) fn kind<T: Tables>(
     alloc: Global,
-    graph: &Snapshot<'_, T>,
+    graph: &GraphView<'_, T>,
     v: &Value,
 ) -> Result<Value, Fault>
     ensures ok { IfOk result (λ u. type_of graph.now (view v.now) ≡ Ok (view u)) }
@@ -90,7 +90,7 @@ pub(crate) fn kind<T: Tables>(
 
 /// The first node of a relationship, or its last.
 pub(crate) fn end_node<T: Tables>(
-    graph: &Snapshot<'_, T>,
+    graph: &GraphView<'_, T>,
     v: &Value,
     is_last: bool,
 ) -> Result<Value, Fault>
@@ -115,7 +115,7 @@ pub(crate) fn end_node<T: Tables>(
 /// The properties of an element, in memory of their own.
 fn element_properties<T: Tables>(
     alloc: Global,
-    graph: &Snapshot<'_, T>,
+    graph: &GraphView<'_, T>,
     v: &Value,
 ) -> Result<BTreeMap<String, Value>, Fault>
     ensures ok { IfOk result
@@ -140,9 +140,9 @@ fn element_properties<T: Tables>(
 #[inline(never)]
 pub(crate) fn properties<'a, T: Tables>(
     alloc: Global,
-    graph: &Snapshot<'a, T>,
-    found: Found<'a>,
-) -> Result<Found<'a>, Fault>
+    graph: &GraphView<'a, T>,
+    found: ValueRef<'a>,
+) -> Result<ValueRef<'a>, Fault>
     ensures ok { IfOk result
         (λ f. properties_given graph.now (found_view found.entry) ≡ Ok (found_view f)) }
     ensures err { IfErr result (λ e. e ≢ OutOfMemory
@@ -150,7 +150,7 @@ pub(crate) fn properties<'a, T: Tables>(
 {
     match found.look() {
         Value::Map(_) => Ok(found),
-        v => Ok(Found::Made(Value::Map(element_properties(alloc, graph, v)?))),
+        v => Ok(ValueRef::Made(Value::Map(element_properties(alloc, graph, v)?))),
     }
 }
 
@@ -158,7 +158,7 @@ pub(crate) fn properties<'a, T: Tables>(
 #[inline(never)]
 pub(crate) fn keys<T: Tables>(
     alloc: Global,
-    graph: &Snapshot<'_, T>,
+    graph: &GraphView<'_, T>,
     v: &Value,
 ) -> Result<Value, Fault>
     ensures ok { IfOk result (λ u. keys_given graph.now (view v.now) ≡ Ok (view u)) }

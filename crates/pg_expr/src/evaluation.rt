@@ -15,7 +15,6 @@ ghost use Rattle.pg_value_core.specs.View.{view};
 use crate::atoms::{literal_found, parameter, variable};
 use crate::calls::{applied, call_fault, is_coalesce, is_null, is_size};
 use crate::counts::{counted, is_range_named, range_counted};
-use crate::found::{Found, null};
 use crate::made::{list_of, made, put};
 use crate::operators::{
     all_signed, begins_comparison, combined, compared, compared_once, is_chosen, negated,
@@ -26,11 +25,12 @@ use crate::reads::{index, labels, property};
 use crate::row_context::RowContext;
 use crate::scalar::{Scalar, copied, text_copied};
 use crate::scalar_evaluation::scalar;
+use crate::value_ref::{ValueRef, null};
 use pg_graph::Tables;
 use pg_meaning::{Fault, Operator};
 use pg_rows::Columns;
 use pg_scope::function_named;
-use pg_store::Snapshot;
+use pg_store::GraphView;
 use pg_syntax_tree::{Expression, Name, Suffix, Test};
 use pg_value_core::{Parameters, Value};
 use std::alloc::Global;
@@ -43,7 +43,7 @@ pub fn evaluate<T: Tables>(
     names: &Columns,
     row: &[Value],
     parameters: &Parameters,
-    graph: &Snapshot<'_, T>,
+    graph: &GraphView<'_, T>,
 ) -> Result<Value, Fault>
     ensures { Gives result (evaluate (row_of names.now (map view row.now))
         (parameters_view parameters.now) graph.now (tree_of names.now prepared.now)) view }
@@ -61,7 +61,7 @@ pub fn evaluate<T: Tables>(
 pub fn evaluate_at<T: Tables>(
     context: &RowContext<'_>,
     prepared: &Prepared<'_>,
-    graph: &Snapshot<'_, T>,
+    graph: &GraphView<'_, T>,
 ) -> Result<Value, Fault>
     ensures { Gives result (evaluate (row_of context.now.names.now (map view context.now.row.now))
         (parameters_view context.now.parameters.now) graph.now
@@ -80,11 +80,36 @@ pub fn evaluate_at<T: Tables>(
     }
 }
 
+/// The same, borrowed where it stands somewhere: what is read is not copied.
+pub fn find_at<'a, T: Tables>(
+    context: &RowContext<'a>,
+    prepared: &Prepared<'_>,
+    graph: &GraphView<'a, T>,
+) -> Result<ValueRef<'a>, Fault>
+    ensures { Gives result (evaluate (row_of context.now.names.now (map view context.now.row.now))
+        (parameters_view context.now.parameters.now) graph.now
+        (tree_of context.now.names.now prepared.now)) found_view }
+{
+    if prepared.tells && !is_read(prepared.tree) {
+        return Ok(ValueRef::Made(evaluate_at(context, prepared, graph)?));
+    }
+    find(context, graph, prepared.tree)
+}
+
+/// Whether the expression only reads what stands somewhere. Any answer is right.
+fn is_read(expression: &Expression) -> bool {
+    match expression {
+        Expression::Variable(_) | Expression::Parameter(_) => true,
+        Expression::Suffixes(_, _, _) => true,
+        _ => false,
+    }
+}
+
 /// The same by `find`, whatever the value.
 #[inline(never)]
 fn found_at<T: Tables>(
     context: &RowContext<'_>,
-    graph: &Snapshot<'_, T>,
+    graph: &GraphView<'_, T>,
     expression: &Expression,
 ) -> Result<Value, Fault>
     ensures { Gives result
@@ -98,9 +123,9 @@ fn found_at<T: Tables>(
 #[cycle(find)]
 pub(crate) fn find<'a, T: Tables>(
     context: &RowContext<'a>,
-    graph: &Snapshot<'a, T>,
+    graph: &GraphView<'a, T>,
     expression: &Expression,
-) -> Result<Found<'a>, Fault>
+) -> Result<ValueRef<'a>, Fault>
     ensures { Gives result
         (given context.now graph.now (expression_view expression.now)) found_view }
 {
@@ -125,9 +150,9 @@ pub(crate) fn find<'a, T: Tables>(
 #[inline(never)]
 fn each<'a, T: Tables>(
     context: &RowContext<'a>,
-    graph: &Snapshot<'a, T>,
+    graph: &GraphView<'a, T>,
     items: &Vec<Expression>,
-) -> Result<Vec<Found<'a>>, Fault>
+) -> Result<Vec<ValueRef<'a>>, Fault>
     ensures { Gives result
         (given_each context.now graph.now (expressions_of (map expression_view items.now.items)))
         (λ fs. founds_view fs.items) }
@@ -145,9 +170,9 @@ fn each<'a, T: Tables>(
 #[inline(never)]
 fn mapping<'a, T: Tables>(
     context: &RowContext<'a>,
-    graph: &Snapshot<'a, T>,
+    graph: &GraphView<'a, T>,
     pairs: &Vec<(Name, Expression)>,
-) -> Result<Found<'a>, Fault>
+) -> Result<ValueRef<'a>, Fault>
     ensures { Gives result
         (given_map context.now graph.now (pairs_of (map pair_view pairs.now.items))) found_view }
 {
@@ -156,17 +181,17 @@ fn mapping<'a, T: Tables>(
         let next = find(context, graph, value)?;
         entries = put(context.alloc, entries, key, next)?;
     }
-    made(Found::Made(Value::Map(entries)))
+    made(ValueRef::Made(Value::Map(entries)))
 }
 
 #[cycle(find)]
 #[inline(never)]
 fn call<'a, T: Tables>(
     context: &RowContext<'a>,
-    graph: &Snapshot<'a, T>,
+    graph: &GraphView<'a, T>,
     name: &Name,
     arguments: &Vec<Expression>,
-) -> Result<Found<'a>, Fault>
+) -> Result<ValueRef<'a>, Fault>
     ensures { Gives result (given_call context.now graph.now (string_bytes name.now.text)
         (expressions_of (map expression_view arguments.now.items))) found_view }
 {
@@ -194,9 +219,9 @@ fn call<'a, T: Tables>(
 #[inline(never)]
 fn size<'a, T: Tables>(
     context: &RowContext<'a>,
-    graph: &Snapshot<'a, T>,
+    graph: &GraphView<'a, T>,
     argument: &Expression,
-) -> Result<Found<'a>, Fault>
+) -> Result<ValueRef<'a>, Fault>
     ensures { Gives result
         (given_size context.now graph.now (expression_view argument.now)) found_view }
 {
@@ -218,9 +243,9 @@ fn size<'a, T: Tables>(
 #[inline(never)]
 fn first_given<'a, T: Tables>(
     context: &RowContext<'a>,
-    graph: &Snapshot<'a, T>,
+    graph: &GraphView<'a, T>,
     items: &Vec<Expression>,
-) -> Result<Found<'a>, Fault>
+) -> Result<ValueRef<'a>, Fault>
     ensures { Gives result (given_first context.now graph.now
         (expressions_of (map expression_view items.now.items))) found_view }
 {
@@ -238,10 +263,10 @@ fn first_given<'a, T: Tables>(
 #[inline(never)]
 fn first_true<'a, T: Tables>(
     context: &RowContext<'a>,
-    graph: &Snapshot<'a, T>,
-    subject: &Option<Found<'a>>,
+    graph: &GraphView<'a, T>,
+    subject: &Option<ValueRef<'a>>,
     whens: &Vec<(Expression, Expression)>,
-) -> Result<Option<Found<'a>>, Fault>
+) -> Result<Option<ValueRef<'a>>, Fault>
     ensures { Gives result (given_true context.now graph.now
         (option_map found_view subject.now) (whens_of (map when_view whens.now.items)))
         (option_map found_view) }
@@ -259,9 +284,9 @@ fn first_true<'a, T: Tables>(
 #[inline(never)]
 fn case<'a, T: Tables>(
     context: &RowContext<'a>,
-    graph: &Snapshot<'a, T>,
+    graph: &GraphView<'a, T>,
     expression: &Expression,
-) -> Result<Found<'a>, Fault>
+) -> Result<ValueRef<'a>, Fault>
     requires { IsCase expression.now }
     ensures { Gives result
         (given context.now graph.now (expression_view expression.now)) found_view }
@@ -290,9 +315,9 @@ fn case<'a, T: Tables>(
 #[inline(never)]
 fn chain<'a, T: Tables>(
     context: &RowContext<'a>,
-    graph: &Snapshot<'a, T>,
+    graph: &GraphView<'a, T>,
     expression: &Expression,
-) -> Result<Found<'a>, Fault>
+) -> Result<ValueRef<'a>, Fault>
     requires { IsChain expression.now }
     ensures { Gives result
         (given context.now graph.now (expression_view expression.now)) found_view }
@@ -315,10 +340,10 @@ fn chain<'a, T: Tables>(
 #[inline(never)]
 fn joined<'a, T: Tables>(
     context: &RowContext<'a>,
-    graph: &Snapshot<'a, T>,
-    first: Found<'a>,
+    graph: &GraphView<'a, T>,
+    first: ValueRef<'a>,
     operands: &Vec<(Operator, Expression)>,
-) -> Result<Found<'a>, Fault>
+) -> Result<ValueRef<'a>, Fault>
     ensures { Gives result (given_chain context.now graph.now
         (found_view first.entry) (operands_of (map operand_view operands.now.items))) found_view }
 {
@@ -334,9 +359,9 @@ fn joined<'a, T: Tables>(
 #[inline(never)]
 fn each_operand<'a, T: Tables>(
     context: &RowContext<'a>,
-    graph: &Snapshot<'a, T>,
+    graph: &GraphView<'a, T>,
     operands: &Vec<(Operator, Expression)>,
-) -> Result<Vec<(Operator, Found<'a>)>, Fault>
+) -> Result<Vec<(Operator, ValueRef<'a>)>, Fault>
     ensures { Gives result
         (given_operands context.now graph.now (operands_of (map operand_view operands.now.items)))
         (λ ps. pairs_view ps.items) }
@@ -353,9 +378,9 @@ fn each_operand<'a, T: Tables>(
 #[inline(never)]
 fn pass_tests<'a, T: Tables>(
     context: &RowContext<'a>,
-    graph: &Snapshot<'a, T>,
+    graph: &GraphView<'a, T>,
     expression: &Expression,
-) -> Result<Found<'a>, Fault>
+) -> Result<ValueRef<'a>, Fault>
     requires { AreTests expression.now }
     ensures { Gives result
         (given context.now graph.now (expression_view expression.now)) found_view }
@@ -378,9 +403,9 @@ fn pass_tests<'a, T: Tables>(
 #[inline(never)]
 fn read<'a, T: Tables>(
     context: &RowContext<'a>,
-    graph: &Snapshot<'a, T>,
+    graph: &GraphView<'a, T>,
     expression: &Expression,
-) -> Result<Found<'a>, Fault>
+) -> Result<ValueRef<'a>, Fault>
     requires { AreSuffixes expression.now }
     ensures { Gives result
         (given context.now graph.now (expression_view expression.now)) found_view }

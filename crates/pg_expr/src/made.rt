@@ -2,12 +2,12 @@
 ghost use Rattle.std.specs.Prelude.{◌≡◌, IfOk, IfErr, Ok, Err, string_bytes};
 ghost use Rattle.pg_expr.specs.After.{After};
 ghost use Rattle.pg_expr.specs.Contexts.{found_view, founds_view};
-ghost use Rattle.pg_meaning.specs.Entries.{put};
+ghost use Rattle.pg_meaning.specs.Entries.{with_entry};
 ghost use Rattle.pg_meaning.specs.Measure.{made, is_within_limits};
 ghost use Rattle.pg_meaning.specs.Value.{list};
 ghost use Rattle.pg_value_core.specs.View.{values_view, entries_view};
 
-use crate::found::Found;
+use crate::value_ref::ValueRef;
 use pg_expr_calls::is_within_limits;
 use pg_meaning::Fault;
 use pg_syntax_tree::Name;
@@ -21,7 +21,7 @@ const GREATEST_WEIGHT: u64 = 1_048_576;
 const GREATEST_DEPTH: u64 = 64;
 
 /// A value that an expression makes, where it is within the limits.
-pub(crate) fn made<'a>(found: Found<'a>) -> Result<Found<'a>, Fault>
+pub(crate) fn made<'a>(found: ValueRef<'a>) -> Result<ValueRef<'a>, Fault>
     ensures ok { IfOk result (λ f. made (found_view found.entry) ≡ Ok (found_view f)) }
     ensures err { IfErr result (λ e. made (found_view found.entry) ≡ Err e) }
 {
@@ -36,8 +36,8 @@ pub(crate) fn made<'a>(found: Found<'a>) -> Result<Found<'a>, Fault>
 #[inline(never)]
 pub(crate) fn list_of<'a>(
     alloc: Global,
-    found: Result<Vec<Found<'a>>, Fault>,
-) -> Result<Found<'a>, Fault>
+    found: Result<Vec<ValueRef<'a>>, Fault>,
+) -> Result<ValueRef<'a>, Fault>
     ensures { After found.entry result (λ fs. made (list (founds_view fs.items))) found_view }
 {
     let found = found?;
@@ -45,10 +45,10 @@ pub(crate) fn list_of<'a>(
         return Err(Fault::ValueTooLarge);
     }
     let items = take_all(alloc, found)?;
-    Ok(Found::Made(Value::List(items)))
+    Ok(ValueRef::Made(Value::List(items)))
 }
 
-fn are_within_limits(found: &Vec<Found<'_>>) -> bool
+fn are_within_limits(found: &Vec<ValueRef<'_>>) -> bool
     ensures { result ≡ is_within_limits (list (founds_view found.now.items)) }
 {
     let mut total = 0u64;
@@ -60,7 +60,7 @@ fn are_within_limits(found: &Vec<Found<'_>>) -> bool
     total < GREATEST_WEIGHT && most < GREATEST_DEPTH
 }
 
-fn take_all(alloc: Global, found: Vec<Found<'_>>) -> Result<Vec<Value>, AllocError>
+fn take_all(alloc: Global, found: Vec<ValueRef<'_>>) -> Result<Vec<Value>, AllocError>
     ensures { IfOk result (λ vs. values_view vs.items ≡ founds_view found.entry.items) }
 {
     let mut values = Vec::with_capacity(alloc, found.len())?;
@@ -76,10 +76,11 @@ pub(crate) fn put(
     alloc: Global,
     entries: BTreeMap<String, Value>,
     key: &Name,
-    found: Found<'_>,
+    found: ValueRef<'_>,
 ) -> Result<BTreeMap<String, Value>, AllocError>
     ensures { IfOk result (λ m. entries_view m.entries
-        ≡ put (string_bytes key.now.text) (found_view found.entry) (entries_view entries.entries)) }
+        ≡ with_entry (string_bytes key.now.text) (found_view found.entry)
+        (entries_view entries.entries)) }
 {
     let mut entries = entries;
     let value = found.take(alloc)?;

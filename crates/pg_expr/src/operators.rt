@@ -11,11 +11,11 @@ ghost use Rattle.pg_meaning.specs.Parse.{operands_of};
 ghost use Rattle.pg_syntax_tree.specs.View.{operand_view};
 ghost use Rattle.pg_value_core.specs.View.{view};
 
-use crate::found::Found;
+use crate::value_ref::ValueRef;
 use pg_expr_calls as values;
 use pg_meaning::{Fault, Operator, TextTest, Tri};
 use pg_syntax_tree::Expression;
-use pg_value::{and, eq3, is_in, not, truth_of, value_of};
+use pg_value::{and, eq3, is_in, not, truth_of, value_of_truth};
 use pg_value_core::Value;
 use std::alloc::Global;
 
@@ -24,9 +24,9 @@ use std::alloc::Global;
 pub(crate) fn combined<'a>(
     alloc: Global,
     operator: Operator,
-    v: Found<'a>,
-    w: Found<'a>,
-) -> Result<Found<'a>, Fault>
+    v: ValueRef<'a>,
+    w: ValueRef<'a>,
+) -> Result<ValueRef<'a>, Fault>
     ensures ok { IfOk result
         (λ f. combined operator (found_view v.entry) (found_view w.entry) ≡ Ok (found_view f)) }
     ensures err { IfErr result (λ e. e ≢ OutOfMemory
@@ -38,13 +38,13 @@ pub(crate) fn combined<'a>(
     }
 }
 
-fn made_at_look<'a>(operator: Operator, v: &Value, w: &Value) -> Result<Found<'a>, Fault>
+fn made_at_look<'a>(operator: Operator, v: &Value, w: &Value) -> Result<ValueRef<'a>, Fault>
     requires { takes_operands operator ≡ false }
     ensures ok { IfOk result
         (λ f. combined operator (view v.now) (view w.now) ≡ Ok (found_view f)) }
     ensures err { IfErr result (λ e. combined operator (view v.now) (view w.now) ≡ Err e) }
 {
-    Ok(Found::Made(looked_at(operator, v, w)?))
+    Ok(ValueRef::Made(looked_at(operator, v, w)?))
 }
 
 /// What an operator gives that only looks at its operands.
@@ -66,20 +66,20 @@ fn looked_at(operator: Operator, v: &Value, w: &Value) -> Result<Value, Fault>
     }
 }
 
-fn sum<'a>(alloc: Global, v: Found<'a>, w: Found<'a>) -> Result<Found<'a>, Fault>
+fn sum<'a>(alloc: Global, v: ValueRef<'a>, w: ValueRef<'a>) -> Result<ValueRef<'a>, Fault>
     ensures ok { IfOk result
         (λ f. plus (found_view v.entry) (found_view w.entry) ≡ Ok (found_view f)) }
     ensures err { IfErr result (λ e. e ≢ OutOfMemory
         → plus (found_view v.entry) (found_view w.entry) ≡ Err e) }
 {
     match (v.look(), w.look()) {
-        (Value::Int(x), Value::Int(y)) => Ok(Found::Made(values::sum(*x, *y)?)),
+        (Value::Int(x), Value::Int(y)) => Ok(ValueRef::Made(values::sum(*x, *y)?)),
         _ => sum_taken(alloc, v, w),
     }
 }
 
 #[inline(never)]
-fn sum_taken<'a>(alloc: Global, v: Found<'a>, w: Found<'a>) -> Result<Found<'a>, Fault>
+fn sum_taken<'a>(alloc: Global, v: ValueRef<'a>, w: ValueRef<'a>) -> Result<ValueRef<'a>, Fault>
     ensures ok { IfOk result
         (λ f. plus (found_view v.entry) (found_view w.entry) ≡ Ok (found_view f)) }
     ensures err { IfErr result (λ e. e ≢ OutOfMemory
@@ -87,23 +87,23 @@ fn sum_taken<'a>(alloc: Global, v: Found<'a>, w: Found<'a>) -> Result<Found<'a>,
 {
     let left = v.take(alloc)?;
     let right = w.take(alloc)?;
-    Ok(Found::Made(values::plus(left, right)?))
+    Ok(ValueRef::Made(values::plus(left, right)?))
 }
 
 /// A value compared with one other, or the fault that was found in its place.
 #[inline(never)]
 pub(crate) fn compared_once<'a>(
     operator: Operator,
-    v: Found<'_>,
-    w: Result<Found<'_>, Fault>,
-) -> Result<Found<'a>, Fault>
+    v: ValueRef<'_>,
+    w: Result<ValueRef<'_>, Fault>,
+) -> Result<ValueRef<'a>, Fault>
     ensures { After w.entry result
         (λ u. truth_compared (found_view v.entry) ((operator, found_view u) ∷ [])) found_view }
 {
     match w {
         Ok(found) => {
             let truth = values::compared(operator, v.look(), found.look())?;
-            Ok(Found::Made(value_of(truth)))
+            Ok(ValueRef::Made(value_of_truth(truth)))
         }
         Err(fault) => Err(fault),
     }
@@ -112,23 +112,23 @@ pub(crate) fn compared_once<'a>(
 /// A chain of comparisons whose operands were all evaluated before, or the fault of one of them.
 #[inline(never)]
 pub(crate) fn compared<'a>(
-    first: Found<'_>,
-    others: Result<Vec<(Operator, Found<'_>)>, Fault>,
-) -> Result<Found<'a>, Fault>
+    first: ValueRef<'_>,
+    others: Result<Vec<(Operator, ValueRef<'_>)>, Fault>,
+) -> Result<ValueRef<'a>, Fault>
     ensures { After others.entry result
         (λ ps. truth_compared (found_view first.entry) (pairs_view ps.items)) found_view }
 {
     match others {
         Ok(pairs) => {
             let truth = all_compared(&first, &pairs)?;
-            Ok(Found::Made(value_of(truth)))
+            Ok(ValueRef::Made(value_of_truth(truth)))
         }
         Err(fault) => Err(fault),
     }
 }
 
 /// Each neighbour with the next.
-fn all_compared(first: &Found<'_>, others: &Vec<(Operator, Found<'_>)>) -> Result<Tri, Fault>
+fn all_compared(first: &ValueRef<'_>, others: &Vec<(Operator, ValueRef<'_>)>) -> Result<Tri, Fault>
     ensures { result ≡ all_compared (found_view first.now) (pairs_view others.now.items) }
 {
     let mut all = Tri::True;
@@ -143,7 +143,7 @@ fn all_compared(first: &Found<'_>, others: &Vec<(Operator, Found<'_>)>) -> Resul
 }
 
 /// Whether a condition of CASE is true: equal to the subject where there is one, else true itself.
-pub(crate) fn is_chosen(subject: &Option<Found<'_>>, v: Found<'_>) -> Result<bool, Fault>
+pub(crate) fn is_chosen(subject: &Option<ValueRef<'_>>, v: ValueRef<'_>) -> Result<bool, Fault>
     ensures ok { IfOk result
         (λ b. is_chosen (option_map found_view subject.now) (found_view v.entry) ≡ Ok b) }
     ensures err { IfErr result
@@ -159,9 +159,9 @@ pub(crate) fn is_chosen(subject: &Option<Found<'_>>, v: Found<'_>) -> Result<boo
 #[inline(never)]
 pub(crate) fn tested<'a>(
     test: TextTest,
-    v: Found<'_>,
-    w: Result<Found<'_>, Fault>,
-) -> Result<Found<'a>, Fault>
+    v: ValueRef<'_>,
+    w: Result<ValueRef<'_>, Fault>,
+) -> Result<ValueRef<'a>, Fault>
     ensures { After w.entry result
         (λ u. tested test (found_view v.entry) (found_view u)) found_view }
 {
@@ -172,31 +172,34 @@ pub(crate) fn tested<'a>(
         TextTest::StartsWith => values::begins_with(left, right),
         TextTest::EndsWith => values::finishes_with(left, right),
         TextTest::Contains => values::contains(left, right),
-        TextTest::In => value_of(is_in(left, right)?),
+        TextTest::In => value_of_truth(is_in(left, right)?),
     };
-    Ok(Found::Made(value))
+    Ok(ValueRef::Made(value))
 }
 
 /// IS NULL, and IS NOT NULL where it is negated.
-pub(crate) fn null_tested<'a>(is_negated: bool, v: Found<'_>) -> Found<'a>
+pub(crate) fn null_tested<'a>(is_negated: bool, v: ValueRef<'_>) -> ValueRef<'a>
     ensures { found_view result ≡ null_tested is_negated (found_view v.entry) }
 {
     if is_negated {
-        Found::Made(values::is_not_null(v.look()))
+        ValueRef::Made(values::is_not_null(v.look()))
     } else {
-        Found::Made(values::is_null(v.look()))
+        ValueRef::Made(values::is_null(v.look()))
     }
 }
 
 /// NOT, so many times, or the fault that was found in the place of the value.
 #[inline(never)]
-pub(crate) fn negated<'a>(count: usize, v: Result<Found<'_>, Fault>) -> Result<Found<'a>, Fault>
+pub(crate) fn negated<'a>(
+    count: usize,
+    v: Result<ValueRef<'_>, Fault>,
+) -> Result<ValueRef<'a>, Fault>
     ensures { After v.entry result (λ u. all_negated count (found_view u)) found_view }
 {
     match v {
         Ok(found) => {
             let truth = truth_of(found.look())?;
-            Ok(Found::Made(value_of(turned(count, truth))))
+            Ok(ValueRef::Made(value_of_truth(turned(count, truth))))
         }
         Err(fault) => Err(fault),
     }
@@ -216,8 +219,8 @@ pub(crate) fn turned(count: usize, t: Tri) -> Tri
 #[inline(never)]
 pub(crate) fn all_signed<'a>(
     signs: &Vec<bool>,
-    v: Result<Found<'a>, Fault>,
-) -> Result<Found<'a>, Fault>
+    v: Result<ValueRef<'a>, Fault>,
+) -> Result<ValueRef<'a>, Fault>
     ensures { After v.entry result (λ u. all_signed signs.now.items (found_view u)) found_view }
 {
     match v {
@@ -228,7 +231,7 @@ pub(crate) fn all_signed<'a>(
 
 /// The last sign goes first.
 #[tactic(auto, using(crate::proofs::Comparisons::last_sign))]
-fn signed_value<'a>(signs: &Vec<bool>, v: Found<'a>) -> Result<Found<'a>, Fault>
+fn signed_value<'a>(signs: &Vec<bool>, v: ValueRef<'a>) -> Result<ValueRef<'a>, Fault>
     ensures ok { IfOk result
         (λ f. all_signed signs.now.items (found_view v.entry) ≡ Ok (found_view f)) }
     ensures err { IfErr result (λ e. all_signed signs.now.items (found_view v.entry) ≡ Err e) }
@@ -242,7 +245,7 @@ fn signed_value<'a>(signs: &Vec<bool>, v: Found<'a>) -> Result<Found<'a>, Fault>
     Ok(signed)
 }
 
-fn with_sign<'a>(is_minus: bool, v: &Value) -> Result<Found<'a>, Fault>
+fn with_sign<'a>(is_minus: bool, v: &Value) -> Result<ValueRef<'a>, Fault>
     ensures ok { IfOk result (λ f. signed is_minus (view v.now) ≡ Ok (found_view f)) }
     ensures err { IfErr result (λ e. signed is_minus (view v.now) ≡ Err e) }
 {
@@ -251,7 +254,7 @@ fn with_sign<'a>(is_minus: bool, v: &Value) -> Result<Found<'a>, Fault>
     } else {
         values::positive(v)?
     };
-    Ok(Found::Made(value))
+    Ok(ValueRef::Made(value))
 }
 
 pub(crate) fn is_true(t: Tri) -> bool

@@ -7,38 +7,41 @@ ghost use Rattle.pg_meaning.specs.Functions.{integers_of, range_over, size_of};
 ghost use Rattle.pg_meaning.specs.declared.fault.Fault.TheVariants.{OutOfMemory};
 ghost use Rattle.pg_value_core.specs.View.{view};
 
-use crate::found::Found;
+use crate::value_ref::ValueRef;
 use pg_expr_calls::{range, range_size};
 use pg_meaning::Fault;
 use pg_value_core::Value;
 use std::alloc::Global;
 
-pub(crate) fn range_of<'a>(alloc: Global, arguments: &Vec<Found<'a>>) -> Result<Found<'a>, Fault>
+pub(crate) fn range_of<'a>(
+    alloc: Global,
+    arguments: &Vec<ValueRef<'a>>,
+) -> Result<ValueRef<'a>, Fault>
     ensures ok { IfOk result
         (λ f. given_range (founds_view arguments.now.items) ≡ Ok (found_view f)) }
     ensures err { IfErr result (λ e. e ≢ OutOfMemory
         → given_range (founds_view arguments.now.items) ≡ Err e) }
 {
     let integers = integers(alloc, arguments)?;
-    Ok(Found::Made(range_over(alloc, &integers)?))
+    Ok(ValueRef::Made(range_over(alloc, &integers)?))
 }
 
 /// The size of what `range` gives at its arguments, which isn't made.
 pub(crate) fn size_of_range<'a>(
     alloc: Global,
-    arguments: &Vec<Found<'a>>,
-) -> Result<Found<'a>, Fault>
+    arguments: &Vec<ValueRef<'a>>,
+) -> Result<ValueRef<'a>, Fault>
     ensures ok { IfOk result (λ f. and_then (given_range (founds_view arguments.now.items)) size_of
         ≡ Ok (found_view f)) }
     ensures err { IfErr result (λ e. e ≢ OutOfMemory
         → and_then (given_range (founds_view arguments.now.items)) size_of ≡ Err e) }
 {
     let integers = integers(alloc, arguments)?;
-    Ok(Found::Made(size_over(&integers)?))
+    Ok(ValueRef::Made(size_over(&integers)?))
 }
 
 /// The integers that all arguments are.
-fn integers(alloc: Global, arguments: &Vec<Found<'_>>) -> Result<Vec<i64>, Fault>
+fn integers(alloc: Global, arguments: &Vec<ValueRef<'_>>) -> Result<Vec<i64>, Fault>
     ensures ok { IfOk result (λ is. integers_of (founds_view arguments.now.items) ≡ Ok is.items) }
     ensures err { IfErr result (λ e. e ≢ OutOfMemory
         → integers_of (founds_view arguments.now.items) ≡ Err e) }

@@ -14,21 +14,21 @@ ghost use Rattle.pg_meaning.specs.declared.fault.Fault.TheVariants.{OutOfMemory}
 ghost use Rattle.pg_syntax_tree.specs.View.{names_view};
 ghost use Rattle.pg_value_core.specs.View.{view, values_view, entries_view};
 
-use crate::found::{Found, lent_or_null, null};
+use crate::value_ref::{ValueRef, lent_or_null, null};
 use pg_expr_calls::{item_of, value_at};
 use pg_graph::Tables;
 use pg_meaning::Fault;
-use pg_store::{NodeView, Snapshot};
+use pg_store::{GraphView, NodeView};
 use pg_syntax_tree::Name;
 use pg_value_core::{NodeId, Parts, RelId, Value};
 use std::alloc::Global;
 use std::collections::BTreeMap;
 
 fn node_property<'a, T: Tables>(
-    graph: &Snapshot<'a, T>,
+    graph: &GraphView<'a, T>,
     id: NodeId,
     key: &str,
-) -> Result<Found<'a>, Fault>
+) -> Result<ValueRef<'a>, Fault>
     ensures ok { IfOk result (λ f. property_of graph.now (node id.0) key.now ≡ Ok (found_view f)) }
     ensures err { IfErr result (λ e. property_of graph.now (node id.0) key.now ≡ Err e) }
 {
@@ -39,10 +39,10 @@ fn node_property<'a, T: Tables>(
 }
 
 fn relationship_property<'a, T: Tables>(
-    graph: &Snapshot<'a, T>,
+    graph: &GraphView<'a, T>,
     id: RelId,
     key: &str,
-) -> Result<Found<'a>, Fault>
+) -> Result<ValueRef<'a>, Fault>
     ensures ok { IfOk result
         (λ f. property_of graph.now (relationship id.0) key.now ≡ Ok (found_view f)) }
     ensures err { IfErr result (λ e. property_of graph.now (relationship id.0) key.now ≡ Err e) }
@@ -54,7 +54,7 @@ fn relationship_property<'a, T: Tables>(
 }
 
 /// What stands under a key, and null where nothing does.
-fn entry<'a>(entries: &'a BTreeMap<String, Value>, key: &str) -> Found<'a>
+fn entry<'a>(entries: &'a BTreeMap<String, Value>, key: &str) -> ValueRef<'a>
     ensures { found_view result ≡ value_at key.now (entries_view entries.now.entries) }
 {
     lent_or_null(entries.get(key))
@@ -63,40 +63,40 @@ fn entry<'a>(entries: &'a BTreeMap<String, Value>, key: &str) -> Found<'a>
 /// `v.key`.
 #[inline(never)]
 pub(crate) fn property<'a, T: Tables>(
-    graph: &Snapshot<'a, T>,
-    value: Found<'a>,
+    graph: &GraphView<'a, T>,
+    value: ValueRef<'a>,
     key: &str,
-) -> Result<Found<'a>, Fault>
+) -> Result<ValueRef<'a>, Fault>
     ensures ok { IfOk result
         (λ f. property_of graph.now (found_view value.entry) key.now ≡ Ok (found_view f)) }
     ensures err { IfErr result
         (λ e. property_of graph.now (found_view value.entry) key.now ≡ Err e) }
 {
     match value {
-        Found::Lent(value) => match value {
+        ValueRef::Lent(value) => match value {
             Value::Null => Ok(null()),
             Value::Map(entries) => Ok(entry(entries, key)),
             Value::Node(id) => node_property(graph, *id, key),
             Value::Rel(id) => relationship_property(graph, *id, key),
             _ => Err(Fault::TypeFault),
         },
-        Found::Made(value) => property_made(graph, value, key),
+        ValueRef::Made(value) => property_made(graph, value, key),
     }
 }
 
 /// What stands in a map that was made moves out of it.
 #[inline(never)]
 fn property_made<'a, T: Tables>(
-    graph: &Snapshot<'a, T>,
+    graph: &GraphView<'a, T>,
     value: Value,
     key: &str,
-) -> Result<Found<'a>, Fault>
+) -> Result<ValueRef<'a>, Fault>
     ensures ok { IfOk result (λ f. property_of graph.now (view value) key.now ≡ Ok (found_view f)) }
     ensures err { IfErr result (λ e. property_of graph.now (view value) key.now ≡ Err e) }
 {
     match value.into_parts() {
         Parts::Null => Ok(null()),
-        Parts::Map(entries) => Ok(Found::Made(value_at(entries, key))),
+        Parts::Map(entries) => Ok(ValueRef::Made(value_at(entries, key))),
         Parts::Node(id) => node_property(graph, id, key),
         Parts::Rel(id) => relationship_property(graph, id, key),
         _ => Err(Fault::TypeFault),
@@ -107,27 +107,27 @@ fn property_made<'a, T: Tables>(
 #[inline(never)]
 pub(crate) fn index<'a, T: Tables>(
     alloc: Global,
-    graph: &Snapshot<'a, T>,
-    value: Found<'a>,
-    place: Result<Found<'a>, Fault>,
-) -> Result<Found<'a>, Fault>
+    graph: &GraphView<'a, T>,
+    value: ValueRef<'a>,
+    place: Result<ValueRef<'a>, Fault>,
+) -> Result<ValueRef<'a>, Fault>
     ensures { After place.entry result
         (λ i. indexed graph.now (found_view value.entry) (found_view i)) found_view }
 {
     match place {
         Ok(at) => match value {
-            Found::Lent(value) => index_lent(graph, value, at.look()),
-            Found::Made(value) => index_made(alloc, graph, value, at.look()),
+            ValueRef::Lent(value) => index_lent(graph, value, at.look()),
+            ValueRef::Made(value) => index_made(alloc, graph, value, at.look()),
         },
         Err(fault) => Err(fault),
     }
 }
 
 fn index_lent<'a, T: Tables>(
-    graph: &Snapshot<'a, T>,
+    graph: &GraphView<'a, T>,
     value: &'a Value,
     place: &Value,
-) -> Result<Found<'a>, Fault>
+) -> Result<ValueRef<'a>, Fault>
     ensures ok { IfOk result
         (λ f. indexed graph.now (view value.now) (view place.now) ≡ Ok (found_view f)) }
     ensures err { IfErr result (λ e. indexed graph.now (view value.now) (view place.now) ≡ Err e) }
@@ -143,11 +143,11 @@ fn index_lent<'a, T: Tables>(
 }
 
 #[tactic(auto, using(pg_expr_calls::proofs::Counts::reads))]
-pub(crate) fn item_at<'a>(items: &'a Vec<Value>, place: usize) -> Found<'a>
+pub(crate) fn item_at<'a>(items: &'a Vec<Value>, place: usize) -> ValueRef<'a>
     ensures { found_view result ≡ item_at place (values_view items.now.items) }
 {
     if place < items.len() {
-        Found::Lent(&items[place])
+        ValueRef::Lent(&items[place])
     } else {
         null()
     }
@@ -155,7 +155,7 @@ pub(crate) fn item_at<'a>(items: &'a Vec<Value>, place: usize) -> Found<'a>
 
 /// The item at a place, counted from the end where it is negative.
 #[tactic(auto, using(pg_expr_calls::proofs::Counts::places))]
-fn item_lent<'a>(items: &'a Vec<Value>, place: i64) -> Found<'a>
+fn item_lent<'a>(items: &'a Vec<Value>, place: i64) -> ValueRef<'a>
     ensures { found_view result ≡ item_of (values_view items.now.items) place }
 {
     if place >= 0 {
@@ -171,10 +171,10 @@ fn item_lent<'a>(items: &'a Vec<Value>, place: i64) -> Found<'a>
 /// What stands in a list that was made moves out of it, and is copied out of any other value.
 fn index_made<'a, T: Tables>(
     alloc: Global,
-    graph: &Snapshot<'a, T>,
+    graph: &GraphView<'a, T>,
     value: Value,
     place: &Value,
-) -> Result<Found<'a>, Fault>
+) -> Result<ValueRef<'a>, Fault>
     ensures ok { IfOk result
         (λ f. indexed graph.now (view value) (view place.now) ≡ Ok (found_view f)) }
     ensures err { IfErr result (λ e. e ≢ OutOfMemory
@@ -184,27 +184,27 @@ fn index_made<'a, T: Tables>(
         return item_made(value, *at);
     }
     let found = index_lent(graph, &value, place)?;
-    Ok(Found::Made(found.take(alloc)?))
+    Ok(ValueRef::Made(found.take(alloc)?))
 }
 
-fn item_made<'a>(value: Value, place: i64) -> Result<Found<'a>, Fault>
+fn item_made<'a>(value: Value, place: i64) -> Result<ValueRef<'a>, Fault>
     ensures ok { (g : Graph)
         → IfOk result (λ f. indexed g (view value) (integer place) ≡ Ok (found_view f)) }
     ensures err { (g : Graph) → IfErr result (λ e. indexed g (view value) (integer place) ≡ Err e) }
 {
     match value.into_parts() {
         Parts::Null => Ok(null()),
-        Parts::List(items) => Ok(Found::Made(item_of(items, place))),
+        Parts::List(items) => Ok(ValueRef::Made(item_of(items, place))),
         _ => Err(Fault::TypeFault),
     }
 }
 
 /// Whether there are all the labels, and the value itself where none is asked for.
 pub(crate) fn labels<'a, T: Tables>(
-    graph: &Snapshot<'a, T>,
-    value: Found<'a>,
+    graph: &GraphView<'a, T>,
+    value: ValueRef<'a>,
     labels: &Vec<Name>,
-) -> Result<Found<'a>, Fault>
+) -> Result<ValueRef<'a>, Fault>
     ensures ok { IfOk result
         (λ f. labelled graph.now (found_view value.entry) (names_view labels.now.items)
         ≡ Ok (found_view f)) }
@@ -219,10 +219,10 @@ pub(crate) fn labels<'a, T: Tables>(
 
 #[inline(never)]
 fn some_labels<'a, T: Tables>(
-    graph: &Snapshot<'a, T>,
-    value: Found<'a>,
+    graph: &GraphView<'a, T>,
+    value: ValueRef<'a>,
     labels: &Vec<Name>,
-) -> Result<Found<'a>, Fault>
+) -> Result<ValueRef<'a>, Fault>
     requires { (vec_len labels.now == 0) ≡ false }
     ensures ok { IfOk result
         (λ f. labelled graph.now (found_view value.entry) (names_view labels.now.items)
@@ -239,17 +239,17 @@ fn some_labels<'a, T: Tables>(
 
 #[inline(never)]
 fn node_labels<'a, T: Tables>(
-    graph: &Snapshot<'a, T>,
+    graph: &GraphView<'a, T>,
     id: NodeId,
     labels: &Vec<Name>,
-) -> Result<Found<'a>, Fault>
+) -> Result<ValueRef<'a>, Fault>
     ensures ok { IfOk result
         (λ f. labels_tested graph.now id.0 (names_view labels.now.items) ≡ Ok (found_view f)) }
     ensures err { IfErr result
         (λ e. labels_tested graph.now id.0 (names_view labels.now.items) ≡ Err e) }
 {
     match graph.node(id) {
-        Some(node) => Ok(Found::Made(Value::Bool(has_all(&node, labels)))),
+        Some(node) => Ok(ValueRef::Made(Value::Bool(has_all(&node, labels)))),
         None => Err(Fault::DeletedEntity),
     }
 }

@@ -13,7 +13,7 @@ ghost use Rattle.pg_value_core.specs.View.{view};
 use crate::row_context::RowContext;
 use pg_graph::Tables;
 use pg_meaning::Fault;
-use pg_store::Snapshot;
+use pg_store::GraphView;
 use pg_syntax_tree::Literal;
 use pg_value_core::{NodeId, RelId, Value};
 use std::alloc::Global;
@@ -98,7 +98,7 @@ pub(crate) fn parameter<'a>(context: &RowContext<'a>, name: &str) -> Scalar<'a>
 /// `v.key`.
 #[inline(never)]
 pub(crate) fn property<'a, T: Tables>(
-    graph: &Snapshot<'a, T>,
+    graph: &GraphView<'a, T>,
     v: Scalar<'a>,
     key: &str,
 ) -> Scalar<'a>
@@ -116,7 +116,7 @@ pub(crate) fn property<'a, T: Tables>(
     }
 }
 
-fn node_property<'a, T: Tables>(graph: &Snapshot<'a, T>, id: NodeId, key: &str) -> Scalar<'a>
+fn node_property<'a, T: Tables>(graph: &GraphView<'a, T>, id: NodeId, key: &str) -> Scalar<'a>
     ensures { Tells (scalar_view result) (property_of graph.now (node id.0) key.now) }
 {
     match graph.node(id) {
@@ -125,7 +125,11 @@ fn node_property<'a, T: Tables>(graph: &Snapshot<'a, T>, id: NodeId, key: &str) 
     }
 }
 
-fn relationship_property<'a, T: Tables>(graph: &Snapshot<'a, T>, id: RelId, key: &str) -> Scalar<'a>
+fn relationship_property<'a, T: Tables>(
+    graph: &GraphView<'a, T>,
+    id: RelId,
+    key: &str,
+) -> Scalar<'a>
     ensures { Tells (scalar_view result) (property_of graph.now (relationship id.0) key.now) }
 {
     match graph.rel(id) {

@@ -1,15 +1,19 @@
 //! What operators, signs and tests give at scalars. A fault is never told: `find` gives it.
-ghost use Rattle.std.specs.Prelude.{◌≡◌, IfSome, Ok, Some, [], ◌∷◌, if◌then◌else◌, not, option_map, string_bytes};
+ghost use Rattle.std.specs.Prelude.{◌≡◌, ◌<◌, ◌≤◌, ◌^◌, IfSome, Ok, Some, [], ◌∷◌, count_by, if◌then◌else◌, length, not, option_map, pos, string_bytes};
+ghost use Rattle.pg_expr.specs.Calls.{sized};
 ghost use Rattle.pg_expr.specs.Operators.{all_negated, truth_compared};
-ghost use Rattle.pg_expr.specs.Scalars.{scalar_view, Tells, ThenTells, BothTell, TruthIn};
+ghost use Rattle.pg_expr.specs.Scalars.{scalar_view, Chooses, Tells, ThenTells, BothTell, TruthIn};
 ghost use Rattle.pg_meaning.specs.Arithmetic.{divide, modulo, signed};
 ghost use Rattle.pg_meaning.specs.Expressions.{all_signed, combined, compared, null_tested};
-ghost use Rattle.pg_meaning.specs.Logic.{truth_of, value_of};
+ghost use Rattle.pg_meaning.specs.Functions.{is_first_byte};
+ghost use Rattle.pg_meaning.specs.Logic.{truth_of, value_of_truth};
 ghost use Rattle.pg_meaning.specs.Value.{Value, boolean, integer, text};
 
 use crate::operators::turned;
 use crate::scalar::Scalar;
+use pg_graph::Tables;
 use pg_meaning::{Operator, Tri};
+use pg_store::GraphView;
 use pg_value::{and, not, or, truth, xor};
 
 /// The integer that an operation gave, if it is within 64 bits.
@@ -23,7 +27,7 @@ fn told<'a>(n: Option<i64>) -> Scalar<'a>
 }
 
 fn of_truth<'a>(t: Tri) -> Scalar<'a>
-    ensures { scalar_view result ≡ Some (value_of t) }
+    ensures { scalar_view result ≡ Some (value_of_truth t) }
 {
     match t {
         Tri::True => Scalar::Bool(true),
@@ -115,7 +119,7 @@ fn truth_combined<'a>(operator: Operator, s: Tri, w: Scalar<'_>) -> Scalar<'a>
 
 fn truths(operator: Operator, s: Tri, t: Tri) -> Option<Tri>
     ensures { IfSome result (λ u. (v w : Value) → truth_of v ≡ Ok s → truth_of w ≡ Ok t
-        → combined operator v w ≡ Ok (value_of u)) }
+        → combined operator v w ≡ Ok (value_of_truth u)) }
 {
     match operator {
         Operator::Or => Some(or(s, t)),
@@ -126,7 +130,7 @@ fn truths(operator: Operator, s: Tri, t: Tri) -> Option<Tri>
 }
 
 fn judged<'a>(t: Option<Tri>) -> Scalar<'a>
-    ensures { scalar_view result ≡ option_map value_of t }
+    ensures { scalar_view result ≡ option_map value_of_truth t }
 {
     match t {
         Some(t) => of_truth(t),
@@ -258,4 +262,49 @@ fn null_test<'a>(is_negated: bool, is_null: bool) -> Scalar<'a>
     } else {
         Scalar::Bool(is_null)
     }
+}
+
+/// Whether a condition of CASE is true; none where no truth value is told.
+pub(crate) fn is_chosen(v: Scalar<'_>) -> Option<bool>
+    ensures { Chooses (scalar_view v.entry) result }
+{
+    match v {
+        Scalar::Bool(b) => Some(b),
+        Scalar::Null => Some(false),
+        _ => None,
+    }
+}
+
+/// The size of a text.
+pub(crate) fn sized<'a, T: Tables>(graph: &GraphView<'_, T>, v: Scalar<'_>) -> Scalar<'a>
+    ensures { ThenTells (scalar_view v.entry) (scalar_view result) (sized graph.now) }
+{
+    let _ = graph;
+    match v {
+        Scalar::Null => Scalar::Null,
+        Scalar::Text(text) => counted(characters(text.as_bytes())),
+        _ => Scalar::Untold,
+    }
+}
+
+fn counted<'a>(n: usize) -> Scalar<'a>
+    requires { n < 2 ^ 63 }
+    ensures { scalar_view result ≡ Some (integer (pos n)) }
+{
+    Scalar::Int(n as i64)
+}
+
+/// How many characters a text has: as many as bytes that begin one.
+#[tactic(auto, using(pg_expr_calls::proofs::Counts::first_bytes))]
+fn characters(bytes: &[u8]) -> usize
+    ensures count { result ≡ count_by is_first_byte bytes.now }
+    ensures bound { result ≤ length bytes.now }
+{
+    let mut n = 0;
+    for b in bytes {
+        if *b / 64 != 2 {
+            n += 1;
+        }
+    }
+    n
 }

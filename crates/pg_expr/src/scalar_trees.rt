@@ -1,4 +1,5 @@
 //! Which expressions scalars may tell. Any answer is right: it decides alone which way is tried first.
+use crate::counts::is_size_named;
 use crate::operators::begins_comparison;
 use pg_meaning::Operator;
 use pg_syntax_tree::{Expression, Literal, Suffix, Test};
@@ -18,10 +19,32 @@ pub(crate) fn may_tell(expression: &Expression) -> bool {
         Expression::Suffixes(inner, suffixes, labels) => {
             labels.is_empty() && is_property(suffixes) && may_tell(inner)
         }
-        Expression::ListLiteral(_)
-        | Expression::MapLiteral(_)
-        | Expression::Call(_, _, _, _)
-        | Expression::Case(_, _, _) => false,
+        Expression::Case(subject, whens, otherwise) => {
+            subject.is_none() && may_tell_each(whens) && may_tell_perhaps(otherwise)
+        }
+        Expression::Call(name, _, _, arguments) => match arguments.as_slice() {
+            [argument] => is_size_named(name.text.as_str()) && may_tell(argument),
+            _ => false,
+        },
+        Expression::ListLiteral(_) | Expression::MapLiteral(_) => false,
+    }
+}
+
+#[cycle(may_tell)]
+fn may_tell_each(whens: &Vec<(Expression, Expression)>) -> bool {
+    for (condition, value) in whens {
+        if !may_tell(condition) || !may_tell(value) {
+            return false;
+        }
+    }
+    true
+}
+
+#[cycle(may_tell)]
+fn may_tell_perhaps(otherwise: &Option<Box<Expression>>) -> bool {
+    match otherwise {
+        Some(inner) => may_tell(inner),
+        None => true,
     }
 }
 

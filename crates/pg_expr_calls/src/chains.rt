@@ -8,7 +8,7 @@ ghost use Rattle.pg_meaning.specs.declared.operators.Operator.TheVariants.{Or, X
 ghost use Rattle.pg_value_core.specs.View.{view};
 
 use pg_meaning::{Fault, Operator, Tri};
-use pg_value::{and, eq3, less3, not, or, truth_of, value_of, xor};
+use pg_value::{and, eq3, less3, not, or, truth_of, value_of_truth, xor};
 use pg_value_core::Value;
 
 /// What a comparison gives at two neighbours; any other operator is no comparison.
@@ -42,7 +42,7 @@ pub fn conjunction(v: &Value, w: &Value) -> Result<Value, Fault>
 {
     let s = truth_of(v)?;
     let t = truth_of(w)?;
-    Ok(value_of(and(s, t)))
+    Ok(value_of_truth(and(s, t)))
 }
 
 /// `v OR w`, where both are evaluated.
@@ -52,7 +52,7 @@ pub fn disjunction(v: &Value, w: &Value) -> Result<Value, Fault>
 {
     let s = truth_of(v)?;
     let t = truth_of(w)?;
-    Ok(value_of(or(s, t)))
+    Ok(value_of_truth(or(s, t)))
 }
 
 /// `v XOR w`.
@@ -62,5 +62,5 @@ pub fn exclusive(v: &Value, w: &Value) -> Result<Value, Fault>
 {
     let s = truth_of(v)?;
     let t = truth_of(w)?;
-    Ok(value_of(xor(s, t)))
+    Ok(value_of_truth(xor(s, t)))
 }

@@ -16,7 +16,7 @@ pub fn law_of_labels()
 {}
 
 /// An expression is read exactly where it stands, and what it can begin with.
-pub fn law_of_expressions()
+pub fn law_of_expression_readings()
     ensures exact { ExpressionsAreExact }
     ensures begins { ExpressionsOpen }
 {}
@@ -28,7 +28,7 @@ pub fn law_of_paths()
 {}
 
 /// The clauses that read and those that update are read exactly where they stand.
-pub fn law_of_clauses()
+pub fn law_of_clause_readings()
     ensures reading { ReadingClausesAreExact }
     ensures updating { UpdatingClausesAreExact }
 {}

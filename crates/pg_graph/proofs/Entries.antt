@@ -10,7 +10,7 @@ use Rattle.std.specs.List.Sorted.{IsPartitionPoint}
 use Rattle.std.specs.Ordering.{nat_cmp, match_ordering, eq_by_cmp, is_eq, is_lt}
 use Rattle.std.specs.Prelude.{◌&&◌, Option}
 use Rattle.pg_graph.proofs.SortedLists.{less, greater, equal, below, level}
-use Rattle.pg_graph.specs.Sorted.{Rises, put, without}
+use Rattle.pg_graph.specs.Sorted.{Rises, with_element, without}
 
 both : (a b : Bool) → T a → T b → T (a && b)
 both true b p q = q
@@ -56,12 +56,12 @@ module _ {V W : Type 0} (f : V → W) where
   sorted_seen [] rises = tt
   sorted_seen (e ∷ es) rises = both _ _ (below_seen e.0 es rises.0) (sorted_seen es rises.1)
 
-  pub put_seen : (k : ℕ) (v : V) (es : List (ℕ × V)) → seen (put (λ e. e.0) (k, v) es) ≡ fin.put nat_cmp k (f v) (seen es)
+  pub put_seen : (k : ℕ) (v : V) (es : List (ℕ × V)) → seen (with_element (λ e. e.0) (k, v) es) ≡ fin.put nat_cmp k (f v) (seen es)
   put_seen k v [] = refl
   put_seen k v (e ∷ es) = chosen (nat_cmp k e.0) refl (put_seen k v es)
     where
-      chosen : (o : Ordering) → nat_cmp k e.0 ≡ o → seen (put (λ e. e.0) (k, v) es) ≡ fin.put nat_cmp k (f v) (seen es)
-          → seen (match_ordering o ((k, v) ∷ e ∷ es) ((k, v) ∷ es) (e ∷ put (λ e. e.0) (k, v) es)) ≡ by_order o ((k, f v) ∷ (e.0, f e.1) ∷ seen es) ((e.0, f v) ∷ seen es) ((e.0, f e.1) ∷ fin.put nat_cmp k (f v) (seen es))
+      chosen : (o : Ordering) → nat_cmp k e.0 ≡ o → seen (with_element (λ e. e.0) (k, v) es) ≡ fin.put nat_cmp k (f v) (seen es)
+          → seen (match_ordering o ((k, v) ∷ e ∷ es) ((k, v) ∷ es) (e ∷ with_element (λ e. e.0) (k, v) es)) ≡ by_order o ((k, f v) ∷ (e.0, f e.1) ∷ seen es) ((e.0, f v) ∷ seen es) ((e.0, f e.1) ∷ fin.put nat_cmp k (f v) (seen es))
       chosen Less is rest = refl
       chosen Equal is rest = ap (λ n. (n, f v) ∷ seen es) (equal _ _ is)
       chosen Greater is rest = ap (λ r. (e.0, f e.1) ∷ r) rest
@@ -118,7 +118,7 @@ module _ {V W : Type 0} (f : V → W) where
   pub entries_of_map : (es : List (ℕ × V)) → Rises (λ e. e.0) es → seen es ≡ fin.entries (map_of es)
   entries_of_map es rises = sym (fin.entries-from_sorted nat_cmp (seen es) (sorted_seen es rises))
 
-  pub map_put : (k : ℕ) (v : V) (es : List (ℕ × V)) → Rises (λ e. e.0) es → map_of (put (λ e. e.0) (k, v) es) ≡ fin.insert (map_of es) k (f v)
+  pub map_put : (k : ℕ) (v : V) (es : List (ℕ × V)) → Rises (λ e. e.0) es → map_of (with_element (λ e. e.0) (k, v) es) ≡ fin.insert (map_of es) k (f v)
   map_put k v es rises =
       let sorted = sorted_seen es rises in
       ap fin.from_sorted (put_seen k v es)

@@ -14,8 +14,8 @@ use Rattle.std.specs.FinMap as map
 use Rattle.std.specs.FinMap.{get-insert, get-remove, get-empty}
 use Rattle.pg_graph.specs.IdRuns.{entry_of, set_of}
 use Rattle.pg_graph.specs.IdSets.{ids_of, IsHeld}
-use Rattle.pg_graph.specs.declared.id_set.Held.{Held}
-use Rattle.pg_graph.specs.declared.id_set.Held.TheVariants as held
+use Rattle.pg_graph.specs.declared.id_set.IdStorage.{IdStorage}
+use Rattle.pg_graph.specs.declared.id_set.IdStorage.TheVariants as held
 use Rattle.pg_graph.specs.Links.{with_id, without_id}
 use Rattle.pg_graph.specs.Sorted.{Rises}
 use Rattle.pg_graph.proofs.Maps.{same_numbered, keys_of_entries}
@@ -144,7 +144,7 @@ apart a b ne = grind (arith, nat_tests)
 pub one_stays : (a id : ℕ) → (a ≡ id → ⊥) → without_id id (a ∷ []) ≡ a ∷ []
 one_stays a id ne = ap (λ b. cond b [] (a ∷ [])) (apart a id ne)
 
-pub held_rises : (h : Held) → IsHeld h → Rises (λ n. n) (ids_of h)
+pub held_rises : (h : IdStorage) → IsHeld h → Rises (λ n. n) (ids_of h)
 held_rises held.Nothing is = tt
 held_rises (held.One id) is = (tt, tt)
 held_rises (held.More runs) is = is.rise

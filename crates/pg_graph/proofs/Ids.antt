@@ -12,7 +12,7 @@ use Rattle.pg_graph.proofs.Entries.{entries_removed}
 use Rattle.pg_graph.proofs.SortedLists.{less, equal, below, put_rises}
 use Rattle.pg_graph.specs.Content.{ids_where}
 use Rattle.pg_graph.specs.Links.{with_id, without_id}
-use Rattle.pg_graph.specs.Sorted.{Rises, put, without}
+use Rattle.pg_graph.specs.Sorted.{Rises, with_element, without}
 
 left : (a b : Bool) → T (a && b) → T a
 left true b h = tt
@@ -68,12 +68,12 @@ without_with_id k (x ∷ xs) lacks = chosen (nat_cmp k x) refl (without_with_id 
 
 -- lists of items by their numbers
 module _ {A : Type 0} (number : A → ℕ) where
-  pub numbers_put : (a : A) (xs : List A) → map_list number (put number a xs) ≡ with_id (number a) (map_list number xs)
+  pub numbers_put : (a : A) (xs : List A) → map_list number (with_element number a xs) ≡ with_id (number a) (map_list number xs)
   numbers_put a [] = refl
   numbers_put a (x ∷ xs) = chosen (nat_cmp (number a) (number x)) (numbers_put a xs)
     where
-      chosen : (o : Ordering) → map_list number (put number a xs) ≡ with_id (number a) (map_list number xs)
-          → map_list number (match_ordering o (a ∷ x ∷ xs) (a ∷ xs) (x ∷ put number a xs))
+      chosen : (o : Ordering) → map_list number (with_element number a xs) ≡ with_id (number a) (map_list number xs)
+          → map_list number (match_ordering o (a ∷ x ∷ xs) (a ∷ xs) (x ∷ with_element number a xs))
           ≡ match_ordering o (number a ∷ number x ∷ map_list number xs) (number a ∷ map_list number xs) (number x ∷ with_id (number a) (map_list number xs))
       chosen Less rest = refl
       chosen Equal rest = refl

@@ -18,7 +18,7 @@ use Rattle.pg_names.specs.Names.{AreDistinct}
 use Rattle.pg_graph.specs.Blank.{is_null}
 use Rattle.pg_graph.specs.Records.{shown, shown_value}
 use Rattle.pg_graph.specs.Refinement.{text_of, put_shown, named_entries, AreNamed, LabelIsRead, PropertyIsRead}
-use Rattle.pg_meaning.specs.Entries.{at_key, put, value_at}
+use Rattle.pg_meaning.specs.Entries.{at_key, with_entry, value_at}
 use Rattle.pg_meaning.specs.EntriesLaws.{put_is_read}
 use Rattle.pg_meaning.specs.Names.{put_texts}
 use Rattle.pg_meaning.specs.Order.{text_order}
@@ -139,7 +139,7 @@ tied_numbers n k h = nat_cmp-IsAntisymmetric n k (equal_of (nat_cmp n k) h)
     equal_of Equal e = refl
     equal_of Greater e = absurd (cc)
 
-put_is_shown : (q k : List ℕ) (v : Value) (es : Entries) (b : Bool) (o : Option Value) → shown_value v ≡ Some v → bytes_eq q k ≡ b → at_key q es ≡ shown o → at_key q (put k v es) ≡ shown (cond b (Some v) o)
+put_is_shown : (q k : List ℕ) (v : Value) (es : Entries) (b : Bool) (o : Option Value) → shown_value v ≡ Some v → bytes_eq q k ≡ b → at_key q es ≡ shown o → at_key q (with_entry k v es) ≡ shown (cond b (Some v) o)
 put_is_shown q k v es true o kept is rest = put_is_read q k v es ∙ ap (λ c. cond c (Some v) (at_key q es)) is ∙ sym kept
 put_is_shown q k v es false o kept is rest = put_is_read q k v es ∙ ap (λ c. cond c (Some v) (at_key q es)) is ∙ rest
 
@@ -184,7 +184,7 @@ entry_is_read names text n v es = by_value v
     none false = refl
 
     read : (w : Value) → (bytes_eq text (text_of names n) && true ≡ bytes_eq text (text_of names n))
-        → at_key text (put (text_of names n) w (named_entries names es)) ≡ cond (bytes_eq text (text_of names n) && true) (Some w) (at_key text (named_entries names es))
+        → at_key text (with_entry (text_of names n) w (named_entries names es)) ≡ cond (bytes_eq text (text_of names n) && true) (Some w) (at_key text (named_entries names es))
     read w same = put_is_read text (text_of names n) w (named_entries names es) ∙ ap (λ b. cond b (Some w) (at_key text (named_entries names es))) (sym same)
 
     by_value : (w : Value) → at_key text (put_shown (text_of names n) w (named_entries names es)) ≡ cond (bytes_eq text (text_of names n) && not (is_null w)) (Some w) (at_key text (named_entries names es))

@@ -5,7 +5,7 @@ use Rattle.std.proofs.lemmas.Option.{get_or_from_slice_get}
 use Rattle.std.specs.List.{AllByRecursion, HoldsAt, insert, remove, list_any}
 use Rattle.std.specs.List.Sorted.{IsPartitionPoint}
 use Rattle.std.specs.Ordering.{nat_cmp, match_ordering}
-use Rattle.pg_graph.specs.IdRuns.{first_of, joined, AreRuns, IsRunOf}
+use Rattle.pg_graph.specs.IdRuns.{first_of, flattened, AreRuns, IsRunOf}
 use Rattle.pg_graph.specs.Links.{with_id, without_id}
 use Rattle.pg_graph.specs.Sorted.{Rises, IsPlace}
 use Rattle.pg_graph.proofs.SortedLists.{below, above, less, greater, equal, other, other_above, put_rises, without_rises}
@@ -99,25 +99,25 @@ inside id [] i is = absurd is
 inside id (r ∷ rs) zero is = omega arith
 inside id (r ∷ rs) (suc i) is = let h : i < length rs = inside id rs i is.1 in omega arith
 
-pub put_in_run : (id : ℕ) (rs : List (List ℕ)) (i : ℕ) (d : List ℕ) → IsRunOf id rs i → joined (slice_set rs i (with_id id (slice_index_or rs i d))) ≡ with_id id (joined rs)
+pub put_in_run : (id : ℕ) (rs : List (List ℕ)) (i : ℕ) (d : List ℕ) → IsRunOf id rs i → flattened (slice_set rs i (with_id id (slice_index_or rs i d))) ≡ with_id id (flattened rs)
 put_in_run id [] i d is = absurd is
-put_in_run id (r ∷ rs) zero d is = sym (put_front id r (joined rs) is)
-put_in_run id (r ∷ rs) (suc i) d is = ap (λ zs. r ++ zs) (put_in_run id rs i d is.1) ∙ sym (put_back id r (joined rs) is.0)
+put_in_run id (r ∷ rs) zero d is = sym (put_front id r (flattened rs) is)
+put_in_run id (r ∷ rs) (suc i) d is = ap (λ zs. r ++ zs) (put_in_run id rs i d is.1) ∙ sym (put_back id r (flattened rs) is.0)
 
-pub out_of_run : (id : ℕ) (rs : List (List ℕ)) (i : ℕ) (d : List ℕ) → IsRunOf id rs i → joined (slice_set rs i (without_id id (slice_index_or rs i d))) ≡ without_id id (joined rs)
+pub out_of_run : (id : ℕ) (rs : List (List ℕ)) (i : ℕ) (d : List ℕ) → IsRunOf id rs i → flattened (slice_set rs i (without_id id (slice_index_or rs i d))) ≡ without_id id (flattened rs)
 out_of_run id [] i d is = absurd is
-out_of_run id (r ∷ rs) zero d is = sym (without_front id r (joined rs) is)
-out_of_run id (r ∷ rs) (suc i) d is = ap (λ zs. r ++ zs) (out_of_run id rs i d is.1) ∙ sym (without_back id r (joined rs) is.0)
+out_of_run id (r ∷ rs) zero d is = sym (without_front id r (flattened rs) is)
+out_of_run id (r ∷ rs) (suc i) d is = ap (λ zs. r ++ zs) (out_of_run id rs i d is.1) ∙ sym (without_back id r (flattened rs) is.0)
 
-pub has_in_run : (id : ℕ) (rs : List (List ℕ)) (i : ℕ) (d : List ℕ) → IsRunOf id rs i → has id (slice_index_or rs i d) ≡ has id (joined rs)
+pub has_in_run : (id : ℕ) (rs : List (List ℕ)) (i : ℕ) (d : List ℕ) → IsRunOf id rs i → has id (slice_index_or rs i d) ≡ has id (flattened rs)
 has_in_run id [] i d is = absurd is
-has_in_run id (r ∷ rs) zero d is = sym (has_front id r (joined rs) is)
-has_in_run id (r ∷ rs) (suc i) d is = has_in_run id rs i d is.1 ∙ sym (has_back id r (joined rs) is.0)
+has_in_run id (r ∷ rs) zero d is = sym (has_front id r (flattened rs) is)
+has_in_run id (r ∷ rs) (suc i) d is = has_in_run id rs i d is.1 ∙ sym (has_back id r (flattened rs) is.0)
 
-pub run_rises : (rs : List (List ℕ)) (i : ℕ) (d : List ℕ) → Rises (λ n. n) (joined rs) → i < length rs → Rises (λ n. n) (slice_index_or rs i d)
+pub run_rises : (rs : List (List ℕ)) (i : ℕ) (d : List ℕ) → Rises (λ n. n) (flattened rs) → i < length rs → Rises (λ n. n) (slice_index_or rs i d)
 run_rises [] i d rise h = absurd (omega arith)
-run_rises (r ∷ rs) zero d rise h = front_rises r (joined rs) rise
-run_rises (r ∷ rs) (suc i) d rise h = run_rises rs i d (back_rises r (joined rs) rise) (omega arith)
+run_rises (r ∷ rs) zero d rise h = front_rises r (flattened rs) rise
+run_rises (r ∷ rs) (suc i) d rise h = run_rises rs i d (back_rises r (flattened rs) rise) (omega arith)
 
 -- ---- runs of which one is changed
 
@@ -137,13 +137,13 @@ put_fills id (x ∷ xs) = by_order (nat_cmp id x)
 
 pub put_keeps : (id : ℕ) (rs : List (List ℕ)) (i : ℕ) (d : List ℕ) → IsRunOf id rs i → AreRuns rs → AreRuns (slice_set rs i (with_id id (slice_index_or rs i d)))
 put_keeps id rs i d is runs = record {
-  rise = subst (λ xs. Rises (λ n. n) xs) (sym (put_in_run id rs i d is)) (put_rises (λ n. n) id (joined rs) runs.rise);
+  rise = subst (λ xs. Rises (λ n. n) xs) (sym (put_in_run id rs i d is)) (put_rises (λ n. n) id (flattened rs) runs.rise);
   filled = filled_set rs i _ (put_fills id (slice_index_or rs i d)) runs.filled;
 }
 
 pub out_keeps : (id : ℕ) (rs : List (List ℕ)) (i : ℕ) (d : List ℕ) → IsRunOf id rs i → 0 < length (without_id id (slice_index_or rs i d)) → AreRuns rs → AreRuns (slice_set rs i (without_id id (slice_index_or rs i d)))
 out_keeps id rs i d is h runs = record {
-  rise = subst (λ xs. Rises (λ n. n) xs) (sym (out_of_run id rs i d is)) (without_rises (λ n. n) id (joined rs) runs.rise);
+  rise = subst (λ xs. Rises (λ n. n) xs) (sym (out_of_run id rs i d is)) (without_rises (λ n. n) id (flattened rs) runs.rise);
   filled = filled_set rs i _ h runs.filled;
 }
 
@@ -152,15 +152,15 @@ nothing_of [] e = refl
 nothing_of (x ∷ xs) e = absurd (omega arith)
 
 -- where there are no ids, there are no runs
-pub no_runs : (rs : List (List ℕ)) → AreRuns rs → joined rs ≡ [] → length rs ≡ 0
+pub no_runs : (rs : List (List ℕ)) → AreRuns rs → flattened rs ≡ [] → length rs ≡ 0
 no_runs [] runs none = refl
 no_runs ([] ∷ rs) runs none = absurd (let e = runs.filled.0 in omega arith)
 no_runs ((x ∷ xs) ∷ rs) runs none = absurd cc
 
 -- an empty run is taken out
-pub joined_removed : (rs : List (List ℕ)) (i : ℕ) (r : List ℕ) → i < length rs → length r ≡ 0 → joined (remove (slice_set rs i r) i) ≡ joined (slice_set rs i r)
+pub joined_removed : (rs : List (List ℕ)) (i : ℕ) (r : List ℕ) → i < length rs → length r ≡ 0 → flattened (remove (slice_set rs i r) i) ≡ flattened (slice_set rs i r)
 joined_removed [] i r h e = absurd (omega arith)
-joined_removed (s ∷ rs) zero r h e = ap (λ q. q ++ joined rs) (sym (nothing_of r e))
+joined_removed (s ∷ rs) zero r h e = ap (λ q. q ++ flattened rs) (sym (nothing_of r e))
 joined_removed (s ∷ rs) (suc i) r h e = ap (λ zs. s ++ zs) (joined_removed rs i r (omega arith) e)
 
 pub filled_removed : (rs : List (List ℕ)) (i : ℕ) (r : List ℕ) → AllByRecursion (λ r. 0 < length r) rs → AllByRecursion (λ r. 0 < length r) (remove (slice_set rs i r) i)
@@ -171,7 +171,7 @@ filled_removed (s ∷ rs) (suc i) r all = (all.0, filled_removed rs i r all.1)
 
 pub removed_keeps : (id : ℕ) (rs : List (List ℕ)) (i : ℕ) (d : List ℕ) → IsRunOf id rs i → length (without_id id (slice_index_or rs i d)) ≡ 0 → AreRuns rs → AreRuns (remove (slice_set rs i (without_id id (slice_index_or rs i d))) i)
 removed_keeps id rs i d is h runs = record {
-  rise = subst (λ xs. Rises (λ n. n) xs) (sym (joined_removed rs i _ (inside id rs i is) h ∙ out_of_run id rs i d is)) (without_rises (λ n. n) id (joined rs) runs.rise);
+  rise = subst (λ xs. Rises (λ n. n) xs) (sym (joined_removed rs i _ (inside id rs i is) h ∙ out_of_run id rs i d is)) (without_rises (λ n. n) id (flattened rs) runs.rise);
   filled = filled_removed rs i _ runs.filled;
 }
 
@@ -181,9 +181,9 @@ take_and_drop zero xs = refl
 take_and_drop (suc n) [] = refl
 take_and_drop (suc n) (x ∷ xs) = ap (λ ys. x ∷ ys) (take_and_drop n xs)
 
-pub joined_split : (rs : List (List ℕ)) (i n : ℕ) (d : List ℕ) → i < length rs → joined (slice_set (insert rs (suc i) (drop n (slice_index_or rs i d))) i (take n (slice_index_or rs i d))) ≡ joined rs
+pub joined_split : (rs : List (List ℕ)) (i n : ℕ) (d : List ℕ) → i < length rs → flattened (slice_set (insert rs (suc i) (drop n (slice_index_or rs i d))) i (take n (slice_index_or rs i d))) ≡ flattened rs
 joined_split [] i n d h = absurd (omega arith)
-joined_split (r ∷ rs) zero n d h = sym (append_assoc (take n r) (drop n r) (joined rs)) ∙ ap (λ xs. xs ++ joined rs) (take_and_drop n r)
+joined_split (r ∷ rs) zero n d h = sym (append_assoc (take n r) (drop n r) (flattened rs)) ∙ ap (λ xs. xs ++ flattened rs) (take_and_drop n r)
 joined_split (r ∷ rs) (suc i) n d h = ap (λ xs. r ++ xs) (joined_split rs i n d (omega arith))
 
 pub filled_split : (rs : List (List ℕ)) (i : ℕ) (a b : List ℕ) → i < length rs → 0 < length a → 0 < length b → AllByRecursion (λ r. 0 < length r) rs → AllByRecursion (λ r. 0 < length r) (slice_set (insert rs (suc i) b) i a)
@@ -193,30 +193,30 @@ filled_split (r ∷ rs) (suc i) a b h p q all = (all.0, filled_split rs i a b (o
 
 -- ---- where the run of an id is found
 
-first_at : (P : ℕ → Type 0) (rs : List (List ℕ)) (i : ℕ) (d : List ℕ) → AllByRecursion (λ r. 0 < length r) rs → i < length rs → AllByRecursion P (joined rs) → P (first_of (slice_index_or rs i d))
+first_at : (P : ℕ → Type 0) (rs : List (List ℕ)) (i : ℕ) (d : List ℕ) → AllByRecursion (λ r. 0 < length r) rs → i < length rs → AllByRecursion P (flattened rs) → P (first_of (slice_index_or rs i d))
 first_at P [] i d filled h all = absurd (omega arith)
 first_at P ([] ∷ rs) i d filled h all = absurd (omega (arith, filled.0))
 first_at P ((x ∷ xs) ∷ rs) zero d filled h all = all.0
-first_at P ((x ∷ xs) ∷ rs) (suc i) d filled h all = first_at P rs i d filled.1 (omega arith) (all_back P (x ∷ xs) (joined rs) all)
+first_at P ((x ∷ xs) ∷ rs) (suc i) d filled h all = first_at P rs i d filled.1 (omega arith) (all_back P (x ∷ xs) (flattened rs) all)
 
 -- all are above a number that is below the first
-pub all_above : (id : ℕ) (rs : List (List ℕ)) → AreRuns rs → ((d : List ℕ) → 0 < length rs → id < first_of (slice_index_or rs 0 d)) → AllByRecursion (λ n. id < n) (joined rs)
+pub all_above : (id : ℕ) (rs : List (List ℕ)) → AreRuns rs → ((d : List ℕ) → 0 < length rs → id < first_of (slice_index_or rs 0 d)) → AllByRecursion (λ n. id < n) (flattened rs)
 all_above id [] runs h = tt
 all_above id ([] ∷ rs) runs h = absurd (let e = runs.filled.0 in omega arith)
 all_above id ((x ∷ xs) ∷ rs) runs h =
     let first : id < x = h [] (omega arith) in
-    (first, all_to (λ n. x < n) (λ n. id < n) (xs ++ joined rs) (λ n after. omega arith) runs.rise.0)
+    (first, all_to (λ n. x < n) (λ n. id < n) (xs ++ flattened rs) (λ n after. omega arith) runs.rise.0)
 
 -- all of the first run are below what the first of a later one is
 front_under : (r : List ℕ) (rs : List (List ℕ)) (i : ℕ) (d : List ℕ) → AreRuns (r ∷ rs) → i < length rs → AllByRecursion (λ n. n < first_of (slice_index_or rs i d)) r
 front_under r rs i d runs h = each r runs.rise
   where
-    each : (xs : List ℕ) → Rises (λ n. n) (xs ++ joined rs) → AllByRecursion (λ n. n < first_of (slice_index_or rs i d)) xs
+    each : (xs : List ℕ) → Rises (λ n. n) (xs ++ flattened rs) → AllByRecursion (λ n. n < first_of (slice_index_or rs i d)) xs
     each [] rise = tt
-    each (x ∷ xs) rise = (first_at (λ n. x < n) rs i d runs.filled.1 h (all_back (λ n. x < n) xs (joined rs) rise.0), each xs rise.1)
+    each (x ∷ xs) rise = (first_at (λ n. x < n) rs i d runs.filled.1 h (all_back (λ n. x < n) xs (flattened rs) rise.0), each xs rise.1)
 
 pub others_are : (r : List ℕ) (rs : List (List ℕ)) → AreRuns (r ∷ rs) → AreRuns rs
-others_are r rs runs = record { rise = back_rises r (joined rs) runs.rise; filled = runs.filled.1 }
+others_are r rs runs = record { rise = back_rises r (flattened rs) runs.rise; filled = runs.filled.1 }
 
 -- the last run whose first id isn't above this one, or the first run
 pub is_run_of : (id : ℕ) (rs : List (List ℕ)) (i : ℕ) → AreRuns rs → i < length rs
@@ -236,14 +236,14 @@ pub firsts_rise : (rs : List (List ℕ)) → AreRuns rs → Rises first_of rs
 firsts_rise [] runs = tt
 firsts_rise (r ∷ rs) runs = (each r rs runs.rise runs.filled, firsts_rise rs (others_are r rs runs))
   where
-    later : (x : ℕ) (rs : List (List ℕ)) → AllByRecursion (λ n. x < n) (joined rs) → AllByRecursion (λ r. 0 < length r) rs → AllByRecursion (λ s. x < first_of s) rs
+    later : (x : ℕ) (rs : List (List ℕ)) → AllByRecursion (λ n. x < n) (flattened rs) → AllByRecursion (λ r. 0 < length r) rs → AllByRecursion (λ s. x < first_of s) rs
     later x [] all filled = tt
     later x ([] ∷ rs) all filled = absurd (let e = filled.0 in omega arith)
-    later x ((y ∷ ys) ∷ rs) all filled = (all.0, later x rs (all_back (λ n. x < n) (y ∷ ys) (joined rs) all) filled.1)
+    later x ((y ∷ ys) ∷ rs) all filled = (all.0, later x rs (all_back (λ n. x < n) (y ∷ ys) (flattened rs) all) filled.1)
 
-    each : (r : List ℕ) (rs : List (List ℕ)) → Rises (λ n. n) (joined (r ∷ rs)) → AllByRecursion (λ r. 0 < length r) (r ∷ rs) → AllByRecursion (λ s. first_of r < first_of s) rs
+    each : (r : List ℕ) (rs : List (List ℕ)) → Rises (λ n. n) (flattened (r ∷ rs)) → AllByRecursion (λ r. 0 < length r) (r ∷ rs) → AllByRecursion (λ s. first_of r < first_of s) rs
     each [] rs rise filled = absurd (let e = filled.0 in omega arith)
-    each (x ∷ xs) rs rise filled = later x rs (all_back (λ n. x < n) xs (joined rs) rise.0) filled.1
+    each (x ∷ xs) rs rise filled = later x rs (all_back (λ n. x < n) xs (flattened rs) rise.0) filled.1
 
 pub of_equal : (id : ℕ) (rs : List (List ℕ)) (i : ℕ) → AreRuns rs → i < length rs → HoldsAt (λ r. nat_cmp (first_of r) id ≡ Equal) rs i → IsRunOf id rs i
 of_equal id rs i runs h at =
@@ -300,14 +300,14 @@ past_last xs last id rise h is under =
 
 -- ---- the same, by the run that is changed
 
-pub run_put : (id : ℕ) (rs : List (List ℕ)) (i : ℕ) (was now : List ℕ) → IsRunOf id rs i → was ≡ slice_index_or rs i was → now ≡ with_id id was → joined (slice_set rs i now) ≡ with_id id (joined rs)
-run_put id rs i was now is at e = ap (λ r. joined (slice_set rs i r)) (e ∙ ap (with_id id) at) ∙ put_in_run id rs i was is
+pub run_put : (id : ℕ) (rs : List (List ℕ)) (i : ℕ) (was now : List ℕ) → IsRunOf id rs i → was ≡ slice_index_or rs i was → now ≡ with_id id was → flattened (slice_set rs i now) ≡ with_id id (flattened rs)
+run_put id rs i was now is at e = ap (λ r. flattened (slice_set rs i r)) (e ∙ ap (with_id id) at) ∙ put_in_run id rs i was is
 
 pub runs_put : (id : ℕ) (rs : List (List ℕ)) (i : ℕ) (was now : List ℕ) → IsRunOf id rs i → was ≡ slice_index_or rs i was → now ≡ with_id id was → AreRuns rs → AreRuns (slice_set rs i now)
 runs_put id rs i was now is at e runs = subst (λ r. AreRuns (slice_set rs i r)) (sym (e ∙ ap (with_id id) at)) (put_keeps id rs i was is runs)
 
-pub run_out : (id : ℕ) (rs : List (List ℕ)) (i : ℕ) (was now : List ℕ) → IsRunOf id rs i → was ≡ slice_index_or rs i was → now ≡ without_id id was → joined (slice_set rs i now) ≡ without_id id (joined rs)
-run_out id rs i was now is at e = ap (λ r. joined (slice_set rs i r)) (e ∙ ap (without_id id) at) ∙ out_of_run id rs i was is
+pub run_out : (id : ℕ) (rs : List (List ℕ)) (i : ℕ) (was now : List ℕ) → IsRunOf id rs i → was ≡ slice_index_or rs i was → now ≡ without_id id was → flattened (slice_set rs i now) ≡ without_id id (flattened rs)
+run_out id rs i was now is at e = ap (λ r. flattened (slice_set rs i r)) (e ∙ ap (without_id id) at) ∙ out_of_run id rs i was is
 
 pub runs_out : (id : ℕ) (rs : List (List ℕ)) (i : ℕ) (was now : List ℕ) → IsRunOf id rs i → was ≡ slice_index_or rs i was → now ≡ without_id id was → 0 < length now → AreRuns rs → AreRuns (slice_set rs i now)
 runs_out id rs i was now is at e some runs =
@@ -322,7 +322,7 @@ runs_fewer id rs i was now is at e none runs =
 pub run_in_rises : (rs : List (List ℕ)) (i : ℕ) (was : List ℕ) → AreRuns rs → i < length rs → was ≡ slice_index_or rs i was → Rises (λ n. n) was
 run_in_rises rs i was runs h at = subst (Rises (λ n. n)) (sym at) (run_rises rs i was runs.rise h)
 
-pub run_has : (id : ℕ) (rs : List (List ℕ)) (i : ℕ) (was : List ℕ) → IsRunOf id rs i → was ≡ slice_index_or rs i was → has id was ≡ has id (joined rs)
+pub run_has : (id : ℕ) (rs : List (List ℕ)) (i : ℕ) (was : List ℕ) → IsRunOf id rs i → was ≡ slice_index_or rs i was → has id was ≡ has id (flattened rs)
 run_has id rs i was is at = ap (has id) at ∙ has_in_run id rs i was is
 
 pub run_found : (id : ℕ) (rs ss : List (List ℕ)) (i : ℕ) → ss ≡ rs → IsRunOf id ss i → IsRunOf id rs i
@@ -360,8 +360,8 @@ module _ (rs new : List (List ℕ)) (i j n : ℕ) (was rest found now : List ℕ
       there ∙ ap (λ q. slice_index_or q i found) new_is ∙ after_insert rs i (drop n (slice_index_or rs i was)) found h ∙ any_default rs i found was h in
       ap (λ q. slice_set q i now) new_is ∙ ap (slice_set (insert rs (suc i) (drop n (slice_index_or rs i was))) i) (front ∙ ap (take n) found_is)
 
-  pub run_split : joined (slice_set new i now) ≡ joined rs
-  run_split = ap joined split_is ∙ joined_split rs i n was h
+  pub run_split : flattened (slice_set new i now) ≡ flattened rs
+  run_split = ap flattened split_is ∙ joined_split rs i n was h
 
   pub runs_split : 0 < n → n < length was → AreRuns rs → AreRuns (slice_set new i now)
   runs_split some more runs = record {
@@ -373,25 +373,25 @@ module _ (rs new : List (List ℕ)) (i j n : ℕ) (was rest found now : List ℕ
 -- ---- the last id is taken out
 
 module _ (id : ℕ) (rs : List (List ℕ)) (i : ℕ) (was now : List ℕ) (last : suc i ≡ length rs) (at : was ≡ slice_index_or rs i was) (end : was ≡ now ++ id ∷ []) where
-  pub run_popped : joined rs ≡ joined (slice_set rs i now) ++ id ∷ []
+  pub run_popped : flattened rs ≡ flattened (slice_set rs i now) ++ id ∷ []
   run_popped = each rs i last at
     where
-      each : (rs : List (List ℕ)) (i : ℕ) → suc i ≡ length rs → was ≡ slice_index_or rs i was → joined rs ≡ joined (slice_set rs i now) ++ id ∷ []
+      each : (rs : List (List ℕ)) (i : ℕ) → suc i ≡ length rs → was ≡ slice_index_or rs i was → flattened rs ≡ flattened (slice_set rs i now) ++ id ∷ []
       each [] i last at = absurd (omega arith)
       each (r ∷ []) zero last at = append-nil r ∙ sym at ∙ end ∙ ap (λ q. q ++ id ∷ []) (sym (append-nil now))
       each (r ∷ s ∷ rs) zero last at = absurd (omega arith)
-      each (r ∷ rs) (suc i) last at = ap (λ q. r ++ q) (each rs i (omega arith) at) ∙ sym (append_assoc r (joined (slice_set rs i now)) (id ∷ []))
+      each (r ∷ rs) (suc i) last at = ap (λ q. r ++ q) (each rs i (omega arith) at) ∙ sym (append_assoc r (flattened (slice_set rs i now)) (id ∷ []))
 
   pub runs_popped : AreRuns rs → 0 < length now → AreRuns (slice_set rs i now)
   runs_popped runs some = record {
-    rise = front_rises (joined (slice_set rs i now)) (id ∷ []) (subst (Rises (λ n. n)) run_popped runs.rise);
+    rise = front_rises (flattened (slice_set rs i now)) (id ∷ []) (subst (Rises (λ n. n)) run_popped runs.rise);
     filled = filled_set rs i now some runs.filled;
   }
 
-  pub run_emptied : length now ≡ 0 → joined (take i (slice_set rs i now)) ≡ joined (slice_set rs i now)
+  pub run_emptied : length now ≡ 0 → flattened (take i (slice_set rs i now)) ≡ flattened (slice_set rs i now)
   run_emptied none = each rs i last
     where
-      each : (rs : List (List ℕ)) (i : ℕ) → suc i ≡ length rs → joined (take i (slice_set rs i now)) ≡ joined (slice_set rs i now)
+      each : (rs : List (List ℕ)) (i : ℕ) → suc i ≡ length rs → flattened (take i (slice_set rs i now)) ≡ flattened (slice_set rs i now)
       each [] i last = absurd (omega arith)
       each (r ∷ []) zero last = ap (λ q. q ++ []) (sym (nothing_of now none))
       each (r ∷ s ∷ rs) zero last = absurd (omega arith)
@@ -405,7 +405,7 @@ module _ (id : ℕ) (rs : List (List ℕ)) (i : ℕ) (was now : List ℕ) (last 
 
   pub runs_emptied : AreRuns rs → length now ≡ 0 → AreRuns (take i (slice_set rs i now))
   runs_emptied runs none = record {
-    rise = subst (Rises (λ n. n)) (sym (run_emptied none)) (front_rises (joined (slice_set rs i now)) (id ∷ []) (subst (Rises (λ n. n)) run_popped runs.rise));
+    rise = subst (Rises (λ n. n)) (sym (run_emptied none)) (front_rises (flattened (slice_set rs i now)) (id ∷ []) (subst (Rises (λ n. n)) run_popped runs.rise));
     filled = filled_front rs i runs.filled;
   }
 
@@ -438,10 +438,10 @@ last_there (x ∷ xs) last is = (omega arith, get_or_from_slice_get (x ∷ xs) (
 
 -- ---- two runs that are joined
 
-pub joined_pair : (rs : List (List ℕ)) (i : ℕ) (c d : List ℕ) → suc i < length rs → joined (remove (slice_set rs i (slice_index_or rs i c ++ slice_index_or rs (suc i) d)) (suc i)) ≡ joined rs
+pub joined_pair : (rs : List (List ℕ)) (i : ℕ) (c d : List ℕ) → suc i < length rs → flattened (remove (slice_set rs i (slice_index_or rs i c ++ slice_index_or rs (suc i) d)) (suc i)) ≡ flattened rs
 joined_pair [] i c d h = absurd (omega arith)
 joined_pair (r ∷ []) i c d h = absurd (omega arith)
-joined_pair (r ∷ s ∷ rs) zero c d h = append_assoc r s (joined rs)
+joined_pair (r ∷ s ∷ rs) zero c d h = append_assoc r s (flattened rs)
 joined_pair (r ∷ s ∷ rs) (suc i) c d h = ap (λ q. r ++ q) (joined_pair (s ∷ rs) i c d (omega arith))
 
 filled_pair : (rs : List (List ℕ)) (i : ℕ) (both : List ℕ) → 0 < length both → AllByRecursion (λ r. 0 < length r) rs → AllByRecursion (λ r. 0 < length r) (remove (slice_set rs i both) (suc i))
@@ -460,8 +460,8 @@ module _ (rs : List (List ℕ)) (i j : ℕ) (first second both : List ℕ) (next
   both_is : both ≡ slice_index_or rs i first ++ slice_index_or rs (suc i) second
   both_is = is ∙ ap (λ q. q ++ second) at ∙ ap (λ q. slice_index_or rs i first ++ q) (after ∙ ap (λ k. slice_index_or rs k second) next)
 
-  pub pair_joined : joined (remove (slice_set rs i both) j) ≡ joined rs
-  pair_joined = ap (λ k. joined (remove (slice_set rs i both) k)) next ∙ ap (λ q. joined (remove (slice_set rs i q) (suc i))) both_is ∙ joined_pair rs i first second more
+  pub pair_joined : flattened (remove (slice_set rs i both) j) ≡ flattened rs
+  pair_joined = ap (λ k. flattened (remove (slice_set rs i both) k)) next ∙ ap (λ q. flattened (remove (slice_set rs i q) (suc i))) both_is ∙ joined_pair rs i first second more
 
   pub pair_runs : AreRuns rs → AreRuns (remove (slice_set rs i both) j)
   pair_runs runs = record {

@@ -6,7 +6,7 @@ use Rattle.std.proofs.lemmas.List.{append-nil, drop_all}
 use Rattle.std.specs.List.{AllByRecursion, HoldsAt, insert, remove, refill, list_any}
 use Rattle.std.specs.List.Sorted.{IsNonDecreasingBy, IsPartitionPoint, IsSearchInRange, IsBinarySearchResult}
 use Rattle.std.specs.Ordering.{nat_cmp, match_ordering, ordering_index}
-use Rattle.pg_graph.specs.Sorted.{Rises, put, without, IsPlace}
+use Rattle.pg_graph.specs.Sorted.{Rises, with_element, without, IsPlace}
 
 pub below : (a b : ℕ) → a < b → nat_cmp a b ≡ Less
 below a b h = grind (arith, nat_tests)
@@ -64,14 +64,14 @@ module _ {A : Type 0} (number : A → ℕ) where
   placed k xs (Ok i) rises inside at = (inside, at)
   placed k xs (Err i) rises inside at = (inside, at (searchable k xs rises))
 
-  pub put_found : (a : A) (xs : List A) (i : ℕ) → Rises number xs → i < length xs → HoldsAt (λ y. nat_cmp (number y) (number a) ≡ Equal) xs i → put number a xs ≡ slice_set xs i a
+  pub put_found : (a : A) (xs : List A) (i : ℕ) → Rises number xs → i < length xs → HoldsAt (λ y. nat_cmp (number y) (number a) ≡ Equal) xs i → with_element number a xs ≡ slice_set xs i a
   put_found a [] i rises inside at = absurd (omega arith)
   put_found a (x ∷ xs) zero rises inside at = rw (level (number a) (number x) (sym (equal _ _ (at x)))) refl
   put_found a (x ∷ xs) (suc i) rises inside at =
       let past : number x < number a = subst (λ n. number x < n) (equal _ _ (at x)) (at_all (λ y. number x < number y) xs i x rises.0 (omega arith)) in
       rw (above (number a) (number x) past) (ap (λ ys. x ∷ ys) (put_found a xs i rises.1 (omega arith) at))
 
-  pub put_missing : (a : A) (xs : List A) (i : ℕ) → i ≤ length xs → IsPartitionPoint (λ y. nat_cmp (number y) (number a) ≡ Less) (λ y. nat_cmp (number y) (number a) ≡ Greater) xs i → put number a xs ≡ insert xs i a
+  pub put_missing : (a : A) (xs : List A) (i : ℕ) → i ≤ length xs → IsPartitionPoint (λ y. nat_cmp (number y) (number a) ≡ Less) (λ y. nat_cmp (number y) (number a) ≡ Greater) xs i → with_element number a xs ≡ insert xs i a
   put_missing a [] zero inside at = refl
   put_missing a [] (suc i) inside at = absurd (omega arith)
   put_missing a (x ∷ xs) zero inside at = rw (below (number a) (number x) (greater _ _ (at.1 0 x (omega arith) (omega arith)))) refl
@@ -99,20 +99,20 @@ module _ {A : Type 0} (number : A → ℕ) where
   above_all m n [] h all = tt
   above_all m n (x ∷ xs) h all = (omega arith, above_all m n xs h all.1)
 
-  pub all_put : (P : A → Type 0) (a : A) (xs : List A) → P a → AllByRecursion P xs → AllByRecursion P (put number a xs)
+  pub all_put : (P : A → Type 0) (a : A) (xs : List A) → P a → AllByRecursion P xs → AllByRecursion P (with_element number a xs)
   all_put P a [] h all = (h, tt)
   all_put P a (x ∷ xs) h all = by_order (nat_cmp (number a) (number x)) (all_put P a xs h all.1)
     where
-      by_order : (o : Ordering) → AllByRecursion P (put number a xs) → AllByRecursion P (match_ordering o (a ∷ x ∷ xs) (a ∷ xs) (x ∷ put number a xs))
+      by_order : (o : Ordering) → AllByRecursion P (with_element number a xs) → AllByRecursion P (match_ordering o (a ∷ x ∷ xs) (a ∷ xs) (x ∷ with_element number a xs))
       by_order Less rest = (h, all)
       by_order Equal rest = (h, all.1)
       by_order Greater rest = (all.0, rest)
 
-  pub put_rises : (a : A) (xs : List A) → Rises number xs → Rises number (put number a xs)
+  pub put_rises : (a : A) (xs : List A) → Rises number xs → Rises number (with_element number a xs)
   put_rises a [] rises = (tt, tt)
   put_rises a (x ∷ xs) rises = by_order (nat_cmp (number a) (number x)) refl (put_rises a xs rises.1)
     where
-      by_order : (o : Ordering) → nat_cmp (number a) (number x) ≡ o → Rises number (put number a xs) → Rises number (match_ordering o (a ∷ x ∷ xs) (a ∷ xs) (x ∷ put number a xs))
+      by_order : (o : Ordering) → nat_cmp (number a) (number x) ≡ o → Rises number (with_element number a xs) → Rises number (match_ordering o (a ∷ x ∷ xs) (a ∷ xs) (x ∷ with_element number a xs))
       by_order Less is rest = ((less _ _ is, above_all _ _ xs (less _ _ is) rises.0), rises)
       by_order Equal is rest = (subst (λ n. AllByRecursion (λ y. n < number y) xs) (sym (equal _ _ is)) rises.0, rises.1)
       by_order Greater is rest = (all_put (λ y. number x < number y) a xs (greater _ _ is) rises.0, rest)
@@ -157,7 +157,7 @@ module _ {A : Type 0} (number : A → ℕ) where
   any_placed k xs (Err i) at = sym (any_missing k xs i at.1)
 
 -- a number that is there, put again
-pub put_itself : (a : ℕ) (xs : List ℕ) (i : ℕ) → Rises (λ n. n) xs → i < length xs → HoldsAt (λ y. nat_cmp y a ≡ Equal) xs i → put (λ n. n) a xs ≡ xs
+pub put_itself : (a : ℕ) (xs : List ℕ) (i : ℕ) → Rises (λ n. n) xs → i < length xs → HoldsAt (λ y. nat_cmp y a ≡ Equal) xs i → with_element (λ n. n) a xs ≡ xs
 put_itself a [] i rises inside at = absurd (omega arith)
 put_itself a (x ∷ xs) zero rises inside at = rw (level a x (sym (equal _ _ (at x)))) (ap (λ n. n ∷ xs) (sym (equal x a (at x))))
 put_itself a (x ∷ xs) (suc i) rises inside at =

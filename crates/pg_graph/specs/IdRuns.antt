@@ -9,19 +9,19 @@ abbrev pub first_of : List ℕ → ℕ
 first_of [] = 0
 first_of (x ∷ xs) = x
 
-abbrev pub joined : List (List ℕ) → List ℕ
-joined [] = []
-joined (r ∷ rs) = r ++ joined rs
+abbrev pub flattened : List (List ℕ) → List ℕ
+flattened [] = []
+flattened (r ∷ rs) = r ++ flattened rs
 
 -- lists that rise as one, none of which is empty
 pub record AreRuns (rs : List (List ℕ)) : Type 0 where
-  pub rise : Rises (λ n. n) (joined rs)
+  pub rise : Rises (λ n. n) (flattened rs)
   pub filled : AllByRecursion (λ r. 0 < length r) rs
 
 -- of these runs, all ids before this place are below an id, and all ids after it above
 abbrev pub IsRunOf : ℕ → List (List ℕ) → ℕ → Type 0
 IsRunOf id [] i = ⊥
-IsRunOf id (r ∷ rs) zero = AllByRecursion (λ n. id < n) (joined rs)
+IsRunOf id (r ∷ rs) zero = AllByRecursion (λ n. id < n) (flattened rs)
 IsRunOf id (r ∷ rs) (suc i) = AllByRecursion (λ n. n < id) r × IsRunOf id rs i
 
 -- the set of these ids

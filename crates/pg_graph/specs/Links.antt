@@ -6,14 +6,14 @@ use Rattle.std.specs.FinMap as map
 use Rattle.std.specs.FinMap.{FinMap}
 use Rattle.pg_value_core.specs.declared.ids.RelId.{RelId}
 use Rattle.pg_graph.specs.Content.{outgoing_of, incoming_of}
-use Rattle.pg_graph.specs.Sorted.{Rises, put, without}
+use Rattle.pg_graph.specs.Sorted.{Rises, with_element, without}
 use Rattle.pg_graph.specs.declared.links.Links.{Links}
 use Rattle.pg_graph.specs.declared.links.Incidence.{Incidence}
 use Rattle.pg_graph.specs.declared.records.RelRecord.{RelRecord}
 
 -- a rising list with one more id, and without one
 abbrev pub with_id : ℕ → List ℕ → List ℕ
-with_id = put (λ n. n)
+with_id = with_element (λ n. n)
 
 abbrev pub without_id : ℕ → List ℕ → List ℕ
 without_id = without (λ n. n)

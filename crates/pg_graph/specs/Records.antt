@@ -3,7 +3,7 @@ use Rattle.std.specs.Prelude.{◌≡◌, ℕ, List, Option, Some, None, map}
 use Rattle.std.specs.FinMap as map
 use Rattle.std.specs.FinMap.{FinMap}
 use Rattle.std.specs.Ordering.{nat_cmp}
-use Rattle.pg_graph.specs.Sorted.{Rises, put, without}
+use Rattle.pg_graph.specs.Sorted.{Rises, with_element, without}
 use Rattle.pg_meaning.specs.Value.{Value, null}
 use Rattle.pg_value_core.specs.View.{view}
 use Rattle.pg_value_core.specs.declared.value.Value as code
@@ -12,7 +12,7 @@ abbrev pub AreLabels : List ℕ → Type 0
 AreLabels = Rises (λ n. n)
 
 abbrev pub with_label : List ℕ → ℕ → List ℕ
-with_label labels label = put (λ n. n) label labels
+with_label labels label = with_element (λ n. n) label labels
 
 abbrev pub without_label : List ℕ → ℕ → List ℕ
 without_label labels label = without (λ n. n) label labels

@@ -6,7 +6,7 @@ use Rattle.std.specs.List.{AllByRecursion, list_any, position}
 use Rattle.std.specs.Option.{option_map, option_map_or}
 use Rattle.std.specs.Ordering.{nat_cmp}
 use Rattle.std.specs.Str.{bytes_eq}
-use Rattle.pg_meaning.specs.Entries.{put, value_at}
+use Rattle.pg_meaning.specs.Entries.{with_entry, value_at}
 use Rattle.pg_meaning.specs.Graph.{Graph, Node, Relationship, node_at, relationship_at, incident, outgoing, incoming, add_node, add_relationship, change_node, change_relationship, remove_elements, IsGraph}
 use Rattle.pg_meaning.specs.Names.{in_byte_order, is_among}
 use Rattle.pg_meaning.specs.Value.{Value, null, Entries, no_entries}
@@ -25,7 +25,7 @@ label_texts names labels = in_byte_order (map_list (text_of names) labels)
 -- a blank key shows nothing
 abbrev pub put_shown : List ℕ → Value → Entries → Entries
 put_shown k null es = es
-put_shown k v es = put k v es
+put_shown k v es = with_entry k v es
 
 abbrev pub named_entries : List (List ℕ) → List (ℕ × Value) → Entries
 named_entries names [] = no_entries

@@ -11,9 +11,9 @@ module _ {A : Type 0} (number : A → ℕ) where
   Rises (x ∷ xs) = AllByRecursion (λ y. number x < number y) xs × Rises xs
 
   -- the item at its place, in the place of one with its number
-  abbrev pub put : A → List A → List A
-  put a [] = a ∷ []
-  put a (x ∷ xs) = match_ordering (nat_cmp (number a) (number x)) (a ∷ x ∷ xs) (a ∷ xs) (x ∷ put a xs)
+  abbrev pub with_element : A → List A → List A
+  with_element a [] = a ∷ []
+  with_element a (x ∷ xs) = match_ordering (nat_cmp (number a) (number x)) (a ∷ x ∷ xs) (a ∷ xs) (x ∷ with_element a xs)
 
   -- the list without the item of this number
   abbrev pub without : ℕ → List A → List A

@@ -2,7 +2,7 @@
 ghost use Rattle.std.specs.Prelude.{◌≡◌, ◌==◌, ◌∷◌, ◌++◌, [], Some, not, OnOk, OnErr, IfOk, IfSome, IfNone, IsTrue, true};
 ghost use Rattle.std.specs.List.{list_any};
 ghost use Rattle.std.specs.FinMap as map;
-ghost use Rattle.pg_graph.specs.IdRuns.{joined, AreRuns};
+ghost use Rattle.pg_graph.specs.IdRuns.{flattened, AreRuns};
 ghost use Rattle.pg_graph.specs.IdSets.{ids_of, IsHeld};
 ghost use Rattle.pg_graph.specs.Links.{with_id, without_id};
 
@@ -16,11 +16,11 @@ use std::slice;
 /// memory beside the set.
 pub struct IdSet {
     alloc: Global,
-    held: Held,
+    held: IdStorage,
 }
 
 #[derive(Drop)]
-enum Held {
+enum IdStorage {
     Nothing,
     One(u64),
     More(Box<Vec<Run>>),
@@ -51,15 +51,15 @@ impl Model for IdSet {
     ghost invariant = { λ s. IsHeld s.held };
 }
 
-impl Held {
+impl IdStorage {
     fn contains(&self, id: u64) -> bool
         requires { IsHeld self.now }
         ensures { result ≡ list_any (λ n. n == id) (ids_of self.now) }
     {
         match self {
-            Held::Nothing => false,
-            Held::One(only) => *only == id,
-            Held::More(runs) => runs::has(runs.as_slice(), id),
+            IdStorage::Nothing => false,
+            IdStorage::One(only) => *only == id,
+            IdStorage::More(runs) => runs::has(runs.as_slice(), id),
         }
     }
 
@@ -71,32 +71,32 @@ impl Held {
         ensures held { IsHeld self.new }
     {
         match self {
-            Held::Nothing => *self = Held::One(id),
-            Held::One(only) => {
+            IdStorage::Nothing => *self = IdStorage::One(id),
+            IdStorage::One(only) => {
                 if *only == id {
                     return Ok(false);
                 }
                 *self = two(alloc, *only, id)?;
             }
-            Held::More(runs) => return runs::insert(alloc, runs, id),
+            IdStorage::More(runs) => return runs::insert(alloc, runs, id),
         }
         Ok(true)
     }
 
-    fn forget(&mut self, alloc: Global, id: u64)
+    fn remove_id(&mut self, alloc: Global, id: u64)
         requires { IsHeld self.old }
         ensures removed { ids_of self.new ≡ without_id id (ids_of self.old) }
         ensures held { IsHeld self.new }
     {
         match self {
-            Held::Nothing => {}
-            Held::One(only) => {
+            IdStorage::Nothing => {}
+            IdStorage::One(only) => {
                 if *only == id {
-                    *self = Held::Nothing;
+                    *self = IdStorage::Nothing;
                 }
             }
-            Held::More(runs) => {
-                runs::forget(alloc, runs, id);
+            IdStorage::More(runs) => {
+                runs::remove_id(alloc, runs, id);
                 if let Some(few) = few(runs.as_slice()) {
                     *self = few;
                 }
@@ -110,9 +110,9 @@ impl Held {
         ensures exact { ids_of self.now ≡ [] → result ≡ true }
     {
         match self {
-            Held::Nothing => true,
-            Held::One(_) => false,
-            Held::More(runs) => runs.is_empty(),
+            IdStorage::Nothing => true,
+            IdStorage::One(_) => false,
+            IdStorage::More(runs) => runs.is_empty(),
         }
     }
 
@@ -125,13 +125,13 @@ impl Held {
         ensures held { IsHeld self.new }
     {
         match self {
-            Held::Nothing => None,
-            Held::One(only) => {
+            IdStorage::Nothing => None,
+            IdStorage::One(only) => {
                 let id = *only;
-                *self = Held::Nothing;
+                *self = IdStorage::Nothing;
                 Some(id)
             }
-            Held::More(runs) => {
+            IdStorage::More(runs) => {
                 let id = runs::pop(runs);
                 if let Some(few) = few(runs.as_slice()) {
                     *self = few;
@@ -145,9 +145,9 @@ impl Held {
         ensures { result ≡ ids_of self.now }
     {
         let (ids, runs): (&[u64], &[Run]) = match self {
-            Held::Nothing => (&[], &[]),
-            Held::One(only) => (slice::from_ref(only), &[]),
-            Held::More(runs) => (&[], runs.as_slice()),
+            IdStorage::Nothing => (&[], &[]),
+            IdStorage::One(only) => (slice::from_ref(only), &[]),
+            IdStorage::More(runs) => (&[], runs.as_slice()),
         };
         Members { ids, runs }
     }
@@ -159,7 +159,7 @@ impl IdSet {
     {
         IdSet {
             alloc,
-            held: Held::Nothing,
+            held: IdStorage::Nothing,
         }
     }
 
@@ -179,10 +179,10 @@ impl IdSet {
     }
 
     /// Takes an id out, if it is there. It takes no memory.
-    pub fn forget(&mut self, id: u64)
+    pub fn remove_id(&mut self, id: u64)
         ensures { self.new ≡ map.remove self.old id }
     {
-        self.held.forget(self.alloc, id);
+        self.held.remove_id(self.alloc, id);
     }
 
     pub fn is_empty(&self) -> bool
@@ -212,7 +212,7 @@ impl IdSet {
 
 // Two ids, of which the set has had one.
 #[inline(never)]
-fn two(alloc: Global, first: u64, second: u64) -> Result<Held, AllocError>
+fn two(alloc: Global, first: u64, second: u64) -> Result<IdStorage, AllocError>
     ensures ids { IfOk result (λ h. ids_of h ≡ with_id second (first ∷ [])) }
     ensures held { IfOk result (λ h. IsHeld h) }
 {
@@ -220,19 +220,19 @@ fn two(alloc: Global, first: u64, second: u64) -> Result<Held, AllocError>
     let mut runs = Vec::with_capacity(alloc, 1)?;
     runs::insert(alloc, &mut runs, first)?;
     runs::insert(alloc, &mut runs, second)?;
-    Ok(Held::More(Box::new(alloc, runs)?))
+    Ok(IdStorage::More(Box::new(alloc, runs)?))
 }
 
 // What takes no memory beside the set, where there is one id at most.
-fn few(runs: &[Run]) -> Option<Held>
+fn few(runs: &[Run]) -> Option<IdStorage>
     requires { AreRuns runs.now }
-    ensures ids { IfSome result (λ h. ids_of h ≡ joined runs.now) }
+    ensures ids { IfSome result (λ h. ids_of h ≡ flattened runs.now) }
     ensures held { IfSome result (λ h. IsHeld h) }
 {
     if runs.is_empty() {
-        return Some(Held::Nothing);
+        return Some(IdStorage::Nothing);
     }
-    Some(Held::One(runs::only(runs)?))
+    Some(IdStorage::One(runs::only(runs)?))
 }
 
 /// Ids, seen as the list of those that are still to come.
@@ -244,11 +244,11 @@ pub struct Members<'a> {
 
 impl<'a> Model for Members<'a> {
     ghost use Rattle.std.specs.Prelude.{ℕ, List, ◌++◌};
-    ghost use Rattle.pg_graph.specs.IdRuns.{joined};
+    ghost use Rattle.pg_graph.specs.IdRuns.{flattened};
 
     ghost Value = { List ℕ };
 
-    ghost view = { λ i. i.ids.now ++ joined i.runs.now };
+    ghost view = { λ i. i.ids.now ++ flattened i.runs.now };
 }
 
 impl<'a> Members<'a> {

@@ -13,11 +13,11 @@ use std::marker::Model;
 /// The numbers of a set of names, rising. One label takes no memory beside the node.
 pub struct Labels {
     alloc: Global,
-    held: Held,
+    held: LabelStorage,
 }
 
 #[derive(Drop)]
-enum Held {
+enum LabelStorage {
     AtMostOne(Option<NameId>),
     More(Vec<NameId>),
 }
@@ -44,13 +44,13 @@ impl Model for Labels {
     ghost invariant = { λ l. AreLabels (names_of l.held) };
 }
 
-impl Held {
+impl LabelStorage {
     fn as_slice(&self) -> &[NameId]
         ensures { result.now ≡ names_of self.now }
     {
         match self {
-            Held::AtMostOne(name) => name.as_slice(),
-            Held::More(names) => names.as_slice(),
+            LabelStorage::AtMostOne(name) => name.as_slice(),
+            LabelStorage::More(names) => names.as_slice(),
         }
     }
 
@@ -60,14 +60,14 @@ impl Held {
         ensures err { OnErr result (names_of self.new ≡ names_of self.old) }
     {
         match self {
-            Held::AtMostOne(None) => *self = Held::AtMostOne(Some(name)),
-            Held::AtMostOne(Some(first)) => {
+            LabelStorage::AtMostOne(None) => *self = LabelStorage::AtMostOne(Some(name)),
+            LabelStorage::AtMostOne(Some(first)) => {
                 let mut names = Vec::new(alloc);
                 names.push(*first)?;
                 names.insert(place, name)?;
-                *self = Held::More(names);
+                *self = LabelStorage::More(names);
             }
-            Held::More(names) => names.insert(place, name)?,
+            LabelStorage::More(names) => names.insert(place, name)?,
         }
         Ok(())
     }
@@ -77,19 +77,22 @@ impl Held {
         ensures { names_of self.new ≡ remove_at (names_of self.old) place }
     {
         match self {
-            Held::AtMostOne(name) => *name = None,
-            Held::More(names) => {
+            LabelStorage::AtMostOne(name) => *name = None,
+            LabelStorage::More(names) => {
                 names.remove(place);
             }
         }
     }
 
-    fn copy(&self, alloc: Global) -> Result<Held, AllocError>
+    fn copy(&self, alloc: Global) -> Result<LabelStorage, AllocError>
         ensures { IfOk result (λ h. names_of h ≡ names_of self.now) }
     {
         Ok(match self {
-            Held::AtMostOne(name) => Held::AtMostOne(*name),
-            Held::More(names) => Held::More(Vec::from_slice(alloc, names.as_slice())?),
+            LabelStorage::AtMostOne(name) => LabelStorage::AtMostOne(*name),
+            LabelStorage::More(names) => LabelStorage::More(Vec::from_slice(
+                alloc,
+                names.as_slice(),
+            )?),
         })
     }
 }
@@ -101,7 +104,7 @@ impl Labels {
     {
         Labels {
             alloc,
-            held: Held::AtMostOne(None),
+            held: LabelStorage::AtMostOne(None),
         }
     }
 

@@ -12,7 +12,7 @@ pub fn law_of_reads()
 {}
 
 /// Changes of tables are changes of the graph that they stand for, and more names change nothing.
-pub fn law_of_changes()
+pub fn law_of_table_changes()
     ensures more_names { NamesMayGrow }
     ensures node_added { NodeIsAdded }
     ensures relationship_added { RelationshipIsAdded }
@@ -23,7 +23,7 @@ pub fn law_of_changes()
 {}
 
 /// What tables stand for is a graph, from empty tables on and after each change.
-pub fn law_of_graphs()
+pub fn law_of_table_graphs()
     ensures graph { HeldIsGraph }
     ensures empty { EmptyHolds }
     ensures more_names { HoldsWithMoreNames }

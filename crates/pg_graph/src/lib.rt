@@ -17,7 +17,7 @@ mod tables;
 pub use by_id::ById;
 pub use id_set::{IdSet, Members};
 pub use labels::Labels;
-pub use laws::{law_of_changes, law_of_graphs, law_of_reads};
+pub use laws::{law_of_reads, law_of_table_changes, law_of_table_graphs};
 pub use links::{Incidence, Links};
 pub use next_ids::NextIds;
 pub use properties::Properties;

@@ -4,7 +4,7 @@ ghost use Rattle.std.specs.FinMap as map;
 ghost use Rattle.std.specs.Option.{option_map};
 ghost use Rattle.std.specs.Ordering.{nat_cmp};
 ghost use Rattle.pg_graph.specs.Records.{given_back, value_in, with_property, seen_entries, AreEntries};
-ghost use Rattle.pg_graph.specs.Sorted.{put, without};
+ghost use Rattle.pg_graph.specs.Sorted.{with_element, without};
 ghost use Rattle.pg_value_core.specs.View.{view};
 
 use crate::sorted;
@@ -54,7 +54,8 @@ fn exchange_entry(
     value: Value,
 ) -> Result<Option<Value>, AllocError>
     requires { AreEntries entries.old.items }
-    ensures ok { OnOk result (entries.new.items ≡ put (λ e. e.0) (key, value) entries.old.items) }
+    ensures ok { OnOk result
+        (entries.new.items ≡ with_element (λ e. e.0) (key, value) entries.old.items) }
     ensures before { IfOk result
         (λ before. option_map view before ≡ value_in entries.old.items key) }
     ensures err { OnErr result (entries.new.items ≡ entries.old.items) }
@@ -76,7 +77,7 @@ fn exchange_entry(
 fn replace_entry(entries: &mut Vec<(NameId, Value)>, key: NameId, value: Value)
     requires entries { AreEntries entries.old.items }
     requires there { IsSome (value_in entries.old.items key) }
-    ensures replaced { entries.new.items ≡ put (λ e. e.0) (key, value) entries.old.items }
+    ensures replaced { entries.new.items ≡ with_element (λ e. e.0) (key, value) entries.old.items }
     ensures entries { AreEntries entries.new.items }
 {
     if let Ok(i) = sorted::place(entries.as_slice(), key.number()) {

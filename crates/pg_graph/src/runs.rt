@@ -1,7 +1,7 @@
 //! Rising ids in runs, so that no change moves more of them than a run has.
 ghost use Rattle.std.specs.Prelude.{◌≡◌, ◌==◌, ◌<◌, ◌≤◌, ◌∷◌, ◌++◌, [], ℕ, List, true, false, not, drop, length, take, slice_index_or, OnOk, OnErr, IfOk, IfSome, IfNone};
 ghost use Rattle.std.specs.List.{list_any};
-ghost use Rattle.pg_graph.specs.IdRuns.{first_of, joined, AreRuns, IsRunOf};
+ghost use Rattle.pg_graph.specs.IdRuns.{first_of, flattened, AreRuns, IsRunOf};
 ghost use Rattle.pg_graph.specs.Links.{with_id, without_id};
 ghost use Rattle.pg_graph.specs.Sorted.{Rises, IsPlace};
 
@@ -104,7 +104,7 @@ impl Run {
         }
     }
 
-    fn forget(&mut self, id: u64)
+    fn remove_id(&mut self, id: u64)
         requires { Rises (λ n. n) self.old }
         ensures { self.new ≡ without_id id self.old }
     {
@@ -183,7 +183,7 @@ fn run_of(runs: &[Run], id: u64) -> Option<usize>
 
 pub fn has(runs: &[Run], id: u64) -> bool
     requires { AreRuns runs.now }
-    ensures { result ≡ list_any (λ n. n == id) (joined runs.now) }
+    ensures { result ≡ list_any (λ n. n == id) (flattened runs.now) }
 {
     match run_of(runs, id) {
         Some(i) => runs[i].has(id),
@@ -194,9 +194,9 @@ pub fn has(runs: &[Run], id: u64) -> bool
 /// Puts an id to its place, and tells whether it is new. Or changes nothing.
 pub fn insert(alloc: Global, runs: &mut Vec<Run>, id: u64) -> Result<bool, AllocError>
     requires { AreRuns runs.old.items }
-    ensures ok { OnOk result (joined runs.new.items ≡ with_id id (joined runs.old.items)) }
-    ensures told { IfOk result (λ b. b ≡ not (list_any (λ n. n == id) (joined runs.old.items))) }
-    ensures err { OnErr result (joined runs.new.items ≡ joined runs.old.items) }
+    ensures ok { OnOk result (flattened runs.new.items ≡ with_id id (flattened runs.old.items)) }
+    ensures told { IfOk result (λ b. b ≡ not (list_any (λ n. n == id) (flattened runs.old.items))) }
+    ensures err { OnErr result (flattened runs.new.items ≡ flattened runs.old.items) }
     ensures runs { AreRuns runs.new.items }
 {
     let Some(i) = run_of(runs.as_slice(), id) else {
@@ -214,9 +214,9 @@ pub fn insert(alloc: Global, runs: &mut Vec<Run>, id: u64) -> Result<bool, Alloc
 #[inline(never)]
 fn add_run(alloc: Global, runs: &mut Vec<Run>, id: u64) -> Result<bool, AllocError>
     requires { runs.old.items ≡ [] }
-    ensures ok { OnOk result (joined runs.new.items ≡ id ∷ []) }
+    ensures ok { OnOk result (flattened runs.new.items ≡ id ∷ []) }
     ensures told { IfOk result (λ b. b ≡ true) }
-    ensures err { OnErr result (joined runs.new.items ≡ []) }
+    ensures err { OnErr result (flattened runs.new.items ≡ []) }
     ensures runs { AreRuns runs.new.items }
 {
     runs.push(Run::of_one(alloc, id)?)?;
@@ -227,9 +227,9 @@ fn add_run(alloc: Global, runs: &mut Vec<Run>, id: u64) -> Result<bool, AllocErr
 fn insert_in(runs: &mut Vec<Run>, i: usize, id: u64) -> Result<bool, AllocError>
     requires at { IsRunOf id runs.old.items i }
     requires runs { AreRuns runs.old.items }
-    ensures ok { OnOk result (joined runs.new.items ≡ with_id id (joined runs.old.items)) }
-    ensures told { IfOk result (λ b. b ≡ not (list_any (λ n. n == id) (joined runs.old.items))) }
-    ensures err { OnErr result (joined runs.new.items ≡ joined runs.old.items) }
+    ensures ok { OnOk result (flattened runs.new.items ≡ with_id id (flattened runs.old.items)) }
+    ensures told { IfOk result (λ b. b ≡ not (list_any (λ n. n == id) (flattened runs.old.items))) }
+    ensures err { OnErr result (flattened runs.new.items ≡ flattened runs.old.items) }
     ensures runs { AreRuns runs.new.items }
 {
     runs[i].insert(id)
@@ -241,7 +241,7 @@ fn split(alloc: Global, runs: &mut Vec<Run>, i: usize) -> Result<(), AllocError>
     requires inside { i < length runs.old.items }
     requires long { (r : List ℕ) → 1 < length (slice_index_or runs.old.items i r) }
     requires runs { AreRuns runs.old.items }
-    ensures same { joined runs.new.items ≡ joined runs.old.items }
+    ensures same { flattened runs.new.items ≡ flattened runs.old.items }
     ensures runs { AreRuns runs.new.items }
     ensures there { 0 < length runs.new.items }
 {
@@ -258,15 +258,15 @@ fn split(alloc: Global, runs: &mut Vec<Run>, i: usize) -> Result<(), AllocError>
 }
 
 /// Takes an id out, if it is there.
-pub fn forget(alloc: Global, runs: &mut Vec<Run>, id: u64)
+pub fn remove_id(alloc: Global, runs: &mut Vec<Run>, id: u64)
     requires { AreRuns runs.old.items }
-    ensures removed { joined runs.new.items ≡ without_id id (joined runs.old.items) }
+    ensures removed { flattened runs.new.items ≡ without_id id (flattened runs.old.items) }
     ensures runs { AreRuns runs.new.items }
 {
     let Some(i) = run_of(runs.as_slice(), id) else {
         return;
     };
-    runs[i].forget(id);
+    runs[i].remove_id(id);
     if runs[i].is_sparse() {
         if runs[i].len() == 0 {
             runs.remove(i);
@@ -291,7 +291,7 @@ fn shrink_list(runs: &mut Vec<Run>)
 fn thin(alloc: Global, runs: &mut Vec<Run>, i: usize)
     requires inside { i < length runs.old.items }
     requires runs { AreRuns runs.old.items }
-    ensures same { joined runs.new.items ≡ joined runs.old.items }
+    ensures same { flattened runs.new.items ≡ flattened runs.old.items }
     ensures runs { AreRuns runs.new.items }
 {
     if !join(alloc, runs, i) && (i == 0 || !join(alloc, runs, i - 1)) {
@@ -303,7 +303,7 @@ fn thin(alloc: Global, runs: &mut Vec<Run>, i: usize)
 fn join(alloc: Global, runs: &mut Vec<Run>, i: usize) -> bool
     requires inside { i < length runs.old.items }
     requires runs { AreRuns runs.old.items }
-    ensures same { joined runs.new.items ≡ joined runs.old.items }
+    ensures same { flattened runs.new.items ≡ flattened runs.old.items }
     ensures runs { AreRuns runs.new.items }
     ensures told { result ≡ false → runs.new.items ≡ runs.old.items }
 {
@@ -327,9 +327,10 @@ fn join(alloc: Global, runs: &mut Vec<Run>, i: usize) -> bool
 /// Takes the greatest id out, if there is one.
 pub fn pop(runs: &mut Vec<Run>) -> Option<u64>
     requires { AreRuns runs.old.items }
-    ensures some { IfSome result (λ id. joined runs.old.items ≡ joined runs.new.items ++ id ∷ []) }
-    ensures none { IfNone result (joined runs.old.items ≡ []) }
-    ensures same { IfNone result (joined runs.new.items ≡ joined runs.old.items) }
+    ensures some { IfSome result
+        (λ id. flattened runs.old.items ≡ flattened runs.new.items ++ id ∷ []) }
+    ensures none { IfNone result (flattened runs.old.items ≡ []) }
+    ensures same { IfNone result (flattened runs.new.items ≡ flattened runs.old.items) }
     ensures runs { AreRuns runs.new.items }
 {
     let last = runs.len().checked_sub(1)?;
@@ -344,7 +345,7 @@ pub fn pop(runs: &mut Vec<Run>) -> Option<u64>
 /// The only id of some runs, if they have just one.
 pub fn only(runs: &[Run]) -> Option<u64>
     requires { AreRuns runs.now }
-    ensures { IfSome result (λ id. joined runs.now ≡ id ∷ []) }
+    ensures { IfSome result (λ id. flattened runs.now ≡ id ∷ []) }
 {
     if runs.len() != 1 || runs[0].len() != 1 {
         return None;

@@ -1,6 +1,6 @@
 //! Lists that rise by a number of each item, which no two share.
 ghost use Rattle.std.specs.Prelude.{◌≡◌, ℕ, OnOk, OnErr};
-ghost use Rattle.pg_graph.specs.Sorted.{Rises, IsPlace, put as put_in, without};
+ghost use Rattle.pg_graph.specs.Sorted.{Rises, IsPlace, with_element as put_in, without};
 
 use pg_names::NameId;
 use pg_value_core::RelId;

@@ -54,7 +54,7 @@ impl<K: Ord + Drop> Index<K> {
     }
 
     /// Puts an id under a key, or changes nothing.
-    pub fn cover(&mut self, key: K, id: u64) -> Result<(), AllocError>
+    pub fn insert_id(&mut self, key: K, id: u64) -> Result<(), AllocError>
         ensures ok { OnOk result ((q : K) → ids_at K.cmp self.new q ≡ (if is_at (K.cmp key) q
             then map.insert (ids_at K.cmp self.old key) id tt else ids_at K.cmp self.old q)) }
         ensures err { OnErr result ((q : K) → ids_at K.cmp self.new q ≡ ids_at K.cmp self.old q) }
@@ -70,7 +70,7 @@ impl<K: Ord + Drop> Index<K> {
     }
 
     /// Takes an id from under a key, if it is there. It takes no memory, and keeps nothing for an empty set.
-    pub fn forget(&mut self, key: &K, id: u64)
+    pub fn remove_id(&mut self, key: &K, id: u64)
         ensures { (q : K)
             → ids_at K.cmp self.new q
             ≡ (if is_at (K.cmp key.now) q then map.remove (ids_at K.cmp self.old key.now) id
@@ -79,7 +79,7 @@ impl<K: Ord + Drop> Index<K> {
         let Some(ids) = self.sets.get_mut(key) else {
             return;
         };
-        ids.forget(id);
+        ids.remove_id(id);
         if ids.is_empty() {
             self.sets.remove(key);
         }

@@ -5,4 +5,4 @@ mod index;
 mod properties;
 
 pub use index::Index;
-pub use properties::{PropertyIndex, cover_each, forget_valued, index_of, position_of};
+pub use properties::{PropertyIndex, index_of, insert_in_each, position_of, remove_valued};

@@ -59,7 +59,7 @@ impl PropertyIndex {
 
     /// The value by which a node is found here, if it is. What holds null is equal to nothing, and
     /// finds no node.
-    pub fn value_of<'a>(&self, node: &'a NodeRecord) -> Option<&'a Value>
+    pub fn indexed_value<'a>(&self, node: &'a NodeRecord) -> Option<&'a Value>
         ensures is { (v : code.Value)
             → is_found_by self.now.label self.now.key v node.now
             ≡ option_map_or (λ w. is_equal (view w.now) v) result false }
@@ -88,11 +88,11 @@ impl PropertyIndex {
             return Ok(());
         }
         let value = value.copy(self.alloc)?;
-        self.ids.cover(value, id)
+        self.ids.insert_id(value, id)
     }
 
     /// Puts a node's id under its value, if it has the label and the key.
-    pub fn cover(&mut self, node: &NodeRecord, id: u64) -> Result<(), AllocError>
+    pub fn insert_id(&mut self, node: &NodeRecord, id: u64) -> Result<(), AllocError>
         ensures label { self.new.label ≡ self.old.label }
         ensures key { self.new.key ≡ self.old.key }
         ensures grown { (v : code.Value) (i : ℕ)
@@ -105,14 +105,14 @@ impl PropertyIndex {
             → is_found_by self.old.label self.old.key v node.now ≡ true
             → finds self.new v id ≡ true) }
     {
-        match self.value_of(node) {
+        match self.indexed_value(node) {
             Some(value) => self.put(value, id),
             None => Ok(()),
         }
     }
 
     /// Takes an id from under a value, if it is there. It takes no memory.
-    pub fn forget(&mut self, value: &Value, id: u64)
+    pub fn remove_id(&mut self, value: &Value, id: u64)
         ensures label { self.new.label ≡ self.old.label }
         ensures key { self.new.key ≡ self.old.key }
         ensures lost { (v : code.Value) (i : ℕ) → finds self.old v i ≡ true
@@ -121,11 +121,11 @@ impl PropertyIndex {
             → finds self.new v i
             ≡ (finds self.old v i && not (is_one_value value.now v && i == id)) }
     {
-        self.ids.forget(value, id);
+        self.ids.remove_id(value, id);
     }
 
     // Takes an id from under a value, if the index is one of the label and the key.
-    fn forget_of(&mut self, label: NameId, key: NameId, value: &Value, id: u64)
+    fn remove_of(&mut self, label: NameId, key: NameId, value: &Value, id: u64)
         ensures label { self.new.label ≡ self.old.label }
         ensures key { self.new.key ≡ self.old.key }
         ensures left { (v : code.Value) (i : ℕ)
@@ -133,7 +133,7 @@ impl PropertyIndex {
             && not (is_for self.old label key && is_one_value value.now v && i == id)) }
     {
         if is_for(self, label, key) {
-            self.forget(value, id);
+            self.remove_id(value, id);
         }
     }
 }
@@ -151,7 +151,7 @@ fn if_equal_to_itself(value: &Value) -> Option<&Value>
 }
 
 /// Puts a node's id into each index where it belongs. After an error it is in some of them.
-pub fn cover_each(
+pub fn insert_in_each(
     indexes: &mut [PropertyIndex],
     node: &NodeRecord,
     id: u64,
@@ -167,7 +167,7 @@ pub fn cover_each(
         → is_found_by label key v node.now ≡ true → all_find indexes.new label key v id ≡ true) }
 {
     for property in indexes.iter_mut() {
-        property.cover(node, id)?;
+        property.insert_id(node, id)?;
     }
     Ok(())
 }
@@ -208,7 +208,7 @@ pub fn position_of(indexes: &[PropertyIndex], label: NameId, key: NameId) -> Opt
 }
 
 /// Takes an id from under a value in each index of the label and the key. It takes no memory.
-pub fn forget_valued(
+pub fn remove_valued(
     indexes: &mut [PropertyIndex],
     label: NameId,
     key: NameId,
@@ -224,6 +224,6 @@ pub fn forget_valued(
         && not ((label == l && key == k && is_one_value value.now v) && id == i)) }
 {
     for property in indexes.iter_mut() {
-        property.forget_of(label, key, value, id);
+        property.remove_of(label, key, value, id);
     }
 }

@@ -120,7 +120,8 @@ impl<D: Device> Journal<D> {
             → (ks waiting : List Kept) → IsReady D.seen D.may_leave self.old ks waiting
             → OnOk result (IsReady D.seen D.may_leave self.new (ks ++ waiting) []) }
 
-        // A crash at any moment of the call leaves the records from before it, with all that waited or with none.
+        // A crash at any moment of the call leaves the records from before it, with all that waited
+        // or with none.
         ensures any_moment { D.is_honest
             → (ks waiting : List Kept) → IsReady D.seen D.may_leave self.old ks waiting
             → LeavesOnly D.moment D.left_since

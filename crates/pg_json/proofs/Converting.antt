@@ -10,7 +10,7 @@ use Rattle.serde_json.specs.View.{view as data_view, items_view, members_view}
 use Rattle.serde_json.specs.Data as json
 use Rattle.serde_json.specs.declared.value.Value.{Value as Data, Null as DataNull, Bool as DataBool, String as DataString, Array, Object, the_lemmas as data_lemmas}
 use Rattle.serde_json.proofs.Views.{Entry}
-use Rattle.pg_meaning.specs.Entries.{put}
+use Rattle.pg_meaning.specs.Entries.{with_entry}
 use Rattle.pg_meaning.specs.Order.{text_order}
 use Rattle.pg_meaning.specs.Value.{Value as Datum, Values, no_items, item, Entries, entry, null, boolean, text, list, mapping}
 use Rattle.pg_json.specs.Given.{value_within, values_within, entries_within, if_room}
@@ -81,16 +81,16 @@ below_middle first (x ∷ es) e more h = below_middle first es e more h.1
 -- a key that is above those before it goes last
 pub one_more_entry : (n : ℕ) (done : List Entry) (e : Entry) (more : List Entry) (es : Entries) (v : Datum) → IsStrictlySortedBy string_cmp (keys_of (done ++ e ∷ more))
     → entries_within n (members_view done) ≡ Some es → value_within n (data_view e.1) ≡ Some v
-    → entries_within n (members_view (done ++ e ∷ [])) ≡ Some (put (string_bytes e.0) v es)
+    → entries_within n (members_view (done ++ e ∷ [])) ≡ Some (with_entry (string_bytes e.0) v es)
 unfolding IsStrictlySortedBy
-one_more_entry n [] e more es v sorted h g = rw g (ap (λ fs. Some (put (string_bytes e.0) v fs)) (ap (pick es) h))
+one_more_entry n [] e more es v sorted h g = rw g (ap (λ fs. Some (with_entry (string_bytes e.0) v fs)) (ap (pick es) h))
 one_more_entry n (first ∷ done) e more es v sorted h g =
     let parts = parted (string_bytes first.0) (value_within n (data_view first.1)) (entries_within n (members_view done)) es h in
     let later = one_more_entry n done e more parts.2 v sorted.1 parts.3 g in
     let above : text_order (string_bytes e.0) (string_bytes first.0) ≡ Greater =
     nat_list_cmp_total.antisymm (string_bytes e.0) (string_bytes first.0) ∙ ap ordering_reverse (below_middle first done e more sorted.0) in
-    let placed : put (string_bytes e.0) v (entry (string_bytes first.0) parts.0 parts.2) ≡ entry (string_bytes first.0) parts.0 (put (string_bytes e.0) v parts.2) = rw above refl in
-    rw (parts.1, later) (ap Some (sym placed ∙ ap (put (string_bytes e.0) v) parts.4))
+    let placed : with_entry (string_bytes e.0) v (entry (string_bytes first.0) parts.0 parts.2) ≡ entry (string_bytes first.0) parts.0 (with_entry (string_bytes e.0) v parts.2) = rw above refl in
+    rw (parts.1, later) (ap Some (sym placed ∙ ap (with_entry (string_bytes e.0) v) parts.4))
 
 -- ---- a list and a map
 

@@ -9,12 +9,12 @@ use Rattle.std.specs.Ordering.{match_ordering}
 use Rattle.serde_json.specs.Data.{Data, Items, Members}
 use Rattle.serde_json.specs.Data as json
 use Rattle.serde_json.specs.Find.{as_i64}
-use Rattle.pg_meaning.specs.Entries.{put}
+use Rattle.pg_meaning.specs.Entries.{with_entry}
 use Rattle.pg_meaning.specs.Measure.{depth_of, items_depth, entries_depth, greatest_depth}
 use Rattle.pg_meaning.specs.Order.{text_order}
 use Rattle.pg_meaning.specs.Value.{Value, null, boolean, integer, text, list, mapping, node, relationship, path, Values, no_items, item, Entries, no_entries, entry}
 use Rattle.pg_json.specs.Given.{if_room, value_within, values_within, entries_within, data_giving, items_giving, members_giving, IsGiven, AreGiven, EntriesAreGiven}
-use Rattle.pg_json.specs.Parameters.{value_of, values_of, entries_of, parameters_in}
+use Rattle.pg_json.specs.Parameters.{value_of_data, values_of, entries_of, parameters_in}
 
 -- ---- nothing is of depth 0
 
@@ -134,8 +134,8 @@ less : (n : ℕ) → suc n - 1 ≡ n
 less n = omega arith
 
 mutual
-  value_limited : (n : ℕ) (d : Data) → value_within n d ≡ limited n (value_of d)
-  value_limited zero d = no_room d ∙ sym (some_depth (value_of d))
+  value_limited : (n : ℕ) (d : Data) → value_within n d ≡ limited n (value_of_data d)
+  value_limited zero d = no_room d ∙ sym (some_depth (value_of_data d))
   value_limited (suc n) json.null = room n _ ∙ one_deep null n refl
   value_limited (suc n) (json.boolean b) = room n _ ∙ one_deep (boolean b) n refl
   value_limited (suc n) (json.number x) = room n _ ∙ of_integer n (as_i64 x)
@@ -145,11 +145,11 @@ mutual
 
   values_limited : (n : ℕ) (ds : Items) → values_within n ds ≡ limited_items n (values_of ds)
   values_limited n json.no_items = rw (le-leb 0 n (omega arith)) refl
-  values_limited n (json.item d ds) = rw (value_limited n d, values_limited n ds) (first_and_rest n (value_of d) (values_of ds))
+  values_limited n (json.item d ds) = rw (value_limited n d, values_limited n ds) (first_and_rest n (value_of_data d) (values_of ds))
 
   entries_limited : (n : ℕ) (ms : Members) → entries_within n ms ≡ limited_entries n (entries_of ms)
   entries_limited n json.no_members = rw (le-leb 0 n (omega arith)) refl
-  entries_limited n (json.member k d ms) = rw (value_limited n d, entries_limited n ms) (entry_and_rest n k (value_of d) (entries_of ms))
+  entries_limited n (json.member k d ms) = rw (value_limited n d, entries_limited n ms) (entry_and_rest n k (value_of_data d) (entries_of ms))
 
 pub parameters_within : (ms : Members) → parameters_in ms ≡ entries_within greatest_depth ms
 parameters_within ms = sym (entries_limited greatest_depth ms)
@@ -166,9 +166,9 @@ put_chosen Less k l v w es rest ms h e = refl
 put_chosen Equal k l v w es rest ms h e = ap (λ key. json.member key (data_giving v) (members_giving es)) (exact_bytes k l h)
 put_chosen Greater k l v w es rest ms h e = ap (json.member l (data_giving w)) e
 
-pub members_giving-put : (k : List ℕ) (v : Value) (es : Entries) → members_giving (put k v es) ≡ json.put k (data_giving v) (members_giving es)
+pub members_giving-put : (k : List ℕ) (v : Value) (es : Entries) → members_giving (with_entry k v es) ≡ json.put k (data_giving v) (members_giving es)
 members_giving-put k v no_entries = refl
-members_giving-put k v (entry l w es) = put_chosen (text_order k l) k l v w es (put k v es) _ refl (members_giving-put k v es)
+members_giving-put k v (entry l w es) = put_chosen (text_order k l) k l v w es (with_entry k v es) _ refl (members_giving-put k v es)
 
 given_chosen : (n : ℕ) (o : Ordering) (k l : List ℕ) (v w : Value) (es rest : Entries) → IsGiven n v → IsGiven n w → EntriesAreGiven n es → EntriesAreGiven n rest
     → EntriesAreGiven n (match_ordering o (entry k v (entry l w es)) (entry k v es) (entry l w rest))
@@ -176,6 +176,6 @@ given_chosen n Less k l v w es rest p q r s = (p, (q, r))
 given_chosen n Equal k l v w es rest p q r s = (p, r)
 given_chosen n Greater k l v w es rest p q r s = (q, s)
 
-pub given_put : (n : ℕ) (k : List ℕ) (v : Value) (es : Entries) → IsGiven n v → EntriesAreGiven n es → EntriesAreGiven n (put k v es)
+pub given_put : (n : ℕ) (k : List ℕ) (v : Value) (es : Entries) → IsGiven n v → EntriesAreGiven n es → EntriesAreGiven n (with_entry k v es)
 given_put n k v no_entries p h = (p, tt)
-given_put n k v (entry l w es) p h = given_chosen n (text_order k l) k l v w es (put k v es) p h.0 h.1 (given_put n k v es p h.1)
+given_put n k v (entry l w es) p h = given_chosen n (text_order k l) k l v w es (with_entry k v es) p h.0 h.1 (given_put n k v es p h.1)

@@ -10,8 +10,8 @@ use Rattle.pg_json.specs.Given.{EntriesAreGiven, members_giving}
 use Rattle.pg_json.specs.Replies.{natural}
 use Rattle.pg_json.specs.Requests.{Request, query, status, begin, commit, rollback, pull, drop_page, if_between, greatest_page, request_of, object_request}
 use Rattle.pg_json.specs.declared.fields.Fields.{Fields}
-use Rattle.pg_json.specs.declared.fields.Glance.{Glance}
-use Rattle.pg_json.specs.declared.fields.Glance.TheVariants.{Fitting, NoRequest}
+use Rattle.pg_json.specs.declared.fields.FastParse.{FastParse}
+use Rattle.pg_json.specs.declared.fields.FastParse.TheVariants.{Fitting, NoRequest}
 use Rattle.json.specs.Token.{Token}
 
 -- the keys at which a query has texts; others that are told at a glance have some of them
@@ -92,7 +92,7 @@ abbrev pub asked_with : Fields → Option Request
 asked_with f = asked (option_map (λ s. s.now) f.op) f.page (parameters_of f) (option_map (λ s. s.now) f.text) (option_map (λ s. s.now) f.token)
 
 -- what a glance tells of the data that a text is
-abbrev pub IsGlance : Option Data → Glance → Type 0
+abbrev pub IsGlance : Option Data → FastParse → Type 0
 IsGlance d (Fitting f) = (d ≡ Some (object (members_with f))) × FieldsAreGiven f
 IsGlance d NoRequest = option_and_then request_of d ≡ None
 

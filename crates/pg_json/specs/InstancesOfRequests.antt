@@ -1,7 +1,7 @@
 -- Bodies and the requests that they are, byte for byte: some that the definition accepts, and some that it refuses.
 use Rattle.std.specs.Prelude.{◌≡◌, ℕ, zero, suc, ◌-◌, ◌^◌, pos, negsuc, true, false, [], ◌∷◌, ◌++◌, Some, None, is_some, codes}
 use Rattle.serde_json.specs.Data.{Data, number, unsigned, negative, array, member, no_members, item, no_items}
-use Rattle.pg_json.specs.Parameters.{parameters_in, value_of}
+use Rattle.pg_json.specs.Parameters.{parameters_in, value_of_data}
 use Rattle.pg_json.specs.Requests.{query, status, create_index, drop_index, begin, commit, rollback, pull, drop_page, with_token, meaning, number_in}
 use Rattle.pg_meaning.specs.Value as value
 use Rattle.pg_meaning.specs.Value.{Entries, no_entries, entry, integer, list, mapping}
@@ -60,9 +60,9 @@ nested (suc n) = array (item (nested n) no_items)
 -- whole numbers of 64 bits with a sign, pages of 1 to 10,000 rows, values that nest 64 deep
 abbrev pub InstancesOfNumbers : Type 0
 InstancesOfNumbers =
-    (value_of (number (unsigned (2 ^ 63 - 1))) ≡ Some (integer (pos (2 ^ 63 - 1))))
-    × (value_of (number (unsigned (2 ^ 63))) ≡ None)
-    × (value_of (number (negative (negsuc 0))) ≡ Some (integer (negsuc 0)))
+    (value_of_data (number (unsigned (2 ^ 63 - 1))) ≡ Some (integer (pos (2 ^ 63 - 1))))
+    × (value_of_data (number (unsigned (2 ^ 63))) ≡ None)
+    × (value_of_data (number (negative (negsuc 0))) ≡ Some (integer (negsuc 0)))
     × (number_in 1 10000 (number (unsigned 10000)) ≡ Some 10000)
     × (number_in 1 10000 (number (unsigned 10001)) ≡ None)
     × (number_in 1 10000 (number (unsigned 0)) ≡ None)

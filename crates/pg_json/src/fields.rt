@@ -32,7 +32,7 @@ pub(crate) struct Fields<'a> {
 
 /// What is seen of a body at a glance.
 #[derive(Drop)]
-pub(crate) enum Glance<'a> {
+pub(crate) enum FastParse<'a> {
     /// One object that has at the keys of a query what they may have, and no other key.
     Fitting(Fields<'a>),
     NoRequest,
@@ -43,7 +43,7 @@ pub(crate) fn look<'a>(
     alloc: Global,
     text: &'a str,
     scratch: &'a mut Scratch,
-) -> Result<Glance<'a>, Unread>
+) -> Result<FastParse<'a>, Unread>
     ensures { IfOk result (λ g. IsGlance (read text.now) g) }
 {
     let Ok(mut reader) = Reader::new(text, scratch) else {
@@ -60,11 +60,11 @@ pub(crate) fn look<'a>(
         token: None,
     };
     if !take_fields(alloc, &mut reader, &mut found)? {
-        return Ok(Glance::NoRequest);
+        return Ok(FastParse::NoRequest);
     }
     match reader.next() {
-        None => Ok(Glance::Fitting(found)),
-        Some(_) => Ok(Glance::NoRequest),
+        None => Ok(FastParse::Fitting(found)),
+        Some(_) => Ok(FastParse::NoRequest),
     }
 }
 

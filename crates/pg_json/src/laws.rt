@@ -4,7 +4,7 @@ ghost use Rattle.pg_json.specs.Laws.{RefusalsDiffer, RowsAreNoRefusals, PagesAre
 
 /// No two faults have one text.
 #[tactic(auto, using(crate::proofs::Codes::refusals_differ))]
-pub fn law_of_refusals()
+pub fn law_of_refusal_texts()
     ensures { RefusalsDiffer }
 {}
 

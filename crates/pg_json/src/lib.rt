@@ -27,7 +27,7 @@ mod values;
 pub use bytes::{ReplyBytes, done, refusal};
 pub use held_rows::HeldRows;
 pub use instances::{instances_of_replies, instances_of_requests};
-pub use laws::{law_of_refusals, law_of_replies};
+pub use laws::{law_of_refusal_texts, law_of_replies};
 pub use query_reply::QueryReply;
 pub use read::read_request;
 pub use request::RequestBody;

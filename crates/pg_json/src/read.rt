@@ -10,7 +10,7 @@ ghost use Rattle.pg_json.specs.Operations.{asked_by};
 ghost use Rattle.pg_value_core.specs.View.{entries_view};
 ghost use Rattle.pg_meaning.specs.declared.fault.Fault.TheVariants.{BadRequest, OutOfMemory};
 
-use crate::fields::{Glance, look, request_with};
+use crate::fields::{FastParse, look, request_with};
 use crate::page::GREATEST_PAGE;
 use crate::parameters::MAX_DEPTH;
 use crate::request::RequestBody;
@@ -40,8 +40,8 @@ pub fn read_request(
         return Err(Fault::BadRequest);
     };
     match look(alloc, text, &mut scratch.places) {
-        Ok(Glance::Fitting(found)) => request_with(alloc, found),
-        Ok(Glance::NoRequest) => Err(Fault::BadRequest),
+        Ok(FastParse::Fitting(found)) => request_with(alloc, found),
+        Ok(FastParse::NoRequest) => Err(Fault::BadRequest),
         Err(Unread::Unclear) => read_slowly(alloc, text),
         Err(Unread::OutOfMemory) => Err(Fault::OutOfMemory),
     }

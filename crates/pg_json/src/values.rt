@@ -1,7 +1,7 @@
 //! From JSON data to the values of parameters.
 ghost use Rattle.std.specs.Prelude.{◌≡◌, ◌≢◌, None, Some, IfOk, IfErr, OnOk, string_bytes};
 ghost use Rattle.serde_json.specs.View.{view as data_view, members_view};
-ghost use Rattle.pg_meaning.specs.Entries.{put};
+ghost use Rattle.pg_meaning.specs.Entries.{with_entry};
 ghost use Rattle.pg_json.specs.Given.{value_within, entries_within};
 ghost use Rattle.pg_meaning.specs.declared.fault.Fault.TheVariants.{BadRequest, OutOfMemory};
 ghost use Rattle.pg_value_core.specs.View.{view, entries_view};
@@ -72,7 +72,7 @@ fn enter(
     value: Value,
 ) -> Result<(), AllocError>
     ensures { OnOk result (entries_view entries.new.entries
-        ≡ put name.now (view value) (entries_view entries.old.entries)) }
+        ≡ with_entry name.now (view value) (entries_view entries.old.entries)) }
 {
     put_entry(entries, String::from_str(alloc, name)?, value)
 }
@@ -84,7 +84,7 @@ pub(crate) fn put_entry(
     value: Value,
 ) -> Result<(), AllocError>
     ensures { OnOk result (entries_view entries.new.entries
-        ≡ put (string_bytes name) (view value) (entries_view entries.old.entries)) }
+        ≡ with_entry (string_bytes name) (view value) (entries_view entries.old.entries)) }
 {
     drop(entries.insert(name, value)?);
     Ok(())

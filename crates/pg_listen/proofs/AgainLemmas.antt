@@ -28,7 +28,7 @@ use Rattle.pg_tenant.specs.Holders.{holder_of}
 use Rattle.pg_tenant.specs.Settings.{standing_token}
 use Rattle.pg_tenant.specs.Solo.{solo}
 use Rattle.pg_tenant.specs.State.{State, no_state, tokens_of}
-use Rattle.pg_value.specs.Texts.{comes_again}
+use Rattle.pg_value.specs.Texts.{has_duplicate}
 
 -- a list of records in two parts
 parts : (names : List (List ℕ)) (old new : ServerState) (xs ys : List Kept) → Replayed (Again names) old (xs ++ ys) new → (mid : ServerState) × Replayed (Again names) old xs mid × Replayed (Again names) mid ys new
@@ -127,7 +127,7 @@ module _ (old old' new : ServerState) (body reply : List ℕ) (t : ℕ) (handles
 abbrev ShowsOwn : ℕ → ServerState → List ℕ → Type 0
 ShowsOwn t server body = (request : Request) → asked body ≡ Some request → token_for t server.tenants request ≡ token_of request
 
-named_again : (names : List (List ℕ)) (tenant : List ℕ) (t : ℕ) (old new : ServerState) (body : List ℕ) (reply : Option (List ℕ)) → comes_again [] names ≡ false → get_or names t [] ≡ tenant
+named_again : (names : List (List ℕ)) (tenant : List ℕ) (t : ℕ) (old new : ServerState) (body : List ℕ) (reply : Option (List ℕ)) → has_duplicate [] names ≡ false → get_or names t [] ≡ tenant
     → (request : Request) → asked body ≡ Some request → ShowsOwn t old body → AnswersNamed names tenant old body reply new → (r : List ℕ) × (reply ≡ Some r) × Handles old body r new
 named_again names [] t old new body None once is request asks shows answers = absurd answers
 named_again names [] t old new body (Some r) once is request asks shows answers = (r, refl, answers)
@@ -139,14 +139,14 @@ named_again names (x ∷ xs) t old new body reply once is request asks shows ans
     by_reply None answers = absurd answers
     by_reply (Some r) answers = (r, refl, answers.own request asks (shows request asks))
 
-kept_again : (names : List (List ℕ)) (o : Option ℕ) (old new : ServerState) (body : List ℕ) (reply : Option (List ℕ)) → comes_again [] names ≡ false
+kept_again : (names : List (List ℕ)) (o : Option ℕ) (old new : ServerState) (body : List ℕ) (reply : Option (List ℕ)) → has_duplicate [] names ≡ false
     → (request : Request) → asked body ≡ Some request → ((t : ℕ) → o ≡ Some t → ShowsOwn t old body) → AnswersNamed names (name_of names o) old body reply new → (r : List ℕ) × (reply ≡ Some r) × Handles old body r new
 kept_again names None old new body None once request asks shows answers = absurd answers
 kept_again names None old new body (Some r) once request asks shows answers = (r, refl, answers)
 kept_again names (Some t) old new body reply once request asks shows answers = named_again names (get_or names t []) t old new body reply once refl request asks (shows t refl) answers
 
 module _ (two : TwoWorlds) {D : Type 0} where
-  by_kind : (old : Moment D) (body reply : List ℕ) (new : Moment D) → comes_again [] old.names ≡ false → Handles old.server body reply new.server → (more : List Kept) → IsKeptOf old.names old.server body reply new.server more
+  by_kind : (old : Moment D) (body reply : List ℕ) (new : Moment D) → has_duplicate [] old.names ≡ false → Handles old.server body reply new.server → (more : List Kept) → IsKeptOf old.names old.server body reply new.server more
       → new.kept ++ new.waiting ≡ (old.kept ++ old.waiting) ++ more → LeadsAgain old new
   by_kind old body reply new once handles more (inl is) log = (
     more,
@@ -183,14 +183,14 @@ module _ (two : TwoWorlds) {D : Type 0} where
   written old new server (inr w) = same_server old new server (λ i. w.1 i ++ w.2 i)
 
   module _ (seen : D → List ℕ) (may_leave : D → List ℕ → Type 0) (moment : D → ℕ) (left_since : D → ℕ → List ℕ → Type 0) where
-    by_answer : (old : Moment D) (body reply : List ℕ) (new : Moment D) → comes_again [] old.names ≡ false → AnswersKept old body reply new → LeadsAgain old new
+    by_answer : (old : Moment D) (body reply : List ℕ) (new : Moment D) → has_duplicate [] old.names ≡ false → AnswersKept old body reply new → LeadsAgain old new
     by_answer old body reply new once a = by_kind old body reply new once a.handles a.more a.is_kept (log_more old new a.more a.kept a.waiting)
 
     by_settling : (old new : Moment D) → SettlesKept moment left_since old new → LeadsAgain old new
     by_settling old new (server, called, inl same) = subst (LeadsAgain old) (sym same) (leads_nil old)
     by_settling old new (server, called, inr p) = written old new server p.1
 
-    step : (old new : Moment D) (event : Event) → comes_again [] old.names ≡ false → DoesKept seen may_leave moment left_since old event new → LeadsAgain old new
+    step : (old new : Moment D) (event : Event) → has_duplicate [] old.names ≡ false → DoesKept seen may_leave moment left_since old event new → LeadsAgain old new
     step old new (received c bytes) once does = subst (LeadsAgain old) (sym does) (leads_nil old)
     step old new (answered c e) once does = by_answer old e.body e.reply new once does
     step old new (sent c bytes) once does = subst (LeadsAgain old) (sym does.1) (leads_nil old)
@@ -204,9 +204,9 @@ module _ (two : TwoWorlds) {D : Type 0} where
     step_names old new (by_server e) does = does.names
     step_names old new settling does = does.1
 
-    pub leads_again : (old new : Moment D) (events : List Event) → comes_again [] old.names ≡ false → Course (DoesKept seen may_leave moment left_since) old events new → LeadsAgain old new
+    pub leads_again : (old new : Moment D) (events : List Event) → has_duplicate [] old.names ≡ false → Course (DoesKept seen may_leave moment left_since) old events new → LeadsAgain old new
     leads_again old new [] once course = subst (LeadsAgain old) (sym course) (leads_nil old)
     leads_again old new (event ∷ events) once course =
         let called = step_names old course.0 event course.1 in
         leads_trans old course.0 new called (step old course.0 event once course.1)
-        (leads_again course.0 new events (ap (λ ns. comes_again [] ns) called ∙ once) course.2)
+        (leads_again course.0 new events (ap (λ ns. has_duplicate [] ns) called ∙ once) course.2)

@@ -13,7 +13,7 @@ use Rattle.pg_listen.specs.declared.keeper.Keeper.{Keeper}
 use Rattle.pg_server.specs.Handles.{Handles}
 use Rattle.pg_server.specs.Runs.{Runs}
 use Rattle.pg_server.specs.State.{ServerState, state_at}
-use Rattle.pg_value.specs.Texts.{comes_again}
+use Rattle.pg_value.specs.Texts.{has_duplicate}
 
 -- a server, its tenants' names and what keeps what it does, the records that are on the disk, and those that wait
 pub record Moment (D : Type 0) : Type 0 where
@@ -92,4 +92,4 @@ LeadsAgain old new =
 
 -- so it is of each run where no two tenants have one name
 abbrev pub RunsAgain : {D : Type 0} → (D → List ℕ) → (D → List ℕ → Type 0) → (D → ℕ) → (D → ℕ → List ℕ → Type 0) → Type 0
-RunsAgain {D} seen may_leave moment left_since = (old new : Moment D) (events : List Event) → comes_again [] old.names ≡ false → Course (DoesKept seen may_leave moment left_since) old events new → LeadsAgain old new
+RunsAgain {D} seen may_leave moment left_since = (old new : Moment D) (events : List Event) → has_duplicate [] old.names ≡ false → Course (DoesKept seen may_leave moment left_since) old events new → LeadsAgain old new

@@ -21,6 +21,7 @@ pub struct Trailing<T: Tables, D: Device> {
 }
 
 impl<T: Tables, D: Device> Trailing<T, D> {
+    /// Records that wait already are written with the next ones.
     pub fn new(journaled: Journaled<T, D>) -> Self {
         Trailing { journaled }
     }

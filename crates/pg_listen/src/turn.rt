@@ -39,7 +39,7 @@ const SCRATCH: usize = 65_536;
 
 /// How a step ended.
 #[derive(Clone, Copy)]
-pub(crate) enum Step {
+pub(crate) enum TurnStep {
     /// There may be more to do.
     More,
     /// There is more to do, and the turn is over.
@@ -189,17 +189,17 @@ fn receive<N: Network>(
     number: u64,
     net: &mut N,
     scratch: &mut [u8],
-) -> Result<Step, Closing>
+) -> Result<TurnStep, Closing>
     requires { client.old.refused ≡ false }
     ensures { CarriesOn ⊥ number
         (N.trace net.old) (N.trace net.new) (seen client.old) (seen client.new) result }
 {
     match net.receive(number, scratch) {
         Received::Bytes(n) => match client.inbox.push(&scratch[..n]) {
-            Ok(()) => Ok(Step::More),
+            Ok(()) => Ok(TurnStep::More),
             Err(_) => Err(Closing::NoMemory),
         },
-        Received::Waits => Ok(Step::Waits),
+        Received::Waits => Ok(TurnStep::Waits),
         Received::Ended => Err(end_of(client)),
         Received::Failed => Err(Closing::Failed),
     }
@@ -240,21 +240,21 @@ fn answer<S: Service>(
     service: &mut S,
     tenants: &mut Tenants,
     allowance: &mut Allowance,
-) -> Result<Step, Closing>
+) -> Result<TurnStep, Closing>
     requires { client.old.refused ≡ false }
     ensures { (c : ℕ)
         → AnswersOn (Does S.answers S.settles S.all_kept) c service.old service.new
         (seen client.old) (seen client.new) result }
 {
     match front_of(client.inbox.front()) {
-        Front::Partial => Ok(Step::Waits),
+        Front::Partial => Ok(TurnStep::Waits),
         Front::TooLong => {
             client.refused = true;
             let reply = refusal(Fault::FrameTooLong);
             let text = reply.as_slice();
             allowance.note(text);
             match push_frame(&mut client.outbox, text) {
-                Ok(()) => Ok(Step::More),
+                Ok(()) => Ok(TurnStep::More),
                 Err(_) => Err(Closing::NoMemory),
             }
         }
@@ -271,7 +271,7 @@ fn answer<S: Service>(
             client.inbox.skip(4 + n);
             allowance.note(text);
             match push_frame(&mut client.outbox, text) {
-                Ok(()) => Ok(Step::More),
+                Ok(()) => Ok(TurnStep::More),
                 Err(_) => Err(Closing::NoMemory),
             }
         }
@@ -279,16 +279,16 @@ fn answer<S: Service>(
 }
 
 /// Sends what waits, as far as it is taken.
-fn send<N: Network>(client: &mut Client, number: u64, net: &mut N) -> Result<Step, Closing>
+fn send<N: Network>(client: &mut Client, number: u64, net: &mut N) -> Result<TurnStep, Closing>
     ensures { CarriesOn ⊤ number
         (N.trace net.old) (N.trace net.new) (seen client.old) (seen client.new) result }
 {
     match net.send(number, client.outbox.front()) {
         Sent::Taken(n) => {
             client.outbox.skip(n);
-            Ok(Step::More)
+            Ok(TurnStep::More)
         }
-        Sent::Full => Ok(Step::Waits),
+        Sent::Full => Ok(TurnStep::Waits),
         Sent::Failed => Err(Closing::Failed),
     }
 }
@@ -313,7 +313,7 @@ fn answer_some<N: Network, S: Service>(
             return Ok(any);
         }
         match answer(client, number, service, tenants, allowance) {
-            Ok(Step::More) => any = true,
+            Ok(TurnStep::More) => any = true,
             Ok(_) => return Ok(any),
             Err(closing) => return Err(closing),
         }
@@ -333,13 +333,13 @@ fn transfer<N: Network, S: Service>(
     net: &mut N,
     service: &S,
     allowance: &mut Allowance,
-) -> Result<Step, Closing>
+) -> Result<TurnStep, Closing>
     ensures { MovesOn (Does S.answers S.settles S.all_kept) number (N.trace net.old)
         (N.trace net.new) service.now service.now (seen client.old) (seen client.new) result }
 {
     if client.outbox.len() > 0 {
         if !service.is_settled() {
-            return Ok(Step::Unsettled);
+            return Ok(TurnStep::Unsettled);
         }
         send(client, number, net)
     } else if client.refused {
@@ -347,9 +347,9 @@ fn transfer<N: Network, S: Service>(
     } else if !client.has_frame() {
         receive(client, number, net, &mut allowance.scratch)
     } else if allowance.room > 0 {
-        Ok(Step::Over)
+        Ok(TurnStep::Over)
     } else {
-        Ok(Step::Held)
+        Ok(TurnStep::Held)
     }
 }
 
@@ -361,7 +361,7 @@ fn round<N: Network, S: Service>(
     service: &mut S,
     tenants: &mut Tenants,
     allowance: &mut Allowance,
-) -> Result<Step, Closing>
+) -> Result<TurnStep, Closing>
     ensures { MovesOn (Does S.answers S.settles S.all_kept) number (N.trace net.old)
         (N.trace net.new) service.old service.new (seen client.old) (seen client.new) result }
 {
@@ -384,7 +384,7 @@ fn counted_round<N: Network, S: Service>(
     service: &mut S,
     tenants: &mut Tenants,
     allowance: &mut Allowance,
-) -> Result<Step, Closing>
+) -> Result<TurnStep, Closing>
     ensures { MovesOn (Does S.answers S.settles S.all_kept) number (N.trace net.old)
         (N.trace net.new) service.old service.new (seen client.old) (seen client.new) result }
 {
@@ -406,17 +406,17 @@ fn rounds<N: Network, S: Service>(
     service: &mut S,
     tenants: &mut Tenants,
     allowance: &mut Allowance,
-) -> Result<Step, Closing>
+) -> Result<TurnStep, Closing>
     ensures { MovesOn (Does S.answers S.settles S.all_kept) number (N.trace net.old)
         (N.trace net.new) service.old service.new (seen client.old) (seen client.new) result }
 {
     for _round in 0..ROUNDS {
         match counted_round(client, number, net, service, tenants, allowance) {
-            Ok(Step::More) => {}
+            Ok(TurnStep::More) => {}
             other => return other,
         }
     }
-    Ok(Step::Over)
+    Ok(TurnStep::Over)
 }
 
 /// The client's turn, of whose replies the network is told, and behind which it has another one where there is more to do.
@@ -446,16 +446,16 @@ fn end_turn(
     client: &mut Client,
     number: u64,
     tenants: &mut Tenants,
-    step: Step,
+    step: TurnStep,
 ) -> Result<(), Closing>
     ensures { seen client.new ≡ seen client.old }
 {
     client.count(tenants);
     let given = match step {
-        Step::More | Step::Over => client.give_turn(number, tenants),
-        Step::Held => client.hold(number, tenants),
-        Step::Unsettled => tenants.put_off(number),
-        Step::Waits => Ok(()),
+        TurnStep::More | TurnStep::Over => client.give_turn(number, tenants),
+        TurnStep::Held => client.hold(number, tenants),
+        TurnStep::Unsettled => tenants.put_off(number),
+        TurnStep::Waits => Ok(()),
     };
     client.release(tenants);
     given.map_err(|_| Closing::NoMemory)

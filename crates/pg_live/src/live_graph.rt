@@ -15,7 +15,7 @@ ghost use Rattle.pg_store.specs.Stores.{texts_of, pairs_of};
 
 use crate::transactions::{Begin, no_begins};
 use pg_graph::{NextIds, Tables};
-use pg_store::{Mark, Shared, Snapshot, Store};
+use pg_store::{Ends, GraphView, Mark, Shared, Store};
 use pg_value_core::{NodeId, RelId, Value};
 use std::alloc::{AllocError, Global};
 use std::hash::RandomState;
@@ -88,7 +88,7 @@ impl<T: Tables> LiveGraph<T> {
     }
 
     /// The graph, to read.
-    pub fn graph(&self) -> Snapshot<'_, T>
+    pub fn graph(&self) -> GraphView<'_, T>
         ensures is { result ≡ self.now.graph }
         ensures sound { IsGraph self.now.graph }
     {
@@ -143,8 +143,13 @@ impl<T: Tables> LiveGraph<T> {
         ensures err { OnErr result (self.new.graph ≡ self.old.graph) }
         ensures aside { self.new.aside ≡ self.old.aside }
     {
-        self.store
-            .create_rel(alloc, &mut self.shared, kind, source, target, properties)
+        self.store.create_rel(
+            alloc,
+            &mut self.shared,
+            kind,
+            Ends { source, target },
+            properties,
+        )
     }
 
     /// Gives a node's keys these values, one after the other, where null takes the key out. Or changes nothing.

@@ -23,9 +23,9 @@ abbrev pub value_at : List ℕ → Entries → Value
 value_at k es = unwrap_or (at_key k es) null
 
 -- the entries, with v at k
-abbrev pub put : List ℕ → Value → Entries → Entries
-put k v no_entries = entry k v no_entries
-put k v (entry l w es) = match_ordering (text_order k l) (entry k v (entry l w es)) (entry k v es) (entry l w (put k v es))
+abbrev pub with_entry : List ℕ → Value → Entries → Entries
+with_entry k v no_entries = entry k v no_entries
+with_entry k v (entry l w es) = match_ordering (text_order k l) (entry k v (entry l w es)) (entry k v es) (entry l w (with_entry k v es))
 
 abbrev pub without_key : List ℕ → Entries → Entries
 without_key k no_entries = no_entries
@@ -34,7 +34,7 @@ without_key k (entry l v es) = cond (bytes_eq k l) es (entry l v (without_key k 
 -- null is never stored
 abbrev pub set_key : List ℕ → Value → Entries → Entries
 set_key k null es = without_key k es
-set_key k v es = put k v es
+set_key k v es = with_entry k v es
 
 -- one after the other
 abbrev pub set_keys : List (List ℕ × Value) → Entries → Entries

@@ -1,7 +1,7 @@
 -- What the query of a text answers, and where its walks begin.
 use Rattle.std.proofs.Common.{◌≡◌, List, [], ◌∷◌, true, false, Result, Ok, Err, Option, Some, None, is_some, refl, sym, ap, subst, ◌∙◌, true≢false}
-use Rattle.pg_agreement.proofs.PlanningPlans.{plan_of_is_plan, plan_of_is_whole}
-use Rattle.pg_agreement.proofs.WholeQueriesAnswers.{answers_are_meant}
+use Rattle.pg_soundness.proofs.PlanningPlans.{plan_of_is_plan, plan_of_is_whole}
+use Rattle.pg_soundness.proofs.WholeQueriesAnswers.{answers_are_meant}
 use Rattle.pg_meaning.specs.Plans.{Catalogue, Plan, plan_of, plan_over, IsPlanOf}
 use Rattle.pg_meaning.specs.StaticFaults.{PlacedFault, goes_before, least, static_fault, static_faults}
 use Rattle.pg_meaning.specs.Texts.{checked_query, checked_by, read}

@@ -5,7 +5,6 @@ ghost use Rattle.pg_plan.specs.Laws.{PlansAreGood, TextsMean};
 
 mod anchor;
 mod anchors;
-mod conjuncts;
 mod instances;
 mod leads;
 mod nodes;

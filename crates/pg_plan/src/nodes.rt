@@ -6,7 +6,7 @@ ghost use Rattle.pg_scope.specs.Names.{names_in};
 ghost use Rattle.pg_syntax_tree.specs.View.{path_view};
 ghost use Rattle.pg_plan.specs.Places.{nodes_in, HasMore, HasNames};
 
-use pg_scope::{Names, add_variable};
+use pg_scope::{ScopeNames, add_variable};
 use pg_syntax_tree::{NodePattern, PathPattern};
 use std::alloc::{AllocError, Global};
 use std::collections::BTreeSet;
@@ -26,7 +26,7 @@ pub(crate) fn nodes_of<'a>(
     Ok(nodes)
 }
 
-fn add_path_nodes<'a>(names: &mut Names<'a>, path: &'a PathPattern) -> Result<(), AllocError>
+fn add_path_nodes<'a>(names: &mut ScopeNames<'a>, path: &'a PathPattern) -> Result<(), AllocError>
     ensures { OnOk result
         (HasMore (names_in names.old) (nodes_of (path_view path.now)) (names_in names.new)) }
 {
@@ -41,7 +41,7 @@ fn add_path_nodes<'a>(names: &mut Names<'a>, path: &'a PathPattern) -> Result<()
 pub(crate) fn node_names<'a>(
     alloc: Global,
     paths: &'a Vec<PathPattern>,
-) -> Result<Names<'a>, AllocError>
+) -> Result<ScopeNames<'a>, AllocError>
     ensures { IfOk result
         (λ names. HasNames (flat_map nodes_of (map path_view paths.now.items)) (names_in names)) }
 {

@@ -26,7 +26,7 @@ use Rattle.pg_rows.specs.Tables.{first_places, rows_at_places, EachBelow}
 use Rattle.pg_project.proofs.EachAnswer.{each_mapped, each_is, as_many, by_case}
 use Rattle.pg_project.proofs.Standing.{seen_as, value_in_first}
 use Rattle.pg_project.specs.Items.{columns_of}
-use Rattle.pg_project.specs.Given.{distinct_given, key_of, chosen_key, key_given, keys_given, all_keys_given, ordered_given}
+use Rattle.pg_project.specs.Given.{distinct_given, sort_source, chosen_key, key_given, keys_given, all_keys_given, ordered_given}
 use Rattle.pg_project.specs.Parts.{stands}
 
 -- ---- DISTINCT
@@ -89,7 +89,7 @@ module _ (s : Setting) (graph : Graph) (columns earlier : List (List ℕ)) (es :
   key_at w e (Some i) h = value_in_first columns w i h
   key_at w e None h = ap (λ row. evaluate row s.parameters graph e) (seen_as columns earlier w)
 
-  pub one_key : (w : List Value) (o : SortItem) → sort_key s.parameters graph (columns_of columns es) (stands columns earlier w) o ≡ key_given s.parameters graph (columns ++ earlier) w (key_of es o.key)
+  pub one_key : (w : List Value) (o : SortItem) → sort_key s.parameters graph (columns_of columns es) (stands columns earlier w) o ≡ key_given s.parameters graph (columns ++ earlier) w (sort_source es o.key)
   one_key w o =
       let t : Expression → Bool = λ x. same_expression x o.key in
       (λ i. elim (place_is t i) [
@@ -100,15 +100,15 @@ module _ (s : Setting) (graph : Graph) (columns earlier : List (List ℕ)) (es :
       ∙ ap (λ p. key_given s.parameters graph (columns ++ earlier) w (chosen_key o.key p)) (sym (position_from-zero t es))
 
   module _ (order : List SortItem) where
-    row_keys : (w : List Value) → keyed s graph (columns_of columns es) order (stands columns earlier w) ≡ (keys_given s.parameters graph (columns ++ earlier) (map (λ x. key_of es x.key) order) w >>= λ vs. Ok (vs, stands columns earlier w))
-    row_keys w = ap (λ a. a >>= λ vs. Ok (vs, stands columns earlier w)) (each_mapped (key_given s.parameters graph (columns ++ earlier) w) (λ (x : SortItem). key_of es x.key) (sort_key s.parameters graph (columns_of columns es) (stands columns earlier w)) (one_key w) order)
+    row_keys : (w : List Value) → keyed s graph (columns_of columns es) order (stands columns earlier w) ≡ (keys_given s.parameters graph (columns ++ earlier) (map (λ x. sort_source es x.key) order) w >>= λ vs. Ok (vs, stands columns earlier w))
+    row_keys w = ap (λ a. a >>= λ vs. Ok (vs, stands columns earlier w)) (each_mapped (key_given s.parameters graph (columns ++ earlier) w) (λ (x : SortItem). sort_source es x.key) (sort_key s.parameters graph (columns_of columns es) (stands columns earlier w)) (one_key w) order)
 
     all_keys : (ws : List (List Value)) → each_answer (keyed s graph (columns_of columns es) order) (map (stands columns earlier) ws)
-        ≡ (all_keys_given s.parameters graph (columns ++ earlier) (map (λ x. key_of es x.key) order) ws >>= λ ks. Ok (zip ks (map (stands columns earlier) ws)))
+        ≡ (all_keys_given s.parameters graph (columns ++ earlier) (map (λ x. sort_source es x.key) order) ws >>= λ ks. Ok (zip ks (map (stands columns earlier) ws)))
     all_keys [] = refl
     all_keys (w ∷ ws) =
         (λ i. row_keys w i >>= λ y. all_keys ws i >>= λ ys. Ok (y ∷ ys))
-        ∙ by (keys_given s.parameters graph (columns ++ earlier) (map (λ x. key_of es x.key) order) w) (all_keys_given s.parameters graph (columns ++ earlier) (map (λ x. key_of es x.key) order) ws)
+        ∙ by (keys_given s.parameters graph (columns ++ earlier) (map (λ x. sort_source es x.key) order) w) (all_keys_given s.parameters graph (columns ++ earlier) (map (λ x. sort_source es x.key) order) ws)
       where
         by : (a : Result (List Value) Fault) (rest : Result (List (List Value)) Fault)
             → ((a >>= λ vs. Ok (vs, stands columns earlier w)) >>= λ y. (rest >>= λ ks. Ok (zip ks (map (stands columns earlier) ws))) >>= λ ys. Ok (y ∷ ys))
@@ -170,7 +170,7 @@ module _ (s : Setting) (graph : Graph) (columns earlier : List (List ℕ)) (es :
       → ordered_rows s graph (columns_of columns es) order (map (stands columns earlier) ws) ≡ (ordered_given s.parameters graph (columns ++ earlier) es order ws >>= λ us. Ok (map (stands columns earlier) us))
   ordered_stand [] ws = refl
   ordered_stand (o ∷ os) ws =
-      let keys = map (λ (x : SortItem). key_of es x.key) (o ∷ os) in
+      let keys = map (λ (x : SortItem). sort_source es x.key) (o ∷ os) in
       ap (λ a. a >>= λ ks. Ok (map (λ (k : List Value × Projected). k.1) (sorted_keyed (o ∷ os) ks))) (all_keys s graph columns earlier es same (o ∷ os) ws)
       ∙ by_case
       (λ a. ((a >>= λ ks. Ok (zip ks (map (stands columns earlier) ws))) >>= λ ks. Ok (map (λ (k : List Value × Projected). k.1) (sorted_keyed (o ∷ os) ks)))
@@ -178,6 +178,6 @@ module _ (s : Setting) (graph : Graph) (columns earlier : List (List ℕ)) (es :
       (all_keys_given s.parameters graph (columns ++ earlier) keys ws)
       (λ ks e. ap Ok (sorted_stand (stands columns earlier) ws (o ∷ os) ks
       (each_is (keys_given s.parameters graph (columns ++ earlier) keys) (λ k. length k ≡ length (o ∷ os))
-      (λ w k h. as_many (key_given s.parameters graph (columns ++ earlier) w) keys k h ∙ same_long (λ (x : SortItem). key_of es x.key) (o ∷ os)) ws ks e)
+      (λ w k h. as_many (key_given s.parameters graph (columns ++ earlier) w) keys k h ∙ same_long (λ (x : SortItem). sort_source es x.key) (o ∷ os)) ws ks e)
       (as_many (keys_given s.parameters graph (columns ++ earlier) keys) ws ks e)))
       (λ f e. refl)

@@ -9,7 +9,7 @@ use Rattle.pg_meaning.specs.Order.{text_order}
 use Rattle.pg_meaning.specs.Scopes.{column_names, star_columns, variable_column}
 use Rattle.pg_meaning.specs.Tree.{Expression, variable, Item, Projection}
 use Rattle.pg_project.proofs.InTurn.{drop_here, drop_none, joined, nothing_behind}
-use Rattle.pg_project.specs.Columns.{column_of, columns_view, naming_columns, star_names, texts_of, trees_in, values_in_items, variable_tree, variable_trees}
+use Rattle.pg_project.specs.Columns.{columns_view, naming_columns, star_names, texts_of, trees_in, values_in_items, variable_tree, variable_trees}
 use Rattle.pg_project.specs.Items.{columns_of, expressions_view}
 use Rattle.pg_syntax_tree.specs.View.{expression_view, item_view, name_view, view_step}
 use Rattle.pg_syntax_tree.specs.declared.expression.Expression.{Expression as Code}
@@ -18,8 +18,9 @@ use Rattle.pg_syntax_tree.specs.declared.expression.Expression.TheOpen.{Expressi
 use Rattle.pg_syntax_tree.specs.declared.expression.Expression.TheVariants as code
 use Rattle.pg_syntax_tree.specs.declared.expression.Expression.TheViews.{rolls-Variable}
 use Rattle.pg_syntax_tree.specs.declared.expression.Name.{Name}
-use Rattle.pg_project.specs.declared.columns.Naming.{Naming}
-use Rattle.pg_project.specs.declared.columns.Naming.TheVariants.{Variable, Source}
+use Rattle.pg_scope.specs.Columns.{column_of}
+use Rattle.pg_scope.specs.declared.columns.Naming.{Naming}
+use Rattle.pg_scope.specs.declared.columns.Naming.TheVariants.{Variable, Source}
 use Rattle.pg_project.specs.declared.projection_columns.ProjectionColumns.{ProjectionColumns}
 
 pub name_pushed : (found names : Names) (i : ℕ) (x : List ℕ) → slice_get names i ≡ Some x → (found ++ x ∷ []) ++ drop (i + 1) names ≡ found ++ drop i names

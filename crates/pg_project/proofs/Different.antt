@@ -3,7 +3,7 @@ use Rattle.std.proofs.Common.{◌≡◌, ◌||◌, Bool, true, false, cond, List
 use Rattle.std.specs.List.{list_any}
 use Rattle.std.specs.Ordering.{on, eq_by_cmp}
 use Rattle.indexmap.specs.IndexSet.{insert_key}
-use Rattle.pg_project.specs.Summaries.{Counts, Held, Taken, held_with, is_null, other_with, taken_with}
+use Rattle.pg_project.specs.Summaries.{Counts, Accumulated, Taken, held_with, is_null, other_with, taken_with}
 use Rattle.pg_meaning.specs.Answer.{◌>>=◌}
 use Rattle.pg_meaning.specs.Order.{value_order, is_equivalent}
 use Rattle.pg_meaning.specs.Value.{Value as Datum}
@@ -26,11 +26,11 @@ pub null_seen : (o : Option (List Datum)) (v : Datum) → is_null v ≡ true →
 null_seen o v e h = ap (λ b. cond b (Ok (record { different = o; held = h })) (other_with o h v)) e
 
 others_with : (o after : Option (List Datum)) (v : Datum) (counts : Bool) → is_null v ≡ false
-    → ((h : Held) → other_with o h v ≡ cond counts (held_with h v >>= λ g. Ok (record { different = after; held = g })) (Ok (record { different = after; held = h }))) → Counts o after v counts
+    → ((h : Accumulated) → other_with o h v ≡ cond counts (held_with h v >>= λ g. Ok (record { different = after; held = g })) (Ok (record { different = after; held = h }))) → Counts o after v counts
 others_with o after v counts e others h = ap (λ b. cond b (Ok (record { different = o; held = h })) (other_with o h v)) e ∙ others h
 
 module _ (ks : List Value) (v : Value) (other : is_null (view v) ≡ false) where
-  abbrev chosen : Held → Bool → Result Taken Fault
+  abbrev chosen : Accumulated → Bool → Result Taken Fault
   chosen h b = cond b (Ok (record { different = Some (map view ks); held = h })) (held_with h (view v) >>= λ g. Ok (record { different = Some (map view ks ++ view v ∷ []); held = g }))
 
   pub known : list_any (same v) ks ≡ true → Counts (Some (map view ks)) (Some (map view ks)) (view v) false
@@ -50,11 +50,11 @@ module _ (ks : List Value) (v : Value) (other : is_null (view v) ≡ false) wher
       ap (chosen h) (sym (any_same v ks) ∙ e)
       ∙ ap (λ vs. held_with h (view v) >>= λ g. Ok (record { different = Some vs; held = g })) (sym (put_behind w us s u e)))
 
-module _ (before after : Option (List Datum)) (h : Held) (v : Datum) where
+module _ (before after : Option (List Datum)) (h : Accumulated) (v : Datum) where
   pub passed_over : Counts before after v false → taken_with (record { different = before; held = h }) v ≡ Ok (record { different = after; held = h })
   passed_over is = is h
 
-  pub taken : (g : Held) → Counts before after v true → held_with h v ≡ Ok g → taken_with (record { different = before; held = h }) v ≡ Ok (record { different = after; held = g })
+  pub taken : (g : Accumulated) → Counts before after v true → held_with h v ≡ Ok g → taken_with (record { different = before; held = h }) v ≡ Ok (record { different = after; held = g })
   taken g is e = is h ∙ ap (λ r. r >>= λ x. Ok (record { different = after; held = x })) e
 
   pub refused : (f : Fault) → Counts before after v true → held_with h v ≡ Err f → taken_with (record { different = before; held = h }) v ≡ Err f

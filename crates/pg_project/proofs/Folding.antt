@@ -5,7 +5,7 @@ use Rattle.std.proofs.lemmas.List.Sums.{fold-append}
 use Rattle.std.specs.List.{list_any}
 use Rattle.std.specs.Prelude.{◌+ℤ◌}
 use Rattle.pg_project.proofs.Best.{lowest_stays, highest_stays}
-use Rattle.pg_project.specs.Summaries.{Held, count, sum, lowest, highest, values, best_of, held_of, held_with, better, told, value_or_null, Taken, different_of, needs_different, taken_of, taken_with, other_with}
+use Rattle.pg_project.specs.Summaries.{Accumulated, count, sum, lowest, highest, values, best_of, held_of, held_with, better, told, value_or_null, Taken, different_of, needs_different, taken_of, taken_with, other_with}
 use Rattle.pg_meaning.specs.Aggregates.{Summary, counting, summing, least, greatest, collecting, Aggregate, total, extended, take_in, lesser, greater, best, summarized}
 use Rattle.pg_meaning.specs.Answer.{◌>>=◌}
 use Rattle.pg_meaning.specs.Arithmetic.{is_in_range}
@@ -36,12 +36,12 @@ best_with f (u ∷ us) v = ap Some (fold-append f u us (v ∷ []))
 
 -- the values beside what is kept of them
 abbrev Both : Type 0
-Both = Result (List Value × Held) Fault
+Both = Result (List Value × Accumulated) Fault
 
 abbrev with_held : Summary → List Value → Both
 with_held s vs = Ok (vs, held_of s vs)
 
-abbrev behind : List Value → Value → Held → Both
+abbrev behind : List Value → Value → Accumulated → Both
 behind vs v h = Ok (vs ++ v ∷ [], h)
 
 summed : (vs : List Value) (i : ℤ) (b : Bool)
@@ -50,7 +50,7 @@ summed vs i true = ap (λ n. let r : Both = Ok (vs ++ integer i ∷ [], sum n) i
 summed vs i false = refl
 
 listed : (vs : List Value) (v : Value) (b : Bool)
-    → (cond b (Ok (vs ++ v ∷ [])) (Err ValueTooLarge) >>= with_held collecting) ≡ ((cond b (Ok (vs ++ v ∷ [])) (Err ValueTooLarge) >>= λ ws. let r : Result Held Fault = Ok (values ws) in r) >>= behind vs v)
+    → (cond b (Ok (vs ++ v ∷ [])) (Err ValueTooLarge) >>= with_held collecting) ≡ ((cond b (Ok (vs ++ v ∷ [])) (Err ValueTooLarge) >>= λ ws. let r : Result Accumulated Fault = Ok (values ws) in r) >>= behind vs v)
 listed vs v true = refl
 listed vs v false = refl
 
@@ -74,7 +74,7 @@ bound_twice : {X Y Z : Type 0} (a : Result X Fault) (f : X → Result Y Fault) (
 bound_twice (Ok x) f g = refl
 bound_twice (Err e) f g = refl
 
-mapped : (s : Summary) (vs : List Value) (v : Value) (g : List Value × Held → Result Taken Fault)
+mapped : (s : Summary) (vs : List Value) (v : Value) (g : List Value × Accumulated → Result Taken Fault)
     → (extended s vs v >>= λ ws. g (ws, held_of s ws)) ≡ (held_with (held_of s vs) v >>= λ h. g (vs ++ v ∷ [], h))
 mapped s vs v g =
     sym (bound_twice (extended s vs v) (with_held s) g)
@@ -86,7 +86,7 @@ mapped s vs v g =
 abbrev with_taken : Summary → Bool → List Value → Result Taken Fault
 with_taken s distinct vs = Ok (record { different = different_of (distinct && needs_different s) vs; held = held_of s vs })
 
-abbrev new_different : Option (List Value) → Held → Result Taken Fault
+abbrev new_different : Option (List Value) → Accumulated → Result Taken Fault
 new_different o h = Ok (record { different = o; held = h })
 
 unless_taken : (s : Summary) (vs : List Value) (v : Value) (b : Bool)

@@ -31,3 +31,5 @@ pub mod Numbered
 pub mod Ranges
 pub mod RowLemmas
 pub mod Turns
+mod Numbers
+mod RowCounts

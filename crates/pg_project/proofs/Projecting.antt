@@ -17,7 +17,7 @@ use Rattle.pg_meaning.specs.declared.fault.Fault.TheVariants.{OutOfMemory}
 use Rattle.pg_rows.specs.Named.{row_of, rows_named}
 use Rattle.pg_rows.specs.States.{Named, seen, named_rows, state_of}
 use Rattle.pg_rows.specs.Tables.{table}
-use Rattle.pg_rows.specs.declared.named.Table.{Table}
+use Rattle.pg_rows.specs.declared.named.BindingTable.{BindingTable}
 use Rattle.pg_rows.specs.declared.table.Rows.{Rows}
 use Rattle.pg_syntax_tree.specs.View.{sort_item_view}
 use Rattle.pg_syntax_tree.specs.declared.clauses.SortItem.{SortItem as Sort}
@@ -141,14 +141,14 @@ module _ (s : Setting) (graph : Graph) (columns names : List (List ℕ)) (es : L
   abbrev items_by : Bool → Result (List Projected) Fault
   items_by b = elim b [ true ↦ grouped s graph (columns_of columns es) (rows_named names rows) | false ↦ each_answer (projected s.parameters graph distinct (columns_of columns es)) (rows_named names rows) ]
 
-  abbrev seen_by : Bool → Table → List Projected
+  abbrev seen_by : Bool → BindingTable → List Projected
   seen_by b t = map (stands columns (earlier_names (b || distinct) names)) (seen t).rows
 
-  by_aggregate : (result : Result Table Fault) (b : Bool) → has_aggregate es ≡ b → Gives result (items_by b) (seen_by b) → Gives result (item_rows s graph distinct (columns_of columns es) (rows_named names rows)) (seen_by (has_aggregate es))
+  by_aggregate : (result : Result BindingTable Fault) (b : Bool) → has_aggregate es ≡ b → Gives result (items_by b) (seen_by b) → Gives result (item_rows s graph distinct (columns_of columns es) (rows_named names rows)) (seen_by (has_aggregate es))
   by_aggregate result b h given =
       subst (λ a. Gives result (items_by a) (seen_by (has_aggregate es))) (sym (aggregates_are columns es same)) (subst (λ a. Gives result (items_by a) (seen_by a)) (sym h) given)
 
-  pub groups_give : (result : Result Table Fault) → has_aggregate es ≡ true → Gives result (grouped s graph (columns_of columns es) (rows_named names rows)) (λ t. map (stands columns []) (seen t).rows)
+  pub groups_give : (result : Result BindingTable Fault) → has_aggregate es ≡ true → Gives result (grouped s graph (columns_of columns es) (rows_named names rows)) (λ t. map (stands columns []) (seen t).rows)
       → Gives result (item_rows s graph distinct (columns_of columns es) (rows_named names rows)) (seen_by (has_aggregate es))
   groups_give result h given = by_aggregate result true h given
 
@@ -159,7 +159,7 @@ module _ (s : Setting) (graph : Graph) (columns names : List (List ℕ)) (es : L
     plain_is : items_by false ≡ (wide >>= λ ws. Ok (map (stands columns (earlier_names distinct names)) ws))
     plain_is = all_rows s graph columns names es distinct same rows ∙ ap (λ ps. wide_rows_given ps graph names es (not distinct) rows >>= λ ws. Ok (map (stands columns (earlier_names distinct names)) ws)) given
 
-    plain_gives : (result : Result Table Fault) → IfOk result (λ t. wide ≡ Ok (seen t).rows) → IfErr result (λ e. e ≢ OutOfMemory → wide ≡ Err e) → Gives result (items_by false) (seen_by false)
+    plain_gives : (result : Result BindingTable Fault) → IfOk result (λ t. wide ≡ Ok (seen t).rows) → IfErr result (λ e. e ≢ OutOfMemory → wide ≡ Err e) → Gives result (items_by false) (seen_by false)
     plain_gives (Ok t) ok err = record {
       ok = plain_is ∙ ap (λ a. a >>= λ ws. Ok (map (stands columns (earlier_names distinct names)) ws)) ok;
       err = tt;
@@ -169,7 +169,7 @@ module _ (s : Setting) (graph : Graph) (columns names : List (List ℕ)) (es : L
       err = λ other. plain_is ∙ ap (λ a. a >>= λ ws. Ok (map (stands columns (earlier_names distinct names)) ws)) (err other);
     }
 
-    pub rows_give : (result : Result Table Fault) → has_aggregate es ≡ false → IfOk result (λ t. wide ≡ Ok (seen t).rows) → IfErr result (λ e. e ≢ OutOfMemory → wide ≡ Err e)
+    pub rows_give : (result : Result BindingTable Fault) → has_aggregate es ≡ false → IfOk result (λ t. wide ≡ Ok (seen t).rows) → IfErr result (λ e. e ≢ OutOfMemory → wide ≡ Err e)
         → Gives result (item_rows s graph distinct (columns_of columns es) (rows_named names rows)) (seen_by (has_aggregate es))
     rows_give result h ok err = by_aggregate result false h (plain_gives result ok err)
 
@@ -297,7 +297,7 @@ module _ (s : Setting) (graph : Graph) (parameters : Entries) (given : s.paramet
     pub items_fail : (f : Fault) → item_rows s graph (hides_earlier p where_) (columns_of columns es) rows ≡ Err f → rows_projected s graph all p where_ rows ≡ Err f
     items_fail f h = items_are (Err f) h
 
-    module _ (t : Table) (width : ℕ) (same : length columns ≡ length es) (long : width ≡ length columns) (named : (seen t).names ≡ columns ++ earlier_names (has_aggregate es || hides_earlier p where_) names)
+    module _ (t : BindingTable) (width : ℕ) (same : length columns ≡ length es) (long : width ≡ length columns) (named : (seen t).names ≡ columns ++ earlier_names (has_aggregate es || hides_earlier p where_) names)
         (items : item_rows s graph (hides_earlier p where_) (columns_of columns es) rows ≡ Ok (map (stands columns (earlier_names (has_aggregate es || hides_earlier p where_) names)) (seen t).rows)) where
       abbrev behind_items : Result (List (List Value)) Fault
       behind_items = tail_given parameters graph (seen t).names es p.distinct p.order c where_ width (seen t).rows

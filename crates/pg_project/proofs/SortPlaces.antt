@@ -10,7 +10,7 @@ use Rattle.pg_meaning.specs.Value.{Value as Datum, null, Entries}
 use Rattle.pg_meaning.specs.declared.fault.Fault.{Fault}
 use Rattle.pg_rows.specs.Sorts.{directions, sorted_places}
 use Rattle.pg_rows.specs.Tables.{rows_at_places}
-use Rattle.pg_project.specs.Given.{all_keys_given, key_of, ordered_given}
+use Rattle.pg_project.specs.Given.{all_keys_given, sort_source, ordered_given}
 use Rattle.pg_syntax_tree.specs.View.{sort_item_view}
 use Rattle.pg_syntax_tree.specs.declared.clauses.SortItem.{SortItem}
 use Rattle.pg_value_core.specs.View.{view}
@@ -35,7 +35,7 @@ no_value_there (v ∷ vs) zero h = absurd (omega (arith, h))
 no_value_there (v ∷ vs) (suc i) h = no_value_there vs i (omega arith)
 
 pub ordered_fails : (parameters : Entries) (graph : Graph) (names : List (List ℕ)) (es : List Expression) (order : List SortItem) (rows : List (List Datum)) (f : Fault) → 0 < length order
-    → all_keys_given parameters graph names (map (λ x. key_of es x.key) (map sort_item_view order)) rows ≡ Err f → ordered_given parameters graph names es (map sort_item_view order) rows ≡ Err f
+    → all_keys_given parameters graph names (map (λ x. sort_source es x.key) (map sort_item_view order)) rows ≡ Err f → ordered_given parameters graph names es (map sort_item_view order) rows ≡ Err f
 ordered_fails parameters graph names es [] rows f some h = absurd (omega (arith, some))
 ordered_fails parameters graph names es (o ∷ os) rows f some h = ap (λ a. a >>= λ keys. Ok (rows_at_places rows (sorted_places (directions (map sort_item_view (o ∷ os))) keys))) h
 
@@ -45,7 +45,7 @@ ordered_unsorted parameters graph names es [] rows none = refl
 ordered_unsorted parameters graph names es (o ∷ os) rows none = absurd (omega (arith, none))
 
 pub ordered_done : (parameters : Entries) (graph : Graph) (names : List (List ℕ)) (es : List Expression) (order : List SortItem) (rows keys found : List (List Datum)) → 0 < length order
-    → all_keys_given parameters graph names (map (λ x. key_of es x.key) (map sort_item_view order)) rows ≡ Ok keys → found ≡ rows_at_places rows (sorted_places (directions (map sort_item_view order)) keys)
+    → all_keys_given parameters graph names (map (λ x. sort_source es x.key) (map sort_item_view order)) rows ≡ Ok keys → found ≡ rows_at_places rows (sorted_places (directions (map sort_item_view order)) keys)
     → ordered_given parameters graph names es (map sort_item_view order) rows ≡ Ok found
 ordered_done parameters graph names es [] rows keys found some h sorted = absurd (omega (arith, some))
 ordered_done parameters graph names es (o ∷ os) rows keys found some h sorted = ap (λ a. a >>= λ ks. Ok (rows_at_places rows (sorted_places (directions (map sort_item_view (o ∷ os))) ks))) h ∙ ap Ok (sym sorted)

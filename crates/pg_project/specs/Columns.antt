@@ -2,13 +2,13 @@
 use Rattle.std.specs.Borrow.{Bor}
 use Rattle.std.specs.Prelude.{ℕ, false, List, [], ◌++◌, map, Option, Some, None}
 use Rattle.pg_meaning.specs.Names.{Names, in_byte_order}
-use Rattle.pg_meaning.specs.Scopes.{Column, with_column, return_column, projection_columns}
+use Rattle.pg_meaning.specs.Scopes.{Column, projection_columns}
 use Rattle.pg_meaning.specs.Tree.{Expression, variable, Item, Projection}
+use Rattle.pg_scope.specs.Columns.{column_of}
+use Rattle.pg_scope.specs.declared.columns.Naming.{Naming}
 use Rattle.pg_syntax_tree.specs.View.{expression_view, item_view}
 use Rattle.pg_syntax_tree.specs.declared.expression.Expression.{Expression as Code}
 use Rattle.pg_project.specs.Items.{columns_of}
-use Rattle.pg_project.specs.declared.columns.Naming.{Naming}
-use Rattle.pg_project.specs.declared.columns.Naming.TheVariants.{Variable, Source}
 use Rattle.pg_project.specs.declared.projection_columns.ProjectionColumns.{ProjectionColumns}
 
 abbrev pub trees_in : List Code → List Expression
@@ -19,10 +19,6 @@ values_in_items items = map (λ i. i.value) items
 
 abbrev pub columns_view : ProjectionColumns → List Column
 columns_view c = columns_of c.names (trees_in c.starred.items ++ values_in_items (map item_view c.items.now.items))
-
-abbrev pub column_of : Naming → Item → Column
-column_of Variable = with_column
-column_of Source = return_column
 
 abbrev pub naming_columns : Naming → (scope : Names) → Projection → List Column
 naming_columns naming scope p = projection_columns (column_of naming) scope p

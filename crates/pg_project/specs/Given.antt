@@ -52,8 +52,8 @@ abbrev pub chosen_key : Expression → Option ℕ → Key
 chosen_key e None = other e
 chosen_key e (Some i) = item i
 
-abbrev pub key_of : List Expression → Expression → Key
-key_of es e = chosen_key e (position (λ x. same_expression x e) es)
+abbrev pub sort_source : List Expression → Expression → Key
+sort_source es e = chosen_key e (position (λ x. same_expression x e) es)
 
 abbrev pub key_given : Entries → Graph → (names : List (List ℕ)) → List Datum → Key → Answer
 key_given parameters graph names values (item i) = Ok (slice_index_or values i null)
@@ -68,7 +68,7 @@ all_keys_given parameters graph names keys rows = each_answer (keys_given parame
 abbrev pub ordered_given : Entries → Graph → (names : List (List ℕ)) → List Expression → List SortItem → List (List Datum) → Result (List (List Datum)) Fault
 ordered_given parameters graph names es [] rows = Ok rows
 ordered_given parameters graph names es (o ∷ os) rows =
-    all_keys_given parameters graph names (map (λ x. key_of es x.key) (o ∷ os)) rows >>= λ keys. Ok (rows_at_places rows (sorted_places (directions (o ∷ os)) keys))
+    all_keys_given parameters graph names (map (λ x. sort_source es x.key) (o ∷ os)) rows >>= λ keys. Ok (rows_at_places rows (sorted_places (directions (o ∷ os)) keys))
 
 -- ---- WHERE
 

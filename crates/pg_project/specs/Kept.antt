@@ -2,7 +2,7 @@
 use Rattle.std.specs.Prelude.{ℕ, Bool, true, false, List, [], ◌∷◌, map, Result, Ok, Err, Some, None}
 use Rattle.pg_project.specs.Items.{Item, grouping, aggregate, item_of, keys_in, aggregates_in, are_aggregates}
 use Rattle.pg_project.specs.Summaries.{Taken, taken_of, taken_with, told}
-use Rattle.pg_meaning.specs.Aggregates.{Aggregate}
+use Rattle.pg_meaning.specs.Aggregates.{Aggregate, counting}
 use Rattle.pg_meaning.specs.Answer.{Answer, ◌>>=◌, ◌>>◌, each_answer, each_step}
 use Rattle.pg_meaning.specs.Expressions.{evaluate}
 use Rattle.pg_meaning.specs.Graph.{Graph}
@@ -73,6 +73,10 @@ kept_row at es groups = elim (each_answer at (keys_in es)) [
 abbrev pub first_kept : (keys : List Expression) → List Aggregate → List Kept
 first_kept [] aggregates = record { key = []; taken = begun aggregates } ∷ []
 first_kept (k ∷ ks) aggregates = []
+
+-- `count(*)`
+abbrev pub row_count : Aggregate
+row_count = record { summary = counting; distinct = false; argument = None }
 
 -- ---- all rows
 

@@ -1,5 +1,6 @@
 -- The groups of the program, as data.
-use Rattle.std.specs.Prelude.{◌≡◌, Bool, length, List, [], ◌∷◌, map}
+use Rattle.std.specs.Prelude.{◌≡◌, ℕ, ◌<◌, Bool, true, length, List, [], ◌∷◌, map}
+use Rattle.std.specs.List.{list_any, position_or_len}
 use Rattle.std.specs.Cmp.Lexicographic.{pointwise}
 use Rattle.std.specs.Global.{Vec}
 use Rattle.std.specs.Ordering.{on, eq_by_cmp}
@@ -16,9 +17,11 @@ use Rattle.pg_value_core.specs.declared.value.Value.{Value}
 abbrev pub same_keys : Vec Value → Vec Value → Bool
 same_keys x y = pointwise (on view (eq_by_cmp value_order)) x.items y.items
 
-abbrev pub BeginsEmpty : List (Vec Value) → Type 0
-BeginsEmpty [] = ⊥
-BeginsEmpty (k ∷ ks) = k.items ≡ []
+-- the first key that is the same has this number
+pub record IsNumber (keys : List (Vec Value)) (key : Vec Value) (n : ℕ) : Type 0 where
+  pub here : n ≡ position_or_len (same_keys key) keys
+  pub there : list_any (same_keys key) keys ≡ true
+  pub within : n < length keys
 
 abbrev pub groups_of : List (List Datum) → List (List Taken) → List Kept
 groups_of [] tss = []

@@ -1,12 +1,12 @@
 -- What the program keeps of an aggregate, as data.
 use Rattle.std.specs.Prelude.{List, map, option_map}
 use Rattle.pg_project.specs.Summaries as summaries
-use Rattle.pg_project.specs.declared.held.Held.{Held}
-use Rattle.pg_project.specs.declared.held.Held.TheVariants.{Count, Sum, Lowest, Highest, Values}
+use Rattle.pg_project.specs.declared.accumulator.Accumulator.{Accumulator}
+use Rattle.pg_project.specs.declared.accumulator.Accumulator.TheVariants.{Count, Sum, Lowest, Highest, Values}
 use Rattle.pg_project.specs.declared.taken.Taken.{Taken}
 use Rattle.pg_value_core.specs.View.{view}
 
-abbrev pub held_view : Held → summaries.Held
+abbrev pub held_view : Accumulator → summaries.Accumulated
 held_view (Count n) = summaries.count n
 held_view (Sum n) = summaries.sum n
 held_view (Lowest o) = summaries.lowest (option_map view o)

@@ -1,26 +1,19 @@
 //! The columns of WITH and RETURN.
 ghost use Rattle.std.specs.Prelude.{◌≡◌, ◌++◌, ◌+◌, ◌∷◌, [], cond, length, map, IfOk, OnOk};
 ghost use Rattle.pg_meaning.specs.Names.{in_byte_order};
-ghost use Rattle.pg_meaning.specs.Scopes.{column_names, variable_text};
-ghost use Rattle.pg_project.specs.Columns.{column_of, columns_view, naming_columns, star_names, texts_of, trees_in, variable_trees};
+ghost use Rattle.pg_meaning.specs.Scopes.{column_names};
+ghost use Rattle.pg_project.specs.Columns.{columns_view, naming_columns, star_names, texts_of, trees_in, variable_trees};
 ghost use Rattle.pg_project.specs.Given.{earlier_names};
 ghost use Rattle.pg_project.specs.Items.{columns_of, expressions_view};
-ghost use Rattle.pg_syntax_tree.specs.View.{expression_view, item_view, projection_view};
+ghost use Rattle.pg_scope.specs.Columns.{column_of};
+ghost use Rattle.pg_syntax_tree.specs.View.{item_view, projection_view};
 
 use crate::projection_columns::ProjectionColumns;
 use pg_rows::Columns;
+use pg_scope::{Naming, column_name};
 use pg_syntax_tree::{Expression, Item, Name, Projection};
 use std::alloc::{AllocError, Global};
 use std::collections::BTreeSet;
-
-/// How a clause names a column that has no alias.
-#[derive(Clone, Copy)]
-pub(crate) enum Naming {
-    /// WITH names it by the variable that it is.
-    Variable,
-    /// RETURN names it by its text as written.
-    Source,
-}
 
 /// The columns of a projection, where the variables in scope have these names.
 pub(crate) fn make_columns<'a>(
@@ -94,29 +87,6 @@ fn push_names(
         names.push(alloc, column_name(naming, item))?;
     }
     Ok(())
-}
-
-/// The name of an item's column.
-fn column_name(naming: Naming, item: &Item) -> &str
-    ensures { result.now ≡ (column_of naming (item_view item.now)).name }
-{
-    match &item.alias {
-        Some(name) => name.text.as_str(),
-        None => match naming {
-            Naming::Variable => variable_text(&item.value),
-            Naming::Source => item.source.as_str(),
-        },
-    }
-}
-
-/// The text of a variable, and nothing for another expression.
-fn variable_text(expression: &Expression) -> &str
-    ensures { result.now ≡ variable_text (expression_view expression.now) }
-{
-    match expression {
-        Expression::Variable(name) => name.text.as_str(),
-        _ => "",
-    }
 }
 
 impl<'a> ProjectionColumns<'a> {

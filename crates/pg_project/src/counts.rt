@@ -13,7 +13,7 @@ use pg_expr::{evaluate, prepare};
 use pg_graph::Tables;
 use pg_meaning::Fault;
 use pg_rows::Columns;
-use pg_store::Snapshot;
+use pg_store::GraphView;
 use pg_syntax_tree::{Expression, Projection};
 use pg_value_core::{Parameters, Value};
 use std::alloc::Global;
@@ -23,7 +23,7 @@ pub fn cut_at<T: Tables>(
     alloc: Global,
     projection: &Projection,
     parameters: &Parameters,
-    graph: &Snapshot<'_, T>,
+    graph: &GraphView<'_, T>,
 ) -> Result<Cut, Fault>
     ensures ok { IfOk result (λ c. cut_given (parameters_view parameters.now) graph.now
         (projection_view projection.now).skip (projection_view projection.now).limit
@@ -44,7 +44,7 @@ fn count_at<T: Tables>(
     alloc: Global,
     count: &Option<Expression>,
     parameters: &Parameters,
-    graph: &Snapshot<'_, T>,
+    graph: &GraphView<'_, T>,
 ) -> Result<Option<u64>, Fault>
     ensures ok { IfOk result (λ n. count_at
         (parameters_view parameters.now) graph.now (option_map expression_view count.now) ≡ Ok n) }

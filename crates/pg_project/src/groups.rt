@@ -2,26 +2,29 @@
 ghost use Rattle.indexmap.specs.IndexSet.{insert_key};
 ghost use Rattle.std.specs.List.{list_any, position_or_len};
 ghost use Rattle.std.specs.Prelude.{◌≡◌, ◌<◌, length, not, true, IfOk, OnOk};
-ghost use Rattle.pg_project.specs.KeptGroups.{same_keys, BeginsEmpty};
+ghost use Rattle.pg_project.specs.KeptGroups.{same_keys, IsNumber};
 
 use crate::items::{Aggregate, Items};
 use crate::made::push_made;
+use crate::recent::{Recent, place_of};
 use crate::taken::Taken;
 use crate::taking::{begun, take_in_all};
 use indexmap::IndexSet;
 use pg_expr::RowContext;
 use pg_graph::Tables;
 use pg_meaning::Fault;
-use pg_store::Snapshot;
+use pg_store::GraphView;
 use pg_value_core::Value;
 use std::alloc::{AllocError, Global};
 use std::hash::RandomState;
+use std::mem;
 
 /// The key of each group, and what is kept of each aggregate in it.
 #[derive(Drop)]
 pub(crate) struct Groups {
     pub(crate) keys: IndexSet<Vec<Value>, RandomState>,
     pub(crate) taken: Vec<Vec<Taken>>,
+    pub(crate) recent: Recent,
 }
 
 impl Groups {
@@ -47,6 +50,7 @@ impl Groups {
         let mut groups = Groups {
             keys: IndexSet::with_hasher(alloc, hasher),
             taken: Vec::new(alloc),
+            recent: Recent::new(),
         };
         if items.keys.is_empty() {
             groups.keys.insert(Vec::new(alloc))?;
@@ -55,24 +59,24 @@ impl Groups {
         Ok(groups)
     }
 
-    /// Takes in a row of this key; a new group comes last.
+    /// Takes in a row of this key; a new group comes last, and takes the key.
     pub(crate) fn take_row<T: Tables>(
         &mut self,
         context: &RowContext<'_>,
-        graph: &Snapshot<'_, T>,
+        graph: &GraphView<'_, T>,
         aggregates: &Vec<Aggregate<'_>>,
-        key: Vec<Value>,
+        key: &mut Vec<Value>,
     ) -> Result<(), Fault>
         requires { Paired self.old }
         ensures ok { OnOk result (into_kept (given context.now graph.now)
             (aggregates_view context.now.names.now aggregates.now.items)
-            (map view key.items) (groups_view self.old) ≡ Ok (groups_view self.new)) }
+            (map view key.old.items) (groups_view self.old) ≡ Ok (groups_view self.new)) }
         ensures paired { OnOk result (Paired self.new) }
         ensures err { IfErr result (λ e. e ≢ OutOfMemory → into_kept (given context.now graph.now)
             (aggregates_view context.now.names.now aggregates.now.items)
-            (map view key.items) (groups_view self.old) ≡ Err e) }
+            (map view key.old.items) (groups_view self.old) ≡ Err e) }
     {
-        let (number, is_new) = number_of(&mut self.keys, key)?;
+        let (number, is_new) = number_of(context.alloc, &mut self.keys, &mut self.recent, key)?;
         if is_new {
             push_made(
                 &mut self.taken,
@@ -83,29 +87,37 @@ impl Groups {
     }
 }
 
-/// The number of a key's group, and whether the group is new. Where no item groups, the one group needs no look-up.
+/// The number of a key's group, and whether the group is new. Most keys were found before, and are neither hashed
+/// nor moved.
 #[inline(never)]
 fn number_of(
+    alloc: Global,
     keys: &mut IndexSet<Vec<Value>, RandomState>,
-    key: Vec<Value>,
+    recent: &mut Recent,
+    key: &mut Vec<Value>,
 ) -> Result<(usize, bool), AllocError>
-    ensures keys { OnOk result (keys.new.keys ≡ insert_key same_keys keys.old.keys key) }
-    ensures number { IfOk result (λ n. n.0 ≡ position_or_len (same_keys key) keys.old.keys) }
-    ensures added { IfOk result (λ n. n.1 ≡ not (list_any (same_keys key) keys.old.keys)) }
+    ensures keys { OnOk result (keys.new.keys ≡ insert_key same_keys keys.old.keys key.old) }
+    ensures number { IfOk result (λ n. n.0 ≡ position_or_len (same_keys key.old) keys.old.keys) }
+    ensures added { IfOk result (λ n. n.1 ≡ not (list_any (same_keys key.old) keys.old.keys)) }
     ensures within { IfOk result (λ n. n.0 < length keys.new.keys) }
 {
-    if key.is_empty() && begins_empty(keys) {
-        return Ok((0, false));
+    let place = place_of(key);
+    let number = recent.numbers[place];
+    if is_number(keys, number, key) {
+        return Ok((number, false));
     }
-    Ok(keys.insert_full(key)?)
+    let found = keys.insert_full(mem::replace(key, Vec::new(alloc)))?;
+    recent.numbers[place] = found.0;
+    Ok(found)
 }
 
-/// Whether the first key has no values.
-fn begins_empty(keys: &IndexSet<Vec<Value>, RandomState>) -> bool
-    ensures { result ≡ true → BeginsEmpty keys.now.keys }
+/// Whether the group of this number has the key.
+fn is_number(keys: &IndexSet<Vec<Value>, RandomState>, number: usize, key: &Vec<Value>) -> bool
+    ensures { result ≡ true → IsNumber keys.now.keys key.now number }
 {
-    match keys.get_index(0) {
-        Some(first) => first.is_empty(),
+    let _count = keys.len();
+    match keys.get_index(number) {
+        Some(held) => key == held,
         None => false,
     }
 }

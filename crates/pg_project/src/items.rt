@@ -9,14 +9,14 @@ ghost use Rattle.pg_syntax_tree.specs.View.{expression_view};
 
 use pg_expr::{Prepared, prepare};
 use pg_rows::Columns;
-use pg_scope::{Summary, summary_named};
+use pg_scope::{AggregateFunction, summary_named};
 use pg_syntax_tree::Expression;
 use std::alloc::{AllocError, Global};
 
 /// An aggregate; without an argument it counts rows.
 #[derive(Clone, Copy)]
 pub(crate) struct Aggregate<'a> {
-    pub(crate) summary: Summary,
+    pub(crate) summary: AggregateFunction,
     pub(crate) distinct: bool,
     pub(crate) argument: Option<Prepared<'a>>,
 }

@@ -1,13 +1,14 @@
 //! UNWIND, and the projections of WITH and RETURN, with their groups and aggregates.
 #![tactic(auto)]
 
+mod accumulator;
 mod aggregates;
+mod clause_scope;
 mod collected;
 mod columns;
 mod counts;
 mod group;
 mod groups;
-mod held;
 mod items;
 mod lists;
 mod made;
@@ -16,9 +17,9 @@ mod passing;
 mod project;
 mod projection_clause;
 mod projection_columns;
+mod recent;
 mod returned;
 mod rows;
-mod scope;
 mod sorting;
 mod taken;
 mod taking;

@@ -1,5 +1,5 @@
 //! The lists that UNWIND goes over, and the rows that it makes of them.
-ghost use Rattle.std.specs.Prelude.{◌≡◌, ◌≢◌, ◌∷◌, [], ◌++◌, length, map, sum, IfOk, IfErr, OnOk, Ok, Err};
+ghost use Rattle.std.specs.Prelude.{◌≡◌, ◌≢◌, ◌∷◌, [], ◌++◌, length, map, sum, IfOk, IfErr, IfSome, IfNone, IsSome, OnOk, Ok, Err};
 ghost use Rattle.pg_expr.specs.Prepared.{tree_of};
 ghost use Rattle.pg_meaning.specs.Meters.{Setting, spend};
 ghost use Rattle.pg_meaning.specs.declared.fault.Fault.TheVariants.{OutOfMemory};
@@ -9,23 +9,23 @@ ghost use Rattle.pg_rows.specs.Tables.{table};
 ghost use Rattle.pg_value_core.specs.Given.{parameters_view};
 ghost use Rattle.pg_value_core.specs.View.{view};
 
-use crate::scope::Scope;
+use crate::clause_scope::ClauseScope;
 use pg_expr::{Prepared, RowContext, evaluate_at};
 use pg_graph::Tables;
 use pg_meaning::Fault;
 use pg_meter::Meter;
 use pg_rows::{Rows, copy_row};
-use pg_store::Snapshot;
+use pg_store::GraphView;
 use pg_value_core::{Parts, Value};
 use std::alloc::{AllocError, Global};
 
 /// The list at each row.
 #[tactic(auto, using(crate::proofs::InTurn::no_more))]
 pub(crate) fn lists_at<T: Tables>(
-    scope: &Scope<'_>,
+    scope: &ClauseScope<'_>,
     prepared: &Prepared<'_>,
     rows: &Rows,
-    graph: &Snapshot<'_, T>,
+    graph: &GraphView<'_, T>,
 ) -> Result<Vec<Vec<Value>>, Fault>
     ensures ok { IfOk result
         (λ lists. lists_given (parameters_view scope.now.query.now.parameters.now) graph.now
@@ -53,7 +53,7 @@ pub(crate) fn lists_at<T: Tables>(
 fn list_at<T: Tables>(
     context: &RowContext<'_>,
     prepared: &Prepared<'_>,
-    graph: &Snapshot<'_, T>,
+    graph: &GraphView<'_, T>,
 ) -> Result<Vec<Value>, Fault>
     ensures ok { IfOk result (λ items. list_given (parameters_view context.now.parameters.now)
         graph.now (tree_of context.now.names.now prepared.now) context.now.names.now
@@ -85,8 +85,40 @@ pub(crate) fn spend_items(lists: &Vec<Vec<Value>>, meter: &mut Meter) -> Result<
     Ok(())
 }
 
-/// Each row with each item of its list behind it, where the items have a column of their own.
+/// Each row with each item of its list behind it, where the items have a column of their own. Of one row
+/// without columns the list's own memory is that of the rows.
 pub(crate) fn unwound(
+    alloc: Global,
+    rows: Rows,
+    mut lists: Vec<Vec<Value>>,
+    has_column: bool,
+    width: usize,
+) -> Result<Rows, AllocError>
+    requires { width ≡ with_column has_column rows.width }
+    ensures rows { IfOk result
+        (λ found. table found ≡ rows_unwound has_column (table rows) (lists_view lists.items)) }
+    ensures width { IfOk result (λ found. found.width ≡ width) }
+{
+    if has_column && let Some(items) = lone_list(&rows, &mut lists) {
+        return Ok(Rows::of_column(items));
+    }
+    each_unwound(alloc, rows, lists, has_column, width)
+}
+
+/// The list of the only row, where that has no columns.
+fn lone_list(rows: &Rows, lists: &mut Vec<Vec<Value>>) -> Option<Vec<Value>>
+    ensures row { IsSome result → (table rows.now ≡ [] ∷ []) × (rows.now.width ≡ 0) }
+    ensures list { IfSome result (λ l. lists_view lists.old.items ≡ map view l.items ∷ []) }
+    ensures none { IfNone result (lists.new.items ≡ lists.old.items) }
+{
+    if rows.width() > 0 || rows.len() != 1 || lists.len() != 1 {
+        return None;
+    }
+    lists.pop()
+}
+
+/// The same row by row.
+fn each_unwound(
     alloc: Global,
     rows: Rows,
     lists: Vec<Vec<Value>>,

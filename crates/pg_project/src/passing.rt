@@ -11,12 +11,12 @@ ghost use Rattle.pg_rows.specs.Tables.{table};
 ghost use Rattle.pg_syntax_tree.specs.View.{expression_view};
 ghost use Rattle.pg_value_core.specs.Given.{parameters_view};
 
-use crate::scope::Scope;
+use crate::clause_scope::ClauseScope;
 use pg_expr::{PreparedCondition, condition};
 use pg_graph::Tables;
 use pg_meaning::Fault;
 use pg_rows::{Rows, RowsLeft};
-use pg_store::Snapshot;
+use pg_store::GraphView;
 use pg_syntax_tree::Expression;
 
 /// How many rows SKIP leaves out, and how many LIMIT lets in.
@@ -66,12 +66,12 @@ pub(crate) fn lets_all_pass(cut: Cut, condition: &Option<Expression>) -> bool
 
 /// The first values of those rows that are let in and meet the condition.
 pub(crate) fn passing_rows<T: Tables>(
-    scope: &Scope<'_>,
+    scope: &ClauseScope<'_>,
     cut: Cut,
     wanted: &PreparedCondition<'_>,
     rows: Rows,
     width: usize,
-    graph: &Snapshot<'_, T>,
+    graph: &GraphView<'_, T>,
 ) -> Result<Rows, Fault>
     requires { width ≤ rows.width }
     ensures ok { IfOk result (λ found. passing_given
@@ -92,12 +92,12 @@ pub(crate) fn passing_rows<T: Tables>(
 
 /// The first values of those of the next rows, at most so many, that meet the condition.
 fn first_rows<T: Tables>(
-    scope: &Scope<'_>,
+    scope: &ClauseScope<'_>,
     most: u64,
     wanted: &PreparedCondition<'_>,
     mut left: RowsLeft,
     width: usize,
-    graph: &Snapshot<'_, T>,
+    graph: &GraphView<'_, T>,
 ) -> Result<Rows, Fault>
     requires { width ≤ left.rows.width }
     ensures ok { IfOk result (λ found. passing_given

@@ -1,6 +1,6 @@
 //! WITH and RETURN as they are written.
 
-use crate::columns::Naming;
+use pg_scope::Naming;
 use pg_syntax_tree::{Expression, Projection};
 
 /// WITH or RETURN, and the WHERE after it.

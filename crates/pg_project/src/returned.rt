@@ -7,9 +7,10 @@ ghost use Rattle.pg_project.specs.Returned.{ComeInTurn};
 ghost use Rattle.pg_syntax_tree.specs.View.{projection_view};
 
 use crate::aggregates::have_aggregate;
-use crate::columns::{Naming, make_columns};
+use crate::columns::make_columns;
 use crate::projection_columns::ProjectionColumns;
 use pg_rows::Columns;
+use pg_scope::Naming;
 use pg_syntax_tree::{Expression, Projection};
 use std::alloc::{AllocError, Global};
 

@@ -5,7 +5,7 @@ ghost use Rattle.pg_meaning.specs.Trees.{same_expression};
 ghost use Rattle.pg_meaning.specs.Value.{null};
 ghost use Rattle.pg_meaning.specs.declared.fault.Fault.TheVariants.{OutOfMemory};
 ghost use Rattle.pg_project.specs.Cuts.{cut_view};
-ghost use Rattle.pg_project.specs.Given.{all_keys_given, cut_of, distinct_given, key_given, key_of, keys_given, let_in_given, ordered_given};
+ghost use Rattle.pg_project.specs.Given.{all_keys_given, cut_of, distinct_given, key_given, sort_source, keys_given, let_in_given, ordered_given};
 ghost use Rattle.pg_project.specs.Items.{expressions_view};
 ghost use Rattle.pg_project.specs.Sources.{source_view, sources_view};
 ghost use Rattle.pg_rows.specs.Sorts.{directions, sorted_places};
@@ -14,16 +14,16 @@ ghost use Rattle.pg_syntax_tree.specs.View.{expression_view, sort_item_view};
 ghost use Rattle.pg_value_core.specs.Given.{parameters_view};
 ghost use Rattle.pg_value_core.specs.View.{view};
 
+use crate::clause_scope::ClauseScope;
 use crate::made::push_made;
 use crate::passing::Cut;
-use crate::scope::Scope;
 use pg_expr::{Prepared, RowContext, evaluate_at, prepare};
 use pg_graph::Tables;
-use pg_item_index::same_expression;
 use pg_meaning::{Fault, Sort};
 use pg_rows::{Columns, Rows, distinct, least};
-use pg_store::Snapshot;
+use pg_store::GraphView;
 use pg_syntax_tree::{Expression, SortItem};
+use pg_tree_equality::same_expression;
 use pg_value_core::Value;
 use std::alloc::{AllocError, Global};
 use std::hash::RandomState;
@@ -55,12 +55,12 @@ pub(crate) fn distinct_rows(
 
 /// The rows, sorted by the keys where ORDER BY is written; those behind all that the cut lets in may be left out.
 pub(crate) fn ordered_rows<T: Tables>(
-    scope: &Scope<'_>,
+    scope: &ClauseScope<'_>,
     items: &Vec<&Expression>,
     order: &Vec<SortItem>,
     cut: Cut,
     rows: Rows,
-    graph: &Snapshot<'_, T>,
+    graph: &GraphView<'_, T>,
 ) -> Result<Rows, Fault>
     ensures ok { IfOk result (λ found. let_in_given
         (parameters_view scope.now.query.now.parameters.now) graph.now scope.now.names.now
@@ -128,7 +128,7 @@ fn sources<'a>(
     names: &Columns,
 ) -> Result<Vec<SortKey<'a>>, AllocError>
     ensures sources { IfOk result (λ found. sources_view names.now found.items
-        ≡ map (λ o. key_of (expressions_view items.now.items) o.key)
+        ≡ map (λ o. sort_source (expressions_view items.now.items) o.key)
         (map sort_item_view order.now.items)) }
     ensures len { IfOk result (λ found. length found.items ≡ length order.now.items) }
 {
@@ -147,7 +147,7 @@ fn sort_key<'a>(
     names: &Columns,
 ) -> Result<SortKey<'a>, AllocError>
     ensures { IfOk result (λ s. source_view names.now s
-        ≡ key_of (expressions_view items.now.items) (expression_view key.now)) }
+        ≡ sort_source (expressions_view items.now.items) (expression_view key.now)) }
 {
     match item_place(items, key) {
         Some(at) => Ok(SortKey::Item(at)),
@@ -172,10 +172,10 @@ fn item_place(items: &Vec<&Expression>, key: &Expression) -> Option<usize>
 /// The keys of all rows, row by row.
 #[tactic(auto, using(crate::proofs::InTurn::no_more))]
 fn keys<T: Tables>(
-    scope: &Scope<'_>,
+    scope: &ClauseScope<'_>,
     sources: &Vec<SortKey<'_>>,
     rows: &Rows,
-    graph: &Snapshot<'_, T>,
+    graph: &GraphView<'_, T>,
 ) -> Result<Rows, Fault>
     ensures ok { IfOk result (λ found. all_keys_given
         (parameters_view scope.now.query.now.parameters.now) graph.now scope.now.names.now
@@ -205,7 +205,7 @@ fn keys<T: Tables>(
 fn push_keys<T: Tables>(
     context: &RowContext<'_>,
     sources: &Vec<SortKey<'_>>,
-    graph: &Snapshot<'_, T>,
+    graph: &GraphView<'_, T>,
     keys: &mut Vec<Value>,
 ) -> Result<(), Fault>
     requires { keys.old.items ≡ [] }
@@ -228,7 +228,7 @@ fn push_keys<T: Tables>(
 fn key<T: Tables>(
     context: &RowContext<'_>,
     source: &SortKey<'_>,
-    graph: &Snapshot<'_, T>,
+    graph: &GraphView<'_, T>,
 ) -> Result<Value, Fault>
     ensures ok { IfOk result
         (λ v. key_given (parameters_view context.now.parameters.now) graph.now context.now.names.now

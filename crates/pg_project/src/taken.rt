@@ -6,10 +6,10 @@ ghost use Rattle.pg_project.specs.Views.{taken_view};
 ghost use Rattle.pg_scope.specs.Calls.{summary_view};
 ghost use Rattle.pg_value_core.specs.View.{view};
 
-use crate::held::Held;
+use crate::accumulator::Accumulator;
 use indexmap::IndexSet;
 use pg_meaning::Fault;
-use pg_scope::Summary;
+use pg_scope::AggregateFunction;
 use pg_value_core::Value;
 use std::alloc::{AllocError, Global};
 use std::hash::RandomState;
@@ -19,16 +19,17 @@ use std::mem;
 #[derive(Drop)]
 pub(crate) struct Taken {
     pub(crate) different: Option<IndexSet<Value, RandomState>>,
-    pub(crate) held: Held,
+    pub(crate) held: Accumulator,
 }
 
 /// Whether DISTINCT changes anything of what is told.
-fn needs_different(summary: Summary) -> bool
+fn needs_different(summary: AggregateFunction) -> bool
     ensures { result ≡ needs_different (summary_view summary) }
 {
     match summary {
-        Summary::Least | Summary::Greatest => false,
-        Summary::Counting | Summary::Summing | Summary::Collecting => true,
+        AggregateFunction::Least | AggregateFunction::Greatest => false,
+        AggregateFunction::Counting | AggregateFunction::Summing | AggregateFunction::Collecting =>
+            true,
     }
 }
 
@@ -43,7 +44,12 @@ fn is_null(value: &Value) -> bool
 
 impl Taken {
     /// No values yet.
-    pub(crate) fn new(alloc: Global, hasher: RandomState, summary: Summary, distinct: bool) -> Taken
+    pub(crate) fn new(
+        alloc: Global,
+        hasher: RandomState,
+        summary: AggregateFunction,
+        distinct: bool,
+    ) -> Taken
         ensures { taken_view result ≡ begun (summary_view summary) distinct }
     {
         let different = if distinct && needs_different(summary) {
@@ -53,7 +59,7 @@ impl Taken {
         };
         Taken {
             different,
-            held: Held::new(alloc, summary),
+            held: Accumulator::new(alloc, summary),
         }
     }
 
@@ -67,7 +73,7 @@ impl Taken {
         if !counts(alloc, &mut self.different, &value)? {
             return Ok(());
         }
-        let held = mem::replace(&mut self.held, Held::Count(0));
+        let held = mem::replace(&mut self.held, Accumulator::Count(0));
         self.held = held.with(value)?;
         Ok(())
     }

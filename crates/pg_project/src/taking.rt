@@ -14,7 +14,7 @@ use crate::taken::Taken;
 use pg_expr::{RowContext, evaluate_at};
 use pg_graph::Tables;
 use pg_meaning::Fault;
-use pg_store::Snapshot;
+use pg_store::GraphView;
 use pg_value_core::Value;
 use std::alloc::{AllocError, Global};
 use std::hash::RandomState;
@@ -39,7 +39,7 @@ pub(crate) fn begun(
 /// The value of the aggregate's argument; without one each row counts.
 pub(crate) fn argument_value<T: Tables>(
     context: &RowContext<'_>,
-    graph: &Snapshot<'_, T>,
+    graph: &GraphView<'_, T>,
     aggregate: &Aggregate<'_>,
 ) -> Result<Value, Fault>
     ensures { Gives result (argument_given
@@ -54,7 +54,7 @@ pub(crate) fn argument_value<T: Tables>(
 /// Takes the row into the aggregates of a group, left to right.
 pub(crate) fn take_in_all<T: Tables>(
     context: &RowContext<'_>,
-    graph: &Snapshot<'_, T>,
+    graph: &GraphView<'_, T>,
     aggregates: &Vec<Aggregate<'_>>,
     taken: &mut Vec<Taken>,
 ) -> Result<(), Fault>

@@ -11,14 +11,14 @@ ghost use Rattle.pg_syntax_tree.specs.View.{expression_view, name_view};
 ghost use Rattle.pg_value_core.specs.Given.{parameters_view};
 ghost use Rattle.pg_value_core.specs.Gives.{Gives};
 
+use crate::clause_scope::ClauseScope;
 use crate::lists::{lists_at, spend_items, unwound};
-use crate::scope::Scope;
 use pg_expr::{QueryContext, prepare};
 use pg_graph::Tables;
 use pg_meaning::Fault;
 use pg_meter::Meter;
-use pg_rows::{Columns, Rows, Table};
-use pg_store::Snapshot;
+use pg_rows::{BindingTable, Columns, Rows};
+use pg_store::GraphView;
 use pg_syntax_tree::{Expression, Name};
 use pg_value_core::Value;
 use std::alloc::{AllocError, Global};
@@ -28,10 +28,10 @@ pub fn unwind_rows<T: Tables>(
     query: &QueryContext<'_>,
     list: &Expression,
     name: &Name,
-    graph: &Snapshot<'_, T>,
-    table: Table,
+    graph: &GraphView<'_, T>,
+    table: BindingTable,
     meter: &mut Meter,
-) -> Result<Table, Fault>
+) -> Result<BindingTable, Fault>
     ensures unwinds { (s : Setting)
         → Suits s (parameters_view query.now.parameters.now) meter.old.limit (seen table).names
         → Gives result (unwind_clause s (expression_view list.now)
@@ -43,7 +43,7 @@ pub fn unwind_rows<T: Tables>(
 {
     let (names, rows) = table.split();
     let prepared = prepare(query.alloc, list, &names)?;
-    let scope = Scope {
+    let scope = ClauseScope {
         query,
         names: &names,
     };
@@ -59,7 +59,7 @@ fn unwound_table(
     rows: Rows,
     name: &str,
     lists: Vec<Vec<Value>>,
-) -> Result<Table, AllocError>
+) -> Result<BindingTable, AllocError>
     requires { rows.width ≡ length names }
     ensures names { IfOk result (λ t. (seen t).names ≡ with_name name.now names) }
     ensures rows { IfOk result (λ t. (seen t).rows ≡ rows_unwound
@@ -68,5 +68,5 @@ fn unwound_table(
     let has_column = names.find(name).is_none();
     names.add(alloc, name)?;
     let found = unwound(alloc, rows, lists, has_column, names.len())?;
-    Ok(Table::new(names, found))
+    Ok(BindingTable::new(names, found))
 }

@@ -8,13 +8,13 @@ ghost use Rattle.pg_rows.specs.Tables.{table};
 ghost use Rattle.pg_value_core.specs.Given.{parameters_view};
 ghost use Rattle.pg_value_core.specs.View.{view};
 
+use crate::clause_scope::ClauseScope;
 use crate::made::push_made;
-use crate::scope::Scope;
 use pg_expr::{Prepared, RowContext, evaluate_at, prepare};
 use pg_graph::Tables;
 use pg_meaning::Fault;
 use pg_rows::{Columns, Rows, RowsLeft};
-use pg_store::Snapshot;
+use pg_store::GraphView;
 use pg_syntax_tree::Expression;
 use pg_value_core::Value;
 use std::alloc::{AllocError, Global};
@@ -40,7 +40,7 @@ pub fn prepare_each<'a>(
 pub(crate) fn push_values<T: Tables>(
     context: &RowContext<'_>,
     ready: &Vec<Prepared<'_>>,
-    graph: &Snapshot<'_, T>,
+    graph: &GraphView<'_, T>,
     values: &mut Vec<Value>,
 ) -> Result<(), Fault>
     requires { values.old.items ≡ [] }
@@ -80,12 +80,12 @@ fn pass(left: &mut RowsLeft, keeps: bool, values: &mut Vec<Value>) -> Result<(),
 /// The wide rows of all rows, row by row: the values of the items, with the row behind them where it is kept.
 #[tactic(auto, using(crate::proofs::WideRows::wide_more, crate::proofs::WideRows::wide_fault))]
 pub(crate) fn wide_rows<T: Tables>(
-    scope: &Scope<'_>,
+    scope: &ClauseScope<'_>,
     ready: &Vec<Prepared<'_>>,
     rows: Rows,
     keeps: bool,
     width: usize,
-    graph: &Snapshot<'_, T>,
+    graph: &GraphView<'_, T>,
 ) -> Result<Rows, Fault>
     requires { width ≡ length ready.now.items + cond keeps rows.width 0 }
     ensures ok { IfOk result (λ found. wide_rows_given

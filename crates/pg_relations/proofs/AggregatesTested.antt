@@ -2,8 +2,8 @@
 use Rattle.std.proofs.Common.{◌≡◌, Bool, true, false, cond, ◌&&◌, inl, inr, List, [], ◌∷◌, ◌++◌, Result, Ok, Err, refl, sym, subst, ◌∙◌, Ordering, Equal, Less, Greater}
 use Rattle.std.specs.List.{AllByRecursion, list_any}
 use Rattle.std.specs.Ordering.{is_eq}
-use Rattle.pg_agreement.proofs.ChangesOptions.{ok_or_err}
-use Rattle.pg_agreement.proofs.MatchLists.{all_members}
+use Rattle.pg_soundness.proofs.ChangesOptions.{ok_or_err}
+use Rattle.pg_soundness.proofs.MatchLists.{all_members}
 use Rattle.pg_meaning.specs.Aggregates.{Summary, counting, summing, least, greatest, collecting, Aggregate, extended, take_in, total}
 use Rattle.pg_meaning.specs.Answer.{◌>>=◌, each_step}
 use Rattle.pg_meaning.specs.AnswerLaws.{went_well, same_ok}

@@ -1,10 +1,10 @@
 -- Queries that read and delete, without SKIP, LIMIT and aggregates, have the same rows, leave one graph, and have no fault beside an answer.
 use Rattle.std.proofs.Common.{◌≡◌, ℕ, Bool, true, false, inl, inr, List, [], ◌∷◌, map, None, Ok, Err, refl, sym, ap, subst, ◌∙◌}
 use Rattle.std.specs.List.{AllByRecursion}
-use Rattle.pg_agreement.proofs.ChangesDecided.{delete_is_decided}
-use Rattle.pg_agreement.proofs.ChangesOptions.{ok_or_err}
-use Rattle.pg_agreement.proofs.DeletesComputed.{one_deletion}
-use Rattle.pg_agreement.proofs.MatchLists.{all_members}
+use Rattle.pg_soundness.proofs.ChangesDecided.{delete_is_decided}
+use Rattle.pg_soundness.proofs.ChangesOptions.{ok_or_err}
+use Rattle.pg_soundness.proofs.DeletesComputed.{one_deletion}
+use Rattle.pg_soundness.proofs.MatchLists.{all_members}
 use Rattle.pg_meaning.specs.AnswerLaws.{same_ok}
 use Rattle.pg_meaning.specs.Changes.{NodeGoes, RelationshipGoes, HasDeletable, ElementsGo}
 use Rattle.pg_meaning.specs.Graph.{Graph, IsGraph}

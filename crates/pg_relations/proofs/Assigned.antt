@@ -2,9 +2,9 @@
 use Rattle.std.proofs.Common.{◌≡◌, ◌≢◌, ℕ, suc, pred, Bool, true, false, ◌||◌, ◌⊎◌, inl, inr, List, [], ◌∷◌, ◌++◌, map, length, Option, Some, None, bytes_eq, refl, sym, ap, subst, ◌∙◌}
 use Rattle.std.proofs.lemmas.List.{length-map}
 use Rattle.std.specs.List.{AllByRecursion, AllZip}
-use Rattle.pg_agreement.proofs.MakingRows.{as_many_nodes}
-use Rattle.pg_agreement.proofs.MatchLists.{map_joined}
-use Rattle.pg_agreement.proofs.ChangesOptions.{none_or_some, some_is}
+use Rattle.pg_soundness.proofs.MakingRows.{as_many_nodes}
+use Rattle.pg_soundness.proofs.MatchLists.{map_joined}
+use Rattle.pg_soundness.proofs.ChangesOptions.{none_or_some, some_is}
 use Rattle.pg_meaning.specs.EntriesLaws.{same_text}
 use Rattle.pg_meaning.specs.Lists.{AllPairsByRecursion}
 use Rattle.pg_meaning.specs.ListsLaws.{all_weaker}

@@ -2,8 +2,8 @@
 use Rattle.std.proofs.Common.{◌≡◌, Bool, true, false, inl, inr, List, [], ◌∷◌, ◌++◌, map, sym, subst, ◌∙◌}
 use Rattle.std.proofs.lemmas.List.Sorted.{IsPermutation-refl, IsPermutation-append}
 use Rattle.std.specs.List.Sorted.{IsPermutation}
-use Rattle.pg_agreement.proofs.ChangesComputed.{one_change, no_sets_fault}
-use Rattle.pg_agreement.proofs.ChangesRows.{sets_keep}
+use Rattle.pg_soundness.proofs.ChangesComputed.{one_change, no_sets_fault}
+use Rattle.pg_soundness.proofs.ChangesRows.{sets_keep}
 use Rattle.pg_meaning.specs.Agreement.{AreRowsOf}
 use Rattle.pg_meaning.specs.Changes.{Sets, SetFaults}
 use Rattle.pg_meaning.specs.Graph.{Graph, IsGraph}

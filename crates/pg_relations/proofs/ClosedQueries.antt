@@ -1,10 +1,10 @@
 -- Queries that leave nothing open have one answer, and no fault beside it.
 use Rattle.std.proofs.Common.{◌≡◌, ℕ, inl, inr, List, [], ◌∷◌, Option, None, Ok, refl, sym, ap, subst, ◌∙◌}
-use Rattle.pg_agreement.proofs.ChangesComputed.{one_change, one_removal}
-use Rattle.pg_agreement.proofs.ChangesDecided.{set_is_decided, remove_is_decided, delete_is_decided}
-use Rattle.pg_agreement.proofs.ChangesOptions.{ok_or_err}
-use Rattle.pg_agreement.proofs.DeletesComputed.{one_deletion}
-use Rattle.pg_agreement.proofs.MatchScopes.{first_none, second_none}
+use Rattle.pg_soundness.proofs.ChangesComputed.{one_change, one_removal}
+use Rattle.pg_soundness.proofs.ChangesDecided.{set_is_decided, remove_is_decided, delete_is_decided}
+use Rattle.pg_soundness.proofs.ChangesOptions.{ok_or_err}
+use Rattle.pg_soundness.proofs.DeletesComputed.{one_deletion}
+use Rattle.pg_soundness.proofs.MatchScopes.{first_none, second_none}
 use Rattle.pg_meaning.specs.Agreement.{AreRowsOf}
 use Rattle.pg_meaning.specs.Graph.{Graph, IsGraph}
 use Rattle.pg_meaning.specs.Lists.{IsIn}

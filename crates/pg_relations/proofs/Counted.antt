@@ -5,9 +5,9 @@ use Rattle.std.specs.FinMap.Entries as by_id
 use Rattle.std.specs.List.{AllByRecursion}
 use Rattle.std.specs.Ordering.{nat_cmp}
 use Rattle.std.specs.Prelude.{IsTrue}
-use Rattle.pg_agreement.proofs.ChangesRemoval.{is_found}
-use Rattle.pg_agreement.proofs.MatchLists.{in_either, pairs_joined}
-use Rattle.pg_agreement.proofs.MatchParts.{entries_apart, ids_apart, found_in}
+use Rattle.pg_soundness.proofs.ChangesRemoval.{is_found}
+use Rattle.pg_soundness.proofs.MatchLists.{in_either, pairs_joined}
+use Rattle.pg_soundness.proofs.MatchParts.{entries_apart, ids_apart, found_in}
 use Rattle.pg_meaning.specs.Graph.{ids_of}
 use Rattle.pg_meaning.specs.Lists.{IsIn, AllPairsByRecursion}
 use Rattle.pg_meaning.specs.ListsLaws.{all_at, in_mapped}

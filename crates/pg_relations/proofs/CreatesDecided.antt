@@ -2,7 +2,7 @@
 use Rattle.std.proofs.Common.{◌≡◌, ◌≢◌, ℕ, ◌+◌, ◌<◌, ◌≤◌, max, Bool, true, false, ◌⊎◌, inl, inr, List, [], ◌∷◌, map, flat_map, length, Some, Result, Ok, Err, refl, sym, ap, subst, ◌∙◌, arith}
 use Rattle.std.proofs.lemmas.List.{length-map}
 use Rattle.std.specs.List.{AllByRecursion}
-use Rattle.pg_agreement.proofs.ChangesOptions.{ok_or_err}
+use Rattle.pg_soundness.proofs.ChangesOptions.{ok_or_err}
 use Rattle.pg_meaning.specs.Changes.{SetFaults}
 use Rattle.pg_meaning.specs.Expressions.{evaluate}
 use Rattle.pg_meaning.specs.Graph.{Graph, Relationship, Node, IsGraph, node_at, relationship_at}

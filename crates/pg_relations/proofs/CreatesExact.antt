@@ -5,8 +5,8 @@ use Rattle.std.proofs.lemmas.List.{length-map}
 use Rattle.std.specs.FinMap.Entries as by_id
 use Rattle.std.specs.List.{AllByRecursion}
 use Rattle.std.specs.Ordering.{nat_cmp}
-use Rattle.pg_agreement.proofs.ChangesOnce.{same_graph}
-use Rattle.pg_agreement.proofs.ChangesOptions.{found}
+use Rattle.pg_soundness.proofs.ChangesOnce.{same_graph}
+use Rattle.pg_soundness.proofs.ChangesOptions.{found}
 use Rattle.pg_meaning.specs.Graph.{Graph, Relationship, node_at, relationship_at}
 use Rattle.pg_meaning.specs.GraphLaws.{found_among}
 use Rattle.pg_meaning.specs.ListsLaws.{all_at, all_mapped}

@@ -6,9 +6,9 @@ use Rattle.std.specs.FinMap.Entries as by_id
 use Rattle.std.specs.List.{AllByRecursion, AllZip}
 use Rattle.std.specs.Ordering.{nat_cmp}
 use Rattle.std.specs.Prelude.{IsTrue}
-use Rattle.pg_agreement.proofs.ChangesOptions.{found}
-use Rattle.pg_agreement.proofs.ChangesRemoval.{is_found}
-use Rattle.pg_agreement.proofs.MatchParts.{entries_apart, ids_apart, found_in}
+use Rattle.pg_soundness.proofs.ChangesOptions.{found}
+use Rattle.pg_soundness.proofs.ChangesRemoval.{is_found}
+use Rattle.pg_soundness.proofs.MatchParts.{entries_apart, ids_apart, found_in}
 use Rattle.pg_meaning.specs.AnswerLaws.{same_ok}
 use Rattle.pg_meaning.specs.Graph.{Graph, IsGraph, has_node, has_relationship, ids_of}
 use Rattle.pg_meaning.specs.Lists.{IsIn}

@@ -1,8 +1,8 @@
 -- The places and hops of a CREATE, whatever ids its assignment has.
 use Rattle.std.proofs.Common.{◌≡◌, ℕ, suc, pred, true, false, ◌⊎◌, inl, inr, List, [], ◌∷◌, ◌++◌, map, flat_map, length, Some, None, refl, sym, ap, subst, ◌∙◌}
 use Rattle.std.specs.List.{AllByRecursion, AllZip}
-use Rattle.pg_agreement.proofs.MakingRows.{as_many_nodes}
-use Rattle.pg_agreement.proofs.MatchLists.{in_left, in_right, in_either, map_joined}
+use Rattle.pg_soundness.proofs.MakingRows.{as_many_nodes}
+use Rattle.pg_soundness.proofs.MatchLists.{in_left, in_right, in_either, map_joined}
 use Rattle.pg_meaning.specs.Lists.{IsIn}
 use Rattle.pg_meaning.specs.Meaning.{placed, all_placed, all_nodes, new_places, Made, made_hops, all_made, IsTrailOf}
 use Rattle.pg_meaning.specs.Names.{Names, is_among}

@@ -1,7 +1,7 @@
 -- In paths without static faults a place with properties makes a node.
 use Rattle.std.proofs.Common.{◌≡◌, ℕ, Bool, true, false, not, ◌||◌, ◌&&◌, ◌⊎◌, inl, inr, List, [], ◌∷◌, ◌++◌, map, flat_map, Option, Some, None, bytes_eq, refl, ap, subst, ◌∙◌}
 use Rattle.std.specs.List.{AllByRecursion}
-use Rattle.pg_agreement.proofs.MatchScopes.{first_none, second_none, none_found}
+use Rattle.pg_soundness.proofs.MatchScopes.{first_none, second_none, none_found}
 use Rattle.pg_meaning.specs.Lists.{IsIn}
 use Rattle.pg_meaning.specs.ListsLaws.{all_weaker}
 use Rattle.pg_meaning.specs.Meaning.{all_nodes, new_places}

@@ -3,12 +3,12 @@ use Rattle.std.proofs.Common.{◌≡◌, ℕ, Bool, true, false, cond, List, [],
 use Rattle.std.specs.Bool.{⊤}
 use Rattle.std.specs.Prelude.{bytes_eq}
 use Rattle.pg_meaning.specs.Answer.{◌>>=◌}
-use Rattle.pg_meaning.specs.Entries.{at_key, put}
+use Rattle.pg_meaning.specs.Entries.{at_key, with_entry}
 use Rattle.pg_meaning.specs.Expressions.{all_compared, or_fault, null_tested, is_coalesce, fault_of_name, condition_of, all_signed, begins_comparison, evaluate, evaluate_each, first_given, evaluate_pairs, evaluate_perhaps, first_true, evaluate_chain, evaluate_operands, evaluate_tests, evaluate_suffixes, combined, tested, property_of, indexed}
 use Rattle.pg_meaning.specs.Functions.{Function, function_named, is_null, applied}
 use Rattle.pg_meaning.specs.Grammar.{IsLiteral, IsWellFormed, AllWellFormed, ArePairs, MayBe, AreWhens, AreOperands, AreTests, AreSuffixes}
 use Rattle.pg_meaning.specs.Graph.{Graph}
-use Rattle.pg_meaning.specs.Logic.{value_of, truth_of, is_true, negated}
+use Rattle.pg_meaning.specs.Logic.{value_of_truth, truth_of, is_true, negated}
 use Rattle.pg_meaning.specs.Rows.{Row, value_in}
 use Rattle.pg_meaning.specs.Tree.{Name, Expression, literal, parameter, variable, list_literal, map_literal, parentheses, call, case, chain, negation, signs, tests, suffixes, Expressions, no_expressions, expression, Pairs, no_pairs, pair, Perhaps, absent, present, Whens, no_whens, when, Operands, no_operands, operand, Tests, no_tests, text_test, null_test, Suffixes, no_suffixes, property, index}
 use Rattle.pg_meaning.specs.Value.{Value, null, boolean, integer, text, list, mapping, node, relationship, path, Values, Entries, no_entries}
@@ -97,7 +97,7 @@ module _ (before after : Graph) (keeps : Keeps before after) (stores : StoresHan
   branch_one subject false x ws h k = k
 
   abbrev kind_by : Graph → Value → Operands → Bool → Result Value Fault
-  kind_by graph v os b = elim b as (λ b. Result Value Fault) [ true ↦ evaluate_operands row parameters graph os >>= λ ps. all_compared v ps >>= λ t. Ok (value_of t) | false ↦ evaluate_chain row parameters graph v os ]
+  kind_by graph v os b = elim b as (λ b. Result Value Fault) [ true ↦ evaluate_operands row parameters graph os >>= λ ps. all_compared v ps >>= λ t. Ok (value_of_truth t) | false ↦ evaluate_chain row parameters graph v os ]
 
   kind_one : (v : Value) (b : Bool) (os : Operands) → One Any (evaluate_operands row parameters after os) (evaluate_operands row parameters before os) → OneAnswer (evaluate_chain row parameters after v os) (evaluate_chain row parameters before v os)
       → OneAnswer (kind_by after v os b) (kind_by before v os b)
@@ -146,7 +146,7 @@ module _ (before after : Graph) (keeps : Keeps before after) (stores : StoresHan
     pairs_one : (found : Entries) (ps : Pairs) → ArePairs ps → EntriesHandedOut before found → One (EntriesHandedOut before) (evaluate_pairs row parameters after found ps) (evaluate_pairs row parameters before found ps)
     pairs_one found no_pairs w all = (refl, all)
     pairs_one found (pair n x ps) w all =
-        one_then (Out before) (EntriesHandedOut before) (evaluate row parameters after x) (evaluate row parameters before x) _ _ (evaluate_one x w.0) (λ v h. pairs_one (put n.text v found) ps w.1 (put_out before n.text v found h all))
+        one_then (Out before) (EntriesHandedOut before) (evaluate row parameters after x) (evaluate row parameters before x) _ _ (evaluate_one x w.0) (λ v h. pairs_one (with_entry n.text v found) ps w.1 (put_out before n.text v found h all))
 
     perhaps_one : (p : Perhaps) → MayBe p → One MayBeOut (evaluate_perhaps row parameters after p) (evaluate_perhaps row parameters before p)
     perhaps_one absent w = (refl, tt)

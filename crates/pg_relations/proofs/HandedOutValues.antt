@@ -5,11 +5,11 @@ use Rattle.std.specs.Ordering.{match_ordering}
 use Rattle.std.specs.Bool.{⊤}
 use Rattle.pg_meaning.specs.Answer.{◌>>=◌}
 use Rattle.pg_meaning.specs.Arithmetic.{is_in_range, checked, appended, plus, minus, times, divide, modulo, signed}
-use Rattle.pg_meaning.specs.Entries.{at_key, value_at, put}
+use Rattle.pg_meaning.specs.Entries.{at_key, value_at, with_entry}
 use Rattle.pg_meaning.specs.Expressions.{by_truth, combined, all_signed, on_texts, is_in, tested, item_of}
 use Rattle.pg_meaning.specs.Functions.{item_count, item_at, path_nodes, nodes_behind, path_relationships, relationships_behind, steps_within, integers_from, range_by, range_over, texts}
 use Rattle.pg_meaning.specs.Graph.{Graph}
-use Rattle.pg_meaning.specs.Logic.{and3, or3, xor3, value_of, truth_of}
+use Rattle.pg_meaning.specs.Logic.{and3, or3, xor3, value_of_truth, truth_of}
 use Rattle.pg_meaning.specs.Measure.{is_within_limits, made}
 use Rattle.pg_meaning.specs.Order.{text_order}
 use Rattle.pg_meaning.specs.Value.{Value, null, integer, text, list, Values, no_items, item, Entries, no_entries, entry}
@@ -67,7 +67,7 @@ module _ (before : Graph) where
   pub checked_out : (i : ℤ) → Has Out (checked i)
   checked_out i = if_has Out (is_in_range i) (integer i) _ tt
 
-  pub value_out : (t : Tri) → Out (value_of t)
+  pub value_out : (t : Tri) → Out (value_of_truth t)
   value_out True = tt
   value_out False = tt
   value_out Null = tt
@@ -181,11 +181,11 @@ module _ (before : Graph) where
       by_found None e = tt
       by_found (Some v) e = found_out k es v h e
 
-  pub put_out : (k : List ℕ) (v : Value) (es : Entries) → Out v → EntriesHandedOut before es → EntriesHandedOut before (put k v es)
+  pub put_out : (k : List ℕ) (v : Value) (es : Entries) → Out v → EntriesHandedOut before es → EntriesHandedOut before (with_entry k v es)
   put_out k v no_entries h all = (h, tt)
   put_out k v (entry l w es) h all = by_order (text_order k l) (put_out k v es h all.1)
     where
-      by_order : (o : Ordering) → EntriesHandedOut before (put k v es) → EntriesHandedOut before (match_ordering o (entry k v (entry l w es)) (entry k v es) (entry l w (put k v es)))
+      by_order : (o : Ordering) → EntriesHandedOut before (with_entry k v es) → EntriesHandedOut before (match_ordering o (entry k v (entry l w es)) (entry k v es) (entry l w (with_entry k v es)))
       by_order Less rest = (h, all)
       by_order Equal rest = (h, all.1)
       by_order Greater rest = (all.0, rest)

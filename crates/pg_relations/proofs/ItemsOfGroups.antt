@@ -3,9 +3,9 @@ use Rattle.std.proofs.Common.{◌≡◌, ◌≢◌, Bool, true, false, cond, not
 use Rattle.std.proofs.lemmas.List.Sorted.{IsPermutation-map}
 use Rattle.std.specs.List.{AllZip, AllByRecursion, list_any}
 use Rattle.std.specs.List.Sorted.{IsPermutation}
-use Rattle.pg_agreement.proofs.ChangesOptions.{ok_or_err}
-use Rattle.pg_agreement.proofs.GroupKeys.{Key, Keyed, same_exact}
-use Rattle.pg_agreement.proofs.ProjectedParts.{same_itself}
+use Rattle.pg_soundness.proofs.ChangesOptions.{ok_or_err}
+use Rattle.pg_soundness.proofs.GroupKeys.{Key, Keyed, same_exact}
+use Rattle.pg_soundness.proofs.ProjectedParts.{same_itself}
 use Rattle.pg_meaning.specs.Aggregates.{Aggregate, aggregate_of, summarized}
 use Rattle.pg_meaning.specs.Answer.{◌>>=◌, each_answer}
 use Rattle.pg_meaning.specs.AnswerLaws.{went_well, same_ok}
@@ -13,7 +13,7 @@ use Rattle.pg_meaning.specs.Expressions.{evaluate}
 use Rattle.pg_meaning.specs.Graph.{Graph}
 use Rattle.pg_meaning.specs.Lists.{IsIn, AllPairsByRecursion}
 use Rattle.pg_meaning.specs.ListsLaws.{all_at, in_filtered, in_mapped, all_weaker}
-use Rattle.pg_meaning.specs.Meaning.{taken_in, first_value, group_value, key_of, rows_with_key, AreGroups, Groups, ArgumentFaults, ItemFaults, keyed_rows, AggregateFaults}
+use Rattle.pg_meaning.specs.Meaning.{taken_in, first_value, group_value, grouping_key, rows_with_key, AreGroups, Groups, ArgumentFaults, ItemFaults, keyed_rows, AggregateFaults}
 use Rattle.pg_meaning.specs.Projections.{Projected, same_values, grouping_columns}
 use Rattle.pg_meaning.specs.Rows.{Row}
 use Rattle.pg_meaning.specs.Scopes.{Column, is_aggregate}
@@ -27,25 +27,25 @@ use Rattle.pg_relations.proofs.ProjectedItems.{Bound, IsBare, columns_named}
 
 module _ (g : Given) (graph : Graph) (columns : List Column) where
   abbrev beside : Row → Result Keyed Fault
-  beside row = key_of g graph columns row >>= λ k. Ok (k, row)
+  beside row = grouping_key g graph columns row >>= λ k. Ok (k, row)
 
   -- ---- rows and their keys
 
-  row_keyed : (rows : List Row) (keyed : List Keyed) (row : Row) → each_answer beside rows ≡ Ok keyed → IsIn row rows → (k : Key) × IsIn (k, row) keyed × (key_of g graph columns row ≡ Ok k)
+  row_keyed : (rows : List Row) (keyed : List Keyed) (row : Row) → each_answer beside rows ≡ Ok keyed → IsIn row rows → (k : Key) × IsIn (k, row) keyed × (grouping_key g graph columns row ≡ Ok k)
   row_keyed rows keyed row e i =
       let d = answered_at beside row rows keyed e i in
-      let k = went_well (key_of g graph columns row) (λ k. Ok (k, row)) d.0 d.2 in
+      let k = went_well (grouping_key g graph columns row) (λ k. Ok (k, row)) d.0 d.2 in
       (k.0, subst (λ (z : Keyed). IsIn z keyed) (sym (same_ok (k.0, row) d.0 k.2)) d.1, k.1)
 
-  keyed_key : (rows : List Row) (keyed : List Keyed) (d : Keyed) → each_answer beside rows ≡ Ok keyed → IsIn d keyed → (row : Row) × (key_of g graph columns row ≡ Ok d.0)
+  keyed_key : (rows : List Row) (keyed : List Keyed) (d : Keyed) → each_answer beside rows ≡ Ok keyed → IsIn d keyed → (row : Row) × (grouping_key g graph columns row ≡ Ok d.0)
   keyed_key [] keyed d e i = absurd (subst (IsIn d) (sym (same_ok [] keyed e)) i)
   keyed_key (row ∷ rows) keyed d e i =
       let first = went_well (beside row) (λ y. each_answer beside rows >>= λ ys. Ok (y ∷ ys)) keyed e in
       let rest = went_well (each_answer beside rows) (λ ys. Ok (first.0 ∷ ys)) keyed first.2 in
-      let k = went_well (key_of g graph columns row) (λ k. Ok (k, row)) first.0 first.1 in
+      let k = went_well (grouping_key g graph columns row) (λ k. Ok (k, row)) first.0 first.1 in
       by_place first.0 rest.0 (subst (IsIn d) (sym (same_ok (first.0 ∷ rest.0) keyed rest.2)) i) k (keyed_key rows rest.0 d rest.1)
     where
-      by_place : (y : Keyed) (ys : List Keyed) → IsIn d (y ∷ ys) → ((k : Key) × (key_of g graph columns row ≡ Ok k) × (◌≡◌ {A = Result Keyed Fault} (Ok (k, row)) (Ok y))) → (IsIn d ys → (r : Row) × (key_of g graph columns r ≡ Ok d.0)) → (r : Row) × (key_of g graph columns r ≡ Ok d.0)
+      by_place : (y : Keyed) (ys : List Keyed) → IsIn d (y ∷ ys) → ((k : Key) × (grouping_key g graph columns row ≡ Ok k) × (◌≡◌ {A = Result Keyed Fault} (Ok (k, row)) (Ok y))) → (IsIn d ys → (r : Row) × (grouping_key g graph columns r ≡ Ok d.0)) → (r : Row) × (grouping_key g graph columns r ≡ Ok d.0)
       by_place y ys (inl same) k rest = (row, k.1 ∙ (λ i. Ok (((same_ok (k.0, row) y k.2) ∙ sym same) i).0))
       by_place y ys (inr i) k rest = rest i
 
@@ -54,7 +54,7 @@ module _ (g : Given) (graph : Graph) (columns : List Column) where
   all_keyed (row ∷ rows) keyed e =
       let first = went_well (beside row) (λ y. each_answer beside rows >>= λ ys. Ok (y ∷ ys)) keyed e in
       let rest = went_well (each_answer beside rows) (λ ys. Ok (first.0 ∷ ys)) keyed first.2 in
-      let k = went_well (key_of g graph columns row) (λ k. Ok (k, row)) first.0 first.1 in
+      let k = went_well (grouping_key g graph columns row) (λ k. Ok (k, row)) first.0 first.1 in
       ap (λ (r : Result Key Fault). elim r as (λ r. List Keyed) [ Ok k ↦ (k, row) ∷ [] | Err f ↦ [] ] ++ keyed_rows g graph columns rows) k.1
       ∙ (λ i. same_ok (k.0, row) first.0 k.2 i ∷ all_keyed rows rest.0 rest.1 i)
       ∙ same_ok (first.0 ∷ rest.0) keyed rest.2

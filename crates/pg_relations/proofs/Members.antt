@@ -1,9 +1,9 @@
 -- Reading clauses over rows in any order: of the same rows they give the same, and no fault.
 use Rattle.std.proofs.Common.{◌≡◌, ℕ, Bool, true, false, cond, ◌⊎◌, inl, inr, List, [], ◌∷◌, map, Option, None, Ok, refl, sym, subst, ◌∙◌}
 use Rattle.std.specs.List.{AllZip}
-use Rattle.pg_agreement.proofs.ChangesOptions.{ok_or_err}
-use Rattle.pg_agreement.proofs.GroupKeys.{same_exact}
-use Rattle.pg_agreement.proofs.MatchLists.{in_left, in_right, in_either}
+use Rattle.pg_soundness.proofs.ChangesOptions.{ok_or_err}
+use Rattle.pg_soundness.proofs.GroupKeys.{same_exact}
+use Rattle.pg_soundness.proofs.MatchLists.{in_left, in_right, in_either}
 use Rattle.pg_meaning.specs.AnswerLaws.{same_ok}
 use Rattle.pg_meaning.specs.Conditions.{condition}
 use Rattle.pg_meaning.specs.Graph.{Graph}

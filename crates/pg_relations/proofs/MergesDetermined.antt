@@ -3,7 +3,7 @@ use Rattle.std.proofs.Common.{◌≡◌, ◌≢◌, Bool, true, false, inl, inr,
 use Rattle.std.proofs.lemmas.List.Sorted.{IsPermutation-map}
 use Rattle.std.specs.List.{AllByRecursion}
 use Rattle.std.specs.List.Sorted.{IsPermutation}
-use Rattle.pg_agreement.proofs.ChangesComputed.{one_change, no_sets_fault}
+use Rattle.pg_soundness.proofs.ChangesComputed.{one_change, no_sets_fault}
 use Rattle.pg_meaning.specs.Changes.{Sets}
 use Rattle.pg_meaning.specs.Graph.{Graph, IsGraph}
 use Rattle.pg_meaning.specs.ListsLaws.{all_at}

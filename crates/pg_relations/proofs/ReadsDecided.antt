@@ -1,6 +1,6 @@
 -- UNWIND and MATCH have a result or a fault, never both.
 use Rattle.std.proofs.Common.{◌≡◌, Bool, true, inl, inr, List, [], ◌∷◌, Option, Ok, Err, subst}
-use Rattle.pg_agreement.proofs.ChangesOptions.{ok_or_err}
+use Rattle.pg_soundness.proofs.ChangesOptions.{ok_or_err}
 use Rattle.pg_meaning.specs.Conditions.{condition}
 use Rattle.pg_meaning.specs.Expressions.{evaluate}
 use Rattle.pg_meaning.specs.Graph.{Graph}

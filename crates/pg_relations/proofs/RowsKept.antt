@@ -2,10 +2,10 @@
 use Rattle.std.proofs.Common.{◌≡◌, Bool, true, false, cond, ◌||◌, List, [], ◌∷◌, map, ℕ, Option, Some, None, bytes_eq, is_some, Ok, refl, sym, subst, ◌∙◌}
 use Rattle.std.specs.Bool.{⊤}
 use Rattle.std.specs.List.{AllZip, AllByRecursion}
-use Rattle.pg_agreement.proofs.ChangesRows.{sets_keep, removes_keep}
-use Rattle.pg_agreement.proofs.MakingRows.{HasShape, binds_match}
-use Rattle.pg_agreement.proofs.MatchLists.{all_taken, all_dropped}
-use Rattle.pg_agreement.proofs.RowNames.{BindsOnly, binds_new}
+use Rattle.pg_soundness.proofs.ChangesRows.{sets_keep, removes_keep}
+use Rattle.pg_soundness.proofs.MakingRows.{HasShape, binds_match}
+use Rattle.pg_soundness.proofs.MatchLists.{all_taken, all_dropped}
+use Rattle.pg_soundness.proofs.RowNames.{BindsOnly, binds_new}
 use Rattle.pg_meaning.specs.Agreement.{AreRowsOf}
 use Rattle.pg_meaning.specs.Answer.{each_answer}
 use Rattle.pg_meaning.specs.AnswerLaws.{went_well, same_ok}

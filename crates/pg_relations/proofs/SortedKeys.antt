@@ -6,8 +6,8 @@ use Rattle.std.specs.Bool.{⊤}
 use Rattle.std.specs.List.{AllByRecursion, AllZip, sum_by}
 use Rattle.std.specs.List.Sorted.{IsPermutation}
 use Rattle.std.specs.Ordering.{ordering_then, ordering_reverse}
-use Rattle.pg_agreement.proofs.GroupKeys.{Key, same_exact}
-use Rattle.pg_agreement.proofs.ProjectedParts.{same_itself}
+use Rattle.pg_soundness.proofs.GroupKeys.{Key, same_exact}
+use Rattle.pg_soundness.proofs.ProjectedParts.{same_itself}
 use Rattle.pg_meaning.specs.AnswerLaws.{answers_zip}
 use Rattle.pg_meaning.specs.Graph.{Graph}
 use Rattle.pg_meaning.specs.Lists.{IsIn, AllPairsByRecursion}

@@ -23,7 +23,7 @@ pub fn law_of_reading()
 {}
 
 /// Where RETURN has a result it has no fault; nor has a WITH without WHERE, or without SKIP and LIMIT.
-pub fn law_of_projecting()
+pub fn law_of_projection_results()
     ensures withs { WithIsOne }
     ensures returns { ReturnIsOne }
 {}

@@ -16,6 +16,10 @@ module _ {X : Type 0} where
   length_rows w zero vs = refl
   length_rows w (suc n) vs = ap suc (length_rows w n (drop w vs))
 
+  pub one_column : (vs : List X) → rows_of 1 (length vs) vs ≡ map (λ v. v ∷ []) vs
+  one_column [] = refl
+  one_column (v ∷ vs) = ap (λ rs. (v ∷ []) ∷ rs) (one_column vs)
+
   pub no_values : (vs : List X) → length vs ≡ 0 → vs ≡ []
   no_values [] h = refl
   no_values (v ∷ vs) h = absurd (omega (arith, h))

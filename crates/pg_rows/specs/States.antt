@@ -6,14 +6,14 @@ use Rattle.pg_meaning.specs.Rows.{Row}
 use Rattle.pg_meaning.specs.Value.{Value, Entries}
 use Rattle.pg_rows.specs.Named.{rows_named}
 use Rattle.pg_rows.specs.Tables.{table}
-use Rattle.pg_rows.specs.declared.named.Table.{Table}
+use Rattle.pg_rows.specs.declared.named.BindingTable.{BindingTable}
 
 -- rows of values, and the names of their columns
 pub record Named : Type 0 where
   pub names : List (List ℕ)
   pub rows : List (List Value)
 
-abbrev pub seen : Table → Named
+abbrev pub seen : BindingTable → Named
 seen t = record { names = t.names; rows = table t.rows }
 
 abbrev pub named_rows : Named → List Row

@@ -16,7 +16,7 @@ pub fn law_of_distinct()
 
 /// Rows that are picked are those at the places, and no place is told twice.
 #[tactic(auto, using(crate::proofs::Apart::moves_keep, crate::proofs::Apart::firsts_apart, crate::proofs::Apart::sorted_apart, crate::proofs::Leasts::least_apart))]
-pub fn law_of_places()
+pub fn law_of_picked_rows()
     ensures moves { MovesKeepRows }
     ensures firsts { FirstPlacesAreApart }
     ensures sorted { SortedPlacesAreApart }

@@ -16,6 +16,6 @@ pub use firsts::distinct;
 pub use least_keys::least;
 pub use left::RowsLeft;
 pub use moves::{copy_of, copy_row};
-pub use named::Table;
+pub use named::BindingTable;
 pub use sorts::sort;
 pub use table::Rows;

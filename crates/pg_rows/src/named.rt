@@ -5,7 +5,7 @@ use std::alloc::{AllocError, Global};
 
 /// Rows between two clauses of a query: a column for each variable in scope.
 #[derive(Drop)]
-pub struct Table {
+pub struct BindingTable {
     pub(crate) names: Columns,
     pub(crate) rows: Rows,
     ghost fits: { rows.width ≡ length names },
@@ -13,29 +13,29 @@ pub struct Table {
 
 ghost use Rattle.std.specs.Prelude.{◌≡◌, length};
 
-impl Table {
+impl BindingTable {
     ghost use Rattle.std.specs.Prelude.{◌≡◌, ◌∷◌, [], length, IfOk};
     ghost use Rattle.pg_rows.specs.States.{seen};
     ghost use Rattle.pg_rows.specs.Tables.{table};
 
     /// What a query begins with: one row without columns.
-    pub fn begin(alloc: Global) -> Result<Table, AllocError>
+    pub fn begin(alloc: Global) -> Result<BindingTable, AllocError>
         ensures { IfOk result (λ t. seen t ≡ record { names = []; rows = [] ∷ [] }) }
     {
         let mut rows = Rows::new(alloc, 0);
         rows.push(Vec::new(alloc))?;
-        Ok(Table {
+        Ok(BindingTable {
             names: Columns::new(alloc),
             rows,
         })
     }
 
     /// Joins rows to the names of their columns. Nothing is copied.
-    pub fn new(names: Columns, rows: Rows) -> Table
+    pub fn new(names: Columns, rows: Rows) -> BindingTable
         requires { rows.width ≡ length names }
         ensures { seen result ≡ record { names = names; rows = table rows } }
     {
-        Table { names, rows }
+        BindingTable { names, rows }
     }
 
     /// The names of the columns, from left to right.

@@ -31,6 +31,19 @@ impl Rows {
         }
     }
 
+    /// Rows of one column, one for each of the values. Nothing is copied.
+    pub fn of_column(values: Vec<Value>) -> Self
+        ensures rows { table result ≡ map (λ v. v ∷ []) (map view values.items) }
+        ensures width { result.width ≡ 1 }
+    {
+        let count = values.len();
+        Rows {
+            values,
+            width: 1,
+            count,
+        }
+    }
+
     /// How many values each row has.
     pub fn width(&self) -> usize
         ensures { result ≡ self.now.width }

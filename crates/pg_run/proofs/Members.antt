@@ -1,5 +1,6 @@
 -- The entries of a map spelt out one after the other.
-use Rattle.std.proofs.Common.{◌≡◌, ◌≢◌, ℕ, ◌+◌, ◌-◌, arith, length, List, [], ◌∷◌, ◌++◌, Ok, BTreeMap, String, Global, Less, Greater, string_bytes, string_cmp, refl, sym, ap, ◌∙◌, subst, append_assoc}
+use Rattle.std.proofs.Common.{◌≡◌, ◌≢◌, ℕ, ◌+◌, ◌-◌, arith, length, map, nat_cmp, List, [], ◌∷◌, ◌++◌, Ok, BTreeMap, String, Global, Less, Greater, string_bytes, string_cmp, refl, sym, ap, ◌∙◌, subst, append_assoc}
+use Rattle.std.specs.Cmp.Lexicographic.{slice_cmp}
 use Rattle.std.proofs.lemmas.Cmp.{nat_list_cmp_total}
 use Rattle.std.specs.BTreeMap.{insert_entry}
 use Rattle.std.specs.List.{AllByRecursion}
@@ -29,18 +30,23 @@ below_middle : (first : Pair) (es : List Pair) (e : Pair) (more : List Pair) →
 below_middle first [] e more h = h.0
 below_middle first (x ∷ es) e more h = below_middle first es e more h.1
 
--- a key that is above those before it goes last
-insert_last : (found : List Named) (done : List Pair) (e : Pair) (more : List Pair) (out : Out) → keys_of found ≡ keys_of done
-    → IsStrictlySortedBy string_cmp (keys_of (done ++ e ∷ more)) → insert_entry string_cmp found e.0 out ≡ found ++ (e.0, out) ∷ []
+-- the keys as texts
+abbrev pub names_of : {A : Type 0} → List (String Global × A) → List (List ℕ)
+names_of es = map (λ e. string_bytes e.0) es
+
+-- a key that is above those before it goes last, also a copy of it
+insert_last : (found : List Named) (done : List Pair) (e : Pair) (more : List Pair) (key : String Global) (out : Out) → names_of found ≡ names_of done
+    → string_bytes key ≡ string_bytes e.0 → IsStrictlySortedBy string_cmp (keys_of (done ++ e ∷ more)) → insert_entry string_cmp found key out ≡ found ++ (key, out) ∷ []
 unfolding IsStrictlySortedBy
-insert_last [] done e more out same h = refl
-insert_last (f ∷ found) [] e more out same h = cc
-insert_last (f ∷ found) (first ∷ done) e more out same h =
-    let key : f.0 ≡ first.0 = cc in
-    let keys : keys_of found ≡ keys_of done = cc in
+insert_last [] done e more key out same named h = refl
+insert_last (f ∷ found) [] e more key out same named h = cc
+insert_last (f ∷ found) (first ∷ done) e more key out same named h =
+    let one : string_bytes f.0 ≡ string_bytes first.0 = cc in
+    let others : names_of found ≡ names_of done = cc in
     let above : string_cmp e.0 first.0 ≡ Greater = nat_list_cmp_total.antisymm (string_bytes e.0) (string_bytes first.0) ∙ ap ordering_reverse (below_middle first done e more h.0) in
-    ap (λ o. match_ordering o ((e.0, out) ∷ f ∷ found) ((f.0, out) ∷ found) (f ∷ insert_entry string_cmp found e.0 out)) (ap (string_cmp e.0) key ∙ above)
-    ∙ ap (λ fs. f ∷ fs) (insert_last found done e more out keys h.1)
+    let here : string_cmp key f.0 ≡ Greater = ap (λ b. slice_cmp nat_cmp b (string_bytes f.0)) named ∙ ap (slice_cmp nat_cmp (string_bytes e.0)) one ∙ above in
+    ap (λ o. match_ordering o ((key, out) ∷ f ∷ found) ((f.0, out) ∷ found) (f ∷ insert_entry string_cmp found key out)) here
+    ∙ ap (λ fs. f ∷ fs) (insert_last found done e more key out others named h.1)
 
 -- these, and what follows them
 abbrev named_before : List Named → Members → Members
@@ -55,15 +61,15 @@ named_before-push : (os : List Named) (o : Named) (ms : Members) → named_befor
 named_before-push [] o ms = refl
 named_before-push (x ∷ os) o ms = ap (member (string_bytes x.0) (data_of x.1)) (named_before-push os o ms)
 
-keys_of-push : {A : Type 0} (es : List (String Global × A)) (k : String Global) (v : A) → keys_of (es ++ (k, v) ∷ []) ≡ keys_of es ++ k ∷ []
-keys_of-push [] k v = refl
-keys_of-push (e ∷ es) k v = ap (λ ks. e.0 ∷ ks) (keys_of-push es k v)
+names_of-push : {A : Type 0} (es : List (String Global × A)) (k : String Global) (v : A) → names_of (es ++ (k, v) ∷ []) ≡ names_of es ++ string_bytes k ∷ []
+names_of-push [] k v = refl
+names_of-push (e ∷ es) k v = ap (λ ks. string_bytes e.0 ∷ ks) (names_of-push es k v)
 
 -- what is left of a map's entries, after those that are spelt out
 pub record MembersSpelt (way : Way) (all rest : List Pair) (found : List Named) : Type 0 where
   pub done : List Pair
   pub parts : all ≡ done ++ rest
-  pub keys : keys_of found ≡ keys_of done
+  pub keys : names_of found ≡ names_of done
   pub tests : way.test_members (entries_view all) ≡ way.test_members (entries_view rest)
   pub shown : way.members (entries_view all) ≡ named_before found (way.members (entries_view rest))
 
@@ -76,11 +82,11 @@ module _ (way : Way) where
       → way.test (view e.1) ≡ Ok tt → data_of out ≡ way.one (view e.1) → MembersSpelt way all more new
   one_member_spelt all rest more found new e out sorted so_far is inserted live same =
       let whole : all ≡ so_far.done ++ e ∷ more = so_far.parts ∙ ap (λ es. so_far.done ++ es) is in
-      let last : new ≡ found ++ (e.0, out) ∷ [] = inserted ∙ insert_last found so_far.done e more out so_far.keys (subst (λ es. IsStrictlySortedBy string_cmp (keys_of es)) whole sorted) in
+      let last : new ≡ found ++ (e.0, out) ∷ [] = inserted ∙ insert_last found so_far.done e more e.0 out so_far.keys refl (subst (λ es. IsStrictlySortedBy string_cmp (keys_of es)) whole sorted) in
       record {
         done = so_far.done ++ e ∷ [];
         parts = whole ∙ sym (append_assoc so_far.done (e ∷ []) more);
-        keys = ap keys_of last ∙ keys_of-push found e.0 out ∙ ap (λ ks. ks ++ e.0 ∷ []) so_far.keys ∙ sym (keys_of-push so_far.done e.0 e.1);
+        keys = ap names_of last ∙ names_of-push found e.0 out ∙ ap (λ ks. ks ++ string_bytes e.0 ∷ []) so_far.keys ∙ sym (names_of-push so_far.done e.0 e.1);
         tests = so_far.tests ∙ ap (λ es. way.test_members (entries_view es)) is ∙ way.test_members_more (string_bytes e.0) (view e.1) (entries_view more)
             ∙ ap (λ r. r >> way.test_members (entries_view more)) live;
         shown = so_far.shown ∙ ap (λ es. named_before found (way.members (entries_view es))) is
@@ -109,7 +115,7 @@ room_before room next key n h some = λ none. some (omega (arith, h, none))
 pub record MembersWithin (graph : Graph) (start room : ℕ) (all rest : List Pair) (found : List Named) : Type 0 where
   pub done : List Pair
   pub parts : all ≡ done ++ rest
-  pub keys : keys_of found ≡ keys_of done
+  pub keys : names_of found ≡ names_of done
   pub tests : test_entries graph (entries_view all) ≡ test_entries graph (entries_view rest)
   pub counted : start - members_least (printed_members graph (entries_view all)) ≡ room - members_least (printed_members graph (entries_view rest))
   pub shown : room ≢ 0 → printed_members graph (entries_view all) ≡ named_before found (printed_members graph (entries_view rest))
@@ -118,25 +124,26 @@ module _ (graph : Graph) (start : ℕ) where
   pub no_member_within : (all : List Pair) → MembersWithin graph start start all all []
   no_member_within all = record { done = []; parts = refl; keys = refl; tests = refl; counted = refl; shown = λ some. refl }
 
-  pub one_member_within : (room next : ℕ) (all rest more : List Pair) (found new : List Named) (e : Pair) (out : Out) → IsStrictlySortedBy string_cmp (keys_of all)
-      → MembersWithin graph start room all rest found → rest ≡ e ∷ more → new ≡ insert_entry string_cmp found e.0 out
+  pub one_member_within : (room next : ℕ) (all rest more : List Pair) (found new : List Named) (e : Pair) (key : String Global) (out : Out) → IsStrictlySortedBy string_cmp (keys_of all)
+      → MembersWithin graph start room all rest found → rest ≡ e ∷ more → new ≡ insert_entry string_cmp found key out → string_bytes key ≡ string_bytes e.0
       → test_output graph (view e.1) ≡ Ok tt → next ≡ room - 4 - length (string_bytes e.0) - least (printed graph (view e.1))
       → (next ≢ 0 → data_of out ≡ printed graph (view e.1)) → MembersWithin graph start next all more new
-  one_member_within room next all rest more found new e out sorted so_far is inserted live left same =
+  one_member_within room next all rest more found new e key out sorted so_far is inserted named live left same =
       let whole : all ≡ so_far.done ++ e ∷ more = so_far.parts ∙ ap (λ es. so_far.done ++ es) is in
-      let last : new ≡ found ++ (e.0, out) ∷ [] = inserted ∙ insert_last found so_far.done e more out so_far.keys (subst (λ es. IsStrictlySortedBy string_cmp (keys_of es)) whole sorted) in
+      let last : new ≡ found ++ (key, out) ∷ [] = inserted ∙ insert_last found so_far.done e more key out so_far.keys named (subst (λ es. IsStrictlySortedBy string_cmp (keys_of es)) whole sorted) in
       let others = printed_members graph (entries_view more) in
       record {
         done = so_far.done ++ e ∷ [];
         parts = whole ∙ sym (append_assoc so_far.done (e ∷ []) more);
-        keys = ap keys_of last ∙ keys_of-push found e.0 out ∙ ap (λ ks. ks ++ e.0 ∷ []) so_far.keys ∙ sym (keys_of-push so_far.done e.0 e.1);
+        keys = ap names_of last ∙ names_of-push found key out ∙ ap (λ k. names_of found ++ k ∷ []) named ∙ ap (λ ks. ks ++ string_bytes e.0 ∷ []) so_far.keys ∙ sym (names_of-push so_far.done e.0 e.1);
         tests = so_far.tests ∙ ap (λ es. test_entries graph (entries_view es)) is ∙ ap (λ r. r >> test_entries graph (entries_view more)) live;
         counted = so_far.counted ∙ ap (λ es. room - members_least (printed_members graph (entries_view es))) is
             ∙ room_then room next (length (string_bytes e.0)) (least (printed graph (view e.1))) (members_least others) left;
         shown = λ some. so_far.shown (room_before room next (length (string_bytes e.0)) (least (printed graph (view e.1))) left some)
             ∙ ap (λ es. named_before found (printed_members graph (entries_view es))) is
             ∙ ap (λ d. named_before found (member (string_bytes e.0) d others)) (sym (same some))
-            ∙ sym (named_before-push found (e.0, out) others)
+            ∙ ap (λ k. named_before found (member k (data_of out) others)) (sym named)
+            ∙ sym (named_before-push found (key, out) others)
             ∙ ap (λ os. named_before os others) (sym last);
       }
 

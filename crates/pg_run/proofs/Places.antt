@@ -22,7 +22,7 @@ regroup (Err e) b c = refl
 
 module _ (graph : Graph) where
   -- the tests and the data from a place on
-  abbrev test_from : (is_node : Bool) → List ℕ → Result (Unit {0}) Fault
+  abbrev pub test_from : (is_node : Bool) → List ℕ → Result (Unit {0}) Fault
   test_from true ids = test_ids graph ids
   test_from false [] = Ok tt
   test_from false (r ∷ ids) = test_present (has_relationship graph r) >> test_ids graph ids
@@ -31,7 +31,7 @@ module _ (graph : Graph) where
   shown_from true ids = path_items graph ids
   shown_from false ids = hop_items graph ids
 
-  test_step : (is_node : Bool) (n : ℕ) (ids : List ℕ) → test_from is_node (n ∷ ids) ≡ (test_place graph is_node n >> test_from (not is_node) ids)
+  pub test_step : (is_node : Bool) (n : ℕ) (ids : List ℕ) → test_from is_node (n ∷ ids) ≡ (test_place graph is_node n >> test_from (not is_node) ids)
   test_step true n [] = then_ok _
   test_step true n (r ∷ ids) = regroup (test_place graph true n) (test_place graph false r) (test_ids graph ids)
   test_step false n ids = refl
@@ -39,6 +39,12 @@ module _ (graph : Graph) where
   shown_step : (is_node : Bool) (n : ℕ) (ids : List ℕ) → shown_from is_node (n ∷ ids) ≡ item (shown_place graph is_node n) (shown_from (not is_node) ids)
   shown_step true n ids = refl
   shown_step false n ids = refl
+
+  pub place_tested : (is_node : Bool) (all rest more : List ℕ) (n : ℕ) → test_ids graph all ≡ test_from is_node rest → rest ≡ n ∷ more → test_place graph is_node n ≡ Ok tt → test_ids graph all ≡ test_from (not is_node) more
+  place_tested is_node all rest more n so_far is live = so_far ∙ ap (test_from is_node) is ∙ test_step is_node n more ∙ ap (λ r. r >> test_from (not is_node) more) live
+
+  pub place_refused : (is_node : Bool) (all rest more : List ℕ) (n : ℕ) (e : Fault) → test_ids graph all ≡ test_from is_node rest → rest ≡ n ∷ more → test_place graph is_node n ≡ Err e → test_ids graph all ≡ Err e
+  place_refused is_node all rest more n e so_far is fault = so_far ∙ ap (test_from is_node) is ∙ test_step is_node n more ∙ ap (λ r. r >> test_from (not is_node) more) fault
 
   -- what is left of a path, after the places that are spelt out while there is room
   pub record PlacesSpelt (start room : ℕ) (is_node : Bool) (all rest : List ℕ) (found : List Out) : Type 0 where
@@ -51,7 +57,7 @@ module _ (graph : Graph) where
         → test_place graph is_node n ≡ Ok tt → next ≡ room - 1 - least (shown_place graph is_node n) → (next ≢ 0 → data_of out ≡ shown_place graph is_node n)
         → PlacesSpelt start next (not is_node) all more (found ++ out ∷ [])
     one_place_spelt next is_node all rest more found n out so_far is live left same = record {
-      tests = so_far.tests ∙ ap (test_from is_node) is ∙ test_step is_node n more ∙ ap (λ r. r >> test_from (not is_node) more) live;
+      tests = place_tested is_node all rest more n so_far.tests is live;
       counted = so_far.counted ∙ ap (λ ids. room - items_least (shown_from is_node ids)) is
           ∙ ap (λ ds. room - items_least ds) (shown_step is_node n more)
           ∙ room_then room next (least (shown_place graph is_node n)) (items_least (shown_from (not is_node) more)) left;
@@ -78,4 +84,4 @@ module _ (graph : Graph) where
     pub one_place_refused : (is_node : Bool) (all rest more : List ℕ) (found : List Out) (n : ℕ) (e : Fault) → PlacesSpelt start room is_node all rest found → rest ≡ n ∷ more
         → test_place graph is_node n ≡ Err e → test_ids graph all ≡ Err e
     one_place_refused is_node all rest more found n e so_far is h =
-        so_far.tests ∙ ap (test_from is_node) is ∙ test_step is_node n more ∙ ap (λ r. r >> test_from (not is_node) more) h
+        place_refused is_node all rest more n e so_far.tests is h

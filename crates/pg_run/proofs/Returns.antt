@@ -26,14 +26,14 @@ use Rattle.pg_rows.specs.Named.{rows_named}
 use Rattle.pg_rows.specs.States.{Named, named_rows, state_of}
 use Rattle.pg_run.specs.Telling.{IsTelling, told}
 use Rattle.pg_run.specs.Told.{rows_told}
-use Rattle.pg_run.specs.declared.telling.Telling.{Telling}
+use Rattle.pg_run.specs.declared.reply_writer.ReplyWriter.{ReplyWriter}
 use Rattle.pg_value_core.specs.Gives.{Gives}
 use Rattle.pg_value_core.specs.declared.out.Out.{Out}
 
 -- ---- what is left, after those that are told
 
 -- of the items at a row
-pub record ItemsSoFar {X : Type 0} (graph : Graph) (f : X → Result Value Fault) (all rest : List X) (start t : Telling) (found : List Out) : Type 0 where
+pub record ItemsSoFar {X : Type 0} (graph : Graph) (f : X → Result Value Fault) (all rest : List X) (start t : ReplyWriter) (found : List Out) : Type 0 where
   pub values : List Value
   pub given : each_answer f all ≡ after values (each_answer f rest)
   pub telling : (notes : Bool) (columns : Items) (rows : List (List Value)) → IsTelling notes graph columns rows [] [] start → IsTelling notes graph columns rows values found t
@@ -44,7 +44,7 @@ pub record TestedSoFar {X : Type 0} (f : X → Result Value Fault) (all rest : L
   pub given : each_answer f all ≡ after values (each_answer f rest)
 
 -- of the rows, of which so many were looked at
-pub record RowsSoFar {X : Type 0} (graph : Graph) (c : Cut) (f : X → Result (List Value) Fault) (all rest : List X) (at : ℕ) (start t : Telling) : Type 0 where
+pub record RowsSoFar {X : Type 0} (graph : Graph) (c : Cut) (f : X → Result (List Value) Fault) (all rest : List X) (at : ℕ) (start t : ReplyWriter) : Type 0 where
   pub rows : List (List Value)
   pub many : length rows ≡ at
   pub given : each_answer f all ≡ after rows (each_answer f rest)
@@ -65,12 +65,12 @@ module _ {X Y : Type 0} (f : X → Result Y Fault) (all rest more : List X) (x :
 none_left : {X Y : Type 0} (f : X → Result Y Fault) (all rest : List X) (done : List Y) → each_answer f all ≡ after done (each_answer f rest) → rest ≡ [] → each_answer f all ≡ Ok done
 none_left f all rest done so_far is = so_far ∙ ap (λ xs. after done (each_answer f xs)) is ∙ ap Ok (nothing_behind done)
 
-module _ {X : Type 0} (graph : Graph) (start : Telling) where
+module _ {X : Type 0} (graph : Graph) (start : ReplyWriter) where
   module _ (f : X → Result Value Fault) where
     pub no_item : (all : List X) → ItemsSoFar graph f all all start start []
     no_item all = record { values = []; given = whole (each_answer f all); telling = λ notes columns rows h. h }
 
-    pub one_item : (all rest more : List X) (t new : Telling) (found : List Out) (x : X) (v : Value) (out : Out) → ItemsSoFar graph f all rest start t found → rest ≡ x ∷ more → f x ≡ Ok v
+    pub one_item : (all rest more : List X) (t new : ReplyWriter) (found : List Out) (x : X) (v : Value) (out : Out) → ItemsSoFar graph f all rest start t found → rest ≡ x ∷ more → f x ≡ Ok v
         → ((notes : Bool) (columns : Items) (rows : List (List Value)) (row : List Value) (os : List Out) → IsTelling notes graph columns rows row os t → IsTelling notes graph columns rows (row ++ v ∷ []) (os ++ out ∷ []) new)
         → ItemsSoFar graph f all more start new (found ++ out ∷ [])
     one_item all rest more t new found x v out so_far is h takes = record {
@@ -79,10 +79,10 @@ module _ {X : Type 0} (graph : Graph) (start : Telling) where
       telling = λ notes columns rows first. takes notes columns rows so_far.values found (so_far.telling notes columns rows first);
     }
 
-    pub item_fault : (all rest more : List X) (t : Telling) (found : List Out) (x : X) (e : Fault) → ItemsSoFar graph f all rest start t found → rest ≡ x ∷ more → f x ≡ Err e → each_answer f all ≡ Err e
+    pub item_fault : (all rest more : List X) (t : ReplyWriter) (found : List Out) (x : X) (e : Fault) → ItemsSoFar graph f all rest start t found → rest ≡ x ∷ more → f x ≡ Err e → each_answer f all ≡ Err e
     item_fault all rest more t found x e so_far is h = fault_given f all rest more x so_far.values e so_far.given is h
 
-    pub all_items : (all rest : List X) (t : Telling) (found : List Out) (so_far : ItemsSoFar graph f all rest start t found) → rest ≡ [] → each_answer f all ≡ Ok so_far.values
+    pub all_items : (all rest : List X) (t : ReplyWriter) (found : List Out) (so_far : ItemsSoFar graph f all rest start t found) → rest ≡ [] → each_answer f all ≡ Ok so_far.values
     all_items all rest t found so_far is = none_left f all rest so_far.values so_far.given is
 
   module _ (c : Cut) (f : X → Result (List Value) Fault) where
@@ -94,8 +94,8 @@ module _ {X : Type 0} (graph : Graph) (start : Telling) where
       telling = λ notes columns h. subst (λ rows. IsTelling notes graph columns rows [] [] start) (sym (none_cut c)) h;
     }
 
-    module _ (all rest more : List X) (at : ℕ) (t : Telling) (x : X) (so_far : RowsSoFar graph c f all rest at start t) (is : rest ≡ x ∷ more) where
-      pub one_row : (is_in : Bool) (new : Telling) → LetsIn c at is_in → (here : RowPassed graph is_in (f x) t new) → RowsSoFar graph c f all more (at + 1) start new
+    module _ (all rest more : List X) (at : ℕ) (t : ReplyWriter) (x : X) (so_far : RowsSoFar graph c f all rest at start t) (is : rest ≡ x ∷ more) where
+      pub one_row : (is_in : Bool) (new : ReplyWriter) → LetsIn c at is_in → (here : RowPassed graph is_in (f x) t new) → RowsSoFar graph c f all more (at + 1) start new
       one_row is_in new lets here = record {
         rows = so_far.rows ++ here.values ∷ [];
         many = omega (arith, so_far.many, length-append so_far.rows (here.values ∷ []));
@@ -107,7 +107,7 @@ module _ {X : Type 0} (graph : Graph) (start : Telling) where
       pub row_fault : (e : Fault) → f x ≡ Err e → each_answer f all ≡ Err e
       row_fault e h = fault_given f all rest more x so_far.rows e so_far.given is h
 
-    pub all_rows : (all rest : List X) (at : ℕ) (t : Telling) (so_far : RowsSoFar graph c f all rest at start t) → rest ≡ [] → each_answer f all ≡ Ok so_far.rows
+    pub all_rows : (all rest : List X) (at : ℕ) (t : ReplyWriter) (so_far : RowsSoFar graph c f all rest at start t) → rest ≡ [] → each_answer f all ≡ Ok so_far.rows
     all_rows all rest at t so_far is = none_left f all rest so_far.rows so_far.given is
 
 module _ {X : Type 0} (f : X → Result Value Fault) where

@@ -22,7 +22,7 @@ use Rattle.pg_run.proofs.Told.{tests_joined}
 use Rattle.pg_run.specs.Printed.{printed, printed_items}
 use Rattle.pg_run.specs.Telling.{IsTelling, Tested, fitting, rows_least, told, whole_room}
 use Rattle.pg_run.specs.Told.{printed_rows, test_told}
-use Rattle.pg_run.specs.declared.telling.Telling.{Telling}
+use Rattle.pg_run.specs.declared.reply_writer.ReplyWriter.{ReplyWriter}
 use Rattle.pg_value_core.specs.Gives.{Gives}
 use Rattle.pg_value_core.specs.declared.out.Out.{Out}
 
@@ -81,7 +81,7 @@ module _ (graph : Graph) where
 
   -- ---- one value more
 
-  module _ (notes : Bool) (columns : Items) (rows : List (List Value)) (row : List Value) (found : List Out) (t new : Telling) (v : Value) (out : Out) (so_far : IsTelling notes graph columns rows row found t) where
+  module _ (notes : Bool) (columns : Items) (rows : List (List Value)) (row : List Value) (found : List Out) (t new : ReplyWriter) (v : Value) (out : Out) (so_far : IsTelling notes graph columns rows row found t) where
     abbrev before : Result (Unit {0}) Fault
     before = test_told graph rows >> test_items graph (values_of row)
 
@@ -132,7 +132,7 @@ module _ (graph : Graph) where
 
   -- ---- no row yet
 
-  pub begun : (notes : Bool) (columns : Items) (t : Telling) → t.fault ≡ None → t.room ≡ whole_room → HasWritten t.reply notes columns [] → IsTelling notes graph columns [] [] [] t
+  pub begun : (notes : Bool) (columns : Items) (t : ReplyWriter) → t.fault ≡ None → t.room ≡ whole_room → HasWritten t.reply notes columns [] → IsTelling notes graph columns [] [] [] t
   begun notes columns t none room first = record {
     tested = subst (λ f. Tested f (Ok tt)) (sym none) refl;
     counted = λ h. room ∙ omega arith;
@@ -142,7 +142,7 @@ module _ (graph : Graph) where
 
   -- ---- one row more
 
-  pub row_ended : (notes : Bool) (columns : Items) (rows : List (List Value)) (values : List Value) (found : List Out) (t new : Telling) → IsTelling notes graph columns rows values found t → new.fault ≡ t.fault → new.room ≡ t.room - 2
+  pub row_ended : (notes : Bool) (columns : Items) (rows : List (List Value)) (values : List Value) (found : List Out) (t new : ReplyWriter) → IsTelling notes graph columns rows values found t → new.fault ≡ t.fault → new.room ≡ t.room - 2
       → (new.fault ≡ None → new.room ≢ 0 → HasWritten t.reply notes columns (printed_rows graph rows) → HasWritten new.reply notes columns (printed_rows graph rows ++ outs found ∷ []))
       → IsTelling notes graph columns (rows ++ values ∷ []) [] [] new
   row_ended notes columns rows values found t new so_far same left writes =
@@ -163,7 +163,7 @@ module _ (graph : Graph) where
 
   -- ---- the end
 
-  module _ (notes : Bool) (columns : Items) (rows : List (List Value)) (steps : ℕ) (t : Telling) (all : IsTelling notes graph columns rows [] [] t) where
+  module _ (notes : Bool) (columns : Items) (rows : List (List Value)) (steps : ℕ) (t : ReplyWriter) (all : IsTelling notes graph columns rows [] [] t) where
     abbrev text : List ℕ
     text = rows_text columns (printed_rows graph rows) steps
 
@@ -203,13 +203,13 @@ module _ (graph : Graph) where
 -- ---- the values of a row, and the rows, in turn
 
 -- what is left of a row, after the values that are told
-pub record ValuesTold (graph : Graph) (all rest : List Value) (start t : Telling) (found : List Out) : Type 0 where
+pub record ValuesTold (graph : Graph) (all rest : List Value) (start t : ReplyWriter) (found : List Out) : Type 0 where
   pub done : List Value
   pub parts : all ≡ done ++ rest
   pub telling : (notes : Bool) (columns : Items) (rows : List (List Value)) → IsTelling notes graph columns rows [] [] start → IsTelling notes graph columns rows done found t
 
 -- what is left of the rows, after those that are told
-pub record RowsTold (graph : Graph) (all rest : List (List Value)) (start t : Telling) : Type 0 where
+pub record RowsTold (graph : Graph) (all rest : List (List Value)) (start t : ReplyWriter) : Type 0 where
   pub done : List (List Value)
   pub parts : all ≡ done ++ rest
   pub telling : (notes : Bool) (columns : Items) → IsTelling notes graph columns [] [] [] start → IsTelling notes graph columns done [] [] t
@@ -222,11 +222,11 @@ pub nothing_behind : {X : Type 0} (xs : List X) → xs ++ [] ≡ xs
 nothing_behind [] = refl
 nothing_behind (x ∷ xs) = ap (λ ys. x ∷ ys) (nothing_behind xs)
 
-module _ (graph : Graph) (start : Telling) where
+module _ (graph : Graph) (start : ReplyWriter) where
   pub no_value_told : (all : List Value) → ValuesTold graph all all start start []
   no_value_told all = record { done = []; parts = refl; telling = λ notes columns rows h. h }
 
-  pub one_value_told : (all rest more : List Value) (t new : Telling) (found : List Out) (v : Value) (out : Out) → ValuesTold graph all rest start t found → rest ≡ v ∷ more
+  pub one_value_told : (all rest more : List Value) (t new : ReplyWriter) (found : List Out) (v : Value) (out : Out) → ValuesTold graph all rest start t found → rest ≡ v ∷ more
       → ((notes : Bool) (columns : Items) (rows : List (List Value)) (row : List Value) (os : List Out) → IsTelling notes graph columns rows row os t → IsTelling notes graph columns rows (row ++ v ∷ []) (os ++ out ∷ []) new)
       → ValuesTold graph all more start new (found ++ out ∷ [])
   one_value_told all rest more t new found v out so_far is takes = record {
@@ -235,12 +235,12 @@ module _ (graph : Graph) (start : Telling) where
     telling = λ notes columns rows h. takes notes columns rows so_far.done found (so_far.telling notes columns rows h);
   }
 
-  pub all_values_told : (all rest : List Value) (t : Telling) (found : List Out) → ValuesTold graph all rest start t found → rest ≡ []
+  pub all_values_told : (all rest : List Value) (t : ReplyWriter) (found : List Out) → ValuesTold graph all rest start t found → rest ≡ []
       → (notes : Bool) (columns : Items) (rows : List (List Value)) → IsTelling notes graph columns rows [] [] start → IsTelling notes graph columns rows all found t
   all_values_told all rest t found so_far is notes columns rows h =
       subst (λ vs. IsTelling notes graph columns rows vs found t) (sym (so_far.parts ∙ ap (λ vs. so_far.done ++ vs) is ∙ nothing_behind so_far.done)) (so_far.telling notes columns rows h)
 
-  pub one_row_told : (all rest more : List (List Value)) (t new : Telling) (values : List Value) → RowsTold graph all rest start t → rest ≡ values ∷ more
+  pub one_row_told : (all rest more : List (List Value)) (t new : ReplyWriter) (values : List Value) → RowsTold graph all rest start t → rest ≡ values ∷ more
       → ((notes : Bool) (columns : Items) (rows : List (List Value)) → IsTelling notes graph columns rows [] [] t → IsTelling notes graph columns (rows ++ values ∷ []) [] [] new)
       → RowsTold graph all more start new
   one_row_told all rest more t new values so_far is takes = record {
@@ -249,7 +249,7 @@ module _ (graph : Graph) (start : Telling) where
     telling = λ notes columns h. takes notes columns so_far.done (so_far.telling notes columns h);
   }
 
-  pub all_rows_told : (all rest : List (List Value)) (t : Telling) → RowsTold graph all rest start t → rest ≡ []
+  pub all_rows_told : (all rest : List (List Value)) (t : ReplyWriter) → RowsTold graph all rest start t → rest ≡ []
       → (notes : Bool) (columns : Items) → IsTelling notes graph columns [] [] [] start → IsTelling notes graph columns all [] [] t
   all_rows_told all rest t so_far is notes columns h =
       subst (λ rs. IsTelling notes graph columns rs [] [] t) (sym (so_far.parts ∙ ap (λ rs. so_far.done ++ rs) is ∙ nothing_behind so_far.done)) (so_far.telling notes columns h)

@@ -12,7 +12,7 @@ use Rattle.pg_rows.proofs.Tabled.{more_rows}
 use Rattle.pg_rows.specs.Named.{rows_named}
 use Rattle.pg_rows.specs.States.{seen}
 use Rattle.pg_rows.specs.Tables.{rows_of}
-use Rattle.pg_rows.specs.declared.named.Table.{Table}
+use Rattle.pg_rows.specs.declared.named.BindingTable.{BindingTable}
 use Rattle.pg_run.specs.Told.{rows_told}
 use Rattle.pg_value_core.specs.View.{view}
 
@@ -23,7 +23,7 @@ values_again names (suc n) vs h =
     let later = values_again names n (drop (length names) vs) (length-drop (length names) vs ∙ omega (arith, more_rows n (length names))) in
     λ i. first i ∷ later i
 
-pub told_is_table : (t : Table) → rows_told (seen t) ≡ (seen t).rows
+pub told_is_table : (t : BindingTable) → rows_told (seen t) ≡ (seen t).rows
 told_is_table t =
     (λ i. map values_in (rows_named t.names (rows_of (t.fits i) t.rows.count (map view t.rows.values.items))))
     ∙ values_again t.names t.rows.count (map view t.rows.values.items) (length-map t.rows.values.items view ∙ t.rows.sized ∙ ap (λ w. t.rows.count * w) t.fits)

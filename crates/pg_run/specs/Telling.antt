@@ -14,7 +14,7 @@ use Rattle.pg_meaning.specs.declared.fault.Fault.{Fault}
 use Rattle.pg_meaning.specs.declared.fault.Fault.TheVariants.{OutOfMemory, ReplyTooLong}
 use Rattle.pg_run.specs.Printed.{printed_items}
 use Rattle.pg_run.specs.Told.{printed_rows, test_told}
-use Rattle.pg_run.specs.declared.telling.Telling.{Telling}
+use Rattle.pg_run.specs.declared.reply_writer.ReplyWriter.{ReplyWriter}
 use Rattle.pg_value_core.specs.declared.out.Out.{Out}
 
 -- ---- what a query's rows are answered
@@ -43,12 +43,12 @@ abbrev pub whole_room : ℕ
 whole_room = max_reply + 1
 
 -- these rows are told, and of one row more these values
-pub record IsTelling (notes : Bool) (graph : Graph) (columns : Items) (rows : List (List Value)) (row : List Value) (found : List Out) (t : Telling) : Type 0 where
+pub record IsTelling (notes : Bool) (graph : Graph) (columns : Items) (rows : List (List Value)) (row : List Value) (found : List Out) (t : ReplyWriter) : Type 0 where
   pub tested : Tested t.fault (test_told graph rows >> test_items graph (values_of row))
   pub counted : t.fault ≡ None → t.room ≡ whole_room - rows_least graph rows - items_least (printed_items graph (values_of row))
   pub shown : t.fault ≡ None → t.room ≢ 0 → outs found ≡ printed_items graph (values_of row)
   pub written : t.fault ≡ None → t.room ≢ 0 → HasWritten t.reply notes columns (printed_rows graph rows)
 
 -- no reply of rows can come of it any more: a fault was found, or there is no room for what was told
-abbrev pub IsLost : Telling → Type 0
+abbrev pub IsLost : ReplyWriter → Type 0
 IsLost t = t.fault ≡ None → t.room ≡ 0

@@ -17,7 +17,7 @@ use pg_match_stages::Anchor;
 use pg_meaning::Fault;
 use pg_meter::Meter;
 use pg_project::{project_return, project_with, unwind_rows};
-use pg_rows::Table;
+use pg_rows::BindingTable;
 use pg_syntax_tree::Clause;
 use pg_write::{Merge, delete_elements, merge_path, remove_items, set_items};
 use pg_write_make::create_paths;
@@ -28,9 +28,9 @@ pub(crate) fn run_clause<T: Tables>(
     clause: &Clause,
     anchors: &[Anchor],
     live: &mut LiveGraph<T>,
-    table: Table,
+    table: BindingTable,
     meter: &mut Meter,
-) -> Result<Table, Fault>
+) -> Result<BindingTable, Fault>
     requires planned { ArePlanned
         (seen table).names (clause_view clause.now) (anchors_view anchors.now) }
     ensures gives { Gives result (clause_step (setting_of (parameters_view query.now.parameters.now)

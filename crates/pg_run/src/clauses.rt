@@ -16,7 +16,7 @@ use pg_live::LiveGraph;
 use pg_match_stages::Anchor;
 use pg_meaning::Fault;
 use pg_meter::Meter;
-use pg_rows::Table;
+use pg_rows::BindingTable;
 use pg_syntax_tree::Clause;
 
 /// The rows after all clauses, from one row without columns on.
@@ -26,7 +26,7 @@ pub(crate) fn run_clauses<T: Tables>(
     plan: &[Vec<Anchor>],
     live: &mut LiveGraph<T>,
     meter: &mut Meter,
-) -> Result<Table, Fault>
+) -> Result<BindingTable, Fault>
     requires planned { IsPlanFrom [] (map clause_view clauses.now) (plan_view plan.now) }
     ensures gives { Gives result (clauses_run
         (parameters_view query.now.parameters.now) (quota_of meter.old.limit query.now.max_elements)
@@ -38,7 +38,7 @@ pub(crate) fn run_clauses<T: Tables>(
     ensures limit { meter.new.limit ≡ meter.old.limit }
     ensures aside { live.new.aside ≡ live.old.aside }
 {
-    let mut table = Table::begin(query.alloc)?;
+    let mut table = BindingTable::begin(query.alloc)?;
     let mut left = plan;
     for clause in clauses {
         let (anchors, later) = anchors_first(left);

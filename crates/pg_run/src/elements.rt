@@ -12,14 +12,14 @@ use crate::room::within;
 use crate::stored::spell_stored_entries;
 use pg_graph::Tables;
 use pg_meaning::Fault;
-use pg_store::Snapshot;
+use pg_store::GraphView;
 use pg_value_core::{NodeId, Out, Path, RelId};
 use std::alloc::Global;
 
 /// A node, or else a relationship.
 pub(crate) fn spell_element<T: Tables>(
     alloc: Global,
-    graph: &Snapshot<'_, T>,
+    graph: &GraphView<'_, T>,
     is_node: bool,
     id: u64,
     room: &mut usize,
@@ -52,7 +52,7 @@ fn nothing_shown(is_there: bool) -> Result<Out, Fault>
     }
 }
 
-fn whole_node<T: Tables>(alloc: Global, graph: &Snapshot<'_, T>, id: NodeId) -> Result<Out, Fault>
+fn whole_node<T: Tables>(alloc: Global, graph: &GraphView<'_, T>, id: NodeId) -> Result<Out, Fault>
     ensures live { IfOk result (λ out. test_present (has_node graph.now id.0) ≡ Ok tt) }
     ensures data { IfOk result
         (λ out. data_of out ≡ shown_node graph.now id.0 (node_at graph.now id.0)) }
@@ -69,7 +69,7 @@ fn whole_node<T: Tables>(alloc: Global, graph: &Snapshot<'_, T>, id: NodeId) -> 
     }
 }
 
-fn whole_rel<T: Tables>(alloc: Global, graph: &Snapshot<'_, T>, id: RelId) -> Result<Out, Fault>
+fn whole_rel<T: Tables>(alloc: Global, graph: &GraphView<'_, T>, id: RelId) -> Result<Out, Fault>
     ensures live { IfOk result (λ out. test_present (has_relationship graph.now id.0) ≡ Ok tt) }
     ensures data { IfOk result
         (λ out. data_of out ≡ shown_relationship graph.now id.0 (relationship_at graph.now id.0)) }
@@ -90,12 +90,12 @@ fn whole_rel<T: Tables>(alloc: Global, graph: &Snapshot<'_, T>, id: RelId) -> Re
 
 pub(crate) fn spell_path<T: Tables>(
     alloc: Global,
-    graph: &Snapshot<'_, T>,
-    path: Path,
+    graph: &GraphView<'_, T>,
+    path: &Path,
     room: &mut usize,
 ) -> Result<Out, Fault>
-    ensures { DataSpelt (test_ids graph.now path.0.items)
-        (path_data (path_items graph.now path.0.items)) result room.old room.new }
+    ensures { DataSpelt (test_ids graph.now path.now.0.items)
+        (path_data (path_items graph.now path.now.0.items)) result room.old room.new }
 {
     *room = room.saturating_sub(11);
     let mut found = Vec::with_capacity(alloc, path.0.len())?;

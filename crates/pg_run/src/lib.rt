@@ -6,6 +6,8 @@ mod clause;
 mod clauses;
 mod elements;
 mod instances;
+mod presence;
+mod reply_writer;
 mod returning;
 mod room;
 mod rows;
@@ -13,7 +15,6 @@ mod running;
 mod spelling;
 mod stored;
 mod tables;
-mod telling;
 
 pub use instances::instances_of_values;
 pub use running::{PlannedQuery, answer_clauses};

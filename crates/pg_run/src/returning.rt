@@ -13,17 +13,17 @@ ghost use Rattle.pg_syntax_tree.specs.View.{projection_view};
 ghost use Rattle.pg_value_core.specs.Given.{parameters_view};
 ghost use Rattle.pg_value_core.specs.Gives.{Gives};
 
+use crate::reply_writer::ReplyWriter;
 use crate::rows::{ReadyItems, tell_rows};
 use crate::tables::tell_table;
-use crate::telling::Telling;
 use pg_expr::QueryContext;
 use pg_graph::Tables;
 use pg_json::QueryReply;
 use pg_meaning::Fault;
 use pg_meter::Meter;
 use pg_project::{come_in_turn, cut_at, prepare_each, project_return, return_columns};
-use pg_rows::{Rows, Table};
-use pg_store::Snapshot;
+use pg_rows::{BindingTable, Rows};
+use pg_store::GraphView;
 use pg_syntax_tree::Projection;
 
 /// The reply of RETURN, which ends a query. `notes` tells whether the ends of its rows are to be noted. A reply that
@@ -32,8 +32,8 @@ use pg_syntax_tree::Projection;
 pub(crate) fn return_reply<T: Tables>(
     query: &QueryContext<'_>,
     projection: &Projection,
-    graph: &Snapshot<'_, T>,
-    table: Table,
+    graph: &GraphView<'_, T>,
+    table: BindingTable,
     meter: &mut Meter,
     notes: bool,
 ) -> Result<QueryReply, Fault>
@@ -51,7 +51,7 @@ pub(crate) fn return_reply<T: Tables>(
             names: table.names(),
             ready: &ready,
         };
-        let telling = Telling::begin(query.alloc, columns.names(), notes)?;
+        let telling = ReplyWriter::begin(query.alloc, columns.names(), notes)?;
         reply_of_each(&items, projection, graph, table.rows(), meter, telling)
     } else {
         reply_of_all(query, projection, graph, table, meter, notes)
@@ -62,8 +62,8 @@ pub(crate) fn return_reply<T: Tables>(
 fn reply_of_all<T: Tables>(
     query: &QueryContext<'_>,
     projection: &Projection,
-    graph: &Snapshot<'_, T>,
-    table: Table,
+    graph: &GraphView<'_, T>,
+    table: BindingTable,
     meter: &mut Meter,
     notes: bool,
 ) -> Result<QueryReply, Fault>
@@ -73,7 +73,7 @@ fn reply_of_all<T: Tables>(
         (state_of graph.now (seen table) meter.old.used)) (λ reply. reply) }
 {
     let made = project_return(query, projection, graph, table, meter)?;
-    let mut telling = Telling::begin(query.alloc, made.names(), notes)?;
+    let mut telling = ReplyWriter::begin(query.alloc, made.names(), notes)?;
     tell_table(query.alloc, graph, made, &mut telling)?;
     telling.finish(meter.used())
 }
@@ -82,10 +82,10 @@ fn reply_of_all<T: Tables>(
 fn reply_of_each<T: Tables>(
     items: &ReadyItems<'_, '_>,
     projection: &Projection,
-    graph: &Snapshot<'_, T>,
+    graph: &GraphView<'_, T>,
     rows: &Rows,
     meter: &mut Meter,
-    mut telling: Telling,
+    mut telling: ReplyWriter,
 ) -> Result<QueryReply, Fault>
     ensures { (notes : Bool) (s : Setting) (columns : Items) → s.quota.max_steps ≡ meter.old.limit
         → IsTelling notes graph.now columns [] [] [] telling

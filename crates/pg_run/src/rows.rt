@@ -7,13 +7,13 @@ ghost use Rattle.pg_run.specs.Returning.{IsGiven, RowPassed, RowTold, RowsTold, 
 ghost use Rattle.pg_rows.specs.Tables.{table};
 ghost use Rattle.pg_value_core.specs.View.{view};
 
-use crate::telling::Telling;
-use pg_expr::{Prepared, QueryContext, evaluate};
+use crate::reply_writer::ReplyWriter;
+use pg_expr::{Prepared, QueryContext, RowContext, find_at};
 use pg_graph::Tables;
 use pg_meaning::Fault;
 use pg_project::Cut;
 use pg_rows::{Columns, Rows};
-use pg_store::Snapshot;
+use pg_store::GraphView;
 use pg_value_core::{Out, Value};
 
 /// The items of RETURN made ready, and what they are evaluated with at each row.
@@ -29,8 +29,8 @@ pub(crate) fn tell_rows<T: Tables>(
     items: &ReadyItems<'_, '_>,
     rows: &Rows,
     cut: Cut,
-    graph: &Snapshot<'_, T>,
-    telling: &mut Telling,
+    graph: &GraphView<'_, T>,
+    telling: &mut ReplyWriter,
 ) -> Result<(), Fault>
     ensures ok { IfOk result (λ u. RowsTold graph.now (cut_view cut)
         (each_answer (items_given items.now graph.now) (table rows.now)) telling.old telling.new) }
@@ -49,8 +49,8 @@ fn tell_row<T: Tables>(
     items: &ReadyItems<'_, '_>,
     row: &[Value],
     is_in: bool,
-    graph: &Snapshot<'_, T>,
-    telling: &mut Telling,
+    graph: &GraphView<'_, T>,
+    telling: &mut ReplyWriter,
 ) -> Result<(), Fault>
     ensures ok { IfOk result (λ u. RowPassed graph.now is_in
         (items_given items.now graph.now (map view row.now)) telling.old telling.new) }
@@ -66,11 +66,11 @@ fn tell_row<T: Tables>(
 }
 
 /// Tells what the items give at a row, left to right.
-fn tell_items<T: Tables>(
-    items: &ReadyItems<'_, '_>,
-    row: &[Value],
-    graph: &Snapshot<'_, T>,
-    telling: &mut Telling,
+fn tell_items<'a, T: Tables>(
+    items: &ReadyItems<'a, '_>,
+    row: &'a [Value],
+    graph: &GraphView<'a, T>,
+    telling: &mut ReplyWriter,
 ) -> Result<Vec<Out>, Fault>
     ensures ok { IfOk result (λ found. RowTold graph.now
         (items_given items.now graph.now (map view row.now)) telling.old telling.new found.items) }
@@ -78,27 +78,39 @@ fn tell_items<T: Tables>(
         → items_given items.now graph.now (map view row.now) ≡ Err e) }
 {
     let query = items.query;
-    let mut found = Vec::with_capacity(query.alloc, items.ready.len())?;
+    let context = RowContext {
+        alloc: query.alloc,
+        names: items.names,
+        row,
+        parameters: query.parameters,
+    };
+    let mut outs = Vec::with_capacity(query.alloc, items.ready.len())?;
     for one in items.ready {
-        let value = evaluate(query.alloc, one, items.names, row, query.parameters, graph)?;
-        found.push(telling.take(query.alloc, graph, value))?;
+        let found = find_at(&context, one, graph)?;
+        outs.push(telling.take(query.alloc, graph, found.look()))?;
     }
-    Ok(found)
+    Ok(outs)
 }
 
 /// Tests that no item has a fault at a row, left to right.
-fn test_items<T: Tables>(
-    items: &ReadyItems<'_, '_>,
-    row: &[Value],
-    graph: &Snapshot<'_, T>,
+fn test_items<'a, T: Tables>(
+    items: &ReadyItems<'a, '_>,
+    row: &'a [Value],
+    graph: &GraphView<'a, T>,
 ) -> Result<(), Fault>
     ensures ok { IfOk result (λ u. IsGiven (items_given items.now graph.now (map view row.now))) }
     ensures err { IfErr result (λ e. e ≢ OutOfMemory
         → items_given items.now graph.now (map view row.now) ≡ Err e) }
 {
     let query = items.query;
+    let context = RowContext {
+        alloc: query.alloc,
+        names: items.names,
+        row,
+        parameters: query.parameters,
+    };
     for one in items.ready {
-        evaluate(query.alloc, one, items.names, row, query.parameters, graph)?;
+        find_at(&context, one, graph)?;
     }
     Ok(())
 }

@@ -12,9 +12,9 @@ ghost use Rattle.pg_value_core.specs.Given.{parameters_view};
 ghost use Rattle.pg_value_core.specs.Gives.{Gives};
 
 use crate::clauses::run_clauses;
+use crate::reply_writer::ReplyWriter;
 use crate::returning::return_reply;
 use crate::tables::tell_table;
-use crate::telling::Telling;
 use pg_expr::QueryContext;
 use pg_graph::Tables;
 use pg_json::QueryReply;
@@ -22,8 +22,8 @@ use pg_live::LiveGraph;
 use pg_match_stages::Anchor;
 use pg_meaning::Fault;
 use pg_meter::Meter;
-use pg_rows::{Columns, Table};
-use pg_store::Snapshot;
+use pg_rows::{BindingTable, Columns};
+use pg_store::GraphView;
 use pg_syntax_tree::Clause;
 use std::alloc::Global;
 
@@ -79,9 +79,9 @@ pub fn answer_clauses<T: Tables>(
 /// The reply to a query whose clauses leave these rows, after so many steps.
 fn reply_of<T: Tables>(
     alloc: Global,
-    graph: &Snapshot<'_, T>,
+    graph: &GraphView<'_, T>,
     planned: &PlannedQuery<'_>,
-    table: Table,
+    table: BindingTable,
     steps: u64,
 ) -> Result<QueryReply, Fault>
     ensures { Gives result (replied planned.now.notes planned.now.returns (seen table).names
@@ -89,10 +89,10 @@ fn reply_of<T: Tables>(
 {
     if !planned.returns {
         let columns = Columns::new(alloc);
-        let empty = Telling::begin(alloc, &columns, planned.notes)?;
+        let empty = ReplyWriter::begin(alloc, &columns, planned.notes)?;
         return empty.finish(steps);
     }
-    let mut telling = Telling::begin(alloc, table.names(), planned.notes)?;
+    let mut telling = ReplyWriter::begin(alloc, table.names(), planned.notes)?;
     tell_table(alloc, graph, table, &mut telling)?;
     telling.finish(steps)
 }

@@ -1,65 +1,83 @@
 //! Values over a store, spelt out as long as there is room for them.
-ghost use Rattle.pg_run.specs.Spelt.{ValueSpelt, MapSpelt};
-ghost use Rattle.pg_value_core.specs.View.{view, entries_view};
+ghost use Rattle.pg_run.specs.Spelt.{ValueSpelt, ListSpelt, MapSpelt};
+ghost use Rattle.pg_value_core.specs.View.{view, values_view, entries_view};
 
 use crate::elements::{spell_element, spell_path};
-use crate::room::within;
+use crate::presence::test_value;
+use crate::room::{spell_text, within};
 use pg_graph::Tables;
 use pg_meaning::Fault;
-use pg_store::Snapshot;
-use pg_value_core::{Out, Parts, Value};
+use pg_store::GraphView;
+use pg_value_core::{Out, Value};
 use std::alloc::Global;
 use std::collections::BTreeMap;
 
-/// The value with its elements spelt out, while there is room for its text: where none is left, anything.
-/// `DeletedEntity` where an element is not in the store's graph, whatever room there is.
+/// The value with its elements spelt out, while there is room for its text: where none is left, anything, and nothing
+/// is copied. `DeletedEntity` where an element is not in the store's graph, whatever room there is.
 #[cycle(spell)]
 pub(crate) fn spell<T: Tables>(
     alloc: Global,
-    graph: &Snapshot<'_, T>,
-    value: Value,
+    graph: &GraphView<'_, T>,
+    value: &Value,
     room: &mut usize,
 ) -> Result<Out, Fault>
-    ensures { ValueSpelt graph.now (view value) result room.old room.new }
+    ensures { ValueSpelt graph.now (view value.now) result room.old room.new }
 {
-    match value.into_parts() {
-        Parts::Null => Ok(within(Out::Null, room)),
-        Parts::Bool(b) => Ok(within(Out::Bool(b), room)),
-        Parts::Int(i) => Ok(within(Out::Int(i), room)),
-        Parts::Text(text) => Ok(within(Out::Text(text), room)),
-        Parts::List(items) => {
+    if *room == 0 {
+        test_value(graph, value)?;
+        return Ok(Out::Null);
+    }
+    match value {
+        Value::Null => Ok(within(Out::Null, room)),
+        Value::Bool(b) => Ok(within(Out::Bool(*b), room)),
+        Value::Int(i) => Ok(within(Out::Int(*i), room)),
+        Value::Text(text) => spell_text(alloc, text, room),
+        Value::List(items) => {
             *room = room.saturating_sub(1);
-            let mut found = Vec::with_capacity(alloc, items.len())?;
-            for item in items {
-                *room = room.saturating_sub(1);
-                found.push(spell(alloc, graph, item, room)?)?;
-            }
-            Ok(Out::List(found))
+            Ok(Out::List(spell_items(alloc, graph, items, room)?))
         }
-        Parts::Map(entries) => {
+        Value::Map(entries) => {
             *room = room.saturating_sub(1);
             Ok(Out::Map(spell_entries(alloc, graph, entries, room)?))
         }
-        Parts::Node(id) => spell_element(alloc, graph, true, id.0, room),
-        Parts::Rel(id) => spell_element(alloc, graph, false, id.0, room),
-        Parts::Path(path) => spell_path(alloc, graph, path, room),
+        Value::Node(id) => spell_element(alloc, graph, true, id.0, room),
+        Value::Rel(id) => spell_element(alloc, graph, false, id.0, room),
+        Value::Path(path) => spell_path(alloc, graph, path, room),
     }
+}
+
+#[cycle(spell)]
+fn spell_items<T: Tables>(
+    alloc: Global,
+    graph: &GraphView<'_, T>,
+    items: &Vec<Value>,
+    room: &mut usize,
+) -> Result<Vec<Out>, Fault>
+    ensures { ListSpelt graph.now (values_view items.now.items) result room.old room.new }
+{
+    let mut found = Vec::with_capacity(alloc, items.len())?;
+    for item in items {
+        *room = room.saturating_sub(1);
+        found.push(spell(alloc, graph, item, room)?)?;
+    }
+    Ok(found)
 }
 
 #[cycle(spell)]
 fn spell_entries<T: Tables>(
     alloc: Global,
-    graph: &Snapshot<'_, T>,
-    entries: BTreeMap<String, Value>,
+    graph: &GraphView<'_, T>,
+    entries: &BTreeMap<String, Value>,
     room: &mut usize,
 ) -> Result<BTreeMap<String, Out>, Fault>
-    ensures { MapSpelt graph.now (entries_view entries.entries) result room.old room.new }
+    ensures { MapSpelt graph.now (entries_view entries.now.entries) result room.old room.new }
 {
     let mut found = BTreeMap::new(alloc);
-    for (key, value) in entries {
+    for (key, value) in entries.iter() {
         *room = room.saturating_sub(4).saturating_sub(key.len());
         let out = spell(alloc, graph, value, room)?;
-        drop(found.insert(key, out)?);
+        let name = String::from_str(alloc, key.as_str())?;
+        drop(found.insert(name, out)?);
     }
     Ok(found)
 }

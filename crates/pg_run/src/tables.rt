@@ -8,10 +8,10 @@ ghost use Rattle.pg_run.specs.Telling.{IsTelling};
 ghost use Rattle.pg_run.specs.Told.{rows_told};
 ghost use Rattle.pg_value_core.specs.View.{view};
 
-use crate::telling::Telling;
+use crate::reply_writer::ReplyWriter;
 use pg_graph::Tables;
-use pg_rows::{Rows, Table};
-use pg_store::Snapshot;
+use pg_rows::{BindingTable, Rows};
+use pg_store::GraphView;
 use pg_value_core::{Out, Value};
 use std::alloc::{AllocError, Global};
 
@@ -19,9 +19,9 @@ use std::alloc::{AllocError, Global};
 #[tactic(auto, using(crate::proofs::Told::told_is_table))]
 pub(crate) fn tell_table<T: Tables>(
     alloc: Global,
-    graph: &Snapshot<'_, T>,
-    table: Table,
-    telling: &mut Telling,
+    graph: &GraphView<'_, T>,
+    table: BindingTable,
+    telling: &mut ReplyWriter,
 ) -> Result<(), AllocError>
     ensures { (notes : Bool) (columns : Items)
         → IsTelling notes graph.now columns [] [] [] telling.old
@@ -29,22 +29,21 @@ pub(crate) fn tell_table<T: Tables>(
         (IsTelling notes graph.now columns (rows_told (seen table)) [] [] telling.new) }
 {
     let (_names, rows) = table.split();
-    tell_rows(alloc, graph, rows, telling)
+    tell_rows(alloc, graph, &rows, telling)
 }
 
 fn tell_rows<T: Tables>(
     alloc: Global,
-    graph: &Snapshot<'_, T>,
-    rows: Rows,
-    telling: &mut Telling,
+    graph: &GraphView<'_, T>,
+    rows: &Rows,
+    telling: &mut ReplyWriter,
 ) -> Result<(), AllocError>
     ensures { (notes : Bool) (columns : Items)
         → IsTelling notes graph.now columns [] [] [] telling.old
-        → OnOk result (IsTelling notes graph.now columns (table rows) [] [] telling.new) }
+        → OnOk result (IsTelling notes graph.now columns (table rows.now) [] [] telling.new) }
 {
-    let mut left = rows.into_left();
-    while let Some(row) = left.next_row(alloc)? {
-        let outs = tell_values(alloc, graph, row, telling)?;
+    for at in 0..rows.len() {
+        let outs = tell_values(alloc, graph, rows.row(at), telling)?;
         telling.end_row(outs.as_slice())?;
     }
     Ok(())
@@ -52,14 +51,14 @@ fn tell_rows<T: Tables>(
 
 fn tell_values<T: Tables>(
     alloc: Global,
-    graph: &Snapshot<'_, T>,
-    row: Vec<Value>,
-    telling: &mut Telling,
+    graph: &GraphView<'_, T>,
+    row: &[Value],
+    telling: &mut ReplyWriter,
 ) -> Result<Vec<Out>, AllocError>
     ensures { (notes : Bool) (columns : Items) (rows : List (List Datum))
         → IsTelling notes graph.now columns rows [] [] telling.old
         → IfOk result (λ outs.
-        IsTelling notes graph.now columns rows (map view row.items) outs.items telling.new) }
+        IsTelling notes graph.now columns rows (map view row.now) outs.items telling.new) }
 {
     let mut outs = Vec::with_capacity(alloc, row.len())?;
     for value in row {

@@ -9,8 +9,8 @@ use Rattle.pg_meaning.specs.Tree.{Name}
 use Rattle.pg_meaning.specs.declared.fault.Fault.TheVariants.{BadAggregate, UnknownFunction}
 use Rattle.pg_scope.specs.declared.calls.Function.{Function}
 use Rattle.pg_scope.specs.declared.calls.Function.TheVariants.{Id, Labels, «Type», Keys, Properties, Size, Length, Nodes, Relationships, Head, Last, Coalesce, Range, ToString, ToInteger, Abs, StartNode, EndNode}
-use Rattle.pg_scope.specs.declared.calls.Summary.{Summary}
-use Rattle.pg_scope.specs.declared.calls.Summary.TheVariants.{Counting, Summing, Least, Greatest, Collecting}
+use Rattle.pg_scope.specs.declared.calls.AggregateFunction.{AggregateFunction}
+use Rattle.pg_scope.specs.declared.calls.AggregateFunction.TheVariants.{Counting, Summing, Least, Greatest, Collecting}
 
 abbrev pub function_view : Function → function.Function
 function_view Id = function.id
@@ -32,7 +32,7 @@ function_view Abs = function.abs
 function_view StartNode = function.start_node
 function_view EndNode = function.end_node
 
-abbrev pub summary_view : Summary → summary.Summary
+abbrev pub summary_view : AggregateFunction → summary.Summary
 summary_view Counting = summary.counting
 summary_view Summing = summary.summing
 summary_view Least = summary.least

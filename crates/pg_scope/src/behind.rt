@@ -7,7 +7,7 @@ ghost use Rattle.pg_syntax_tree.specs.View.{clause_view, projection_view};
 
 use crate::columns::Naming;
 use crate::items::add_columns;
-use crate::names::{Names, add};
+use crate::names::{ScopeNames, add};
 use crate::scopes::{add_path, add_paths};
 use pg_syntax_tree::{Clause, Projection};
 use std::alloc::{AllocError, Global};
@@ -17,9 +17,9 @@ use std::collections::BTreeSet;
 fn behind_projection<'a>(
     alloc: Global,
     naming: Naming,
-    mut scope: Names<'a>,
+    mut scope: ScopeNames<'a>,
     projection: &'a Projection,
-) -> Result<Names<'a>, AllocError>
+) -> Result<ScopeNames<'a>, AllocError>
     ensures { IfOk result (λ names. HasSame (names_in names) (column_names (projection_columns
         (column_of naming) (names_in scope.entry) (projection_view projection.now)))) }
 {
@@ -35,9 +35,9 @@ fn behind_projection<'a>(
 /// The names in scope behind a clause, from those before it.
 pub fn names_behind<'a>(
     alloc: Global,
-    mut scope: Names<'a>,
+    mut scope: ScopeNames<'a>,
     clause: &'a Clause,
-) -> Result<Names<'a>, AllocError>
+) -> Result<ScopeNames<'a>, AllocError>
     ensures { IfOk result (λ names.
         HasSame (names_in names) (scope_after (names_in scope.entry) (clause_view clause.now))) }
 {

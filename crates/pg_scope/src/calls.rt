@@ -33,7 +33,7 @@ pub enum Function {
 
 /// What is told of a group's values.
 #[derive(Clone, Copy)]
-pub enum Summary {
+pub enum AggregateFunction {
     Counting,
     Summing,
     Least,
@@ -62,12 +62,12 @@ const FUNCTIONS: [(&str, Function); 18] = [
     ("endnode", Function::EndNode),
 ];
 
-const SUMMARIES: [(&str, Summary); 5] = [
-    ("count", Summary::Counting),
-    ("sum", Summary::Summing),
-    ("min", Summary::Least),
-    ("max", Summary::Greatest),
-    ("collect", Summary::Collecting),
+const SUMMARIES: [(&str, AggregateFunction); 5] = [
+    ("count", AggregateFunction::Counting),
+    ("sum", AggregateFunction::Summing),
+    ("min", AggregateFunction::Least),
+    ("max", AggregateFunction::Greatest),
+    ("collect", AggregateFunction::Collecting),
 ];
 
 /// What stands beside the name, whatever the ASCII case of either.
@@ -90,7 +90,7 @@ pub fn function_named(name: &str) -> Option<Function>
 }
 
 /// The aggregate function of a name, whatever its case.
-pub fn summary_named(name: &str) -> Option<Summary>
+pub fn summary_named(name: &str) -> Option<AggregateFunction>
     ensures { option_map summary_view result ≡ aggregate_named name.now }
 {
     named(&SUMMARIES, name)
@@ -108,11 +108,11 @@ fn takes(function: Function, count: usize) -> bool
 }
 
 /// An aggregate takes `*`, or one argument.
-fn is_known_aggregate(summary: Summary, star: bool, count: usize) -> bool
+fn is_known_aggregate(summary: AggregateFunction, star: bool, count: usize) -> bool
     ensures { result ≡ spec.is_known_aggregate (summary_view summary) star count }
 {
     if star {
-        summary == Summary::Counting
+        summary == AggregateFunction::Counting
     } else {
         count == 1
     }

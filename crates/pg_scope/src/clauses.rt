@@ -7,11 +7,11 @@ ghost use Rattle.pg_syntax_tree.specs.View.{expression_view, on_view, remove_ite
 
 use crate::expressions::{Role, fault_in_expression, fault_in_variable};
 use crate::found::PlacedFault;
-use crate::names::Names;
+use crate::names::ScopeNames;
 use pg_syntax_tree::{Expression, On, RemoveItem, SetItem};
 
 pub(crate) fn fault_in_sets<'a>(
-    scope: &Names<'a>,
+    scope: &ScopeNames<'a>,
     items: &'a Vec<SetItem>,
     mut first: Option<PlacedFault>,
 ) -> Option<PlacedFault>
@@ -33,7 +33,7 @@ pub(crate) fn fault_in_sets<'a>(
 }
 
 pub(crate) fn fault_in_ons<'a>(
-    scope: &Names<'a>,
+    scope: &ScopeNames<'a>,
     ons: &'a Vec<On>,
     mut first: Option<PlacedFault>,
 ) -> Option<PlacedFault>
@@ -47,7 +47,7 @@ pub(crate) fn fault_in_ons<'a>(
 }
 
 pub(crate) fn fault_in_removes<'a>(
-    scope: &Names<'a>,
+    scope: &ScopeNames<'a>,
     items: &'a Vec<RemoveItem>,
     mut first: Option<PlacedFault>,
 ) -> Option<PlacedFault>
@@ -65,7 +65,7 @@ pub(crate) fn fault_in_removes<'a>(
 }
 
 pub(crate) fn fault_in_each<'a>(
-    scope: &Names<'a>,
+    scope: &ScopeNames<'a>,
     items: &'a Vec<Expression>,
     mut first: Option<PlacedFault>,
 ) -> Option<PlacedFault>

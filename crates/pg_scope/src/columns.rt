@@ -11,7 +11,7 @@ use pg_syntax_tree::{Expression, Item};
 
 /// How a clause names a column that has no alias.
 #[derive(Clone, Copy)]
-pub(crate) enum Naming {
+pub enum Naming {
     /// WITH names it by the variable that it is.
     Variable,
     /// RETURN names it by its text as written.
@@ -29,7 +29,7 @@ fn variable_text(expression: &Expression) -> &str
 }
 
 /// The name of an item's column.
-pub(crate) fn column_name(naming: Naming, item: &Item) -> &str
+pub fn column_name(naming: Naming, item: &Item) -> &str
     ensures { result.now ≡ (column_of naming (item_view item.now)).name }
 {
     match &item.alias {

@@ -10,7 +10,7 @@ ghost use Rattle.pg_syntax_tree.specs.View.{expression_view, name_view, pair_vie
 
 use crate::calls::{is_aggregate, is_known};
 use crate::found::{PlacedFault, noted};
-use crate::names::{Names, is_among};
+use crate::names::{ScopeNames, is_among};
 use pg_meaning::{Fault, Operator};
 use pg_syntax_tree::{Expression, Name, Suffix, Test};
 
@@ -23,7 +23,7 @@ pub(crate) enum Role {
 
 /// The first fault, with a variable that isn't visible.
 pub(crate) fn fault_in_variable<'a>(
-    visible: &Names<'a>,
+    visible: &ScopeNames<'a>,
     name: &'a Name,
     first: Option<PlacedFault>,
 ) -> Option<PlacedFault>
@@ -63,7 +63,7 @@ fn fault_in_call(
 /// The first fault, with those of an expression.
 #[cycle(expressions)]
 pub(crate) fn fault_in_expression<'a>(
-    visible: &Names<'a>,
+    visible: &ScopeNames<'a>,
     role: Role,
     expression: &'a Expression,
     first: Option<PlacedFault>,
@@ -111,7 +111,7 @@ pub(crate) fn fault_in_expression<'a>(
 
 #[cycle(expressions)]
 fn fault_in_all<'a>(
-    visible: &Names<'a>,
+    visible: &ScopeNames<'a>,
     items: &'a Vec<Expression>,
     mut first: Option<PlacedFault>,
 ) -> Option<PlacedFault>
@@ -126,7 +126,7 @@ fn fault_in_all<'a>(
 
 #[cycle(expressions)]
 fn fault_in_pairs<'a>(
-    visible: &Names<'a>,
+    visible: &ScopeNames<'a>,
     pairs: &'a Vec<(Name, Expression)>,
     mut first: Option<PlacedFault>,
 ) -> Option<PlacedFault>
@@ -141,7 +141,7 @@ fn fault_in_pairs<'a>(
 
 #[cycle(expressions)]
 fn fault_in_perhaps<'a>(
-    visible: &Names<'a>,
+    visible: &ScopeNames<'a>,
     expression: &'a Option<Box<Expression>>,
     first: Option<PlacedFault>,
 ) -> Option<PlacedFault>
@@ -156,7 +156,7 @@ fn fault_in_perhaps<'a>(
 
 #[cycle(expressions)]
 fn fault_in_whens<'a>(
-    visible: &Names<'a>,
+    visible: &ScopeNames<'a>,
     whens: &'a Vec<(Expression, Expression)>,
     mut first: Option<PlacedFault>,
 ) -> Option<PlacedFault>
@@ -172,7 +172,7 @@ fn fault_in_whens<'a>(
 
 #[cycle(expressions)]
 fn fault_in_operands<'a>(
-    visible: &Names<'a>,
+    visible: &ScopeNames<'a>,
     operands: &'a Vec<(Operator, Expression)>,
     mut first: Option<PlacedFault>,
 ) -> Option<PlacedFault>
@@ -187,7 +187,7 @@ fn fault_in_operands<'a>(
 
 #[cycle(expressions)]
 fn fault_in_tests<'a>(
-    visible: &Names<'a>,
+    visible: &ScopeNames<'a>,
     tests: &'a Vec<Test<Expression>>,
     mut first: Option<PlacedFault>,
 ) -> Option<PlacedFault>
@@ -205,7 +205,7 @@ fn fault_in_tests<'a>(
 
 #[cycle(expressions)]
 fn fault_in_suffixes<'a>(
-    visible: &Names<'a>,
+    visible: &ScopeNames<'a>,
     suffixes: &'a Vec<Suffix<Expression>>,
     mut first: Option<PlacedFault>,
 ) -> Option<PlacedFault>

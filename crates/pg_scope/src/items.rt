@@ -11,13 +11,13 @@ ghost use Rattle.pg_syntax_tree.specs.View.{item_view};
 use crate::columns::{Naming, column_name};
 use crate::expressions::{Role, fault_in_expression};
 use crate::found::{PlacedFault, noted};
-use crate::names::{Names, add, is_among};
+use crate::names::{ScopeNames, add, is_among};
 use pg_meaning::Fault;
 use pg_syntax_tree::Item;
 use std::alloc::AllocError;
 
 /// Whether `*` stands for the name.
-fn is_starred<'a>(scope: &Names<'a>, star: bool, name: &'a str) -> bool
+fn is_starred<'a>(scope: &ScopeNames<'a>, star: bool, name: &'a str) -> bool
     ensures { result ≡ is_among (starred star (names_in scope.now)) name.now }
 {
     star && is_among(scope, name)
@@ -26,10 +26,10 @@ fn is_starred<'a>(scope: &Names<'a>, star: bool, name: &'a str) -> bool
 /// The first fault, with those of the items, whose names become the columns.
 pub(crate) fn fault_in_items<'a>(
     naming: Naming,
-    scope: &Names<'a>,
+    scope: &ScopeNames<'a>,
     star: bool,
     items: &'a Vec<Item>,
-    columns: &mut Names<'a>,
+    columns: &mut ScopeNames<'a>,
     mut first: Option<PlacedFault>,
 ) -> Result<Option<PlacedFault>, AllocError>
     requires { columns.old.keys ≡ [] }
@@ -52,7 +52,7 @@ pub(crate) fn fault_in_items<'a>(
 /// Brings the columns into scope beside what is there.
 pub(crate) fn add_columns<'a>(
     naming: Naming,
-    names: &mut Names<'a>,
+    names: &mut ScopeNames<'a>,
     items: &'a Vec<Item>,
 ) -> Result<(), AllocError>
     ensures { OnOk result (HasSame (names_in names.new) (column_names

@@ -22,8 +22,9 @@ mod steps;
 mod used;
 
 pub use behind::names_behind;
-pub use calls::{Function, Summary, function_named, summary_named};
-pub use names::{Names, add, is_among};
+pub use calls::{AggregateFunction, Function, function_named, summary_named};
+pub use columns::{Naming, column_name};
+pub use names::{ScopeNames, add, is_among};
 pub use query::check;
 pub use scoped::Scoped;
 pub use scopes::add_path;

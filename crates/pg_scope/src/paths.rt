@@ -10,7 +10,7 @@ ghost use Rattle.pg_syntax_tree.specs.View.{hop_view, node_view, path_view};
 
 use crate::found::PlacedFault;
 use crate::modes::Mode;
-use crate::names::{Names, add};
+use crate::names::{ScopeNames, add};
 use crate::patterns::{fault_in_new, fault_in_node_variable, fault_in_relationship_variable};
 use crate::properties::fault_in_properties;
 use crate::relationships::fault_in_relationship;
@@ -22,7 +22,7 @@ use std::alloc::{AllocError, Global};
 fn pass_node<'a>(
     alloc: Global,
     mode: Mode,
-    outer: &Names<'a>,
+    outer: &ScopeNames<'a>,
     used: &mut Used<'a>,
     is_whole: bool,
     node: &'a NodePattern,
@@ -42,7 +42,7 @@ fn pass_node<'a>(
 fn pass_hops<'a>(
     alloc: Global,
     mode: Mode,
-    outer: &Names<'a>,
+    outer: &ScopeNames<'a>,
     used: &mut Used<'a>,
     hops: &'a Vec<(RelationshipPattern, NodePattern)>,
     mut first: Option<PlacedFault>,
@@ -71,7 +71,7 @@ fn is_one_node(path: &PathPattern) -> bool
 fn pass_path<'a>(
     alloc: Global,
     mode: Mode,
-    outer: &Names<'a>,
+    outer: &ScopeNames<'a>,
     used: &mut Used<'a>,
     path: &'a PathPattern,
     mut first: Option<PlacedFault>,
@@ -92,7 +92,7 @@ fn pass_path<'a>(
 fn pass_paths<'a>(
     alloc: Global,
     mode: Mode,
-    outer: &Names<'a>,
+    outer: &ScopeNames<'a>,
     used: &mut Used<'a>,
     paths: &'a Vec<PathPattern>,
     mut first: Option<PlacedFault>,
@@ -111,7 +111,7 @@ fn pass_paths<'a>(
 pub(crate) fn fault_in_path<'a>(
     alloc: Global,
     mode: Mode,
-    outer: &Names<'a>,
+    outer: &ScopeNames<'a>,
     path: &'a PathPattern,
     first: Option<PlacedFault>,
 ) -> Result<Option<PlacedFault>, AllocError>
@@ -126,7 +126,7 @@ pub(crate) fn fault_in_path<'a>(
 pub(crate) fn fault_in_paths<'a>(
     alloc: Global,
     mode: Mode,
-    outer: &Names<'a>,
+    outer: &ScopeNames<'a>,
     paths: &'a Vec<PathPattern>,
     first: Option<PlacedFault>,
 ) -> Result<Option<PlacedFault>, AllocError>

@@ -10,7 +10,7 @@ ghost use Rattle.pg_syntax_tree.specs.View.{name_view, node_view, relationship_v
 
 use crate::found::{PlacedFault, noted};
 use crate::modes::Mode;
-use crate::names::{Names, is_among};
+use crate::names::{ScopeNames, is_among};
 use crate::used::Used;
 use pg_meaning::Fault;
 use pg_syntax_tree::{Name, NodePattern, Properties, RelationshipPattern};
@@ -22,7 +22,7 @@ fn is_used<'a>(used: &Used<'a>, name: &'a str) -> bool
 }
 
 /// Whether the clause or those before it have the variable.
-fn is_bound<'a>(outer: &Names<'a>, used: &Used<'a>, name: &'a str) -> bool
+fn is_bound<'a>(outer: &ScopeNames<'a>, used: &Used<'a>, name: &'a str) -> bool
     ensures { result ≡ is_among (names_in outer.now) name.now
         || spec.is_used (used_in used.now) name.now }
 {
@@ -31,7 +31,7 @@ fn is_bound<'a>(outer: &Names<'a>, used: &Used<'a>, name: &'a str) -> bool
 
 /// The first fault, with a variable that isn't new.
 pub(crate) fn fault_in_new<'a>(
-    outer: &Names<'a>,
+    outer: &ScopeNames<'a>,
     used: &Used<'a>,
     name: &'a Name,
     first: Option<PlacedFault>,
@@ -45,7 +45,7 @@ pub(crate) fn fault_in_new<'a>(
 
 /// The first fault, with a variable of a relationship that isn't new.
 pub(crate) fn fault_in_relationship_variable<'a>(
-    outer: &Names<'a>,
+    outer: &ScopeNames<'a>,
     used: &Used<'a>,
     relationship: &'a RelationshipPattern,
     first: Option<PlacedFault>,
@@ -76,7 +76,7 @@ fn is_described(is_whole: bool, node: &NodePattern) -> bool
 /// Whether the variable can't stand for this node.
 fn is_misused<'a>(
     mode: Mode,
-    outer: &Names<'a>,
+    outer: &ScopeNames<'a>,
     used: &Used<'a>,
     is_whole: bool,
     node: &NodePattern,
@@ -95,7 +95,7 @@ fn is_misused<'a>(
 /// The first fault, with a variable of a node that can't stand for it.
 pub(crate) fn fault_in_node_variable<'a>(
     mode: Mode,
-    outer: &Names<'a>,
+    outer: &ScopeNames<'a>,
     used: &Used<'a>,
     is_whole: bool,
     node: &'a NodePattern,

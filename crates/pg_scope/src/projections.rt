@@ -12,15 +12,15 @@ use crate::columns::{Naming, have_aggregate};
 use crate::expressions::{Role, fault_in_expression};
 use crate::found::PlacedFault;
 use crate::items::{add_columns, fault_in_items};
-use crate::names::Names;
-use pg_item_index::{index_of, is_item};
+use crate::names::ScopeNames;
 use pg_syntax_tree::{Expression, Item, Projection, SortItem};
+use pg_tree_equality::{index_of, is_item};
 use std::alloc::{AllocError, Global};
 use std::collections::BTreeSet;
 
 /// The first fault, with those of an expression that may be absent.
 pub(crate) fn fault_if_any<'a>(
-    visible: &Names<'a>,
+    visible: &ScopeNames<'a>,
     expression: &'a Option<Expression>,
     first: Option<PlacedFault>,
 ) -> Option<PlacedFault>
@@ -35,7 +35,7 @@ pub(crate) fn fault_if_any<'a>(
 
 /// The first fault, with those of a condition.
 fn fault_if_seen<'a>(
-    visible: &Names<'a>,
+    visible: &ScopeNames<'a>,
     condition: Option<&'a Expression>,
     first: Option<PlacedFault>,
 ) -> Option<PlacedFault>
@@ -51,7 +51,7 @@ fn fault_if_seen<'a>(
 /// The first fault, with those of the sorts that stand for no item.
 fn fault_in_sorts<'a>(
     alloc: Global,
-    visible: &Names<'a>,
+    visible: &ScopeNames<'a>,
     items: &'a Vec<Item>,
     order: &'a Vec<SortItem>,
     mut first: Option<PlacedFault>,
@@ -75,7 +75,7 @@ fn fault_in_sorts<'a>(
 /// The first fault, with those of what stands behind the items, where some names are visible.
 fn fault_in_tail<'a>(
     alloc: Global,
-    visible: &Names<'a>,
+    visible: &ScopeNames<'a>,
     projection: &'a Projection,
     condition: Option<&'a Expression>,
     first: Option<PlacedFault>,
@@ -101,11 +101,11 @@ fn is_narrow(projection: &Projection) -> bool
 pub(crate) fn fault_in_projection<'a>(
     alloc: Global,
     naming: Naming,
-    mut scope: Names<'a>,
+    mut scope: ScopeNames<'a>,
     projection: &'a Projection,
     condition: Option<&'a Expression>,
     first: Option<PlacedFault>,
-) -> Result<(Option<PlacedFault>, Names<'a>), AllocError>
+) -> Result<(Option<PlacedFault>, ScopeNames<'a>), AllocError>
     ensures { IfOk result (λ r. IsFirst first (spec.projection_faults (column_of naming)
         (names_in scope.entry) (projection_view projection.now) (seen condition.entry)) r.0
         × HasSame (names_in r.1) (column_names (projection_columns

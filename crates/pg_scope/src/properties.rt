@@ -10,7 +10,7 @@ ghost use Rattle.pg_syntax_tree.specs.View.{pair_view, properties_view};
 use crate::expressions::{Role, fault_in_expression};
 use crate::found::{PlacedFault, noted};
 use crate::modes::Mode;
-use crate::names::{Names, add};
+use crate::names::{ScopeNames, add};
 use pg_meaning::Fault;
 use pg_syntax_tree::{Expression, Name, Properties};
 use std::alloc::{AllocError, Global};
@@ -19,7 +19,7 @@ use std::collections::BTreeSet;
 /// The first fault, with keys that stand before and those of the values.
 fn fault_in_keys<'a>(
     alloc: Global,
-    outer: &Names<'a>,
+    outer: &ScopeNames<'a>,
     pairs: &'a Vec<(Name, Expression)>,
     mut first: Option<PlacedFault>,
 ) -> Result<Option<PlacedFault>, AllocError>
@@ -39,7 +39,7 @@ fn fault_in_keys<'a>(
 pub(crate) fn fault_in_properties<'a>(
     alloc: Global,
     mode: Mode,
-    outer: &Names<'a>,
+    outer: &ScopeNames<'a>,
     place: usize,
     properties: &'a Properties,
     first: Option<PlacedFault>,

@@ -9,7 +9,7 @@ ghost use Rattle.pg_syntax_tree.specs.View.{detail_view, range_view, relationshi
 
 use crate::found::{PlacedFault, noted};
 use crate::modes::Mode;
-use crate::names::Names;
+use crate::names::ScopeNames;
 use crate::properties::fault_in_properties;
 use pg_meaning::Fault;
 use pg_syntax_tree::{Detail, Range, RelationshipPattern};
@@ -67,7 +67,7 @@ fn is_undirected(mode: Mode, relationship: &RelationshipPattern) -> bool
 pub(crate) fn fault_in_relationship<'a>(
     alloc: Global,
     mode: Mode,
-    outer: &Names<'a>,
+    outer: &ScopeNames<'a>,
     relationship: &'a RelationshipPattern,
     first: Option<PlacedFault>,
 ) -> Result<Option<PlacedFault>, AllocError>

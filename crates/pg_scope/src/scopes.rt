@@ -4,14 +4,14 @@ ghost use Rattle.pg_meaning.specs.Patterns as meaning;
 ghost use Rattle.pg_scope.specs.Names.{names_in, HasSame};
 ghost use Rattle.pg_syntax_tree.specs.View.{hop_view, path_view};
 
-use crate::names::Names;
+use crate::names::ScopeNames;
 use crate::used::{add_relationship_variable, add_variable};
 use pg_syntax_tree::{NodePattern, PathPattern, RelationshipPattern};
 use std::alloc::AllocError;
 
 /// Brings in the variables of some hops.
 fn add_hops<'a>(
-    names: &mut Names<'a>,
+    names: &mut ScopeNames<'a>,
     hops: &'a Vec<(RelationshipPattern, NodePattern)>,
 ) -> Result<(), AllocError>
     ensures { OnOk result (HasSame (names_in names.new)
@@ -25,7 +25,7 @@ fn add_hops<'a>(
 }
 
 /// Brings in the variables of a path.
-pub fn add_path<'a>(names: &mut Names<'a>, path: &'a PathPattern) -> Result<(), AllocError>
+pub fn add_path<'a>(names: &mut ScopeNames<'a>, path: &'a PathPattern) -> Result<(), AllocError>
     ensures { OnOk result (HasSame (names_in names.new)
         (meaning.add_path_names (path_view path.now ∷ []) (names_in names.old))) }
 {
@@ -36,7 +36,7 @@ pub fn add_path<'a>(names: &mut Names<'a>, path: &'a PathPattern) -> Result<(), 
 
 /// Brings in the variables of some paths.
 pub(crate) fn add_paths<'a>(
-    names: &mut Names<'a>,
+    names: &mut ScopeNames<'a>,
     paths: &'a Vec<PathPattern>,
 ) -> Result<(), AllocError>
     ensures { OnOk result (HasSame (names_in names.new)

@@ -12,7 +12,7 @@ use crate::columns::Naming;
 use crate::expressions::{Role, fault_in_expression};
 use crate::found::{PlacedFault, noted};
 use crate::modes::Mode;
-use crate::names::{Names, is_among};
+use crate::names::{ScopeNames, is_among};
 use crate::paths::{fault_in_path, fault_in_paths};
 use crate::projections::{fault_if_any, fault_in_projection};
 use pg_meaning::Fault;
@@ -20,12 +20,12 @@ use pg_syntax_tree::{Clause, Projection};
 use std::alloc::{AllocError, Global};
 
 /// The first fault, and the names behind a clause.
-type Step<'a> = (Option<PlacedFault>, Names<'a>);
+type ClauseCheck<'a> = (Option<PlacedFault>, ScopeNames<'a>);
 
 /// The first fault, with those of a clause that sees the names before it, but for WITH and RETURN.
 fn fault_before<'a>(
     alloc: Global,
-    scope: &Names<'a>,
+    scope: &ScopeNames<'a>,
     clause: &'a Clause,
     first: Option<PlacedFault>,
 ) -> Result<Option<PlacedFault>, AllocError>
@@ -50,7 +50,7 @@ fn fault_before<'a>(
 
 /// The first fault, with those of what sees the names behind its clause, but for WITH.
 fn fault_behind<'a>(
-    scope: &Names<'a>,
+    scope: &ScopeNames<'a>,
     clause: &'a Clause,
     first: Option<PlacedFault>,
 ) -> Option<PlacedFault>
@@ -65,7 +65,7 @@ fn fault_behind<'a>(
 
 /// The first fault, with `*` that stands for no variable.
 fn fault_in_star(
-    scope: &Names,
+    scope: &ScopeNames,
     projection: &Projection,
     first: Option<PlacedFault>,
 ) -> Option<PlacedFault>
@@ -80,10 +80,10 @@ fn fault_in_star(
 /// Past a clause.
 pub(crate) fn through_clause<'a>(
     alloc: Global,
-    scope: Names<'a>,
+    scope: ScopeNames<'a>,
     clause: &'a Clause,
     first: Option<PlacedFault>,
-) -> Result<Step<'a>, AllocError>
+) -> Result<ClauseCheck<'a>, AllocError>
     ensures { IfOk result
         (λ r. Steps (names_in scope.entry) (clause_view clause.now) first r.0 (names_in r.1)) }
 {

@@ -5,7 +5,7 @@ ghost use Rattle.pg_scope.specs.Names.{names_in, HasSame};
 ghost use Rattle.pg_scope.specs.Used.{used_in, nothing_used};
 ghost use Rattle.pg_syntax_tree.specs.View.{name_view, node_view, relationship_view};
 
-use crate::names::{Names, add, is_among};
+use crate::names::{ScopeNames, add, is_among};
 use pg_syntax_tree::{Name, NodePattern, RelationshipPattern};
 use std::alloc::{AllocError, Global};
 use std::collections::BTreeSet;
@@ -13,8 +13,8 @@ use std::collections::BTreeSet;
 /// Those of nodes, and those of relationships and paths.
 #[derive(Drop)]
 pub(crate) struct Used<'a> {
-    pub(crate) nodes: Names<'a>,
-    pub(crate) others: Names<'a>,
+    pub(crate) nodes: ScopeNames<'a>,
+    pub(crate) others: ScopeNames<'a>,
 }
 
 impl<'a> Used<'a> {
@@ -29,7 +29,10 @@ impl<'a> Used<'a> {
 }
 
 /// Puts a variable among the names, where there is one.
-pub fn add_variable<'a>(names: &mut Names<'a>, variable: &'a Option<Name>) -> Result<(), AllocError>
+pub fn add_variable<'a>(
+    names: &mut ScopeNames<'a>,
+    variable: &'a Option<Name>,
+) -> Result<(), AllocError>
     ensures { OnOk result (HasSame (names_in names.new)
         (spec.with_variable (option_map name_view variable.now) (names_in names.old))) }
 {
@@ -41,7 +44,7 @@ pub fn add_variable<'a>(names: &mut Names<'a>, variable: &'a Option<Name>) -> Re
 
 /// Puts the variable of a relationship among the names, where it has one.
 pub(crate) fn add_relationship_variable<'a>(
-    names: &mut Names<'a>,
+    names: &mut ScopeNames<'a>,
     relationship: &'a RelationshipPattern,
 ) -> Result<(), AllocError>
     ensures { OnOk result (HasSame (names_in names.new) (spec.with_variable

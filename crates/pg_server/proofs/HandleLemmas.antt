@@ -19,10 +19,10 @@ use Rattle.pg_server.proofs.StepLemmas.{answered, asked_is, left_alone, out_of_m
 use Rattle.pg_tenant.specs.LookUps.{LooksUp}
 use Rattle.pg_tenant.specs.State.{State, tokens_of}
 use Rattle.pg_tenant.specs.Step.{AddsNames}
-use Rattle.pg_value.specs.Texts.{comes_again}
+use Rattle.pg_value.specs.Texts.{has_duplicate}
 
 -- a request that was read
-pub handled : (old new : ServerState) (body reply : List ℕ) (request : Request) → comes_again [] (all_tokens (settings_of old)) ≡ false → ((t : ℕ) → AnsweredAlone (state_at old t) request)
+pub handled : (old new : ServerState) (body reply : List ℕ) (request : Request) → has_duplicate [] (all_tokens (settings_of old)) ≡ false → ((t : ℕ) → AnsweredAlone (state_at old t) request)
     → is_short body ≡ true → meaning body ≡ Some request → Answers old.tenants request reply new.tenants → LooksUp (key_asked old.tenants request) reply old.cache new.cache → AddsNames reply old.names new.names
     → Handles old body reply new
 handled old new body reply request distinct all_answered short means step looks names =
@@ -114,7 +114,7 @@ same_request (drop_page token page) = refl
 own_request : (t : ℕ) (tenants : List State) (request : Request) → token_for t tenants request ≡ token_of request → request_for t tenants request ≡ request
 own_request t tenants request same = ap (λ token. with_token token request) same ∙ same_request request
 
-module _ (t : ℕ) (old new : ServerState) (body reply : List ℕ) (request : Request) (distinct : comes_again [] (all_tokens (settings_of old)) ≡ false) (all_answered : (r : Request) (u : ℕ) → AnsweredAlone (state_at old u) r)
+module _ (t : ℕ) (old new : ServerState) (body reply : List ℕ) (request : Request) (distinct : has_duplicate [] (all_tokens (settings_of old)) ≡ false) (all_answered : (r : Request) (u : ℕ) → AnsweredAlone (state_at old u) r)
     (short : is_short body ≡ true) (means : meaning body ≡ Some request) where
   is_asked : asked body ≡ Some request
   is_asked = asked_is body request short means

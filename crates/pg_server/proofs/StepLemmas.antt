@@ -17,7 +17,7 @@ use Rattle.pg_server.specs.AnsweredQueries.{AnsweredQuery}
 use Rattle.pg_server.specs.Exchange.{Exchange}
 use Rattle.pg_server.specs.Runs.{Runs, SoloRun, IsStrangers, IsStrangersReply, own, asked, shows_one_of, is_short, is_want_of_memory, fault_of_request}
 use Rattle.pg_meaning.specs.Names.{is_among}
-use Rattle.pg_value.specs.Texts.{comes_again}
+use Rattle.pg_value.specs.Texts.{has_duplicate}
 use Rattle.pg_server.specs.Settings.{all_tokens}
 use Rattle.pg_server.specs.State.{ServerState, state_at, settings_of}
 use Rattle.pg_server.specs.Step.{Answers, StepAt, place_of}
@@ -97,7 +97,7 @@ module _ (old : ServerState) (body : List ℕ) (request : Request) (short : is_s
     place : (t < length old.tenants) × (is_among (tokens_of (state_at old t)) (token_of request) ≡ true) × ((k : ℕ) → k < t → is_among (tokens_of (state_at old k)) (token_of request) ≡ false)
     place = position-Some (λ (s : State). is_among (tokens_of s) (token_of request)) old.tenants t no_state found
 
-    module _ (distinct : comes_again [] (all_tokens (settings_of old)) ≡ false) (is_answered_query : AnsweredAlone (state_at old t) request) (reply : List ℕ) (told : reply ≡ (solo (state_at old t) request).reply) (is_answered : is_want_of_memory reply ≡ false) where
+    module _ (distinct : has_duplicate [] (all_tokens (settings_of old)) ≡ false) (is_answered_query : AnsweredAlone (state_at old t) request) (reply : List ℕ) (told : reply ≡ (solo (state_at old t) request).reply) (is_answered : is_want_of_memory reply ≡ false) where
       abbrev after : State
       after = (solo (state_at old t) request).state
 
@@ -140,7 +140,7 @@ abbrev only : (body reply : List ℕ) → List Exchange
 only body reply = record { body = body; reply = reply } ∷ []
 
 -- one request, as the tenant found by its token answers it
-pub answered : (old new : ServerState) (body reply : List ℕ) (request : Request) → comes_again [] (all_tokens (settings_of old)) ≡ false
+pub answered : (old new : ServerState) (body reply : List ℕ) (request : Request) → has_duplicate [] (all_tokens (settings_of old)) ≡ false
     → ((t : ℕ) → AnsweredAlone (state_at old t) request) → is_short body ≡ true → meaning body ≡ Some request → new.cache.capacity ≡ old.cache.capacity → Answers old.tenants request reply new.tenants
     → Runs old (record { body = body; reply = reply } ∷ []) new
 answered old new body reply request distinct all_answered short means capacity step = by_place (place_of (token_of request) old.tenants) refl step

@@ -25,7 +25,7 @@ use Rattle.pg_tenant.specs.Settings.{TenantSettings, no_settings, token_texts}
 use Rattle.pg_tenant.specs.State.{State, is_open, no_state, opening, tokens_of}
 use Rattle.pg_tenant.specs.TenantStates.{opening_state, state_of, token_at, transaction_of}
 use Rattle.pg_tenant.specs.declared.tenant.Tenant.{Tenant}
-use Rattle.pg_value.specs.Texts.{comes_again}
+use Rattle.pg_value.specs.Texts.{has_duplicate}
 
 -- a list of what stands at each place: graphs, or what was begun
 module _ {X : Type 0} where
@@ -131,7 +131,7 @@ still_tenants tokens tenants graphs graphs' begins begins' names names' pairs pa
     let kept : map (λ (t : Tenant). t.settings) (set tenants k now) ≡ map (λ (t : Tenant). t.settings) tenants =
     map-set_same (λ (t : Tenant). t.settings) tenants k now was (same ∙ ap (λ (t : Tenant). t.settings) at) in
     record {
-      distinct = ap (λ ss. comes_again [] (all_tokens ss)) kept ∙ are.distinct;
+      distinct = ap (λ ss. has_duplicate [] (all_tokens ss)) kept ∙ are.distinct;
       told = subst (TellsTenants tokens) (sym kept) are.told;
       each = as_many ∙ are.each ∙ sym (length-set tenants k now);
       each_begun = as_many_begun ∙ are.each_begun ∙ sym (length-set tenants k now);
@@ -207,9 +207,9 @@ none_listed (t ∷ ts) (s ∷ ss) same (suc k) d lt = none_listed ts ss (ap (dro
 
 pub opening_tenants_are : (tokens : TokenPlaces) (tenants : List Tenant) (settings : List TenantSettings) (graphs : List Graph) (begins : List (Option Begun)) (names : List (List ℕ)) (pairs : List (List (ℕ × ℕ))) (n : ℕ)
     → map opening_state tenants ≡ map opening settings → n ≡ length settings → graphs ≡ replicate n empty_graph → begins ≡ replicate n None → pairs ≡ replicate n []
-    → comes_again [] (all_tokens settings) ≡ false → TellsTenants tokens settings → AreTenants tokens tenants graphs begins names pairs
+    → has_duplicate [] (all_tokens settings) ≡ false → TellsTenants tokens settings → AreTenants tokens tenants graphs begins names pairs
 opening_tenants_are tokens tenants settings graphs begins names pairs n same all empty none no_index distinct told = record {
-  distinct = ap (λ ss. comes_again [] (all_tokens ss)) (settings_begun tenants settings same) ∙ distinct;
+  distinct = ap (λ ss. has_duplicate [] (all_tokens ss)) (settings_begun tenants settings same) ∙ distinct;
   told = subst (TellsTenants tokens) (sym (settings_begun tenants settings same)) told;
   each = ap length empty ∙ length_replicated n empty_graph ∙ all ∙ length_begun tenants settings same;
   each_begun = ap length none ∙ length_replicated n None ∙ all ∙ length_begun tenants settings same;

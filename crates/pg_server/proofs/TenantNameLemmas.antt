@@ -11,7 +11,7 @@ use Rattle.std.specs.declared.alloc.Global.{Global}
 use Rattle.pg_meaning.specs.Names.{is_among}
 use Rattle.pg_server.proofs.DistinctLemmas.{absent, or_false, or_here}
 use Rattle.pg_server.specs.TenantNames.{AreWithin}
-use Rattle.pg_value.specs.Texts.{comes_again}
+use Rattle.pg_value.specs.Texts.{has_duplicate}
 
 from_mapped : {X : Type 0} (t : List ℕ → Bool) (f : X → List ℕ) (i : ℕ) (xs : List X) → position_from t i (map f xs) ≡ position_from (λ x. t (f x)) i xs
 from_mapped t f i [] = refl
@@ -36,13 +36,13 @@ differs (m ∷ ms) zero x xs n absent is = turned (bytes_eq m n) refl
         cc
 differs (m ∷ ms) (suc t) x xs n absent is = differs ms t x xs n (or_false (bytes_eq n m) (is_among ms n) absent).1 is
 
-named_from : (before names : List (List ℕ)) (i t x : ℕ) (xs : List ℕ) → comes_again before names ≡ false → get_or names t [] ≡ x ∷ xs → position_from (bytes_eq (get_or names t [])) i names ≡ Some (t + i)
+named_from : (before names : List (List ℕ)) (i t x : ℕ) (xs : List ℕ) → has_duplicate before names ≡ false → get_or names t [] ≡ x ∷ xs → position_from (bytes_eq (get_or names t [])) i names ≡ Some (t + i)
 named_from before [] i t x xs once is = cc
 named_from before (n ∷ ns) i zero x xs once is =
     let number : i ≡ 0 + i = omega arith in
     ap (λ b. cond b (Some i) (position_from (bytes_eq n) (i + 1) ns)) ((bytes_eq-Decides n n).1 refl) ∙ ap Some number
 named_from before (n ∷ ns) i (suc t) x xs once is =
-    let parts = or_false (is_among before n) (comes_again (n ∷ before) ns) once in
+    let parts = or_false (is_among before n) (has_duplicate (n ∷ before) ns) once in
     let itself : is_among (n ∷ before) n ≡ true = or_here (bytes_eq n n) (is_among before n) ((bytes_eq-Decides n n).1 refl) in
     let other = differs ns t x xs n (absent (n ∷ before) ns n parts.1 itself) is in
     let number : t + (i + 1) ≡ suc t + i = omega arith in
@@ -51,7 +51,7 @@ named_from before (n ∷ ns) i (suc t) x xs once is =
     ∙ ap Some number
 
 -- a name that is not empty stands at one place
-pub named_once : (names : List (List ℕ)) (t x : ℕ) (xs : List ℕ) → comes_again [] names ≡ false → get_or names t [] ≡ x ∷ xs → position (bytes_eq (get_or names t [])) names ≡ Some t
+pub named_once : (names : List (List ℕ)) (t x : ℕ) (xs : List ℕ) → has_duplicate [] names ≡ false → get_or names t [] ≡ x ∷ xs → position (bytes_eq (get_or names t [])) names ≡ Some t
 named_once names t x xs once is =
     let number : t + 0 ≡ t = omega arith in
     position_from-zero (bytes_eq (get_or names t [])) names ∙ named_from [] names 0 t x xs once is ∙ ap Some number

@@ -18,7 +18,7 @@ use Rattle.pg_server.proofs.TenantLemmas.{changed, state_found, still_tenants}
 use Rattle.pg_tenant.proofs.ListedLemmas.{names_come}
 use Rattle.pg_tenant.specs.Indexes.{indexes_of}
 use Rattle.pg_tenant.specs.Listed.{AreListed, KeepsListed, Lists}
-use Rattle.pg_tenant.specs.LookUps.{LooksUp, key_of}
+use Rattle.pg_tenant.specs.LookUps.{LooksUp, looked_up_key}
 use Rattle.pg_tenant.specs.Solo.{Replied, solo}
 use Rattle.pg_tenant.specs.State.{State, no_state}
 use Rattle.pg_tenant.specs.Step as tenant
@@ -54,8 +54,8 @@ module _ {X : Type 0} (tenants : List Tenant) (live mid : Live X) (t : ℕ) (was
   here : state_over was mid ≡ state_in old_states t
   here = sym (ap₂ (state_of was) graph_here begun_there) ∙ state_found tenants (graphs_of live) live.aside.begins t was lt at
 
-  pub key_here : (request : Request) (reply : List ℕ) (before after : CacheSeen) → LooksUp (key_of (state_over was mid) request) reply before after → LooksUp (key_at t old_states request) reply before after
-  key_here request reply before after looks = subst (λ s. LooksUp (key_of s request) reply before after) here looks
+  pub key_here : (request : Request) (reply : List ℕ) (before after : CacheSeen) → LooksUp (looked_up_key (state_over was mid) request) reply before after → LooksUp (key_at t old_states request) reply before after
+  key_here request reply before after looks = subst (λ s. LooksUp (looked_up_key s request) reply before after) here looks
 
   module _ (now : Tenant) (new : Live X) (others : KeepsOthers mid new) where
     graphs_after : graphs_of new ≡ set (graphs_of live) t new.graph

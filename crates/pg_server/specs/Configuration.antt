@@ -7,7 +7,7 @@ use Rattle.pg_server.specs.declared.config_fault.ConfigFault.{ConfigFault}
 use Rattle.pg_server.specs.declared.config_fault.ConfigFault.TheVariants.{NotJson, WrongShape, OutOfRange, TokenTwice}
 use Rattle.pg_server.specs.Settings.{Settings, max_quota, all_tokens}
 use Rattle.pg_tenant.specs.Settings.{TenantSettings}
-use Rattle.pg_value.specs.Texts.{comes_again}
+use Rattle.pg_value.specs.Texts.{has_duplicate}
 use Rattle.pg_server.specs.Draft.{Draft, TenantDraft, draft_of}
 
 abbrev pub within : ℕ → ℕ → ℕ → Bool
@@ -44,10 +44,10 @@ settings_in_range d =
     (in_range 1 max_cache d.cache)
 
 abbrev pub has_token_twice : Settings → Bool
-has_token_twice s = comes_again [] (all_tokens s.tenants)
+has_token_twice s = has_duplicate [] (all_tokens s.tenants)
 
 abbrev pub HasTokensOnce : List TenantSettings → Type 0
-HasTokensOnce tenants = comes_again [] (all_tokens tenants) ≡ false
+HasTokensOnce tenants = has_duplicate [] (all_tokens tenants) ≡ false
 
 -- ---- the faults, one after the other over the whole file
 

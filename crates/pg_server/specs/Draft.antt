@@ -2,7 +2,7 @@
 use Rattle.std.specs.Prelude.{ℕ, ℤ, pos, List, [], ◌∷◌, Bool, false, bytes_eq, if◌then◌else◌, Option, Some, None, option_map, option_and_then, codes}
 use Rattle.serde_json.specs.Data.{Data, Items, no_items, item, Members}
 use Rattle.serde_json.specs.Find.{get, as_number, as_i64, as_str, as_array, as_object}
-use Rattle.pg_json.specs.Requests.{has_only}
+use Rattle.pg_json.specs.Requests.{has_only, if_any}
 use Rattle.pg_tenant.specs.Settings.{TokenSettings}
 use Rattle.pg_tenant.specs.declared.settings.Rights.{Rights}
 use Rattle.pg_tenant.specs.declared.settings.Rights.TheVariants.{Read, Write}
@@ -41,11 +41,6 @@ number_or_zero (Some d) = option_and_then as_i64 (as_number d)
 
 abbrev pub list_at : List ℕ → Data → Option Items
 list_at key d = option_and_then as_array (get key d)
-
--- a text with at least one byte
-abbrev pub if_any : List ℕ → Option (List ℕ)
-if_any [] = None
-if_any (x ∷ xs) = Some (x ∷ xs)
 
 -- each item, or none where some item is none
 abbrev pub each : {A : Type 0} → (Data → Option A) → Items → Option (List A)

@@ -10,14 +10,14 @@ use Rattle.pg_server.specs.Runs.{Runs, asked, is_short}
 use Rattle.pg_server.specs.State.{ServerState, state_in}
 use Rattle.pg_server.specs.Step.{Answers, place_of}
 use Rattle.pg_tenant.specs.Holders.{holder_of}
-use Rattle.pg_tenant.specs.LookUps.{LooksUp, key_of}
+use Rattle.pg_tenant.specs.LookUps.{LooksUp, looked_up_key}
 use Rattle.pg_tenant.specs.Settings.{standing_token}
 use Rattle.pg_tenant.specs.State.{State}
 use Rattle.pg_tenant.specs.Step.{AddsNames}
 
 -- what a request looks up in the cache of plans: what it does for the tenant that has its token
 abbrev pub key_at : ℕ → List State → Request → Option Key
-key_at t tenants request = key_of (state_in tenants t) request
+key_at t tenants request = looked_up_key (state_in tenants t) request
 
 abbrev pub key_asked : List State → Request → Option Key
 key_asked tenants request = option_and_then (λ t. key_at t tenants request) (place_of (token_of request) tenants)

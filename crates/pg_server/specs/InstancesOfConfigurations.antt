@@ -1,16 +1,14 @@
 -- Small configurations as JSON: some that are read, and some with faults.
 use Rattle.std.specs.Prelude.{◌≡◌, ℕ, pos, negsuc, true, false, List, [], ◌∷◌, length, Some, None, Ok, Err, codes}
 use Rattle.std.specs.Str.{is_utf8}
-use Rattle.serde_json.specs.Data.{Data, null, number, unsigned, negative, string, array, object, Items, no_items, item, Members, no_members, member}
+use Rattle.serde_json.specs.Data.{Data, null, number, negative, string, array, object, Items, no_items, item, Members, no_members, member}
 use Rattle.serde_json.specs.Read.{read}
+use Rattle.pg_json.specs.Replies.{natural}
 use Rattle.pg_server.specs.Configuration.{configuration, settings_of_data, settings_of_draft, if_countable}
 use Rattle.pg_server.specs.Draft.{TenantDraft, draft_of}
 use Rattle.pg_server.specs.InstancesOfRuns.{token, draft, holding, settings}
 use Rattle.pg_server.specs.declared.config_fault.ConfigFault.TheVariants.{NotJson, WrongShape, OutOfRange, TokenTwice}
 use Rattle.pg_tenant.specs.declared.settings.Rights.TheVariants.{Write}
-
-abbrev pub natural : ℕ → Data
-natural n = number (unsigned n)
 
 abbrev pub one : Data → Items
 one d = item d no_items

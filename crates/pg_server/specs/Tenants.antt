@@ -12,7 +12,7 @@ use Rattle.pg_tenant.specs.Listed.{AreListed}
 use Rattle.pg_tenant.specs.State.{State}
 use Rattle.pg_tenant.specs.TenantStates.{state_of}
 use Rattle.pg_tenant.specs.declared.tenant.Tenant.{Tenant}
-use Rattle.pg_value.specs.Texts.{comes_again}
+use Rattle.pg_value.specs.Texts.{has_duplicate}
 
 -- each tenant with the graph and the begin of its place
 abbrev pub states_of : List Tenant → List Graph → List (Option Begun) → List State
@@ -31,7 +31,7 @@ pub record AllList (tenants : List Tenant) (names : List (List ℕ)) (pairs : Li
 -- no two tokens are equal, the map tells whose each is, each tenant has a graph, and a place for what was begun, and lists
 -- its graph's indexes
 pub record AreTenants (tokens : TokenPlaces) (tenants : List Tenant) (graphs : List Graph) (begins : List (Option Begun)) (names : List (List ℕ)) (pairs : List (List (ℕ × ℕ))) : Type 0 where
-  pub distinct : comes_again [] (all_tokens (map (λ t. t.settings) tenants)) ≡ false
+  pub distinct : has_duplicate [] (all_tokens (map (λ t. t.settings) tenants)) ≡ false
   pub told : TellsTenants tokens (map (λ t. t.settings) tenants)
   pub each : length graphs ≡ length tenants
   pub each_begun : length begins ≡ length tenants

@@ -3,7 +3,7 @@ ghost use Rattle.std.specs.Prelude.{◌≡◌, ◌≢◌, ◌<◌, ◌≤◌, �
 ghost use Rattle.std.specs.NonZero.{non_zero_usize_get};
 ghost use Rattle.pg_server.specs.Settings.{all_tokens};
 ghost use Rattle.pg_tenant.specs.Settings.{token_texts as texts_of};
-ghost use Rattle.pg_value.specs.Texts.{comes_again as seen_again};
+ghost use Rattle.pg_value.specs.Texts.{has_duplicate as seen_again};
 ghost use Rattle.pg_server.specs.Configuration.{configuration, HasTokensOnce, max_tenants, in_range as seen_in_range, tenant_in_range as seen_tenant, tenants_in_range as seen_tenants, settings_of_data, settings_of_draft};
 ghost use Rattle.serde_json.specs.View.{view};
 ghost use Rattle.pg_server.specs.declared.config_fault.ConfigFault.TheVariants.{OutOfRange, Memory};
@@ -12,7 +12,7 @@ use crate::config_fault::ConfigFault;
 use crate::draft::{Draft, TenantDraft, draft_of};
 use pg_meter::MaxElements;
 use pg_tenant::TenantSettings;
-use pg_value::comes_again;
+use pg_value::has_duplicate;
 use serde_json::Value as Json;
 use std::alloc::{AllocError, Global};
 use std::marker::Model;
@@ -169,7 +169,7 @@ fn has_token_twice(alloc: Global, tenants: &[TenantSettings]) -> Result<bool, Al
     for tenant in tenants {
         push_texts(&mut texts, tenant)?;
     }
-    comes_again(alloc, &texts)
+    has_duplicate(alloc, &texts)
 }
 
 /// Puts the texts of the tenant's tokens behind the others.

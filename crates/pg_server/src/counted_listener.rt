@@ -14,6 +14,7 @@ pub struct CountedListener<'a> {
 }
 
 impl<'a> CountedListener<'a> {
+    /// Counts from nothing: a connection that waits already counts once it is given.
     pub fn new(listener: &'a TcpListener) -> Self
         ensures accepted { accepted_at result ≡ 0 }
         ensures faults { faults_at result ≡ 0 }

@@ -3,7 +3,7 @@ ghost use Rattle.std.specs.Prelude.{◌≡◌, ◌≢◌, IfOk, IfErr, Some, Non
 ghost use Rattle.pg_json.specs.Requests.{has_only as seen_only, is_one_of as seen_one_of};
 ghost use Rattle.serde_json.specs.Find.{as_object};
 ghost use Rattle.serde_json.specs.View.{view, items_view, members_view};
-ghost use Rattle.pg_server.specs.Draft.{text_at as seen_text, number_at as seen_number, number_or_zero as seen_or_zero, list_at as seen_list, if_any, each, rights_of as seen_rights, token_of as seen_token, tenant_of as seen_tenant, draft_of as seen_draft, name_of as seen_name, is_object_of};
+ghost use Rattle.pg_server.specs.Draft.{text_at as seen_text, number_at as seen_number, number_or_zero as seen_or_zero, list_at as seen_list, each, rights_of as seen_rights, token_of as seen_token, tenant_of as seen_tenant, draft_of as seen_draft, name_of as seen_name, is_object_of};
 ghost use Rattle.pg_server.specs.declared.config_fault.ConfigFault.TheVariants.{WrongShape, Memory};
 
 use crate::config_fault::ConfigFault;

@@ -22,7 +22,7 @@ ghost use Rattle.pg_tenant.specs.Settings.{standing_token};
 ghost use Rattle.pg_tenant.specs.State.{is_open, opening};
 ghost use Rattle.pg_tenant.specs.Step.{AddsNames, reply_of};
 ghost use Rattle.pg_tenant.specs.TenantStates.{opening_state};
-ghost use Rattle.pg_value.specs.Texts.{comes_again};
+ghost use Rattle.pg_value.specs.Texts.{has_duplicate};
 
 use crate::answered::{Answered, refused};
 use crate::config::Config;
@@ -114,7 +114,7 @@ impl<T: Tables> Server<T> {
     /// Shows that each tenant's graph is one, and that no token is two tenants'.
     fn show_tenants(&self)
         ensures graphs { (t : ℕ) → IsGraph (state_at self.now.state t).graph }
-        ensures distinct { comes_again [] (all_tokens (settings_of self.now.state)) ≡ false }
+        ensures distinct { has_duplicate [] (all_tokens (settings_of self.now.state)) ≡ false }
     {
         let _ = self.graphs.shared();
     }
@@ -310,8 +310,8 @@ impl<T: Tables> Server<T> {
         ensures names { AddsNames result.reply self.old.state.names self.new.state.names }
         ensures notes { Notes self.old.state.tenants
             (request_view request) result.reply (is_some result.changed) self.new.state.tenants }
-        ensures place { IfSome result.changed
-            (λ place. place_of (token_of (request_view request)) self.old.state.tenants ≡ Some place) }
+        ensures place { IfSome result.changed (λ place.
+            place_of (token_of (request_view request)) self.old.state.tenants ≡ Some place) }
     {
         match self.tokens.place(request.token()) {
             Some(place) => self.answer_at(place, request),

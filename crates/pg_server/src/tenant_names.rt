@@ -1,10 +1,10 @@
 //! The names of tenants, for what outlasts their tokens.
 ghost use Rattle.std.specs.Prelude.{◌≡◌, ◌≤◌, ℕ, [], false, bytes_eq, is_some, length, map, not, position, slice_index_or, string_bytes, IfOk, IfSome};
 ghost use Rattle.pg_server.specs.TenantNames.{AreWithin};
-ghost use Rattle.pg_value.specs.Texts.{comes_again as seen_again};
+ghost use Rattle.pg_value.specs.Texts.{has_duplicate as seen_again};
 
 use crate::config::Config;
-use pg_value::comes_again;
+use pg_value::has_duplicate;
 use std::alloc::{AllocError, Global};
 use std::marker::Model;
 
@@ -19,13 +19,13 @@ pub struct TenantNames {
 impl Model for TenantNames {
     ghost use Rattle.std.specs.Prelude.{◌≡◌, false, ℕ, List, [], map, string_bytes};
     ghost use Rattle.pg_server.specs.TenantNames.{AreWithin};
-    ghost use Rattle.pg_value.specs.Texts.{comes_again};
+    ghost use Rattle.pg_value.specs.Texts.{has_duplicate};
 
     ghost Value = { List (List ℕ) };
 
     ghost view = { λ n. map string_bytes n.names.items };
 
-    ghost invariant = { λ n. (comes_again [] (map string_bytes n.names.items) ≡ false)
+    ghost invariant = { λ n. (has_duplicate [] (map string_bytes n.names.items) ≡ false)
         × AreWithin n.longest (map string_bytes n.names.items) };
 }
 
@@ -92,7 +92,7 @@ fn has_name_twice(alloc: Global, names: &[String]) -> Result<bool, AllocError>
     for name in names {
         texts.push(name.as_str())?;
     }
-    comes_again(alloc, &texts)
+    has_duplicate(alloc, &texts)
 }
 
 fn longest_of(names: &[String]) -> usize

@@ -54,7 +54,7 @@ module _ {T S : Type 0} (seen : Seen T S) where
     now : Undoes before.names e (state_of seen old before) (state_of seen new after)
     now = subst (Undoes before.names e (state_of seen old before)) (sym is) undoes
 
-    pub changed_fit : Grows (has_in old.sets) (has_in new.sets) → Covers (has_in new.sets) s → AreNoted (is_in new.sets) new.sets.dust.items s → seen.fits new.tables after.tables → IsFit seen new after
+    pub changed_fit : Grows (has_in old.sets) (has_in new.sets) → Covers (has_in new.sets) s → AreNoted (is_in new.sets) new.sets.stale_ids.items s → seen.fits new.tables after.tables → IsFit seen new after
     changed_fit grows covers noted fits = record {
       fits = fits;
       well = subst (λ (ns : List (List ℕ)). IsWell ns (state_of seen new after)) (sym names) now.well;
@@ -62,9 +62,9 @@ module _ {T S : Type 0} (seen : Seen T S) where
           (pushed before.names old.journal.items new.journal.items e (state_of seen old before) (state_of seen new after) journal now.back now.can fit.well fit.journal);
       covered = covered_pushed (has_in new.sets) old.journal.items new.journal.items e (state_of seen old before) (state_of seen new after) journal now.back
           (grown_covered (has_in old.sets) (has_in new.sets) grows old.journal.items (state_of seen old before) fit.covered) (subst (Covers (has_in new.sets)) (sym is) covers);
-      noted = noted_pushed (is_in new.sets) new.sets.dust.items old.journal.items new.journal.items e (state_of seen old before) (state_of seen new after) journal now.back
-          (all_noted_still (is_in old.sets) (is_in new.sets) old.sets.dust.items new.sets.dust.items gains.come gains.stay old.journal.items (state_of seen old before) fit.noted)
-          (subst (AreNoted (is_in new.sets) new.sets.dust.items) (sym is) noted);
+      noted = noted_pushed (is_in new.sets) new.sets.stale_ids.items old.journal.items new.journal.items e (state_of seen old before) (state_of seen new after) journal now.back
+          (all_noted_still (is_in old.sets) (is_in new.sets) old.sets.stale_ids.items new.sets.stale_ids.items gains.come gains.stay old.journal.items (state_of seen old before) fit.noted)
+          (subst (AreNoted (is_in new.sets) new.sets.stale_ids.items) (sym is) noted);
       none_gone = none_gone_pushed old.journal.items new.journal.items e (state_of seen old before) (state_of seen new after) journal now.back fit.none_gone;
     }
 
@@ -96,9 +96,9 @@ module _ {T S : Type 0} (seen : Seen T S) where
         (subst (λ (es : List Entry). CanUndo before.names es (state_of seen new after)) (sym journal) (subst (CanUndo before.names old.journal.items) (sym is) fit.journal));
     covered = subst (λ (es : List Entry). HasCovered (has_in new.sets) es (state_of seen new after)) (sym journal)
         (subst (HasCovered (has_in new.sets) old.journal.items) (sym is) (grown_covered (has_in old.sets) (has_in new.sets) grows old.journal.items (state_of seen old before) fit.covered));
-    noted = subst (λ (es : List Entry). HasNoted (is_in new.sets) new.sets.dust.items es (state_of seen new after)) (sym journal)
-        (subst (HasNoted (is_in new.sets) new.sets.dust.items old.journal.items) (sym is)
-        (all_noted_still (is_in old.sets) (is_in new.sets) old.sets.dust.items new.sets.dust.items gains.come gains.stay old.journal.items (state_of seen old before) fit.noted));
+    noted = subst (λ (es : List Entry). HasNoted (is_in new.sets) new.sets.stale_ids.items es (state_of seen new after)) (sym journal)
+        (subst (HasNoted (is_in new.sets) new.sets.stale_ids.items old.journal.items) (sym is)
+        (all_noted_still (is_in old.sets) (is_in new.sets) old.sets.stale_ids.items new.sets.stale_ids.items gains.come gains.stay old.journal.items (state_of seen old before) fit.noted));
     none_gone = subst (λ (es : List Entry). NoneGone (undone es (state_of seen new after))) (sym journal) (subst (λ (s : State). NoneGone (undone old.journal.items s)) (sym is) fit.none_gone);
   }
 
@@ -107,13 +107,13 @@ module _ {T S : Type 0} (seen : Seen T S) where
     abbrev pub with_sets : Store T
     with_sets = record store { sets = sets }
 
-    pub grown_fit : Grows (has_in store.sets) (has_in sets) → ((k : Key) (i : ℕ) → is_in sets k i ≡ true → (is_in store.sets k i || is_noted sets.dust.items k i) ≡ true) → StayNoted store.sets.dust.items sets.dust.items → IsFit seen with_sets shared
+    pub grown_fit : Grows (has_in store.sets) (has_in sets) → ((k : Key) (i : ℕ) → is_in sets k i ≡ true → (is_in store.sets k i || is_noted sets.stale_ids.items k i) ≡ true) → StayNoted store.sets.stale_ids.items sets.stale_ids.items → IsFit seen with_sets shared
     grown_fit grows come stay = record {
       fits = fit.fits;
       well = fit.well;
       journal = fit.journal;
       covered = grown_covered (has_in store.sets) (has_in sets) grows store.journal.items (state_of seen store shared) fit.covered;
-      noted = all_noted_still (is_in store.sets) (is_in sets) store.sets.dust.items sets.dust.items come stay store.journal.items (state_of seen store shared) fit.noted;
+      noted = all_noted_still (is_in store.sets) (is_in sets) store.sets.stale_ids.items sets.stale_ids.items come stay store.journal.items (state_of seen store shared) fit.noted;
       none_gone = fit.none_gone;
     }
 

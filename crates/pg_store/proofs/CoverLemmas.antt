@@ -1,4 +1,4 @@
--- Sets that cover a state, through each change and back.
+-- Sets that insert_id a state, through each change and back.
 use Rattle.std.proofs.Common.{◌≡◌, ℕ, Bool, true, false, List, [], ◌∷◌, ◌++◌, Option, Some, None, inl, inr, refl, sym, ap, subst, ◌∙◌}
 use Rattle.std.proofs.lemmas.Bool.{cases_eq}
 use Rattle.std.specs.FinMap as map
@@ -12,7 +12,7 @@ use Rattle.pg_graph.specs.Stored.{has_number}
 use Rattle.pg_graph.specs.declared.records.NodeRecord.{NodeRecord}
 use Rattle.pg_graph.specs.declared.records.RelRecord.{RelRecord}
 use Rattle.pg_store.proofs.JournalLemmas.{undone_last}
-use Rattle.pg_store.specs.Covers.{FindAlike, Key, every, with_label, with_value, key_of, Covers, HasCovered, belongs}
+use Rattle.pg_store.specs.Covers.{FindAlike, Key, every, with_label, with_value, label_set_key, Covers, HasCovered, belongs}
 use Rattle.pg_store.specs.Journal.{State, undo_one, undone}
 use Rattle.pg_store.specs.declared.journal.Entry.{Entry}
 use Rattle.pg_value_core.specs.declared.value.Value.{Value}
@@ -91,8 +91,8 @@ swept_covers a b key id s others strange c = λ k i n is found. by_test k i n is
         let alike = at.0 n in
         absurd (cc (found, alike, not_there))
 
--- a node that its labels' sets and the property indexes cover
-pub all_covered : (a b : Has) (n : NodeRecord) (id : ℕ) → Grows a b → ((k : Option ℕ) → has_number k n ≡ true → a (key_of k) id ≡ true)
+-- a node that its labels' sets and the property indexes insert_id
+pub all_covered : (a b : Has) (n : NodeRecord) (id : ℕ) → Grows a b → ((k : Option ℕ) → has_number k n ≡ true → a (label_set_key k) id ≡ true)
     → ((label key : ℕ) (v : Value) → belongs (with_value label key v) n ≡ true → b (with_value label key v) id ≡ true) → (k : Key) → belongs k n ≡ true → b k id ≡ true
 all_covered a b n id grows labels values every h = grows every id (labels None refl)
 all_covered a b n id grows labels values (with_label label) h = grows (with_label label) id (labels (Some label) h)

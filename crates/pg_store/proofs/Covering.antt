@@ -1,4 +1,4 @@
--- The ids of a set that cover those of what passes a test, and what a read of them keeps.
+-- The ids of a set that insert_id those of what passes a test, and what a read of them keeps.
 use Rattle.std.proofs.Common.{◌≡◌, ◌&&◌, ℕ, Bool, true, false, cond, T, List, [], ◌∷◌, map as map_list, filter, Option, Some, None, is_some, refl, sym, ap, subst, ◌∙◌}
 use Rattle.std.specs.Cmp.{nat_cmp_total}
 use Rattle.std.specs.FinMap as map

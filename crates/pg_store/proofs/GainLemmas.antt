@@ -23,14 +23,14 @@ use Rattle.pg_store.specs.declared.sets.Sets.{Sets}
 use Rattle.pg_value_core.specs.declared.value.Value.{Value}
 
 pub gains_none : (sets : Sets) → Gains sets sets
-gains_none sets = record { come = λ k i h. or_left (is_in sets k i) (is_noted sets.dust.items k i) h; stay = λ k i h. h; pairs = refl }
+gains_none sets = record { come = λ k i h. or_left (is_in sets k i) (is_noted sets.stale_ids.items k i) h; stay = λ k i h. h; pairs = refl }
 
 pub gains_then : (a b c : Sets) → Gains a b → Gains b c → Gains a c
 gains_then a b c p q = record {
   come = λ k i h.
-      or_either (is_in b k i) (is_noted c.dust.items k i) (is_in a k i || is_noted c.dust.items k i)
-      (λ g. or_on (is_in a k i) (is_noted b.dust.items k i) (is_in a k i) (is_noted c.dust.items k i) (λ e. e) (q.stay k i) (p.come k i g))
-      (or_right (is_in a k i) (is_noted c.dust.items k i))
+      or_either (is_in b k i) (is_noted c.stale_ids.items k i) (is_in a k i || is_noted c.stale_ids.items k i)
+      (λ g. or_on (is_in a k i) (is_noted b.stale_ids.items k i) (is_in a k i) (is_noted c.stale_ids.items k i) (λ e. e) (q.stay k i) (p.come k i g))
+      (or_right (is_in a k i) (is_noted c.stale_ids.items k i))
       (q.come k i h);
   stay = λ k i h. q.stay k i (p.stay k i h);
   pairs = q.pairs ∙ p.pairs;
@@ -46,18 +46,18 @@ alike_in old new alike (with_label l) i = ap (λ x. has_id (ids_at nat_cmp x l) 
 alike_in old new alike (with_value l k v) i = ap (λ (xs : _). some_finds xs.items l k v i) alike.2
 
 -- only notes come
-pub gains_notes : (old new : Sets) → Alike old new → StayNoted old.dust.items new.dust.items → Gains old new
+pub gains_notes : (old new : Sets) → Alike old new → StayNoted old.stale_ids.items new.stale_ids.items → Gains old new
 gains_notes old new alike stay = record {
-  come = λ k i h. or_left (is_in old k i) (is_noted new.dust.items k i) (sym (alike_in old new alike k i) ∙ h);
+  come = λ k i h. or_left (is_in old k i) (is_noted new.stale_ids.items k i) (sym (alike_in old new alike k i) ∙ h);
   stay = stay;
   pairs = ap (λ (xs : _). pairs_of xs.items) alike.2;
 }
 
-module _ (old new : Sets) (id : ℕ) (stay : StayNoted old.dust.items new.dust.items) (indexes : new.indexes ≡ old.indexes) where
-  here_or_there : (k : Key) (i : ℕ) (was now : Bool) → (i ≢ id → now ≡ true → was ≡ true) → is_noted new.dust.items k id ≡ true → now ≡ true → (was || is_noted new.dust.items k i) ≡ true
+module _ (old new : Sets) (id : ℕ) (stay : StayNoted old.stale_ids.items new.stale_ids.items) (indexes : new.indexes ≡ old.indexes) where
+  here_or_there : (k : Key) (i : ℕ) (was now : Bool) → (i ≢ id → now ≡ true → was ≡ true) → is_noted new.stale_ids.items k id ≡ true → now ≡ true → (was || is_noted new.stale_ids.items k i) ≡ true
   here_or_there k i was now other noted h = elim (cases_eq i id) [
-    | inl same ↦ or_right was (is_noted new.dust.items k i) (ap (is_noted new.dust.items k) same ∙ noted)
-    | inr ne ↦ or_left was (is_noted new.dust.items k i) (other ne h)
+    | inl same ↦ or_right was (is_noted new.stale_ids.items k i) (ap (is_noted new.stale_ids.items k) same ∙ noted)
+    | inr ne ↦ or_left was (is_noted new.stale_ids.items k i) (other ne h)
   ]
 
   -- an id comes under a label
@@ -68,32 +68,32 @@ module _ (old new : Sets) (id : ℕ) (stay : StayNoted old.dust.items new.dust.i
     abbrev Same : Type 0
     Same = (q : ℕ) → ids_at nat_cmp new.labels q ≡ ids_at nat_cmp old.labels q
 
-    label_comes : {V E : Type 0} (r : Result V E) → OnOk r Put → OnErr r Same → is_noted new.dust.items (with_label l) id ≡ true → (k : Key) (i : ℕ) → is_in new k i ≡ true → (is_in old k i || is_noted new.dust.items k i) ≡ true
-    label_comes r put same noted every i h = or_left (has_id old.all i) (is_noted new.dust.items every i) (ap (λ (ids : Ids). has_id ids i) (sym all) ∙ h)
-    label_comes r put same noted (with_value q k v) i h = or_left (some_finds old.indexes.items q k v i) (is_noted new.dust.items (with_value q k v) i) (ap (λ (xs : _). some_finds xs.items q k v i) (sym indexes) ∙ h)
-    label_comes (Err e) put same noted (with_label q) i h = or_left (has_id (ids_at nat_cmp old.labels q) i) (is_noted new.dust.items (with_label q) i) (ap (λ (ids : Ids). has_id ids i) (sym (same q)) ∙ h)
+    label_comes : {V E : Type 0} (r : Result V E) → OnOk r Put → OnErr r Same → is_noted new.stale_ids.items (with_label l) id ≡ true → (k : Key) (i : ℕ) → is_in new k i ≡ true → (is_in old k i || is_noted new.stale_ids.items k i) ≡ true
+    label_comes r put same noted every i h = or_left (has_id old.all i) (is_noted new.stale_ids.items every i) (ap (λ (ids : Ids). has_id ids i) (sym all) ∙ h)
+    label_comes r put same noted (with_value q k v) i h = or_left (some_finds old.indexes.items q k v i) (is_noted new.stale_ids.items (with_value q k v) i) (ap (λ (xs : _). some_finds xs.items q k v i) (sym indexes) ∙ h)
+    label_comes (Err e) put same noted (with_label q) i h = or_left (has_id (ids_at nat_cmp old.labels q) i) (is_noted new.stale_ids.items (with_label q) i) (ap (λ (ids : Ids). has_id ids i) (sym (same q)) ∙ h)
     label_comes (Ok x) put same noted (with_label q) i h = by_test (is_at (nat_cmp l) q) refl (sym (ap (λ (ids : Ids). has_id ids i) (put q)) ∙ h)
       where
-        by_test : (b : Bool) → is_at (nat_cmp l) q ≡ b → has_id (cond b (map.insert (ids_at nat_cmp old.labels l) id tt) (ids_at nat_cmp old.labels q)) i ≡ true → (is_in old (with_label q) i || is_noted new.dust.items (with_label q) i) ≡ true
-        by_test false is h = or_left (has_id (ids_at nat_cmp old.labels q) i) (is_noted new.dust.items (with_label q) i) h
+        by_test : (b : Bool) → is_at (nat_cmp l) q ≡ b → has_id (cond b (map.insert (ids_at nat_cmp old.labels l) id tt) (ids_at nat_cmp old.labels q)) i ≡ true → (is_in old (with_label q) i || is_noted new.stale_ids.items (with_label q) i) ≡ true
+        by_test false is h = or_left (has_id (ids_at nat_cmp old.labels q) i) (is_noted new.stale_ids.items (with_label q) i) h
         by_test true is h =
             here_or_there (with_label q) i (has_id (ids_at nat_cmp old.labels q) i) (has_id (map.insert (ids_at nat_cmp old.labels l) id tt) i)
             (λ ne g. ap (λ m. has_id (ids_at nat_cmp old.labels m) i) (sym (one_label l q is)) ∙ sym (has_inserted_other (ids_at nat_cmp old.labels l) id i ne) ∙ g)
-            (ap (λ m. is_noted new.dust.items (with_label m) id) (sym (one_label l q is)) ∙ noted) h
+            (ap (λ m. is_noted new.stale_ids.items (with_label m) id) (sym (one_label l q is)) ∙ noted) h
 
-    pub label_gains : {V E : Type 0} (r : Result V E) → OnOk r Put → OnErr r Same → is_noted new.dust.items (with_label l) id ≡ true → Gains old new
+    pub label_gains : {V E : Type 0} (r : Result V E) → OnOk r Put → OnErr r Same → is_noted new.stale_ids.items (with_label l) id ≡ true → Gains old new
     label_gains r put same noted = record { come = label_comes r put same noted; stay = stay; pairs = ap (λ (xs : _). pairs_of xs.items) indexes }
 
   -- an id comes to all nodes
   module _ (labels : new.labels ≡ old.labels) where
-    all_comes : {V E : Type 0} (r : Result V E) → OnOk r (new.all ≡ map.insert old.all id tt) → OnErr r (new.all ≡ old.all) → is_noted new.dust.items every id ≡ true → (k : Key) (i : ℕ) → is_in new k i ≡ true → (is_in old k i || is_noted new.dust.items k i) ≡ true
-    all_comes r put same noted (with_label q) i h = or_left (has_id (ids_at nat_cmp old.labels q) i) (is_noted new.dust.items (with_label q) i) (ap (λ x. has_id (ids_at nat_cmp x q) i) (sym labels) ∙ h)
-    all_comes r put same noted (with_value q k v) i h = or_left (some_finds old.indexes.items q k v i) (is_noted new.dust.items (with_value q k v) i) (ap (λ (xs : _). some_finds xs.items q k v i) (sym indexes) ∙ h)
-    all_comes (Err e) put same noted every i h = or_left (has_id old.all i) (is_noted new.dust.items every i) (ap (λ (ids : Ids). has_id ids i) (sym same) ∙ h)
+    all_comes : {V E : Type 0} (r : Result V E) → OnOk r (new.all ≡ map.insert old.all id tt) → OnErr r (new.all ≡ old.all) → is_noted new.stale_ids.items every id ≡ true → (k : Key) (i : ℕ) → is_in new k i ≡ true → (is_in old k i || is_noted new.stale_ids.items k i) ≡ true
+    all_comes r put same noted (with_label q) i h = or_left (has_id (ids_at nat_cmp old.labels q) i) (is_noted new.stale_ids.items (with_label q) i) (ap (λ x. has_id (ids_at nat_cmp x q) i) (sym labels) ∙ h)
+    all_comes r put same noted (with_value q k v) i h = or_left (some_finds old.indexes.items q k v i) (is_noted new.stale_ids.items (with_value q k v) i) (ap (λ (xs : _). some_finds xs.items q k v i) (sym indexes) ∙ h)
+    all_comes (Err e) put same noted every i h = or_left (has_id old.all i) (is_noted new.stale_ids.items every i) (ap (λ (ids : Ids). has_id ids i) (sym same) ∙ h)
     all_comes (Ok x) put same noted every i h =
         here_or_there every i (has_id old.all i) (has_id (map.insert old.all id tt) i) (λ ne g. sym (has_inserted_other old.all id i ne) ∙ g) noted (ap (λ (ids : Ids). has_id ids i) (sym put) ∙ h)
 
-    pub all_gains : {V E : Type 0} (r : Result V E) → OnOk r (new.all ≡ map.insert old.all id tt) → OnErr r (new.all ≡ old.all) → is_noted new.dust.items every id ≡ true → Gains old new
+    pub all_gains : {V E : Type 0} (r : Result V E) → OnOk r (new.all ≡ map.insert old.all id tt) → OnErr r (new.all ≡ old.all) → is_noted new.stale_ids.items every id ≡ true → Gains old new
     all_gains r put same noted = record { come = all_comes r put same noted; stay = stay; pairs = ap (λ (xs : _). pairs_of xs.items) indexes }
 
 -- where an index finds an id, there is one
@@ -103,24 +103,24 @@ some_pair (x ∷ xs) l k v i h =
     or_on (is_for x l k && finds x v i) (some_finds xs l k v i) (is_for x l k) (has_pair (l, k) (pairs_of xs)) (and_left (is_for x l k) (finds x v i)) (some_pair xs l k v i) h
 
 -- only indexes gain an id
-pub values_gain : (old new : Sets) (n : NodeRecord) (id : ℕ) → new.all ≡ old.all → new.labels ≡ old.labels → StayNoted old.dust.items new.dust.items → pairs_of new.indexes.items ≡ pairs_of old.indexes.items
+pub values_gain : (old new : Sets) (n : NodeRecord) (id : ℕ) → new.all ≡ old.all → new.labels ≡ old.labels → StayNoted old.stale_ids.items new.stale_ids.items → pairs_of new.indexes.items ≡ pairs_of old.indexes.items
     → ((l k : ℕ) (v : Value) (i : ℕ) → some_finds new.indexes.items l k v i ≡ true → (some_finds old.indexes.items l k v i || (is_found_by l k v n && i == id)) ≡ true)
-    → ((l k : ℕ) (v : Value) → has_pair (l, k) (pairs_of old.indexes.items) ≡ true → is_found_by l k v n ≡ true → (some_finds old.indexes.items l k v id || is_noted new.dust.items (with_value l k v) id) ≡ true)
+    → ((l k : ℕ) (v : Value) → has_pair (l, k) (pairs_of old.indexes.items) ≡ true → is_found_by l k v n ≡ true → (some_finds old.indexes.items l k v id || is_noted new.stale_ids.items (with_value l k v) id) ≡ true)
     → Gains old new
 values_gain old new n id all labels stay pairs come arrive = record { come = each; stay = stay; pairs = pairs }
   where
     number_is : (a b : ℕ) → (a == b) ≡ true → a ≡ b
     number_is a b h = grind (arith, nat_tests)
 
-    each : (k : Key) (i : ℕ) → is_in new k i ≡ true → (is_in old k i || is_noted new.dust.items k i) ≡ true
-    each every i h = or_left (has_id old.all i) (is_noted new.dust.items every i) (ap (λ (ids : Ids). has_id ids i) (sym all) ∙ h)
-    each (with_label q) i h = or_left (has_id (ids_at nat_cmp old.labels q) i) (is_noted new.dust.items (with_label q) i) (ap (λ x. has_id (ids_at nat_cmp x q) i) (sym labels) ∙ h)
+    each : (k : Key) (i : ℕ) → is_in new k i ≡ true → (is_in old k i || is_noted new.stale_ids.items k i) ≡ true
+    each every i h = or_left (has_id old.all i) (is_noted new.stale_ids.items every i) (ap (λ (ids : Ids). has_id ids i) (sym all) ∙ h)
+    each (with_label q) i h = or_left (has_id (ids_at nat_cmp old.labels q) i) (is_noted new.stale_ids.items (with_label q) i) (ap (λ x. has_id (ids_at nat_cmp x q) i) (sym labels) ∙ h)
     each (with_value l k v) i h =
-        or_either (some_finds old.indexes.items l k v i) (is_found_by l k v n && i == id) (some_finds old.indexes.items l k v i || is_noted new.dust.items (with_value l k v) i)
-        (or_left (some_finds old.indexes.items l k v i) (is_noted new.dust.items (with_value l k v) i))
+        or_either (some_finds old.indexes.items l k v i) (is_found_by l k v n && i == id) (some_finds old.indexes.items l k v i || is_noted new.stale_ids.items (with_value l k v) i)
+        (or_left (some_finds old.indexes.items l k v i) (is_noted new.stale_ids.items (with_value l k v) i))
         (λ found.
         let same : i ≡ id = number_is i id (and_right (is_found_by l k v n) (i == id) found) in
-        ap (λ j. some_finds old.indexes.items l k v j || is_noted new.dust.items (with_value l k v) j) same
+        ap (λ j. some_finds old.indexes.items l k v j || is_noted new.stale_ids.items (with_value l k v) j) same
         ∙ arrive l k v (ap (has_pair (l, k)) (sym pairs) ∙ some_pair new.indexes.items l k v i h) (and_left (is_found_by l k v n) (i == id) found))
         (come l k v i h)
 

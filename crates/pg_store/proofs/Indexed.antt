@@ -288,26 +288,26 @@ indexed_covers old new s x label key all labels more is by filled covers (with_v
     let k_is : k ≡ key = sym (same_number x.key k (and_right (x.label == l) (x.key == k) same)) ∙ by in
     filled i n v at (ap (λ q. is_found_by q key v n) (sym l_is) ∙ ap (λ q. is_found_by l q v n) (sym k_is) ∙ found))
 
-pub indexed_fit : {T S K : Type 0} (seen : Seen T S) (store : Store T) (shared : Shared S K) (sets : Sets) → IsFit seen store shared → store.journal.items ≡ [] → Covers (has_in sets) (state_of seen store shared) → AreNoted (is_in sets) sets.dust.items (state_of seen store shared) → IsFit seen (record store { sets = sets }) shared
+pub indexed_fit : {T S K : Type 0} (seen : Seen T S) (store : Store T) (shared : Shared S K) (sets : Sets) → IsFit seen store shared → store.journal.items ≡ [] → Covers (has_in sets) (state_of seen store shared) → AreNoted (is_in sets) sets.stale_ids.items (state_of seen store shared) → IsFit seen (record store { sets = sets }) shared
 indexed_fit seen store shared sets fit nothing covers noted = record {
   fits = fit.fits;
   well = fit.well;
   journal = fit.journal;
   covered = subst (λ (es : List Entry). HasCovered (has_in sets) es (state_of seen store shared)) (sym nothing) covers;
-  noted = subst (λ (es : List Entry). HasNoted (is_in sets) sets.dust.items es (state_of seen store shared)) (sym nothing) noted;
+  noted = subst (λ (es : List Entry). HasNoted (is_in sets) sets.stale_ids.items es (state_of seen store shared)) (sym nothing) noted;
   none_gone = fit.none_gone;
 }
 
 -- sets with one index more, which has only nodes that belong there
-indexed_noted : (old new : Sets) (s : State) (x : PropertyIndex) (label key : ℕ) → new.all ≡ old.all → new.labels ≡ old.labels → new.dust ≡ old.dust → new.indexes.items ≡ old.indexes.items ++ x ∷ []
+indexed_noted : (old new : Sets) (s : State) (x : PropertyIndex) (label key : ℕ) → new.all ≡ old.all → new.labels ≡ old.labels → new.stale_ids ≡ old.stale_ids → new.indexes.items ≡ old.indexes.items ++ x ∷ []
     → x.label ≡ label → x.key ≡ key → ((i : ℕ) (v : Value) → finds x v i ≡ true → is_there s (with_value label key v) i ≡ true)
-    → AreNoted (is_in old) old.dust.items s → AreNoted (is_in new) new.dust.items s
-indexed_noted old new s x label key all labels dust more is by only was every i h = ap (λ ns. is_there s every i || is_noted ns.items every i) dust ∙ was every i (ap (λ ids. is_in (record old { all = ids }) every i) (sym all) ∙ h)
-indexed_noted old new s x label key all labels dust more is by only was (with_label l) i h = ap (λ ns. is_there s (with_label l) i || is_noted ns.items (with_label l) i) dust ∙ was (with_label l) i (ap (λ ids. is_in (record old { labels = ids }) (with_label l) i) (sym labels) ∙ h)
-indexed_noted old new s x label key all labels dust more is by only was (with_value l k v) i h =
-    ap (λ ns. is_there s (with_value l k v) i || is_noted ns.items (with_value l k v) i) dust
-    ∙ or_either (some_finds old.indexes.items l k v i) ((is_for x l k && finds x v i) || false) (is_there s (with_value l k v) i || is_noted old.dust.items (with_value l k v) i) (was (with_value l k v) i)
-    (λ g. or_left (is_there s (with_value l k v) i) (is_noted old.dust.items (with_value l k v) i) (here (alone (is_for x l k && finds x v i) g)))
+    → AreNoted (is_in old) old.stale_ids.items s → AreNoted (is_in new) new.stale_ids.items s
+indexed_noted old new s x label key all labels stale_ids more is by only was every i h = ap (λ ns. is_there s every i || is_noted ns.items every i) stale_ids ∙ was every i (ap (λ ids. is_in (record old { all = ids }) every i) (sym all) ∙ h)
+indexed_noted old new s x label key all labels stale_ids more is by only was (with_label l) i h = ap (λ ns. is_there s (with_label l) i || is_noted ns.items (with_label l) i) stale_ids ∙ was (with_label l) i (ap (λ ids. is_in (record old { labels = ids }) (with_label l) i) (sym labels) ∙ h)
+indexed_noted old new s x label key all labels stale_ids more is by only was (with_value l k v) i h =
+    ap (λ ns. is_there s (with_value l k v) i || is_noted ns.items (with_value l k v) i) stale_ids
+    ∙ or_either (some_finds old.indexes.items l k v i) ((is_for x l k && finds x v i) || false) (is_there s (with_value l k v) i || is_noted old.stale_ids.items (with_value l k v) i) (was (with_value l k v) i)
+    (λ g. or_left (is_there s (with_value l k v) i) (is_noted old.stale_ids.items (with_value l k v) i) (here (alone (is_for x l k && finds x v i) g)))
     (sym (ap (λ xs. some_finds xs l k v i) more ∙ list_any-append (λ y. is_for y l k && finds y v i) old.indexes.items (x ∷ [])) ∙ h)
   where
     alone : (b : Bool) → (b || false) ≡ true → b ≡ true
@@ -328,15 +328,15 @@ same_in old new all labels same (with_value l k v) i = ap (λ xs. some_finds xs 
 
 -- an index that was filled is kept, or found no memory
 pub kept_fit : {T S K V E : Type 0} (seen : Seen T S) (store : Store T) (shared : Shared S K) (sets : Sets) → IsFit seen store shared → store.journal.items ≡ [] → (x : PropertyIndex) (label key : ℕ)
-    → sets.all ≡ store.sets.all → sets.labels ≡ store.sets.labels → sets.dust ≡ store.sets.dust → x.label ≡ label → x.key ≡ key
+    → sets.all ≡ store.sets.all → sets.labels ≡ store.sets.labels → sets.stale_ids ≡ store.sets.stale_ids → x.label ≡ label → x.key ≡ key
     → ((i : ℕ) (n : NodeRecord) (v : Value) → map.get (state_of seen store shared).content.nodes i ≡ Some n → is_found_by label key v n ≡ true → finds x v i ≡ true)
     → ((i : ℕ) (v : Value) → finds x v i ≡ true → is_there (state_of seen store shared) (with_value label key v) i ≡ true)
     → (r : Result V E) → OnOk r (sets.indexes.items ≡ store.sets.indexes.items ++ x ∷ []) → OnErr r (sets.indexes.items ≡ store.sets.indexes.items) → IsFit seen (record store { sets = sets }) shared
-kept_fit seen store shared sets fit nothing x label key all labels dust is by filled only (Ok v) more same =
+kept_fit seen store shared sets fit nothing x label key all labels stale_ids is by filled only (Ok v) more same =
     indexed_fit seen store shared sets fit nothing
     (indexed_covers store.sets sets (state_of seen store shared) x label key all labels more is by filled (covers_now (has_in store.sets) store.journal.items (state_of seen store shared) fit.covered))
-    (indexed_noted store.sets sets (state_of seen store shared) x label key all labels dust more is by only (noted_now (is_in store.sets) store.sets.dust.items store.journal.items (state_of seen store shared) fit.noted))
-kept_fit seen store shared sets fit nothing x label key all labels dust is by filled only (Err e) more same =
+    (indexed_noted store.sets sets (state_of seen store shared) x label key all labels stale_ids more is by only (noted_now (is_in store.sets) store.sets.stale_ids.items store.journal.items (state_of seen store shared) fit.noted))
+kept_fit seen store shared sets fit nothing x label key all labels stale_ids is by filled only (Err e) more same =
     grown_fit seen store shared sets fit (fewer_grow store.sets sets all labels (λ l k v i h. ap (λ xs. all_find xs l k v i) same ∙ h))
-    (λ k i h. or_left (is_in store.sets k i) (is_noted sets.dust.items k i) (same_in store.sets sets all labels same k i ∙ h))
-    (λ k i h. ap (λ ns. is_noted ns.items k i) dust ∙ h)
+    (λ k i h. or_left (is_in store.sets k i) (is_noted sets.stale_ids.items k i) (same_in store.sets sets all labels same k i ∙ h))
+    (λ k i h. ap (λ ns. is_noted ns.items k i) stale_ids ∙ h)

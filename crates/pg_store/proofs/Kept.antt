@@ -99,7 +99,7 @@ module _ {T S K : Type 0} (seen : Seen T S) (store : Store T) (old new : Shared 
     well = subst (IsWell new.names) (sym same_state) (still_well old.names new.names keeps distinct was fit.well);
     journal = subst (CanUndo new.names store.journal.items) (sym same_state) (can_still_undo old.names new.names keeps distinct store.journal.items was fit.journal);
     covered = subst (HasCovered (has_in store.sets) store.journal.items) (sym same_state) fit.covered;
-    noted = subst (HasNoted (is_in store.sets) store.sets.dust.items store.journal.items) (sym same_state) fit.noted;
+    noted = subst (HasNoted (is_in store.sets) store.sets.stale_ids.items store.journal.items) (sym same_state) fit.noted;
     none_gone = subst (λ (s : State). NoneGone (undone store.journal.items s)) (sym same_state) fit.none_gone;
   }
 

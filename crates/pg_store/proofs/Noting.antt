@@ -27,33 +27,33 @@ use Rattle.pg_store.specs.declared.wanted.Place.{Place}
 use Rattle.pg_store.specs.Wanted.{place_key}
 use Rattle.pg_value_core.specs.declared.value.Value.{Value}
 
-abbrev pub Dust : Type 0
-Dust = List (Place × ℕ)
+abbrev pub StaleIds : Type 0
+StaleIds = List (Place × ℕ)
 
 -- ---- the journal
 
-module _ (has : Has) (dust : Dust) where
-  pub noted_now : (es : List Entry) (s : State) → HasNoted has dust es s → AreNoted has dust s
+module _ (has : Has) (stale_ids : StaleIds) where
+  pub noted_now : (es : List Entry) (s : State) → HasNoted has stale_ids es s → AreNoted has stale_ids s
   noted_now [] s h = h
   noted_now (e ∷ es) s h = noted_now es s h.1
 
-  noted_last : (es : List Entry) (e : Entry) (s : State) → HasNoted has dust es (undo_one e s) → AreNoted has dust s → HasNoted has dust (es ++ e ∷ []) s
+  noted_last : (es : List Entry) (e : Entry) (s : State) → HasNoted has stale_ids es (undo_one e s) → AreNoted has stale_ids s → HasNoted has stale_ids (es ++ e ∷ []) s
   noted_last [] e s h now = (h, now)
-  noted_last (x ∷ es) e s h now = (subst (λ (t : State). AreNoted has dust (undo_one x t)) (sym (undone_last es e s)) h.0, noted_last es e s h.1 now)
+  noted_last (x ∷ es) e s h now = (subst (λ (t : State). AreNoted has stale_ids (undo_one x t)) (sym (undone_last es e s)) h.0, noted_last es e s h.1 now)
 
-  noted_pop : (es : List Entry) (e : Entry) (s : State) → HasNoted has dust (es ++ e ∷ []) s → HasNoted has dust es (undo_one e s)
+  noted_pop : (es : List Entry) (e : Entry) (s : State) → HasNoted has stale_ids (es ++ e ∷ []) s → HasNoted has stale_ids es (undo_one e s)
   noted_pop [] e s h = h.0
-  noted_pop (x ∷ es) e s h = (subst (λ (t : State). AreNoted has dust (undo_one x t)) (undone_last es e s) h.0, noted_pop es e s h.1)
+  noted_pop (x ∷ es) e s h = (subst (λ (t : State). AreNoted has stale_ids (undo_one x t)) (undone_last es e s) h.0, noted_pop es e s h.1)
 
-  pub noted_pushed : (es es' : List Entry) (e : Entry) (s s' : State) → es' ≡ es ++ e ∷ [] → undo_one e s' ≡ s → HasNoted has dust es s → AreNoted has dust s' → HasNoted has dust es' s'
-  noted_pushed es es' e s s' is back all now = subst (λ xs. HasNoted has dust xs s') (sym is) (noted_last es e s' (subst (HasNoted has dust es) (sym back) all) now)
+  pub noted_pushed : (es es' : List Entry) (e : Entry) (s s' : State) → es' ≡ es ++ e ∷ [] → undo_one e s' ≡ s → HasNoted has stale_ids es s → AreNoted has stale_ids s' → HasNoted has stale_ids es' s'
+  noted_pushed es es' e s s' is back all now = subst (λ xs. HasNoted has stale_ids xs s') (sym is) (noted_last es e s' (subst (HasNoted has stale_ids es) (sym back) all) now)
 
-  pub noted_popped : (es es' : List Entry) (e : Entry) (s : State) → es' ≡ es ++ e ∷ [] → HasNoted has dust es' s → HasNoted has dust es (undo_one e s)
-  noted_popped es es' e s is all = noted_pop es e s (subst (λ xs. HasNoted has dust xs s) is all)
+  pub noted_popped : (es es' : List Entry) (e : Entry) (s : State) → es' ≡ es ++ e ∷ [] → HasNoted has stale_ids es' s → HasNoted has stale_ids es (undo_one e s)
+  noted_popped es es' e s is all = noted_pop es e s (subst (λ xs. HasNoted has stale_ids xs s) is all)
 
 -- ---- ids come with notes
 
-module _ (a b : Has) (old new : Dust) (come : (k : Key) (i : ℕ) → b k i ≡ true → (a k i || is_noted new k i) ≡ true) (stay : StayNoted old new) where
+module _ (a b : Has) (old new : StaleIds) (come : (k : Key) (i : ℕ) → b k i ≡ true → (a k i || is_noted new k i) ≡ true) (stay : StayNoted old new) where
   pub noted_still : (s : State) → AreNoted a old s → AreNoted b new s
   noted_still s was k i h =
       or_either (a k i) (is_noted new k i) (is_there s k i || is_noted new k i)
@@ -90,8 +90,8 @@ module _ (a b : Has) (old new : Dust) (come : (k : Key) (i : ℕ) → b k i ≡ 
         (λ k g there. or_right (is_there s' k id) (is_noted new k id) (mine k g there))
 
 -- the nodes that are there stay
-pub noted_alike : (has : Has) (dust : Dust) (s s' : State) → (live s').nodes ≡ (live s).nodes → AreNoted has dust s → AreNoted has dust s'
-noted_alike has dust s s' is was k i h = ap (λ (m : FinMap nat_cmp NodeRecord). option_map_or (belongs k) (map.get m i) false || is_noted dust k i) is ∙ was k i h
+pub noted_alike : (has : Has) (stale_ids : StaleIds) (s s' : State) → (live s').nodes ≡ (live s).nodes → AreNoted has stale_ids s → AreNoted has stale_ids s'
+noted_alike has stale_ids s s' is was k i h = ap (λ (m : FinMap nat_cmp NodeRecord). option_map_or (belongs k) (map.get m i) false || is_noted stale_ids k i) is ∙ was k i h
 
 -- ---- a node that is there
 
@@ -134,7 +134,7 @@ one_set (with_value l k v) (with_value m q w) n h =
 
 -- ---- one note less
 
-module _ (s : State) (old left : Dust) (place : Place) (id : ℕ) (is : old ≡ left ++ (place, id) ∷ []) where
+module _ (s : State) (old left : StaleIds) (place : Place) (id : ℕ) (is : old ≡ left ++ (place, id) ∷ []) where
   was_noted : (k : Key) (i : ℕ) → is_noted old k i ≡ true → (is_noted left k i || (same_key (place_key place) k && id == i)) ≡ true
   was_noted k i h =
       or_on (is_noted left k i) (is_noted ((place, id) ∷ []) k i) (is_noted left k i) (same_key (place_key place) k && id == i) (λ e. e) (λ e. alone (same_key (place_key place) k && id == i) e)
@@ -198,11 +198,11 @@ in_set sets every i h = refl
 in_set sets (with_label l) i h = refl
 in_set sets (with_value l k v) i h = some_pair sets.indexes.items l k v i h
 
-pub exact_when : (sets : Sets) (s : State) → sets.dust.items ≡ [] → Covers (has_in sets) s → AreNoted (is_in sets) sets.dust.items s → AreExact sets s
+pub exact_when : (sets : Sets) (s : State) → sets.stale_ids.items ≡ [] → Covers (has_in sets) s → AreNoted (is_in sets) sets.stale_ids.items s → AreExact sets s
 exact_when sets s none covers noted = record {
   none = none;
   exact = λ k i. both (is_in sets k i) (has_set sets k) (is_there s k i)
-      (λ h. and_both (has_set sets k) (is_there s k i) (in_set sets k i h) (nothing (is_there s k i) (is_noted sets.dust.items k i) (noted k i h) (ap (λ ns. is_noted ns k i) none)))
+      (λ h. and_both (has_set sets k) (is_there s k i) (in_set sets k i h) (nothing (is_there s k i) (is_noted sets.stale_ids.items k i) (noted k i h) (ap (λ ns. is_noted ns k i) none)))
       (λ there here. let n = held_there s k i (map.get (live s).nodes i) refl here in covers_in sets k i (covers k i n.0 n.1 n.2) there);
 }
   where

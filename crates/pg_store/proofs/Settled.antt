@@ -23,7 +23,7 @@ use Rattle.pg_meaning.specs.Graph.{element_count}
 use Rattle.pg_meaning.specs.Value.{null}
 use Rattle.pg_store.proofs.Changed.{node_stays, rel_stays}
 use Rattle.pg_store.proofs.CoverLemmas.{Has, covers_now, covers_with, covers_other_properties}
-use Rattle.pg_store.proofs.Noting.{Dust, noted_now, noted_with, there_is}
+use Rattle.pg_store.proofs.Noting.{StaleIds, noted_now, noted_with, there_is}
 use Rattle.pg_store.proofs.NoteLemmas.{or_left}
 use Rattle.pg_store.proofs.States.{live_with_node_changed, none_out, none_in, with_node_changed, node_changed, node_change_well, with_rel_changed, rel_changed, rel_change_well}
 use Rattle.std.specs.Option.{option_map, option_map_or}
@@ -174,11 +174,11 @@ blank_found n key blank (with_value l q v) h = elim (cases_eq q key) [
     last true b h = h
     last false b h = absurd (cc)
 
-pub noted_without_blank : (names : List (List ℕ)) (s : State) (id : NodeId) (key : ℕ) (n : NodeRecord) (well : IsWell names s) (there : map.get (live s).nodes id.0 ≡ Some n) (blank : map.get n.properties key ≡ Some null) (has : Has) (dust : Dust)
-    → AreNoted has dust s → AreNoted has dust (without_blank names s id key n well there blank)
-noted_without_blank names s id key n well there blank has dust was =
+pub noted_without_blank : (names : List (List ℕ)) (s : State) (id : NodeId) (key : ℕ) (n : NodeRecord) (well : IsWell names s) (there : map.get (live s).nodes id.0 ≡ Some n) (blank : map.get n.properties key ≡ Some null) (has : Has) (stale_ids : StaleIds)
+    → AreNoted has stale_ids s → AreNoted has stale_ids (without_blank names s id key n well there blank)
+noted_without_blank names s id key n well there blank has stale_ids was =
     let less = less_node names s id key n well there blank in
-    noted_with has has dust dust (λ k i h. or_left (has k i) _ h) (λ k i h. h) s (without_blank names s id key n well there blank) id.0 was less
+    noted_with has has stale_ids stale_ids (λ k i h. or_left (has k i) _ h) (λ k i h. h) s (without_blank names s id key n well there blank) id.0 was less
     (ap (λ (c : Content). c.nodes) (live_with_node_changed names s id less n well (some_node names s id key n well there blank) (node_is names s id key n well there blank).labels (keys_left names s id key n well there blank) (node_held_here names s id key n well there blank)))
     (λ k g h. or_left (belongs k less) _ (blank_found n key blank k (sym (there_is s k id.0 n there) ∙ h)))
 
@@ -230,7 +230,7 @@ module _ {T S : Type 0} (seen : Seen T S) where
       well = fit.well;
       journal = none;
       covered = covers_now (has_in store.sets) store.journal.items (state_of seen store shared) fit.covered;
-      noted = noted_now (is_in store.sets) store.sets.dust.items store.journal.items (state_of seen store shared) fit.noted;
+      noted = noted_now (is_in store.sets) store.sets.stale_ids.items store.journal.items (state_of seen store shared) fit.noted;
     }
 
     -- a store where nothing is left to undo, and what was removed is gone
@@ -243,7 +243,7 @@ module _ {T S : Type 0} (seen : Seen T S) where
       well = was.well;
       journal = subst (λ (es : List Entry). CanUndo shared.names es (state_of seen store shared)) (sym was.journal) tt;
       covered = subst (λ (es : List Entry). HasCovered (has_in store.sets) es (state_of seen store shared)) (sym was.journal) was.covered;
-      noted = subst (λ (es : List Entry). HasNoted (is_in store.sets) store.sets.dust.items es (state_of seen store shared)) (sym was.journal) was.noted;
+      noted = subst (λ (es : List Entry). HasNoted (is_in store.sets) store.sets.stale_ids.items es (state_of seen store shared)) (sym was.journal) was.noted;
       none_gone = subst (λ (es : List Entry). NoneGone (undone es (state_of seen store shared))) (sym was.journal) none;
     }
 
@@ -251,7 +251,7 @@ module _ {T S : Type 0} (seen : Seen T S) where
     settles_first was = record { settling = was; graph = refl; names = refl; keeps = keeps_refl store.tables shared.tables was.fits; pairs = refl }
 
   pub settles_on : {K : Type 0} (old now new : Store T) (before shared after : Shared S K) (s : State) → Settles seen old before now shared
-      → state_of seen new after ≡ s → IsWell shared.names s → Covers (has_in new.sets) s → AreNoted (is_in new.sets) new.sets.dust.items s → index_pairs new ≡ index_pairs now → graph_in shared.names s ≡ graph_of_store seen now shared → after.names ≡ shared.names → new.journal.items ≡ now.journal.items → Keeps seen now.tables shared.tables new.tables after.tables
+      → state_of seen new after ≡ s → IsWell shared.names s → Covers (has_in new.sets) s → AreNoted (is_in new.sets) new.sets.stale_ids.items s → index_pairs new ≡ index_pairs now → graph_in shared.names s ≡ graph_of_store seen now shared → after.names ≡ shared.names → new.journal.items ≡ now.journal.items → Keeps seen now.tables shared.tables new.tables after.tables
       → Settles seen old before new after
   settles_on old now new before shared after s was is well covers noted pairs same names journal keeps = record {
     settling = record {
@@ -259,7 +259,7 @@ module _ {T S : Type 0} (seen : Seen T S) where
       well = subst (λ (ns : List (List ℕ)). IsWell ns (state_of seen new after)) (sym names) (subst (IsWell shared.names) (sym is) well);
       journal = journal ∙ was.settling.journal;
       covered = subst (Covers (has_in new.sets)) (sym is) covers;
-      noted = subst (AreNoted (is_in new.sets) new.sets.dust.items) (sym is) noted;
+      noted = subst (AreNoted (is_in new.sets) new.sets.stale_ids.items) (sym is) noted;
     };
     graph = ap (λ (ns : List (List ℕ)). graph_in ns (state_of seen new after)) names ∙ ap (graph_in shared.names) is ∙ same ∙ was.graph;
     names = names ∙ was.names;

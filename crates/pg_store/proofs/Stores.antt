@@ -65,7 +65,7 @@ module _ {T S K : Type 0} (seen : Seen T S) (tables : T) (shared : Shared S K) (
     journal = subst (λ (es : List Entry). CanUndo shared.names es (state_of seen new_store shared)) (sym nothing_done) tt;
     covered = subst (λ (es : List Entry). HasCovered (has_in sets) es (state_of seen new_store shared)) (sym nothing_done)
         (λ k i n is number. absurd (cc (is, ap (λ (c : Content). map.get c.nodes i) empty, map.get-empty {X = NodeRecord} nat_cmp i)));
-    noted = subst (λ (es : List Entry). HasNoted (is_in sets) sets.dust.items es (state_of seen new_store shared)) (sym nothing_done) (λ k i h. let no = none k i in absurd (cc (h, no)));
+    noted = subst (λ (es : List Entry). HasNoted (is_in sets) sets.stale_ids.items es (state_of seen new_store shared)) (sym nothing_done) (λ k i h. let no = none k i in absurd (cc (h, no)));
     none_gone = subst (λ (es : List Entry). NoneGone (undone es (state_of seen new_store shared))) (sym nothing_done) (record { nodes = no_nodes; rels = no_rels });
   }
 

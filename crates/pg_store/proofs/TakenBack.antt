@@ -51,8 +51,8 @@ module _ {T S : Type 0} (seen : Seen T S) (mark : ℕ) where
           journal = subst (λ (ns : List (List ℕ)). CanUndo ns es (state_of seen new after)) (sym names) (subst (CanUndo shared.names es) (sym is) pop.2);
           covered = subst (λ (x : Sets). HasCovered (has_in x) es (state_of seen new after)) (sym sets)
               (subst (HasCovered (has_in now.sets) es) (sym is) (covered_popped (has_in now.sets) es now.journal.items e s items was.fit.covered));
-          noted = subst (λ (x : Sets). HasNoted (is_in x) x.dust.items es (state_of seen new after)) (sym sets)
-              (subst (HasNoted (is_in now.sets) now.sets.dust.items es) (sym is) (noted_popped (is_in now.sets) now.sets.dust.items es now.journal.items e s items was.fit.noted));
+          noted = subst (λ (x : Sets). HasNoted (is_in x) x.stale_ids.items es (state_of seen new after)) (sym sets)
+              (subst (HasNoted (is_in now.sets) now.sets.stale_ids.items es) (sym is) (noted_popped (is_in now.sets) now.sets.stale_ids.items es now.journal.items e s items was.fit.noted));
           none_gone = subst (λ (t : State). NoneGone (undone es t)) (sym is) (none_gone_popped es now.journal.items e s items was.fit.none_gone);
         };
         names = names ∙ was.names;
@@ -86,6 +86,6 @@ back_is_fit {S = S} seen mark old now before shared after has back fit cut same 
           (subst (λ (es : List Entry). CanUndo (take mark.names before.names) es (state_of seen now after)) (sym back.journal)
           (subst (CanUndo (take mark.names before.names) (take mark.journal old.journal.items)) (sym (is ∙ back.state)) has.undo));
       covered = subst (HasCovered (has_in now.sets) now.journal.items) (sym is) fit.covered;
-      noted = subst (HasNoted (is_in now.sets) now.sets.dust.items now.journal.items) (sym is) fit.noted;
+      noted = subst (HasNoted (is_in now.sets) now.sets.stale_ids.items now.journal.items) (sym is) fit.noted;
       none_gone = subst (λ (t : State). NoneGone (undone now.journal.items t)) (sym is) fit.none_gone;
     }

@@ -20,9 +20,9 @@ pub data Key : Type 0 where
   with_label : ℕ → Key
   with_value : (label key : ℕ) → Value → Key
 
-abbrev pub key_of : Option ℕ → Key
-key_of None = every
-key_of (Some label) = with_label label
+abbrev pub label_set_key : Option ℕ → Key
+label_set_key None = every
+label_set_key (Some label) = with_label label
 
 abbrev pub belongs : Key → NodeRecord → Bool
 belongs every n = true

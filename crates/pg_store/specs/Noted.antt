@@ -22,7 +22,7 @@ same_key (with_value l k v) (with_value m q w) = (l == m && k == q) && is_one_va
 same_key a b = false
 
 abbrev pub is_noted : List (Place × ℕ) → Key → ℕ → Bool
-is_noted dust key id = list_any (λ n. same_key (place_key n.0) key && n.1 == id) dust
+is_noted stale_ids key id = list_any (λ n. same_key (place_key n.0) key && n.1 == id) stale_ids
 
 -- each note stays
 abbrev pub StayNoted : (old new : List (Place × ℕ)) → Type 0
@@ -46,20 +46,20 @@ is_there s key id = passes (belongs key) (live s).nodes id
 
 -- what is in a set and does not belong there is noted
 abbrev pub AreNoted : (has : Key → ℕ → Bool) → List (Place × ℕ) → State → Type 0
-AreNoted has dust s = (key : Key) (id : ℕ) → has key id ≡ true → (is_there s key id || is_noted dust key id) ≡ true
+AreNoted has stale_ids s = (key : Key) (id : ℕ) → has key id ≡ true → (is_there s key id || is_noted stale_ids key id) ≡ true
 
 -- so it is, and so it was before each change
 abbrev pub HasNoted : (has : Key → ℕ → Bool) → List (Place × ℕ) → List Entry → State → Type 0
-HasNoted has dust [] s = AreNoted has dust s
-HasNoted has dust (e ∷ es) s = AreNoted has dust (undone (e ∷ es) s) × HasNoted has dust es s
+HasNoted has stale_ids [] s = AreNoted has stale_ids s
+HasNoted has stale_ids (e ∷ es) s = AreNoted has stale_ids (undone (e ∷ es) s) × HasNoted has stale_ids es s
 
 -- nothing is noted, and each set has the nodes that belong there, and no other ids
-pub record IsSwept (has : Key → ℕ → Bool) (sets : Key → Bool) (dust : List (Place × ℕ)) (s : State) : Type 0 where
-  pub none : dust ≡ []
+pub record IsSwept (has : Key → ℕ → Bool) (sets : Key → Bool) (stale_ids : List (Place × ℕ)) (s : State) : Type 0 where
+  pub none : stale_ids ≡ []
   pub exact : (key : Key) (id : ℕ) → has key id ≡ (sets key && is_there s key id)
 
 abbrev pub AreExact : Sets → State → Type 0
-AreExact sets s = IsSwept (is_in sets) (has_set sets) sets.dust.items s
+AreExact sets s = IsSwept (is_in sets) (has_set sets) sets.stale_ids.items s
 
 -- no set of ids is empty that is kept for a label, or in an index for a value
 abbrev pub NoneKeptIsEmpty : Sets → Type 0
@@ -72,4 +72,4 @@ pub record Gaining (old new : Key → ℕ → Bool) (noted notes : List (Place �
   pub pairs : now ≡ was
 
 abbrev pub Gains : (old new : Sets) → Type 0
-Gains old new = Gaining (is_in old) (is_in new) old.dust.items new.dust.items (pairs_of old.indexes.items) (pairs_of new.indexes.items)
+Gains old new = Gaining (is_in old) (is_in new) old.stale_ids.items new.stale_ids.items (pairs_of old.indexes.items) (pairs_of new.indexes.items)

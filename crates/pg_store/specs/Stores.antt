@@ -38,7 +38,7 @@ module _ {T S K : Type 0} (seen : Seen T S) (store : Store T) (shared : Shared S
     pub well : IsWell shared.names state_of
     pub journal : CanUndo shared.names store.journal.items state_of
     pub covered : HasCovered (has_in store.sets) store.journal.items state_of
-    pub noted : HasNoted (is_in store.sets) store.sets.dust.items store.journal.items state_of
+    pub noted : HasNoted (is_in store.sets) store.sets.stale_ids.items store.journal.items state_of
     pub none_gone : NoneGone (undone store.journal.items state_of)
 
   -- the store is being settled: nothing is left to undo, and what was removed may wait in the tables still
@@ -47,7 +47,7 @@ module _ {T S K : Type 0} (seen : Seen T S) (store : Store T) (shared : Shared S
     pub well : IsWell shared.names state_of
     pub journal : store.journal.items ≡ []
     pub covered : Covers (has_in store.sets) state_of
-    pub noted : AreNoted (is_in store.sets) store.sets.dust.items state_of
+    pub noted : AreNoted (is_in store.sets) store.sets.stale_ids.items state_of
 
   -- the names and the state at the moment of a mark
   abbrev pub names_at : Mark → List (List ℕ)

@@ -18,6 +18,13 @@ use pg_graph::{Labels, NodeRecord, RelRecord, Tables};
 use pg_value_core::{NodeId, RelId, Value};
 use std::alloc::{AllocError, Global};
 
+/// The two nodes of a relationship.
+#[derive(Clone, Copy)]
+pub struct Ends {
+    pub source: NodeId,
+    pub target: NodeId,
+}
+
 impl<T: Tables> Store<T> {
     /// Makes a node with these labels, in any order, and properties, of which the last under a key
     /// stays and null takes the key out. Or changes nothing.
@@ -69,7 +76,7 @@ impl<T: Tables> Store<T> {
     {
         self.journal.reserve(1)?;
         let id = NodeId(self.next.node);
-        self.sets.cover_node(&node, id.0)?;
+        self.sets.insert_node(&node, id.0)?;
         self.tables.add_node(&mut shared.tables, id, node)?;
         self.next.node += 1;
         self.elements += 1;
@@ -84,19 +91,20 @@ impl<T: Tables> Store<T> {
         alloc: Global,
         shared: &mut Shared<T::Shared>,
         kind: &str,
-        source: NodeId,
-        target: NodeId,
+        ends: Ends,
         properties: Vec<(&str, Value)>,
     ) -> Result<RelId, AllocError>
         requires fit { IsFit T.seen self.old shared.old }
         requires room { self.old.next.rel < 2 ^ 63 }
         requires count { self.old.elements < 2 ^ 63 }
-        requires source { has_node (graph_of_store T.seen self.old shared.old) source.0 ≡ true }
-        requires target { has_node (graph_of_store T.seen self.old shared.old) target.0 ≡ true }
+        requires source { has_node
+            (graph_of_store T.seen self.old shared.old) ends.source.0 ≡ true }
+        requires target { has_node
+            (graph_of_store T.seen self.old shared.old) ends.target.0 ≡ true }
         ensures id { IfOk result
             (λ id. id.0 ≡ (graph_of_store T.seen self.old shared.old).next_relationship) }
         ensures changes { Changes T.seen self.old shared.old self.new shared.new result
-            (λ start end. OnOk result (end ≡ add_relationship kind.now source.0 target.0
+            (λ start end. OnOk result (end ≡ add_relationship kind.now ends.source.0 ends.target.0
             (set_keys (pairs_of properties.entry.items) no_entries) start)) }
         ensures marks { KeepsMarks T.seen self.old shared.old self.new shared.new }
     {
@@ -104,8 +112,8 @@ impl<T: Tables> Store<T> {
         let properties = properties_of(alloc, &mut shared.names, properties)?;
         let rel = RelRecord {
             kind,
-            source,
-            target,
+            source: ends.source,
+            target: ends.target,
             properties,
         };
         self.add_rel(shared, rel)

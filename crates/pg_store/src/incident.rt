@@ -4,7 +4,7 @@ ghost use Rattle.pg_graph.specs.Links.{numbers};
 ghost use Rattle.pg_graph.specs.Removed.{live_ids};
 ghost use Rattle.pg_meaning.specs.Graph.{both, incident, incoming, outgoing};
 
-use crate::snapshot::Snapshot;
+use crate::graph_view::GraphView;
 use pg_graph::{IdSet, Tables};
 use pg_value_core::{NodeId, RelId};
 use std::cmp::Ordering;
@@ -94,7 +94,7 @@ impl<'a> Incident<'a> {
     }
 }
 
-impl<'a, T: Tables> Snapshot<'a, T> {
+impl<'a, T: Tables> GraphView<'a, T> {
     /// The relationships from a node, rising.
     pub fn outgoing(&self, node: NodeId) -> Incident<'a>
         ensures { result ≡ incident outgoing node.0 self.now }

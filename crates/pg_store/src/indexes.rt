@@ -101,7 +101,7 @@ impl<T: Tables> Store<T> {
         let mut ids = self.sets.labelled(label).ids();
         while let Some(id) = ids.next() {
             if let Some(node) = self.tables.node(&shared.tables, NodeId(id)) {
-                index.cover(node, id)?;
+                index.insert_id(node, id)?;
             }
         }
         test_headroom(alloc)?;

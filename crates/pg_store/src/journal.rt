@@ -152,11 +152,11 @@ impl<T: Tables> Store<T> {
                 self.give_rel_back(shared, id, before);
             }
             Entry::NodeRemoved(id) => {
-                self.gone_nodes.forget(id.0);
+                self.gone_nodes.remove_id(id.0);
                 self.elements += 1;
             }
             Entry::RelRemoved(id) => {
-                self.gone_rels.forget(id.0);
+                self.gone_rels.remove_id(id.0);
                 self.elements += 1;
             }
         }
@@ -232,12 +232,12 @@ impl<T: Tables> Store<T> {
         ensures exact { AreExact self.new.sets (state_of T.seen self.new shared.now) }
     {
         // an id may have come to belong again, so each is tested by the record that stands now
-        while let Some((place, id)) = self.sets.dust.pop() {
+        while let Some((place, id)) = self.sets.stale_ids.pop() {
             if !is_sought(
                 self.tables.node(&shared.tables, NodeId(id)),
                 &place.wanted(),
             ) {
-                self.sets.forget(&place, id);
+                self.sets.remove_id(&place, id);
             }
         }
     }

@@ -44,7 +44,7 @@ impl Sets {
             → belongs k node.new ≡ true → has_in self.new k id ≡ true) }
         ensures left { OnOk result ((k : Key)
             → is_in self.old k id ≡ true → belongs k node.old ≡ true
-            → (belongs k node.new || is_noted self.new.dust.items k id) ≡ true) }
+            → (belongs k node.new || is_noted self.new.stale_ids.items k id) ≡ true) }
         ensures err { OnErr result (node.new ≡ node.old) }
     {
         match change {
@@ -72,7 +72,7 @@ impl Sets {
             → belongs k node.new ≡ true → has_in self.new k id ≡ true) }
         ensures left { OnOk result ((k : Key)
             → is_in self.old k id ≡ true → belongs k node.old ≡ true
-            → (belongs k node.new || is_noted self.new.dust.items k id) ≡ true) }
+            → (belongs k node.new || is_noted self.new.stale_ids.items k id) ≡ true) }
         ensures err { OnErr result (node.new ≡ node.old) }
     {
         let before = exchange(&mut node.properties, change)?;
@@ -104,11 +104,11 @@ impl Sets {
             → all_find self.new.indexes.items label key v id ≡ true) }
         ensures left { OnOk result ((k : Key) → is_in self.old k id ≡ true → belongs k
             (record node.now { properties = properties_before before.now node.now.properties })
-            ≡ true → (belongs k node.now || is_noted self.new.dust.items k id) ≡ true) }
+            ≡ true → (belongs k node.now || is_noted self.new.stale_ids.items k id) ≡ true) }
     {
         let indexes = self.indexes.as_slice();
-        note_values_left(self.alloc, &mut self.dust, indexes, node, id, before)?;
-        self.cover_values(node, id)
+        note_values_left(self.alloc, &mut self.stale_ids, indexes, node, id, before)?;
+        self.insert_values(node, id)
     }
 
     fn add_label(
@@ -130,11 +130,11 @@ impl Sets {
             → belongs k node.new ≡ true → has_in self.new k id ≡ true) }
         ensures left { OnOk result ((k : Key)
             → is_in self.old k id ≡ true → belongs k node.old ≡ true
-            → (belongs k node.new || is_noted self.new.dust.items k id) ≡ true) }
+            → (belongs k node.new || is_noted self.new.stale_ids.items k id) ≡ true) }
         ensures err { OnErr result (node.new ≡ node.old) }
     {
         node.labels.insert(label)?;
-        match self.cover_new_label(node, id, label) {
+        match self.insert_new_label(node, id, label) {
             Ok(()) => Ok(NodeBefore::Label(label)),
             Err(refused) => {
                 node.labels.remove(label);
@@ -144,7 +144,7 @@ impl Sets {
     }
 
     // Puts the id of a node that has got a label under it, and under the values that are indexed with it.
-    fn cover_new_label(
+    fn insert_new_label(
         &mut self,
         node: &NodeRecord,
         id: u64,
@@ -158,8 +158,8 @@ impl Sets {
             → is_found_by label key v node.now ≡ true
             → all_find self.new.indexes.items label key v id ≡ true) }
     {
-        self.cover_label(label, id)?;
-        self.cover_values(node, id)
+        self.insert_label(label, id)?;
+        self.insert_values(node, id)
     }
 
     // Gives a node other labels.
@@ -179,7 +179,7 @@ impl Sets {
             → belongs k node.new ≡ true → has_in self.new k id ≡ true) }
         ensures left { OnOk result ((k : Key)
             → is_in self.old k id ≡ true → belongs k node.old ≡ true
-            → (belongs k node.new || is_noted self.new.dust.items k id) ≡ true) }
+            → (belongs k node.new || is_noted self.new.stale_ids.items k id) ≡ true) }
         ensures err { OnErr result (node.new ≡ node.old) }
     {
         let before = mem::replace(&mut node.labels, labels);
@@ -201,11 +201,11 @@ impl Sets {
             → belongs k node.now ≡ true → has_in self.new k id ≡ true) }
         ensures left { OnOk result ((k : Key) → is_in self.old k id ≡ true
             → belongs k (record node.now { labels = before.now }) ≡ true
-            → (belongs k node.now || is_noted self.new.dust.items k id) ≡ true) }
+            → (belongs k node.now || is_noted self.new.stale_ids.items k id) ≡ true) }
     {
-        note_labels_left(&mut self.dust, before, &node.labels, id)?;
+        note_labels_left(&mut self.stale_ids, before, &node.labels, id)?;
         let indexes = self.indexes.as_slice();
-        note_label_values_left(self.alloc, &mut self.dust, indexes, node, id, before)?;
-        self.cover_node(node, id)
+        note_label_values_left(self.alloc, &mut self.stale_ids, indexes, node, id, before)?;
+        self.insert_node(node, id)
     }
 }

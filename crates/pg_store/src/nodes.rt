@@ -4,8 +4,8 @@ ghost use Rattle.pg_meaning.specs.Graph.{ids_of, nodes_with_label};
 ghost use Rattle.pg_meaning.specs.Walks.{with_value};
 ghost use Rattle.pg_value_core.specs.View.{view};
 
+use crate::graph_view::GraphView;
 use crate::shared::Shared;
-use crate::snapshot::Snapshot;
 use crate::store::Store;
 use crate::wanted::{Wanted, is_sought};
 use pg_graph::{Members, Tables};
@@ -52,7 +52,7 @@ impl<'a, T: Tables> Nodes<'a, T> {
     }
 }
 
-impl<'a, T: Tables> Snapshot<'a, T> {
+impl<'a, T: Tables> GraphView<'a, T> {
     /// The nodes, ids rising.
     pub fn nodes(&self) -> Nodes<'a, T>
         ensures { result ≡ ids_of self.now.nodes }

@@ -17,73 +17,75 @@ use std::alloc::{AllocError, Global};
 
 // Notes an id under each of these labels.
 pub(crate) fn note_labels(
-    dust: &mut Vec<(Place, u64)>,
+    stale_ids: &mut Vec<(Place, u64)>,
     labels: &Labels,
     id: u64,
 ) -> Result<(), AllocError>
-    ensures notes { StayNoted dust.old.items dust.new.items }
+    ensures notes { StayNoted stale_ids.old.items stale_ids.new.items }
     ensures ok { OnOk result ((label : ℕ) → list_any (λ l. l == label) labels.now ≡ true
-        → is_noted dust.new.items (with_label label) id ≡ true) }
+        → is_noted stale_ids.new.items (with_label label) id ≡ true) }
 {
     for label in labels.as_slice() {
-        dust.push((Place::Labelled(*label), id))?;
+        stale_ids.push((Place::Labelled(*label), id))?;
     }
     Ok(())
 }
 
 // Notes an id under each of the labels before that is none of those now.
 pub(crate) fn note_labels_left(
-    dust: &mut Vec<(Place, u64)>,
+    stale_ids: &mut Vec<(Place, u64)>,
     before: &Labels,
     labels: &Labels,
     id: u64,
 ) -> Result<(), AllocError>
-    ensures notes { StayNoted dust.old.items dust.new.items }
+    ensures notes { StayNoted stale_ids.old.items stale_ids.new.items }
     ensures ok { OnOk result ((label : ℕ) → list_any (λ l. l == label) before.now ≡ true
-        → (list_any (λ l. l == label) labels.now || is_noted dust.new.items (with_label label) id)
+        → (list_any (λ l. l == label) labels.now
+        || is_noted stale_ids.new.items (with_label label) id)
         ≡ true) }
 {
     for label in before.as_slice() {
-        note_label_left(dust, *label, labels, id)?;
+        note_label_left(stale_ids, *label, labels, id)?;
     }
     Ok(())
 }
 
 // Notes an id under a label that is none of these.
 fn note_label_left(
-    dust: &mut Vec<(Place, u64)>,
+    stale_ids: &mut Vec<(Place, u64)>,
     label: NameId,
     labels: &Labels,
     id: u64,
 ) -> Result<(), AllocError>
-    ensures notes { StayNoted dust.old.items dust.new.items }
+    ensures notes { StayNoted stale_ids.old.items stale_ids.new.items }
     ensures ok { OnOk result
-        ((list_any (λ l. l == label) labels.now || is_noted dust.new.items (with_label label) id)
+        ((list_any (λ l. l == label) labels.now
+        || is_noted stale_ids.new.items (with_label label) id)
         ≡ true) }
 {
     if labels.contains(label) {
         return Ok(());
     }
-    dust.push((Place::Labelled(label), id))?;
+    stale_ids.push((Place::Labelled(label), id))?;
     Ok(())
 }
 
 // Notes the values by which indexes find a node.
 pub(crate) fn note_values(
     alloc: Global,
-    dust: &mut Vec<(Place, u64)>,
+    stale_ids: &mut Vec<(Place, u64)>,
     indexes: &[PropertyIndex],
     was: &NodeRecord,
     id: u64,
 ) -> Result<(), AllocError>
-    ensures notes { StayNoted dust.old.items dust.new.items }
+    ensures notes { StayNoted stale_ids.old.items stale_ids.new.items }
     ensures ok { OnOk result ((label key : ℕ) (v : code.Value)
         → has_pair (label, key) (pairs_of indexes.now) ≡ true
         → is_found_by label key v was.now ≡ true
-        → is_noted dust.new.items (with_value label key v) id ≡ true) }
+        → is_noted stale_ids.new.items (with_value label key v) id ≡ true) }
 {
     for index in indexes {
-        note_value_of(alloc, dust, index, was, id)?;
+        note_value_of(alloc, stale_ids, index, was, id)?;
     }
     Ok(())
 }
@@ -91,18 +93,18 @@ pub(crate) fn note_values(
 // Notes the value by which an index finds a node.
 fn note_value_of(
     alloc: Global,
-    dust: &mut Vec<(Place, u64)>,
+    stale_ids: &mut Vec<(Place, u64)>,
     index: &PropertyIndex,
     was: &NodeRecord,
     id: u64,
 ) -> Result<(), AllocError>
-    ensures notes { StayNoted dust.old.items dust.new.items }
+    ensures notes { StayNoted stale_ids.old.items stale_ids.new.items }
     ensures ok { OnOk result ((v : code.Value)
         → is_found_by index.now.label index.now.key v was.now ≡ true
-        → is_noted dust.new.items (with_value index.now.label index.now.key v) id ≡ true) }
+        → is_noted stale_ids.new.items (with_value index.now.label index.now.key v) id ≡ true) }
 {
-    match index.value_of(was) {
-        Some(value) => note_value(alloc, dust, index, value, id),
+    match index.indexed_value(was) {
+        Some(value) => note_value(alloc, stale_ids, index, value, id),
         None => Ok(()),
     }
 }
@@ -110,19 +112,19 @@ fn note_value_of(
 // Notes the values by which indexes will find a node and do not find it yet.
 pub(crate) fn note_arrivals(
     alloc: Global,
-    dust: &mut Vec<(Place, u64)>,
+    stale_ids: &mut Vec<(Place, u64)>,
     indexes: &[PropertyIndex],
     node: &NodeRecord,
     id: u64,
 ) -> Result<(), AllocError>
-    ensures notes { StayNoted dust.old.items dust.new.items }
+    ensures notes { StayNoted stale_ids.old.items stale_ids.new.items }
     ensures ok { OnOk result ((label key : ℕ) (v : code.Value)
         → has_pair (label, key) (pairs_of indexes.now) ≡ true
         → is_found_by label key v node.now ≡ true → (some_finds indexes.now label key v id
-        || is_noted dust.new.items (with_value label key v) id) ≡ true) }
+        || is_noted stale_ids.new.items (with_value label key v) id) ≡ true) }
 {
     for index in indexes {
-        note_arrival(alloc, dust, index, node, id)?;
+        note_arrival(alloc, stale_ids, index, node, id)?;
     }
     Ok(())
 }
@@ -130,44 +132,45 @@ pub(crate) fn note_arrivals(
 // Notes the value by which an index will find a node, if it does not find it yet.
 fn note_arrival(
     alloc: Global,
-    dust: &mut Vec<(Place, u64)>,
+    stale_ids: &mut Vec<(Place, u64)>,
     index: &PropertyIndex,
     node: &NodeRecord,
     id: u64,
 ) -> Result<(), AllocError>
-    ensures notes { StayNoted dust.old.items dust.new.items }
+    ensures notes { StayNoted stale_ids.old.items stale_ids.new.items }
     ensures ok { OnOk result ((v : code.Value)
         → is_found_by index.now.label index.now.key v node.now ≡ true → (finds index.now v id
-        || is_noted dust.new.items (with_value index.now.label index.now.key v) id) ≡ true) }
+        || is_noted stale_ids.new.items (with_value index.now.label index.now.key v) id) ≡ true) }
 {
-    let Some(value) = index.value_of(node) else {
+    let Some(value) = index.indexed_value(node) else {
         return Ok(());
     };
     if index.has(value, id) {
         return Ok(());
     }
-    note_value(alloc, dust, index, value, id)
+    note_value(alloc, stale_ids, index, value, id)
 }
 
 // Notes the values under which indexes find a node no longer whose properties have changed.
 pub(crate) fn note_values_left(
     alloc: Global,
-    dust: &mut Vec<(Place, u64)>,
+    stale_ids: &mut Vec<(Place, u64)>,
     indexes: &[PropertyIndex],
     node: &NodeRecord,
     id: u64,
     before: &PropertiesBefore,
 ) -> Result<(), AllocError>
     requires { CanGiveBack before.now node.now.properties }
-    ensures notes { StayNoted dust.old.items dust.new.items }
+    ensures notes { StayNoted stale_ids.old.items stale_ids.new.items }
     ensures ok { OnOk result ((label key : ℕ) (v : code.Value)
         → has_pair (label, key) (pairs_of indexes.now) ≡ true → is_found_by label key v
         (record node.now { properties = properties_before before.now node.now.properties }) ≡ true
-        → (is_found_by label key v node.now || is_noted dust.new.items (with_value label key v) id)
+        → (is_found_by label key v node.now
+        || is_noted stale_ids.new.items (with_value label key v) id)
         ≡ true) }
 {
     for index in indexes {
-        note_value_left(alloc, dust, index, node, id, before)?;
+        note_value_left(alloc, stale_ids, index, node, id, before)?;
     }
     Ok(())
 }
@@ -175,18 +178,18 @@ pub(crate) fn note_values_left(
 // Notes the value before under which an index finds a node no longer.
 fn note_value_left(
     alloc: Global,
-    dust: &mut Vec<(Place, u64)>,
+    stale_ids: &mut Vec<(Place, u64)>,
     index: &PropertyIndex,
     node: &NodeRecord,
     id: u64,
     before: &PropertiesBefore,
 ) -> Result<(), AllocError>
     requires { CanGiveBack before.now node.now.properties }
-    ensures notes { StayNoted dust.old.items dust.new.items }
+    ensures notes { StayNoted stale_ids.old.items stale_ids.new.items }
     ensures ok { OnOk result ((v : code.Value) → is_found_by index.now.label index.now.key v
         (record node.now { properties = properties_before before.now node.now.properties }) ≡ true
         → (is_found_by index.now.label index.now.key v node.now
-        || is_noted dust.new.items (with_value index.now.label index.now.key v) id) ≡ true) }
+        || is_noted stale_ids.new.items (with_value index.now.label index.now.key v) id) ≡ true) }
 {
     let Some(value) = before.value(index.key) else {
         return Ok(());
@@ -198,27 +201,28 @@ fn note_value_left(
     if is_sought(Some(node), &wanted) {
         return Ok(());
     }
-    note_value(alloc, dust, index, value, id)
+    note_value(alloc, stale_ids, index, value, id)
 }
 
 // Notes the values by which indexes found a node under labels that it has no longer.
 pub(crate) fn note_label_values_left(
     alloc: Global,
-    dust: &mut Vec<(Place, u64)>,
+    stale_ids: &mut Vec<(Place, u64)>,
     indexes: &[PropertyIndex],
     node: &NodeRecord,
     id: u64,
     before: &Labels,
 ) -> Result<(), AllocError>
-    ensures notes { StayNoted dust.old.items dust.new.items }
+    ensures notes { StayNoted stale_ids.old.items stale_ids.new.items }
     ensures ok { OnOk result ((label key : ℕ) (v : code.Value)
         → has_pair (label, key) (pairs_of indexes.now) ≡ true
         → is_found_by label key v (record node.now { labels = before.now }) ≡ true
-        → (is_found_by label key v node.now || is_noted dust.new.items (with_value label key v) id)
+        → (is_found_by label key v node.now
+        || is_noted stale_ids.new.items (with_value label key v) id)
         ≡ true) }
 {
     for index in indexes {
-        note_label_value_left(alloc, dust, index, node, id, before)?;
+        note_label_value_left(alloc, stale_ids, index, node, id, before)?;
     }
     Ok(())
 }
@@ -226,17 +230,17 @@ pub(crate) fn note_label_values_left(
 // Notes the value by which an index found a node under a label that it has no longer.
 fn note_label_value_left(
     alloc: Global,
-    dust: &mut Vec<(Place, u64)>,
+    stale_ids: &mut Vec<(Place, u64)>,
     index: &PropertyIndex,
     node: &NodeRecord,
     id: u64,
     before: &Labels,
 ) -> Result<(), AllocError>
-    ensures notes { StayNoted dust.old.items dust.new.items }
+    ensures notes { StayNoted stale_ids.old.items stale_ids.new.items }
     ensures ok { OnOk result ((v : code.Value)
         → is_found_by index.now.label index.now.key v (record node.now { labels = before.now })
         ≡ true → (is_found_by index.now.label index.now.key v node.now
-        || is_noted dust.new.items (with_value index.now.label index.now.key v) id) ≡ true) }
+        || is_noted stale_ids.new.items (with_value index.now.label index.now.key v) id) ≡ true) }
 {
     if node.labels.contains(index.label) {
         return Ok(());
@@ -245,7 +249,7 @@ fn note_label_value_left(
         return Ok(());
     }
     match node.properties.get(index.key) {
-        Some(value) => note_value(alloc, dust, index, value, id),
+        Some(value) => note_value(alloc, stale_ids, index, value, id),
         None => Ok(()),
     }
 }
@@ -253,16 +257,16 @@ fn note_label_value_left(
 // Notes an id under a value of an index.
 fn note_value(
     alloc: Global,
-    dust: &mut Vec<(Place, u64)>,
+    stale_ids: &mut Vec<(Place, u64)>,
     index: &PropertyIndex,
     value: &Value,
     id: u64,
 ) -> Result<(), AllocError>
-    ensures notes { StayNoted dust.old.items dust.new.items }
+    ensures notes { StayNoted stale_ids.old.items stale_ids.new.items }
     ensures ok { OnOk result ((v : code.Value) → is_one_value value.now v ≡ true
-        → is_noted dust.new.items (with_value index.now.label index.now.key v) id ≡ true) }
+        → is_noted stale_ids.new.items (with_value index.now.label index.now.key v) id ≡ true) }
 {
     let value = value.copy(alloc)?;
-    dust.push((Place::Valued(index.label, index.key, value), id))?;
+    stale_ids.push((Place::Valued(index.label, index.key, value), id))?;
     Ok(())
 }

@@ -9,7 +9,7 @@ ghost use Rattle.std.specs.FinMap as map;
 use crate::notes::{note_arrivals, note_labels, note_values};
 use crate::wanted::Place;
 use pg_graph::{IdSet, Labels, NodeRecord};
-use pg_index::{Index, PropertyIndex, cover_each, forget_valued, index_of, position_of};
+use pg_index::{Index, PropertyIndex, index_of, insert_in_each, position_of, remove_valued};
 use pg_names::NameId;
 use pg_value_core::Value;
 use std::alloc::{AllocError, Global};
@@ -21,7 +21,7 @@ pub struct Sets {
     pub(crate) all: IdSet,
     pub(crate) labels: Index<u64>,
     pub(crate) indexes: Vec<PropertyIndex>,
-    pub(crate) dust: Vec<(Place, u64)>,
+    pub(crate) stale_ids: Vec<(Place, u64)>,
     pub(crate) none: IdSet,
     ghost none_is_empty: { none ≡ map.empty },
 }
@@ -30,14 +30,14 @@ impl Sets {
     ghost use Rattle.std.specs.Ordering.{nat_cmp};
     ghost use Rattle.pg_index.specs.Index.{ids_at};
     ghost use Rattle.pg_index.specs.Properties.{all_find, has_pair, is_found_by, pairs_of};
-    ghost use Rattle.pg_store.specs.Covers.{FindAlike, Key, key_of, with_label, with_value, belongs, has_in};
+    ghost use Rattle.pg_store.specs.Covers.{FindAlike, Key, label_set_key, with_label, with_value, belongs, has_in};
     ghost use Rattle.pg_store.specs.Noted.{Gains, is_in, is_noted, same_key};
     ghost use Rattle.pg_store.specs.Wanted.{place_key};
     ghost use Rattle.pg_value_core.specs.declared.value.Value as code;
 
     pub(crate) fn new(alloc: Global) -> Self
         ensures none { (k : Key) (i : ℕ) → is_in result k i ≡ false }
-        ensures dust { result.dust.items ≡ [] }
+        ensures stale_ids { result.stale_ids.items ≡ [] }
         ensures no_index { result.indexes.items ≡ [] }
     {
         Sets {
@@ -45,7 +45,7 @@ impl Sets {
             all: IdSet::new(alloc),
             labels: Index::new(alloc),
             indexes: Vec::new(alloc),
-            dust: Vec::new(alloc),
+            stale_ids: Vec::new(alloc),
             none: IdSet::new(alloc),
         }
     }
@@ -61,7 +61,7 @@ impl Sets {
     }
 
     // Puts an id under a label. What is new there is swept if it does not belong.
-    pub(crate) fn cover_label(&mut self, label: NameId, id: u64) -> Result<(), AllocError>
+    pub(crate) fn insert_label(&mut self, label: NameId, id: u64) -> Result<(), AllocError>
         ensures grown { (k : Key) (i : ℕ)
             → has_in self.old k i ≡ true → has_in self.new k i ≡ true }
         ensures gains { Gains self.old self.new }
@@ -70,43 +70,43 @@ impl Sets {
         if self.labelled(label).contains(id) {
             return Ok(());
         }
-        self.dust.push((Place::Labelled(label), id))?;
-        self.labels.cover(label.as_u64(), id)
+        self.stale_ids.push((Place::Labelled(label), id))?;
+        self.labels.insert_id(label.as_u64(), id)
     }
 
     // Puts a node's id into the set of all nodes and into those of its labels.
-    fn cover_labels(&mut self, labels: &Labels, id: u64) -> Result<(), AllocError>
+    fn insert_labels(&mut self, labels: &Labels, id: u64) -> Result<(), AllocError>
         ensures grown { (k : Key) (i : ℕ)
             → has_in self.old k i ≡ true → has_in self.new k i ≡ true }
         ensures gains { Gains self.old self.new }
         ensures ok { OnOk result ((n : NodeRecord) (k : Option ℕ) → n.labels ≡ labels.now
-            → has_number k n ≡ true → has_in self.new (key_of k) id ≡ true) }
+            → has_number k n ≡ true → has_in self.new (label_set_key k) id ≡ true) }
     {
         for label in labels.as_slice() {
-            self.cover_label(*label, id)?;
+            self.insert_label(*label, id)?;
         }
         if self.all.contains(id) {
             return Ok(());
         }
-        self.dust.push((Place::All, id))?;
+        self.stale_ids.push((Place::All, id))?;
         self.all.insert(id)?;
         Ok(())
     }
 
     // Puts a node's id into each set and each property index where it belongs.
-    pub(crate) fn cover_node(&mut self, node: &NodeRecord, id: u64) -> Result<(), AllocError>
+    pub(crate) fn insert_node(&mut self, node: &NodeRecord, id: u64) -> Result<(), AllocError>
         ensures grown { (k : Key) (i : ℕ)
             → has_in self.old k i ≡ true → has_in self.new k i ≡ true }
         ensures gains { Gains self.old self.new }
         ensures ok { OnOk result ((k : Key)
             → belongs k node.now ≡ true → has_in self.new k id ≡ true) }
     {
-        self.cover_labels(&node.labels, id)?;
-        self.cover_values(node, id)
+        self.insert_labels(&node.labels, id)?;
+        self.insert_values(node, id)
     }
 
     // Puts a node's id into each property index where it belongs.
-    pub(crate) fn cover_values(&mut self, node: &NodeRecord, id: u64) -> Result<(), AllocError>
+    pub(crate) fn insert_values(&mut self, node: &NodeRecord, id: u64) -> Result<(), AllocError>
         ensures all { self.new.all ≡ self.old.all }
         ensures labels { self.new.labels ≡ self.old.labels }
         ensures grown { (label key : ℕ) (v : code.Value) (i : ℕ)
@@ -118,8 +118,8 @@ impl Sets {
             → all_find self.new.indexes.items label key v id ≡ true) }
     {
         let indexes = self.indexes.as_slice();
-        note_arrivals(self.alloc, &mut self.dust, indexes, node, id)?;
-        cover_each(self.indexes.as_mut_slice(), node, id)
+        note_arrivals(self.alloc, &mut self.stale_ids, indexes, node, id)?;
+        insert_in_each(self.indexes.as_mut_slice(), node, id)
     }
 
     // The ids of an index under a value, where there is such an index, or those of the label; and
@@ -146,7 +146,7 @@ impl Sets {
             → all_find self.old.indexes.items l k v i ≡ true
             → all_find self.new.indexes.items l k v i ≡ true }
         ensures less { (k : Key) (i : ℕ) → is_in self.new k i ≡ true → is_in self.old k i ≡ true }
-        ensures dust { self.new.dust ≡ self.old.dust }
+        ensures stale_ids { self.new.stale_ids ≡ self.old.stale_ids }
         ensures pairs { pairs_of self.new.indexes.items
             ≡ filter (λ p. not (p.0 == label && p.1 == key)) (pairs_of self.old.indexes.items) }
         ensures gone { has_pair (label, key) (pairs_of self.new.indexes.items) ≡ false }
@@ -164,29 +164,29 @@ impl Sets {
         ensures indexes { self.new.indexes ≡ self.old.indexes }
         ensures gains { Gains self.old self.new }
         ensures ok { OnOk result ((k : Key) → is_in self.old k id ≡ true
-            → belongs k was.now ≡ true → is_noted self.new.dust.items k id ≡ true) }
+            → belongs k was.now ≡ true → is_noted self.new.stale_ids.items k id ≡ true) }
     {
-        self.dust.push((Place::All, id))?;
-        note_labels(&mut self.dust, &was.labels, id)?;
+        self.stale_ids.push((Place::All, id))?;
+        note_labels(&mut self.stale_ids, &was.labels, id)?;
         let indexes = self.indexes.as_slice();
-        note_values(self.alloc, &mut self.dust, indexes, was, id)
+        note_values(self.alloc, &mut self.stale_ids, indexes, was, id)
     }
 
     // Takes an id from where it was kept.
-    pub(crate) fn forget(&mut self, place: &Place, id: u64)
+    pub(crate) fn remove_id(&mut self, place: &Place, id: u64)
         ensures lost { (k : Key) (i : ℕ) → has_in self.old k i ≡ true
             → has_in self.new k i ≡ false → FindAlike k (place_key place.now) × (i ≡ id) }
         ensures left { (k : Key) (i : ℕ)
             → is_in self.new k i
             ≡ (is_in self.old k i && not (same_key (place_key place.now) k && id == i)) }
-        ensures dust { self.new.dust ≡ self.old.dust }
+        ensures stale_ids { self.new.stale_ids ≡ self.old.stale_ids }
         ensures pairs { pairs_of self.new.indexes.items ≡ pairs_of self.old.indexes.items }
     {
         match place {
-            Place::All => self.all.forget(id),
-            Place::Labelled(label) => self.labels.forget(&label.as_u64(), id),
+            Place::All => self.all.remove_id(id),
+            Place::Labelled(label) => self.labels.remove_id(&label.as_u64(), id),
             Place::Valued(label, key, value) => {
-                forget_valued(self.indexes.as_mut_slice(), *label, *key, value, id);
+                remove_valued(self.indexes.as_mut_slice(), *label, *key, value, id);
             }
         }
     }

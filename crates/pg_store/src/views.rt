@@ -2,13 +2,13 @@
 ghost use Rattle.std.specs.Prelude.{◌≡◌, map as map_list, bytes_eq, IfOk};
 ghost use Rattle.std.specs.Option.{option_map};
 ghost use Rattle.pg_meaning.specs.Entries.{at_key};
-ghost use Rattle.pg_meaning.specs.Graph.{node_at, relationship_at};
+ghost use Rattle.pg_meaning.specs.Graph.{node_at, other_end, relationship_at};
 ghost use Rattle.pg_meaning.specs.Names.{is_among};
 ghost use Rattle.pg_store.specs.Stores.{node_texts_view, rel_texts_view};
 ghost use Rattle.pg_value_core.specs.View.{view};
 
+use crate::graph_view::GraphView;
 use crate::shared::Shared;
-use crate::snapshot::Snapshot;
 use crate::texts::{NodeTexts, RelTexts, strings_of};
 use pg_graph::{NodeRecord, RelRecord, Tables};
 use pg_value_core::{NodeId, RelId, Value};
@@ -120,6 +120,17 @@ impl<'a, T: Tables> RelView<'a, T> {
         self.record.target
     }
 
+    /// The node to which the relationship leads from one of its ends.
+    pub fn other_end(&self, at: NodeId) -> NodeId
+        ensures { result.0 ≡ other_end at.0 self.now }
+    {
+        if self.source() == at {
+            self.target()
+        } else {
+            self.source()
+        }
+    }
+
     /// What the relationship has under a key.
     pub fn property(&self, key: &str) -> Option<&'a Value>
         ensures { option_map (λ v. view v.now) result ≡ at_key key.now self.now.properties }
@@ -142,7 +153,7 @@ impl<'a, T: Tables> RelView<'a, T> {
     }
 }
 
-impl<'a, T: Tables> Snapshot<'a, T> {
+impl<'a, T: Tables> GraphView<'a, T> {
     /// A node, if it is there.
     pub fn node(&self, id: NodeId) -> Option<NodeView<'a, T>>
         ensures { result ≡ node_at self.now id.0 }

@@ -14,7 +14,7 @@ ghost use Rattle.pg_syntax_tree.specs.View.{name_view, expression_view, set_item
 
 use crate::patterns::Paths;
 use pg_meaning::{Keyword, Symbol};
-use pg_syntax_expressions::{Whole, expression};
+use pg_syntax_expressions::{ExpressionParser, expression};
 use pg_syntax_tokens::{ParseError, Row, Rule, Tokens, labels, pieces, separated};
 use pg_syntax_tree::{Clause, Expression, Name, On, RemoveItem, SetItem};
 use std::alloc::Global;
@@ -246,7 +246,7 @@ impl Rule for UpdatingClauses {
         tokens.expect_keyword(Keyword::Delete)?;
         Ok(Clause::Delete(
             is_detach,
-            separated(alloc, &Whole { alloc, depth }, tokens)?,
+            separated(alloc, &ExpressionParser { alloc, depth }, tokens)?,
         ))
     }
 }

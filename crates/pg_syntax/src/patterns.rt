@@ -13,7 +13,7 @@ ghost use Rattle.pg_syntax.specs.ShrinksPatterns.{other_type_eats, hop_eats, pat
 ghost use Rattle.pg_syntax_tree.specs.View.{properties_view, node_view, type_view, range_view, detail_view, hop_view, path_view};
 
 use pg_meaning::Symbol;
-use pg_syntax_expressions::{Whole, map_pairs};
+use pg_syntax_expressions::{ExpressionParser, map_pairs};
 use pg_syntax_tokens::{
     ParseError, Row, Rule, Tokens, labels_if_any, many, pieces, start_of, variable,
 };
@@ -32,7 +32,7 @@ fn properties(
         (parse.expr depth) (tokens_view tokens.old.rest.now)) result tokens.new.rest.now }
 {
     if tokens.sees(Symbol::OpenBrace) {
-        return Ok(Properties::Given(map_pairs(&Whole { alloc, depth }, tokens)?));
+        return Ok(Properties::Given(map_pairs(&ExpressionParser { alloc, depth }, tokens)?));
     }
     if tokens.sees_parameter() {
         return Ok(Properties::Parameter(tokens.parameter(alloc)?));

@@ -7,4 +7,4 @@ mod levels;
 mod nesting;
 
 pub use atoms::map_pairs;
-pub use nesting::{Whole, expression};
+pub use nesting::{ExpressionParser, expression};

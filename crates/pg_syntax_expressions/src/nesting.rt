@@ -74,12 +74,12 @@ pub fn expression(
 
 /// Expressions to a depth.
 #[derive(Drop)]
-pub struct Whole {
+pub struct ExpressionParser {
     pub alloc: Global,
     pub depth: usize,
 }
 
-impl Rule for Whole {
+impl Rule for ExpressionParser {
     type Tree = Expression;
 
     ghost Datum = { tree.Expression };
@@ -95,7 +95,7 @@ impl Rule for Whole {
     }
 }
 
-impl Expressions for Whole {
+impl Expressions for ExpressionParser {
     ghost parser = { λ w. parse.expr w.depth };
 
     ghost shrinks = { λ w. expr_shrinks w.depth };

@@ -3,8 +3,8 @@ use Rattle.std.proofs.Common.{◌≡◌, ℕ, List, [], ◌∷◌, length, Bool,
 use Rattle.std.specs.Prelude.{IfOk, nat_le}
 use Rattle.std.specs.List.{AllByRecursion}
 use Rattle.std.proofs.lemmas.Bool.{or_parts, true≢false}
-use Rattle.pg_agreement.proofs.WholeQueriesAnswers.{reading_leaves_the_graph}
-use Rattle.pg_agreement.specs.WholeQueries.{changes, makes, removes}
+use Rattle.pg_soundness.proofs.WholeQueriesAnswers.{reading_leaves_the_graph}
+use Rattle.pg_soundness.specs.WholeQueries.{changes, makes, removes}
 use Rattle.pg_json.specs.Replies.{max_reply}
 use Rattle.pg_json.specs.Requests.{Request, token_of, query, status, create_index, drop_index, begin, commit, rollback, pull, drop_page}
 use Rattle.pg_meaning.specs.Agreement.{OutcomeAgrees}

@@ -15,7 +15,7 @@ use Rattle.pg_meaning.specs.declared.fault.Fault.TheVariants.{TextTooLong, OutOf
 use Rattle.pg_plan.specs.Plans.{IsPlanOfText}
 use Rattle.pg_plan.specs.Reading.{greatest_text, tested_length}
 use Rattle.pg_plan.specs.declared.plan.Plan.{Plan}
-use Rattle.pg_tenant.specs.LookUps.{FindsPlan, LooksUp, key_of, key_of_text, text_key}
+use Rattle.pg_tenant.specs.LookUps.{FindsPlan, LooksUp, looked_up_key, key_of_text, text_key}
 use Rattle.pg_tenant.specs.Solo.{is_busy}
 use Rattle.pg_tenant.specs.State.{State}
 
@@ -66,8 +66,8 @@ module _ (s : State) (request : Request) where
   abbrev by_busy : Bool → Option Key
   by_busy b = cond b None (text_key s request)
 
-  pub waits : is_busy s.transaction (token_of request) ≡ true → key_of s request ≡ None
+  pub waits : is_busy s.transaction (token_of request) ≡ true → looked_up_key s request ≡ None
   waits h = ap by_busy h
 
-  pub turns : is_busy s.transaction (token_of request) ≡ false → key_of s request ≡ text_key s request
+  pub turns : is_busy s.transaction (token_of request) ≡ false → looked_up_key s request ≡ text_key s request
   turns h = ap by_busy h

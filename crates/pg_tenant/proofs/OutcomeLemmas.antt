@@ -1,7 +1,7 @@
 -- A text that reads answers as its query means, and as its plan for the indexes does.
 use Rattle.std.proofs.Common.{◌≡◌, ℕ, ◌≤◌, Bool, true, false, List, [], ◌∷◌, length, is_some, Result, Ok, Err, refl, sym, ap, ◌∙◌}
 use Rattle.std.proofs.lemmas.Bool.{and_parts, le-leb}
-use Rattle.pg_agreement.proofs.PlanningPlans.{plan_of_is_whole}
+use Rattle.pg_soundness.proofs.PlanningPlans.{plan_of_is_whole}
 use Rattle.pg_meaning.specs.Agreement.{AreGiven}
 use Rattle.pg_meaning.specs.Answer.{◌>>=◌, ◌>>◌, unless}
 use Rattle.pg_meaning.specs.Entries.{at_key}

@@ -6,7 +6,7 @@ use Rattle.pg_meaning.specs.Graph.{Graph, empty_graph, add_node}
 use Rattle.pg_meaning.specs.Value.{Entries, no_entries}
 use Rattle.pg_meaning.specs.declared.fault.Fault.TheVariants.{ReadOnly, TenantBusy, NoTransaction, TransactionOpen}
 use Rattle.pg_tenant.specs.InstancesOfTenants.{refused, token_with}
-use Rattle.pg_tenant.specs.LookUps.{key_of}
+use Rattle.pg_tenant.specs.LookUps.{looked_up_key}
 use Rattle.pg_tenant.specs.Settings.{TenantSettings}
 use Rattle.pg_tenant.specs.Solo.{replies, solo}
 use Rattle.pg_tenant.specs.State.{State, opening}
@@ -50,4 +50,4 @@ InstancesOfWaiting =
     × (solo mid (rollback (codes "v")) ≡ refused mid TenantBusy)
     × (solo mid (create_index (codes "a") (codes "P") (codes "k")) ≡ refused mid TenantBusy)
     × ((text : List ℕ) (parameters : Entries) (page : Option ℕ) → solo mid (query (codes "v") text parameters page) ≡ refused mid TenantBusy)
-    × ((text : List ℕ) (parameters : Entries) (page : Option ℕ) → key_of mid (query (codes "v") text parameters page) ≡ None)
+    × ((text : List ℕ) (parameters : Entries) (page : Option ℕ) → looked_up_key mid (query (codes "v") text parameters page) ≡ None)

@@ -25,8 +25,8 @@ text_key s (query token text parameters page) = if is_open s && is_some page the
 text_key s request = None
 
 -- nothing where another token has a transaction open
-abbrev pub key_of : State → Request → Option Key
-key_of s request = if is_busy s.transaction (token_of request) then None else text_key s request
+abbrev pub looked_up_key : State → Request → Option Key
+looked_up_key s request = if is_busy s.transaction (token_of request) then None else text_key s request
 
 -- the key is looked up once; or not at all, where there was no memory for that. Nothing else changes the cache
 abbrev pub LooksUp : Option Key → (reply : List ℕ) → (old new : CacheSeen) → Type 0

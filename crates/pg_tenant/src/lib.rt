@@ -51,7 +51,7 @@ pub fn law_of_transactions()
 {}
 
 /// A request that may not change what its tenant has, as a query without a page and without an updating clause, leaves all of it.
-pub fn law_of_changes()
+pub fn law_of_reading_requests()
     ensures { OthersLeave }
 {}
 

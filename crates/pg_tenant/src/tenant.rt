@@ -9,7 +9,7 @@ ghost use Rattle.pg_meaning.specs.declared.fault.Fault.TheVariants.{OutOfMemory}
 ghost use Rattle.pg_tenant.specs.Changes.{IsNoRefusal, may_change, reply_in};
 ghost use Rattle.pg_tenant.specs.Holders.{holder_of, page_holder};
 ghost use Rattle.pg_tenant.specs.Listed.{KeepsListed};
-ghost use Rattle.pg_tenant.specs.LookUps.{LooksUp, key_of, text_key};
+ghost use Rattle.pg_tenant.specs.LookUps.{LooksUp, looked_up_key, text_key};
 ghost use Rattle.pg_tenant.specs.Settings.{standing_token};
 ghost use Rattle.pg_tenant.specs.State.{opening};
 ghost use Rattle.pg_tenant.specs.Step.{AddsNames, Answers, KeepsOthers, Serves, reply_of, takes_memory};
@@ -107,7 +107,8 @@ impl Tenant {
         ensures others { KeepsOthers live.old live.new }
         ensures listed { KeepsListed self.old self.new live.old live.new }
         ensures settings { self.new.settings ≡ self.old.settings }
-        ensures cache { LooksUp (key_of (state_over self.old live.old) (request_view request))
+        ensures cache { LooksUp
+            (looked_up_key (state_over self.old live.old) (request_view request))
             (reply_of (reply_in result)) (cache_seen cache.old) (cache_seen cache.new) }
         // what begins or ends a transaction is never refused for want of memory
         ensures memory { takes_memory (request_view request) ≡ false

@@ -6,7 +6,7 @@ use Rattle.std.specs.BTreeSet.{contains, Updates}
 use Rattle.std.specs.Cmp.Lexicographic.{slice_cmp}
 use Rattle.std.specs.Prelude.{◌||◌}
 use Rattle.pg_meaning.specs.Names.{is_among}
-use Rattle.pg_value.specs.Texts.{comes_again}
+use Rattle.pg_value.specs.Texts.{has_duplicate}
 
 or_is_cond : (a b : Bool) → cond a true b ≡ a || b
 or_is_cond true b = refl
@@ -32,8 +32,8 @@ among_more old new x done same updates q =
 
 -- a text that is new leaves the question to the others
 pub again_more : (done : List (List ℕ)) (x : Bor (List ℕ)) (texts rest : List (Bor (List ℕ))) → texts ≡ x ∷ rest → is_among done x.now ≡ false
-    → comes_again done (map (λ t. t.now) texts) ≡ comes_again (x.now ∷ done) (map (λ t. t.now) rest)
-again_more done x texts rest e new = ap (λ ts. comes_again done (map (λ t. t.now) ts)) e ∙ ap (λ b. b || comes_again (x.now ∷ done) (map (λ t. t.now) rest)) new
+    → has_duplicate done (map (λ t. t.now) texts) ≡ has_duplicate (x.now ∷ done) (map (λ t. t.now) rest)
+again_more done x texts rest e new = ap (λ ts. has_duplicate done (map (λ t. t.now) ts)) e ∙ ap (λ b. b || has_duplicate (x.now ∷ done) (map (λ t. t.now) rest)) new
 
 pub was_new : (added within : Bool) → added ≡ not within → added ≡ true → within ≡ false
 was_new added true e h = cc

@@ -3,6 +3,6 @@ use Rattle.std.specs.Prelude.{Bool, false, ◌||◌, [], ◌∷◌}
 use Rattle.pg_meaning.specs.Names.{Names, is_among}
 
 -- some text has come before: among these, or earlier in the list
-abbrev pub comes_again : Names → Names → Bool
-comes_again before [] = false
-comes_again before (text ∷ texts) = is_among before text || comes_again (text ∷ before) texts
+abbrev pub has_duplicate : Names → Names → Bool
+has_duplicate before [] = false
+has_duplicate before (text ∷ texts) = is_among before text || has_duplicate (text ∷ before) texts

@@ -11,8 +11,8 @@ mod texts;
 
 pub use comparison::less3;
 pub use equality::eq3;
-pub use logic::{and, not, or, truth, truth_of, value_of, xor};
+pub use logic::{and, not, or, truth, truth_of, value_of_truth, xor};
 pub use measures::{depth, weight};
 pub use membership::is_in;
 pub use pg_value_core::{Fault, NodeId, Out, Path, RelId, Tri, Value, equivalent, order};
-pub use texts::comes_again;
+pub use texts::has_duplicate;

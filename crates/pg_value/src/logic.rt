@@ -1,7 +1,7 @@
 //! Kleene's logic of three truth values.
 
 ghost use Rattle.std.specs.Prelude.{◌≡◌};
-ghost use Rattle.pg_meaning.specs.Logic.{and3, or3, xor3, not3, tri_of, truth_of, value_of};
+ghost use Rattle.pg_meaning.specs.Logic.{and3, or3, xor3, not3, tri_of, truth_of, value_of_truth};
 ghost use Rattle.pg_value_core.specs.View.{view};
 
 use pg_meaning::{Fault, Tri};
@@ -58,8 +58,8 @@ pub fn not(a: Tri) -> Tri
 }
 
 /// The boolean or null that stands for a truth value.
-pub fn value_of(t: Tri) -> Value
-    ensures { view result ≡ value_of t }
+pub fn value_of_truth(t: Tri) -> Value
+    ensures { view result ≡ value_of_truth t }
 {
     match t {
         Tri::True => Value::Bool(true),

@@ -4,7 +4,7 @@ ghost use Rattle.std.specs.Prelude.{◌≡◌};
 ghost use Rattle.pg_meaning.specs.Answer.{◌>>=◌ as and_then};
 ghost use Rattle.pg_meaning.specs.Equality.{eq3, is_in3};
 ghost use Rattle.pg_meaning.specs.Expressions.{is_in};
-ghost use Rattle.pg_meaning.specs.Logic.{value_of};
+ghost use Rattle.pg_meaning.specs.Logic.{value_of_truth};
 ghost use Rattle.pg_value.specs.Membership.{membership};
 ghost use Rattle.pg_value_core.specs.View.{view, values_view};
 
@@ -17,7 +17,7 @@ use pg_value_core::Value;
 #[tactic(auto, using(crate::proofs::Memberships::membership_is_in))]
 pub fn is_in(value: &Value, list: &Value) -> Result<Tri, Fault>
     ensures answer { result ≡ membership (view value.now) (view list.now) }
-    ensures operator { and_then result (λ t. Ok (value_of t))
+    ensures operator { and_then result (λ t. Ok (value_of_truth t))
         ≡ is_in (view value.now) (view list.now) }
 {
     match list {

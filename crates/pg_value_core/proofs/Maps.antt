@@ -7,7 +7,7 @@ use Rattle.std.specs.List.{AllByRecursion}
 use Rattle.std.specs.List.Sorted.{IsStrictlySortedBy}
 use Rattle.std.specs.Map.{keys_of}
 use Rattle.std.specs.Ordering.{match_ordering, ordering_reverse}
-use Rattle.pg_meaning.specs.Entries.{put}
+use Rattle.pg_meaning.specs.Entries.{with_entry}
 use Rattle.pg_meaning.specs.Order.{text_order}
 use Rattle.pg_meaning.specs.Value.{entry}
 use Rattle.pg_value_core.specs.View.{view, entries_view}
@@ -25,7 +25,7 @@ put_chosen Equal k v e es rest h = ap (λ bytes. entry bytes (view v) (entries_v
 put_chosen Greater k v e es rest h = refl
 
 -- what is put into the map is put into its entries
-pub entries_view-insert_entry : (es : List Pair) (k : String Global) (v : Value) → entries_view (insert_entry string_cmp es k v) ≡ put (string_bytes k) (view v) (entries_view es)
+pub entries_view-insert_entry : (es : List Pair) (k : String Global) (v : Value) → entries_view (insert_entry string_cmp es k v) ≡ with_entry (string_bytes k) (view v) (entries_view es)
 entries_view-insert_entry [] k v = refl
 entries_view-insert_entry (e ∷ es) k v = put_chosen (string_cmp k e.0) k v e es (insert_entry string_cmp es k v) refl ∙ rw (entries_view-insert_entry es k v) refl
 
@@ -34,7 +34,7 @@ below_middle first [] e more h = h.0
 below_middle first (x ∷ es) e more h = below_middle first es e more h.1
 
 -- a key that is above those before it goes last
-pub put_last : (done : List Pair) (e : Pair) (more : List Pair) → IsStrictlySortedBy string_cmp (keys_of (done ++ e ∷ more)) → put (string_bytes e.0) (view e.1) (entries_view done) ≡ entries_view (done ++ e ∷ [])
+pub put_last : (done : List Pair) (e : Pair) (more : List Pair) → IsStrictlySortedBy string_cmp (keys_of (done ++ e ∷ more)) → with_entry (string_bytes e.0) (view e.1) (entries_view done) ≡ entries_view (done ++ e ∷ [])
 unfolding IsStrictlySortedBy
 put_last [] e more h = refl
 put_last (first ∷ done) e more h =

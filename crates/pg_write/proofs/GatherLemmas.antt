@@ -2,7 +2,7 @@
 use Rattle.std.proofs.Common.{◌≡◌, ◌==◌, ℕ, Bool, true, false, ◌&&◌, ◌||◌, List, [], ◌∷◌, Option, Some, None, is_some, Result, Ok, Err, refl, sym, ap, ◌∙◌}
 use Rattle.std.specs.List.{list_any}
 use Rattle.std.specs.Prelude.{IsTrue}
-use Rattle.pg_agreement.proofs.ChangesIds.{same_id, filtered_id, passes, found_passes, ids_found}
+use Rattle.pg_soundness.proofs.ChangesIds.{same_id, filtered_id, passes, found_passes, ids_found}
 use Rattle.pg_meaning.specs.Answer.{◌>>=◌, each_step}
 use Rattle.pg_meaning.specs.EqualityLaws.{nat_same}
 use Rattle.pg_meaning.specs.Expressions.{evaluate}

@@ -6,7 +6,7 @@ use Rattle.std.specs.FinMap.Entries as by_id
 use Rattle.std.specs.List.{AllByRecursion}
 use Rattle.std.specs.Ordering.{nat_cmp, is_lt, match_ordering}
 use Rattle.std.specs.Prelude.{IsTrue}
-use Rattle.pg_agreement.proofs.ChangesIds.{same_id}
+use Rattle.pg_soundness.proofs.ChangesIds.{same_id}
 use Rattle.pg_graph.proofs.SortedLists.{less, equal, greater}
 use Rattle.pg_meaning.specs.EntriesLaws.{both}
 use Rattle.pg_meaning.specs.EqualityLaws.{nat_same}

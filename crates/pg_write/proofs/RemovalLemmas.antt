@@ -5,7 +5,7 @@ use Rattle.std.specs.FinMap.Entries as by_id
 use Rattle.std.specs.List.{AllByRecursion, list_any}
 use Rattle.std.specs.Ordering.{nat_cmp}
 use Rattle.std.specs.Prelude.{IsTrue, is_some}
-use Rattle.pg_agreement.proofs.ChangesIds.{or_parts}
+use Rattle.pg_soundness.proofs.ChangesIds.{or_parts}
 use Rattle.pg_meaning.specs.Answer.{◌>>◌, unless}
 use Rattle.pg_meaning.specs.Graph.{Graph, Relationship, has_node, has_relationship, contains_id, ids_of, Way, outgoing, incoming, both, goes_from, incident, remove_elements}
 use Rattle.pg_meaning.specs.GraphLaws.{remove_removes}

@@ -1,8 +1,8 @@
 -- The parts of MERGE at a row, and what a match is read as.
 use Rattle.std.specs.Prelude.{ℕ, zero, suc, false, List, [], ◌∷◌, ◌++◌, map, Result, Ok}
-use Rattle.pg_match_rows.specs.Readings.{behind_parts, read_values}
-use Rattle.pg_match_rows.specs.declared.part.Part.{Part}
-use Rattle.pg_match_stages.specs.declared.step.Step.{Step}
+use Rattle.pg_match_bindings.specs.Readings.{behind_parts, read_values}
+use Rattle.pg_match_bindings.specs.declared.part.Part.{Part}
+use Rattle.pg_match_stages.specs.declared.match_element.MatchElement.{MatchElement}
 use Rattle.pg_meaning.specs.Answer.{◌>>=◌, ◌>>◌, each_step}
 use Rattle.pg_meaning.specs.Graph.{Graph}
 use Rattle.pg_meaning.specs.Meters.{Setting, State, spend}
@@ -50,6 +50,6 @@ module _ (s : Setting) (p : PathPattern) where
     rows_merged created matched after row (rows_found state.graph row wanted)
 
 -- so many matches behind the values of a row, read from their steps
-abbrev pub rows_read : Graph → List Part → List Value → (count : ℕ) → List Step → List (List Value)
+abbrev pub rows_read : Graph → List Part → List Value → (count : ℕ) → List MatchElement → List (List Value)
 rows_read graph parts values zero steps = []
 rows_read graph parts values (suc n) steps = (values ++ read_values graph parts steps) ∷ rows_read graph parts values n (behind_parts parts steps)

@@ -1,9 +1,9 @@
 -- What a MERGE that was made ready stands for.
 use Rattle.std.specs.Prelude.{◌≡◌, ◌≤◌, ℕ, true, false, List, [], ◌∷◌, map, length, take}
 use Rattle.pg_expr.specs.declared.query_context.QueryContext.{QueryContext}
-use Rattle.pg_match_rows.specs.Parts.{parts_of}
+use Rattle.pg_match_bindings.specs.Parts.{parts_of}
 use Rattle.pg_match_stages.specs.View.{anchor_view}
-use Rattle.pg_match_rows.specs.Readiness.{AreReadyFor, paths_of}
+use Rattle.pg_match_bindings.specs.Readiness.{AreReadyFor, paths_of}
 use Rattle.pg_meaning.specs.Graph.{Graph}
 use Rattle.pg_meaning.specs.Meters.{Setting, State}
 use Rattle.pg_meaning.specs.Patterns.{add_path_names}

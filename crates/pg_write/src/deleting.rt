@@ -8,19 +8,19 @@ ghost use Rattle.pg_syntax_tree.specs.View.{expression_view};
 ghost use Rattle.pg_value_core.specs.Given.{parameters_view};
 ghost use Rattle.pg_value_core.specs.Gives.{Gives};
 
-use crate::doomed::Doomed;
 use crate::gathering::gather;
+use crate::pending_deletes::PendingDeletes;
 use crate::removal::take_out;
 use pg_expr::QueryContext;
 use pg_graph::Tables;
 use pg_live::LiveGraph;
 use pg_meaning::Fault;
 use pg_meter::Meter;
-use pg_rows::Table;
+use pg_rows::BindingTable;
 use pg_syntax_tree::Expression;
 
 // Takes in a step for each element, or none where they would pass the quota.
-fn spend_for(meter: &mut Meter, doomed: &Doomed) -> Result<(), Fault>
+fn spend_for(meter: &mut Meter, doomed: &PendingDeletes) -> Result<(), Fault>
     ensures spends { (s : Setting) → s.quota.max_steps ≡ meter.old.limit
         → spend s meter.old.used (length doomed.now.0 + length doomed.now.1)
         ≡ after_test result meter.new.used }
@@ -38,9 +38,9 @@ pub fn delete_elements<T: Tables>(
     is_detach: bool,
     elements: &Vec<Expression>,
     live: &mut LiveGraph<T>,
-    table: Table,
+    table: BindingTable,
     meter: &mut Meter,
-) -> Result<Table, Fault>
+) -> Result<BindingTable, Fault>
     ensures gives { (s : Setting)
         → Suits s (parameters_view query.now.parameters.now) meter.old.limit (seen table).names
         → Gives result (delete_clause s is_detach (map expression_view elements.now.items)

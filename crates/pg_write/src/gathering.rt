@@ -11,15 +11,15 @@ ghost use Rattle.pg_value_core.specs.Given.{parameters_view};
 ghost use Rattle.pg_write.specs.Gathered.{put_row, gathered};
 ghost use Rattle.pg_write_make.specs.Scenes.{row_in, parameters_in};
 
-use crate::doomed::Doomed;
+use crate::pending_deletes::PendingDeletes;
 use pg_expr::{Prepared, QueryContext, prepare};
 use pg_graph::Tables;
 use pg_meaning::Fault;
-use pg_rows::{Columns, Rows, Table};
-use pg_store::Snapshot;
+use pg_rows::{BindingTable, Columns, Rows};
+use pg_store::GraphView;
 use pg_syntax_tree::Expression;
 use pg_value_core::Value;
-use pg_write_make::Scene;
+use pg_write_make::ClauseScope;
 use std::alloc::{AllocError, Global};
 
 // The expressions made ready, once a clause, for its rows.
@@ -40,9 +40,9 @@ fn prepare_all<'a>(
 
 // What all expressions give at a row.
 fn gather_row<T: Tables>(
-    doomed: &mut Doomed,
-    scene: &Scene<'_>,
-    graph: &Snapshot<'_, T>,
+    doomed: &mut PendingDeletes,
+    scene: &ClauseScope<'_>,
+    graph: &GraphView<'_, T>,
     row: &[Value],
     elements: &Vec<Prepared<'_>>,
 ) -> Result<(), Fault>
@@ -62,9 +62,9 @@ fn gather_row<T: Tables>(
 
 // What all expressions give at all rows.
 fn gather_rows<T: Tables>(
-    doomed: &mut Doomed,
-    scene: &Scene<'_>,
-    graph: &Snapshot<'_, T>,
+    doomed: &mut PendingDeletes,
+    scene: &ClauseScope<'_>,
+    graph: &GraphView<'_, T>,
     rows: &Rows,
     elements: &Vec<Prepared<'_>>,
 ) -> Result<(), Fault>
@@ -83,12 +83,12 @@ fn gather_rows<T: Tables>(
 
 // What expressions that were made ready give at all rows, with DETACH the relationships at the nodes too.
 fn gather_ready<T: Tables>(
-    scene: &Scene<'_>,
-    graph: &Snapshot<'_, T>,
+    scene: &ClauseScope<'_>,
+    graph: &GraphView<'_, T>,
     rows: &Rows,
     elements: &Vec<Prepared<'_>>,
     is_detach: bool,
-) -> Result<Doomed, Fault>
+) -> Result<PendingDeletes, Fault>
     ensures ok { IfOk result (λ d. gathered is_detach
         (parameters_in scene.now) graph.now (map (tree_of scene.now.names.now) elements.now.items)
         (rows_named scene.now.names.now (table rows.now)) ≡ Ok d) }
@@ -96,7 +96,7 @@ fn gather_ready<T: Tables>(
         (parameters_in scene.now) graph.now (map (tree_of scene.now.names.now) elements.now.items)
         (rows_named scene.now.names.now (table rows.now)) ≡ Err e) }
 {
-    let mut doomed = Doomed::new(scene.query.alloc);
+    let mut doomed = PendingDeletes::new(scene.query.alloc);
     gather_rows(&mut doomed, scene, graph, rows, elements)?;
     if is_detach {
         doomed.detach(graph)?;
@@ -109,9 +109,9 @@ pub(crate) fn gather<T: Tables>(
     query: &QueryContext<'_>,
     is_detach: bool,
     elements: &Vec<Expression>,
-    graph: &Snapshot<'_, T>,
-    table: &Table,
-) -> Result<Doomed, Fault>
+    graph: &GraphView<'_, T>,
+    table: &BindingTable,
+) -> Result<PendingDeletes, Fault>
     ensures ok { IfOk result (λ d. gathered is_detach (parameters_view query.now.parameters.now)
         graph.now (map expression_view elements.now.items) (named_rows (seen table.now)) ≡ Ok d) }
     ensures err { IfErr result (λ e. e ≢ OutOfMemory
@@ -119,7 +119,7 @@ pub(crate) fn gather<T: Tables>(
         (map expression_view elements.now.items) (named_rows (seen table.now)) ≡ Err e) }
 {
     let ready = prepare_all(query.alloc, table.names(), elements)?;
-    let scene = Scene {
+    let scene = ClauseScope {
         query,
         names: table.names(),
     };

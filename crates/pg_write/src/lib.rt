@@ -3,7 +3,6 @@
 
 mod changes;
 mod deleting;
-mod doomed;
 mod found;
 mod gathering;
 mod items;
@@ -12,6 +11,7 @@ mod merge;
 mod merged_rows;
 mod merging;
 mod nulls;
+mod pending_deletes;
 mod removal;
 mod removing;
 mod row_matches;

@@ -14,10 +14,10 @@ use crate::merging::{Merge, prepare};
 use pg_expr::QueryContext;
 use pg_graph::Tables;
 use pg_live::LiveGraph;
-use pg_match_rows::bind_names;
+use pg_match_bindings::bind_names;
 use pg_meaning::Fault;
 use pg_meter::Meter;
-use pg_rows::Table;
+use pg_rows::BindingTable;
 use pg_write_make::count_new;
 use std::slice::from_ref;
 
@@ -28,9 +28,9 @@ pub fn merge_path<'a, T: Tables>(
     query: &'a QueryContext<'a>,
     merge: &Merge<'a>,
     live: &mut LiveGraph<T>,
-    table: Table,
+    table: BindingTable,
     meter: &mut Meter,
-) -> Result<Table, Fault>
+) -> Result<BindingTable, Fault>
     requires anchors { length merge.now.anchors.now ≡ 1 }
     ensures gives { (s : Setting)
         → Suits s (parameters_view query.now.parameters.now) meter.old.limit (seen table).names
@@ -54,5 +54,5 @@ pub fn merge_path<'a, T: Tables>(
         let merging = prepare(&*query, &*merge, &names, bound, count, bindings)?;
         merge_rows(&merging, live, rows, meter)?
     };
-    Ok(Table::new(names, merged))
+    Ok(BindingTable::new(names, merged))
 }

@@ -1,6 +1,6 @@
 //! A MERGE made ready, once a clause, for its rows.
 ghost use Rattle.std.specs.Prelude.{◌≡◌, ◌≤◌, ◌++◌, ◌∷◌, [], Bool, IfOk, length, map, take};
-ghost use Rattle.pg_match_rows.specs.Parts.{parts_of};
+ghost use Rattle.pg_match_bindings.specs.Parts.{parts_of};
 ghost use Rattle.pg_meaning.specs.Patterns.{add_path_names};
 ghost use Rattle.pg_meaning.specs.Updates.{count_new, items_on};
 ghost use Rattle.pg_syntax_tree.specs.View.{on_view, path_view};
@@ -9,11 +9,11 @@ ghost use Rattle.pg_write.specs.Ready.{IsReady, IsMergingOf};
 
 use crate::items::{ReadySet, push_ready};
 use pg_expr::QueryContext;
-use pg_match_rows::{Part, Patterns};
+use pg_match_bindings::{Part, Patterns};
 use pg_match_stages::Anchor;
 use pg_rows::Columns;
 use pg_syntax_tree::{On, PathPattern};
-use pg_write_make::Scene;
+use pg_write_make::ClauseScope;
 use std::alloc::{AllocError, Global};
 use std::slice::from_ref;
 
@@ -29,7 +29,7 @@ pub struct Merge<'a> {
 /// the clause, of which so many are bound before it.
 #[derive(Drop)]
 pub(crate) struct Merging<'a> {
-    pub(crate) scene: Scene<'a>,
+    pub(crate) scene: ClauseScope<'a>,
     pub(crate) path: &'a PathPattern,
     pub(crate) anchors: &'a [Anchor],
     pub(crate) bound: usize,
@@ -84,7 +84,7 @@ pub(crate) fn prepare<'a>(
     let on_match = items_on(alloc, names, false, merge.items)?;
     let patterns = Patterns::prepare(alloc, from_ref(merge.path), names)?;
     Ok(Merging {
-        scene: Scene { query, names },
+        scene: ClauseScope { query, names },
         path: merge.path,
         anchors: merge.anchors,
         bound,

@@ -6,17 +6,17 @@ ghost use Rattle.pg_meaning.specs.Updates.{test_unconnected};
 ghost use Rattle.pg_meaning.specs.declared.fault.Fault.TheVariants.{OutOfMemory};
 ghost use Rattle.pg_write.specs.Gathered.{taken_out, AreThere, Rises};
 
-use crate::doomed::Doomed;
+use crate::pending_deletes::PendingDeletes;
 use pg_graph::Tables;
 use pg_live::LiveGraph;
 use pg_meaning::Fault;
-use pg_store::Snapshot;
+use pg_store::GraphView;
 use pg_value_core::{NodeId, RelId};
 use std::alloc::AllocError;
 use std::collections::BTreeSet;
 
 // Whether none of the nodes has a relationship.
-fn test_unconnected<T: Tables>(graph: &Snapshot<'_, T>, nodes: &BTreeSet<u64>) -> Result<(), Fault>
+fn test_unconnected<T: Tables>(graph: &GraphView<'_, T>, nodes: &BTreeSet<u64>) -> Result<(), Fault>
     ensures { result ≡ test_unconnected graph.now nodes.now.keys }
 {
     for node in nodes {
@@ -61,7 +61,10 @@ fn remove_nodes<T: Tables>(live: &mut LiveGraph<T>, nodes: &BTreeSet<u64>) -> Re
 
 /// Takes out what is doomed, unless one of its nodes would leave a relationship behind. An error
 /// leaves a part of it done.
-pub(crate) fn take_out<T: Tables>(live: &mut LiveGraph<T>, doomed: &Doomed) -> Result<(), Fault>
+pub(crate) fn take_out<T: Tables>(
+    live: &mut LiveGraph<T>,
+    doomed: &PendingDeletes,
+) -> Result<(), Fault>
     requires there { AreThere live.old.graph doomed.now }
     ensures ok { OnOk result (taken_out doomed.now live.old.graph ≡ Ok live.new.graph) }
     ensures err { IfErr result (λ e. e ≢ OutOfMemory

@@ -19,10 +19,10 @@ use pg_graph::Tables;
 use pg_live::LiveGraph;
 use pg_meaning::Fault;
 use pg_meter::Meter;
-use pg_rows::Table;
+use pg_rows::BindingTable;
 use pg_syntax_tree::{Name, RemoveItem};
 use pg_value_core::Value;
-use pg_write_make::{Scene, spend_for_rows};
+use pg_write_make::{ClauseScope, spend_for_rows};
 use std::alloc::Global;
 
 fn target_name(item: &RemoveItem) -> &Name
@@ -54,7 +54,7 @@ fn take_key<T: Tables>(
 
 // One item at one row.
 fn remove_item<T: Tables>(
-    scene: &Scene<'_>,
+    scene: &ClauseScope<'_>,
     live: &mut LiveGraph<T>,
     row: &[Value],
     item: &RemoveItem,
@@ -80,7 +80,7 @@ fn remove_item<T: Tables>(
 
 // All items at one row.
 fn remove_row<T: Tables>(
-    scene: &Scene<'_>,
+    scene: &ClauseScope<'_>,
     live: &mut LiveGraph<T>,
     row: &[Value],
     items: &Vec<RemoveItem>,
@@ -104,7 +104,7 @@ pub fn remove_items<T: Tables>(
     query: &QueryContext<'_>,
     items: &Vec<RemoveItem>,
     live: &mut LiveGraph<T>,
-    table: &Table,
+    table: &BindingTable,
     meter: &mut Meter,
 ) -> Result<(), Fault>
     ensures answer { (s : Setting)
@@ -116,7 +116,7 @@ pub fn remove_items<T: Tables>(
     ensures limit { meter.new.limit ≡ meter.old.limit }
 {
     spend_for_rows(meter, table.rows().len(), items.len())?;
-    let scene = Scene {
+    let scene = ClauseScope {
         query,
         names: table.names(),
     };

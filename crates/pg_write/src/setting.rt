@@ -25,14 +25,14 @@ use pg_graph::Tables;
 use pg_live::LiveGraph;
 use pg_meaning::Fault;
 use pg_meter::Meter;
-use pg_rows::{Rows, Table};
+use pg_rows::{BindingTable, Rows};
 use pg_syntax_tree::{Name, SetItem};
 use pg_value_core::Value;
-use pg_write_make::{Scene, spend_for_rows, test_storable};
+use pg_write_make::{ClauseScope, spend_for_rows, test_storable};
 
 // Gives a target a value under one key.
 fn set_key<T: Tables>(
-    scene: &Scene<'_>,
+    scene: &ClauseScope<'_>,
     live: &mut LiveGraph<T>,
     row: &[Value],
     key: &Name,
@@ -57,7 +57,7 @@ fn set_key<T: Tables>(
 
 // Gives a target the entries of a map, in the place of its own properties or beside them.
 fn set_map<T: Tables>(
-    scene: &Scene<'_>,
+    scene: &ClauseScope<'_>,
     live: &mut LiveGraph<T>,
     row: &[Value],
     value: &Prepared<'_>,
@@ -82,7 +82,7 @@ fn set_map<T: Tables>(
 
 // One item at one row. On null nothing is evaluated.
 fn set_item<T: Tables>(
-    scene: &Scene<'_>,
+    scene: &ClauseScope<'_>,
     live: &mut LiveGraph<T>,
     row: &[Value],
     item: &ReadySet<'_>,
@@ -111,7 +111,7 @@ fn set_item<T: Tables>(
 /// Sets what the items say at one row. An error leaves a part of it done, and the caller takes that
 /// back.
 pub(crate) fn set_row<T: Tables>(
-    scene: &Scene<'_>,
+    scene: &ClauseScope<'_>,
     live: &mut LiveGraph<T>,
     row: &[Value],
     items: &Vec<ReadySet<'_>>,
@@ -132,7 +132,7 @@ pub(crate) fn set_row<T: Tables>(
 
 // All items at all rows.
 fn set_rows<T: Tables>(
-    scene: &Scene<'_>,
+    scene: &ClauseScope<'_>,
     live: &mut LiveGraph<T>,
     rows: &Rows,
     items: &Vec<ReadySet<'_>>,
@@ -157,7 +157,7 @@ pub fn set_items<T: Tables>(
     query: &QueryContext<'_>,
     items: &Vec<SetItem>,
     live: &mut LiveGraph<T>,
-    table: &Table,
+    table: &BindingTable,
     meter: &mut Meter,
 ) -> Result<(), Fault>
     ensures answer { (s : Setting)
@@ -171,7 +171,7 @@ pub fn set_items<T: Tables>(
     spend_for_rows(meter, table.rows().len(), items.len())?;
     let mut ready = Vec::new(query.alloc);
     push_ready(query.alloc, table.names(), items, &mut ready)?;
-    let scene = Scene {
+    let scene = ClauseScope {
         query,
         names: table.names(),
     };

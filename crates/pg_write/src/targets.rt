@@ -7,10 +7,10 @@ ghost use Rattle.pg_write_make.specs.Scenes.{row_in};
 
 use pg_graph::Tables;
 use pg_meaning::Fault;
-use pg_store::Snapshot;
+use pg_store::GraphView;
 use pg_syntax_tree::Name;
 use pg_value_core::{NodeId, RelId, Value};
-use pg_write_make::Scene;
+use pg_write_make::ClauseScope;
 
 /// An element that is there, or nothing where the variable is null.
 #[derive(Clone, Copy)]
@@ -22,8 +22,8 @@ pub(crate) enum Target {
 
 /// The element under a name in a row.
 pub(crate) fn target_of<T: Tables>(
-    graph: &Snapshot<'_, T>,
-    scene: &Scene<'_>,
+    graph: &GraphView<'_, T>,
+    scene: &ClauseScope<'_>,
     row: &[Value],
     name: &Name,
 ) -> Result<Target, Fault>

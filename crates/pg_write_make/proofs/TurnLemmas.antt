@@ -5,6 +5,7 @@ use Rattle.std.proofs.lemmas.Option.{slice_get_read}
 use Rattle.std.specs.Borrow.{Bor}
 use Rattle.std.specs.Prelude.{String, string_bytes}
 use Rattle.std.specs.declared.alloc.Global.{Global}
+use Rattle.pg_match_bindings.specs.InTurn.{after}
 use Rattle.pg_meaning.specs.Answer.{◌>>=◌, ◌>>◌}
 use Rattle.pg_meaning.specs.Graph.{Graph, Relationship, other_end, relationship_at}
 use Rattle.pg_meaning.specs.Names.{Names}
@@ -31,8 +32,8 @@ use Rattle.pg_write_make.proofs.RowLemmas.{drop_at}
 use Rattle.pg_write_make.specs.Creations.{count_one}
 use Rattle.pg_write_make.specs.Makings.{others_view, patterns_view, relationship_ids}
 use Rattle.pg_write_make.specs.Scenes.{value_given}
-use Rattle.pg_write_make.specs.Values.{pairs_given, pairs_wanted, after}
-use Rattle.pg_write_make.specs.declared.scene.Scene.{Scene}
+use Rattle.pg_write_make.specs.Values.{pairs_given, pairs_wanted}
+use Rattle.pg_write_make.specs.declared.clause_scope.ClauseScope.{ClauseScope}
 
 pub seen_pushed : {K O : Type 0} (see : K → O) (kept more : List K) (k : K) → more ≡ kept ++ k ∷ [] → map see more ≡ map see kept ++ see k ∷ []
 seen_pushed see kept more k pushed = ap (map see) pushed ∙ map-append see kept (k ∷ [])
@@ -65,7 +66,7 @@ one_after : {Y : Type 0} (ys : List Y) (y : Y) (r : Result (List Y) Fault) → �
 one_after ys y (Ok zs) = ap (λ (all : List _). Ok all) (sym (append_assoc ys (y ∷ []) zs))
 one_after ys y (Err e) = refl
 
-module _ (items xs : List (Name × Expression)) (i : ℕ) (x : Name × Expression) (same : items ≡ xs) (at : x ≡ get_or items i x) (within : i < length items) (s : Scene) (graph : Graph) (row : List Value) (vs : List (Bor (List ℕ) × Value)) (whole : Result (List (List ℕ × Datum)) Fault) (so_far : whole ≡ after (pairs_of vs) (pairs_given s graph row (pairs_wanted (drop i xs)))) where
+module _ (items xs : List (Name × Expression)) (i : ℕ) (x : Name × Expression) (same : items ≡ xs) (at : x ≡ get_or items i x) (within : i < length items) (s : ClauseScope) (graph : Graph) (row : List Value) (vs : List (Bor (List ℕ) × Value)) (whole : Result (List (List ℕ × Datum)) Fault) (so_far : whole ≡ after (pairs_of vs) (pairs_given s graph row (pairs_wanted (drop i xs)))) where
   abbrev others : Result (List (List ℕ × Datum)) Fault
   others = pairs_given s graph row (pairs_wanted (drop (i + 1) xs))
 
@@ -91,7 +92,7 @@ pub none_before : {Y : Type 0} (ys : List Y) (r : Result (List Y) Fault) → ys 
 none_before ys (Ok zs) none = ap (λ (os : List _). Ok (os ++ zs)) (sym none)
 none_before ys (Err e) none = refl
 
-pub pairs_past : (items xs : List (Name × Expression)) (i : ℕ) (same : items ≡ xs) → length items ≤ i → (s : Scene) (graph : Graph) (row : List Value) (found : List (List ℕ × Datum)) (whole : Result (List (List ℕ × Datum)) Fault)
+pub pairs_past : (items xs : List (Name × Expression)) (i : ℕ) (same : items ≡ xs) → length items ≤ i → (s : ClauseScope) (graph : Graph) (row : List Value) (found : List (List ℕ × Datum)) (whole : Result (List (List ℕ × Datum)) Fault)
     → whole ≡ after found (pairs_given s graph row (pairs_wanted (drop i xs))) → whole ≡ Ok found
 pairs_past items xs i same past s graph row found whole so_far =
     so_far

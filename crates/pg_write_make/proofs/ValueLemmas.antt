@@ -17,16 +17,16 @@ use Rattle.pg_syntax_tree.specs.declared.patterns.Properties.{Properties}
 use Rattle.pg_syntax_tree.specs.declared.patterns.Properties.TheVariants as properties
 use Rattle.pg_value_core.specs.declared.value.Value.{Value}
 use Rattle.pg_write_make.specs.Values.{pair_given, pairs_given, pair_wanted, pairs_wanted, element_pairs}
-use Rattle.pg_write_make.specs.declared.scene.Scene.{Scene}
+use Rattle.pg_write_make.specs.declared.clause_scope.ClauseScope.{ClauseScope}
 
 pairs_are : (ps : List (Name × Expression)) → pair_list (pairs_of (map pair_view ps)) ≡ pairs_wanted ps
 pairs_are [] = refl
 pairs_are (p ∷ ps) = ap (λ ws. pair_wanted p ∷ ws) (pairs_are ps)
 
-pub given_are : (s : Scene) (graph : Graph) (row : List Value) (ps : Vec (Name × Expression) Global) → element_pairs s graph row (properties.Given ps) ≡ pairs_given s graph row (pairs_wanted ps.items)
+pub given_are : (s : ClauseScope) (graph : Graph) (row : List Value) (ps : Vec (Name × Expression) Global) → element_pairs s graph row (properties.Given ps) ≡ pairs_given s graph row (pairs_wanted ps.items)
 given_are s graph row ps = ap (each_answer (pair_given s graph row)) (pairs_are ps.items)
 
-module _ (s : Scene) (graph : Graph) (row : List Value) (given : Properties) (ps : Vec (Name × Expression) Global) (is : given ≡ properties.Given ps) where
+module _ (s : ClauseScope) (graph : Graph) (row : List Value) (given : Properties) (ps : Vec (Name × Expression) Global) (is : given ≡ properties.Given ps) where
   given_here : element_pairs s graph row given ≡ pairs_given s graph row (pairs_wanted ps.items)
   given_here = ap (element_pairs s graph row) is ∙ given_are s graph row ps
 

@@ -13,26 +13,26 @@ use Rattle.pg_rows.specs.Named.{row_of}
 use Rattle.pg_value_core.specs.Given.{parameters_view}
 use Rattle.pg_value_core.specs.View.{view}
 use Rattle.pg_value_core.specs.declared.value.Value.{Value}
-use Rattle.pg_write_make.specs.declared.scene.RowScene.{RowScene}
-use Rattle.pg_write_make.specs.declared.scene.Scene.{Scene}
+use Rattle.pg_write_make.specs.declared.clause_scope.RowScene.{RowScene}
+use Rattle.pg_write_make.specs.declared.clause_scope.ClauseScope.{ClauseScope}
 
-abbrev pub parameters_in : Scene → Entries
+abbrev pub parameters_in : ClauseScope → Entries
 parameters_in s = parameters_view s.query.now.parameters.now
 
-abbrev pub max_elements_in : Scene → ℕ
+abbrev pub max_elements_in : ClauseScope → ℕ
 max_elements_in s = s.query.now.max_elements
 
-abbrev pub row_in : Scene → List Value → Row
+abbrev pub row_in : ClauseScope → List Value → Row
 row_in s values = row_of s.names.now (map view values)
 
 abbrev pub row_at : RowScene → Row
 row_at r = row_in r.scene.now r.values.now
 
-abbrev pub given : Scene → Graph → List Value → Prepared → Answer
+abbrev pub given : ClauseScope → Graph → List Value → Prepared → Answer
 given s graph values p = evaluate (row_in s values) (parameters_in s) graph (tree_of s.names.now p)
 
 -- what the tree of an expression gives
-abbrev pub value_given : Scene → Graph → List Value → Expression → Answer
+abbrev pub value_given : ClauseScope → Graph → List Value → Expression → Answer
 value_given s graph values e = evaluate (row_in s values) (parameters_in s) graph e
 
 -- a setting of which the parameters alone are read

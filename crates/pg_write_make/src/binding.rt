@@ -5,14 +5,14 @@ ghost use Rattle.pg_value_core.specs.View.{view};
 ghost use Rattle.pg_write_make.specs.Bindings.{bind_each, EndsWith};
 ghost use Rattle.pg_write_make.specs.Lent.{bindings_view};
 
-use crate::scene::Scene;
+use crate::clause_scope::ClauseScope;
 use pg_value_core::Value;
 use std::alloc::AllocError;
 
 /// Binds variables in turn, each that isn't bound yet, in the columns behind the values.
 #[tactic(auto, using(crate::proofs::NameLemmas::bound_already, crate::proofs::NameLemmas::binds_one, crate::proofs::NameLemmas::all_bound))]
 pub(crate) fn bind_all(
-    scene: &Scene<'_>,
+    scene: &ClauseScope<'_>,
     values: &mut Vec<Value>,
     bindings: Vec<(&str, Value)>,
 ) -> Result<(), AllocError>

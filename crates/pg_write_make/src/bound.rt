@@ -8,16 +8,16 @@ ghost use Rattle.pg_write_make.specs.Lent.{paths_view};
 ghost use Rattle.pg_write_make.specs.Makings.{others_view};
 ghost use Rattle.pg_write_make.specs.Scenes.{row_in};
 
-use crate::scene::Scene;
+use crate::clause_scope::ClauseScope;
 use pg_graph::Tables;
 use pg_meaning::Fault;
-use pg_store::Snapshot;
+use pg_store::GraphView;
 use pg_syntax_tree::{NodePattern, PathPattern, RelationshipPattern};
 use pg_value_core::Value;
 
 fn test_node<T: Tables>(
-    scene: &Scene<'_>,
-    graph: &Snapshot<'_, T>,
+    scene: &ClauseScope<'_>,
+    graph: &GraphView<'_, T>,
     row: &[Value],
     pattern: &NodePattern,
 ) -> Result<(), Fault>
@@ -37,8 +37,8 @@ fn test_node<T: Tables>(
 }
 
 fn test_others<T: Tables>(
-    scene: &Scene<'_>,
-    graph: &Snapshot<'_, T>,
+    scene: &ClauseScope<'_>,
+    graph: &GraphView<'_, T>,
     row: &[Value],
     hops: &Vec<(RelationshipPattern, NodePattern)>,
 ) -> Result<(), Fault>
@@ -52,8 +52,8 @@ fn test_others<T: Tables>(
 }
 
 fn test_path<T: Tables>(
-    scene: &Scene<'_>,
-    graph: &Snapshot<'_, T>,
+    scene: &ClauseScope<'_>,
+    graph: &GraphView<'_, T>,
     row: &[Value],
     path: &PathPattern,
 ) -> Result<(), Fault>
@@ -67,8 +67,8 @@ fn test_path<T: Tables>(
 /// Each bound node of the paths is a node that is there.
 #[tactic(auto, using(crate::proofs::BoundLemmas::path_passed, crate::proofs::BoundLemmas::path_refused))]
 pub(crate) fn test_paths<T: Tables>(
-    scene: &Scene<'_>,
-    graph: &Snapshot<'_, T>,
+    scene: &ClauseScope<'_>,
+    graph: &GraphView<'_, T>,
     row: &[Value],
     paths: &[PathPattern],
 ) -> Result<(), Fault>

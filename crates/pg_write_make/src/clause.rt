@@ -9,16 +9,16 @@ ghost use Rattle.pg_value_core.specs.Given.{parameters_view};
 ghost use Rattle.pg_value_core.specs.Gives.{Gives};
 
 use crate::charge::spend_for_rows;
+use crate::clause_scope::ClauseScope;
 use crate::counts::count_new;
 use crate::creation::create_rows;
-use crate::scene::Scene;
 use pg_expr::QueryContext;
 use pg_graph::Tables;
 use pg_live::LiveGraph;
-use pg_match_rows::bind_names;
+use pg_match_bindings::bind_names;
 use pg_meaning::Fault;
 use pg_meter::Meter;
-use pg_rows::Table;
+use pg_rows::BindingTable;
 use pg_syntax_tree::PathPattern;
 
 /// Makes the paths at each row, for a step an element, and gives the rows with their new variables.
@@ -27,9 +27,9 @@ pub fn create_paths<T: Tables>(
     query: &QueryContext<'_>,
     paths: &Vec<PathPattern>,
     live: &mut LiveGraph<T>,
-    table: Table,
+    table: BindingTable,
     meter: &mut Meter,
-) -> Result<Table, Fault>
+) -> Result<BindingTable, Fault>
     ensures gives { (s : Setting)
         → Suits s (parameters_view query.now.parameters.now) meter.old.limit (seen table).names
         → s.quota.max_elements ≡ query.now.max_elements
@@ -45,10 +45,10 @@ pub fn create_paths<T: Tables>(
     let count = count_new(query.alloc, &names, paths)?;
     spend_for_rows(meter, rows.len(), count)?;
     bind_names(query.alloc, paths, &mut names)?;
-    let scene = Scene {
+    let scene = ClauseScope {
         query,
         names: &names,
     };
     let made = create_rows(&scene, live, rows, paths)?;
-    Ok(Table::new(names, made))
+    Ok(BindingTable::new(names, made))
 }

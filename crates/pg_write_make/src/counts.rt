@@ -50,7 +50,7 @@ fn is_among(texts: &Vec<&str>, name: &str) -> bool
     false
 }
 
-#[tactic(auto, using(crate::proofs::CountLemmas::among_both, pg_match_rows::proofs::Naming::stands))]
+#[tactic(auto, using(crate::proofs::CountLemmas::among_both, pg_match_bindings::proofs::Naming::stands))]
 fn is_seen(names: &Columns, seen: &Vec<&str>, name: &str) -> bool
     ensures { result ≡ is_among (texts_of seen.now.items ++ names.now) name.now }
 {

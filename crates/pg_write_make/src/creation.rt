@@ -12,9 +12,9 @@ ghost use Rattle.pg_write_make.specs.Scenes.{max_elements_in, parameters_in, row
 
 use crate::binding::bind_all;
 use crate::bound::test_paths;
+use crate::clause_scope::{ClauseScope, RowScene};
 use crate::kept::kept_values;
 use crate::paths::make_paths;
-use crate::scene::{RowScene, Scene};
 use crate::trails::row_bindings;
 use pg_graph::Tables;
 use pg_live::LiveGraph;
@@ -27,7 +27,7 @@ use pg_value_core::Value;
 /// The names are those behind the clause.
 #[tactic(auto, using(crate::proofs::ShapeLemmas::ready_to_bind))]
 pub fn make_row<'a, T: Tables>(
-    scene: &Scene<'a>,
+    scene: &ClauseScope<'a>,
     live: &mut LiveGraph<T>,
     row: Vec<Value>,
     paths: &'a [PathPattern],
@@ -62,7 +62,7 @@ pub fn make_row<'a, T: Tables>(
 /// Makes the paths at each row, in the graph of the rows before, and gives the rows with their new
 /// variables. The names are those behind the clause.
 pub(crate) fn create_rows<'a, T: Tables>(
-    scene: &Scene<'a>,
+    scene: &ClauseScope<'a>,
     live: &mut LiveGraph<T>,
     rows: Rows,
     paths: &'a [PathPattern],

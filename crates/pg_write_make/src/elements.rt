@@ -17,7 +17,7 @@ use pg_graph::Tables;
 use pg_live::LiveGraph;
 use pg_meaning::Fault;
 use pg_meter::{MaxElements, Room};
-use pg_store::Snapshot;
+use pg_store::GraphView;
 use pg_syntax_tree::{NodePattern, RelationshipPattern};
 use pg_value_core::{NodeId, RelId, Value};
 use std::alloc::{AllocError, Global};
@@ -37,7 +37,7 @@ fn test_counter(next: u64) -> Result<(), Fault>
 
 // Whether there is room for one more element, and an id for it.
 fn test_new<T: Tables>(
-    graph: &Snapshot<'_, T>,
+    graph: &GraphView<'_, T>,
     max_elements: MaxElements,
     next: u64,
 ) -> Result<(), Fault>

@@ -7,18 +7,18 @@ ghost use Rattle.pg_write_make.specs.Makings.{others_view, outcomes_view, relati
 ghost use Rattle.pg_write_make.specs.Outcomes.{node_outcome, outcome_view, path_outcomes, relationship_outcome};
 ghost use Rattle.pg_write_make.specs.Scenes.{parameters_in, reading, row_in};
 
-use crate::scene::Scene;
+use crate::clause_scope::ClauseScope;
 use crate::values::outcome;
 use pg_graph::Tables;
 use pg_meaning::Fault;
-use pg_store::Snapshot;
+use pg_store::GraphView;
 use pg_syntax_tree::{NodePattern, PathPattern, RelationshipPattern};
 use pg_value_core::Value;
 
 // What the expressions of a relationship give, kept.
 fn relationship_outcome<'a, T: Tables>(
-    scene: &Scene<'a>,
-    graph: &Snapshot<'_, T>,
+    scene: &ClauseScope<'a>,
+    graph: &GraphView<'_, T>,
     row: &[Value],
     pattern: &'a RelationshipPattern,
 ) -> Result<Result<Vec<(&'a str, Value)>, Fault>, Fault>
@@ -35,8 +35,8 @@ fn relationship_outcome<'a, T: Tables>(
 
 // What the expressions of the nodes behind the first give and those of the relationships, each kept.
 fn keep_hops<'a, T: Tables>(
-    scene: &Scene<'a>,
-    graph: &Snapshot<'_, T>,
+    scene: &ClauseScope<'a>,
+    graph: &GraphView<'_, T>,
     row: &[Value],
     hops: &'a Vec<(RelationshipPattern, NodePattern)>,
     nodes: &mut Vec<Result<Vec<(&'a str, Value)>, Fault>>,
@@ -68,8 +68,8 @@ pub(crate) struct Kept<'a> {
 }
 
 fn kept_of<'a, T: Tables>(
-    scene: &Scene<'a>,
-    graph: &Snapshot<'_, T>,
+    scene: &ClauseScope<'a>,
+    graph: &GraphView<'_, T>,
     row: &[Value],
     path: &'a PathPattern,
 ) -> Result<Kept<'a>, Fault>
@@ -98,8 +98,8 @@ fn kept_of<'a, T: Tables>(
 
 /// What the expressions of all paths give at a row.
 pub(crate) fn kept_values<'a, T: Tables>(
-    scene: &Scene<'a>,
-    graph: &Snapshot<'_, T>,
+    scene: &ClauseScope<'a>,
+    graph: &GraphView<'_, T>,
     row: &[Value],
     paths: &'a [PathPattern],
 ) -> Result<Vec<Kept<'a>>, Fault>

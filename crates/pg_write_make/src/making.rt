@@ -13,8 +13,8 @@ ghost use Rattle.pg_write_make.specs.Makings.{bindings, making_of, named_ids, ot
 ghost use Rattle.pg_write_make.specs.Outcomes.{node_found, node_of, nodes_made, outcome_view};
 ghost use Rattle.pg_write_make.specs.Scenes.{max_elements_in, row_at};
 
+use crate::clause_scope::RowScene;
 use crate::elements::add_node;
-use crate::scene::RowScene;
 use pg_graph::Tables;
 use pg_live::LiveGraph;
 use pg_meaning::Fault;

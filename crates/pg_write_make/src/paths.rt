@@ -9,10 +9,10 @@ ghost use Rattle.pg_write_make.specs.Makings.{bindings, named_ids, AreThere, Gro
 ghost use Rattle.pg_write_make.specs.Outcomes.{path_made, paths_made};
 ghost use Rattle.pg_write_make.specs.Scenes.{max_elements_in, row_at};
 
+use crate::clause_scope::RowScene;
 use crate::hops::make_bonds;
 use crate::kept::Kept;
 use crate::making::make_nodes;
-use crate::scene::RowScene;
 use pg_graph::Tables;
 use pg_live::LiveGraph;
 use pg_meaning::Fault;

@@ -1,6 +1,5 @@
 //! What a row's new elements are bound to.
 ghost use Rattle.std.specs.Prelude.{◌≡◌, ◌++◌, ◌∷◌, [], OnOk, IfOk, map, option_map};
-ghost use Rattle.pg_meaning.specs.Graph.{other_end};
 ghost use Rattle.pg_meaning.specs.Patterns.{path_value, relationship_name, single, text_of, walk_on};
 ghost use Rattle.pg_meaning.specs.Value.{path, relationship};
 ghost use Rattle.pg_syntax_tree.specs.View.{hop_view, name_view, path_view, relationship_view};
@@ -11,25 +10,15 @@ ghost use Rattle.pg_write_make.specs.Makings.{node_ids, relationship_ids};
 
 use crate::paths::Trail;
 use pg_graph::Tables;
-use pg_store::{RelView, Snapshot};
+use pg_store::GraphView;
 use pg_syntax_tree::{Name, NodePattern, PathPattern, RelationshipPattern};
 use pg_value_core::{NodeId, Path, RelId, Value};
 use std::alloc::{AllocError, Global};
 
-fn other_end<T: Tables>(relationship: &RelView<'_, T>, at: NodeId) -> NodeId
-    ensures { result.0 ≡ other_end at.0 relationship.now }
-{
-    if relationship.source() == at {
-        relationship.target()
-    } else {
-        relationship.source()
-    }
-}
-
 // The ids from a node on, over relationships.
 fn walk<T: Tables>(
     alloc: Global,
-    graph: &Snapshot<'_, T>,
+    graph: &GraphView<'_, T>,
     first: NodeId,
     relationships: &Vec<RelId>,
 ) -> Result<Vec<u64>, AllocError>
@@ -42,7 +31,7 @@ fn walk<T: Tables>(
     for id in relationships {
         match graph.rel(*id) {
             Some(relationship) => {
-                at = other_end(&relationship, at);
+                at = relationship.other_end(at);
                 ids.push(id.0)?;
                 ids.push(at.0)?;
             }
@@ -60,7 +49,7 @@ fn path_of(ids: Vec<u64>) -> Value
 
 fn path_value<T: Tables>(
     alloc: Global,
-    graph: &Snapshot<'_, T>,
+    graph: &GraphView<'_, T>,
     trail: &Trail,
 ) -> Result<Value, AllocError>
     ensures { IfOk result (λ v. view v ≡ path_value graph.now (trail_view trail.now)) }
@@ -151,7 +140,7 @@ fn bind_nodes<'a>(
 fn bind_path<'a, T: Tables>(
     alloc: Global,
     bindings: &mut Vec<(&'a str, Value)>,
-    graph: &Snapshot<'_, T>,
+    graph: &GraphView<'_, T>,
     path: &'a PathPattern,
     trail: &Trail,
 ) -> Result<(), AllocError>
@@ -168,7 +157,7 @@ fn bind_path<'a, T: Tables>(
 #[tactic(auto, using(crate::proofs::StepLemmas::path_binds))]
 pub(crate) fn row_bindings<'a, T: Tables>(
     alloc: Global,
-    graph: &Snapshot<'_, T>,
+    graph: &GraphView<'_, T>,
     paths: &'a [PathPattern],
     trails: &Vec<Trail>,
 ) -> Result<Vec<(&'a str, Value)>, AllocError>

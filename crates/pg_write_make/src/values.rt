@@ -11,11 +11,11 @@ ghost use Rattle.pg_write_make.specs.Outcomes.{outcome_view};
 ghost use Rattle.pg_write_make.specs.Scenes.{row_in, parameters_in};
 ghost use Rattle.pg_write_make.specs.Values.{pairs_given, pairs_wanted, element_pairs};
 
-use crate::scene::Scene;
+use crate::clause_scope::ClauseScope;
 use crate::storable::test_storable;
 use pg_graph::Tables;
 use pg_meaning::Fault;
-use pg_store::Snapshot;
+use pg_store::GraphView;
 use pg_syntax_tree::{Expression, Name, Properties};
 use pg_value_core::Value;
 use std::alloc::{AllocError, Global};
@@ -23,8 +23,8 @@ use std::collections::BTreeMap;
 
 // The values of expressions, each under its key.
 fn pair_values<'a, T: Tables>(
-    scene: &Scene<'_>,
-    graph: &Snapshot<'_, T>,
+    scene: &ClauseScope<'_>,
+    graph: &GraphView<'_, T>,
     row: &[Value],
     pairs: &'a Vec<(Name, Expression)>,
 ) -> Result<Vec<(&'a str, Value)>, Fault>
@@ -58,7 +58,10 @@ fn copy_pairs<'a>(
 }
 
 // The entries of a parameter, which has to be a map.
-fn parameter_values<'a>(scene: &Scene<'a>, name: &Name) -> Result<Vec<(&'a str, Value)>, Fault>
+fn parameter_values<'a>(
+    scene: &ClauseScope<'a>,
+    name: &Name,
+) -> Result<Vec<(&'a str, Value)>, Fault>
     ensures ok { IfOk result
         (λ pairs. mapping_pairs (value_at (string_bytes name.now.text) (parameters_in scene.now))
         ≡ Ok (pairs_of pairs.items)) }
@@ -74,8 +77,8 @@ fn parameter_values<'a>(scene: &Scene<'a>, name: &Name) -> Result<Vec<(&'a str, 
 // The values of an element's properties, each under its key.
 #[tactic(auto, using(crate::proofs::ValueLemmas::given_are))]
 fn element_pairs<'a, T: Tables>(
-    scene: &Scene<'a>,
-    graph: &Snapshot<'_, T>,
+    scene: &ClauseScope<'a>,
+    graph: &GraphView<'_, T>,
     row: &[Value],
     properties: &'a Properties,
 ) -> Result<Vec<(&'a str, Value)>, Fault>
@@ -93,8 +96,8 @@ fn element_pairs<'a, T: Tables>(
 
 // An element's properties, where all may be stored.
 fn storable_properties<'a, T: Tables>(
-    scene: &Scene<'a>,
-    graph: &Snapshot<'_, T>,
+    scene: &ClauseScope<'a>,
+    graph: &GraphView<'_, T>,
     row: &[Value],
     properties: &'a Properties,
 ) -> Result<Vec<(&'a str, Value)>, Fault>
@@ -112,8 +115,8 @@ fn storable_properties<'a, T: Tables>(
 
 /// An element's properties, or the fault that stands in their place.
 pub(crate) fn outcome<'a, T: Tables>(
-    scene: &Scene<'a>,
-    graph: &Snapshot<'_, T>,
+    scene: &ClauseScope<'a>,
+    graph: &GraphView<'_, T>,
     row: &[Value],
     given: &'a Properties,
 ) -> Result<Result<Vec<(&'a str, Value)>, Fault>, Fault>

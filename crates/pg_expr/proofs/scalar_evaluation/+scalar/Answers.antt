@@ -1,10 +1,10 @@
-use Rattle.std.proofs.Common.{◌+◌, [], ◌∷◌, get_or, drop, map, sym, ap, subst, ◌∙◌, None}
-use Rattle.pg_expr.proofs.ScalarLemmas.{tells_by, then_told, then_told_by, both_told_by, told_is, at_end, next_told, nothing_follows}
+use Rattle.std.proofs.Common.{◌≡◌, ◌+◌, true, false, Some, [], ◌∷◌, get_or, drop, map, sym, refl, ap, subst, ◌∙◌, None}
+use Rattle.pg_expr.proofs.ScalarLemmas.{tells_by, then_told, then_told_by, both_told_by, told_is, at_end, next_told, nothing_follows, met_told, unmet_told, none_there}
 use Rattle.pg_expr.proofs.Turns as turn
-use Rattle.pg_expr.proofs.Walks.{chain_of}
+use Rattle.pg_expr.proofs.Walks.{chain_of, found_null, found_otherwise, found_when, in_case, true_of}
 use Rattle.pg_expr.specs.Operators.{all_negated, truth_compared}
 use Rattle.pg_expr.specs.Contexts.{given, given_chain, given_chained, given_compared, row_at, parameters_at}
-use Rattle.pg_expr.specs.Scalars.{scalar_view, ThenTells}
+use Rattle.pg_expr.specs.Scalars.{scalar_view, Chooses, ThenTells}
 use Rattle.pg_meaning.specs.Answer.{◌>>=◌}
 use Rattle.pg_meaning.specs.Expressions.{all_signed, or_fault}
 use Rattle.pg_meaning.specs.Entries.{at_key}
@@ -125,3 +125,64 @@ joined-returns g t c =
     let l = c.loop-operator in
     l.invariant (scalar_view l.left)
     (subst (λ xs. ThenTells (scalar_view l.left) (scalar_view l.left) (λ v. chain_of s graph v xs)) (sym (items_end c.loop-operator-test.false c.deref-operator-items.ensures.value)) (at_end (scalar_view l.left)))
+
+pub case-loop-condition-init : goal.case-loop-condition-init
+case-loop-condition-init g t c = refl
+
+pub case-loop-condition-preserved : goal.case-loop-condition-preserved
+case-loop-condition-preserved g t c =
+    let s = c.args.context.now in
+    let graph = c.args.graph.now in
+    let l = c.loop-condition in
+    let rest = drop (l.condition-index + 1) c.deref-condition-items.result.now in
+    let w = c.loop-condition-item.result in
+    l.invariant
+    ∙ ap (true_of s graph None) (item_here c.loop-condition-test.true c.loop-condition-item.is refl)
+    ∙ unmet_told s graph w rest (scalar_view c.scalar.result) c.scalar.ensures (subst (λ b. Chooses (scalar_view c.scalar.result) (Some b)) (let chosen : c.in-Some-false.field-0 ≡ false = cc in chosen) c.in-Some-false.ensures)
+
+pub case-returns-in-Some-true : goal.case-returns-in-Some-true
+case-returns-in-Some-true g t c =
+    let s = c.args.context.now in
+    let graph = c.args.graph.now in
+    let a = c.in-Case in
+    let l = c.loop-condition in
+    let rest = drop (l.condition-index + 1) c.deref-condition-items.result.now in
+    let w = c.loop-condition-item.result in
+    tells_by (scalar_view c.scalar-in-Some-true.result)
+    (ap (λ e. given s graph (expression_view e)) a.is
+    ∙ in_case s graph a.subject a.whens a.otherwise None (turn.no_subject s graph (none_there a.subject (sym c.is_some.ensures ∙ c.if-is_some.false)))
+    ∙ found_when s graph a.whens.items a.otherwise w.1
+    (ap (true_of s graph None) (sym c.deref-condition-items.ensures.value)
+    ∙ l.invariant
+    ∙ ap (true_of s graph None) (item_here c.loop-condition-test.true c.loop-condition-item.is refl)
+    ∙ met_told s graph w rest (scalar_view c.scalar.result) c.scalar.ensures (subst (λ b. Chooses (scalar_view c.scalar.result) (Some b)) (let chosen : c.in-Some-true.field-0 ≡ true = cc in chosen) c.in-Some-true.ensures)))
+    c.scalar-in-Some-true.ensures
+
+pub case-returns-in-Some : goal.case-returns-in-Some
+case-returns-in-Some g t c =
+    let s = c.args.context.now in
+    let graph = c.args.graph.now in
+    let a = c.in-Case in
+    tells_by (scalar_view c.scalar-in-Some.result)
+    (ap (λ e. given s graph (expression_view e)) a.is
+    ∙ in_case s graph a.subject a.whens a.otherwise None (turn.no_subject s graph (none_there a.subject (sym c.is_some.ensures ∙ c.if-is_some.false)))
+    ∙ found_otherwise s graph a.whens.items a.otherwise c.in-Some.inner
+    (ap (true_of s graph None) (sym c.deref-condition-items.ensures.value)
+    ∙ c.loop-condition.invariant
+    ∙ ap (true_of s graph None) (items_end c.loop-condition-test.false refl))
+    c.in-Some.is
+    ∙ ap (λ x. given s graph (expression_view x)) (sym c.deref.ensures))
+    c.scalar-in-Some.ensures
+
+pub case-returns-in-None-otherwise : goal.case-returns-in-None-otherwise
+case-returns-in-None-otherwise g t c =
+    let s = c.args.context.now in
+    let graph = c.args.graph.now in
+    let a = c.in-Case in
+    ap (λ e. given s graph (expression_view e)) a.is
+    ∙ in_case s graph a.subject a.whens a.otherwise None (turn.no_subject s graph (none_there a.subject (sym c.is_some.ensures ∙ c.if-is_some.false)))
+    ∙ found_null s graph a.whens.items a.otherwise
+    (ap (true_of s graph None) (sym c.deref-condition-items.ensures.value)
+    ∙ c.loop-condition.invariant
+    ∙ ap (true_of s graph None) (items_end c.loop-condition-test.false refl))
+    c.in-None-otherwise.is

@@ -1,5 +1,5 @@
 use Rattle.std.proofs.Common.{◌≡◌, ◌<◌, suc, [], ◌∷◌, ◌++◌, length, arith, sym, ap, subst, ◌∙◌}
-use Rattle.pg_graph.specs.IdRuns.{joined, AreRuns}
+use Rattle.pg_graph.specs.IdRuns.{flattened, AreRuns}
 use Rattle.pg_graph.proofs.RunLists.{run_popped, runs_popped, run_emptied, runs_emptied, set_at, some_of}
 use Rattle.pg_graph.proofs.runs.pop.Goals as goal
 
@@ -10,7 +10,7 @@ returns-then-len-eq0-clause-some c =
     let last : suc i ≡ length rs = omega (arith, c.in_ok-last.ensures, c.len.ensures) in
     let none : length c.pop-id.new.self ≡ 0 = sym (ap length (c.index.ensures ∙ set_at rs i c.pop-id.new.self c.index.result.now (omega arith))) ∙ sym c.len-2.ensures ∙ c.if-len-eq0.true in
     run_popped c.pop-id.result rs i c.index_mut.result.now c.pop-id.new.self last c.index_mut.ensures.value c.pop-id.ensures
-    ∙ ap (λ q. q ++ c.pop-id.result ∷ []) (sym (ap joined (c.shrink_list.ensures ∙ c.truncate.ensures.items) ∙ run_emptied c.pop-id.result rs i c.index_mut.result.now c.pop-id.new.self last c.index_mut.ensures.value c.pop-id.ensures none))
+    ∙ ap (λ q. q ++ c.pop-id.result ∷ []) (sym (ap flattened (c.shrink_list.ensures ∙ c.truncate.ensures.items) ∙ run_emptied c.pop-id.result rs i c.index_mut.result.now c.pop-id.new.self last c.index_mut.ensures.value c.pop-id.ensures none))
 
 pub returns-then-len-eq0-clause-runs : goal.returns-then-len-eq0-clause-runs
 returns-then-len-eq0-clause-runs c =

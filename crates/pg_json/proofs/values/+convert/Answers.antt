@@ -6,7 +6,7 @@ use Rattle.std.specs.Map.{keys_of}
 use Rattle.std.specs.String.{string_cmp}
 use Rattle.serde_json.specs.View.{items_view, members_view}
 use Rattle.serde_json.proofs.Views.{Entry}
-use Rattle.pg_meaning.specs.Entries.{put}
+use Rattle.pg_meaning.specs.Entries.{with_entry}
 use Rattle.pg_json.specs.Given.{values_within, entries_within}
 use Rattle.pg_json.proofs.Converting.{one_more_value, no_value, all_values, after, one_more_entry, refused_entries, no_room, null_within, bool_within, text_within, list_within, list_refused, map_within, map_refused}
 use Rattle.pg_value_core.specs.View.{view, entries_view}
@@ -28,7 +28,7 @@ entries_from-loop-key-preserved t c =
     let last = one_more_entry room done e left (entries_view l.entries.entries) (view c.in_ok-value.value) sorted l.invariant.2 c.in_ok-value.ensures.ok in (
       done ++ e ∷ [],
       all ∙ sym (append_assoc done (e ∷ []) left),
-      last ∙ ap Some (ap (λ k. put k (view c.in_ok-value.value) (entries_view l.entries.entries)) (sym c.as_str.ensures.value) ∙ sym c.in_ok-enter.ensures),
+      last ∙ ap Some (ap (λ k. with_entry k (view c.in_ok-value.value) (entries_view l.entries.entries)) (sym c.as_str.ensures.value) ∙ sym c.in_ok-enter.ensures),
     )
 
 pub entries_from-returns-clause-ok : goal.entries_from-returns-clause-ok

@@ -1,7 +1,8 @@
 use Rattle.std.proofs.Common.{◌≡◌, ◌++◌, map, ap, ◌∙◌}
 use Rattle.pg_meaning.specs.Scopes.{column_names}
 use Rattle.pg_project.proofs.ColumnViews.{whole}
-use Rattle.pg_project.specs.Columns.{column_of, star_names, trees_in, values_in_items, variable_trees}
+use Rattle.pg_scope.specs.Columns.{column_of}
+use Rattle.pg_project.specs.Columns.{star_names, trees_in, values_in_items, variable_trees}
 use Rattle.pg_project.specs.Items.{columns_of}
 use Rattle.pg_syntax_tree.specs.View.{projection_view}
 use Rattle.std.proofs.lemmas.Result.{IfOk-from_err}

@@ -1,13 +1,17 @@
-use Rattle.std.proofs.Common.{length, map, Ok, sym, ap, ◌∙◌}
+use Rattle.std.proofs.Common.{◌≡◌, [], ◌∷◌, pos, rules, length, map, Ok, sym, ap, ◌∙◌}
 use Rattle.std.proofs.lemmas.List.{length-map}
 use Rattle.std.proofs.lemmas.Result.{IfOk-from_err}
 use Rattle.pg_project.proofs.ExitLemmas.{fault_given, memory_given}
-use Rattle.pg_project.specs.Items.{expressions_view, is_aggregate, item_of}
-use Rattle.pg_project.specs.Kept.{Kept, kept_values, merged, told_each}
+use Rattle.pg_project.proofs.RowCounts.{counted_gives, rows_counted}
+use Rattle.pg_project.specs.Items.{aggregates_in, expressions_view, is_aggregate, item_of, keys_in}
+use Rattle.pg_project.specs.Kept.{Kept, kept_values, merged, row_count, told_each}
 use Rattle.pg_project.specs.KeptGroups.{groups_view}
+use Rattle.pg_project.specs.ReadyItems.{keys_of}
 use Rattle.pg_meaning.specs.Answer.{◌>>=◌}
+use Rattle.pg_meaning.specs.Value.{integer}
 use Rattle.pg_rows.specs.Tables.{table}
 use Rattle.pg_syntax_tree.specs.View.{expression_view}
+use Rattle.pg_value_core.specs.Given.{parameters_view}
 use Rattle.pg_project.proofs.group.group_rows.Goals as goal
 
 pub groups_of_rows-requires : goal.groups_of_rows-requires
@@ -50,3 +54,20 @@ pub returns-clause-width : goal.returns-clause-width
 returns-clause-width g c =
     let items = c.args.items.now.items in
     c.in_ok-told_rows.ensures.width ∙ ap length c.in_ok-ready.ensures.kinds ∙ length-map (expressions_view items) (λ e. is_aggregate (item_of e)) ∙ length-map items (λ e. expression_view e.now)
+
+pub returns-then-count_rows_alone-clause-rows : goal.returns-then-count_rows_alone-clause-rows
+returns-then-count_rows_alone-clause-rows g c =
+    let names = c.args.scope.now.names.now in
+    let items = c.args.items.now.items in
+    let es = expressions_view items in
+    let rows = table c.args.rows.now in
+    let made = c.in_ok-ready.ensures in
+    let alone = c.count_rows_alone.ensures in
+    let lone : length items ≡ 1 = search rules in
+    let none : keys_in es ≡ [] = sym made.keys ∙ ap (keys_of names) (alone.keys c.if-count_rows_alone.true) in
+    let one : aggregates_in es ≡ row_count ∷ [] = sym made.aggregates ∙ alone.aggregates names c.if-count_rows_alone.true in
+    let long : length es ≡ 1 = length-map items (λ e. expression_view e.now) ∙ lone in
+    counted_gives ((integer (pos c.len-then-count_rows_alone.result) ∷ []) ∷ []) c.counted.result
+    (rows_counted (parameters_view c.args.scope.now.query.now.parameters.now) c.args.graph.now names es none one rows long
+    ∙ ap (λ n. Ok ((integer (pos n) ∷ []) ∷ [])) (sym c.len-then-count_rows_alone.ensures))
+    c.counted.ensures.rows c.counted.ensures.err

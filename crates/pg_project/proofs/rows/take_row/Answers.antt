@@ -13,7 +13,7 @@ pub returns-in-Ok : goal.returns-in-Ok
 returns-in-Ok g c =
     let at = given c.args.context.now c.args.graph.now in
     let groups = groups_view c.args.groups.now in
-    let key = map view c.in-Ok.key.items in
+    let key = map view c.key_at.new.key.items in
     let ready = c.requires.ready in
     let is = with_key at (expressions_view c.args.expressions.now.items) groups key (ap (each_answer at) (sym ready.keys) ∙ c.in-Ok.ensures.ok) ∙ ap (λ aggregates. into_kept at aggregates key groups) (sym ready.aggregates) in
     record {

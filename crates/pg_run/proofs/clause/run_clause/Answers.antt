@@ -14,7 +14,7 @@ use Rattle.pg_meaning.specs.Scopes.{scope_after}
 use Rattle.pg_meaning.specs.Tree.{Expression as Tree}
 use Rattle.pg_meaning.specs.declared.fault.Fault.{Fault}
 use Rattle.pg_rows.specs.States.{Named, seen, state_of}
-use Rattle.pg_rows.specs.declared.named.Table.{Table}
+use Rattle.pg_rows.specs.declared.named.BindingTable.{BindingTable}
 use Rattle.pg_run.proofs.Settings.{suits_own}
 use Rattle.pg_run.specs.Runs.{anchors_view, setting_of}
 use Rattle.pg_syntax_tree.specs.View.{clause_view, path_view}
@@ -26,8 +26,8 @@ use Rattle.pg_write.proofs.ExitLemmas.{gives_fault}
 use Rattle.pg_run.proofs.clause.run_clause.Goals as goal
 
 -- what is said of a clause's kind, of the clause
-module _ (whole part : Clause) (is : whole ≡ part) (r : Result Table Fault) where
-  given_of : (s : Setting) (state : State) (after : Table → State) → Gives r (clause_step s (clause_view part) state) after → Gives r (clause_step s (clause_view whole) state) after
+module _ (whole part : Clause) (is : whole ≡ part) (r : Result BindingTable Fault) where
+  given_of : (s : Setting) (state : State) (after : BindingTable → State) → Gives r (clause_step s (clause_view part) state) after → Gives r (clause_step s (clause_view whole) state) after
   given_of s state after h = subst (λ c. Gives r (clause_step s (clause_view c) state) after) (sym is) h
 
   named_of : (names : List (List ℕ)) → IfOk r (λ t. (seen t).names ≡ scope_after names (clause_view part)) → IfOk r (λ t. (seen t).names ≡ scope_after names (clause_view whole))
@@ -40,8 +40,8 @@ module _ (whole part : Clause) (is : whole ≡ part) (r : Result Table Fault) wh
       (subst (λ (x : Graph). Gives r (clause_step s (clause_view part) (state_of x t before)) (λ made. state_of x (seen made) after)) same h)
 
 -- a clause over paths that are borrowed as a slice
-module _ (lent paths : List PathPattern) (is : lent ≡ paths) (r : Result Table Fault) where
-  on_paths : (s : Setting) (is_optional : Bool) (condition : Option Tree) (state : State) (after : Table → State)
+module _ (lent paths : List PathPattern) (is : lent ≡ paths) (r : Result BindingTable Fault) where
+  on_paths : (s : Setting) (is_optional : Bool) (condition : Option Tree) (state : State) (after : BindingTable → State)
       → Gives r (match_clause s is_optional (map path_view lent) condition state) after → Gives r (match_clause s is_optional (map path_view paths) condition state) after
   on_paths s is_optional condition state after h = subst (λ ps. Gives r (match_clause s is_optional (map path_view ps) condition state) after) is h
 

@@ -44,7 +44,7 @@ returns g c =
     let graph = c.args.graph.now in
     let ids = c.deref-id-items.result.now in
     let all = all_places_spelt graph _ _ c.loop-id.is_node ids (drop c.loop-id.id-index ids) c.loop-id.found.items c.loop-id.invariant (drop_all c.loop-id.id-index ids c.loop-id-test.false) in
-    let is : items_least (path_items graph ids) ≡ items_least (path_items graph c.args.path.0.items) = ap (λ ns. items_least (path_items graph ns)) c.deref-id-items.ensures.value in
+    let is : items_least (path_items graph ids) ≡ items_least (path_items graph c.args.path.now.0.items) = ap (λ ns. items_least (path_items graph ns)) c.deref-id-items.ensures.value in
     record {
       live = ap (test_ids graph) (sym c.deref-id-items.ensures.value) ∙ all.0;
       room = omega (arith, all.1, is, c.saturating_sub.ensures);

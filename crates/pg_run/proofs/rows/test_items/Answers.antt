@@ -1,4 +1,5 @@
 use Rattle.std.proofs.Common.{rules, ◌≡◌, map, Err, ap}
+use Rattle.pg_expr.specs.Contexts.{found_view}
 use Rattle.pg_expr.specs.Prepared.{tree_of}
 use Rattle.pg_meaning.specs.declared.fault.Fault.{Fault}
 use Rattle.pg_project.specs.Given.{trees_of, value_given, values_given}
@@ -18,10 +19,10 @@ loop-one-preserved g c =
     let names = c.args.items.now.names.now in
     let f = value_given (parameters_view c.args.items.now.query.now.parameters.now) c.args.graph.now names (map view c.args.row.now) in
     let here = ap (trees_of names) (item_here c.loop-one-test.true c.one-item.is c.deref-one-items.ensures.value) in
-    item_tested f (trees_of names c.args.items.now.ready.now.items) _ _ _ c.loop-one.invariant here (view c.in_ok-evaluate.field-0) c.in_ok-evaluate.ensures.ok
+    item_tested f (trees_of names c.args.items.now.ready.now.items) _ _ _ c.loop-one.invariant here (found_view c.in_ok-find_at.field-0) c.in_ok-find_at.ensures.ok
 
-pub returns-in_err-evaluate-clause-err : goal.returns-in_err-evaluate-clause-err
-returns-in_err-evaluate-clause-err g c =
+pub returns-in_err-find_at-clause-err : goal.returns-in_err-find_at-clause-err
+returns-in_err-find_at-clause-err g c =
     let names = c.args.items.now.names.now in
     let ps = parameters_view c.args.items.now.query.now.parameters.now in
     let graph = c.args.graph.now in

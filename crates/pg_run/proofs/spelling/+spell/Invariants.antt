@@ -1,10 +1,10 @@
-use Rattle.std.specs.Vec.Iter.{into_iter_items}
+use Rattle.std.proofs.Common.{drop}
 use Rattle.pg_run.proofs.Items.{ItemsWithin}
 use Rattle.pg_run.proofs.Members.{MembersWithin}
 use Rattle.pg_run.proofs.spelling.+spell.Given as goal
 
-abbrev pub invariant-spell-loop-item : goal.invariant-spell-loop-item
-invariant-spell-loop-item g l = ItemsWithin l.graph l.initial.room l.room (into_iter_items l.initial.item-iterator) (into_iter_items l.item-iterator) l.found.items
+abbrev pub invariant-spell_items-loop-item : goal.invariant-spell_items-loop-item
+invariant-spell_items-loop-item g l = ItemsWithin l.graph l.initial.room l.room l.item-items (drop l.item-index l.item-items) l.found.items
 
 abbrev pub invariant-spell_entries-loop-key : goal.invariant-spell_entries-loop-key
 invariant-spell_entries-loop-key g l = MembersWithin l.graph l.initial.room l.room l.fn.entries.entries l.key-iterator l.found.entries

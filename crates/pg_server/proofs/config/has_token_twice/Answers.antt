@@ -3,7 +3,7 @@ use Rattle.std.specs.Prelude.{IfOk}
 use Rattle.std.proofs.lemmas.List.{append-nil}
 use Rattle.pg_server.specs.Settings.{all_tokens}
 use Rattle.pg_tenant.specs.Settings.{token_texts}
-use Rattle.pg_value.specs.Texts.{comes_again}
+use Rattle.pg_value.specs.Texts.{has_duplicate}
 use Rattle.pg_server.proofs.FoundLemmas.{item_here, none_left}
 use Rattle.pg_server.proofs.config.has_token_twice.Goals as goal
 
@@ -26,4 +26,4 @@ returns c =
     let l = c.loop-tenant in
     let texts = map (λ (t : Bor (List ℕ)). t.now) l.texts.items in
     let all : all_tokens c.args.tenants.now ≡ texts = l.invariant ∙ ap (λ ts. texts ++ all_tokens ts) (none_left c.args.tenants.now c.args.tenants.now l.tenant-index refl c.loop-tenant-test.false) ∙ append-nil texts in
-    subst (λ ts. IfOk c.comes_again.result (λ b. b ≡ comes_again [] ts)) (ap (map (λ (t : Bor (List ℕ)). t.now)) c.deref.ensures.value ∙ sym all) c.comes_again.ensures
+    subst (λ ts. IfOk c.has_duplicate.result (λ b. b ≡ has_duplicate [] ts)) (ap (map (λ (t : Bor (List ℕ)). t.now)) c.deref.ensures.value ∙ sym all) c.has_duplicate.ensures

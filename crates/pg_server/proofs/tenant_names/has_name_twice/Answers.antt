@@ -1,7 +1,7 @@
 use Rattle.std.proofs.Common.{◌≡◌, ◌+◌, ◌++◌, ◌∷◌, ℕ, List, [], Bor, drop, map, string_bytes, refl, ap, subst, sym, ◌∙◌}
 use Rattle.std.specs.Prelude.{IfOk}
 use Rattle.std.proofs.lemmas.List.{append-nil}
-use Rattle.pg_value.specs.Texts.{comes_again}
+use Rattle.pg_value.specs.Texts.{has_duplicate}
 use Rattle.pg_server.proofs.FoundLemmas.{one_more_seen, item_here, none_left}
 use Rattle.pg_server.proofs.tenant_names.has_name_twice.Goals as goal
 
@@ -25,4 +25,4 @@ returns c =
     let names = c.args.names.now in
     let texts = map (λ (t : Bor (List ℕ)). t.now) l.texts.items in
     let all : map string_bytes names ≡ texts = l.invariant ∙ ap (λ ns. texts ++ map string_bytes ns) (none_left names names l.name-index refl c.loop-name-test.false) ∙ append-nil texts in
-    subst (λ ts. IfOk c.comes_again.result (λ b. b ≡ comes_again [] ts)) (ap (map (λ (t : Bor (List ℕ)). t.now)) c.deref.ensures.value ∙ sym all) c.comes_again.ensures
+    subst (λ ts. IfOk c.has_duplicate.result (λ b. b ≡ has_duplicate [] ts)) (ap (map (λ (t : Bor (List ℕ)). t.now)) c.deref.ensures.value ∙ sym all) c.has_duplicate.ensures

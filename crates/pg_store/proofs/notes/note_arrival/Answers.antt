@@ -13,12 +13,12 @@ returns-in_default-clause-ok c = λ v found. let none = c.in_default.ensures.is 
 pub returns-then-has-clause-ok : goal.returns-then-has-clause-ok
 returns-then-has-clause-ok c = λ v found.
     let index = c.args.index.now in
-    or_left (finds index v c.args.id) (is_noted c.args.dust.now.items (with_value index.label index.key v) c.args.id)
+    or_left (finds index v c.args.id) (is_noted c.args.stale_ids.now.items (with_value index.label index.key v) c.args.id)
     (one_found index c.in-Some.value.now v c.args.id (equal_at c.in-Some.value.now v (sym (c.in-Some.ensures.is v) ∙ found)) ∙ sym c.has.ensures ∙ c.if-has.true)
 
 pub returns-clause-ok : goal.returns-clause-ok
 returns-clause-ok c =
     let index = c.args.index.now in
     on_ok_weaker c.note_value.result (λ noted v found.
-    or_right (finds index v c.args.id) (is_noted c.note_value.new.dust.items (with_value index.label index.key v) c.args.id)
+    or_right (finds index v c.args.id) (is_noted c.note_value.new.stale_ids.items (with_value index.label index.key v) c.args.id)
     (noted v (equal_at c.in-Some.value.now v (sym (c.in-Some.ensures.is v) ∙ found)))) c.note_value.ensures.ok

@@ -13,7 +13,7 @@ returns-then-contains-clause-ok c = λ v found.
     let index = c.args.index.now in
     let n = c.args.node.now in
     let was = found_when index.label index.key v (record n { labels = c.args.before.now }) found in
-    or_left (is_found_by index.label index.key v n) (is_noted c.args.dust.now.items (with_value index.label index.key v) c.args.id)
+    or_left (is_found_by index.label index.key v n) (is_noted c.args.stale_ids.now.items (with_value index.label index.key v) c.args.id)
     (found_now index.label index.key v n was.1.0 (sym c.contains.ensures ∙ c.if-contains.true) was.1.1 was.1.2)
 
 pub returns-then-not-contains-clause-ok : goal.returns-then-not-contains-clause-ok
@@ -33,7 +33,7 @@ returns-in-Some-clause-ok c =
     let w = c.in-Some.value.now in
     on_ok_weaker c.note_value.result (λ noted v found.
     let was = found_when index.label index.key v (record n { labels = c.args.before.now }) found in
-    or_right (is_found_by index.label index.key v n) (is_noted c.note_value.new.dust.items (with_value index.label index.key v) c.args.id)
+    or_right (is_found_by index.label index.key v n) (is_noted c.note_value.new.stale_ids.items (with_value index.label index.key v) c.args.id)
     (noted v (equal_at w v (ap (λ (x : meaning.Value). is_equal x v) (some_same (c.in-Some.ensures ∙ was.1.1)) ∙ was.1.2)))) c.note_value.ensures.ok
 
 pub returns-in-None-clause-ok : goal.returns-in-None-clause-ok

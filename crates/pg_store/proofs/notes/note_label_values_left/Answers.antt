@@ -20,17 +20,17 @@ loop-index-preserved c =
     let id = c.args.id in
     let n = c.args.node.now in
     record {
-      notes = stay_all c.args.dust.now.items c.loop-index.dust.items c.note_label_value_left.new.dust.items c.loop-index.invariant.notes c.note_label_value_left.ensures.notes;
+      notes = stay_all c.args.stale_ids.now.items c.loop-index.stale_ids.items c.note_label_value_left.new.stale_ids.items c.loop-index.invariant.notes c.note_label_value_left.ensures.notes;
       done = λ l k v pair found.
-          one_fewer (is_found_by l k v n || is_noted c.loop-index.dust.items (with_value l k v) id) (is_found_by l k v n || is_noted c.note_label_value_left.new.dust.items (with_value l k v) id) l k xs at x c.index-item.is c.loop-index-test.true
-          (or_on (is_found_by l k v n) (is_noted c.loop-index.dust.items (with_value l k v) id) (is_found_by l k v n) (is_noted c.note_label_value_left.new.dust.items (with_value l k v) id) (λ h. h) (c.note_label_value_left.ensures.notes (with_value l k v) id))
+          one_fewer (is_found_by l k v n || is_noted c.loop-index.stale_ids.items (with_value l k v) id) (is_found_by l k v n || is_noted c.note_label_value_left.new.stale_ids.items (with_value l k v) id) l k xs at x c.index-item.is c.loop-index-test.true
+          (or_on (is_found_by l k v n) (is_noted c.loop-index.stale_ids.items (with_value l k v) id) (is_found_by l k v n) (is_noted c.note_label_value_left.new.stale_ids.items (with_value l k v) id) (λ h. h) (c.note_label_value_left.ensures.notes (with_value l k v) id))
           (λ for. let is = index_is x l k for in
-          ap (λ m. is_found_by m k v n || is_noted c.note_label_value_left.new.dust.items (with_value m k v) id) (sym is.0) ∙ ap (λ m. is_found_by x.label m v n || is_noted c.note_label_value_left.new.dust.items (with_value x.label m v) id) (sym is.1) ∙ c.in_ok-note_label_value_left.ensures.ok v (ap (λ m. is_found_by m x.key v (record n { labels = c.args.before.now })) is.0 ∙ ap (λ m. is_found_by l m v (record n { labels = c.args.before.now })) is.1 ∙ found))
+          ap (λ m. is_found_by m k v n || is_noted c.note_label_value_left.new.stale_ids.items (with_value m k v) id) (sym is.0) ∙ ap (λ m. is_found_by x.label m v n || is_noted c.note_label_value_left.new.stale_ids.items (with_value x.label m v) id) (sym is.1) ∙ c.in_ok-note_label_value_left.ensures.ok v (ap (λ m. is_found_by m x.key v (record n { labels = c.args.before.now })) is.0 ∙ ap (λ m. is_found_by l m v (record n { labels = c.args.before.now })) is.1 ∙ found))
           (c.loop-index.invariant.done l k v pair found);
     }
 
 pub returns-in_err-note_label_value_left-clause-notes : goal.returns-in_err-note_label_value_left-clause-notes
-returns-in_err-note_label_value_left-clause-notes c = stay_all c.args.dust.now.items c.loop-index.dust.items c.note_label_value_left.new.dust.items c.loop-index.invariant.notes c.note_label_value_left.ensures.notes
+returns-in_err-note_label_value_left-clause-notes c = stay_all c.args.stale_ids.now.items c.loop-index.stale_ids.items c.note_label_value_left.new.stale_ids.items c.loop-index.invariant.notes c.note_label_value_left.ensures.notes
 
 pub returns-clause-ok : goal.returns-clause-ok
 returns-clause-ok c = λ l k v pair found. none_to_come _ l k c.args.indexes.now c.loop-index.index-index c.loop-index-test.false (c.loop-index.invariant.done l k v pair found)

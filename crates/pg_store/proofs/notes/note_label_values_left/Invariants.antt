@@ -8,6 +8,6 @@ use Rattle.pg_value_core.specs.declared.value.Value.{Value}
 
 abbrev pub invariant-loop-index : goal.invariant-loop-index
 invariant-loop-index l = record {
-  notes : StayNoted l.fn.dust.items l.dust.items;
-  done : (label key : ℕ) (v : Value) → has_pair (label, key) (pairs_of l.indexes) ≡ true → is_found_by label key v (record l.node { labels = l.before }) ≡ true → ((is_found_by label key v l.node || is_noted l.dust.items (with_value label key v) l.id) || has_pair (label, key) (pairs_of (drop l.index-index l.indexes))) ≡ true;
+  notes : StayNoted l.fn.stale_ids.items l.stale_ids.items;
+  done : (label key : ℕ) (v : Value) → has_pair (label, key) (pairs_of l.indexes) ≡ true → is_found_by label key v (record l.node { labels = l.before }) ≡ true → ((is_found_by label key v l.node || is_noted l.stale_ids.items (with_value label key v) l.id) || has_pair (label, key) (pairs_of (drop l.index-index l.indexes))) ≡ true;
 }

@@ -14,10 +14,10 @@ loop-label-preserved c =
     let x = c.label-item.result in
     let id = c.args.id in
     let labels = c.args.labels.now in
-    let old = c.loop-label.dust.items in
-    let new = c.note_label_left.new.dust.items in
+    let old = c.loop-label.stale_ids.items in
+    let new = c.note_label_left.new.stale_ids.items in
     record {
-      notes = stay_all c.args.dust.now.items old new was.notes c.note_label_left.ensures.notes;
+      notes = stay_all c.args.stale_ids.now.items old new was.notes c.note_label_left.ensures.notes;
       items = was.items;
       done = λ m among.
           one_label_fewer (list_any (λ l. l == m) labels || is_noted old (with_label m) id) (list_any (λ l. l == m) labels || is_noted new (with_label m) id) m items at x c.label-item.is c.loop-label-test.true
@@ -27,10 +27,10 @@ loop-label-preserved c =
     }
 
 pub returns-in_err-note_label_left-clause-notes : goal.returns-in_err-note_label_left-clause-notes
-returns-in_err-note_label_left-clause-notes c = stay_all c.args.dust.now.items c.loop-label.dust.items c.note_label_left.new.dust.items c.loop-label.invariant.notes c.note_label_left.ensures.notes
+returns-in_err-note_label_left-clause-notes c = stay_all c.args.stale_ids.now.items c.loop-label.stale_ids.items c.note_label_left.new.stale_ids.items c.loop-label.invariant.notes c.note_label_left.ensures.notes
 
 pub returns-clause-ok : goal.returns-clause-ok
 returns-clause-ok c = λ m among.
     let was = c.loop-label.invariant in
-    no_label_to_come (list_any (λ l. l == m) c.args.labels.now || is_noted c.loop-label.dust.items (with_label m) c.args.id) m c.as_slice-label-items.result.now c.loop-label.label-index c.loop-label-test.false
+    no_label_to_come (list_any (λ l. l == m) c.args.labels.now || is_noted c.loop-label.stale_ids.items (with_label m) c.args.id) m c.as_slice-label-items.result.now c.loop-label.label-index c.loop-label-test.false
     (was.done m (ap (list_any (λ x. x == m)) was.items ∙ among))

@@ -7,7 +7,7 @@ use Rattle.pg_store.specs.Noted.{StayNoted, is_noted}
 
 abbrev pub invariant-loop-label : goal.invariant-loop-label
 invariant-loop-label l = record {
-  notes : StayNoted l.fn.dust.items l.dust.items;
+  notes : StayNoted l.fn.stale_ids.items l.stale_ids.items;
   items : l.label-items ≡ l.before;
-  done : (m : ℕ) → list_any (λ x. x == m) l.label-items ≡ true → ((list_any (λ x. x == m) l.labels || is_noted l.dust.items (with_label m) l.id) || list_any (λ x. x == m) (drop l.label-index l.label-items)) ≡ true;
+  done : (m : ℕ) → list_any (λ x. x == m) l.label-items ≡ true → ((list_any (λ x. x == m) l.labels || is_noted l.stale_ids.items (with_label m) l.id) || list_any (λ x. x == m) (drop l.label-index l.label-items)) ≡ true;
 }

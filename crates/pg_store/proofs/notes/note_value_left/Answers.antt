@@ -15,7 +15,7 @@ returns-in_default-clause-ok c = λ v found.
     let index = c.args.index.now in
     let n = c.args.node.now in
     let was = found_when index.label index.key v (record n { properties = properties_before c.args.before.now n.properties }) found in
-    or_left (is_found_by index.label index.key v n) (is_noted c.args.dust.now.items (with_value index.label index.key v) c.args.id)
+    or_left (is_found_by index.label index.key v n) (is_noted c.args.stale_ids.now.items (with_value index.label index.key v) c.args.id)
     (found_now index.label index.key v n was.1.0 was.0 (c.in_default.ensures.none n.properties was.1.0 was.1.1) was.1.2)
 
 pub returns-then-not-contains-clause-ok : goal.returns-then-not-contains-clause-ok
@@ -35,7 +35,7 @@ returns-then-is_sought-clause-ok c = λ v found.
     let w = c.in-Some.value.now in
     let was = found_when index.label index.key v (record n { properties = properties_before c.args.before.now n.properties }) found in
     let equal : is_equal (view w) v ≡ true = ap (λ (x : meaning.Value). is_equal x v) (some_same (sym (c.in-Some.ensures.some n.properties) ∙ was.1.1)) ∙ was.1.2 in
-    or_left (is_found_by index.label index.key v n) (is_noted c.args.dust.now.items (with_value index.label index.key v) c.args.id)
+    or_left (is_found_by index.label index.key v n) (is_noted c.args.stale_ids.now.items (with_value index.label index.key v) c.args.id)
     (found_alike index.label index.key v w n (sym (same_value w v (equal_at w v equal))) ∙ sym c.is_sought.ensures ∙ c.if-is_sought.true)
 
 pub returns-clause-ok : goal.returns-clause-ok
@@ -45,5 +45,5 @@ returns-clause-ok c =
     let w = c.in-Some.value.now in
     on_ok_weaker c.note_value.result (λ noted v found.
     let was = found_when index.label index.key v (record n { properties = properties_before c.args.before.now n.properties }) found in
-    or_right (is_found_by index.label index.key v n) (is_noted c.note_value.new.dust.items (with_value index.label index.key v) c.args.id)
+    or_right (is_found_by index.label index.key v n) (is_noted c.note_value.new.stale_ids.items (with_value index.label index.key v) c.args.id)
     (noted v (equal_at w v (ap (λ (x : meaning.Value). is_equal x v) (some_same (sym (c.in-Some.ensures.some n.properties) ∙ was.1.1)) ∙ was.1.2)))) c.note_value.ensures.ok

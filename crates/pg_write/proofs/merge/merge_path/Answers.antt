@@ -1,7 +1,7 @@
 use Rattle.std.proofs.Common.{◌≡◌, ◌∷◌, [], Ok, Err, length, map, take, refl, sym, ap, ◌∙◌}
 use Rattle.std.proofs.lemmas.Result.{IfOk-from_err, err_from_is_err_and}
 use Rattle.pg_match.proofs.Found.{rows_wide}
-use Rattle.pg_match_rows.specs.Parts.{parts_of}
+use Rattle.pg_match_bindings.specs.Parts.{parts_of}
 use Rattle.pg_match_stages.specs.View.{anchor_view}
 use Rattle.pg_meaning.specs.Patterns.{add_path_names}
 use Rattle.pg_meaning.specs.Updates.{count_new}

@@ -1,6 +1,7 @@
 use Rattle.std.proofs.Common.{◌≡◌, drop}
+use Rattle.pg_match_bindings.specs.InTurn.{after}
 use Rattle.pg_store.specs.Stores.{pairs_of}
-use Rattle.pg_write_make.specs.Values.{pairs_given, pairs_wanted, after}
+use Rattle.pg_write_make.specs.Values.{pairs_given, pairs_wanted}
 use Rattle.pg_write_make.proofs.values.pair_values.Given as goal
 
 abbrev pub invariant-loop-pair : goal.invariant-loop-pair

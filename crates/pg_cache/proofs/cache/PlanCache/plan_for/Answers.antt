@@ -1,6 +1,6 @@
 use Rattle.std.proofs.Common.{◌∙◌, Ok, sym, ap, subst, Vec, String, Global}
 use Rattle.std.specs.declared.rc.Rc.{Rc}
-use Rattle.pg_cache.specs.Cache.{Cache, kept, key_of, IsMiss}
+use Rattle.pg_cache.specs.Cache.{Cache, kept, cache_key, IsMiss}
 use Rattle.pg_cache.specs.declared.key.Key as kept_key
 use Rattle.pg_cache.proofs.LookUps.{told, is_hit, no_miss, no_hit, not_kept, stays, hit_is_planned, hit_leaves_planned}
 use Rattle.pg_cache.proofs.cache.PlanCache.plan_for.Goals as goal
@@ -32,7 +32,7 @@ invariant_of-self-in-Some g c =
 
 pub returns-in-Some-clause-ok : goal.returns-in-Some-clause-ok
 returns-in-Some-clause-ok g c =
-    subst (λ (p : Plan). IsPlanOfText (key_of c.args.text c.args.catalogue).0 (key_of c.args.text c.args.catalogue).1 p) (sym c.in_ok-clone.ensures.cases)
+    subst (λ (p : Plan). IsPlanOfText (cache_key c.args.text c.args.catalogue).0 (cache_key c.args.text c.args.catalogue).1 p) (sym c.in_ok-clone.ensures.cases)
     (hit_is_planned c.args.self.now c.self.inside.plans c.self.inside.hits c.self.inside.misses (asked c.args.text c.args.catalogue) (sym c.self.view_is) c.in-Some.plan.now c.self.invariant c.in-Some.ensures.value)
 
 pub returns-in-Some-clause-hit : goal.returns-in-Some-clause-hit
@@ -52,7 +52,7 @@ invariant_of-self-in_default g c =
 
 pub make_plan-requires : goal.make_plan-requires
 make_plan-requires g c =
-    ap (λ (a : Cache). kept a (key_of c.args.text c.args.catalogue))
+    ap (λ (a : Cache). kept a (cache_key c.args.text c.args.catalogue))
     (stays c.args.self.now c.self.inside.plans c.self.inside.hits c.self.inside.misses (asked c.args.text c.args.catalogue) (sym c.self.view_is) c.get.follows.lender-at-none c.in_default.ensures.value c.get.follows.holds-at-none)
     ∙ no_hit c.args.self.now c.self.inside.plans c.self.inside.hits c.self.inside.misses (asked c.args.text c.args.catalogue) (sym c.self.view_is) c.in_default.ensures.value
 
@@ -62,6 +62,6 @@ returns-clause-hit g c = λ plan k.
 
 pub returns-clause-miss : goal.returns-clause-miss
 returns-clause-miss g c = λ none.
-    subst (λ (o : Cache). IsMiss o c.make_plan.new.self (key_of c.args.text c.args.catalogue) c.make_plan.result)
+    subst (λ (o : Cache). IsMiss o c.make_plan.new.self (cache_key c.args.text c.args.catalogue) c.make_plan.result)
     (stays c.args.self.now c.self.inside.plans c.self.inside.hits c.self.inside.misses (asked c.args.text c.args.catalogue) (sym c.self.view_is) c.get.follows.lender-at-none c.in_default.ensures.value c.get.follows.holds-at-none)
     c.make_plan.ensures.miss

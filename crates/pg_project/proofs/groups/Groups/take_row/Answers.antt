@@ -34,7 +34,7 @@ pub returns : goal.returns
 returns g c =
     let at = given c.args.context.now c.args.graph.now in
     let aggregates = aggregates_view c.args.context.now.names.now c.args.aggregates.now.items in
-    let key = c.args.key in
+    let key = c.args.key.now in
     let ks = c.args.self.now.keys.keys in
     let tss = c.args.self.now.taken.items in
     let n = c.in_ok-number.number in

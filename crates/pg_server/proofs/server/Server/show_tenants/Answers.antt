@@ -6,7 +6,7 @@ use Rattle.pg_server.specs.State.{ServerState, settings_of, state_at}
 use Rattle.pg_server.proofs.HoldLemmas.{state_seen}
 use Rattle.pg_server.proofs.TenantLemmas.{graphs_are, settings_seen}
 use Rattle.pg_server.proofs.server.Server.show_tenants.Goals as goal
-use Rattle.pg_value.specs.Texts.{comes_again}
+use Rattle.pg_value.specs.Texts.{has_duplicate}
 
 pub returns-clause-graphs : goal.returns-clause-graphs
 returns-clause-graphs g c t =
@@ -15,5 +15,5 @@ returns-clause-graphs g c t =
 
 pub returns-clause-distinct : goal.returns-clause-distinct
 returns-clause-distinct g c =
-    ap (λ (s : ServerState). comes_again [] (all_tokens (settings_of s))) (sym (ap state_seen c.self.view_is))
-    ∙ ap (λ ss. comes_again [] (all_tokens ss)) (settings_seen c.self.inside.tenants.items (graphs_of c.self.inside.graphs) c.self.inside.graphs.aside.begins) ∙ c.self.invariant.distinct
+    ap (λ (s : ServerState). has_duplicate [] (all_tokens (settings_of s))) (sym (ap state_seen c.self.view_is))
+    ∙ ap (λ ss. has_duplicate [] (all_tokens ss)) (settings_seen c.self.inside.tenants.items (graphs_of c.self.inside.graphs) c.self.inside.graphs.aside.begins) ∙ c.self.invariant.distinct

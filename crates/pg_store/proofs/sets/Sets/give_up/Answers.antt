@@ -24,7 +24,7 @@ loop-position-preserved c =
     record {
       all = was.all;
       labels = was.labels;
-      dust = was.dust;
+      stale_ids = was.stale_ids;
       fewer = λ label key v i h.
           ap (λ xs. all_find xs label key v i) c.remove.ensures.items
           ∙ fewer_find now.indexes.items at label key v i (was.fewer label key v i h);

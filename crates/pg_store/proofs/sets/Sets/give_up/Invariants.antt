@@ -10,7 +10,7 @@ abbrev pub invariant-loop-position : goal.invariant-loop-position
 invariant-loop-position l = record {
   all : l.self.all ≡ l.fn.self.all;
   labels : l.self.labels ≡ l.fn.self.labels;
-  dust : l.self.dust ≡ l.fn.self.dust;
+  stale_ids : l.self.stale_ids ≡ l.fn.self.stale_ids;
   fewer : (label key : ℕ) (v : Value) (i : ℕ) → all_find l.fn.self.indexes.items label key v i ≡ true → all_find l.self.indexes.items label key v i ≡ true;
   less : (k : Key) (i : ℕ) → is_in l.self k i ≡ true → is_in l.fn.self k i ≡ true;
   others : filter (is_other l.label l.key) (pairs_of l.self.indexes.items) ≡ filter (is_other l.label l.key) (pairs_of l.fn.self.indexes.items);

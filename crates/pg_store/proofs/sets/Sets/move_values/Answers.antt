@@ -14,28 +14,28 @@ use Rattle.pg_value_core.specs.declared.value.Value.{Value}
 
 -- only where a value was can a node belong no longer
 values_left : (old new : Sets) (n : NodeRecord) (ps : Properties) (id : ℕ)
-    → ((l k : ℕ) (v : Value) → has_pair (l, k) (pairs_of old.indexes.items) ≡ true → is_found_by l k v (record n { properties = ps }) ≡ true → (is_found_by l k v n || is_noted new.dust.items (with_value l k v) id) ≡ true)
-    → (k : Key) → is_in old k id ≡ true → belongs k (record n { properties = ps }) ≡ true → (belongs k n || is_noted new.dust.items k id) ≡ true
+    → ((l k : ℕ) (v : Value) → has_pair (l, k) (pairs_of old.indexes.items) ≡ true → is_found_by l k v (record n { properties = ps }) ≡ true → (is_found_by l k v n || is_noted new.stale_ids.items (with_value l k v) id) ≡ true)
+    → (k : Key) → is_in old k id ≡ true → belongs k (record n { properties = ps }) ≡ true → (belongs k n || is_noted new.stale_ids.items k id) ≡ true
 values_left old new n ps id values every there h = refl
-values_left old new n ps id values (with_label l) there h = or_left (belongs (with_label l) n) (is_noted new.dust.items (with_label l) id) h
+values_left old new n ps id values (with_label l) there h = or_left (belongs (with_label l) n) (is_noted new.stale_ids.items (with_label l) id) h
 values_left old new n ps id values (with_value l k v) there h = values l k v (some_pair old.indexes.items l k v id there) h
 
 pub returns-in_err-note_values_left-clause-gains : goal.returns-in_err-note_values_left-clause-gains
-returns-in_err-note_values_left-clause-gains c = gains_notes c.args.self.now (record c.args.self.now { dust = c.note_values_left.new.dust }) (refl, refl, refl) c.note_values_left.ensures.notes
+returns-in_err-note_values_left-clause-gains c = gains_notes c.args.self.now (record c.args.self.now { stale_ids = c.note_values_left.new.stale_ids }) (refl, refl, refl) c.note_values_left.ensures.notes
 
 pub returns-clause-gains : goal.returns-clause-gains
 returns-clause-gains c =
     let old = c.args.self.now in
-    let mid = record old { dust = c.note_values_left.new.dust } in
-    gains_then old mid c.cover_values.new.self (gains_notes old mid (refl, refl, refl) c.note_values_left.ensures.notes) c.cover_values.ensures.gains
+    let mid = record old { stale_ids = c.note_values_left.new.stale_ids } in
+    gains_then old mid c.insert_values.new.self (gains_notes old mid (refl, refl, refl) c.note_values_left.ensures.notes) c.insert_values.ensures.gains
 
 pub returns-clause-left : goal.returns-clause-left
 returns-clause-left c =
     let old = c.args.self.now in
-    let new = c.cover_values.new.self in
+    let new = c.insert_values.new.self in
     let n = c.args.node.now in
     let id = c.args.id in
-    on_ok_weaker c.cover_values.result (λ covered.
+    on_ok_weaker c.insert_values.result (λ covered.
     values_left old new n _ id (λ l k v pair found.
-    or_on (is_found_by l k v n) (is_noted c.note_values_left.new.dust.items (with_value l k v) id) (is_found_by l k v n) (is_noted new.dust.items (with_value l k v) id) (λ h. h) (c.cover_values.ensures.gains.stay (with_value l k v) id)
-    (c.in_ok-note_values_left.ensures.ok l k v (ap (λ xs. has_pair (l, k) (pairs_of xs)) c.as_slice-indexes.ensures.value ∙ pair) found))) c.cover_values.ensures.ok
+    or_on (is_found_by l k v n) (is_noted c.note_values_left.new.stale_ids.items (with_value l k v) id) (is_found_by l k v n) (is_noted new.stale_ids.items (with_value l k v) id) (λ h. h) (c.insert_values.ensures.gains.stay (with_value l k v) id)
+    (c.in_ok-note_values_left.ensures.ok l k v (ap (λ xs. has_pair (l, k) (pairs_of xs)) c.as_slice-indexes.ensures.value ∙ pair) found))) c.insert_values.ensures.ok

@@ -16,4 +16,4 @@ nothing_in sets all labels indexes (with_label l) i = ap (λ (ids : Ids). has_id
 nothing_in sets all labels indexes (with_value l k v) i = ap (λ xs. some_finds xs l k v i) indexes
 
 pub returns-clause-none : goal.returns-clause-none
-returns-clause-none c = nothing_in (record { alloc = c.args.alloc; all = c.new.result; labels = c.new-2.result; indexes = c.new-3.result; dust = c.new-4.result; none = c.new-5.result; none_is_empty = c.new-5.ensures }) c.new.ensures c.new-2.ensures c.new-3.ensures.items
+returns-clause-none c = nothing_in (record { alloc = c.args.alloc; all = c.new.result; labels = c.new-2.result; indexes = c.new-3.result; stale_ids = c.new-4.result; none = c.new-5.result; none_is_empty = c.new-5.ensures }) c.new.ensures c.new-2.ensures c.new-3.ensures.items

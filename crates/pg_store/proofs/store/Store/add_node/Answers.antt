@@ -39,7 +39,7 @@ returns-clause-marks g c =
     refl
     (ap (λ (content : Content). record made { content = content }) c.in_ok-add_node.ensures.ok)
     (c.push_reserved.ensures.items ∙ ap (λ es. es ++ NodeAdded ∷ []) c.in_ok-reserve.ensures.items)
-    c.cover_node.ensures.gains
+    c.insert_node.ensures.gains
 
 pub returns-clause-fit : goal.returns-clause-fit
 returns-clause-fit g c =
@@ -51,11 +51,11 @@ returns-clause-fit g c =
     refl
     (ap (λ (content : Content). record made { content = content }) c.in_ok-add_node.ensures.ok)
     (c.push_reserved.ensures.items ∙ ap (λ es. es ++ NodeAdded ∷ []) c.in_ok-reserve.ensures.items)
-    c.cover_node.ensures.gains
-    c.cover_node.ensures.grown
-    (covers_with (has_in c.cover_node.new.self) s store.next.node c.args.node (grown_covers (has_in store.sets) (has_in c.cover_node.new.self) c.cover_node.ensures.grown s (covers_now (has_in store.sets) store.journal.items s c.requires.fit.covered)) (λ k found. c.in_ok-cover_node.ensures.ok k found))
-    (noted_with (is_in store.sets) (is_in c.cover_node.new.self) store.sets.dust.items c.cover_node.new.self.dust.items c.cover_node.ensures.gains.come c.cover_node.ensures.gains.stay s made store.next.node
-    (noted_now (is_in store.sets) store.sets.dust.items store.journal.items s c.requires.fit.noted) c.args.node
+    c.insert_node.ensures.gains
+    c.insert_node.ensures.grown
+    (covers_with (has_in c.insert_node.new.self) s store.next.node c.args.node (grown_covers (has_in store.sets) (has_in c.insert_node.new.self) c.insert_node.ensures.grown s (covers_now (has_in store.sets) store.journal.items s c.requires.fit.covered)) (λ k found. c.in_ok-insert_node.ensures.ok k found))
+    (noted_with (is_in store.sets) (is_in c.insert_node.new.self) store.sets.stale_ids.items c.insert_node.new.self.stale_ids.items c.insert_node.ensures.gains.come c.insert_node.ensures.gains.stay s made store.next.node
+    (noted_now (is_in store.sets) store.sets.stale_ids.items store.journal.items s c.requires.fit.noted) c.args.node
     (ap (λ (x : Content). x.nodes) (live_with_new_node c.args.shared.now.names s c.args.node c.requires.fit.well c.requires.labels c.requires.keys c.requires.room c.requires.count))
     (λ k g there. absurd (absent_there s k store.next.node (next_is_absent c.args.shared.now.names (live s) store.next.node store.next.rel c.requires.fit.well.holds) there)))
     c.add_node.ensures.keeps.fits
@@ -77,17 +77,17 @@ returns-in_err-reserve g c =
       keeps = tables_kept store left shared shared c.requires.fit (keeps_refl store.tables shared.tables c.requires.fit.fits) refl;
     }
 
-pub returns-in_err-cover_node : goal.returns-in_err-cover_node
-returns-in_err-cover_node g c =
+pub returns-in_err-insert_node : goal.returns-in_err-insert_node
+returns-in_err-insert_node g c =
     let store = c.args.self.now in
     let shared = c.args.shared.now in
-    let left = record store { journal = c.reserve.new.self; sets = c.cover_node.new.self } in
+    let left = record store { journal = c.reserve.new.self; sets = c.insert_node.new.self } in
     record {
-      id = IfOk-from_err c.from_residual-in_err-cover_node.result _ c.from_residual-in_err-cover_node.ensures.0;
-      ok = IfOk-from_err c.from_residual-in_err-cover_node.result _ c.from_residual-in_err-cover_node.ensures.0;
-      err = at_err c.from_residual-in_err-cover_node.result refl;
-      marks = marks_alike g.T.Tables.seen store left shared shared refl c.reserve.ensures.items refl c.cover_node.ensures.gains.pairs;
-      fit = refused_fit g.T.Tables.seen store left shared shared c.requires.fit refl refl c.reserve.ensures.items c.cover_node.ensures.grown c.cover_node.ensures.gains c.requires.fit.fits;
+      id = IfOk-from_err c.from_residual-in_err-insert_node.result _ c.from_residual-in_err-insert_node.ensures.0;
+      ok = IfOk-from_err c.from_residual-in_err-insert_node.result _ c.from_residual-in_err-insert_node.ensures.0;
+      err = at_err c.from_residual-in_err-insert_node.result refl;
+      marks = marks_alike g.T.Tables.seen store left shared shared refl c.reserve.ensures.items refl c.insert_node.ensures.gains.pairs;
+      fit = refused_fit g.T.Tables.seen store left shared shared c.requires.fit refl refl c.reserve.ensures.items c.insert_node.ensures.grown c.insert_node.ensures.gains c.requires.fit.fits;
       keeps = tables_kept store left shared shared c.requires.fit (keeps_refl store.tables shared.tables c.requires.fit.fits) refl;
     }
 
@@ -96,13 +96,13 @@ returns-in_err-add_node g c =
     let store = c.args.self.now in
     let shared = c.args.shared.now in
     let s = state_of g.T.Tables.seen store shared in
-    let left = record store { tables = c.add_node.new.self; journal = c.reserve.new.self; sets = c.cover_node.new.self } in
+    let left = record store { tables = c.add_node.new.self; journal = c.reserve.new.self; sets = c.insert_node.new.self } in
     let after = record shared { tables = c.add_node.new.shared } in
     record {
       id = IfOk-from_err c.from_residual-in_err-add_node.result _ c.from_residual-in_err-add_node.ensures.0;
       ok = IfOk-from_err c.from_residual-in_err-add_node.result _ c.from_residual-in_err-add_node.ensures.0;
       err = at_err c.from_residual-in_err-add_node.result (λ t. graph_in shared.names (record s { content = c.in_err-add_node.ensures.err t }));
-      marks = marks_alike g.T.Tables.seen store left shared after refl c.reserve.ensures.items (λ t. record s { content = c.in_err-add_node.ensures.err t }) c.cover_node.ensures.gains.pairs;
-      fit = refused_fit g.T.Tables.seen store left shared after c.requires.fit refl (λ t. record s { content = c.in_err-add_node.ensures.err t }) c.reserve.ensures.items c.cover_node.ensures.grown c.cover_node.ensures.gains c.add_node.ensures.keeps.fits;
+      marks = marks_alike g.T.Tables.seen store left shared after refl c.reserve.ensures.items (λ t. record s { content = c.in_err-add_node.ensures.err t }) c.insert_node.ensures.gains.pairs;
+      fit = refused_fit g.T.Tables.seen store left shared after c.requires.fit refl (λ t. record s { content = c.in_err-add_node.ensures.err t }) c.reserve.ensures.items c.insert_node.ensures.grown c.insert_node.ensures.gains c.add_node.ensures.keeps.fits;
       keeps = tables_kept store left shared after c.requires.fit c.add_node.ensures.keeps refl;
     }

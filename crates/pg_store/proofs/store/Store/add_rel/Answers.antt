@@ -67,7 +67,7 @@ returns-clause-fit g c =
     (gains_none store.sets)
     (λ k i h. h)
     (covers_now (has_in store.sets) store.journal.items s c.requires.fit.covered)
-    (noted_alike (is_in store.sets) store.sets.dust.items s made refl (noted_now (is_in store.sets) store.sets.dust.items store.journal.items s r.fit.noted))
+    (noted_alike (is_in store.sets) store.sets.stale_ids.items s made refl (noted_now (is_in store.sets) store.sets.stale_ids.items store.journal.items s r.fit.noted))
     c.add_rel.ensures.keeps.fits
 
 pub returns-clause-keeps : goal.returns-clause-keeps

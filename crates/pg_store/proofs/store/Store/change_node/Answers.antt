@@ -72,8 +72,8 @@ returns g c =
       fit = changed_fit g.T.Tables.seen store _ shared _ r.fit (NodeChanged id c.in_ok-before.before) changed undone refl state journal c.change_node-changed.ensures.gains
           c.change_node-changed.ensures.grown
           (covers_with (has_in c.change_node-changed.new.self) s id.0 n (grown_covers (has_in store.sets) (has_in c.change_node-changed.new.self) c.change_node-changed.ensures.grown s (covers_now (has_in store.sets) store.journal.items s r.fit.covered)) (λ k found. edit.covered k found))
-          (noted_with (is_in store.sets) (is_in c.change_node-changed.new.self) store.sets.dust.items c.change_node-changed.new.self.dust.items c.change_node-changed.ensures.gains.come c.change_node-changed.ensures.gains.stay s changed id.0
-          (noted_now (is_in store.sets) store.sets.dust.items store.journal.items s r.fit.noted) n
+          (noted_with (is_in store.sets) (is_in c.change_node-changed.new.self) store.sets.stale_ids.items c.change_node-changed.new.self.stale_ids.items c.change_node-changed.ensures.gains.come c.change_node-changed.ensures.gains.stay s changed id.0
+          (noted_now (is_in store.sets) store.sets.stale_ids.items store.journal.items s r.fit.noted) n
           (ap (λ (x : Content). x.nodes) (live_with_node_changed names s id n w r.fit.well r.there named.labels named.keys was))
           (λ k g there. edit.left k g (sym (there_is s k id.0 w held) ∙ there)))
           keeps.fits;

@@ -72,7 +72,7 @@ returns g c =
       marks = changed_marks g.T.Tables.seen store _ shared _ r.fit (RelChanged id c.in_ok-before.before) changed undone refl state journal (gains_none store.sets);
       fit = changed_fit g.T.Tables.seen store _ shared _ r.fit (RelChanged id c.in_ok-before.before) changed undone refl state journal (gains_none store.sets) (λ k i h. h)
           (covers_other_properties (has_in store.sets) s id.0 ps (covers_now (has_in store.sets) store.journal.items s r.fit.covered))
-          (noted_alike (is_in store.sets) store.sets.dust.items s changed (ap (λ (m : FinMap nat_cmp NodeRecord). without_ids m s.gone_nodes) (same_nodes s.content id.0 ps)) (noted_now (is_in store.sets) store.sets.dust.items store.journal.items s r.fit.noted))
+          (noted_alike (is_in store.sets) store.sets.stale_ids.items s changed (ap (λ (m : FinMap nat_cmp NodeRecord). without_ids m s.gone_nodes) (same_nodes s.content id.0 ps)) (noted_now (is_in store.sets) store.sets.stale_ids.items store.journal.items s r.fit.noted))
           keeps.fits;
       keeps = tables_kept store _ shared _ r.fit keeps refl;
     }

@@ -37,19 +37,19 @@ add_rel-requires-clause-kind g c = slice_get_within c.properties_of.new.names c.
 pub add_rel-requires-clause-source : goal.add_rel-requires-clause-source
 add_rel-requires-clause-source g c =
     let store = c.args.self.now in
-    node_held c.args.shared.now.names (live (state_of g.T.Tables.seen store c.args.shared.now)) store.next.node store.next.rel c.args.source.0 c.requires.source
+    node_held c.args.shared.now.names (live (state_of g.T.Tables.seen store c.args.shared.now)) store.next.node store.next.rel c.args.ends.source.0 c.requires.source
 
 pub add_rel-requires-clause-target : goal.add_rel-requires-clause-target
 add_rel-requires-clause-target g c =
     let store = c.args.self.now in
-    node_held c.args.shared.now.names (live (state_of g.T.Tables.seen store c.args.shared.now)) store.next.node store.next.rel c.args.target.0 c.requires.target
+    node_held c.args.shared.now.names (live (state_of g.T.Tables.seen store c.args.shared.now)) store.next.node store.next.rel c.args.ends.target.0 c.requires.target
 
 pub returns-clause-changes : goal.returns-clause-changes
 returns-clause-changes g c = record {
   says = (let same = renamed_graph g.T.Tables.seen c.args.self.now c.args.shared.now c.properties_of.new.names
       (keeps_both c.args.shared.now.names c.intern.new.self c.properties_of.new.names c.intern.ensures.keeps c.properties_of.ensures.keeps) c.requires.fit in
       let text = text_is c.properties_of.new.names c.in_ok-kind.kind c.args.kind.now (c.properties_of.ensures.keeps c.in_ok-kind.kind c.args.kind.now c.in_ok-kind.ensures.number) in
-      on_ok_weaker c.add_rel.result (λ h. h ∙ (λ i. add_relationship (text i) c.args.source.0 c.args.target.0 (c.in_ok-properties.ensures.properties i) (same i))) c.add_rel.ensures.ok);
+      on_ok_weaker c.add_rel.result (λ h. h ∙ (λ i. add_relationship (text i) c.args.ends.source.0 c.args.ends.target.0 (c.in_ok-properties.ensures.properties i) (same i))) c.add_rel.ensures.ok);
   same = (on_err_weaker c.add_rel.result (λ e. e ∙ renamed_graph g.T.Tables.seen c.args.self.now c.args.shared.now c.properties_of.new.names
       (keeps_both c.args.shared.now.names c.intern.new.self c.properties_of.new.names c.intern.ensures.keeps c.properties_of.ensures.keeps) c.requires.fit)
       c.add_rel.ensures.err);

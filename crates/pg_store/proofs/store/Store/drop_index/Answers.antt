@@ -16,8 +16,8 @@ pub returns-in-Some-find-clause-fit : goal.returns-in-Some-find-clause-fit
 returns-in-Some-find-clause-fit g c = λ shared fit.
     let store = c.args.self.now in
     grown_fit g.T.Tables.seen store shared c.give_up.new.self fit (fewer_grow store.sets c.give_up.new.self c.give_up.ensures.all c.give_up.ensures.labels c.give_up.ensures.fewer)
-    (λ k i h. or_left (is_in store.sets k i) (is_noted c.give_up.new.self.dust.items k i) (c.give_up.ensures.less k i h))
-    (λ k i h. ap (λ ns. is_noted ns.items k i) c.give_up.ensures.dust ∙ h)
+    (λ k i h. or_left (is_in store.sets k i) (is_noted c.give_up.new.self.stale_ids.items k i) (c.give_up.ensures.less k i h))
+    (λ k i h. ap (λ ns. is_noted ns.items k i) c.give_up.ensures.stale_ids ∙ h)
 
 pub returns-in-Some-find-clause-gone : goal.returns-in-Some-find-clause-gone
 returns-in-Some-find-clause-gone g c =

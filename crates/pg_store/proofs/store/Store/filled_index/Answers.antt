@@ -48,8 +48,8 @@ loop-id-preserved-in-Continue-1 g c =
     let was = c.loop-id.invariant in
     let index = c.loop-id.index in
     record {
-      label = c.cover.ensures.label ∙ was.label;
-      key = c.cover.ensures.key ∙ was.key;
+      label = c.insert_id.ensures.label ∙ was.label;
+      key = c.insert_id.ensures.key ∙ was.key;
       only = λ v i h.
           or_either (finds index v i) (is_found_by index.label index.key v c.in-Some-node.node.now && i == c.in-Some.id) (passes (is_found_by c.args.label c.args.key v) s.content.nodes i) (was.only v i)
           (λ g.
@@ -57,17 +57,17 @@ loop-id-preserved-in-Continue-1 g c =
           ∙ ap (λ o. option_map_or (is_found_by c.args.label c.args.key v) o false) (sym c.in-Some-node.ensures)
           ∙ ap (λ l. is_found_by l c.args.key v c.in-Some-node.node.now) (sym was.label) ∙ ap (λ k. is_found_by index.label k v c.in-Some-node.node.now) (sym was.key)
           ∙ and_left (is_found_by index.label index.key v c.in-Some-node.node.now) (i == c.in-Some.id) g)
-          (c.cover.ensures.come v i h);
-      filled = filled_on s.content.nodes c.args.label c.args.key index c.cover.new.self c.in-Some.id c.next.new.self c.cover.ensures.grown
+          (c.insert_id.ensures.come v i h);
+      filled = filled_on s.content.nodes c.args.label c.args.key index c.insert_id.new.self c.in-Some.id c.next.new.self c.insert_id.ensures.grown
           (λ n v at found.
-          c.in_ok-cover.ensures.ok v
+          c.in_ok-insert_id.ensures.ok v
           (ap (λ o. option_map_or (is_found_by index.label index.key v) o false) (c.in-Some-node.ensures ∙ at)
           ∙ ap (λ l. is_found_by l index.key v n) was.label ∙ ap (λ k. is_found_by c.args.label k v n) was.key ∙ found))
           (subst (IsFilled s.content.nodes c.args.label c.args.key index) c.in-Some.ensures.some was.filled);
     }
 
-pub returns-in_err-cover : goal.returns-in_err-cover
-returns-in_err-cover g c =
+pub returns-in_err-insert_id : goal.returns-in_err-insert_id
+returns-in_err-insert_id g c =
     let failed = c.from_residual in
     record {
       label = IfOk-from_err failed.result _ failed.ensures.0;

@@ -53,8 +53,8 @@ returns-clause-changes g c = record {
       (c.push_reserved.ensures.items ∙ ap (λ es. es ++ NodeRemoved c.args.id ∷ []) c.in_ok-reserve.ensures.items) c.note_leaving.ensures.gains
       (same_grow store.sets c.note_leaving.new.self c.note_leaving.ensures.all c.note_leaving.ensures.labels c.note_leaving.ensures.indexes)
       (grown_covers (has_in store.sets) (has_in c.note_leaving.new.self) (same_grow store.sets c.note_leaving.new.self c.note_leaving.ensures.all c.note_leaving.ensures.labels c.note_leaving.ensures.indexes) s (covers_now (has_in store.sets) store.journal.items s c.requires.fit.covered))
-      (noted_without (is_in store.sets) (is_in c.note_leaving.new.self) store.sets.dust.items c.note_leaving.new.self.dust.items c.note_leaving.ensures.gains.come c.note_leaving.ensures.gains.stay s removed c.args.id.0
-      (noted_now (is_in store.sets) store.sets.dust.items store.journal.items s c.requires.fit.noted)
+      (noted_without (is_in store.sets) (is_in c.note_leaving.new.self) store.sets.stale_ids.items c.note_leaving.new.self.stale_ids.items c.note_leaving.ensures.gains.come c.note_leaving.ensures.gains.stay s removed c.args.id.0
+      (noted_now (is_in store.sets) store.sets.stale_ids.items store.journal.items s c.requires.fit.noted)
       (ap (λ (x : Content). x.nodes) (live_with_node_removed c.args.shared.now.names s c.args.id c.requires.fit.well there out into))
       (λ k g h. c.in_ok-note_leaving.ensures.ok k g (there_belongs s k c.args.id.0 c.unwrap-was.result.now (sym c.node.ensures ∙ ap option_copied c.unwrap-was.ensures) h)))
       c.requires.fit.fits);

@@ -43,7 +43,7 @@ returns-clause-changes g c = record {
       (c.push_reserved.ensures.items ∙ ap (λ es. es ++ RelRemoved c.args.id ∷ []) c.in_ok-reserve.ensures.items) (gains_none store.sets)
       (λ k i h. h)
       (covers_now (has_in store.sets) store.journal.items s c.requires.fit.covered)
-      (noted_alike (is_in store.sets) store.sets.dust.items s removed refl (noted_now (is_in store.sets) store.sets.dust.items store.journal.items s c.requires.fit.noted))
+      (noted_alike (is_in store.sets) store.sets.stale_ids.items s removed refl (noted_now (is_in store.sets) store.sets.stale_ids.items store.journal.items s c.requires.fit.noted))
       c.requires.fit.fits);
   keeps = tables_kept c.args.self.now _ c.args.shared.now _ c.requires.fit (keeps_refl c.args.self.now.tables c.args.shared.now.tables c.requires.fit.fits) refl;
 }

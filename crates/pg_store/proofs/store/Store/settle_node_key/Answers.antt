@@ -44,7 +44,7 @@ returns g c =
     (ap (λ (content : Content). record s { content = content }) content)
     (well_without_blank names s id c.args.key n well found.1 found.2)
     (covers_without_blank names s id c.args.key n well found.1 found.2 (has_in store.sets) c.requires.covered)
-    (noted_without_blank names s id c.args.key n well found.1 found.2 (is_in store.sets) store.sets.dust.items c.requires.noted)
+    (noted_without_blank names s id c.args.key n well found.1 found.2 (is_in store.sets) store.sets.stale_ids.items c.requires.noted)
     refl
     (graph_without_blank names s id c.args.key n well found.1 found.2)
     refl refl

@@ -38,7 +38,7 @@ loop-id-preserved g c =
           (λ t. record s { content = c.drop_node.ensures.dropped t; gone_nodes = c.in-Some.ensures.removed t })
           (well_without_node c.loop-id.shared.names s c.in-Some.id was.settles.settling.well gone was.no_rels)
           (covers_without (has_in now.sets) s c.in-Some.id was.settles.settling.covered)
-          (noted_alike (is_in now.sets) now.sets.dust.items s (without_gone_node c.loop-id.shared.names s c.in-Some.id was.settles.settling.well gone was.no_rels) (ap (λ (x : Content). x.nodes) (live_nodes c.loop-id.shared.names s c.in-Some.id was.settles.settling.well gone was.no_rels)) was.settles.settling.noted)
+          (noted_alike (is_in now.sets) now.sets.stale_ids.items s (without_gone_node c.loop-id.shared.names s c.in-Some.id was.settles.settling.well gone was.no_rels) (ap (λ (x : Content). x.nodes) (live_nodes c.loop-id.shared.names s c.in-Some.id was.settles.settling.well gone was.no_rels)) was.settles.settling.noted)
           refl
           (graph_without_node c.loop-id.shared.names s c.in-Some.id was.settles.settling.well gone was.no_rels)
           refl refl c.drop_node.ensures.keeps;

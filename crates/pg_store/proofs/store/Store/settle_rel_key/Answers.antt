@@ -53,7 +53,7 @@ returns g c =
     (ap (λ (content : Content). record s { content = content }) content)
     (well_rel_without_blank names s id c.args.key r well found.1 found.2)
     (covers_rel_without_blank names s id c.args.key r well found.1 found.2 (has_in store.sets) c.requires.covered)
-    (noted_alike (is_in store.sets) store.sets.dust.items s (rel_without_blank names s id c.args.key r well found.1 found.2) (ap (λ (m : FinMap nat_cmp NodeRecord). without_ids m s.gone_nodes) (same_nodes s.content id.0 (map.remove r.properties c.args.key)))
+    (noted_alike (is_in store.sets) store.sets.stale_ids.items s (rel_without_blank names s id c.args.key r well found.1 found.2) (ap (λ (m : FinMap nat_cmp NodeRecord). without_ids m s.gone_nodes) (same_nodes s.content id.0 (map.remove r.properties c.args.key)))
     c.requires.noted)
     refl
     (graph_rel_without_blank names s id c.args.key r well found.1 found.2)

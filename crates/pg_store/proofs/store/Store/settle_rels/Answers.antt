@@ -30,7 +30,7 @@ loop-id-preserved g c =
     (λ t. record s { content = c.drop_rel.ensures.dropped t; gone_rels = c.in-Some.ensures.removed t })
     (well_without_rel c.loop-id.shared.names s c.in-Some.id was.settling.well gone)
     was.settling.covered
-    (noted_alike (is_in now.sets) now.sets.dust.items s (without_gone_rel c.loop-id.shared.names s c.in-Some.id was.settling.well gone) refl was.settling.noted)
+    (noted_alike (is_in now.sets) now.sets.stale_ids.items s (without_gone_rel c.loop-id.shared.names s c.in-Some.id was.settling.well gone) refl was.settling.noted)
     refl
     (graph_without_rel c.loop-id.shared.names s c.in-Some.id was.settling.well gone)
     refl refl c.drop_rel.ensures.keeps

@@ -9,4 +9,4 @@ invariant-loop-place g l = record {
 }
 
 abbrev pub decreases-loop-place : goal.decreases-loop-place
-decreases-loop-place g l = length l.self.sets.dust.items
+decreases-loop-place g l = length l.self.sets.stale_ids.items

@@ -91,7 +91,7 @@ pub returns-in-NodeRemoved : goal.returns-in-NodeRemoved
 returns-in-NodeRemoved g c =
     let s = state_of g.T.Tables.seen c.args.self.now c.args.shared.now in
     record {
-      state = ap (λ (gone : Ids). record (undo_one (NodeRemoved c.in-NodeRemoved.id) s) { gone_nodes = gone }) c.forget.ensures ∙ ap (λ (e : Entry). undo_one e s) (sym c.in-NodeRemoved.is);
+      state = ap (λ (gone : Ids). record (undo_one (NodeRemoved c.in-NodeRemoved.id) s) { gone_nodes = gone }) c.remove_id.ensures ∙ ap (λ (e : Entry). undo_one e s) (sym c.in-NodeRemoved.is);
       names = refl;
       journal = refl;
       sets = refl;
@@ -107,7 +107,7 @@ pub returns-in-RelRemoved : goal.returns-in-RelRemoved
 returns-in-RelRemoved g c =
     let s = state_of g.T.Tables.seen c.args.self.now c.args.shared.now in
     record {
-      state = ap (λ (gone : Ids). record (undo_one (RelRemoved c.in-RelRemoved.id) s) { gone_rels = gone }) c.forget-in-RelRemoved.ensures ∙ ap (λ (e : Entry). undo_one e s) (sym c.in-RelRemoved.is);
+      state = ap (λ (gone : Ids). record (undo_one (RelRemoved c.in-RelRemoved.id) s) { gone_rels = gone }) c.remove_id-in-RelRemoved.ensures ∙ ap (λ (e : Entry). undo_one e s) (sym c.in-RelRemoved.is);
       names = refl;
       journal = refl;
       sets = refl;

@@ -1,5 +1,0 @@
-use Rattle.pg_agreement.proofs.FaultsExpressions.{faults_of_expressions}
-use Rattle.pg_agreement.proofs.law_of_expressions.Goals as goal
-
-pub returns : goal.returns
-returns c = faults_of_expressions

@@ -1,5 +1,0 @@
-use Rattle.pg_agreement.proofs.FaultsQueries.{faults_of_queries}
-use Rattle.pg_agreement.proofs.law_of_faults.Goals as goal
-
-pub returns : goal.returns
-returns c = faults_of_queries

@@ -1,5 +1,0 @@
-use Rattle.pg_agreement.proofs.ListingWalks.{walks_are_the_listing}
-use Rattle.pg_agreement.proofs.law_of_listing.Goals as goal
-
-pub returns : goal.returns
-returns c = walks_are_the_listing

@@ -1,5 +1,0 @@
-use Rattle.pg_agreement.proofs.MakingClauses.{create_agrees}
-use Rattle.pg_agreement.proofs.law_of_making.Goals as goal
-
-pub returns : goal.returns
-returns c = create_agrees

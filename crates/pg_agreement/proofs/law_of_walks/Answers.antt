@@ -1,5 +1,0 @@
-use Rattle.pg_agreement.proofs.MatchFound.{walks_list_fits}
-use Rattle.pg_agreement.proofs.law_of_walks.Goals as goal
-
-pub returns : goal.returns
-returns c = walks_list_fits

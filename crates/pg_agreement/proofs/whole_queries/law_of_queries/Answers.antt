@@ -1,5 +1,0 @@
-use Rattle.pg_agreement.proofs.WholeQueriesAnswers.{meaning_of_queries}
-use Rattle.pg_agreement.proofs.whole_queries.law_of_queries.Goals as goal
-
-pub returns : goal.returns
-returns c = meaning_of_queries

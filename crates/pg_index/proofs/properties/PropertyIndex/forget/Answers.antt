@@ -1,8 +1,0 @@
-use Rattle.pg_index.proofs.PropertyLemmas.{value_left, value_loses}
-use Rattle.pg_index.proofs.properties.PropertyIndex.forget.Goals as goal
-
-pub returns-clause-lost : goal.returns-clause-lost
-returns-clause-lost c = value_loses c.args.self.now (record c.args.self.now { ids = c.forget.new.self }) c.args.value.now c.args.id c.forget.ensures
-
-pub returns-clause-left : goal.returns-clause-left
-returns-clause-left c = value_left c.args.self.now (record c.args.self.now { ids = c.forget.new.self }) c.args.value.now c.args.id c.forget.ensures

@@ -1,6 +1,0 @@
-use Rattle.std.proofs.Common.{◌≡◌, drop}
-use Rattle.pg_meaning.specs.Trees.{same_flags}
-use Rattle.pg_item_index.proofs.trees.same_flags.Given as goal
-
-abbrev pub invariant-loop-i : goal.invariant-loop-i
-invariant-loop-i l = same_flags l.a.items l.b.items ≡ same_flags (drop l.i l.a.items) (drop l.i l.b.items)

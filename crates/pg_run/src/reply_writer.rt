@@ -1,0 +1,114 @@
+//! A query's reply while its rows are told.
+use crate::spelling::spell;
+use pg_graph::Tables;
+use pg_json::{QueryReply, ReplyColumns, RowsReply};
+use pg_meaning::Fault;
+use pg_rows::Columns;
+use pg_store::GraphView;
+use pg_value_core::{Out, Value};
+use std::alloc::{AllocError, Global};
+
+const WHOLE_ROOM: usize = 16_777_217;
+
+/// A query's reply while its rows are told. It is written as long as it may still fit; once it can't,
+/// the values that come are only tested, and nothing of them is kept.
+#[derive(Drop)]
+pub(crate) struct ReplyWriter {
+    pub(crate) reply: RowsReply,
+    pub(crate) room: usize,
+    pub(crate) fault: Option<Fault>,
+}
+
+impl ReplyWriter {
+    ghost use Rattle.std.specs.Prelude.{◌≡◌, ◌≢◌, ◌++◌, ◌∷◌, [], Bool, List, map, true, false, None, IfOk, OnOk};
+    ghost use Rattle.serde_json.specs.Data.{Items, string};
+    ghost use Rattle.pg_json.specs.Replies.{items_of};
+    ghost use Rattle.pg_meaning.specs.Graph.{Graph};
+    ghost use Rattle.pg_meaning.specs.Value.{Value as Datum};
+    ghost use Rattle.pg_run.specs.Telling.{IsLost, IsTelling, told};
+    ghost use Rattle.pg_value_core.specs.Gives.{Gives};
+    ghost use Rattle.pg_value_core.specs.View.{view};
+    ghost use Rattle.pg_value_core.specs.declared.out.Out.{Out as Shown};
+    ghost use Rattle.pg_value_core.specs.declared.out.Out.TheVariants.{Null};
+
+    /// The columns, and no row yet. `notes` tells whether the ends of the rows are to be noted.
+    pub fn begin(alloc: Global, columns: &Columns, notes: bool) -> Result<ReplyWriter, AllocError>
+        ensures { IfOk result (λ t. (graph : Graph)
+            → IsTelling notes graph (items_of (map string columns.now)) [] [] [] t) }
+    {
+        let mut head = ReplyColumns::begin(alloc)?;
+        for at in 0..columns.len() {
+            head.name(columns.name(at))?;
+        }
+        Ok(ReplyWriter {
+            reply: head.end(notes)?,
+            room: WHOLE_ROOM,
+            fault: None,
+        })
+    }
+
+    /// One value more of the row that is told; what stands for it goes to the end of that row. Nothing of a
+    /// value is kept once the reply is lost.
+    pub fn take<T: Tables>(&mut self, alloc: Global, graph: &GraphView<'_, T>, value: &Value) -> Out
+        ensures lost { IsLost self.new → result ≡ Null }
+        ensures telling { (notes : Bool) (columns : Items) (rows : List (List Datum))
+            (row : List Datum) (found : List Shown)
+            → IsTelling notes graph.now columns rows row found self.old
+            → IsTelling notes graph.now columns rows (row ++ view value.now ∷ [])
+            (found ++ result ∷ []) self.new }
+    {
+        if self.fault.is_some() {
+            return Out::Null;
+        }
+        let mut room = self.room.saturating_sub(1);
+        match spell(alloc, graph, value, &mut room) {
+            Ok(out) => {
+                self.room = room;
+                if room == 0 { Out::Null } else { out }
+            }
+            Err(fault) => {
+                self.fault = Some(fault);
+                Out::Null
+            }
+        }
+    }
+
+    /// The row that was told is whole. Nothing is written once the reply is lost.
+    pub fn end_row(&mut self, row: &[Out]) -> Result<(), AllocError>
+        ensures lost { IsLost self.new → self.new.reply ≡ self.old.reply }
+        ensures telling { (notes : Bool) (graph : Graph) (columns : Items)
+            (rows : List (List Datum)) (values : List Datum)
+            → IsTelling notes graph columns rows values row.now self.old
+            → OnOk result (IsTelling notes graph columns (rows ++ values ∷ []) [] [] self.new) }
+    {
+        self.room = self.room.saturating_sub(2);
+        if self.may_fit() {
+            self.reply.push(row)?;
+        }
+        Ok(())
+    }
+
+    /// Whether the reply may still be written.
+    fn may_fit(&self) -> bool
+        ensures fits { result ≡ true → self.now.room ≢ 0 }
+        ensures none { result ≡ true → self.now.fault ≡ None }
+        ensures not { result ≡ false → self.now.fault ≡ None → self.now.room ≡ 0 }
+    {
+        self.fault.is_none() && self.room > 0
+    }
+
+    /// The whole reply, or the fault in which it ends.
+    pub fn finish(self, steps: u64) -> Result<QueryReply, Fault>
+        ensures { (notes : Bool) (graph : Graph) (columns : Items) (rows : List (List Datum))
+            → IsTelling notes graph columns rows [] [] self
+            → Gives result (told notes graph columns rows steps) (λ reply. reply) }
+    {
+        if let Some(fault) = self.fault {
+            return Err(fault);
+        }
+        if self.room == 0 {
+            return Err(Fault::ReplyTooLong);
+        }
+        self.reply.finish(steps)
+    }
+}

@@ -1,0 +1,26 @@
+use Rattle.std.proofs.Common.{filter, sym, ap, ◌∙◌}
+use Rattle.pg_graph.proofs.Made.{with_label_listed, with_no_label_listed}
+use Rattle.pg_graph.specs.Removed.{Ids, has_id}
+use Rattle.pg_meaning.specs.Graph.{Graph, nodes_with_label}
+use Rattle.pg_store.proofs.Covering.{all_read}
+use Rattle.pg_store.proofs.graph_view.GraphView.nodes_labelled.Goals as goal
+use Rattle.pg_store.specs.Covers.{with_label, belongs, has_in, passes}
+use Rattle.pg_store.specs.Journal.{live}
+use Rattle.pg_store.specs.Stores.{state_of}
+
+pub returns : goal.returns
+returns g c =
+    let store = c.self.inside.store.now in
+    let s = state_of g.T.Tables.seen store c.self.inside.shared.now in
+    ap (filter (passes (belongs (with_label c.in-Some.name)) (live s).nodes)) c.ids.ensures
+    ∙ all_read (has_in store.sets) store.journal.items s c.self.invariant.covered (with_label c.in-Some.name) c.labelled.result.now (λ i h. ap (λ (ids : Ids). has_id ids i) c.labelled.ensures ∙ h)
+    ∙ sym (with_label_listed c.self.inside.shared.now.names (live s) store.next.node store.next.rel c.args.label.now c.in-Some.name c.self.invariant.well.holds (sym c.in-Some.ensures.found))
+    ∙ ap (λ (graph : Graph). nodes_with_label graph c.args.label.now) c.self.view_is
+
+pub returns-in_default : goal.returns-in_default
+returns-in_default g c =
+    let store = c.self.inside.store.now in
+    let s = state_of g.T.Tables.seen store c.self.inside.shared.now in
+    c.no_nodes.ensures
+    ∙ sym (with_no_label_listed c.self.inside.shared.now.names (live s) store.next.node store.next.rel c.args.label.now c.self.invariant.well.holds (sym c.in_default.ensures.found))
+    ∙ ap (λ (graph : Graph). nodes_with_label graph c.args.label.now) c.self.view_is

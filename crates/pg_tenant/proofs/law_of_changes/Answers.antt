@@ -1,5 +1,0 @@
-use Rattle.pg_tenant.proofs.ChangeLemmas.{others_leave}
-use Rattle.pg_tenant.proofs.law_of_changes.Goals as goal
-
-pub returns : goal.returns
-returns c = others_leave

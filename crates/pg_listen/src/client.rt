@@ -1,7 +1,7 @@
 //! One client: what was read of it and not answered, and what it is to be sent.
 ghost use Rattle.std.specs.Prelude.{◌≡◌};
 
-use crate::frames::{Front, front_of};
+use crate::frames::{Front, front_of, lacking};
 use crate::limits::Limits;
 use crate::network::Closing;
 use crate::queue::Queue;
@@ -15,6 +15,8 @@ pub(crate) struct Client {
     pub(crate) outbox: Queue,
     /// A frame was too long.
     pub(crate) refused: bool,
+    /// What had come was read once no more clients were wanted.
+    has_read_last: bool,
     /// The place of the tenant whose token it has shown.
     tenant: Option<usize>,
     /// It has a turn to come.
@@ -36,6 +38,7 @@ impl Client {
             inbox: Queue::new(alloc),
             outbox: Queue::new(alloc),
             refused: false,
+            has_read_last: false,
             tenant: None,
             has_turn: false,
             counted: 0,
@@ -56,6 +59,18 @@ impl Client {
     /// Whether a frame in front may be answered or refused.
     pub(crate) fn has_frame(&self) -> bool {
         !matches!(front_of(self.inbox.front()), Front::Partial)
+    }
+
+    /// At most how many bytes are to be read where no more clients are wanted: what has come, once, and then the rest of a frame that was
+    /// begun.
+    pub(crate) fn last_reading(&mut self) -> usize
+        ensures { seen self.new ≡ seen self.old }
+    {
+        if self.has_read_last {
+            return lacking(self.inbox.front());
+        }
+        self.has_read_last = true;
+        usize::MAX
     }
 
     /// Whether it keeps the server waiting for longer than it may.

@@ -246,11 +246,12 @@ impl Clients {
         Ok(numbers)
     }
 
-    /// Accepts no more clients, and gives each a turn, in which a frame that has come is begun.
+    /// Accepts no more clients, and gives each a turn, in which what has come is read for the last time.
     fn stop<N: Network>(&mut self, net: &mut N)
         ensures { Rests (N.trace net.old) (N.trace net.new) self.old self.new }
     {
         self.stopping = true;
+        self.allowance.stop();
         self.until = net.now().saturating_add(self.limits.patience);
         net.stop();
         if let Ok(numbers) = self.numbers() {

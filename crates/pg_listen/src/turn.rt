@@ -61,6 +61,8 @@ pub(crate) struct Allowance {
     is_shared: bool,
     // no requests are answered in turns
     only_sends: bool,
+    // no more clients are wanted, and no more of those that are there than what they have begun
+    is_last: bool,
     // turns and requests before the network is asked
     turns: u32,
     requests_between: u32,
@@ -86,6 +88,7 @@ impl Allowance {
             scratch,
             is_shared: false,
             only_sends: false,
+            is_last: false,
             turns: 0,
             requests_between: 0,
             requests: 0,
@@ -124,6 +127,22 @@ impl Allowance {
     /// Whether turns are for sending alone.
     pub(crate) fn set_only_sends(&mut self, only_sends: bool) {
         self.only_sends = only_sends;
+    }
+
+    /// From now on what has come is answered, and a frame that was begun, and no further one is read.
+    pub(crate) fn stop(&mut self) {
+        self.is_last = true;
+    }
+
+    /// At most how many bytes of a client are read now.
+    fn reading(&self, client: &mut Client) -> usize
+        ensures { seen client.new ≡ seen client.old }
+    {
+        if self.is_last {
+            client.last_reading()
+        } else {
+            usize::MAX
+        }
     }
 
     /// What a turn may use that begins now.
@@ -203,6 +222,24 @@ fn receive<N: Network>(
         Received::Ended => Err(end_of(client)),
         Received::Failed => Err(Closing::Failed),
     }
+}
+
+/// Reads what is there, as far as it is still wanted.
+fn read_wanted<N: Network>(
+    client: &mut Client,
+    number: u64,
+    net: &mut N,
+    allowance: &mut Allowance,
+) -> Result<TurnStep, Closing>
+    requires { client.old.refused ≡ false }
+    ensures { CarriesOn ⊥ number
+        (N.trace net.old) (N.trace net.new) (seen client.old) (seen client.new) result }
+{
+    let most = allowance.reading(client).min(allowance.scratch.len());
+    if most == 0 {
+        return Ok(TurnStep::Waits);
+    }
+    receive(client, number, net, &mut allowance.scratch[..most])
 }
 
 /// Why the connection of a client is closed that sends no more.
@@ -345,7 +382,7 @@ fn transfer<N: Network, S: Service>(
     } else if client.refused {
         Err(Closing::TooLong)
     } else if !client.has_frame() {
-        receive(client, number, net, &mut allowance.scratch)
+        read_wanted(client, number, net, allowance)
     } else if allowance.room > 0 {
         Ok(TurnStep::Over)
     } else {

@@ -13,7 +13,7 @@ pub returns-then-client : goal.returns-then-client
 returns-then-client g c = (seen c.args.client.now, [], Moves-nil _ c.args.number _ _ _, tt)
 
 pub returns-then-not-has_frame : goal.returns-then-not-has_frame
-returns-then-not-has_frame g c = from_carries g.S.Service.answers g.S.Service.settles g.S.Service.all_kept _ c.args.number _ _ _ _ _ (λ none. absurd none) c.receive.ensures
+returns-then-not-has_frame g c = from_carries g.S.Service.answers g.S.Service.settles g.S.Service.all_kept _ c.args.number _ _ _ _ _ (λ none. absurd none) c.read_wanted.ensures
 
 pub returns-then-allowance-gt0 : goal.returns-then-allowance-gt0
 returns-then-allowance-gt0 g c = (seen c.args.client.now, [], Moves-nil _ c.args.number _ _ _, refl)

@@ -19,3 +19,4 @@ pub mod Refused
 pub mod ValuedLemmas
 pub mod Indexed
 pub mod Filling
+pub mod Listings

@@ -4,6 +4,7 @@ pub mod Edits
 pub mod GraphCode
 pub mod Indexed
 pub mod Journal
+pub mod Listing
 pub mod Merged
 pub mod Noted
 pub mod Stores

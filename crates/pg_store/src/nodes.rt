@@ -1,18 +1,22 @@
 //! The nodes of a graph, one after the other.
-ghost use Rattle.std.specs.Prelude.{◌≡◌, ◌∷◌, [], IfSome, IfNone};
-ghost use Rattle.pg_meaning.specs.Graph.{ids_of, nodes_with_label};
+ghost use Rattle.std.specs.Option.{option_map};
+ghost use Rattle.std.specs.Prelude.{◌≡◌, ◌∷◌, [], true, IfSome, IfNone};
+ghost use Rattle.pg_meaning.specs.Graph.{ids_of, node_at, nodes_with_label};
+ghost use Rattle.pg_meaning.specs.Names.{is_among};
 ghost use Rattle.pg_meaning.specs.Walks.{with_value};
 ghost use Rattle.pg_value_core.specs.View.{view};
 
 use crate::graph_view::GraphView;
 use crate::shared::Shared;
 use crate::store::Store;
-use crate::wanted::{Wanted, is_sought};
+use crate::views::NodeView;
+use crate::wanted::Wanted;
 use pg_graph::{Members, Tables};
 use pg_value_core::{NodeId, Value};
 use std::marker::Model;
 
-/// Ids of nodes, rising, seen as the list of those that are still to come.
+/// Nodes of a graph, ids rising: seen as the ids that are still to come, the graph, and a label that
+/// each of them has.
 #[derive(Drop)]
 pub struct Nodes<'a, T: Tables> {
     store: &'a Store<T>,
@@ -22,30 +26,56 @@ pub struct Nodes<'a, T: Tables> {
 }
 
 impl<'a, T: Tables> Model for Nodes<'a, T> {
-    ghost use Rattle.std.specs.Prelude.{ℕ, List, filter};
-    ghost use Rattle.pg_store.specs.Covers.{belongs, passes};
-    ghost use Rattle.pg_store.specs.Journal.{live};
-    ghost use Rattle.pg_store.specs.Stores.{state_of};
-    ghost use Rattle.pg_store.specs.Wanted.{wanted_key};
+    ghost use Rattle.pg_store.specs.Listing.{Listing, IsListed, listing, listing_code};
 
-    ghost Value = { List ℕ };
+    ghost Value = { Listing };
 
-    ghost view = { λ n. filter (passes (belongs (wanted_key n.wanted))
-        (live (state_of T.seen n.store.now n.shared.now)).nodes) n.ids };
+    ghost coded = { listing_code };
 
-    ghost invariant = { λ n. T.seen.fits n.store.now.tables n.shared.now.tables };
+    ghost view = { λ n. listing T.seen n.store.now n.shared.now n.wanted n.ids };
+
+    ghost invariant = { λ n. IsListed T.seen n.store.now n.shared.now n.wanted };
 }
 
 impl<'a, T: Tables> Nodes<'a, T> {
+    /// The text of a label that each of them has, if one was sought by.
+    pub fn label(&self) -> Option<&'a str>
+        ensures { option_map (λ t. t.now) result ≡ self.now.label }
+    {
+        match self.wanted {
+            Wanted::All => None,
+            Wanted::Labelled(label) => Some(self.shared.names.text(label)),
+            Wanted::Valued(label, _, _) => Some(self.shared.names.text(label)),
+        }
+    }
+
     /// The next id, if there is one more.
     pub fn next(&mut self) -> Option<NodeId>
-        ensures some { IfSome result (λ id. self.old ≡ id.0 ∷ self.new) }
-        ensures none { IfNone result (self.old ≡ []) }
+        ensures some { IfSome result (λ id. self.old.ids ≡ id.0 ∷ self.new.ids) }
+        ensures none { IfNone result (self.old.ids ≡ []) }
+        ensures graph { self.new.graph ≡ self.old.graph }
+        ensures label { self.new.label ≡ self.old.label }
+    {
+        match self.next_node() {
+            Some((id, _)) => Some(id),
+            None => None,
+        }
+    }
+
+    /// The next node, if there is one more: its id, and what it holds, to read.
+    pub fn next_node(&mut self) -> Option<(NodeId, NodeView<'a, T>)>
+        ensures some { IfSome result (λ p. self.old.ids ≡ p.0.0 ∷ self.new.ids) }
+        ensures none { IfNone result (self.old.ids ≡ []) }
+        ensures is { IfSome result (λ p. node_at self.old.graph p.0.0 ≡ Some p.1) }
+        ensures has { IfSome result
+            (λ p. IfSome self.old.label (λ label. is_among p.1.labels label ≡ true)) }
+        ensures graph { self.new.graph ≡ self.old.graph }
+        ensures label { self.new.label ≡ self.old.label }
     {
         // a set may hold ids that no longer belong in it, and the record decides
         while let Some(id) = self.ids.next() {
-            if is_sought(self.store.node(self.shared, NodeId(id)), &self.wanted) {
-                return Some(NodeId(id));
+            if let Some(node) = self.store.sought(self.shared, NodeId(id), &self.wanted) {
+                return Some((NodeId(id), NodeView::of(self.shared, node)));
             }
         }
         None
@@ -55,7 +85,8 @@ impl<'a, T: Tables> Nodes<'a, T> {
 impl<'a, T: Tables> GraphView<'a, T> {
     /// The nodes, ids rising.
     pub fn nodes(&self) -> Nodes<'a, T>
-        ensures { result ≡ ids_of self.now.nodes }
+        ensures graph { result.graph ≡ self.now }
+        ensures ids { result.ids ≡ ids_of self.now.nodes }
     {
         Nodes {
             store: self.store,
@@ -67,7 +98,8 @@ impl<'a, T: Tables> GraphView<'a, T> {
 
     /// The nodes with a label, ids rising.
     pub fn nodes_labelled(&self, label: &str) -> Nodes<'a, T>
-        ensures { result ≡ nodes_with_label self.now label.now }
+        ensures graph { result.graph ≡ self.now }
+        ensures ids { result.ids ≡ nodes_with_label self.now label.now }
     {
         let Some(name) = self.shared.names.find(label) else {
             return self.no_nodes();
@@ -83,7 +115,8 @@ impl<'a, T: Tables> GraphView<'a, T> {
     /// The nodes with a label that have a value under a key, ids rising. An index serves where there
     /// is one.
     pub fn nodes_valued(&self, label: &str, key: &str, value: &'a Value) -> Nodes<'a, T>
-        ensures { result ≡ with_value self.now label.now key.now (view value.now) }
+        ensures graph { result.graph ≡ self.now }
+        ensures ids { result.ids ≡ with_value self.now label.now key.now (view value.now) }
     {
         let Some(label) = self.shared.names.find(label) else {
             return self.no_nodes();
@@ -101,7 +134,8 @@ impl<'a, T: Tables> GraphView<'a, T> {
 
     // No nodes.
     fn no_nodes(&self) -> Nodes<'a, T>
-        ensures { result ≡ [] }
+        ensures graph { result.graph ≡ self.now }
+        ensures ids { result.ids ≡ [] }
     {
         Nodes {
             store: self.store,

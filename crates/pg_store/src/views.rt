@@ -4,7 +4,9 @@ ghost use Rattle.std.specs.Option.{option_map};
 ghost use Rattle.pg_meaning.specs.Entries.{at_key};
 ghost use Rattle.pg_meaning.specs.Graph.{node_at, other_end, relationship_at};
 ghost use Rattle.pg_meaning.specs.Names.{is_among};
+ghost use Rattle.pg_graph.specs.Refinement.{node_of};
 ghost use Rattle.pg_store.specs.Stores.{node_texts_view, rel_texts_view};
+ghost use Rattle.pg_store.specs.Views.{IsNamedNode};
 ghost use Rattle.pg_value_core.specs.View.{view};
 
 use crate::graph_view::GraphView;
@@ -38,6 +40,17 @@ impl<'a, T: Tables> Model for NodeView<'a, T> {
 }
 
 impl<'a, T: Tables> NodeView<'a, T> {
+    // The record of a node as one to read.
+    pub(crate) fn of(shared: &'a Shared<T::Shared>, node: &'a NodeRecord) -> Self
+        requires { IsNamedNode shared.now.names node.now }
+        ensures { result ≡ node_of shared.now.names node.now }
+    {
+        NodeView {
+            shared,
+            record: node,
+        }
+    }
+
     /// Whether the node has a label, by its exact text.
     pub fn has_label(&self, label: &str) -> bool
         ensures { result ≡ is_among self.now.labels label.now }

@@ -7,7 +7,7 @@ use Rattle.pg_store.specs.Covers.{every, belongs, passes}
 use Rattle.pg_store.specs.Journal.{live}
 use Rattle.pg_store.specs.Stores.{state_of}
 
-pub returns : goal.returns
-returns g c =
+pub returns-clause-ids : goal.returns-clause-ids
+returns-clause-ids g c =
     let s = state_of g.T.Tables.seen c.self.inside.store.now c.self.inside.shared.now in
     ap (filter (passes (belongs every) (live s).nodes)) (c.ids.ensures ∙ ap (λ (ids : Ids). map.keys ids) c.self.inside.store.now.sets.none_is_empty ∙ ap (map_list (λ (e : ℕ × Unit {0}). e.0)) (nothing_held (Unit {0})))

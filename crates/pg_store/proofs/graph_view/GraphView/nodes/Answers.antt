@@ -7,8 +7,8 @@ use Rattle.pg_store.specs.Covers.{every, belongs, has_in, passes}
 use Rattle.pg_store.specs.Journal.{live}
 use Rattle.pg_store.specs.Stores.{state_of}
 
-pub returns : goal.returns
-returns g c =
+pub returns-clause-ids : goal.returns-clause-ids
+returns-clause-ids g c =
     let store = c.self.inside.store.now in
     let s = state_of g.T.Tables.seen store c.self.inside.shared.now in
     ap (filter (passes (belongs every) (live s).nodes)) c.ids.ensures

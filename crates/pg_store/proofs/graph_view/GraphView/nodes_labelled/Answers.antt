@@ -8,8 +8,8 @@ use Rattle.pg_store.specs.Covers.{with_label, belongs, has_in, passes}
 use Rattle.pg_store.specs.Journal.{live}
 use Rattle.pg_store.specs.Stores.{state_of}
 
-pub returns : goal.returns
-returns g c =
+pub returns-clause-ids : goal.returns-clause-ids
+returns-clause-ids g c =
     let store = c.self.inside.store.now in
     let s = state_of g.T.Tables.seen store c.self.inside.shared.now in
     ap (filter (passes (belongs (with_label c.in-Some.name)) (live s).nodes)) c.ids.ensures
@@ -17,10 +17,10 @@ returns g c =
     ∙ sym (with_label_listed c.self.inside.shared.now.names (live s) store.next.node store.next.rel c.args.label.now c.in-Some.name c.self.invariant.well.holds (sym c.in-Some.ensures.found))
     ∙ ap (λ (graph : Graph). nodes_with_label graph c.args.label.now) c.self.view_is
 
-pub returns-in_default : goal.returns-in_default
-returns-in_default g c =
+pub returns-in_default-clause-ids : goal.returns-in_default-clause-ids
+returns-in_default-clause-ids g c =
     let store = c.self.inside.store.now in
     let s = state_of g.T.Tables.seen store c.self.inside.shared.now in
-    c.no_nodes.ensures
+    c.no_nodes.ensures.ids
     ∙ sym (with_no_label_listed c.self.inside.shared.now.names (live s) store.next.node store.next.rel c.args.label.now c.self.invariant.well.holds (sym c.in_default.ensures.found))
     ∙ ap (λ (graph : Graph). nodes_with_label graph c.args.label.now) c.self.view_is

@@ -9,8 +9,8 @@ use Rattle.pg_store.specs.Journal.{live}
 use Rattle.pg_store.specs.Stores.{state_of}
 use Rattle.pg_value_core.specs.View.{view}
 
-pub returns : goal.returns
-returns g c =
+pub returns-clause-ids : goal.returns-clause-ids
+returns-clause-ids g c =
     let store = c.self.inside.store.now in
     let s = state_of g.T.Tables.seen store c.self.inside.shared.now in
     let label = c.in-Some.label in
@@ -20,18 +20,18 @@ returns g c =
     ∙ sym (valued_listed c.self.inside.shared.now.names (live s) store.next.node store.next.rel c.args.label.now c.args.key.now c.args.value.now label key c.self.invariant.well.holds (sym c.in-Some.ensures.found) (sym c.in-Some-find.ensures.found))
     ∙ ap (λ (graph : Graph). with_value_in graph c.args.label.now c.args.key.now (view c.args.value.now)) c.self.view_is
 
-pub returns-in_default-find : goal.returns-in_default-find
-returns-in_default-find g c =
+pub returns-in_default-find-clause-ids : goal.returns-in_default-find-clause-ids
+returns-in_default-find-clause-ids g c =
     let store = c.self.inside.store.now in
     let s = state_of g.T.Tables.seen store c.self.inside.shared.now in
-    c.no_nodes-in_default-find.ensures
+    c.no_nodes-in_default-find.ensures.ids
     ∙ sym (no_key_valued c.self.inside.shared.now.names (live s) store.next.node store.next.rel c.args.label.now c.args.key.now c.args.value.now c.self.invariant.well.holds (sym c.in_default-find.ensures.found))
     ∙ ap (λ (graph : Graph). with_value_in graph c.args.label.now c.args.key.now (view c.args.value.now)) c.self.view_is
 
-pub returns-in_default : goal.returns-in_default
-returns-in_default g c =
+pub returns-in_default-clause-ids : goal.returns-in_default-clause-ids
+returns-in_default-clause-ids g c =
     let store = c.self.inside.store.now in
     let s = state_of g.T.Tables.seen store c.self.inside.shared.now in
-    c.no_nodes.ensures
+    c.no_nodes.ensures.ids
     ∙ sym (no_label_valued c.self.inside.shared.now.names (live s) store.next.node store.next.rel c.args.label.now c.args.key.now c.args.value.now c.self.invariant.well.holds (sym c.in_default.ensures.found))
     ∙ ap (λ (graph : Graph). with_value_in graph c.args.label.now c.args.key.now (view c.args.value.now)) c.self.view_is

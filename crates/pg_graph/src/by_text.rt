@@ -15,6 +15,7 @@ ghost use Rattle.pg_value_core.specs.View.{view, entries_view};
 use crate::labels::Labels;
 use crate::properties::Properties;
 use pg_names::{NameId, Names, TextSet};
+use pg_texts::same_text;
 use pg_value_core::Value;
 use std::alloc::{AllocError, Global};
 use std::collections::{BTreeMap, BTreeSet};
@@ -95,7 +96,7 @@ fn has_text<K: TextSet>(labels: &[NameId], names: &Names<K>, text: &str) -> bool
     ensures { result ≡ list_any (bytes_eq text.now) (map_list (text_of names.now) labels.now) }
 {
     for label in labels {
-        if text == names.text(*label) {
+        if same_text(text, names.text(*label)) {
             return true;
         }
     }
@@ -126,7 +127,7 @@ fn is_shown_at<K: TextSet>(names: &Names<K>, name: NameId, value: &Value, key: &
     ensures { result
         ≡ (bytes_eq key.now (text_of names.now name) && not (is_null (view value.now))) }
 {
-    key == names.text(name) && !is_null(value)
+    same_text(key, names.text(name)) && !is_null(value)
 }
 
 // What stands under a key, if it is not blank.

@@ -2,6 +2,7 @@
 ghost use Rattle.std.specs.Prelude.{◌≡◌, ◌<◌, ◌++◌, ◌∷◌, List, ℕ, [], Some, length, map, position, bytes_eq, string_bytes, slice_get, OnOk, OnErr};
 ghost use Rattle.pg_rows.specs.Named.{with_name};
 
+use pg_texts::same_text;
 use std::alloc::{AllocError, Global};
 use std::marker::Model;
 
@@ -48,7 +49,7 @@ impl Columns {
         ensures { result ≡ position (bytes_eq name.now) self.now }
     {
         for (at, held) in self.names.iter().enumerate() {
-            if name == held.as_str() {
+            if same_text(name, held.as_str()) {
                 return Some(at);
             }
         }

@@ -13,6 +13,7 @@ use crate::graph_view::GraphView;
 use crate::shared::Shared;
 use crate::texts::{NodeTexts, RelTexts, strings_of};
 use pg_graph::{NodeRecord, RelRecord, Tables};
+use pg_texts::same_text;
 use pg_value_core::{NodeId, RelId, Value};
 use std::alloc::{AllocError, Global};
 use std::marker::Model;
@@ -116,7 +117,7 @@ impl<'a, T: Tables> RelView<'a, T> {
     pub fn has_type(&self, kind: &str) -> bool
         ensures { result ≡ bytes_eq self.now.type kind.now }
     {
-        self.kind() == kind
+        same_text(self.kind(), kind)
     }
 
     /// The node at which the relationship begins.

@@ -5,8 +5,8 @@ use Rattle.std.specs.List.{position_from}
 use Rattle.pg_rows.proofs.NamedRows.{is_named, first_named}
 use Rattle.pg_rows.proofs.columns.Columns.find.Goals as goal
 
-pub returns-then-eq : goal.returns-then-eq
-returns-then-eq c =
+pub returns-then-same_text : goal.returns-then-same_text
+returns-then-same_text c =
     let l = c.loop-at in
     let name = c.args.name.now in
     let items = c.deref-held-items.result.now in

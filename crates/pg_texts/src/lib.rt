@@ -1,0 +1,6 @@
+//! Whether two texts are the same, told quickly where they are short.
+#![tactic(auto)]
+
+mod texts;
+
+pub use texts::same_text;

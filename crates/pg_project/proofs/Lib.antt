@@ -31,5 +31,6 @@ pub mod Numbered
 pub mod Ranges
 pub mod RowLemmas
 pub mod Turns
+pub mod Counting
 mod Numbers
 mod RowCounts

@@ -31,6 +31,6 @@ pub use counts::cut_at;
 pub use passing::Cut;
 pub use project::{project_return, project_with};
 pub use projection_columns::ProjectionColumns;
-pub use returned::{come_in_turn, return_columns};
+pub use returned::{come_in_turn, only_counts, return_columns};
 pub use unwind::unwind_rows;
 pub use values::prepare_each;

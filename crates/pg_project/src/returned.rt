@@ -1,16 +1,16 @@
-//! RETURN whose rows come in turn.
+//! RETURN whose rows come in turn, and RETURN that only counts rows.
 ghost use Rattle.std.specs.Prelude.{◌≡◌, true, IfOk};
 ghost use Rattle.pg_meaning.specs.Scopes.{return_columns};
 ghost use Rattle.pg_project.specs.Columns.{columns_view};
 ghost use Rattle.pg_project.specs.Items.{expressions_view};
-ghost use Rattle.pg_project.specs.Returned.{ComeInTurn};
-ghost use Rattle.pg_syntax_tree.specs.View.{projection_view};
+ghost use Rattle.pg_project.specs.Returned.{ComeInTurn, CountsRows, OnlyCounts};
+ghost use Rattle.pg_syntax_tree.specs.View.{expression_view, projection_view};
 
 use crate::aggregates::have_aggregate;
 use crate::columns::make_columns;
 use crate::projection_columns::ProjectionColumns;
 use pg_rows::Columns;
-use pg_scope::Naming;
+use pg_scope::{Naming, summary_named};
 use pg_syntax_tree::{Expression, Projection};
 use std::alloc::{AllocError, Global};
 
@@ -33,4 +33,25 @@ pub fn come_in_turn(projection: &Projection, items: &Vec<&Expression>) -> bool
         → ComeInTurn (projection_view projection.now) (expressions_view items.now.items) }
 {
     !projection.distinct && projection.order.is_empty() && !have_aggregate(items)
+}
+
+/// Whether RETURN only counts rows: it gives the same over any others of which there are as many.
+pub fn only_counts(projection: &Projection) -> bool
+    ensures { result ≡ true → OnlyCounts (projection_view projection.now) }
+{
+    match projection.items.as_slice() {
+        [item] => projection.star.is_none() && counts_rows(&item.value),
+        _ => false,
+    }
+}
+
+fn counts_rows(expression: &Expression) -> bool
+    ensures { result ≡ true → CountsRows (expression_view expression.now) }
+{
+    match expression {
+        Expression::Call(name, _, _, arguments) => {
+            arguments.is_empty() && summary_named(name.text.as_str()).is_some()
+        }
+        _ => false,
+    }
 }

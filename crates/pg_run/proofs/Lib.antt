@@ -1,3 +1,4 @@
+pub mod Leaving
 pub mod Items
 pub mod Members
 mod NextClause

@@ -11,7 +11,7 @@ use Rattle.pg_meaning.specs.Names.{Names}
 use Rattle.pg_meaning.specs.Plans.{Anchor, IsPlanFrom, Plan}
 use Rattle.pg_meaning.specs.Projections.{project_clause}
 use Rattle.pg_meaning.specs.Queries.{clause_step, clauses_run, first_anchors, other_anchors, returns}
-use Rattle.pg_meaning.specs.Rows.{Row}
+use Rattle.pg_meaning.specs.Rows.{Row, values_in}
 use Rattle.pg_meaning.specs.Scopes.{column_names, return_columns, scope_after}
 use Rattle.pg_meaning.specs.Tree.{Clause, return_rows, Projection}
 use Rattle.pg_meaning.specs.Tree as tree
@@ -21,9 +21,10 @@ use Rattle.pg_meaning.specs.declared.fault.Fault.TheVariants.{OutOfMemory}
 use Rattle.pg_project.proofs.InTurn.{bound_twice}
 use Rattle.pg_project.proofs.Projecting.{clause_is}
 use Rattle.pg_project.specs.Parts.{rows_projected}
-use Rattle.pg_run.specs.Returning.{replied, returned}
+use Rattle.pg_run.specs.Returning.{Leaves, named_items, replied, returned}
 use Rattle.pg_run.specs.Running.{Replies}
 use Rattle.pg_rows.specs.States.{Named, named_rows, state_of, Suits}
+use Rattle.pg_run.specs.Telling.{told}
 use Rattle.pg_value_core.specs.Gives.{Gives}
 
 same_all : {X : Type 0} (a : Result X Fault) → (a >>= λ x. Ok x) ≡ a
@@ -125,31 +126,44 @@ module _ (parameters : Entries) (quota : Quota) where
         ap (λ a. a >>= replied notes true names) (whole ∙ ap (λ a. a >>= clause) h)
         ∙ (λ i. clause state >>= λ last. same_reply last i)
 
-    -- RETURN leaves the graph
-    pub graph_stays : (graph : Graph) (t : Named) (used : ℕ) → run [] (take (length before) plan) before begin ≡ Ok (state_of graph t used) → (last : State) → all ≡ Ok last → last.graph ≡ graph
-    graph_stays graph t used h last ended =
-        by (spend s used (length t.rows)) (rows_projected s graph (return_columns s.scope p) p None (named_rows t))
-        (sym (clause_is s graph (return_columns s.scope p) p None t used (spend s used (length t.rows)) refl) ∙ sym (whole ∙ ap (λ a. a >>= clause) h) ∙ ended)
-      where
-        by : (a : Result ℕ Fault) (b : Result (List Row) Fault) → ◌≡◌ {A = Result State Fault} (a >>= λ steps. b >>= λ rs. Ok (record { graph = graph; rows = rs; steps = steps })) (Ok last) → last.graph ≡ graph
-        by (Ok steps) (Ok rs) e = sym (ap (λ (x : State). x.graph) (same_ok (record { graph = graph; rows = rs; steps = steps }) last e))
-        by (Ok steps) (Err f) e = cc
-        by (Err f) b e = cc
+    -- over the rows that stand for what the clauses before leave
+    module _ (graph : Graph) (t : Named) (used : ℕ) (leaves : Leaves (run [] (take (length before) plan) before begin) p (fold scope_after [] before) graph t used) where
+      abbrev over : Setting
+      over = record s { scope = t.names }
 
-    -- the reply of RETURN is that of all clauses
-    pub replies : (graph : Graph) (t : Named) (used limit : ℕ) (r : Result QueryText Fault) → run [] (take (length before) plan) before begin ≡ Ok (state_of graph t used) → t.names ≡ fold scope_after [] before → quota.max_steps ≡ limit
-        → ((x : Setting) → Suits x parameters limit t.names → Gives r (returned notes x p (state_of graph t used)) (λ reply. reply)) → Replies r all notes true names graph
-    replies graph t used limit r h named within given =
-        let is = setting_is [] plan before in
-        record {
-          gives = subst (λ (a : Result QueryText Fault). Gives r a (λ reply. reply)) (sym (then_returned (state_of graph t used) h))
-              (given s (record { parameters_are = is.0; steps_are = ap (λ (q : Quota). q.max_steps) is.1 ∙ within; scope_is = is.2 ∙ sym named }));
-          graph = by r;
-        }
-      where
-        by : (r : Result QueryText Fault) → OnOk r ((last : State) → all ≡ Ok last → last.graph ≡ graph)
-        by (Ok reply) = graph_stays graph t used h
-        by (Err e) = tt
+      clause_over : project_clause over (return_columns t.names p) p None (state_of graph t used) ≡ clause leaves.last
+      clause_over = leaves.clause s (setting_is [] plan before).2
+
+      -- RETURN leaves the graph
+      graph_stays : (last : State) → all ≡ Ok last → last.graph ≡ graph
+      graph_stays last ended =
+          by (spend over used (length t.rows)) (rows_projected over graph (return_columns t.names p) p None (named_rows t))
+          (sym (clause_is over graph (return_columns t.names p) p None t used (spend over used (length t.rows)) refl) ∙ clause_over ∙ sym (whole ∙ ap (λ a. a >>= clause) leaves.ran) ∙ ended)
+        where
+          by : (a : Result ℕ Fault) (b : Result (List Row) Fault) → ◌≡◌ {A = Result State Fault} (a >>= λ steps. b >>= λ rs. Ok (record { graph = graph; rows = rs; steps = steps })) (Ok last) → last.graph ≡ graph
+          by (Ok steps) (Ok rs) e = sym (ap (λ (x : State). x.graph) (same_ok (record { graph = graph; rows = rs; steps = steps }) last e))
+          by (Ok steps) (Err f) e = cc
+          by (Err f) b e = cc
+
+      same_returned : returned notes over p (state_of graph t used) ≡ returned notes s p leaves.last
+      same_returned =
+          let columns : return_columns t.names p ≡ return_columns s.scope p = leaves.columns ∙ ap (λ (ns : Names). return_columns ns p) (sym (setting_is [] plan before).2) in
+          λ i. clause_over i >>= λ last. told notes last.graph (named_items (column_names (columns i))) (map values_in last.rows) last.steps
+
+      -- the reply of RETURN is that of all clauses
+      pub replies : (limit : ℕ) (r : Result QueryText Fault) → quota.max_steps ≡ limit
+          → ((x : Setting) → Suits x parameters limit t.names → Gives r (returned notes x p (state_of graph t used)) (λ reply. reply)) → Replies r all notes true names graph
+      replies limit r within given =
+          let is = setting_is [] plan before in
+          record {
+            gives = subst (λ (a : Result QueryText Fault). Gives r a (λ reply. reply)) (same_returned ∙ sym (then_returned leaves.last leaves.ran))
+                (given over (record { parameters_are = is.0; steps_are = ap (λ (q : Quota). q.max_steps) is.1 ∙ within; scope_is = refl }));
+            graph = by r;
+          }
+        where
+          by : (r : Result QueryText Fault) → OnOk r ((last : State) → all ≡ Ok last → last.graph ≡ graph)
+          by (Ok reply) = graph_stays
+          by (Err e) = tt
 
     pub replies_fault : (e : Fault) (left : Graph) → (e ≢ OutOfMemory → run [] (take (length before) plan) before begin ≡ Err e) → Replies (Err e) all notes true names left
     replies_fault e left h = record {

@@ -14,6 +14,8 @@ use Rattle.pg_meaning.specs.Tree.{Projection}
 use Rattle.pg_meaning.specs.Value.{Value}
 use Rattle.pg_meaning.specs.declared.fault.Fault.{Fault}
 use Rattle.pg_project.specs.Given.{Cut, cut_of, trees_of, values_given}
+use Rattle.pg_project.specs.Returned.{return_clause}
+use Rattle.pg_rows.specs.States.{Named, state_of}
 use Rattle.pg_run.specs.Telling.{IsTelling, told}
 use Rattle.pg_run.specs.declared.rows.ReadyItems.{ReadyItems}
 use Rattle.pg_run.specs.declared.reply_writer.ReplyWriter.{ReplyWriter}
@@ -31,6 +33,13 @@ items_given i graph = values_given (parameters_view i.query.now.parameters.now) 
 abbrev pub returned : (notes : Bool) → Setting → Projection → State → Result QueryText Fault
 returned notes s p state =
     project_clause s (return_columns s.scope p) p None state >>= λ last. told notes last.graph (named_items (column_names (return_columns s.scope p))) (map values_in last.rows) last.steps
+
+-- the clauses leave a state over which RETURN gives what it gives over these rows
+pub record Leaves (run : Result State Fault) (p : Projection) (names : List (List ℕ)) (graph : Graph) (t : Named) (steps : ℕ) : Type 0 where
+  pub last : State
+  pub ran : run ≡ Ok last
+  pub columns : return_columns t.names p ≡ return_columns names p
+  pub clause : (s : Setting) → s.scope ≡ names → return_clause (record s { scope = t.names }) p (state_of graph t steps) ≡ return_clause s p last
 
 -- the reply of the rows that all clauses leave
 abbrev pub replied : (notes returns : Bool) → (names : List (List ℕ)) → State → Result QueryText Fault

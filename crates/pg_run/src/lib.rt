@@ -8,6 +8,7 @@ mod elements;
 mod instances;
 mod presence;
 mod reply_writer;
+mod returned_rows;
 mod returning;
 mod room;
 mod rows;

@@ -13,6 +13,7 @@ ghost use Rattle.pg_value_core.specs.Gives.{Gives};
 
 use crate::clauses::run_clauses;
 use crate::reply_writer::ReplyWriter;
+use crate::returned_rows::rows_returned;
 use crate::returning::return_reply;
 use crate::tables::tell_table;
 use pg_expr::QueryContext;
@@ -59,7 +60,7 @@ pub fn answer_clauses<T: Tables>(
     match planned.clauses.split_last() {
         Some((Clause::Return(projection), before)) => {
             let anchors = &planned.anchors[..before.len()];
-            let table = run_clauses(query, before, anchors, live, meter)?;
+            let table = rows_returned(query, projection, before, anchors, live, meter)?;
             return_reply(
                 query,
                 projection,

@@ -4,6 +4,7 @@
 mod indexed_texts;
 mod name_id;
 mod names;
+mod recent;
 mod text_set;
 
 pub use indexed_texts::IndexedTexts;

@@ -1,11 +1,13 @@
 //! The texts of labels, types and keys, each kept once and known by a number.
-ghost use Rattle.std.specs.Prelude.{◌≡◌, ◌<◌, [], length, take, OnOk, IfOk, OnErr, slice_get, Some};
+ghost use Rattle.std.specs.Prelude.{◌≡◌, ◌<◌, [], length, take, OnOk, IfOk, IfSome, OnErr, slice_get, Some};
 ghost use Rattle.std.specs.List.{position};
 ghost use Rattle.std.specs.Str.{bytes_eq};
 ghost use Rattle.pg_names.specs.Names.{AreDistinct, AreNumbered, KeepsNames, NamesAreTakenBack, with_name};
 
 use crate::name_id::NameId;
+use crate::recent::Recent;
 use crate::text_set::TextSet;
+use pg_texts::same_text;
 use std::alloc::{AllocError, Global};
 use std::hash::RandomState;
 use std::marker::Model;
@@ -17,6 +19,7 @@ pub struct Names<K: TextSet> {
     alloc: Global,
     hasher: RandomState,
     texts: K,
+    recent: Recent,
 }
 
 impl<K: TextSet> Model for Names<K> {
@@ -42,6 +45,7 @@ impl<K: TextSet> Names<K> {
             alloc,
             hasher,
             texts: K::new(alloc, hasher),
+            recent: Recent::new(alloc),
         }
     }
 
@@ -58,6 +62,18 @@ impl<K: TextSet> Names<K> {
         ensures keeps { KeepsNames self.old self.new }
         ensures distinct { OnOk result (AreDistinct self.new) }
     {
+        let number = self.number_of(text)?;
+        self.note(text, number);
+        Ok(number)
+    }
+
+    fn number_of(&mut self, text: &str) -> Result<NameId, AllocError>
+        ensures number { IfOk result (λ n. slice_get self.new n ≡ Some text.now) }
+        ensures grown { OnOk result (self.new ≡ with_name self.old text.now) }
+        ensures err { OnErr result (self.new ≡ self.old) }
+        ensures keeps { KeepsNames self.old self.new }
+        ensures distinct { OnOk result (AreDistinct self.new) }
+    {
         if let Some(number) = self.find(text) {
             return Ok(number);
         }
@@ -66,8 +82,37 @@ impl<K: TextSet> Names<K> {
         Ok(NameId(place as u64))
     }
 
+    fn note(&mut self, text: &str, number: NameId)
+        ensures { self.new ≡ self.old }
+    {
+        self.recent.note(text, number.0);
+    }
+
     /// The number of a text that the table has.
     pub fn find(&self, text: &str) -> Option<NameId>
+        ensures found { result ≡ position (bytes_eq text.now) self.now }
+        ensures distinct { AreDistinct self.now }
+    {
+        if let Some(number) = self.find_recent(text) {
+            return Some(number);
+        }
+        self.find_hashed(text)
+    }
+
+    // Most texts that are asked for were put or asked for before, and are not hashed.
+    fn find_recent(&self, text: &str) -> Option<NameId>
+        ensures found { IfSome result (λ n. position (bytes_eq text.now) self.now ≡ Some n) }
+        ensures distinct { AreDistinct self.now }
+    {
+        let number = self.recent.number_at(text);
+        if number < self.texts.count() && same_text(text, self.texts.text_at(number)) {
+            return Some(NameId(number as u64));
+        }
+        None
+    }
+
+    #[inline(never)]
+    fn find_hashed(&self, text: &str) -> Option<NameId>
         ensures found { result ≡ position (bytes_eq text.now) self.now }
         ensures distinct { AreDistinct self.now }
     {

@@ -68,3 +68,6 @@ returns-clause-pairs g c =
     }) in
     let unused : (owner : ℕ) → seen.is_unused owner c.new-shared.result.tables = λ owner. subst (seen.is_unused owner) (sym c.new-shared.ensures.tables) (c.new_shared.ensures.unused owner) in
     opened_pairs seen c.args.count c.in_ok-others.others.items c.in_ok-others.ensures c.requires.some c.swap.new.y c.swap.new.x spare is c.new-shared.result c.new-shared.ensures.distinct unused c.mark-mark.result c.mark-mark.ensures.names c.in_ok-begins.begins.items c.in_ok-begins.ensures
+
+pub returns-clause-unused : goal.returns-clause-unused
+returns-clause-unused g c = λ owner. subst (g.T.Tables.seen.is_unused owner) (sym c.new-shared.ensures.tables) (c.new_shared.ensures.unused owner)

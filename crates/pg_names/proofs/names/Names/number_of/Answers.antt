@@ -2,7 +2,7 @@ use Rattle.std.proofs.Common.{◌++◌, ◌∷◌, [], Some, cond, sym, ap, subs
 use Rattle.std.specs.Str.{bytes_eq}
 use Rattle.pg_names.specs.Names.{KeepsNames, with_name}
 use Rattle.pg_names.proofs.Interned.{found_any, found_text, with_name_keeps}
-use Rattle.pg_names.proofs.names.Names.intern.Goals as goal
+use Rattle.pg_names.proofs.names.Names.number_of.Goals as goal
 
 pub returns-in-Some-clause-number : goal.returns-in-Some-clause-number
 returns-in-Some-clause-number g c = found_text _ _ _ (sym c.in-Some.ensures.found)

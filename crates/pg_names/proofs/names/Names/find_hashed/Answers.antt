@@ -1,7 +1,7 @@
 use Rattle.std.proofs.Common.{ap, ◌∙◌}
 use Rattle.std.specs.List.{position}
 use Rattle.std.specs.Str.{bytes_eq}
-use Rattle.pg_names.proofs.names.Names.find.Goals as goal
+use Rattle.pg_names.proofs.names.Names.find_hashed.Goals as goal
 
 pub returns-in-Some-clause-found : goal.returns-in-Some-clause-found
 returns-in-Some-clause-found g c = c.in-Some.ensures ∙ ap (position (bytes_eq c.args.text.now)) c.self.view_is

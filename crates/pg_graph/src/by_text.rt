@@ -65,6 +65,22 @@ impl Labels {
         ensures { IfOk result
             (λ texts. map_list (λ t. t.now) texts.items ≡ label_texts names.now self.now) }
     {
+        match self.as_slice() {
+            [label] => one_text(alloc, names.text(*label)),
+            _ => self.sorted_texts(alloc, names),
+        }
+    }
+
+    #[inline(never)]
+    fn sorted_texts<'a, K: TextSet>(
+        &self,
+        alloc: Global,
+        names: &'a Names<K>,
+    ) -> Result<Vec<&'a str>, AllocError>
+        requires { AreNamed names.now self.now }
+        ensures { IfOk result
+            (λ texts. map_list (λ t. t.now) texts.items ≡ label_texts names.now self.now) }
+    {
         let mut texts = BTreeSet::new(alloc);
         for label in self.as_slice() {
             texts.insert(names.text(*label))?;
@@ -88,6 +104,14 @@ impl Labels {
             None => false,
         }
     }
+}
+
+fn one_text<'a>(alloc: Global, text: &'a str) -> Result<Vec<&'a str>, AllocError>
+    ensures { IfOk result (λ texts. map_list (λ t. t.now) texts.items ≡ text.now ∷ []) }
+{
+    let mut texts = Vec::with_capacity(alloc, 1)?;
+    texts.push(text)?;
+    Ok(texts)
 }
 
 // Whether one of these numbers has this text.

@@ -7,7 +7,7 @@ use Rattle.std.specs.Option.{MatchOption}
 use Rattle.std.specs.Ordering.{nat_cmp, match_ordering}
 use Rattle.std.specs.Result.{IsErr}
 use Rattle.pg_graph.proofs.NamedChanges.{text_is}
-use Rattle.pg_graph.proofs.labels.Labels.texts.Goals as goal
+use Rattle.pg_graph.proofs.labels.Labels.sorted_texts.Goals as goal
 use Rattle.pg_graph.specs.Refinement.{text_of}
 use Rattle.pg_meaning.specs.Names.{put_texts}
 use Rattle.pg_meaning.specs.Order.{text_order}

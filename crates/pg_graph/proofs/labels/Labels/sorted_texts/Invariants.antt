@@ -1,5 +1,5 @@
 use Rattle.std.proofs.Common.{◌≡◌, drop, map as map_list}
-use Rattle.pg_graph.proofs.labels.Labels.texts.Given as goal
+use Rattle.pg_graph.proofs.labels.Labels.sorted_texts.Given as goal
 use Rattle.pg_graph.specs.Refinement.{text_of, label_texts}
 use Rattle.pg_meaning.specs.Names.{put_texts}
 

@@ -15,9 +15,9 @@ pub struct Rows {
 ghost use Rattle.std.specs.Prelude.{◌≡◌, ◌*◌, length};
 
 impl Rows {
-    ghost use Rattle.std.specs.Prelude.{◌≡◌, ◌<◌, ◌++◌, ◌∷◌, [], Some, map, length, slice_get, OnOk, OnErr, IfOk};
+    ghost use Rattle.std.specs.Prelude.{◌≡◌, ◌<◌, ◌*◌, ◌++◌, ◌∷◌, [], Some, map, length, slice_get, OnOk, OnErr, IfOk};
     ghost use Rattle.pg_value_core.specs.View.{view};
-    ghost use Rattle.pg_rows.specs.Tables.{table, EachBelow, moved_rows};
+    ghost use Rattle.pg_rows.specs.Tables.{table, rows_of, EachBelow, moved_rows};
 
     /// No rows yet, of a given number of columns, which may be none.
     pub fn new(alloc: Global, width: usize) -> Self
@@ -40,6 +40,19 @@ impl Rows {
         Rows {
             values,
             width: 1,
+            count,
+        }
+    }
+
+    /// Rows of so many values each, which lie one row behind the other. Nothing is copied.
+    pub fn of_values(values: Vec<Value>, width: usize, count: usize) -> Self
+        requires { length values.items ≡ count * width }
+        ensures rows { table result ≡ rows_of width count (map view values.items) }
+        ensures width { result.width ≡ width }
+    {
+        Rows {
+            values,
+            width,
             count,
         }
     }

@@ -7,6 +7,7 @@ pub mod ElementLemmas
 pub mod ExitLemmas
 pub mod Integers
 pub mod LabelLemmas
+pub mod PlainReads
 pub mod Presence
 pub mod RowReads
 pub mod ScalarLemmas

@@ -20,8 +20,9 @@ use crate::operators::{
     all_signed, begins_comparison, combined, compared, compared_once, is_chosen, negated,
     null_tested, tested,
 };
+use crate::plain_operands::variable_and_key;
 use crate::prepared::Prepared;
-use crate::reads::{index, labels, property};
+use crate::reads::{index, labels, property, variable_property};
 use crate::row_context::RowContext;
 use crate::scalar::{Scalar, copied, text_copied};
 use crate::scalar_evaluation::scalar;
@@ -90,19 +91,42 @@ pub fn find_at<'a, T: Tables>(
         (parameters_view context.now.parameters.now) graph.now
         (tree_of context.now.names.now prepared.now)) found_view }
 {
-    if prepared.tells && !is_read(prepared.tree) {
+    match prepared.tree {
+        Expression::Suffixes(_, _, _) => read_at(context, graph, prepared.tree),
+        Expression::Variable(name) => variable(context, name.text.as_str()),
+        Expression::Parameter(name) => parameter(context, name.text.as_str()),
+        _ => find_other_at(context, prepared, graph),
+    }
+}
+
+fn read_at<'a, T: Tables>(
+    context: &RowContext<'a>,
+    graph: &GraphView<'a, T>,
+    expression: &Expression,
+) -> Result<ValueRef<'a>, Fault>
+    ensures { Gives result
+        (given context.now graph.now (expression_view expression.now)) found_view }
+{
+    match variable_and_key(expression) {
+        Some((name, key)) => variable_property(context, graph, name, key),
+        None => find(context, graph, expression),
+    }
+}
+
+/// Whatever is no read: scalars are asked first.
+#[inline(never)]
+fn find_other_at<'a, T: Tables>(
+    context: &RowContext<'a>,
+    prepared: &Prepared<'_>,
+    graph: &GraphView<'a, T>,
+) -> Result<ValueRef<'a>, Fault>
+    ensures { Gives result
+        (given context.now graph.now (expression_view prepared.now.tree.now)) found_view }
+{
+    if prepared.tells {
         return Ok(ValueRef::Made(evaluate_at(context, prepared, graph)?));
     }
     find(context, graph, prepared.tree)
-}
-
-/// Whether the expression only reads what stands somewhere. Any answer is right.
-fn is_read(expression: &Expression) -> bool {
-    match expression {
-        Expression::Variable(_) | Expression::Parameter(_) => true,
-        Expression::Suffixes(_, _, _) => true,
-        _ => false,
-    }
 }
 
 /// The same by `find`, whatever the value.

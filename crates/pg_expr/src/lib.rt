@@ -9,6 +9,7 @@ mod elements;
 mod evaluation;
 mod made;
 mod operators;
+mod plain_operands;
 mod prepared;
 mod query_context;
 mod ranges;

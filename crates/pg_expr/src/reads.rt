@@ -1,7 +1,7 @@
 //! What is read of a value: a property, an item, labels.
 ghost use Rattle.std.specs.Prelude.{◌≡◌, ◌≢◌, ◌==◌, IfOk, IfErr, Ok, Err, false, map, string_bytes, vec_len};
 ghost use Rattle.pg_expr.specs.After.{After};
-ghost use Rattle.pg_expr.specs.Reads.{labels_tested};
+ghost use Rattle.pg_expr.specs.Reads.{given_property, labels_tested};
 ghost use Rattle.pg_expr.specs.Contexts.{found_view};
 ghost use Rattle.std.specs.List.{list_all};
 ghost use Rattle.pg_meaning.specs.Names.{is_among};
@@ -14,6 +14,8 @@ ghost use Rattle.pg_meaning.specs.declared.fault.Fault.TheVariants.{OutOfMemory}
 ghost use Rattle.pg_syntax_tree.specs.View.{names_view};
 ghost use Rattle.pg_value_core.specs.View.{view, values_view, entries_view};
 
+use crate::atoms::held;
+use crate::row_context::RowContext;
 use crate::value_ref::{ValueRef, lent_or_null, null};
 use pg_expr_calls::{item_of, value_at};
 use pg_graph::Tables;
@@ -73,14 +75,47 @@ pub(crate) fn property<'a, T: Tables>(
         (λ e. property_of graph.now (found_view value.entry) key.now ≡ Err e) }
 {
     match value {
-        ValueRef::Lent(value) => match value {
-            Value::Null => Ok(null()),
-            Value::Map(entries) => Ok(entry(entries, key)),
-            Value::Node(id) => node_property(graph, *id, key),
-            Value::Rel(id) => relationship_property(graph, *id, key),
-            _ => Err(Fault::TypeFault),
-        },
+        ValueRef::Lent(value) => property_lent(graph, value, key),
         ValueRef::Made(value) => property_made(graph, value, key),
+    }
+}
+
+/// The same of a value where it stands.
+fn property_lent<'a, T: Tables>(
+    graph: &GraphView<'a, T>,
+    value: &'a Value,
+    key: &str,
+) -> Result<ValueRef<'a>, Fault>
+    ensures ok { IfOk result
+        (λ f. property_of graph.now (view value.now) key.now ≡ Ok (found_view f)) }
+    ensures err { IfErr result (λ e. property_of graph.now (view value.now) key.now ≡ Err e) }
+{
+    match value {
+        Value::Null => Ok(null()),
+        Value::Map(entries) => Ok(entry(entries, key)),
+        Value::Node(id) => node_property(graph, *id, key),
+        Value::Rel(id) => relationship_property(graph, *id, key),
+        _ => Err(Fault::TypeFault),
+    }
+}
+
+/// `variable.key`: the row's value is looked at where it stands.
+pub(crate) fn variable_property<'a, T: Tables>(
+    context: &RowContext<'a>,
+    graph: &GraphView<'a, T>,
+    name: &Name,
+    key: &Name,
+) -> Result<ValueRef<'a>, Fault>
+    ensures ok { IfOk result
+        (λ f. given_property context.now graph.now (string_bytes name.now.text)
+        (string_bytes key.now.text) ≡ Ok (found_view f)) }
+    ensures err { IfErr result
+        (λ e. given_property context.now graph.now (string_bytes name.now.text)
+        (string_bytes key.now.text) ≡ Err e) }
+{
+    match held(context, name.text.as_str()) {
+        Some(value) => property_lent(graph, value, key.text.as_str()),
+        None => Err(Fault::UndefinedVariable),
     }
 }
 

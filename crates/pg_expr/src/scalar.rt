@@ -1,6 +1,7 @@
 //! Values that need no memory of their own, and what is read as such.
 ghost use Rattle.std.specs.Prelude.{◌≡◌, IfOk, IfErr, Some, is_none, option_map, string_bytes, unwrap_or};
 ghost use Rattle.pg_expr.specs.Contexts.{row_at, parameters_at};
+ghost use Rattle.pg_expr.specs.Reads.{given_property};
 ghost use Rattle.pg_expr.specs.Scalars.{scalar_view, Tells, ThenTells};
 ghost use Rattle.pg_meaning.specs.Entries.{at_key};
 ghost use Rattle.pg_meaning.specs.Expressions.{or_fault, property_of};
@@ -10,11 +11,12 @@ ghost use Rattle.pg_meaning.specs.declared.fault.Fault.TheVariants.{OutOfMemory,
 ghost use Rattle.pg_syntax_tree.specs.View.{literal_view};
 ghost use Rattle.pg_value_core.specs.View.{view};
 
+use crate::atoms::held;
 use crate::row_context::RowContext;
 use pg_graph::Tables;
 use pg_meaning::Fault;
 use pg_store::GraphView;
-use pg_syntax_tree::Literal;
+use pg_syntax_tree::{Literal, Name};
 use pg_value_core::{NodeId, RelId, Value};
 use std::alloc::Global;
 
@@ -74,13 +76,9 @@ pub(crate) fn variable<'a>(context: &RowContext<'a>, name: &str) -> Scalar<'a>
     ensures { Tells (scalar_view result)
         (or_fault (value_in name.now (row_at context.now)) UndefinedVariable) }
 {
-    let Some(at) = context.names.find(name) else {
-        return Scalar::Untold;
-    };
-    if at < context.row.len() {
-        scalar_of(&context.row[at])
-    } else {
-        Scalar::Untold
+    match held(context, name) {
+        Some(value) => scalar_of(value),
+        None => Scalar::Untold,
     }
 }
 
@@ -92,6 +90,34 @@ pub(crate) fn parameter<'a>(context: &RowContext<'a>, name: &str) -> Scalar<'a>
     match context.parameters.get(name) {
         Some(value) => scalar_of(value),
         None => Scalar::Untold,
+    }
+}
+
+/// `variable.key`: the row's value is looked at where it stands.
+pub(crate) fn variable_property<'a, T: Tables>(
+    context: &RowContext<'a>,
+    graph: &GraphView<'a, T>,
+    name: &Name,
+    key: &Name,
+) -> Scalar<'a>
+    ensures { Tells (scalar_view result)
+        (given_property context.now graph.now
+        (string_bytes name.now.text) (string_bytes key.now.text)) }
+{
+    match held(context, name.text.as_str()) {
+        Some(value) => property_lent(graph, value, key.text.as_str()),
+        None => Scalar::Untold,
+    }
+}
+
+fn property_lent<'a, T: Tables>(graph: &GraphView<'a, T>, value: &'a Value, key: &str) -> Scalar<'a>
+    ensures { Tells (scalar_view result) (property_of graph.now (view value.now) key.now) }
+{
+    match value {
+        Value::Null => Scalar::Null,
+        Value::Node(id) => node_property(graph, *id, key),
+        Value::Rel(id) => relationship_property(graph, *id, key),
+        _ => Scalar::Untold,
     }
 }
 
@@ -107,11 +133,7 @@ pub(crate) fn property<'a, T: Tables>(
 {
     match v {
         Scalar::Null => Scalar::Null,
-        Scalar::Lent(value) => match value {
-            Value::Node(id) => node_property(graph, *id, key),
-            Value::Rel(id) => relationship_property(graph, *id, key),
-            _ => Scalar::Untold,
-        },
+        Scalar::Lent(value) => property_lent(graph, value, key),
         _ => Scalar::Untold,
     }
 }

@@ -9,8 +9,9 @@ ghost use Rattle.pg_syntax_tree.specs.View.{expression_view, operand_view};
 
 use crate::counts::is_size_named;
 use crate::operators::begins_comparison;
+use crate::plain_operands::variable_of;
 use crate::row_context::RowContext;
-use crate::scalar::{Scalar, is_untold, literal, parameter, property, variable};
+use crate::scalar::{Scalar, is_untold, literal, parameter, property, variable, variable_property};
 use crate::scalar_operators::{combined, compared, is_chosen, negated, null_tested, signed, sized};
 use pg_graph::Tables;
 use pg_meaning::Operator;
@@ -134,9 +135,10 @@ fn read<'a, T: Tables>(
         return Scalar::Untold;
     }
     match suffixes.as_slice() {
-        [Suffix::Property(key)] => {
-            property(graph, scalar(context, graph, inner), key.text.as_str())
-        }
+        [Suffix::Property(key)] => match variable_of(inner) {
+            Some(name) => variable_property(context, graph, name, key),
+            None => property(graph, scalar(context, graph, inner), key.text.as_str()),
+        },
         _ => Scalar::Untold,
     }
 }

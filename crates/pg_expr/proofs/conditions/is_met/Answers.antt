@@ -11,4 +11,4 @@ pub returns-in-Null : goal.returns-in-Null
 returns-in-Null g c = record { ok = ap (λ r. r >>= is_true_at) c.in-Null.ensures; err = tt }
 
 pub returns-in_default : goal.returns-in_default
-returns-in_default g c = c.is_found_true-in_default.ensures
+returns-in_default g c = c.is_told_true.ensures

@@ -1,0 +1,44 @@
+-- What `variable.key` gives.
+use Rattle.std.proofs.Common.{◌≡◌, ℕ, List, Option, Result, Ok, Err, refl, ap, ◌∙◌}
+use Rattle.std.specs.Prelude.{IfOk, IfErr}
+use Rattle.pg_expr.proofs.ScalarLemmas.{tells_by}
+use Rattle.pg_expr.proofs.Turns.{gives_by, told}
+use Rattle.pg_expr.specs.Contexts.{found_view, given, row_at}
+use Rattle.pg_expr.specs.Reads.{given_property, property_read}
+use Rattle.pg_expr.specs.Scalars.{Tells}
+use Rattle.pg_expr.specs.declared.value_ref.ValueRef.{ValueRef}
+use Rattle.pg_expr.specs.declared.row_context.RowContext.{RowContext}
+use Rattle.pg_meaning.specs.Answer.{Answer, ◌>>=◌}
+use Rattle.pg_meaning.specs.Expressions.{or_fault, property_of}
+use Rattle.pg_meaning.specs.Graph.{Graph}
+use Rattle.pg_meaning.specs.Rows.{value_in}
+use Rattle.pg_meaning.specs.Tree as tree
+use Rattle.pg_meaning.specs.Value.{Value as Datum}
+use Rattle.pg_meaning.specs.declared.fault.Fault.{Fault}
+use Rattle.pg_meaning.specs.declared.fault.Fault.TheVariants.{UndefinedVariable}
+use Rattle.pg_syntax_tree.specs.View.{expression_view}
+use Rattle.pg_syntax_tree.specs.declared.expression.Expression.{Expression}
+use Rattle.pg_value_core.specs.Gives.{Gives}
+
+as_it_is : (a : Answer) → ((a >>= λ w. Ok w) >>= λ w. Ok w) ≡ a
+as_it_is (Ok v) = refl
+as_it_is (Err e) = refl
+
+of_held : (g : Graph) (k : List ℕ) (a : Answer) → (a >>= λ v. (property_of g v k >>= λ w. Ok w) >>= λ w. Ok w) ≡ (a >>= λ v. property_of g v k)
+of_held g k (Ok v) = as_it_is (property_of g v k)
+of_held g k (Err e) = refl
+
+module _ (s : RowContext) (g : Graph) (x k : tree.Name) where
+  pub of_property : given s g (property_read x k) ≡ given_property s g x.text k.text
+  of_property = of_held g k.text (or_fault (value_in x.text (row_at s)) UndefinedVariable)
+
+  -- of an expression that is such a read
+  pub of_read : (e : Expression) → expression_view e ≡ property_read x k → given s g (expression_view e) ≡ given_property s g x.text k.text
+  of_read e h = ap (given s g) h ∙ of_property
+
+  pub read_told : (e : Expression) (tells : Option Datum) → expression_view e ≡ property_read x k → Tells tells (given_property s g x.text k.text) → Tells tells (given s g (expression_view e))
+  read_told e tells h t = tells_by tells (of_read e h) t
+
+  pub read_gives : (e : Expression) (result : Result ValueRef Fault) → expression_view e ≡ property_read x k → IfOk result (λ f. given_property s g x.text k.text ≡ Ok (found_view f))
+      → IfErr result (λ f. given_property s g x.text k.text ≡ Err f) → Gives result (given s g (expression_view e)) found_view
+  read_gives e result h ok err = gives_by result (of_read e h) (told result ok err)

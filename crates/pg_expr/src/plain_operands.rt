@@ -1,0 +1,105 @@
+//! The commonest operands, which no cycle of calls is needed for: a literal, a parameter, a variable, and a property
+//! of a variable.
+ghost use Rattle.std.specs.Prelude.{◌≡◌, IfSome};
+ghost use Rattle.pg_expr.specs.Contexts.{given};
+ghost use Rattle.pg_expr.specs.Reads.{property_read};
+ghost use Rattle.pg_expr.specs.Scalars.{scalar_view, Tells};
+ghost use Rattle.pg_meaning.specs.Tree.{variable};
+ghost use Rattle.pg_syntax_tree.specs.View.{expression_view, name_view};
+
+use crate::operators::begins_comparison;
+use crate::row_context::RowContext;
+use crate::scalar::{Scalar, is_untold, literal, parameter, variable, variable_property};
+use crate::scalar_operators::compared;
+use pg_graph::Tables;
+use pg_store::GraphView;
+use pg_syntax_tree::{Expression, Name, Suffix};
+
+/// The variable and the key of `variable.key`.
+pub(crate) fn variable_and_key<'e>(expression: &'e Expression) -> Option<(&'e Name, &'e Name)>
+    ensures { IfSome result (λ p. expression_view expression.now
+        ≡ property_read (name_view p.0.now) (name_view p.1.now)) }
+{
+    let Expression::Suffixes(inner, suffixes, labels) = expression else {
+        return None;
+    };
+    if !labels.is_empty() {
+        return None;
+    }
+    match suffixes.as_slice() {
+        [Suffix::Property(key)] => match variable_of(inner) {
+            Some(name) => Some((name, key)),
+            None => None,
+        },
+        _ => None,
+    }
+}
+
+/// The name of a variable.
+pub(crate) fn variable_of<'e>(expression: &'e Expression) -> Option<&'e Name>
+    ensures { IfSome result (λ n. expression_view expression.now ≡ variable (name_view n.now)) }
+{
+    match expression {
+        Expression::Variable(name) => Some(name),
+        _ => None,
+    }
+}
+
+/// What a plain operand gives, or nothing.
+pub(crate) fn plain<'a, T: Tables>(
+    context: &RowContext<'a>,
+    graph: &GraphView<'a, T>,
+    expression: &'a Expression,
+) -> Scalar<'a>
+    ensures { Tells (scalar_view result)
+        (given context.now graph.now (expression_view expression.now)) }
+{
+    match expression {
+        Expression::Literal(held) => literal(held),
+        Expression::Variable(name) => variable(context, name.text.as_str()),
+        Expression::Parameter(name) => parameter(context, name.text.as_str()),
+        Expression::Suffixes(_, _, _) => plain_property(context, graph, expression),
+        _ => Scalar::Untold,
+    }
+}
+
+fn plain_property<'a, T: Tables>(
+    context: &RowContext<'a>,
+    graph: &GraphView<'a, T>,
+    expression: &'a Expression,
+) -> Scalar<'a>
+    ensures { Tells (scalar_view result)
+        (given context.now graph.now (expression_view expression.now)) }
+{
+    match variable_and_key(expression) {
+        Some((name, key)) => variable_property(context, graph, name, key),
+        None => Scalar::Untold,
+    }
+}
+
+/// One comparison of plain operands, or nothing.
+pub(crate) fn plain_comparison<'a, T: Tables>(
+    context: &RowContext<'a>,
+    graph: &GraphView<'a, T>,
+    expression: &'a Expression,
+) -> Scalar<'a>
+    ensures { Tells (scalar_view result)
+        (given context.now graph.now (expression_view expression.now)) }
+{
+    let Expression::Chain(first, operands) = expression else {
+        return Scalar::Untold;
+    };
+    if !begins_comparison(operands) {
+        return Scalar::Untold;
+    }
+    match operands.as_slice() {
+        [(operator, operand)] => {
+            let left = plain(context, graph, first);
+            if is_untold(left) {
+                return Scalar::Untold;
+            }
+            compared(*operator, left, plain(context, graph, operand))
+        }
+        _ => Scalar::Untold,
+    }
+}

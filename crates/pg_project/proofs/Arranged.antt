@@ -67,11 +67,11 @@ found_in t i [] (e ∷ es) h = absurd (omega arith)
 found_in t i (n ∷ ns) [] h = absurd (omega arith)
 found_in t i (n ∷ ns) (e ∷ es) h = ap (cond (t e) (Some i)) (found_in t (i + 1) ns es (omega arith))
 
-abbrev IsWithin : ℕ → Option ℕ → Type 0
+abbrev pub IsWithin : ℕ → Option ℕ → Type 0
 IsWithin n None = Unit {0}
 IsWithin n (Some i) = i < n
 
-within : {X : Type 0} (t : X → Bool) (i : ℕ) (xs : List X) → IsWithin (i + length xs) (position_from t i xs)
+pub within : {X : Type 0} (t : X → Bool) (i : ℕ) (xs : List X) → IsWithin (i + length xs) (position_from t i xs)
 within t i [] = tt
 within t i (x ∷ xs) = by (t x) (position_from t (i + 1) xs) (subst (λ n. IsWithin n (position_from t (i + 1) xs)) (omega arith) (within t (i + 1) xs))
   where

@@ -34,3 +34,7 @@ pub mod Turns
 pub mod Counting
 mod Numbers
 mod RowCounts
+pub mod AlikeRows
+pub mod NamesAlike
+pub mod PassedRows
+pub mod RowsTwice

@@ -1,12 +1,17 @@
 -- The number of the group that has a key.
-use Rattle.std.proofs.Common.{◌≡◌, ℕ, zero, suc, ◌+◌, ◌<◌, ◌||◌, Bool, true, false, not, cond, List, [], ◌∷◌, ◌++◌, length, slice_get, Some, refl, sym, ap, subst, ◌∙◌, arith}
+use Rattle.std.proofs.Common.{◌≡◌, ℕ, zero, suc, ◌+◌, ◌<◌, ◌||◌, Bool, true, false, not, cond, List, [], ◌∷◌, ◌++◌, length, map, slice_get, Some, refl, sym, ap, subst, ◌∙◌, arith}
 use Rattle.indexmap.specs.IndexSet.{insert_key}
 use Rattle.std.specs.Cmp.{IsEquivalence}
+use Rattle.std.specs.Ordering.{is_eq}
+use Rattle.std.specs.declared.cmp.Ordering.{Ordering}
+use Rattle.std.specs.declared.cmp.Ordering.TheVariants.{Less, Equal, Greater}
 use Rattle.std.proofs.lemmas.Cmp.{eq_by_cmp_equiv, lists_equiv, on_equiv}
 use Rattle.std.specs.Global.{Vec}
 use Rattle.std.specs.List.{AllByRecursion, IsDistinct, list_any, position_or_len}
-use Rattle.pg_meaning.specs.OrderLaws.{order_total}
-use Rattle.pg_project.specs.KeptGroups.{same_keys, IsNumber}
+use Rattle.pg_meaning.specs.Order.{is_equivalent, value_order}
+use Rattle.pg_meaning.specs.OrderLaws.{order_exact, order_total}
+use Rattle.pg_meaning.specs.Value.{Value as Datum}
+use Rattle.pg_project.specs.KeptGroups.{same_keys, HasNumber, IsNumber}
 use Rattle.pg_value_core.specs.View.{view}
 use Rattle.pg_value_core.specs.declared.value.Value.{Value}
 
@@ -42,5 +47,16 @@ is_number key k ks i d is h =
     let found = place key_equiv key k ks i d is h in
     record { here = found.0; there = found.1; within = found.2 }
 
+pub has_number : (key : Vec Value) (ks : List (Vec Value)) (i : ℕ) (value : Datum) → IsDistinct same_keys ks → slice_get ks i ≡ Some key → map view key.items ≡ value ∷ [] → HasNumber ks value i
+has_number key ks i value d is one = record { key = key; is = one; number = is_number key key ks i d is (key_equiv.refl key) }
+
 pub keys_stay : (ks : List (Vec Value)) (key : Vec Value) (n : ℕ) → IsNumber ks key n → ks ≡ insert_key same_keys ks key
 keys_stay ks key n h = ap (λ b. cond b ks (ks ++ key ∷ [])) (sym h.there)
+
+equal : (o : Ordering) → is_eq o ≡ true → o ≡ Equal
+equal Less h = absurd (let no : ⊥ = cc in no)
+equal Equal h = refl
+equal Greater h = absurd (let no : ⊥ = cc in no)
+
+pub one_value : (v w : Datum) → is_equivalent v w ≡ true → v ≡ w
+one_value v w h = order_exact v w (equal (value_order v w) h)

@@ -287,7 +287,7 @@ module _ (s : Setting) (graph : Graph) (parameters : Entries) (given : s.paramet
   cut_fails f h = cut_is (Err f) h
 
   module _ (columns names : List (List ℕ)) (es : List Expression) (are : all ≡ columns_of columns es) (c : Cut) (cut : cut_given parameters graph p.skip p.limit ≡ Ok c) where
-    items_are : (a : Result (List Projected) Fault) → item_rows s graph (hides_earlier p where_) (columns_of columns es) rows ≡ a → rows_projected s graph all p where_ rows ≡ (a >>= rows_ended s graph (columns_of columns es) p where_ c)
+    pub items_are : (a : Result (List Projected) Fault) → item_rows s graph (hides_earlier p where_) (columns_of columns es) rows ≡ a → rows_projected s graph all p where_ rows ≡ (a >>= rows_ended s graph (columns_of columns es) p where_ c)
     items_are a h =
         cut_is (Ok c) cut
         ∙ ap (λ cs. item_rows s graph p.distinct cs rows >>= rows_ended s graph cs p where_ c) are
@@ -297,19 +297,19 @@ module _ (s : Setting) (graph : Graph) (parameters : Entries) (given : s.paramet
     pub items_fail : (f : Fault) → item_rows s graph (hides_earlier p where_) (columns_of columns es) rows ≡ Err f → rows_projected s graph all p where_ rows ≡ Err f
     items_fail f h = items_are (Err f) h
 
-    module _ (t : BindingTable) (width : ℕ) (same : length columns ≡ length es) (long : width ≡ length columns) (named : (seen t).names ≡ columns ++ earlier_names (has_aggregate es || hides_earlier p where_) names)
-        (items : item_rows s graph (hides_earlier p where_) (columns_of columns es) rows ≡ Ok (map (stands columns (earlier_names (has_aggregate es || hides_earlier p where_) names)) (seen t).rows)) where
+    module _ (visible : List (List ℕ)) (r : Rows) (fits : r.width ≡ length visible) (width : ℕ) (same : length columns ≡ length es) (long : width ≡ length columns) (named : visible ≡ columns ++ earlier_names (has_aggregate es || hides_earlier p where_) names)
+        (items : item_rows s graph (hides_earlier p where_) (columns_of columns es) rows ≡ Ok (map (stands columns (earlier_names (has_aggregate es || hides_earlier p where_) names)) (table r))) where
       abbrev behind_items : Result (List (List Value)) Fault
-      behind_items = tail_given parameters graph (seen t).names es p.distinct p.order c where_ width (seen t).rows
+      behind_items = tail_given parameters graph visible es p.distinct p.order c where_ width (table r)
 
-      as_wide : p.distinct ≡ true → AllByRecursion (λ w. length w ≡ length columns) (table t.rows)
-      as_wide h = subst (λ n. AllByRecursion (λ w. length w ≡ n) (table t.rows)) (t.fits ∙ ap length named ∙ own_width columns names (has_aggregate es) p.distinct (has_none p.order && is_none where_) h) (table_wide t.rows)
+      as_wide : p.distinct ≡ true → AllByRecursion (λ w. length w ≡ length columns) (table r)
+      as_wide h = subst (λ n. AllByRecursion (λ w. length w ≡ n) (table r)) (fits ∙ ap length named ∙ own_width columns names (has_aggregate es) p.distinct (has_none p.order && is_none where_) h) (table_wide r)
 
       ended_is : rows_projected s graph all p where_ rows ≡ (behind_items >>= λ found. Ok (rows_named columns found))
       ended_is =
-          items_are (Ok (map (stands columns (earlier_names (has_aggregate es || hides_earlier p where_) names)) (seen t).rows)) items
-          ∙ ended_stand s graph columns (earlier_names (has_aggregate es || hides_earlier p where_) names) es same p where_ c (seen t).rows as_wide
-          ∙ (λ i. tail_given (given i) graph (sym named i) es p.distinct p.order c where_ (sym long i) (seen t).rows >>= λ found. Ok (rows_named columns found))
+          items_are (Ok (map (stands columns (earlier_names (has_aggregate es || hides_earlier p where_) names)) (table r))) items
+          ∙ ended_stand s graph columns (earlier_names (has_aggregate es || hides_earlier p where_) names) es same p where_ c (table r) as_wide
+          ∙ (λ i. tail_given (given i) graph (sym named i) es p.distinct p.order c where_ (sym long i) (table r) >>= λ found. Ok (rows_named columns found))
 
       pub ended_gives : (result : Result Rows Fault) → IfOk result (λ found. behind_items ≡ Ok (table found)) → IfErr result (λ e. e ≢ OutOfMemory → behind_items ≡ Err e) → Gives result (rows_projected s graph all p where_ rows) (λ found. rows_named columns (table found))
       ended_gives (Ok found) ok err = record {

@@ -1,10 +1,10 @@
 -- A row with the values of the items that group, and a row that is tested without them.
 use Rattle.std.specs.Borrow.{Bor}
-use Rattle.std.proofs.Common.{◌≡◌, ◌+◌, ◌<◌, ◌≤◌, ℕ, List, ◌∷◌, drop, get_or, length, Result, Ok, Err, sym, ap, subst, ◌∙◌}
+use Rattle.std.proofs.Common.{◌≡◌, ◌+◌, ◌<◌, ◌≤◌, ℕ, List, ◌∷◌, drop, get_or, length, [], Result, Ok, Err, sym, ap, subst, ◌∙◌}
 use Rattle.pg_project.proofs.Turns.{here, none_left}
 use Rattle.pg_project.specs.Items.{Item, aggregates_in, expressions_view, item_of, keys_in}
 use Rattle.pg_project.specs.Kept.{Answers, Kept, into_kept, item_tested, items_tested, kept_row, without_group}
-use Rattle.pg_meaning.specs.Answer.{◌>>◌, each_answer}
+use Rattle.pg_meaning.specs.Answer.{◌>>=◌, ◌>>◌, each_answer}
 use Rattle.pg_meaning.specs.Tree.{Expression}
 use Rattle.pg_meaning.specs.Value.{Value}
 use Rattle.pg_meaning.specs.declared.fault.Fault.{Fault}
@@ -23,6 +23,12 @@ module _ (at : Answers) (es : List Expression) (groups : List Kept) where
 
   pub without_key : (f : Fault) → each_answer at (keys_in es) ≡ Err f → kept_row at es groups ≡ without_group at es f
   without_key f h = ap by_key h
+
+pub one_answer : (at : Answers) (e : Expression) (v : Value) → at e ≡ Ok v → each_answer at (e ∷ []) ≡ Ok (v ∷ [])
+one_answer at e v h = ap (λ a. a >>= λ y. Ok (y ∷ [])) h
+
+pub one_fault : (at : Answers) (e : Expression) (f : Fault) → at e ≡ Err f → each_answer at (e ∷ []) ≡ Err f
+one_fault at e f h = ap (λ a. a >>= λ y. Ok (y ∷ [])) h
 
 -- ---- tests of items that are lent
 

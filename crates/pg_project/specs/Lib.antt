@@ -11,3 +11,4 @@ pub mod KeptGroups
 pub mod ReadyItems
 pub mod Summaries
 pub mod Views
+pub mod PassThrough

@@ -1,10 +1,10 @@
 //! What is kept of the values that an aggregate has taken in.
-ghost use Rattle.std.specs.Prelude.{◌≡◌, [], Ok, option_map};
+ghost use Rattle.std.specs.Prelude.{◌≡◌, ◌≢◌, ◌+ℤ◌, [], pos, Ok, Err, OnOk, IfErr, map, option_map};
 ghost use Rattle.pg_meaning.specs.Aggregates.{lesser, greater};
-ghost use Rattle.pg_project.specs.Summaries.{better, held_of, held_with, told};
+ghost use Rattle.pg_meaning.specs.declared.fault.Fault.TheVariants.{OutOfMemory};
+ghost use Rattle.pg_project.specs.Summaries.{added, better, collected, held_of, held_with, sum, told};
 ghost use Rattle.pg_project.specs.Views.{held_view};
 ghost use Rattle.pg_scope.specs.Calls.{summary_view};
-ghost use Rattle.pg_value_core.specs.Gives.{Gives};
 ghost use Rattle.pg_value_core.specs.View.{view};
 
 use crate::collected::Collected;
@@ -12,6 +12,7 @@ use pg_meaning::Fault;
 use pg_scope::AggregateFunction;
 use pg_value_core::{Value, order};
 use std::alloc::Global;
+use std::mem;
 
 /// A count, a sum, the best value so far, or the values.
 pub(crate) enum Accumulator {
@@ -49,26 +50,25 @@ impl Accumulator {
         }
     }
 
-    /// With one value more.
-    #[tactic(auto, using(crate::proofs::Ranges::in_range, crate::proofs::Ranges::out_of_range))]
-    pub(crate) fn with(self, value: Value) -> Result<Accumulator, Fault>
-        ensures { Gives result (held_with (held_view self) (view value)) held_view }
+    /// Takes in one value more.
+    pub(crate) fn take(&mut self, alloc: Global, value: Value) -> Result<(), Fault>
+        ensures ok { OnOk result
+            (held_with (held_view self.old) (view value) ≡ Ok (held_view self.new)) }
+        ensures err { IfErr result (λ e. e ≢ OutOfMemory
+            → held_with (held_view self.old) (view value) ≡ Err e) }
     {
         match self {
-            Accumulator::Count(count) => match count.checked_add(1) {
-                Some(more) => Ok(Accumulator::Count(more)),
-                None => Err(Fault::OutOfMemory),
-            },
-            Accumulator::Sum(sum) => match &value {
-                Value::Int(summand) => match sum.checked_add(*summand) {
-                    Some(more) => Ok(Accumulator::Sum(more)),
-                    None => Err(Fault::Overflow),
-                },
-                _ => Err(Fault::TypeFault),
-            },
-            Accumulator::Lowest(best) => Ok(Accumulator::Lowest(Some(lesser(best, value)))),
-            Accumulator::Highest(best) => Ok(Accumulator::Highest(Some(greater(best, value)))),
-            Accumulator::Values(values) => Ok(Accumulator::Values(values.with(value)?)),
+            Accumulator::Count(count) => count_one(count),
+            Accumulator::Sum(sum) => add(sum, &value),
+            Accumulator::Lowest(best) => {
+                *best = Some(lesser(best.take(), value));
+                Ok(())
+            }
+            Accumulator::Highest(best) => {
+                *best = Some(greater(best.take(), value));
+                Ok(())
+            }
+            Accumulator::Values(values) => collect(alloc, values, value),
         }
     }
 
@@ -86,6 +86,49 @@ impl Accumulator {
             Accumulator::Values(values) => Value::List(values.items),
         }
     }
+}
+
+/// One more.
+pub(crate) fn count_one(count: &mut i64) -> Result<(), Fault>
+    ensures ok { OnOk result (count.new ≡ count.old +ℤ pos 1) }
+    ensures err { IfErr result (λ e. e ≡ OutOfMemory) }
+{
+    match count.checked_add(1) {
+        Some(more) => {
+            *count = more;
+            Ok(())
+        }
+        None => Err(Fault::OutOfMemory),
+    }
+}
+
+/// Adds an integer to a sum.
+#[tactic(auto, using(crate::proofs::Ranges::in_range, crate::proofs::Ranges::out_of_range))]
+fn add(total: &mut i64, value: &Value) -> Result<(), Fault>
+    ensures ok { OnOk result (added total.old (view value.now) ≡ Ok (sum total.new)) }
+    ensures err { IfErr result (λ e. added total.old (view value.now) ≡ Err e) }
+{
+    let Value::Int(summand) = value else {
+        return Err(Fault::TypeFault);
+    };
+    match total.checked_add(*summand) {
+        Some(more) => {
+            *total = more;
+            Ok(())
+        }
+        None => Err(Fault::Overflow),
+    }
+}
+
+fn collect(alloc: Global, values: &mut Collected, value: Value) -> Result<(), Fault>
+    ensures ok { OnOk result (collected (map view values.old.items.items) (view value)
+        ≡ Ok (map view values.new.items.items)) }
+    ensures err { IfErr result (λ e. e ≢ OutOfMemory
+        → collected (map view values.old.items.items) (view value) ≡ Err e) }
+{
+    let held = mem::replace(values, Collected::new(alloc));
+    *values = held.with(value)?;
+    Ok(())
 }
 
 fn lesser(best: Option<Value>, value: Value) -> Value

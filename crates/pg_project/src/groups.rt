@@ -1,20 +1,22 @@
 //! Groups of rows, in the order of their first rows.
 ghost use Rattle.indexmap.specs.IndexSet.{insert_key};
 ghost use Rattle.std.specs.List.{list_any, position_or_len};
-ghost use Rattle.std.specs.Prelude.{◌≡◌, ◌<◌, length, not, true, IfOk, OnOk};
-ghost use Rattle.pg_project.specs.KeptGroups.{same_keys, IsNumber};
+ghost use Rattle.std.specs.Prelude.{◌≡◌, ◌<◌, ◌∷◌, [], length, map, not, true, IfOk, OnOk};
+ghost use Rattle.pg_expr.specs.Contexts.{found_view};
+ghost use Rattle.pg_project.specs.KeptGroups.{same_keys, HasNumber, IsNumber};
+ghost use Rattle.pg_value_core.specs.View.{view};
 
 use crate::items::{Aggregate, Items};
 use crate::made::push_made;
-use crate::recent::{Recent, place_of};
+use crate::recent::{Recent, place_of, place_of_one};
 use crate::taken::Taken;
 use crate::taking::{begun, take_in_all};
 use indexmap::IndexSet;
-use pg_expr::RowContext;
+use pg_expr::{RowContext, ValueRef};
 use pg_graph::Tables;
 use pg_meaning::Fault;
 use pg_store::GraphView;
-use pg_value_core::Value;
+use pg_value_core::{Value, equivalent};
 use std::alloc::{AllocError, Global};
 use std::hash::RandomState;
 use std::mem;
@@ -28,8 +30,8 @@ pub(crate) struct Groups {
 }
 
 impl Groups {
-    ghost use Rattle.std.specs.Prelude.{◌≡◌, ◌≢◌, ℕ, List, map, IfErr, IfOk, OnOk, Ok, Err};
-    ghost use Rattle.pg_expr.specs.Contexts.{given};
+    ghost use Rattle.std.specs.Prelude.{◌≡◌, ◌≢◌, ◌∷◌, [], ℕ, List, map, IfErr, IfOk, OnOk, Ok, Err};
+    ghost use Rattle.pg_expr.specs.Contexts.{found_view, given};
     ghost use Rattle.pg_meaning.specs.declared.fault.Fault.TheVariants.{OutOfMemory};
     ghost use Rattle.pg_project.specs.Kept.{first_kept, into_kept};
     ghost use Rattle.pg_project.specs.KeptGroups.{Paired, groups_view};
@@ -84,6 +86,77 @@ impl Groups {
             )?;
         }
         take_in_all(context, graph, aggregates, &mut self.taken[number])
+    }
+
+    /// The same of a key of one value, which is only copied where its group isn't the one found last.
+    pub(crate) fn take_found<T: Tables>(
+        &mut self,
+        context: &RowContext<'_>,
+        graph: &GraphView<'_, T>,
+        aggregates: &Vec<Aggregate<'_>>,
+        found: ValueRef<'_>,
+    ) -> Result<(), Fault>
+        requires { Paired self.old }
+        ensures ok { OnOk result (into_kept (given context.now graph.now)
+            (aggregates_view context.now.names.now aggregates.now.items)
+            (found_view found.entry ∷ []) (groups_view self.old) ≡ Ok (groups_view self.new)) }
+        ensures paired { OnOk result (Paired self.new) }
+        ensures err { IfErr result (λ e. e ≢ OutOfMemory → into_kept (given context.now graph.now)
+            (aggregates_view context.now.names.now aggregates.now.items)
+            (found_view found.entry ∷ []) (groups_view self.old) ≡ Err e) }
+    {
+        let number = self.recent.numbers[place_of_one(found.look())];
+        if is_number_of_one(&self.keys, number, found.look()) {
+            return take_in_all(context, graph, aggregates, &mut self.taken[number]);
+        }
+        let mut key = key_of(context.alloc, found)?;
+        self.take_row(context, graph, aggregates, &mut key)
+    }
+}
+
+/// The key of the one value, which is copied where it is lent.
+fn key_of(alloc: Global, found: ValueRef<'_>) -> Result<Vec<Value>, AllocError>
+    ensures { IfOk result (λ key. map view key.items ≡ found_view found.entry ∷ []) }
+{
+    let value = match found {
+        ValueRef::Lent(value) => value.copy(alloc)?,
+        ValueRef::Made(value) => value,
+    };
+    let mut key = Vec::with_capacity(alloc, 1)?;
+    key.push(value)?;
+    Ok(key)
+}
+
+/// Whether the group of this number has the one value as its key.
+fn is_number_of_one(keys: &IndexSet<Vec<Value>, RandomState>, number: usize, value: &Value) -> bool
+    ensures has { result ≡ true → HasNumber keys.now.keys (view value.now) number }
+    ensures within { result ≡ true → number < length keys.now.keys }
+{
+    let _count = keys.len();
+    match keys.get_index(number) {
+        Some(held) => is_one(held, value),
+        None => false,
+    }
+}
+
+/// Whether a key is of the one value. Most values are compared without a look at their types' order.
+fn is_one(key: &Vec<Value>, value: &Value) -> bool
+    ensures { result ≡ true → map view key.now.items ≡ view value.now ∷ [] }
+{
+    match key.as_slice() {
+        [held] => is_same(held, value),
+        _ => false,
+    }
+}
+
+fn is_same(held: &Value, value: &Value) -> bool
+    ensures { result ≡ true → view held.now ≡ view value.now }
+{
+    match (held, value) {
+        (Value::Int(x), Value::Int(y)) => x == y,
+        (Value::Text(x), Value::Text(y)) => x == y,
+        (Value::Node(x), Value::Node(y)) => x.0 == y.0,
+        _ => equivalent(held, value),
     }
 }
 

@@ -13,6 +13,7 @@ mod items;
 mod lists;
 mod made;
 mod parts;
+mod pass_through;
 mod passing;
 mod project;
 mod projection_clause;

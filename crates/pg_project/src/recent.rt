@@ -28,6 +28,13 @@ pub(crate) fn place_of(key: &[Value]) -> usize
     mixed as usize % PLACES
 }
 
+/// The place of a key of one value.
+pub(crate) fn place_of_one(value: &Value) -> usize
+    ensures { result < 256 }
+{
+    mark(value) as usize % PLACES
+}
+
 fn mark(value: &Value) -> u64 {
     match value {
         Value::Bool(b) => u64::from(*b),

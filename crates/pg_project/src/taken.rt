@@ -1,19 +1,19 @@
 //! What is kept of an aggregate in a group.
-ghost use Rattle.std.specs.Prelude.{◌≡◌, ◌≢◌, IfErr, IfOk, OnOk, Ok, Err, map, option_map};
+ghost use Rattle.std.specs.Prelude.{◌≡◌, ◌≢◌, true, IfErr, IfOk, OnOk, Ok, Err, map, option_map};
+ghost use Rattle.pg_meaning.specs.Value.{boolean};
 ghost use Rattle.pg_meaning.specs.declared.fault.Fault.TheVariants.{OutOfMemory};
 ghost use Rattle.pg_project.specs.Summaries.{begun, Counts, is_null, needs_different, taken_with};
 ghost use Rattle.pg_project.specs.Views.{taken_view};
 ghost use Rattle.pg_scope.specs.Calls.{summary_view};
 ghost use Rattle.pg_value_core.specs.View.{view};
 
-use crate::accumulator::Accumulator;
+use crate::accumulator::{Accumulator, count_one};
 use indexmap::IndexSet;
 use pg_meaning::Fault;
 use pg_scope::AggregateFunction;
 use pg_value_core::Value;
 use std::alloc::{AllocError, Global};
 use std::hash::RandomState;
-use std::mem;
 
 /// What is kept of the values taken in, and where DISTINCT needs them the different values so far.
 #[derive(Drop)]
@@ -73,9 +73,22 @@ impl Taken {
         if !counts(alloc, &mut self.different, &value)? {
             return Ok(());
         }
-        let held = mem::replace(&mut self.held, Accumulator::Count(0));
-        self.held = held.with(value)?;
-        Ok(())
+        self.held.take(alloc, value)
+    }
+
+    /// Takes in one row more. A plain count makes no value of it.
+    pub(crate) fn take_row(&mut self, alloc: Global) -> Result<(), Fault>
+        ensures ok { OnOk result
+            (taken_with (taken_view self.old) (boolean true) ≡ Ok (taken_view self.new)) }
+        ensures err { IfErr result (λ e. e ≢ OutOfMemory
+            → taken_with (taken_view self.old) (boolean true) ≡ Err e) }
+    {
+        if self.different.is_none()
+            && let Accumulator::Count(count) = &mut self.held
+        {
+            return count_one(count);
+        }
+        self.take(alloc, Value::Bool(true))
     }
 }
 

@@ -2,10 +2,10 @@
 ghost use Rattle.std.specs.Prelude.{◌≡◌, ◌≢◌, ℕ, List, IfOk, IfErr, OnOk, Ok, Err};
 ghost use Rattle.pg_expr.specs.Contexts.{given};
 ghost use Rattle.pg_meaning.specs.declared.fault.Fault.TheVariants.{OutOfMemory};
-ghost use Rattle.pg_project.specs.Kept.{all_taken_in, argument_given};
+ghost use Rattle.pg_project.specs.Kept.{all_taken_in, argument_given, taken_in};
 ghost use Rattle.pg_project.specs.Kept as kept;
 ghost use Rattle.pg_project.specs.ReadyItems.{aggregate_view, aggregates_view};
-ghost use Rattle.pg_project.specs.Views.{takens_view};
+ghost use Rattle.pg_project.specs.Views.{taken_view, takens_view};
 ghost use Rattle.pg_value_core.specs.Gives.{Gives};
 ghost use Rattle.pg_value_core.specs.View.{view};
 
@@ -51,6 +51,25 @@ pub(crate) fn argument_value<T: Tables>(
     }
 }
 
+/// Takes the row into an aggregate.
+fn take_in<T: Tables>(
+    context: &RowContext<'_>,
+    graph: &GraphView<'_, T>,
+    aggregate: &Aggregate<'_>,
+    taken: &mut Taken,
+) -> Result<(), Fault>
+    ensures ok { OnOk result (taken_in (given context.now graph.now)
+        (aggregate_view context.now.names.now aggregate.now) (taken_view taken.old)
+        ≡ Ok (taken_view taken.new)) }
+    ensures err { IfErr result (λ e. e ≢ OutOfMemory → taken_in (given context.now graph.now)
+        (aggregate_view context.now.names.now aggregate.now) (taken_view taken.old) ≡ Err e) }
+{
+    match &aggregate.argument {
+        Some(argument) => taken.take(context.alloc, evaluate_at(context, argument, graph)?),
+        None => taken.take_row(context.alloc),
+    }
+}
+
 /// Takes the row into the aggregates of a group, left to right.
 pub(crate) fn take_in_all<T: Tables>(
     context: &RowContext<'_>,
@@ -67,8 +86,7 @@ pub(crate) fn take_in_all<T: Tables>(
 {
     let count = aggregates.len().min(taken.len());
     for at in 0..count {
-        let value = argument_value(context, graph, &aggregates[at])?;
-        taken[at].take(context.alloc, value)?;
+        take_in(context, graph, &aggregates[at], &mut taken[at])?;
     }
     Ok(())
 }

@@ -1,4 +1,4 @@
-use Rattle.std.proofs.Common.{◌≡◌, ◌≤◌, length, option_map, Ok, Err, refl, sym, ap, subst, ◌∙◌}
+use Rattle.std.proofs.Common.{◌≡◌, ◌≤◌, length, option_map, Ok, Err, refl, sym, subst, ◌∙◌}
 use Rattle.std.proofs.lemmas.Result.{IfOk-from_err, IfOk-weaker, IfErr-weaker}
 use Rattle.std.specs.List.{AllByRecursion}
 use Rattle.pg_expr.specs.Prepared.{condition_of}
@@ -9,8 +9,7 @@ use Rattle.pg_project.proofs.TailLemmas.{sorts_fail, passed_on}
 use Rattle.pg_project.proofs.Wide.{table_wide}
 use Rattle.pg_project.specs.Cuts.{cut_view}
 use Rattle.pg_project.specs.Items.{expressions_view}
-use Rattle.pg_project.specs.Given.{cut_of, distinct_given, passing_given}
-use Rattle.pg_rows.specs.States.{seen}
+use Rattle.pg_project.specs.Given.{cut_of}
 use Rattle.pg_rows.specs.Tables.{table}
 use Rattle.pg_syntax_tree.specs.View.{expression_view, projection_view}
 use Rattle.pg_value_core.specs.Given.{parameters_view}
@@ -18,9 +17,9 @@ use Rattle.pg_project.proofs.parts.ended_rows.Goals as goal
 
 pub returns-then-width-len-clause-ok : goal.returns-then-width-len-clause-ok
 returns-then-width-len-clause-ok g c =
-    let ps = parameters_view c.args.query.now.parameters.now in
+    let ps = parameters_view c.args.scope.now.query.now.parameters.now in
     let graph = c.args.graph.now in
-    let t = seen c.args.wide in
+    let names = c.args.scope.now.names.now in
     let es = expressions_view c.args.items.now.items in
     let p = projection_view c.args.clause.now.projection.now in
     let where_ = option_map expression_view c.args.clause.now.condition.now in
@@ -30,9 +29,8 @@ returns-then-width-len-clause-ok g c =
     let same : sorted.width ≡ width = sym c.width.ensures ∙ c.if-width-len.true ∙ c.len.ensures ∙ c.args.items.now.ok.0 in
     let wide : AllByRecursion (λ r. length r ≡ width) (table sorted) = subst (λ n. AllByRecursion (λ r. length r ≡ n) (table sorted)) same (table_wide sorted) in
     let all = c.lets_all_pass.ensures c.if-lets_all_pass.true in
-    passed_on ps graph c.split-names.result.0 t.names es p.distinct p.order cut where_ width t.rows (table c.in_ok-first.first) c.split-names.ensures.names
-    (c.in_ok-first.ensures.rows ∙ ap (distinct_given p.distinct) c.split-names.ensures.rows) (cut_of cut (table sorted)) where_ width c.in_ok-sorted.ensures.ok refl refl (Ok (table sorted))
-    ((λ i. passing_given ps graph (c.split-names.ensures.names i) where_ width (cut_of cut (table sorted))) ∙ whole_passes ps graph t.names where_ width cut (table sorted) all.0 all.1 wide)
+    passed_on ps graph names es p.distinct p.order cut where_ width (table c.args.rows) (table c.in_ok-first.first) c.in_ok-first.ensures.rows
+    (cut_of cut (table sorted)) where_ width c.in_ok-sorted.ensures.ok refl refl (Ok (table sorted)) (whole_passes ps graph names where_ width cut (table sorted) all.0 all.1 wide)
 
 pub returns-in_err-first-clause-ok : goal.returns-in_err-first-clause-ok
 returns-in_err-first-clause-ok g c = IfOk-from_err c.from_residual.result _ c.from_residual.ensures.0
@@ -51,12 +49,11 @@ returns-in_err-sorted-clause-width g c = IfOk-from_err c.from_residual-in_err-so
 
 pub returns-in_err-sorted-clause-err : goal.returns-in_err-sorted-clause-err
 returns-in_err-sorted-clause-err g c =
-    let t = seen c.args.wide in
     let p = projection_view c.args.clause.now.projection.now in
     fault_passed _ c.in_err-sorted.field-0.0 c.from_residual-in_err-sorted.result c.from_residual-in_err-sorted.ensures.1
-    (λ other. sorts_fail (parameters_view c.args.query.now.parameters.now) c.args.graph.now c.split-names.result.0 t.names (expressions_view c.args.items.now.items) p.distinct p.order
-    (cut_view c.args.cut) (option_map expression_view c.args.clause.now.condition.now) (length c.args.items.now.items) t.rows (table c.in_ok-first.first) c.split-names.ensures.names
-    (c.in_ok-first.ensures.rows ∙ ap (distinct_given p.distinct) c.split-names.ensures.rows) c.in_err-sorted.field-0.0 (c.in_err-sorted.ensures.err other))
+    (λ other. sorts_fail (parameters_view c.args.scope.now.query.now.parameters.now) c.args.graph.now c.args.scope.now.names.now (expressions_view c.args.items.now.items) p.distinct p.order
+    (cut_view c.args.cut) (option_map expression_view c.args.clause.now.condition.now) (length c.args.items.now.items) (table c.args.rows) (table c.in_ok-first.first) c.in_ok-first.ensures.rows
+    c.in_err-sorted.field-0.0 (c.in_err-sorted.ensures.err other))
 
 pub returns-then-width-len-clause-width : goal.returns-then-width-len-clause-width
 returns-then-width-len-clause-width g c = sym c.width.ensures ∙ c.if-width-len.true ∙ c.len.ensures ∙ c.args.items.now.ok.0
@@ -77,18 +74,18 @@ pub passing_rows-requires : goal.passing_rows-requires
 passing_rows-requires g c =
     let width = length c.args.items.now.items in
     let wide = c.in_ok-sorted.sorted.width in
-    let same : length (seen c.args.wide).names ≡ wide = sym (c.in_ok-sorted.ensures.width ∙ c.in_ok-first.ensures.width ∙ c.split-names.ensures.width) in
+    let same : c.args.rows.width ≡ wide = sym (c.in_ok-sorted.ensures.width ∙ c.in_ok-first.ensures.width) in
     subst (λ n. n ≤ wide) (sym (c.len-2.ensures ∙ c.args.items.now.ok.0)) (subst (λ n. width ≤ n) same c.requires)
 
 pub returns-clause-ok : goal.returns-clause-ok
 returns-clause-ok g c =
-    let t = seen c.args.wide in
+    let names = c.args.scope.now.names.now in
     let p = projection_view c.args.clause.now.projection.now in
     IfOk-weaker c.passing_rows.result _ _
-    (λ found passes. passed_on (parameters_view c.args.query.now.parameters.now) c.args.graph.now c.split-names.result.0 t.names (expressions_view c.args.items.now.items) p.distinct p.order
-    (cut_view c.args.cut) (option_map expression_view c.args.clause.now.condition.now) (length c.args.items.now.items) t.rows (table c.in_ok-first.first) c.split-names.ensures.names
-    (c.in_ok-first.ensures.rows ∙ ap (distinct_given p.distinct) c.split-names.ensures.rows) (cut_of (cut_view c.args.cut) (table c.in_ok-sorted.sorted))
-    (condition_of c.split-names.result.0 c.in_ok-wanted.wanted) c.len-2.result c.in_ok-sorted.ensures.ok c.in_ok-wanted.ensures (c.len-2.ensures ∙ c.args.items.now.ok.0) (Ok (table found)) passes)
+    (λ found passes. passed_on (parameters_view c.args.scope.now.query.now.parameters.now) c.args.graph.now names (expressions_view c.args.items.now.items) p.distinct p.order
+    (cut_view c.args.cut) (option_map expression_view c.args.clause.now.condition.now) (length c.args.items.now.items) (table c.args.rows) (table c.in_ok-first.first) c.in_ok-first.ensures.rows
+    (cut_of (cut_view c.args.cut) (table c.in_ok-sorted.sorted))
+    (condition_of names c.in_ok-wanted.wanted) c.len-2.result c.in_ok-sorted.ensures.ok c.in_ok-wanted.ensures (c.len-2.ensures ∙ c.args.items.now.ok.0) (Ok (table found)) passes)
     c.passing_rows.ensures.ok
 
 pub returns-clause-width : goal.returns-clause-width
@@ -96,11 +93,11 @@ returns-clause-width g c = IfOk-weaker c.passing_rows.result _ _ (λ found wide.
 
 pub returns-clause-err : goal.returns-clause-err
 returns-clause-err g c =
-    let t = seen c.args.wide in
+    let names = c.args.scope.now.names.now in
     let p = projection_view c.args.clause.now.projection.now in
     IfErr-weaker c.passing_rows.result _ _
-    (λ e fails other. passed_on (parameters_view c.args.query.now.parameters.now) c.args.graph.now c.split-names.result.0 t.names (expressions_view c.args.items.now.items) p.distinct p.order
-    (cut_view c.args.cut) (option_map expression_view c.args.clause.now.condition.now) (length c.args.items.now.items) t.rows (table c.in_ok-first.first) c.split-names.ensures.names
-    (c.in_ok-first.ensures.rows ∙ ap (distinct_given p.distinct) c.split-names.ensures.rows) (cut_of (cut_view c.args.cut) (table c.in_ok-sorted.sorted))
-    (condition_of c.split-names.result.0 c.in_ok-wanted.wanted) c.len-2.result c.in_ok-sorted.ensures.ok c.in_ok-wanted.ensures (c.len-2.ensures ∙ c.args.items.now.ok.0) (Err e) (fails other))
+    (λ e fails other. passed_on (parameters_view c.args.scope.now.query.now.parameters.now) c.args.graph.now names (expressions_view c.args.items.now.items) p.distinct p.order
+    (cut_view c.args.cut) (option_map expression_view c.args.clause.now.condition.now) (length c.args.items.now.items) (table c.args.rows) (table c.in_ok-first.first) c.in_ok-first.ensures.rows
+    (cut_of (cut_view c.args.cut) (table c.in_ok-sorted.sorted))
+    (condition_of names c.in_ok-wanted.wanted) c.len-2.result c.in_ok-sorted.ensures.ok c.in_ok-wanted.ensures (c.len-2.ensures ∙ c.args.items.now.ok.0) (Err e) (fails other))
     c.passing_rows.ensures.err

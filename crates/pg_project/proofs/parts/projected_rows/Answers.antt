@@ -1,9 +1,11 @@
 use Rattle.std.proofs.Common.{◌≡◌, ◌||◌, ◌++◌, length, map, option_map, Ok, Err, sym, ap, subst, ◌∙◌, ◌≤◌, List, arith}
 use Rattle.std.proofs.lemmas.List.{length-map, length-append}
 use Rattle.std.proofs.lemmas.Result.{IfOk-from_err, IfOk-weaker}
-use Rattle.pg_meaning.specs.Projections.{item_rows}
+use Rattle.pg_meaning.specs.Projections.{Projected, item_rows}
+use Rattle.pg_meaning.specs.Value.{Value}
 use Rattle.pg_meaning.specs.declared.fault.Fault.{Fault}
 use Rattle.pg_expr.proofs.ExitLemmas.{fault_passed}
+use Rattle.pg_project.proofs.PassedRows.{passed_gives}
 use Rattle.pg_project.proofs.Projecting.{cut_fails, items_fail, ended_gives}
 use Rattle.pg_project.specs.Columns.{columns_view}
 use Rattle.pg_project.specs.Cuts.{cut_view}
@@ -36,7 +38,7 @@ returns-in_err-wide-clause-gives g c = λ s given.
     items_fail s graph ps given all p where_ rows columns c.args.scope.now.names.now es c.in_ok-items.ensures.trees (cut_view c.in_ok-cut.cut) c.in_ok-cut.ensures.ok in
     record {
       ok = IfOk-from_err c.from_residual-in_err-wide.result _ c.from_residual-in_err-wide.ensures.0;
-      err = fault_passed _ c.in_err-wide.field-0.0 c.from_residual-in_err-wide.result c.from_residual-in_err-wide.ensures.1 (λ other. refused c.in_err-wide.field-0.0 (ap (λ b. item_rows s graph b (columns_of columns es) rows) (sym c.hides_earlier.ensures) ∙ said.err other));
+      err = fault_passed _ c.in_err-wide.field-0.0 c.from_residual-in_err-wide.result c.from_residual-in_err-wide.ensures.1 (λ other. refused c.in_err-wide.field-0.0 (ap (λ b. item_rows s graph b (columns_of columns es) rows) (sym c.hides_earlier-hidden.ensures) ∙ said.err other));
     }
 
 pub returns-clause-gives : goal.returns-clause-gives
@@ -53,14 +55,36 @@ returns-clause-gives g c = λ s given.
     let long : length items ≡ length columns = c.in_ok-items.ensures.len in
     let same : length columns ≡ length es = sym long ∙ sym (length-map items (λ e. expression_view e.now)) in
     let wide = c.in_ok-wide in
-    let hidden = c.hides_earlier.ensures in
-    let named : (seen wide.wide).names ≡ columns ++ earlier_names (has_aggregate es || hides_earlier p where_) c.args.scope.now.names.now =
-    wide.ensures.names ∙ ap (λ b. columns ++ earlier_names (has_aggregate es || b) c.args.scope.now.names.now) hidden in
-    let made : item_rows s graph (hides_earlier p where_) (columns_of columns es) rows ≡ Ok (map (stands columns (earlier_names (has_aggregate es || hides_earlier p where_) c.args.scope.now.names.now)) (seen wide.wide).rows) =
-    subst (λ b. item_rows s graph b (columns_of columns es) rows ≡ Ok (map (stands columns (earlier_names (has_aggregate es || b) c.args.scope.now.names.now)) (seen wide.wide).rows)) hidden (wide.ensures.gives s given).ok in
-    ended_gives s graph ps given all p where_ rows columns c.args.scope.now.names.now es c.in_ok-items.ensures.trees (cut_view c.in_ok-cut.cut) c.in_ok-cut.ensures.ok
-    wide.wide (length items) same long named made
+    let apart = c.split-visible in
+    let hidden = c.hides_earlier-hidden.ensures in
+    let names = c.args.scope.now.names.now in
+    let named : apart.result.0 ≡ columns ++ earlier_names (has_aggregate es || hides_earlier p where_) names =
+    apart.ensures.names ∙ wide.ensures.names ∙ ap (λ b. columns ++ earlier_names (has_aggregate es || b) names) hidden in
+    let stand : List (List Value) → List Projected = map (stands columns (earlier_names (has_aggregate es || hides_earlier p where_) names)) in
+    let made : item_rows s graph (hides_earlier p where_) (columns_of columns es) rows ≡ Ok (stand (table apart.result.1)) =
+    subst (λ b. item_rows s graph b (columns_of columns es) rows ≡ Ok (map (stands columns (earlier_names (has_aggregate es || b) names)) (seen wide.wide).rows)) hidden (wide.ensures.gives s given).ok
+    ∙ ap (λ rs. Ok (stand rs)) (sym apart.ensures.rows) in
+    ended_gives s graph ps given all p where_ rows columns names es c.in_ok-items.ensures.trees (cut_view c.in_ok-cut.cut) c.in_ok-cut.ensures.ok
+    apart.result.0 apart.result.1 (apart.ensures.width ∙ sym (ap length apart.ensures.names)) (length items) same long named made
+    c.ended_rows-2.result c.ended_rows-2.ensures.ok c.ended_rows-2.ensures.err
+
+pub returns-then-passes_through-clause-gives : goal.returns-then-passes_through-clause-gives
+returns-then-passes_through-clause-gives g c = λ s given.
+    let ps = parameters_view c.args.scope.now.query.now.parameters.now in
+    let columns = c.args.columns.now.names in
+    let names = c.args.scope.now.names.now in
+    let items = c.in_ok-items.items.items in
+    let es = expressions_view items in
+    let long : length es ≡ length items = length-map items (λ e. expression_view e.now) in
+    let passes = c.passes_through.ensures in
+    let whole : length items ≡ length names = passes.len c.if-passes_through.true in
+    passed_gives s c.args.graph.now ps given (columns_view c.args.columns.now) (projection_view c.args.clause.now.projection.now) (option_map expression_view c.args.clause.now.condition.now)
+    columns names es c.in_ok-items.ensures.trees (cut_view c.in_ok-cut.cut) c.in_ok-cut.ensures.ok
+    c.args.rows (length items) c.requires (sym c.in_ok-items.ensures.len ∙ sym long) (long ∙ whole) whole (passes.variables c.if-passes_through.true) (passes.names c.if-passes_through.true)
     c.ended_rows.result c.ended_rows.ensures.ok c.ended_rows.ensures.err
+
+pub returns-then-passes_through-clause-width : goal.returns-then-passes_through-clause-width
+returns-then-passes_through-clause-width g c = IfOk-weaker c.ended_rows.result _ _ (λ found wide. wide ∙ c.in_ok-items.ensures.len) c.ended_rows.ensures.width
 
 pub returns-in_err-items-clause-gives : goal.returns-in_err-items-clause-gives
 returns-in_err-items-clause-gives g c = λ s given. record {
@@ -93,9 +117,17 @@ item_rows-requires-clause-items g c = c.in_ok-items.ensures.len
 
 pub ended_rows-requires : goal.ended_rows-requires
 ended_rows-requires g c =
+    let whole = c.passes_through.ensures.len c.if-passes_through.true ∙ sym c.requires in
+    let items = c.in_ok-items.items.items in
+    let all : length items ≤ c.args.rows.width = omega (arith, whole) in
+    all
+
+pub ended_rows-requires-2 : goal.ended_rows-requires-2
+ended_rows-requires-2 g c =
     let columns = c.args.columns.now.names in
-    let earlier = earlier_names (has_aggregate (expressions_view c.in_ok-items.items.items) || c.hides_earlier.result) c.args.scope.now.names.now in
-    first_of c.in_ok-items.items.items columns earlier (seen c.in_ok-wide.wide).names c.in_ok-items.ensures.len c.in_ok-wide.ensures.names
+    let items = c.in_ok-items.items.items in
+    let earlier = earlier_names (has_aggregate (expressions_view items) || c.hides_earlier-hidden.result) c.args.scope.now.names.now in
+    subst (λ n. length items ≤ n) (sym c.split-visible.ensures.width) (first_of items columns earlier (seen c.in_ok-wide.wide).names c.in_ok-items.ensures.len c.in_ok-wide.ensures.names)
 
 pub returns-clause-width : goal.returns-clause-width
-returns-clause-width g c = IfOk-weaker c.ended_rows.result _ _ (λ found wide. wide ∙ c.in_ok-items.ensures.len) c.ended_rows.ensures.width
+returns-clause-width g c = IfOk-weaker c.ended_rows-2.result _ _ (λ found wide. wide ∙ c.in_ok-items.ensures.len) c.ended_rows-2.ensures.width

@@ -1,13 +1,11 @@
-use Rattle.std.proofs.Common.{◌<◌, length, refl, ap, ◌∙◌, arith}
+use Rattle.std.proofs.Common.{◌<◌, length, refl, ◌∙◌, arith}
 use Rattle.std.proofs.lemmas.List.{length-set}
-use Rattle.pg_project.proofs.Turns.{next_taken, fault_of_argument, fault_taken, all_taken, at_either, nothing_before}
+use Rattle.pg_project.proofs.Turns.{next_taken, fault_taken, all_taken, at_either, nothing_before}
 use Rattle.pg_expr.specs.Contexts.{given}
 use Rattle.std.proofs.lemmas.Result.{IfOk-from_err}
 use Rattle.pg_expr.proofs.ExitLemmas.{fault_passed}
-use Rattle.pg_meaning.specs.Answer.{◌>>=◌}
 use Rattle.pg_project.specs.Kept.{all_taken_in}
 use Rattle.pg_project.specs.ReadyItems.{aggregate_view, aggregates_view}
-use Rattle.pg_project.specs.Summaries.{taken_with}
 use Rattle.pg_project.specs.Views.{taken_view, takens_view}
 use Rattle.pg_project.proofs.taking.take_in_all.Goals as goal
 
@@ -18,9 +16,9 @@ loop-at-preserved g c =
     let in_taken : l.at < length l.taken.items = omega (arith, c.loop-at-test.true, c.min-count.ensures, c.len.ensures, c.len-2.ensures, l.invariant.1) in
     let before = c.index_mut.result.now in (
       l.invariant.0
-          ∙ next_taken (given c.args.context.now c.args.graph.now) (aggregate_view c.args.context.now.names.now) taken_view c.args.aggregates.now.items l.taken.items l.at c.index.result.now before c.take.new.self
-          in_aggregates in_taken c.index.ensures c.index_mut.ensures.value (ap (λ r. r >>= taken_with (taken_view before)) c.in_ok-value.ensures.ok ∙ c.in_ok-take.ensures.ok),
-      length-set l.taken.items l.at c.take.new.self ∙ l.invariant.1,
+          ∙ next_taken (given c.args.context.now c.args.graph.now) (aggregate_view c.args.context.now.names.now) taken_view c.args.aggregates.now.items l.taken.items l.at c.index.result.now before c.take_in.new.taken
+          in_aggregates in_taken c.index.ensures c.index_mut.ensures.value c.in_ok-take_in.ensures.ok,
+      length-set l.taken.items l.at c.take_in.new.taken ∙ l.invariant.1,
     )
 
 pub returns-clause-ok : goal.returns-clause-ok
@@ -37,36 +35,21 @@ loop-at-init g c =
       refl,
     )
 
-pub returns-in_err-value-clause-ok : goal.returns-in_err-value-clause-ok
-returns-in_err-value-clause-ok g c = IfOk-from_err c.from_residual.result _ c.from_residual.ensures.0
+pub returns-in_err-take_in-clause-ok : goal.returns-in_err-take_in-clause-ok
+returns-in_err-take_in-clause-ok g c = IfOk-from_err c.from_residual.result _ c.from_residual.ensures.0
 
-pub returns-in_err-take-clause-ok : goal.returns-in_err-take-clause-ok
-returns-in_err-take-clause-ok g c = IfOk-from_err c.from_residual-in_err-take.result _ c.from_residual-in_err-take.ensures.0
-
-pub returns-in_err-value-clause-err : goal.returns-in_err-value-clause-err
-returns-in_err-value-clause-err g c =
+pub returns-in_err-take_in-clause-err : goal.returns-in_err-take_in-clause-err
+returns-in_err-take_in-clause-err g c =
     let l = c.loop-at in
     let context = c.args.context.now in
-    let f = c.in_err-value.field-0.0 in
+    let f = c.in_err-take_in.field-0.0 in
+    let before = c.index_mut.result.now in
     let in_aggregates : l.at < length c.args.aggregates.now.items = omega (arith, c.loop-at-test.true, c.min-count.ensures, c.len.ensures, c.len-2.ensures) in
     let in_taken : l.at < length l.taken.items = omega (arith, c.loop-at-test.true, c.min-count.ensures, c.len.ensures, c.len-2.ensures, l.invariant.1) in
     fault_passed _ f c.from_residual.result c.from_residual.ensures.1
     (λ other. l.invariant.0
-    ∙ fault_of_argument (given context c.args.graph.now) (aggregate_view context.names.now) taken_view c.args.aggregates.now.items l.taken.items l.at c.index.result.now f
-    in_aggregates in_taken c.index.ensures (c.in_err-value.ensures.err other))
-
-pub returns-in_err-take-clause-err : goal.returns-in_err-take-clause-err
-returns-in_err-take-clause-err g c =
-    let l = c.loop-at in
-    let context = c.args.context.now in
-    let f = c.in_err-take.field-0.0 in
-    let before = c.index_mut.result.now in
-    let in_aggregates : l.at < length c.args.aggregates.now.items = omega (arith, c.loop-at-test.true, c.min-count.ensures, c.len.ensures, c.len-2.ensures) in
-    let in_taken : l.at < length l.taken.items = omega (arith, c.loop-at-test.true, c.min-count.ensures, c.len.ensures, c.len-2.ensures, l.invariant.1) in
-    fault_passed _ f c.from_residual-in_err-take.result c.from_residual-in_err-take.ensures.1
-    (λ other. l.invariant.0
     ∙ fault_taken (given context c.args.graph.now) (aggregate_view context.names.now) taken_view c.args.aggregates.now.items l.taken.items l.at c.index.result.now before f
-    in_aggregates in_taken c.index.ensures c.index_mut.ensures.value (ap (λ r. r >>= taken_with (taken_view before)) c.in_ok-value.ensures.ok ∙ c.in_err-take.ensures.err other))
+    in_aggregates in_taken c.index.ensures c.index_mut.ensures.value (c.in_err-take_in.ensures.err other))
 
 pub returns-clause-err : goal.returns-clause-err
 returns-clause-err g c = tt

@@ -7,9 +7,3 @@ returns-in_err-counts-clause-ok c = IfOk-from_err c.from_residual.result _ c.fro
 
 pub returns-in_err-counts-clause-err : goal.returns-in_err-counts-clause-err
 returns-in_err-counts-clause-err c = memory_passed _ c.from_residual.result c.from_residual.ensures.1
-
-pub returns-in_err-self-clause-ok : goal.returns-in_err-self-clause-ok
-returns-in_err-self-clause-ok c = IfOk-from_err c.from_residual-in_err-self.result _ c.from_residual-in_err-self.ensures.0
-
-pub returns-clause-err : goal.returns-clause-err
-returns-clause-err c = tt

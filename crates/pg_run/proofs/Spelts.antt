@@ -1,13 +1,16 @@
 -- A value spelt out while there is room, from its parts.
-use Rattle.std.proofs.Common.{◌≡◌, ◌≢◌, ℕ, ◌-◌, Bool, ℤ, Vec, BTreeMap, String, Global, Result, Ok, Err, IfOk, IfErr, ap, ◌∙◌, arith}
+use Rattle.std.proofs.Common.{◌≡◌, ◌≢◌, ℕ, ◌+◌, ◌-◌, Bool, ℤ, Vec, BTreeMap, String, Global, Result, Ok, Err, IfOk, IfErr, ap, sym, subst, ◌∙◌, arith}
 use Rattle.serde_json.specs.Data.{Data}
+use Rattle.serde_json.specs.Data as json
 use Rattle.pg_json.specs.Replies.{data_of}
-use Rattle.pg_json.specs.Room.{least}
+use Rattle.pg_json.specs.Room.{least, items_least, members_least}
 use Rattle.pg_meaning.specs.Graph.{Graph}
-use Rattle.pg_meaning.specs.Queries.{test_output}
+use Rattle.pg_meaning.specs.Queries.{test_entries, test_items, test_output}
+use Rattle.pg_meaning.specs.Value.{Values, Entries}
 use Rattle.pg_meaning.specs.declared.fault.Fault.{Fault}
 use Rattle.pg_meaning.specs.declared.fault.Fault.TheVariants.{OutOfMemory}
-use Rattle.pg_run.proofs.ValueLemmas.{null_seen, bool_seen, int_seen, text_seen, list_seen, map_seen, null_shown, bool_shown, int_shown, text_shown, list_shown, map_shown, list_room, map_room}
+use Rattle.pg_run.proofs.ValueLemmas.{null_seen, bool_seen, int_seen, text_seen, list_seen, map_seen, null_shown, bool_shown, int_shown, text_shown, data_list, data_map}
+use Rattle.pg_run.specs.Printed.{printed_items, printed_members}
 use Rattle.pg_run.specs.Spelt.{Spelt, DataSpelt, ValueSpelt, ListSpelt, MapSpelt}
 use Rattle.pg_value_core.specs.View.{entries_view, values_view, view}
 use Rattle.pg_value_core.specs.declared.out.Out.{Out}
@@ -41,22 +44,30 @@ module _ (graph : Graph) (v : Value) (old new : ℕ) where
     pub text_spelt : (s : String Global) → v ≡ value.Text s → new ≡ old - least (data_of (out.Text s)) → (new ≢ 0 → given ≡ out.Text s) → ValueSpelt graph (view v) (Ok given) old new
     text_spelt s e left is = shown_within _ _ old new (out.Text s) given (ap (test_output graph) (text_seen v s e)) (text_shown graph v s e) left is
 
-  module _ (less : ℕ) where
-    pub list_spelt : (items : Vec Value Global) (found : Vec Out Global) → v ≡ value.List items → less ≡ old - 1 → ListSpelt graph (values_view items.items) (Ok found) less new → ValueSpelt graph (view v) (Ok (out.List found)) old new
-    list_spelt items found e first h = record {
-      live = ap (test_output graph) (list_seen v items e) ∙ h.live;
-      room = list_room graph v old less new first items e h.room;
-      shown = λ some. list_shown graph v items found e (h.shown some);
-      err = tt;
-    }
+  -- by what a list and a map hold
+  pub items_spelt : (items : Vec Value Global) (result : Result Out Fault) → v ≡ value.List items → DataSpelt (test_items graph (values_view items.items)) (json.array (printed_items graph (values_view items.items))) result old new → ValueSpelt graph (view v) result old new
+  items_spelt items result e h = subst (λ w. ValueSpelt graph w result old new) (sym (list_seen v items e)) h
 
-    pub map_spelt : (entries : BTreeMap (String Global) Value) (found : BTreeMap (String Global) Out) → v ≡ value.Map entries → less ≡ old - 1 → MapSpelt graph (entries_view entries.entries) (Ok found) less new → ValueSpelt graph (view v) (Ok (out.Map found)) old new
-    map_spelt entries found e first h = record {
-      live = ap (test_output graph) (map_seen v entries e) ∙ h.live;
-      room = map_room graph v old less new first entries e h.room;
-      shown = λ some. map_shown graph v entries found e (h.shown some);
-      err = tt;
-    }
+  pub entries_spelt : (entries : BTreeMap (String Global) Value) (result : Result Out Fault) → v ≡ value.Map entries → DataSpelt (test_entries graph (entries_view entries.entries)) (json.object (printed_members graph (entries_view entries.entries))) result old new → ValueSpelt graph (view v) result old new
+  entries_spelt entries result e h = subst (λ w. ValueSpelt graph w result old new) (sym (map_seen v entries e)) h
 
-    pub map_refused : (entries : BTreeMap (String Global) Value) (fault : Fault) → v ≡ value.Map entries → MapSpelt graph (entries_view entries.entries) (Err fault) less new → ValueSpelt graph (view v) (Err fault) old new
-    map_refused entries fault e h = refused (λ other. ap (test_output graph) (map_seen v entries e) ∙ h.err other)
+-- a list and a map, within the room
+room_inside : (room less next n : ℕ) → less ≡ room - 1 → next ≡ less - n → next ≡ room - (n + 1)
+room_inside room less next n first left = omega (arith, first, left)
+
+module _ (graph : Graph) (old less new : ℕ) (first : less ≡ old - 1) where
+  pub list_spelt : (vs : Values) (found : Vec Out Global) → ListSpelt graph vs (Ok found) less new → DataSpelt (test_items graph vs) (json.array (printed_items graph vs)) (Ok (out.List found)) old new
+  list_spelt vs found h = record {
+    live = h.live;
+    room = room_inside old less new (items_least (printed_items graph vs)) first h.room;
+    shown = λ some. data_list found ∙ ap json.array (h.shown some);
+    err = tt;
+  }
+
+  pub map_spelt : (es : Entries) (found : BTreeMap (String Global) Out) → MapSpelt graph es (Ok found) less new → DataSpelt (test_entries graph es) (json.object (printed_members graph es)) (Ok (out.Map found)) old new
+  map_spelt es found h = record {
+    live = h.live;
+    room = room_inside old less new (members_least (printed_members graph es)) first h.room;
+    shown = λ some. data_map found ∙ ap json.object (h.shown some);
+    err = tt;
+  }

@@ -1,9 +1,8 @@
 -- A value of each kind, as it is seen and spelt out, and the first fault in a list or a map.
-use Rattle.std.proofs.Common.{◌≡◌, ℕ, ◌+◌, ◌-◌, List, ◌∷◌, Err, Vec, BTreeMap, String, Global, Bool, ℤ, string_bytes, rules, sym, ap, ◌∙◌, arith}
+use Rattle.std.proofs.Common.{◌≡◌, ℕ, List, ◌∷◌, Err, Vec, BTreeMap, String, Global, Bool, ℤ, string_bytes, rules, sym, ap, ◌∙◌}
 use Rattle.serde_json.specs.Data as json
 use Rattle.serde_json.specs.Find.{of_integer}
 use Rattle.pg_json.specs.Replies.{data_of, named_outs, outs}
-use Rattle.pg_json.specs.Room.{items_least, least, members_least}
 use Rattle.pg_meaning.specs.Answer.{◌>>◌}
 use Rattle.pg_meaning.specs.Graph.{Graph}
 use Rattle.pg_meaning.specs.Queries.{test_entries, test_items, test_output}
@@ -11,7 +10,7 @@ use Rattle.pg_meaning.specs.Value as seen
 use Rattle.pg_meaning.specs.declared.fault.Fault.{Fault}
 use Rattle.pg_run.proofs.Items.{ItemsWithin}
 use Rattle.pg_run.proofs.Members.{MembersWithin, Named, Pair}
-use Rattle.pg_run.specs.Printed.{printed, printed_items, printed_members, stored_data, stored_items, stored_members}
+use Rattle.pg_run.specs.Printed.{printed, stored_data, stored_items, stored_members}
 use Rattle.pg_value_core.specs.View.{entries_view, values_view, view}
 use Rattle.pg_value_core.specs.declared.ids.NodeId.{NodeId}
 use Rattle.pg_value_core.specs.declared.ids.Path.{Path}
@@ -62,10 +61,10 @@ data_int i = search (rules, out.the_lemmas)
 data_text : (s : String Global) → data_of (out.Text s) ≡ json.string (string_bytes s)
 data_text s = search (rules, out.the_lemmas)
 
-data_list : (found : Vec Out Global) → data_of (out.List found) ≡ json.array (outs found.items)
+pub data_list : (found : Vec Out Global) → data_of (out.List found) ≡ json.array (outs found.items)
 data_list found = search (rules, out.the_lemmas)
 
-data_map : (found : BTreeMap (String Global) Out) → data_of (out.Map found) ≡ json.object (named_outs found.entries)
+pub data_map : (found : BTreeMap (String Global) Out) → data_of (out.Map found) ≡ json.object (named_outs found.entries)
 data_map found = search (rules, out.the_lemmas)
 
 module _ (v : Value) where
@@ -108,23 +107,6 @@ module _ (graph : Graph) (v : Value) where
 
   pub text_shown : (s : String Global) → v ≡ value.Text s → data_of (out.Text s) ≡ printed graph (view v)
   text_shown s e = data_text s ∙ ap (printed graph) (sym (text_seen v s e))
-
-  -- a list and a map, within the room
-  room_inside : (room less next n : ℕ) → less ≡ room - 1 → next ≡ less - n → next ≡ room - (n + 1)
-  room_inside room less next n first left = omega (arith, first, left)
-
-  module _ (room less next : ℕ) (first : less ≡ room - 1) where
-    pub list_room : (items : Vec Value Global) → v ≡ value.List items → next ≡ less - items_least (printed_items graph (values_view items.items)) → next ≡ room - least (printed graph (view v))
-    list_room items e left = room_inside room less next (items_least (printed_items graph (values_view items.items))) first left ∙ ap (λ w. room - least (printed graph w)) (sym (list_seen v items e))
-
-    pub map_room : (entries : BTreeMap (String Global) Value) → v ≡ value.Map entries → next ≡ less - members_least (printed_members graph (entries_view entries.entries)) → next ≡ room - least (printed graph (view v))
-    map_room entries e left = room_inside room less next (members_least (printed_members graph (entries_view entries.entries))) first left ∙ ap (λ w. room - least (printed graph w)) (sym (map_seen v entries e))
-
-  pub list_shown : (items : Vec Value Global) (found : Vec Out Global) → v ≡ value.List items → outs found.items ≡ printed_items graph (values_view items.items) → data_of (out.List found) ≡ printed graph (view v)
-  list_shown items found e same = data_list found ∙ ap json.array same ∙ ap (printed graph) (sym (list_seen v items e))
-
-  pub map_shown : (entries : BTreeMap (String Global) Value) (found : BTreeMap (String Global) Out) → v ≡ value.Map entries → named_outs found.entries ≡ printed_members graph (entries_view entries.entries) → data_of (out.Map found) ≡ printed graph (view v)
-  map_shown entries found e same = data_map found ∙ ap json.object same ∙ ap (printed graph) (sym (map_seen v entries e))
 
 -- ---- values that are stored
 

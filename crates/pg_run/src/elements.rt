@@ -8,6 +8,7 @@ ghost use Rattle.pg_run.specs.Printed.{shown_node, shown_relationship, path_item
 ghost use Rattle.pg_run.specs.Places.{test_place, shown_place};
 ghost use Rattle.pg_run.specs.Spelt.{DataSpelt};
 
+use crate::presence::test_path;
 use crate::room::within;
 use crate::stored::spell_stored_entries;
 use pg_graph::Tables;
@@ -17,6 +18,7 @@ use pg_value_core::{NodeId, Out, Path, RelId};
 use std::alloc::Global;
 
 /// A node, or else a relationship.
+#[inline(never)]
 pub(crate) fn spell_element<T: Tables>(
     alloc: Global,
     graph: &GraphView<'_, T>,
@@ -88,6 +90,7 @@ fn whole_rel<T: Tables>(alloc: Global, graph: &GraphView<'_, T>, id: RelId) -> R
     }
 }
 
+#[inline(never)]
 pub(crate) fn spell_path<T: Tables>(
     alloc: Global,
     graph: &GraphView<'_, T>,
@@ -97,6 +100,10 @@ pub(crate) fn spell_path<T: Tables>(
     ensures { DataSpelt (test_ids graph.now path.now.0.items)
         (path_data (path_items graph.now path.now.0.items)) result room.old room.new }
 {
+    if *room == 0 {
+        test_path(graph, &path.0)?;
+        return Ok(Out::Null);
+    }
     *room = room.saturating_sub(11);
     let mut found = Vec::with_capacity(alloc, path.0.len())?;
     let mut is_node = true;

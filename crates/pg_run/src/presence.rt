@@ -12,7 +12,7 @@ use std::collections::BTreeMap;
 
 /// `DeletedEntity` where an element in the value is not in the store's graph.
 #[cycle(presence)]
-pub(crate) fn test_value<T: Tables>(graph: &GraphView<'_, T>, value: &Value) -> Result<(), Fault>
+fn test_value<T: Tables>(graph: &GraphView<'_, T>, value: &Value) -> Result<(), Fault>
     ensures ok { OnOk result (test_output graph.now (view value.now) ≡ Ok tt) }
     ensures err { IfErr result (λ e. test_output graph.now (view value.now) ≡ Err e) }
 {
@@ -27,7 +27,10 @@ pub(crate) fn test_value<T: Tables>(graph: &GraphView<'_, T>, value: &Value) -> 
 }
 
 #[cycle(presence)]
-fn test_each<T: Tables>(graph: &GraphView<'_, T>, items: &Vec<Value>) -> Result<(), Fault>
+pub(crate) fn test_each<T: Tables>(
+    graph: &GraphView<'_, T>,
+    items: &Vec<Value>,
+) -> Result<(), Fault>
     ensures ok { OnOk result (test_items graph.now (values_view items.now.items) ≡ Ok tt) }
     ensures err { IfErr result
         (λ e. test_items graph.now (values_view items.now.items) ≡ Err e) }
@@ -39,7 +42,7 @@ fn test_each<T: Tables>(graph: &GraphView<'_, T>, items: &Vec<Value>) -> Result<
 }
 
 #[cycle(presence)]
-fn test_each_entry<T: Tables>(
+pub(crate) fn test_each_entry<T: Tables>(
     graph: &GraphView<'_, T>,
     entries: &BTreeMap<String, Value>,
 ) -> Result<(), Fault>
@@ -54,7 +57,7 @@ fn test_each_entry<T: Tables>(
 }
 
 /// Nodes and relationships take turns.
-fn test_path<T: Tables>(graph: &GraphView<'_, T>, ids: &Vec<u64>) -> Result<(), Fault>
+pub(crate) fn test_path<T: Tables>(graph: &GraphView<'_, T>, ids: &Vec<u64>) -> Result<(), Fault>
     ensures ok { OnOk result (test_ids graph.now ids.now.items ≡ Ok tt) }
     ensures err { IfErr result (λ e. test_ids graph.now ids.now.items ≡ Err e) }
 {

@@ -1,4 +1,5 @@
 //! A query's reply while its rows are told.
+use crate::room::within;
 use crate::spelling::spell;
 use pg_graph::Tables;
 use pg_json::{QueryReply, ReplyColumns, RowsReply};
@@ -60,16 +61,18 @@ impl ReplyWriter {
         if self.fault.is_some() {
             return Out::Null;
         }
-        let mut room = self.room.saturating_sub(1);
-        match spell(alloc, graph, value, &mut room) {
-            Ok(out) => {
-                self.room = room;
-                if room == 0 { Out::Null } else { out }
-            }
-            Err(fault) => {
-                self.fault = Some(fault);
-                Out::Null
-            }
+        self.room = self.room.saturating_sub(1);
+        match value {
+            Value::Null => within(Out::Null, &mut self.room),
+            Value::Bool(b) => within(Out::Bool(*b), &mut self.room),
+            Value::Int(i) => within(Out::Int(*i), &mut self.room),
+            _ => match spell(alloc, graph, value, &mut self.room) {
+                Ok(out) => { if self.room == 0 { Out::Null } else { out } }
+                Err(fault) => {
+                    self.fault = Some(fault);
+                    Out::Null
+                }
+            },
         }
     }
 

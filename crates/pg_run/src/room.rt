@@ -3,6 +3,7 @@ ghost use Rattle.std.specs.Prelude.{◌≡◌, ◌≢◌, ◌+◌, ◌-◌, leng
 ghost use Rattle.pg_json.specs.Replies.{data_of};
 ghost use Rattle.pg_json.specs.Room.{least};
 ghost use Rattle.pg_meaning.specs.declared.fault.Fault.TheVariants.{OutOfMemory};
+ghost use Rattle.pg_value_core.specs.declared.out.Out.TheVariants.{Null};
 ghost use Rattle.serde_json.specs.Data.{string};
 
 use pg_json::room_behind;
@@ -14,6 +15,7 @@ use std::alloc::Global;
 pub(crate) fn within(out: Out, room: &mut usize) -> Out
     ensures room { room.new ≡ room.old - least (data_of out) }
     ensures out { room.new ≢ 0 → result ≡ out }
+    ensures none { room.new ≡ 0 → result ≡ Null }
 {
     *room = room_behind(*room, &out);
     if *room == 0 { Out::Null } else { out }

@@ -37,20 +37,22 @@ pub(crate) fn tell_rows<T: Tables>(
     ensures err { IfErr result (λ e. e ≢ OutOfMemory
         → each_answer (items_given items.now graph.now) (table rows.now) ≡ Err e) }
 {
+    let mut outs = Vec::new(items.query.alloc);
     for at in 0..rows.len() {
         let is_in = cut.lets_in(at as u64);
-        tell_row(items, rows.row(at), is_in, graph, telling)?;
+        tell_row(items, rows.row(at), is_in, graph, telling, &mut outs)?;
     }
     Ok(())
 }
 
-/// Tells what the items give at a row that is let in, and else only looks for a fault.
+/// Tells what the items give at a row that is let in, and else only looks for a fault. `outs` is one list for all rows.
 fn tell_row<T: Tables>(
     items: &ReadyItems<'_, '_>,
     row: &[Value],
     is_in: bool,
     graph: &GraphView<'_, T>,
     telling: &mut ReplyWriter,
+    outs: &mut Vec<Out>,
 ) -> Result<(), Fault>
     ensures ok { IfOk result (λ u. RowPassed graph.now is_in
         (items_given items.now graph.now (map view row.now)) telling.old telling.new) }
@@ -60,20 +62,21 @@ fn tell_row<T: Tables>(
     if !is_in {
         return test_items(items, row, graph);
     }
-    let told = tell_items(items, row, graph, telling)?;
-    telling.end_row(told.as_slice())?;
+    tell_items(items, row, graph, telling, outs)?;
+    telling.end_row(outs.as_slice())?;
     Ok(())
 }
 
-/// Tells what the items give at a row, left to right.
+/// Tells what the items give at a row, left to right, and leaves in `outs` what stands for it.
 fn tell_items<'a, T: Tables>(
     items: &ReadyItems<'a, '_>,
     row: &'a [Value],
     graph: &GraphView<'a, T>,
     telling: &mut ReplyWriter,
-) -> Result<Vec<Out>, Fault>
-    ensures ok { IfOk result (λ found. RowTold graph.now
-        (items_given items.now graph.now (map view row.now)) telling.old telling.new found.items) }
+    outs: &mut Vec<Out>,
+) -> Result<(), Fault>
+    ensures ok { IfOk result (λ u. RowTold graph.now (items_given items.now graph.now
+        (map view row.now)) telling.old telling.new outs.new.items) }
     ensures err { IfErr result (λ e. e ≢ OutOfMemory
         → items_given items.now graph.now (map view row.now) ≡ Err e) }
 {
@@ -84,12 +87,13 @@ fn tell_items<'a, T: Tables>(
         row,
         parameters: query.parameters,
     };
-    let mut outs = Vec::with_capacity(query.alloc, items.ready.len())?;
+    outs.clear();
+    outs.reserve(items.ready.len())?;
     for one in items.ready {
         let found = find_at(&context, one, graph)?;
-        outs.push(telling.take(query.alloc, graph, found.look()))?;
+        outs.push_reserved(telling.take(query.alloc, graph, found.look()));
     }
-    Ok(outs)
+    Ok(())
 }
 
 /// Tests that no item has a fault at a row, left to right.

@@ -1,9 +1,12 @@
 //! Values over a store, spelt out as long as there is room for them.
-ghost use Rattle.pg_run.specs.Spelt.{ValueSpelt, ListSpelt, MapSpelt};
+ghost use Rattle.serde_json.specs.Data.{array, object};
+ghost use Rattle.pg_meaning.specs.Queries.{test_entries, test_items};
+ghost use Rattle.pg_run.specs.Printed.{printed_items, printed_members};
+ghost use Rattle.pg_run.specs.Spelt.{DataSpelt, ValueSpelt, ListSpelt, MapSpelt};
 ghost use Rattle.pg_value_core.specs.View.{view, values_view, entries_view};
 
 use crate::elements::{spell_element, spell_path};
-use crate::presence::test_value;
+use crate::presence::{test_each, test_each_entry};
 use crate::room::{spell_text, within};
 use pg_graph::Tables;
 use pg_meaning::Fault;
@@ -23,27 +26,55 @@ pub(crate) fn spell<T: Tables>(
 ) -> Result<Out, Fault>
     ensures { ValueSpelt graph.now (view value.now) result room.old room.new }
 {
-    if *room == 0 {
-        test_value(graph, value)?;
-        return Ok(Out::Null);
-    }
     match value {
         Value::Null => Ok(within(Out::Null, room)),
         Value::Bool(b) => Ok(within(Out::Bool(*b), room)),
         Value::Int(i) => Ok(within(Out::Int(*i), room)),
         Value::Text(text) => spell_text(alloc, text, room),
-        Value::List(items) => {
-            *room = room.saturating_sub(1);
-            Ok(Out::List(spell_items(alloc, graph, items, room)?))
-        }
-        Value::Map(entries) => {
-            *room = room.saturating_sub(1);
-            Ok(Out::Map(spell_entries(alloc, graph, entries, room)?))
-        }
+        Value::List(items) => spell_list(alloc, graph, items, room),
+        Value::Map(entries) => spell_map(alloc, graph, entries, room),
         Value::Node(id) => spell_element(alloc, graph, true, id.0, room),
         Value::Rel(id) => spell_element(alloc, graph, false, id.0, room),
         Value::Path(path) => spell_path(alloc, graph, path, room),
     }
+}
+
+#[inline(never)]
+#[cycle(spell)]
+fn spell_list<T: Tables>(
+    alloc: Global,
+    graph: &GraphView<'_, T>,
+    items: &Vec<Value>,
+    room: &mut usize,
+) -> Result<Out, Fault>
+    ensures { DataSpelt (test_items graph.now (values_view items.now.items))
+        (array (printed_items graph.now (values_view items.now.items))) result room.old room.new }
+{
+    if *room == 0 {
+        test_each(graph, items)?;
+        return Ok(Out::Null);
+    }
+    *room = room.saturating_sub(1);
+    Ok(Out::List(spell_items(alloc, graph, items, room)?))
+}
+
+#[inline(never)]
+#[cycle(spell)]
+fn spell_map<T: Tables>(
+    alloc: Global,
+    graph: &GraphView<'_, T>,
+    entries: &BTreeMap<String, Value>,
+    room: &mut usize,
+) -> Result<Out, Fault>
+    ensures { DataSpelt (test_entries graph.now (entries_view entries.now.entries)) (object
+        (printed_members graph.now (entries_view entries.now.entries))) result room.old room.new }
+{
+    if *room == 0 {
+        test_each_entry(graph, entries)?;
+        return Ok(Out::Null);
+    }
+    *room = room.saturating_sub(1);
+    Ok(Out::Map(spell_entries(alloc, graph, entries, room)?))
 }
 
 #[cycle(spell)]

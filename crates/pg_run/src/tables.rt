@@ -1,5 +1,5 @@
 //! The rows of a table, told one after the other.
-ghost use Rattle.std.specs.Prelude.{◌≡◌, [], Bool, List, IfOk, OnOk, map};
+ghost use Rattle.std.specs.Prelude.{◌≡◌, [], Bool, List, OnOk, map};
 ghost use Rattle.serde_json.specs.Data.{Items};
 ghost use Rattle.pg_meaning.specs.Value.{Value as Datum};
 ghost use Rattle.pg_rows.specs.States.{seen};
@@ -42,27 +42,31 @@ fn tell_rows<T: Tables>(
         → IsTelling notes graph.now columns [] [] [] telling.old
         → OnOk result (IsTelling notes graph.now columns (table rows.now) [] [] telling.new) }
 {
+    let mut outs = Vec::new(alloc);
     for at in 0..rows.len() {
-        let outs = tell_values(alloc, graph, rows.row(at), telling)?;
+        tell_values(alloc, graph, rows.row(at), telling, &mut outs)?;
         telling.end_row(outs.as_slice())?;
     }
     Ok(())
 }
 
+/// Tells the values of a row, and leaves in `outs` what stands for them.
 fn tell_values<T: Tables>(
     alloc: Global,
     graph: &GraphView<'_, T>,
     row: &[Value],
     telling: &mut ReplyWriter,
-) -> Result<Vec<Out>, AllocError>
+    outs: &mut Vec<Out>,
+) -> Result<(), AllocError>
     ensures { (notes : Bool) (columns : Items) (rows : List (List Datum))
         → IsTelling notes graph.now columns rows [] [] telling.old
-        → IfOk result (λ outs.
-        IsTelling notes graph.now columns rows (map view row.now) outs.items telling.new) }
+        → OnOk result
+        (IsTelling notes graph.now columns rows (map view row.now) outs.new.items telling.new) }
 {
-    let mut outs = Vec::with_capacity(alloc, row.len())?;
+    outs.clear();
+    outs.reserve(row.len())?;
     for value in row {
-        outs.push(telling.take(alloc, graph, value))?;
+        outs.push_reserved(telling.take(alloc, graph, value));
     }
-    Ok(outs)
+    Ok(())
 }

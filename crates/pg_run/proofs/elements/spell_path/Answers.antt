@@ -15,7 +15,7 @@ use Rattle.pg_value_core.specs.declared.out.Out.TheViews.{rolls-Path}
 
 pub returns-in_err-found : goal.returns-in_err-found
 returns-in_err-found g c =
-    let p = err_from_is_err_and c.from_residual.result c.from_residual.ensures.1 in
+    let p = err_from_is_err_and c.from_residual-in_err-found.result c.from_residual-in_err-found.ensures.1 in
     rw (p.1, p.2) (refused (λ other. absurd (other refl)))
 
 pub returns-in_err-spell_element : goal.returns-in_err-spell_element

@@ -10,4 +10,4 @@ pub loop-at-preserved : goal.loop-at-preserved
 loop-at-preserved g c =
     let row = map view c.row.result.now in
     one_row_told c.args.graph.now _ _ _ _ _ _ row c.loop-at.invariant (drop_here (table c.args.rows.now) c.loop-at.at row c.row.ensures)
-    (λ notes columns rows h. c.in_ok-end_row.ensures.telling notes c.args.graph.now columns rows row (subst (λ os. IsTelling notes c.args.graph.now columns rows row os c.tell_values.new.telling) (sym c.as_slice.ensures.value) (c.in_ok-outs.ensures notes columns rows h)))
+    (λ notes columns rows h. c.in_ok-end_row.ensures.telling notes c.args.graph.now columns rows row (subst (λ os. IsTelling notes c.args.graph.now columns rows row os c.tell_values.new.telling) (sym c.as_slice.ensures.value) (c.in_ok-tell_values.ensures notes columns rows h)))

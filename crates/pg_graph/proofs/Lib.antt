@@ -6,6 +6,7 @@ pub mod Ids
 pub mod Refined
 pub mod Held
 pub mod Named
+pub mod InOrder
 pub mod Incident
 pub mod NamedChanges
 pub mod Listed

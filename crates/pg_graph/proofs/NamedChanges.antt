@@ -19,7 +19,7 @@ use Rattle.pg_graph.proofs.SortedLists.{equal}
 use Rattle.pg_names.specs.Names.{AreDistinct, KeepsNames}
 use Rattle.pg_graph.specs.Records.{Properties, with_label, with_property, shown, shown_value}
 use Rattle.pg_graph.specs.Refinement.{text_of, label_texts, property_entries, AreNamed}
-use Rattle.pg_meaning.specs.Entries.{is_before_first, are_rising, at_key, with_entry, without_key, set_key}
+use Rattle.pg_meaning.specs.Entries.{is_before_first, are_rising, at_key, without_key, set_key}
 use Rattle.pg_meaning.specs.EntriesLaws.{set_keys_keeps_rising, without_keeps_rising, put_is_read, without_is_read}
 use Rattle.pg_meaning.specs.Names.{is_among, put_texts, in_byte_order}
 use Rattle.pg_meaning.specs.NamesLaws.{put_texts_rise, in_byte_order_rises}

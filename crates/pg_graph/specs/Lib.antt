@@ -10,3 +10,4 @@ pub mod Refinement
 pub mod Stored
 pub mod IdRuns
 pub mod IdSets
+pub mod InOrder

@@ -1,5 +1,5 @@
 -- What tables keep of an element: label numbers, rising, and values under rising key numbers. A key under which null stands is blank: it keeps its place, and reads as absent.
-use Rattle.std.specs.Prelude.{◌≡◌, ℕ, List, Option, Some, None, map}
+use Rattle.std.specs.Prelude.{ℕ, List, Option, Some, None, map}
 use Rattle.std.specs.FinMap as map
 use Rattle.std.specs.FinMap.{FinMap}
 use Rattle.std.specs.Ordering.{nat_cmp}

@@ -165,7 +165,7 @@ fn shown(found: Option<&Value>) -> Option<&Value>
     }
 }
 
-fn is_null(value: &Value) -> bool
+pub(crate) fn is_null(value: &Value) -> bool
     ensures { result ≡ is_null (view value.now) }
 {
     match value {

@@ -1,5 +1,5 @@
 //! A node's labels.
-ghost use Rattle.std.specs.Prelude.{◌≡◌, ◌==◌, ◌≤◌, ◌<◌, [], OnOk, OnErr, IfOk, length};
+ghost use Rattle.std.specs.Prelude.{◌≡◌, ◌==◌, ◌≤◌, ◌<◌, ◌∷◌, [], OnOk, OnErr, IfOk, IfSome, length};
 ghost use Rattle.std.specs.List.{list_any, insert as insert_at, remove as remove_at};
 ghost use Rattle.pg_graph.specs.Labels.{names_of};
 ghost use Rattle.pg_graph.specs.Records.{with_label, without_label, AreLabels};
@@ -9,6 +9,7 @@ use crate::sorted::Numbered;
 use pg_names::NameId;
 use std::alloc::{AllocError, Global};
 use std::marker::Model;
+use std::slice;
 
 /// The numbers of a set of names, rising. One label takes no memory beside the node.
 pub struct Labels {
@@ -18,8 +19,9 @@ pub struct Labels {
 
 #[derive(Drop)]
 enum LabelStorage {
-    AtMostOne(Option<NameId>),
-    More(Vec<NameId>),
+    Nothing,
+    One(NameId),
+    More(Box<Vec<NameId>>),
 }
 
 // Written out, since a derived one is proved anew in each function that may let such a value go.
@@ -49,7 +51,8 @@ impl LabelStorage {
         ensures { result.now ≡ names_of self.now }
     {
         match self {
-            LabelStorage::AtMostOne(name) => name.as_slice(),
+            LabelStorage::Nothing => &[],
+            LabelStorage::One(only) => slice::from_ref(only),
             LabelStorage::More(names) => names.as_slice(),
         }
     }
@@ -60,13 +63,8 @@ impl LabelStorage {
         ensures err { OnErr result (names_of self.new ≡ names_of self.old) }
     {
         match self {
-            LabelStorage::AtMostOne(None) => *self = LabelStorage::AtMostOne(Some(name)),
-            LabelStorage::AtMostOne(Some(first)) => {
-                let mut names = Vec::new(alloc);
-                names.push(*first)?;
-                names.insert(place, name)?;
-                *self = LabelStorage::More(names);
-            }
+            LabelStorage::Nothing => *self = LabelStorage::One(name),
+            LabelStorage::One(only) => *self = two(alloc, *only, place, name)?,
             LabelStorage::More(names) => names.insert(place, name)?,
         }
         Ok(())
@@ -77,9 +75,13 @@ impl LabelStorage {
         ensures { names_of self.new ≡ remove_at (names_of self.old) place }
     {
         match self {
-            LabelStorage::AtMostOne(name) => *name = None,
+            LabelStorage::Nothing => {}
+            LabelStorage::One(_) => *self = LabelStorage::Nothing,
             LabelStorage::More(names) => {
                 names.remove(place);
+                if let Some(few) = few(names.as_slice()) {
+                    *self = few;
+                }
             }
         }
     }
@@ -88,11 +90,12 @@ impl LabelStorage {
         ensures { IfOk result (λ h. names_of h ≡ names_of self.now) }
     {
         Ok(match self {
-            LabelStorage::AtMostOne(name) => LabelStorage::AtMostOne(*name),
-            LabelStorage::More(names) => LabelStorage::More(Vec::from_slice(
-                alloc,
-                names.as_slice(),
-            )?),
+            LabelStorage::Nothing => LabelStorage::Nothing,
+            LabelStorage::One(only) => LabelStorage::One(*only),
+            LabelStorage::More(names) => {
+                let copy = Vec::from_slice(alloc, names.as_slice())?;
+                LabelStorage::More(Box::new(alloc, copy)?)
+            }
         })
     }
 }
@@ -104,7 +107,7 @@ impl Labels {
     {
         Labels {
             alloc,
-            held: LabelStorage::AtMostOne(None),
+            held: LabelStorage::Nothing,
         }
     }
 
@@ -150,5 +153,33 @@ impl Labels {
     {
         let held = self.held.copy(alloc)?;
         Ok(Labels { alloc, held })
+    }
+}
+
+// Two labels, of which the node has had one.
+#[inline(never)]
+fn two(
+    alloc: Global,
+    first: NameId,
+    place: usize,
+    second: NameId,
+) -> Result<LabelStorage, AllocError>
+    requires { place ≤ 1 }
+    ensures { IfOk result (λ h. names_of h ≡ insert_at (first ∷ []) place second) }
+{
+    let mut names = Vec::with_capacity(alloc, 2)?;
+    names.push(first)?;
+    names.insert(place, second)?;
+    Ok(LabelStorage::More(Box::new(alloc, names)?))
+}
+
+// What takes no memory beside the node, where there is one label at most.
+fn few(names: &[NameId]) -> Option<LabelStorage>
+    ensures { IfSome result (λ h. names_of h ≡ names.now) }
+{
+    match names {
+        [] => Some(LabelStorage::Nothing),
+        [only] => Some(LabelStorage::One(*only)),
+        _ => None,
     }
 }

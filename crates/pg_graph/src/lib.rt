@@ -4,6 +4,7 @@
 mod by_id;
 mod by_text;
 mod id_set;
+mod in_order;
 mod labels;
 mod laws;
 mod links;

@@ -1,9 +1,10 @@
 //! One node and one relationship, lent to read.
-ghost use Rattle.std.specs.Prelude.{◌≡◌, map as map_list, bytes_eq, IfOk};
+ghost use Rattle.std.specs.Prelude.{◌≡◌, map as map_list, bytes_eq, string_bytes, IfOk};
 ghost use Rattle.std.specs.Option.{option_map};
 ghost use Rattle.pg_meaning.specs.Entries.{at_key};
 ghost use Rattle.pg_meaning.specs.Graph.{node_at, other_end, relationship_at};
 ghost use Rattle.pg_meaning.specs.Names.{is_among};
+ghost use Rattle.pg_graph.specs.InOrder.{listed_entries};
 ghost use Rattle.pg_graph.specs.Refinement.{node_of};
 ghost use Rattle.pg_store.specs.Stores.{node_texts_view, rel_texts_view};
 ghost use Rattle.pg_store.specs.Views.{IsNamedNode};
@@ -73,11 +74,25 @@ impl<'a, T: Tables> NodeView<'a, T> {
         self.record.labels.texts(alloc, &self.shared.names)
     }
 
+    /// The labels, in byte order, in memory of their own.
+    pub fn label_texts(&self, alloc: Global) -> Result<Vec<String>, AllocError>
+        ensures { IfOk result (λ texts. map_list string_bytes texts.items ≡ self.now.labels) }
+    {
+        strings_of(alloc, &self.labels(alloc)?)
+    }
+
+    /// The properties in the byte order of their keys, lent.
+    pub fn properties(&self, alloc: Global) -> Result<Vec<(&'a str, &'a Value)>, AllocError>
+        ensures { IfOk result (λ found. listed_entries found.items ≡ self.now.properties) }
+    {
+        self.record.properties.in_order(alloc, &self.shared.names)
+    }
+
     /// What the node holds, in memory of its own.
     pub fn texts(&self, alloc: Global) -> Result<NodeTexts, AllocError>
         ensures { IfOk result (λ texts. node_texts_view texts ≡ self.now) }
     {
-        let labels = strings_of(alloc, &self.labels(alloc)?)?;
+        let labels = self.label_texts(alloc)?;
         let properties = self.record.properties.by_text(alloc, &self.shared.names)?;
         Ok(NodeTexts { labels, properties })
     }
@@ -150,6 +165,13 @@ impl<'a, T: Tables> RelView<'a, T> {
         ensures { option_map (λ v. view v.now) result ≡ at_key key.now self.now.properties }
     {
         self.record.properties.get_text(&self.shared.names, key)
+    }
+
+    /// The properties in the byte order of their keys, lent.
+    pub fn properties(&self, alloc: Global) -> Result<Vec<(&'a str, &'a Value)>, AllocError>
+        ensures { IfOk result (λ found. listed_entries found.items ≡ self.now.properties) }
+    {
+        self.record.properties.in_order(alloc, &self.shared.names)
     }
 
     /// What the relationship holds, in memory of its own.

@@ -1,5 +1,5 @@
 -- The data of an element, and its tokens, written in three steps.
-use Rattle.std.proofs.Common.{◌≡◌, Bool, List, ◌++◌, [], ◌∷◌, String, Vec, BTreeMap, Global, string_bytes, codes, decimal, rules, sym, ap, ◌∙◌, append_assoc}
+use Rattle.std.proofs.Common.{◌≡◌, Bool, List, ◌++◌, [], ◌∷◌, String, Vec, Global, string_bytes, codes, decimal, rules, sym, ap, ◌∙◌, append_assoc}
 use Rattle.json.specs.Token.{Token, begin_object, end_object, key, number}
 use Rattle.json.specs.Tree.{json_tokens}
 use Rattle.serde_json.specs.Data.{null, boolean, array, object, string}
@@ -22,15 +22,15 @@ data_text text = search (rules, the_lemmas)
 pub data_list : (items : Vec Out Global) → data_of (OutList items) ≡ array (outs items.items)
 data_list items = search (rules, the_lemmas)
 
-pub data_map : (members : BTreeMap (String Global) Out) → data_of (OutMap members) ≡ object (named_outs members.entries)
+pub data_map : (members : Vec (String Global × Out) Global) → data_of (OutMap members) ≡ object (named_outs members.items)
 data_map members = search (rules, the_lemmas)
 
-pub data_node : (id : NodeId) (labels : Vec (String Global) Global) (ps : BTreeMap (String Global) Out)
-    → data_of (Node id labels ps) ≡ node_data id.0 (text_items labels.items) (named_outs ps.entries)
+pub data_node : (id : NodeId) (labels : Vec (String Global) Global) (ps : Vec (String Global × Out) Global)
+    → data_of (Node id labels ps) ≡ node_data id.0 (text_items labels.items) (named_outs ps.items)
 data_node id labels ps = search (rules, the_lemmas)
 
-pub data_rel : (id : RelId) (kind : String Global) (start end : NodeId) (ps : BTreeMap (String Global) Out)
-    → data_of (Rel id kind start end ps) ≡ rel_data id.0 end.0 (named_outs ps.entries) start.0 (string_bytes kind)
+pub data_rel : (id : RelId) (kind : String Global) (start end : NodeId) (ps : Vec (String Global × Out) Global)
+    → data_of (Rel id kind start end ps) ≡ rel_data id.0 end.0 (named_outs ps.items) start.0 (string_bytes kind)
 data_rel id kind start end ps = search (rules, the_lemmas)
 
 pub data_path : (elements : Vec Out Global) → data_of (Path elements) ≡ path_data (outs elements.items)
@@ -41,13 +41,13 @@ pub around : (a b c d before inside behind : List Token) → b ≡ a ++ before �
 around a b c d before inside behind first second third =
     third ∙ ap (λ ts. ts ++ behind) (second ∙ ap (λ ts. ts ++ inside) first) ∙ append_assoc (a ++ before) inside behind ∙ append_assoc a before (inside ++ behind)
 
-pub node_written : (a b c d : List Token) (id : NodeId) (labels : Vec (String Global) Global) (ps : BTreeMap (String Global) Out)
-    → b ≡ a ++ node_begun id.0 (text_items labels.items) → c ≡ b ++ json_tokens (outline (object (named_outs ps.entries))) → d ≡ c ++ end_object ∷ []
+pub node_written : (a b c d : List Token) (id : NodeId) (labels : Vec (String Global) Global) (ps : Vec (String Global × Out) Global)
+    → b ≡ a ++ node_begun id.0 (text_items labels.items) → c ≡ b ++ json_tokens (outline (object (named_outs ps.items))) → d ≡ c ++ end_object ∷ []
     → d ≡ a ++ json_tokens (outline (data_of (Node id labels ps)))
 node_written a b c d id labels ps first second third =
     let named : List Token = json_tokens (outline (array (text_items labels.items))) in
     let opened : List Token = key (codes "properties") ∷ [] in
-    let inside : List Token = json_tokens (outline (object (named_outs ps.entries))) in
+    let inside : List Token = json_tokens (outline (object (named_outs ps.items))) in
     around a b c d (node_begun id.0 (text_items labels.items)) inside (end_object ∷ []) first second third
     ∙ ap (λ ts. a ++ (begin_object ∷ key (codes "$node") ∷ number (decimal id.0) ∷ key (codes "labels") ∷ ts)) (append_assoc named opened (inside ++ (end_object ∷ [])))
     ∙ ap (λ d. a ++ json_tokens (outline d)) (sym (data_node id labels ps))

@@ -1,5 +1,5 @@
 -- What is left of the room, a part of a value at a time.
-use Rattle.std.proofs.Common.{◌≡◌, ◌+◌, ◌-◌, ◌<◌, ◌≤◌, ◌∷◌, ◌∙◌, ℕ, List, map, drop, get_or, sym, ap, length, decimal, String, Vec, BTreeMap, Global, string_bytes, refl, arith}
+use Rattle.std.proofs.Common.{◌≡◌, ◌+◌, ◌-◌, ◌<◌, ◌≤◌, ◌∷◌, ◌∙◌, ℕ, List, map, drop, get_or, sym, ap, length, decimal, String, Vec, Global, string_bytes, refl, arith}
 use Rattle.std.proofs.lemmas.List.{drop_more, drop_all}
 use Rattle.serde_json.specs.Data.{Data}
 use Rattle.pg_value_core.specs.declared.ids.NodeId.{NodeId}
@@ -20,15 +20,15 @@ text_least text = rw (data_text text) refl
 pub list_least : (items : Vec Out Global) → 1 + items_least (outs items.items) ≡ least (data_of (OutList items))
 list_least items = rw (data_list items) (omega arith)
 
-pub map_least : (members : BTreeMap (String Global) Out) → 1 + members_least (named_outs members.entries) ≡ least (data_of (OutMap members))
+pub map_least : (members : Vec (String Global × Out) Global) → 1 + members_least (named_outs members.items) ≡ least (data_of (OutMap members))
 map_least members = rw (data_map members) (omega arith)
 
-pub node_least : (id : NodeId) (labels : Vec (String Global) Global) (ps : BTreeMap (String Global) Out)
-    → 36 + length (decimal id.0) + items_least (text_items labels.items) + members_least (named_outs ps.entries) ≡ least (data_of (Node id labels ps))
+pub node_least : (id : NodeId) (labels : Vec (String Global) Global) (ps : Vec (String Global × Out) Global)
+    → 36 + length (decimal id.0) + items_least (text_items labels.items) + members_least (named_outs ps.items) ≡ least (data_of (Node id labels ps))
 node_least id labels ps = rw (data_node id labels ps) (omega arith)
 
-pub rel_least : (id : RelId) (kind : String Global) (start end : NodeId) (ps : BTreeMap (String Global) Out)
-    → 48 + length (decimal id.0) + length (decimal start.0) + length (decimal end.0) + (length (string_bytes kind) + 2 + members_least (named_outs ps.entries)) ≡ least (data_of (Rel id kind start end ps))
+pub rel_least : (id : RelId) (kind : String Global) (start end : NodeId) (ps : Vec (String Global × Out) Global)
+    → 48 + length (decimal id.0) + length (decimal start.0) + length (decimal end.0) + (length (string_bytes kind) + 2 + members_least (named_outs ps.items)) ≡ least (data_of (Rel id kind start end ps))
 rel_least id kind start end ps = rw (data_rel id kind start end ps) (omega arith)
 
 pub path_least : (elements : Vec Out Global) → 11 + items_least (outs elements.items) ≡ least (data_of (Path elements))
@@ -44,6 +44,18 @@ behind_member room s r key value rest first second = omega (arith, first, second
 
 pub behind_none : (room : ℕ) → room - 0 ≡ room
 behind_none room = omega arith
+
+abbrev members_need : List (String Global × Out) → ℕ
+members_need ms = members_least (named_outs ms)
+
+pub members_behind : (room s r : ℕ) (ms : List (String Global × Out)) (i : ℕ) (m : String Global × Out) → i < length ms → m ≡ get_or ms i m
+    → r ≡ room - (length (string_bytes m.0) + 4) → s ≡ r - least (data_of m.1) → room - members_need (drop i ms) ≡ s - members_need (drop (i + 1) ms)
+members_behind room s r ms i m within is first second =
+    ap (λ ys. room - members_need ys) (drop_more ms i m within ∙ ap (λ y. y ∷ drop (i + 1) ms) (sym is))
+    ∙ behind_member room s r (length (string_bytes m.0) + 4) (least (data_of m.1)) (members_need (drop (i + 1) ms)) first second
+
+pub all_behind : (room : ℕ) (ms : List (String Global × Out)) (i : ℕ) → length ms ≤ i → room - members_need (drop i ms) ≡ room
+all_behind room ms i passed = ap (λ ys. room - members_need ys) (drop_all i ms passed) ∙ behind_none room
 
 pub nothing_behind : (room n : ℕ) → room ≡ 0 → room - n ≡ 0
 nothing_behind room n e = omega (arith, e)

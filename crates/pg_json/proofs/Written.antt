@@ -1,7 +1,7 @@
 -- The tokens of lists and maps, a part at a time.
-use Rattle.std.proofs.Common.{◌≡◌, ◌+◌, ◌<◌, ◌≤◌, ℕ, List, ◌++◌, [], ◌∷◌, length, map, drop, get_or, String, Vec, BTreeMap, Global, string_bytes, sym, ap, ◌∙◌, append_assoc}
+use Rattle.std.proofs.Common.{◌≡◌, ◌+◌, ◌<◌, ◌≤◌, ℕ, List, ◌++◌, [], ◌∷◌, length, map, drop, get_or, String, Vec, Global, string_bytes, sym, ap, ◌∙◌, append_assoc}
 use Rattle.std.proofs.lemmas.List.{drop_more, drop_all}
-use Rattle.json.specs.Token.{Token, end_array, key}
+use Rattle.json.specs.Token.{Token, end_array, end_object, key}
 use Rattle.json.specs.Tree.{json_tokens, items_tokens, members_tokens}
 use Rattle.serde_json.specs.Data.{Data, array, object}
 use Rattle.serde_json.specs.Written.{outline, items_outline, members_outline}
@@ -18,9 +18,11 @@ list_written a d items es same all =
     all ∙ ap (λ xs. a ++ json_tokens (outline (array (outs xs)))) same
     ∙ ap (λ shown. a ++ json_tokens (outline shown)) (sym (data_list items))
 
-pub map_written : (a d : List Token) (members : BTreeMap (String Global) Out) → d ≡ a ++ json_tokens (outline (object (named_outs members.entries)))
-    → d ≡ a ++ json_tokens (outline (data_of (OutMap members)))
-map_written a d members all = all ∙ ap (λ shown. a ++ json_tokens (outline shown)) (sym (data_map members))
+pub map_written : (a d : List Token) (members : Vec (String Global × Out) Global) (ms : List (String Global × Out)) → ms ≡ members.items
+    → d ≡ a ++ json_tokens (outline (object (named_outs ms))) → d ≡ a ++ json_tokens (outline (data_of (OutMap members)))
+map_written a d members ms same all =
+    all ∙ ap (λ xs. a ++ json_tokens (outline (object (named_outs xs)))) same
+    ∙ ap (λ shown. a ++ json_tokens (outline shown)) (sym (data_map members))
 
 -- a list whose items are seen as data in one way
 module _ {X : Type 0} (shown : X → Data) where
@@ -37,12 +39,22 @@ module _ {X : Type 0} (shown : X → Data) where
   pub items_written : (a b : List Token) (xs : List X) (i : ℕ) → length xs ≤ i → b ≡ a ++ end_array ∷ [] → b ≡ a ++ written_list (drop i xs)
   items_written a b xs i all last = last ∙ ap (λ ys. a ++ written_list ys) (sym (drop_all i xs all))
 
-pub member_written : (a b d : List Token) (k : String Global) (name : List ℕ) (e : Out) (more : List (String Global × Out))
+member_written_before : (a b d : List Token) (k : String Global) (name : List ℕ) (e : Out) (more : List (String Global × Out))
     → name ≡ string_bytes k → b ≡ a ++ key name ∷ [] → d ≡ b ++ json_tokens (outline (data_of e))
     → d ++ written_members more ≡ a ++ written_members ((k, e) ∷ more)
-member_written a b d k name e more same first second =
+member_written_before a b d k name e more same first second =
     let value : List Token = json_tokens (outline (data_of e)) in
     ap (λ ts. ts ++ written_members more) (second ∙ ap (λ ts. ts ++ value) first)
     ∙ append_assoc (a ++ key name ∷ []) value (written_members more)
     ∙ append_assoc a (key name ∷ []) (value ++ written_members more)
     ∙ ap (λ s. a ++ (key s ∷ (value ++ written_members more))) same
+
+pub member_written : (a b d : List Token) (ms : List (String Global × Out)) (i : ℕ) (m : String Global × Out) (name : List ℕ) → i < length ms → m ≡ get_or ms i m
+    → name ≡ string_bytes m.0 → b ≡ a ++ key name ∷ [] → d ≡ b ++ json_tokens (outline (data_of m.1))
+    → d ++ written_members (drop (i + 1) ms) ≡ a ++ written_members (drop i ms)
+member_written a b d ms i m name within is same first second =
+    member_written_before a b d m.0 name m.1 (drop (i + 1) ms) same first second
+    ∙ ap (λ ys. a ++ written_members ys) (sym (drop_more ms i m within ∙ ap (λ y. y ∷ drop (i + 1) ms) (sym is)))
+
+pub members_written : (a b : List Token) (ms : List (String Global × Out)) (i : ℕ) → length ms ≤ i → b ≡ a ++ end_object ∷ [] → b ≡ a ++ written_members (drop i ms)
+members_written a b ms i all last = last ∙ ap (λ ys. a ++ written_members ys) (sym (drop_all i ms all))

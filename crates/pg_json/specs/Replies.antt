@@ -43,9 +43,9 @@ data_step (Out-F.Bool b) = boolean b
 data_step (Out-F.Int z) = number (of_integer z)
 data_step (Out-F.Text s) = string (string_bytes s)
 data_step (Out-F.List ds) = array (items_of ds.items)
-data_step (Out-F.Map ms) = object (members_of ms.entries)
-data_step (Out-F.Node id labels ps) = node_data id.0 (text_items labels.items) (members_of ps.entries)
-data_step (Out-F.Rel id kind start end ps) = rel_data id.0 end.0 (members_of ps.entries) start.0 (string_bytes kind)
+data_step (Out-F.Map ms) = object (members_of ms.items)
+data_step (Out-F.Node id labels ps) = node_data id.0 (text_items labels.items) (members_of ps.items)
+data_step (Out-F.Rel id kind start end ps) = rel_data id.0 end.0 (members_of ps.items) start.0 (string_bytes kind)
 data_step (Out-F.Path ds) = path_data (items_of ds.items)
 
 abbrev pub data_of : Out → Data

@@ -5,7 +5,6 @@ ghost use Rattle.pg_json.specs.Replies.{data_of, outs, named_outs, text_items};
 ghost use Rattle.pg_json.specs.Room.{least, items_least, members_least};
 
 use pg_value_core::Out;
-use std::collections::BTreeMap;
 
 /// What is left of the room behind the value's text, which is at least as long as counted here; 0 also where
 /// there was too little.
@@ -55,10 +54,10 @@ fn room_behind_items(mut room: usize, items: &[Out]) -> usize
 }
 
 #[cycle(room)]
-fn room_behind_members(mut room: usize, members: &BTreeMap<String, Out>) -> usize
-    ensures { result ≡ room - members_least (named_outs members.now.entries) }
+fn room_behind_members(mut room: usize, members: &[(String, Out)]) -> usize
+    ensures { result ≡ room - members_least (named_outs members.now) }
 {
-    for (key, member) in members.iter() {
+    for (key, member) in members {
         if room == 0 {
             return 0;
         }

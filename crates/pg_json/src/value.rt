@@ -10,7 +10,6 @@ ghost use Rattle.pg_json.specs.Elements.{node_begun, rel_begun, rel_ended};
 use json::Writer;
 use pg_value_core::{NodeId, Out, RelId};
 use std::alloc::AllocError;
-use std::collections::BTreeMap;
 
 #[cycle(write)]
 fn write(value: &Out, to: &mut Writer) -> Result<(), AllocError>
@@ -67,13 +66,13 @@ pub(crate) fn write_items(items: &[Out], to: &mut Writer) -> Result<(), AllocErr
 }
 
 #[cycle(write)]
-fn write_members(members: &BTreeMap<String, Out>, to: &mut Writer) -> Result<(), AllocError>
+fn write_members(members: &[(String, Out)], to: &mut Writer) -> Result<(), AllocError>
     ensures ok { OnOk result (to.new.tokens
-        ≡ to.old.tokens ++ json_tokens (outline (object (named_outs members.now.entries)))) }
+        ≡ to.old.tokens ++ json_tokens (outline (object (named_outs members.now)))) }
     ensures before { to.new.before ≡ to.old.before }
 {
     to.begin_object()?;
-    for (key, member) in members.iter() {
+    for (key, member) in members {
         to.key(key)?;
         write(member, to)?;
     }

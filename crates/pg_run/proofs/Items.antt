@@ -6,8 +6,7 @@ use Rattle.pg_json.specs.Room.{least, items_least}
 use Rattle.pg_meaning.specs.Answer.{◌>>◌}
 use Rattle.pg_meaning.specs.Graph.{Graph}
 use Rattle.pg_meaning.specs.Queries.{test_output, test_items}
-use Rattle.pg_run.proofs.Ways.{Way}
-use Rattle.pg_run.specs.Printed.{printed, printed_items}
+use Rattle.pg_run.specs.Printed.{printed, printed_items, stored_data, stored_items}
 use Rattle.pg_run.specs.Spelt.{ListSpelt}
 use Rattle.pg_value_core.specs.View.{view, values_view}
 use Rattle.pg_value_core.specs.declared.out.Out.{Out}
@@ -26,29 +25,19 @@ pub outs_before-push : (os : List Out) (o : Out) (ds : Items) → outs_before (o
 outs_before-push [] o ds = refl
 outs_before-push (x ∷ os) o ds = ap (item (data_of x)) (outs_before-push os o ds)
 
--- what is left of a list, after those that are spelt out
-pub record ItemsSpelt (way : Way) (all rest : List Value) (found : List Out) : Type 0 where
-  pub tests : way.test_items (values_view all) ≡ way.test_items (values_view rest)
-  pub shown : way.items (values_view all) ≡ outs_before found (way.items (values_view rest))
+-- what is left of a list that is stored, after those that are spelt out
+abbrev pub ItemsStored : (all rest : List Value) → List Out → Type 0
+ItemsStored all rest found = stored_items (values_view all) ≡ outs_before found (stored_items (values_view rest))
 
-module _ (way : Way) where
-  pub one_item_spelt : (all rest more : List Value) (found : List Out) (v : Value) (out : Out) → ItemsSpelt way all rest found → rest ≡ v ∷ more
-      → way.test (view v) ≡ Ok tt → data_of out ≡ way.one (view v) → ItemsSpelt way all more (found ++ out ∷ [])
-  one_item_spelt all rest more found v out so_far is live same = record {
-    tests = so_far.tests ∙ ap (λ vs. way.test_items (values_view vs)) is ∙ way.test_items_more (view v) (values_view more)
-        ∙ ap (λ r. r >> way.test_items (values_view more)) live;
-    shown = so_far.shown ∙ ap (λ vs. outs_before found (way.items (values_view vs))) is
-        ∙ ap (outs_before found) (way.items_more (view v) (values_view more))
-        ∙ ap (λ d. outs_before found (item d (way.items (values_view more)))) (sym same) ∙ sym (outs_before-push found out (way.items (values_view more)));
-  }
+pub one_item_stored : (all rest more : List Value) (found : List Out) (v : Value) (out : Out) → ItemsStored all rest found → rest ≡ v ∷ more
+    → data_of out ≡ stored_data (view v) → ItemsStored all more (found ++ out ∷ [])
+one_item_stored all rest more found v out so_far is same =
+    so_far ∙ ap (λ vs. outs_before found (stored_items (values_view vs))) is
+    ∙ ap (λ d. outs_before found (item d (stored_items (values_view more)))) (sym same) ∙ sym (outs_before-push found out (stored_items (values_view more)))
 
-  pub all_items_spelt : (all rest : List Value) (found : List Out) → ItemsSpelt way all rest found → length rest ≡ 0
-      → (way.test_items (values_view all) ≡ Ok tt) × (outs found ≡ way.items (values_view all))
-  all_items_spelt all [] found so_far is = (
-    so_far.tests ∙ way.test_items_end,
-    sym (so_far.shown ∙ ap (outs_before found) way.items_end ∙ outs_before-nothing found),
-  )
-  all_items_spelt all (v ∷ rest) found so_far is = absurd (omega arith)
+pub all_items_stored : (all rest : List Value) (found : List Out) → ItemsStored all rest found → length rest ≡ 0 → outs found ≡ stored_items (values_view all)
+all_items_stored all [] found so_far is = sym (so_far ∙ outs_before-nothing found)
+all_items_stored all (v ∷ rest) found so_far is = absurd (omega (arith, is))
 
 -- ---- while there is room
 

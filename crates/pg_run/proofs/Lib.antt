@@ -11,5 +11,4 @@ pub mod Spelts
 pub mod Tells
 pub mod Told
 pub mod ValueLemmas
-pub mod Ways
 pub mod PrintedInstances

@@ -3,13 +3,14 @@ use Rattle.std.proofs.Common.{◌≡◌, ◌≢◌, ℕ, ◌+◌, ◌-◌, Bool,
 use Rattle.serde_json.specs.Data.{Data}
 use Rattle.serde_json.specs.Data as json
 use Rattle.pg_json.specs.Replies.{data_of}
+use Rattle.pg_json.proofs.Elements.{data_list, data_map}
 use Rattle.pg_json.specs.Room.{least, items_least, members_least}
 use Rattle.pg_meaning.specs.Graph.{Graph}
 use Rattle.pg_meaning.specs.Queries.{test_entries, test_items, test_output}
 use Rattle.pg_meaning.specs.Value.{Values, Entries}
 use Rattle.pg_meaning.specs.declared.fault.Fault.{Fault}
 use Rattle.pg_meaning.specs.declared.fault.Fault.TheVariants.{OutOfMemory}
-use Rattle.pg_run.proofs.ValueLemmas.{null_seen, bool_seen, int_seen, text_seen, list_seen, map_seen, null_shown, bool_shown, int_shown, text_shown, data_list, data_map}
+use Rattle.pg_run.proofs.ValueLemmas.{null_seen, bool_seen, int_seen, text_seen, list_seen, map_seen, null_shown, bool_shown, int_shown, text_shown}
 use Rattle.pg_run.specs.Printed.{printed_items, printed_members}
 use Rattle.pg_run.specs.Spelt.{Spelt, DataSpelt, ValueSpelt, ListSpelt, MapSpelt}
 use Rattle.pg_value_core.specs.View.{entries_view, values_view, view}
@@ -64,7 +65,7 @@ module _ (graph : Graph) (old less new : ℕ) (first : less ≡ old - 1) where
     err = tt;
   }
 
-  pub map_spelt : (es : Entries) (found : BTreeMap (String Global) Out) → MapSpelt graph es (Ok found) less new → DataSpelt (test_entries graph es) (json.object (printed_members graph es)) (Ok (out.Map found)) old new
+  pub map_spelt : (es : Entries) (found : Vec (String Global × Out) Global) → MapSpelt graph es (Ok found) less new → DataSpelt (test_entries graph es) (json.object (printed_members graph es)) (Ok (out.Map found)) old new
   map_spelt es found h = record {
     live = h.live;
     room = room_inside old less new (members_least (printed_members graph es)) first h.room;

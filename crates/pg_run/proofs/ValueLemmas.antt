@@ -2,7 +2,8 @@
 use Rattle.std.proofs.Common.{◌≡◌, ℕ, List, ◌∷◌, Err, Vec, BTreeMap, String, Global, Bool, ℤ, string_bytes, rules, sym, ap, ◌∙◌}
 use Rattle.serde_json.specs.Data as json
 use Rattle.serde_json.specs.Find.{of_integer}
-use Rattle.pg_json.specs.Replies.{data_of, named_outs, outs}
+use Rattle.pg_json.specs.Replies.{data_of}
+use Rattle.pg_json.proofs.Elements.{data_null, data_bool, data_text}
 use Rattle.pg_meaning.specs.Answer.{◌>>◌}
 use Rattle.pg_meaning.specs.Graph.{Graph}
 use Rattle.pg_meaning.specs.Queries.{test_entries, test_items, test_output}
@@ -10,7 +11,7 @@ use Rattle.pg_meaning.specs.Value as seen
 use Rattle.pg_meaning.specs.declared.fault.Fault.{Fault}
 use Rattle.pg_run.proofs.Items.{ItemsWithin}
 use Rattle.pg_run.proofs.Members.{MembersWithin, Named, Pair}
-use Rattle.pg_run.specs.Printed.{printed, stored_data, stored_items, stored_members}
+use Rattle.pg_run.specs.Printed.{printed}
 use Rattle.pg_value_core.specs.View.{entries_view, values_view, view}
 use Rattle.pg_value_core.specs.declared.ids.NodeId.{NodeId}
 use Rattle.pg_value_core.specs.declared.ids.Path.{Path}
@@ -49,23 +50,8 @@ view_rel id = search (rules, value.the_lemmas)
 view_path : (path : Path) → view (value.Path path) ≡ seen.path path.0.items
 view_path path = search (rules, value.the_lemmas)
 
-data_null : data_of out.Null ≡ json.null
-data_null = search (rules, out.the_lemmas)
-
-data_bool : (b : Bool) → data_of (out.Bool b) ≡ json.boolean b
-data_bool b = search (rules, out.the_lemmas)
-
 data_int : (i : ℤ) → data_of (out.Int i) ≡ json.number (of_integer i)
 data_int i = search (rules, out.the_lemmas)
-
-data_text : (s : String Global) → data_of (out.Text s) ≡ json.string (string_bytes s)
-data_text s = search (rules, out.the_lemmas)
-
-pub data_list : (found : Vec Out Global) → data_of (out.List found) ≡ json.array (outs found.items)
-data_list found = search (rules, out.the_lemmas)
-
-pub data_map : (found : BTreeMap (String Global) Out) → data_of (out.Map found) ≡ json.object (named_outs found.entries)
-data_map found = search (rules, out.the_lemmas)
 
 module _ (v : Value) where
   pub null_seen : v ≡ value.Null → view v ≡ seen.null
@@ -108,26 +94,11 @@ module _ (graph : Graph) (v : Value) where
   pub text_shown : (s : String Global) → v ≡ value.Text s → data_of (out.Text s) ≡ printed graph (view v)
   text_shown s e = data_text s ∙ ap (printed graph) (sym (text_seen v s e))
 
--- ---- values that are stored
-
-module _ (v : Value) where
-  pub bool_stored : (b : Bool) → v ≡ value.Bool b → data_of (out.Bool b) ≡ stored_data (view v)
-  bool_stored b e = data_bool b ∙ ap stored_data (sym (bool_seen v b e))
-
-  pub text_stored : (s : String Global) → v ≡ value.Text s → data_of (out.Text s) ≡ stored_data (view v)
-  text_stored s e = data_text s ∙ ap stored_data (sym (text_seen v s e))
-
-  pub list_stored : (items : Vec Value Global) (found : Vec Out Global) → v ≡ value.List items → outs found.items ≡ stored_items (values_view items.items) → data_of (out.List found) ≡ stored_data (view v)
-  list_stored items found e same = data_list found ∙ ap json.array same ∙ ap stored_data (sym (list_seen v items e))
-
-  pub map_stored : (entries : BTreeMap (String Global) Value) (found : BTreeMap (String Global) Out) → v ≡ value.Map entries → named_outs found.entries ≡ stored_members (entries_view entries.entries) → data_of (out.Map found) ≡ stored_data (view v)
-  map_stored entries found e same = data_map found ∙ ap json.object same ∙ ap stored_data (sym (map_seen v entries e))
-
 -- ---- the first fault
 
 module _ (graph : Graph) (start room : ℕ) where
   pub item_refused : (all rest more : List Value) (found : List Out) (v : Value) (e : Fault) → ItemsWithin graph start room all rest found → rest ≡ v ∷ more → test_output graph (view v) ≡ Err e → test_items graph (values_view all) ≡ Err e
   item_refused all rest more found v e so_far is fault = so_far.tests ∙ ap (λ vs. test_items graph (values_view vs)) is ∙ ap (λ t. t >> test_items graph (values_view more)) fault
 
-  pub entry_refused : (all rest more : List Pair) (found : List Named) (p : Pair) (e : Fault) → MembersWithin graph start room all rest found → rest ≡ p ∷ more → test_output graph (view p.1) ≡ Err e → test_entries graph (entries_view all) ≡ Err e
+  pub entry_refused : (all rest more : List Pair) (found : List Named) (p : Pair) (e : Fault) → MembersWithin graph start room (entries_view all) (entries_view rest) found → rest ≡ p ∷ more → test_output graph (view p.1) ≡ Err e → test_entries graph (entries_view all) ≡ Err e
   entry_refused all rest more found p e so_far is fault = so_far.tests ∙ ap (λ es. test_entries graph (entries_view es)) is ∙ ap (λ t. t >> test_entries graph (entries_view more)) fault

@@ -1,6 +1,5 @@
 -- What stands for a value of a query, spelt out while there is room for its text.
 use Rattle.std.specs.Prelude.{◌≡◌, ◌≢◌, ℕ, ◌-◌, Vec, String, Result, Ok, Err, IfOk, IfErr}
-use Rattle.std.specs.BTreeMap.{BTreeMap}
 use Rattle.std.specs.declared.alloc.Global.{Global}
 use Rattle.serde_json.specs.Data.{Data}
 use Rattle.pg_json.specs.Replies.{data_of, outs, named_outs}
@@ -30,5 +29,5 @@ module _ (graph : Graph) where
   abbrev pub ListSpelt : Values → Result (Vec Out Global) Fault → (old new : ℕ) → Type 0
   ListSpelt vs = Spelt (test_items graph vs) (items_least (printed_items graph vs)) (λ found. outs found.items ≡ printed_items graph vs)
 
-  abbrev pub MapSpelt : Entries → Result (BTreeMap (String Global) Out) Fault → (old new : ℕ) → Type 0
-  MapSpelt es = Spelt (test_entries graph es) (members_least (printed_members graph es)) (λ found. named_outs found.entries ≡ printed_members graph es)
+  abbrev pub MapSpelt : Entries → Result (Vec (String Global × Out) Global) Fault → (old new : ℕ) → Type 0
+  MapSpelt es = Spelt (test_entries graph es) (members_least (printed_members graph es)) (λ found. named_outs found.items ≡ printed_members graph es)

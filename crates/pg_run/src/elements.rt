@@ -10,7 +10,7 @@ ghost use Rattle.pg_run.specs.Spelt.{DataSpelt};
 
 use crate::presence::test_path;
 use crate::room::within;
-use crate::stored::spell_stored_entries;
+use crate::stored::spell_properties;
 use pg_graph::Tables;
 use pg_meaning::Fault;
 use pg_store::GraphView;
@@ -61,11 +61,11 @@ fn whole_node<T: Tables>(alloc: Global, graph: &GraphView<'_, T>, id: NodeId) ->
     ensures err { IfErr result (λ e. e ≢ OutOfMemory
         → test_present (has_node graph.now id.0) ≡ Err e) }
 {
-    match graph.node_texts(alloc, id)? {
+    match graph.node(id) {
         Some(node) => Ok(Out::Node {
             id,
-            labels: node.labels,
-            properties: spell_stored_entries(alloc, node.properties)?,
+            labels: node.label_texts(alloc)?,
+            properties: spell_properties(alloc, &node.properties(alloc)?)?,
         }),
         None => Err(Fault::DeletedEntity),
     }
@@ -78,13 +78,13 @@ fn whole_rel<T: Tables>(alloc: Global, graph: &GraphView<'_, T>, id: RelId) -> R
     ensures err { IfErr result (λ e. e ≢ OutOfMemory
         → test_present (has_relationship graph.now id.0) ≡ Err e) }
 {
-    match graph.rel_texts(alloc, id)? {
+    match graph.rel(id) {
         Some(rel) => Ok(Out::Rel {
             id,
-            kind: rel.kind,
-            start: rel.source,
-            end: rel.target,
-            properties: spell_stored_entries(alloc, rel.properties)?,
+            kind: String::from_str(alloc, rel.kind())?,
+            start: rel.source(),
+            end: rel.target(),
+            properties: spell_properties(alloc, &rel.properties(alloc)?)?,
         }),
         None => Err(Fault::DeletedEntity),
     }

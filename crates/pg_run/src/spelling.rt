@@ -100,15 +100,15 @@ fn spell_entries<T: Tables>(
     graph: &GraphView<'_, T>,
     entries: &BTreeMap<String, Value>,
     room: &mut usize,
-) -> Result<BTreeMap<String, Out>, Fault>
+) -> Result<Vec<(String, Out)>, Fault>
     ensures { MapSpelt graph.now (entries_view entries.now.entries) result room.old room.new }
 {
-    let mut found = BTreeMap::new(alloc);
+    let mut found = Vec::with_capacity(alloc, entries.len())?;
     for (key, value) in entries.iter() {
         *room = room.saturating_sub(4).saturating_sub(key.len());
         let out = spell(alloc, graph, value, room)?;
         let name = String::from_str(alloc, key.as_str())?;
-        drop(found.insert(name, out)?);
+        found.push((name, out))?;
     }
     Ok(found)
 }

@@ -1,46 +1,67 @@
 //! Values that are stored, spelt out: they hold no element.
 ghost use Rattle.std.specs.Prelude.{◌≡◌, IfOk};
-ghost use Rattle.pg_json.specs.Replies.{data_of, named_outs};
-ghost use Rattle.pg_run.specs.Printed.{stored_data, stored_members};
-ghost use Rattle.pg_value_core.specs.View.{view, entries_view};
+ghost use Rattle.pg_graph.specs.InOrder.{listed_entries};
+ghost use Rattle.pg_json.specs.Replies.{data_of, outs, named_outs};
+ghost use Rattle.pg_run.specs.Printed.{stored_data, stored_items, stored_members};
+ghost use Rattle.pg_value_core.specs.View.{view, values_view, entries_view};
 
-use pg_value_core::{Out, Parts, Value};
+use pg_value_core::{Out, Value};
 use std::alloc::{AllocError, Global};
 use std::collections::BTreeMap;
 
 #[cycle(stored)]
-fn spell_stored(alloc: Global, value: Value) -> Result<Out, AllocError>
-    ensures { IfOk result (λ out. data_of out ≡ stored_data (view value)) }
+fn spell_stored(alloc: Global, value: &Value) -> Result<Out, AllocError>
+    ensures { IfOk result (λ out. data_of out ≡ stored_data (view value.now)) }
 {
-    match value.into_parts() {
-        Parts::Bool(b) => Ok(Out::Bool(b)),
-        Parts::Int(i) => Ok(Out::Int(i)),
-        Parts::Text(text) => Ok(Out::Text(text)),
-        Parts::List(items) => {
-            let mut found = Vec::with_capacity(alloc, items.len())?;
-            for item in items {
-                found.push(spell_stored(alloc, item)?)?;
-            }
-            Ok(Out::List(found))
-        }
-        Parts::Map(entries) => Ok(Out::Map(spell_stored_entries(alloc, entries)?)),
-        Parts::Null | Parts::Node(_) | Parts::Rel(_) | Parts::Path(_) => Ok(Out::Null),
+    match value {
+        Value::Bool(b) => Ok(Out::Bool(*b)),
+        Value::Int(i) => Ok(Out::Int(*i)),
+        Value::Text(text) => Ok(Out::Text(String::from_str(alloc, text.as_str())?)),
+        Value::List(items) => Ok(Out::List(spell_stored_items(alloc, items)?)),
+        Value::Map(entries) => Ok(Out::Map(spell_stored_entries(alloc, entries)?)),
+        Value::Null | Value::Node(_) | Value::Rel(_) | Value::Path(_) => Ok(Out::Null),
     }
 }
 
-/// The properties of an element.
 #[cycle(stored)]
-pub(crate) fn spell_stored_entries(
-    alloc: Global,
-    entries: BTreeMap<String, Value>,
-) -> Result<BTreeMap<String, Out>, AllocError>
-    ensures { IfOk result
-        (λ found. named_outs found.entries ≡ stored_members (entries_view entries.entries)) }
+fn spell_stored_items(alloc: Global, items: &[Value]) -> Result<Vec<Out>, AllocError>
+    ensures { IfOk result (λ found. outs found.items ≡ stored_items (values_view items.now)) }
 {
-    let mut found = BTreeMap::new(alloc);
-    for (key, value) in entries {
-        let out = spell_stored(alloc, value)?;
-        drop(found.insert(key, out)?);
+    let mut found = Vec::with_capacity(alloc, items.len())?;
+    for item in items {
+        found.push(spell_stored(alloc, item)?)?;
+    }
+    Ok(found)
+}
+
+#[cycle(stored)]
+fn spell_stored_entries(
+    alloc: Global,
+    entries: &BTreeMap<String, Value>,
+) -> Result<Vec<(String, Out)>, AllocError>
+    ensures { IfOk result (λ found. named_outs found.items
+        ≡ stored_members (entries_view entries.now.entries)) }
+{
+    let mut found = Vec::with_capacity(alloc, entries.len())?;
+    for (key, value) in entries.iter() {
+        let name = String::from_str(alloc, key.as_str())?;
+        found.push((name, spell_stored(alloc, value)?))?;
+    }
+    Ok(found)
+}
+
+/// The properties of an element.
+pub(crate) fn spell_properties(
+    alloc: Global,
+    properties: &[(&str, &Value)],
+) -> Result<Vec<(String, Out)>, AllocError>
+    ensures { IfOk result
+        (λ found. named_outs found.items ≡ stored_members (listed_entries properties.now)) }
+{
+    let mut found = Vec::with_capacity(alloc, properties.len())?;
+    for (key, value) in properties {
+        let name = String::from_str(alloc, key)?;
+        found.push((name, spell_stored(alloc, value)?))?;
     }
     Ok(found)
 }

@@ -1,26 +1,26 @@
 //! Values as a reply spells them out.
 use crate::ids::{NodeId, RelId};
-use std::collections::BTreeMap;
 
-/// A value of a reply. Elements stand with what they hold, as texts.
+/// A value of a reply. Elements stand with what they hold, as texts. The entries of a map and the properties of an element
+/// are listed by their keys, in byte order.
 pub enum Out {
     Null,
     Bool(bool),
     Int(i64),
     Text(String),
     List(Vec<Out>),
-    Map(BTreeMap<String, Out>),
+    Map(Vec<(String, Out)>),
     Node {
         id: NodeId,
         labels: Vec<String>,
-        properties: BTreeMap<String, Out>,
+        properties: Vec<(String, Out)>,
     },
     Rel {
         id: RelId,
         kind: String,
         start: NodeId,
         end: NodeId,
-        properties: BTreeMap<String, Out>,
+        properties: Vec<(String, Out)>,
     },
     /// Nodes and relationships in turn.
     Path(Vec<Out>),

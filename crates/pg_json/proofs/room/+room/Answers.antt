@@ -1,7 +1,7 @@
 use Rattle.std.proofs.Common.{◌-◌, ◌+◌, refl, length, decimal, string_bytes, sym, ap, ◌∙◌}
 use Rattle.pg_json.specs.Replies.{data_of, named_outs, outs, text_items}
-use Rattle.pg_json.specs.Room.{least, items_least, members_least}
-use Rattle.pg_json.proofs.Rooms.{behind_both, behind_item, behind_items, behind_member, behind_none, nothing_behind, text_least, list_least, map_least, node_least, rel_least, path_least}
+use Rattle.pg_json.specs.Room.{items_least, members_least}
+use Rattle.pg_json.proofs.Rooms.{behind_both, behind_item, behind_items, members_behind, all_behind, nothing_behind, text_least, list_least, map_least, node_least, rel_least, path_least}
 use Rattle.pg_json.proofs.room.+room.Goals as goal
 
 pub room_behind-returns-in-Text : goal.room_behind-returns-in-Text
@@ -16,7 +16,8 @@ room_behind-returns-in-List t c =
 
 pub room_behind-returns-in-Map : goal.room_behind-returns-in-Map
 room_behind-returns-in-Map t c =
-    rw c.in-Map.is (behind_both c.args.room c.saturating_sub-in-Map.result c.room_behind_members.result 1 _ _ (map_least c.in-Map.members) c.saturating_sub-in-Map.ensures c.room_behind_members.ensures)
+    let parts = ap (λ ms. 1 + members_least (named_outs ms)) c.deref-in-Map.ensures.value ∙ map_least c.in-Map.members in
+    rw c.in-Map.is (behind_both c.args.room c.saturating_sub-in-Map.result c.room_behind_members.result 1 _ _ parts c.saturating_sub-in-Map.ensures c.room_behind_members.ensures)
 
 pub room_behind-returns-in-Path : goal.room_behind-returns-in-Path
 room_behind-returns-in-Path t c =
@@ -26,16 +27,20 @@ room_behind-returns-in-Path t c =
 pub room_behind-returns-in-Node : goal.room_behind-returns-in-Node
 room_behind-returns-in-Node t c =
     let n = c.in-Node in
-    let parts = ap (λ ls. 36 + length (decimal n.id.0) + items_least (text_items ls) + members_least (named_outs n.properties.entries)) c.deref-in-Node.ensures.value ∙ node_least n.id n.labels n.properties in
+    let parts =
+    ap (λ ls. 36 + length (decimal n.id.0) + items_least (text_items ls) + members_least (named_outs c.deref-in-Node-2.result.now)) c.deref-in-Node.ensures.value
+    ∙ ap (λ ms. 36 + length (decimal n.id.0) + items_least (text_items n.labels.items) + members_least (named_outs ms)) c.deref-in-Node-2.ensures.value
+    ∙ node_least n.id n.labels n.properties in
     rw n.is (behind_both c.args.room c.room_before_properties-room.result c.room_behind_members-in-Node.result _ _ _ parts c.room_before_properties-room.ensures c.room_behind_members-in-Node.ensures)
 
 pub room_behind-returns-in-Rel : goal.room_behind-returns-in-Rel
 room_behind-returns-in-Rel t c =
     let r = c.in-Rel in
-    let inside = members_least (named_outs r.properties.entries) in
+    let inside = members_least (named_outs r.properties.items) in
     let kind = c.room_behind_text-in-Rel.ensures ∙ ap (λ s. c.room_behind_ids-room.result - (length s + 2)) c.deref-in-Rel.ensures in
+    let after = c.room_behind_members-in-Rel.ensures ∙ ap (λ ms. c.room_behind_text-in-Rel.result - members_least (named_outs ms)) c.deref-in-Rel-2.ensures.value in
     rw r.is (behind_both c.args.room c.room_behind_ids-room.result c.room_behind_members-in-Rel.result _ _ _ (rel_least r.id r.kind r.start r.end r.properties) c.room_behind_ids-room.ensures
-    (behind_both c.room_behind_ids-room.result c.room_behind_text-in-Rel.result c.room_behind_members-in-Rel.result (length (string_bytes r.kind) + 2) inside _ refl kind c.room_behind_members-in-Rel.ensures))
+    (behind_both c.room_behind_ids-room.result c.room_behind_text-in-Rel.result c.room_behind_members-in-Rel.result (length (string_bytes r.kind) + 2) inside _ refl kind after))
 
 pub room_behind_items-loop-item-init : goal.room_behind_items-loop-item-init
 room_behind_items-loop-item-init t c = refl
@@ -56,10 +61,8 @@ room_behind_items-returns t c =
 pub room_behind_members-loop-key-preserved : goal.room_behind_members-loop-key-preserved
 room_behind_members-loop-key-preserved t c =
     let l = c.loop-key in
-    let key = c.in-Some.key.now in
     let first = c.room_behind_key.ensures ∙ ap (λ s. l.room - (length s + 4)) c.deref.ensures in
-    l.invariant ∙ ap (λ ms. l.room - members_least (named_outs ms)) c.in-Some.ensures.steps
-    ∙ behind_member l.room c.room_behind-room.result c.room_behind_key.result (length (string_bytes key) + 4) (least (data_of c.in-Some.member.now)) (members_least (named_outs c.next.new.self)) first c.room_behind-room.ensures
+    l.invariant ∙ members_behind l.room c.room_behind-room.result c.room_behind_key.result c.args.members.now l.key-index c.loop-key-item.result c.loop-key-test.true c.loop-key-item.is first c.room_behind-room.ensures
 
 pub room_behind_members-returns-then-room-eq0 : goal.room_behind_members-returns-then-room-eq0
 room_behind_members-returns-then-room-eq0 t c = sym (c.loop-key.invariant ∙ nothing_behind c.loop-key.room _ c.if-room-eq0.true)
@@ -67,4 +70,4 @@ room_behind_members-returns-then-room-eq0 t c = sym (c.loop-key.invariant ∙ no
 pub room_behind_members-returns : goal.room_behind_members-returns
 room_behind_members-returns t c =
     let l = c.loop-key in
-    sym (l.invariant ∙ ap (λ ms. l.room - members_least (named_outs ms)) c.in-None.ensures.steps.0 ∙ behind_none l.room)
+    sym (l.invariant ∙ all_behind l.room c.args.members.now l.key-index c.loop-key-test.false)

@@ -8,4 +8,4 @@ abbrev pub invariant-room_behind_items-loop-item : goal.invariant-room_behind_it
 invariant-room_behind_items-loop-item l = l.initial.room - items_least (outs l.items) ≡ l.room - items_least (outs (drop l.item-index l.items))
 
 abbrev pub invariant-room_behind_members-loop-key : goal.invariant-room_behind_members-loop-key
-invariant-room_behind_members-loop-key l = l.initial.room - members_least (named_outs l.members.entries) ≡ l.room - members_least (named_outs l.key-iterator)
+invariant-room_behind_members-loop-key l = l.initial.room - members_least (named_outs l.members) ≡ l.room - members_least (named_outs (drop l.key-index l.members))

@@ -1,4 +1,4 @@
-use Rattle.std.proofs.Common.{List, [], ◌∷◌, ◌++◌, ◌∙◌, ap, sym, rules, codes}
+use Rattle.std.proofs.Common.{List, [], ◌∷◌, ◌++◌, ◌∙◌, ap, sym, rules, codes, String, Global}
 use Rattle.std.proofs.lemmas.Result.{on_ok_weaker, IfOk-from_err}
 use Rattle.json.specs.Token.{Token, begin_object, begin_array, end_object, key}
 use Rattle.json.specs.Tree.{json_tokens}
@@ -8,7 +8,7 @@ use Rattle.pg_value_core.specs.declared.out.Out.{Out}
 use Rattle.pg_json.specs.Elements.{rel_begun, rel_ended}
 use Rattle.pg_json.specs.Replies.{data_of, outs, named_outs}
 use Rattle.pg_json.proofs.Elements.{around, data_null, data_bool, data_text, data_path, data_rel, node_written}
-use Rattle.pg_json.proofs.Written.{list_written, map_written, written_list, written_members, item_written, items_written, member_written}
+use Rattle.pg_json.proofs.Written.{list_written, map_written, written_list, written_members, item_written, items_written, member_written, members_written}
 use Rattle.pg_json.proofs.Writing.{two_steps}
 use Rattle.pg_json.proofs.value.+write.Goals as goal
 
@@ -19,18 +19,19 @@ write-returns-in_ok-write_members-in-Node-clause-ok t c =
     let first = c.in_ok-begin_node-in-Node.ensures.ok in
     rw n.is
     (on_ok_weaker c.end_object.result
-    (λ last. node_written a c.begin_node.new.to.tokens c.write_members-in-Node.new.to.tokens c.end_object.new.self.tokens n.id n.labels n.properties (search (rules, first)) c.in_ok-write_members-in-Node.ensures.ok last)
+    (λ last. node_written a c.begin_node.new.to.tokens c.write_members-in-Node.new.to.tokens c.end_object.new.self.tokens n.id n.labels n.properties (search (rules, first)) (c.in_ok-write_members-in-Node.ensures.ok ∙ ap (λ ms. c.begin_node.new.to.tokens ++ json_tokens (outline (object (named_outs ms)))) c.deref-in-Node-2.ensures.value) last)
     c.end_object.ensures.ok)
 
 pub write-returns-in_ok-write_members-in-Rel-clause-ok : goal.write-returns-in_ok-write_members-in-Rel-clause-ok
 write-returns-in_ok-write_members-in-Rel-clause-ok t c =
     let r = c.in-Rel in
     let a = c.args.to.now.tokens in
-    let inside = json_tokens (outline (object (named_outs r.properties.entries))) in
+    let shown : List (String Global × Out) → List Token = λ ms. json_tokens (outline (object (named_outs ms))) in
+    let inside = shown r.properties.items in
     rw r.is
     (on_ok_weaker c.end_rel.result
-    (λ last. around a c.begin_rel.new.to.tokens c.write_members-in-Rel.new.to.tokens c.end_rel.new.to.tokens (rel_begun r.id.0 r.end.0) inside (rel_ended r.start.0 c.deref-in-Rel.result.now) c.in_ok-begin_rel-in-Rel.ensures.ok c.in_ok-write_members-in-Rel.ensures.ok last
-    ∙ ap (λ kind. a ++ (rel_begun r.id.0 r.end.0 ++ (inside ++ rel_ended r.start.0 kind))) c.deref-in-Rel.ensures
+    (λ last. around a c.begin_rel.new.to.tokens c.write_members-in-Rel.new.to.tokens c.end_rel.new.to.tokens (rel_begun r.id.0 r.end.0) inside (rel_ended r.start.0 c.deref-in-Rel-2.result.now) c.in_ok-begin_rel-in-Rel.ensures.ok (c.in_ok-write_members-in-Rel.ensures.ok ∙ ap (λ ms. c.begin_rel.new.to.tokens ++ shown ms) c.deref-in-Rel.ensures.value) last
+    ∙ ap (λ kind. a ++ (rel_begun r.id.0 r.end.0 ++ (inside ++ rel_ended r.start.0 kind))) c.deref-in-Rel-2.ensures
     ∙ ap (λ d. a ++ json_tokens (outline d)) (sym (data_rel r.id r.kind r.start r.end r.properties)))
     c.end_rel.ensures.ok)
 
@@ -121,7 +122,7 @@ pub write-returns-in-Map-clause-ok : goal.write-returns-in-Map-clause-ok
 write-returns-in-Map-clause-ok t c =
     rw c.in-Map.is
     (on_ok_weaker c.write_members.result
-    (map_written c.args.to.now.tokens c.write_members.new.to.tokens c.in-Map.members)
+    (map_written c.args.to.now.tokens c.write_members.new.to.tokens c.in-Map.members c.deref-in-Map.result.now c.deref-in-Map.ensures.value)
     c.write_members.ensures.ok)
 
 pub write_items-loop-item-preserved : goal.write_items-loop-item-preserved
@@ -159,9 +160,9 @@ write_items-returns-clause-before t c = c.end_array.ensures.room.0 ∙ c.loop-it
 pub write_members-loop-key-preserved : goal.write_members-loop-key-preserved
 write_members-loop-key-preserved t c =
     let l = c.loop-key in
-    let written = member_written l.to.tokens c.key.new.self.tokens c.write.new.to.tokens c.in-Some.key.now c.deref.result.now c.in-Some.member.now c.next.new.self c.deref.ensures c.in_ok-key.ensures.ok c.in_ok-write.ensures.ok in
+    let written = member_written l.to.tokens c.key.new.self.tokens c.write.new.to.tokens c.args.members.now l.key-index c.loop-key-item.result c.deref.result.now c.loop-key-test.true c.loop-key-item.is c.deref.ensures c.in_ok-key.ensures.ok c.in_ok-write.ensures.ok in
     record {
-      left = written ∙ ap (λ ms. l.to.tokens ++ written_members ms) (sym c.in-Some.ensures.steps) ∙ l.invariant.left;
+      left = written ∙ l.invariant.left;
       before = c.write.ensures.before ∙ c.key.ensures.room.0 ∙ l.invariant.before;
     }
 
@@ -186,9 +187,10 @@ write_members-returns-in_err-write-clause-before t c = c.write.ensures.before �
 pub write_members-returns-clause-ok : goal.write_members-returns-clause-ok
 write_members-returns-clause-ok t c =
     let l = c.loop-key in
+    let members = c.args.members.now in
     on_ok_weaker c.end_object.result
-    (λ last. two_steps c.args.to.now.tokens c.begin_object.new.self.tokens c.end_object.new.self.tokens begin_object (written_members c.args.members.now.entries) c.in_ok-begin_object.ensures.ok
-    (last ∙ ap (λ ms. l.to.tokens ++ written_members ms) (sym c.in-None.ensures.steps.0) ∙ l.invariant.left))
+    (λ last. two_steps c.args.to.now.tokens c.begin_object.new.self.tokens c.end_object.new.self.tokens begin_object (written_members members) c.in_ok-begin_object.ensures.ok
+    (members_written l.to.tokens c.end_object.new.self.tokens members l.key-index c.loop-key-test.false last ∙ l.invariant.left))
     c.end_object.ensures.ok
 
 pub write_members-returns-clause-before : goal.write_members-returns-clause-before

@@ -13,6 +13,6 @@ invariant-write_items-loop-item l = record {
 
 abbrev pub invariant-write_members-loop-key : goal.invariant-write_members-loop-key
 invariant-write_members-loop-key l = record {
-  left : l.to.tokens ++ members_tokens (members_outline (named_outs l.key-iterator)) ≡ l.initial.to.tokens ++ members_tokens (members_outline (named_outs l.members.entries));
+  left : l.to.tokens ++ members_tokens (members_outline (named_outs (drop l.key-index l.members))) ≡ l.initial.to.tokens ++ members_tokens (members_outline (named_outs l.members));
   before : l.to.before ≡ l.initial.to.before;
 }

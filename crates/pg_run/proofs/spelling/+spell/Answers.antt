@@ -1,4 +1,4 @@
-use Rattle.std.proofs.Common.{rules, ◌-◌, length, Ok, refl, ap, subst, sym, ◌∙◌}
+use Rattle.std.proofs.Common.{rules, ◌-◌, length, string_bytes, Ok, refl, ap, subst, sym, ◌∙◌}
 use Rattle.std.proofs.lemmas.List.{drop_all}
 use Rattle.std.proofs.lemmas.Result.{err_from_is_err_and}
 use Rattle.pg_json.specs.Room.{least}
@@ -10,25 +10,26 @@ use Rattle.pg_run.proofs.ValueLemmas.{entry_refused, item_refused}
 use Rattle.pg_run.specs.Printed.{printed}
 use Rattle.pg_run.specs.Spelt.{ListSpelt}
 use Rattle.pg_scope.proofs.FirstLemmas.{item_here}
-use Rattle.pg_value_core.specs.View.{values_view, view}
+use Rattle.pg_value_core.specs.View.{entries_view, values_view, view}
 use Rattle.pg_run.proofs.spelling.+spell.Goals as goal
 
 pub spell_entries-loop-key-init : goal.spell_entries-loop-key-init
-spell_entries-loop-key-init g t c = rw (c.into_iter-key-iterator.ensures.into_iter_gives, c.iter-key-items.ensures.rest, c.new-found.ensures.empty) (no_member_within c.args.graph.now c.args.room.now c.args.entries.now.entries)
+spell_entries-loop-key-init g t c = rw (c.into_iter-key-iterator.ensures.into_iter_gives, c.iter-key-items.ensures.rest, c.in_ok-found.ensures.items) (no_member_within c.args.graph.now c.args.room.now (entries_view c.args.entries.now.entries))
 
 pub spell_entries-returns-in_err-out : goal.spell_entries-returns-in_err-out
 spell_entries-returns-in_err-out g t c =
-    let p = err_from_is_err_and c.from_residual.result c.from_residual.ensures.1 in
+    let p = err_from_is_err_and c.from_residual-in_err-out.result c.from_residual-in_err-out.ensures.1 in
     rw (p.1, p.2) (refused (λ other. entry_refused c.args.graph.now _ _ _ _ _ _ (c.in-Some.key.now, c.in-Some.value.now) _ c.loop-key.invariant c.in-Some.ensures.steps (c.in_err-out.ensures.err other)))
 
 pub spell_entries-loop-key-preserved : goal.spell_entries-loop-key-preserved
 spell_entries-loop-key-preserved g t c =
-    one_member_within c.args.graph.now _ _ _ _ _ _ _ _ (c.in-Some.key.now, c.in-Some.value.now) c.in_ok-name.name c.in_ok-out.out c.iter-key-items.ensures.ordered
-    c.loop-key.invariant c.in-Some.ensures.steps c.in_ok-insert.ensures.entries (c.in_ok-name.ensures.ok ∙ c.as_str.ensures.value) c.in_ok-out.ensures.live
-    (search (rules, c.in_ok-out.ensures.room)) c.in_ok-out.ensures.shown
+    rw c.in_ok-push.ensures.items
+    (one_member_within c.args.graph.now _ _ _ _ _ _ _ (string_bytes c.in-Some.key.now) (view c.in-Some.value.now) c.in_ok-name.name c.in_ok-out.out
+    c.loop-key.invariant (ap entries_view c.in-Some.ensures.steps) (c.in_ok-name.ensures.ok ∙ c.as_str.ensures.value) c.in_ok-out.ensures.live
+    (search (rules, c.in_ok-out.ensures.room)) c.in_ok-out.ensures.shown)
 
 pub spell_entries-returns : goal.spell_entries-returns
-spell_entries-returns g t c = all_members_within c.args.graph.now _ _ _ _ c.loop-key.found c.loop-key.invariant c.in-None.ensures.steps.0
+spell_entries-returns g t c = all_members_within c.args.graph.now _ _ _ _ c.loop-key.found c.loop-key.invariant (ap entries_view c.in-None.ensures.steps.0)
 
 pub spell_items-loop-item-init : goal.spell_items-loop-item-init
 spell_items-loop-item-init g t c = rw c.in_ok-found.ensures.items (record { tests = refl; counted = refl; shown = λ some. refl })

@@ -1,7 +1,6 @@
 -- Members that are texts and parameters at the keys of a request.
-use Rattle.std.proofs.Common.{◌≡◌, ◌^◌, ◌≤◌, ℕ, pos, List, Bool, true, false, cond, Option, Some, None, option_map, option_and_then, Less, Greater, nat_cmp, refl, sym, ap, ◌∙◌, ◌||◌, arith, le-leb, lt-ltb}
+use Rattle.std.proofs.Common.{◌≡◌, ◌^◌, ◌≤◌, ℕ, pos, List, Bool, true, false, cond, Option, Some, None, option_map, option_and_then, Less, Greater, nat_cmp, refl, sym, ap, ◌∙◌, arith, le-leb, lt-ltb}
 use Rattle.std.proofs.lemmas.Slice.Eq.{bytes_eq-Decides}
-use Rattle.std.proofs.lemmas.Bool.{false≢true}
 use Rattle.std.specs.Cmp.Lexicographic.{slice_cmp}
 use Rattle.std.specs.Prelude.{codes}
 use Rattle.std.specs.Str.{bytes_eq}
@@ -10,10 +9,10 @@ use Rattle.serde_json.specs.Find.{as_i64, as_str, get_member}
 use Rattle.pg_meaning.specs.Meters.{greatest_id}
 use Rattle.pg_meaning.specs.Value.{Entries, no_entries}
 use Rattle.pg_json.proofs.Given.{parameters_back}
-use Rattle.pg_json.specs.Fields.{text_keys, object_giving, with_data, with_text, members_of_fields, members_with, parameters_of, size_given, HaveDepth, HasSign, FieldsAreGiven, asked, asked_with}
+use Rattle.pg_json.specs.Fields.{object_giving, with_data, with_text, members_of_fields, members_with, parameters_of, size_given, HaveDepth, HasSign, FieldsAreGiven, asked, asked_with}
 use Rattle.pg_json.specs.Replies.{natural}
 use Rattle.pg_json.specs.Requests as requests
-use Rattle.pg_json.specs.Requests.{Request, by_op, greatest_page, if_between, is_one_of, number_in, page_given, request_of}
+use Rattle.pg_json.specs.Requests.{Request, by_op, greatest_page, if_between, number_in, page_given, request_of}
 use Rattle.pg_json.specs.declared.fields.Fields.{Fields}
 
 -- a member goes behind those whose keys stand before its own
@@ -76,26 +75,6 @@ module _ (op : Option (List ℕ)) where
   put_parameters es page ps text token =
       past (codes "params") (codes "op") (object_giving es) (option_map string op) _ refl ∙ ap (with_text (codes "op") op)
       (past (codes "params") (codes "page") (object_giving es) (option_map natural page) _ refl ∙ ap (with_data (codes "page") (option_map natural page)) (first_parameters es ps text token))
-
-only_token : (a b c : Bool) → (a || (b || (c || false))) ≡ true → false ≡ a → false ≡ c → b ≡ true
-only_token a true c one no_a no_c = refl
-only_token true false c one no_a no_c = absurd (false≢true no_a)
-only_token false false true one no_a no_c = absurd (false≢true no_c)
-only_token false false false one no_a no_c = absurd (false≢true one)
-
--- the text goes to its key
-module _ (key s : List ℕ) (op : Option (List ℕ)) (page : Option ℕ) (ps : Option Entries) (text token : Option (List ℕ)) where
-  pub op_put : true ≡ bytes_eq key (codes "op") → members_of_fields (Some s) page ps text token ≡ put key (string s) (members_of_fields op page ps text token)
-  op_put is = rw ((bytes_eq-Decides key (codes "op")).0 (sym is)) (sym (put_op s op page ps text token))
-
-  pub text_put : true ≡ bytes_eq key (codes "text") → members_of_fields op page ps (Some s) token ≡ put key (string s) (members_of_fields op page ps text token)
-  text_put is = rw ((bytes_eq-Decides key (codes "text")).0 (sym is)) (sym (put_text s op page ps text token))
-
-  pub token_put : is_one_of text_keys key ≡ true → false ≡ bytes_eq key (codes "op") → false ≡ bytes_eq key (codes "text")
-      → members_of_fields op page ps text (Some s) ≡ put key (string s) (members_of_fields op page ps text token)
-  token_put one no_op no_text =
-      let is = only_token (bytes_eq key (codes "op")) (bytes_eq key (codes "token")) (bytes_eq key (codes "text")) one no_op no_text in
-      rw ((bytes_eq-Decides key (codes "token")).0 is) (sym (put_token s op page ps text token))
 
 -- what is asked where an index request lacks a key
 abbrev by_name : List ℕ → (query status begin commit rollback pull drop_page : Option Request) → Option Request

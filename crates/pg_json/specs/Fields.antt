@@ -12,11 +12,18 @@ use Rattle.pg_json.specs.Requests.{Request, query, status, begin, commit, rollba
 use Rattle.pg_json.specs.declared.fields.Fields.{Fields}
 use Rattle.pg_json.specs.declared.fields.FastParse.{FastParse}
 use Rattle.pg_json.specs.declared.fields.FastParse.TheVariants.{Fitting, NoRequest}
+use Rattle.pg_json.specs.declared.fields.TextKey.{TextKey}
+use Rattle.pg_json.specs.declared.fields.TextKey.TheVariants.{Op, Text, Token as TokenKey}
 use Rattle.json.specs.Token.{Token}
 
 -- the keys at which a query has texts; others that are told at a glance have some of them
 abbrev pub text_keys : List (List ℕ)
 text_keys = codes "op" ∷ codes "token" ∷ codes "text" ∷ []
+
+abbrev pub text_key_name : TextKey → List ℕ
+text_key_name Op = codes "op"
+text_key_name Text = codes "text"
+text_key_name TokenKey = codes "token"
 
 -- the keys of index requests; a body with one is not told at a glance
 abbrev pub later_keys : List (List ℕ)

@@ -1,10 +1,10 @@
 //! What stands at a request's keys, read token by token.
-ghost use Rattle.std.specs.Prelude.{◌≡◌, ◌≢◌, length, true, None, Some, IfOk, IfErr, codes, option_map};
+ghost use Rattle.std.specs.Prelude.{◌≡◌, ◌≢◌, length, false, None, Some, IfOk, IfErr, IfSome, IfNone, codes, option_map};
 ghost use Rattle.json.specs.Json.{members, value};
 ghost use Rattle.serde_json.specs.Data.{string, put};
 ghost use Rattle.serde_json.specs.Read.{read, of_members, converted};
 ghost use Rattle.pg_json.specs.Bodies.{request_view};
-ghost use Rattle.pg_json.specs.Fields.{members_with, object_giving, parameters_of, asked_alone, asked_by_page, asked_for_query, asked_with, later_keys, text_keys, FieldsAreGiven, IsGlance, IsGlanceOfMembers};
+ghost use Rattle.pg_json.specs.Fields.{members_with, object_giving, parameters_of, asked_alone, asked_by_page, asked_for_query, asked_with, later_keys, text_key_name, text_keys, FieldsAreGiven, IsGlance, IsGlanceOfMembers};
 ghost use Rattle.pg_json.specs.Replies.{natural};
 ghost use Rattle.pg_json.specs.Requests.{is_one_of};
 ghost use Rattle.pg_value_core.specs.View.{entries_view};
@@ -28,6 +28,14 @@ pub(crate) struct Fields<'a> {
     pub(crate) parameters: Option<BTreeMap<String, Value>>,
     pub(crate) text: Option<&'a str>,
     pub(crate) token: Option<&'a str>,
+}
+
+/// A key at which a text stands.
+#[derive(Clone, Copy)]
+enum TextKey {
+    Op,
+    Text,
+    Token,
 }
 
 /// What is seen of a body at a glance.
@@ -85,6 +93,14 @@ fn take_fields<'a>(
             Ok(None) => return Ok(true),
             Err(_) => return Ok(false),
         };
+        if let Some(text_key) = text_key(key) {
+            match reader.next() {
+                Some(Token::String(text)) => put_text(found, text_key, text),
+                Some(Token::Bad) => return Ok(false),
+                _ => return Err(Unread::Unclear),
+            }
+            continue 'members;
+        }
         if key == "params" {
             put_parameters(found, read_parameters(alloc, reader)?);
             continue 'members;
@@ -96,14 +112,7 @@ fn take_fields<'a>(
         if is_later_key(key) {
             return Err(Unread::Unclear);
         }
-        if !is_text_key(key) {
-            return Ok(false);
-        }
-        match reader.next() {
-            Some(Token::String(text)) => put_text(found, key, text),
-            Some(Token::Bad) => return Ok(false),
-            _ => return Err(Unread::Unclear),
-        }
+        return Ok(false);
     }
 }
 
@@ -113,26 +122,34 @@ fn is_later_key(key: &str) -> bool
     key == "label" || key == "key"
 }
 
-fn is_text_key(key: &str) -> bool
-    ensures { result ≡ is_one_of text_keys key.now }
+/// Which of the keys this is at which a text stands.
+fn text_key(key: &str) -> Option<TextKey>
+    ensures some { IfSome result (λ k. key.now ≡ text_key_name k) }
+    ensures none { IfNone result (is_one_of text_keys key.now ≡ false) }
 {
-    key == "op" || key == "token" || key == "text"
+    if key == "op" {
+        return Some(TextKey::Op);
+    }
+    if key == "text" {
+        return Some(TextKey::Text);
+    }
+    if key == "token" {
+        return Some(TextKey::Token);
+    }
+    None
 }
 
 /// Puts the text at the key.
-fn put_text<'a>(found: &mut Fields<'a>, key: &str, text: &'a str)
-    requires { is_one_of text_keys key.now ≡ true }
+fn put_text<'a>(found: &mut Fields<'a>, key: TextKey, text: &'a str)
     ensures texts { members_with found.new
-        ≡ put key.now (string text.now) (members_with found.old) }
+        ≡ put (text_key_name key) (string text.now) (members_with found.old) }
     ensures parameters { parameters_of found.new ≡ parameters_of found.old }
     ensures page { found.new.page ≡ found.old.page }
 {
-    if key == "op" {
-        found.op = Some(text);
-    } else if key == "text" {
-        found.text = Some(text);
-    } else {
-        found.token = Some(text);
+    match key {
+        TextKey::Op => found.op = Some(text),
+        TextKey::Text => found.text = Some(text),
+        TextKey::Token => found.token = Some(text),
     }
 }
 

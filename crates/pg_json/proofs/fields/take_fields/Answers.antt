@@ -5,7 +5,7 @@ use Rattle.json.specs.Json.{read_key, members, value}
 use Rattle.json.proofs.Grammar.{value_is, read_key-shorter}
 use Rattle.serde_json.specs.Data.{string, put}
 use Rattle.serde_json.specs.Read.{of_json, of_members, converted}
-use Rattle.pg_json.specs.Fields.{AsksNothing, members_with, object_giving, later_keys, text_keys, HaveDepth, HasSign}
+use Rattle.pg_json.specs.Fields.{AsksNothing, members_with, object_giving, later_keys, text_key_name, text_keys, HaveDepth, HasSign}
 use Rattle.pg_json.specs.Replies.{natural}
 use Rattle.pg_json.specs.Requests.{is_one_of}
 use Rattle.pg_json.proofs.Reading.{member_read, member_refused, key_refused, members_over}
@@ -37,8 +37,8 @@ members-preserved-then-eq c =
       λ before. (subst HaveDepth (sym c.put_parameters.ensures.parameters) done.given, subst HasSign (sym c.put_parameters.ensures.page) (l.invariant.3 before).1),
     )
 
-pub members-preserved-then-eq-2 : goal.members-preserved-then-eq-2
-members-preserved-then-eq-2 c =
+pub members-preserved : goal.members-preserved
+members-preserved c =
     let p = value 126 in
     let l = c.members in
     let n = l.invariant.0 in
@@ -61,8 +61,8 @@ members-preserved-then-eq-2 c =
       λ before. (subst HaveDepth (sym c.put_page.ensures.parameters) (l.invariant.3 before).0, subst HasSign (sym c.put_page.ensures.page) done.within),
     )
 
-pub members-preserved : goal.members-preserved
-members-preserved c =
+pub members-preserved-in-Some : goal.members-preserved-in-Some
+members-preserved-in-Some c =
     let p = value 126 in
     let l = c.members in
     let n = l.invariant.0 in
@@ -74,16 +74,18 @@ members-preserved c =
     let named : read_key l.reader ≡ Some (Some k, s) = grind arith in
     let first : s ≡ Token.string c.in-Some-String.text.now ∷ r = grind arith in
     let is : converted of_json (p s) ≡ Some (d, r) = ap (converted of_json) (ap p first ∙ value_is 126 _) in
+    let same : k ≡ text_key_name c.in-Some.text_key = c.in-Some.ensures.some in
     let less = read_key-shorter l.reader (Some k) s named in
     let turn = member_read p old n k l.reader s r d (omega (arith, l.invariant.1, less)) named is in (
       n - 1,
       omega (arith, l.invariant.1, less, ap length first),
-      l.invariant.2 ∙ turn ∙ ap (λ found. converted (λ ms. of_members ms found) (members p (n - 1) r)) (sym c.put_text.ensures.texts),
+      l.invariant.2 ∙ turn ∙ ap (λ key. converted (λ ms. of_members ms (put key d old)) (members p (n - 1) r)) same
+          ∙ ap (λ found. converted (λ ms. of_members ms found) (members p (n - 1) r)) (sym c.put_text.ensures.texts),
       λ before. (subst HaveDepth (sym c.put_text.ensures.parameters) (l.invariant.3 before).0, subst HasSign (sym c.put_text.ensures.page) (l.invariant.3 before).1),
     )
 
-pub returns-then-not-is_text_key-clause-members : goal.returns-then-not-is_text_key-clause-members
-returns-then-not-is_text_key-clause-members c =
+pub returns-in-members-clause-members : goal.returns-in-members-clause-members
+returns-in-members-clause-members c =
     let l = c.members in
     let k = c.in-Ok-Some.key.now in
     let named : read_key l.reader ≡ Some (Some k, c.next_key.new.self) = grind arith in

@@ -129,8 +129,16 @@ impl Pages {
     {
         match self.kept.get_index(noted(self.seen.as_slice(), number)) {
             Some((found, page)) if *found == number => Some(page),
-            _ => self.kept.get(&number),
+            _ => self.hashed(number),
         }
+    }
+
+    // Apart, so that a page that stands where it was seen is found in a small frame.
+    #[inline(never)]
+    fn hashed(&self, number: u64) -> Option<&[u32; 64]>
+        ensures { option_copied result ≡ map.get self.now number }
+    {
+        self.kept.get(&number)
     }
 
     /// Writes one place of a present page.

@@ -8,6 +8,3 @@ pub returns-in-Some : goal.returns-in-Some
 returns-in-Some c =
     sym c.in-Some.ensures.value ∙ ap (λ k. lookup (λ j. k == j) c.self.inside.kept.entries) c.if-found-number.true
     ∙ sym (get_of_entries _ _) ∙ ap (λ m. map.get m c.args.number) c.self.view_is
-
-pub returns-in_default : goal.returns-in_default
-returns-in_default c = c.get.ensures.value ∙ sym (get_of_entries _ _) ∙ ap (λ m. map.get m c.args.number) c.self.view_is

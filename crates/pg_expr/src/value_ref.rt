@@ -26,7 +26,7 @@ impl<'a> ValueRef<'a> {
     }
 
     /// The value, which is copied where it is lent.
-    pub(crate) fn take(self, alloc: Global) -> Result<Value, AllocError>
+    pub fn take(self, alloc: Global) -> Result<Value, AllocError>
         ensures { IfOk result (λ v. view v ≡ found_view self.entry) }
     {
         match self {

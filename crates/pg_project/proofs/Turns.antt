@@ -4,8 +4,8 @@ use Rattle.std.proofs.Math.Seq.{drop-cons}
 use Rattle.std.proofs.lemmas.List.{append_assoc, take_more_set, drop-set-lt}
 use Rattle.std.proofs.lemmas.Bool.{leb-true, leb-false}
 use Rattle.std.specs.Prelude.{slice_get, nat_le}
-use Rattle.pg_project.specs.Kept.{Answers, argument_given, taken_in, all_taken_in}
-use Rattle.pg_project.specs.Summaries.{Taken, taken_with}
+use Rattle.pg_project.specs.Kept.{Answers, taken_in, all_taken_in}
+use Rattle.pg_project.specs.Summaries.{Taken}
 use Rattle.pg_meaning.specs.Aggregates.{Aggregate}
 use Rattle.pg_meaning.specs.Answer.{◌>>=◌, each_answer, each_step}
 use Rattle.pg_meaning.specs.declared.fault.Fault.{Fault}
@@ -83,19 +83,6 @@ module _ {A Z : Type 0} (at : Answers) (see : A → Aggregate) (view : Z → Tak
   fault_taken bs ts i a t f in_bs in_ts a-is t-is e =
       (λ j. after (map view (take i ts)) (all_taken_in at (map see (here bs i a in_bs a-is j)) (map view (here ts i t in_ts t-is j))))
       ∙ ap (λ r. after (map view (take i ts)) (r >>= λ v. all_taken_in at (map see (drop (i + 1) bs)) (map view (drop (i + 1) ts)) >>= λ vs. Ok (v ∷ vs))) e
-
-  some_there : (ts : List Z) (i : ℕ) → i < length ts → 0 < length (drop i ts)
-  some_there [] i h = absurd (omega (arith, h))
-  some_there (t ∷ ts) zero h = omega (arith)
-  some_there (t ∷ ts) (suc i) h = some_there ts i (omega arith)
-
-  pub fault_of_argument : (bs : List A) (ts : List Z) (i : ℕ) (a : A) (f : Fault) → i < length bs → i < length ts → a ≡ get_or bs i a → argument_given at (see a) ≡ Err f
-      → after (map view (take i ts)) (all_taken_in at (map see (drop i bs)) (map view (drop i ts))) ≡ Err f
-  fault_of_argument bs ts i a f in_bs in_ts a-is e = (λ j. after (map view (take i ts)) (all_taken_in at (map see (here bs i a in_bs a-is j)) (map view (drop i ts)))) ∙ by (drop i ts) (some_there ts i in_ts)
-    where
-      by : (us : List Z) → 0 < length us → after (map view (take i ts)) (all_taken_in at (map see (a ∷ drop (i + 1) bs)) (map view us)) ≡ Err f
-      by [] h = absurd (omega (arith, h))
-      by (u ∷ us) h = ap (λ r. after (map view (take i ts)) ((r >>= taken_with (view u)) >>= λ v. all_taken_in at (map see (drop (i + 1) bs)) (map view us) >>= λ vs. Ok (v ∷ vs))) e
 
   nothing_left : (bs : List Aggregate) (ts : List Taken) → (bs ≡ []) ⊎ (ts ≡ []) → all_taken_in at bs ts ≡ Ok ts
   nothing_left [] ts h = refl

@@ -118,12 +118,8 @@ impl Groups {
 fn key_of(alloc: Global, found: ValueRef<'_>) -> Result<Vec<Value>, AllocError>
     ensures { IfOk result (λ key. map view key.items ≡ found_view found.entry ∷ []) }
 {
-    let value = match found {
-        ValueRef::Lent(value) => value.copy(alloc)?,
-        ValueRef::Made(value) => value,
-    };
     let mut key = Vec::with_capacity(alloc, 1)?;
-    key.push(value)?;
+    key.push(found.take(alloc)?)?;
     Ok(key)
 }
 

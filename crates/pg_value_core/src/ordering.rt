@@ -27,8 +27,20 @@ pub(crate) fn rank(value: &Value) -> u8
 }
 
 /// How two values stand in the total order.
-#[cycle(order)]
 pub fn order(a: &Value, b: &Value) -> Ordering
+    ensures { result ≡ value_order (view a.now) (view b.now) }
+{
+    match (a, b) {
+        (Value::Int(x), Value::Int(y)) => x.cmp(y),
+        (Value::Text(x), Value::Text(y)) => x.cmp(y),
+        _ => order_any(a, b),
+    }
+}
+
+// In a frame apart: most values that are compared are integers and texts.
+#[inline(never)]
+#[cycle(order)]
+fn order_any(a: &Value, b: &Value) -> Ordering
     ensures { result ≡ value_order (view a.now) (view b.now) }
 {
     match (a, b) {
@@ -56,7 +68,7 @@ fn order_items(xs: &Vec<Value>, ys: &Vec<Value>) -> Ordering
         let Some((y, rest)) = others.split_first() else {
             return Ordering::Greater;
         };
-        match order(x, y) {
+        match order_any(x, y) {
             Ordering::Equal => {}
             unequal => return unequal,
         }
@@ -99,7 +111,7 @@ fn order_entries(xs: &BTreeMap<String, Value>, ys: &BTreeMap<String, Value>) -> 
         let Some((_, y)) = others.next() else {
             return Ordering::Greater;
         };
-        match order(x, y) {
+        match order_any(x, y) {
             Ordering::Equal => {}
             unequal => return unequal,
         }

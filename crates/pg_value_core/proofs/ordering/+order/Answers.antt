@@ -7,68 +7,68 @@ use Rattle.pg_value_core.proofs.Forms as form
 use Rattle.pg_value_core.proofs.Orders as lemma
 use Rattle.pg_value_core.proofs.ordering.+order.Goals as goal
 
-pub order-returns-in-Equal : goal.order-returns-in-Equal
-order-returns-in-Equal t c =
+pub order_any-returns-in-Equal : goal.order_any-returns-in-Equal
+order_any-returns-in-Equal t c =
     let h = c.in-Map-Map in
     c.order_entries.ensures ∙ lemma.then_second (entries_order (entries_view h.xs.entries) (entries_view h.ys.entries)) c.order_keys.ensures c.in-Equal.is
     ∙ lemma.both_seen c.args.a.now c.args.b.now _ _ (form.map_seen h.xs h.is-0) (form.map_seen h.ys h.is-1)
 
-pub order-returns-in_default-order_keys : goal.order-returns-in_default-order_keys
-order-returns-in_default-order_keys t c =
+pub order_any-returns-in_default-order_keys : goal.order_any-returns-in_default-order_keys
+order_any-returns-in_default-order_keys t c =
     let h = c.in-Map-Map in
     lemma.then_first (entries_order (entries_view h.xs.entries) (entries_view h.ys.entries)) c.order_keys.ensures c.in_default-order_keys.not-Equal
     ∙ lemma.both_seen c.args.a.now c.args.b.now _ _ (form.map_seen h.xs h.is-0) (form.map_seen h.ys h.is-1)
 
-pub order-returns-in-Node-Node : goal.order-returns-in-Node-Node
-order-returns-in-Node-Node t c =
+pub order_any-returns-in-Node-Node : goal.order_any-returns-in-Node-Node
+order_any-returns-in-Node-Node t c =
     let h = c.in-Node-Node in
     c.cmp.ensures ∙ lemma.both_seen c.args.a.now c.args.b.now _ _ (form.node_seen h.x h.is-0) (form.node_seen h.y h.is-1)
 
-pub order-returns-in-Rel-Rel : goal.order-returns-in-Rel-Rel
-order-returns-in-Rel-Rel t c =
+pub order_any-returns-in-Rel-Rel : goal.order_any-returns-in-Rel-Rel
+order_any-returns-in-Rel-Rel t c =
     let h = c.in-Rel-Rel in
     c.cmp-in-Rel-Rel.ensures ∙ lemma.both_seen c.args.a.now c.args.b.now _ _ (form.rel_seen h.x h.is-0) (form.rel_seen h.y h.is-1)
 
-pub order-returns-in-List-List : goal.order-returns-in-List-List
-order-returns-in-List-List t c =
+pub order_any-returns-in-List-List : goal.order_any-returns-in-List-List
+order_any-returns-in-List-List t c =
     let h = c.in-List-List in
     c.order_items.ensures ∙ lemma.both_seen c.args.a.now c.args.b.now _ _ (form.list_seen h.xs h.is-0) (form.list_seen h.ys h.is-1)
 
-pub order-returns-in-Path-Path : goal.order-returns-in-Path-Path
-order-returns-in-Path-Path t c =
+pub order_any-returns-in-Path-Path : goal.order_any-returns-in-Path-Path
+order_any-returns-in-Path-Path t c =
     let h = c.in-Path-Path in
     c.cmp-in-Path-Path.ensures ∙ lemma.both_seen c.args.a.now c.args.b.now _ _ (form.path_seen h.x h.is-0) (form.path_seen h.y h.is-1)
 
-pub order-returns-in-Text-Text : goal.order-returns-in-Text-Text
-order-returns-in-Text-Text t c =
+pub order_any-returns-in-Text-Text : goal.order_any-returns-in-Text-Text
+order_any-returns-in-Text-Text t c =
     let h = c.in-Text-Text in
     c.cmp-in-Text-Text.ensures ∙ lemma.both_seen c.args.a.now c.args.b.now _ _ (form.text_seen h.x h.is-0) (form.text_seen h.y h.is-1)
 
-pub order-returns-in-Bool-Bool : goal.order-returns-in-Bool-Bool
-order-returns-in-Bool-Bool t c =
+pub order_any-returns-in-Bool-Bool : goal.order_any-returns-in-Bool-Bool
+order_any-returns-in-Bool-Bool t c =
     let h = c.in-Bool-Bool in
     c.cmp-in-Bool-Bool.ensures ∙ lemma.both_seen c.args.a.now c.args.b.now _ _ (form.bool_seen h.x h.is-0) (form.bool_seen h.y h.is-1)
 
-pub order-returns-in-Int-Int : goal.order-returns-in-Int-Int
-order-returns-in-Int-Int t c =
+pub order_any-returns-in-Int-Int : goal.order_any-returns-in-Int-Int
+order_any-returns-in-Int-Int t c =
     let h = c.in-Int-Int in
     c.cmp-in-Int-Int.ensures ∙ lemma.both_seen c.args.a.now c.args.b.now _ _ (form.int_seen h.x h.is-0) (form.int_seen h.y h.is-1)
 
-pub order-returns-in_default : goal.order-returns-in_default
-order-returns-in_default t c =
+pub order_any-returns-in_default : goal.order_any-returns-in_default
+order_any-returns-in_default t c =
     let a = c.args.a.now in
     let b = c.args.b.now in
     c.cmp-in_default.ensures ∙ ap (λ m. nat_cmp m c.rank-in_default.result) c.rank.ensures ∙ ap (nat_cmp (rank_of (view a))) c.rank-in_default.ensures
     ∙ elim c.in_default.branch [
-      | goal.order-in_default-via-in-Map+in_default w ↦ lemma.other_map b a w.in_default.field-0-0 w.in_default.is-0 w.in_default.not-Map-1
-      | goal.order-in_default-via-in-Node+in_default w ↦ lemma.other_node b a w.in_default.field-0-0 w.in_default.is-0 w.in_default.not-Node-1
-      | goal.order-in_default-via-in-Rel+in_default w ↦ lemma.other_rel b a w.in_default.field-0-0 w.in_default.is-0 w.in_default.not-Rel-1
-      | goal.order-in_default-via-in-List+in_default w ↦ lemma.other_list b a w.in_default.field-0-0 w.in_default.is-0 w.in_default.not-List-1
-      | goal.order-in_default-via-in-Path+in_default w ↦ lemma.other_path b a w.in_default.field-0-0 w.in_default.is-0 w.in_default.not-Path-1
-      | goal.order-in_default-via-in-Text+in_default w ↦ lemma.other_text b a w.in_default.field-0-0 w.in_default.is-0 w.in_default.not-Text-1
-      | goal.order-in_default-via-in-Bool+in_default w ↦ lemma.other_bool b a w.in_default.field-0-0 w.in_default.is-0 w.in_default.not-Bool-1
-      | goal.order-in_default-via-in-Int+in_default w ↦ lemma.other_int b a w.in_default.field-0-0 w.in_default.is-0 w.in_default.not-Int-1
-      | goal.order-in_default-via-in_default w ↦ lemma.of_null b a w.in_default.is-0
+      | goal.order_any-in_default-via-in-Map+in_default w ↦ lemma.other_map b a w.in_default.field-0-0 w.in_default.is-0 w.in_default.not-Map-1
+      | goal.order_any-in_default-via-in-Node+in_default w ↦ lemma.other_node b a w.in_default.field-0-0 w.in_default.is-0 w.in_default.not-Node-1
+      | goal.order_any-in_default-via-in-Rel+in_default w ↦ lemma.other_rel b a w.in_default.field-0-0 w.in_default.is-0 w.in_default.not-Rel-1
+      | goal.order_any-in_default-via-in-List+in_default w ↦ lemma.other_list b a w.in_default.field-0-0 w.in_default.is-0 w.in_default.not-List-1
+      | goal.order_any-in_default-via-in-Path+in_default w ↦ lemma.other_path b a w.in_default.field-0-0 w.in_default.is-0 w.in_default.not-Path-1
+      | goal.order_any-in_default-via-in-Text+in_default w ↦ lemma.other_text b a w.in_default.field-0-0 w.in_default.is-0 w.in_default.not-Text-1
+      | goal.order_any-in_default-via-in-Bool+in_default w ↦ lemma.other_bool b a w.in_default.field-0-0 w.in_default.is-0 w.in_default.not-Bool-1
+      | goal.order_any-in_default-via-in-Int+in_default w ↦ lemma.other_int b a w.in_default.field-0-0 w.in_default.is-0 w.in_default.not-Int-1
+      | goal.order_any-in_default-via-in_default w ↦ lemma.of_null b a w.in_default.is-0
     ]
 
 pub order_items-loop-x-init : goal.order_items-loop-x-init
@@ -80,14 +80,14 @@ order_items-returns-in_default t c =
     let inside : l.x-index < length c.args.xs.now.items = subst (λ xs. l.x-index < length xs) c.deref-x-items.ensures.value c.loop-x-test.true in
     lemma.items_over c.args.xs.now.items l.x-index l.others.now c.x-item.result inside (nil_from_length l.others.now c.in_default.ensures.cases) ∙ l.invariant
 
-pub order_items-returns-in_default-order : goal.order_items-returns-in_default-order
-order_items-returns-in_default-order t c =
+pub order_items-returns-in_default-order_any : goal.order_items-returns-in_default-order_any
+order_items-returns-in_default-order_any t c =
     let l = c.loop-x in
     let xs = c.args.xs.now.items in
     let items = c.deref-x-items.ensures.value in
     let inside : l.x-index < length xs = subst (λ vs. l.x-index < length vs) items c.loop-x-test.true in
     let left = items_order (values_view (drop (l.x-index + 1) xs)) (values_view c.in-Some.rest.now) in
-    lemma.then_first left c.order.ensures c.in_default-order.not-Equal
+    lemma.then_first left c.order_any.ensures c.in_default-order_any.not-Equal
     ∙ lemma.items_step xs l.x-index l.others.now c.in-Some.rest.now c.x-item.result c.in-Some.y.now inside (c.x-item.is ∙ ap (λ vs. get_or vs l.x-index c.x-item.result) items) c.in-Some.ensures.cases.0
     ∙ l.invariant
 
@@ -98,7 +98,7 @@ order_items-loop-x-preserved t c =
     let items = c.deref-x-items.ensures.value in
     let inside : l.x-index < length xs = subst (λ vs. l.x-index < length vs) items c.loop-x-test.true in
     let left = items_order (values_view (drop (l.x-index + 1) xs)) (values_view c.in-Some.rest.now) in
-    lemma.then_second left c.order.ensures c.in-Equal.is
+    lemma.then_second left c.order_any.ensures c.in-Equal.is
     ∙ lemma.items_step xs l.x-index l.others.now c.in-Some.rest.now c.x-item.result c.in-Some.y.now inside (c.x-item.is ∙ ap (λ vs. get_or vs l.x-index c.x-item.result) items) c.in-Some.ensures.cases.0
     ∙ l.invariant
 
@@ -124,12 +124,12 @@ order_entries-returns-in_default t c =
     let a = c.in-Some in
     lemma.entries_are ((a.field-0-0.now, a.x.now) ∷ c.next.new.self) [] a.ensures.steps c.in_default.ensures.steps.0 ∙ c.loop-x.invariant
 
-pub order_entries-returns-in_default-order : goal.order_entries-returns-in_default-order
-order_entries-returns-in_default-order t c =
+pub order_entries-returns-in_default-order_any : goal.order_entries-returns-in_default-order_any
+order_entries-returns-in_default-order_any t c =
     let a = c.in-Some in
     let b = c.in-Some-next in
     let left = entries_order (entries_view c.next.new.self) (entries_view c.next-in-loop-x.new.self) in
-    lemma.then_first left c.order.ensures c.in_default-order.not-Equal
+    lemma.then_first left c.order_any.ensures c.in_default-order_any.not-Equal
     ∙ lemma.entries_are ((a.field-0-0.now, a.x.now) ∷ c.next.new.self) ((b.field-0-0.now, b.y.now) ∷ c.next-in-loop-x.new.self) a.ensures.steps b.ensures.steps ∙ c.loop-x.invariant
 
 pub order_entries-loop-x-preserved : goal.order_entries-loop-x-preserved
@@ -137,7 +137,7 @@ order_entries-loop-x-preserved t c =
     let a = c.in-Some in
     let b = c.in-Some-next in
     let left = entries_order (entries_view c.next.new.self) (entries_view c.next-in-loop-x.new.self) in
-    lemma.then_second left c.order.ensures c.in-Equal.is
+    lemma.then_second left c.order_any.ensures c.in-Equal.is
     ∙ lemma.entries_are ((a.field-0-0.now, a.x.now) ∷ c.next.new.self) ((b.field-0-0.now, b.y.now) ∷ c.next-in-loop-x.new.self) a.ensures.steps b.ensures.steps ∙ c.loop-x.invariant
 
 pub order_entries-returns-in-Some-next-2 : goal.order_entries-returns-in-Some-next-2

@@ -1,9 +1,10 @@
--- Keys that an order has as one have one set.
-use Rattle.std.proofs.Common.{◌≡◌, ℕ, Bool, true, false, cond, inl, inr, Some, None, Ordering, refl, sym, ap, subst, ◌∙◌}
+-- Keys that are equal have one set, in a map of either kind.
+use Rattle.std.proofs.Common.{◌≡◌, ℕ, Bool, true, false, cond, List, inl, inr, MutBor, Option, Some, None, refl, sym, ap, subst, ◌∙◌}
 use Rattle.std.proofs.lemmas.Bool.{cases_eq}
-use Rattle.std.specs.BTreeMap.{BTreeMap, get, get_by, is_at}
-use Rattle.std.specs.Cmp.{IsTotalOrder, Equal-is}
+use Rattle.std.specs.Cmp.{IsEquivalence}
 use Rattle.std.specs.FinMap as map
+use Rattle.std.specs.Map.{lookup}
+use Rattle.std.specs.Option.{option_copied_mut}
 use Rattle.std.specs.Ordering.{nat_cmp}
 use Rattle.pg_graph.proofs.Maps.{same_numbered, get_removed, get_removed_other}
 use Rattle.pg_graph.specs.Removed.{Ids}
@@ -18,24 +19,20 @@ without_nothing k = same_numbered (map.remove no_ids k) no_ids (λ q. elim (case
   | inr ne ↦ get_removed_other no_ids k q ne
 ])
 
-module _ {K : Type 0} {R : K → K → Ordering} (o : IsTotalOrder R) where
-  pub tied_alike : {X : Type 0} (m : BTreeMap K X) (k q : K) → is_at (R k) q ≡ true → get R m q ≡ get R m k
-  tied_alike m k q h = sym (ap (λ (c : K → Ordering). get_by c m) (λ i z. o.congr k q z ((Equal-is (R k q)).0 h) i))
+pub nothing_lent : {X : Type 0} (r : Option (MutBor X)) → ((x : MutBor X) → r ≡ Some x → ⊥) → option_copied_mut r ≡ None
+nothing_lent None h = refl
+nothing_lent (Some x) h = absurd (h x refl)
+
+module _ {K : Type 0} {E : K → K → Bool} (laws : IsEquivalence E) where
+  -- what is found at one of two keys that are equal is found at the other
+  pub found_alike : {X : Type 0} (es : List (K × X)) (k q : K) → E k q ≡ true → lookup (E q) es ≡ lookup (E k) es
+  found_alike es k q h = sym (ap (λ (t : K → Bool). lookup t es) (λ i z. laws.congr k q z h i))
 
   -- nothing leaves where there is no set
-  pub nothing_there : (old new : BTreeMap K Ids) (key : K) (id : ℕ) → new ≡ old → get R old key ≡ None → (q : K)
-      → the_ids (get R new q) ≡ cond (is_at (R key) q) (map.remove (the_ids (get R old key)) id) (the_ids (get R old q))
-  nothing_there old new key id same none q = ap (λ (m : BTreeMap K Ids). the_ids (get R m q)) same ∙ by_test (is_at (R key) q) refl
+  pub nothing_there : (old new : List (K × Ids)) (k : K) (id : ℕ) → new ≡ old → lookup (E k) old ≡ None → (q : K)
+      → the_ids (lookup (E q) new) ≡ cond (E k q) (map.remove (the_ids (lookup (E k) old)) id) (the_ids (lookup (E q) old))
+  nothing_there old new k id same none q = ap (λ (es : List (K × Ids)). the_ids (lookup (E q) es)) same ∙ by_test (E k q) refl
     where
-      by_test : (b : Bool) → is_at (R key) q ≡ b → the_ids (get R old q) ≡ cond b (map.remove (the_ids (get R old key)) id) (the_ids (get R old q))
-      by_test true is = ap the_ids (tied_alike old key q is ∙ none) ∙ sym (ap (λ found. map.remove (the_ids found) id) none ∙ without_nothing id)
+      by_test : (b : Bool) → E k q ≡ b → the_ids (lookup (E q) old) ≡ cond b (map.remove (the_ids (lookup (E k) old)) id) (the_ids (lookup (E q) old))
+      by_test true is = ap the_ids (found_alike old k q is ∙ none) ∙ sym (ap (λ found. map.remove (the_ids found) id) none ∙ without_nothing id)
       by_test false is = refl
-
-  -- a set that is put back leaves all sets as they were
-  pub same_set : (old new : BTreeMap K Ids) (key : K) (was is : Ids) → Some was ≡ get R old key → is ≡ was → ((q : K) → get R new q ≡ cond (is_at (R key) q) (Some is) (get R old q))
-      → (q : K) → the_ids (get R new q) ≡ the_ids (get R old q)
-  same_set old new key was is there same found q = ap the_ids (found q ∙ by_test (is_at (R key) q) refl)
-    where
-      by_test : (b : Bool) → is_at (R key) q ≡ b → cond b (Some is) (get R old q) ≡ get R old q
-      by_test true at = ap Some same ∙ there ∙ sym (tied_alike old key q at)
-      by_test false at = refl

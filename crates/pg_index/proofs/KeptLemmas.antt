@@ -11,7 +11,7 @@ use Rattle.pg_graph.proofs.Maps.{get_inserted}
 use Rattle.pg_graph.specs.Removed.{Ids}
 use Rattle.pg_index.specs.Kept.{NoneIsEmpty}
 
-abbrev has_some : Ids → Type 0
+abbrev pub has_some : Ids → Type 0
 has_some ids = ids ≢ map.empty
 
 -- a set that is among those that are kept

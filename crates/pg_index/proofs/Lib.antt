@@ -1,3 +1,4 @@
 pub mod Indexes
 pub mod KeptLemmas
 pub mod PropertyLemmas
+pub mod ValuedIdsLemmas

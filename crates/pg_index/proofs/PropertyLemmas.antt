@@ -4,17 +4,17 @@ use Rattle.std.specs.Prelude.{◌&&◌, ◌||◌}
 use Rattle.std.proofs.Math.ListN.{set}
 use Rattle.std.proofs.lemmas.Bool.{cases_eq, eqb-true}
 use Rattle.std.proofs.lemmas.Bool.Decides.{nat_tests}
-use Rattle.std.proofs.lemmas.Cmp.{on_total}
-use Rattle.std.specs.BTreeMap.{is_at}
-use Rattle.std.specs.Cmp.{IsTotalOrder, Equal-is, tied_itself}
+use Rattle.std.specs.Cmp.{Equal-is, tied_itself}
 use Rattle.std.specs.FinMap as map
 use Rattle.std.specs.Ordering.{is_eq}
 use Rattle.pg_graph.proofs.Removed.{has_inserted, has_inserted_other, has_removed, has_removed_other, still_some}
 use Rattle.pg_graph.specs.Removed.{Ids, has_id}
 use Rattle.pg_graph.specs.declared.records.NodeRecord.{NodeRecord}
-use Rattle.pg_index.proofs.Indexes.{tied_alike}
-use Rattle.pg_index.specs.Index.{ids_at, the_ids}
+use Rattle.pg_index.proofs.Indexes.{found_alike}
+use Rattle.pg_index.proofs.ValuedIdsLemmas.{one_equiv}
+use Rattle.pg_index.specs.Index.{the_ids}
 use Rattle.pg_index.specs.Properties.{by_value, finds, is_equal, is_found_by, is_for, is_one_value, all_find, some_finds, pairs_of}
+use Rattle.pg_index.specs.ValuedIds.{ids_under}
 use Rattle.pg_index.specs.declared.properties.PropertyIndex.{PropertyIndex}
 use Rattle.pg_meaning.specs.Equality.{eq3}
 use Rattle.pg_meaning.specs.EqualityLaws.{eq3_exact}
@@ -27,21 +27,18 @@ use Rattle.pg_meaning.specs.declared.logic.Tri.TheVariants.{True, False, Null}
 use Rattle.pg_value_core.specs.View.{view}
 use Rattle.pg_value_core.specs.declared.value.Value.{Value}
 
-by_value_total : IsTotalOrder by_value
-by_value_total = on_total view order_total
-
 truly : (t : Tri) → is_true t ≡ true → t ≡ True
 truly True h = refl
 truly False h = absurd cc
 truly Null h = absurd cc
 
 -- what is equal is found in the same place
-pub equal_at : (w v : Value) → is_equal (view w) v ≡ true → is_at (by_value w) v ≡ true
+pub equal_at : (w v : Value) → is_equal (view w) v ≡ true → is_one_value w v ≡ true
 equal_at w v h =
     let same : view w ≡ view v = eq3_exact (view w) (view v) (truly (eq3 (view w) (view v)) h) in
     ap (λ x. is_eq (value_order (view w) x)) (sym same) ∙ ap is_eq (tied_itself order_total (view w))
 
-pub same_value : (w v : Value) → is_at (by_value w) v ≡ true → view w ≡ view v
+pub same_value : (w v : Value) → is_one_value w v ≡ true → view w ≡ view v
 same_value w v h = order_exact (view w) (view v) ((Equal-is (by_value w v)).0 h)
 
 -- what is not equal to itself is equal to nothing
@@ -61,7 +58,7 @@ equal_of w v itself is = ap (λ x. is_true (eq3 (view w) x)) (sym (same_value w 
 
 -- an index finds the same ids under both
 pub one_found : (index : PropertyIndex) (w v : Value) (i : ℕ) → is_one_value w v ≡ true → finds index v i ≡ finds index w i
-one_found index w v i h = ap (λ found. has_id (the_ids found) i) (tied_alike by_value_total index.ids.sets w v h)
+one_found index w v i h = ap (λ found. has_id (the_ids found) i) (found_alike one_equiv index.ids.sets.entries w v h)
 
 -- ---- tests
 
@@ -103,20 +100,20 @@ or_and_more false true c d f h = ap (λ x. x && d) (f refl) ∙ h
 or_and_more false false c d f h = absurd cc
 
 module _ (old new : PropertyIndex) (value : Value) (id : ℕ) where
-  same_ids : (q : Value) → is_at (by_value value) q ≡ true → ids_at by_value old.ids q ≡ ids_at by_value old.ids value
-  same_ids q h = ap the_ids (tied_alike by_value_total old.ids.sets value q h)
+  same_ids : (q : Value) → is_one_value value q ≡ true → ids_under old.ids q ≡ ids_under old.ids value
+  same_ids q h = ap the_ids (found_alike one_equiv old.ids.sets.entries value q h)
 
   abbrev pub Put : Type 0
-  Put = (q : Value) → ids_at by_value new.ids q ≡ cond (is_at (by_value value) q) (map.insert (ids_at by_value old.ids value) id tt) (ids_at by_value old.ids q)
+  Put = (q : Value) → ids_under new.ids q ≡ cond (is_one_value value q) (map.insert (ids_under old.ids value) id tt) (ids_under old.ids q)
 
   abbrev pub Same : Type 0
-  Same = (q : Value) → ids_at by_value new.ids q ≡ ids_at by_value old.ids q
+  Same = (q : Value) → ids_under new.ids q ≡ ids_under old.ids q
 
   pub put_grows : Put → (q : Value) (i : ℕ) → finds old q i ≡ true → finds new q i ≡ true
-  put_grows put q i h = ap (λ (ids : Ids). has_id ids i) (put q) ∙ by_test (is_at (by_value value) q) refl
+  put_grows put q i h = ap (λ (ids : Ids). has_id ids i) (put q) ∙ by_test (is_one_value value q) refl
     where
-      by_test : (b : Bool) → is_at (by_value value) q ≡ b → has_id (cond b (map.insert (ids_at by_value old.ids value) id tt) (ids_at by_value old.ids q)) i ≡ true
-      by_test true is = still_some (ids_at by_value old.ids value) id tt i (ap (λ (ids : Ids). has_id ids i) (sym (same_ids q is)) ∙ h)
+      by_test : (b : Bool) → is_one_value value q ≡ b → has_id (cond b (map.insert (ids_under old.ids value) id tt) (ids_under old.ids q)) i ≡ true
+      by_test true is = still_some (ids_under old.ids value) id tt i (ap (λ (ids : Ids). has_id ids i) (sym (same_ids q is)) ∙ h)
       by_test false is = h
 
   pub value_grows : {V E : Type 0} (r : Result V E) → OnOk r Put → OnErr r Same → (q : Value) (i : ℕ) → finds old q i ≡ true → finds new q i ≡ true
@@ -126,21 +123,21 @@ module _ (old new : PropertyIndex) (value : Value) (id : ℕ) where
   pub put_there : (w : meaning.Value) → view value ≡ w → Put → (v : Value) → is_equal w v ≡ true → finds new v id ≡ true
   put_there w is put = λ v h.
       ap (λ (ids : Ids). has_id ids id) (put v)
-      ∙ ap (λ b. has_id (cond b (map.insert (ids_at by_value old.ids value) id tt) (ids_at by_value old.ids v)) id) (equal_at value v (ap (λ (x : meaning.Value). is_true (eq3 x (view v))) is ∙ h))
-      ∙ has_inserted (ids_at by_value old.ids value) id
+      ∙ ap (λ b. has_id (cond b (map.insert (ids_under old.ids value) id tt) (ids_under old.ids v)) id) (equal_at value v (ap (λ (x : meaning.Value). is_true (eq3 x (view v))) is ∙ h))
+      ∙ has_inserted (ids_under old.ids value) id
 
   pub value_there : {V E : Type 0} (r : Result V E) (w : meaning.Value) → view value ≡ w → OnOk r Put → OnOk r ((v : Value) → is_equal w v ≡ true → finds new v id ≡ true)
   value_there (Err e) w is put = tt
   value_there (Ok x) w is put = put_there w is put
 
   pub put_comes : Put → (q : Value) (i : ℕ) → finds new q i ≡ true → (finds old q i || (is_one_value value q && i == id)) ≡ true
-  put_comes put q i now = by_test (is_at (by_value value) q) refl (sym (ap (λ (ids : Ids). has_id ids i) (put q)) ∙ now)
+  put_comes put q i now = by_test (is_one_value value q) refl (sym (ap (λ (ids : Ids). has_id ids i) (put q)) ∙ now)
     where
-      by_test : (b : Bool) → is_at (by_value value) q ≡ b → has_id (cond b (map.insert (ids_at by_value old.ids value) id tt) (ids_at by_value old.ids q)) i ≡ true → (finds old q i || (is_one_value value q && i == id)) ≡ true
+      by_test : (b : Bool) → is_one_value value q ≡ b → has_id (cond b (map.insert (ids_under old.ids value) id tt) (ids_under old.ids q)) i ≡ true → (finds old q i || (is_one_value value q && i == id)) ≡ true
       by_test false is now = or_left (finds old q i) (is_one_value value q && i == id) now
       by_test true is now = elim (cases_eq i id) [
         | inl same ↦ or_right (finds old q i) (is_one_value value q && i == id) (and_both_true (is_one_value value q) (i == id) is (equal_number i id same))
-        | inr ne ↦ or_left (finds old q i) (is_one_value value q && i == id) (ap (λ (ids : Ids). has_id ids i) (same_ids q is) ∙ sym (has_inserted_other (ids_at by_value old.ids value) id i ne) ∙ now)
+        | inr ne ↦ or_left (finds old q i) (is_one_value value q && i == id) (ap (λ (ids : Ids). has_id ids i) (same_ids q is) ∙ sym (has_inserted_other (ids_under old.ids value) id i ne) ∙ now)
       ]
 
   pub same_comes : Same → (q : Value) (i : ℕ) → finds new q i ≡ true → (finds old q i || (is_one_value value q && i == id)) ≡ true
@@ -150,29 +147,29 @@ module _ (old new : PropertyIndex) (value : Value) (id : ℕ) where
   value_comes (Ok v) put same = put_comes put
   value_comes (Err e) put same = same_comes same
 
-  pub value_left : ((q : Value) → ids_at by_value new.ids q ≡ cond (is_at (by_value value) q) (map.remove (ids_at by_value old.ids value) id) (ids_at by_value old.ids q))
+  pub value_left : ((q : Value) → ids_under new.ids q ≡ cond (is_one_value value q) (map.remove (ids_under old.ids value) id) (ids_under old.ids q))
       → (q : Value) (i : ℕ) → finds new q i ≡ (finds old q i && not (is_one_value value q && i == id))
-  value_left gone q i = ap (λ (ids : Ids). has_id ids i) (gone q) ∙ by_test (is_at (by_value value) q) refl
+  value_left gone q i = ap (λ (ids : Ids). has_id ids i) (gone q) ∙ by_test (is_one_value value q) refl
     where
-      by_test : (b : Bool) → is_at (by_value value) q ≡ b → has_id (cond b (map.remove (ids_at by_value old.ids value) id) (ids_at by_value old.ids q)) i ≡ (finds old q i && not (is_one_value value q && i == id))
+      by_test : (b : Bool) → is_one_value value q ≡ b → has_id (cond b (map.remove (ids_under old.ids value) id) (ids_under old.ids q)) i ≡ (finds old q i && not (is_one_value value q && i == id))
       by_test false is = less_itself (finds old q i) (is_one_value value q && i == id) (ap (λ b. b && i == id) is)
       by_test true is = elim (cases_eq i id) [
-        | inl same ↦ ap (has_id (map.remove (ids_at by_value old.ids value) id)) same ∙ has_removed (ids_at by_value old.ids value) id
+        | inl same ↦ ap (has_id (map.remove (ids_under old.ids value) id)) same ∙ has_removed (ids_under old.ids value) id
             ∙ less_all (finds old q i) (is_one_value value q && i == id) (and_both_true (is_one_value value q) (i == id) is (equal_number i id same))
-        | inr ne ↦ has_removed_other (ids_at by_value old.ids value) id i ne ∙ sym (ap (λ (ids : Ids). has_id ids i) (same_ids q is))
+        | inr ne ↦ has_removed_other (ids_under old.ids value) id i ne ∙ sym (ap (λ (ids : Ids). has_id ids i) (same_ids q is))
             ∙ less_itself (finds old q i) (is_one_value value q && i == id) (ap (λ b. b && i == id) is ∙ other_number i id ne)
       ]
 
-  pub value_loses : ((q : Value) → ids_at by_value new.ids q ≡ cond (is_at (by_value value) q) (map.remove (ids_at by_value old.ids value) id) (ids_at by_value old.ids q))
+  pub value_loses : ((q : Value) → ids_under new.ids q ≡ cond (is_one_value value q) (map.remove (ids_under old.ids value) id) (ids_under old.ids q))
       → (q : Value) (i : ℕ) → finds old q i ≡ true → finds new q i ≡ false → (view q ≡ view value) × (i ≡ id)
-  value_loses gone q i was now = by_test (is_at (by_value value) q) refl (sym (ap (λ (ids : Ids). has_id ids i) (gone q)) ∙ now)
+  value_loses gone q i was now = by_test (is_one_value value q) refl (sym (ap (λ (ids : Ids). has_id ids i) (gone q)) ∙ now)
     where
-      by_test : (b : Bool) → is_at (by_value value) q ≡ b → has_id (cond b (map.remove (ids_at by_value old.ids value) id) (ids_at by_value old.ids q)) i ≡ false → (view q ≡ view value) × (i ≡ id)
+      by_test : (b : Bool) → is_one_value value q ≡ b → has_id (cond b (map.remove (ids_under old.ids value) id) (ids_under old.ids q)) i ≡ false → (view q ≡ view value) × (i ≡ id)
       by_test false is now = absurd (cc (was, now))
       by_test true is now = elim (cases_eq i id) [
         | inl same ↦ (sym (same_value value q is), same)
         | inr ne ↦
-            let other = has_removed_other (ids_at by_value old.ids value) id i ne in
+            let other = has_removed_other (ids_under old.ids value) id i ne in
             let here = ap (λ (ids : Ids). has_id ids i) (same_ids q is) in
             absurd (cc)
       ]

@@ -8,7 +8,7 @@ use Rattle.std.specs.declared.cmp.Ordering.{Ordering}
 use Rattle.pg_graph.specs.Removed.{has_id}
 use Rattle.pg_graph.specs.Stored.{has_number}
 use Rattle.pg_graph.specs.declared.records.NodeRecord.{NodeRecord}
-use Rattle.pg_index.specs.Index.{ids_at}
+use Rattle.pg_index.specs.ValuedIds.{ids_under}
 use Rattle.pg_index.specs.declared.properties.PropertyIndex.{PropertyIndex}
 use Rattle.pg_meaning.specs.Equality.{eq3}
 use Rattle.pg_meaning.specs.Logic.{is_true}
@@ -26,7 +26,7 @@ is_one_value v w = is_eq (by_value v w)
 
 -- whether the index has an id under a value
 abbrev pub finds : PropertyIndex → Value → ℕ → Bool
-finds index v id = has_id (ids_at by_value index.ids v) id
+finds index v id = has_id (ids_under index.ids v) id
 
 abbrev pub is_equal : meaning.Value → Value → Bool
 is_equal w v = is_true (eq3 w (view v))

@@ -1,5 +1,5 @@
 //! A set of ids for each key that has any.
-ghost use Rattle.std.specs.Prelude.{◌≡◌, true, false, OnOk, OnErr, IfOk, option_copied, if◌then◌else◌};
+ghost use Rattle.std.specs.Prelude.{◌≡◌, OnOk, OnErr, option_copied, if◌then◌else◌};
 ghost use Rattle.std.specs.BTreeMap.{is_at, values};
 ghost use Rattle.std.specs.FinMap as map;
 ghost use Rattle.pg_index.specs.Kept.{NoneIsEmpty};
@@ -35,22 +35,6 @@ impl<K: Ord + Drop> Index<K> {
         ensures { the_ids (option_copied result) ≡ ids_at K.cmp self.now key.now }
     {
         self.sets.get(key)
-    }
-
-    /// Puts an id under a key that has some already, or tells that it has none. Or changes nothing.
-    pub fn join(&mut self, key: &K, id: u64) -> Result<bool, AllocError>
-        ensures joined { IfOk result (λ b. b ≡ true → (q : K)
-            → ids_at K.cmp self.new q ≡ (if is_at (K.cmp key.now) q
-            then map.insert (ids_at K.cmp self.old key.now) id tt else ids_at K.cmp self.old q)) }
-        ensures none { IfOk result (λ b. b ≡ false
-            → (q : K) → ids_at K.cmp self.new q ≡ ids_at K.cmp self.old q) }
-        ensures err { OnErr result ((q : K) → ids_at K.cmp self.new q ≡ ids_at K.cmp self.old q) }
-    {
-        let Some(ids) = self.sets.get_mut(key) else {
-            return Ok(false);
-        };
-        ids.insert(id)?;
-        Ok(true)
     }
 
     /// Puts an id under a key, or changes nothing.

@@ -8,35 +8,34 @@ ghost use Rattle.pg_index.specs.declared.properties.PropertyIndex.{PropertyIndex
 ghost use Rattle.pg_value_core.specs.View.{view};
 ghost use Rattle.pg_value_core.specs.declared.value.Value as code;
 
-use crate::index::Index;
+use crate::valued_ids::ValuedIds;
 use pg_graph::{IdSet, NodeRecord};
 use pg_meaning::Tri;
 use pg_names::NameId;
 use pg_value::eq3;
 use pg_value_core::Value;
 use std::alloc::{AllocError, Global};
+use std::hash::RandomState;
 
 /// The ids of nodes with a label, by their values under a key. It may have some more.
 #[derive(Drop)]
 pub struct PropertyIndex {
-    alloc: Global,
     pub label: NameId,
     pub key: NameId,
-    ids: Index<Value>,
+    ids: ValuedIds,
 }
 
 impl PropertyIndex {
-    /// An index that has nothing yet.
-    pub fn new(alloc: Global, label: NameId, key: NameId) -> Self
+    /// An index that has nothing yet. The hasher's keys are to be random where a stranger chooses the values.
+    pub fn new(alloc: Global, hasher: RandomState, label: NameId, key: NameId) -> Self
         ensures label { result.label ≡ label }
         ensures key { result.key ≡ key }
         ensures empty { (v : code.Value) (i : ℕ) → finds result v i ≡ false }
     {
         PropertyIndex {
-            alloc,
             label,
             key,
-            ids: Index::new(alloc),
+            ids: ValuedIds::new(alloc, hasher),
         }
     }
 
@@ -84,10 +83,6 @@ impl PropertyIndex {
         ensures ok { OnOk result ((v : code.Value)
             → is_equal (view value.now) v ≡ true → finds self.new v id ≡ true) }
     {
-        if self.ids.join(value, id)? {
-            return Ok(());
-        }
-        let value = value.copy(self.alloc)?;
         self.ids.insert_id(value, id)
     }
 

@@ -1,15 +1,11 @@
-use Rattle.std.proofs.Common.{◌≡◌, MutBor, Option, Some, None, refl, sym, ◌∙◌}
-use Rattle.std.specs.Option.{option_copied_mut}
-use Rattle.pg_index.proofs.Indexes.{nothing_there}
+use Rattle.std.proofs.Common.{sym, ◌∙◌}
+use Rattle.std.proofs.lemmas.Cmp.{eq_by_cmp_equiv}
+use Rattle.pg_index.proofs.Indexes.{nothing_lent, nothing_there}
 use Rattle.pg_index.proofs.KeptLemmas.{with_set, without_set}
 use Rattle.pg_index.proofs.index.Index.remove_id.Goals as goal
 
-nothing_lent : {X : Type 0} (r : Option (MutBor X)) → ((x : MutBor X) → r ≡ Some x → ⊥) → option_copied_mut r ≡ None
-nothing_lent None h = refl
-nothing_lent (Some x) h = absurd (h x refl)
-
 pub returns-in_default : goal.returns-in_default
-returns-in_default g c = nothing_there g.met.K.Ord.total c.args.self.now.sets _ c.args.key.now c.args.id c.get_mut.follows.holds-at-none (sym c.get_mut.ensures.value ∙ nothing_lent c.get_mut.result c.in_default.not-Some)
+returns-in_default g c = nothing_there (eq_by_cmp_equiv g.met.K.Ord.total) c.args.self.now.sets.entries _ c.args.key.now c.args.id (λ i. (c.get_mut.follows.holds-at-none i).entries) (sym c.get_mut.ensures.value ∙ nothing_lent c.get_mut.result c.in_default.not-Some)
 
 pub invariant_of-self-then-is_empty : goal.invariant_of-self-then-is_empty
 invariant_of-self-then-is_empty g c =

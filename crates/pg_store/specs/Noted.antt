@@ -1,7 +1,7 @@
 -- Ids that stand in a set where they do not belong: each is noted, and swept when nothing is left to undo.
 use Rattle.std.specs.Prelude.{◌≡◌, ◌==◌, ◌&&◌, ◌||◌, ℕ, Bool, true, false, List, [], ◌∷◌, All}
-use Rattle.std.specs.BTreeMap.{values}
 use Rattle.std.specs.List.{list_any}
+use Rattle.std.specs.Map.{values_of}
 use Rattle.std.specs.Ordering.{nat_cmp}
 use Rattle.pg_graph.specs.Removed.{has_id}
 use Rattle.pg_index.specs.Index.{ids_at}
@@ -63,7 +63,7 @@ AreExact sets s = IsSwept (is_in sets) (has_set sets) sets.stale_ids.items s
 
 -- no set of ids is empty that is kept for a label, or in an index for a value
 abbrev pub NoneKeptIsEmpty : Sets → Type 0
-NoneKeptIsEmpty sets = NoneIsEmpty (values sets.labels.sets) × All (λ index. NoneIsEmpty (values index.ids.sets)) sets.indexes.items
+NoneKeptIsEmpty sets = NoneIsEmpty (values_of sets.labels.sets.entries) × All (λ index. NoneIsEmpty (values_of index.ids.sets.entries)) sets.indexes.items
 
 -- sets to which ids have come, each with a note, of the same pairs of a label and a key
 pub record Gaining (old new : Key → ℕ → Bool) (noted notes : List (Place × ℕ)) (was now : List (ℕ × ℕ)) : Type 0 where

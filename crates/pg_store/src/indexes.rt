@@ -97,7 +97,7 @@ impl<T: Tables> Store<T> {
         ensures only { IfOk result (λ x. (i : ℕ) (v : code.Value) → finds x v i ≡ true
             → is_there (state_of T.seen self.now shared.now) (with_value label key v) i ≡ true) }
     {
-        let mut index = PropertyIndex::new(alloc, label, key);
+        let mut index = PropertyIndex::new(alloc, shared.names.hasher(), label, key);
         let mut ids = self.sets.labelled(label).ids();
         while let Some(id) = ids.next() {
             if let Some(node) = self.tables.node(&shared.tables, NodeId(id)) {

@@ -8,6 +8,7 @@ pub mod Grouped
 pub mod Keyed
 pub mod Leasts
 pub mod Orders
+pub mod Picked
 pub mod Places
 pub mod Stable
 pub mod Tabled

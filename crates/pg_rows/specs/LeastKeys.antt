@@ -6,11 +6,12 @@ use Rattle.std.specs.Ordering.{is_lt}
 use Rattle.pg_meaning.specs.Value.{Value}
 use Rattle.pg_value_core.specs.View.{view}
 use Rattle.pg_value_core.specs.declared.value.Value.{Value as Code}
-use Rattle.pg_rows.specs.Sorts.{key_order, keyed_below, sorted_by, entries_view}
+use Rattle.pg_rows.specs.Sorts.{directions_of, key_order, keyed_below, picked, sorted_by, entries_view}
+use Rattle.pg_rows.specs.declared.sort_by.SortBy.{SortBy}
 use Rattle.pg_rows.specs.declared.least_keys.LeastSoFar.{LeastSoFar}
 
-abbrev pub bound_view : Option (Bor (List Code)) → Option (List Value)
-bound_view bound = option_map (λ b. map view b.now) bound
+abbrev pub bound_view : List SortBy → Option (Bor (List Code)) → Option (List Value)
+bound_view sorts bound = option_map (λ b. picked sorts (map view b.now)) bound
 
 -- whether a key isn't below the bound, where there is one
 abbrev pub is_behind : (descending : List Bool) → List Value → Option (List Value) → Bool
@@ -27,6 +28,6 @@ Bounds most descending None least = Unit {0}
 Bounds most descending (Some bound) least = (length least ≡ most) × (list_any (λ k. is_lt (key_order descending bound k.0)) least ≡ false)
 
 -- the least of these entries are the least of all keys
-pub record HoldsLeast (most : ℕ) (descending : List Bool) (l : LeastSoFar) (keyed : List (List Value × ℕ)) : Type 0 where
-  pub same : least_of most descending (entries_view l.entries.items) ≡ least_of most descending keyed
-  pub bound : Bounds most descending (bound_view l.bound) (least_of most descending keyed)
+pub record HoldsLeast (most : ℕ) (sorts : List SortBy) (l : LeastSoFar) (keyed : List (List Value × ℕ)) : Type 0 where
+  pub same : least_of most (directions_of sorts) (entries_view sorts l.entries.items) ≡ least_of most (directions_of sorts) keyed
+  pub bound : Bounds most (directions_of sorts) (bound_view sorts l.bound) (least_of most (directions_of sorts) keyed)

@@ -8,6 +8,7 @@ mod least_keys;
 mod left;
 mod moves;
 mod named;
+mod sort_by;
 mod sorts;
 mod table;
 
@@ -17,5 +18,6 @@ pub use least_keys::least;
 pub use left::RowsLeft;
 pub use moves::{copy_of, copy_row};
 pub use named::BindingTable;
+pub use sort_by::SortBy;
 pub use sorts::sort;
 pub use table::Rows;

@@ -1,87 +1,85 @@
-//! Rows sorted by keys that stand beside them.
-ghost use Rattle.std.specs.Prelude.{◌≡◌, map, length, IfOk, OnOk};
+//! Rows sorted by the values in some of their columns.
+ghost use Rattle.std.specs.Prelude.{◌≡◌, List, map, length, slice_index_or, IfOk, OnOk};
 ghost use Rattle.pg_meaning.specs.Order.{value_order};
-ghost use Rattle.pg_meaning.specs.Projections.{first_or_null};
+ghost use Rattle.pg_meaning.specs.Projections.{directed};
+ghost use Rattle.pg_meaning.specs.Value.{null};
 ghost use Rattle.pg_value_core.specs.View.{view};
-ghost use Rattle.pg_rows.specs.Sorts.{entries_view, key_order, keyed_below, numbered, other_values, sorted_by, sorted_places};
+ghost use Rattle.pg_rows.specs.Sorts.{directions_of, entries_view, key_order, keyed_below, numbered, picked, sorted_by, sorted_places};
 ghost use Rattle.pg_rows.specs.Tables.{table, EachBelow};
+ghost use Rattle.pg_rows.specs.declared.sort_by.SortBy.{SortBy};
 
+use crate::sort_by::SortBy;
 use crate::table::Rows;
 use pg_value_core::{Value, order};
 use std::alloc::{AllocError, Global};
 use std::cmp::Ordering;
 
-fn order_first(a: &[Value], b: &[Value]) -> Ordering
+/// How two rows stand by a column. A value that a row lacks counts as null.
+fn order_in(column: usize, a: &[Value], b: &[Value]) -> Ordering
     ensures { result
-        ≡ value_order (first_or_null (map view a.now)) (first_or_null (map view b.now)) }
+        ≡ value_order (slice_index_or (map view a.now) column null)
+        (slice_index_or (map view b.now) column null) }
 {
-    match (a, b) {
-        ([x, ..], [y, ..]) => order(x, y),
-        ([x, ..], []) => order(x, &Value::Null),
-        ([], [y, ..]) => order(&Value::Null, y),
-        ([], []) => Ordering::Equal,
+    match (a.get(column), b.get(column)) {
+        (Some(x), Some(y)) => order(x, y),
+        (Some(x), None) => order(x, &Value::Null),
+        (None, Some(y)) => order(&Value::Null, y),
+        (None, None) => Ordering::Equal,
     }
 }
 
-fn others(values: &[Value]) -> &[Value]
-    ensures { map view result.now ≡ other_values (map view values.now) }
+/// Sort by sort, each in its direction.
+pub(crate) fn order_rows(sorts: &[SortBy], a: &[Value], b: &[Value]) -> Ordering
+    ensures { result
+        ≡ key_order (directions_of sorts.now)
+        (picked sorts.now (map view a.now)) (picked sorts.now (map view b.now)) }
 {
-    match values {
-        [_, rest @ ..] => rest,
-        [] => values,
-    }
-}
-
-/// Key by key, each in its direction. A key that is missing counts as null.
-pub(crate) fn order_keys(descending: &[bool], a: &[Value], b: &[Value]) -> Ordering
-    ensures { result ≡ key_order descending.now (map view a.now) (map view b.now) }
-{
-    let mut left = a;
-    let mut right = b;
-    for descends in descending {
-        let found = match (*descends, order_first(left, right)) {
-            (true, found) => found.reverse(),
-            (false, found) => found,
-        };
+    for sort in sorts {
+        let found = order_in(sort.column, a, b);
         if found != Ordering::Equal {
-            return found;
+            return directed(sort.descends, found);
         }
-        left = others(left);
-        right = others(right);
     }
     Ordering::Equal
 }
 
-/// The keys with their places.
-fn entries_of(keys: &Rows, alloc: Global) -> Result<Vec<(&[Value], usize)>, AllocError>
-    ensures { IfOk result (λ es. entries_view es.items ≡ numbered 0 (table keys.now)) }
+fn directed(descends: bool, found: Ordering) -> Ordering
+    ensures { result ≡ directed descends found }
 {
-    let mut entries: Vec<(&[Value], usize)> = Vec::with_capacity(alloc, keys.len())?;
-    for at in 0..keys.len() {
-        entries.push((keys.row(at), at))?;
+    if descends { found.reverse() } else { found }
+}
+
+/// The rows with their places.
+fn entries_of(rows: &Rows, alloc: Global) -> Result<Vec<(&[Value], usize)>, AllocError>
+    ensures { (sorts : List SortBy) → IfOk result
+        (λ es. entries_view sorts es.items ≡ numbered 0 (map (picked sorts) (table rows.now))) }
+{
+    let mut entries: Vec<(&[Value], usize)> = Vec::with_capacity(alloc, rows.len())?;
+    for at in 0..rows.len() {
+        entries.push((rows.row(at), at))?;
     }
     Ok(entries)
 }
 
-/// Sorts keys that stand beside their places; those that tie stay in their order.
+/// Sorts rows that stand beside their places; those that tie stay in their order.
 pub(crate) fn sort_entries(
-    descending: &[bool],
+    sorts: &[SortBy],
     entries: &mut Vec<(&[Value], usize)>,
 ) -> Result<(), AllocError>
-    ensures sorted { OnOk result (entries_view entries.new.items
-        ≡ sorted_by (keyed_below descending.now) (entries_view entries.old.items)) }
+    ensures sorted { OnOk result (entries_view sorts.now entries.new.items
+        ≡ sorted_by (keyed_below (directions_of sorts.now))
+        (entries_view sorts.now entries.old.items)) }
     ensures len { length entries.new.items ≡ length entries.old.items }
 {
-    entries.sort_by(|a, b| order_keys(descending, a.0, b.0))
+    entries.sort_by(|a, b| order_rows(sorts, a.0, b.0))
 }
 
-/// The places beside the keys.
+/// The places beside the rows.
 pub(crate) fn places_of(
     entries: &Vec<(&[Value], usize)>,
     alloc: Global,
 ) -> Result<Vec<usize>, AllocError>
-    ensures { IfOk result
-        (λ places. places.items ≡ map (λ k. k.1) (entries_view entries.now.items)) }
+    ensures { IfOk result (λ places. places.items ≡ map (λ e. e.1) entries.now.items) }
 {
     let mut places = Vec::with_capacity(alloc, entries.len())?;
     for entry in entries {
@@ -90,13 +88,13 @@ pub(crate) fn places_of(
     Ok(places)
 }
 
-/// The places of the keys, sorted by them; keys that tie stay in their order.
-pub fn sort(keys: &Rows, descending: &[bool], alloc: Global) -> Result<Vec<usize>, AllocError>
-    ensures places { IfOk result
-        (λ places. places.items ≡ sorted_places descending.now (table keys.now)) }
-    ensures below { IfOk result (λ places. EachBelow (length (table keys.now)) places.items) }
+/// The places of the rows, sorted by the columns that are named; rows that tie stay in their order.
+pub fn sort(rows: &Rows, sorts: &[SortBy], alloc: Global) -> Result<Vec<usize>, AllocError>
+    ensures places { IfOk result (λ places. places.items
+        ≡ sorted_places (directions_of sorts.now) (map (picked sorts.now) (table rows.now))) }
+    ensures below { IfOk result (λ places. EachBelow (length (table rows.now)) places.items) }
 {
-    let mut entries = entries_of(keys, alloc)?;
-    sort_entries(descending, &mut entries)?;
+    let mut entries = entries_of(rows, alloc)?;
+    sort_entries(sorts, &mut entries)?;
     places_of(&entries, alloc)
 }

@@ -1,5 +1,4 @@
 use Rattle.std.proofs.Common.{◌≡◌, ◌<◌, ◌+◌, ℕ, List, ◌++◌, ◌∷◌, [], length, map, take, get_or, take-suc, add-one, sym, ap, ◌∙◌}
-use Rattle.pg_rows.proofs.Keyed.{places_in}
 use Rattle.pg_rows.proofs.Tabled.{map_append, all_taken}
 use Rattle.pg_rows.proofs.sorts.places_of.Goals as goal
 
@@ -23,4 +22,3 @@ pub returns : goal.returns
 returns c =
     c.loop-entry.invariant
     ∙ ap (map (λ e. e.1)) (sym (all_taken c.loop-entry.entry-index c.deref-entry-items.result.now c.loop-entry-test.false) ∙ c.deref-entry-items.ensures.value)
-    ∙ places_in c.args.entries.now.items

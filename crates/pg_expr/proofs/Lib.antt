@@ -1,6 +1,7 @@
 pub mod AfterLemmas
 pub mod Applied
 pub mod ChainLemmas
+pub mod ColumnsReadLemmas
 pub mod Comparisons
 pub mod Conjuncts
 pub mod ElementLemmas

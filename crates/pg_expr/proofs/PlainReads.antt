@@ -20,7 +20,7 @@ use Rattle.pg_syntax_tree.specs.View.{expression_view}
 use Rattle.pg_syntax_tree.specs.declared.expression.Expression.{Expression}
 use Rattle.pg_value_core.specs.Gives.{Gives}
 
-as_it_is : (a : Answer) → ((a >>= λ w. Ok w) >>= λ w. Ok w) ≡ a
+pub as_it_is : (a : Answer) → ((a >>= λ w. Ok w) >>= λ w. Ok w) ≡ a
 as_it_is (Ok v) = refl
 as_it_is (Err e) = refl
 

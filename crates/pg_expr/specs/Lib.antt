@@ -1,8 +1,10 @@
 pub mod After
 pub mod Calls
+pub mod ColumnsRead
 pub mod Conditions
 pub mod Elements
 pub mod Kinds
+pub mod LoneColumns
 pub mod Operators
 pub mod Prepared
 pub mod Reads

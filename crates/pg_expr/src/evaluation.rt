@@ -3,6 +3,7 @@ ghost use Rattle.std.specs.Prelude.{map, option_map, string_bytes};
 ghost use Rattle.pg_expr.specs.Calls.{given_call, given_size};
 ghost use Rattle.pg_expr.specs.Kinds.{IsCase, IsChain, AreTests, AreSuffixes};
 ghost use Rattle.pg_expr.specs.Prepared.{tree_of};
+ghost use Rattle.pg_expr.specs.Scalars.{scalar_view, Tells};
 ghost use Rattle.pg_expr.specs.Contexts.{found_view, founds_view, pairs_view, given, given_each, given_map, given_first, given_true, given_chain, given_operands};
 ghost use Rattle.pg_meaning.specs.Expressions.{evaluate};
 ghost use Rattle.pg_meaning.specs.Parse.{expressions_of, operands_of, pairs_of, whens_of};
@@ -20,11 +21,11 @@ use crate::operators::{
     all_signed, begins_comparison, combined, compared, compared_once, is_chosen, negated,
     null_tested, tested,
 };
-use crate::plain_operands::variable_and_key;
+use crate::plain_operands::{plain, variable_and_key};
 use crate::prepared::Prepared;
 use crate::reads::{index, labels, property, variable_property};
 use crate::row_context::RowContext;
-use crate::scalar::{Scalar, copied, text_copied};
+use crate::scalar::{Scalar, copied, is_untold, text_copied};
 use crate::scalar_evaluation::scalar;
 use crate::value_ref::{ValueRef, null};
 use pg_graph::Tables;
@@ -71,13 +72,34 @@ pub fn evaluate_at<T: Tables>(
     if !prepared.tells {
         return found_at(context, graph, prepared.tree);
     }
-    match scalar(context, graph, prepared.tree) {
+    match told(context, graph, prepared.tree) {
         Scalar::Untold => found_at(context, graph, prepared.tree),
         Scalar::Null => Ok(Value::Null),
         Scalar::Bool(b) => Ok(Value::Bool(b)),
         Scalar::Int(i) => Ok(Value::Int(i)),
         Scalar::Text(text) => text_copied(context.alloc, text),
         Scalar::Lent(value) => copied(context.alloc, value),
+    }
+}
+
+/// What scalars tell: plain operands need no cycle of calls.
+fn told<'a, T: Tables>(
+    context: &RowContext<'a>,
+    graph: &GraphView<'a, T>,
+    expression: &'a Expression,
+) -> Scalar<'a>
+    ensures { Tells (scalar_view result)
+        (given context.now graph.now (expression_view expression.now)) }
+{
+    match expression {
+        Expression::Suffixes(_, _, _) | Expression::Variable(_) => {
+            let read = plain(context, graph, expression);
+            if !is_untold(read) {
+                return read;
+            }
+            scalar(context, graph, expression)
+        }
+        _ => scalar(context, graph, expression),
     }
 }
 

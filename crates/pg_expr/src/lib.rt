@@ -3,10 +3,12 @@
 
 mod atoms;
 mod calls;
+mod columns_read;
 mod conditions;
 mod counts;
 mod elements;
 mod evaluation;
+mod lone_columns;
 mod made;
 mod operators;
 mod plain_operands;
@@ -21,8 +23,10 @@ mod scalar_operators;
 mod scalar_trees;
 mod value_ref;
 
+pub use columns_read::column_read;
 pub use conditions::condition;
 pub use evaluation::{evaluate, evaluate_at, find_at};
+pub use lone_columns::lone_column;
 pub use prepared::{Prepared, PreparedCondition, prepare, prepare_condition};
 pub use query_context::QueryContext;
 pub use row_context::RowContext;

@@ -174,7 +174,7 @@ fn case<'a, T: Tables>(
     }
 }
 
-/// The size of a text; no other call is told.
+/// The size of a text or a list; no other call is told.
 #[cycle(scalar)]
 #[inline(never)]
 fn call<'a, T: Tables>(

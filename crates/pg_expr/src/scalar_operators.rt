@@ -5,9 +5,10 @@ ghost use Rattle.pg_expr.specs.Operators.{all_negated, truth_compared};
 ghost use Rattle.pg_expr.specs.Scalars.{scalar_view, Chooses, Tells, ThenTells, BothTell, TruthIn};
 ghost use Rattle.pg_meaning.specs.Arithmetic.{divide, modulo, signed};
 ghost use Rattle.pg_meaning.specs.Expressions.{all_signed, combined, compared, null_tested};
-ghost use Rattle.pg_meaning.specs.Functions.{is_first_byte};
+ghost use Rattle.pg_meaning.specs.Functions.{is_first_byte, item_count};
 ghost use Rattle.pg_meaning.specs.Logic.{truth_of, value_of_truth};
-ghost use Rattle.pg_meaning.specs.Value.{Value, boolean, integer, text};
+ghost use Rattle.pg_meaning.specs.Value.{Value as Datum, boolean, integer, text};
+ghost use Rattle.pg_value_core.specs.View.{values_view, view};
 
 use crate::operators::turned;
 use crate::scalar::Scalar;
@@ -15,6 +16,7 @@ use pg_graph::Tables;
 use pg_meaning::{Operator, Tri};
 use pg_store::GraphView;
 use pg_value::{and, not, or, truth, xor};
+use pg_value_core::Value;
 
 /// The integer that an operation gave, if it is within 64 bits.
 fn told<'a>(n: Option<i64>) -> Scalar<'a>
@@ -108,7 +110,7 @@ fn logic<'a>(operator: Operator, v: Scalar<'_>, w: Scalar<'_>) -> Scalar<'a>
 }
 
 fn truth_combined<'a>(operator: Operator, s: Tri, w: Scalar<'_>) -> Scalar<'a>
-    ensures { (v : Value) → truth_of v ≡ Ok s
+    ensures { (v : Datum) → truth_of v ≡ Ok s
         → ThenTells (scalar_view w.entry) (scalar_view result) (combined operator v) }
 {
     match truth_in(w) {
@@ -118,7 +120,7 @@ fn truth_combined<'a>(operator: Operator, s: Tri, w: Scalar<'_>) -> Scalar<'a>
 }
 
 fn truths(operator: Operator, s: Tri, t: Tri) -> Option<Tri>
-    ensures { IfSome result (λ u. (v w : Value) → truth_of v ≡ Ok s → truth_of w ≡ Ok t
+    ensures { IfSome result (λ u. (v w : Datum) → truth_of v ≡ Ok s → truth_of w ≡ Ok t
         → combined operator v w ≡ Ok (value_of_truth u)) }
 {
     match operator {
@@ -275,7 +277,7 @@ pub(crate) fn is_chosen(v: Scalar<'_>) -> Option<bool>
     }
 }
 
-/// The size of a text.
+/// The size of a text or of a list that is lent.
 pub(crate) fn sized<'a, T: Tables>(graph: &GraphView<'_, T>, v: Scalar<'_>) -> Scalar<'a>
     ensures { ThenTells (scalar_view v.entry) (scalar_view result) (sized graph.now) }
 {
@@ -283,8 +285,27 @@ pub(crate) fn sized<'a, T: Tables>(graph: &GraphView<'_, T>, v: Scalar<'_>) -> S
     match v {
         Scalar::Null => Scalar::Null,
         Scalar::Text(text) => counted(characters(text.as_bytes())),
+        Scalar::Lent(value) => lent_sized(graph, value),
         _ => Scalar::Untold,
     }
+}
+
+fn lent_sized<'a, T: Tables>(graph: &GraphView<'_, T>, value: &Value) -> Scalar<'a>
+    ensures { Tells (scalar_view result) (sized graph.now (view value.now)) }
+{
+    let _ = graph;
+    match value {
+        Value::List(items) => listed(items),
+        _ => Scalar::Untold,
+    }
+}
+
+#[tactic(auto, using(pg_expr_calls::proofs::Counts::counts))]
+fn listed<'a>(items: &Vec<Value>) -> Scalar<'a>
+    ensures { scalar_view result
+        ≡ Some (integer (pos (item_count (values_view items.now.items)))) }
+{
+    counted(items.len())
 }
 
 fn counted<'a>(n: usize) -> Scalar<'a>

@@ -1,0 +1,18 @@
+//! Expressions that read a column of the rows and nothing else.
+ghost use Rattle.std.specs.Prelude.{IfSome};
+ghost use Rattle.pg_expr.specs.LoneColumns.{IsLoneColumn};
+ghost use Rattle.pg_expr.specs.Prepared.{tree_of};
+
+use crate::plain_operands::variable_of;
+use crate::prepared::Prepared;
+use pg_rows::Columns;
+
+/// The column of a variable that stands alone: the first of its name.
+pub fn lone_column(prepared: &Prepared<'_>, names: &Columns) -> Option<usize>
+    ensures { IfSome result (λ at. IsLoneColumn names.now (tree_of names.now prepared.now) at) }
+{
+    match variable_of(prepared.tree) {
+        Some(name) => names.find(name.text.as_str()),
+        None => None,
+    }
+}

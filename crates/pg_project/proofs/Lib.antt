@@ -8,7 +8,9 @@ pub mod MadeLemmas
 pub mod Moves
 pub mod Projecting
 pub mod ReturnedInTurn
+pub mod SortColumns
 pub mod SortPlaces
+pub mod SortedRows
 pub mod Spending
 pub mod Standing
 pub mod TailLemmas

@@ -8,7 +8,7 @@ ghost use Rattle.pg_value_core.specs.View.{view};
 
 use crate::items::{Aggregate, Items};
 use crate::made::push_made;
-use crate::recent::{Recent, place_of, place_of_one};
+use crate::recent::{Recent, mark_of, mark_of_one};
 use crate::taken::Taken;
 use crate::taking::{begun, take_in_all};
 use indexmap::IndexSet;
@@ -52,7 +52,7 @@ impl Groups {
         let mut groups = Groups {
             keys: IndexSet::with_hasher(alloc, hasher),
             taken: Vec::new(alloc),
-            recent: Recent::new(),
+            recent: Recent::new(alloc),
         };
         if items.keys.is_empty() {
             groups.keys.insert(Vec::new(alloc))?;
@@ -105,7 +105,7 @@ impl Groups {
             (aggregates_view context.now.names.now aggregates.now.items)
             (found_view found.entry ∷ []) (groups_view self.old) ≡ Err e) }
     {
-        let number = self.recent.numbers[place_of_one(found.look())];
+        let number = self.recent.noted(mark_of_one(found.look()));
         if is_number_of_one(&self.keys, number, found.look()) {
             return take_in_all(context, graph, aggregates, &mut self.taken[number]);
         }
@@ -170,13 +170,16 @@ fn number_of(
     ensures added { IfOk result (λ n. n.1 ≡ not (list_any (same_keys key.old) keys.old.keys)) }
     ensures within { IfOk result (λ n. n.0 < length keys.new.keys) }
 {
-    let place = place_of(key);
-    let number = recent.numbers[place];
+    let mark = mark_of(key);
+    let number = recent.noted(mark);
     if is_number(keys, number, key) {
         return Ok((number, false));
     }
     let found = keys.insert_full(mem::replace(key, Vec::new(alloc)))?;
-    recent.numbers[place] = found.0;
+    if found.1 {
+        recent.make_room(keys.len())?;
+    }
+    recent.note(mark, found.0);
     Ok(found)
 }
 

@@ -21,6 +21,7 @@ mod projection_columns;
 mod recent;
 mod returned;
 mod rows;
+mod sort_columns;
 mod sorting;
 mod taken;
 mod taking;

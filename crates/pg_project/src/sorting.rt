@@ -7,20 +7,20 @@ ghost use Rattle.pg_meaning.specs.declared.fault.Fault.TheVariants.{OutOfMemory}
 ghost use Rattle.pg_project.specs.Cuts.{cut_view};
 ghost use Rattle.pg_project.specs.Given.{all_keys_given, cut_of, distinct_given, key_given, sort_source, keys_given, let_in_given, ordered_given};
 ghost use Rattle.pg_project.specs.Items.{expressions_view};
-ghost use Rattle.pg_project.specs.Sources.{source_view, sources_view};
-ghost use Rattle.pg_rows.specs.Sorts.{directions, sorted_places};
+ghost use Rattle.pg_project.specs.Sources.{key_view, source_directions, sources_view};
+ghost use Rattle.pg_rows.specs.Sorts.{directions, directions_of, picked, sorted_places};
 ghost use Rattle.pg_rows.specs.Tables.{rows_at_places, table};
 ghost use Rattle.pg_syntax_tree.specs.View.{expression_view, sort_item_view};
 ghost use Rattle.pg_value_core.specs.Given.{parameters_view};
 ghost use Rattle.pg_value_core.specs.View.{view};
 
 use crate::clause_scope::ClauseScope;
-use crate::made::push_made;
 use crate::passing::Cut;
+use crate::sort_columns::{key_sorts, row_sorts};
 use pg_expr::{Prepared, RowContext, evaluate_at, prepare};
 use pg_graph::Tables;
 use pg_meaning::{Fault, Sort};
-use pg_rows::{Columns, Rows, distinct, least};
+use pg_rows::{Columns, Rows, SortBy, distinct, least};
 use pg_store::GraphView;
 use pg_syntax_tree::{Expression, SortItem};
 use pg_tree_equality::same_expression;
@@ -33,6 +33,13 @@ use std::hash::RandomState;
 pub(crate) enum SortKey<'a> {
     Item(usize),
     Other(Prepared<'a>),
+}
+
+/// The same with the direction.
+#[derive(Clone, Copy)]
+pub(crate) struct SortSource<'a> {
+    pub(crate) key: SortKey<'a>,
+    pub(crate) descends: bool,
 }
 
 /// The rows, of equivalent ones the first alone where DISTINCT is written.
@@ -75,38 +82,75 @@ pub(crate) fn ordered_rows<T: Tables>(
     if order.is_empty() {
         return Ok(rows);
     }
-    let sources = sources(scope.query.alloc, items, order, scope.names)?;
+    let alloc = scope.query.alloc;
+    let sources = sources(alloc, items, order, scope.names)?;
+    let columns = row_sorts(alloc, &sources, scope.names, rows.width())?;
+    if let Some(sorts) = columns {
+        return Ok(sorted_rows(alloc, sorts.as_slice(), cut, rows)?);
+    }
     let keys = keys(scope, &sources, &rows, graph)?;
-    Ok(sorted_rows(scope.query.alloc, &keys, order, cut, rows)?)
+    Ok(rows_by_keys(alloc, &sources, &keys, cut, rows)?)
 }
 
-/// The rows in the order of their keys, as far as the cut lets any in.
+/// The rows sorted by columns of theirs, as far as the cut lets any in.
 fn sorted_rows(
     alloc: Global,
-    keys: &Rows,
-    order: &Vec<SortItem>,
+    sorts: &[SortBy],
     cut: Cut,
     mut rows: Rows,
 ) -> Result<Rows, AllocError>
-    requires { length (table keys.now) ≡ length (table rows) }
     ensures rows { IfOk result (λ found. cut_of (cut_view cut) (table found)
         ≡ cut_of (cut_view cut) (rows_at_places (table rows)
-        (sorted_places (directions (map sort_item_view order.now.items)) (table keys.now)))) }
+        (sorted_places (directions_of sorts.now) (map (picked sorts.now) (table rows))))) }
     ensures width { IfOk result (λ found. found.width ≡ rows.width) }
 {
-    let descending = descending(alloc, order)?;
-    let most = cut.reach(keys.len());
-    let places = least(keys, descending.as_slice(), most, alloc)?;
+    let most = cut.reach(rows.len());
+    let places = least(&rows, sorts, most, alloc)?;
     rows.pick(&places, alloc)
 }
 
-/// Which sorts turn the order.
-fn descending(alloc: Global, order: &Vec<SortItem>) -> Result<Vec<bool>, AllocError>
-    ensures { IfOk result (λ found. found.items ≡ directions (map sort_item_view order.now.items)) }
+/// The rows in the order of their keys, as far as the cut lets any in.
+fn rows_by_keys(
+    alloc: Global,
+    sources: &Vec<SortSource<'_>>,
+    keys: &Rows,
+    cut: Cut,
+    mut rows: Rows,
+) -> Result<Rows, AllocError>
+    requires len { length (table keys.now) ≡ length (table rows) }
+    requires width { keys.now.width ≡ length sources.now.items }
+    ensures rows { IfOk result (λ found. cut_of (cut_view cut) (table found)
+        ≡ cut_of (cut_view cut) (rows_at_places (table rows)
+        (sorted_places (source_directions sources.now.items) (table keys.now)))) }
+    ensures width { IfOk result (λ found. found.width ≡ rows.width) }
+{
+    let sorts = key_sorts(alloc, sources)?;
+    let most = cut.reach(keys.len());
+    let places = least(keys, sorts.as_slice(), most, alloc)?;
+    rows.pick(&places, alloc)
+}
+
+/// What each sort goes by.
+fn sources<'a>(
+    alloc: Global,
+    items: &Vec<&'a Expression>,
+    order: &'a Vec<SortItem>,
+    names: &Columns,
+) -> Result<Vec<SortSource<'a>>, AllocError>
+    ensures sources { IfOk result (λ found. sources_view names.now found.items
+        ≡ map (λ o. sort_source (expressions_view items.now.items) o.key)
+        (map sort_item_view order.now.items)) }
+    ensures directions { IfOk result (λ found.
+        source_directions found.items ≡ directions (map sort_item_view order.now.items)) }
+    ensures len { IfOk result (λ found. length found.items ≡ length order.now.items) }
 {
     let mut found = Vec::new(alloc);
     for item in order {
-        found.push(is_descending(item.direction))?;
+        let key = sort_key(alloc, items, &item.key, names)?;
+        found.push(SortSource {
+            key,
+            descends: is_descending(item.direction),
+        })?;
     }
     Ok(found)
 }
@@ -120,25 +164,6 @@ fn is_descending(direction: Option<Sort>) -> bool
     }
 }
 
-/// What each sort goes by.
-fn sources<'a>(
-    alloc: Global,
-    items: &Vec<&'a Expression>,
-    order: &'a Vec<SortItem>,
-    names: &Columns,
-) -> Result<Vec<SortKey<'a>>, AllocError>
-    ensures sources { IfOk result (λ found. sources_view names.now found.items
-        ≡ map (λ o. sort_source (expressions_view items.now.items) o.key)
-        (map sort_item_view order.now.items)) }
-    ensures len { IfOk result (λ found. length found.items ≡ length order.now.items) }
-{
-    let mut found = Vec::new(alloc);
-    for item in order {
-        push_made(&mut found, sort_key(alloc, items, &item.key, names))?;
-    }
-    Ok(found)
-}
-
 /// A sort whose tree equals an item's stands for that item.
 fn sort_key<'a>(
     alloc: Global,
@@ -146,7 +171,7 @@ fn sort_key<'a>(
     key: &'a Expression,
     names: &Columns,
 ) -> Result<SortKey<'a>, AllocError>
-    ensures { IfOk result (λ s. source_view names.now s
+    ensures { IfOk result (λ s. key_view names.now s
         ≡ sort_source (expressions_view items.now.items) (expression_view key.now)) }
 {
     match item_place(items, key) {
@@ -173,7 +198,7 @@ fn item_place(items: &Vec<&Expression>, key: &Expression) -> Option<usize>
 #[tactic(auto, using(crate::proofs::InTurn::no_more))]
 fn keys<T: Tables>(
     scope: &ClauseScope<'_>,
-    sources: &Vec<SortKey<'_>>,
+    sources: &Vec<SortSource<'_>>,
     rows: &Rows,
     graph: &GraphView<'_, T>,
 ) -> Result<Rows, Fault>
@@ -181,6 +206,7 @@ fn keys<T: Tables>(
         (parameters_view scope.now.query.now.parameters.now) graph.now scope.now.names.now
         (sources_view scope.now.names.now sources.now.items) (table rows.now) ≡ Ok (table found)) }
     ensures len { IfOk result (λ found. length (table found) ≡ length (table rows.now)) }
+    ensures width { IfOk result (λ found. found.width ≡ length sources.now.items) }
     ensures err { IfErr result (λ e. e ≢ OutOfMemory
         → all_keys_given (parameters_view scope.now.query.now.parameters.now) graph.now
         scope.now.names.now (sources_view scope.now.names.now sources.now.items) (table rows.now)
@@ -204,7 +230,7 @@ fn keys<T: Tables>(
 /// The keys of a row, taken into a list that is empty.
 fn push_keys<T: Tables>(
     context: &RowContext<'_>,
-    sources: &Vec<SortKey<'_>>,
+    sources: &Vec<SortSource<'_>>,
     graph: &GraphView<'_, T>,
     keys: &mut Vec<Value>,
 ) -> Result<(), Fault>
@@ -220,25 +246,25 @@ fn push_keys<T: Tables>(
         ≡ Err e) }
 {
     for source in sources {
-        keys.push(key(context, source, graph)?)?;
+        keys.push(key(context, &source.key, graph)?)?;
     }
     Ok(())
 }
 
 fn key<T: Tables>(
     context: &RowContext<'_>,
-    source: &SortKey<'_>,
+    key: &SortKey<'_>,
     graph: &GraphView<'_, T>,
 ) -> Result<Value, Fault>
     ensures ok { IfOk result
         (λ v. key_given (parameters_view context.now.parameters.now) graph.now context.now.names.now
-        (map view context.now.row.now) (source_view context.now.names.now source.now)
+        (map view context.now.row.now) (key_view context.now.names.now key.now)
         ≡ Ok (view v)) }
     ensures err { IfErr result (λ e. e ≢ OutOfMemory
         → key_given (parameters_view context.now.parameters.now) graph.now context.now.names.now
-        (map view context.now.row.now) (source_view context.now.names.now source.now) ≡ Err e) }
+        (map view context.now.row.now) (key_view context.now.names.now key.now) ≡ Err e) }
 {
-    match source {
+    match key {
         SortKey::Item(at) => Ok(item_value(context.alloc, context.row, *at)?),
         SortKey::Other(prepared) => evaluate_at(context, prepared, graph),
     }

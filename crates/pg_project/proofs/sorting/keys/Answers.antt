@@ -38,6 +38,15 @@ returns-in_err-push_keys-clause-ok g c = IfOk-from_err c.from_residual.result _ 
 pub returns-in_err-push_keys-clause-len : goal.returns-in_err-push_keys-clause-len
 returns-in_err-push_keys-clause-len g c = IfOk-from_err c.from_residual.result _ c.from_residual.ensures.0
 
+pub returns-in_err-push_keys-clause-width : goal.returns-in_err-push_keys-clause-width
+returns-in_err-push_keys-clause-width g c = IfOk-from_err c.from_residual.result _ c.from_residual.ensures.0
+
+pub returns-in_err-push_from-clause-width : goal.returns-in_err-push_from-clause-width
+returns-in_err-push_from-clause-width g c = IfOk-from_err c.from_residual-in_err-push_from.result _ c.from_residual-in_err-push_from.ensures.0
+
+pub returns-clause-width : goal.returns-clause-width
+returns-clause-width g c = c.loop-at.invariant.2
+
 pub returns-in_err-push_from-clause-ok : goal.returns-in_err-push_from-clause-ok
 returns-in_err-push_from-clause-ok g c = IfOk-from_err c.from_residual-in_err-push_from.result _ c.from_residual-in_err-push_from.ensures.0
 

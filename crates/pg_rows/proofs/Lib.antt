@@ -10,6 +10,7 @@ pub mod Leasts
 pub mod Orders
 pub mod Picked
 pub mod Places
+pub mod Rising
 pub mod Stable
 pub mod Tabled
 pub mod Taken

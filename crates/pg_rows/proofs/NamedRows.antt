@@ -38,7 +38,7 @@ stands t (n ∷ ns) [] = none_in_nothing (position_from t 0 (n ∷ ns))
 stands t (n ∷ ns) (v ∷ vs) = read_chosen (t n) v vs (lookup t (zip ns vs)) (position_from t 1 ns)
     (stands t ns vs ∙ read_behind v vs (position_from t 0 ns) ∙ ap (option_and_then (slice_get (v ∷ vs))) (sym (shift t 0 ns)))
 
-first_place : (name : List ℕ) (names : List (List ℕ)) → position (bytes_eq name) names ≡ position_from (bytes_eq name) 0 names
+pub first_place : (name : List ℕ) (names : List (List ℕ)) → position (bytes_eq name) names ≡ position_from (bytes_eq name) 0 names
 first_place name names = position_from-zero (bytes_eq name) names
 
 pub values_stand : ValuesStandInColumns

@@ -3,6 +3,7 @@ pub mod Laws
 pub mod LeastKeys
 pub mod Left
 pub mod Named
+pub mod Rising
 pub mod Sorts
 pub mod States
 pub mod Tables

@@ -1,21 +1,53 @@
 //! The names of the columns of rows.
-ghost use Rattle.std.specs.Prelude.{◌≡◌, ◌<◌, ◌++◌, ◌∷◌, List, ℕ, [], Some, length, map, position, bytes_eq, string_bytes, slice_get, OnOk, OnErr};
+ghost use Rattle.std.specs.List.Sorted.{IsStrictlySortedBy};
+ghost use Rattle.std.specs.Prelude.{◌≡◌, ◌<◌, ◌++◌, ◌∷◌, List, ℕ, [], Some, true, length, map, position, bytes_eq, string_bytes, slice_get, IfSome, OnOk, OnErr};
+ghost use Rattle.pg_meaning.specs.Order.{text_order};
 ghost use Rattle.pg_rows.specs.Named.{with_name};
+ghost use Rattle.pg_rows.specs.Rising.{IsLastBelow};
 
 use pg_texts::same_text;
 use std::alloc::{AllocError, Global};
+use std::cmp::Ordering;
 use std::marker::Model;
+
+/// So many names are looked at one after the other before their order is of use.
+const FEW: usize = 8;
 
 /// The names of the columns of rows, which stand once beside them.
 #[derive(Drop)]
 pub struct Columns {
     names: Vec<String>,
+    // So many of the first names are known to rise in byte order.
+    rising: usize,
 }
 
 impl Model for Columns {
+    ghost use Rattle.std.specs.Prelude.{List, ℕ, map, string_bytes};
+    ghost use Rattle.pg_rows.specs.Rising.{FirstRise};
+
     ghost Value = { List (List ℕ) };
 
     ghost view = { λ c. map string_bytes c.names.items };
+
+    ghost invariant = { λ c. FirstRise c.rising (map string_bytes c.names.items) };
+}
+
+/// The place of a name among names that rise, if it is found there.
+fn place_among(names: &[String], name: &str) -> Option<usize>
+    requires { IsStrictlySortedBy text_order (map string_bytes names.now) }
+    ensures { IfSome result
+        (λ at. position (bytes_eq name.now) (map string_bytes names.now) ≡ Some at) }
+{
+    match names.binary_search_by(|held| order_of(held, name)) {
+        Ok(at) => Some(at),
+        Err(_) => None,
+    }
+}
+
+fn order_of(held: &String, name: &str) -> Ordering
+    ensures { result ≡ text_order (string_bytes held.now) name.now }
+{
+    held.as_str().cmp(name)
 }
 
 impl Columns {
@@ -25,6 +57,7 @@ impl Columns {
     {
         Columns {
             names: Vec::new(alloc),
+            rising: 0,
         }
     }
 
@@ -43,9 +76,27 @@ impl Columns {
         self.names[at].as_str()
     }
 
-    /// The first column of this name.
-    #[tactic(auto, using(crate::proofs::NamedRows::first_named))]
+    /// Whether each name is known to be above the one before it, in byte order.
+    pub fn rises(&self) -> bool
+        ensures { result ≡ true → IsStrictlySortedBy text_order self.now }
+    {
+        self.rising == self.names.len()
+    }
+
+    /// The first column of this name. Among names that rise it is found in few steps, however many there are.
     pub fn find(&self, name: &str) -> Option<usize>
+        ensures { result ≡ position (bytes_eq name.now) self.now }
+    {
+        if self.rising > FEW
+            && let Some(at) = place_among(&self.names[..self.rising], name)
+        {
+            return Some(at);
+        }
+        self.find_first(name)
+    }
+
+    #[tactic(auto, using(crate::proofs::NamedRows::first_named))]
+    fn find_first(&self, name: &str) -> Option<usize>
         ensures { result ≡ position (bytes_eq name.now) self.now }
     {
         for (at, held) in self.names.iter().enumerate() {
@@ -72,7 +123,21 @@ impl Columns {
         ensures pushed { OnOk result (self.new ≡ self.old ++ name.now ∷ []) }
         ensures err { OnErr result (self.new ≡ self.old) }
     {
+        let still_rises = self.rises() && self.are_below(name);
         self.names.push(String::from_str(alloc, name)?)?;
+        if still_rises {
+            self.rising = self.names.len();
+        }
         Ok(())
+    }
+
+    /// Whether the last name is below this one, or there is none.
+    fn are_below(&self, name: &str) -> bool
+        ensures { result ≡ true → IsLastBelow name.now self.now }
+    {
+        match self.names.last() {
+            Some(last) => order_of(last, name).is_lt(),
+            None => true,
+        }
     }
 }

@@ -1,32 +1,25 @@
-use Rattle.std.proofs.Common.{rules, ◌≡◌, ◌+◌, true, drop, ◌∷◌, Some, map, position, bytes_eq, string_bytes, sym, ap, ◌∙◌, arith}
-use Rattle.std.proofs.lemmas.List.{drop_more, drop_all}
-use Rattle.std.specs.Prelude.{cond}
+use Rattle.std.proofs.Common.{◌≡◌, take, map, position, bytes_eq, string_bytes, sym, ap, ◌∙◌, subst}
+use Rattle.std.proofs.lemmas.List.{take-map}
 use Rattle.std.specs.List.{position_from}
-use Rattle.pg_rows.proofs.NamedRows.{is_named, first_named}
+use Rattle.std.specs.List.Sorted.{IsStrictlySortedBy}
+use Rattle.pg_meaning.specs.Order.{text_order}
+use Rattle.pg_rows.proofs.NamedRows.{first_place}
+use Rattle.pg_rows.proofs.Rising.{found_first}
 use Rattle.pg_rows.proofs.columns.Columns.find.Goals as goal
 
-pub returns-then-same_text : goal.returns-then-same_text
-returns-then-same_text c =
-    let l = c.loop-at in
-    let name = c.args.name.now in
-    let items = c.deref-held-items.result.now in
-    let held = c.held-item.result in
-    let here : drop l.at items ≡ held ∷ drop (l.at + 1) items = drop_more items l.at held (omega arith) ∙ ap (λ y. y ∷ drop (l.at + 1) items) (sym c.held-item.is) in
-    let same : is_named name held ≡ true = search rules in
-    let all : map string_bytes items ≡ c.args.self.now = ap (map string_bytes) c.deref-held-items.ensures.value ∙ c.self.view_is in
-    sym (ap (λ b. cond b (Some l.at) (position_from (is_named name) (l.at + 1) (drop (l.at + 1) items))) same)
-    ∙ sym (ap (position_from (is_named name) l.at) here)
-    ∙ sym l.invariant
-    ∙ sym (first_named name items)
-    ∙ ap (position (bytes_eq name)) all
+pub place_among-requires : goal.place_among-requires
+place_among-requires c =
+    let n = c.self.inside.rising in
+    let items = c.self.inside.names.items in
+    let part : take n (map string_bytes items) ≡ map string_bytes (take n c.deref.result.now) = take-map string_bytes n items ∙ ap (λ xs. map string_bytes (take n xs)) (sym c.deref.ensures.value) in
+    subst (IsStrictlySortedBy text_order) part c.self.invariant.1
 
 pub returns : goal.returns
 returns c =
-    let l = c.loop-at in
-    let name = c.args.name.now in
-    let items = c.deref-held-items.result.now in
-    let all : map string_bytes items ≡ c.args.self.now = ap (map string_bytes) c.deref-held-items.ensures.value ∙ c.self.view_is in
-    sym (ap (position_from (is_named name) l.at) (drop_all l.at items (omega arith)))
-    ∙ sym l.invariant
-    ∙ sym (first_named name items)
-    ∙ ap (position (bytes_eq name)) all
+    let n = c.self.inside.rising in
+    let items = c.self.inside.names.items in
+    let t = bytes_eq c.args.name.now in
+    let part : take n (map string_bytes items) ≡ map string_bytes (take n c.deref.result.now) = take-map string_bytes n items ∙ ap (λ xs. map string_bytes (take n xs)) (sym c.deref.ensures.value) in
+    let among = ap (position_from t 0) part ∙ sym (first_place c.args.name.now (map string_bytes (take n c.deref.result.now))) ∙ c.in-Some.ensures in
+    let all = ap (position t) (sym c.self.view_is) ∙ first_place c.args.name.now (map string_bytes items) ∙ found_first t (map string_bytes items) n c.in-Some.at among in
+    sym all

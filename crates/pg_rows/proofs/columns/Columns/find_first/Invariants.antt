@@ -1,7 +1,7 @@
 use Rattle.std.proofs.Common.{◌≡◌, drop}
 use Rattle.std.specs.List.{position_from}
 use Rattle.pg_rows.proofs.NamedRows.{is_named}
-use Rattle.pg_rows.proofs.columns.Columns.find.Given as goal
+use Rattle.pg_rows.proofs.columns.Columns.find_first.Given as goal
 
 abbrev pub invariant-loop-at : goal.invariant-loop-at
 invariant-loop-at l =

@@ -1,10 +1,9 @@
 -- RETURN that only counts rows looks at none of them.
-use Rattle.std.proofs.Common.{◌≡◌, ℕ, suc, Bool, true, false, cond, not, ◌||◌, ◌==◌, List, [], ◌∷◌, ◌++◌, map, length, is_some, option_map, Option, Some, None, Result, Ok, Err, refl, sym, ap, ◌∙◌, arith}
+use Rattle.std.proofs.Common.{◌≡◌, ℕ, Bool, true, false, cond, not, ◌||◌, ◌==◌, List, [], ◌∷◌, ◌++◌, map, length, is_some, option_map, Option, Some, None, Result, Ok, Err, refl, sym, ap, ◌∙◌, arith}
 use Rattle.std.proofs.lemmas.Bool.Decides.{nat_tests}
 use Rattle.std.specs.List.{list_any}
-use Rattle.pg_meaning.specs.Aggregates.{Aggregate, Summary, aggregate_named, aggregate_of}
+use Rattle.pg_meaning.specs.Aggregates.{Aggregate, Summary, aggregate_named}
 use Rattle.pg_meaning.specs.Answer.{◌>>=◌, each_answer, each_step}
-use Rattle.pg_meaning.specs.Conditions.{condition}
 use Rattle.pg_meaning.specs.Expressions.{evaluate}
 use Rattle.pg_meaning.specs.Graph.{Graph}
 use Rattle.pg_meaning.specs.Meters.{Setting, State, spend}

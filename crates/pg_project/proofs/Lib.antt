@@ -38,5 +38,6 @@ mod Numbers
 mod RowCounts
 pub mod AlikeRows
 pub mod NamesAlike
+pub mod LoneStar
 pub mod PassedRows
 pub mod RowsTwice

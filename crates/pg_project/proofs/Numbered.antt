@@ -3,10 +3,8 @@ use Rattle.std.proofs.Common.{◌≡◌, ℕ, zero, suc, ◌+◌, ◌<◌, ◌||
 use Rattle.indexmap.specs.IndexSet.{insert_key}
 use Rattle.std.proofs.lemmas.Cmp.{eq_by_cmp_equiv}
 use Rattle.std.proofs.lemmas.List.{get_or-map, map-set, length-append, length-map}
-use Rattle.std.specs.Cmp.Lexicographic.{pointwise}
 use Rattle.std.specs.Global.{Vec}
 use Rattle.std.specs.List.{list_any, position_or_len}
-use Rattle.std.specs.Ordering.{on, eq_by_cmp}
 use Rattle.pg_project.specs.Kept.{Kept, Answers, all_taken_in, begun, first_kept, into_kept}
 use Rattle.pg_project.specs.KeptGroups.{groups_of, same_keys}
 use Rattle.pg_project.specs.Summaries as kept
@@ -14,7 +12,6 @@ use Rattle.pg_project.specs.Views.{takens_view}
 use Rattle.pg_project.specs.declared.taken.Taken.{Taken}
 use Rattle.pg_meaning.specs.Aggregates.{Aggregate}
 use Rattle.pg_meaning.specs.Answer.{◌>>=◌}
-use Rattle.pg_meaning.specs.Order.{value_order}
 use Rattle.pg_meaning.specs.OrderLaws.{order_total}
 use Rattle.pg_meaning.specs.Projections.{same_values}
 use Rattle.pg_meaning.specs.Tree.{Expression}

@@ -1,15 +1,14 @@
 -- Rows that are counted alone.
-use Rattle.std.proofs.Common.{◌≡◌, ◌<◌, ◌≤◌, ℕ, suc, get_or, ◌+◌, ℤ, pos, Bool, true, false, List, [], ◌∷◌, map, length, Result, Ok, Err, None, refl, sym, ap, ◌∙◌, arith}
+use Rattle.std.proofs.Common.{◌≡◌, ◌<◌, ◌≤◌, ℕ, suc, get_or, ◌+◌, pos, Bool, true, List, [], ◌∷◌, map, length, Result, Ok, Err, None, refl, sym, ap, ◌∙◌, arith}
 use Rattle.std.specs.Prelude.{◌+ℤ◌, IfErr, IfOk}
-use Rattle.pg_meaning.specs.Answer.{◌>>=◌, each_answer, each_step}
-use Rattle.pg_meaning.specs.Aggregates.{Aggregate}
+use Rattle.pg_meaning.specs.Answer.{◌>>=◌, each_answer}
 use Rattle.pg_meaning.specs.Graph.{Graph}
 use Rattle.pg_meaning.specs.Tree.{Expression}
 use Rattle.pg_meaning.specs.Value.{Value, Entries, integer}
 use Rattle.pg_meaning.specs.declared.fault.Fault.{Fault}
 use Rattle.pg_meaning.specs.declared.fault.Fault.TheVariants.{OutOfMemory}
 use Rattle.pg_project.specs.Items.{Item, grouping, aggregate, aggregates_in, are_aggregates, is_aggregate, item_of, keys_in, before_keys}
-use Rattle.pg_project.specs.Kept.{Kept, Answers, answers_at, first_kept, into_kept, kept_row, kept_rows, kept_values, merged, row_count, rows_given, told_each, without_group}
+use Rattle.pg_project.specs.Kept.{Kept, Answers, answers_at, first_kept, into_kept, kept_row, kept_rows, kept_values, merged, row_count, rows_given, without_group}
 use Rattle.pg_project.specs.Summaries.{count}
 use Rattle.pg_rows.specs.Tables.{table}
 use Rattle.pg_rows.specs.declared.table.Rows.{Rows}

@@ -1,6 +1,7 @@
 pub mod Columns
 pub mod Cuts
 pub mod Given
+pub mod LoneStar
 pub mod Parts
 pub mod Sources
 pub mod Unwound

@@ -1,5 +1,5 @@
 -- RETURN whose rows come in turn, and RETURN that only counts rows.
-use Rattle.std.specs.Prelude.{◌≡◌, ℕ, false, List, [], length, Result, None, Some}
+use Rattle.std.specs.Prelude.{◌≡◌, false, List, [], length, Result, None, Some}
 use Rattle.pg_meaning.specs.Aggregates.{Aggregate, aggregate_of}
 use Rattle.pg_meaning.specs.Meters.{Setting, State}
 use Rattle.pg_meaning.specs.Names.{Names}

@@ -43,6 +43,10 @@ fn star_names(alloc: Global, scope: &Columns, star: Option<usize>) -> Result<Col
     if star.is_none() {
         return Ok(names);
     }
+    if scope.rises() {
+        push_all(alloc, &mut names, scope)?;
+        return Ok(names);
+    }
     for text in in_byte_order(alloc, scope)? {
         names.push(alloc, text)?;
     }

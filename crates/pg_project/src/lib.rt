@@ -11,6 +11,7 @@ mod group;
 mod groups;
 mod items;
 mod lists;
+mod lone_star;
 mod made;
 mod parts;
 mod pass_through;

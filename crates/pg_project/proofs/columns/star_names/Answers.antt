@@ -1,11 +1,13 @@
-use Rattle.std.proofs.Common.{◌++◌, sym, ap, ◌∙◌}
+use Rattle.std.proofs.Common.{rules, ◌≡◌, ◌++◌, false, sym, ap, ◌∙◌}
+use Rattle.std.specs.Prelude.{is_none}
 use Rattle.pg_project.proofs.InTurn.{joined}
+use Rattle.pg_project.proofs.LoneStar.{star_in_order}
 use Rattle.pg_project.specs.Columns.{texts_of}
 use Rattle.std.proofs.lemmas.Result.{IfOk-from_err}
 use Rattle.pg_project.proofs.columns.star_names.Goals as goal
 
 pub returns-in_err-text-items : goal.returns-in_err-text-items
-returns-in_err-text-items c = IfOk-from_err c.from_residual.result _ c.from_residual.ensures.0
+returns-in_err-text-items c = IfOk-from_err c.from_residual-in_err-text-items.result _ c.from_residual-in_err-text-items.ensures.0
 
 pub returns-in_err-push : goal.returns-in_err-push
 returns-in_err-push c = IfOk-from_err c.from_residual-in_err-push.result _ c.from_residual-in_err-push.ensures.0
@@ -21,3 +23,10 @@ loop-text-preserved c =
     ∙ joined l.names c.in-Some.text.now rest
     ∙ sym (ap (λ ts. l.names ++ texts_of ts) c.in-Some.ensures.steps)
     ∙ l.invariant
+
+pub returns-then-rises : goal.returns-then-rises
+returns-then-rises c =
+    let named : is_none c.args.star ≡ false = search rules in
+    c.in_ok-push_all.ensures
+    ∙ ap (λ ns. ns ++ c.args.scope.now) c.new-names.ensures
+    ∙ star_in_order c.args.scope.now c.args.star named (c.rises.ensures c.if-rises.true)

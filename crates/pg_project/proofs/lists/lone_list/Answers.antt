@@ -1,6 +1,5 @@
-use Rattle.std.proofs.Common.{◌≡◌, length, map, rules, sym, ◌∙◌}
-use Rattle.pg_project.proofs.UnwoundLemmas.{bare_row, list_left, only_list}
-use Rattle.pg_value_core.specs.View.{view}
+use Rattle.std.proofs.Common.{◌≡◌, length, rules}
+use Rattle.pg_project.proofs.UnwoundLemmas.{list_left, only_list}
 use Rattle.pg_project.proofs.lists.lone_list.Goals as goal
 
 pub returns-clause-list : goal.returns-clause-list

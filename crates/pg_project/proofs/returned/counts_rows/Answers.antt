@@ -1,4 +1,4 @@
-use Rattle.std.proofs.Common.{◌≡◌, ◌==◌, map, option_map, sym, ap, subst, ◌∙◌}
+use Rattle.std.proofs.Common.{◌==◌, sym, ap, subst, ◌∙◌}
 use Rattle.pg_meaning.specs.Aggregates.{aggregate_named}
 use Rattle.pg_project.proofs.Counting.{taken_alone}
 use Rattle.pg_project.specs.Returned.{CountsRows}

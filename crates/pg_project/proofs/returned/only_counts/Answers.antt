@@ -1,4 +1,4 @@
-use Rattle.std.proofs.Common.{◌≡◌, map, sym, ap, subst, ◌∙◌}
+use Rattle.std.proofs.Common.{map, ap}
 use Rattle.pg_project.proofs.Counting.{counts_only, none_there}
 use Rattle.pg_project.proofs.RowCounts.{alone}
 use Rattle.pg_syntax_tree.specs.View.{item_view, projection_view}

@@ -1,4 +1,4 @@
-use Rattle.std.proofs.Common.{[], ◌∷◌, sym, ap, ◌∙◌}
+use Rattle.std.proofs.Common.{sym, ap, ◌∙◌}
 use Rattle.pg_project.proofs.RowCounts.{alone}
 use Rattle.pg_project.specs.ReadyItems.{keys_of}
 use Rattle.pg_project.proofs.rows.take_row.Goals as goal

@@ -38,6 +38,7 @@ mod Numbers
 mod RowCounts
 pub mod AlikeRows
 pub mod NamesAlike
+pub mod ByteOrder
 pub mod LoneStar
 pub mod PassedRows
 pub mod RowsTwice

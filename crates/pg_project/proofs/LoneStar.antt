@@ -27,6 +27,7 @@ use Rattle.pg_rows.specs.declared.table.Rows.{Rows}
 use Rattle.pg_scope.specs.Columns.{column_of}
 use Rattle.pg_scope.specs.declared.columns.Naming.{Naming}
 use Rattle.pg_value_core.specs.Gives.{Gives}
+use Rattle.pg_project.proofs.ByteOrder.{below, in_order, total}
 use Rattle.pg_project.proofs.ColumnViews.{names_are}
 use Rattle.pg_project.proofs.InTurn.{joined, nothing_behind}
 use Rattle.pg_project.proofs.PassedRows.{passed_gives}
@@ -36,37 +37,6 @@ use Rattle.pg_project.specs.Items.{columns_of}
 use Rattle.pg_project.specs.LoneStar.{IsLoneStar}
 use Rattle.pg_project.specs.Parts.{rows_projected}
 use Rattle.pg_project.specs.PassThrough.{are_variables, is_place, is_variable_at}
-
-total : IsTotalOrder text_order
-total = lists_total nat_cmp_total
-
--- ---- names that rise stand in byte order
-
--- what is above all is put behind them
-put_last : (t : List ℕ) (us : Names) → AllByRecursion (λ u. text_order u t ≡ Less) us → insert_key text_order us t ≡ us ++ t ∷ []
-put_last t [] h = refl
-put_last t (u ∷ us) h =
-    ap (λ o. match_ordering o (t ∷ u ∷ us) (u ∷ us) (u ∷ insert_key text_order us t)) (total.antisymm t u ∙ ap ordering_reverse h.0)
-    ∙ ap (λ ns. u ∷ ns) (put_last t us h.1)
-
-first_behind : (P : List ℕ → Type 0) (us : Names) (t : List ℕ) (more : Names) → AllByRecursion P (us ++ t ∷ more) → P t
-first_behind P [] t more h = h.0
-first_behind P (u ∷ us) t more h = first_behind P us t more h.1
-
-below : (done : Names) (t : List ℕ) (more : Names) → IsStrictlySortedBy text_order (done ++ t ∷ more) → AllByRecursion (λ u. text_order u t ≡ Less) done
-unfolding IsStrictlySortedBy
-below [] t more h = tt
-below (u ∷ us) t more h = (first_behind (λ v. text_order u v ≡ Less) us t more h.0, below us t more h.1)
-
-put_rising : (more done : Names) → IsStrictlySortedBy text_order (done ++ more) → put_texts more done ≡ done ++ more
-put_rising [] done h = sym (nothing_behind done)
-put_rising (t ∷ more) done h =
-    ap (put_texts more) (put_last t done (below done t more h))
-    ∙ put_rising more (done ++ t ∷ []) (subst (IsStrictlySortedBy text_order) (sym (joined done t more)) h)
-    ∙ joined done t more
-
-pub in_order : (names : Names) → IsStrictlySortedBy text_order names → in_byte_order names ≡ names
-in_order names h = put_rising names [] h
 
 -- ---- their variables are the columns in their order
 

@@ -1,10 +1,15 @@
 //! The columns of WITH and RETURN.
-ghost use Rattle.std.specs.Prelude.{◌≡◌, ◌++◌, ◌+◌, ◌∷◌, [], cond, length, map, IfOk, OnOk};
+ghost use Rattle.std.specs.BTreeSet.{insert_key};
+ghost use Rattle.std.specs.List.{insert};
+ghost use Rattle.std.specs.List.Sorted.{IsStrictlySortedBy};
+ghost use Rattle.std.specs.Prelude.{◌≡◌, ◌≤◌, ◌++◌, ◌+◌, ◌∷◌, [], cond, length, map, true, IfNone, IfOk, IfSome, OnOk};
 ghost use Rattle.pg_meaning.specs.Names.{in_byte_order};
+ghost use Rattle.pg_meaning.specs.Order.{text_order};
 ghost use Rattle.pg_meaning.specs.Scopes.{column_names};
 ghost use Rattle.pg_project.specs.Columns.{columns_view, naming_columns, star_names, texts_of, trees_in, variable_trees};
 ghost use Rattle.pg_project.specs.Given.{earlier_names};
 ghost use Rattle.pg_project.specs.Items.{columns_of, expressions_view};
+ghost use Rattle.pg_rows.specs.Rising.{IsLastBelow};
 ghost use Rattle.pg_scope.specs.Columns.{column_of};
 ghost use Rattle.pg_syntax_tree.specs.View.{item_view, projection_view};
 
@@ -13,7 +18,7 @@ use pg_rows::Columns;
 use pg_scope::{Naming, column_name};
 use pg_syntax_tree::{Expression, Item, Name, Projection};
 use std::alloc::{AllocError, Global};
-use std::collections::BTreeSet;
+use std::cmp::Ordering;
 
 /// The columns of a projection, where the variables in scope have these names.
 pub(crate) fn make_columns<'a>(
@@ -53,14 +58,58 @@ fn star_names(alloc: Global, scope: &Columns, star: Option<usize>) -> Result<Col
     Ok(names)
 }
 
-fn in_byte_order<'a>(alloc: Global, scope: &'a Columns) -> Result<BTreeSet<&'a str>, AllocError>
-    ensures { IfOk result (λ texts. texts_of texts.keys ≡ in_byte_order scope.now) }
+fn in_byte_order<'a>(alloc: Global, scope: &'a Columns) -> Result<Vec<&'a str>, AllocError>
+    ensures { IfOk result (λ texts. texts_of texts.items ≡ in_byte_order scope.now) }
 {
-    let mut texts = BTreeSet::new(alloc);
+    let mut texts = Vec::with_capacity(alloc, scope.len())?;
     for at in 0..scope.len() {
-        texts.insert(scope.name(at))?;
+        put_in_order(&mut texts, scope.name(at))?;
     }
     Ok(texts)
+}
+
+/// Puts a text among texts that rise in byte order, unless it is there. Most come behind all others.
+fn put_in_order<'a>(texts: &mut Vec<&'a str>, text: &'a str) -> Result<(), AllocError>
+    requires { IsStrictlySortedBy text_order (texts_of texts.old.items) }
+    ensures { OnOk result (texts_of texts.new.items
+        ≡ insert_key text_order (texts_of texts.old.items) text.now) }
+{
+    if are_below(texts, text) {
+        texts.push(text)?;
+        return Ok(());
+    }
+    if let Some(at) = place_among(texts, text) {
+        texts.insert(at, text)?;
+    }
+    Ok(())
+}
+
+/// Whether the last text is below this one, or there is none.
+fn are_below(texts: &[&str], text: &str) -> bool
+    ensures { result ≡ true → IsLastBelow text.now (texts_of texts.now) }
+{
+    match texts.last() {
+        Some(last) => (*last).cmp(text).is_lt(),
+        None => true,
+    }
+}
+
+/// The place of a text in byte order, unless it is there.
+fn place_among(texts: &[&str], text: &str) -> Option<usize>
+    ensures within { IfSome result (λ at. at ≤ length texts.now) }
+    ensures some { IfSome result (λ at. insert_key text_order (texts_of texts.now) text.now
+        ≡ insert (texts_of texts.now) at text.now) }
+    ensures none { IfNone result
+        (insert_key text_order (texts_of texts.now) text.now ≡ texts_of texts.now) }
+{
+    for (at, held) in texts.iter().enumerate() {
+        match text.cmp(held) {
+            Ordering::Less => return Some(at),
+            Ordering::Equal => return None,
+            Ordering::Greater => {}
+        }
+    }
+    Some(texts.len())
 }
 
 /// The variables of these names.

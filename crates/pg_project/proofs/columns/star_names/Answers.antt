@@ -18,10 +18,10 @@ loop-text-init c = (λ i. c.new-names.ensures i ++ texts_of (c.into_iter-text-it
 pub loop-text-preserved : goal.loop-text-preserved
 loop-text-preserved c =
     let l = c.loop-text in
-    let rest = texts_of c.next.new.self in
+    let rest = texts_of c.next.new.self.rest.items in
     ap (λ ns. ns ++ rest) c.in_ok-push.ensures.pushed
     ∙ joined l.names c.in-Some.text.now rest
-    ∙ sym (ap (λ ts. l.names ++ texts_of ts) c.in-Some.ensures.steps)
+    ∙ sym (ap (λ ts. l.names ++ texts_of ts) c.in-Some.ensures.steps.0)
     ∙ l.invariant
 
 pub returns-then-rises : goal.returns-then-rises

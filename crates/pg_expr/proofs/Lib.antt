@@ -1,7 +1,6 @@
 pub mod AfterLemmas
 pub mod Applied
 pub mod ChainLemmas
-pub mod ColumnsReadLemmas
 pub mod Comparisons
 pub mod Conjuncts
 pub mod ElementLemmas

@@ -1,6 +1,5 @@
 pub mod After
 pub mod Calls
-pub mod ColumnsRead
 pub mod Conditions
 pub mod Elements
 pub mod Kinds

@@ -3,7 +3,6 @@
 
 mod atoms;
 mod calls;
-mod columns_read;
 mod conditions;
 mod counts;
 mod elements;
@@ -23,7 +22,6 @@ mod scalar_operators;
 mod scalar_trees;
 mod value_ref;
 
-pub use columns_read::column_read;
 pub use conditions::condition;
 pub use evaluation::{evaluate, evaluate_at, find_at};
 pub use lone_columns::lone_column;

@@ -1,19 +1,22 @@
 //! The commonest operands, which no cycle of calls is needed for: a literal, a parameter, a variable, and a property
-//! of a variable.
-ghost use Rattle.std.specs.Prelude.{◌≡◌, IfSome};
+//! or an item of a variable.
+ghost use Rattle.std.specs.Prelude.{◌≡◌, IfSome, pos};
 ghost use Rattle.pg_expr.specs.Contexts.{given};
-ghost use Rattle.pg_expr.specs.Reads.{property_read};
+ghost use Rattle.pg_expr.specs.Reads.{item_read, property_read};
 ghost use Rattle.pg_expr.specs.Scalars.{scalar_view, Tells};
-ghost use Rattle.pg_meaning.specs.Tree.{variable};
+ghost use Rattle.pg_meaning.specs.Tree.{literal, variable};
+ghost use Rattle.pg_meaning.specs.Value.{integer};
 ghost use Rattle.pg_syntax_tree.specs.View.{expression_view, name_view};
 
 use crate::operators::begins_comparison;
 use crate::row_context::RowContext;
-use crate::scalar::{Scalar, is_untold, literal, parameter, variable, variable_property};
+use crate::scalar::{
+    Scalar, is_untold, literal, parameter, variable, variable_item, variable_property,
+};
 use crate::scalar_operators::compared;
 use pg_graph::Tables;
 use pg_store::GraphView;
-use pg_syntax_tree::{Expression, Name, Suffix};
+use pg_syntax_tree::{Expression, Literal, Name, Suffix};
 
 /// The variable and the key of `variable.key`.
 pub(crate) fn variable_and_key<'e>(expression: &'e Expression) -> Option<(&'e Name, &'e Name)>
@@ -31,6 +34,36 @@ pub(crate) fn variable_and_key<'e>(expression: &'e Expression) -> Option<(&'e Na
             Some(name) => Some((name, key)),
             None => None,
         },
+        _ => None,
+    }
+}
+
+/// The variable and the place of `variable[place]`, where the place is a number that is written out.
+pub(crate) fn variable_and_place<'e>(expression: &'e Expression) -> Option<(&'e Name, usize)>
+    ensures { IfSome result (λ p. expression_view expression.now
+        ≡ item_read (name_view p.0.now) p.1) }
+{
+    let Expression::Suffixes(inner, suffixes, labels) = expression else {
+        return None;
+    };
+    if !labels.is_empty() {
+        return None;
+    }
+    match suffixes.as_slice() {
+        [Suffix::Index(place)] => match (variable_of(inner), number_of(place)) {
+            (Some(name), Some(place)) => Some((name, place)),
+            _ => None,
+        },
+        _ => None,
+    }
+}
+
+/// The number that a literal is, unless it is negative.
+fn number_of(expression: &Expression) -> Option<usize>
+    ensures { IfSome result (λ n. expression_view expression.now ≡ literal (integer (pos n))) }
+{
+    match expression {
+        Expression::Literal(Literal::Integer(i)) => usize::try_from(*i).ok(),
         _ => None,
     }
 }
@@ -58,12 +91,12 @@ pub(crate) fn plain<'a, T: Tables>(
         Expression::Literal(held) => literal(held),
         Expression::Variable(name) => variable(context, name.text.as_str()),
         Expression::Parameter(name) => parameter(context, name.text.as_str()),
-        Expression::Suffixes(_, _, _) => plain_property(context, graph, expression),
+        Expression::Suffixes(_, _, _) => plain_read(context, graph, expression),
         _ => Scalar::Untold,
     }
 }
 
-fn plain_property<'a, T: Tables>(
+fn plain_read<'a, T: Tables>(
     context: &RowContext<'a>,
     graph: &GraphView<'a, T>,
     expression: &'a Expression,
@@ -73,6 +106,20 @@ fn plain_property<'a, T: Tables>(
 {
     match variable_and_key(expression) {
         Some((name, key)) => variable_property(context, graph, name, key),
+        None => plain_item(context, graph, expression),
+    }
+}
+
+fn plain_item<'a, T: Tables>(
+    context: &RowContext<'a>,
+    _graph: &GraphView<'a, T>,
+    expression: &'a Expression,
+) -> Scalar<'a>
+    ensures { Tells (scalar_view result)
+        (given context.now _graph.now (expression_view expression.now)) }
+{
+    match variable_and_place(expression) {
+        Some((name, place)) => variable_item(context, name, place),
         None => Scalar::Untold,
     }
 }

@@ -3,6 +3,7 @@ ghost use Rattle.std.specs.Prelude.{◌≡◌, IfOk, option_map};
 ghost use Rattle.pg_expr.specs.Prepared.{tree_of, condition_of};
 ghost use Rattle.pg_syntax_tree.specs.View.{expression_view};
 
+use crate::plain_operands::variable_and_place;
 use crate::scalar_trees::may_tell;
 use pg_rows::Columns;
 use pg_syntax_tree::Expression;
@@ -35,7 +36,7 @@ pub fn prepare<'a>(
 {
     Ok(Prepared {
         tree: expression,
-        tells: may_tell(expression),
+        tells: may_tell(expression) || variable_and_place(expression).is_some(),
     })
 }
 

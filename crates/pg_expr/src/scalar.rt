@@ -1,15 +1,17 @@
 //! Values that need no memory of their own, and what is read as such.
 ghost use Rattle.std.specs.Prelude.{◌≡◌, IfOk, IfErr, Some, is_none, option_map, string_bytes, unwrap_or};
 ghost use Rattle.pg_expr.specs.Contexts.{row_at, parameters_at};
-ghost use Rattle.pg_expr.specs.Reads.{given_property};
+ghost use Rattle.pg_expr.specs.Reads.{given_item, given_property};
 ghost use Rattle.pg_expr.specs.Scalars.{scalar_view, Tells, ThenTells};
 ghost use Rattle.pg_meaning.specs.Entries.{at_key};
 ghost use Rattle.pg_meaning.specs.Expressions.{or_fault, property_of};
+ghost use Rattle.pg_meaning.specs.Functions.{item_at};
+ghost use Rattle.pg_meaning.specs.Graph.{Graph};
 ghost use Rattle.pg_meaning.specs.Rows.{value_in};
 ghost use Rattle.pg_meaning.specs.Value.{null, text, node, relationship};
 ghost use Rattle.pg_meaning.specs.declared.fault.Fault.TheVariants.{OutOfMemory, UndefinedVariable, MissingParameter};
 ghost use Rattle.pg_syntax_tree.specs.View.{literal_view};
-ghost use Rattle.pg_value_core.specs.View.{view};
+ghost use Rattle.pg_value_core.specs.View.{values_view, view};
 
 use crate::atoms::held;
 use crate::row_context::RowContext;
@@ -107,6 +109,29 @@ pub(crate) fn variable_property<'a, T: Tables>(
     match held(context, name.text.as_str()) {
         Some(value) => property_lent(graph, value, key.text.as_str()),
         None => Scalar::Untold,
+    }
+}
+
+/// `variable[place]`: the item of a list is looked at where it stands.
+#[tactic(auto, using(pg_expr_calls::proofs::Counts::reads))]
+pub(crate) fn variable_item<'a>(context: &RowContext<'a>, name: &Name, place: usize) -> Scalar<'a>
+    ensures { (g : Graph) → Tells (scalar_view result)
+        (given_item context.now g (string_bytes name.now.text) place) }
+{
+    match held(context, name.text.as_str()) {
+        Some(Value::List(items)) => item_at(items, place),
+        _ => Scalar::Untold,
+    }
+}
+
+#[tactic(auto, using(pg_expr_calls::proofs::Counts::reads))]
+fn item_at<'a>(items: &'a Vec<Value>, place: usize) -> Scalar<'a>
+    ensures { scalar_view result ≡ Some (item_at place (values_view items.now.items)) }
+{
+    if place < items.len() {
+        scalar_of(&items[place])
+    } else {
+        Scalar::Null
     }
 }
 

@@ -1,12 +1,12 @@
 //! The commonest operands, which no cycle of calls is needed for: a literal, a parameter, a variable, and a property
 //! or an item of a variable.
-ghost use Rattle.std.specs.Prelude.{◌≡◌, IfSome, pos};
+ghost use Rattle.std.specs.Prelude.{◌≡◌, ◌∷◌, [], IfSome, pos};
 ghost use Rattle.pg_expr.specs.Contexts.{given};
 ghost use Rattle.pg_expr.specs.Reads.{item_read, property_read};
 ghost use Rattle.pg_expr.specs.Scalars.{scalar_view, Tells};
-ghost use Rattle.pg_meaning.specs.Tree.{literal, variable};
+ghost use Rattle.pg_meaning.specs.Tree.{literal, suffixes, variable};
 ghost use Rattle.pg_meaning.specs.Value.{integer};
-ghost use Rattle.pg_syntax_tree.specs.View.{expression_view, name_view};
+ghost use Rattle.pg_syntax_tree.specs.View.{expression_view, name_view, suffix_view, suffixes_of};
 
 use crate::operators::begins_comparison;
 use crate::row_context::RowContext;
@@ -23,17 +23,8 @@ pub(crate) fn variable_and_key<'e>(expression: &'e Expression) -> Option<(&'e Na
     ensures { IfSome result (λ p. expression_view expression.now
         ≡ property_read (name_view p.0.now) (name_view p.1.now)) }
 {
-    let Expression::Suffixes(inner, suffixes, labels) = expression else {
-        return None;
-    };
-    if !labels.is_empty() {
-        return None;
-    }
-    match suffixes.as_slice() {
-        [Suffix::Property(key)] => match variable_of(inner) {
-            Some(name) => Some((name, key)),
-            None => None,
-        },
+    match lone_suffix(expression)? {
+        (inner, Suffix::Property(key)) => Some((variable_of(inner)?, key)),
         _ => None,
     }
 }
@@ -43,6 +34,17 @@ pub(crate) fn variable_and_place<'e>(expression: &'e Expression) -> Option<(&'e 
     ensures { IfSome result (λ p. expression_view expression.now
         ≡ item_read (name_view p.0.now) p.1) }
 {
+    match lone_suffix(expression)? {
+        (inner, Suffix::Index(place)) => Some((variable_of(inner)?, number_of(place)?)),
+        _ => None,
+    }
+}
+
+/// The one suffix of an expression, behind what stands before it, where no label comes later.
+fn lone_suffix<'e>(expression: &'e Expression) -> Option<(&'e Expression, &'e Suffix<Expression>)>
+    ensures { IfSome result (λ p. expression_view expression.now
+        ≡ suffixes (expression_view p.0.now) (suffixes_of (suffix_view p.1.now ∷ [])) []) }
+{
     let Expression::Suffixes(inner, suffixes, labels) = expression else {
         return None;
     };
@@ -50,10 +52,7 @@ pub(crate) fn variable_and_place<'e>(expression: &'e Expression) -> Option<(&'e 
         return None;
     }
     match suffixes.as_slice() {
-        [Suffix::Index(place)] => match (variable_of(inner), number_of(place)) {
-            (Some(name), Some(place)) => Some((name, place)),
-            _ => None,
-        },
+        [suffix] => Some((inner, suffix)),
         _ => None,
     }
 }

@@ -109,6 +109,8 @@ fn plain_read<'a, T: Tables>(
     }
 }
 
+// Apart, so that `plain` keeps a small frame.
+#[inline(never)]
 fn plain_item<'a, T: Tables>(
     context: &RowContext<'a>,
     _graph: &GraphView<'a, T>,

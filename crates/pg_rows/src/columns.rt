@@ -33,6 +33,7 @@ impl Model for Columns {
 }
 
 /// The place of a name among names that rise, if it is found there.
+#[inline(never)]
 fn place_among(names: &[String], name: &str) -> Option<usize>
     requires { IsStrictlySortedBy text_order (map string_bytes names.now) }
     ensures { IfSome result

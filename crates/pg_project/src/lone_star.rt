@@ -1,6 +1,7 @@
 //! `*` alone, over variables that stand in its order already: their rows stay as they are.
+ghost use Rattle.std.specs.Bool.{Decides};
 ghost use Rattle.std.specs.List.Sorted.{IsStrictlySortedBy};
-ghost use Rattle.std.specs.Prelude.{◌≡◌, length, option_map, true, IfOk};
+ghost use Rattle.std.specs.Prelude.{◌≡◌, length, option_map, IfOk};
 ghost use Rattle.pg_meaning.specs.Meters.{Setting};
 ghost use Rattle.pg_meaning.specs.Order.{text_order};
 ghost use Rattle.pg_project.specs.Columns.{naming_columns};
@@ -25,7 +26,7 @@ use pg_syntax_tree::Projection;
 
 /// Whether the projection is `*` with no item beside it, without DISTINCT and ORDER BY.
 pub(crate) fn is_lone_star(projection: &Projection) -> bool
-    ensures { result ≡ true → IsLoneStar (projection_view projection.now) }
+    ensures { Decides result (IsLoneStar (projection_view projection.now)) }
 {
     !projection.distinct
         && projection.star.is_some()

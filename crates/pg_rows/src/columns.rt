@@ -1,6 +1,7 @@
 //! The names of the columns of rows.
+ghost use Rattle.std.specs.Bool.{Decides};
 ghost use Rattle.std.specs.List.Sorted.{IsStrictlySortedBy};
-ghost use Rattle.std.specs.Prelude.{◌≡◌, ◌<◌, ◌++◌, ◌∷◌, List, ℕ, [], Some, true, length, map, position, bytes_eq, string_bytes, slice_get, IfSome, OnOk, OnErr};
+ghost use Rattle.std.specs.Prelude.{◌≡◌, ◌<◌, ◌++◌, ◌∷◌, List, ℕ, [], Some, length, map, position, bytes_eq, string_bytes, slice_get, OnOk, OnErr};
 ghost use Rattle.pg_meaning.specs.Order.{text_order};
 ghost use Rattle.pg_rows.specs.Named.{with_name};
 ghost use Rattle.pg_rows.specs.Rising.{IsLastBelow};
@@ -17,7 +18,7 @@ const FEW: usize = 8;
 #[derive(Drop)]
 pub struct Columns {
     names: Vec<String>,
-    // So many of the first names are known to rise in byte order.
+    // So many of the first names rise in byte order, all of them where they all do.
     rising: usize,
 }
 
@@ -32,12 +33,11 @@ impl Model for Columns {
     ghost invariant = { λ c. FirstRise c.rising (map string_bytes c.names.items) };
 }
 
-/// The place of a name among names that rise, if it is found there.
+/// The place of a name among names that rise.
 #[inline(never)]
 fn place_among(names: &[String], name: &str) -> Option<usize>
     requires { IsStrictlySortedBy text_order (map string_bytes names.now) }
-    ensures { IfSome result
-        (λ at. position (bytes_eq name.now) (map string_bytes names.now) ≡ Some at) }
+    ensures { result ≡ position (bytes_eq name.now) (map string_bytes names.now) }
 {
     match names.binary_search_by(|held| order_of(held, name)) {
         Ok(at) => Some(at),
@@ -77,9 +77,9 @@ impl Columns {
         self.names[at].as_str()
     }
 
-    /// Whether each name is known to be above the one before it, in byte order.
+    /// Whether each name is above the one before it, in byte order.
     pub fn rises(&self) -> bool
-        ensures { result ≡ true → IsStrictlySortedBy text_order self.now }
+        ensures { Decides result (IsStrictlySortedBy text_order self.now) }
     {
         self.rising == self.names.len()
     }
@@ -134,7 +134,7 @@ impl Columns {
 
     /// Whether the last name is below this one, or there is none.
     fn are_below(&self, name: &str) -> bool
-        ensures { result ≡ true → IsLastBelow name.now self.now }
+        ensures { Decides result (IsLastBelow name.now self.now) }
     {
         match self.names.last() {
             Some(last) => order_of(last, name).is_lt(),

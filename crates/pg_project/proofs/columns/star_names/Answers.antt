@@ -29,4 +29,4 @@ returns-then-rises c =
     let named : is_none c.args.star ≡ false = search rules in
     c.in_ok-push_all.ensures
     ∙ ap (λ ns. ns ++ c.args.scope.now) c.new-names.ensures
-    ∙ star_in_order c.args.scope.now c.args.star named (c.rises.ensures c.if-rises.true)
+    ∙ star_in_order c.args.scope.now c.args.star named (c.rises.ensures.0 c.if-rises.true)

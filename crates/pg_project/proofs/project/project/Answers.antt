@@ -158,5 +158,5 @@ returns-then-rises-clause-names g c =
     let p = projection_view c.args.clause.now.projection.now in
     let names = c.split-names.result.0 in
     ap (λ t. t.names) c.new.ensures
-    ∙ sym (star_names_are c.args.clause.now.naming names p (c.is_lone_star.ensures c.if-is_lone_star.true) (c.rises.ensures c.if-rises.true))
+    ∙ sym (star_names_are c.args.clause.now.naming names p (c.is_lone_star.ensures.0 c.if-is_lone_star.true) (c.rises.ensures.0 c.if-rises.true))
     ∙ ap (λ ns. column_names (naming_columns c.args.clause.now.naming ns p)) c.split-names.ensures.names

@@ -20,6 +20,6 @@ returns c =
     let items = c.self.inside.names.items in
     let t = bytes_eq c.args.name.now in
     let part : take n (map string_bytes items) ≡ map string_bytes (take n c.deref.result.now) = take-map string_bytes n items ∙ ap (λ xs. map string_bytes (take n xs)) (sym c.deref.ensures.value) in
-    let among = ap (position_from t 0) part ∙ sym (first_place c.args.name.now (map string_bytes (take n c.deref.result.now))) ∙ c.in-Some.ensures in
+    let among = ap (position_from t 0) part ∙ sym (first_place c.args.name.now (map string_bytes (take n c.deref.result.now))) ∙ sym c.place_among.ensures ∙ c.in-Some.is in
     let all = ap (position t) (sym c.self.view_is) ∙ first_place c.args.name.now (map string_bytes items) ∙ found_first t (map string_bytes items) n c.in-Some.at among in
     sym all

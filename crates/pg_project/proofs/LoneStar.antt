@@ -1,19 +1,16 @@
 -- `*` alone over names that rise gives the rows as they are.
 use Rattle.std.proofs.Common.{◌≡◌, ◌≢◌, ℕ, suc, ◌+◌, cond, true, false, List, [], ◌∷◌, ◌++◌, map, length, Result, Ok, Err, IfOk, IfErr, Option, Some, None, Less, refl, sym, ap, subst, ◌∙◌, arith}
 use Rattle.std.proofs.lemmas.Bool.Decides.{nat_tests}
-use Rattle.std.proofs.lemmas.Cmp.{lists_total, nat_cmp_total}
 use Rattle.std.proofs.lemmas.List.{length-append, length-map}
 use Rattle.std.proofs.lemmas.Map.Text.{is_eq-slice_cmp}
 use Rattle.std.proofs.lemmas.Slice.Eq.{bytes_eq-Decides}
-use Rattle.std.specs.BTreeSet.{insert_key}
-use Rattle.std.specs.Cmp.{IsTotalOrder}
 use Rattle.std.specs.List.{AllByRecursion, position_from}
 use Rattle.std.specs.List.Sorted.{IsStrictlySortedBy}
-use Rattle.std.specs.Ordering.{is_eq, match_ordering, ordering_reverse}
+use Rattle.std.specs.Ordering.{is_eq, ordering_reverse}
 use Rattle.std.specs.Prelude.{◌==◌, ◌&&◌, bytes_eq, is_none, is_some}
 use Rattle.pg_meaning.specs.Graph.{Graph}
 use Rattle.pg_meaning.specs.Meters.{Setting}
-use Rattle.pg_meaning.specs.Names.{Names, in_byte_order, put_texts}
+use Rattle.pg_meaning.specs.Names.{Names, in_byte_order}
 use Rattle.pg_meaning.specs.Order.{text_order}
 use Rattle.pg_meaning.specs.Scopes.{column_names, star_columns, variable_column}
 use Rattle.pg_meaning.specs.Tree.{Expression, Projection}

@@ -1,6 +1,6 @@
-use Rattle.std.proofs.Common.{◌+◌, ◌∷◌, [], drop, refl, sym, ap, subst, ◌∙◌}
+use Rattle.std.proofs.Common.{◌+◌, ◌∷◌, [], drop, sym, ap, subst, ◌∙◌}
 use Rattle.std.specs.List.Sorted.{IsStrictlySortedBy}
-use Rattle.pg_meaning.specs.Names.{in_byte_order, put_texts}
+use Rattle.pg_meaning.specs.Names.{put_texts}
 use Rattle.pg_meaning.specs.NamesLaws.{put_texts_rise}
 use Rattle.pg_meaning.specs.Order.{text_order}
 use Rattle.pg_project.proofs.ByteOrder.{none_rise}

@@ -10,25 +10,25 @@ use Rattle.pg_meaning.specs.Value.{Value, null, boolean, integer, text, list, ma
 
 abbrev mutual
   pub hashed : Value → HashWrites
-  hashed (mapping es) = fed.u8 0 ++ hashed_entries es
-  hashed (node n) = fed.u8 1 ++ fed.u64 n
-  hashed (relationship n) = fed.u8 2 ++ fed.u64 n
-  hashed (list vs) = fed.u8 3 ++ hashed_items vs
-  hashed (path ids) = fed.u8 4 ++ fed.slice fed.u64 ids
-  hashed (text s) = fed.u8 5 ++ fed.str s
-  hashed (boolean b) = fed.u8 6 ++ fed.bool b
-  hashed (integer i) = fed.u8 7 ++ fed.i64 i
-  hashed null = fed.u8 8
+  hashed (mapping es) = fed.u64 0 ++ hashed_entries es
+  hashed (node n) = fed.u64 1 ++ fed.u64 n
+  hashed (relationship n) = fed.u64 2 ++ fed.u64 n
+  hashed (list vs) = fed.u64 3 ++ hashed_items vs
+  hashed (path ids) = fed.u64 4 ++ fed.slice fed.u64 ids
+  hashed (text s) = fed.u64 5 ++ fed.str s
+  hashed (boolean b) = fed.u64 6 ++ fed.bool b
+  hashed (integer i) = fed.u64 7 ++ fed.i64 i
+  hashed null = fed.u64 8
 
   -- a 1 goes before each item and a 0 after the last
   pub hashed_items : Values → HashWrites
-  hashed_items no_items = fed.u8 0
-  hashed_items (item v vs) = fed.u8 1 ++ hashed v ++ hashed_items vs
+  hashed_items no_items = fed.u64 0
+  hashed_items (item v vs) = fed.u64 1 ++ hashed v ++ hashed_items vs
 
   -- likewise
   pub hashed_entries : Entries → HashWrites
-  hashed_entries no_entries = fed.u8 0
-  hashed_entries (entry k v es) = fed.u8 1 ++ fed.str k ++ hashed v ++ hashed_entries es
+  hashed_entries no_entries = fed.u64 0
+  hashed_entries (entry k v es) = fed.u64 1 ++ fed.str k ++ hashed v ++ hashed_entries es
 
 -- equivalent values are hashed alike
 pub hashed_alike : (v w : Value) → is_equivalent v w ≡ true → hashed v ≡ hashed w

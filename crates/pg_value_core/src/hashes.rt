@@ -23,7 +23,7 @@ impl Hash for Value {
 fn feed<H: Hasher>(value: &Value, state: &mut H)
     ensures { state.new ≡ fold H.write state.old (hashed (view value.now)) }
 {
-    state.write_u8(rank(value));
+    state.write_u64(rank(value));
     match value {
         Value::Null => {}
         Value::Bool(b) => b.hash(state),
@@ -42,10 +42,10 @@ fn feed_items<H: Hasher>(items: &Vec<Value>, state: &mut H)
     ensures { state.new ≡ fold H.write state.old (hashed_items (values_view items.now.items)) }
 {
     for item in items {
-        state.write_u8(1);
+        state.write_u64(1);
         feed(item, state);
     }
-    state.write_u8(0);
+    state.write_u64(0);
 }
 
 #[cycle(feed)]
@@ -54,9 +54,9 @@ fn feed_entries<H: Hasher>(entries: &BTreeMap<String, Value>, state: &mut H)
         ≡ fold H.write state.old (hashed_entries (entries_view entries.now.entries)) }
 {
     for (key, value) in entries.iter() {
-        state.write_u8(1);
+        state.write_u64(1);
         key.hash(state);
         feed(value, state);
     }
-    state.write_u8(0);
+    state.write_u64(0);
 }

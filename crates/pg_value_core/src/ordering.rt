@@ -10,7 +10,7 @@ use std::cmp::Ordering;
 use std::collections::BTreeMap;
 
 /// Where a value's type stands among the types.
-pub(crate) fn rank(value: &Value) -> u8
+pub(crate) fn rank(value: &Value) -> u64
     ensures { result ≡ rank_of (view value.now) }
 {
     match value {

@@ -27,6 +27,7 @@ use crate::reads::{index, labels, property, variable_property};
 use crate::row_context::RowContext;
 use crate::scalar::{Scalar, copied, is_untold, text_copied};
 use crate::scalar_evaluation::scalar;
+use crate::scalar_trees::may_tell;
 use crate::value_ref::{ValueRef, null};
 use pg_graph::Tables;
 use pg_meaning::{Fault, Operator};
@@ -72,8 +73,58 @@ pub fn evaluate_at<T: Tables>(
     if !prepared.tells {
         return found_at(context, graph, prepared.tree);
     }
-    match told(context, graph, prepared.tree) {
-        Scalar::Untold => found_at(context, graph, prepared.tree),
+    let told = told(context, graph, prepared.tree);
+    owned(context, graph, prepared.tree, told)
+}
+
+/// The value of an expression that is evaluated once at one row, so that it isn't made ready first.
+pub fn evaluate_once<T: Tables>(
+    context: &RowContext<'_>,
+    expression: &Expression,
+    graph: &GraphView<'_, T>,
+) -> Result<Value, Fault>
+    ensures { Gives result (evaluate (row_of context.now.names.now (map view context.now.row.now))
+        (parameters_view context.now.parameters.now) graph.now
+        (expression_view expression.now)) view }
+{
+    let read = plain(context, graph, expression);
+    if is_untold(read) {
+        return evaluate_other(context, expression, graph);
+    }
+    owned(context, graph, expression, read)
+}
+
+/// The same of whatever is no plain operand.
+#[inline(never)]
+fn evaluate_other<T: Tables>(
+    context: &RowContext<'_>,
+    expression: &Expression,
+    graph: &GraphView<'_, T>,
+) -> Result<Value, Fault>
+    ensures { Gives result
+        (given context.now graph.now (expression_view expression.now)) view }
+{
+    let ready = Prepared {
+        tree: expression,
+        tells: may_tell(expression),
+    };
+    evaluate_at(context, &ready, graph)
+}
+
+/// What a scalar tells, as a value of its own; what none tells is found.
+fn owned<T: Tables>(
+    context: &RowContext<'_>,
+    graph: &GraphView<'_, T>,
+    expression: &Expression,
+    told: Scalar<'_>,
+) -> Result<Value, Fault>
+    requires { Tells (scalar_view told)
+        (given context.now graph.now (expression_view expression.now)) }
+    ensures { Gives result
+        (given context.now graph.now (expression_view expression.now)) view }
+{
+    match told {
+        Scalar::Untold => found_at(context, graph, expression),
         Scalar::Null => Ok(Value::Null),
         Scalar::Bool(b) => Ok(Value::Bool(b)),
         Scalar::Int(i) => Ok(Value::Int(i)),

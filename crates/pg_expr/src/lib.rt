@@ -23,7 +23,7 @@ mod scalar_trees;
 mod value_ref;
 
 pub use conditions::condition;
-pub use evaluation::{evaluate, evaluate_at, find_at};
+pub use evaluation::{evaluate, evaluate_at, evaluate_once, find_at};
 pub use lone_columns::lone_column;
 pub use prepared::{Prepared, PreparedCondition, prepare, prepare_condition};
 pub use query_context::QueryContext;

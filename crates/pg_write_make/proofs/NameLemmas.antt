@@ -117,3 +117,22 @@ binds_none names vs n v bs cs whole first is rest e =
 -- nothing is left to be bound
 pub all_bound : (names : Texts) (vs : List Value) → EndsWith names vs [] → length vs ≡ length names
 all_bound names vs e = sym (names_len names vs e.within) ∙ ap length e.ends
+
+abbrev BindsNone : Texts → List Value → List Binding → Type 0
+BindsNone names vs bs = EndsWith names vs bs → bind_each bs (row_of names vs) ≡ row_of names vs
+
+-- where each name has a value, nothing is left to be bound
+pub none_new : (names : Texts) (vs : List Value) (bs : List Binding) → EndsWith names vs bs → length vs ≡ length names → bind_each bs (row_of names vs) ≡ row_of names vs
+none_new names vs [] e same = refl
+none_new names vs (b ∷ bs) e same = by_name (λ others. none_new names vs bs others same) b.0 b.1 e
+  where
+    by_test : BindsNone names vs bs → (n : List ℕ) (v : Value) → EndsWith names vs ((Some n, v) ∷ bs) → (is : Bool) → is_some (value_in n (row_of names vs)) ≡ is → bind_each ((Some n, v) ∷ bs) (row_of names vs) ≡ row_of names vs
+    by_test rest n v e true is = let one = bound_already names vs n v bs is e in ap (bind_each bs) one.1 ∙ rest one.0
+    by_test rest n v e false is =
+        let more = (bound_now names vs n v bs is e).0.within in
+        let long = length-append vs (v ∷ []) in
+        absurd (omega (arith, more, long, same))
+
+    by_name : BindsNone names vs bs → (o : Option (List ℕ)) (v : Value) → EndsWith names vs ((o, v) ∷ bs) → bind_each ((o, v) ∷ bs) (row_of names vs) ≡ row_of names vs
+    by_name rest None v e = rest (record { within = e.within; ends = e.ends })
+    by_name rest (Some n) v e = by_test rest n v e (is_some (value_in n (row_of names vs))) refl

@@ -1,11 +1,16 @@
 //! The variables that a row gets behind its own.
-ghost use Rattle.std.specs.Prelude.{◌≡◌, OnOk, length, map};
+ghost use Rattle.std.specs.Prelude.{◌≡◌, IfOk, OnOk, length, map};
 ghost use Rattle.pg_rows.specs.Named.{row_of};
 ghost use Rattle.pg_value_core.specs.View.{view};
-ghost use Rattle.pg_write_make.specs.Bindings.{bind_each, EndsWith};
-ghost use Rattle.pg_write_make.specs.Lent.{bindings_view};
+ghost use Rattle.pg_write_make.specs.Bindings.{bind_each, match_bindings, named, EndsWith};
+ghost use Rattle.pg_write_make.specs.Lent.{bindings_view, paths_view, trail_view};
 
 use crate::clause_scope::ClauseScope;
+use crate::paths::Trail;
+use crate::trails::row_bindings;
+use pg_graph::Tables;
+use pg_store::GraphView;
+use pg_syntax_tree::PathPattern;
 use pg_value_core::Value;
 use std::alloc::AllocError;
 
@@ -29,4 +34,30 @@ pub(crate) fn bind_all(
         }
     }
     Ok(())
+}
+
+/// The row with the variables of its trails. A row that has a value for each name has them all.
+#[tactic(auto, using(crate::proofs::NameLemmas::none_new))]
+pub(crate) fn bind_row<T: Tables>(
+    scene: &ClauseScope<'_>,
+    graph: &GraphView<'_, T>,
+    row: Vec<Value>,
+    paths: &[PathPattern],
+    trails: &Vec<Trail>,
+) -> Result<Vec<Value>, AllocError>
+    requires { EndsWith scene.now.names.now (map view row.items) (named
+        (match_bindings graph.now (paths_view paths.now) (map trail_view trails.now.items))) }
+    ensures bound { IfOk result (λ values. row_of scene.now.names.now (map view values.items)
+        ≡ bind_each (named
+        (match_bindings graph.now (paths_view paths.now) (map trail_view trails.now.items)))
+        (row_of scene.now.names.now (map view row.items))) }
+    ensures whole { IfOk result (λ values. length values.items ≡ length scene.now.names.now) }
+{
+    if row.len() == scene.names.len() {
+        return Ok(row);
+    }
+    let bindings = row_bindings(scene.query.alloc, graph, paths, trails)?;
+    let mut values = row;
+    bind_all(scene, &mut values, bindings)?;
+    Ok(values)
 }

@@ -7,7 +7,7 @@ ghost use Rattle.pg_value_core.specs.Gives.{Gives};
 ghost use Rattle.pg_value_core.specs.View.{view};
 ghost use Rattle.pg_write_make.specs.Scenes.{given, row_in, value_given};
 
-use pg_expr::{Prepared, QueryContext, evaluate, prepare};
+use pg_expr::{Prepared, QueryContext, RowContext, evaluate, evaluate_once};
 use pg_graph::Tables;
 use pg_meaning::Fault;
 use pg_rows::Columns;
@@ -75,7 +75,12 @@ impl<'a> ClauseScope<'a> {
         ensures { Gives result
             (value_given self.now graph.now row.now (expression_view expression.now)) view }
     {
-        let ready = prepare(self.query.alloc, expression, self.names)?;
-        self.evaluate(graph, row, &ready)
+        let context = RowContext {
+            alloc: self.query.alloc,
+            names: self.names,
+            row,
+            parameters: self.query.parameters,
+        };
+        evaluate_once(&context, expression, graph)
     }
 }

@@ -10,12 +10,11 @@ ghost use Rattle.pg_write_make.specs.Creations.{row_made, rows_created};
 ghost use Rattle.pg_write_make.specs.Lent.{paths_view};
 ghost use Rattle.pg_write_make.specs.Scenes.{max_elements_in, parameters_in, row_in};
 
-use crate::binding::bind_all;
+use crate::binding::bind_row;
 use crate::bound::test_paths;
 use crate::clause_scope::{ClauseScope, RowScene};
 use crate::kept::kept_values;
 use crate::paths::make_paths;
-use crate::trails::row_bindings;
 use pg_graph::Tables;
 use pg_live::LiveGraph;
 use pg_meaning::Fault;
@@ -53,9 +52,7 @@ pub fn make_row<'a, T: Tables>(
         values: &row,
     };
     let trails = make_paths(&at, live, paths, kept)?;
-    let bindings = row_bindings(scene.query.alloc, &live.graph(), paths, &trails)?;
-    let mut values = row;
-    bind_all(scene, &mut values, bindings)?;
+    let values = bind_row(scene, &live.graph(), row, paths, &trails)?;
     Ok(values)
 }
 

@@ -200,7 +200,7 @@ pub(crate) fn make_nodes<'a, T: Tables>(
     ensures grows { OnOk result (Grows live.old.graph live.new.graph) }
     ensures there { IfOk result (λ ids. AllThere live.new.graph named.new.items ids.items) }
 {
-    let mut ids = Vec::with_capacity(row.scene.query.alloc, path.hops.len())?;
+    let mut ids = Vec::with_capacity(row.scene.query.alloc, path.hops.len().saturating_add(1))?;
     make_node(row, live, &path.first, first, named, &mut ids)?;
     make_others(row, live, &path.hops, others, named, &mut ids)?;
     Ok(ids)

@@ -1,5 +1,5 @@
 //! The rows of groups.
-ghost use Rattle.std.specs.Prelude.{◌≡◌, IfOk, length, map, option_map, option_to_list};
+ghost use Rattle.std.specs.Prelude.{◌≡◌, [], IfOk, OnOk, length, map, option_map, option_to_list};
 ghost use Rattle.pg_meaning.specs.Projections.{first_or_null};
 ghost use Rattle.pg_project.specs.Kept.{merged, told_each};
 ghost use Rattle.pg_project.specs.KeptGroups.{groups_view};
@@ -24,28 +24,31 @@ pub(crate) fn told_rows(
     ensures width { IfOk result (λ found. found.width ≡ length are_aggregates.now.items) }
 {
     let mut found = Rows::new(alloc, are_aggregates.len());
+    let mut row = Vec::new(alloc);
     let mut left = groups.taken.into_iter();
     for key in groups.keys {
         let Some(taken) = left.next() else {
             return Ok(found);
         };
-        found.push(told_row(alloc, are_aggregates, key, taken)?)?;
+        tell_row(are_aggregates, key, taken, &mut row)?;
+        found.push_from(&mut row)?;
     }
     Ok(found)
 }
 
-/// The values of the items that group and what the aggregates tell, in the order of the items.
-fn told_row(
-    alloc: Global,
+/// The values of the items that group and what the aggregates tell, in the order of the items, in a list whose memory
+/// serves from group to group.
+fn tell_row(
     are_aggregates: &Vec<bool>,
     key: Vec<Value>,
     taken: Vec<Taken>,
-) -> Result<Vec<Value>, AllocError>
-    ensures values { IfOk result (λ row. map view row.items ≡ merged are_aggregates.now.items
+    row: &mut Vec<Value>,
+) -> Result<(), AllocError>
+    requires { row.old.items ≡ [] }
+    ensures values { OnOk result (map view row.new.items ≡ merged are_aggregates.now.items
         (map view key.items) (told_each (takens_view taken.items))) }
-    ensures len { IfOk result (λ row. length row.items ≡ length are_aggregates.now.items) }
+    ensures len { OnOk result (length row.new.items ≡ length are_aggregates.now.items) }
 {
-    let mut row = Vec::with_capacity(alloc, are_aggregates.len())?;
     let mut keys = key.into_iter();
     let mut summaries = taken.into_iter();
     for is_aggregate in are_aggregates {
@@ -56,7 +59,7 @@ fn told_row(
         };
         row.push(value)?;
     }
-    Ok(row)
+    Ok(())
 }
 
 fn told_or_null(taken: Option<Taken>) -> Value

@@ -24,6 +24,7 @@ loop-key-init c =
     let seen = λ (ts : Vec Taken). takens_view ts.items in (
       (λ i. c.new-found.ensures.rows i ++ map row_of (groups_of (keys_view (c.into_iter-key-iterator.ensures.into_iter_gives.0 i)) (map seen (c.into_iter-left.ensures.rest i)))),
       c.new-found.ensures.width ∙ c.len.ensures ∙ c.args.are_aggregates.now.ok.0,
+      c.new-row.ensures.items,
     )
 
 pub returns-in_default-clause-rows : goal.returns-in_default-clause-rows
@@ -41,11 +42,11 @@ returns-in_default-clause-rows c =
 pub returns-in_default-clause-width : goal.returns-in_default-clause-width
 returns-in_default-clause-width c = c.loop-key.invariant.1
 
-pub returns-in_err-told_row-clause-rows : goal.returns-in_err-told_row-clause-rows
-returns-in_err-told_row-clause-rows c = IfOk-from_err c.from_residual.result _ c.from_residual.ensures.0
+pub returns-in_err-tell_row-clause-rows : goal.returns-in_err-tell_row-clause-rows
+returns-in_err-tell_row-clause-rows c = IfOk-from_err c.from_residual.result _ c.from_residual.ensures.0
 
-pub returns-in_err-told_row-clause-width : goal.returns-in_err-told_row-clause-width
-returns-in_err-told_row-clause-width c = IfOk-from_err c.from_residual.result _ c.from_residual.ensures.0
+pub returns-in_err-tell_row-clause-width : goal.returns-in_err-tell_row-clause-width
+returns-in_err-tell_row-clause-width c = IfOk-from_err c.from_residual.result _ c.from_residual.ensures.0
 
 pub loop-key-preserved : goal.loop-key-preserved
 loop-key-preserved c =
@@ -54,20 +55,21 @@ loop-key-preserved c =
     let row_of = λ (k : Kept). merged kinds k.key (told_each k.taken) in
     let seen = λ (ts : Vec Taken). takens_view ts.items in
     let rest = map row_of (groups_of (keys_view c.next.new.self) (map seen (into_iter_items c.next-in-loop-key.new.self))) in
-    let row = map view c.in_ok-told_row.field-0.items in (
-      ap (λ rows. rows ++ rest) c.in_ok-push.ensures.rows
+    let row = map view c.tell_row.new.row.items in (
+      ap (λ rows. rows ++ rest) c.in_ok-push_from.ensures.rows
           ∙ append_assoc (table l.found) (row ∷ []) rest
-          ∙ ap (λ r. table l.found ++ r ∷ rest) c.in_ok-told_row.ensures.values
+          ∙ ap (λ r. table l.found ++ r ∷ rest) c.in_ok-tell_row.ensures.values
           ∙ sym (λ i. table l.found ++ map row_of (groups_of (keys_view (c.in-Some.ensures.steps i)) (map seen (c.in-Some-next.ensures.cases.0 i))))
           ∙ l.invariant.0,
-      c.in_ok-push.ensures.width ∙ l.invariant.1,
+      c.in_ok-push_from.ensures.width ∙ l.invariant.1,
+      c.in_ok-push_from.ensures.emptied,
     )
 
-pub returns-in_err-push-clause-rows : goal.returns-in_err-push-clause-rows
-returns-in_err-push-clause-rows c = IfOk-from_err c.from_residual-in_err-push.result _ c.from_residual-in_err-push.ensures.0
+pub returns-in_err-push_from-clause-rows : goal.returns-in_err-push_from-clause-rows
+returns-in_err-push_from-clause-rows c = IfOk-from_err c.from_residual-in_err-push_from.result _ c.from_residual-in_err-push_from.ensures.0
 
-pub returns-in_err-push-clause-width : goal.returns-in_err-push-clause-width
-returns-in_err-push-clause-width c = IfOk-from_err c.from_residual-in_err-push.result _ c.from_residual-in_err-push.ensures.0
+pub returns-in_err-push_from-clause-width : goal.returns-in_err-push_from-clause-width
+returns-in_err-push_from-clause-width c = IfOk-from_err c.from_residual-in_err-push_from.result _ c.from_residual-in_err-push_from.ensures.0
 
 pub returns-clause-rows : goal.returns-clause-rows
 returns-clause-rows c =

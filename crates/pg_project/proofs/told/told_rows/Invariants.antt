@@ -1,4 +1,4 @@
-use Rattle.std.proofs.Common.{◌≡◌, ◌++◌, length, map}
+use Rattle.std.proofs.Common.{◌≡◌, ◌++◌, [], length, map}
 use Rattle.std.specs.Vec.Iter.{into_iter_items}
 use Rattle.pg_project.specs.Kept.{merged, told_each}
 use Rattle.pg_project.specs.KeptGroups.{groups_of, groups_view}
@@ -12,3 +12,4 @@ invariant-loop-key l =
     (table l.found ++ map (λ g. merged l.are_aggregates.items g.key (told_each g.taken)) (groups_of (keys_view l.key-iterator) (map (λ ts. takens_view ts.items) (into_iter_items l.left)))
     ≡ map (λ g. merged l.are_aggregates.items g.key (told_each g.taken)) (groups_view l.fn.groups))
     × (l.found.width ≡ length l.are_aggregates.items)
+    × (l.row.items ≡ [])

@@ -10,26 +10,20 @@ use Rattle.pg_project.specs.Views.{taken_view, takens_view}
 use Rattle.pg_project.specs.declared.taken.Taken.{Taken}
 use Rattle.pg_meaning.specs.Projections.{first_or_null}
 use Rattle.pg_value_core.specs.View.{view}
-use Rattle.pg_project.proofs.told.told_row.Goals as goal
-use Rattle.pg_project.proofs.told.told_row.Goals.{then-is_aggregate, else-is_aggregate}
-
-pub returns-in_err-row-clause-values : goal.returns-in_err-row-clause-values
-returns-in_err-row-clause-values c = IfOk-from_err c.from_residual.result _ c.from_residual.ensures.0
-
-pub returns-in_err-row-clause-len : goal.returns-in_err-row-clause-len
-returns-in_err-row-clause-len c = IfOk-from_err c.from_residual.result _ c.from_residual.ensures.0
+use Rattle.pg_project.proofs.told.tell_row.Goals as goal
+use Rattle.pg_project.proofs.told.tell_row.Goals.{then-is_aggregate, else-is_aggregate}
 
 pub loop-is_aggregate-init : goal.loop-is_aggregate-init
 loop-is_aggregate-init c = (
-  (λ i. map view (c.in_ok-row.ensures.items i) ++ merged c.args.are_aggregates.now.items (map view (c.into_iter-keys.ensures.rest i)) (told_each (takens_view (c.into_iter-summaries.ensures.rest i)))),
-  ap length c.in_ok-row.ensures.items,
+  (λ i. map view (c.requires i) ++ merged c.args.are_aggregates.now.items (map view (c.into_iter-keys.ensures.rest i)) (told_each (takens_view (c.into_iter-summaries.ensures.rest i)))),
+  ap length c.requires,
 )
 
 pub returns-in_err-push-clause-values : goal.returns-in_err-push-clause-values
-returns-in_err-push-clause-values c = IfOk-from_err c.from_residual-in_err-push.result _ c.from_residual-in_err-push.ensures.0
+returns-in_err-push-clause-values c = IfOk-from_err c.from_residual.result _ c.from_residual.ensures.0
 
 pub returns-in_err-push-clause-len : goal.returns-in_err-push-clause-len
-returns-in_err-push-clause-len c = IfOk-from_err c.from_residual-in_err-push.result _ c.from_residual-in_err-push.ensures.0
+returns-in_err-push-clause-len c = IfOk-from_err c.from_residual.result _ c.from_residual.ensures.0
 
 pub returns-clause-values : goal.returns-clause-values
 returns-clause-values c =

@@ -3,7 +3,7 @@ use Rattle.std.specs.Vec.Iter.{into_iter_items}
 use Rattle.pg_project.specs.Kept.{merged, told_each}
 use Rattle.pg_project.specs.Views.{takens_view}
 use Rattle.pg_value_core.specs.View.{view}
-use Rattle.pg_project.proofs.told.told_row.Given as goal
+use Rattle.pg_project.proofs.told.tell_row.Given as goal
 
 abbrev pub invariant-loop-is_aggregate : goal.invariant-loop-is_aggregate
 invariant-loop-is_aggregate l =

@@ -14,7 +14,7 @@ held_view (Highest o) = summaries.highest (option_map view o)
 held_view (Values vs) = summaries.values (map view vs.items.items)
 
 abbrev pub taken_view : Taken → summaries.Taken
-taken_view t = record { different = option_map (λ s. map view s.keys) t.different; held = held_view t.held }
+taken_view t = record { different = option_map (λ s. map view s.value.keys) t.different; held = held_view t.held }
 
 abbrev pub takens_view : List Taken → List summaries.Taken
 takens_view ts = map taken_view ts

@@ -1,6 +1,7 @@
 //! What is kept of the values that an aggregate has taken in.
 ghost use Rattle.std.specs.Prelude.{◌≡◌, ◌≢◌, ◌+ℤ◌, [], pos, Ok, Err, OnOk, IfErr, map, option_map};
 ghost use Rattle.pg_meaning.specs.Aggregates.{lesser, greater};
+ghost use Rattle.pg_meaning.specs.Value.{integer};
 ghost use Rattle.pg_meaning.specs.declared.fault.Fault.TheVariants.{OutOfMemory};
 ghost use Rattle.pg_project.specs.Summaries.{added, better, collected, held_of, held_with, sum, told};
 ghost use Rattle.pg_project.specs.Views.{held_view};
@@ -102,16 +103,24 @@ pub(crate) fn count_one(count: &mut i64) -> Result<(), Fault>
     }
 }
 
-/// Adds an integer to a sum.
-#[tactic(auto, using(crate::proofs::Ranges::in_range, crate::proofs::Ranges::out_of_range))]
+/// Adds a value to a sum, if it is an integer.
 fn add(total: &mut i64, value: &Value) -> Result<(), Fault>
     ensures ok { OnOk result (added total.old (view value.now) ≡ Ok (sum total.new)) }
     ensures err { IfErr result (λ e. added total.old (view value.now) ≡ Err e) }
 {
-    let Value::Int(summand) = value else {
-        return Err(Fault::TypeFault);
-    };
-    match total.checked_add(*summand) {
+    match value {
+        Value::Int(summand) => add_integer(total, *summand),
+        _ => Err(Fault::TypeFault),
+    }
+}
+
+/// Adds an integer to a sum.
+#[tactic(auto, using(crate::proofs::Ranges::in_range, crate::proofs::Ranges::out_of_range))]
+pub(crate) fn add_integer(total: &mut i64, summand: i64) -> Result<(), Fault>
+    ensures ok { OnOk result (added total.old (integer summand) ≡ Ok (sum total.new)) }
+    ensures err { IfErr result (λ e. added total.old (integer summand) ≡ Err e) }
+{
+    match total.checked_add(summand) {
         Some(more) => {
             *total = more;
             Ok(())

@@ -7,7 +7,7 @@ ghost use Rattle.pg_project.specs.Views.{taken_view};
 ghost use Rattle.pg_scope.specs.Calls.{summary_view};
 ghost use Rattle.pg_value_core.specs.View.{view};
 
-use crate::accumulator::{Accumulator, count_one};
+use crate::accumulator::{Accumulator, add_integer, count_one};
 use indexmap::IndexSet;
 use pg_meaning::Fault;
 use pg_scope::AggregateFunction;
@@ -18,7 +18,8 @@ use std::hash::RandomState;
 /// What is kept of the values taken in, and where DISTINCT needs them the different values so far.
 #[derive(Drop)]
 pub(crate) struct Taken {
-    pub(crate) different: Option<IndexSet<Value, RandomState>>,
+    // In a box, since few aggregates have them: what is kept of the others stays small.
+    pub(crate) different: Option<Box<IndexSet<Value, RandomState>>>,
     pub(crate) held: Accumulator,
 }
 
@@ -49,22 +50,39 @@ impl Taken {
         hasher: RandomState,
         summary: AggregateFunction,
         distinct: bool,
-    ) -> Taken
-        ensures { taken_view result ≡ begun (summary_view summary) distinct }
+    ) -> Result<Taken, AllocError>
+        ensures { IfOk result (λ t. taken_view t ≡ begun (summary_view summary) distinct) }
     {
         let different = if distinct && needs_different(summary) {
-            Some(IndexSet::with_hasher(alloc, hasher))
+            Some(Box::new(alloc, IndexSet::with_hasher(alloc, hasher))?)
         } else {
             None
         };
-        Taken {
+        Ok(Taken {
             different,
             held: Accumulator::new(alloc, summary),
-        }
+        })
     }
 
-    /// Takes in one value more, if it counts.
+    /// Takes in one value more, if it counts. Most are integers that a plain sum adds.
     pub(crate) fn take(&mut self, alloc: Global, value: Value) -> Result<(), Fault>
+        ensures ok { OnOk result
+            (taken_with (taken_view self.old) (view value) ≡ Ok (taken_view self.new)) }
+        ensures err { IfErr result (λ e. e ≢ OutOfMemory
+            → taken_with (taken_view self.old) (view value) ≡ Err e) }
+    {
+        if let Value::Int(summand) = &value
+            && self.different.is_none()
+            && let Accumulator::Sum(total) = &mut self.held
+        {
+            return add_integer(total, *summand);
+        }
+        self.take_other(alloc, value)
+    }
+
+    /// The same of any value, by any aggregate.
+    #[inline(never)]
+    fn take_other(&mut self, alloc: Global, value: Value) -> Result<(), Fault>
         ensures ok { OnOk result
             (taken_with (taken_view self.old) (view value) ≡ Ok (taken_view self.new)) }
         ensures err { IfErr result (λ e. e ≢ OutOfMemory
@@ -95,11 +113,11 @@ impl Taken {
 /// Whether the value counts: null doesn't, nor does one that is equivalent to one of the different values.
 fn counts(
     alloc: Global,
-    different: &mut Option<IndexSet<Value, RandomState>>,
+    different: &mut Option<Box<IndexSet<Value, RandomState>>>,
     value: &Value,
 ) -> Result<bool, AllocError>
-    ensures { IfOk result (λ b. Counts (option_map (λ s. map view s.keys) different.old)
-        (option_map (λ s. map view s.keys) different.new) (view value.now) b) }
+    ensures { IfOk result (λ b. Counts (option_map (λ s. map view s.value.keys) different.old)
+        (option_map (λ s. map view s.value.keys) different.new) (view value.now) b) }
 {
     if is_null(value) {
         return Ok(false);

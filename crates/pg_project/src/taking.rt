@@ -31,7 +31,8 @@ pub(crate) fn begun(
 {
     let mut begun = Vec::with_capacity(alloc, aggregates.len())?;
     for aggregate in aggregates {
-        begun.push(Taken::new(alloc, hasher, aggregate.summary, aggregate.distinct))?;
+        let one = Taken::new(alloc, hasher, aggregate.summary, aggregate.distinct)?;
+        begun.push(one)?;
     }
     Ok(begun)
 }

@@ -13,6 +13,9 @@ returns-in_err-begun c = λ names. IfOk-from_err c.from_residual.result _ c.from
 pub loop-aggregate-init : goal.loop-aggregate-init
 loop-aggregate-init c = λ names. ap (λ ts. takens_view ts ++ begun (aggregates_view names c.args.aggregates.now.items)) c.in_ok-begun.ensures.items
 
+pub returns-in_err-one : goal.returns-in_err-one
+returns-in_err-one c = λ names. IfOk-from_err c.from_residual-in_err-one.result _ c.from_residual-in_err-one.ensures.0
+
 pub returns-in_err-push : goal.returns-in_err-push
 returns-in_err-push c = λ names. IfOk-from_err c.from_residual-in_err-push.result _ c.from_residual-in_err-push.ensures.0
 
@@ -23,9 +26,9 @@ loop-aggregate-preserved c = λ names.
     let later = drop (l.aggregate-index + 1) c.args.aggregates.now.items in
     let rest = begun (aggregates_view names later) in
     ap (λ ts. takens_view ts ++ rest) c.in_ok-push.ensures.items
-    ∙ ap (λ ts. ts ++ rest) (map_behind taken_view l.begun.items c.new.result)
-    ∙ append_assoc found (taken_view c.new.result ∷ []) rest
-    ∙ (λ i. found ++ c.new.ensures i ∷ rest)
+    ∙ ap (λ ts. ts ++ rest) (map_behind taken_view l.begun.items c.in_ok-one.one)
+    ∙ append_assoc found (taken_view c.in_ok-one.one ∷ []) rest
+    ∙ (λ i. found ++ c.in_ok-one.ensures i ∷ rest)
     ∙ ap (λ zs. found ++ begun (aggregates_view names zs)) (sym (subst (λ zs. drop l.aggregate-index zs ≡ c.aggregate-item.result ∷ drop (l.aggregate-index + 1) zs) c.deref-aggregate-items.ensures.value (here c.deref-aggregate-items.result.now l.aggregate-index c.aggregate-item.result c.loop-aggregate-test.true c.aggregate-item.is)))
     ∙ l.invariant names
 

@@ -30,6 +30,8 @@ pub mod Lifts
 pub mod Measures
 pub mod Merging
 pub mod Numbered
+pub mod Parted
+pub mod InPart
 pub mod Ranges
 pub mod RowLemmas
 pub mod Turns

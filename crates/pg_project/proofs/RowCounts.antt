@@ -7,8 +7,9 @@ use Rattle.pg_meaning.specs.Tree.{Expression}
 use Rattle.pg_meaning.specs.Value.{Value, Entries, integer}
 use Rattle.pg_meaning.specs.declared.fault.Fault.{Fault}
 use Rattle.pg_meaning.specs.declared.fault.Fault.TheVariants.{OutOfMemory}
-use Rattle.pg_project.specs.Items.{Item, grouping, aggregate, aggregates_in, are_aggregates, is_aggregate, item_of, keys_in, before_keys}
+use Rattle.pg_project.specs.Items.{Item, grouping, aggregate, aggregates_in, are_aggregates, before_aggregates, is_aggregate, item_of, keys_in, before_keys}
 use Rattle.pg_project.specs.Kept.{Kept, Answers, answers_at, first_kept, into_kept, kept_row, kept_rows, kept_values, merged, row_count, rows_given, without_group}
+use Rattle.pg_project.specs.KeptGroups.{aggregates_among}
 use Rattle.pg_project.specs.Summaries.{count}
 use Rattle.pg_rows.specs.Tables.{table}
 use Rattle.pg_rows.specs.declared.table.Rows.{Rows}
@@ -61,3 +62,13 @@ pub alone : {X : Type 0} (xs all : List X) (x : X) → xs ≡ all → 1 ≤ leng
 alone [] all x same least below is = absurd (omega (arith, least))
 alone (y ∷ []) all x same least below is = sym same ∙ ap (λ z. z ∷ []) (sym is)
 alone (y ∷ z ∷ ys) all x same least below is = absurd (omega (arith, below))
+
+-- ---- how many of the items are aggregates
+
+pub as_many : (es : List Expression) → aggregates_among (are_aggregates es) ≡ length (aggregates_in es)
+as_many [] = refl
+as_many (e ∷ es) = by (item_of e) (as_many es)
+  where
+    by : (i : Item) → aggregates_among (are_aggregates es) ≡ length (aggregates_in es) → aggregates_among (is_aggregate i ∷ are_aggregates es) ≡ length (before_aggregates i (aggregates_in es))
+    by (grouping x) h = h
+    by (aggregate a) h = ap suc h

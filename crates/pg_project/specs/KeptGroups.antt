@@ -1,15 +1,18 @@
 -- The groups of the program, as data.
-use Rattle.std.specs.Prelude.{◌≡◌, ℕ, ◌<◌, Bool, true, length, List, [], ◌∷◌, map}
+use Rattle.std.specs.Prelude.{◌≡◌, ℕ, zero, suc, ◌+◌, ◌*◌, ◌<◌, Bool, true, false, length, List, [], ◌∷◌, ◌++◌, map, take, drop, Result, Ok}
 use Rattle.std.specs.List.{list_any, position_or_len}
 use Rattle.std.specs.Cmp.Lexicographic.{pointwise}
 use Rattle.std.specs.Global.{Vec}
 use Rattle.std.specs.Ordering.{on, eq_by_cmp}
-use Rattle.pg_project.specs.Kept.{Kept}
+use Rattle.pg_project.specs.Kept.{Answers, Kept, all_taken_in}
 use Rattle.pg_project.specs.Summaries.{Taken}
 use Rattle.pg_project.specs.Views.{takens_view}
 use Rattle.pg_project.specs.declared.groups.Groups.{Groups}
+use Rattle.pg_meaning.specs.Aggregates.{Aggregate}
+use Rattle.pg_meaning.specs.Answer.{◌>>=◌}
 use Rattle.pg_meaning.specs.Order.{value_order}
 use Rattle.pg_meaning.specs.Value.{Value as Datum}
+use Rattle.pg_meaning.specs.declared.fault.Fault.{Fault}
 use Rattle.pg_rows.specs.Groups.{keys_view}
 use Rattle.pg_value_core.specs.View.{view}
 use Rattle.pg_value_core.specs.declared.value.Value.{Value}
@@ -34,9 +37,24 @@ groups_of [] tss = []
 groups_of (k ∷ ks) [] = []
 groups_of (k ∷ ks) (ts ∷ tss) = record { key = k; taken = ts } ∷ groups_of ks tss
 
-abbrev pub groups_view : Groups → List Kept
-groups_view g = groups_of (keys_view g.keys.keys) (map (λ ts. takens_view ts.items) g.taken.items)
+-- lists that lie one behind the other, so many of each
+abbrev pub parted : {X : Type 0} → (count each : ℕ) → List X → List (List X)
+parted zero n xs = []
+parted (suc m) n xs = take n xs ∷ parted m n (drop n xs)
+
+abbrev pub groups_view : (each : ℕ) → Groups → List Kept
+groups_view n g = groups_of (keys_view g.keys.keys) (parted (length g.keys.keys) n (takens_view g.taken.items))
 
 -- each group has what is kept of its aggregates
-abbrev pub Paired : Groups → Type 0
-Paired g = length g.keys.keys ≡ length g.taken.items
+abbrev pub Paired : (each : ℕ) → Groups → Type 0
+Paired n g = length g.taken.items ≡ length g.keys.keys * n
+
+-- of items, how many are aggregates
+abbrev pub aggregates_among : (are_aggregates : List Bool) → ℕ
+aggregates_among [] = 0
+aggregates_among (true ∷ bs) = suc (aggregates_among bs)
+aggregates_among (false ∷ bs) = aggregates_among bs
+
+-- a row taken into the aggregates of the group that begins there; what lies before and behind stays
+abbrev pub taken_in_at : Answers → List Aggregate → (each start : ℕ) → List Taken → Result (List Taken) Fault
+taken_in_at at aggregates n start ts = all_taken_in at aggregates (take n (drop start ts)) >>= λ us. Ok (take start ts ++ (us ++ drop n (drop start ts)))

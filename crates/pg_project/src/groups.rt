@@ -7,10 +7,9 @@ ghost use Rattle.pg_project.specs.KeptGroups.{same_keys, HasNumber, IsNumber};
 ghost use Rattle.pg_value_core.specs.View.{view};
 
 use crate::items::{Aggregate, Items};
-use crate::made::push_made;
 use crate::recent::{Recent, mark_of, mark_of_one};
 use crate::taken::Taken;
-use crate::taking::{begun, take_in_all};
+use crate::taking::{begin, take_in_group};
 use indexmap::IndexSet;
 use pg_expr::{RowContext, ValueRef};
 use pg_graph::Tables;
@@ -21,16 +20,17 @@ use std::alloc::{AllocError, Global};
 use std::hash::RandomState;
 use std::mem;
 
-/// The key of each group, and what is kept of each aggregate in it.
+/// The key of each group, and what is kept of the aggregates in it, as many for each group, one group's behind the
+/// other's: no group takes memory of its own for them.
 #[derive(Drop)]
 pub(crate) struct Groups {
     pub(crate) keys: IndexSet<Vec<Value>, RandomState>,
-    pub(crate) taken: Vec<Vec<Taken>>,
+    pub(crate) taken: Vec<Taken>,
     pub(crate) recent: Recent,
 }
 
 impl Groups {
-    ghost use Rattle.std.specs.Prelude.{◌≡◌, ◌≢◌, ◌∷◌, [], ℕ, List, map, IfErr, IfOk, OnOk, Ok, Err};
+    ghost use Rattle.std.specs.Prelude.{◌≡◌, ◌≢◌, ◌∷◌, [], ℕ, List, length, map, IfErr, IfOk, OnOk, Ok, Err};
     ghost use Rattle.pg_expr.specs.Contexts.{found_view, given};
     ghost use Rattle.pg_meaning.specs.declared.fault.Fault.TheVariants.{OutOfMemory};
     ghost use Rattle.pg_project.specs.Kept.{first_kept, into_kept};
@@ -45,9 +45,10 @@ impl Groups {
         items: &Items<'_>,
     ) -> Result<Groups, AllocError>
         ensures groups { (names : List (List ℕ))
-            → IfOk result (λ g. groups_view g ≡ first_kept (keys_of names items.now.keys.items)
+            → IfOk result (λ g. groups_view (length items.now.aggregates.items) g
+            ≡ first_kept (keys_of names items.now.keys.items)
             (aggregates_view names items.now.aggregates.items)) }
-        ensures paired { IfOk result (λ g. Paired g) }
+        ensures paired { IfOk result (λ g. Paired (length items.now.aggregates.items) g) }
     {
         let mut groups = Groups {
             keys: IndexSet::with_hasher(alloc, hasher),
@@ -56,7 +57,7 @@ impl Groups {
         };
         if items.keys.is_empty() {
             groups.keys.insert(Vec::new(alloc))?;
-            push_made(&mut groups.taken, begun(alloc, hasher, &items.aggregates))?;
+            begin(alloc, hasher, &items.aggregates, &mut groups.taken)?;
         }
         Ok(groups)
     }
@@ -69,23 +70,21 @@ impl Groups {
         aggregates: &Vec<Aggregate<'_>>,
         key: &mut Vec<Value>,
     ) -> Result<(), Fault>
-        requires { Paired self.old }
+        requires { Paired (length aggregates.now.items) self.old }
         ensures ok { OnOk result (into_kept (given context.now graph.now)
             (aggregates_view context.now.names.now aggregates.now.items)
-            (map view key.old.items) (groups_view self.old) ≡ Ok (groups_view self.new)) }
-        ensures paired { OnOk result (Paired self.new) }
+            (map view key.old.items) (groups_view (length aggregates.now.items) self.old)
+            ≡ Ok (groups_view (length aggregates.now.items) self.new)) }
+        ensures paired { OnOk result (Paired (length aggregates.now.items) self.new) }
         ensures err { IfErr result (λ e. e ≢ OutOfMemory → into_kept (given context.now graph.now)
             (aggregates_view context.now.names.now aggregates.now.items)
-            (map view key.old.items) (groups_view self.old) ≡ Err e) }
+            (map view key.old.items) (groups_view (length aggregates.now.items) self.old) ≡ Err e) }
     {
         let (number, is_new) = number_of(context.alloc, &mut self.keys, &mut self.recent, key)?;
         if is_new {
-            push_made(
-                &mut self.taken,
-                begun(context.alloc, graph.hasher(), aggregates),
-            )?;
+            begin(context.alloc, graph.hasher(), aggregates, &mut self.taken)?;
         }
-        take_in_all(context, graph, aggregates, &mut self.taken[number])
+        take_in_group(context, graph, aggregates, &mut self.taken, number)
     }
 
     /// The same of a key of one value, which is only copied where its group isn't the one found last.
@@ -96,18 +95,20 @@ impl Groups {
         aggregates: &Vec<Aggregate<'_>>,
         found: ValueRef<'_>,
     ) -> Result<(), Fault>
-        requires { Paired self.old }
+        requires { Paired (length aggregates.now.items) self.old }
         ensures ok { OnOk result (into_kept (given context.now graph.now)
             (aggregates_view context.now.names.now aggregates.now.items)
-            (found_view found.entry ∷ []) (groups_view self.old) ≡ Ok (groups_view self.new)) }
-        ensures paired { OnOk result (Paired self.new) }
+            (found_view found.entry ∷ []) (groups_view (length aggregates.now.items) self.old)
+            ≡ Ok (groups_view (length aggregates.now.items) self.new)) }
+        ensures paired { OnOk result (Paired (length aggregates.now.items) self.new) }
         ensures err { IfErr result (λ e. e ≢ OutOfMemory → into_kept (given context.now graph.now)
             (aggregates_view context.now.names.now aggregates.now.items)
-            (found_view found.entry ∷ []) (groups_view self.old) ≡ Err e) }
+            (found_view found.entry ∷ []) (groups_view (length aggregates.now.items) self.old)
+            ≡ Err e) }
     {
         let number = self.recent.noted(mark_of_one(found.look()));
         if is_number_of_one(&self.keys, number, found.look()) {
-            return take_in_all(context, graph, aggregates, &mut self.taken[number]);
+            return take_in_group(context, graph, aggregates, &mut self.taken, number);
         }
         let mut key = key_of(context.alloc, found)?;
         self.take_row(context, graph, aggregates, &mut key)

@@ -1,9 +1,10 @@
 //! Rows taken into the aggregates of a group.
-ghost use Rattle.std.specs.Prelude.{◌≡◌, ◌≢◌, ℕ, List, IfOk, IfErr, OnOk, Ok, Err};
+ghost use Rattle.std.specs.Prelude.{◌≡◌, ◌≢◌, ◌≤◌, ◌+◌, ◌*◌, ◌++◌, ℕ, List, length, IfErr, OnOk, Ok, Err};
 ghost use Rattle.pg_expr.specs.Contexts.{given};
 ghost use Rattle.pg_meaning.specs.declared.fault.Fault.TheVariants.{OutOfMemory};
 ghost use Rattle.pg_project.specs.Kept.{all_taken_in, argument_given, taken_in};
 ghost use Rattle.pg_project.specs.Kept as kept;
+ghost use Rattle.pg_project.specs.KeptGroups.{taken_in_at};
 ghost use Rattle.pg_project.specs.ReadyItems.{aggregate_view, aggregates_view};
 ghost use Rattle.pg_project.specs.Views.{taken_view, takens_view};
 ghost use Rattle.pg_value_core.specs.Gives.{Gives};
@@ -19,22 +20,22 @@ use pg_value_core::Value;
 use std::alloc::{AllocError, Global};
 use std::hash::RandomState;
 
-/// No values yet of each aggregate.
-pub(crate) fn begun(
+/// No values yet of each aggregate, behind what is kept of other groups.
+pub(crate) fn begin(
     alloc: Global,
     hasher: RandomState,
     aggregates: &Vec<Aggregate<'_>>,
-) -> Result<Vec<Taken>, AllocError>
+    taken: &mut Vec<Taken>,
+) -> Result<(), AllocError>
     ensures { (names : List (List ℕ))
-        → IfOk result
-        (λ ts. takens_view ts.items ≡ kept.begun (aggregates_view names aggregates.now.items)) }
+        → OnOk result (takens_view taken.new.items ≡ takens_view taken.old.items
+        ++ kept.begun (aggregates_view names aggregates.now.items)) }
 {
-    let mut begun = Vec::with_capacity(alloc, aggregates.len())?;
     for aggregate in aggregates {
         let one = Taken::new(alloc, hasher, aggregate.summary, aggregate.distinct)?;
-        begun.push(one)?;
+        taken.push(one)?;
     }
-    Ok(begun)
+    Ok(())
 }
 
 /// The value of the aggregate's argument; without one each row counts.
@@ -71,18 +72,42 @@ fn take_in<T: Tables>(
     }
 }
 
-/// Takes the row into the aggregates of a group, left to right.
-pub(crate) fn take_in_all<T: Tables>(
+/// Takes the row into the aggregates of the group of this number.
+pub(crate) fn take_in_group<T: Tables>(
     context: &RowContext<'_>,
     graph: &GraphView<'_, T>,
     aggregates: &Vec<Aggregate<'_>>,
     taken: &mut Vec<Taken>,
+    number: usize,
+) -> Result<(), Fault>
+    requires { number * length aggregates.now.items + length aggregates.now.items
+        ≤ length taken.old.items }
+    ensures ok { OnOk result (taken_in_at (given context.now graph.now)
+        (aggregates_view context.now.names.now aggregates.now.items)
+        (length aggregates.now.items) (number * length aggregates.now.items)
+        (takens_view taken.old.items) ≡ Ok (takens_view taken.new.items)) }
+    ensures err { IfErr result (λ e. e ≢ OutOfMemory → taken_in_at (given context.now graph.now)
+        (aggregates_view context.now.names.now aggregates.now.items)
+        (length aggregates.now.items) (number * length aggregates.now.items)
+        (takens_view taken.old.items) ≡ Err e) }
+{
+    let each = aggregates.len();
+    let start = number * each;
+    take_in_all(context, graph, aggregates, &mut taken[start..start + each])
+}
+
+/// Takes the row into the aggregates of a group, left to right.
+fn take_in_all<T: Tables>(
+    context: &RowContext<'_>,
+    graph: &GraphView<'_, T>,
+    aggregates: &Vec<Aggregate<'_>>,
+    taken: &mut [Taken],
 ) -> Result<(), Fault>
     ensures ok { OnOk result (all_taken_in (given context.now graph.now)
-        (aggregates_view context.now.names.now aggregates.now.items) (takens_view taken.old.items)
-        ≡ Ok (takens_view taken.new.items)) }
+        (aggregates_view context.now.names.now aggregates.now.items) (takens_view taken.old)
+        ≡ Ok (takens_view taken.new)) }
     ensures err { IfErr result (λ e. e ≢ OutOfMemory → all_taken_in (given context.now graph.now)
-        (aggregates_view context.now.names.now aggregates.now.items) (takens_view taken.old.items)
+        (aggregates_view context.now.names.now aggregates.now.items) (takens_view taken.old)
         ≡ Err e) }
 {
     let count = aggregates.len().min(taken.len());

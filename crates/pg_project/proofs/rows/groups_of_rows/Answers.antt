@@ -1,4 +1,4 @@
-use Rattle.std.proofs.Common.{◌≡◌, ◌≤◌, Err, map, sym, ap, subst, ◌∙◌}
+use Rattle.std.proofs.Common.{◌≡◌, ◌≤◌, Err, length, map, sym, ap, subst, ◌∙◌}
 use Rattle.pg_project.proofs.Turns.{none_left, step_on, step_fault}
 use Rattle.pg_project.specs.Items.{aggregates_in, expressions_view, keys_in}
 use Rattle.pg_project.specs.Kept.{answers_at, first_kept, kept_row, kept_rows}
@@ -14,21 +14,21 @@ pub returns-in_err-take_row : goal.returns-in_err-take_row
 returns-in_err-take_row g c =
     let es = expressions_view c.args.expressions.now.items in
     let at = answers_at (parameters_view c.args.scope.now.query.now.parameters.now) c.args.graph.now c.args.scope.now.names.now in
-    let refused : (f : Fault) → kept_row (at (map view c.row.result.now)) es (groups_view c.loop-at.groups) ≡ Err f
+    let refused : (f : Fault) → kept_row (at (map view c.row.result.now)) es (groups_view (length c.args.items.now.aggregates.items) c.loop-at.groups) ≡ Err f
     → kept_rows (parameters_view c.args.scope.now.query.now.parameters.now) c.args.graph.now c.args.scope.now.names.now es (first_kept (keys_in es) (aggregates_in es)) (table c.args.rows.now) ≡ Err f =
-    λ f h. c.loop-at.invariant.0 ∙ step_fault (λ gs r. kept_row (at r) es gs) (table c.args.rows.now) c.loop-at.at (map view c.row.result.now) c.row.ensures (groups_view c.loop-at.groups) f h in
-    fault_given _ groups_view c.in_err-take_row.field-0.0 c.from_residual-in_err-take_row.result c.from_residual-in_err-take_row.ensures.1 (λ other. refused c.in_err-take_row.field-0.0 (c.in_err-take_row.ensures.err other))
+    λ f h. c.loop-at.invariant.0 ∙ step_fault (λ gs r. kept_row (at r) es gs) (table c.args.rows.now) c.loop-at.at (map view c.row.result.now) c.row.ensures (groups_view (length c.args.items.now.aggregates.items) c.loop-at.groups) f h in
+    fault_given _ (groups_view (length c.args.items.now.aggregates.items)) c.in_err-take_row.field-0.0 c.from_residual-in_err-take_row.result c.from_residual-in_err-take_row.ensures.1 (λ other. refused c.in_err-take_row.field-0.0 (c.in_err-take_row.ensures.err other))
 
 pub loop-at-preserved : goal.loop-at-preserved
 loop-at-preserved g c =
     let es = expressions_view c.args.expressions.now.items in
     let at = answers_at (parameters_view c.args.scope.now.query.now.parameters.now) c.args.graph.now c.args.scope.now.names.now in (
-      c.loop-at.invariant.0 ∙ step_on (λ gs r. kept_row (at r) es gs) (table c.args.rows.now) c.loop-at.at (map view c.row.result.now) c.row.ensures (groups_view c.loop-at.groups) (groups_view c.take_row.new.groups) c.in_ok-take_row.ensures.ok,
+      c.loop-at.invariant.0 ∙ step_on (λ gs r. kept_row (at r) es gs) (table c.args.rows.now) c.loop-at.at (map view c.row.result.now) c.row.ensures (groups_view (length c.args.items.now.aggregates.items) c.loop-at.groups) (groups_view (length c.args.items.now.aggregates.items) c.take_row.new.groups) c.in_ok-take_row.ensures.ok,
       c.in_ok-take_row.ensures.paired,
     )
 
 pub returns-in_err-groups : goal.returns-in_err-groups
-returns-in_err-groups g c = memory_given _ groups_view c.from_residual.result c.from_residual.ensures.1
+returns-in_err-groups g c = memory_given _ (groups_view (length c.args.items.now.aggregates.items)) c.from_residual.result c.from_residual.ensures.1
 
 pub loop-at-init : goal.loop-at-init
 loop-at-init g c =
@@ -42,7 +42,7 @@ returns g c =
     let es = expressions_view c.args.expressions.now.items in
     let none = none_left (table c.args.rows.now) c.loop-at.at (subst (λ n. n ≤ c.loop-at.at) c.len-at-end.ensures c.loop-at-test.false) in
     record {
-      ok = c.loop-at.invariant.0 ∙ ap (kept_rows (parameters_view c.args.scope.now.query.now.parameters.now) c.args.graph.now c.args.scope.now.names.now es (groups_view c.loop-at.groups)) none;
+      ok = c.loop-at.invariant.0 ∙ ap (kept_rows (parameters_view c.args.scope.now.query.now.parameters.now) c.args.graph.now c.args.scope.now.names.now es (groups_view (length c.args.items.now.aggregates.items) c.loop-at.groups)) none;
       err = tt;
     }
 

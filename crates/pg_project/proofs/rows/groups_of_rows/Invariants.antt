@@ -1,4 +1,4 @@
-use Rattle.std.proofs.Common.{◌≡◌, drop}
+use Rattle.std.proofs.Common.{◌≡◌, drop, length}
 use Rattle.pg_project.specs.Items.{aggregates_in, expressions_view, keys_in}
 use Rattle.pg_project.specs.Kept.{first_kept, kept_rows}
 use Rattle.pg_project.specs.KeptGroups.{Paired, groups_view}
@@ -10,5 +10,5 @@ abbrev pub invariant-loop-at : goal.invariant-loop-at
 invariant-loop-at g l =
     let es = expressions_view l.expressions.items in
     (kept_rows (parameters_view l.scope.query.now.parameters.now) l.graph l.scope.names.now es (first_kept (keys_in es) (aggregates_in es)) (table l.rows)
-    ≡ kept_rows (parameters_view l.scope.query.now.parameters.now) l.graph l.scope.names.now es (groups_view l.groups) (drop l.at (table l.rows)))
-    × Paired l.groups
+    ≡ kept_rows (parameters_view l.scope.query.now.parameters.now) l.graph l.scope.names.now es (groups_view (length l.items.aggregates.items) l.groups) (drop l.at (table l.rows)))
+    × Paired (length l.items.aggregates.items) l.groups

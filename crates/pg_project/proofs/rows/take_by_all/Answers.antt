@@ -1,4 +1,4 @@
-use Rattle.std.proofs.Common.{◌≡◌, ◌≢◌, IfErr, OnOk, Ok, Err, map, sym, ap, subst, ◌∙◌}
+use Rattle.std.proofs.Common.{◌≡◌, ◌≢◌, IfErr, OnOk, Ok, Err, length, map, sym, ap, subst, ◌∙◌}
 use Rattle.pg_project.proofs.RowLemmas.{with_key, without_key}
 use Rattle.pg_project.specs.Items.{expressions_view}
 use Rattle.pg_project.specs.Kept.{into_kept}
@@ -12,12 +12,12 @@ use Rattle.pg_project.proofs.rows.take_by_all.Goals as goal
 pub returns-in-Ok : goal.returns-in-Ok
 returns-in-Ok g c =
     let at = given c.args.context.now c.args.graph.now in
-    let groups = groups_view c.args.groups.now in
+    let groups = groups_view (length c.args.items.now.aggregates.items) c.args.groups.now in
     let key = map view c.key_at.new.key.items in
     let ready = c.requires.ready in
     let is = with_key at (expressions_view c.args.expressions.now.items) groups key (ap (each_answer at) (sym ready.keys) ∙ c.in-Ok.ensures.ok) ∙ ap (λ aggregates. into_kept at aggregates key groups) (sym ready.aggregates) in
     record {
-      ok = subst (λ answer. OnOk c.take_row.result (answer ≡ Ok (groups_view c.take_row.new.self))) (sym is) c.take_row.ensures.ok;
+      ok = subst (λ answer. OnOk c.take_row.result (answer ≡ Ok (groups_view (length c.args.items.now.aggregates.items) c.take_row.new.self))) (sym is) c.take_row.ensures.ok;
       paired = c.take_row.ensures.paired;
       err = subst (λ answer. IfErr c.take_row.result (λ e. e ≢ OutOfMemory → answer ≡ Err e)) (sym is) c.take_row.ensures.err;
     }
@@ -31,6 +31,6 @@ returns-in-Err g c =
       ok = tt;
       paired = tt;
       err = λ other.
-          without_key at es (groups_view c.args.groups.now) fault (ap (each_answer at) (sym c.requires.ready.keys) ∙ c.in-Err.ensures.err (λ memory. other (c.first_fault.ensures.memory memory)))
+          without_key at es (groups_view (length c.args.items.now.aggregates.items) c.args.groups.now) fault (ap (each_answer at) (sym c.requires.ready.keys) ∙ c.in-Err.ensures.err (λ memory. other (c.first_fault.ensures.memory memory)))
           ∙ c.first_fault.ensures.fault other;
     }

@@ -1,4 +1,4 @@
-use Rattle.std.proofs.Common.{◌≡◌, ◌≢◌, ◌∷◌, [], IfErr, OnOk, Ok, Err, sym, ap, subst, ◌∙◌}
+use Rattle.std.proofs.Common.{◌≡◌, ◌≢◌, ◌∷◌, [], IfErr, OnOk, Ok, Err, length, sym, ap, subst, ◌∙◌}
 use Rattle.pg_project.proofs.RowLemmas.{one_answer, one_fault, with_key, without_key}
 use Rattle.pg_project.specs.Items.{expressions_view}
 use Rattle.pg_project.specs.Kept.{into_kept}
@@ -12,13 +12,13 @@ use Rattle.pg_project.proofs.rows.take_by_one.Goals as goal
 pub returns-in-Ok : goal.returns-in-Ok
 returns-in-Ok g c =
     let at = given c.args.context.now c.args.graph.now in
-    let groups = groups_view c.args.groups.now in
+    let groups = groups_view (length c.args.aggregates.now.items) c.args.groups.now in
     let found = found_view c.in-Ok.found in
     let key = found ∷ [] in
     let one = tree_of c.args.context.now.names.now c.args.one.now in
     let is = with_key at (expressions_view c.args.expressions.now.items) groups key (ap (each_answer at) (sym c.requires.key) ∙ one_answer at one found c.in-Ok.ensures.ok) ∙ ap (λ aggregates. into_kept at aggregates key groups) (sym c.requires.aggregates) in
     record {
-      ok = subst (λ answer. OnOk c.take_found.result (answer ≡ Ok (groups_view c.take_found.new.self))) (sym is) c.take_found.ensures.ok;
+      ok = subst (λ answer. OnOk c.take_found.result (answer ≡ Ok (groups_view (length c.args.aggregates.now.items) c.take_found.new.self))) (sym is) c.take_found.ensures.ok;
       paired = c.take_found.ensures.paired;
       err = subst (λ answer. IfErr c.take_found.result (λ e. e ≢ OutOfMemory → answer ≡ Err e)) (sym is) c.take_found.ensures.err;
     }
@@ -33,6 +33,6 @@ returns-in-Err g c =
       ok = tt;
       paired = tt;
       err = λ other.
-          without_key at es (groups_view c.args.groups.now) fault (ap (each_answer at) (sym c.requires.key) ∙ one_fault at one fault (c.in-Err.ensures.err (λ memory. other (c.first_fault.ensures.memory memory))))
+          without_key at es (groups_view (length c.args.aggregates.now.items) c.args.groups.now) fault (ap (each_answer at) (sym c.requires.key) ∙ one_fault at one fault (c.in-Err.ensures.err (λ memory. other (c.first_fault.ensures.memory memory))))
           ∙ c.first_fault.ensures.fault other;
     }

@@ -5,16 +5,10 @@ use Rattle.pg_project.proofs.Turns.{here, map_behind, none_left}
 use Rattle.pg_project.specs.Kept.{begun}
 use Rattle.pg_project.specs.ReadyItems.{aggregates_view}
 use Rattle.pg_project.specs.Views.{taken_view, takens_view}
-use Rattle.pg_project.proofs.taking.begun.Goals as goal
-
-pub returns-in_err-begun : goal.returns-in_err-begun
-returns-in_err-begun c = λ names. IfOk-from_err c.from_residual.result _ c.from_residual.ensures.0
-
-pub loop-aggregate-init : goal.loop-aggregate-init
-loop-aggregate-init c = λ names. ap (λ ts. takens_view ts ++ begun (aggregates_view names c.args.aggregates.now.items)) c.in_ok-begun.ensures.items
+use Rattle.pg_project.proofs.taking.begin.Goals as goal
 
 pub returns-in_err-one : goal.returns-in_err-one
-returns-in_err-one c = λ names. IfOk-from_err c.from_residual-in_err-one.result _ c.from_residual-in_err-one.ensures.0
+returns-in_err-one c = λ names. IfOk-from_err c.from_residual.result _ c.from_residual.ensures.0
 
 pub returns-in_err-push : goal.returns-in_err-push
 returns-in_err-push c = λ names. IfOk-from_err c.from_residual-in_err-push.result _ c.from_residual-in_err-push.ensures.0
@@ -22,11 +16,11 @@ returns-in_err-push c = λ names. IfOk-from_err c.from_residual-in_err-push.resu
 pub loop-aggregate-preserved : goal.loop-aggregate-preserved
 loop-aggregate-preserved c = λ names.
     let l = c.loop-aggregate in
-    let found = takens_view l.begun.items in
+    let found = takens_view l.taken.items in
     let later = drop (l.aggregate-index + 1) c.args.aggregates.now.items in
     let rest = begun (aggregates_view names later) in
     ap (λ ts. takens_view ts ++ rest) c.in_ok-push.ensures.items
-    ∙ ap (λ ts. ts ++ rest) (map_behind taken_view l.begun.items c.in_ok-one.one)
+    ∙ ap (λ ts. ts ++ rest) (map_behind taken_view l.taken.items c.in_ok-one.one)
     ∙ append_assoc found (taken_view c.in_ok-one.one ∷ []) rest
     ∙ (λ i. found ++ c.in_ok-one.ensures i ∷ rest)
     ∙ ap (λ zs. found ++ begun (aggregates_view names zs)) (sym (subst (λ zs. drop l.aggregate-index zs ≡ c.aggregate-item.result ∷ drop (l.aggregate-index + 1) zs) c.deref-aggregate-items.ensures.value (here c.deref-aggregate-items.result.now l.aggregate-index c.aggregate-item.result c.loop-aggregate-test.true c.aggregate-item.is)))
@@ -35,6 +29,6 @@ loop-aggregate-preserved c = λ names.
 pub returns : goal.returns
 returns c = λ names.
     let l = c.loop-aggregate in
-    let found = takens_view l.begun.items in
+    let found = takens_view l.taken.items in
     let none = none_left c.args.aggregates.now.items l.aggregate-index (subst (λ zs. length zs ≤ l.aggregate-index) c.deref-aggregate-items.ensures.value c.loop-aggregate-test.false) in
     sym (append-nil found) ∙ ap (λ zs. found ++ begun (aggregates_view names zs)) (sym none) ∙ l.invariant names

@@ -1,6 +1,6 @@
 -- The records of a server's pool are its tenants'.
 use Rattle.std.proofs.Common.{◌≡◌, ℕ, Option, Some, None, refl, ap, subst}
-use Rattle.slab.specs.Slab.{get}
+use Rattle.pg_pool.specs.Slab.{get}
 use Rattle.pg_pool.proofs.Found.{are_records}
 use Rattle.pg_pool.specs.Records.{owner_of, is_node, id_of, label}
 use Rattle.pg_pool.specs.Tables.{AreRecords, IsUnused, content_of}

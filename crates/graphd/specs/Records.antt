@@ -1,6 +1,6 @@
 -- What a server keeps in the pool of its tables' records.
 use Rattle.std.specs.Prelude.{◌≡◌, ℕ, ◌<◌, List, length, None}
-use Rattle.slab.specs.Slab.{get}
+use Rattle.pg_pool.specs.Slab.{get}
 use Rattle.pg_graph.specs.Content.{Content}
 use Rattle.pg_graph.specs.Refinement.{graph_of, Holds}
 use Rattle.pg_graph.specs.Removed.{Ids, live_content}

@@ -1,7 +1,7 @@
 -- What tables show is what their owner's slots have.
 use Rattle.std.proofs.Common.{◌≡◌, ◌↔◌, ◌≢◌, ℕ, Bool, true, false, Option, Some, None, sym, ap, ◌∙◌}
 use Rattle.std.specs.FinMap as map
-use Rattle.slab.specs.Slab.{get}
+use Rattle.pg_pool.specs.Slab.{get}
 use Rattle.pg_graph.specs.Content.{OthersStay}
 use Rattle.pg_graph.specs.declared.records.NodeRecord.{NodeRecord}
 use Rattle.pg_graph.specs.declared.records.RelRecord.{RelRecord}

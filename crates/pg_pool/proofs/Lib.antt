@@ -1,5 +1,7 @@
 pub mod Values
 pub mod PageSlots
+pub mod ChunkLists
+pub mod SlabLemmas
 pub mod Hashed
 pub mod SlotChanges
 pub mod ListPlaces

@@ -1,13 +1,13 @@
 -- What changes of one list do to the lists under nodes.
-use Rattle.std.proofs.Common.{◌≡◌, ◌≢◌, ◌==◌, ℕ, Bool, true, false, cond, List, [], ◌∷◌, length, Option, Some, None, IsSome, inl, inr, refl, sym, ap, subst, ◌∙◌, arith}
+use Rattle.std.proofs.Common.{◌≡◌, ◌≢◌, ◌==◌, ℕ, Bool, true, false, cond, List, [], ◌∷◌, length, Option, Some, None, IsSome, Result, Ok, Err, OnErr, inl, inr, refl, sym, ap, subst, ◌∙◌, arith}
 use Rattle.std.proofs.lemmas.Bool.{cases_eq}
 use Rattle.std.proofs.lemmas.Bool.Decides.{nat_tests}
 use Rattle.std.specs.FinMap as map
 use Rattle.std.specs.FinMap.{FinMap}
 use Rattle.std.specs.Ordering.{nat_cmp}
-use Rattle.slab.specs.Slab.{Slab, get, Updates}
+use Rattle.pg_pool.specs.Slab.{Slab, get, Updates}
 use Rattle.smallvec.specs.SmallVec.{SmallVec}
-use Rattle.pg_graph.proofs.Ids.{ids_rise, list_with}
+use Rattle.pg_graph.proofs.Ids.{ids_rise, list_with, at_node}
 use Rattle.pg_graph.proofs.Maps.{same_numbered, put_same, get_inserted, get_inserted_other, get_removed, get_removed_other}
 use Rattle.pg_graph.specs.Content.{ids_where}
 use Rattle.pg_graph.specs.Links.{numbers, with_id}
@@ -15,7 +15,7 @@ use Rattle.pg_graph.specs.Sorted.{Rises}
 use Rattle.pg_graph.specs.declared.records.RelRecord.{RelRecord}
 use Rattle.pg_value_core.specs.declared.ids.RelId.{RelId}
 use Rattle.pg_pool.proofs.SlotChanges.{no_some, same_some}
-use Rattle.pg_pool.specs.Lists.{ids_in, list_at, AreApart, IsSound, IsIncidence}
+use Rattle.pg_pool.specs.Lists.{ids_in, list_at, Replaces, AreApart, IsSound, IsIncidence}
 use Rattle.pg_pool.specs.declared.links.Incidence.{Incidence}
 
 same_test : (q n : ℕ) → q ≡ n → (q == n) ≡ true
@@ -27,6 +27,10 @@ apart_test q n e = grind (arith, nat_tests)
 not_none : {X : Type 0} (o : Option X) → o ≡ None → IsSome o → ⊥
 not_none None e h = cc
 not_none (Some x) e h = cc
+
+pub on_err_weaker : {A E P Q : Type 0} (r : Result A E) → (P → Q) → OnErr r P → OnErr r Q
+on_err_weaker (Ok a) f h = tt
+on_err_weaker (Err e) f h = f h
 
 pub nothing : {X : Type 0} (xs : List X) → (length xs == 0) ≡ true → xs ≡ []
 nothing [] h = refl
@@ -74,6 +78,21 @@ module _ (places : FinMap nat_cmp ℕ) (lists lists' : Lists) (key node : ℕ) (
       ];
       once = apart.once;
     }
+
+    pub list_replaced : (f : List ℕ → List ℕ) → Replaces key f lists lists' → (q : ℕ) → list_at lists' (map.get places q) ≡ cond (q == node) (f (list_at lists (map.get places q))) (list_at lists (map.get places q))
+    list_replaced f r q =
+        list_changed r.ids r.updates q
+        ∙ at_node f (λ n. list_at lists (map.get places n)) node q _ (r.told ∙ ap (λ o. f (list_at lists o)) (sym there))
+
+    pub list_kept : Replaces key (λ ids. ids) lists lists' → (q : ℕ) → list_at lists' (map.get places q) ≡ list_at lists (map.get places q)
+    list_kept r q = list_replaced (λ ids. ids) r q ∙ either (q == node) (list_at lists (map.get places q))
+      where
+        either : (b : Bool) (xs : List ℕ) → cond b xs xs ≡ xs
+        either true xs = refl
+        either false xs = refl
+
+    pub replaced_apart : (f : List ℕ → List ℕ) → Replaces key f lists lists' → AreApart places lists'
+    replaced_apart f r = changed_apart r.ids r.updates
 
     module _ (places' : FinMap nat_cmp ℕ) (removed : places' ≡ map.remove places node) (up : Updates lists lists' key None) where
       gone : map.get places' node ≡ None
@@ -188,7 +207,3 @@ ends_stay i rels is id old new there source target = record {
   outgoing_apart = is.outgoing_apart;
   incoming_apart = is.incoming_apart;
 }
-
--- an update stays one where each key keeps what it had
-pub still_gone : (lists lists' lists'' : Lists) (key : ℕ) → Updates lists lists' key None → ((k : ℕ) → get lists'' k ≡ get lists' k) → Updates lists lists'' key None
-still_gone lists lists' lists'' key up same = record { changed = same key ∙ up.changed; others = λ k ne. same k ∙ up.others k ne }

@@ -4,7 +4,7 @@ use Rattle.std.proofs.lemmas.Bool.{cases_eq}
 use Rattle.std.specs.Ordering.{nat_cmp}
 use Rattle.std.specs.FinMap as map
 use Rattle.std.specs.FinMap.{FinMap}
-use Rattle.slab.specs.Slab.{Slab, get}
+use Rattle.pg_pool.specs.Slab.{Slab, get}
 use Rattle.pg_graph.proofs.Maps.{get_inserted, get_inserted_other, get_removed, get_removed_other}
 use Rattle.pg_pool.proofs.Values.{values_same, values_inserted, values_changed, values_removed}
 use Rattle.pg_pool.specs.Records.{owner_of, label}

@@ -3,7 +3,7 @@ use Rattle.std.proofs.Common.{◌≡◌, ◌≢◌, ℕ, true, false, Some, None
 use Rattle.std.specs.Ordering.{nat_cmp}
 use Rattle.std.specs.FinMap as map
 use Rattle.std.specs.FinMap.{FinMap}
-use Rattle.slab.specs.Slab.{get}
+use Rattle.pg_pool.specs.Slab.{get}
 use Rattle.pg_graph.specs.Content.{Content, OthersStay, with_node, without_node, with_rel, without_rel}
 use Rattle.pg_pool.specs.Lists.{IsIncidence}
 use Rattle.pg_pool.specs.declared.links.Incidence.{Incidence}

@@ -3,7 +3,7 @@ use Rattle.std.specs.Prelude.{◌≡◌, ◌==◌, ℕ, List, [], Option, None, 
 use Rattle.std.specs.Ordering.{nat_cmp}
 use Rattle.std.specs.FinMap as map
 use Rattle.std.specs.FinMap.{FinMap}
-use Rattle.slab.specs.Slab.{Slab, get}
+use Rattle.pg_pool.specs.Slab.{Slab, get, Updates}
 use Rattle.smallvec.specs.SmallVec.{SmallVec}
 use Rattle.pg_value_core.specs.declared.ids.NodeId.{NodeId}
 use Rattle.pg_value_core.specs.declared.ids.RelId.{RelId}
@@ -24,6 +24,12 @@ ids_in (Some ids) = numbers ids.items
 abbrev pub list_at : Slab (SmallVec RelId) → Option ℕ → List ℕ
 list_at lists None = []
 list_at lists (Some key) = ids_in (get lists key)
+
+-- the list under one key is another, which the one before tells, and the others stay
+pub record Replaces (key : ℕ) (f : List ℕ → List ℕ) (old new : Slab (SmallVec RelId)) : Type 0 where
+  pub ids : SmallVec RelId
+  pub updates : Updates old new key (Some ids)
+  pub told : numbers ids.items ≡ f (list_at old (Some key))
 
 -- the ids under a node
 abbrev pub links_at : Links → ℕ → List ℕ

@@ -3,7 +3,7 @@ use Rattle.std.specs.Prelude.{◌≡◌, ◌≢◌, ◌↔◌, ℕ, Bool, true, 
 use Rattle.std.specs.FinMap as map
 use Rattle.std.specs.FinMap.{FinMap}
 use Rattle.std.specs.Ordering.{nat_cmp}
-use Rattle.slab.specs.Slab.{Slab, get}
+use Rattle.pg_pool.specs.Slab.{Slab, get}
 use Rattle.pg_graph.specs.Content.{Content, Seen}
 use Rattle.pg_pool.specs.Lists.{IsIncidence}
 use Rattle.pg_graph.specs.declared.records.NodeRecord.{NodeRecord}

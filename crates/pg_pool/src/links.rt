@@ -1,24 +1,65 @@
 //! Which relationships each node has.
 ghost use Rattle.std.specs.Prelude.{◌≡◌, [], ◌∷◌, ℕ, Some, None, OnOk, OnErr};
 ghost use Rattle.std.specs.FinMap as map;
-ghost use Rattle.slab.specs.Slab.{SameValues};
 ghost use Rattle.pg_graph.specs.Links.{with_id, without_id, numbers};
 ghost use Rattle.pg_graph.specs.Sorted.{Rises, IsPlace};
-ghost use Rattle.pg_pool.specs.Lists.{links_at, list_at, AreApart, IsSound, IsIncidence};
+ghost use Rattle.pg_pool.specs.Slab.{ContainsKey};
+ghost use Rattle.pg_pool.specs.Lists.{links_at, list_at, Replaces, AreApart, IsSound, IsIncidence};
 ghost use Rattle.pg_pool.specs.Lists.{ChangesAt, AllStay, Gains, Loses, Stays, AreOutgoing, AreIncoming};
 ghost use Rattle.pg_value_core.specs.declared.ids.RelId.{RelId};
 
+use crate::slab::{Slab, Slot};
 use crate::slots::Slots;
 use pg_value_core::{NodeId, RelId};
-use slab::Slab;
 use smallvec::SmallVec;
 use std::alloc::{AllocError, Global};
+
+/// Where a list of ids lies.
+#[derive(Drop)]
+pub(crate) enum ListSlot {
+    Ids(SmallVec<RelId, 2>),
+    Vacant(u32),
+}
+
+impl Slot<SmallVec<RelId, 2>> for ListSlot {
+    ghost use Rattle.pg_pool.specs.Places.{list_of};
+
+    ghost held = { list_of };
+
+    #[inline(always)]
+    fn occupied(value: SmallVec<RelId, 2>) -> ListSlot {
+        ListSlot::Ids(value)
+    }
+
+    #[inline(always)]
+    fn vacant(next: u32) -> ListSlot {
+        ListSlot::Vacant(next)
+    }
+
+    #[inline(always)]
+    fn next(&self) -> Option<u32> {
+        match self {
+            ListSlot::Vacant(next) => Some(*next),
+            ListSlot::Ids(_) => None,
+        }
+    }
+
+    #[inline(always)]
+    fn into_value(self) -> Option<SmallVec<RelId, 2>> {
+        match self {
+            ListSlot::Ids(ids) => Some(ids),
+            ListSlot::Vacant(_) => None,
+        }
+    }
+}
+
+type Lists = Slab<SmallVec<RelId, 2>, ListSlot>;
 
 /// A rising list of ids for each node that has any.
 pub(crate) struct Links {
     alloc: Global,
     places: Slots,
-    lists: Slab<SmallVec<RelId, 2>>,
+    lists: Lists,
 }
 
 // Written out, since a derived one is proved anew in each function that may let such a value go.
@@ -70,13 +111,27 @@ fn shrink(ids: &mut SmallVec<RelId, 2>)
     }
 }
 
-// Gives memory back once there is no list.
-fn trim(lists: &mut Slab<SmallVec<RelId, 2>>)
-    ensures { SameValues lists.old lists.new }
+// The list is out of its slot for a moment: so no slot is ever lent for writing.
+fn put_in(lists: &mut Lists, key: usize, id: RelId, alloc: Global) -> Result<(), AllocError>
+    requires there { ContainsKey lists.old key }
+    requires rises { Rises (λ n. n) (list_at lists.old (Some key)) }
+    ensures ok { OnOk result (Replaces key (with_id id.0) lists.old lists.new) }
+    ensures err { OnErr result (Replaces key (λ ids. ids) lists.old lists.new) }
 {
-    if lists.is_empty() {
-        lists.shrink_to_fit();
-    }
+    let mut ids = lists.replace(key, SmallVec::new(alloc));
+    let outcome = put(&mut ids, id);
+    drop(lists.replace(key, ids));
+    outcome
+}
+
+fn take_from(lists: &mut Lists, key: usize, id: RelId, alloc: Global)
+    requires there { ContainsKey lists.old key }
+    requires rises { Rises (λ n. n) (list_at lists.old (Some key)) }
+    ensures { Replaces key (without_id id.0) lists.old lists.new }
+{
+    let mut ids = lists.replace(key, SmallVec::new(alloc));
+    take(&mut ids, id);
+    drop(lists.replace(key, ids));
 }
 
 impl Links {
@@ -103,9 +158,9 @@ impl Links {
     fn list(&self, key: usize) -> &[RelId]
         ensures { numbers result.now ≡ list_at self.now.lists (Some key) }
     {
-        match self.lists.get(key) {
-            Some(ids) => ids.as_slice(),
-            None => &[],
+        match self.lists.slot(key) {
+            Some(ListSlot::Ids(ids)) => ids.as_slice(),
+            _ => &[],
         }
     }
 
@@ -116,7 +171,7 @@ impl Links {
         ensures apart { AreApart self.new.places self.new.lists }
     {
         match self.places.get(node) {
-            Some(key) => put(&mut self.lists[key], id),
+            Some(key) => put_in(&mut self.lists, key, id, self.alloc),
             None => self.begin(node, id),
         }
     }
@@ -131,9 +186,9 @@ impl Links {
     {
         let mut ids = SmallVec::new(self.alloc);
         ids.push(id)?;
-        self.lists.reserve(1)?;
-        self.places.insert(node, self.lists.vacant_key())?;
-        self.lists.insert_reserved(ids);
+        let key = self.lists.reserve()?;
+        self.places.insert(node, key)?;
+        self.lists.put(key, ids);
         Ok(())
     }
 
@@ -143,7 +198,7 @@ impl Links {
         ensures apart { AreApart self.new.places self.new.lists }
     {
         if let Some(key) = self.places.get(node) {
-            take(&mut self.lists[key], id);
+            take_from(&mut self.lists, key, id, self.alloc);
             self.end(node, key);
         }
     }
@@ -157,8 +212,7 @@ impl Links {
     {
         if self.list(key).is_empty() {
             self.places.remove(node);
-            self.lists.remove(key);
-            trim(&mut self.lists);
+            drop(self.lists.remove(key));
         }
     }
 }

@@ -87,12 +87,10 @@ impl<K: TextSet> Tables for PooledTables<K> {
         id: NodeId,
         node: NodeRecord,
     ) -> Result<(), AllocError> {
-        shared.records.reserve(1)?;
-        self.nodes.insert(id.0, shared.records.vacant_key())?;
+        let key = shared.records.reserve()?;
+        self.nodes.insert(id.0, key)?;
         let owner = self.owner;
-        shared
-            .records
-            .insert_reserved(Record::Node { owner, id, node });
+        shared.records.put(key, Record::Node { owner, id, node });
         Ok(())
     }
 
@@ -102,16 +100,14 @@ impl<K: TextSet> Tables for PooledTables<K> {
         id: RelId,
         rel: RelRecord,
     ) -> Result<(), AllocError> {
-        shared.records.reserve(1)?;
-        self.rels.insert(id.0, shared.records.vacant_key())?;
+        let key = shared.records.reserve()?;
+        self.rels.insert(id.0, key)?;
         if let Err(e) = self.incidence.add(id, rel.source, rel.target) {
             self.rels.remove(id.0);
             return Err(e);
         }
         let owner = self.owner;
-        shared
-            .records
-            .insert_reserved(Record::Rel { owner, id, rel });
+        shared.records.put(key, Record::Rel { owner, id, rel });
         Ok(())
     }
 

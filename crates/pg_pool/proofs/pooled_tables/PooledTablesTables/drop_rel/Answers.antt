@@ -14,7 +14,7 @@ remove-requires g c = labelled_some _ _ _ ((c.requires.fits.rels _ _).0 c.remove
 
 pub unreachable-requires : goal.unreachable-requires
 unreachable-requires g c =
-    let labels = sym (ap label c.in-Node.ensures.value) ∙ (c.requires.fits.rels _ _).0 c.remove-key.ensures.before in
+    let labels = sym (ap label c.in-Node.ensures.before) ∙ (c.requires.fits.rels _ _).0 c.remove-key.ensures.before in
     true_not_false (ap (λ p. p.1.0) (same_some _ _ labels))
 
 pub remove-requires-in-Rel-clause-outgoing : goal.remove-requires-in-Rel-clause-outgoing
@@ -25,7 +25,7 @@ remove-requires-in-Rel-clause-incoming g c = incoming_sound _ _ c.requires.fits.
 
 pub returns : goal.returns
 returns g c =
-    let there = outside_some _ _ _ _ c.remove-key.ensures.before ∙ ap (λ s. Some (rel_or_none s)) c.in-Rel.ensures.value in
+    let there = outside_some _ _ _ _ c.remove-key.ensures.before ∙ ap (λ s. Some (rel_or_none s)) c.in-Rel.ensures.before in
     let step = rel_dropped c.args.self.now c.args.shared.now (record c.args.shared.now { records = c.remove.new.self }) c.remove-key.result c.requires.fits
     c.remove.ensures.updates.others c.args.id.0 c.remove-key.new.self c.remove-in-Rel.new.self c.remove-key.ensures.before c.remove.ensures.updates.changed c.remove-key.ensures.removed
     (c.remove-in-Rel.ensures _ c.in-Rel.rel refl refl there c.requires.fits.incidence) in

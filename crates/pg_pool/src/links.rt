@@ -1,6 +1,8 @@
 //! Which relationships each node has.
-ghost use Rattle.std.specs.Prelude.{◌≡◌, [], ◌∷◌, ℕ, Some, None, OnOk, OnErr};
+ghost use Rattle.std.specs.Prelude.{◌≡◌, ◌≤◌, [], ◌∷◌, ℕ, Some, None, OnOk, OnErr};
 ghost use Rattle.std.specs.FinMap as map;
+ghost use Rattle.std.specs.List as list;
+ghost use Rattle.smallvec.specs.SmallVec.{small_vec_len};
 ghost use Rattle.pg_graph.specs.Links.{with_id, without_id, numbers};
 ghost use Rattle.pg_graph.specs.Sorted.{Rises, IsPlace};
 ghost use Rattle.pg_pool.specs.Slab.{ContainsKey};
@@ -87,9 +89,31 @@ fn put(ids: &mut SmallVec<RelId, 2>, id: RelId) -> Result<(), AllocError>
 {
     match place(ids.as_slice(), id.0) {
         Ok(i) => ids.as_mut_slice()[i] = id,
-        Err(i) => ids.insert(i, id)?,
+        Err(i) => insert(ids, i, id)?,
     }
     Ok(())
+}
+
+fn insert(ids: &mut SmallVec<RelId, 2>, at: usize, id: RelId) -> Result<(), AllocError>
+    requires { at ≤ small_vec_len ids.old }
+    ensures ok { OnOk result (ids.new.items ≡ list.insert ids.old.items at id) }
+    ensures err { OnErr result (ids.new.items ≡ ids.old.items) }
+{
+    make_room(ids)?;
+    ids.insert(at, id)?;
+    Ok(())
+}
+
+// Room for half as many ids again. C's allocator gives an odd number of eight bytes, so an even one
+// would leave some unused.
+fn make_room(ids: &mut SmallVec<RelId, 2>) -> Result<(), AllocError>
+    ensures items { ids.new.items ≡ ids.old.items }
+{
+    let length = ids.len();
+    if length < ids.capacity() {
+        return Ok(());
+    }
+    ids.grow(length.saturating_add(length / 2) | 1)
 }
 
 fn take(ids: &mut SmallVec<RelId, 2>, id: RelId)

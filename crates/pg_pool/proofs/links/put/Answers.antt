@@ -1,4 +1,4 @@
-use Rattle.std.proofs.Common.{slice_set, length, Result, Ok, Err, OnOk, OnErr, rules, sym, ap, subst, ◌∙◌}
+use Rattle.std.proofs.Common.{slice_set, length, Result, Ok, Err, OnOk, OnErr, sym, ap, subst, ◌∙◌}
 use Rattle.std.proofs.lemmas.List.{length-set}
 use Rattle.std.specs.List.{refill}
 use Rattle.std.specs.Result.{IsErr}
@@ -24,7 +24,7 @@ pub bounds-as_mut_slice-i : goal.bounds-as_mut_slice-i
 bounds-as_mut_slice-i c = (subst (λ xs. IsPlace (λ (r : RelId). r.0) c.args.id.0 xs (Ok c.in-Ok.i)) (c.as_slice.ensures ∙ sym c.as_mut_slice.ensures.value) c.in-Ok.ensures).0
 
 pub insert-requires : goal.insert-requires
-insert-requires c = (search rules, (subst (λ xs. IsPlace (λ (r : RelId). r.0) c.args.id.0 xs (Err c.in-Err.i)) c.as_slice.ensures c.in-Err.ensures).0)
+insert-requires c = (subst (λ xs. IsPlace (λ (r : RelId). r.0) c.args.id.0 xs (Err c.in-Err.i)) c.as_slice.ensures c.in-Err.ensures).0
 
 pub returns-in-Ok-clause-ok : goal.returns-in-Ok-clause-ok
 returns-in-Ok-clause-ok c =
@@ -52,4 +52,4 @@ pub returns-in_err-insert-in-Err-clause-ok : goal.returns-in_err-insert-in-Err-c
 returns-in_err-insert-in-Err-clause-ok c = fault_alone _ c.from_residual.result c.from_residual.ensures.0
 
 pub returns-in_err-insert-in-Err-clause-err : goal.returns-in_err-insert-in-Err-clause-err
-returns-in_err-insert-in-Err-clause-err c = always_on_fault c.from_residual.result (ap (λ v. v.items) c.in_err-insert-in-Err.ensures.err)
+returns-in_err-insert-in-Err-clause-err c = always_on_fault c.from_residual.result c.in_err-insert-in-Err.ensures.err

@@ -1,9 +1,9 @@
 -- What a contract sees of a slab, through the changes of its slots.
-use Rattle.std.proofs.Common.{◌≡◌, ◌≢◌, ℕ, zero, suc, ◌+◌, ◌<◌, ◌≤◌, List, [], ◌∷◌, ◌++◌, map, length, get_or, set, Option, Some, None, is_some, IsSome, cond, count_by, slice_get, Bor, option_copied, refl, sym, ap, ◌∙◌, arith}
-use Rattle.std.proofs.lemmas.List.{get_or-set_same, get_or-set_other, get_or_past, get_or_push, length-map, get_or-map, map-set, map_push}
+use Rattle.std.proofs.Common.{◌≡◌, ◌≢◌, ℕ, zero, suc, ◌+◌, ◌<◌, List, [], ◌∷◌, ◌++◌, map, length, get_or, set, Option, Some, None, is_some, IsSome, cond, count_by, slice_get, refl, sym, ap, ◌∙◌, arith}
+use Rattle.std.proofs.lemmas.List.{get_or-set_same, get_or-set_other, get_or_past, get_or_push, get_or-map, map-set, map_push}
 use Rattle.std.proofs.lemmas.List.Sums.{sum_by-set, sum_by_push, sum_by-cons}
 use Rattle.std.proofs.lemmas.Option.{slice_get_within, get_or_from_slice_get}
-use Rattle.pg_pool.specs.Slab.{Slab, get, ContainsKey, IsFree, Updates, SameValues, value_in}
+use Rattle.pg_pool.specs.Slab.{Slab, get, ContainsKey, IsFree, Updates, SameValues}
 
 module _ {V : Type 0} where
   -- a write of one slot changes what that key finds, and no other
@@ -53,16 +53,6 @@ module _ {V : Type 0} (old reserved new : Slab V) (key : ℕ) where
   after_reserve slot same up = record { changed = up.changed; others = λ k ne. up.others k ne ∙ ap (λ xs. get_or xs k None) same }
 
 module _ {V S : Type 0} (held : S → Option V) where
-  -- the value in a slot that was found
-  pub value_found : (items : List S) (key : ℕ) (r : Option (Bor S)) → option_copied r ≡ slice_get items key → value_in held r ≡ get_or (map held items) key None
-  value_found items key None e = sym (get_or_past (map held items) key None (omega (arith, length-map items held, past items key (sym e))))
-    where
-      past : (items : List S) (key : ℕ) → slice_get items key ≡ None → length items ≤ key
-      past [] key e = omega arith
-      past (x ∷ items) zero e = absurd (cc)
-      past (x ∷ items) (suc key) e = omega (arith, past items key e)
-  value_found items key (Some slot) e = sym (get_or-map held items key slot.now None (slice_get_within items key slot.now (sym e)) ∙ ap held (get_or_from_slice_get items key slot.now slot.now (sym e)))
-
   pub value_was : (items : List S) (key : ℕ) (slot : S) → slice_get items key ≡ Some slot → get_or (map held items) key None ≡ held slot
   value_was items key slot e = get_or-map held items key slot None (slice_get_within items key slot e) ∙ ap held (get_or_from_slice_get items key slot slot e)
 

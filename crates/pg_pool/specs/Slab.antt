@@ -1,7 +1,6 @@
 -- Values under keys: what a contract sees of a `Slab`.
-use Rattle.std.specs.Prelude.{◌≡◌, ◌≢◌, ℕ, ◌<◌, ◌≤◌, List, length, Option, Some, None, is_some, IsSome, count_by, slice_index_or, refl}
+use Rattle.std.specs.Prelude.{◌≡◌, ◌≢◌, ℕ, ◌<◌, ◌≤◌, List, length, Option, None, is_some, IsSome, count_by, slice_index_or, refl}
 use Rattle.std.specs.Coded.{Coded, code_by, coded×, coded_ℕ, coded_list, coded_option}
-use Rattle.std.specs.Borrow.{Bor}
 
 -- the value or nothing at each key from 0 on, and how many more keys there can be with no allocation
 pub record Slab (V : Type 0) : Type 0 where
@@ -13,11 +12,6 @@ abbrev pub slab_code : {V : Type 0} → Coded V → Coded (Slab V)
 slab_code {V} code =
     code_by (List (Option V) × ℕ) (coded× (coded_list (coded_option code)) coded_ℕ) (λ s. (s.slots, s.spare))
     (λ p. record { slots = p.0; spare = p.1 }) (λ _. refl)
-
--- what the slot that was found has, if one was
-abbrev pub value_in : {V S : Type 0} → (S → Option V) → Option (Bor S) → Option V
-value_in held None = None
-value_in held (Some slot) = held slot.now
 
 module _ {V : Type 0} where
   -- the value at a key

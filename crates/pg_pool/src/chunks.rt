@@ -1,5 +1,5 @@
 //! A list in chunks.
-ghost use Rattle.std.specs.Prelude.{◌≡◌, ◌+◌, ◌<◌, ◌≤◌, ◌++◌, [], ◌∷◌, length, OnOk, option_copied};
+ghost use Rattle.std.specs.Prelude.{◌≡◌, ◌+◌, ◌<◌, ◌≤◌, ◌++◌, [], ◌∷◌, length, Some, OnOk, option_copied};
 ghost use Rattle.std.specs.Prelude.{slice_get, slice_set, OnErr};
 ghost use Rattle.pg_pool.specs.Chunks.{items_of, spare_of, AreChunks, AreAllFull, HasSpareChunk};
 
@@ -91,6 +91,16 @@ impl<T: Drop> Chunks<T> {
     {
         let chunk = self.chunks.get(at / ITEMS)?;
         chunk.get(at % ITEMS)
+    }
+
+    /// The item at a place that has one.
+    #[inline(always)]
+    pub(crate) fn item(&self, at: usize) -> &T
+        requires { at < length self.now.items }
+        ensures { slice_get self.now.items at ≡ Some result.now }
+    {
+        let chunk = &self.chunks[at / ITEMS];
+        &chunk[at % ITEMS]
     }
 
     /// Puts an item in the place of another, and returns that one.

@@ -171,6 +171,7 @@ impl Links {
     }
 
     fn get(&self, node: u64) -> &[RelId]
+        requires { AreApart self.now.places self.now.lists }
         ensures { numbers result.now ≡ links_at self.now node }
     {
         match self.places.get(node) {
@@ -180,11 +181,12 @@ impl Links {
     }
 
     fn list(&self, key: usize) -> &[RelId]
+        requires { ContainsKey self.now.lists key }
         ensures { numbers result.now ≡ list_at self.now.lists (Some key) }
     {
         match self.lists.slot(key) {
-            Some(ListSlot::Ids(ids)) => ids.as_slice(),
-            _ => &[],
+            ListSlot::Ids(ids) => ids.as_slice(),
+            ListSlot::Vacant(_) => &[],
         }
     }
 
@@ -259,12 +261,14 @@ impl Incidence {
     }
 
     pub(crate) fn outgoing(&self, node: NodeId) -> &[RelId]
+        requires { AreApart self.now.outgoing.places self.now.outgoing.lists }
         ensures { AreOutgoing self.now node.0 (numbers result.now) }
     {
         self.outgoing.get(node.0)
     }
 
     pub(crate) fn incoming(&self, node: NodeId) -> &[RelId]
+        requires { AreApart self.now.incoming.places self.now.incoming.lists }
         ensures { AreIncoming self.now node.0 (numbers result.now) }
     {
         self.incoming.get(node.0)

@@ -107,19 +107,21 @@ impl<K> Pool<K> {
     }
 
     pub(crate) fn node(&self, key: usize) -> Option<&NodeRecord>
+        requires { ContainsKey self.now.records key }
         ensures { option_copied result ≡ node_in (get self.now.records key) }
     {
         match self.records.slot(key) {
-            Some(RecordSlot::Node { node, .. }) => Some(node),
+            RecordSlot::Node { node, .. } => Some(node),
             _ => None,
         }
     }
 
     pub(crate) fn rel(&self, key: usize) -> Option<&RelRecord>
+        requires { ContainsKey self.now.records key }
         ensures { option_copied result ≡ rel_in (get self.now.records key) }
     {
         match self.records.slot(key) {
-            Some(RecordSlot::Rel { rel, .. }) => Some(rel),
+            RecordSlot::Rel { rel, .. } => Some(rel),
             _ => None,
         }
     }

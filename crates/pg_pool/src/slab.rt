@@ -1,6 +1,6 @@
 //! Values under keys that the storage picks.
 ghost use Rattle.std.specs.Prelude.{◌≡◌, ◌+◌, ◌<◌, [], length, Some, None, IfOk, IsTrue};
-ghost use Rattle.pg_pool.specs.Slab.{get, value_in, slab_len, ContainsKey, IsVacant, IsFree, Updates, SameValues};
+ghost use Rattle.pg_pool.specs.Slab.{get, slab_len, ContainsKey, IsVacant, IsFree, Updates, SameValues};
 
 use crate::chunks::Chunks;
 use std::alloc::{AllocError, Global};
@@ -70,12 +70,13 @@ impl<V: Drop, S: Slot<V>> Slab<V, S> {
         self.count
     }
 
-    /// The slot of a key, if there is one.
+    /// The slot of a key that has a value.
     #[inline(always)]
-    pub(crate) fn slot(&self, key: usize) -> Option<&S>
-        ensures { value_in S.held result ≡ get self.now key }
+    pub(crate) fn slot(&self, key: usize) -> &S
+        requires { ContainsKey self.now key }
+        ensures { S.held result.now ≡ get self.now key }
     {
-        self.slots.get(key)
+        self.slots.item(key)
     }
 
     fn is_vacant(&self, key: usize) -> bool

@@ -19,6 +19,9 @@ unwrap-requires g c =
     let labelled = (c.requires.fits.rels _ _).0 (sym c.get.ensures ∙ c.unwrap-key.ensures) in
     read_some _ (subst IsSome (sym (c.rel.ensures ∙ rel_there _ _ _ labelled)) refl)
 
+pub rel-requires : goal.rel-requires
+rel-requires g c = labelled_some _ _ _ ((c.requires.fits.rels _ _).0 (sym c.get.ensures ∙ c.unwrap-key.ensures))
+
 pub replace-requires : goal.replace-requires
 replace-requires g c = labelled_some _ _ _ ((c.requires.fits.rels _ _).0 (sym c.get.ensures ∙ c.unwrap-key.ensures))
 

@@ -1,6 +1,7 @@
 use Rattle.std.proofs.Common.{option_copied, sym, ap, ◌∙◌}
 use Rattle.std.specs.Option.{option_map}
 use Rattle.pg_pool.proofs.Found.{rel_there}
+use Rattle.pg_pool.proofs.SlotChanges.{labelled_some}
 use Rattle.pg_pool.proofs.Values.{outside_some}
 use Rattle.pg_pool.specs.Records.{rel_at}
 use Rattle.pg_pool.specs.Values.{get-map_values}
@@ -8,6 +9,9 @@ use Rattle.pg_pool.proofs.pooled_tables.PooledTablesTables.rel.Goals as goal
 
 pub returns-in_err-key : goal.returns-in_err-key
 returns-in_err-key g c = ap option_copied c.from_residual.ensures ∙ ap (option_map (rel_at c.args.shared.now.records)) c.in_err-key.ensures ∙ sym (get-map_values _ _ _)
+
+pub rel-requires : goal.rel-requires
+rel-requires g c = labelled_some _ _ _ ((c.requires.rels _ _).0 (sym c.in_ok-key.ensures))
 
 pub returns : goal.returns
 returns g c =

@@ -1,6 +1,6 @@
 //! A list in chunks.
 ghost use Rattle.std.specs.Prelude.{◌≡◌, ◌+◌, ◌<◌, ◌≤◌, ◌++◌, [], ◌∷◌, length, Some, OnOk, option_copied};
-ghost use Rattle.std.specs.Prelude.{slice_get, slice_set, OnErr};
+ghost use Rattle.std.specs.Prelude.{slice_get, slice_set, OnErr, IfOk};
 ghost use Rattle.pg_pool.specs.Chunks.{items_of, spare_of, AreChunks, AreAllFull, HasSpareChunk};
 
 use std::alloc::{AllocError, Global};
@@ -15,6 +15,10 @@ const MOST: usize = 4_194_304;
 
 /// How many items the first chunk has room for at first.
 const FIRST: usize = 4;
+
+/// The memory that must be left in one piece where a chunk is added, in bytes: what a request takes that
+/// goes over many elements, to delete some of them.
+const ROOM: usize = 20 << 20;
 
 /// A list that grows by chunks. The first one grows as a `Vec` does, until it is full; each later one
 /// is made with all its room, and no item moves again.
@@ -36,6 +40,23 @@ impl<T> Model for Chunks<T> {
     ghost invariant = { λ a. AreChunks a.chunks.items };
 }
 
+// Not inlined, since a compiler that sees a block that nobody uses need not ask for it.
+#[inline(never)]
+fn block(alloc: Global) -> Result<Vec<u8>, AllocError> {
+    Vec::with_capacity(alloc, ROOM)
+}
+
+// How many items a new chunk has room for, where so much memory is left behind it.
+fn room_of_next(alloc: Global, is_first: bool) -> Result<usize, AllocError>
+    ensures { IfOk result (λ room. 0 < room) }
+{
+    if is_first {
+        return Ok(FIRST);
+    }
+    drop(block(alloc)?);
+    Ok(ITEMS)
+}
+
 // Adds an empty chunk where all are full.
 fn add_chunk<T: Drop>(chunks: &mut Vec<Vec<T>>, alloc: Global) -> Result<(), AllocError>
     requires { AreAllFull chunks.old.items }
@@ -45,7 +66,7 @@ fn add_chunk<T: Drop>(chunks: &mut Vec<Vec<T>>, alloc: Global) -> Result<(), All
     if chunks.len() >= MOST {
         return Err(AllocError);
     }
-    let room = if chunks.is_empty() { FIRST } else { ITEMS };
+    let room = room_of_next(alloc, chunks.is_empty())?;
     let chunk = Vec::with_capacity(alloc, room)?;
     chunks.push(chunk)?;
     Ok(())

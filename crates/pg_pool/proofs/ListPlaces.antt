@@ -1,13 +1,16 @@
 -- What changes of one list do to the lists under nodes.
-use Rattle.std.proofs.Common.{◌≡◌, ◌≢◌, ◌==◌, ℕ, Bool, true, false, cond, List, [], ◌∷◌, length, Option, Some, None, IsSome, Result, Ok, Err, OnErr, inl, inr, refl, sym, ap, subst, ◌∙◌, arith}
+use Rattle.std.proofs.Common.{◌≡◌, ◌≢◌, ◌==◌, ◌<◌, ℕ, zero, suc, Bool, true, false, cond, List, [], ◌∷◌, length, Option, Some, None, IsSome, Result, Ok, Err, OnErr, inl, inr, refl, sym, ap, subst, ◌∙◌, arith}
 use Rattle.std.proofs.lemmas.Bool.{cases_eq}
 use Rattle.std.proofs.lemmas.Bool.Decides.{nat_tests}
 use Rattle.std.specs.FinMap as map
 use Rattle.std.specs.FinMap.{FinMap}
 use Rattle.std.specs.Ordering.{nat_cmp}
 use Rattle.pg_pool.specs.Slab.{Slab, get, Updates}
-use Rattle.smallvec.specs.SmallVec.{SmallVec}
 use Rattle.pg_graph.proofs.Ids.{ids_rise, list_with, at_node}
+use Rattle.std.proofs.lemmas.List.{length-map}
+use Rattle.std.specs.List.{HoldsAt}
+use Rattle.std.specs.declared.cmp.Ordering.TheVariants.{Equal}
+use Rattle.pg_graph.proofs.SortedLists.{put_itself}
 use Rattle.pg_graph.proofs.Maps.{same_numbered, put_same, get_inserted, get_inserted_other, get_removed, get_removed_other}
 use Rattle.pg_graph.specs.Content.{ids_where}
 use Rattle.pg_graph.specs.Links.{numbers, with_id}
@@ -15,6 +18,8 @@ use Rattle.pg_graph.specs.Sorted.{Rises}
 use Rattle.pg_graph.specs.declared.records.RelRecord.{RelRecord}
 use Rattle.pg_value_core.specs.declared.ids.RelId.{RelId}
 use Rattle.pg_pool.proofs.SlotChanges.{no_some, same_some}
+use Rattle.pg_pool.specs.Places.{ids_of}
+use Rattle.pg_pool.specs.declared.ids.Ids.{Ids}
 use Rattle.pg_pool.specs.Lists.{ids_in, list_at, Replaces, AreApart, IsSound, IsIncidence}
 use Rattle.pg_pool.specs.declared.links.Incidence.{Incidence}
 
@@ -39,8 +44,20 @@ nothing (x ∷ xs) h = absurd (omega (arith, zero_only (length (x ∷ xs)) h))
     zero_only : (n : ℕ) → (n == 0) ≡ true → n ≡ 0
     zero_only n h = grind (arith, nat_tests)
 
+held_number : (k : ℕ) (xs : List RelId) (i : ℕ) → i < length xs → HoldsAt (λ (r : RelId). nat_cmp r.0 k ≡ Equal) xs i → HoldsAt (λ n. nat_cmp n k ≡ Equal) (numbers xs) i
+held_number k [] i within h d = absurd (omega (arith, within))
+held_number k (x ∷ xs) zero within h d = h x
+held_number k (x ∷ xs) (suc i) within h d = held_number k xs i (omega (arith, within)) h d
+
+below_numbers : (xs : List RelId) (i : ℕ) → i < length xs → i < length (numbers xs)
+below_numbers xs i h = subst (λ n. i < n) (sym (length-map xs (λ (r : RelId). r.0))) h
+
+-- an id that is there changes nothing
+pub put_there : (k : ℕ) (xs : List RelId) (i : ℕ) → Rises (λ n. n) (numbers xs) → i < length xs → HoldsAt (λ (r : RelId). nat_cmp r.0 k ≡ Equal) xs i → with_id k (numbers xs) ≡ numbers xs
+put_there k xs i rises h at = put_itself k (numbers xs) i rises (below_numbers xs i h) (held_number k xs i h at)
+
 abbrev pub Lists : Type 0
-Lists = Slab (SmallVec RelId)
+Lists = Slab Ids
 
 -- lists in which no key of another node changed
 pub at_one : (node : ℕ) (o : Option ℕ → List ℕ) (places places' : FinMap nat_cmp ℕ) (at : Option ℕ → List ℕ) (now : List ℕ)
@@ -66,11 +83,11 @@ module _ (places : FinMap nat_cmp ℕ) (lists lists' : Lists) (key node : ℕ) (
     no_other : (q : ℕ) → q ≢ node → (k : ℕ) → map.get places q ≡ Some k → k ≢ key
     no_other q ne k at same = ne (apart.once q node key (at ∙ ap Some same) there)
 
-    pub list_changed : (ids : SmallVec RelId) → Updates lists lists' key (Some ids) → (q : ℕ) → list_at lists' (map.get places q) ≡ cond (q == node) (numbers ids.items) (list_at lists (map.get places q))
-    list_changed ids up = at_one node (list_at lists) places places (list_at lists') (numbers ids.items) (ap (list_at lists') there ∙ ap ids_in up.changed)
+    pub list_changed : (ids : Ids) → Updates lists lists' key (Some ids) → (q : ℕ) → list_at lists' (map.get places q) ≡ cond (q == node) (numbers (ids_of ids)) (list_at lists (map.get places q))
+    list_changed ids up = at_one node (list_at lists) places places (list_at lists') (numbers (ids_of ids)) (ap (list_at lists') there ∙ ap ids_in up.changed)
         (λ q ne. kept places up.others q refl (no_other q ne))
 
-    pub changed_apart : (ids : SmallVec RelId) → Updates lists lists' key (Some ids) → AreApart places lists'
+    pub changed_apart : (ids : Ids) → Updates lists lists' key (Some ids) → AreApart places lists'
     changed_apart ids up = record {
       there = λ q k at. elim (cases_eq k key) [
         | inl same ↦ subst (λ (j : ℕ). IsSome (get lists' j)) (sym same) (subst IsSome (sym up.changed) refl)
@@ -117,7 +134,7 @@ module _ (places : FinMap nat_cmp ℕ) (lists lists' : Lists) (key node : ℕ) (
         once = λ q p k at at'. apart.once q p k (sym (stays q (other_of q k at)) ∙ at) (sym (stays p (other_of p k at')) ∙ at');
       }
 
-  module _ (absent : map.get places node ≡ None) (empty : get lists key ≡ None) (ids : SmallVec RelId) (up : Updates lists lists' key (Some ids))
+  module _ (absent : map.get places node ≡ None) (empty : get lists key ≡ None) (ids : Ids) (up : Updates lists lists' key (Some ids))
       (places' : FinMap nat_cmp ℕ) (inserted : places' ≡ map.insert places node key) where
     new_key : map.get places' node ≡ Some key
     new_key = ap (λ m. map.get m node) inserted ∙ get_inserted places node key
@@ -129,8 +146,8 @@ module _ (places : FinMap nat_cmp ℕ) (lists lists' : Lists) (key node : ℕ) (
     unused : (q k : ℕ) → map.get places q ≡ Some k → k ≢ key
     unused q k at same = not_none (get lists key) empty (subst (λ (j : ℕ). IsSome (get lists j)) same (apart.there q k at))
 
-    pub list_begun : (q : ℕ) → list_at lists' (map.get places' q) ≡ cond (q == node) (numbers ids.items) (list_at lists (map.get places q))
-    list_begun = at_one node (list_at lists) places places' (list_at lists') (numbers ids.items) (ap (list_at lists') new_key ∙ ap ids_in up.changed)
+    pub list_begun : (q : ℕ) → list_at lists' (map.get places' q) ≡ cond (q == node) (numbers (ids_of ids)) (list_at lists (map.get places q))
+    list_begun = at_one node (list_at lists) places places' (list_at lists') (numbers (ids_of ids)) (ap (list_at lists') new_key ∙ ap ids_in up.changed)
         (λ q ne. kept places' up.others q (as_before q ne) (unused q))
 
     key_of : (q k : ℕ) → map.get places' q ≡ Some k → q ≢ node → k ≢ key

@@ -13,10 +13,9 @@ use Rattle.pg_value_core.specs.declared.ids.NodeId.{NodeId}
 use Rattle.pg_value_core.specs.declared.ids.RelId.{RelId}
 use Rattle.pg_pool.proofs.SlotChanges.{true_not_false, IsOwn, OnlyOwn, AllBut, own_of_label, own_of_none, none_of_none, none_of_other, only_own, kept_after, others_find, others_hold, finds_untouched, finds_relabelled, finds_added, finds_removed, holds_untouched, holds_added, holds_changed, holds_removed}
 use Rattle.pg_pool.proofs.Values.{values_same}
-use Rattle.pg_pool.specs.Records.{label, node_or_none, rel_or_none, node_at, rel_at}
+use Rattle.pg_pool.specs.Records.{label, node_or_none, rel_or_none, node_at, rel_at, node_record, rel_record}
 use Rattle.pg_pool.specs.Tables.{Finds, Fits, content_of, pooled}
 use Rattle.pg_pool.specs.Values.{map_values}
-use Rattle.pg_pool.specs.declared.pool.Record.TheVariants.{Node, Rel}
 use Rattle.pg_pool.specs.declared.pool.Pool.{Pool}
 use Rattle.pg_pool.specs.declared.pooled_tables.PooledTables.{PooledTables}
 
@@ -46,7 +45,7 @@ pub record Step {K : Type 0} (t t' : PooledTables K) (pool pool' : Pool K) (now 
 
 module _ {K : Type 0} (t : PooledTables K) (pool pool' : Pool K) (key : ℕ) (fits : Fits t pool) (but : AllBut key pool.records pool'.records) where
   pub node_added : (id : NodeId) (node : NodeRecord) (ids : FinMap nat_cmp ℕ) → map.get t.nodes id.0 ≡ None → get pool.records key ≡ None
-      → get pool'.records key ≡ Some (Node t.owner id node) → ids ≡ map.insert t.nodes id.0 key
+      → get pool'.records key ≡ Some (node_record t.owner id.0 node) → ids ≡ map.insert t.nodes id.0 key
       → Step t (record t { nodes = ids }) pool pool' (with_node (content_of t pool) id.0 node)
   node_added id node ids absent empty written inserted =
       let rels = holds_untouched false t.owner t.rels pool.records pool'.records key but fits.rels rel_or_none (none_of_none false t.owner _ empty) in
@@ -64,7 +63,7 @@ module _ {K : Type 0} (t : PooledTables K) (pool pool' : Pool K) (key : ℕ) (fi
       }
 
   pub node_changed : (id : NodeId) (node : NodeRecord) → map.get t.nodes id.0 ≡ Some key
-      → get pool'.records key ≡ Some (Node t.owner id node)
+      → get pool'.records key ≡ Some (node_record t.owner id.0 node)
       → Step t t pool pool' (with_node (content_of t pool) id.0 node)
   node_changed id node there written =
       let was = (fits.nodes id.0 key).0 there in
@@ -100,7 +99,7 @@ module _ {K : Type 0} (t : PooledTables K) (pool pool' : Pool K) (key : ℕ) (fi
       }
 
   pub rel_added : (id : RelId) (rel : RelRecord) (ids : FinMap nat_cmp ℕ) (incidence : Incidence) → map.get t.rels id.0 ≡ None → get pool.records key ≡ None
-      → get pool'.records key ≡ Some (Rel t.owner id rel) → ids ≡ map.insert t.rels id.0 key
+      → get pool'.records key ≡ Some (rel_record t.owner id.0 rel) → ids ≡ map.insert t.rels id.0 key
       → IsIncidence incidence (map.insert (content_of t pool).rels id.0 rel)
       → Step t (record t { rels = ids; incidence = incidence }) pool pool' (with_rel (content_of t pool) id.0 rel)
   rel_added id rel ids incidence absent empty written inserted links =
@@ -119,7 +118,7 @@ module _ {K : Type 0} (t : PooledTables K) (pool pool' : Pool K) (key : ℕ) (fi
       }
 
   pub rel_changed : (id : RelId) (rel : RelRecord) → map.get t.rels id.0 ≡ Some key
-      → get pool'.records key ≡ Some (Rel t.owner id rel)
+      → get pool'.records key ≡ Some (rel_record t.owner id.0 rel)
       → IsIncidence t.incidence (map.insert (content_of t pool).rels id.0 rel)
       → Step t t pool pool' (with_rel (content_of t pool) id.0 rel)
   rel_changed id rel there written links =

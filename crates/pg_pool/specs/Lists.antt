@@ -4,32 +4,33 @@ use Rattle.std.specs.Ordering.{nat_cmp}
 use Rattle.std.specs.FinMap as map
 use Rattle.std.specs.FinMap.{FinMap}
 use Rattle.pg_pool.specs.Slab.{Slab, get, Updates}
-use Rattle.smallvec.specs.SmallVec.{SmallVec}
 use Rattle.pg_value_core.specs.declared.ids.NodeId.{NodeId}
 use Rattle.pg_value_core.specs.declared.ids.RelId.{RelId}
 use Rattle.pg_graph.specs.Content.{outgoing_of, incoming_of}
 use Rattle.pg_graph.specs.Links.{numbers}
 use Rattle.pg_graph.specs.Sorted.{Rises}
 use Rattle.pg_graph.specs.declared.records.RelRecord.{RelRecord}
+use Rattle.pg_pool.specs.Places.{ids_of}
+use Rattle.pg_pool.specs.declared.ids.Ids.{Ids}
 use Rattle.pg_pool.specs.declared.links.Links.{Links}
 use Rattle.pg_pool.specs.declared.links.Incidence.{Incidence}
 
 abbrev pub Rels : Type 0
 Rels = FinMap nat_cmp RelRecord
 
-abbrev pub ids_in : Option (SmallVec RelId) → List ℕ
+abbrev pub ids_in : Option Ids → List ℕ
 ids_in None = []
-ids_in (Some ids) = numbers ids.items
+ids_in (Some ids) = numbers (ids_of ids)
 
-abbrev pub list_at : Slab (SmallVec RelId) → Option ℕ → List ℕ
+abbrev pub list_at : Slab Ids → Option ℕ → List ℕ
 list_at lists None = []
 list_at lists (Some key) = ids_in (get lists key)
 
 -- the list under one key is another, which the one before tells, and the others stay
-pub record Replaces (key : ℕ) (f : List ℕ → List ℕ) (old new : Slab (SmallVec RelId)) : Type 0 where
-  pub ids : SmallVec RelId
+pub record Replaces (key : ℕ) (f : List ℕ → List ℕ) (old new : Slab Ids) : Type 0 where
+  pub ids : Ids
   pub updates : Updates old new key (Some ids)
-  pub told : numbers ids.items ≡ f (list_at old (Some key))
+  pub told : numbers (ids_of ids) ≡ f (list_at old (Some key))
 
 -- the ids under a node
 abbrev pub links_at : Links → ℕ → List ℕ
@@ -43,7 +44,7 @@ abbrev pub AllStay : Links → Links → Type 0
 AllStay old new = (q : ℕ) → links_at new q ≡ links_at old q
 
 -- each node has a list at its key, and no other node has the same key
-pub record AreApart (places : FinMap nat_cmp ℕ) (lists : Slab (SmallVec RelId)) : Type 0 where
+pub record AreApart (places : FinMap nat_cmp ℕ) (lists : Slab Ids) : Type 0 where
   pub there : (node key : ℕ) → map.get places node ≡ Some key → IsSome (get lists key)
   pub once : (node other key : ℕ) → map.get places node ≡ Some key → map.get places other ≡ Some key → node ≡ other
 

@@ -5,28 +5,40 @@ use Rattle.std.specs.FinMap as map
 use Rattle.pg_pool.specs.Slab.{Slab, get}
 use Rattle.pg_graph.specs.declared.records.NodeRecord.{NodeRecord}
 use Rattle.pg_graph.specs.declared.records.RelRecord.{RelRecord}
+use Rattle.std.specs.declared.snapshot.Snapshot.{Snapshot}
+use Rattle.pg_pool.specs.declared.pool.Identity.{Identity}
 use Rattle.pg_pool.specs.declared.pool.Record.{Record}
 use Rattle.pg_pool.specs.declared.pool.Record.TheVariants.{Node, Rel}
 
+abbrev pub identity_of : ℕ → ℕ → Snapshot Identity
+identity_of owner id = record { marker = record {}; value = record { owner = owner; id = id } }
+
+-- an owner's record of the node, or the relationship, of this id
+abbrev pub node_record : ℕ → ℕ → NodeRecord → Record
+node_record owner id node = Node (identity_of owner id) node
+
+abbrev pub rel_record : ℕ → ℕ → RelRecord → Record
+rel_record owner id rel = Rel (identity_of owner id) rel
+
 abbrev pub owner_of : Record → ℕ
-owner_of (Node owner id node) = owner
-owner_of (Rel owner id rel) = owner
+owner_of (Node identity node) = identity.value.owner
+owner_of (Rel identity rel) = identity.value.owner
 
 abbrev pub is_node : Record → Bool
-is_node (Node owner id node) = true
-is_node (Rel owner id rel) = false
+is_node (Node identity node) = true
+is_node (Rel identity rel) = false
 
 abbrev pub id_of : Record → ℕ
-id_of (Node owner id node) = id.0
-id_of (Rel owner id rel) = id.0
+id_of (Node identity node) = identity.value.id
+id_of (Rel identity rel) = identity.value.id
 
 abbrev pub node_of : Record → Option NodeRecord
-node_of (Node owner id node) = Some node
-node_of (Rel owner id rel) = None
+node_of (Node identity node) = Some node
+node_of (Rel identity rel) = None
 
 abbrev pub rel_of : Record → Option RelRecord
-rel_of (Node owner id node) = None
-rel_of (Rel owner id rel) = Some rel
+rel_of (Node identity node) = None
+rel_of (Rel identity rel) = Some rel
 
 -- whose record a slot has, whether it is a node's, and under which id
 abbrev pub label : Option Record → Option (ℕ × (Bool × ℕ))

@@ -8,10 +8,9 @@ use Rattle.pg_graph.specs.Content.{Content, Seen}
 use Rattle.pg_pool.specs.Lists.{IsIncidence}
 use Rattle.pg_graph.specs.declared.records.NodeRecord.{NodeRecord}
 use Rattle.pg_graph.specs.declared.records.RelRecord.{RelRecord}
-use Rattle.pg_pool.specs.Records.{owner_of, label, node_at, rel_at}
+use Rattle.pg_pool.specs.Records.{owner_of, label, node_at, rel_at, node_record, rel_record}
 use Rattle.pg_pool.specs.Values.{map_values}
 use Rattle.pg_pool.specs.declared.pool.Record.{Record}
-use Rattle.pg_pool.specs.declared.pool.Record.TheVariants.{Node, Rel}
 use Rattle.pg_pool.specs.declared.pool.Pool.{Pool}
 use Rattle.pg_pool.specs.declared.pooled_tables.PooledTables.{PooledTables}
 
@@ -39,8 +38,8 @@ pooled = record { owner = λ t. t.owner; fits = Fits; content = content_of; is_u
 
 -- the content is exactly the owner's records in the pool, each element in one slot
 pub record AreRecords {K : Type 0} (content : Content) (owner : ℕ) (pool : Pool K) : Type 0 where
-  pub nodes : (id : ℕ) (node : NodeRecord) → (map.get content.nodes id ≡ Some node) ↔ ((key : ℕ) × (get pool.records key ≡ Some (Node owner (record { 0 = id }) node)))
-  pub rels : (id : ℕ) (rel : RelRecord) → (map.get content.rels id ≡ Some rel) ↔ ((key : ℕ) × (get pool.records key ≡ Some (Rel owner (record { 0 = id }) rel)))
+  pub nodes : (id : ℕ) (node : NodeRecord) → (map.get content.nodes id ≡ Some node) ↔ ((key : ℕ) × (get pool.records key ≡ Some (node_record owner id node)))
+  pub rels : (id : ℕ) (rel : RelRecord) → (map.get content.rels id ≡ Some rel) ↔ ((key : ℕ) × (get pool.records key ≡ Some (rel_record owner id rel)))
   pub once : (key other id : ℕ) (nodes : Bool) → label (get pool.records key) ≡ Some (owner, (nodes, id)) → label (get pool.records other) ≡ Some (owner, (nodes, id)) → key ≡ other
 
 -- each record of the owner is in the slot in which it was, and the owner has no other

@@ -2,6 +2,7 @@
 #![tactic(auto)]
 
 mod chunks;
+mod ids;
 mod links;
 mod pages;
 mod pool;

@@ -1,36 +1,62 @@
 //! Which relationships each node has.
-ghost use Rattle.std.specs.Prelude.{◌≡◌, ◌≤◌, [], ◌∷◌, ℕ, Some, None, OnOk, OnErr};
+ghost use Rattle.std.specs.Prelude.{◌≡◌, [], ◌∷◌, ℕ, Some, None, OnOk, OnErr};
 ghost use Rattle.std.specs.FinMap as map;
-ghost use Rattle.std.specs.List as list;
-ghost use Rattle.smallvec.specs.SmallVec.{small_vec_len};
+ghost use Rattle.std.specs.Option.{option_map, unwrap_or};
 ghost use Rattle.pg_graph.specs.Links.{with_id, without_id, numbers};
 ghost use Rattle.pg_graph.specs.Sorted.{Rises, IsPlace};
+ghost use Rattle.pg_pool.specs.Places.{ids_of, list_of};
 ghost use Rattle.pg_pool.specs.Slab.{ContainsKey};
 ghost use Rattle.pg_pool.specs.Lists.{links_at, list_at, Replaces, AreApart, IsSound, IsIncidence};
 ghost use Rattle.pg_pool.specs.Lists.{ChangesAt, AllStay, Gains, Loses, Stays, AreOutgoing, AreIncoming};
 ghost use Rattle.pg_value_core.specs.declared.ids.RelId.{RelId};
 
+use crate::ids::Ids;
 use crate::slab::{Slab, Slot};
 use crate::slots::Slots;
 use pg_value_core::{NodeId, RelId};
-use smallvec::SmallVec;
 use std::alloc::{AllocError, Global};
+use std::slice;
 
-/// Where a list of ids lies.
+/// Where a list of ids lies. It has the list's own parts: so it needs no tag beside the list's.
 #[derive(Drop)]
 pub(crate) enum ListSlot {
-    Ids(SmallVec<RelId, 2>),
+    Nothing,
+    One(RelId),
+    Two([RelId; 2]),
+    Three([RelId; 3]),
+    More(Vec<RelId>),
     Vacant(u32),
 }
 
-impl Slot<SmallVec<RelId, 2>> for ListSlot {
+impl ListSlot {
+    #[inline(always)]
+    fn as_slice(&self) -> &[RelId]
+        ensures { result.now ≡ unwrap_or (option_map ids_of (list_of self.now)) [] }
+    {
+        match self {
+            ListSlot::Nothing | ListSlot::Vacant(_) => &[],
+            ListSlot::One(only) => slice::from_ref(only),
+            ListSlot::Two(ids) => ids,
+            ListSlot::Three(ids) => ids,
+            ListSlot::More(ids) => ids.as_slice(),
+        }
+    }
+}
+
+impl Slot<Ids> for ListSlot {
     ghost use Rattle.pg_pool.specs.Places.{list_of};
 
     ghost held = { list_of };
 
     #[inline(always)]
-    fn occupied(value: SmallVec<RelId, 2>) -> ListSlot {
-        ListSlot::Ids(value)
+    fn occupied(value: Ids) -> ListSlot {
+        match value {
+            Ids::Nothing => ListSlot::Nothing,
+            Ids::One(only) => ListSlot::One(only),
+            Ids::Two(ids) => ListSlot::Two(ids),
+            Ids::Three(ids) => ListSlot::Three(ids),
+            Ids::More(ids) => ListSlot::More(ids),
+        }
     }
 
     #[inline(always)]
@@ -42,20 +68,24 @@ impl Slot<SmallVec<RelId, 2>> for ListSlot {
     fn next(&self) -> Option<u32> {
         match self {
             ListSlot::Vacant(next) => Some(*next),
-            ListSlot::Ids(_) => None,
+            _ => None,
         }
     }
 
     #[inline(always)]
-    fn into_value(self) -> Option<SmallVec<RelId, 2>> {
+    fn into_value(self) -> Option<Ids> {
         match self {
-            ListSlot::Ids(ids) => Some(ids),
+            ListSlot::Nothing => Some(Ids::Nothing),
+            ListSlot::One(only) => Some(Ids::One(only)),
+            ListSlot::Two(ids) => Some(Ids::Two(ids)),
+            ListSlot::Three(ids) => Some(Ids::Three(ids)),
+            ListSlot::More(ids) => Some(Ids::More(ids)),
             ListSlot::Vacant(_) => None,
         }
     }
 }
 
-type Lists = Slab<SmallVec<RelId, 2>, ListSlot>;
+type Lists = Slab<Ids, ListSlot>;
 
 /// A rising list of ids for each node that has any.
 pub(crate) struct Links {
@@ -82,56 +112,23 @@ fn place(ids: &[RelId], id: u64) -> Result<usize, usize>
     ids.binary_search_by_key(&id, |item| item.0)
 }
 
-fn put(ids: &mut SmallVec<RelId, 2>, id: RelId) -> Result<(), AllocError>
-    requires { Rises (λ n. n) (numbers ids.old.items) }
-    ensures ok { OnOk result (numbers ids.new.items ≡ with_id id.0 (numbers ids.old.items)) }
-    ensures err { OnErr result (ids.new.items ≡ ids.old.items) }
+fn put(ids: &mut Ids, alloc: Global, id: RelId) -> Result<(), AllocError>
+    requires { Rises (λ n. n) (numbers (ids_of ids.old)) }
+    ensures ok { OnOk result (numbers (ids_of ids.new) ≡ with_id id.0 (numbers (ids_of ids.old))) }
+    ensures err { OnErr result (ids_of ids.new ≡ ids_of ids.old) }
 {
     match place(ids.as_slice(), id.0) {
-        Ok(i) => ids.as_mut_slice()[i] = id,
-        Err(i) => insert(ids, i, id)?,
-    }
-    Ok(())
-}
-
-fn insert(ids: &mut SmallVec<RelId, 2>, at: usize, id: RelId) -> Result<(), AllocError>
-    requires { at ≤ small_vec_len ids.old }
-    ensures ok { OnOk result (ids.new.items ≡ list.insert ids.old.items at id) }
-    ensures err { OnErr result (ids.new.items ≡ ids.old.items) }
-{
-    make_room(ids)?;
-    ids.insert(at, id)?;
-    Ok(())
-}
-
-// Room for half as many ids again. C's allocator gives an odd number of eight bytes, so an even one
-// would leave some unused.
-fn make_room(ids: &mut SmallVec<RelId, 2>) -> Result<(), AllocError>
-    ensures items { ids.new.items ≡ ids.old.items }
-{
-    let length = ids.len();
-    if length < ids.capacity() {
-        return Ok(());
-    }
-    ids.grow(length.saturating_add(length / 2) | 1)
-}
-
-fn take(ids: &mut SmallVec<RelId, 2>, id: RelId)
-    requires { Rises (λ n. n) (numbers ids.old.items) }
-    ensures { numbers ids.new.items ≡ without_id id.0 (numbers ids.old.items) }
-{
-    if let Ok(i) = place(ids.as_slice(), id.0) {
-        ids.remove(i);
-        shrink(ids);
+        Ok(_there) => Ok(()),
+        Err(at) => ids.insert(alloc, at, id),
     }
 }
 
-// Gives room back where most of it is empty, but for as many ids again.
-fn shrink(ids: &mut SmallVec<RelId, 2>)
-    ensures { ids.new.items ≡ ids.old.items }
+fn take(ids: &mut Ids, id: RelId)
+    requires { Rises (λ n. n) (numbers (ids_of ids.old)) }
+    ensures { numbers (ids_of ids.new) ≡ without_id id.0 (numbers (ids_of ids.old)) }
 {
-    if ids.len() <= ids.capacity() / 4 {
-        let _never_fails = ids.grow(ids.len().saturating_mul(2));
+    if let Ok(at) = place(ids.as_slice(), id.0) {
+        ids.remove(at);
     }
 }
 
@@ -142,18 +139,18 @@ fn put_in(lists: &mut Lists, key: usize, id: RelId, alloc: Global) -> Result<(),
     ensures ok { OnOk result (Replaces key (with_id id.0) lists.old lists.new) }
     ensures err { OnErr result (Replaces key (λ ids. ids) lists.old lists.new) }
 {
-    let mut ids = lists.replace(key, SmallVec::new(alloc));
-    let outcome = put(&mut ids, id);
+    let mut ids = lists.replace(key, Ids::Nothing);
+    let outcome = put(&mut ids, alloc, id);
     drop(lists.replace(key, ids));
     outcome
 }
 
-fn take_from(lists: &mut Lists, key: usize, id: RelId, alloc: Global)
+fn take_from(lists: &mut Lists, key: usize, id: RelId)
     requires there { ContainsKey lists.old key }
     requires rises { Rises (λ n. n) (list_at lists.old (Some key)) }
     ensures { Replaces key (without_id id.0) lists.old lists.new }
 {
-    let mut ids = lists.replace(key, SmallVec::new(alloc));
+    let mut ids = lists.replace(key, Ids::Nothing);
     take(&mut ids, id);
     drop(lists.replace(key, ids));
 }
@@ -184,10 +181,7 @@ impl Links {
         requires { ContainsKey self.now.lists key }
         ensures { numbers result.now ≡ list_at self.now.lists (Some key) }
     {
-        match self.lists.slot(key) {
-            ListSlot::Ids(ids) => ids.as_slice(),
-            ListSlot::Vacant(_) => &[],
-        }
+        self.lists.slot(key).as_slice()
     }
 
     fn add(&mut self, node: u64, id: RelId) -> Result<(), AllocError>
@@ -210,11 +204,9 @@ impl Links {
         ensures err { OnErr result (AllStay self.old self.new) }
         ensures apart { AreApart self.new.places self.new.lists }
     {
-        let mut ids = SmallVec::new(self.alloc);
-        ids.push(id)?;
         let key = self.lists.reserve()?;
         self.places.insert(node, key)?;
-        self.lists.put(key, ids);
+        self.lists.put(key, Ids::One(id));
         Ok(())
     }
 
@@ -224,7 +216,7 @@ impl Links {
         ensures apart { AreApart self.new.places self.new.lists }
     {
         if let Some(key) = self.places.get(node) {
-            take_from(&mut self.lists, key, id, self.alloc);
+            take_from(&mut self.lists, key, id);
             self.end(node, key);
         }
     }

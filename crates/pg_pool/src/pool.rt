@@ -1,27 +1,31 @@
 //! The records of all owners.
 ghost use Rattle.std.specs.Prelude.{◌≡◌, ℕ, Some, None, option_copied};
 ghost use Rattle.pg_pool.specs.Slab.{get, slab_len, ContainsKey, Updates};
-ghost use Rattle.pg_pool.specs.Records.{node_in, rel_in};
+ghost use Rattle.pg_pool.specs.Records.{node_in, rel_in, identity_of, node_record, rel_record};
 
 use crate::slab::{Slab, Slot};
 use pg_graph::{NodeRecord, RelRecord};
 use pg_value_core::{NodeId, RelId};
 use std::alloc::Global;
 use std::marker::PhantomData;
+use std::snapshot::Snapshot;
 
-/// What an owner keeps under an id.
-// The owner beside the id, and not round an enum of the two records: so it fills the gap behind the
-// variant's tag.
+/// Whose a record is, and the id of its node or relationship.
+#[derive(Clone, Copy)]
+pub struct Identity {
+    pub owner: u32,
+    pub id: u64,
+}
+
+/// What an owner keeps under an id. Only clauses read the identity: it takes no memory.
 #[derive(Drop)]
 pub enum Record {
     Node {
-        owner: u32,
-        id: NodeId,
+        identity: Snapshot<Identity>,
         node: NodeRecord,
     },
     Rel {
-        owner: u32,
-        id: RelId,
+        identity: Snapshot<Identity>,
         rel: RelRecord,
     },
 }
@@ -31,18 +35,40 @@ pub enum Record {
 #[derive(Drop)]
 pub(crate) enum RecordSlot {
     Node {
-        owner: u32,
-        id: NodeId,
+        identity: Snapshot<Identity>,
         node: NodeRecord,
     },
     Rel {
-        owner: u32,
-        id: RelId,
+        identity: Snapshot<Identity>,
         rel: RelRecord,
     },
     Vacant {
         next: u32,
     },
+}
+
+impl Record {
+    /// An owner's node.
+    pub(crate) fn node(owner: u32, id: NodeId, node: NodeRecord) -> Record
+        ensures { result ≡ node_record owner id.0 node }
+    {
+        let identity = remember(owner, id.0);
+        Record::Node { identity, node }
+    }
+
+    /// An owner's relationship.
+    pub(crate) fn rel(owner: u32, id: RelId, rel: RelRecord) -> Record
+        ensures { result ≡ rel_record owner id.0 rel }
+    {
+        let identity = remember(owner, id.0);
+        Record::Rel { identity, rel }
+    }
+}
+
+fn remember(owner: u32, id: u64) -> Snapshot<Identity>
+    ensures { result ≡ identity_of owner id }
+{
+    Snapshot::of(&Identity { owner, id })
 }
 
 impl Slot<Record> for RecordSlot {
@@ -53,8 +79,8 @@ impl Slot<Record> for RecordSlot {
     #[inline(always)]
     fn occupied(value: Record) -> RecordSlot {
         match value {
-            Record::Node { owner, id, node } => RecordSlot::Node { owner, id, node },
-            Record::Rel { owner, id, rel } => RecordSlot::Rel { owner, id, rel },
+            Record::Node { identity, node } => RecordSlot::Node { identity, node },
+            Record::Rel { identity, rel } => RecordSlot::Rel { identity, rel },
         }
     }
 
@@ -74,8 +100,8 @@ impl Slot<Record> for RecordSlot {
     #[inline(always)]
     fn into_value(self) -> Option<Record> {
         match self {
-            RecordSlot::Node { owner, id, node } => Some(Record::Node { owner, id, node }),
-            RecordSlot::Rel { owner, id, rel } => Some(Record::Rel { owner, id, rel }),
+            RecordSlot::Node { identity, node } => Some(Record::Node { identity, node }),
+            RecordSlot::Rel { identity, rel } => Some(Record::Rel { identity, rel }),
             RecordSlot::Vacant { next: _ } => None,
         }
     }

@@ -89,8 +89,7 @@ impl<K: TextSet> Tables for PooledTables<K> {
     ) -> Result<(), AllocError> {
         let key = shared.records.reserve()?;
         self.nodes.insert(id.0, key)?;
-        let owner = self.owner;
-        shared.records.put(key, Record::Node { owner, id, node });
+        shared.records.put(key, Record::node(self.owner, id, node));
         Ok(())
     }
 
@@ -106,15 +105,13 @@ impl<K: TextSet> Tables for PooledTables<K> {
             self.rels.remove(id.0);
             return Err(e);
         }
-        let owner = self.owner;
-        shared.records.put(key, Record::Rel { owner, id, rel });
+        shared.records.put(key, Record::rel(self.owner, id, rel));
         Ok(())
     }
 
     fn change(&mut self, shared: &mut Pool<K>, id: NodeId, node: NodeRecord) -> NodeRecord {
         let key = self.nodes.get(id.0).unwrap();
-        let owner = self.owner;
-        match shared.replace(key, Record::Node { owner, id, node }) {
+        match shared.replace(key, Record::node(self.owner, id, node)) {
             Record::Node { node: before, .. } => before,
             Record::Rel { .. } => unreachable!(),
         }
@@ -128,8 +125,7 @@ impl<K: TextSet> Tables for PooledTables<K> {
     ) -> Properties {
         let key = self.rels.get(id.0).unwrap();
         let rel = shared.rel(key).unwrap().with_properties(properties);
-        let owner = self.owner;
-        match shared.replace(key, Record::Rel { owner, id, rel }) {
+        match shared.replace(key, Record::rel(self.owner, id, rel)) {
             Record::Rel { rel: before, .. } => {
                 let RelRecord { properties, .. } = before;
                 properties

@@ -1,4 +1,4 @@
-use Rattle.std.proofs.Common.{get_or, None, ℕ, sym, ap, subst, refl}
+use Rattle.std.proofs.Common.{get_or, Some, None, ℕ, sym, ap, subst, refl, ◌∙◌}
 use Rattle.std.proofs.lemmas.Result.{IfOk-from_err}
 use Rattle.std.specs.FinMap.{FinMap}
 use Rattle.std.specs.Ordering.{nat_cmp}
@@ -17,7 +17,7 @@ returns g c =
     let step = node_added c.args.self.now c.args.shared.now (record c.args.shared.now { records = c.put.new.self }) key c.requires.fits
     put.others
     c.args.id c.args.node c.insert.new.self (inside_none _ _ _ c.requires.absent)
-    (was_vacant old c.reserve.new.self c.put.new.self key reserved.slots reserved.free) put.changed
+    (was_vacant old c.reserve.new.self c.put.new.self key reserved.slots reserved.free) (put.changed ∙ ap Some c.node.ensures)
     c.in_ok-insert.ensures.ok in
     record { ok = step.content; err = tt; keeps = record { fits = step.fits; owner = refl; others = step.others } }
 

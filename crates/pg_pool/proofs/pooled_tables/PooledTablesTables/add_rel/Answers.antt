@@ -1,4 +1,4 @@
-use Rattle.std.proofs.Common.{get_or, None, IsSome, subst, sym, ap, refl, ◌∙◌}
+use Rattle.std.proofs.Common.{get_or, Some, None, IsSome, subst, sym, ap, refl, ◌∙◌}
 use Rattle.std.proofs.lemmas.Result.{IfOk-from_err}
 use Rattle.std.specs.FinMap as map
 use Rattle.pg_pool.proofs.SlabLemmas.{after_reserve, was_vacant}
@@ -35,7 +35,7 @@ returns g c =
     let step = rel_added c.args.self.now c.args.shared.now (record c.args.shared.now { records = c.put.new.self }) key c.requires.fits
     put.others
     c.args.id c.args.rel c.insert.new.self c.add.new.self (inside_none _ _ _ c.requires.absent)
-    (was_vacant old c.reserve.new.self c.put.new.self key reserved.slots reserved.free) put.changed
+    (was_vacant old c.reserve.new.self c.put.new.self key reserved.slots reserved.free) (put.changed ∙ ap Some c.rel.ensures)
     c.in_ok-insert.ensures.ok
     (c.in_default.ensures.ok _ c.args.rel refl refl c.requires.absent c.requires.fits.incidence) in
     record { ok = step.content; err = tt; keeps = record { fits = step.fits; owner = refl; others = step.others } }

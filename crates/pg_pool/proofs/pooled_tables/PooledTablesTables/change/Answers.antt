@@ -21,7 +21,7 @@ pub returns : goal.returns
 returns g c =
     let found : map.get c.args.self.now.nodes c.args.id.0 ≡ Some c.unwrap-key.result = sym c.get.ensures ∙ c.unwrap-key.ensures in
     let replaced = c.in-Node.ensures.replaced in
-    let step = node_changed c.args.self.now c.args.shared.now c.replace.new.self c.unwrap-key.result c.requires.fits replaced.others c.args.id c.args.node found replaced.changed in
+    let step = node_changed c.args.self.now c.args.shared.now c.replace.new.self c.unwrap-key.result c.requires.fits replaced.others c.args.id c.args.node found (replaced.changed ∙ ap Some c.node.ensures) in
     record {
       before = outside_some _ _ _ _ found ∙ ap (λ s. Some (node_or_none s)) c.in-Node.ensures.before;
       changed = step.content;

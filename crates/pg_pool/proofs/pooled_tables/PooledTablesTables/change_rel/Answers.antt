@@ -39,7 +39,7 @@ returns g c =
     let ends = c.with_properties-rel.ensures in
     let links = ends_stay c.args.self.now.incidence content.rels c.requires.fits.incidence c.args.id.0 c.unwrap.result.now c.with_properties-rel.result there (ap (λ r. r.source) ends) (ap (λ r. r.target) ends) in
     let replaced = c.in-Rel.ensures.replaced in
-    let step = rel_changed c.args.self.now c.args.shared.now c.replace.new.self c.unwrap-key.result c.requires.fits replaced.others c.args.id c.with_properties-rel.result found replaced.changed links in
+    let step = rel_changed c.args.self.now c.args.shared.now c.replace.new.self c.unwrap-key.result c.requires.fits replaced.others c.args.id c.with_properties-rel.result found (replaced.changed ∙ ap Some c.rel-2.ensures) links in
     record {
       before = ap (option_map (λ r. r.properties)) (outside_some _ _ _ _ found ∙ ap (λ s. Some (rel_or_none s)) c.in-Rel.ensures.before);
       changed = step.content ∙ ap (with_rel content c.args.id.0) ends

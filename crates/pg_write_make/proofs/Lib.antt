@@ -1,3 +1,4 @@
+pub mod BareLemmas
 pub mod BindingLemmas
 pub mod BoundLemmas
 pub mod Charges
@@ -7,6 +8,7 @@ pub mod CreatedRowLemmas
 pub mod CreationLemmas
 pub mod GrowthLemmas
 pub mod HopLemmas
+pub mod LoneLemmas
 pub mod LoopLemmas
 pub mod MakingLemmas
 pub mod NameLemmas

@@ -47,7 +47,7 @@ all_named graph (p ∷ ps) (t ∷ ts) w =
     names_both (path_bindings graph p t) (match_bindings graph ps ts)
     ∙ (λ i. path_named graph p t t.nodes refl w.0 i ++ all_named graph ps ts w.1 i)
 
-named_alike : (bs : List Binding) (names : List (List ℕ)) → add_each (names_bound (named bs)) names ≡ add_each (names_bound bs) names
+pub named_alike : (bs : List Binding) (names : List (List ℕ)) → add_each (names_bound (named bs)) names ≡ add_each (names_bound bs) names
 named_alike [] names = refl
 named_alike (b ∷ bs) names = by_name (λ ns. named_alike bs ns) b.0
   where

@@ -2,14 +2,15 @@
 use Rattle.std.specs.Prelude.{ℕ, ◌+◌, Bool, true, false, List, ◌∷◌, [], map, Result, Ok}
 use Rattle.pg_meaning.specs.Answer.{◌>>=◌, ◌>>◌}
 use Rattle.pg_meaning.specs.Graph.{Graph}
-use Rattle.pg_meaning.specs.Patterns.{bind_match}
+use Rattle.pg_meaning.specs.Patterns.{bind_match, texts_of, Trail}
 use Rattle.pg_meaning.specs.Reading.{test_paths}
 use Rattle.pg_meaning.specs.Rows.{Row}
 use Rattle.pg_meaning.specs.Tree.{PathPattern}
 use Rattle.pg_meaning.specs.Value.{Entries}
 use Rattle.pg_meaning.specs.declared.fault.Fault.{Fault}
-use Rattle.pg_write_make.specs.Outcomes.{path_outcomes, paths_made}
-use Rattle.pg_write_make.specs.Scenes.{reading}
+use Rattle.pg_write_make.specs.Outcomes.{path_made, path_outcomes, paths_made}
+use Rattle.pg_write_make.specs.Scenes.{max_elements_in, parameters_in, reading, row_at}
+use Rattle.pg_write_make.specs.declared.clause_scope.RowScene.{RowScene}
 
 -- the new graph, and the row with the new variables
 abbrev pub row_made : Entries → (max_elements : ℕ) → List PathPattern → Graph → Row → Result (Graph × Row) Fault
@@ -33,3 +34,21 @@ rows_created parameters max_elements ps graph (row ∷ rows) = do
   made ← row_created parameters max_elements ps graph row
   others ← rows_created parameters max_elements ps made.0 rows
   Ok (others.0, made.1 ∷ others.1)
+
+-- ---- a path by itself
+
+-- the graph and the ids that a path leaves, which finds the graph as the row did
+abbrev pub path_left : Entries → (max_elements : ℕ) → PathPattern → Graph → Row → Result (Graph × Trail) Fault
+path_left parameters max_elements p graph row = path_made max_elements (path_outcomes (reading parameters) graph row p) p (graph, row) >>= λ made. Ok (made.0, made.2)
+
+abbrev pub left_at : RowScene → PathPattern → Graph → Result (Graph × Trail) Fault
+left_at at p graph = path_left (parameters_in at.scene.now) (max_elements_in at.scene.now) p graph (row_at at)
+
+-- the graph alone
+abbrev pub graph_at : RowScene → PathPattern → Graph → Result Graph Fault
+graph_at at p graph = left_at at p graph >>= λ left. Ok left.0
+
+-- the labels of the first node
+abbrev pub first_labels : List PathPattern → List (List ℕ)
+first_labels [] = []
+first_labels (p ∷ ps) = texts_of p.first.labels

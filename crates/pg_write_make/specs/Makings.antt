@@ -31,6 +31,10 @@ relationship_ids ids = map (λ id. id.0) ids
 abbrev pub making_of : Graph → Row → List (Bor (List ℕ) × NodeId) → List NodeId → Making
 making_of graph row named ids = record { graph = graph; bound = row ++ bindings named; ids = node_ids ids }
 
+-- the same with ids as numbers
+abbrev pub making_with : Graph → Row → List (Bor (List ℕ) × NodeId) → List ℕ → Making
+making_with graph row named ids = record { graph = graph; bound = row ++ bindings named; ids = ids }
+
 abbrev pub outcomes_view : List (Result (Vec (Bor (List ℕ) × code.Value)) Fault) → List Outcome
 outcomes_view os = map outcome_view os
 

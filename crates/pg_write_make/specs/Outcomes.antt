@@ -41,6 +41,14 @@ node_added max_elements outcome n graph = do
   test_counter graph.next_node
   Ok (add_node (texts_of n.labels) properties graph)
 
+-- the same with the labels as they stand in the code
+abbrev pub labelled_added : (max_elements : ℕ) → Outcome → (labels : List (List ℕ)) → Graph → Result Graph Fault
+labelled_added max_elements outcome labels graph = do
+  properties ← outcome
+  room_for max_elements graph
+  test_counter graph.next_node
+  Ok (add_node labels properties graph)
+
 -- the node that stands for a variable, if it has one already
 abbrev pub node_found : Option Value → Result (Option ℕ) Fault
 node_found None = Ok None

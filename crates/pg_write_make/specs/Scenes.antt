@@ -1,13 +1,14 @@
 -- What expressions give at the rows of a clause, which share their names and the parameters.
-use Rattle.std.specs.Prelude.{ℕ, List, [], map}
+use Rattle.std.specs.Prelude.{◌≡◌, ℕ, List, [], map, length, take}
 use Rattle.pg_expr.specs.Prepared.{tree_of}
 use Rattle.pg_expr.specs.declared.prepared.Prepared.{Prepared}
 use Rattle.pg_meaning.specs.Answer.{Answer}
 use Rattle.pg_meaning.specs.Expressions.{evaluate}
 use Rattle.pg_meaning.specs.Graph.{Graph}
 use Rattle.pg_meaning.specs.Meters.{Setting}
+use Rattle.pg_meaning.specs.Patterns.{add_path_names}
 use Rattle.pg_meaning.specs.Rows.{Row}
-use Rattle.pg_meaning.specs.Tree.{Expression}
+use Rattle.pg_meaning.specs.Tree.{Expression, PathPattern}
 use Rattle.pg_meaning.specs.Value.{Entries}
 use Rattle.pg_rows.specs.Named.{row_of}
 use Rattle.pg_value_core.specs.Given.{parameters_view}
@@ -38,3 +39,8 @@ value_given s graph values e = evaluate (row_in s values) (parameters_in s) grap
 -- a setting of which the parameters alone are read
 abbrev pub reading : Entries → Setting
 reading parameters = record { parameters = parameters; quota = record { max_steps = 0; max_elements = 0 }; scope = []; anchors = [] }
+
+-- a row with a value for each name, which has the variables of all paths
+pub record IsBare (at : RowScene) (ps : List PathPattern) : Type 0 where
+  pub wide : length at.values.now ≡ length at.scene.now.names.now
+  pub names : add_path_names ps (take (length at.values.now) at.scene.now.names.now) ≡ at.scene.now.names.now

@@ -5,11 +5,11 @@ ghost use Rattle.pg_meaning.specs.Meters.{greatest_id, test_counter};
 ghost use Rattle.pg_meaning.specs.Updates.{first_text, add_between};
 ghost use Rattle.pg_meaning.specs.Patterns.{types_of, way_of};
 ghost use Rattle.pg_meaning.specs.declared.fault.Fault.TheVariants.{OutOfMemory};
-ghost use Rattle.pg_store.specs.Stores.{pairs_of};
+ghost use Rattle.pg_store.specs.Stores.{pairs_of, texts_of};
 ghost use Rattle.pg_meaning.specs.Entries.{set_keys};
 ghost use Rattle.pg_meaning.specs.Value.{no_entries};
 ghost use Rattle.pg_syntax_tree.specs.View.{node_view, relationship_view};
-ghost use Rattle.pg_write_make.specs.Outcomes.{node_added, relationship_of, outcome_view, room_and_id};
+ghost use Rattle.pg_write_make.specs.Outcomes.{labelled_added, node_added, relationship_of, outcome_view, room_and_id};
 
 use crate::texts::{label_texts, type_text};
 use pg_expr::QueryContext;
@@ -49,8 +49,28 @@ fn test_new<T: Tables>(
     test_counter(next)
 }
 
-/// Adds a node, as the pattern says and with these properties, or what stands in their place.
+/// Adds a node with these labels and properties, or what stands in place of the properties.
 #[tactic(auto, using(crate::proofs::RoomLemmas::few_elements))]
+pub(crate) fn add_labelled<T: Tables>(
+    query: &QueryContext<'_>,
+    live: &mut LiveGraph<T>,
+    labels: &Vec<&str>,
+    outcome: Result<Vec<(&str, Value)>, Fault>,
+) -> Result<NodeId, Fault>
+    ensures ok { OnOk result (labelled_added query.now.max_elements (outcome_view outcome.entry)
+        (texts_of labels.now.items) live.old.graph ≡ Ok live.new.graph) }
+    ensures id { IfOk result (λ id. id.0 ≡ live.old.graph.next_node) }
+    ensures err { IfErr result (λ e. e ≢ OutOfMemory
+        → labelled_added query.now.max_elements (outcome_view outcome.entry)
+        (texts_of labels.now.items) live.old.graph ≡ Err e) }
+    ensures aside { live.new.aside ≡ live.old.aside }
+{
+    let properties = outcome?;
+    test_new(&live.graph(), query.max_elements, live.next_ids().node)?;
+    Ok(live.create_node(query.alloc, labels, properties)?)
+}
+
+/// Adds a node, as the pattern says and with these properties, or what stands in their place.
 pub(crate) fn add_node<T: Tables>(
     query: &QueryContext<'_>,
     live: &mut LiveGraph<T>,
@@ -64,10 +84,8 @@ pub(crate) fn add_node<T: Tables>(
         (outcome_view outcome.entry) (node_view pattern.now) live.old.graph ≡ Err e) }
     ensures aside { live.new.aside ≡ live.old.aside }
 {
-    let properties = outcome?;
-    test_new(&live.graph(), query.max_elements, live.next_ids().node)?;
     let labels = label_texts(query.alloc, &pattern.labels)?;
-    Ok(live.create_node(query.alloc, &labels, properties)?)
+    add_labelled(query, live, &labels, outcome)
 }
 
 // Adds a relationship that goes as the heads of its pattern say.

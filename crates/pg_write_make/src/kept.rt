@@ -16,7 +16,7 @@ use pg_syntax_tree::{NodePattern, PathPattern, RelationshipPattern};
 use pg_value_core::Value;
 
 // What the expressions of a relationship give, kept.
-fn relationship_outcome<'a, T: Tables>(
+pub(crate) fn relationship_outcome<'a, T: Tables>(
     scene: &ClauseScope<'a>,
     graph: &GraphView<'_, T>,
     row: &[Value],
@@ -67,7 +67,7 @@ pub(crate) struct Kept<'a> {
     pub(crate) relationships: Vec<Result<Vec<(&'a str, Value)>, Fault>>,
 }
 
-fn kept_of<'a, T: Tables>(
+pub(crate) fn kept_of<'a, T: Tables>(
     scene: &ClauseScope<'a>,
     graph: &GraphView<'_, T>,
     row: &[Value],

@@ -1,6 +1,7 @@
 //! CREATE: paths made at the rows of a table; and what every change of a graph by a clause stands on.
 #![tactic(auto)]
 
+mod bare;
 mod binding;
 mod bound;
 mod charge;
@@ -11,6 +12,7 @@ mod creation;
 mod elements;
 mod hops;
 mod kept;
+mod lone;
 mod making;
 mod paths;
 mod storable;

@@ -1,6 +1,7 @@
 //! The nodes of a path at a row: those that are bound, and new ones.
 ghost use Rattle.std.specs.Map.{lookup};
-ghost use Rattle.std.specs.Prelude.{◌≡◌, ◌≢◌, ◌++◌, ◌∷◌, [], ℕ, List, false, OnOk, IfOk, IfErr, Ok, Err, Some, None, IsSome, map, option_map, bytes_eq};
+ghost use Rattle.std.specs.Prelude.{◌≡◌, ◌≢◌, ◌++◌, ◌∷◌, [], ℕ, List, true, false, OnOk, IfOk, IfErr, Ok, Err, Some, None, IsSome, map, option_map, bytes_eq};
+ghost use Rattle.pg_meaning.specs.Graph.{has_node};
 ghost use Rattle.pg_meaning.specs.Patterns.{node_name, nodes_of, text_of};
 ghost use Rattle.pg_meaning.specs.Reading.{test_bound, test_nodes};
 ghost use Rattle.pg_meaning.specs.Rows.{value_in};
@@ -9,7 +10,7 @@ ghost use Rattle.pg_meaning.specs.Walks.{bound_value};
 ghost use Rattle.pg_meaning.specs.declared.fault.Fault.TheVariants.{OutOfMemory};
 ghost use Rattle.pg_syntax_tree.specs.View.{name_view, node_view, path_view};
 ghost use Rattle.pg_value_core.specs.View.{view};
-ghost use Rattle.pg_write_make.specs.Makings.{bindings, making_of, named_ids, others_view, outcomes_view, AllThere, AreThere, Grows};
+ghost use Rattle.pg_write_make.specs.Makings.{bindings, making_of, making_with, named_ids, others_view, outcomes_view, AllThere, AreThere, Grows};
 ghost use Rattle.pg_write_make.specs.Outcomes.{node_found, node_of, nodes_made, outcome_view};
 ghost use Rattle.pg_write_make.specs.Scenes.{max_elements_in, row_at};
 
@@ -63,7 +64,8 @@ fn find_node(
     }
 }
 
-fn find_bound(
+/// The node of a variable, if it has one already.
+pub(crate) fn find_bound(
     row: &RowScene<'_>,
     named: &Vec<(&str, NodeId)>,
     variable: &Option<Name>,
@@ -101,8 +103,42 @@ fn bind_new<'a>(
     Ok(())
 }
 
-// The node of a pattern, bound or new, behind the ids of those before.
-#[tactic(auto, using(crate::proofs::BoundLemmas::bound_last, crate::proofs::BoundLemmas::pushed_id, crate::proofs::GrowthLemmas::added_grows, crate::proofs::GrowthLemmas::added_there, crate::proofs::GrowthLemmas::there_grows, crate::proofs::GrowthLemmas::there_push))]
+/// The node of a pattern, bound or new.
+#[tactic(auto, using(crate::proofs::BoundLemmas::bound_last, crate::proofs::GrowthLemmas::added_grows, crate::proofs::GrowthLemmas::added_there, crate::proofs::GrowthLemmas::there_grows))]
+pub(crate) fn place_node<'a, T: Tables>(
+    row: &RowScene<'_>,
+    live: &mut LiveGraph<T>,
+    pattern: &'a NodePattern,
+    outcome: Result<Vec<(&str, Value)>, Fault>,
+    named: &mut Vec<(&'a str, NodeId)>,
+) -> Result<NodeId, Fault>
+    requires tested { test_bound false live.old.graph
+        (bound_value (node_name (node_view pattern.now)) (row_at row.now)) ≡ Ok tt }
+    requires there { AreThere live.old.graph (named_ids named.old.items) }
+    ensures ok { IfOk result (λ id. (ids : List ℕ) → node_of
+        (max_elements_in row.now.scene.now) (outcome_view outcome.entry) (node_view pattern.now)
+        (making_with live.old.graph (row_at row.now) named.old.items ids) ≡ Ok
+        (making_with live.new.graph (row_at row.now) named.new.items (ids ++ id.0 ∷ []))) }
+    ensures err { IfErr result (λ e. e ≢ OutOfMemory → (ids : List ℕ) → node_of
+        (max_elements_in row.now.scene.now) (outcome_view outcome.entry) (node_view pattern.now)
+        (making_with live.old.graph (row_at row.now) named.old.items ids) ≡ Err e) }
+    ensures aside { live.new.aside ≡ live.old.aside }
+    ensures grows { OnOk result (Grows live.old.graph live.new.graph) }
+    ensures there { IfOk result (λ id. has_node live.new.graph id.0 ≡ true) }
+    ensures named { OnOk result (AreThere live.new.graph (named_ids named.new.items)) }
+{
+    match find_bound(row, named, &pattern.variable)? {
+        Some(id) => Ok(id),
+        None => {
+            let new = add_node(row.scene.query, live, pattern, outcome)?;
+            bind_new(named, &pattern.variable, new)?;
+            Ok(new)
+        }
+    }
+}
+
+// The node of a pattern, behind the ids of those before.
+#[tactic(auto, using(crate::proofs::BoundLemmas::pushed_id, crate::proofs::GrowthLemmas::there_grows, crate::proofs::GrowthLemmas::there_push))]
 fn make_node<'a, T: Tables>(
     row: &RowScene<'_>,
     live: &mut LiveGraph<T>,
@@ -125,18 +161,9 @@ fn make_node<'a, T: Tables>(
     ensures grows { OnOk result (Grows live.old.graph live.new.graph) }
     ensures there { OnOk result (AllThere live.new.graph named.new.items ids.new.items) }
 {
-    match find_bound(row, named, &pattern.variable)? {
-        Some(id) => {
-            ids.push(id)?;
-            Ok(())
-        }
-        None => {
-            let new = add_node(row.scene.query, live, pattern, outcome)?;
-            bind_new(named, &pattern.variable, new)?;
-            ids.push(new)?;
-            Ok(())
-        }
-    }
+    let id = place_node(row, live, pattern, outcome, named)?;
+    ids.push(id)?;
+    Ok(())
 }
 
 // The nodes behind the first.

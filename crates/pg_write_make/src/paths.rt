@@ -27,7 +27,7 @@ pub(crate) struct Trail {
 }
 
 #[tactic(auto, using(crate::proofs::GrowthLemmas::grows_not, crate::proofs::GrowthLemmas::grows_twice, crate::proofs::GrowthLemmas::there_grows))]
-fn make_path<'a, T: Tables>(
+pub(crate) fn make_path<'a, T: Tables>(
     row: &RowScene<'_>,
     live: &mut LiveGraph<T>,
     path: &'a PathPattern,

@@ -11,7 +11,7 @@ use Rattle.pg_write_make.specs.Bindings.{match_bindings}
 use Rattle.pg_write_make.specs.Lent.{kept_view, paths_view, trail_view}
 use Rattle.pg_write_make.specs.Outcomes.{path_outcomes, paths_made}
 use Rattle.pg_write_make.specs.Scenes.{max_elements_in, parameters_in, reading, row_in}
-use Rattle.pg_write_make.proofs.creation.make_row.Goals as goal
+use Rattle.pg_write_make.proofs.creation.make_and_bind.Goals as goal
 
 pub bind_row-requires : goal.bind_row-requires
 bind_row-requires g c =

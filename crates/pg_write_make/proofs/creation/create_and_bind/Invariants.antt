@@ -6,7 +6,7 @@ use Rattle.pg_rows.specs.Tables.{table}
 use Rattle.pg_write_make.specs.Creations.{rows_created}
 use Rattle.pg_write_make.specs.Lent.{paths_view}
 use Rattle.pg_write_make.specs.Scenes.{max_elements_in, parameters_in}
-use Rattle.pg_write_make.proofs.creation.create_rows.Given as goal
+use Rattle.pg_write_make.proofs.creation.create_and_bind.Given as goal
 
 abbrev pub invariant-loop-left : goal.invariant-loop-left
 invariant-loop-left g l =

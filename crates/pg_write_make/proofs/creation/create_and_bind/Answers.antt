@@ -10,7 +10,7 @@ use Rattle.pg_write_make.proofs.StepLemmas.{row_done, row_failed}
 use Rattle.pg_write_make.specs.Creations.{rows_created}
 use Rattle.pg_write_make.specs.Lent.{paths_view}
 use Rattle.pg_write_make.specs.Scenes.{max_elements_in, parameters_in, row_in}
-use Rattle.pg_write_make.proofs.creation.create_rows.Goals as goal
+use Rattle.pg_write_make.proofs.creation.create_and_bind.Goals as goal
 
 pub loop-left-init : goal.loop-left-init
 loop-left-init g c = record {
@@ -48,24 +48,24 @@ returns-in_err-test_paths-clause-err g c =
 pub returns-in_err-test_paths-clause-aside : goal.returns-in_err-test_paths-clause-aside
 returns-in_err-test_paths-clause-aside g c = c.loop-left.invariant.aside
 
-pub make_row-requires-clause-tested : goal.make_row-requires-clause-tested
-make_row-requires-clause-tested g c =
+pub make_and_bind-requires-clause-tested : goal.make_and_bind-requires-clause-tested
+make_and_bind-requires-clause-tested g c =
     let scene = c.args.scene.now in
     tests_read c.graph.result c.loop-left.live.graph (row_in scene c.deref.result.now) (row_in scene c.in-Some.row.items) (paths_view c.args.paths.now) (Ok tt) c.graph.ensures.is
     (ap (row_in scene) c.deref.ensures.value) c.in_ok-test_paths.ensures
 
-pub make_row-requires-clause-within : goal.make_row-requires-clause-within
-make_row-requires-clause-within g c =
+pub make_and_bind-requires-clause-within : goal.make_and_bind-requires-clause-within
+make_and_bind-requires-clause-within g c =
     let len = rw c.in-Some.is at c.in_ok-row.ensures.len in
     subst (λ n. n ≤ length c.args.scene.now.names.now) (sym (len ∙ c.loop-left.invariant.narrow)) c.requires.within
 
-pub make_row-requires-clause-names : goal.make_row-requires-clause-names
-make_row-requires-clause-names g c =
+pub make_and_bind-requires-clause-names : goal.make_and_bind-requires-clause-names
+make_and_bind-requires-clause-names g c =
     let len = rw c.in-Some.is at c.in_ok-row.ensures.len in
     ap (λ n. add_path_names (paths_view c.args.paths.now) (take n c.args.scene.now.names.now)) (len ∙ c.loop-left.invariant.narrow) ∙ c.requires.names
 
-pub returns-in_err-make_row-clause-err : goal.returns-in_err-make_row-clause-err
-returns-in_err-make_row-clause-err g c =
+pub returns-in_err-make_and_bind-clause-err : goal.returns-in_err-make_and_bind-clause-err
+returns-in_err-make_and_bind-clause-err g c =
     let parameters = parameters_in c.args.scene.now in
     let ps = paths_view c.args.paths.now in
     let names = c.args.scene.now.names.now in
@@ -74,18 +74,18 @@ returns-in_err-make_row-clause-err g c =
     let tested = tests_read c.graph.result graph (row_in c.args.scene.now c.deref.result.now) row ps (Ok tt) c.graph.ensures.is (ap (row_in c.args.scene.now) c.deref.ensures.value) c.in_ok-test_paths.ensures in
     let passed = sym (row_passed parameters (max_elements_in c.args.scene.now) ps graph row tested) in
     let first = rw c.in-Some.is at c.in_ok-row.ensures.row in
-    let p = err_from_is_err_and c.from_residual-in_err-make_row.result c.from_residual-in_err-make_row.ensures.1 in
+    let p = err_from_is_err_and c.from_residual-in_err-make_and_bind.result c.from_residual-in_err-make_and_bind.ensures.1 in
     rw (p.1, p.2) (λ other. row_failed parameters (max_elements_in c.args.scene.now) ps names (map view c.in-Some.row.items) (rows_left c.loop-left.left) (rows_left c.next_row.new.self)
     c.loop-left.live.graph (table c.loop-left.made)
     (rows_created parameters (max_elements_in c.args.scene.now) ps c.args.live.now.graph (rows_named names (table c.args.rows)))
-    first c.loop-left.invariant.rest c.in_err-make_row.field-0.0 (passed ∙ c.in_err-make_row.ensures.err other))
+    first c.loop-left.invariant.rest c.in_err-make_and_bind.field-0.0 (passed ∙ c.in_err-make_and_bind.ensures.err other))
 
-pub returns-in_err-make_row-clause-aside : goal.returns-in_err-make_row-clause-aside
-returns-in_err-make_row-clause-aside g c =
-    c.make_row.ensures.aside ∙ c.loop-left.invariant.aside
+pub returns-in_err-make_and_bind-clause-aside : goal.returns-in_err-make_and_bind-clause-aside
+returns-in_err-make_and_bind-clause-aside g c =
+    c.make_and_bind.ensures.aside ∙ c.loop-left.invariant.aside
 
 pub push-requires : goal.push-requires
-push-requires g c = c.in_ok-make_row.ensures.whole ∙ sym c.loop-left.invariant.width
+push-requires g c = c.in_ok-make_and_bind.ensures.whole ∙ sym c.loop-left.invariant.width
 
 pub loop-left-smaller : goal.loop-left-smaller
 loop-left-smaller g c = one_fewer (rows_left c.loop-left.left) (rows_left c.next_row.new.self) (map view c.in-Some.row.items) (rw c.in-Some.is at c.in_ok-row.ensures.row)
@@ -104,11 +104,11 @@ loop-left-preserved g c =
       rest = row_done parameters (max_elements_in c.args.scene.now) ps names (map view c.in-Some.row.items) (rows_left c.loop-left.left) (rows_left c.next_row.new.self)
           c.loop-left.live.graph (table c.loop-left.made)
           (rows_created parameters (max_elements_in c.args.scene.now) ps c.args.live.now.graph (rows_named names (table c.args.rows)))
-          first c.loop-left.invariant.rest c.make_row.new.live.graph
-          (map view c.in_ok-make_row.field-0.items) (table c.push.new.self) (passed ∙ c.in_ok-make_row.ensures.ok) c.in_ok-push.ensures.rows;
+          first c.loop-left.invariant.rest c.make_and_bind.new.live.graph
+          (map view c.in_ok-make_and_bind.field-0.items) (table c.push.new.self) (passed ∙ c.in_ok-make_and_bind.ensures.ok) c.in_ok-push.ensures.rows;
       width = c.push.ensures.width ∙ c.loop-left.invariant.width;
       narrow = c.next_row.ensures.width ∙ c.loop-left.invariant.narrow;
-      aside = c.make_row.ensures.aside ∙ c.loop-left.invariant.aside;
+      aside = c.make_and_bind.ensures.aside ∙ c.loop-left.invariant.aside;
     }
 
 pub returns-in_err-push-clause-err : goal.returns-in_err-push-clause-err
@@ -118,7 +118,7 @@ returns-in_err-push-clause-err g c =
 
 pub returns-in_err-push-clause-aside : goal.returns-in_err-push-clause-aside
 returns-in_err-push-clause-aside g c =
-    c.make_row.ensures.aside ∙ c.loop-left.invariant.aside
+    c.make_and_bind.ensures.aside ∙ c.loop-left.invariant.aside
 
 pub returns-clause-ok : goal.returns-clause-ok
 returns-clause-ok g c =

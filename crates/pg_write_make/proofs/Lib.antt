@@ -16,6 +16,7 @@ pub mod PathLemmas
 pub mod RoomLemmas
 pub mod RowLemmas
 pub mod ShapeLemmas
+pub mod ShortLemmas
 pub mod StepLemmas
 pub mod TrailLemmas
 pub mod TurnLemmas

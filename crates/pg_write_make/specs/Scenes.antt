@@ -1,5 +1,5 @@
 -- What expressions give at the rows of a clause, which share their names and the parameters.
-use Rattle.std.specs.Prelude.{◌≡◌, ℕ, List, [], map, length, take}
+use Rattle.std.specs.Prelude.{◌≡◌, ◌≤◌, ℕ, List, [], map, length, take}
 use Rattle.pg_expr.specs.Prepared.{tree_of}
 use Rattle.pg_expr.specs.declared.prepared.Prepared.{Prepared}
 use Rattle.pg_meaning.specs.Answer.{Answer}
@@ -44,3 +44,8 @@ reading parameters = record { parameters = parameters; quota = record { max_step
 pub record IsBare (at : RowScene) (ps : List PathPattern) : Type 0 where
   pub wide : length at.values.now ≡ length at.scene.now.names.now
   pub names : add_path_names ps (take (length at.values.now) at.scene.now.names.now) ≡ at.scene.now.names.now
+
+-- a row that may get the variables of all paths
+pub record IsReady (s : ClauseScope) (values : List Value) (ps : List PathPattern) : Type 0 where
+  pub within : length values ≤ length s.names.now
+  pub names : add_path_names ps (take (length values) s.names.now) ≡ s.names.now

@@ -24,7 +24,11 @@ use pg_syntax_tree::PathPattern;
 use pg_value_core::Value;
 use std::alloc::{AllocError, Global};
 
-fn first_labels<'a>(alloc: Global, paths: &'a [PathPattern]) -> Result<Vec<&'a str>, AllocError>
+/// The labels of the first node.
+pub(crate) fn first_labels<'a>(
+    alloc: Global,
+    paths: &'a [PathPattern],
+) -> Result<Vec<&'a str>, AllocError>
     ensures { IfOk result
         (λ texts. texts_of texts.items ≡ first_labels (paths_view paths.now)) }
 {

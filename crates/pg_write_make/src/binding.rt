@@ -1,5 +1,5 @@
 //! The variables that a row gets behind its own.
-ghost use Rattle.std.specs.Prelude.{◌≡◌, IfOk, OnOk, length, map};
+ghost use Rattle.std.specs.Prelude.{◌≡◌, OnOk, length, map};
 ghost use Rattle.pg_rows.specs.Named.{row_of};
 ghost use Rattle.pg_value_core.specs.View.{view};
 ghost use Rattle.pg_write_make.specs.Bindings.{bind_each, match_bindings, named, EndsWith};
@@ -14,9 +14,9 @@ use pg_syntax_tree::PathPattern;
 use pg_value_core::Value;
 use std::alloc::AllocError;
 
-/// Binds variables in turn, each that isn't bound yet, in the columns behind the values.
+// Binds variables in turn, each that isn't bound yet, in the columns behind the values.
 #[tactic(auto, using(crate::proofs::NameLemmas::bound_already, crate::proofs::NameLemmas::binds_one, crate::proofs::NameLemmas::all_bound))]
-pub(crate) fn bind_all(
+fn bind_all(
     scene: &ClauseScope<'_>,
     values: &mut Vec<Value>,
     bindings: Vec<(&str, Value)>,
@@ -36,28 +36,26 @@ pub(crate) fn bind_all(
     Ok(())
 }
 
-/// The row with the variables of its trails. A row that has a value for each name has them all.
+/// The variables of the trails. A row that has a value for each name has them all.
 #[tactic(auto, using(crate::proofs::NameLemmas::none_new))]
 pub(crate) fn bind_row<T: Tables>(
     scene: &ClauseScope<'_>,
     graph: &GraphView<'_, T>,
-    row: Vec<Value>,
+    values: &mut Vec<Value>,
     paths: &[PathPattern],
     trails: &Vec<Trail>,
-) -> Result<Vec<Value>, AllocError>
-    requires { EndsWith scene.now.names.now (map view row.items) (named
+) -> Result<(), AllocError>
+    requires { EndsWith scene.now.names.now (map view values.old.items) (named
         (match_bindings graph.now (paths_view paths.now) (map trail_view trails.now.items))) }
-    ensures bound { IfOk result (λ values. row_of scene.now.names.now (map view values.items)
+    ensures bound { OnOk result (row_of scene.now.names.now (map view values.new.items)
         ≡ bind_each (named
         (match_bindings graph.now (paths_view paths.now) (map trail_view trails.now.items)))
-        (row_of scene.now.names.now (map view row.items))) }
-    ensures whole { IfOk result (λ values. length values.items ≡ length scene.now.names.now) }
+        (row_of scene.now.names.now (map view values.old.items))) }
+    ensures whole { OnOk result (length values.new.items ≡ length scene.now.names.now) }
 {
-    if row.len() == scene.names.len() {
-        return Ok(row);
+    if values.len() == scene.names.len() {
+        return Ok(());
     }
     let bindings = row_bindings(scene.query.alloc, graph, paths, trails)?;
-    let mut values = row;
-    bind_all(scene, &mut values, bindings)?;
-    Ok(values)
+    bind_all(scene, values, bindings)
 }

@@ -15,6 +15,7 @@ mod kept;
 mod lone;
 mod making;
 mod paths;
+mod short;
 mod storable;
 mod texts;
 mod trails;

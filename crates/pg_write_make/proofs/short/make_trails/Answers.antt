@@ -11,14 +11,14 @@ use Rattle.pg_write_make.specs.Bindings.{match_bindings}
 use Rattle.pg_write_make.specs.Lent.{kept_view, paths_view, trail_view}
 use Rattle.pg_write_make.specs.Outcomes.{path_outcomes, paths_made}
 use Rattle.pg_write_make.specs.Scenes.{max_elements_in, parameters_in, reading, row_in}
-use Rattle.pg_write_make.proofs.creation.make_and_bind.Goals as goal
+use Rattle.pg_write_make.proofs.short.make_trails.Goals as goal
 
 pub bind_row-requires : goal.bind_row-requires
 bind_row-requires g c =
     ready_row (max_elements_in c.args.scene.now) (reading (parameters_in c.args.scene.now)) c.graph.result c.args.live.now.graph
-    c.make_paths.new.live.graph c.graph-2.result c.args.scene.now.names.now c.args.row.items
+    c.make_paths.new.live.graph c.graph-2.result c.args.scene.now.names.now c.args.values.now.items
     (map kept_view c.in_ok-kept.kept.items) (paths_view c.args.paths.now) (map trail_view c.in_ok-trails.trails.items)
-    c.requires.within c.requires.names c.graph.ensures.is c.graph-2.ensures.is
+    c.requires.ready.within c.requires.ready.names c.graph.ensures.is c.graph-2.ensures.is
     (c.in_ok-kept.ensures.ok ∙ ap (λ values. map (path_outcomes (reading (parameters_in c.args.scene.now)) c.graph.result (row_in c.args.scene.now values)) (paths_view c.args.paths.now)) c.deref.ensures.value)
     (ap (λ values. paths_made (max_elements_in c.args.scene.now) (map kept_view c.in_ok-kept.kept.items) (paths_view c.args.paths.now) (c.args.live.now.graph, row_in c.args.scene.now values)) (sym c.deref-2.ensures.value) ∙ c.in_ok-trails.ensures.ok)
 
@@ -42,19 +42,19 @@ returns-in_err-trails-clause-err g c =
     let graph = c.args.live.now.graph in
     let kept = c.in_ok-kept.ensures.ok ∙ ap (λ values. map (path_outcomes (reading (parameters_in scene)) c.graph.result (row_in scene values)) ps) c.deref.ensures.value in
     let p = err_from_is_err_and c.from_residual-in_err-trails.result c.from_residual-in_err-trails.ensures.1 in
-    rw (p.1, p.2) (λ other. paths_refused (parameters_in scene) (max_elements_in c.args.scene.now) ps c.graph.result graph (row_in scene c.deref-2.result.now) (row_in scene c.args.row.items) (map kept_view c.in_ok-kept.kept.items)
+    rw (p.1, p.2) (λ other. paths_refused (parameters_in scene) (max_elements_in c.args.scene.now) ps c.graph.result graph (row_in scene c.deref-2.result.now) (row_in scene c.args.values.now.items) (map kept_view c.in_ok-kept.kept.items)
     c.graph.ensures.is (ap (row_in scene) c.deref-2.ensures.value) kept c.in_err-trails.field-0.0 (c.in_err-trails.ensures.err other))
 
 pub returns-in_err-trails-clause-aside : goal.returns-in_err-trails-clause-aside
 returns-in_err-trails-clause-aside g c = c.make_paths.ensures.aside
 
-pub returns-in_err-values-clause-err : goal.returns-in_err-values-clause-err
-returns-in_err-values-clause-err g c =
-    let p = err_from_is_err_and c.from_residual-in_err-values.result c.from_residual-in_err-values.ensures.1 in
+pub returns-in_err-bind_row-clause-err : goal.returns-in_err-bind_row-clause-err
+returns-in_err-bind_row-clause-err g c =
+    let p = err_from_is_err_and c.from_residual-in_err-bind_row.result c.from_residual-in_err-bind_row.ensures.1 in
     rw (p.1, p.2) (λ other. absurd (other refl))
 
-pub returns-in_err-values-clause-aside : goal.returns-in_err-values-clause-aside
-returns-in_err-values-clause-aside g c = c.make_paths.ensures.aside
+pub returns-in_err-bind_row-clause-aside : goal.returns-in_err-bind_row-clause-aside
+returns-in_err-bind_row-clause-aside g c = c.make_paths.ensures.aside
 
 pub returns-clause-ok : goal.returns-clause-ok
 returns-clause-ok g c =
@@ -63,16 +63,16 @@ returns-clause-ok g c =
     let graph = c.args.live.now.graph in
     let kept = c.in_ok-kept.ensures.ok ∙ ap (λ values. map (path_outcomes (reading (parameters_in scene)) c.graph.result (row_in scene values)) ps) c.deref.ensures.value in
     let trails = map trail_view c.in_ok-trails.trails.items in
-    let row = row_in scene c.args.row.items in
+    let row = row_in scene c.args.values.now.items in
     let bound =
-    c.in_ok-values.ensures.bound
+    c.in_ok-bind_row.ensures.bound
     ∙ bind_named (match_bindings c.graph-2.result ps trails) row ∙ sym (match_bound c.graph-2.result ps trails row) in
-    row_bound (parameters_in scene) (max_elements_in c.args.scene.now) ps c.graph.result graph (row_in scene c.deref-2.result.now) (row_in scene c.args.row.items) (map kept_view c.in_ok-kept.kept.items)
+    row_bound (parameters_in scene) (max_elements_in c.args.scene.now) ps c.graph.result graph (row_in scene c.deref-2.result.now) (row_in scene c.args.values.now.items) (map kept_view c.in_ok-kept.kept.items)
     c.graph.ensures.is (ap (row_in scene) c.deref-2.ensures.value) kept c.make_paths.new.live.graph c.graph-2.result (map trail_view c.in_ok-trails.trails.items)
-    (row_of scene.names.now (map view c.in_ok-values.values.items)) c.in_ok-trails.ensures.ok c.graph-2.ensures.is bound
+    (row_of scene.names.now (map view c.bind_row.new.values.items)) c.in_ok-trails.ensures.ok c.graph-2.ensures.is bound
 
 pub returns-clause-whole : goal.returns-clause-whole
-returns-clause-whole g c = c.in_ok-values.ensures.whole
+returns-clause-whole g c = c.in_ok-bind_row.ensures.whole
 
 pub returns-clause-aside : goal.returns-clause-aside
 returns-clause-aside g c = c.make_paths.ensures.aside

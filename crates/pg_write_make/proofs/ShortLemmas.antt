@@ -5,7 +5,7 @@ use Rattle.std.specs.Prelude.{OnOk}
 use Rattle.std.specs.declared.alloc.AllocError.{AllocError}
 use Rattle.pg_meaning.specs.Answer.{◌>>=◌}
 use Rattle.pg_meaning.specs.Graph.{Graph}
-use Rattle.pg_meaning.specs.Patterns.{Assignment, Trail, add_path_names, bind_match, bond_value, node_name, nodes_of, path_value, relationship_name, single, text_of}
+use Rattle.pg_meaning.specs.Patterns.{Assignment, Trail, add_path_names, bind_match, node_name, nodes_of, path_value, relationship_name, single, text_of}
 use Rattle.pg_meaning.specs.Reading.{test_nodes, test_paths}
 use Rattle.pg_meaning.specs.Rows.{Row, bind_if_named, value_in}
 use Rattle.pg_meaning.specs.Tree.{NodePattern, PathPattern, RelationshipPattern}
@@ -17,7 +17,7 @@ use Rattle.pg_value_core.specs.declared.value.Value.{Value}
 use Rattle.pg_write_make.proofs.BindingLemmas.{match_bound}
 use Rattle.pg_write_make.proofs.NameLemmas.{all_bound, bound_already, bound_now}
 use Rattle.pg_write_make.proofs.ShapeLemmas.{named_alike, ready_row}
-use Rattle.pg_write_make.specs.Bindings.{Binding, bind_each, hop_bindings, match_bindings, named, names_in, path_bindings, EndsWith, add_each}
+use Rattle.pg_write_make.specs.Bindings.{Binding, bind_each, hop_bindings, match_bindings, names_in, path_bindings, EndsWith, add_each}
 use Rattle.pg_write_make.specs.Creations.{path_left, row_made}
 use Rattle.pg_write_make.specs.Outcomes.{Outcomes, path_made, path_outcomes, paths_made, trail_of}
 use Rattle.pg_write_make.specs.Scenes.{reading}

@@ -1,4 +1,4 @@
-use Rattle.std.proofs.Common.{◌≡◌, List, ◌∷◌, [], false, Ok, map, None, option_map, refl, sym, ap, ◌∙◌}
+use Rattle.std.proofs.Common.{List, ◌∷◌, [], false, map, option_map, refl, sym, ap, ◌∙◌}
 use Rattle.std.proofs.lemmas.Result.{IfOk-from_err}
 use Rattle.pg_expr.proofs.ExitLemmas.{fault_passed}
 use Rattle.pg_meaning.specs.Patterns.{node_name, nodes_of, relationship_name}

@@ -1,8 +1,8 @@
-use Rattle.std.proofs.Common.{◌≡◌, List, ◌∷◌, [], Ok, map, None, option_map, refl, sym, ap, ◌∙◌}
+use Rattle.std.proofs.Common.{List, ◌∷◌, [], map, option_map, refl, sym, ap, ◌∙◌}
 use Rattle.std.proofs.lemmas.Result.{IfOk-from_err}
 use Rattle.pg_expr.proofs.ExitLemmas.{fault_passed}
-use Rattle.pg_meaning.specs.Patterns.{node_name, relationship_name}
-use Rattle.pg_meaning.specs.Value.{node, relationship}
+use Rattle.pg_meaning.specs.Patterns.{node_name}
+use Rattle.pg_meaning.specs.Value.{node}
 use Rattle.pg_meaning.specs.declared.fault.Fault.TheVariants.{OutOfMemory}
 use Rattle.pg_syntax_tree.specs.View.{hop_view, name_view, path_view}
 use Rattle.pg_value_core.specs.declared.value.Value.{Value}

@@ -95,8 +95,8 @@ pub(crate) fn make_bare<'a, T: Tables>(
     paths: &'a [PathPattern],
 ) -> Result<(), Fault>
     requires wide { length values.now ≡ length scene.now.names.now }
-    requires names { add_path_names
-        (paths_view paths.now) (take (length values.now) scene.now.names.now) ≡ scene.now.names.now }
+    requires names { add_path_names (paths_view paths.now)
+        (take (length values.now) scene.now.names.now) ≡ scene.now.names.now }
     requires tested { test_paths false live.old.graph
         (row_in scene.now values.now) (paths_view paths.now) ≡ Ok tt }
     ensures ok { OnOk result (row_made (parameters_in scene.now)

@@ -62,8 +62,8 @@ pub(crate) fn make_lone_bond<T: Tables>(
     hop: &(RelationshipPattern, NodePattern),
 ) -> Result<Bond, Fault>
     requires alone { path.now.hops.items ≡ hop.now ∷ [] }
-    requires tested { test_nodes false live.old.graph (row_at row.now) (nodes_of (path_view path.now))
-        ≡ Ok tt }
+    requires tested { test_nodes false live.old.graph
+        (row_at row.now) (nodes_of (path_view path.now)) ≡ Ok tt }
     ensures ok { IfOk result (λ made. left_at row.now (path_view path.now) live.old.graph
         ≡ Ok (live.new.graph, trail_of (made.left.0 ∷ made.right.0 ∷ []) (made.id.0 ∷ []))) }
     ensures err { IfErr result (λ e. e ≢ OutOfMemory
@@ -86,8 +86,8 @@ fn make_long<T: Tables>(
     live: &mut LiveGraph<T>,
     path: &PathPattern,
 ) -> Result<(), Fault>
-    requires tested { test_nodes false live.old.graph (row_at row.now) (nodes_of (path_view path.now))
-        ≡ Ok tt }
+    requires tested { test_nodes false live.old.graph
+        (row_at row.now) (nodes_of (path_view path.now)) ≡ Ok tt }
     ensures ok { OnOk result
         (graph_at row.now (path_view path.now) live.old.graph ≡ Ok live.new.graph) }
     ensures err { IfErr result (λ e. e ≢ OutOfMemory
@@ -108,8 +108,8 @@ pub(crate) fn make_lone<T: Tables>(
     path: &PathPattern,
     labels: &Vec<&str>,
 ) -> Result<(), Fault>
-    requires tested { test_nodes false live.old.graph (row_at row.now) (nodes_of (path_view path.now))
-        ≡ Ok tt }
+    requires tested { test_nodes false live.old.graph
+        (row_at row.now) (nodes_of (path_view path.now)) ≡ Ok tt }
     requires labels { texts_of labels.now.items
         ≡ meant_texts (names_view path.now.first.labels.items) }
     ensures ok { OnOk result

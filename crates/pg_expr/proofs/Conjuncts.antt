@@ -17,9 +17,17 @@ by_truth (Ok False) rest = refl
 by_truth (Ok Null) rest = refl
 by_truth (Err e) rest = refl
 
-by_answer : (r : Answer) (rest : Result Bool Fault) → (r >>= λ v. truth_of v >>= λ t. elim (is_true t) [ true ↦ rest | false ↦ Ok false ]) ≡ ((r >>= λ v. truth_of v >>= λ t. Ok (is_true t)) >>= λ b. cond b rest (Ok false))
+pub by_answer : (r : Answer) (rest : Result Bool Fault) → (r >>= λ v. truth_of v >>= λ t. elim (is_true t) [ true ↦ rest | false ↦ Ok false ]) ≡ ((r >>= λ v. truth_of v >>= λ t. Ok (is_true t)) >>= λ b. cond b rest (Ok false))
 by_answer (Ok v) rest = by_truth (truth_of v) rest
 by_answer (Err e) rest = refl
+
+alone_of : (b : Bool) → ◌≡◌ {A = Result Bool Fault} (cond b (Ok true) (Ok false)) (Ok b)
+alone_of true = refl
+alone_of false = refl
+
+pub whole : (r : Result Bool Fault) → (r >>= λ b. cond b (Ok true) (Ok false)) ≡ r
+whole (Ok b) = alone_of b
+whole (Err e) = refl
 
 module _ (s : RowContext) (g : Graph) where
   one_more : (e : tree.Expression) (es : List tree.Expression) → all_met_by s g (e ∷ es) ≡ (is_met_by s g e >>= λ b. cond b (all_met_by s g es) (Ok false))
@@ -33,14 +41,6 @@ module _ (s : RowContext) (g : Graph) where
 
   pub next_fault : (e : tree.Expression) (es : List tree.Expression) (f : Fault) → is_met_by s g e ≡ Err f → all_met_by s g (e ∷ es) ≡ Err f
   next_fault e es f h = one_more e es ∙ ap (λ r. r >>= λ c. cond c (all_met_by s g es) (Ok false)) h
-
-  alone_of : (b : Bool) → ◌≡◌ {A = Result Bool Fault} (cond b (Ok true) (Ok false)) (Ok b)
-  alone_of true = refl
-  alone_of false = refl
-
-  whole : (r : Result Bool Fault) → (r >>= λ b. cond b (Ok true) (Ok false)) ≡ r
-  whole (Ok b) = alone_of b
-  whole (Err e) = refl
 
   pub alone : (e : tree.Expression) → all_met_by s g (e ∷ []) ≡ is_met_by s g e
   alone e = one_more e [] ∙ whole (is_met_by s g e)

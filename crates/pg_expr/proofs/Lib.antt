@@ -11,6 +11,7 @@ pub mod PlainReads
 pub mod Presence
 pub mod RowReads
 pub mod ScalarLemmas
+pub mod SideLemmas
 pub mod TextListLemmas
 pub mod Turns
 pub mod Walks

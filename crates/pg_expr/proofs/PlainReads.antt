@@ -24,7 +24,7 @@ pub as_it_is : (a : Answer) → ((a >>= λ w. Ok w) >>= λ w. Ok w) ≡ a
 as_it_is (Ok v) = refl
 as_it_is (Err e) = refl
 
-of_held : (g : Graph) (k : List ℕ) (a : Answer) → (a >>= λ v. (property_of g v k >>= λ w. Ok w) >>= λ w. Ok w) ≡ (a >>= λ v. property_of g v k)
+pub of_held : (g : Graph) (k : List ℕ) (a : Answer) → (a >>= λ v. (property_of g v k >>= λ w. Ok w) >>= λ w. Ok w) ≡ (a >>= λ v. property_of g v k)
 of_held g k (Ok v) = as_it_is (property_of g v k)
 of_held g k (Err e) = refl
 

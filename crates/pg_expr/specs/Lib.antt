@@ -9,3 +9,4 @@ pub mod Prepared
 pub mod Reads
 pub mod Scalars
 pub mod Contexts
+pub mod Sides

@@ -1,12 +1,20 @@
--- The trees that prepared expressions stand for, over columns of these names.
+-- What prepared expressions stand for: a tree over columns of these names; of a condition also the names and the parameters for which it was prepared.
 use Rattle.std.specs.Prelude.{ℕ, List, Option, option_map}
 use Rattle.pg_expr.specs.declared.prepared.Prepared.{Prepared}
-use Rattle.pg_expr.specs.declared.prepared.PreparedCondition.{PreparedCondition}
+use Rattle.pg_expr.specs.declared.prepared_condition.PreparedCondition.{PreparedCondition}
 use Rattle.pg_meaning.specs.Tree.{Expression}
+use Rattle.pg_meaning.specs.Value.{Entries}
 use Rattle.pg_syntax_tree.specs.View.{expression_view}
+use Rattle.pg_value_core.specs.Given.{parameters_view}
 
 abbrev pub tree_of : (names : List (List ℕ)) → Prepared → Expression
 tree_of names p = expression_view p.tree.now
 
-abbrev pub condition_of : (names : List (List ℕ)) → PreparedCondition → Option Expression
-condition_of names p = option_map (λ e. expression_view e.now) p.whole
+abbrev pub condition_of : PreparedCondition → Option Expression
+condition_of p = option_map (λ e. expression_view e.now) p.whole
+
+abbrev pub names_of : PreparedCondition → List (List ℕ)
+names_of p = p.names.now
+
+abbrev pub parameters_of : PreparedCondition → Entries
+parameters_of p = parameters_view p.parameters.now

@@ -33,7 +33,8 @@ pub(crate) enum Scalar<'a> {
     Lent(&'a Value),
 }
 
-fn scalar_of<'a>(value: &'a Value) -> Scalar<'a>
+/// A value where it stands.
+pub(crate) fn scalar_of<'a>(value: &'a Value) -> Scalar<'a>
     ensures { scalar_view result ≡ Some (view value.now) }
 {
     match value {
@@ -135,7 +136,12 @@ fn item_at<'a>(items: &'a Vec<Value>, place: usize) -> Scalar<'a>
     }
 }
 
-fn property_lent<'a, T: Tables>(graph: &GraphView<'a, T>, value: &'a Value, key: &str) -> Scalar<'a>
+/// What a value where it stands has under a key.
+pub(crate) fn property_lent<'a, T: Tables>(
+    graph: &GraphView<'a, T>,
+    value: &'a Value,
+    key: &str,
+) -> Scalar<'a>
     ensures { Tells (scalar_view result) (property_of graph.now (view value.now) key.now) }
 {
     match value {

@@ -3,6 +3,8 @@ use Rattle.std.proofs.Common.{◌≡◌, ℕ, zero, suc, ◌+◌, ◌-◌, ◌<�
 use Rattle.std.proofs.lemmas.List.{length-drop}
 use Rattle.std.specs.List.{AllByRecursion}
 use Rattle.std.specs.Prelude.{unwrap_or}
+use Rattle.pg_expr.specs.Prepared.{condition_of, names_of, parameters_of}
+use Rattle.pg_expr.specs.declared.prepared_condition.PreparedCondition.{PreparedCondition}
 use Rattle.pg_meaning.specs.Answer.{◌>>=◌}
 use Rattle.pg_meaning.specs.Conditions.{condition}
 use Rattle.pg_meaning.specs.Graph.{Graph}
@@ -90,3 +92,12 @@ reaches_end c most count first l e = λ rows n.
 
 pub reaches_all : (c : Cut) (count : ℕ) → Reaches c count count
 reaches_all c count = λ rows n. ap (cut_of c) (sym (all_taken count rows (let e : length rows ≤ count = omega (arith, n) in e)))
+
+-- rows that pass what was prepared of a condition
+pub prepared_passing : (p : PreparedCondition) (parameters : Entries) (graph : Graph) (names : List (List ℕ)) (where_ : Option Expression) (width : ℕ) (rows : List (List Value))
+    → condition_of p ≡ where_ → names_of p ≡ names → parameters_of p ≡ parameters
+    → passing_given (parameters_of p) graph (names_of p) (condition_of p) width rows ≡ passing_given parameters graph names where_ width rows
+prepared_passing p parameters graph names where_ width rows tree named given =
+    ap (λ c. passing_given (parameters_of p) graph (names_of p) c width rows) tree
+    ∙ ap (λ ns. passing_given (parameters_of p) graph ns where_ width rows) named
+    ∙ ap (λ ps. passing_given ps graph names where_ width rows) given

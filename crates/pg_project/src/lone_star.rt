@@ -60,6 +60,6 @@ pub(crate) fn lone_star_rows<T: Tables>(
     if lets_all_pass(cut, clause.condition) {
         return Ok(rows);
     }
-    let wanted = prepare_condition(query.alloc, clause.condition, scope.names)?;
-    passing_rows(scope, cut, &wanted, rows, scope.names.len(), graph)
+    let wanted = prepare_condition(query.alloc, clause.condition, scope.names, query.parameters)?;
+    passing_rows(query.alloc, cut, &wanted, rows, scope.names.len(), graph)
 }

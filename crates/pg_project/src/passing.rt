@@ -1,6 +1,6 @@
 //! SKIP, LIMIT and WHERE behind the other parts of a projection.
 ghost use Rattle.std.specs.Prelude.{◌≡◌, ◌≢◌, ◌≤◌, true, None, take, option_map, unwrap_or, IfOk, IfErr, Ok, Err};
-ghost use Rattle.pg_expr.specs.Prepared.{condition_of};
+ghost use Rattle.pg_expr.specs.Prepared.{condition_of, names_of, parameters_of};
 ghost use Rattle.pg_meaning.specs.Conditions.{condition};
 ghost use Rattle.pg_meaning.specs.declared.fault.Fault.TheVariants.{OutOfMemory};
 ghost use Rattle.pg_project.specs.Cuts.{LetsIn, Reaches, cut_view};
@@ -9,15 +9,14 @@ ghost use Rattle.pg_rows.specs.Left.{rows_left};
 ghost use Rattle.pg_rows.specs.Named.{row_of};
 ghost use Rattle.pg_rows.specs.Tables.{table};
 ghost use Rattle.pg_syntax_tree.specs.View.{expression_view};
-ghost use Rattle.pg_value_core.specs.Given.{parameters_view};
 
-use crate::clause_scope::ClauseScope;
 use pg_expr::{PreparedCondition, condition};
 use pg_graph::Tables;
 use pg_meaning::Fault;
 use pg_rows::{Rows, RowsLeft};
 use pg_store::GraphView;
 use pg_syntax_tree::Expression;
+use std::alloc::Global;
 
 /// How many rows SKIP leaves out, and how many LIMIT lets in.
 #[derive(Clone, Copy)]
@@ -66,7 +65,7 @@ pub(crate) fn lets_all_pass(cut: Cut, condition: &Option<Expression>) -> bool
 
 /// The first values of those rows that are let in and meet the condition.
 pub(crate) fn passing_rows<T: Tables>(
-    scope: &ClauseScope<'_>,
+    alloc: Global,
     cut: Cut,
     wanted: &PreparedCondition<'_>,
     rows: Rows,
@@ -75,24 +74,24 @@ pub(crate) fn passing_rows<T: Tables>(
 ) -> Result<Rows, Fault>
     requires { width ≤ rows.width }
     ensures ok { IfOk result (λ found. passing_given
-        (parameters_view scope.now.query.now.parameters.now) graph.now scope.now.names.now
-        (condition_of scope.now.names.now wanted.now) width (cut_of (cut_view cut) (table rows))
+        (parameters_of wanted.now) graph.now (names_of wanted.now)
+        (condition_of wanted.now) width (cut_of (cut_view cut) (table rows))
         ≡ Ok (table found)) }
     ensures width { IfOk result (λ found. found.width ≡ width) }
     ensures err { IfErr result (λ e. e ≢ OutOfMemory → passing_given
-        (parameters_view scope.now.query.now.parameters.now) graph.now scope.now.names.now
-        (condition_of scope.now.names.now wanted.now) width (cut_of (cut_view cut) (table rows))
+        (parameters_of wanted.now) graph.now (names_of wanted.now)
+        (condition_of wanted.now) width (cut_of (cut_view cut) (table rows))
         ≡ Err e) }
 {
     let most = cut.limit.unwrap_or(rows.len() as u64);
     let mut left = rows.into_left();
     left.skip(cut.skip);
-    first_rows(scope, most, wanted, left, width, graph)
+    first_rows(alloc, most, wanted, left, width, graph)
 }
 
 /// The first values of those of the next rows, at most so many, that meet the condition.
 fn first_rows<T: Tables>(
-    scope: &ClauseScope<'_>,
+    alloc: Global,
     most: u64,
     wanted: &PreparedCondition<'_>,
     mut left: RowsLeft,
@@ -101,17 +100,16 @@ fn first_rows<T: Tables>(
 ) -> Result<Rows, Fault>
     requires { width ≤ left.rows.width }
     ensures ok { IfOk result (λ found. passing_given
-        (parameters_view scope.now.query.now.parameters.now) graph.now scope.now.names.now
-        (condition_of scope.now.names.now wanted.now) width (take most (rows_left left))
+        (parameters_of wanted.now) graph.now (names_of wanted.now)
+        (condition_of wanted.now) width (take most (rows_left left))
         ≡ Ok (table found)) }
     ensures width { IfOk result (λ found. found.width ≡ width) }
     ensures err { IfErr result (λ e. e ≢ OutOfMemory → passing_given
-        (parameters_view scope.now.query.now.parameters.now) graph.now scope.now.names.now
-        (condition_of scope.now.names.now wanted.now) width (take most (rows_left left)) ≡ Err e) }
+        (parameters_of wanted.now) graph.now (names_of wanted.now)
+        (condition_of wanted.now) width (take most (rows_left left)) ≡ Err e) }
 {
-    let query = scope.query;
-    let mut found = Rows::new(query.alloc, width);
-    let mut values = Vec::new(query.alloc);
+    let mut found = Rows::new(alloc, width);
+    let mut values = Vec::new(alloc);
     let mut more = most;
     // `more` rows may still be looked at; `values` is empty at each turn
     while more > 0 {
@@ -119,14 +117,7 @@ fn first_rows<T: Tables>(
             return Ok(found);
         };
         more -= 1;
-        if condition(
-            query.alloc,
-            wanted,
-            scope.names,
-            row,
-            query.parameters,
-            graph,
-        )? {
+        if condition(alloc, wanted, row, graph)? {
             left.next_into(&mut values)?;
             values.truncate(width);
             found.push_from(&mut values)?;

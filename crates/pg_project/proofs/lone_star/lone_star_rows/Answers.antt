@@ -1,9 +1,9 @@
-use Rattle.std.proofs.Common.{◌≡◌, ◌≢◌, List, length, option_map, Ok, Err, IfOk, IfErr, subst}
+use Rattle.std.proofs.Common.{◌≡◌, ◌≢◌, List, length, option_map, Ok, Err, IfOk, IfErr, sym, ap, subst, ◌∙◌}
+use Rattle.std.proofs.lemmas.Result.{IfOk-weaker, IfErr-weaker}
 use Rattle.std.specs.List.{AllByRecursion}
-use Rattle.pg_expr.specs.Prepared.{condition_of}
 use Rattle.pg_meaning.specs.Value.{Value}
 use Rattle.pg_meaning.specs.declared.fault.Fault.TheVariants.{OutOfMemory}
-use Rattle.pg_project.proofs.Conditions.{whole_passes}
+use Rattle.pg_project.proofs.Conditions.{prepared_passing, whole_passes}
 use Rattle.pg_project.proofs.LoneStar.{star_gives}
 use Rattle.pg_project.proofs.Wide.{table_wide}
 use Rattle.pg_project.specs.Cuts.{cut_view}
@@ -37,10 +37,8 @@ returns-clause-gives g c = λ s given.
     let cut = cut_view c.in_ok-cut.cut in
     let rows : List (List Value) = cut_of cut (table c.args.rows) in
     let result = c.passing_rows.result in
-    let ok : IfOk result (λ found. passing_given ps graph names where_ (length names) rows ≡ Ok (table found)) =
-    subst (λ w. IfOk result (λ found. passing_given ps graph names w (length names) rows ≡ Ok (table found))) c.in_ok-wanted.ensures
-    (subst (λ n. IfOk result (λ found. passing_given ps graph names (condition_of names c.in_ok-wanted.wanted) n rows ≡ Ok (table found))) c.len.ensures c.passing_rows.ensures.ok) in
-    let err : IfErr result (λ e. e ≢ OutOfMemory → passing_given ps graph names where_ (length names) rows ≡ Err e) =
-    subst (λ w. IfErr result (λ e. e ≢ OutOfMemory → passing_given ps graph names w (length names) rows ≡ Err e)) c.in_ok-wanted.ensures
-    (subst (λ n. IfErr result (λ e. e ≢ OutOfMemory → passing_given ps graph names (condition_of names c.in_ok-wanted.wanted) n rows ≡ Err e)) c.len.ensures c.passing_rows.ensures.err) in
+    let ready = c.in_ok-wanted.ensures in
+    let same = sym (prepared_passing c.in_ok-wanted.wanted ps graph names where_ c.len.result rows ready.tree ready.names ready.parameters ∙ ap (λ n. passing_given ps graph names where_ n rows) c.len.ensures) in
+    let ok : IfOk result (λ found. passing_given ps graph names where_ (length names) rows ≡ Ok (table found)) = IfOk-weaker result _ _ (λ found passes. same ∙ passes) c.passing_rows.ensures.ok in
+    let err : IfErr result (λ e. e ≢ OutOfMemory → passing_given ps graph names where_ (length names) rows ≡ Err e) = IfErr-weaker result _ _ (λ e fails other. same ∙ fails other) c.passing_rows.ensures.err in
     star_gives s graph ps given c.args.clause.now.naming p where_ names c.requires.star c.requires.rising cut c.in_ok-cut.ensures.ok c.args.rows c.requires.width result ok err

@@ -1,8 +1,7 @@
 use Rattle.std.proofs.Common.{◌≡◌, ◌≤◌, length, option_map, Ok, Err, refl, sym, subst, ◌∙◌}
 use Rattle.std.proofs.lemmas.Result.{IfOk-from_err, IfOk-weaker, IfErr-weaker}
 use Rattle.std.specs.List.{AllByRecursion}
-use Rattle.pg_expr.specs.Prepared.{condition_of}
-use Rattle.pg_project.proofs.Conditions.{whole_passes}
+use Rattle.pg_project.proofs.Conditions.{prepared_passing, whole_passes}
 use Rattle.pg_expr.proofs.ExitLemmas.{fault_passed}
 use Rattle.pg_project.proofs.ExitLemmas.{memory_passed}
 use Rattle.pg_project.proofs.TailLemmas.{sorts_fail, passed_on}
@@ -81,11 +80,14 @@ pub returns-clause-ok : goal.returns-clause-ok
 returns-clause-ok g c =
     let names = c.args.scope.now.names.now in
     let p = projection_view c.args.clause.now.projection.now in
+    let ready = c.in_ok-wanted.ensures in
+    let same = sym (prepared_passing c.in_ok-wanted.wanted (parameters_view c.args.scope.now.query.now.parameters.now) c.args.graph.now names (option_map expression_view c.args.clause.now.condition.now)
+    c.len-2.result (cut_of (cut_view c.args.cut) (table c.in_ok-sorted.sorted)) ready.tree ready.names ready.parameters) in
     IfOk-weaker c.passing_rows.result _ _
     (λ found passes. passed_on (parameters_view c.args.scope.now.query.now.parameters.now) c.args.graph.now names (expressions_view c.args.items.now.items) p.distinct p.order
     (cut_view c.args.cut) (option_map expression_view c.args.clause.now.condition.now) (length c.args.items.now.items) (table c.args.rows) (table c.in_ok-first.first) c.in_ok-first.ensures.rows
     (cut_of (cut_view c.args.cut) (table c.in_ok-sorted.sorted))
-    (condition_of names c.in_ok-wanted.wanted) c.len-2.result c.in_ok-sorted.ensures.ok c.in_ok-wanted.ensures (c.len-2.ensures ∙ c.args.items.now.ok.0) (Ok (table found)) passes)
+    (option_map expression_view c.args.clause.now.condition.now) c.len-2.result c.in_ok-sorted.ensures.ok refl (c.len-2.ensures ∙ c.args.items.now.ok.0) (Ok (table found)) (same ∙ passes))
     c.passing_rows.ensures.ok
 
 pub returns-clause-width : goal.returns-clause-width
@@ -95,9 +97,12 @@ pub returns-clause-err : goal.returns-clause-err
 returns-clause-err g c =
     let names = c.args.scope.now.names.now in
     let p = projection_view c.args.clause.now.projection.now in
+    let ready = c.in_ok-wanted.ensures in
+    let same = sym (prepared_passing c.in_ok-wanted.wanted (parameters_view c.args.scope.now.query.now.parameters.now) c.args.graph.now names (option_map expression_view c.args.clause.now.condition.now)
+    c.len-2.result (cut_of (cut_view c.args.cut) (table c.in_ok-sorted.sorted)) ready.tree ready.names ready.parameters) in
     IfErr-weaker c.passing_rows.result _ _
     (λ e fails other. passed_on (parameters_view c.args.scope.now.query.now.parameters.now) c.args.graph.now names (expressions_view c.args.items.now.items) p.distinct p.order
     (cut_view c.args.cut) (option_map expression_view c.args.clause.now.condition.now) (length c.args.items.now.items) (table c.args.rows) (table c.in_ok-first.first) c.in_ok-first.ensures.rows
     (cut_of (cut_view c.args.cut) (table c.in_ok-sorted.sorted))
-    (condition_of names c.in_ok-wanted.wanted) c.len-2.result c.in_ok-sorted.ensures.ok c.in_ok-wanted.ensures (c.len-2.ensures ∙ c.args.items.now.ok.0) (Err e) (fails other))
+    (option_map expression_view c.args.clause.now.condition.now) c.len-2.result c.in_ok-sorted.ensures.ok refl (c.len-2.ensures ∙ c.args.items.now.ok.0) (Err e) (same ∙ fails other))
     c.passing_rows.ensures.err

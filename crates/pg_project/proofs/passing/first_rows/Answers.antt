@@ -1,7 +1,7 @@
 use Rattle.std.proofs.Common.{◌≡◌, ◌-◌, ◌<◌, ◌≤◌, ◌∷◌, [], ◌++◌, drop, map, take, Ok, Err, true, false, sym, ap, subst, ◌∙◌, arith}
 use Rattle.std.proofs.lemmas.List.{take-map}
 use Rattle.std.proofs.lemmas.Result.{IfOk-from_err}
-use Rattle.pg_expr.specs.Prepared.{condition_of}
+use Rattle.pg_expr.specs.Prepared.{condition_of, names_of, parameters_of}
 use Rattle.pg_meaning.specs.Conditions.{condition}
 use Rattle.pg_meaning.specs.declared.fault.Fault.{Fault}
 use Rattle.pg_project.proofs.Conditions.{one_passes, one_stays_out, one_ends, no_more, no_rows}
@@ -13,17 +13,16 @@ use Rattle.pg_project.specs.Given.{passing_given}
 use Rattle.pg_rows.specs.Left.{first_row, rows_left}
 use Rattle.pg_rows.specs.Named.{row_of}
 use Rattle.pg_rows.specs.Tables.{table}
-use Rattle.pg_value_core.specs.Given.{parameters_view}
 use Rattle.pg_value_core.specs.View.{view}
 use Rattle.pg_project.proofs.passing.first_rows.Goals as goal
 
 pub returns-in_err-condition-clause-err : goal.returns-in_err-condition-clause-err
 returns-in_err-condition-clause-err g c =
     let l = c.loop-more in
-    let ps = parameters_view c.args.scope.now.query.now.parameters.now in
+    let ps = parameters_of c.args.wanted.now in
     let graph = c.args.graph.now in
-    let names = c.args.scope.now.names.now in
-    let wanted = condition_of names c.args.wanted.now in
+    let names = names_of c.args.wanted.now in
+    let wanted = condition_of c.args.wanted.now in
     let whole = passing_given ps graph names wanted c.args.width (take c.args.most (rows_left c.args.left)) in
     let row = map view c.in-Some.row.now in
     let next : rows_left l.left ≡ row ∷ drop 1 (rows_left l.left) = c.in-Some.ensures.row in
@@ -38,10 +37,10 @@ next_into-requires g c = let left = rows_left c.loop-more.left in some_left left
 pub loop-more-preserved-in-Continue-branch-3 : goal.loop-more-preserved-in-Continue-branch-3
 loop-more-preserved-in-Continue-branch-3 g c =
     let l = c.loop-more in
-    let ps = parameters_view c.args.scope.now.query.now.parameters.now in
+    let ps = parameters_of c.args.wanted.now in
     let graph = c.args.graph.now in
-    let names = c.args.scope.now.names.now in
-    let wanted = condition_of names c.args.wanted.now in
+    let names = names_of c.args.wanted.now in
+    let wanted = condition_of c.args.wanted.now in
     let width = c.args.width in
     let whole = passing_given ps graph names wanted width (take c.args.most (rows_left c.args.left)) in
     let row = map view c.in-Some.row.now in
@@ -64,10 +63,10 @@ loop-more-preserved-in-Continue-branch-3 g c =
 pub loop-more-preserved : goal.loop-more-preserved
 loop-more-preserved g c =
     let l = c.loop-more in
-    let ps = parameters_view c.args.scope.now.query.now.parameters.now in
+    let ps = parameters_of c.args.wanted.now in
     let graph = c.args.graph.now in
-    let names = c.args.scope.now.names.now in
-    let wanted = condition_of names c.args.wanted.now in
+    let names = names_of c.args.wanted.now in
+    let wanted = condition_of c.args.wanted.now in
     let width = c.args.width in
     let whole = passing_given ps graph names wanted width (take c.args.most (rows_left c.args.left)) in
     let row = map view c.in-Some.row.now in
@@ -84,9 +83,9 @@ loop-more-preserved g c =
 pub returns-clause-ok : goal.returns-clause-ok
 returns-clause-ok g c =
     let l = c.loop-more in
-    let ps = parameters_view c.args.scope.now.query.now.parameters.now in
-    let names = c.args.scope.now.names.now in
-    let wanted = condition_of names c.args.wanted.now in
+    let ps = parameters_of c.args.wanted.now in
+    let names = names_of c.args.wanted.now in
+    let wanted = condition_of c.args.wanted.now in
     let whole = passing_given ps c.args.graph.now names wanted c.args.width (take c.args.most (rows_left c.args.left)) in
     no_more ps c.args.graph.now names wanted c.args.width whole (table l.found) l.more (rows_left l.left) (omega arith) l.invariant.0
 
@@ -116,8 +115,8 @@ returns-in_err-push_from-clause-err g c = memory_passed _ c.from_residual-in_err
 
 pub loop-more-init : goal.loop-more-init
 loop-more-init g c =
-    let names = c.args.scope.now.names.now in
-    let given = passing_given (parameters_view c.args.scope.now.query.now.parameters.now) c.args.graph.now names (condition_of names c.args.wanted.now) c.args.width in (
+    let names = names_of c.args.wanted.now in
+    let given = passing_given (parameters_of c.args.wanted.now) c.args.graph.now names (condition_of c.args.wanted.now) c.args.width in (
       none_before (table c.new-found.result) (given (take c.args.most (rows_left c.args.left))) c.new-found.ensures.rows,
       c.new-found.ensures.width,
       c.requires,
@@ -127,9 +126,9 @@ loop-more-init g c =
 pub returns-in_default-clause-ok : goal.returns-in_default-clause-ok
 returns-in_default-clause-ok g c =
     let l = c.loop-more in
-    let ps = parameters_view c.args.scope.now.query.now.parameters.now in
-    let names = c.args.scope.now.names.now in
-    let wanted = condition_of names c.args.wanted.now in
+    let ps = parameters_of c.args.wanted.now in
+    let names = names_of c.args.wanted.now in
+    let wanted = condition_of c.args.wanted.now in
     let whole = passing_given ps c.args.graph.now names wanted c.args.width (take c.args.most (rows_left c.args.left)) in
     no_rows ps c.args.graph.now names wanted c.args.width whole (table l.found) l.more (rows_left l.left) c.in_default.ensures.none l.invariant.0
 

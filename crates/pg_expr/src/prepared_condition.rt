@@ -13,8 +13,8 @@ use pg_value_core::Parameters;
 /// A condition that was made ready for rows of given columns and for the parameters of a request; where there is none,
 /// each row meets it.
 #[derive(Clone, Copy)]
-pub struct PreparedCondition<'a> {
-    pub(crate) names: &'a Columns,
+pub struct PreparedCondition<'a, 'n> {
+    pub(crate) names: &'n Columns,
     pub(crate) parameters: &'a Parameters,
     pub(crate) whole: Option<&'a Expression>,
     // Scalars are asked first, of each conjunct.
@@ -25,12 +25,12 @@ pub struct PreparedCondition<'a> {
         k (option_map (λ e. expression_view e.now) whole)) } by { Prim.hlevel props },
 }
 
-impl<'a> PreparedCondition<'a> {
+impl<'a, 'n> PreparedCondition<'a, 'n> {
     ghost use Rattle.std.specs.Prelude.{◌≡◌};
     ghost use Rattle.pg_expr.specs.Prepared.{names_of};
 
     /// The columns of the rows.
-    pub fn names(&self) -> &'a Columns
+    pub fn names(&self) -> &'n Columns
         ensures { result.now ≡ names_of self.now }
     {
         self.names

@@ -67,7 +67,7 @@ pub(crate) fn lets_all_pass(cut: Cut, condition: &Option<Expression>) -> bool
 pub(crate) fn passing_rows<T: Tables>(
     alloc: Global,
     cut: Cut,
-    wanted: &PreparedCondition<'_>,
+    wanted: &PreparedCondition<'_, '_>,
     rows: Rows,
     width: usize,
     graph: &GraphView<'_, T>,
@@ -93,7 +93,7 @@ pub(crate) fn passing_rows<T: Tables>(
 fn first_rows<T: Tables>(
     alloc: Global,
     most: u64,
-    wanted: &PreparedCondition<'_>,
+    wanted: &PreparedCondition<'_, '_>,
     mut left: RowsLeft,
     width: usize,
     graph: &GraphView<'_, T>,

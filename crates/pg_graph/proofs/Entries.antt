@@ -159,6 +159,14 @@ module _ {V W : Type 0} (f : V → W) where
       before : (k x : ℕ) → x < k → eq_by_cmp nat_cmp k x ≡ false
       before k x h = grind (arith, nat_tests)
 
+  -- an entry's key is none of those behind it
+  pub none_below : (k n : ℕ) (es : List (ℕ × V)) → eq_by_cmp nat_cmp k n ≡ true → AllByRecursion (λ e. n < e.0) es → find nat_cmp k (seen es) ≡ None
+  none_below k n [] is all = refl
+  none_below k n (e ∷ es) is all = ap (λ b. cond b (Some (f e.1)) (find nat_cmp k (seen es))) (past_equal k n e.0 is all.0) ∙ none_below k n es is all.1
+    where
+      past_equal : (k n x : ℕ) → eq_by_cmp nat_cmp k n ≡ true → n < x → eq_by_cmp nat_cmp k x ≡ false
+      past_equal k n x is h = grind (arith, nat_tests)
+
   pub get_found : (k : ℕ) (es : List (ℕ × V)) (i : ℕ) (d : ℕ × V) → Rises (λ e. e.0) es → i < length es → HoldsAt (λ e. nat_cmp e.0 k ≡ Equal) es i → fin.get (map_of es) k ≡ Some (f (slice_index_or es i d).1)
   get_found k es i d rises inside at = fin.get-from_sorted nat_cmp (seen es) k (sorted_seen es rises) ∙ find_at k es i d rises inside at
 

@@ -1,5 +1,6 @@
 pub mod SortedLists
 pub mod Entries
+pub mod Blanks
 pub mod Maps
 pub mod Others
 pub mod Ids

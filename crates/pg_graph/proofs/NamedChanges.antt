@@ -188,7 +188,7 @@ all_keys : (P : ℕ → Type 0) (es : List (ℕ × Value)) → AllByRecursion (�
 all_keys P [] h = tt
 all_keys P (e ∷ es) h = (h.0, all_keys P es h.1)
 
-keys_named : (names : List (List ℕ)) (m : Properties) → ((q : ℕ) (v : Value) → map.get m q ≡ Some v → q < length names) → AreNamed names (map.keys m)
+pub keys_named : (names : List (List ℕ)) (m : Properties) → ((q : ℕ) (v : Value) → map.get m q ≡ Some v → q < length names) → AreNamed names (map.keys m)
 keys_named names m h = all_keys (λ n. n < length names) (map.entries m) (all_entries (λ q v. q < length names) m h)
 
 named_key : (names : List (List ℕ)) (es : List (ℕ × Value)) → AreNamed names (map_list (λ e. e.0) es) → (q : ℕ) (v : Value) → find nat_cmp q es ≡ Some v → q < length names
@@ -295,6 +295,14 @@ module _ (names : List (List ℕ)) (distinct : AreDistinct names) (m : Propertie
 
   pub blank_taken : (k : ℕ) → k < length names → shown (map.get m k) ≡ None → property_entries names (map.remove m k) ≡ property_entries names m
   blank_taken k inside none = property_taken k inside ∙ nothing_shown k inside none
+
+  -- what shows the same under each number has the same entries
+  pub shown_alike : (o : Properties) → AreNamed names (map.keys o) → ((q : ℕ) → shown (map.get o q) ≡ shown (map.get m q)) → property_entries names o ≡ property_entries names m
+  shown_alike o there alike = same_entries _ _ (entries_rise names (map.entries o)) (entries_rise names (map.entries m)) (λ t. by_place t (position (bytes_eq t) names) refl)
+    where
+      by_place : (t : List ℕ) (p : Option ℕ) → position (bytes_eq t) names ≡ p → at_key t (property_entries names o) ≡ at_key t (property_entries names m)
+      by_place t None is = no_entry names distinct t (map.entries o) is there ∙ sym (no_entry names distinct t (map.entries m) is named)
+      by_place t (Some n) is = at_number t n is o there ∙ alike n ∙ sym (at_number t n is m named)
 
   named_set : (k : ℕ) (v : Value) → k < length names → AreNamed names (map.keys (with_property m k v))
   named_set k null inside = named_removed k

@@ -1,12 +1,14 @@
 //! The properties of a node or a relationship.
-ghost use Rattle.std.specs.Prelude.{◌≡◌, OnOk, OnErr, IfOk, IsSome};
+ghost use Rattle.std.specs.Prelude.{◌≡◌, ℕ, not, filter, OnOk, OnErr, IfOk, IsSome};
 ghost use Rattle.std.specs.FinMap as map;
 ghost use Rattle.std.specs.Option.{option_map};
 ghost use Rattle.std.specs.Ordering.{nat_cmp};
-ghost use Rattle.pg_graph.specs.Records.{given_back, value_in, with_property, seen_entries, AreEntries};
+ghost use Rattle.pg_graph.specs.Blank.{is_null};
+ghost use Rattle.pg_graph.specs.Records.{given_back, shown, value_in, with_property, seen_entries, AreEntries};
 ghost use Rattle.pg_graph.specs.Sorted.{with_element, without};
 ghost use Rattle.pg_value_core.specs.View.{view};
 
+use crate::by_text::is_null;
 use crate::sorted;
 use crate::sorted::Numbered;
 use pg_names::NameId;
@@ -96,6 +98,13 @@ fn remove_entry(entries: &mut Vec<(NameId, Value)>, key: NameId)
     }
 }
 
+// Takes the entries out whose value is null, in one pass.
+fn remove_blank_entries(entries: &mut Vec<(NameId, Value)>)
+    ensures { entries.new.items ≡ filter (λ e. not (is_null (view e.1))) entries.old.items }
+{
+    entries.retain(|entry| !is_null(&entry.1));
+}
+
 // The same entries, in memory of their own.
 fn copy_entries(
     entries: &[(NameId, Value)],
@@ -176,6 +185,13 @@ impl Properties {
         ensures { self.new ≡ map.remove self.old key }
     {
         remove_entry(&mut self.entries, key);
+    }
+
+    /// Takes all blank keys out, in one pass. It takes no memory.
+    pub fn remove_blanks(&mut self)
+        ensures { (key : ℕ) → map.get self.new key ≡ shown (map.get self.old key) }
+    {
+        remove_blank_entries(&mut self.entries);
     }
 
     /// The keys and their values, by rising key, blank ones too.

@@ -1,5 +1,5 @@
 -- Removed elements that leave the tables: the graph stays.
-use Rattle.std.proofs.Common.{◌≡◌, ◌&&◌, ◌<◌, ◌-◌, ℕ, Bool, cond, true, false, List, [], Some, IsSome, is_some, inl, inr, arith, refl, sym, ap, subst, ◌∙◌}
+use Rattle.std.proofs.Common.{◌≡◌, ◌&&◌, ◌<◌, ◌-◌, ℕ, cond, true, false, List, [], Option, None, Some, IsSome, is_some, inl, inr, arith, refl, sym, ap, subst, ◌∙◌}
 use Rattle.std.proofs.lemmas.Bool.{cases_eq}
 use Rattle.std.specs.Cmp.{nat_cmp_total}
 use Rattle.std.specs.FinMap as map
@@ -8,8 +8,8 @@ use Rattle.std.specs.Global.{Vec}
 use Rattle.std.specs.Ordering.{nat_cmp}
 use Rattle.pg_graph.proofs.Held.{holds_without_node, holds_without_relationship}
 use Rattle.pg_graph.proofs.Others.{keeps_refl, keeps_trans}
-use Rattle.pg_graph.proofs.Maps.{get_removed, get_removed_other}
-use Rattle.pg_graph.proofs.NamedChanges.{blank_taken, each_named, named_removed}
+use Rattle.pg_graph.proofs.Blanks.{shown_some, shown_twice}
+use Rattle.pg_graph.proofs.NamedChanges.{each_named, keys_named, shown_alike}
 use Rattle.pg_graph.proofs.Removed.{get_gone, get_kept, is_live, has_removed, has_removed_other, without_both, without_none, still_some_without, some_there}
 use Rattle.pg_graph.specs.Content.{Content, Seen, Keeps, without_node, without_rel, outgoing_of, incoming_of}
 use Rattle.pg_graph.specs.Records.{Properties, shown}
@@ -20,7 +20,8 @@ use Rattle.pg_graph.specs.declared.records.NodeRecord.{NodeRecord}
 use Rattle.pg_graph.specs.declared.records.RelRecord.{RelRecord}
 use Rattle.pg_index.specs.Properties.{is_equal}
 use Rattle.pg_meaning.specs.Graph.{element_count}
-use Rattle.pg_meaning.specs.Value.{null}
+use Rattle.pg_meaning.specs.Value.{Value, null, boolean, integer, text, list, mapping, node, relationship, path}
+use Rattle.pg_names.specs.Names.{AreDistinct}
 use Rattle.pg_store.proofs.Changed.{node_stays, rel_stays}
 use Rattle.pg_store.proofs.CoverLemmas.{Has, covers_now, covers_with, covers_other_properties}
 use Rattle.pg_store.proofs.Noting.{StaleIds, noted_now, noted_with, there_is}
@@ -35,6 +36,7 @@ use Rattle.pg_store.specs.declared.journal.Entry.{Entry}
 use Rattle.pg_store.specs.declared.shared.Shared.{Shared}
 use Rattle.pg_store.specs.declared.store.Store.{Store}
 use Rattle.pg_value_core.specs.declared.ids.NodeId.{NodeId}
+use Rattle.pg_value_core.specs.declared.value.Value as code
 use Rattle.pg_value_core.specs.declared.ids.RelId.{RelId}
 
 pub among : (ids : Ids) (id : ℕ) (u : Unit {0}) → map.get ids id ≡ Some u → has_id ids id ≡ true
@@ -102,28 +104,40 @@ module _ (names : List (List ℕ)) (s : State) (id : ℕ) (well : IsWell names s
       few = well.few;
     }
 
--- ---- a blank key
+-- ---- blank keys
 
-fewer_found : (n : NodeRecord) (key : ℕ) (k : Key) → belongs k (record n { properties = map.remove n.properties key }) ≡ true → belongs k n ≡ true
-fewer_found n key every h = h
-fewer_found n key (with_label l) h = h
-fewer_found n key (with_value l q v) h = elim (cases_eq q key) [
-  | inl same ↦
-      absurd (cc (
-        right (has_number (Some l) n) (option_map_or (λ w. is_equal w v) (map.get (map.remove n.properties key) q) false) h,
-        ap (λ (x : ℕ). option_map_or (λ w. is_equal w v) (map.get (map.remove n.properties key) x) false) same,
-        ap (λ o. option_map_or (λ w. is_equal w v) o false) (get_removed n.properties key),
-      ))
-  | inr ne ↦ ap (λ o. has_number (Some l) n && option_map_or (λ w. is_equal w v) o false) (sym (get_removed_other n.properties key q ne)) ∙ h
-]
-  where
-    right : (a b : Bool) → (a && b) ≡ true → b ≡ true
-    right true b h = h
-    right false b h = absurd (cc)
+-- null is equal to nothing
+finds_shown : (v : code.Value) (o : Option Value) → option_map_or (λ w. is_equal w v) (shown o) false ≡ option_map_or (λ w. is_equal w v) o false
+finds_shown v None = refl
+finds_shown v (Some null) = refl
+finds_shown v (Some (boolean b)) = refl
+finds_shown v (Some (integer i)) = refl
+finds_shown v (Some (text t)) = refl
+finds_shown v (Some (list vs)) = refl
+finds_shown v (Some (mapping fs)) = refl
+finds_shown v (Some (node n)) = refl
+finds_shown v (Some (relationship r)) = refl
+finds_shown v (Some (path ids)) = refl
 
-module _ (names : List (List ℕ)) (s : State) (id : NodeId) (key : ℕ) (n : NodeRecord) (well : IsWell names s) (there : map.get (live s).nodes id.0 ≡ Some n) (blank : map.get n.properties key ≡ Some null) where
+module _ (was less : Properties) (alike : (q : ℕ) → map.get less q ≡ shown (map.get was q)) where
+  pub keys_there : (names : List (List ℕ)) → AreDistinct names → AreNamed names (map.keys was) → AreNamed names (map.keys less)
+  keys_there names distinct named = keys_named names less (λ q v found. each_named names distinct was named q v (shown_some (map.get was q) v (sym (alike q) ∙ found)))
+
+  pub entries_there : (names : List (List ℕ)) → AreDistinct names → AreNamed names (map.keys was) → property_entries names less ≡ property_entries names was
+  entries_there names distinct named = shown_alike names distinct was named less (keys_there names distinct named) (λ q. ap shown (alike q) ∙ shown_twice (map.get was q))
+
+  -- a blank key finds nothing
+  pub found_there : (n : NodeRecord) → n.properties ≡ was → (k : Key) → belongs k (record n { properties = less }) ≡ belongs k n
+  found_there n is every = refl
+  found_there n is (with_label l) = refl
+  found_there n is (with_value l q v) =
+      ap (λ o. has_number (Some l) n && option_map_or (λ w. is_equal w v) o false) (alike q)
+      ∙ ap (λ b. has_number (Some l) n && b) (finds_shown v (map.get was q))
+      ∙ ap (λ (ps : Properties). has_number (Some l) n && option_map_or (λ w. is_equal w v) (map.get ps q) false) (sym is)
+
+module _ (names : List (List ℕ)) (s : State) (id : NodeId) (n : NodeRecord) (ps : Properties) (well : IsWell names s) (there : map.get (live s).nodes id.0 ≡ Some n) (alike : (q : ℕ) → map.get ps q ≡ shown (map.get n.properties q)) where
   abbrev pub less_node : NodeRecord
-  less_node = record n { properties = map.remove n.properties key }
+  less_node = record n { properties = ps }
 
   pub some_node : IsSome (map.get (live s).nodes id.0)
   some_node = subst IsSome (sym there) refl
@@ -134,58 +148,33 @@ module _ (names : List (List ℕ)) (s : State) (id : NodeId) (key : ℕ) (n : No
   abbrev pub node_is : IsNodeOf names s.next.node id.0 n
   node_is = well.holds.nodes id.0 n there
 
-  pub keys_left : AreNamed names (map.keys less_node.properties)
-  keys_left = named_removed names well.held.distinct n.properties node_is.keys key
+  pub keys_left : AreNamed names (map.keys ps)
+  keys_left = keys_there n.properties ps alike names well.held.distinct node_is.keys
 
   same_node : node_of names less_node ≡ node_of names n
-  same_node =
-      let inside = each_named names well.held.distinct n.properties node_is.keys key null blank in
-      λ t. record { labels = label_texts names n.labels; properties = blank_taken names well.held.distinct n.properties node_is.keys key inside (ap shown blank) t }
+  same_node = λ t. record { labels = label_texts names n.labels; properties = entries_there n.properties ps alike names well.held.distinct node_is.keys t }
 
-  abbrev pub without_blank : State
-  without_blank = with_node_changed names s id less_node n well some_node node_is.labels keys_left node_held_here
+  abbrev pub without_blanks : State
+  without_blanks = with_node_changed names s id less_node n well some_node node_is.labels keys_left node_held_here
 
-  pub well_without_blank : IsWell names without_blank
-  well_without_blank = node_change_well names s id less_node n well some_node node_is.labels keys_left node_held_here
+  pub well_without_blanks : IsWell names without_blanks
+  well_without_blanks = node_change_well names s id less_node n well some_node node_is.labels keys_left node_held_here
 
-  pub graph_without_blank : graph_in names without_blank ≡ graph_in names s
-  graph_without_blank =
+  pub graph_without_blanks : graph_in names without_blanks ≡ graph_in names s
+  graph_without_blanks =
       node_changed names s id less_node n well some_node node_is.labels keys_left node_held_here
       ∙ node_stays names (live s) s.next.node s.next.rel id.0 n (λ _. node_of names less_node) there same_node
 
-  pub covers_without_blank : (has : Has) → Covers has s → Covers has without_blank
-  covers_without_blank has c = covers_with has s id.0 less_node c (λ k h. c k id.0 n node_held_here (fewer_found n key k h))
+  pub covers_without_blanks : (has : Has) → Covers has s → Covers has without_blanks
+  covers_without_blanks has c = covers_with has s id.0 less_node c (λ k h. c k id.0 n node_held_here (sym (found_there n.properties ps alike n refl k) ∙ h))
 
--- a key under which null stands finds nothing
-blank_found : (n : NodeRecord) (key : ℕ) → map.get n.properties key ≡ Some null → (k : Key) → belongs k n ≡ true → belongs k (record n { properties = map.remove n.properties key }) ≡ true
-blank_found n key blank every h = h
-blank_found n key blank (with_label l) h = h
-blank_found n key blank (with_value l q v) h = elim (cases_eq q key) [
-  | inl same ↦
-      absurd (cc (
-        last (has_number (Some l) n) (option_map_or (λ w. is_equal w v) (map.get n.properties q) false) h,
-        ap (λ (x : ℕ). option_map_or (λ w. is_equal w v) (map.get n.properties x) false) same,
-        ap (λ o. option_map_or (λ w. is_equal w v) o false) blank,
-      ))
-  | inr ne ↦ ap (λ o. has_number (Some l) n && option_map_or (λ w. is_equal w v) o false) (get_removed_other n.properties key q ne) ∙ h
-]
-  where
-    last : (a b : Bool) → (a && b) ≡ true → b ≡ true
-    last true b h = h
-    last false b h = absurd (cc)
+  pub noted_without_blanks : (has : Has) (stale_ids : StaleIds) → AreNoted has stale_ids s → AreNoted has stale_ids without_blanks
+  noted_without_blanks has stale_ids was =
+      noted_with has has stale_ids stale_ids (λ k i h. or_left (has k i) _ h) (λ k i h. h) s without_blanks id.0 was less_node
+      (ap (λ (c : Content). c.nodes) (live_with_node_changed names s id less_node n well some_node node_is.labels keys_left node_held_here))
+      (λ k g h. or_left (belongs k less_node) _ (found_there n.properties ps alike n refl k ∙ sym (there_is s k id.0 n there) ∙ h))
 
-pub noted_without_blank : (names : List (List ℕ)) (s : State) (id : NodeId) (key : ℕ) (n : NodeRecord) (well : IsWell names s) (there : map.get (live s).nodes id.0 ≡ Some n) (blank : map.get n.properties key ≡ Some null) (has : Has) (stale_ids : StaleIds)
-    → AreNoted has stale_ids s → AreNoted has stale_ids (without_blank names s id key n well there blank)
-noted_without_blank names s id key n well there blank has stale_ids was =
-    let less = less_node names s id key n well there blank in
-    noted_with has has stale_ids stale_ids (λ k i h. or_left (has k i) _ h) (λ k i h. h) s (without_blank names s id key n well there blank) id.0 was less
-    (ap (λ (c : Content). c.nodes) (live_with_node_changed names s id less n well (some_node names s id key n well there blank) (node_is names s id key n well there blank).labels (keys_left names s id key n well there blank) (node_held_here names s id key n well there blank)))
-    (λ k g h. or_left (belongs k less) _ (blank_found n key blank k (sym (there_is s k id.0 n there) ∙ h)))
-
-module _ (names : List (List ℕ)) (s : State) (id : RelId) (key : ℕ) (r : RelRecord) (well : IsWell names s) (there : map.get (live s).rels id.0 ≡ Some r) (blank : map.get r.properties key ≡ Some null) where
-  abbrev pub less_properties : Properties
-  less_properties = map.remove r.properties key
-
+module _ (names : List (List ℕ)) (s : State) (id : RelId) (r : RelRecord) (ps : Properties) (well : IsWell names s) (there : map.get (live s).rels id.0 ≡ Some r) (alike : (q : ℕ) → map.get ps q ≡ shown (map.get r.properties q)) where
   pub some_rel : IsSome (map.get (live s).rels id.0)
   some_rel = subst IsSome (sym there) refl
 
@@ -198,28 +187,23 @@ module _ (names : List (List ℕ)) (s : State) (id : RelId) (key : ℕ) (r : Rel
   abbrev pub rel_is : IsRelOf names (live s).nodes s.next.rel id.0 r
   rel_is = well.holds.rels id.0 r there
 
-  pub rel_keys_left : AreNamed names (map.keys less_properties)
-  rel_keys_left = named_removed names well.held.distinct r.properties rel_is.keys key
+  pub rel_keys_left : AreNamed names (map.keys ps)
+  rel_keys_left = keys_there r.properties ps alike names well.held.distinct rel_is.keys
 
-  same_entries : property_entries names less_properties ≡ property_entries names r.properties
-  same_entries =
-      let inside = each_named names well.held.distinct r.properties rel_is.keys key null blank in
-      blank_taken names well.held.distinct r.properties rel_is.keys key inside (ap shown blank)
+  abbrev pub rel_without_blanks : State
+  rel_without_blanks = with_rel_changed names s id ps r.properties well some_rel rel_keys_left properties_here
 
-  abbrev pub rel_without_blank : State
-  rel_without_blank = with_rel_changed names s id less_properties r.properties well some_rel rel_keys_left properties_here
+  pub well_rel_without_blanks : IsWell names rel_without_blanks
+  well_rel_without_blanks = rel_change_well names s id ps r.properties well some_rel rel_keys_left properties_here
 
-  pub well_rel_without_blank : IsWell names rel_without_blank
-  well_rel_without_blank = rel_change_well names s id less_properties r.properties well some_rel rel_keys_left properties_here
+  pub graph_rel_without_blanks : graph_in names rel_without_blanks ≡ graph_in names s
+  graph_rel_without_blanks =
+      rel_changed names s id ps r.properties well some_rel rel_keys_left properties_here
+      ∙ rel_stays names (live s) s.next.node s.next.rel id.0 r (λ e. record e { properties = property_entries names ps }) there
+      (λ t. record (relationship_of names r) { properties = entries_there r.properties ps alike names well.held.distinct rel_is.keys t })
 
-  pub graph_rel_without_blank : graph_in names rel_without_blank ≡ graph_in names s
-  graph_rel_without_blank =
-      rel_changed names s id less_properties r.properties well some_rel rel_keys_left properties_here
-      ∙ rel_stays names (live s) s.next.node s.next.rel id.0 r (λ e. record e { properties = property_entries names less_properties }) there
-      (λ t. record (relationship_of names r) { properties = same_entries t })
-
-  pub covers_rel_without_blank : (has : Has) → Covers has s → Covers has rel_without_blank
-  covers_rel_without_blank has c = covers_other_properties has s id.0 less_properties c
+  pub covers_rel_without_blanks : (has : Has) → Covers has s → Covers has rel_without_blanks
+  covers_rel_without_blanks has c = covers_other_properties has s id.0 ps c
 
 module _ {T S : Type 0} (seen : Seen T S) where
   module _ {K : Type 0} (store : Store T) (shared : Shared S K) where

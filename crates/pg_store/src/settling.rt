@@ -43,6 +43,7 @@ impl<T: Tables> Store<T> {
         }
     }
 
+    // Where the key is blank all blank keys of its node go, in one pass: none is left for the next change.
     fn settle_node_key(&mut self, shared: &mut Shared<T::Shared>, id: NodeId, key: NameId)
         requires { IsSettling T.seen self.old shared.old }
         ensures { Settles T.seen self.old shared.old self.new shared.new }
@@ -52,10 +53,11 @@ impl<T: Tables> Store<T> {
         }
         let blank = blank_node(self.sets.alloc);
         let mut node = self.tables.change(&mut shared.tables, id, blank);
-        node.properties.remove(key);
+        node.properties.remove_blanks();
         self.tables.change(&mut shared.tables, id, node);
     }
 
+    // Where the key is blank all blank keys of its relationship go, in one pass.
     fn settle_rel_key(&mut self, shared: &mut Shared<T::Shared>, id: RelId, key: NameId)
         requires { IsSettling T.seen self.old shared.old }
         ensures { Settles T.seen self.old shared.old self.new shared.new }
@@ -65,7 +67,7 @@ impl<T: Tables> Store<T> {
         }
         let blank = Properties::new(self.sets.alloc);
         let mut properties = self.tables.change_rel(&mut shared.tables, id, blank);
-        properties.remove(key);
+        properties.remove_blanks();
         self.tables.change_rel(&mut shared.tables, id, properties);
     }
 

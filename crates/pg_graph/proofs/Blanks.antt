@@ -1,16 +1,21 @@
--- Blank keys taken out of entries: each key shows what it showed.
-use Rattle.std.proofs.Common.{◌≡◌, ◌<◌, ℕ, Bool, true, false, not, cond, List, [], ◌∷◌, filter, Option, Some, None, refl, sym, ap, ◌∙◌}
+-- Blank keys put into entries and taken out: each key shows what it showed.
+use Rattle.std.proofs.Common.{◌≡◌, ◌<◌, ℕ, Bool, true, false, not, cond, List, [], ◌∷◌, filter, Option, Some, None, Equal, rules, refl, sym, ap, ◌∙◌}
 use Rattle.std.specs.FinMap as fin
 use Rattle.std.specs.FinMap.{find}
+use Rattle.std.specs.FinMap.Entries.{find-where_key}
 use Rattle.std.specs.List.{AllByRecursion}
 use Rattle.std.specs.Ordering.{nat_cmp, eq_by_cmp}
-use Rattle.pg_graph.proofs.Entries.{map_of, none_below, sorted_seen}
+use Rattle.pg_graph.proofs.Entries.{map_of, map_put, none_below, sorted_seen}
+use Rattle.pg_graph.proofs.Maps.{same_numbered}
+use Rattle.pg_graph.proofs.SortedLists.{put_rises}
 use Rattle.pg_graph.specs.Blank.{is_null}
-use Rattle.pg_graph.specs.Records.{AreEntries, seen_entries, shown, shown_value}
-use Rattle.pg_graph.specs.Sorted.{Rises}
+use Rattle.pg_graph.specs.Records.{AreEntries, Properties, seen_entries, shown, shown_value, with_blank_entries, with_blanks}
+use Rattle.pg_graph.specs.Sorted.{Rises, with_element}
 use Rattle.pg_meaning.specs.Value.{Value, null, boolean, integer, text, list, mapping, node, relationship, path}
 use Rattle.pg_value_core.specs.View.{view}
 use Rattle.pg_value_core.specs.declared.value.Value as code
+use Rattle.pg_value_core.specs.declared.value.Value.{the_lemmas}
+use Rattle.pg_value_core.specs.declared.value.Value.TheVariants.{Null}
 
 module _ {A : Type 0} (test : A → Bool) where
   pub all_filtered : (P : A → Type 0) (xs : List A) → AllByRecursion P xs → AllByRecursion P (filter test xs)
@@ -86,3 +91,37 @@ blanks_removed k es fs rises is =
     ∙ fin.get-from_sorted nat_cmp (seen_entries (without_nulls es)) k (sorted_seen view (without_nulls es) (filter_rises (λ e. not (is_null (view e.1))) (λ e. e.0) es rises))
     ∙ found_shown k es rises
     ∙ ap shown (sym (fin.get-from_sorted nat_cmp (seen_entries es) k (sorted_seen view es rises)))
+
+-- ---- blank places of keys
+
+pub blanks_rise : (es : List (ℕ × code.Value)) (keys : List ℕ) → AreEntries es → AreEntries (with_blank_entries es keys)
+blanks_rise es [] rises = rises
+blanks_rise es (k ∷ ks) rises = blanks_rise (with_element (λ e. e.0) (k, Null) es) ks (put_rises (λ e. e.0) (k, Null) es rises)
+
+null_seen : view Null ≡ null
+null_seen = search (rules, the_lemmas)
+
+pub map_blanks : (es : List (ℕ × code.Value)) (keys : List ℕ) → AreEntries es → map_of view (with_blank_entries es keys) ≡ with_blanks (map_of view es) keys
+map_blanks es [] rises = refl
+map_blanks es (k ∷ ks) rises =
+    map_blanks (with_element (λ e. e.0) (k, Null) es) ks (put_rises (λ e. e.0) (k, Null) es rises)
+    ∙ ap (λ (ps : Properties). with_blanks ps ks) (map_put view k Null es rises ∙ ap (fin.insert (map_of view es) k) null_seen)
+
+module _ (test : ℕ → Bool) where
+  kept_seen : (es : List (ℕ × code.Value)) → seen_entries (filter (λ e. test e.0) es) ≡ filter (λ e. test e.0) (seen_entries es)
+  kept_seen [] = refl
+  kept_seen (e ∷ es) = by_test (test e.0) (kept_seen es)
+    where
+      by_test : (b : Bool) → seen_entries (filter (λ e. test e.0) es) ≡ filter (λ e. test e.0) (seen_entries es)
+          → seen_entries (cond b (e ∷ filter (λ e. test e.0) es) (filter (λ e. test e.0) es)) ≡ cond b ((e.0, view e.1) ∷ filter (λ e. test e.0) (seen_entries es)) (filter (λ e. test e.0) (seen_entries es))
+      by_test true rest = ap (λ xs. (e.0, view e.1) ∷ xs) rest
+      by_test false rest = rest
+
+  pub map_kept : (es : List (ℕ × code.Value)) → AreEntries es → map_of view (filter (λ e. test e.0) es) ≡ fin.retain_keys (map_of view es) test
+  map_kept es rises = same_numbered _ _ (λ q.
+      let alike = λ (x : ℕ) (t : nat_cmp q x ≡ Equal). ap test (sym (fin.nat_cmp-IsAntisymmetric q x t)) in
+      fin.get-from_sorted nat_cmp (seen_entries (filter (λ e. test e.0) es)) q (sorted_seen view (filter (λ e. test e.0) es) (filter_rises (λ e. test e.0) (λ e. e.0) es rises))
+      ∙ ap (find nat_cmp q) (kept_seen es)
+      ∙ find-where_key nat_cmp test q alike (seen_entries es)
+      ∙ ap (λ o. cond (test q) o None) (sym (fin.get-from_sorted nat_cmp (seen_entries es) q (sorted_seen view es rises)))
+      ∙ sym (fin.get-retain_keys (map_of view es) test q alike))

@@ -1,6 +1,7 @@
 pub mod SortedLists
 pub mod Entries
 pub mod Blanks
+pub mod Merging
 pub mod Maps
 pub mod Others
 pub mod Ids

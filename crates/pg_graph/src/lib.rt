@@ -9,6 +9,7 @@ mod labels;
 mod laws;
 mod links;
 mod next_ids;
+mod places;
 mod properties;
 mod records;
 mod runs;

@@ -1,14 +1,16 @@
 //! The properties of a node or a relationship.
-ghost use Rattle.std.specs.Prelude.{◌≡◌, ℕ, not, filter, OnOk, OnErr, IfOk, IsSome};
+ghost use Rattle.std.specs.Prelude.{◌≡◌, ℕ, not, filter, None, OnOk, OnErr, IfOk, IsSome};
 ghost use Rattle.std.specs.FinMap as map;
+ghost use Rattle.std.specs.List.{AllByRecursion};
 ghost use Rattle.std.specs.Option.{option_map};
 ghost use Rattle.std.specs.Ordering.{nat_cmp};
 ghost use Rattle.pg_graph.specs.Blank.{is_null};
-ghost use Rattle.pg_graph.specs.Records.{given_back, shown, value_in, with_property, seen_entries, AreEntries};
+ghost use Rattle.pg_graph.specs.Records.{given_back, shown, value_in, with_blanks, with_property, without_keys, seen_entries, AreEntries, AreKeys};
 ghost use Rattle.pg_graph.specs.Sorted.{with_element, without};
 ghost use Rattle.pg_value_core.specs.View.{view};
 
 use crate::by_text::is_null;
+use crate::places;
 use crate::sorted;
 use crate::sorted::Numbered;
 use pg_names::NameId;
@@ -185,6 +187,24 @@ impl Properties {
         ensures { self.new ≡ map.remove self.old key }
     {
         remove_entry(&mut self.entries, key);
+    }
+
+    /// Gives keys that have no place a blank one, in one pass. Or changes nothing.
+    pub fn insert_blanks(&mut self, keys: &[NameId]) -> Result<(), AllocError>
+        requires rising { AreKeys keys.now }
+        requires absent { AllByRecursion (λ key. map.get self.old key ≡ None) keys.now }
+        ensures ok { OnOk result (self.new ≡ with_blanks self.old keys.now) }
+        ensures err { OnErr result (self.new ≡ self.old) }
+    {
+        places::insert_blanks(&mut self.entries, keys)
+    }
+
+    /// Takes keys out, in one pass. It takes no memory.
+    pub fn remove_keys(&mut self, keys: &[NameId])
+        requires { AreKeys keys.now }
+        ensures { self.new ≡ without_keys self.old keys.now }
+    {
+        places::remove_keys(&mut self.entries, keys);
     }
 
     /// Takes all blank keys out, in one pass. It takes no memory.

@@ -20,3 +20,4 @@ pub mod ValuedLemmas
 pub mod Indexed
 pub mod Filling
 pub mod Listings
+pub mod BlankPlaces

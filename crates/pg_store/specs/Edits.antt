@@ -1,8 +1,8 @@
 -- What one change makes of a record, and what taking it back makes of it again.
-use Rattle.std.specs.Prelude.{◌≡◌, ◌==◌, false, IsSome}
+use Rattle.std.specs.Prelude.{◌≡◌, ◌==◌, false, None, IsSome}
 use Rattle.std.specs.FinMap as map
-use Rattle.std.specs.List.{list_any}
-use Rattle.pg_graph.specs.Records.{Properties, given_back, with_label, without_label}
+use Rattle.std.specs.List.{AllByRecursion, list_any}
+use Rattle.pg_graph.specs.Records.{AreKeys, Properties, given_back, with_blanks, with_label, without_keys, without_label}
 use Rattle.pg_graph.specs.declared.records.NodeRecord.{NodeRecord}
 use Rattle.pg_store.specs.declared.edits.NodeBefore.{NodeBefore}
 use Rattle.pg_store.specs.declared.edits.NodeBefore.TheVariants as before
@@ -16,15 +16,24 @@ use Rattle.pg_value_core.specs.View.{view}
 
 abbrev pub changed_properties : PropertyChange → Properties → Properties
 changed_properties (change_of.Key key value) ps = map.insert ps key (view value)
+changed_properties (change_of.Places keys) ps = with_blanks ps keys.items
 changed_properties (change_of.All qs) ps = qs
+
+-- keys that get a place have none
+abbrev pub CanChange : PropertyChange → Properties → Type 0
+CanChange (change_of.Key key value) ps = Unit {0}
+CanChange (change_of.Places keys) ps = AreKeys keys.items × AllByRecursion (λ key. map.get ps key ≡ None) keys.items
+CanChange (change_of.All qs) ps = Unit {0}
 
 abbrev pub properties_before : PropertiesBefore → Properties → Properties
 properties_before (before_of.Key key value) ps = given_back ps key value
+properties_before (before_of.Places keys) ps = without_keys ps keys.items
 properties_before (before_of.All qs) ps = qs
 
--- the key has its place still
+-- the key has its place still; keys rise by number
 abbrev pub CanGiveBack : PropertiesBefore → Properties → Type 0
 CanGiveBack (before_of.Key key value) ps = IsSome (map.get ps key)
+CanGiveBack (before_of.Places keys) ps = AreKeys keys.items
 CanGiveBack (before_of.All qs) ps = Unit {0}
 
 abbrev pub changed_node : NodeChange → NodeRecord → NodeRecord
@@ -42,8 +51,8 @@ CanGoBack (before.Properties b) n = CanGiveBack b n.properties
 CanGoBack (before.Label label) n = Unit {0}
 CanGoBack (before.Labels labels) n = Unit {0}
 
--- one more label is a new one
+-- one more label is a new one, and keys that get a place have none
 abbrev pub IsChangeOf : NodeChange → NodeRecord → Type 0
-IsChangeOf (change.Properties c) n = Unit {0}
+IsChangeOf (change.Properties c) n = CanChange c n.properties
 IsChangeOf (change.Label label) n = list_any (λ l. l == label) n.labels ≡ false
 IsChangeOf (change.Labels labels) n = Unit {0}

@@ -10,7 +10,7 @@ ghost use Rattle.pg_meaning.specs.Graph.{change_node, change_relationship, has_n
 ghost use Rattle.pg_meaning.specs.Names.{is_among, put_texts};
 ghost use Rattle.pg_meaning.specs.Value.{no_entries, null};
 ghost use Rattle.pg_store.specs.Changes.{Changes};
-ghost use Rattle.pg_store.specs.Edits.{IsChangeOf, changed_node, changed_properties};
+ghost use Rattle.pg_store.specs.Edits.{CanChange, IsChangeOf, changed_node, changed_properties};
 ghost use Rattle.pg_store.specs.Journal.{live};
 ghost use Rattle.pg_store.specs.Stores.{graph_of_store, state_of, IsFit, KeepsMarks, KeepsShared, texts_of, pairs_of};
 ghost use Rattle.pg_store.specs.Views.{IsNamedNode};
@@ -73,6 +73,9 @@ impl<T: Tables> Store<T> {
     ) -> Result<(), AllocError>
         requires fit { IsFit T.seen self.old shared.old }
         requires there { IsSome (map.get (live (state_of T.seen self.old shared.old)).rels id.0) }
+        requires change { (r : RelRecord)
+            → map.get (live (state_of T.seen self.old shared.old)).rels id.0 ≡ Some r
+            → CanChange change r.properties }
         requires named { (r : RelRecord)
             → map.get (live (state_of T.seen self.old shared.old)).rels id.0 ≡ Some r
             → AreNamed shared.old.names (map.keys (changed_properties change r.properties)) }

@@ -3,7 +3,7 @@ ghost use Rattle.std.specs.Prelude.{◌≡◌, Some, OnOk, OnErr, IfOk, IfSome, 
 ghost use Rattle.std.specs.FinMap as map;
 ghost use Rattle.pg_graph.specs.Records as records;
 ghost use Rattle.pg_meaning.specs.Value as meaning;
-ghost use Rattle.pg_store.specs.Edits.{CanGiveBack, CanGoBack, changed_properties, node_before, properties_before};
+ghost use Rattle.pg_store.specs.Edits.{CanChange, CanGiveBack, CanGoBack, changed_properties, node_before, properties_before};
 ghost use Rattle.pg_value_core.specs.View.{view};
 
 use pg_graph::{Labels, NodeRecord, Properties};
@@ -12,17 +12,21 @@ use pg_value_core::Value;
 use std::alloc::AllocError;
 use std::mem;
 
-/// What is to be done to properties: a key gets a value, where null leaves it blank, or all are replaced.
+/// What is to be done to properties: a key gets a value, where null leaves it blank, keys that have no place
+/// get a blank one, by rising numbers, or all are replaced.
 #[derive(Drop)]
 pub enum PropertyChange {
     Key(NameId, Value),
+    Places(Vec<NameId>),
     All(Properties),
 }
 
-/// What takes it back: what a key had before, which may be no place, or all properties.
+/// What takes it back: what a key had before, which may be no place, the keys that had no place, or all
+/// properties.
 #[derive(Drop)]
 pub enum PropertiesBefore {
     Key(NameId, Option<Value>),
+    Places(Vec<NameId>),
     All(Properties),
 }
 
@@ -54,6 +58,7 @@ impl PropertiesBefore {
             PropertiesBefore::Key(changed, value) if changed.as_u64() == key.as_u64() =>
                 value.as_ref(),
             PropertiesBefore::Key(_, _) => None,
+            PropertiesBefore::Places(_) => None,
             PropertiesBefore::All(properties) => properties.get(key),
         }
     }
@@ -64,6 +69,7 @@ pub(crate) fn exchange(
     properties: &mut Properties,
     change: PropertyChange,
 ) -> Result<PropertiesBefore, AllocError>
+    requires { CanChange change properties.old }
     ensures ok { OnOk result (properties.new ≡ changed_properties change properties.old) }
     ensures back { IfOk result
         (λ before. properties_before before properties.new ≡ properties.old) }
@@ -74,6 +80,10 @@ pub(crate) fn exchange(
         PropertyChange::Key(key, value) => {
             let before = properties.exchange(key, value)?;
             Ok(PropertiesBefore::Key(key, before))
+        }
+        PropertyChange::Places(keys) => {
+            properties.insert_blanks(keys.as_slice())?;
+            Ok(PropertiesBefore::Places(keys))
         }
         PropertyChange::All(all) => Ok(PropertiesBefore::All(mem::replace(properties, all))),
     }
@@ -86,6 +96,7 @@ pub(crate) fn give_back(properties: &mut Properties, before: PropertiesBefore)
 {
     match before {
         PropertiesBefore::Key(key, value) => properties.give_back(key, value),
+        PropertiesBefore::Places(keys) => properties.remove_keys(keys.as_slice()),
         PropertiesBefore::All(all) => *properties = all,
     }
 }

@@ -4,7 +4,7 @@ ghost use Rattle.std.specs.List.{list_any};
 ghost use Rattle.pg_graph.specs.Records.{with_label};
 ghost use Rattle.pg_index.specs.Properties.{all_find, is_found_by};
 ghost use Rattle.pg_store.specs.Covers.{Key, belongs, has_in, with_label as label_key};
-ghost use Rattle.pg_store.specs.Edits.{CanGiveBack, CanGoBack, IsChangeOf, changed_node, changed_properties, node_before, properties_before};
+ghost use Rattle.pg_store.specs.Edits.{CanChange, CanGiveBack, CanGoBack, IsChangeOf, changed_node, changed_properties, node_before, properties_before};
 ghost use Rattle.pg_store.specs.Noted.{Gains, is_in, is_noted};
 ghost use Rattle.pg_value_core.specs.declared.value.Value as code;
 
@@ -60,7 +60,8 @@ impl Sets {
         id: u64,
         change: PropertyChange,
     ) -> Result<NodeBefore, AllocError>
-        requires { (k : Key) → belongs k node.old ≡ true → has_in self.old k id ≡ true }
+        requires change { CanChange change node.old.properties }
+        requires covered { (k : Key) → belongs k node.old ≡ true → has_in self.old k id ≡ true }
         ensures grown { (k : Key) (i : ℕ)
             → has_in self.old k i ≡ true → has_in self.new k i ≡ true }
         ensures gains { Gains self.old self.new }

@@ -5,6 +5,7 @@ use Rattle.std.specs.Prelude.{IfNone}
 use Rattle.pg_graph.proofs.Maps.{get_inserted, get_inserted_other, get_removed, get_removed_other}
 use Rattle.pg_graph.specs.Records.{Properties, given_back}
 use Rattle.pg_meaning.specs.Value as meaning
+use Rattle.pg_store.proofs.BlankPlaces.{there_without}
 use Rattle.pg_store.proofs.edits.PropertiesBefore.value.Goals as goal
 use Rattle.pg_store.specs.Edits.{properties_before}
 use Rattle.pg_store.specs.declared.edits.PropertiesBefore.{PropertiesBefore}
@@ -37,3 +38,6 @@ returns-in-Key-clause-none c = was_none c.as_ref.result c.args.key c.in-Key.chan
 
 pub returns-in-Key-2-clause-none : goal.returns-in-Key-2-clause-none
 returns-in-Key-2-clause-none c = λ ps w h. sym (ap (λ b. map.get (properties_before b ps) c.args.key) c.in-Key.is ∙ other_key ps c.args.key c.in-Key.changed c.in-Key.value (λ same. c.if-as_u64.false (c.as_u64.ensures ∙ sym same ∙ sym c.as_u64-in-Key-1.ensures))) ∙ h
+
+pub returns-in-Places-clause-none : goal.returns-in-Places-clause-none
+returns-in-Places-clause-none c = λ ps w h. there_without c.in-Places.field-0.items ps c.args.key w (sym (ap (λ b. map.get (properties_before b ps) c.args.key) c.in-Places.is) ∙ h)

@@ -21,7 +21,7 @@ returns-in-Ok c =
       can = edit.can;
       gains = moved.gains;
       left = λ k there h. c.in-Ok.ensures.left k there (ap (λ (ps : Properties). belongs k (record n { properties = ps })) edit.back ∙ h);
-      covered = properties_covered (has_in old) (has_in new) n (record n { properties = c.exchange.new.properties }) c.args.id grows c.requires (λ label key v found. c.in-Ok.ensures.ok label key v found) refl;
+      covered = properties_covered (has_in old) (has_in new) n (record n { properties = c.exchange.new.properties }) c.args.id grows c.requires.covered (λ label key v found. c.in-Ok.ensures.ok label key v found) refl;
       err = tt;
     }
 

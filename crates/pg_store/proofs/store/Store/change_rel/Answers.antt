@@ -15,7 +15,7 @@ use Rattle.pg_store.proofs.Kept.{tables_kept}
 use Rattle.pg_store.proofs.States.{with_rel_changed, rel_changed, rel_change_undone, held_live_rel, the_same, properties_taken_and_put, rel_as_it_was, rel_stays_there}
 use Rattle.pg_store.proofs.store.Store.change_rel.Goals as goal
 use Rattle.pg_store.specs.Covers.{has_in}
-use Rattle.pg_store.specs.Edits.{changed_properties}
+use Rattle.pg_store.specs.Edits.{CanChange, changed_properties}
 use Rattle.pg_store.specs.Journal.{graph_in}
 use Rattle.std.specs.FinMap.{FinMap}
 use Rattle.std.specs.Ordering.{nat_cmp}
@@ -31,6 +31,12 @@ pub change_rel-properties-requires-clause-present : goal.change_rel-properties-r
 change_rel-properties-requires-clause-present g c =
     let store = c.args.self.now in
     (is_live (g.T.Tables.seen.content store.tables c.args.shared.now.tables).rels store.gone_rels c.args.id.0 c.requires.there).1
+
+pub exchange-changed-requires : goal.exchange-changed-requires
+exchange-changed-requires g c =
+    let s = state_of g.T.Tables.seen c.args.self.now c.args.shared.now in
+    let rel = rel_before c.args.shared.now.names (map.get s.content.rels c.args.id.0) c.change_rel-properties.result c.change_rel-properties.ensures.before in
+    subst (CanChange c.args.change) rel.2 (c.requires.change rel.0 (held_live_rel s c.args.id.0 rel.0 c.requires.there rel.1))
 
 pub change_rel-requires : goal.change_rel-requires
 change_rel-requires g c =

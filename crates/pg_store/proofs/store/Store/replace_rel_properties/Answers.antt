@@ -29,6 +29,7 @@ change_rel-requires g c =
     record {
       fit = renamed_fit g.T.Tables.seen store c.args.shared.now c.properties_of.new.names c.properties_of.ensures.keeps c.requires.fit c.properties_of.ensures.distinct;
       there = rel_held c.args.shared.now.names (live s) store.next.node store.next.rel c.args.id.0 c.requires.there;
+      change = λ r is. tt;
       named = λ r is. c.in_ok-properties.ensures.named;
     }
 

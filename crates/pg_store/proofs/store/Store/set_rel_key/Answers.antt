@@ -47,6 +47,7 @@ change_rel-requires g c =
     record {
       fit = c.requires.fit;
       there = rel_held names (live s) store.next.node store.next.rel c.args.id.0 c.requires.there;
+      change = λ r is. tt;
       named = λ r is. named_inserted names well.distinct r.properties (well.rels c.args.id.0 r is).keys c.args.key (view c.args.value) c.requires.named;
     }
 

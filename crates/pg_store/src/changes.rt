@@ -27,9 +27,12 @@ use pg_names::NameId;
 use pg_value_core::{NodeId, RelId, Value};
 use std::alloc::{AllocError, Global};
 
+// So many keys are put in one by one.
+const FEW_KEYS: usize = 8;
+
 impl<T: Tables> Store<T> {
     // Changes a node in its place.
-    fn change_node(
+    pub(crate) fn change_node(
         &mut self,
         shared: &mut Shared<T::Shared>,
         id: NodeId,
@@ -65,7 +68,7 @@ impl<T: Tables> Store<T> {
     }
 
     // Changes a relationship in its place.
-    fn change_rel(
+    pub(crate) fn change_rel(
         &mut self,
         shared: &mut Shared<T::Shared>,
         id: RelId,
@@ -154,8 +157,8 @@ impl<T: Tables> Store<T> {
         self.change_rel(shared, id, PropertyChange::Key(key, value))
     }
 
-    // Gives a node's keys these values. After an error some have them.
-    fn set_node_keys(
+    // Gives a node's keys these values, one after the other. After an error some have them.
+    fn set_each_node_key(
         &mut self,
         shared: &mut Shared<T::Shared>,
         id: NodeId,
@@ -177,8 +180,31 @@ impl<T: Tables> Store<T> {
         Ok(())
     }
 
-    // Gives a relationship's keys these values. After an error some have them.
-    fn set_rel_keys(
+    // Gives a node's keys these values. After an error some have them.
+    fn set_node_keys(
+        &mut self,
+        shared: &mut Shared<T::Shared>,
+        id: NodeId,
+        pairs: Vec<(&str, Value)>,
+    ) -> Result<(), AllocError>
+        requires fit { IsFit T.seen self.old shared.old }
+        requires there { has_node (graph_of_store T.seen self.old shared.old) id.0 ≡ true }
+        ensures ok { OnOk result (graph_of_store T.seen self.new shared.new ≡ change_node
+            (λ e. record e { properties = set_keys (pairs_of pairs.entry.items) e.properties }) id.0
+            (graph_of_store T.seen self.old shared.old)) }
+        ensures marks { KeepsMarks T.seen self.old shared.old self.new shared.new }
+        ensures fit { IsFit T.seen self.new shared.new }
+        ensures keeps { KeepsShared T.seen self.old shared.old self.new shared.new }
+    {
+        if pairs.len() <= FEW_KEYS {
+            return self.set_each_node_key(shared, id, pairs);
+        }
+        self.make_node_places(shared, id, &pairs)?;
+        self.set_each_node_key(shared, id, pairs)
+    }
+
+    // Gives a relationship's keys these values, one after the other. After an error some have them.
+    fn set_each_rel_key(
         &mut self,
         shared: &mut Shared<T::Shared>,
         id: RelId,
@@ -198,6 +224,29 @@ impl<T: Tables> Store<T> {
             self.set_rel_key(shared, id, key, value)?;
         }
         Ok(())
+    }
+
+    // Gives a relationship's keys these values. After an error some have them.
+    fn set_rel_keys(
+        &mut self,
+        shared: &mut Shared<T::Shared>,
+        id: RelId,
+        pairs: Vec<(&str, Value)>,
+    ) -> Result<(), AllocError>
+        requires fit { IsFit T.seen self.old shared.old }
+        requires there { has_relationship (graph_of_store T.seen self.old shared.old) id.0 ≡ true }
+        ensures ok { OnOk result (graph_of_store T.seen self.new shared.new ≡ change_relationship
+            (λ e. record e { properties = set_keys (pairs_of pairs.entry.items) e.properties }) id.0
+            (graph_of_store T.seen self.old shared.old)) }
+        ensures marks { KeepsMarks T.seen self.old shared.old self.new shared.new }
+        ensures fit { IsFit T.seen self.new shared.new }
+        ensures keeps { KeepsShared T.seen self.old shared.old self.new shared.new }
+    {
+        if pairs.len() <= FEW_KEYS {
+            return self.set_each_rel_key(shared, id, pairs);
+        }
+        self.make_rel_places(shared, id, &pairs)?;
+        self.set_each_rel_key(shared, id, pairs)
     }
 
     // Gives a node a label, if it hasn't got it.

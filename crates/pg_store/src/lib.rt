@@ -12,6 +12,7 @@ mod names;
 mod node_changes;
 mod nodes;
 mod notes;
+mod places;
 mod reads;
 mod removal;
 mod sets;

@@ -2,7 +2,7 @@ use Rattle.std.proofs.Common.{◌≡◌, true}
 use Rattle.std.specs.Vec.Iter.{into_iter_items}
 use Rattle.pg_meaning.specs.Entries.{set_keys}
 use Rattle.pg_meaning.specs.Graph.{Node, change_node, has_node}
-use Rattle.pg_store.proofs.store.Store.set_node_keys.Given as goal
+use Rattle.pg_store.proofs.store.Store.set_each_node_key.Given as goal
 use Rattle.pg_store.specs.Stores.{graph_of_store, IsFit, KeepsMarks, KeepsShared, pairs_of}
 
 -- what is done so far, with what is to come, is all

@@ -11,7 +11,7 @@ use Rattle.pg_meaning.specs.Graph.{Graph, Relationship, change_relationship, has
 use Rattle.pg_store.proofs.ChangeLemmas.{marks_stay, marks_then, renamed, renamed_graph, renamed_fit, renamed_keeps, renamed_marks}
 use Rattle.pg_store.proofs.Kept.{kept_then, nothing_touched}
 use Rattle.pg_store.proofs.Changed.{rel_there, rel_twice, rel_unchanged}
-use Rattle.pg_store.proofs.store.Store.set_rel_keys.Goals as goal
+use Rattle.pg_store.proofs.store.Store.set_each_rel_key.Goals as goal
 use Rattle.pg_store.specs.Journal.{live}
 use Rattle.pg_store.specs.Stores.{graph_of_store, state_of, pairs_of}
 use Rattle.pg_value_core.specs.View.{view}

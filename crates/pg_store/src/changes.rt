@@ -20,15 +20,13 @@ use crate::edits::{NodeChange, PropertyChange, exchange};
 use crate::journal::{Entry, Mark};
 use crate::names::{less_labels, properties_of};
 use crate::node_changes::blank_node;
+use crate::places::FEW_KEYS;
 use crate::shared::Shared;
 use crate::store::Store;
 use pg_graph::{Properties, Tables};
 use pg_names::NameId;
 use pg_value_core::{NodeId, RelId, Value};
 use std::alloc::{AllocError, Global};
-
-// So many keys are put in one by one.
-const FEW_KEYS: usize = 8;
 
 impl<T: Tables> Store<T> {
     // Changes a node in its place.

@@ -8,6 +8,7 @@ ghost use Rattle.pg_meaning.specs.Names.{in_byte_order, put_texts};
 ghost use Rattle.pg_meaning.specs.Value.{no_entries};
 ghost use Rattle.pg_store.specs.Stores.{texts_of, pairs_of, without_texts};
 
+use crate::places::blank_properties;
 use pg_graph::{Labels, Properties};
 use pg_names::{Names, TextSet};
 use pg_value_core::Value;
@@ -61,7 +62,7 @@ pub(crate) fn properties_of<K: TextSet>(
     ensures keeps { KeepsNames names.old names.new }
     ensures distinct { AreDistinct names.new }
 {
-    let properties = Properties::with_capacity(alloc, pairs.len())?;
+    let properties = blank_properties(alloc, names, &pairs)?;
     more_properties(names, properties, pairs)
 }
 

@@ -4,8 +4,9 @@ ghost use Rattle.std.specs.Prelude.{◌≡◌, ◌<◌, ℕ, true, None, IfOk};
 ghost use Rattle.std.specs.FinMap as map;
 ghost use Rattle.std.specs.List.{AllByRecursion};
 ghost use Rattle.pg_graph.specs.Records.{AreKeys};
-ghost use Rattle.pg_graph.specs.Refinement.{AreNamed};
+ghost use Rattle.pg_graph.specs.Refinement.{AreNamed, property_entries};
 ghost use Rattle.pg_meaning.specs.Graph.{has_node, has_relationship};
+ghost use Rattle.pg_meaning.specs.Value.{no_entries};
 ghost use Rattle.pg_names.specs.Names.{AreDistinct, KeepsNames};
 ghost use Rattle.pg_store.specs.Stores.{graph_of_store, IsFit, KeepsMarks, KeepsShared};
 
@@ -16,6 +17,9 @@ use pg_graph::{Properties, Tables};
 use pg_names::{NameId, Names, TextSet};
 use pg_value_core::{NodeId, RelId, Value};
 use std::alloc::{AllocError, Global};
+
+// So many keys are put in one by one.
+pub(crate) const FEW_KEYS: usize = 8;
 
 impl<T: Tables> Store<T> {
     // Gives each key that is to get a value a place at a node, if it has none. After an error some texts may
@@ -106,6 +110,29 @@ impl<T: Tables> Store<T> {
         }
         self.change_rel(shared, id, PropertyChange::Places(places))
     }
+}
+
+// No properties yet, with places for the keys that get a value where these are many.
+pub(crate) fn blank_properties<K: TextSet>(
+    alloc: Global,
+    names: &mut Names<K>,
+    pairs: &Vec<(&str, Value)>,
+) -> Result<Properties, AllocError>
+    requires { AreDistinct names.old }
+    ensures none { IfOk result
+        (λ properties. property_entries names.new properties ≡ no_entries) }
+    ensures named { IfOk result (λ properties. AreNamed names.new (map.keys properties)) }
+    ensures keeps { KeepsNames names.old names.new }
+    ensures distinct { AreDistinct names.new }
+{
+    let mut properties = Properties::with_capacity(alloc, pairs.len())?;
+    if pairs.len() <= FEW_KEYS {
+        return Ok(properties);
+    }
+    let keys = keys_of(alloc, names, pairs)?;
+    let places = absent_keys(alloc, &properties, keys.as_slice())?;
+    properties.insert_blanks(places.as_slice())?;
+    Ok(properties)
 }
 
 // The numbers of the keys that get a value, not falling.

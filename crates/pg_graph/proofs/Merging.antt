@@ -1,7 +1,7 @@
 -- Blank entries brought in from the end: each step leaves what will stand in the end.
 use Rattle.std.proofs.Common.{◌≡◌, ◌≢◌, ◌<◌, ◌≤◌, ◌+◌, ℕ, zero, suc, Bool, true, false, cond, List, [], ◌∷◌, ◌++◌, length, take, drop, fold, slice_set, slice_index_or, Some, None, Ordering, Less, Equal, Greater, append_assoc, arith, refl, sym, ap, subst, ◌∙◌}
 use Rattle.std.proofs.lemmas.Bool.Decides.{nat_tests}
-use Rattle.std.proofs.lemmas.List.{drop-set, drop-set-lt, take-set-le, length-set, take-append-drop}
+use Rattle.std.proofs.lemmas.List.{drop-set, drop-set-lt, take-set-le, length-set}
 use Rattle.std.proofs.lemmas.List.Sums.{fold-append}
 use Rattle.std.specs.FinMap as fin
 use Rattle.std.specs.FinMap.{find}

@@ -62,10 +62,7 @@ fn merge_blanks(entries: &mut Vec<(NameId, Value)>, count: usize, keys: &[NameId
             entries.swap(before, before + left);
         } else {
             left -= 1;
-            drop(mem::replace(
-                &mut entries[before + left],
-                (key, Value::Null),
-            ));
+            drop(mem::replace(&mut entries[before + left], (key, Value::Null)));
         }
     }
 }

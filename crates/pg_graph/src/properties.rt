@@ -10,9 +10,8 @@ ghost use Rattle.pg_graph.specs.Sorted.{with_element, without};
 ghost use Rattle.pg_value_core.specs.View.{view};
 
 use crate::by_text::is_null;
-use crate::places;
-use crate::sorted;
 use crate::sorted::Numbered;
+use crate::{places, sorted};
 use pg_names::NameId;
 use pg_value_core::Value;
 use std::alloc::{AllocError, Global};

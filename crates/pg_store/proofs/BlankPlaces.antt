@@ -1,9 +1,8 @@
 -- Keys that get a blank place, and lose it again: nothing else changes, and nothing shows.
-use Rattle.std.proofs.Common.{◌≡◌, ◌≢◌, ◌==◌, ◌<◌, ◌||◌, ℕ, Bool, true, false, not, cond, List, [], ◌∷◌, length, Some, None, Equal, arith, refl, sym, ap, ◌∙◌}
+use Rattle.std.proofs.Common.{◌≡◌, ◌≢◌, ◌==◌, ◌||◌, ℕ, Bool, true, false, not, cond, List, [], ◌∷◌, Some, None, arith, refl, sym, ap, ◌∙◌}
 use Rattle.std.proofs.lemmas.Bool.Decides.{nat_tests}
 use Rattle.std.specs.FinMap as map
 use Rattle.std.specs.List.{AllByRecursion, list_any}
-use Rattle.std.specs.Ordering.{nat_cmp}
 use Rattle.pg_graph.proofs.Maps.{get_inserted, get_inserted_other, same_numbered}
 use Rattle.pg_graph.proofs.NamedChanges.{named_inserted, shown_alike}
 use Rattle.pg_graph.specs.Records.{Properties, shown, with_blanks, without_keys}

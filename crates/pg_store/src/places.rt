@@ -18,8 +18,11 @@ use pg_names::{NameId, Names, TextSet};
 use pg_value_core::{NodeId, RelId, Value};
 use std::alloc::{AllocError, Global};
 
-// So many keys are put in one by one.
+// So many keys are put one by one into properties that are there.
 pub(crate) const FEW_KEYS: usize = 8;
+
+// So many are put one by one where there are none: they move little.
+const FEW_NEW_KEYS: usize = 64;
 
 impl<T: Tables> Store<T> {
     // Gives each key that is to get a value a place at a node, if it has none. After an error some texts may
@@ -126,7 +129,7 @@ pub(crate) fn blank_properties<K: TextSet>(
     ensures distinct { AreDistinct names.new }
 {
     let mut properties = Properties::with_capacity(alloc, pairs.len())?;
-    if pairs.len() <= FEW_KEYS {
+    if pairs.len() <= FEW_NEW_KEYS {
         return Ok(properties);
     }
     let keys = keys_of(alloc, names, pairs)?;

@@ -13,11 +13,11 @@ shows_none names ps is = ap (property_entries names) is ∙ ap (named_entries na
 none_named : (names : List (List ℕ)) (ps : Properties) → ps ≡ map.empty → AreNamed names (map.keys ps)
 none_named names ps is = subst (λ (qs : Properties). AreNamed names (map.keys qs)) (sym is) (subst (λ (es : List (ℕ × Value)). AreNamed names (map_list (λ e. e.0) es)) (sym (nothing_held Value)) tt)
 
-pub returns-then-len-le-FEW_KEYS-clause-none : goal.returns-then-len-le-FEW_KEYS-clause-none
-returns-then-len-le-FEW_KEYS-clause-none g c = shows_none c.args.names.now c.in_ok-properties.properties c.in_ok-properties.ensures
+pub returns-then-len-le-FEW_NEW_KEYS-clause-none : goal.returns-then-len-le-FEW_NEW_KEYS-clause-none
+returns-then-len-le-FEW_NEW_KEYS-clause-none g c = shows_none c.args.names.now c.in_ok-properties.properties c.in_ok-properties.ensures
 
-pub returns-then-len-le-FEW_KEYS-clause-named : goal.returns-then-len-le-FEW_KEYS-clause-named
-returns-then-len-le-FEW_KEYS-clause-named g c = none_named c.args.names.now c.in_ok-properties.properties c.in_ok-properties.ensures
+pub returns-then-len-le-FEW_NEW_KEYS-clause-named : goal.returns-then-len-le-FEW_NEW_KEYS-clause-named
+returns-then-len-le-FEW_NEW_KEYS-clause-named g c = none_named c.args.names.now c.in_ok-properties.properties c.in_ok-properties.ensures
 
 pub returns-clause-none : goal.returns-clause-none
 returns-clause-none g c =

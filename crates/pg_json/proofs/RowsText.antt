@@ -62,15 +62,9 @@ rows_text_ended columns rows steps =
 
 -- ---- what tokens print
 
-items_printed : (items : Items) → print (items_tokens (items_outline items)) ≡ items_text false items
+pub items_printed : (items : Items) → print (items_tokens (items_outline items)) ≡ items_text false items
 unfolding print_from
 items_printed items = ap (drop 1) (print-outline (array items))
 
 pub columns_printed : (columns : Items) → columns_open ++ print (items_tokens (items_outline columns)) ≡ columns_begun columns
 columns_printed columns = ap (λ t. columns_open ++ t) (items_printed columns)
-
-pub reply_printed : (columns : Items) (rows : List Items) (steps : ℕ)
-    → columns_open ++ print (items_tokens (items_outline columns) ++ (key (codes "rows") ∷ begin_array ∷ (items_tokens (items_outline (rows_data rows)) ++ key (codes "steps") ∷ number (decimal steps) ∷ end_object ∷ [])))
-    ≡ rows_text columns rows steps
-unfolding print_from serde_json_on_literals digits rows_text
-reply_printed columns rows steps = print-outline (query_data columns (rows_data rows) steps)

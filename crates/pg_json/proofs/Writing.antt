@@ -2,9 +2,10 @@
 use Rattle.std.proofs.Common.{◌≡◌, ℕ, ◌+◌, ◌-◌, ◌^◌, ◌<◌, ◌≤◌, Bool, true, false, cond, List, [], ◌∷◌, ◌++◌, length, take, drop, map, decimal, refl, sym, ap, ◌∙◌, append-nil, length-append, length-drop, arith}
 use Rattle.std.proofs.lemmas.List.{append_assoc, length-take-le, map_push, take-append-drop}
 use Rattle.std.proofs.lemmas.Fmt.{decimal_nonempty}
-use Rattle.std.specs.Prelude.{codes}
-use Rattle.json.specs.Print.{print}
-use Rattle.json.specs.Token.{Token, end_object, begin_array, end_array, key as key_token, number as number_token, string as string_token}
+use Rattle.std.specs.Prelude.{codes, fold}
+use Rattle.json.proofs.Printed.Tokens.{print_from_push}
+use Rattle.json.specs.Print.{ends, print, separator}
+use Rattle.json.specs.Token.{Token, begin_array, end_array, string as string_token}
 use Rattle.json.specs.Tree.{items_tokens}
 use Rattle.json.specs.Written.{Written}
 use Rattle.serde_json.specs.Data.{Items, no_items, item, array, string}
@@ -13,10 +14,10 @@ use Rattle.pg_json.specs.Joined.{IsCut, IsReply, comma_behind, steps_text, with_
 use Rattle.pg_json.specs.Pages.{QueryText, columns_begun, ends_from, query_text, row_text, rows_joined, rows_start}
 use Rattle.pg_json.specs.Replies.{items_of, max_reply}
 use Rattle.pg_json.specs.Rows.{rows_before, rows_data, rows_text}
-use Rattle.pg_json.specs.Telling.{HasNames, HasNoted, HasPlain, columns_open, names_before, plain_end, rows_begun, rows_ended, with_rows}
+use Rattle.pg_json.specs.Telling.{HasNames, HasNoted, HasPlain, columns_open, names_before, plain_end, rows_begun}
 use Rattle.pg_json.specs.declared.plain_rows.PlainRows.{PlainRows}
 use Rattle.pg_json.proofs.Joined.{comma_same, ends_push, joined_push}
-use Rattle.pg_json.proofs.RowsText.{columns_printed, reply_printed, rows_text_ended}
+use Rattle.pg_json.proofs.RowsText.{columns_printed, items_printed, rows_items, rows_text_ended}
 
 names_pushed : (ns : List (List ℕ)) (n : List ℕ) (ds : Items) → names_before (ns ++ n ∷ []) ds ≡ names_before ns (item (string n) ds)
 names_pushed [] n ds = refl
@@ -60,17 +61,24 @@ names_ended w before text ts ns e f g so_far =
 
 -- ---- rows that are not noted
 
-pub plain_begun : (w : Written) (new : PlainRows) (first second : List Token) (ns : List (List ℕ)) → new.to.before ≡ w.before → first ≡ w.tokens ++ end_array ∷ [] → second ≡ first ++ key_token (codes "rows") ∷ []
-    → new.to.tokens ≡ second ++ begin_array ∷ [] → HasNames w ns → HasPlain new (items_of (map string ns)) []
-plain_begun w new first second ns same ended named written so_far =
-    let columns : List Token = items_tokens (items_outline (items_of (map string ns))) in
-    let opened : List Token = key_token (codes "rows") ∷ begin_array ∷ [] in
-    record {
-      before = same ∙ so_far.before;
-      more = λ ds.
-          ap (λ ts. ts ++ items_tokens (items_outline ds)) (two_steps first second new.to.tokens (key_token (codes "rows")) (begin_array ∷ []) named written ∙ ap (λ ts. ts ++ opened) (columns_written w first ns ended so_far))
-          ∙ append_assoc columns opened (items_tokens (items_outline ds));
-    }
+no_comma : (after : Bool) → separator after end_array ≡ []
+no_comma true = refl
+no_comma false = refl
+
+bracket_printed : (ts : List Token) → print (ts ++ end_array ∷ []) ≡ print ts ++ codes "]"
+bracket_printed ts = print_from_push false ts end_array ∙ ap (λ c. print ts ++ (c ++ codes "]")) (no_comma (fold (λ _ t. ends t) false ts))
+
+pub names_closed : (w : Written) (text opened : List ℕ) (ns : List (List ℕ)) → text ≡ w.before ++ print w.tokens → opened ≡ text ++ codes "],\"rows\":[" → HasNames w ns → opened ≡ rows_begun (items_of (map string ns))
+names_closed w text opened ns printed put so_far =
+    let behind : List ℕ = codes ",\"rows\":[" in
+    let ended : List Token = w.tokens ++ end_array ∷ [] in
+    put ∙ sym (append_assoc text (codes "]") behind)
+    ∙ ap (λ t. t ++ behind)
+    (ap (λ t. t ++ codes "]") printed ∙ append_assoc w.before (print w.tokens) (codes "]") ∙ ap (λ t. w.before ++ t) (sym (bracket_printed w.tokens))
+    ∙ names_ended w w.before (w.before ++ print ended) ended ns refl refl refl so_far)
+
+pub plain_begun : (new : PlainRows) (columns : Items) → new.to.before ≡ rows_begun columns → new.to.tokens ≡ [] → HasPlain new columns []
+plain_begun new columns begun none = record { before = begun; more = λ ds. ap (λ ts. ts ++ items_tokens (items_outline ds)) none }
 
 pub plain_row : (r new : PlainRows) (columns : Items) (rows : List Items) (row : Items) → new.to.before ≡ r.to.before → new.to.tokens ≡ r.to.tokens ++ begin_array ∷ items_tokens (items_outline row)
     → HasPlain r columns rows → HasPlain new columns (rows ++ row ∷ [])
@@ -80,18 +88,17 @@ plain_row r new columns rows row same written so_far = record {
       ap (λ ts. ts ++ items_tokens (items_outline ds)) written
       ∙ append_assoc r.to.tokens (begin_array ∷ items_tokens (items_outline row)) (items_tokens (items_outline ds))
       ∙ so_far.more (item (array row) ds)
-      ∙ ap (with_rows columns) (sym (rows_pushed rows row ds));
+      ∙ ap (λ items. items_tokens (items_outline items)) (sym (rows_pushed rows row ds));
 }
 
-plain_text : (p : PlainRows) (columns : Items) (rows : List Items) (steps : ℕ) → HasPlain p columns rows → p.to.before ++ print (p.to.tokens ++ rows_ended steps) ≡ rows_text columns rows steps
+plain_text : (p : PlainRows) (columns : Items) (rows : List Items) (steps : ℕ) → HasPlain p columns rows → p.to.before ++ print p.to.tokens ++ codes "]" ++ steps_text steps ≡ rows_text columns rows steps
 plain_text p columns rows steps so_far =
-    let behind : List Token = key_token (codes "steps") ∷ number_token (decimal steps) ∷ end_object ∷ [] in
-    let columns_tokens : List Token = items_tokens (items_outline columns) in
-    let rows_tokens : List Token = items_tokens (items_outline (rows_data rows)) in
-    ap (λ t. t ++ print (p.to.tokens ++ rows_ended steps)) so_far.before
-    ∙ ap (λ ts. columns_open ++ print ts)
-    (sym (append_assoc p.to.tokens (end_array ∷ []) behind) ∙ ap (λ ts. ts ++ behind) (so_far.more no_items) ∙ append_assoc columns_tokens (key_token (codes "rows") ∷ begin_array ∷ rows_tokens) behind)
-    ∙ reply_printed columns rows steps
+    let joined : List ℕ = rows_joined (map row_text rows) in
+    let closed : print p.to.tokens ++ codes "]" ≡ joined ++ codes "]" =
+    sym (bracket_printed p.to.tokens) ∙ ap print (so_far.more no_items) ∙ items_printed (rows_data rows) ∙ rows_items rows in
+    ap (λ t. t ++ steps_text steps)
+    (append_assoc p.to.before (print p.to.tokens) (codes "]") ∙ ap (λ t. p.to.before ++ t) closed ∙ ap (λ t. t ++ (joined ++ codes "]")) so_far.before ∙ sym (append_assoc (rows_begun columns) joined (codes "]")))
+    ∙ rows_text_ended columns rows steps
 
 -- ---- rows that are noted
 
@@ -167,9 +174,12 @@ noted_reply text ended whole ends columns_end steps fits bracket all within cut 
       };
     }
 
-pub plain_reply : (before printed whole ends : List ℕ) → 20 ≤ length before → whole ≡ before ++ printed → length whole ≤ max_reply → ends ≡ [] → IsReply whole 0 ends
-plain_reply before printed whole ends begun all within none =
-    let both : length whole ≡ length before + length printed = ap length all ∙ length-append before printed in
+pub plain_reply : (before printed text ended whole ends : List ℕ) (steps : ℕ) → 20 ≤ length before → text ≡ before ++ printed → ended ≡ text ++ 93 ∷ [] → whole ≡ ended ++ steps_text steps → length whole ≤ max_reply → ends ≡ []
+    → IsReply whole 0 ends
+plain_reply before printed text ended whole ends steps begun rows bracket all within none =
+    let first : length text ≡ length before + length printed = ap length rows ∙ length-append before printed in
+    let second : length ended ≡ length text + 1 = ap length bracket ∙ length-append text (93 ∷ []) in
+    let both : length whole ≡ length ended + length (steps_text steps) = ap length all ∙ length-append ended (steps_text steps) in
     let rest : length (drop 9 whole) ≡ length whole - 9 = length-drop 9 whole in
     record {
       behind = drop 9 whole;

@@ -1,11 +1,11 @@
 -- A query's reply while its columns are named and its rows are told.
-use Rattle.std.specs.Prelude.{◌≡◌, ℕ, Bool, true, false, List, [], ◌∷◌, ◌++◌, length, map, codes, decimal}
-use Rattle.json.specs.Token.{Token, end_object, begin_array, end_array, key as key_token, number as number_token}
+use Rattle.std.specs.Prelude.{◌≡◌, ℕ, Bool, true, false, List, [], ◌∷◌, ◌++◌, length, map, codes}
 use Rattle.json.specs.Print.{print}
 use Rattle.json.specs.Tree.{items_tokens}
 use Rattle.json.specs.Written.{Written}
 use Rattle.serde_json.specs.Data.{Items, item, string}
 use Rattle.serde_json.specs.Written.{items_outline}
+use Rattle.pg_json.specs.Joined.{steps_text}
 use Rattle.pg_json.specs.Pages.{QueryText, columns_begun, ends_from, row_text, rows_joined, rows_start}
 use Rattle.pg_json.specs.Rows.{rows_before}
 use Rattle.pg_json.specs.declared.plain_rows.PlainRows.{PlainRows}
@@ -35,22 +35,14 @@ pub record HasNamed (r : ReplyColumns) (names : List (List ℕ)) : Type 0 where
 abbrev pub rows_begun : Items → List ℕ
 rows_begun columns = columns_begun columns ++ codes ",\"rows\":["
 
--- the columns, and the rows with what follows them
-abbrev pub with_rows : Items → Items → List Token
-with_rows columns rows = items_tokens (items_outline columns) ++ key_token (codes "rows") ∷ begin_array ∷ items_tokens (items_outline rows)
-
--- with any further rows behind it, what is written is a beginning of the whole
+-- with any further rows behind it, what is written behind the columns is a beginning of the rows
 pub record HasPlain (p : PlainRows) (columns : Items) (rows : List Items) : Type 0 where
-  pub before : p.to.before ≡ columns_open
-  pub more : (ds : Items) → p.to.tokens ++ items_tokens (items_outline ds) ≡ with_rows columns (rows_before rows ds)
-
--- what ends a reply behind its rows
-abbrev pub rows_ended : ℕ → List Token
-rows_ended steps = end_array ∷ key_token (codes "steps") ∷ number_token (decimal steps) ∷ end_object ∷ []
+  pub before : p.to.before ≡ rows_begun columns
+  pub more : (ds : Items) → p.to.tokens ++ items_tokens (items_outline ds) ≡ items_tokens (items_outline (rows_before rows ds))
 
 -- the reply that ends behind these rows
 abbrev pub plain_end : PlainRows → ℕ → QueryText
-plain_end p steps = record { text = p.to.before ++ print (p.to.tokens ++ rows_ended steps); columns_end = 0; row_ends = [] }
+plain_end p steps = record { text = p.to.before ++ print p.to.tokens ++ codes "]" ++ steps_text steps; columns_end = 0; row_ends = [] }
 
 -- the text up to the rows so far, and where they end
 pub record HasNoted (q : QueryText) (columns : Items) (rows : List Items) : Type 0 where

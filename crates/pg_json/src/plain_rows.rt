@@ -1,15 +1,16 @@
 //! The rows of a reply that is given whole.
 ghost use Rattle.std.specs.Prelude.{◌≤◌, length};
 
-use crate::pieces::within_limit;
+use crate::pieces::with_steps;
 use crate::query_reply::QueryReply;
-use crate::value::{write_items, write_natural};
+use crate::value::write_items;
 use json::Writer;
 use pg_meaning::Fault;
 use pg_value_core::Out;
 use std::alloc::AllocError;
 
-/// A reply up to its rows, and the first of these.
+/// A reply up to its rows, and the first of these. What stands around the rows is put there as it is, and only the rows are
+/// written token by token.
 #[derive(Drop)]
 pub(crate) struct PlainRows {
     to: Writer,
@@ -18,9 +19,8 @@ pub(crate) struct PlainRows {
 
 impl PlainRows {
     ghost use Rattle.std.specs.Prelude.{◌≡◌, ◌≢◌, ◌<◌, ◌≤◌, ◌∷◌, [], ◌++◌, length, map, List, ℕ, IfOk, IfErr, OnOk};
-    ghost use Rattle.json.specs.Print.{print};
     ghost use Rattle.pg_json.specs.Replies.{items_of, outs, max_reply};
-    ghost use Rattle.pg_json.specs.Telling.{HasNames, HasPlain, plain_end, rows_ended};
+    ghost use Rattle.pg_json.specs.Telling.{HasNames, HasPlain, plain_end};
     ghost use Rattle.pg_meaning.specs.declared.fault.Fault.TheVariants.{OutOfMemory, ReplyTooLong};
     ghost use Rattle.serde_json.specs.Data.{Items, string};
 
@@ -30,11 +30,11 @@ impl PlainRows {
         ensures { (names : List (List ℕ)) → HasNames to names
             → IfOk result (λ rows. HasPlain rows (items_of (map string names)) []) }
     {
-        let mut to = to;
-        to.end_array()?;
-        to.key("rows")?;
-        to.begin_array()?;
-        Ok(PlainRows { to })
+        let mut text = to.into_inner();
+        text.extend_from_slice("],\"rows\":[".as_bytes())?;
+        Ok(PlainRows {
+            to: Writer::new(text),
+        })
     }
 
     pub(crate) fn push(&mut self, row: &[Out]) -> Result<(), AllocError>
@@ -51,23 +51,14 @@ impl PlainRows {
         ensures long { IfErr result (λ e. e ≢ OutOfMemory
             → max_reply < length ((plain_end self steps).text)) }
     {
-        let text = within_limit(self.ended(steps)?)?;
+        let mut text = self.to.into_inner();
+        text.push(b']')?;
+        let text = with_steps(text, steps)?;
         let row_ends = Vec::new(*text.allocator());
         Ok(QueryReply {
             text,
             columns_end: 0,
             row_ends,
         })
-    }
-
-    fn ended(self, steps: u64) -> Result<Vec<u8>, AllocError>
-        ensures { IfOk result
-            (λ v. v.items ≡ self.to.before ++ print (self.to.tokens ++ rows_ended steps)) }
-    {
-        let mut to = self.to;
-        to.end_array()?;
-        write_natural("steps", steps, &mut to)?;
-        to.end_object()?;
-        Ok(to.into_inner())
     }
 }

@@ -1,5 +1,6 @@
 //! What stands at a request's keys, read token by token.
 ghost use Rattle.std.specs.Prelude.{◌≡◌, ◌≢◌, length, false, None, Some, IfOk, IfErr, IfSome, IfNone, codes, option_map};
+ghost use Rattle.std.specs.Str.{bytes_eq};
 ghost use Rattle.json.specs.Json.{members, value};
 ghost use Rattle.serde_json.specs.Data.{string, put};
 ghost use Rattle.serde_json.specs.Read.{read, of_members, converted};
@@ -101,11 +102,11 @@ fn take_fields<'a>(
             }
             continue 'members;
         }
-        if key == "params" {
+        if is_same(key, "params") {
             put_parameters(found, read_parameters(alloc, reader)?);
             continue 'members;
         }
-        if key == "page" {
+        if is_same(key, "page") {
             put_page(found, read_page(reader)?);
             continue 'members;
         }
@@ -119,7 +120,7 @@ fn take_fields<'a>(
 fn is_later_key(key: &str) -> bool
     ensures { result ≡ is_one_of later_keys key.now }
 {
-    key == "label" || key == "key"
+    is_same(key, "label") || is_same(key, "key")
 }
 
 /// Which of the keys this is at which a text stands.
@@ -127,16 +128,23 @@ fn text_key(key: &str) -> Option<TextKey>
     ensures some { IfSome result (λ k. key.now ≡ text_key_name k) }
     ensures none { IfNone result (is_one_of text_keys key.now ≡ false) }
 {
-    if key == "op" {
+    if is_same(key, "op") {
         return Some(TextKey::Op);
     }
-    if key == "text" {
+    if is_same(key, "text") {
         return Some(TextKey::Text);
     }
-    if key == "token" {
+    if is_same(key, "token") {
         return Some(TextKey::Token);
     }
     None
+}
+
+/// Whether the texts are the same. Texts of two lengths are told apart without a look at their bytes.
+fn is_same(text: &str, other: &str) -> bool
+    ensures { result ≡ bytes_eq text.now other.now }
+{
+    text.len() == other.len() && text == other
 }
 
 /// Puts the text at the key.

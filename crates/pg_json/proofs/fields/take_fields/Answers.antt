@@ -13,8 +13,8 @@ use Rattle.pg_json.proofs.Strangers.{strange_member, no_key}
 use Rattle.pg_value_core.specs.View.{entries_view}
 use Rattle.pg_json.proofs.fields.take_fields.Goals as goal
 
-pub members-preserved-then-eq : goal.members-preserved-then-eq
-members-preserved-then-eq c =
+pub members-preserved-then-is_same : goal.members-preserved-then-is_same
+members-preserved-then-is_same c =
     let p = value 126 in
     let l = c.members in
     let n = l.invariant.0 in

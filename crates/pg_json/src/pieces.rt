@@ -7,7 +7,7 @@ ghost use Rattle.pg_json.specs.Telling.{columns_open};
 ghost use Rattle.pg_meaning.specs.declared.fault.Fault.TheVariants.{OutOfMemory, ReplyTooLong};
 
 use crate::bytes::MAX_REPLY;
-use json::Writer;
+use itoa::Buffer;
 use pg_meaning::Fault;
 use std::alloc::{AllocError, Global};
 
@@ -77,9 +77,10 @@ fn with_number(text: Vec<u8>, number: u64) -> Result<Vec<u8>, AllocError>
     ensures text { IfOk result (λ v. v.items ≡ text.items ++ decimal number) }
     ensures few { IfOk result (λ v. length v.items ≤ length text.items + 20) }
 {
-    let mut to = Writer::new(text);
-    to.u64(number)?;
-    Ok(to.into_inner())
+    let mut text = text;
+    let mut buffer = Buffer::new();
+    text.extend_from_slice(buffer.format(number).as_bytes())?;
+    Ok(text)
 }
 
 /// The bytes from one place up to another.

@@ -3,7 +3,6 @@ use Rattle.std.proofs.Common.{◌≡◌, ℕ, true, false, List, [], ◌∷◌, 
 use Rattle.std.specs.Fmt.{digits}
 use Rattle.std.specs.Prelude.{codes}
 use Rattle.json.specs.Print.{print, print_from}
-use Rattle.json.specs.Token.{begin_array, end_object, key, number}
 use Rattle.json.specs.Tree.{items_tokens}
 use Rattle.serde_json.specs.Data.{Data, Items, array, object, member, no_members}
 use Rattle.serde_json.specs.Written.{compact_text, items_outline, items_text}
@@ -11,7 +10,7 @@ use Rattle.serde_json.proofs.OnLiterals.{serde_json_on_literals}
 use Rattle.serde_json.proofs.Texts.{print-outline}
 use Rattle.pg_json.specs.Joined.{steps_text}
 use Rattle.pg_json.specs.Pages.{columns_begun, further_rows, rows_joined, row_text}
-use Rattle.pg_json.specs.Replies.{natural, query_data}
+use Rattle.pg_json.specs.Replies.{natural}
 use Rattle.pg_json.specs.Rows.{rows_data, rows_text}
 use Rattle.pg_json.specs.Telling.{columns_open, rows_begun}
 

@@ -6,15 +6,15 @@ use Rattle.std.specs.Prelude.{codes, fold}
 use Rattle.json.proofs.Printed.Tokens.{print_from_push}
 use Rattle.json.specs.Print.{ends, print, separator}
 use Rattle.json.specs.Token.{Token, begin_array, end_array, string as string_token}
-use Rattle.json.specs.Tree.{items_tokens}
+use Rattle.json.specs.Tree.{items_tokens, json_tokens}
 use Rattle.json.specs.Written.{Written}
-use Rattle.serde_json.specs.Data.{Items, no_items, item, array, string}
-use Rattle.serde_json.specs.Written.{items_outline}
+use Rattle.serde_json.specs.Data.{Data, Items, no_items, item, array, string}
+use Rattle.serde_json.specs.Written.{items_outline, outline}
 use Rattle.pg_json.specs.Joined.{IsCut, IsReply, comma_behind, steps_text, with_end, with_row}
 use Rattle.pg_json.specs.Pages.{QueryText, columns_begun, ends_from, query_text, row_text, rows_joined, rows_start}
 use Rattle.pg_json.specs.Replies.{items_of, max_reply}
 use Rattle.pg_json.specs.Rows.{rows_before, rows_data, rows_text}
-use Rattle.pg_json.specs.Telling.{HasNames, HasNoted, HasPlain, columns_open, names_before, plain_end, rows_begun}
+use Rattle.pg_json.specs.Telling.{HasNames, HasNoted, HasPlain, HasPlainRow, columns_open, names_before, plain_end, row_before, rows_begun}
 use Rattle.pg_json.specs.declared.plain_rows.PlainRows.{PlainRows}
 use Rattle.pg_json.proofs.Joined.{comma_same, ends_push, joined_push}
 use Rattle.pg_json.proofs.RowsText.{columns_printed, items_printed, rows_items, rows_text_ended}
@@ -80,15 +80,47 @@ names_closed w text opened ns printed put so_far =
 pub plain_begun : (new : PlainRows) (columns : Items) → new.to.before ≡ rows_begun columns → new.to.tokens ≡ [] → HasPlain new columns []
 plain_begun new columns begun none = record { before = begun; more = λ ds. ap (λ ts. ts ++ items_tokens (items_outline ds)) none }
 
-pub plain_row : (r new : PlainRows) (columns : Items) (rows : List Items) (row : Items) → new.to.before ≡ r.to.before → new.to.tokens ≡ r.to.tokens ++ begin_array ∷ items_tokens (items_outline row)
-    → HasPlain r columns rows → HasPlain new columns (rows ++ row ∷ [])
-plain_row r new columns rows row same written so_far = record {
+pub plain_row_begun : (p new : PlainRows) (columns : Items) (rows : List Items) → new.to.before ≡ p.to.before → new.to.tokens ≡ p.to.tokens ++ begin_array ∷ [] → HasPlain p columns rows → HasPlainRow new columns rows []
+plain_row_begun p new columns rows same written so_far = record {
+  before = same ∙ so_far.before;
+  more = λ vs ds.
+      let behind : List Token = items_tokens (items_outline vs) ++ items_tokens (items_outline ds) in
+      ap (λ ts. ts ++ behind) written ∙ append_assoc p.to.tokens (begin_array ∷ []) behind ∙ so_far.more (item (array vs) ds);
+}
+
+row_pushed : (row : List Data) (d : Data) (ds : Items) → row_before (row ++ d ∷ []) ds ≡ row_before row (item d ds)
+row_pushed [] d ds = refl
+row_pushed (r ∷ row) d ds = ap (item r) (row_pushed row d ds)
+
+row_data : (row : List Data) → row_before row no_items ≡ items_of row
+row_data [] = refl
+row_data (d ∷ row) = ap (item d) (row_data row)
+
+pub plain_value : (p new : PlainRows) (columns : Items) (rows : List Items) (row : List Data) (d : Data) → new.to.before ≡ p.to.before → new.to.tokens ≡ p.to.tokens ++ json_tokens (outline d)
+    → HasPlainRow p columns rows row → HasPlainRow new columns rows (row ++ d ∷ [])
+plain_value p new columns rows row d same written so_far = record {
+  before = same ∙ so_far.before;
+  more = λ vs ds.
+      let value : List Token = json_tokens (outline d) in
+      let values : List Token = items_tokens (items_outline vs) in
+      let others : List Token = items_tokens (items_outline ds) in
+      ap (λ ts. ts ++ (values ++ others)) written
+      ∙ append_assoc p.to.tokens value (values ++ others)
+      ∙ ap (λ ts. p.to.tokens ++ ts) (sym (append_assoc value values others))
+      ∙ so_far.more (item d vs) ds
+      ∙ ap (λ xs. items_tokens (items_outline (rows_before rows (item (array xs) ds)))) (sym (row_pushed row d vs));
+}
+
+pub plain_row_ended : (p new : PlainRows) (columns : Items) (rows : List Items) (row : List Data) → new.to.before ≡ p.to.before → new.to.tokens ≡ p.to.tokens ++ end_array ∷ [] → HasPlainRow p columns rows row
+    → HasPlain new columns (rows ++ items_of row ∷ [])
+plain_row_ended p new columns rows row same written so_far = record {
   before = same ∙ so_far.before;
   more = λ ds.
       ap (λ ts. ts ++ items_tokens (items_outline ds)) written
-      ∙ append_assoc r.to.tokens (begin_array ∷ items_tokens (items_outline row)) (items_tokens (items_outline ds))
-      ∙ so_far.more (item (array row) ds)
-      ∙ ap (λ items. items_tokens (items_outline items)) (sym (rows_pushed rows row ds));
+      ∙ append_assoc p.to.tokens (end_array ∷ []) (items_tokens (items_outline ds))
+      ∙ so_far.more no_items ds
+      ∙ ap (λ xs. items_tokens (items_outline (rows_before rows (item (array xs) ds)))) (row_data row)
+      ∙ ap (λ items. items_tokens (items_outline items)) (sym (rows_pushed rows (items_of row) ds));
 }
 
 plain_text : (p : PlainRows) (columns : Items) (rows : List Items) (steps : ℕ) → HasPlain p columns rows → p.to.before ++ print p.to.tokens ++ codes "]" ++ steps_text steps ≡ rows_text columns rows steps

@@ -3,7 +3,7 @@ ghost use Rattle.std.specs.Prelude.{◌≤◌, length};
 
 use crate::pieces::with_steps;
 use crate::query_reply::QueryReply;
-use crate::value::write_items;
+use crate::value::write;
 use json::Writer;
 use pg_meaning::Fault;
 use pg_value_core::Out;
@@ -19,10 +19,10 @@ pub(crate) struct PlainRows {
 
 impl PlainRows {
     ghost use Rattle.std.specs.Prelude.{◌≡◌, ◌≢◌, ◌<◌, ◌≤◌, ◌∷◌, [], ◌++◌, length, map, List, ℕ, IfOk, IfErr, OnOk};
-    ghost use Rattle.pg_json.specs.Replies.{items_of, outs, max_reply};
-    ghost use Rattle.pg_json.specs.Telling.{HasNames, HasPlain, plain_end};
+    ghost use Rattle.pg_json.specs.Replies.{data_of, items_of, max_reply};
+    ghost use Rattle.pg_json.specs.Telling.{HasNames, HasPlain, HasPlainRow, plain_end};
     ghost use Rattle.pg_meaning.specs.declared.fault.Fault.TheVariants.{OutOfMemory, ReplyTooLong};
-    ghost use Rattle.serde_json.specs.Data.{Items, string};
+    ghost use Rattle.serde_json.specs.Data.{Data, Items, string};
 
     /// No row yet, behind the columns that were written.
     pub(crate) fn begin(to: Writer) -> Result<PlainRows, AllocError>
@@ -37,11 +37,35 @@ impl PlainRows {
         })
     }
 
-    pub(crate) fn push(&mut self, row: &[Out]) -> Result<(), AllocError>
+    pub(crate) fn begin_row(&mut self) -> Result<(), AllocError>
         ensures { (columns : Items) (rows : List Items) → HasPlain self.old columns rows
-            → OnOk result (HasPlain self.new columns (rows ++ outs row.now ∷ [])) }
+            → OnOk result (HasPlainRow self.new columns rows []) }
     {
-        write_items(row, &mut self.to)
+        self.to.begin_array()
+    }
+
+    pub(crate) fn value(&mut self, value: &Out) -> Result<(), AllocError>
+        ensures { (columns : Items) (rows : List Items) (row : List Data)
+            → HasPlainRow self.old columns rows row
+            → OnOk result (HasPlainRow self.new columns rows (row ++ data_of value.now ∷ [])) }
+    {
+        write(value, &mut self.to)
+    }
+
+    pub(crate) fn text(&mut self, text: &str) -> Result<(), AllocError>
+        ensures { (columns : Items) (rows : List Items) (row : List Data)
+            → HasPlainRow self.old columns rows row
+            → OnOk result (HasPlainRow self.new columns rows (row ++ string text.now ∷ [])) }
+    {
+        self.to.string(text)
+    }
+
+    pub(crate) fn end_row(&mut self) -> Result<(), AllocError>
+        ensures { (columns : Items) (rows : List Items) (row : List Data)
+            → HasPlainRow self.old columns rows row
+            → OnOk result (HasPlain self.new columns (rows ++ items_of row ∷ [])) }
+    {
+        self.to.end_array()
     }
 
     pub(crate) fn finish(self, steps: u64) -> Result<QueryReply, Fault>

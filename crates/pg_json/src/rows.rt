@@ -13,6 +13,7 @@ use std::alloc::{AllocError, Global};
 /// A query's reply up to its rows: the first of its columns.
 #[derive(Drop)]
 pub struct ReplyColumns {
+    alloc: Global,
     to: Writer,
     ghost begun: { 20 ≤ length to.before },
 }
@@ -20,8 +21,8 @@ pub struct ReplyColumns {
 #[derive(Drop)]
 enum Rows {
     Plain(PlainRows),
-    // apart, so that rows that are not noted are moved cheaply
-    Noted(Box<NotedRows>),
+    // apart, so that rows that are not noted are moved cheaply; with the values of the row that is told
+    Noted(Box<NotedRows>, Vec<Out>),
 }
 
 /// A query's reply so far: its columns and the first of its rows, and where these end if that is noted.
@@ -37,13 +38,13 @@ impl Rows {
     ghost use Rattle.serde_json.specs.Data.{string};
 
     /// No row yet, behind the columns that were written.
-    fn begin(to: Writer, notes: bool) -> Result<Rows, AllocError>
+    fn begin(alloc: Global, to: Writer, notes: bool) -> Result<Rows, AllocError>
         requires { 20 ≤ length to.before }
         ensures { (names : List (List ℕ)) → HasNames to names
             → IfOk result (λ rows. AreWritten rows notes (items_of (map string names)) []) }
     {
         if notes {
-            Ok(Rows::Noted(NotedRows::begin(to)?))
+            Ok(Rows::Noted(NotedRows::begin(to)?, Vec::new(alloc)))
         } else {
             Ok(Rows::Plain(PlainRows::begin(to)?))
         }
@@ -61,6 +62,7 @@ impl ReplyColumns {
         ensures { IfOk result (λ r. HasNamed r []) }
     {
         Ok(ReplyColumns {
+            alloc,
             to: Writer::new(head(alloc)?),
         })
     }
@@ -79,7 +81,7 @@ impl ReplyColumns {
             → IfOk result (λ r. HasWritten r notes (items_of (map string names)) []) }
     {
         Ok(RowsReply {
-            rows: Rows::begin(self.to, notes)?,
+            rows: Rows::begin(self.alloc, self.to, notes)?,
         })
     }
 }
@@ -87,21 +89,67 @@ impl ReplyColumns {
 impl RowsReply {
     ghost use Rattle.std.specs.Prelude.{◌≡◌, ◌≢◌, ◌<◌, ◌≤◌, ◌++◌, ◌∷◌, [], length, List, Bool, IfOk, IfErr, OnOk};
     ghost use Rattle.pg_json.specs.Pages.{query_text};
-    ghost use Rattle.pg_json.specs.Replies.{outs, max_reply};
+    ghost use Rattle.pg_json.specs.Replies.{data_of, items_of, max_reply};
     ghost use Rattle.pg_json.specs.Rows.{rows_text};
-    ghost use Rattle.pg_json.specs.Telling.{HasWritten};
+    ghost use Rattle.pg_json.specs.Telling.{HasRow, HasWritten};
     ghost use Rattle.pg_meaning.specs.declared.fault.Fault.TheVariants.{OutOfMemory, ReplyTooLong};
-    ghost use Rattle.serde_json.specs.Data.{Items};
+    ghost use Rattle.serde_json.specs.Data.{Data, Items, string};
 
-    /// One row more.
-    pub fn push(&mut self, row: &[Out]) -> Result<(), AllocError>
+    /// One row more, of which no value is told yet.
+    pub fn begin_row(&mut self) -> Result<(), AllocError>
         ensures { (notes : Bool) (columns : Items) (rows : List Items)
             → HasWritten self.old notes columns rows
-            → OnOk result (HasWritten self.new notes columns (rows ++ outs row.now ∷ [])) }
+            → OnOk result (HasRow self.new notes columns rows []) }
     {
         match &mut self.rows {
-            Rows::Plain(rows) => rows.push(row),
-            Rows::Noted(rows) => rows.push(row),
+            Rows::Plain(rows) => rows.begin_row(),
+            Rows::Noted(_, row) => {
+                row.clear();
+                Ok(())
+            }
+        }
+    }
+
+    /// One value more of the row that is told.
+    pub fn value(&mut self, value: Out) -> Result<(), AllocError>
+        ensures { (notes : Bool) (columns : Items) (rows : List Items) (row : List Data)
+            → HasRow self.old notes columns rows row
+            → OnOk result (HasRow self.new notes columns rows (row ++ data_of value ∷ [])) }
+    {
+        match &mut self.rows {
+            Rows::Plain(rows) => rows.value(&value),
+            Rows::Noted(_, row) => {
+                row.push(value)?;
+                Ok(())
+            }
+        }
+    }
+
+    /// One text more of the row that is told.
+    pub fn text(&mut self, text: &str) -> Result<(), AllocError>
+        ensures { (notes : Bool) (columns : Items) (rows : List Items) (row : List Data)
+            → HasRow self.old notes columns rows row
+            → OnOk result (HasRow self.new notes columns rows (row ++ string text.now ∷ [])) }
+    {
+        match &mut self.rows {
+            Rows::Plain(rows) => rows.text(text),
+            Rows::Noted(_, row) => {
+                let text = String::from_str(*row.allocator(), text)?;
+                row.push(Out::Text(text))?;
+                Ok(())
+            }
+        }
+    }
+
+    /// The row that is told is whole.
+    pub fn end_row(&mut self) -> Result<(), AllocError>
+        ensures { (notes : Bool) (columns : Items) (rows : List Items) (row : List Data)
+            → HasRow self.old notes columns rows row
+            → OnOk result (HasWritten self.new notes columns (rows ++ items_of row ∷ [])) }
+    {
+        match &mut self.rows {
+            Rows::Plain(rows) => rows.end_row(),
+            Rows::Noted(rows, row) => rows.push(row),
         }
     }
 
@@ -118,7 +166,7 @@ impl RowsReply {
     {
         match self.rows {
             Rows::Plain(rows) => rows.finish(steps),
-            Rows::Noted(rows) => Box::into_inner(rows).finish(steps),
+            Rows::Noted(rows, _) => Box::into_inner(rows).finish(steps),
         }
     }
 }

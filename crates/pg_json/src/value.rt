@@ -12,7 +12,7 @@ use pg_value_core::{NodeId, Out, RelId};
 use std::alloc::AllocError;
 
 #[cycle(write)]
-fn write(value: &Out, to: &mut Writer) -> Result<(), AllocError>
+pub(crate) fn write(value: &Out, to: &mut Writer) -> Result<(), AllocError>
     ensures ok { OnOk result
         (to.new.tokens ≡ to.old.tokens ++ json_tokens (outline (data_of value.now))) }
     ensures before { to.new.before ≡ to.old.before }

@@ -24,19 +24,18 @@ use Rattle.pg_project.specs.Returned.{ComeInTurn}
 use Rattle.pg_run.specs.Returning.{RowPassed, named_items, returned}
 use Rattle.pg_rows.specs.Named.{rows_named}
 use Rattle.pg_rows.specs.States.{Named, named_rows, state_of}
-use Rattle.pg_run.specs.Telling.{IsTelling, told}
+use Rattle.pg_run.specs.Telling.{IsTelling, IsTellingRow, told}
 use Rattle.pg_run.specs.Told.{rows_told}
 use Rattle.pg_run.specs.declared.reply_writer.ReplyWriter.{ReplyWriter}
 use Rattle.pg_value_core.specs.Gives.{Gives}
-use Rattle.pg_value_core.specs.declared.out.Out.{Out}
 
 -- ---- what is left, after those that are told
 
 -- of the items at a row
-pub record ItemsSoFar {X : Type 0} (graph : Graph) (f : X → Result Value Fault) (all rest : List X) (start t : ReplyWriter) (found : List Out) : Type 0 where
+pub record ItemsSoFar {X : Type 0} (graph : Graph) (f : X → Result Value Fault) (all rest : List X) (start t : ReplyWriter) : Type 0 where
   pub values : List Value
   pub given : each_answer f all ≡ after values (each_answer f rest)
-  pub telling : (notes : Bool) (columns : Items) (rows : List (List Value)) → IsTelling notes graph columns rows [] [] start → IsTelling notes graph columns rows values found t
+  pub telling : (notes : Bool) (columns : Items) (rows : List (List Value)) → IsTellingRow notes graph columns rows [] start → IsTellingRow notes graph columns rows values t
 
 -- of the items at a row that isn't let in
 pub record TestedSoFar {X : Type 0} (f : X → Result Value Fault) (all rest : List X) : Type 0 where
@@ -48,7 +47,7 @@ pub record RowsSoFar {X : Type 0} (graph : Graph) (c : Cut) (f : X → Result (L
   pub rows : List (List Value)
   pub many : length rows ≡ at
   pub given : each_answer f all ≡ after rows (each_answer f rest)
-  pub telling : (notes : Bool) (columns : Items) → IsTelling notes graph columns [] [] [] start → IsTelling notes graph columns (cut_of c rows) [] [] t
+  pub telling : (notes : Bool) (columns : Items) → IsTelling notes graph columns [] start → IsTelling notes graph columns (cut_of c rows) t
 
 whole : {Y : Type 0} (a : Result (List Y) Fault) → a ≡ after [] a
 whole (Ok ys) = refl
@@ -67,23 +66,23 @@ none_left f all rest done so_far is = so_far ∙ ap (λ xs. after done (each_ans
 
 module _ {X : Type 0} (graph : Graph) (start : ReplyWriter) where
   module _ (f : X → Result Value Fault) where
-    pub no_item : (all : List X) → ItemsSoFar graph f all all start start []
+    pub no_item : (all : List X) → ItemsSoFar graph f all all start start
     no_item all = record { values = []; given = whole (each_answer f all); telling = λ notes columns rows h. h }
 
-    pub one_item : (all rest more : List X) (t new : ReplyWriter) (found : List Out) (x : X) (v : Value) (out : Out) → ItemsSoFar graph f all rest start t found → rest ≡ x ∷ more → f x ≡ Ok v
-        → ((notes : Bool) (columns : Items) (rows : List (List Value)) (row : List Value) (os : List Out) → IsTelling notes graph columns rows row os t → IsTelling notes graph columns rows (row ++ v ∷ []) (os ++ out ∷ []) new)
-        → ItemsSoFar graph f all more start new (found ++ out ∷ [])
-    one_item all rest more t new found x v out so_far is h takes = record {
+    pub one_item : (all rest more : List X) (t new : ReplyWriter) (x : X) (v : Value) → ItemsSoFar graph f all rest start t → rest ≡ x ∷ more → f x ≡ Ok v
+        → ((notes : Bool) (columns : Items) (rows : List (List Value)) (row : List Value) → IsTellingRow notes graph columns rows row t → IsTellingRow notes graph columns rows (row ++ v ∷ []) new)
+        → ItemsSoFar graph f all more start new
+    one_item all rest more t new x v so_far is h takes = record {
       values = so_far.values ++ v ∷ [];
       given = one_given f all rest more x so_far.values v so_far.given is h;
-      telling = λ notes columns rows first. takes notes columns rows so_far.values found (so_far.telling notes columns rows first);
+      telling = λ notes columns rows first. takes notes columns rows so_far.values (so_far.telling notes columns rows first);
     }
 
-    pub item_fault : (all rest more : List X) (t : ReplyWriter) (found : List Out) (x : X) (e : Fault) → ItemsSoFar graph f all rest start t found → rest ≡ x ∷ more → f x ≡ Err e → each_answer f all ≡ Err e
-    item_fault all rest more t found x e so_far is h = fault_given f all rest more x so_far.values e so_far.given is h
+    pub item_fault : (all rest more : List X) (t : ReplyWriter) (x : X) (e : Fault) → ItemsSoFar graph f all rest start t → rest ≡ x ∷ more → f x ≡ Err e → each_answer f all ≡ Err e
+    item_fault all rest more t x e so_far is h = fault_given f all rest more x so_far.values e so_far.given is h
 
-    pub all_items : (all rest : List X) (t : ReplyWriter) (found : List Out) (so_far : ItemsSoFar graph f all rest start t found) → rest ≡ [] → each_answer f all ≡ Ok so_far.values
-    all_items all rest t found so_far is = none_left f all rest so_far.values so_far.given is
+    pub all_items : (all rest : List X) (t : ReplyWriter) (so_far : ItemsSoFar graph f all rest start t) → rest ≡ [] → each_answer f all ≡ Ok so_far.values
+    all_items all rest t so_far is = none_left f all rest so_far.values so_far.given is
 
   module _ (c : Cut) (f : X → Result (List Value) Fault) where
     pub no_row : (all : List X) → RowsSoFar graph c f all all 0 start start
@@ -91,7 +90,7 @@ module _ {X : Type 0} (graph : Graph) (start : ReplyWriter) where
       rows = [];
       many = refl;
       given = whole (each_answer f all);
-      telling = λ notes columns h. subst (λ rows. IsTelling notes graph columns rows [] [] start) (sym (none_cut c)) h;
+      telling = λ notes columns h. subst (λ rows. IsTelling notes graph columns rows start) (sym (none_cut c)) h;
     }
 
     module _ (all rest more : List X) (at : ℕ) (t : ReplyWriter) (x : X) (so_far : RowsSoFar graph c f all rest at start t) (is : rest ≡ x ∷ more) where
@@ -101,7 +100,7 @@ module _ {X : Type 0} (graph : Graph) (start : ReplyWriter) where
         many = omega (arith, so_far.many, length-append so_far.rows (here.values ∷ []));
         given = one_given f all rest more x so_far.rows here.values so_far.given is here.are;
         telling = λ notes columns first.
-            subst (λ rows. IsTelling notes graph columns rows [] [] new) (sym (lets so_far.rows here.values so_far.many)) (here.telling notes columns (cut_of c so_far.rows) (so_far.telling notes columns first));
+            subst (λ rows. IsTelling notes graph columns rows new) (sym (lets so_far.rows here.values so_far.many)) (here.telling notes columns (cut_of c so_far.rows) (so_far.telling notes columns first));
       }
 
       pub row_fault : (e : Fault) → f x ≡ Err e → each_answer f all ≡ Err e

@@ -1,16 +1,17 @@
 -- A reply while its rows are told: one value more, one row more, and its end.
-use Rattle.std.proofs.Common.{◌≡◌, ◌≢◌, ℕ, ◌+◌, ◌-◌, ◌<◌, ◌≤◌, Bool, true, false, List, [], ◌∷◌, ◌++◌, map, length, take, slice_get, zero, suc, flat_map, Result, Ok, Err, IfOk, IfErr, Option, Some, None, inl, inr, arith, refl, sym, ap, subst, ◌∙◌}
+use Rattle.std.proofs.Common.{◌≡◌, ◌≢◌, ℕ, ◌+◌, ◌-◌, ◌<◌, ◌≤◌, Bool, true, false, List, [], ◌∷◌, ◌++◌, map, length, take, slice_get, zero, suc, flat_map, Result, Ok, Err, IfOk, IfErr, OnOk, Option, Some, None, inl, inr, arith, refl, sym, ap, subst, ◌∙◌}
 use Rattle.std.proofs.lemmas.Bool.{le-leb}
 use Rattle.std.proofs.lemmas.Bool.Decides.{leb_tells}
-use Rattle.std.proofs.lemmas.List.{map-append}
+use Rattle.std.proofs.lemmas.List.{map-append, map_push}
+use Rattle.std.proofs.lemmas.Result.{on_ok_weaker}
 use Rattle.std.specs.Prelude.{nat_le, cond, is_some}
 use Rattle.serde_json.specs.Data.{Data, Items, no_items, item}
 use Rattle.pg_json.proofs.Lengths.{rows_within}
-use Rattle.pg_json.specs.Replies.{data_of, outs, max_reply}
+use Rattle.pg_json.specs.Replies.{items_of, max_reply}
 use Rattle.pg_json.specs.Room.{least, items_least}
 use Rattle.pg_json.specs.Pages.{QueryText, query_text}
 use Rattle.pg_json.specs.Rows.{rows_data, rows_text}
-use Rattle.pg_json.specs.Telling.{HasWritten}
+use Rattle.pg_json.specs.Telling.{HasRow, HasWritten}
 use Rattle.pg_meaning.specs.Answer.{◌>>◌}
 use Rattle.pg_meaning.specs.Graph.{Graph}
 use Rattle.pg_meaning.specs.Queries.{test_output, test_items}
@@ -20,11 +21,10 @@ use Rattle.pg_meaning.specs.declared.fault.Fault.TheVariants.{OutOfMemory, Reply
 use Rattle.pg_run.proofs.Places.{then_ok, regroup}
 use Rattle.pg_run.proofs.Told.{tests_joined}
 use Rattle.pg_run.specs.Printed.{printed, printed_items}
-use Rattle.pg_run.specs.Telling.{IsTelling, Tested, fitting, rows_least, told, whole_room}
+use Rattle.pg_run.specs.Telling.{IsTelling, IsTellingRow, Puts, Tested, fitting, rows_least, told, whole_room}
 use Rattle.pg_run.specs.Told.{printed_rows, test_told}
 use Rattle.pg_run.specs.declared.reply_writer.ReplyWriter.{ReplyWriter}
 use Rattle.pg_value_core.specs.Gives.{Gives}
-use Rattle.pg_value_core.specs.declared.out.Out.{Out}
 
 -- ---- options, and lists by place
 
@@ -49,10 +49,6 @@ none_mapped f (x ∷ xs) h = absurd (omega (arith, h))
 abbrev items_then : Items → Data → Items
 items_then no_items d = item d no_items
 items_then (item x ds) d = item x (items_then ds d)
-
-outs_last : (found : List Out) (o : Out) → outs (found ++ o ∷ []) ≡ items_then (outs found) (data_of o)
-outs_last [] o = refl
-outs_last (x ∷ xs) o = ap (item (data_of x)) (outs_last xs o)
 
 least_then : (ds : Items) (d : Data) → items_least (items_then ds d) ≡ items_least ds + (least d + 1)
 least_then no_items d = omega arith
@@ -79,9 +75,14 @@ module _ (graph : Graph) where
       ∙ sym (regroup (test_items graph (values_of r)) (test_told graph rows) (test_items graph (values_of vs)))
       ∙ ap (λ a. a >> test_items graph (values_of vs)) (sym (tests_joined graph r (flat_map (λ x. x) rows)))
 
+  -- the values of a row
+  row_printed : (vs : List Value) → items_of (map (printed graph) vs) ≡ printed_items graph (values_of vs)
+  row_printed [] = refl
+  row_printed (v ∷ vs) = ap (item (printed graph v)) (row_printed vs)
+
   -- ---- one value more
 
-  module _ (notes : Bool) (columns : Items) (rows : List (List Value)) (row : List Value) (found : List Out) (t new : ReplyWriter) (v : Value) (out : Out) (so_far : IsTelling notes graph columns rows row found t) where
+  module _ (notes : Bool) (columns : Items) (rows : List (List Value)) (row : List Value) (t : ReplyWriter) (v : Value) (so_far : IsTellingRow notes graph columns rows row t) where
     abbrev before : Result (Unit {0}) Fault
     before = test_told graph rows >> test_items graph (values_of row)
 
@@ -94,76 +95,87 @@ module _ (graph : Graph) where
     passed : t.fault ≡ None → before ≡ Ok tt
     passed none = subst (λ f. Tested f before) none so_far.tested
 
-    pub one_more : t.fault ≡ None → new.fault ≡ None → new.reply ≡ t.reply → test_output graph v ≡ Ok tt → new.room ≡ t.room - 1 - least (printed graph v) → (new.room ≢ 0 → data_of out ≡ printed graph v)
-        → IsTelling notes graph columns rows (row ++ v ∷ []) (found ++ out ∷ []) new
-    one_more none still same live left is =
-        let had : new.room ≢ 0 → t.room ≢ 0 = λ some. λ zero. some (omega (arith, left, zero)) in
-        record {
-          tested = subst (λ f. Tested f (test_told graph rows >> test_items graph (values_of (row ++ v ∷ [])))) (sym still) (then_last ∙ ap (λ r. r >> test_output graph v) (passed none) ∙ live);
-          counted = λ h. omega (arith, left, so_far.counted none, least_last);
-          shown = λ h. λ some.
-              outs_last found out
-              ∙ ap (λ ds. items_then ds (data_of out)) (so_far.shown none (had some))
-              ∙ ap (items_then (printed_items graph (values_of row))) (is some)
-              ∙ sym (printed_last row v);
-          written = λ h. λ some. subst (λ r. HasWritten r notes columns (printed_rows graph rows)) (sym same) (so_far.written none (had some));
-        }
+    pub one_more : {E : Type 0} (r : Result (Unit {0}) E) (put new : ReplyWriter) (d : Data) (taken : ℕ) → t.fault ≡ None → put.fault ≡ None → put.reply ≡ t.reply → test_output graph v ≡ Ok tt
+        → put.room - taken ≡ t.room - 1 - least (printed graph v) → (new.room ≢ 0 → d ≡ printed graph v) → Puts r put new d taken → OnOk r (IsTellingRow notes graph columns rows (row ++ v ∷ []) new)
+    one_more r put new d taken none still same live left is puts =
+        let room : new.room ≡ t.room - 1 - least (printed graph v) = puts.room ∙ left in
+        let had : new.room ≢ 0 → t.room ≢ 0 = λ some. λ zero. some (omega (arith, room, zero)) in
+        let values : List Data = map (printed graph) row in
+        on_ok_weaker r
+        (λ writes. record {
+          tested = subst (λ f. Tested f (test_told graph rows >> test_items graph (values_of (row ++ v ∷ [])))) (sym (puts.fault ∙ still)) (then_last ∙ ap (λ r. r >> test_output graph v) (passed none) ∙ live);
+          counted = λ h. omega (arith, room, so_far.counted none, least_last);
+          written = λ h. λ some.
+              subst (HasRow new.reply notes columns (printed_rows graph rows)) (ap (λ e. values ++ e ∷ []) (is some) ∙ sym (map_push (printed graph) row v))
+              (writes some (subst (λ q. HasRow q notes columns (printed_rows graph rows) values) (sym same) (so_far.written none (had some))));
+        })
+        (puts.written notes columns (printed_rows graph rows) values)
 
-    pub one_fault : (e : Fault) → t.fault ≡ None → new.fault ≡ Some e → (e ≢ OutOfMemory → test_output graph v ≡ Err e) → IsTelling notes graph columns rows (row ++ v ∷ []) (found ++ out ∷ []) new
-    one_fault e none ends h = record {
+    -- a value whose text takes at least this room, whichever it is
+    pub one_scalar : {E : Type 0} (r : Result (Unit {0}) E) (put new : ReplyWriter) (d : Data) → t.fault ≡ None → put.fault ≡ None → put.reply ≡ t.reply → test_output graph v ≡ Ok tt
+        → put.room ≡ t.room - 1 → d ≡ printed graph v → Puts r put new d (least d) → OnOk r (IsTellingRow notes graph columns rows (row ++ v ∷ []) new)
+    one_scalar r put new d none still same live left is puts =
+        one_more r put new d (least d) none still same live (ap (λ n. n - least d) left ∙ ap (λ e. t.room - 1 - least e) is) (λ some. is) puts
+
+    pub one_fault : (new : ReplyWriter) (e : Fault) → t.fault ≡ None → new.fault ≡ Some e → (e ≢ OutOfMemory → test_output graph v ≡ Err e) → IsTellingRow notes graph columns rows (row ++ v ∷ []) new
+    one_fault new e none ends h = record {
       tested = subst (λ f. Tested f (test_told graph rows >> test_items graph (values_of (row ++ v ∷ [])))) (sym ends) (λ other. then_last ∙ ap (λ r. r >> test_output graph v) (passed none) ∙ h other);
       counted = λ none. absurd (apart new.fault e ends none);
-      shown = λ none. absurd (apart new.fault e ends none);
       written = λ none. absurd (apart new.fault e ends none);
     }
 
-    pub still_faulted : is_some t.fault ≡ true → IsTelling notes graph columns rows (row ++ v ∷ []) (found ++ out ∷ []) t
+    pub still_faulted : is_some t.fault ≡ true → IsTellingRow notes graph columns rows (row ++ v ∷ []) t
     still_faulted h = by t.fault refl h
       where
-        by : (f : Option Fault) → t.fault ≡ f → is_some f ≡ true → IsTelling notes graph columns rows (row ++ v ∷ []) (found ++ out ∷ []) t
+        by : (f : Option Fault) → t.fault ≡ f → is_some f ≡ true → IsTellingRow notes graph columns rows (row ++ v ∷ []) t
         by None is some = cc
         by (Some e) is some = record {
           tested = subst (λ f. Tested f (test_told graph rows >> test_items graph (values_of (row ++ v ∷ [])))) (sym is)
               (λ other. then_last ∙ ap (λ r. r >> test_output graph v) (subst (λ f. Tested f before) is so_far.tested other));
           counted = λ none. absurd (apart t.fault e is none);
-          shown = λ none. absurd (apart t.fault e is none);
           written = λ none. absurd (apart t.fault e is none);
         }
 
   -- ---- no row yet
 
-  pub begun : (notes : Bool) (columns : Items) (t : ReplyWriter) → t.fault ≡ None → t.room ≡ whole_room → HasWritten t.reply notes columns [] → IsTelling notes graph columns [] [] [] t
+  pub begun : (notes : Bool) (columns : Items) (t : ReplyWriter) → t.fault ≡ None → t.room ≡ whole_room → HasWritten t.reply notes columns [] → IsTelling notes graph columns [] t
   begun notes columns t none room first = record {
     tested = subst (λ f. Tested f (Ok tt)) (sym none) refl;
     counted = λ h. room ∙ omega arith;
-    shown = λ h. λ some. refl;
     written = λ h. λ some. first;
   }
 
   -- ---- one row more
 
-  pub row_ended : (notes : Bool) (columns : Items) (rows : List (List Value)) (values : List Value) (found : List Out) (t new : ReplyWriter) → IsTelling notes graph columns rows values found t → new.fault ≡ t.fault → new.room ≡ t.room - 2
-      → (new.fault ≡ None → new.room ≢ 0 → HasWritten t.reply notes columns (printed_rows graph rows) → HasWritten new.reply notes columns (printed_rows graph rows ++ outs found ∷ []))
-      → IsTelling notes graph columns (rows ++ values ∷ []) [] [] new
-  row_ended notes columns rows values found t new so_far same left writes =
+  pub row_begun : (notes : Bool) (columns : Items) (rows : List (List Value)) (t new : ReplyWriter) → IsTelling notes graph columns rows t → new.fault ≡ t.fault → new.room ≡ t.room
+      → (new.fault ≡ None → new.room ≢ 0 → HasWritten t.reply notes columns (printed_rows graph rows) → HasRow new.reply notes columns (printed_rows graph rows) [])
+      → IsTellingRow notes graph columns rows [] new
+  row_begun notes columns rows t new so_far same left writes = record {
+    tested = subst (λ f. Tested f (test_told graph rows >> Ok tt)) (sym same) (subst (Tested t.fault) (then_ok (test_told graph rows)) so_far.tested);
+    counted = λ none. omega (arith, left, so_far.counted (sym same ∙ none));
+    written = λ none. λ some. writes none some (so_far.written (sym same ∙ none) (λ zero. some (left ∙ zero)));
+  }
+
+  pub row_ended : (notes : Bool) (columns : Items) (rows : List (List Value)) (values : List Value) (t new : ReplyWriter) → IsTellingRow notes graph columns rows values t → new.fault ≡ t.fault → new.room ≡ t.room - 2
+      → (new.fault ≡ None → new.room ≢ 0 → HasRow t.reply notes columns (printed_rows graph rows) (map (printed graph) values) → HasWritten new.reply notes columns (printed_rows graph rows ++ items_of (map (printed graph) values) ∷ []))
+      → IsTelling notes graph columns (rows ++ values ∷ []) new
+  row_ended notes columns rows values t new so_far same left writes =
       let none_so_far : new.fault ≡ None → t.fault ≡ None = λ none. sym same ∙ none in
       let had : new.room ≢ 0 → t.room ≢ 0 = λ some. λ zero. some (omega (arith, left, zero)) in
       let is : printed_rows graph (rows ++ values ∷ []) ≡ printed_rows graph rows ++ printed_items graph (values_of values) ∷ [] = map-append (λ row. printed_items graph (values_of row)) rows (values ∷ []) in
       let whole : rows_least graph (rows ++ values ∷ []) ≡ rows_least graph rows + (items_least (printed_items graph (values_of values)) + 2) =
       ap (λ rs. items_least (rows_data rs)) is ∙ rows_least_then (printed_rows graph rows) (printed_items graph (values_of values)) in
       record {
-        tested = subst (λ f. Tested f (test_told graph (rows ++ values ∷ []) >> Ok tt)) (sym same)
-            (subst (Tested t.fault) (sym (told_last rows values) ∙ then_ok (test_told graph (rows ++ values ∷ []))) so_far.tested);
+        tested = subst (λ f. Tested f (test_told graph (rows ++ values ∷ []))) (sym same) (subst (Tested t.fault) (sym (told_last rows values)) so_far.tested);
         counted = λ none. omega (arith, left, so_far.counted (none_so_far none), whole);
-        shown = λ none. λ some. refl;
         written = λ none. λ some.
-            subst (HasWritten new.reply notes columns) (ap (λ ds. printed_rows graph rows ++ ds ∷ []) (so_far.shown (none_so_far none) (had some)) ∙ sym is)
+            subst (HasWritten new.reply notes columns) (ap (λ ds. printed_rows graph rows ++ ds ∷ []) (row_printed values) ∙ sym is)
             (writes none some (so_far.written (none_so_far none) (had some)));
       }
 
   -- ---- the end
 
-  module _ (notes : Bool) (columns : Items) (rows : List (List Value)) (steps : ℕ) (t : ReplyWriter) (all : IsTelling notes graph columns rows [] [] t) where
+  module _ (notes : Bool) (columns : Items) (rows : List (List Value)) (steps : ℕ) (t : ReplyWriter) (all : IsTelling notes graph columns rows t) where
     abbrev text : List ℕ
     text = rows_text columns (printed_rows graph rows) steps
 
@@ -174,10 +186,10 @@ module _ (graph : Graph) where
     kept fits = cond fits (Ok reply) (Err ReplyTooLong)
 
     pub ends_in_fault : (e : Fault) → t.fault ≡ Some e → e ≢ OutOfMemory → told notes graph columns rows steps ≡ Err e
-    ends_in_fault e is other = ap (λ r. r >> fitting reply) (then_ok (test_told graph rows) ∙ subst (λ f. Tested f (test_told graph rows >> Ok tt)) is all.tested other)
+    ends_in_fault e is other = ap (λ r. r >> fitting reply) (subst (λ f. Tested f (test_told graph rows)) is all.tested other)
 
     tested_all : t.fault ≡ None → told notes graph columns rows steps ≡ fitting reply
-    tested_all none = ap (λ r. r >> fitting reply) (then_ok (test_told graph rows) ∙ subst (λ f. Tested f (test_told graph rows >> Ok tt)) none all.tested)
+    tested_all none = ap (λ r. r >> fitting reply) (subst (λ f. Tested f (test_told graph rows)) none all.tested)
 
     fits_not : max_reply < length text → fitting reply ≡ Err ReplyTooLong
     fits_not long = ap kept (elim (leb_tells (length text) max_reply) as (λ _. nat_le (length text) max_reply ≡ false) [ inl w ↦ absurd (omega (arith, w.1)) | inr w ↦ w.0 ])
@@ -203,16 +215,16 @@ module _ (graph : Graph) where
 -- ---- the values of a row, and the rows, in turn
 
 -- what is left of a row, after the values that are told
-pub record ValuesTold (graph : Graph) (all rest : List Value) (start t : ReplyWriter) (found : List Out) : Type 0 where
+pub record ValuesTold (graph : Graph) (all rest : List Value) (start t : ReplyWriter) : Type 0 where
   pub done : List Value
   pub parts : all ≡ done ++ rest
-  pub telling : (notes : Bool) (columns : Items) (rows : List (List Value)) → IsTelling notes graph columns rows [] [] start → IsTelling notes graph columns rows done found t
+  pub telling : (notes : Bool) (columns : Items) (rows : List (List Value)) → IsTellingRow notes graph columns rows [] start → IsTellingRow notes graph columns rows done t
 
 -- what is left of the rows, after those that are told
 pub record RowsTold (graph : Graph) (all rest : List (List Value)) (start t : ReplyWriter) : Type 0 where
   pub done : List (List Value)
   pub parts : all ≡ done ++ rest
-  pub telling : (notes : Bool) (columns : Items) → IsTelling notes graph columns [] [] [] start → IsTelling notes graph columns done [] [] t
+  pub telling : (notes : Bool) (columns : Items) → IsTelling notes graph columns [] start → IsTelling notes graph columns done t
 
 pub joined : {X : Type 0} (xs : List X) (y : X) (ys : List X) → (xs ++ y ∷ []) ++ ys ≡ xs ++ y ∷ ys
 joined [] y ys = refl
@@ -223,25 +235,25 @@ nothing_behind [] = refl
 nothing_behind (x ∷ xs) = ap (λ ys. x ∷ ys) (nothing_behind xs)
 
 module _ (graph : Graph) (start : ReplyWriter) where
-  pub no_value_told : (all : List Value) → ValuesTold graph all all start start []
+  pub no_value_told : (all : List Value) → ValuesTold graph all all start start
   no_value_told all = record { done = []; parts = refl; telling = λ notes columns rows h. h }
 
-  pub one_value_told : (all rest more : List Value) (t new : ReplyWriter) (found : List Out) (v : Value) (out : Out) → ValuesTold graph all rest start t found → rest ≡ v ∷ more
-      → ((notes : Bool) (columns : Items) (rows : List (List Value)) (row : List Value) (os : List Out) → IsTelling notes graph columns rows row os t → IsTelling notes graph columns rows (row ++ v ∷ []) (os ++ out ∷ []) new)
-      → ValuesTold graph all more start new (found ++ out ∷ [])
-  one_value_told all rest more t new found v out so_far is takes = record {
+  pub one_value_told : (all rest more : List Value) (t new : ReplyWriter) (v : Value) → ValuesTold graph all rest start t → rest ≡ v ∷ more
+      → ((notes : Bool) (columns : Items) (rows : List (List Value)) (row : List Value) → IsTellingRow notes graph columns rows row t → IsTellingRow notes graph columns rows (row ++ v ∷ []) new)
+      → ValuesTold graph all more start new
+  one_value_told all rest more t new v so_far is takes = record {
     done = so_far.done ++ v ∷ [];
     parts = so_far.parts ∙ ap (λ vs. so_far.done ++ vs) is ∙ sym (joined so_far.done v more);
-    telling = λ notes columns rows h. takes notes columns rows so_far.done found (so_far.telling notes columns rows h);
+    telling = λ notes columns rows h. takes notes columns rows so_far.done (so_far.telling notes columns rows h);
   }
 
-  pub all_values_told : (all rest : List Value) (t : ReplyWriter) (found : List Out) → ValuesTold graph all rest start t found → rest ≡ []
-      → (notes : Bool) (columns : Items) (rows : List (List Value)) → IsTelling notes graph columns rows [] [] start → IsTelling notes graph columns rows all found t
-  all_values_told all rest t found so_far is notes columns rows h =
-      subst (λ vs. IsTelling notes graph columns rows vs found t) (sym (so_far.parts ∙ ap (λ vs. so_far.done ++ vs) is ∙ nothing_behind so_far.done)) (so_far.telling notes columns rows h)
+  pub all_values_told : (all rest : List Value) (t : ReplyWriter) → ValuesTold graph all rest start t → rest ≡ []
+      → (notes : Bool) (columns : Items) (rows : List (List Value)) → IsTellingRow notes graph columns rows [] start → IsTellingRow notes graph columns rows all t
+  all_values_told all rest t so_far is notes columns rows h =
+      subst (λ vs. IsTellingRow notes graph columns rows vs t) (sym (so_far.parts ∙ ap (λ vs. so_far.done ++ vs) is ∙ nothing_behind so_far.done)) (so_far.telling notes columns rows h)
 
   pub one_row_told : (all rest more : List (List Value)) (t new : ReplyWriter) (values : List Value) → RowsTold graph all rest start t → rest ≡ values ∷ more
-      → ((notes : Bool) (columns : Items) (rows : List (List Value)) → IsTelling notes graph columns rows [] [] t → IsTelling notes graph columns (rows ++ values ∷ []) [] [] new)
+      → ((notes : Bool) (columns : Items) (rows : List (List Value)) → IsTelling notes graph columns rows t → IsTelling notes graph columns (rows ++ values ∷ []) new)
       → RowsTold graph all more start new
   one_row_told all rest more t new values so_far is takes = record {
     done = so_far.done ++ values ∷ [];
@@ -250,6 +262,6 @@ module _ (graph : Graph) (start : ReplyWriter) where
   }
 
   pub all_rows_told : (all rest : List (List Value)) (t : ReplyWriter) → RowsTold graph all rest start t → rest ≡ []
-      → (notes : Bool) (columns : Items) → IsTelling notes graph columns [] [] [] start → IsTelling notes graph columns all [] [] t
+      → (notes : Bool) (columns : Items) → IsTelling notes graph columns [] start → IsTelling notes graph columns all t
   all_rows_told all rest t so_far is notes columns h =
-      subst (λ rs. IsTelling notes graph columns rs [] [] t) (sym (so_far.parts ∙ ap (λ rs. so_far.done ++ rs) is ∙ nothing_behind so_far.done)) (so_far.telling notes columns h)
+      subst (λ rs. IsTelling notes graph columns rs t) (sym (so_far.parts ∙ ap (λ rs. so_far.done ++ rs) is ∙ nothing_behind so_far.done)) (so_far.telling notes columns h)

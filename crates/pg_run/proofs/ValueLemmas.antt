@@ -91,8 +91,14 @@ module _ (graph : Graph) (v : Value) where
   pub int_shown : (i : ℤ) → v ≡ value.Int i → data_of (out.Int i) ≡ printed graph (view v)
   int_shown i e = data_int i ∙ ap (printed graph) (sym (int_seen v i e))
 
+  pub int_put : (i j : ℤ) → v ≡ value.Int i → j ≡ i → data_of (out.Int j) ≡ printed graph (view v)
+  int_put i j e same = ap (λ k. data_of (out.Int k)) same ∙ int_shown i e
+
   pub text_shown : (s : String Global) → v ≡ value.Text s → data_of (out.Text s) ≡ printed graph (view v)
   text_shown s e = data_text s ∙ ap (printed graph) (sym (text_seen v s e))
+
+  pub text_put : (s : String Global) (bytes : List ℕ) → v ≡ value.Text s → bytes ≡ string_bytes s → json.string bytes ≡ printed graph (view v)
+  text_put s bytes e same = ap json.string same ∙ ap (printed graph) (sym (text_seen v s e))
 
 -- ---- the first fault
 

@@ -16,11 +16,10 @@ use Rattle.pg_meaning.specs.declared.fault.Fault.{Fault}
 use Rattle.pg_project.specs.Given.{Cut, cut_of, trees_of, values_given}
 use Rattle.pg_project.specs.Returned.{return_clause}
 use Rattle.pg_rows.specs.States.{Named, state_of}
-use Rattle.pg_run.specs.Telling.{IsTelling, told}
+use Rattle.pg_run.specs.Telling.{IsTelling, IsTellingRow, told}
 use Rattle.pg_run.specs.declared.rows.ReadyItems.{ReadyItems}
 use Rattle.pg_run.specs.declared.reply_writer.ReplyWriter.{ReplyWriter}
 use Rattle.pg_value_core.specs.Given.{parameters_view}
-use Rattle.pg_value_core.specs.declared.out.Out.{Out}
 
 abbrev pub named_items : List (List ℕ) → Items
 named_items names = items_of (map string names)
@@ -46,10 +45,10 @@ abbrev pub replied : (notes returns : Bool) → (names : List (List ℕ)) → St
 replied notes returns names last = told notes last.graph (named_items (cond returns names [])) (output_rows returns last.rows) last.steps
 
 -- the values that the items give at a row are told
-pub record RowTold (graph : Graph) (given : Result (List Value) Fault) (old new : ReplyWriter) (found : List Out) : Type 0 where
+pub record RowTold (graph : Graph) (given : Result (List Value) Fault) (old new : ReplyWriter) : Type 0 where
   pub values : List Value
   pub are : given ≡ Ok values
-  pub telling : (notes : Bool) (columns : Items) (rows : List (List Value)) → IsTelling notes graph columns rows [] [] old → IsTelling notes graph columns rows values found new
+  pub telling : (notes : Bool) (columns : Items) (rows : List (List Value)) → IsTelling notes graph columns rows old → IsTellingRow notes graph columns rows values new
 
 -- no fault comes in place of the values
 pub record IsGiven (given : Result (List Value) Fault) : Type 0 where
@@ -60,10 +59,10 @@ pub record IsGiven (given : Result (List Value) Fault) : Type 0 where
 pub record RowPassed (graph : Graph) (is_in : Bool) (given : Result (List Value) Fault) (old new : ReplyWriter) : Type 0 where
   pub values : List Value
   pub are : given ≡ Ok values
-  pub telling : (notes : Bool) (columns : Items) (rows : List (List Value)) → IsTelling notes graph columns rows [] [] old → IsTelling notes graph columns (rows ++ cond is_in (values ∷ []) []) [] [] new
+  pub telling : (notes : Bool) (columns : Items) (rows : List (List Value)) → IsTelling notes graph columns rows old → IsTelling notes graph columns (rows ++ cond is_in (values ∷ []) []) new
 
 -- the rows that they give are told, as far as they are let in
 pub record RowsTold (graph : Graph) (c : Cut) (given : Result (List (List Value)) Fault) (old new : ReplyWriter) : Type 0 where
   pub rows : List (List Value)
   pub are : given ≡ Ok rows
-  pub telling : (notes : Bool) (columns : Items) → IsTelling notes graph columns [] [] [] old → IsTelling notes graph columns (cut_of c rows) [] [] new
+  pub telling : (notes : Bool) (columns : Items) → IsTelling notes graph columns [] old → IsTelling notes graph columns (cut_of c rows) new

@@ -1,8 +1,7 @@
 //! A query's reply while its rows are told.
-use crate::room::within;
 use crate::spelling::spell;
 use pg_graph::Tables;
-use pg_json::{QueryReply, ReplyColumns, RowsReply};
+use pg_json::{QueryReply, ReplyColumns, RowsReply, room_behind};
 use pg_meaning::Fault;
 use pg_rows::Columns;
 use pg_store::GraphView;
@@ -21,21 +20,20 @@ pub(crate) struct ReplyWriter {
 }
 
 impl ReplyWriter {
-    ghost use Rattle.std.specs.Prelude.{◌≡◌, ◌≢◌, ◌++◌, ◌∷◌, [], Bool, List, map, true, false, None, IfOk, OnOk};
+    ghost use Rattle.std.specs.Prelude.{◌≡◌, ◌≢◌, ◌+◌, ◌++◌, ◌∷◌, [], Bool, List, length, map, true, false, None, IfOk, OnOk};
     ghost use Rattle.serde_json.specs.Data.{Items, string};
-    ghost use Rattle.pg_json.specs.Replies.{items_of};
+    ghost use Rattle.pg_json.specs.Replies.{data_of, items_of};
+    ghost use Rattle.pg_json.specs.Room.{least};
     ghost use Rattle.pg_meaning.specs.Graph.{Graph};
     ghost use Rattle.pg_meaning.specs.Value.{Value as Datum};
-    ghost use Rattle.pg_run.specs.Telling.{IsLost, IsTelling, told};
+    ghost use Rattle.pg_run.specs.Telling.{IsLost, IsTelling, IsTellingRow, Puts, told};
     ghost use Rattle.pg_value_core.specs.Gives.{Gives};
     ghost use Rattle.pg_value_core.specs.View.{view};
-    ghost use Rattle.pg_value_core.specs.declared.out.Out.{Out as Shown};
-    ghost use Rattle.pg_value_core.specs.declared.out.Out.TheVariants.{Null};
 
     /// The columns, and no row yet. `notes` tells whether the ends of the rows are to be noted.
     pub fn begin(alloc: Global, columns: &Columns, notes: bool) -> Result<ReplyWriter, AllocError>
         ensures { IfOk result (λ t. (graph : Graph)
-            → IsTelling notes graph (items_of (map string columns.now)) [] [] [] t) }
+            → IsTelling notes graph (items_of (map string columns.now)) [] t) }
     {
         let mut head = ReplyColumns::begin(alloc)?;
         for at in 0..columns.len() {
@@ -48,45 +46,91 @@ impl ReplyWriter {
         })
     }
 
-    /// One value more of the row that is told; what stands for it goes to the end of that row. Nothing of a
-    /// value is kept once the reply is lost.
-    pub fn take<T: Tables>(&mut self, alloc: Global, graph: &GraphView<'_, T>, value: &Value) -> Out
-        ensures lost { IsLost self.new → result ≡ Null }
+    /// One row more, of which no value is told yet. Nothing is written once the reply is lost.
+    pub fn begin_row(&mut self) -> Result<(), AllocError>
+        ensures lost { IsLost self.new → self.new.reply ≡ self.old.reply }
+        ensures telling { (notes : Bool) (graph : Graph) (columns : Items)
+            (rows : List (List Datum)) → IsTelling notes graph columns rows self.old
+            → OnOk result (IsTellingRow notes graph columns rows [] self.new) }
+    {
+        if self.may_fit() {
+            self.reply.begin_row()?;
+        }
+        Ok(())
+    }
+
+    /// One value more of the row that is told. Nothing of a value is kept once the reply is lost.
+    pub fn take<T: Tables>(
+        &mut self,
+        alloc: Global,
+        graph: &GraphView<'_, T>,
+        value: &Value,
+    ) -> Result<(), AllocError>
+        ensures lost { IsLost self.new → self.new.reply ≡ self.old.reply }
         ensures telling { (notes : Bool) (columns : Items) (rows : List (List Datum))
-            (row : List Datum) (found : List Shown)
-            → IsTelling notes graph.now columns rows row found self.old
-            → IsTelling notes graph.now columns rows (row ++ view value.now ∷ [])
-            (found ++ result ∷ []) self.new }
+            (row : List Datum) → IsTellingRow notes graph.now columns rows row self.old
+            → OnOk result
+            (IsTellingRow notes graph.now columns rows (row ++ view value.now ∷ []) self.new) }
     {
         if self.fault.is_some() {
-            return Out::Null;
+            return Ok(());
         }
         self.room = self.room.saturating_sub(1);
         match value {
-            Value::Null => within(Out::Null, &mut self.room),
-            Value::Bool(b) => within(Out::Bool(*b), &mut self.room),
-            Value::Int(i) => within(Out::Int(*i), &mut self.room),
+            Value::Null => self.put_scalar(Out::Null),
+            Value::Bool(b) => self.put_scalar(Out::Bool(*b)),
+            Value::Int(i) => self.put_scalar(Out::Int(*i)),
+            Value::Text(text) => self.put_text(text),
             _ => match spell(alloc, graph, value, &mut self.room) {
-                Ok(out) => { if self.room == 0 { Out::Null } else { out } }
+                Ok(out) => self.put(out),
                 Err(fault) => {
                     self.fault = Some(fault);
-                    Out::Null
+                    Ok(())
                 }
             },
         }
     }
 
+    /// Puts a value for which no room is counted yet.
+    fn put_scalar(&mut self, out: Out) -> Result<(), AllocError>
+        ensures { Puts result self.old self.new (data_of out) (least (data_of out)) }
+    {
+        self.room = room_behind(self.room, &out);
+        self.put(out)
+    }
+
+    /// Puts a text, of which no copy is made.
+    fn put_text(&mut self, text: &str) -> Result<(), AllocError>
+        ensures { Puts result self.old self.new (string text.now) (length text.now + 2) }
+    {
+        self.room = self.room.saturating_sub(2).saturating_sub(text.len());
+        if self.room > 0 {
+            self.reply.text(text)?;
+        }
+        Ok(())
+    }
+
+    /// Puts a value for which the room is counted, if some is left.
+    fn put(&mut self, out: Out) -> Result<(), AllocError>
+        ensures { Puts result self.old self.new (data_of out) 0 }
+    {
+        if self.room > 0 {
+            self.reply.value(out)?;
+        }
+        Ok(())
+    }
+
     /// The row that was told is whole. Nothing is written once the reply is lost.
-    pub fn end_row(&mut self, row: &[Out]) -> Result<(), AllocError>
+    pub fn end_row(&mut self) -> Result<(), AllocError>
         ensures lost { IsLost self.new → self.new.reply ≡ self.old.reply }
         ensures telling { (notes : Bool) (graph : Graph) (columns : Items)
             (rows : List (List Datum)) (values : List Datum)
-            → IsTelling notes graph columns rows values row.now self.old
-            → OnOk result (IsTelling notes graph columns (rows ++ values ∷ []) [] [] self.new) }
+            → IsTellingRow notes graph columns rows values self.old
+            → OnOk result (IsTelling notes graph columns (rows ++ values ∷ []) self.new) }
     {
         self.room = self.room.saturating_sub(2);
         if self.may_fit() {
-            self.reply.push(row)?;
+            self.reply.end_row()?;
         }
         Ok(())
     }
@@ -103,7 +147,7 @@ impl ReplyWriter {
     /// The whole reply, or the fault in which it ends.
     pub fn finish(self, steps: u64) -> Result<QueryReply, Fault>
         ensures { (notes : Bool) (graph : Graph) (columns : Items) (rows : List (List Datum))
-            → IsTelling notes graph columns rows [] [] self
+            → IsTelling notes graph columns rows self
             → Gives result (told notes graph columns rows steps) (λ reply. reply) }
     {
         if let Some(fault) = self.fault {

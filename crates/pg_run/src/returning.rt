@@ -88,7 +88,7 @@ fn reply_of_each<T: Tables>(
     mut telling: ReplyWriter,
 ) -> Result<QueryReply, Fault>
     ensures { (notes : Bool) (s : Setting) (columns : Items) → s.quota.max_steps ≡ meter.old.limit
-        → IsTelling notes graph.now columns [] [] [] telling
+        → IsTelling notes graph.now columns [] telling
         → Gives result (and_then (spend s meter.old.used (length (table rows.now))) (λ steps.
         and_then (cut_given (parameters_view items.now.query.now.parameters.now) graph.now
         (projection_view projection.now).skip (projection_view projection.now).limit) (λ c.

@@ -14,7 +14,7 @@ use pg_meaning::Fault;
 use pg_project::Cut;
 use pg_rows::{Columns, Rows};
 use pg_store::GraphView;
-use pg_value_core::{Out, Value};
+use pg_value_core::Value;
 
 /// The items of RETURN made ready, and what they are evaluated with at each row.
 #[derive(Clone, Copy)]
@@ -37,22 +37,20 @@ pub(crate) fn tell_rows<T: Tables>(
     ensures err { IfErr result (λ e. e ≢ OutOfMemory
         → each_answer (items_given items.now graph.now) (table rows.now) ≡ Err e) }
 {
-    let mut outs = Vec::new(items.query.alloc);
     for at in 0..rows.len() {
         let is_in = cut.lets_in(at as u64);
-        tell_row(items, rows.row(at), is_in, graph, telling, &mut outs)?;
+        tell_row(items, rows.row(at), is_in, graph, telling)?;
     }
     Ok(())
 }
 
-/// Tells what the items give at a row that is let in, and else only looks for a fault. `outs` is one list for all rows.
+/// Tells what the items give at a row that is let in, and else only looks for a fault.
 fn tell_row<T: Tables>(
     items: &ReadyItems<'_, '_>,
     row: &[Value],
     is_in: bool,
     graph: &GraphView<'_, T>,
     telling: &mut ReplyWriter,
-    outs: &mut Vec<Out>,
 ) -> Result<(), Fault>
     ensures ok { IfOk result (λ u. RowPassed graph.now is_in
         (items_given items.now graph.now (map view row.now)) telling.old telling.new) }
@@ -62,21 +60,20 @@ fn tell_row<T: Tables>(
     if !is_in {
         return test_items(items, row, graph);
     }
-    tell_items(items, row, graph, telling, outs)?;
-    telling.end_row(outs.as_slice())?;
+    tell_items(items, row, graph, telling)?;
+    telling.end_row()?;
     Ok(())
 }
 
-/// Tells what the items give at a row, left to right, and leaves in `outs` what stands for it.
+/// Begins a row, and tells what the items give at it, left to right.
 fn tell_items<'a, T: Tables>(
     items: &ReadyItems<'a, '_>,
     row: &'a [Value],
     graph: &GraphView<'a, T>,
     telling: &mut ReplyWriter,
-    outs: &mut Vec<Out>,
 ) -> Result<(), Fault>
     ensures ok { IfOk result (λ u. RowTold graph.now (items_given items.now graph.now
-        (map view row.now)) telling.old telling.new outs.new.items) }
+        (map view row.now)) telling.old telling.new) }
     ensures err { IfErr result (λ e. e ≢ OutOfMemory
         → items_given items.now graph.now (map view row.now) ≡ Err e) }
 {
@@ -87,11 +84,10 @@ fn tell_items<'a, T: Tables>(
         row,
         parameters: query.parameters,
     };
-    outs.clear();
-    outs.reserve(items.ready.len())?;
+    telling.begin_row()?;
     for one in items.ready {
         let found = find_at(&context, one, graph)?;
-        outs.push_reserved(telling.take(query.alloc, graph, found.look()));
+        telling.take(query.alloc, graph, found.look())?;
     }
     Ok(())
 }

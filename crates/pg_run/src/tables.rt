@@ -4,7 +4,7 @@ ghost use Rattle.serde_json.specs.Data.{Items};
 ghost use Rattle.pg_meaning.specs.Value.{Value as Datum};
 ghost use Rattle.pg_rows.specs.States.{seen};
 ghost use Rattle.pg_rows.specs.Tables.{table};
-ghost use Rattle.pg_run.specs.Telling.{IsTelling};
+ghost use Rattle.pg_run.specs.Telling.{IsTelling, IsTellingRow};
 ghost use Rattle.pg_run.specs.Told.{rows_told};
 ghost use Rattle.pg_value_core.specs.View.{view};
 
@@ -12,7 +12,7 @@ use crate::reply_writer::ReplyWriter;
 use pg_graph::Tables;
 use pg_rows::{BindingTable, Rows};
 use pg_store::GraphView;
-use pg_value_core::{Out, Value};
+use pg_value_core::Value;
 use std::alloc::{AllocError, Global};
 
 /// Tells all rows of a table.
@@ -24,9 +24,9 @@ pub(crate) fn tell_table<T: Tables>(
     telling: &mut ReplyWriter,
 ) -> Result<(), AllocError>
     ensures { (notes : Bool) (columns : Items)
-        → IsTelling notes graph.now columns [] [] [] telling.old
+        → IsTelling notes graph.now columns [] telling.old
         → OnOk result
-        (IsTelling notes graph.now columns (rows_told (seen table)) [] [] telling.new) }
+        (IsTelling notes graph.now columns (rows_told (seen table)) telling.new) }
 {
     let (_names, rows) = table.split();
     tell_rows(alloc, graph, &rows, telling)
@@ -39,34 +39,30 @@ fn tell_rows<T: Tables>(
     telling: &mut ReplyWriter,
 ) -> Result<(), AllocError>
     ensures { (notes : Bool) (columns : Items)
-        → IsTelling notes graph.now columns [] [] [] telling.old
-        → OnOk result (IsTelling notes graph.now columns (table rows.now) [] [] telling.new) }
+        → IsTelling notes graph.now columns [] telling.old
+        → OnOk result (IsTelling notes graph.now columns (table rows.now) telling.new) }
 {
-    let mut outs = Vec::new(alloc);
     for at in 0..rows.len() {
-        tell_values(alloc, graph, rows.row(at), telling, &mut outs)?;
-        telling.end_row(outs.as_slice())?;
+        tell_values(alloc, graph, rows.row(at), telling)?;
+        telling.end_row()?;
     }
     Ok(())
 }
 
-/// Tells the values of a row, and leaves in `outs` what stands for them.
+/// Begins a row, and tells its values.
 fn tell_values<T: Tables>(
     alloc: Global,
     graph: &GraphView<'_, T>,
     row: &[Value],
     telling: &mut ReplyWriter,
-    outs: &mut Vec<Out>,
 ) -> Result<(), AllocError>
     ensures { (notes : Bool) (columns : Items) (rows : List (List Datum))
-        → IsTelling notes graph.now columns rows [] [] telling.old
-        → OnOk result
-        (IsTelling notes graph.now columns rows (map view row.now) outs.new.items telling.new) }
+        → IsTelling notes graph.now columns rows telling.old
+        → OnOk result (IsTellingRow notes graph.now columns rows (map view row.now) telling.new) }
 {
-    outs.clear();
-    outs.reserve(row.len())?;
+    telling.begin_row()?;
     for value in row {
-        outs.push_reserved(telling.take(alloc, graph, value));
+        telling.take(alloc, graph, value)?;
     }
     Ok(())
 }

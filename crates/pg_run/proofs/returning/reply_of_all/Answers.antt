@@ -26,7 +26,7 @@ returns g c = λ s suits.
     let state = state_of graph (seen c.args.table) c.args.meter.now.used in
     let t = seen c.in_ok-made.made in
     let names = c.in_ok-made.ensures.names ∙ ap (λ ns. column_names (return_columns ns p)) (sym suits.scope_is) in
-    let begun = subst (λ ns. IsTelling c.args.notes graph (named_items ns) [] [] [] c.in_ok-telling.telling) c.names.ensures (c.in_ok-telling.ensures graph) in
+    let begun = subst (λ ns. IsTelling c.args.notes graph (named_items ns) [] c.in_ok-telling.telling) c.names.ensures (c.in_ok-telling.ensures graph) in
     gives_same c.finish.result _ (told c.args.notes graph (named_items t.names) (rows_told t) c.used.result) (λ reply. reply)
     (returned_all c.args.notes s p state graph t _ (c.in_ok-made.ensures.gives s suits).ok names ∙ ap (told c.args.notes graph (named_items t.names) (rows_told t)) (sym c.used.ensures))
     (c.finish.ensures c.args.notes graph (named_items t.names) (rows_told t) (c.in_ok-tell_table.ensures c.args.notes (named_items t.names) begun))

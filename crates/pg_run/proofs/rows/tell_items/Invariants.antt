@@ -1,5 +1,4 @@
-use Rattle.std.proofs.Common.{◌+◌, ◌-◌, ◌≤◌, drop, length, map}
-use Rattle.std.specs.Prelude.{vec_capacity, vec_len}
+use Rattle.std.proofs.Common.{drop, map}
 use Rattle.pg_project.specs.Given.{trees_of, value_given}
 use Rattle.pg_run.proofs.Returns.{ItemsSoFar}
 use Rattle.pg_value_core.specs.Given.{parameters_view}
@@ -8,5 +7,4 @@ use Rattle.pg_run.proofs.rows.tell_items.Given as goal
 
 abbrev pub invariant-loop-one : goal.invariant-loop-one
 invariant-loop-one g l =
-    ItemsSoFar l.graph (value_given (parameters_view l.items.query.now.parameters.now) l.graph l.items.names.now (map view l.row)) (trees_of l.items.names.now l.items.ready.now.items) (trees_of l.items.names.now (drop l.one-index l.items.ready.now.items)) l.initial.telling l.telling l.outs.items
-    × (vec_len l.outs + (length l.items.ready.now.items - l.one-index) ≤ vec_capacity l.outs)
+    ItemsSoFar l.graph (value_given (parameters_view l.items.query.now.parameters.now) l.graph l.items.names.now (map view l.row)) (trees_of l.items.names.now l.items.ready.now.items) (trees_of l.items.names.now (drop l.one-index l.items.ready.now.items)) l.initial.telling l.telling

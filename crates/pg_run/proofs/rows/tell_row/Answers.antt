@@ -1,7 +1,6 @@
 use Rattle.std.proofs.Common.{rules, ◌≡◌, true, map, sym, subst}
 use Rattle.pg_project.specs.Given.{trees_of, values_given}
 use Rattle.pg_run.specs.Returning.{RowPassed}
-use Rattle.pg_run.specs.Telling.{IsTelling}
 use Rattle.pg_value_core.specs.Given.{parameters_view}
 use Rattle.pg_value_core.specs.View.{view}
 use Rattle.pg_run.proofs.rows.tell_row.Goals as goal
@@ -17,5 +16,5 @@ returns-clause-ok g c =
       values = made.values;
       are = made.are;
       telling = λ notes columns rows h.
-          c.in_ok-end_row.ensures.telling notes graph columns rows made.values (subst (λ os. IsTelling notes graph columns rows made.values os c.tell_items.new.telling) (sym c.as_slice.ensures.value) (made.telling notes columns rows h));
+          c.in_ok-end_row.ensures.telling notes graph columns rows made.values (made.telling notes columns rows h);
     })

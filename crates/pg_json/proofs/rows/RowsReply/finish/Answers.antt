@@ -22,15 +22,15 @@ returns-in-Plain-clause-long c = λ notes columns rows h.
     IfErr-weaker c.finish.result (λ e. e ≢ OutOfMemory → max_reply < length ((plain_end c.in-Plain.rows c.args.steps).text)) (λ e. e ≢ OutOfMemory → max_reply < length (rows_text columns rows c.args.steps))
     (λ e long other. subst (λ t. max_reply < length t) same (long other)) (rw c.in-Plain.is at c.finish.ensures.long)
 
-pub returns-in-Noted-clause-ok : goal.returns-in-Noted-clause-ok
-returns-in-Noted-clause-ok c = λ notes columns rows h.
+pub returns-clause-ok : goal.returns-clause-ok
+returns-clause-ok c = λ notes columns rows h.
     let w = subst (λ r. AreWritten r notes columns rows) c.in-Noted.is h.so_far in
     IfOk-weaker c.finish-in-Noted.result (λ reply. reply ≡ with_end c.in-Noted.rows.value c.args.steps) (λ reply. reply ≡ query_text notes columns rows c.args.steps)
     (λ reply e. e ∙ noted_whole c.in-Noted.rows.value notes columns rows c.args.steps w.0 w.1)
     (subst (λ q. IfOk c.finish-in-Noted.result (λ reply. reply ≡ with_end q c.args.steps)) (c.into_inner.ensures ∙ ap (λ b. b.value) c.in-Noted.rows-is) c.finish-in-Noted.ensures.ok)
 
-pub returns-in-Noted-clause-long : goal.returns-in-Noted-clause-long
-returns-in-Noted-clause-long c = λ notes columns rows h.
+pub returns-clause-long : goal.returns-clause-long
+returns-clause-long c = λ notes columns rows h.
     let w = subst (λ r. AreWritten r notes columns rows) c.in-Noted.is h.so_far in
     let same = ap (λ q. q.text) (noted_whole c.in-Noted.rows.value notes columns rows c.args.steps w.0 w.1) in
     IfErr-weaker c.finish-in-Noted.result (λ e. e ≢ OutOfMemory → max_reply < length ((with_end c.in-Noted.rows.value c.args.steps).text)) (λ e. e ≢ OutOfMemory → max_reply < length (rows_text columns rows c.args.steps))

@@ -6,6 +6,7 @@ pub mod Conjuncts
 pub mod ElementLemmas
 pub mod ExitLemmas
 pub mod Integers
+pub mod KnownLemmas
 pub mod LabelLemmas
 pub mod PlainReads
 pub mod Presence

@@ -1,9 +1,8 @@
 -- What is known of a comparison's sides once a clause, and what that tells of a condition at a row.
-use Rattle.std.proofs.Common.{◌≡◌, ◌<◌, ◌≤◌, ℕ, Bool, true, false, List, [], ◌∷◌, map, Option, Some, None, Result, Ok, Err, get_or, length, refl, sym, ap, ◌∙◌}
+use Rattle.std.proofs.Common.{◌≡◌, ◌<◌, ℕ, Bool, true, false, List, [], ◌∷◌, map, Option, Some, None, Ok, Err, get_or, length, refl, sym, ap, ◌∙◌}
 use Rattle.std.proofs.lemmas.Option.{slice_get-map, slice_get_read}
 use Rattle.std.specs.Option.{option_and_then}
 use Rattle.std.specs.Prelude.{IfSome, bytes_eq, option_map, position, slice_get}
-use Rattle.pg_expr.proofs.Conjuncts.{by_answer, whole}
 use Rattle.pg_expr.proofs.PlainReads.{of_held}
 use Rattle.pg_expr.proofs.ScalarLemmas.{both_told_by}
 use Rattle.pg_expr.proofs.Turns.{one_operand}
@@ -15,7 +14,6 @@ use Rattle.pg_expr.specs.Sides.{IsComparisonOf, IsSideOf, comparison_given, in_c
 use Rattle.pg_expr.specs.declared.sides.KnownComparison.{KnownComparison}
 use Rattle.pg_expr.specs.declared.sides.Side.{Side}
 use Rattle.pg_meaning.specs.Answer.{Answer, ◌>>=◌}
-use Rattle.pg_meaning.specs.Conditions.{all_true, conjuncts}
 use Rattle.pg_meaning.specs.Expressions.{begins_comparison, evaluate, evaluate_chain, evaluate_operands, or_fault, property_of}
 use Rattle.pg_meaning.specs.Graph.{Graph}
 use Rattle.pg_meaning.specs.Rows.{Row, value_in}
@@ -89,17 +87,13 @@ module _ (row : Row) (parameters : Entries) (g : Graph) where
       (λ v. evaluate row parameters g f >>= λ w. truth_compared v ((o, w) ∷ []))
       (λ v. ap (by_kind v (tree.operand o f tree.no_operands)) begins ∙ one_operand v o (evaluate row parameters g f))
 
-  pub lone : (e : tree.Expression) → conjuncts e ≡ e ∷ [] → all_true row parameters g (conjuncts e) ≡ (evaluate row parameters g e >>= is_true_at)
-  lone e h = ap (all_true row parameters g) h ∙ by_answer (evaluate row parameters g e) (Ok true) ∙ whole (evaluate row parameters g e >>= is_true_at)
-
 module _ (names : List (List ℕ)) (parameters : Entries) where
-  pub known : (e first second : tree.Expression) (k : KnownComparison) → conjuncts e ≡ e ∷ [] → e ≡ tree.chain first (tree.operand k.operator second tree.no_operands)
+  pub known : (e first second : tree.Expression) (k : KnownComparison) → e ≡ tree.chain first (tree.operand k.operator second tree.no_operands)
       → begins_comparison (tree.operand k.operator second tree.no_operands) ≡ true → IsSideOf names parameters k.left first → IsSideOf names parameters k.right second
-      → IsComparisonOf names parameters k (Some e)
-  known e first second k one is begins left right values g =
+      → IsComparisonOf names parameters k e
+  known e first second k is begins left right values g =
       let row = row_of names values in
-      lone row parameters g e one
-      ∙ ap (λ f. evaluate row parameters g f >>= is_true_at) is
+      ap (λ f. evaluate row parameters g f >>= is_true_at) is
       ∙ ap (λ a. a >>= is_true_at) (compared_once row parameters g first second k.operator begins)
       ∙ ap (λ a. (a >>= λ v. evaluate row parameters g second >>= λ w. truth_compared v ((k.operator, w) ∷ [])) >>= is_true_at) (left values g)
       ∙ ap (λ a. (side_given k.left values g >>= λ v. a >>= λ w. truth_compared v ((k.operator, w) ∷ [])) >>= is_true_at) (right values g)

@@ -3,6 +3,7 @@ pub mod Calls
 pub mod Conditions
 pub mod Elements
 pub mod Kinds
+pub mod KnownConjuncts
 pub mod LoneColumns
 pub mod Operators
 pub mod Prepared

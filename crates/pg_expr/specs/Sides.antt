@@ -1,5 +1,5 @@
--- What the sides of a comparison give at a row, where they are known once a clause, and what a condition gives that is such a comparison.
-use Rattle.std.specs.Prelude.{◌≡◌, ℕ, Bool, List, [], ◌∷◌, Option, Result, slice_get}
+-- What the sides of a comparison give at a row, where they are known once a clause, and what a conjunct gives that is such a comparison.
+use Rattle.std.specs.Prelude.{◌≡◌, ℕ, Bool, List, [], ◌∷◌, Result, slice_get}
 use Rattle.pg_expr.specs.Conditions.{is_true_at}
 use Rattle.pg_expr.specs.Operators.{truth_compared}
 use Rattle.pg_expr.specs.Scalars.{scalar_view}
@@ -7,7 +7,6 @@ use Rattle.pg_expr.specs.declared.sides.KnownComparison.{KnownComparison}
 use Rattle.pg_expr.specs.declared.sides.Side.{Side}
 use Rattle.pg_expr.specs.declared.sides.Side.TheVariants.{Told, Column, Property}
 use Rattle.pg_meaning.specs.Answer.{Answer, ◌>>=◌}
-use Rattle.pg_meaning.specs.Conditions.{condition}
 use Rattle.pg_meaning.specs.Expressions.{evaluate, or_fault, property_of}
 use Rattle.pg_meaning.specs.Graph.{Graph}
 use Rattle.pg_meaning.specs.Tree.{Expression}
@@ -34,6 +33,6 @@ IsSideOf names parameters side e = (values : List Datum) (g : Graph) → evaluat
 abbrev pub comparison_given : KnownComparison → List Datum → Graph → Result Bool Fault
 comparison_given known values g = (side_given known.left values g >>= λ v. side_given known.right values g >>= λ w. truth_compared v ((known.operator, w) ∷ [])) >>= is_true_at
 
--- the comparison that a condition is, at whatever row under these names
-abbrev pub IsComparisonOf : (names : List (List ℕ)) → Entries → KnownComparison → Option Expression → Type 0
-IsComparisonOf names parameters known e = (values : List Datum) (g : Graph) → condition e (row_of names values) parameters g ≡ comparison_given known values g
+-- the comparison that a conjunct is, at whatever row under these names
+abbrev pub IsComparisonOf : (names : List (List ℕ)) → Entries → KnownComparison → Expression → Type 0
+IsComparisonOf names parameters known e = (values : List Datum) (g : Graph) → (evaluate (row_of names values) parameters g e >>= is_true_at) ≡ comparison_given known values g

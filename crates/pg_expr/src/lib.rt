@@ -7,6 +7,7 @@ mod conditions;
 mod counts;
 mod elements;
 mod evaluation;
+mod known_conjuncts;
 mod lone_columns;
 mod made;
 mod operators;

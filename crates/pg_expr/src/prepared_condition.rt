@@ -1,28 +1,28 @@
 //! A condition made ready, once a clause, to be tested at its rows.
 ghost use Rattle.std.proofs.Props.{props};
-ghost use Rattle.std.specs.Prelude.{IfSome, option_map};
-ghost use Rattle.pg_expr.specs.Sides.{IsComparisonOf};
+ghost use Rattle.std.specs.Prelude.{option_map};
+ghost use Rattle.pg_expr.specs.KnownConjuncts.{AreKnownOf};
+ghost use Rattle.pg_meaning.specs.Conditions.{conjuncts_of};
 ghost use Rattle.pg_syntax_tree.specs.View.{expression_view};
 ghost use Rattle.pg_value_core.specs.Given.{parameters_view};
 
-use crate::sides::KnownComparison;
+use crate::known_conjuncts::KnownConjuncts;
 use pg_rows::Columns;
 use pg_syntax_tree::Expression;
 use pg_value_core::Parameters;
 
 /// A condition that was made ready for rows of given columns and for the parameters of a request; where there is none,
 /// each row meets it.
-#[derive(Clone, Copy)]
+#[derive(Drop)]
 pub struct PreparedCondition<'a, 'n> {
     pub(crate) names: &'n Columns,
     pub(crate) parameters: &'a Parameters,
     pub(crate) whole: Option<&'a Expression>,
     // Scalars are asked first, of each conjunct.
     pub(crate) tells: bool,
-    // What is known of the whole, where it is one comparison.
-    pub(crate) known: Option<KnownComparison<'a>>,
-    ghost is_known: { IfSome known (λ k. IsComparisonOf names.now (parameters_view parameters.now)
-        k (option_map (λ e. expression_view e.now) whole)) } by { Prim.hlevel props },
+    pub(crate) known: KnownConjuncts<'a>,
+    ghost are_known: { AreKnownOf names.now (parameters_view parameters.now) known
+        (conjuncts_of (option_map (λ e. expression_view e.now) whole)) } by { Prim.hlevel props },
 }
 
 impl<'a, 'n> PreparedCondition<'a, 'n> {

@@ -1,5 +1,5 @@
-//! The sides of a comparison that is a whole condition, found once a clause.
-ghost use Rattle.std.specs.Prelude.{◌≡◌, ℕ, List, IfSome, Ok, Some, map};
+//! The sides of a comparison that is a conjunct of a condition, found once a clause.
+ghost use Rattle.std.specs.Prelude.{◌≡◌, ℕ, List, IfSome, Ok, map};
 ghost use Rattle.pg_expr.specs.Scalars.{scalar_view, Tells};
 ghost use Rattle.pg_expr.specs.Sides.{IsComparisonOf, IsSideOf, comparison_given, in_column, side_given};
 ghost use Rattle.pg_meaning.specs.Answer.{◌>>=◌ as and_then};
@@ -18,7 +18,7 @@ use pg_graph::Tables;
 use pg_meaning::Operator;
 use pg_rows::Columns;
 use pg_store::GraphView;
-use pg_syntax_tree::{Expression, Name, conjunction};
+use pg_syntax_tree::{Expression, Name};
 use pg_value_core::{Parameters, Value};
 
 /// One side of a comparison: a value that is the same at each row, what a column holds, or a property of that.
@@ -44,11 +44,8 @@ pub(crate) fn known_comparison<'a>(
     parameters: &'a Parameters,
 ) -> Option<KnownComparison<'a>>
     ensures { IfSome result (λ known. IsComparisonOf names.now (parameters_view parameters.now)
-        known (Some (expression_view expression.now))) }
+        known (expression_view expression.now)) }
 {
-    if conjunction(expression).is_some() {
-        return None;
-    }
     let Expression::Chain(first, operands) = expression else {
         return None;
     };
@@ -72,7 +69,7 @@ pub(crate) fn known_comparison<'a>(
 }
 
 /// The side that an expression is, if it is one.
-fn side_of<'a>(
+pub(crate) fn side_of<'a>(
     expression: &'a Expression,
     names: &Columns,
     parameters: &'a Parameters,
@@ -137,7 +134,7 @@ pub(crate) fn known_truth<'a, T: Tables>(
     is_chosen(compared(known.operator, left, right))
 }
 
-fn side_told<'a, T: Tables>(
+pub(crate) fn side_told<'a, T: Tables>(
     side: Side<'a>,
     row: &'a [Value],
     graph: &GraphView<'a, T>,

@@ -1,5 +1,5 @@
-use Rattle.std.proofs.Common.{◌≡◌, sym, ap, ◌∙◌}
-use Rattle.std.specs.Prelude.{Some, bytes_eq, position}
+use Rattle.std.proofs.Common.{sym, ap, ◌∙◌}
+use Rattle.std.specs.Prelude.{bytes_eq, position}
 use Rattle.pg_expr.proofs.SideLemmas.{of_variable}
 use Rattle.pg_syntax_tree.specs.View.{name_view}
 use Rattle.pg_expr.proofs.sides.column_side.Goals as goal

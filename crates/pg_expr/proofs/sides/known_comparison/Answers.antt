@@ -1,8 +1,6 @@
-use Rattle.std.proofs.Common.{◌≡◌, [], ◌∷◌, IfNone, get_or, map, sym, ap, subst, ◌∙◌}
-use Rattle.pg_expr.proofs.ScalarLemmas.{none_there}
+use Rattle.std.proofs.Common.{get_or, map, sym, ap, ◌∙◌}
 use Rattle.pg_expr.proofs.SideLemmas.{known}
 use Rattle.pg_expr.proofs.Turns as turn
-use Rattle.pg_meaning.specs.Conditions.{conjuncts}
 use Rattle.pg_meaning.specs.Expressions.{begins_comparison}
 use Rattle.pg_meaning.specs.Tree as tree
 use Rattle.pg_syntax_tree.proofs.Views.{chain_is}
@@ -19,9 +17,7 @@ returns c =
     let q = get_or items 0 c.index-operand-0.result in
     let e = expression_view c.args.expression.now in
     let one = turn.one_left items a.operands.items p q c.as_slice.ensures.value c.in-len1.len_at_least c.in-len1.len_below (ap (get_or items 0) c.index-operator-0.is) (ap (get_or items 0) c.index-operand-0.is) in
-    let alone = subst (λ o. IfNone o (conjuncts e ≡ e ∷ [])) (none_there c.conjunction.result (sym c.is_some.ensures ∙ c.if-is_some.false)) c.conjunction.ensures.none in
     known c.args.names.now (parameters_view c.args.parameters.now) e (expression_view c.deref.result.now) (expression_view q.1) _
-    alone
     (ap expression_view a.is ∙ chain_is a.first a.operands ∙ ap (λ x. tree.chain (expression_view x) (operands_of (map operand_view a.operands.items))) (sym c.deref.ensures) ∙ ap (tree.chain (expression_view c.deref.result.now)) one)
     (ap begins_comparison (sym one) ∙ sym c.begins_comparison.ensures ∙ c.if-not-begins_comparison.false)
     c.in-Some.ensures c.in-Some-side_of.ensures

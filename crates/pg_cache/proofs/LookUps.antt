@@ -1,8 +1,8 @@
 -- What a look-up leaves.
-use Rattle.std.proofs.Common.{◌≡◌, ℕ, ◌-◌, Bool, true, false, cond, List, [], ◌∷◌, map, take, Some, None, Result, Ok, Err, refl, sym, ap, ◌∙◌, subst, inl, inr, ◌⊎◌, MatchResult, Global}
+use Rattle.std.proofs.Common.{◌≡◌, ℕ, ◌-◌, Bool, true, false, cond, List, [], ◌∷◌, map, take, Some, None, Result, Ok, Err, refl, sym, ap, ◌∙◌, subst, inl, inr, ◌⊎◌, MatchResult, IfOk, Global}
 use Rattle.std.specs.Map.{lookup, lookup_entry, remove_entry}
 use Rattle.std.specs.Option.{option_map, option_map_or}
-use Rattle.std.specs.Result.{OnOk, OnErr, IsErrAnd}
+use Rattle.std.specs.Result.{OnOk, OnErr}
 use Rattle.std.specs.declared.rc.Rc.{Rc}
 use Rattle.lru.specs.LruCache.{LruCache, lru_cache, promoted, put_entries}
 use Rattle.pg_cache.specs.Cache.{Cache, key_view, entry_view, same_key, ArePlanned, kept, one_more, after_hit, with_plan, MayKeep, IsHit}
@@ -30,9 +30,9 @@ none_there test (e ∷ es) h =
     (elim (test e.0) as (λ b. cond b (Some e.1) (lookup test es) ≡ None → cond b (Some e) (lookup_entry test es) ≡ None)
     [ true ↦ λ k. absurd cc | false ↦ λ k. none_there test es k ]) h
 
-pub told : {X : Type 0} (P : X → Type 0) (r : Result X Fault) → IsErrAnd r (λ e. e ≡ OutOfMemory) → MatchResult r P (λ e. e ≡ OutOfMemory)
-told P (Ok x) h = absurd h
-told P (Err e) h = h
+if_ok : {X : Type 0} (P Q : X → Type 0) (E : Fault → Type 0) (r : Result X Fault) → ((x : X) → P x → Q x) → MatchResult r P E → IfOk r Q
+if_ok P Q E (Ok x) on h = on x h
+if_ok P Q E (Err e) on h = tt
 
 pub either_way : {X Y : Type 0} (r : Result X Y) (A B : Type 0) → OnOk r A → OnErr r B → A ⊎ B
 either_way (Ok x) A B a b = inl a
@@ -47,6 +47,24 @@ lookups key es = lookup-view (key_view key) es ∙ ap (λ test. option_map (λ p
 
 promotions : (key : kept_key.Key) (es : List Pair) → map entry_view (promoted (key_eq key) es) ≡ promoted (same_key (key_view key)) (map entry_view es)
 promotions key es = ap (λ test. map entry_view (promoted test es)) (tests key) ∙ promoted-view (key_view key) es
+
+-- ---- the entry in front
+
+-- one that passes is found, and moves nothing
+found_first : (test : kept_key.Key → Bool) (es : List Pair) (found : Rc Plan Global) → Some found ≡ lookup test (take 1 es) → (Some found ≡ lookup test es) × (es ≡ promoted test es)
+found_first test [] found h = absurd cc
+found_first test (e ∷ es) found h =
+    (elim (test e.0) as (λ b. Some found ≡ cond b (Some e.1) None
+    → (Some found ≡ cond b (Some e.1) (lookup test es))
+    × (e ∷ es ≡ option_map_or (λ f. f ∷ cond b es (e ∷ remove_entry test es)) (cond b (Some e) (lookup_entry test es)) (e ∷ es)))
+    [ true ↦ λ is. (is, refl) | false ↦ λ is. absurd cc ]) h
+
+module _ (plans : Plans) (key : kept_key.Key) (found : Rc Plan Global) (first : Some found ≡ lookup (key_eq key) (take 1 plans.entries)) where
+  pub first_is_found : Some found ≡ lookup (key_eq key) plans.entries
+  first_is_found = (found_first (key_eq key) plans.entries found first).0
+
+  pub first_stays : plans ≡ found_in plans key
+  first_stays = ap (λ es. lru_cache es plans.cap) (found_first (key_eq key) plans.entries found first).1
 
 -- ---- a hit
 
@@ -85,8 +103,11 @@ module _ (old : Cache) (plans : Plans) (hits misses : ℕ) (key : kept_key.Key) 
       ∙ ap (λ o. let es : List Pair = option_map_or (λ e. e ∷ remove_entry (key_eq key) plans.entries) o plans.entries in seen (lru_cache es plans.cap) hits misses) (none_there (key_eq key) plans.entries (sym is))
       ∙ sym same
 
-  pub hit_is_planned : (found : Rc Plan Global) → ArePlanned (map entry_view plans.entries) → Some found ≡ lookup (key_eq key) plans.entries → IsPlanOfText (key_view key).0 (key_view key).1 found.value
-  hit_is_planned found all is = planned_under (key_view key) (map entry_view plans.entries) found.value all (lookups key plans.entries ∙ ap (option_map (λ p. p.value)) (sym is))
+  pub hit_is_planned : (found : Rc Plan Global) (answer : Result (Rc Plan Global) Fault) → ArePlanned (map entry_view plans.entries) → Some found ≡ lookup (key_eq key) plans.entries
+      → MatchResult answer (λ p. p.value ≡ found.value) (λ e. e ≡ OutOfMemory) → IfOk answer (λ p. IsPlanOfText (key_view key).0 (key_view key).1 p.value)
+  hit_is_planned found answer all is =
+      let planned = planned_under (key_view key) (map entry_view plans.entries) found.value all (lookups key plans.entries ∙ ap (option_map (λ p. p.value)) (sym is)) in
+      if_ok _ _ _ answer (λ p same_plan. subst (λ (v : Plan). IsPlanOfText (key_view key).0 (key_view key).1 v) (sym same_plan) planned)
 
   pub hit_leaves_planned : (after : Plans) → ArePlanned (map entry_view plans.entries) → after ≡ found_in plans key → ArePlanned (map entry_view after.entries)
   hit_leaves_planned after all h =

@@ -1,8 +1,10 @@
 //! A cache of plans under their texts and indexes, of which the last used stay.
-ghost use Rattle.std.specs.Prelude.{◌≡◌, ◌≢◌, None, Some, IfOk, IfErr, Err, string_bytes};
+ghost use Rattle.std.specs.Prelude.{◌≡◌, ◌≢◌, None, Some, IfOk, IfErr, MatchResult, Err, option_copied, string_bytes, take};
+ghost use Rattle.std.specs.Map.{lookup};
 ghost use Rattle.std.specs.NonZero.{non_zero_usize_get};
 ghost use Rattle.pg_plan.specs.Catalogue.{catalogue_view};
-ghost use Rattle.pg_cache.specs.Cache.{empty_cache, kept, cache_key, key_view, IsHit, IsMiss, MayKeep};
+ghost use Rattle.pg_cache.specs.Cache.{empty_cache, kept, cache_key, key_view, one_more, IsHit, IsMiss, MayKeep};
+ghost use Rattle.pg_cache.specs.Keys.{key_eq};
 ghost use Rattle.pg_meaning.specs.declared.fault.Fault.TheVariants.{OutOfMemory};
 ghost use Rattle.pg_plan.specs.Plans.{IsPlanOfText};
 ghost use Rattle.pg_meaning.specs.Texts.{text_checked};
@@ -79,9 +81,12 @@ impl<S: BuildHasher + Drop> PlanCache<S> {
             → IsMiss self.old self.new (cache_key text catalogue) result }
     {
         let key = Key { text, catalogue };
+        // One text is often asked again and again, and it is compared faster than it is hashed.
+        if let Some(plan) = last_used(&self.plans, &key) {
+            return share(&mut self.hits, plan);
+        }
         if let Some(plan) = self.plans.get(&key) {
-            self.hits = self.hits.saturating_add(1);
-            return Ok(plan.clone()?);
+            return share(&mut self.hits, plan);
         }
         self.make_plan(alloc, key)
     }
@@ -119,4 +124,26 @@ impl<S: BuildHasher + Drop> PlanCache<S> {
     {
         (self.hits, self.misses)
     }
+}
+
+/// The plan that was used last, if it is kept under this key.
+fn last_used<'a, S: BuildHasher>(
+    plans: &'a LruCache<Key, Rc<Plan>, S>,
+    key: &Key,
+) -> Option<&'a Rc<Plan>>
+    ensures { option_copied result ≡ lookup (key_eq key.now) (take 1 plans.now.entries) }
+{
+    match plans.peek_mru() {
+        Some((last, plan)) if key.is_same(last) => Some(plan),
+        _ => None,
+    }
+}
+
+/// A kept plan, counted as found.
+fn share(hits: &mut u64, plan: &Rc<Plan>) -> Result<Rc<Plan>, Fault>
+    ensures count { hits.new ≡ one_more hits.old }
+    ensures answer { MatchResult result (λ p. p.value ≡ plan.now.value) (λ e. e ≡ OutOfMemory) }
+{
+    *hits = hits.saturating_add(1);
+    Ok(plan.clone()?)
 }

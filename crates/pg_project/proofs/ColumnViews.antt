@@ -63,7 +63,7 @@ same_value : (naming : Naming) (i : Item) → (column_of naming i).value ≡ i.v
 same_value Variable i = refl
 same_value Source i = refl
 
-of_items : (naming : Naming) (items : List Item) → columns_of (column_names (map (column_of naming) items)) (values_in_items items) ≡ map (column_of naming) items
+pub of_items : (naming : Naming) (items : List Item) → columns_of (column_names (map (column_of naming) items)) (values_in_items items) ≡ map (column_of naming) items
 of_items naming [] = refl
 of_items naming (i ∷ is) = λ j. record {
   name = (column_of naming i).name;

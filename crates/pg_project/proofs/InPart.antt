@@ -1,5 +1,5 @@
 -- A row taken into the aggregates of one group, which lie among those of all.
-use Rattle.std.proofs.Common.{◌≡◌, ℕ, ◌+◌, ◌≤◌, List, ◌++◌, length, map, take, drop, Result, Ok, Err, refl, sym, ap, ◌∙◌}
+use Rattle.std.proofs.Common.{◌≡◌, ℕ, ◌+◌, ◌≤◌, List, ◌++◌, length, take, drop, Result, Ok, Err, refl, sym, ap, ◌∙◌}
 use Rattle.std.proofs.lemmas.List.{length-drop, length-map, length-take-le, take_at}
 use Rattle.pg_project.proofs.Numbered.{as_long}
 use Rattle.pg_project.proofs.Parted.{part_seen, rest_holds, written, written_long}

@@ -44,3 +44,4 @@ pub mod ByteOrder
 pub mod LoneStar
 pub mod PassedRows
 pub mod RowsTwice
+pub mod NoneStarred

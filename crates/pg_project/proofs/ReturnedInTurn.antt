@@ -1,12 +1,12 @@
 -- RETURN whose rows come in turn: its rows are those that SKIP and LIMIT let in of what the items give at each row.
 use Rattle.std.proofs.Common.{◌≡◌, ℕ, Bool, true, false, List, [], ◌∷◌, map, length, drop, Result, Ok, Err, None, refl, sym, ap, ◌∙◌}
-use Rattle.std.specs.List.{AllByRecursion}
+use Rattle.std.specs.List.{AllByRecursion, list_any}
 use Rattle.pg_meaning.specs.Answer.{◌>>=◌, each_answer}
 use Rattle.pg_meaning.specs.Graph.{Graph}
 use Rattle.pg_meaning.specs.Meters.{Setting}
 use Rattle.pg_meaning.specs.Projections.{Projected, column_value, grouped, item_rows, limited, projected}
 use Rattle.pg_meaning.specs.Rows.{Row, values_in}
-use Rattle.pg_meaning.specs.Scopes.{Column}
+use Rattle.pg_meaning.specs.Scopes.{Column, is_aggregate}
 use Rattle.pg_meaning.specs.Tree.{Expression, Projection}
 use Rattle.pg_meaning.specs.Value.{Value}
 use Rattle.pg_meaning.specs.declared.fault.Fault.{Fault}
@@ -15,9 +15,9 @@ use Rattle.pg_rows.specs.Named.{row_of, rows_named}
 use Rattle.pg_project.specs.Items.{columns_of}
 use Rattle.pg_project.proofs.EachAnswer.{as_many, each_is, each_seen}
 use Rattle.pg_project.proofs.Kept.{cut_map}
-use Rattle.pg_project.proofs.Projecting.{aggregates_are, behind, column_rows, columns_only, cut_later, cut_rows}
+use Rattle.pg_project.proofs.Projecting.{behind, column_rows, columns_only, cut_later, cut_rows}
 use Rattle.pg_project.proofs.Standing.{pairs_of}
-use Rattle.pg_project.specs.Given.{Cut, cut_given, cut_of, has_aggregate, value_given, values_given}
+use Rattle.pg_project.specs.Given.{Cut, cut_given, cut_of, value_given, values_given}
 use Rattle.pg_project.specs.Parts.{rows_projected}
 use Rattle.pg_project.specs.Returned.{ComeInTurn}
 
@@ -41,19 +41,19 @@ module _ (s : Setting) (graph : Graph) (names columns : List (List ℕ)) (es : L
   abbrev by_kind : Bool → Result (List Projected) Fault
   by_kind aggregated = elim aggregated [ true ↦ grouped s graph all input | false ↦ each_answer (projected s.parameters graph false all) input ]
 
-  module _ (apart : has_aggregate es ≡ false) (c : Cut) where
+  module _ (apart : list_any is_aggregate all ≡ false) (c : Cut) where
     columns_cut : (a : Result (List (List Value)) Fault) → ((a >>= λ found. Ok (rows_named columns found)) >>= cut_rows s graph all c input) ≡ (a >>= λ found. Ok (rows_named columns (cut_of c found)))
     columns_cut (Ok found) = ap Ok (cut_map (row_of columns) c found)
     columns_cut (Err f) = refl
 
     each_cut : (item_rows s graph false all input >>= behind s graph all c input [] false None) ≡ (given >>= λ found. Ok (rows_named columns (cut_of c found)))
     each_cut =
-        ap (λ b. by_kind b >>= behind s graph all c input [] false None) (aggregates_are columns es same ∙ apart)
+        ap (λ b. by_kind b >>= behind s graph all c input [] false None) apart
         ∙ cut_later s graph all c input (each_answer (projected s.parameters graph false all) input)
         ∙ ap (λ a. a >>= cut_rows s graph all c input) (columns_only s graph all false input ∙ each_row)
         ∙ columns_cut given
 
-  pub each_projected : (p : Projection) → ComeInTurn p es → rows_projected s graph all p None input ≡ (cut_given s.parameters graph p.skip p.limit >>= λ c. given >>= λ found. Ok (rows_named columns (cut_of c found)))
+  pub each_projected : (p : Projection) → ComeInTurn p all → rows_projected s graph all p None input ≡ (cut_given s.parameters graph p.skip p.limit >>= λ c. given >>= λ found. Ok (rows_named columns (cut_of c found)))
   each_projected p kept =
       (λ i. cut_given s.parameters graph p.skip p.limit >>= λ c. item_rows s graph (kept.distinct i) all input >>= behind s graph all c input (kept.order i) (kept.distinct i) None)
       ∙ (λ i. cut_given s.parameters graph p.skip p.limit >>= λ c. each_cut kept.apart c i)

@@ -1,20 +1,20 @@
 -- RETURN whose rows come in turn, and RETURN that only counts rows.
+use Rattle.std.specs.List.{list_any}
 use Rattle.std.specs.Prelude.{◌≡◌, false, List, [], length, Result, None, Some}
 use Rattle.pg_meaning.specs.Aggregates.{Aggregate, aggregate_of}
 use Rattle.pg_meaning.specs.Meters.{Setting, State}
 use Rattle.pg_meaning.specs.Names.{Names}
 use Rattle.pg_meaning.specs.Projections.{project_clause}
 use Rattle.pg_meaning.specs.Rows.{Row}
-use Rattle.pg_meaning.specs.Scopes.{return_columns}
+use Rattle.pg_meaning.specs.Scopes.{Column, is_aggregate, return_columns}
 use Rattle.pg_meaning.specs.Tree.{Expression, Projection}
 use Rattle.pg_meaning.specs.declared.fault.Fault.{Fault}
-use Rattle.pg_project.specs.Given.{has_aggregate}
 
 -- each by itself, in their order
-pub record ComeInTurn (p : Projection) (es : List Expression) : Type 0 where
+pub record ComeInTurn (p : Projection) (columns : List Column) : Type 0 where
   pub distinct : p.distinct ≡ false
   pub order : p.order ≡ []
-  pub apart : has_aggregate es ≡ false
+  pub apart : list_any is_aggregate columns ≡ false
 
 -- an aggregate that takes no argument: it looks at no variable
 pub record CountsRows (e : Expression) : Type 0 where

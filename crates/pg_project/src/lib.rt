@@ -36,4 +36,4 @@ pub use project::{project_return, project_with};
 pub use projection_columns::ProjectionColumns;
 pub use returned::{come_in_turn, only_counts, return_columns};
 pub use unwind::unwind_rows;
-pub use values::prepare_each;
+pub use values::{prepare_each, prepare_items};

@@ -1,12 +1,12 @@
 //! RETURN whose rows come in turn, and RETURN that only counts rows.
 ghost use Rattle.std.specs.Prelude.{◌≡◌, true, IfOk};
+ghost use Rattle.pg_meaning.specs.Names.{Names};
 ghost use Rattle.pg_meaning.specs.Scopes.{return_columns};
 ghost use Rattle.pg_project.specs.Columns.{columns_view};
-ghost use Rattle.pg_project.specs.Items.{expressions_view};
 ghost use Rattle.pg_project.specs.Returned.{ComeInTurn, CountsRows, OnlyCounts};
 ghost use Rattle.pg_syntax_tree.specs.View.{expression_view, projection_view};
 
-use crate::aggregates::have_aggregate;
+use crate::aggregates::is_any_aggregate;
 use crate::columns::make_columns;
 use crate::projection_columns::ProjectionColumns;
 use pg_rows::Columns;
@@ -26,13 +26,13 @@ pub fn return_columns<'a>(
     make_columns(alloc, Naming::Source, scope, projection)
 }
 
-/// Whether the rows of RETURN come in turn, each by itself: it neither groups these items nor sorts, and equal
-/// rows stay.
-pub fn come_in_turn(projection: &Projection, items: &Vec<&Expression>) -> bool
-    ensures { result ≡ true
-        → ComeInTurn (projection_view projection.now) (expressions_view items.now.items) }
+/// Whether the rows of RETURN come in turn, each by itself: it neither groups nor sorts, and equal rows stay. `*` stands
+/// for variables, of which none is an aggregate.
+pub fn come_in_turn(projection: &Projection) -> bool
+    ensures { (scope : Names) → result ≡ true → ComeInTurn (projection_view projection.now)
+        (return_columns scope (projection_view projection.now)) }
 {
-    !projection.distinct && projection.order.is_empty() && !have_aggregate(items)
+    !projection.distinct && projection.order.is_empty() && !is_any_aggregate(&projection.items)
 }
 
 /// Whether RETURN only counts rows: it gives the same over any others of which there are as many.

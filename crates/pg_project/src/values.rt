@@ -1,10 +1,12 @@
 //! What expressions give at rows, one expression after the other.
 ghost use Rattle.std.specs.Prelude.{◌≡◌, ◌≢◌, ◌<◌, ◌+◌, ◌++◌, [], cond, drop, length, map, IfOk, IfErr, OnOk, Ok, Err};
 ghost use Rattle.pg_meaning.specs.declared.fault.Fault.TheVariants.{OutOfMemory};
+ghost use Rattle.pg_project.specs.Columns.{values_in_items};
 ghost use Rattle.pg_project.specs.Given.{trees_of, values_given, wide_rows_given};
 ghost use Rattle.pg_project.specs.Items.{expressions_view};
 ghost use Rattle.pg_rows.specs.Left.{first_row, rows_left};
 ghost use Rattle.pg_rows.specs.Tables.{table};
+ghost use Rattle.pg_syntax_tree.specs.View.{item_view};
 ghost use Rattle.pg_value_core.specs.Given.{parameters_view};
 ghost use Rattle.pg_value_core.specs.View.{view};
 
@@ -15,7 +17,7 @@ use pg_graph::Tables;
 use pg_meaning::Fault;
 use pg_rows::{Columns, Rows, RowsLeft};
 use pg_store::GraphView;
-use pg_syntax_tree::Expression;
+use pg_syntax_tree::{Expression, Item};
 use pg_value_core::Value;
 use std::alloc::{AllocError, Global};
 
@@ -32,6 +34,22 @@ pub fn prepare_each<'a>(
     let mut ready = Vec::new(alloc);
     for expression in expressions {
         push_made(&mut ready, prepare(alloc, expression, names))?;
+    }
+    Ok(ready)
+}
+
+/// The expressions of the items, made ready for rows under the names.
+pub fn prepare_items<'a>(
+    alloc: Global,
+    items: &'a Vec<Item>,
+    names: &Columns,
+) -> Result<Vec<Prepared<'a>>, AllocError>
+    ensures { IfOk result (λ ready. trees_of names.now ready.items
+        ≡ values_in_items (map item_view items.now.items)) }
+{
+    let mut ready = Vec::with_capacity(alloc, items.len())?;
+    for item in items {
+        push_made(&mut ready, prepare(alloc, &item.value, names))?;
     }
     Ok(ready)
 }

@@ -1,5 +1,6 @@
 -- RETURN whose rows are told one after the other.
 use Rattle.std.proofs.Common.{◌≡◌, ℕ, ◌+◌, Bool, List, [], ◌∷◌, ◌++◌, map, length, length-append, Result, Ok, Err, None, refl, sym, ap, subst, ◌∙◌, arith}
+use Rattle.std.proofs.lemmas.List.{length-map}
 use Rattle.serde_json.specs.Data.{Items}
 use Rattle.pg_json.specs.Pages.{QueryText}
 use Rattle.pg_project.specs.Items.{columns_of}
@@ -8,15 +9,16 @@ use Rattle.pg_meaning.specs.Graph.{Graph}
 use Rattle.pg_meaning.specs.Meters.{Setting, State, spend}
 use Rattle.pg_meaning.specs.Projections.{project_clause}
 use Rattle.pg_meaning.specs.Rows.{values_in}
-use Rattle.pg_meaning.specs.Scopes.{column_names, return_columns}
-use Rattle.pg_meaning.specs.Tree.{Expression, Projection}
+use Rattle.pg_meaning.specs.Scopes.{Column, column_names, return_column, return_columns, star_columns}
+use Rattle.pg_meaning.specs.Tree.{Expression, Item, Projection}
 use Rattle.pg_meaning.specs.Value.{Value}
 use Rattle.pg_meaning.specs.declared.fault.Fault.{Fault}
-use Rattle.pg_project.proofs.ColumnViews.{names_are}
+use Rattle.pg_project.proofs.ColumnViews.{names_are, of_items}
 use Rattle.pg_project.proofs.InTurn.{after, after_one, first_of_rest, nothing_behind}
 use Rattle.pg_project.proofs.Kept.{none_cut}
 use Rattle.pg_project.proofs.ReturnedInTurn.{each_projected, each_told}
 use Rattle.pg_project.proofs.Projecting.{all_projected, rows_fail, steps_fail}
+use Rattle.pg_project.specs.Columns.{values_in_items}
 use Rattle.pg_project.specs.Cuts.{LetsIn}
 use Rattle.pg_project.specs.Given.{Cut, cut_given, cut_of, values_given}
 use Rattle.pg_project.specs.Parts.{rows_projected}
@@ -27,6 +29,7 @@ use Rattle.pg_rows.specs.States.{Named, named_rows, state_of}
 use Rattle.pg_run.specs.Telling.{IsTelling, IsTellingRow, told}
 use Rattle.pg_run.specs.Told.{rows_told}
 use Rattle.pg_run.specs.declared.reply_writer.ReplyWriter.{ReplyWriter}
+use Rattle.pg_scope.specs.declared.columns.Naming.TheVariants.{Source}
 use Rattle.pg_value_core.specs.Gives.{Gives}
 
 -- ---- what is left, after those that are told
@@ -123,9 +126,20 @@ module _ {X : Type 0} (f : X → Result Value Fault) where
   pub all_tested : (all rest : List X) (so_far : TestedSoFar f all rest) → rest ≡ [] → each_answer f all ≡ Ok so_far.values
   all_tested all rest so_far is = none_left f all rest so_far.values so_far.given is
 
+-- ---- columns of items alone
+
+pub item_lengths : (items : List Item) → length (column_names (map return_column items)) ≡ length (values_in_items items)
+item_lengths items =
+    length-map (map return_column items) (λ (c : Column). c.name)
+    ∙ length-map items return_column
+    ∙ sym (length-map items (λ (i : Item). i.value))
+
+pub item_columns : (scope : List (List ℕ)) (p : Projection) → p.star ≡ None → columns_of (column_names (map return_column p.items)) (values_in_items p.items) ≡ return_columns scope p
+item_columns scope p none = of_items Source p.items ∙ ap (λ star. star_columns scope star ++ map return_column p.items) (sym none)
+
 -- ---- the clause, whose rows come in turn
 
-module _ (notes : Bool) (s : Setting) (graph : Graph) (p : Projection) (t : Named) (used : ℕ) (columns : List (List ℕ)) (es : List Expression) (same : length columns ≡ length es) (are : columns_of columns es ≡ return_columns s.scope p) (kept : ComeInTurn p es) where
+module _ (notes : Bool) (s : Setting) (graph : Graph) (p : Projection) (t : Named) (used : ℕ) (columns : List (List ℕ)) (es : List Expression) (same : length columns ≡ length es) (are : columns_of columns es ≡ return_columns s.scope p) (kept : ComeInTurn p (return_columns s.scope p)) where
   abbrev cut : Result Cut Fault
   cut = cut_given s.parameters graph p.skip p.limit
 
@@ -139,7 +153,7 @@ module _ (notes : Bool) (s : Setting) (graph : Graph) (p : Projection) (t : Name
   clause = project_clause s (return_columns s.scope p) p None (state_of graph t used)
 
   projected : rows_projected s graph (return_columns s.scope p) p None (named_rows t) ≡ (cut >>= λ c. given >>= λ found. Ok (rows_named columns (cut_of c found)))
-  projected = ap (λ cs. rows_projected s graph cs p None (named_rows t)) (sym are) ∙ each_projected s graph t.names columns es same t.rows p kept
+  projected = ap (λ cs. rows_projected s graph cs p None (named_rows t)) (sym are) ∙ each_projected s graph t.names columns es same t.rows p (subst (ComeInTurn p) (sym are) kept)
 
   names : column_names (return_columns s.scope p) ≡ columns
   names = ap column_names (sym are) ∙ names_are columns es same

@@ -26,7 +26,7 @@ named_items names = items_of (map string names)
 
 -- what the items give at a row
 abbrev pub items_given : ReadyItems → Graph → List Value → Result (List Value) Fault
-items_given i graph = values_given (parameters_view i.query.now.parameters.now) graph i.names.now (trees_of i.names.now i.ready.now.items)
+items_given i graph = values_given (parameters_view i.query.now.parameters.now) graph i.names.now (trees_of i.names.now i.ready.now)
 
 -- the clause, then the reply of its rows
 abbrev pub returned : (notes : Bool) → Setting → Projection → State → Result QueryText Fault

@@ -4,7 +4,9 @@ use pg_graph::Tables;
 use pg_json::{QueryReply, ReplyColumns, RowsReply, room_behind};
 use pg_meaning::Fault;
 use pg_rows::Columns;
+use pg_scope::{Naming, column_name};
 use pg_store::GraphView;
+use pg_syntax_tree::Item;
 use pg_value_core::{Out, Value};
 use std::alloc::{AllocError, Global};
 
@@ -20,25 +22,53 @@ pub(crate) struct ReplyWriter {
 }
 
 impl ReplyWriter {
-    ghost use Rattle.std.specs.Prelude.{◌≡◌, ◌≢◌, ◌+◌, ◌++◌, ◌∷◌, [], Bool, List, length, map, true, false, None, IfOk, OnOk};
+    ghost use Rattle.std.specs.Prelude.{◌≡◌, ◌≢◌, ◌+◌, ◌++◌, ◌∷◌, [], Bool, List, ℕ, length, map, true, false, None, IfOk, OnOk};
     ghost use Rattle.serde_json.specs.Data.{Items, string};
-    ghost use Rattle.pg_json.specs.Replies.{data_of, items_of};
+    ghost use Rattle.pg_json.specs.Replies.{data_of};
     ghost use Rattle.pg_json.specs.Room.{least};
+    ghost use Rattle.pg_json.specs.Telling.{HasNamed};
     ghost use Rattle.pg_meaning.specs.Graph.{Graph};
+    ghost use Rattle.pg_meaning.specs.Scopes.{column_names, return_column};
     ghost use Rattle.pg_meaning.specs.Value.{Value as Datum};
+    ghost use Rattle.pg_run.specs.Returning.{named_items};
     ghost use Rattle.pg_run.specs.Telling.{IsLost, IsTelling, IsTellingRow, Puts, told};
+    ghost use Rattle.pg_syntax_tree.specs.View.{item_view};
     ghost use Rattle.pg_value_core.specs.Gives.{Gives};
     ghost use Rattle.pg_value_core.specs.View.{view};
 
-    /// The columns, and no row yet. `notes` tells whether the ends of the rows are to be noted.
+    /// The columns of these names, and no row yet. `notes` tells whether the ends of the rows are to be noted.
     pub fn begin(alloc: Global, columns: &Columns, notes: bool) -> Result<ReplyWriter, AllocError>
         ensures { IfOk result (λ t. (graph : Graph)
-            → IsTelling notes graph (items_of (map string columns.now)) [] t) }
+            → IsTelling notes graph (named_items columns.now) [] t) }
     {
         let mut head = ReplyColumns::begin(alloc)?;
         for at in 0..columns.len() {
             head.name(columns.name(at))?;
         }
+        ReplyWriter::behind(head, notes)
+    }
+
+    /// The same of the columns that RETURN has for these items. No copy is made of a name.
+    pub fn begin_items(
+        alloc: Global,
+        items: &Vec<Item>,
+        notes: bool,
+    ) -> Result<ReplyWriter, AllocError>
+        ensures { IfOk result (λ t. (graph : Graph) → IsTelling notes graph
+            (named_items (column_names (map return_column (map item_view items.now.items)))) [] t) }
+    {
+        let mut head = ReplyColumns::begin(alloc)?;
+        for item in items {
+            head.name(column_name(Naming::Source, item))?;
+        }
+        ReplyWriter::behind(head, notes)
+    }
+
+    /// No row yet, behind the columns that were named.
+    fn behind(head: ReplyColumns, notes: bool) -> Result<ReplyWriter, AllocError>
+        ensures { (names : List (List ℕ)) → HasNamed head names → IfOk result
+            (λ t. (graph : Graph) → IsTelling notes graph (named_items names) [] t) }
+    {
         Ok(ReplyWriter {
             reply: head.end(notes)?,
             room: WHOLE_ROOM,

@@ -1,12 +1,14 @@
 //! RETURN and the reply of its rows.
-ghost use Rattle.std.specs.Prelude.{◌≡◌, [], Bool, length};
+ghost use Rattle.std.specs.Prelude.{◌≡◌, [], Bool, None, length};
 ghost use Rattle.pg_meaning.specs.Answer.{◌>>=◌ as and_then, each_answer};
 ghost use Rattle.pg_meaning.specs.Meters.{Setting, spend};
+ghost use Rattle.pg_meaning.specs.Names.{Names};
+ghost use Rattle.pg_meaning.specs.Scopes.{return_columns};
 ghost use Rattle.pg_project.specs.Given.{cut_given, cut_of};
-ghost use Rattle.pg_project.specs.Items.{columns_of};
+ghost use Rattle.pg_project.specs.Returned.{ComeInTurn};
 ghost use Rattle.pg_rows.specs.States.{seen, state_of, Suits};
 ghost use Rattle.pg_rows.specs.Tables.{table};
-ghost use Rattle.pg_run.specs.Returning.{items_given, named_items, returned};
+ghost use Rattle.pg_run.specs.Returning.{items_given, returned};
 ghost use Rattle.pg_run.specs.Telling.{IsTelling, told};
 ghost use Rattle.serde_json.specs.Data.{Items};
 ghost use Rattle.pg_syntax_tree.specs.View.{projection_view};
@@ -21,7 +23,9 @@ use pg_graph::Tables;
 use pg_json::QueryReply;
 use pg_meaning::Fault;
 use pg_meter::Meter;
-use pg_project::{come_in_turn, cut_at, prepare_each, project_return, return_columns};
+use pg_project::{
+    come_in_turn, cut_at, prepare_each, prepare_items, project_return, return_columns,
+};
 use pg_rows::{BindingTable, Rows};
 use pg_store::GraphView;
 use pg_syntax_tree::Projection;
@@ -42,20 +46,68 @@ pub(crate) fn return_reply<T: Tables>(
         → Gives result (returned notes s (projection_view projection.now)
         (state_of graph.now (seen table) meter.old.used)) (λ reply. reply) }
 {
+    if !come_in_turn(projection) {
+        return reply_of_all(query, projection, graph, table, meter, notes);
+    }
+    if projection.star.is_some() {
+        return reply_of_columns(query, projection, graph, &table, meter, notes);
+    }
+    reply_of_items(query, projection, graph, &table, meter, notes)
+}
+
+/// Its rows come in turn, under the names of the columns.
+fn reply_of_columns<T: Tables>(
+    query: &QueryContext<'_>,
+    projection: &Projection,
+    graph: &GraphView<'_, T>,
+    table: &BindingTable,
+    meter: &mut Meter,
+    notes: bool,
+) -> Result<QueryReply, Fault>
+    requires { (scope : Names) → ComeInTurn (projection_view projection.now)
+        (return_columns scope (projection_view projection.now)) }
+    ensures { (s : Setting) → Suits s
+        (parameters_view query.now.parameters.now) meter.old.limit (seen table.now).names
+        → Gives result (returned notes s (projection_view projection.now)
+        (state_of graph.now (seen table.now) meter.old.used)) (λ reply. reply) }
+{
     let columns = return_columns(query.alloc, table.names(), projection)?;
     let expressions = columns.expressions(query.alloc)?;
-    if come_in_turn(projection, &expressions) {
-        let ready = prepare_each(query.alloc, &expressions, table.names())?;
-        let items = ReadyItems {
-            query: &*query,
-            names: table.names(),
-            ready: &ready,
-        };
-        let telling = ReplyWriter::begin(query.alloc, columns.names(), notes)?;
-        reply_of_each(&items, projection, graph, table.rows(), meter, telling)
-    } else {
-        reply_of_all(query, projection, graph, table, meter, notes)
-    }
+    let ready = prepare_each(query.alloc, &expressions, table.names())?;
+    let items = ReadyItems {
+        query: &*query,
+        names: table.names(),
+        ready: ready.as_slice(),
+    };
+    let telling = ReplyWriter::begin(query.alloc, columns.names(), notes)?;
+    reply_of_each(&items, projection, graph, table.rows(), meter, telling)
+}
+
+/// The same without `*`: the items have the names already, of which no list is made.
+fn reply_of_items<T: Tables>(
+    query: &QueryContext<'_>,
+    projection: &Projection,
+    graph: &GraphView<'_, T>,
+    table: &BindingTable,
+    meter: &mut Meter,
+    notes: bool,
+) -> Result<QueryReply, Fault>
+    requires star { projection.now.star ≡ None }
+    requires turns { (scope : Names) → ComeInTurn (projection_view projection.now)
+        (return_columns scope (projection_view projection.now)) }
+    ensures { (s : Setting) → Suits s
+        (parameters_view query.now.parameters.now) meter.old.limit (seen table.now).names
+        → Gives result (returned notes s (projection_view projection.now)
+        (state_of graph.now (seen table.now) meter.old.used)) (λ reply. reply) }
+{
+    let ready = prepare_items(query.alloc, &projection.items, table.names())?;
+    let items = ReadyItems {
+        query: &*query,
+        names: table.names(),
+        ready: ready.as_slice(),
+    };
+    let telling = ReplyWriter::begin_items(query.alloc, &projection.items, notes)?;
+    reply_of_each(&items, projection, graph, table.rows(), meter, telling)
 }
 
 /// All rows are made before the first is told.

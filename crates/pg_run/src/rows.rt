@@ -21,7 +21,7 @@ use pg_value_core::Value;
 pub(crate) struct ReadyItems<'a, 'b> {
     pub(crate) query: &'a QueryContext<'a>,
     pub(crate) names: &'a Columns,
-    pub(crate) ready: &'a Vec<Prepared<'b>>,
+    pub(crate) ready: &'a [Prepared<'b>],
 }
 
 /// Tells what the items give at each row that is let in; the others are only looked at for a fault.

@@ -20,7 +20,7 @@ returns g c = λ notes s columns limit telling.
     let p = projection_view c.args.projection.now in
     let parameters = parameters_view c.args.items.now.query.now.parameters.now in
     let cut = cut_view c.in_ok-cut.cut in
-    let given = each_answer (values_given parameters graph names (trees_of names c.args.items.now.ready.now.items)) rows in
+    let given = each_answer (values_given parameters graph names (trees_of names c.args.items.now.ready.now)) rows in
     let made = c.in_ok-tell_rows.ensures.ok in
     let kept = cut_of cut made.rows in
     let spent : spend s used (length rows) ≡ Ok c.spend.new.self.used = ap (spend s used) (sym c.len.ensures) ∙ c.in_ok-spend.ensures.spends s limit in
@@ -40,7 +40,7 @@ returns-in_err-spend g c = λ notes s columns limit telling.
     let used = c.args.meter.now.used in
     let p = projection_view c.args.projection.now in
     let parameters = parameters_view c.args.items.now.query.now.parameters.now in
-    let given = each_answer (values_given parameters graph names (trees_of names c.args.items.now.ready.now.items)) rows in
+    let given = each_answer (values_given parameters graph names (trees_of names c.args.items.now.ready.now)) rows in
     gives_fault c.from_residual.result _ _ _ c.from_residual.ensures.1
     (λ other. ap (λ a. a >>= λ steps. cut_given parameters graph p.skip p.limit >>= λ k. given >>= λ found. told notes graph columns (cut_of k found) steps)
     (ap (spend s used) (sym c.len.ensures) ∙ c.in_err-spend.ensures.spends s limit))
@@ -53,7 +53,7 @@ returns-in_err-cut g c = λ notes s columns limit telling.
     let used = c.args.meter.now.used in
     let p = projection_view c.args.projection.now in
     let parameters = parameters_view c.args.items.now.query.now.parameters.now in
-    let given = each_answer (values_given parameters graph names (trees_of names c.args.items.now.ready.now.items)) rows in
+    let given = each_answer (values_given parameters graph names (trees_of names c.args.items.now.ready.now)) rows in
     gives_fault c.from_residual-in_err-cut.result _ _ _ c.from_residual-in_err-cut.ensures.1
     (λ other. ap (λ a. a >>= λ steps. cut_given parameters graph p.skip p.limit >>= λ k. given >>= λ found. told notes graph columns (cut_of k found) steps)
     (ap (spend s used) (sym c.len.ensures) ∙ c.in_ok-spend.ensures.spends s limit)
@@ -67,7 +67,7 @@ returns-in_err-tell_rows g c = λ notes s columns limit telling.
     let used = c.args.meter.now.used in
     let p = projection_view c.args.projection.now in
     let parameters = parameters_view c.args.items.now.query.now.parameters.now in
-    let given = each_answer (values_given parameters graph names (trees_of names c.args.items.now.ready.now.items)) rows in
+    let given = each_answer (values_given parameters graph names (trees_of names c.args.items.now.ready.now)) rows in
     let cut = cut_view c.in_ok-cut.cut in
     gives_fault c.from_residual-in_err-tell_rows.result _ _ _ c.from_residual-in_err-tell_rows.ensures.1
     (λ other. ap (λ a. a >>= λ steps. cut_given parameters graph p.skip p.limit >>= λ k. given >>= λ found. told notes graph columns (cut_of k found) steps)

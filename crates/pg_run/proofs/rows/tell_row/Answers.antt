@@ -8,7 +8,7 @@ use Rattle.pg_run.proofs.rows.tell_row.Goals as goal
 pub returns-clause-ok : goal.returns-clause-ok
 returns-clause-ok g c =
     let graph = c.args.graph.now in
-    let given = values_given (parameters_view c.args.items.now.query.now.parameters.now) graph c.args.items.now.names.now (trees_of c.args.items.now.names.now c.args.items.now.ready.now.items) (map view c.args.row.now) in
+    let given = values_given (parameters_view c.args.items.now.query.now.parameters.now) graph c.args.items.now.names.now (trees_of c.args.items.now.names.now c.args.items.now.ready.now) (map view c.args.row.now) in
     let is_in : c.args.is_in ≡ true = search rules in
     let made = c.in_ok-tell_items.ensures.ok in
     subst (λ b. RowPassed graph b given c.args.telling.now c.end_row.new.self) (sym is_in)

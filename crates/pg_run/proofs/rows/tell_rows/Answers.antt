@@ -12,12 +12,12 @@ use Rattle.pg_run.proofs.rows.tell_rows.Goals as goal
 
 pub loop-at-init : goal.loop-at-init
 loop-at-init g c =
-    no_row c.args.graph.now c.args.telling.now (cut_view c.args.cut) (values_given (parameters_view c.args.items.now.query.now.parameters.now) c.args.graph.now c.args.items.now.names.now (trees_of c.args.items.now.names.now c.args.items.now.ready.now.items)) (table c.args.rows.now)
+    no_row c.args.graph.now c.args.telling.now (cut_view c.args.cut) (values_given (parameters_view c.args.items.now.query.now.parameters.now) c.args.graph.now c.args.items.now.names.now (trees_of c.args.items.now.names.now c.args.items.now.ready.now)) (table c.args.rows.now)
 
 pub loop-at-preserved : goal.loop-at-preserved
 loop-at-preserved g c =
     let graph = c.args.graph.now in
-    let f = values_given (parameters_view c.args.items.now.query.now.parameters.now) graph c.args.items.now.names.now (trees_of c.args.items.now.names.now c.args.items.now.ready.now.items) in
+    let f = values_given (parameters_view c.args.items.now.query.now.parameters.now) graph c.args.items.now.names.now (trees_of c.args.items.now.names.now c.args.items.now.ready.now) in
     let rows = table c.args.rows.now in
     let row = map view c.row.result.now in
     one_row graph _ (cut_view c.args.cut) f rows (drop c.loop-at.at rows) (drop (c.loop-at.at + 1) rows) c.loop-at.at _ row c.loop-at.invariant (drop_here rows c.loop-at.at row c.row.ensures)
@@ -26,7 +26,7 @@ loop-at-preserved g c =
 pub returns-in_err-tell_row-clause-err : goal.returns-in_err-tell_row-clause-err
 returns-in_err-tell_row-clause-err g c =
     let graph = c.args.graph.now in
-    let f = values_given (parameters_view c.args.items.now.query.now.parameters.now) graph c.args.items.now.names.now (trees_of c.args.items.now.names.now c.args.items.now.ready.now.items) in
+    let f = values_given (parameters_view c.args.items.now.query.now.parameters.now) graph c.args.items.now.names.now (trees_of c.args.items.now.names.now c.args.items.now.ready.now) in
     let rows = table c.args.rows.now in
     let row = map view c.row.result.now in
     let refused : (e : Fault) → f row ≡ Err e → each_answer f rows ≡ Err e =
@@ -36,7 +36,7 @@ returns-in_err-tell_row-clause-err g c =
 pub returns-clause-ok : goal.returns-clause-ok
 returns-clause-ok g c =
     let graph = c.args.graph.now in
-    let f = values_given (parameters_view c.args.items.now.query.now.parameters.now) graph c.args.items.now.names.now (trees_of c.args.items.now.names.now c.args.items.now.ready.now.items) in
+    let f = values_given (parameters_view c.args.items.now.query.now.parameters.now) graph c.args.items.now.names.now (trees_of c.args.items.now.names.now c.args.items.now.ready.now) in
     let rows = table c.args.rows.now in
     let so_far = c.loop-at.invariant in
     record {

@@ -8,4 +8,4 @@ use Rattle.pg_run.proofs.rows.tell_rows.Given as goal
 
 abbrev pub invariant-loop-at : goal.invariant-loop-at
 invariant-loop-at g l =
-    RowsSoFar l.graph (cut_view l.cut) (values_given (parameters_view l.items.query.now.parameters.now) l.graph l.items.names.now (trees_of l.items.names.now l.items.ready.now.items)) (table l.rows) (drop l.at (table l.rows)) l.at l.initial.telling l.telling
+    RowsSoFar l.graph (cut_view l.cut) (values_given (parameters_view l.items.query.now.parameters.now) l.graph l.items.names.now (trees_of l.items.names.now l.items.ready.now)) (table l.rows) (drop l.at (table l.rows)) l.at l.initial.telling l.telling

@@ -7,4 +7,4 @@ use Rattle.pg_run.proofs.rows.test_items.Given as goal
 
 abbrev pub invariant-loop-one : goal.invariant-loop-one
 invariant-loop-one g l =
-    TestedSoFar (value_given (parameters_view l.items.query.now.parameters.now) l.graph l.items.names.now (map view l.row)) (trees_of l.items.names.now l.items.ready.now.items) (trees_of l.items.names.now (drop l.one-index l.items.ready.now.items))
+    TestedSoFar (value_given (parameters_view l.items.query.now.parameters.now) l.graph l.items.names.now (map view l.row)) (trees_of l.items.names.now l.items.ready.now) (trees_of l.items.names.now (drop l.one-index l.items.ready.now))

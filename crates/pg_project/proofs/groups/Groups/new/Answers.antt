@@ -1,11 +1,11 @@
-use Rattle.std.proofs.Common.{◌≡◌, ◌<◌, ◌*◌, ◌++◌, [], length, map, sym, ap, ◌∙◌, arith}
+use Rattle.std.proofs.Common.{◌≡◌, ◌<◌, ◌*◌, ◌++◌, [], length, sym, ap, ◌∙◌, arith}
 use Rattle.std.proofs.lemmas.Bool.Decides.{nat_tests}
 use Rattle.std.proofs.lemmas.List.{length-map, nil_from_length}
 use Rattle.pg_expr.specs.Prepared.{tree_of}
 use Rattle.pg_project.proofs.Numbered.{no_group, one_group, one_paired}
 use Rattle.pg_project.proofs.Parted.{none_each}
 use Rattle.pg_project.specs.Kept.{begun, first_kept}
-use Rattle.pg_project.specs.KeptGroups.{Paired, groups_of, groups_view, parted}
+use Rattle.pg_project.specs.KeptGroups.{groups_of, groups_view, parted}
 use Rattle.pg_project.specs.ReadyItems.{aggregate_view, aggregates_view, keys_of}
 use Rattle.pg_project.specs.Views.{taken_view, takens_view}
 use Rattle.pg_rows.specs.Groups.{keys_view}

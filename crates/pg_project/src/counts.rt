@@ -1,5 +1,5 @@
 //! The counts of SKIP and LIMIT.
-ghost use Rattle.std.specs.Prelude.{◌≡◌, ◌≢◌, option_map, IfOk, IfErr, Ok, Err};
+ghost use Rattle.std.specs.Prelude.{◌≡◌, ◌≢◌, option_map, IfOk, IfErr, Ok, Err, Some};
 ghost use Rattle.pg_meaning.specs.Projections.{count_of};
 ghost use Rattle.pg_meaning.specs.declared.fault.Fault.TheVariants.{OutOfMemory};
 ghost use Rattle.pg_project.specs.Cuts.{cut_view};
@@ -52,13 +52,30 @@ fn count_at<T: Tables>(
         → count_at (parameters_view parameters.now) graph.now (option_map expression_view count.now)
         ≡ Err e) }
 {
-    let Some(expression) = count else {
-        return Ok(None);
-    };
+    match count {
+        Some(expression) => Ok(Some(count_given(alloc, expression, parameters, graph)?)),
+        None => Ok(None),
+    }
+}
+
+// Apart, so that a projection without SKIP and LIMIT pays for no frame.
+#[inline(never)]
+fn count_given<T: Tables>(
+    alloc: Global,
+    expression: &Expression,
+    parameters: &Parameters,
+    graph: &GraphView<'_, T>,
+) -> Result<u64, Fault>
+    ensures ok { IfOk result (λ n. count_at (parameters_view parameters.now) graph.now
+        (Some (expression_view expression.now)) ≡ Ok (Some n)) }
+    ensures err { IfErr result (λ e. e ≢ OutOfMemory → count_at
+        (parameters_view parameters.now) graph.now (Some (expression_view expression.now))
+        ≡ Err e) }
+{
     let names = Columns::new(alloc);
     let prepared = prepare(alloc, expression, &names)?;
     let value = evaluate(alloc, &prepared, &names, &[], parameters, graph)?;
-    Ok(Some(count_of(&value)?))
+    count_of(&value)
 }
 
 fn count_of(value: &Value) -> Result<u64, Fault>

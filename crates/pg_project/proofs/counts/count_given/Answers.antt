@@ -1,6 +1,6 @@
 use Rattle.std.proofs.lemmas.Result.{IfOk-from_err}
 use Rattle.pg_project.proofs.ExitLemmas.{memory_passed}
-use Rattle.pg_project.proofs.counts.count_at.Goals as goal
+use Rattle.pg_project.proofs.counts.count_given.Goals as goal
 
 pub returns-in_err-prepared-clause-ok : goal.returns-in_err-prepared-clause-ok
 returns-in_err-prepared-clause-ok g c = IfOk-from_err c.from_residual.result _ c.from_residual.ensures.0
@@ -10,9 +10,3 @@ returns-in_err-prepared-clause-err g c = memory_passed _ c.from_residual.result 
 
 pub returns-in_err-value-clause-ok : goal.returns-in_err-value-clause-ok
 returns-in_err-value-clause-ok g c = IfOk-from_err c.from_residual-in_err-value.result _ c.from_residual-in_err-value.ensures.0
-
-pub returns-in_err-count_of-clause-ok : goal.returns-in_err-count_of-clause-ok
-returns-in_err-count_of-clause-ok g c = IfOk-from_err c.from_residual-in_err-count_of.result _ c.from_residual-in_err-count_of.ensures.0
-
-pub returns-clause-err : goal.returns-clause-err
-returns-clause-err g c = tt

@@ -1,4 +1,5 @@
 -- What has properties, by what it is.
+use Rattle.std.specs.declared.rc.Rc.{Rc}
 use Rattle.std.proofs.Common.{◌≡◌, ℕ, Bool, true, false, List, BTreeMap, String, Global, Result, Ok, Err, IfOk, IfErr, refl, sym, ap, subst, ◌∙◌}
 use Rattle.pg_expr.specs.Elements.{element_properties, properties_given, keys_given, node_at_end}
 use Rattle.pg_meaning.specs.Answer.{Answer, ◌>>=◌}
@@ -21,21 +22,21 @@ use Rattle.pg_value_core.specs.declared.value.Value.TheVariants.{Null, Map, Node
 use Rattle.pg_value_core.specs.declared.value.Value.TheViews.{out-Value, roll-Value, roll-out-Value, rolls-Null, rolls-Map, rolls-Node, rolls-Rel}
 
 module _ (g : Graph) (v : Value) where
-  element_part : (part : Value-F Value) → roll-Value part ≡ v → ((m : BTreeMap (String Global) Value) → v ≡ Map m → ⊥) → properties_of g (view v) ≡ element_properties g (view v)
+  element_part : (part : Value-F Value) → roll-Value part ≡ v → ((m : Rc (BTreeMap (String Global) Value) Global) → v ≡ Map m → ⊥) → properties_of g (view v) ≡ element_properties g (view v)
   element_part (Value-F.Map m) same none = absurd (none m (sym same ∙ rolls-Map m))
   element_part part same none = subst (λ u. properties_of g u ≡ element_properties g u) (sym (fold-roll-Value Datum view_step part) ∙ ap view same) refl
 
-  pub of_element : ((m : BTreeMap (String Global) Value) → v ≡ Map m → ⊥) → properties_of g (view v) ≡ element_properties g (view v)
+  pub of_element : ((m : Rc (BTreeMap (String Global) Value) Global) → v ≡ Map m → ⊥) → properties_of g (view v) ≡ element_properties g (view v)
   of_element none = element_part (out-Value v) (roll-out-Value v) none
 
-  pub map_keys : (m : BTreeMap (String Global) Value) → v ≡ Map m → keys_given g (view v) ≡ Ok (texts (keys_of (entries_view m.entries)))
+  pub map_keys : (m : Rc (BTreeMap (String Global) Value) Global) → v ≡ Map m → keys_given g (view v) ≡ Ok (texts (keys_of (entries_view m.value.entries)))
   map_keys m is = ap (keys_given g) (map_seen m is)
 
   module _ (d : Datum) (is : view v ≡ d) where
-    pub map_properties : (m : BTreeMap (String Global) Value) → v ≡ Map m → properties_given g d ≡ Ok d
+    pub map_properties : (m : Rc (BTreeMap (String Global) Value) Global) → v ≡ Map m → properties_given g d ≡ Ok d
     map_properties m h = subst (λ u. properties_given g u ≡ Ok u) (sym (map_seen m h) ∙ is) refl
 
-    pub element_given : ((m : BTreeMap (String Global) Value) → v ≡ Map m → ⊥) → properties_given g d ≡ (element_properties g (view v) >>= λ es. Ok (mapping es))
+    pub element_given : ((m : Rc (BTreeMap (String Global) Value) Global) → v ≡ Map m → ⊥) → properties_given g d ≡ (element_properties g (view v) >>= λ es. Ok (mapping es))
     element_given none = ap (properties_given g) (sym is) ∙ ap (λ r. r >>= λ es. Ok (mapping es)) (of_element none)
 
 pub keys_told : {answer : Answer} (ts : Datum) (result : Result Value Fault) → IfOk result (λ u. view u ≡ ts) → IfErr result (λ e. e ≡ OutOfMemory) → answer ≡ Ok ts → Gives result answer view
@@ -43,7 +44,7 @@ keys_told ts (Ok u) h k same = record { ok = same ∙ ap Ok (sym h); err = tt }
 keys_told ts (Err e) h k same = record { ok = tt; err = λ other. absurd (other k) }
 
 -- what is null, a map, a node or a relationship has properties, and no other value has
-module _ (g : Graph) (k : List ℕ) (v : Value) (some : v ≡ Null → ⊥) (map : (m : BTreeMap (String Global) Value) → v ≡ Map m → ⊥) (node : (n : NodeId) → v ≡ Node n → ⊥) (rel : (r : RelId) → v ≡ Rel r → ⊥) where
+module _ (g : Graph) (k : List ℕ) (v : Value) (some : v ≡ Null → ⊥) (map : (m : Rc (BTreeMap (String Global) Value) Global) → v ≡ Map m → ⊥) (node : (n : NodeId) → v ≡ Node n → ⊥) (rel : (r : RelId) → v ≡ Rel r → ⊥) where
   no_part : (part : Value-F Value) → roll-Value part ≡ v → property_of g (view v) k ≡ Err TypeFault
   no_part Value-F.Null same = absurd (some (sym same ∙ rolls-Null))
   no_part (Value-F.Map m) same = absurd (map m (sym same ∙ rolls-Map m))

@@ -4,12 +4,12 @@ use Rattle.std.proofs.lemmas.List.{map-append, take_more, take_all}
 use Rattle.std.specs.declared.alloc.Global.{Global}
 use Rattle.pg_meaning.specs.Functions.{texts}
 use Rattle.pg_meaning.specs.Value.{Value as Datum, text, list, values_of}
-use Rattle.pg_value_core.specs.View.{view, view_step}
+use Rattle.pg_value_core.specs.View.{view, view_step, values_view}
 use Rattle.pg_value_core.specs.declared.value.Value.{Value}
 use Rattle.pg_value_core.specs.declared.value.Value.TheFolds.{fold-roll-Value}
 use Rattle.pg_value_core.specs.declared.value.Value.TheOpen.{Value-F}
-use Rattle.pg_value_core.specs.declared.value.Value.TheVariants.{Text, List as Listed}
-use Rattle.pg_value_core.specs.declared.value.Value.TheViews.{rolls-Text, rolls-List}
+use Rattle.pg_value_core.specs.declared.value.Value.TheVariants.{Text}
+use Rattle.pg_value_core.specs.declared.value.Value.TheViews.{rolls-Text}
 
 abbrev pub texts_of : List (Bor (List ℕ)) → List Datum
 texts_of ts = map text (map (λ t. t.now) ts)
@@ -29,8 +29,6 @@ module _ (values : List Value) (ts : List (Bor (List ℕ))) (i : ℕ) (so_far : 
       ∙ sym (texts_pushed (take i ts) (get_or ts i d))
       ∙ ap texts_of (sym (take_more ts i d within))
 
-pub all_copied : (values : Vec Value Global) (ts all : List (Bor (List ℕ))) (same : ts ≡ all) (i : ℕ) → map view values.items ≡ texts_of (take i ts) → length ts ≤ i → view (Listed values) ≡ texts (map (λ t. t.now) all)
+pub all_copied : (values : Vec Value Global) (ts all : List (Bor (List ℕ))) (same : ts ≡ all) (i : ℕ) → map view values.items ≡ texts_of (take i ts) → length ts ≤ i → list (values_view values.items) ≡ texts (map (λ t. t.now) all)
 all_copied values ts all same i so_far past =
-    ap view (sym (rolls-List values))
-    ∙ fold-roll-Value Datum view_step (Value-F.List values)
-    ∙ ap (λ ds. list (values_of ds)) (so_far ∙ ap texts_of (take_all i ts past ∙ same))
+    ap (λ ds. list (values_of ds)) (so_far ∙ ap texts_of (take_all i ts past ∙ same))

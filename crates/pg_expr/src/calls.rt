@@ -169,8 +169,8 @@ fn at_one<'a, T: Tables>(
 {
     match function {
         Function::Properties => properties(alloc, graph, argument),
-        Function::Head => end_item(argument, false),
-        Function::Last => end_item(argument, true),
+        Function::Head => end_item(alloc, argument, false),
+        Function::Last => end_item(alloc, argument, true),
         Function::Coalesce => Ok(argument),
         Function::ToString => to_text(alloc, argument),
         _ => Ok(ValueRef::Made(at_look(alloc, graph, function, argument.look())?)),
@@ -224,30 +224,34 @@ fn to_text<'a>(alloc: Global, argument: ValueRef<'a>) -> Result<ValueRef<'a>, Fa
     Ok(ValueRef::Made(values::to_text(alloc, value)?))
 }
 
-/// The first item of a list, or its last.
+/// The first item of a list, or its last, which is copied where the list was made.
 #[inline(never)]
-fn end_item<'a>(argument: ValueRef<'a>, is_last: bool) -> Result<ValueRef<'a>, Fault>
+fn end_item<'a>(alloc: Global, argument: ValueRef<'a>, is_last: bool) -> Result<ValueRef<'a>, Fault>
     ensures ok { IfOk result
         (λ f. item_at_end is_last (found_view argument.entry) ≡ Ok (found_view f)) }
-    ensures err { IfErr result (λ e. item_at_end is_last (found_view argument.entry) ≡ Err e) }
+    ensures err { IfErr result (λ e. e ≢ OutOfMemory
+        → item_at_end is_last (found_view argument.entry) ≡ Err e) }
 {
     match argument {
-        ValueRef::Lent(Value::List(items)) => {
-            if is_last {
-                Ok(last_item(items))
-            } else {
-                Ok(item_at(items, 0))
-            }
-        }
-        ValueRef::Lent(_) => Err(Fault::TypeFault),
+        ValueRef::Lent(value) => end_item_lent(value, is_last),
         ValueRef::Made(value) => {
-            let item = if is_last {
-                values::last(value)?
-            } else {
-                values::head(value)?
-            };
-            Ok(ValueRef::Made(item))
+            let found = end_item_lent(&value, is_last)?;
+            Ok(ValueRef::Made(found.take(alloc)?))
         }
+    }
+}
+
+fn end_item_lent<'a>(value: &'a Value, is_last: bool) -> Result<ValueRef<'a>, Fault>
+    ensures ok { IfOk result (λ f. item_at_end is_last (view value.now) ≡ Ok (found_view f)) }
+    ensures err { IfErr result (λ e. item_at_end is_last (view value.now) ≡ Err e) }
+{
+    let Value::List(items) = value else {
+        return Err(Fault::TypeFault);
+    };
+    if is_last {
+        Ok(last_item(items.as_ref()))
+    } else {
+        Ok(item_at(items.as_ref(), 0))
     }
 }
 

@@ -66,7 +66,7 @@ fn text_list(alloc: Global, all: &Vec<&str>) -> Result<Value, AllocError>
     for bytes in all {
         values.push(Value::Text(String::from_str(alloc, bytes)?))?;
     }
-    Ok(Value::List(values))
+    Value::list(values)
 }
 
 /// The type of a relationship.
@@ -150,7 +150,10 @@ pub(crate) fn properties<'a, T: Tables>(
 {
     match found.look() {
         Value::Map(_) => Ok(found),
-        v => Ok(ValueRef::Made(Value::Map(element_properties(alloc, graph, v)?))),
+        v => {
+            let entries = element_properties(alloc, graph, v)?;
+            Ok(ValueRef::Made(Value::map(alloc, entries)?))
+        }
     }
 }
 
@@ -165,7 +168,7 @@ pub(crate) fn keys<T: Tables>(
     ensures err { IfErr result (λ e. e ≢ OutOfMemory → keys_given graph.now (view v.now) ≡ Err e) }
 {
     match v {
-        Value::Map(entries) => keys_of(alloc, entries),
+        Value::Map(entries) => keys_of(alloc, entries.as_ref()),
         _ => keys_of(alloc, &element_properties(alloc, graph, v)?),
     }
 }

@@ -278,7 +278,7 @@ fn mapping<'a, T: Tables>(
         let next = find(context, graph, value)?;
         entries = put(context.alloc, entries, key, next)?;
     }
-    made(ValueRef::Made(Value::Map(entries)))
+    made(ValueRef::Made(Value::map(context.alloc, entries)?))
 }
 
 #[cycle(find)]
@@ -513,7 +513,7 @@ fn read<'a, T: Tables>(
     let mut found = find(context, graph, inner)?;
     for suffix in suffixes {
         found = match suffix {
-            Suffix::Property(key) => property(graph, found, key.text.as_str())?,
+            Suffix::Property(key) => property(context.alloc, graph, found, key.text.as_str())?,
             Suffix::Index(place) => index(
                 context.alloc,
                 graph,

@@ -45,7 +45,7 @@ pub(crate) fn list_of<'a>(
         return Err(Fault::ValueTooLarge);
     }
     let items = take_all(alloc, found)?;
-    Ok(ValueRef::Made(Value::List(items)))
+    Ok(ValueRef::Made(Value::list(items)?))
 }
 
 fn are_within_limits(found: &Vec<ValueRef<'_>>) -> bool

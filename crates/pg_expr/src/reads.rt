@@ -8,8 +8,7 @@ ghost use Rattle.pg_meaning.specs.Names.{is_among};
 ghost use Rattle.pg_meaning.specs.Entries.{value_at};
 ghost use Rattle.pg_meaning.specs.Expressions.{property_of, indexed, item_of, labelled};
 ghost use Rattle.pg_meaning.specs.Functions.{item_at};
-ghost use Rattle.pg_meaning.specs.Graph.{Graph};
-ghost use Rattle.pg_meaning.specs.Value.{integer, node, relationship};
+ghost use Rattle.pg_meaning.specs.Value.{node, relationship};
 ghost use Rattle.pg_meaning.specs.declared.fault.Fault.TheVariants.{OutOfMemory};
 ghost use Rattle.pg_syntax_tree.specs.View.{names_view};
 ghost use Rattle.pg_value_core.specs.View.{view, values_view, entries_view};
@@ -17,7 +16,6 @@ ghost use Rattle.pg_value_core.specs.View.{view, values_view, entries_view};
 use crate::atoms::held;
 use crate::row_context::RowContext;
 use crate::value_ref::{ValueRef, lent_or_null, null};
-use pg_expr_calls::{item_of, value_at};
 use pg_graph::Tables;
 use pg_meaning::Fault;
 use pg_store::{GraphView, NodeView};
@@ -25,6 +23,7 @@ use pg_syntax_tree::Name;
 use pg_value_core::{NodeId, Parts, RelId, Value};
 use std::alloc::Global;
 use std::collections::BTreeMap;
+use std::rc::Rc;
 
 fn node_property<'a, T: Tables>(
     graph: &GraphView<'a, T>,
@@ -56,27 +55,28 @@ fn relationship_property<'a, T: Tables>(
 }
 
 /// What stands under a key, and null where nothing does.
-fn entry<'a>(entries: &'a BTreeMap<String, Value>, key: &str) -> ValueRef<'a>
-    ensures { found_view result ≡ value_at key.now (entries_view entries.now.entries) }
+fn entry<'a>(map: &'a Rc<BTreeMap<String, Value>>, key: &str) -> ValueRef<'a>
+    ensures { found_view result ≡ value_at key.now (entries_view map.now.value.entries) }
 {
-    lent_or_null(entries.get(key))
+    lent_or_null(map.as_ref().get(key))
 }
 
 /// `v.key`.
 #[inline(never)]
 pub(crate) fn property<'a, T: Tables>(
+    alloc: Global,
     graph: &GraphView<'a, T>,
     value: ValueRef<'a>,
     key: &str,
 ) -> Result<ValueRef<'a>, Fault>
     ensures ok { IfOk result
         (λ f. property_of graph.now (found_view value.entry) key.now ≡ Ok (found_view f)) }
-    ensures err { IfErr result
-        (λ e. property_of graph.now (found_view value.entry) key.now ≡ Err e) }
+    ensures err { IfErr result (λ e. e ≢ OutOfMemory
+        → property_of graph.now (found_view value.entry) key.now ≡ Err e) }
 {
     match value {
         ValueRef::Lent(value) => property_lent(graph, value, key),
-        ValueRef::Made(value) => property_made(graph, value, key),
+        ValueRef::Made(value) => property_made(alloc, graph, value, key),
     }
 }
 
@@ -119,19 +119,24 @@ pub(crate) fn variable_property<'a, T: Tables>(
     }
 }
 
-/// What stands in a map that was made moves out of it.
+/// What stands in a map that was made is copied out of it.
 #[inline(never)]
 fn property_made<'a, T: Tables>(
+    alloc: Global,
     graph: &GraphView<'a, T>,
     value: Value,
     key: &str,
 ) -> Result<ValueRef<'a>, Fault>
     ensures ok { IfOk result (λ f. property_of graph.now (view value) key.now ≡ Ok (found_view f)) }
-    ensures err { IfErr result (λ e. property_of graph.now (view value) key.now ≡ Err e) }
+    ensures err { IfErr result (λ e. e ≢ OutOfMemory
+        → property_of graph.now (view value) key.now ≡ Err e) }
 {
     match value.into_parts() {
         Parts::Null => Ok(null()),
-        Parts::Map(entries) => Ok(ValueRef::Made(value_at(entries, key))),
+        Parts::Map(entries) => {
+            let found = entry(&entries, key);
+            Ok(ValueRef::Made(found.take(alloc)?))
+        }
         Parts::Node(id) => node_property(graph, id, key),
         Parts::Rel(id) => relationship_property(graph, id, key),
         _ => Err(Fault::TypeFault),
@@ -169,7 +174,7 @@ fn index_lent<'a, T: Tables>(
 {
     match (value, place) {
         (Value::Null, _) | (_, Value::Null) => Ok(null()),
-        (Value::List(items), Value::Int(at)) => Ok(item_lent(items, *at)),
+        (Value::List(items), Value::Int(at)) => Ok(item_lent(items.as_ref(), *at)),
         (Value::Map(entries), Value::Text(key)) => Ok(entry(entries, key.as_str())),
         (Value::Node(id), Value::Text(key)) => node_property(graph, *id, key.as_str()),
         (Value::Rel(id), Value::Text(key)) => relationship_property(graph, *id, key.as_str()),
@@ -203,7 +208,7 @@ fn item_lent<'a>(items: &'a Vec<Value>, place: i64) -> ValueRef<'a>
     item_at(items, items.len() - back)
 }
 
-/// What stands in a list that was made moves out of it, and is copied out of any other value.
+/// What stands in a value that was made is copied out of it.
 fn index_made<'a, T: Tables>(
     alloc: Global,
     graph: &GraphView<'a, T>,
@@ -215,23 +220,8 @@ fn index_made<'a, T: Tables>(
     ensures err { IfErr result (λ e. e ≢ OutOfMemory
         → indexed graph.now (view value) (view place.now) ≡ Err e) }
 {
-    if let Value::Int(at) = place {
-        return item_made(value, *at);
-    }
     let found = index_lent(graph, &value, place)?;
     Ok(ValueRef::Made(found.take(alloc)?))
-}
-
-fn item_made<'a>(value: Value, place: i64) -> Result<ValueRef<'a>, Fault>
-    ensures ok { (g : Graph)
-        → IfOk result (λ f. indexed g (view value) (integer place) ≡ Ok (found_view f)) }
-    ensures err { (g : Graph) → IfErr result (λ e. indexed g (view value) (integer place) ≡ Err e) }
-{
-    match value.into_parts() {
-        Parts::Null => Ok(null()),
-        Parts::List(items) => Ok(ValueRef::Made(item_of(items, place))),
-        _ => Err(Fault::TypeFault),
-    }
 }
 
 /// Whether there are all the labels, and the value itself where none is asked for.

@@ -120,7 +120,7 @@ pub(crate) fn variable_item<'a>(context: &RowContext<'a>, name: &Name, place: us
         (given_item context.now g (string_bytes name.now.text) place) }
 {
     match held(context, name.text.as_str()) {
-        Some(Value::List(items)) => item_at(items, place),
+        Some(Value::List(items)) => item_at(items.as_ref(), place),
         _ => Scalar::Untold,
     }
 }

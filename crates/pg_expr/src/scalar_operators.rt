@@ -295,7 +295,7 @@ fn lent_sized<'a, T: Tables>(graph: &GraphView<'_, T>, value: &Value) -> Scalar<
 {
     let _ = graph;
     match value {
-        Value::List(items) => listed(items),
+        Value::List(items) => listed(items.as_ref()),
         _ => Scalar::Untold,
     }
 }

@@ -1,9 +1,8 @@
 //! The functions of one value, which is neither null nor deleted.
 
-ghost use Rattle.std.specs.Prelude.{◌≡◌, ◌≢◌, ◌<◌, ◌≤◌, ◌^◌, ◌-◌, IfOk, IfErr, Ok, Err, pos, length, count_by, string_bytes};
+ghost use Rattle.std.specs.Prelude.{◌≡◌, ◌≢◌, ◌<◌, ◌≤◌, ◌^◌, IfOk, IfErr, Ok, Err, pos, length, count_by, string_bytes};
 ghost use Rattle.pg_meaning.specs.Answer.{Answer};
-ghost use Rattle.pg_meaning.specs.Expressions.{item_of};
-ghost use Rattle.pg_meaning.specs.Functions.{size_of, length_of, head_of, last_of, string_of, integer_of, integer_in, absolute_of, is_first_byte, item_at, digits_of, item_count, path_relationships};
+ghost use Rattle.pg_meaning.specs.Functions.{size_of, length_of, string_of, integer_of, integer_in, absolute_of, is_first_byte, digits_of, item_count, path_relationships};
 ghost use Rattle.pg_meaning.specs.Value.{integer, null, text};
 ghost use Rattle.pg_meaning.specs.declared.fault.Fault.TheVariants.{OutOfMemory};
 ghost use Rattle.pg_value_core.specs.View.{view, values_view};
@@ -19,7 +18,7 @@ pub fn size(v: &Value) -> Result<Value, Fault>
     ensures err { IfErr result (λ e. size_of (view v.now) ≡ Err e) }
 {
     match v {
-        Value::List(items) => Ok(count_items(items)),
+        Value::List(items) => Ok(count_items(items.as_ref())),
         Value::Text(text) => Ok(count(characters(text.as_bytes()))),
         _ => Err(Fault::TypeFault),
     }
@@ -69,65 +68,6 @@ fn count_relationships(ids: &[u64]) -> Value
     ensures { view result ≡ integer (pos (item_count (path_relationships ids.now))) }
 {
     count(ids.len() / 2)
-}
-
-/// The first item of a list.
-pub fn head(v: Value) -> Result<Value, Fault>
-    ensures ok { IfOk result (λ u. head_of (view v) ≡ Ok (view u)) }
-    ensures err { IfErr result (λ e. head_of (view v) ≡ Err e) }
-{
-    match v.into_parts() {
-        Parts::List(items) => Ok(item_at(items, 0)),
-        _ => Err(Fault::TypeFault),
-    }
-}
-
-/// The last item of a list.
-pub fn last(v: Value) -> Result<Value, Fault>
-    ensures ok { IfOk result (λ u. last_of (view v) ≡ Ok (view u)) }
-    ensures err { IfErr result (λ e. last_of (view v) ≡ Err e) }
-{
-    match v.into_parts() {
-        Parts::List(items) => Ok(last_item(items)),
-        _ => Err(Fault::TypeFault),
-    }
-}
-
-#[tactic(auto, using(crate::proofs::Counts::counts))]
-fn last_item(items: Vec<Value>) -> Value
-    ensures { view result
-        ≡ item_at (item_count (values_view items.items) - 1) (values_view items.items) }
-{
-    let place = items.len().saturating_sub(1);
-    item_at(items, place)
-}
-
-/// The item at a place, which moves out, and null past the end.
-#[tactic(auto, using(crate::proofs::Counts::reads))]
-pub(crate) fn item_at(mut items: Vec<Value>, place: usize) -> Value
-    ensures { view result ≡ item_at place (values_view items.items) }
-{
-    if place < items.len() {
-        items.swap_remove(place)
-    } else {
-        null()
-    }
-}
-
-/// The item at a place, counted from the end where it is negative, which moves out, and null past an end.
-#[tactic(auto, using(crate::proofs::Counts::places))]
-pub fn item_of(items: Vec<Value>, place: i64) -> Value
-    ensures { view result ≡ item_of (values_view items.items) place }
-{
-    if place >= 0 {
-        return item_at(items, place as usize);
-    }
-    let back = place.unsigned_abs() as usize;
-    if back > items.len() {
-        return null();
-    }
-    let from_start = items.len() - back;
-    item_at(items, from_start)
 }
 
 pub(crate) fn null() -> Value

@@ -10,7 +10,8 @@ ghost use Rattle.pg_value_core.specs.View.{view, values_view};
 
 use crate::limits::made;
 use pg_meaning::Fault;
-use pg_value_core::{Parts, Value};
+use pg_value_core::{Parts, Value, owned_items};
+use std::rc::Rc;
 
 /// `v + w`.
 pub fn plus(v: Value, w: Value) -> Result<Value, Fault>
@@ -62,10 +63,10 @@ fn text_plus(mut s: String, w: Value) -> Result<Value, Fault>
     }
 }
 
-fn list_plus(xs: Vec<Value>, w: Value) -> Result<Value, Fault>
-    ensures ok { IfOk result (λ u. plus (list (values_view xs.items)) (view w) ≡ Ok (view u)) }
+fn list_plus(xs: Rc<Vec<Value>>, w: Value) -> Result<Value, Fault>
+    ensures ok { IfOk result (λ u. plus (list (values_view xs.value.items)) (view w) ≡ Ok (view u)) }
     ensures err { IfErr result (λ e. e ≢ OutOfMemory
-        → plus (list (values_view xs.items)) (view w) ≡ Err e) }
+        → plus (list (values_view xs.value.items)) (view w) ≡ Err e) }
 {
     match w.into_parts() {
         Parts::Null => Ok(Value::Null),
@@ -87,39 +88,47 @@ fn other_plus(v: Value, w: Value) -> Result<Value, Fault>
     }
 }
 
-fn join_lists(mut xs: Vec<Value>, mut ys: Vec<Value>) -> Result<Value, Fault>
-    ensures ok { IfOk result
-        (λ u. made (list (appended (values_view xs.items) (values_view ys.items))) ≡ Ok (view u)) }
-    ensures err { IfErr result (λ e. e ≢ OutOfMemory
-        → made (list (appended (values_view xs.items) (values_view ys.items))) ≡ Err e) }
-{
-    xs.append(&mut ys)?;
-    made_list(xs)
-}
-
-fn append(mut xs: Vec<Value>, w: Value) -> Result<Value, Fault>
+fn join_lists(xs: Rc<Vec<Value>>, ys: Rc<Vec<Value>>) -> Result<Value, Fault>
     ensures ok { IfOk result (λ u.
-        made (list (appended (values_view xs.items) (item (view w) no_items))) ≡ Ok (view u)) }
+        made (list (appended (values_view xs.value.items) (values_view ys.value.items)))
+        ≡ Ok (view u)) }
     ensures err { IfErr result (λ e. e ≢ OutOfMemory
-        → made (list (appended (values_view xs.items) (item (view w) no_items))) ≡ Err e) }
+        → made (list (appended (values_view xs.value.items) (values_view ys.value.items)))
+        ≡ Err e) }
 {
-    xs.push(w)?;
-    made_list(xs)
+    let mut items = owned_items(xs)?;
+    let mut behind = owned_items(ys)?;
+    items.append(&mut behind)?;
+    made_list(items)
 }
 
-fn prepend(v: Value, mut ys: Vec<Value>) -> Result<Value, Fault>
-    ensures ok { IfOk result
-        (λ u. made (list (item (view v) (values_view ys.items))) ≡ Ok (view u)) }
+fn append(xs: Rc<Vec<Value>>, w: Value) -> Result<Value, Fault>
+    ensures ok { IfOk result (λ u.
+        made (list (appended (values_view xs.value.items) (item (view w) no_items)))
+        ≡ Ok (view u)) }
     ensures err { IfErr result (λ e. e ≢ OutOfMemory
-        → made (list (item (view v) (values_view ys.items))) ≡ Err e) }
+        → made (list (appended (values_view xs.value.items) (item (view w) no_items))) ≡ Err e) }
 {
-    ys.insert(0, v)?;
-    made_list(ys)
+    let mut items = owned_items(xs)?;
+    items.push(w)?;
+    made_list(items)
+}
+
+fn prepend(v: Value, ys: Rc<Vec<Value>>) -> Result<Value, Fault>
+    ensures ok { IfOk result
+        (λ u. made (list (item (view v) (values_view ys.value.items))) ≡ Ok (view u)) }
+    ensures err { IfErr result (λ e. e ≢ OutOfMemory
+        → made (list (item (view v) (values_view ys.value.items))) ≡ Err e) }
+{
+    let mut items = owned_items(ys)?;
+    items.insert(0, v)?;
+    made_list(items)
 }
 
 fn made_list(items: Vec<Value>) -> Result<Value, Fault>
     ensures ok { IfOk result (λ u. made (list (values_view items.items)) ≡ Ok (view u)) }
-    ensures err { IfErr result (λ e. made (list (values_view items.items)) ≡ Err e) }
+    ensures err { IfErr result (λ e. e ≢ OutOfMemory
+        → made (list (values_view items.items)) ≡ Err e) }
 {
-    made(Value::List(items))
+    made(Value::list(items)?)
 }

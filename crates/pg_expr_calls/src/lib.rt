@@ -1,7 +1,6 @@
 //! What the operators, the tests and the functions of the query language give at values.
 #![tactic(auto)]
 
-mod access;
 mod arithmetic;
 mod chains;
 mod functions;
@@ -11,10 +10,9 @@ mod parts;
 mod ranges;
 mod texts;
 
-pub use access::value_at;
 pub use arithmetic::{divide, minus, modulo, negative, positive, times};
 pub use chains::{compared, conjunction, disjunction, exclusive};
-pub use functions::{absolute, head, item_of, last, length, size, to_integer, to_text};
+pub use functions::{absolute, length, size, to_integer, to_text};
 pub use joined::{plus, sum};
 pub use limits::{is_within_limits, made};
 pub use parts::{keys, nodes, relationships};

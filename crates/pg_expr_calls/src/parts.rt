@@ -17,7 +17,7 @@ use std::collections::BTreeMap;
 pub fn keys(alloc: Global, entries: &BTreeMap<String, Value>) -> Result<Value, AllocError>
     ensures { IfOk result (λ u. view u ≡ texts (keys_of (entries_view entries.now.entries))) }
 {
-    Ok(Value::List(key_texts(alloc, entries)?))
+    Value::list(key_texts(alloc, entries)?)
 }
 
 #[tactic(auto, using(crate::proofs::Joins::none_more))]
@@ -67,7 +67,7 @@ pub fn nodes(alloc: Global, v: &Value) -> Result<Value, Fault>
     ensures err { IfErr result (λ e. e ≢ OutOfMemory → nodes_of (view v.now) ≡ Err e) }
 {
     match v {
-        Value::Path(path) => Ok(Value::List(path_nodes(alloc, path.0.as_slice())?)),
+        Value::Path(path) => Ok(Value::list(path_nodes(alloc, path.0.as_slice())?)?),
         _ => Err(Fault::TypeFault),
     }
 }
@@ -94,7 +94,7 @@ pub fn relationships(alloc: Global, v: &Value) -> Result<Value, Fault>
     ensures err { IfErr result (λ e. e ≢ OutOfMemory → relationships_of (view v.now) ≡ Err e) }
 {
     match v {
-        Value::Path(path) => Ok(Value::List(path_relationships(alloc, path.0.as_slice())?)),
+        Value::Path(path) => Ok(Value::list(path_relationships(alloc, path.0.as_slice())?)?),
         _ => Err(Fault::TypeFault),
     }
 }

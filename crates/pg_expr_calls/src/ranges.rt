@@ -52,7 +52,7 @@ pub fn range(alloc: Global, start: i64, end: i64, step: i64) -> Result<Value, Fa
 {
     let count = range_length(start, end, step)?;
     let items = integers_from(alloc, count, start, step)?;
-    Ok(Value::List(items))
+    Ok(Value::list(items)?)
 }
 
 /// What `size` gives at what `range` would give, which isn't made.

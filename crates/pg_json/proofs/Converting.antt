@@ -1,5 +1,5 @@
 -- The values of lists and members, as far as they are converted.
-use Rattle.std.proofs.Common.{◌≡◌, Bool, ◌≢◌, ◌≤◌, ◌-◌, ℕ, drop, length, List, [], ◌∷◌, ◌++◌, Option, Some, None, option_map, option_and_then, Less, Greater, Vec, BTreeMap, String, Global, rules, arith, lt-ltb, string_bytes, string_cmp, refl, sym, ap, ◌∙◌}
+use Rattle.std.proofs.Common.{◌≡◌, Bool, ◌≢◌, ◌≤◌, ◌-◌, ℕ, drop, length, List, [], ◌∷◌, ◌++◌, Option, Some, None, option_map, option_and_then, Less, Greater, Vec, String, Global, rules, arith, lt-ltb, string_bytes, string_cmp, refl, sym, ap, ◌∙◌}
 use Rattle.std.proofs.lemmas.Cmp.{nat_list_cmp_total}
 use Rattle.std.proofs.lemmas.List.{drop_all}
 use Rattle.std.specs.List.{AllByRecursion}
@@ -8,14 +8,14 @@ use Rattle.std.specs.Map.{keys_of}
 use Rattle.std.specs.Ordering.{ordering_reverse}
 use Rattle.serde_json.specs.View.{view as data_view, items_view, members_view}
 use Rattle.serde_json.specs.Data as json
-use Rattle.serde_json.specs.declared.value.Value.{Value as Data, Null as DataNull, Bool as DataBool, String as DataString, Array, Object, the_lemmas as data_lemmas}
+use Rattle.serde_json.specs.declared.value.Value.{Value as Data, Null as DataNull, Bool as DataBool, String as DataString, Array, the_lemmas as data_lemmas}
 use Rattle.serde_json.proofs.Views.{Entry}
 use Rattle.pg_meaning.specs.Entries.{with_entry}
 use Rattle.pg_meaning.specs.Order.{text_order}
-use Rattle.pg_meaning.specs.Value.{Value as Datum, Values, no_items, item, Entries, entry, null, boolean, text, list, mapping}
+use Rattle.pg_meaning.specs.Value.{Value as Datum, Values, no_items, item, Entries, entry, null, boolean, text, list}
 use Rattle.pg_json.specs.Given.{value_within, values_within, entries_within, if_room}
-use Rattle.pg_value_core.specs.View.{view, values_view, entries_view}
-use Rattle.pg_value_core.specs.declared.value.Value.{Value, Null as NullValue, Bool as BoolValue, Text as TextValue, List as ListValue, Map as MapValue, the_lemmas}
+use Rattle.pg_value_core.specs.View.{view, values_view}
+use Rattle.pg_value_core.specs.declared.value.Value.{Value, Null as NullValue, Bool as BoolValue, Text as TextValue, the_lemmas}
 
 -- ---- lists
 
@@ -92,22 +92,13 @@ one_more_entry n (first ∷ done) e more es v sorted h g =
     let placed : with_entry (string_bytes e.0) v (entry (string_bytes first.0) parts.0 parts.2) ≡ entry (string_bytes first.0) parts.0 (with_entry (string_bytes e.0) v parts.2) = rw above refl in
     rw (parts.1, later) (ap Some (sym placed ∙ ap (with_entry (string_bytes e.0) v) parts.4))
 
--- ---- a list and a map
+-- ---- values of each kind
 
 has_room : {A : Type 0} (n : ℕ) (o : Option A) → n ≢ 0 → if_room n o ≡ o
 has_room n o some = rw (lt-ltb 0 n (omega arith)) refl
 
 data_array : (ds : Vec Data Global) → data_view (Array ds) ≡ json.array (items_view ds.items)
 data_array ds = search (rules, data_lemmas)
-
-data_object : (ms : BTreeMap (String Global) Data) → data_view (Object ms) ≡ json.object (members_view ms.entries)
-data_object ms = search (rules, data_lemmas)
-
-view_list : (vs : Vec Value Global) → view (ListValue vs) ≡ list (values_view vs.items)
-view_list vs = search (rules, the_lemmas)
-
-view_map : (es : BTreeMap (String Global) Value) → view (MapValue es) ≡ mapping (entries_view es.entries)
-view_map es = search (rules, the_lemmas)
 
 pub no_room : (d : json.Data) → value_within 0 d ≡ None
 no_room json.null = refl
@@ -145,14 +136,8 @@ module _ (n : ℕ) (some : n ≢ 0) where
   pub text_within : (given copy : String Global) → string_bytes copy ≡ string_bytes given → value_within n (data_view (DataString given)) ≡ Some (view (TextValue copy))
   text_within given copy same = rw (data_string given, view_text copy) (has_room n (Some (text (string_bytes given))) some ∙ ap (λ bytes. Some (text bytes)) (sym same))
 
-  pub list_within : (ds : Vec Data Global) (vs : Vec Value Global) → values_within (n - 1) (items_view ds.items) ≡ Some (values_view vs.items) → value_within n (data_view (Array ds)) ≡ Some (view (ListValue vs))
-  list_within ds vs h = rw (data_array ds, view_list vs) (has_room n (option_map list (values_within (n - 1) (items_view ds.items))) some ∙ ap (option_map list) h)
+  pub list_within : (ds : Vec Data Global) (vs : List Value) (v : Value) → view v ≡ list (values_view vs) → values_within (n - 1) (items_view ds.items) ≡ Some (values_view vs) → value_within n (data_view (Array ds)) ≡ Some (view v)
+  list_within ds vs v seen h = rw (data_array ds, seen) (has_room n (option_map list (values_within (n - 1) (items_view ds.items))) some ∙ ap (option_map list) h)
 
   pub list_refused : (ds : Vec Data Global) → values_within (n - 1) (items_view ds.items) ≡ None → value_within n (data_view (Array ds)) ≡ None
   list_refused ds h = rw (data_array ds) (has_room n (option_map list (values_within (n - 1) (items_view ds.items))) some ∙ ap (option_map list) h)
-
-  pub map_within : (ms : BTreeMap (String Global) Data) (es : BTreeMap (String Global) Value) → entries_within (n - 1) (members_view ms.entries) ≡ Some (entries_view es.entries) → value_within n (data_view (Object ms)) ≡ Some (view (MapValue es))
-  map_within ms es h = rw (data_object ms, view_map es) (has_room n (option_map mapping (entries_within (n - 1) (members_view ms.entries))) some ∙ ap (option_map mapping) h)
-
-  pub map_refused : (ms : BTreeMap (String Global) Data) → entries_within (n - 1) (members_view ms.entries) ≡ None → value_within n (data_view (Object ms)) ≡ None
-  map_refused ms h = rw (data_object ms) (has_room n (option_map mapping (entries_within (n - 1) (members_view ms.entries))) some ∙ ap (option_map mapping) h)

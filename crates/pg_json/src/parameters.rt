@@ -56,9 +56,12 @@ fn read(alloc: Global, reader: &mut Reader<'_>, room: usize) -> Result<Value, Un
                 let item = read(alloc, reader, room - 1)?;
                 found.push(item)?;
             }
-            Ok(Value::List(found))
+            Ok(Value::list(found)?)
         }
-        Some(Token::BeginObject) => Ok(Value::Map(read_members(alloc, reader, room - 1)?)),
+        Some(Token::BeginObject) => {
+            let entries = read_members(alloc, reader, room - 1)?;
+            Ok(Value::map(alloc, entries)?)
+        }
         Some(token) => scalar(alloc, token),
         None => Err(Unread::Unclear),
     }

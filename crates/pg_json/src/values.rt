@@ -37,9 +37,12 @@ fn value_from(alloc: Global, given: &Data, room: usize) -> Result<Value, Fault>
                 let value = value_from(alloc, item, room - 1)?;
                 values.push(value)?;
             }
-            Ok(Value::List(values))
+            Ok(Value::list(values)?)
         }
-        Data::Object(members) => Ok(Value::Map(entries_from(alloc, members, room - 1)?)),
+        Data::Object(members) => {
+            let entries = entries_from(alloc, members, room - 1)?;
+            Ok(Value::map(alloc, entries)?)
+        }
     }
 }
 

@@ -1,5 +1,5 @@
 //! What is kept of the values that an aggregate has taken in.
-ghost use Rattle.std.specs.Prelude.{◌≡◌, ◌≢◌, ◌+ℤ◌, [], pos, Ok, Err, OnOk, IfErr, map, option_map};
+ghost use Rattle.std.specs.Prelude.{◌≡◌, ◌≢◌, ◌+ℤ◌, [], pos, Ok, Err, IfOk, OnOk, IfErr, map, option_map};
 ghost use Rattle.pg_meaning.specs.Aggregates.{lesser, greater};
 ghost use Rattle.pg_meaning.specs.Value.{integer};
 ghost use Rattle.pg_meaning.specs.declared.fault.Fault.TheVariants.{OutOfMemory};
@@ -12,7 +12,7 @@ use crate::collected::Collected;
 use pg_meaning::Fault;
 use pg_scope::AggregateFunction;
 use pg_value_core::{Value, order};
-use std::alloc::Global;
+use std::alloc::{AllocError, Global};
 use std::mem;
 
 /// A count, a sum, the best value so far, or the values.
@@ -74,17 +74,17 @@ impl Accumulator {
     }
 
     /// What it tells in the end.
-    pub(crate) fn tell(self) -> Value
-        ensures { view result ≡ told (held_view self) }
+    pub(crate) fn tell(self) -> Result<Value, AllocError>
+        ensures { IfOk result (λ v. view v ≡ told (held_view self)) }
     {
         match self {
-            Accumulator::Count(count) => Value::Int(count),
-            Accumulator::Sum(sum) => Value::Int(sum),
+            Accumulator::Count(count) => Ok(Value::Int(count)),
+            Accumulator::Sum(sum) => Ok(Value::Int(sum)),
             Accumulator::Lowest(best) | Accumulator::Highest(best) => match best {
-                Some(value) => value,
-                None => Value::Null,
+                Some(value) => Ok(value),
+                None => Ok(Value::Null),
             },
-            Accumulator::Values(values) => Value::List(values.items),
+            Accumulator::Values(values) => Value::list(values.items),
         }
     }
 }

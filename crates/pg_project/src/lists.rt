@@ -16,7 +16,7 @@ use pg_meaning::Fault;
 use pg_meter::Meter;
 use pg_rows::{Rows, copy_row};
 use pg_store::GraphView;
-use pg_value_core::{Parts, Value};
+use pg_value_core::{Parts, Value, owned_items};
 use std::alloc::{AllocError, Global};
 
 /// The list at each row.
@@ -66,7 +66,7 @@ fn list_at<T: Tables>(
     let value = evaluate_at(context, prepared, graph)?;
     match value.into_parts() {
         Parts::Null => Ok(Vec::new(context.alloc)),
-        Parts::List(items) => Ok(items),
+        Parts::List(items) => Ok(owned_items(items)?),
         _ => Err(Fault::TypeFault),
     }
 }

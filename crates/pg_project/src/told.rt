@@ -54,7 +54,7 @@ fn tell_row(
     let mut keys = key.into_iter();
     for is_aggregate in are_aggregates {
         let value = if *is_aggregate {
-            told_or_null(left.next())
+            told_or_null(left.next())?
         } else {
             or_null(keys.next())
         };
@@ -63,13 +63,13 @@ fn tell_row(
     Ok(())
 }
 
-fn told_or_null(taken: Option<Taken>) -> Value
-    ensures { view result
-        ≡ first_or_null (told_each (option_to_list (option_map taken_view taken))) }
+fn told_or_null(taken: Option<Taken>) -> Result<Value, AllocError>
+    ensures { IfOk result (λ v. view v
+        ≡ first_or_null (told_each (option_to_list (option_map taken_view taken)))) }
 {
     match taken {
         Some(taken) => taken.held.tell(),
-        None => Value::Null,
+        None => Ok(Value::Null),
     }
 }
 

@@ -1,4 +1,5 @@
 -- A value spelt out while there is room, from its parts.
+use Rattle.std.specs.declared.rc.Rc.{Rc}
 use Rattle.std.proofs.Common.{◌≡◌, ◌≢◌, ℕ, ◌+◌, ◌-◌, Bool, ℤ, Vec, BTreeMap, String, Global, Result, Ok, Err, IfOk, IfErr, ap, sym, subst, ◌∙◌, arith}
 use Rattle.serde_json.specs.Data.{Data}
 use Rattle.serde_json.specs.Data as json
@@ -8,6 +9,7 @@ use Rattle.pg_json.specs.Room.{least, items_least, members_least}
 use Rattle.pg_meaning.specs.Graph.{Graph}
 use Rattle.pg_meaning.specs.Queries.{test_entries, test_items, test_output}
 use Rattle.pg_meaning.specs.Value.{Values, Entries}
+use Rattle.pg_meaning.specs.Value as seen
 use Rattle.pg_meaning.specs.declared.fault.Fault.{Fault}
 use Rattle.pg_meaning.specs.declared.fault.Fault.TheVariants.{OutOfMemory}
 use Rattle.pg_run.proofs.ValueLemmas.{null_seen, bool_seen, int_seen, text_seen, list_seen, map_seen, null_shown, bool_shown, int_shown, text_shown}
@@ -46,11 +48,11 @@ module _ (graph : Graph) (v : Value) (old new : ℕ) where
     text_spelt s e left is = shown_within _ _ old new (out.Text s) given (ap (test_output graph) (text_seen v s e)) (text_shown graph v s e) left is
 
   -- by what a list and a map hold
-  pub items_spelt : (items : Vec Value Global) (result : Result Out Fault) → v ≡ value.List items → DataSpelt (test_items graph (values_view items.items)) (json.array (printed_items graph (values_view items.items))) result old new → ValueSpelt graph (view v) result old new
-  items_spelt items result e h = subst (λ w. ValueSpelt graph w result old new) (sym (list_seen v items e)) h
+  pub items_spelt : (list : Rc (Vec Value Global) Global) (items : Vec Value Global) (result : Result Out Fault) → v ≡ value.List list → items ≡ list.value → DataSpelt (test_items graph (values_view items.items)) (json.array (printed_items graph (values_view items.items))) result old new → ValueSpelt graph (view v) result old new
+  items_spelt list items result e same h = subst (λ w. ValueSpelt graph w result old new) (ap (λ vs. seen.list (values_view vs.items)) same ∙ sym (list_seen v list e)) h
 
-  pub entries_spelt : (entries : BTreeMap (String Global) Value) (result : Result Out Fault) → v ≡ value.Map entries → DataSpelt (test_entries graph (entries_view entries.entries)) (json.object (printed_members graph (entries_view entries.entries))) result old new → ValueSpelt graph (view v) result old new
-  entries_spelt entries result e h = subst (λ w. ValueSpelt graph w result old new) (sym (map_seen v entries e)) h
+  pub entries_spelt : (mapping : Rc (BTreeMap (String Global) Value) Global) (entries : BTreeMap (String Global) Value) (result : Result Out Fault) → v ≡ value.Map mapping → entries ≡ mapping.value → DataSpelt (test_entries graph (entries_view entries.entries)) (json.object (printed_members graph (entries_view entries.entries))) result old new → ValueSpelt graph (view v) result old new
+  entries_spelt mapping entries result e same h = subst (λ w. ValueSpelt graph w result old new) (ap (λ es. seen.mapping (entries_view es.entries)) same ∙ sym (map_seen v mapping e)) h
 
 -- a list and a map, within the room
 room_inside : (room less next n : ℕ) → less ≡ room - 1 → next ≡ less - n → next ≡ room - (n + 1)

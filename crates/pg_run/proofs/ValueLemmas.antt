@@ -1,4 +1,5 @@
 -- A value of each kind, as it is seen and spelt out, and the first fault in a list or a map.
+use Rattle.std.specs.declared.rc.Rc.{Rc}
 use Rattle.std.proofs.Common.{◌≡◌, ℕ, List, ◌∷◌, Err, Vec, BTreeMap, String, Global, Bool, ℤ, string_bytes, rules, sym, ap, ◌∙◌}
 use Rattle.serde_json.specs.Data as json
 use Rattle.serde_json.specs.Find.{of_integer}
@@ -35,10 +36,10 @@ view_int i = search (rules, value.the_lemmas)
 view_text : (s : String Global) → view (value.Text s) ≡ seen.text (string_bytes s)
 view_text s = search (rules, value.the_lemmas)
 
-view_list : (items : Vec Value Global) → view (value.List items) ≡ seen.list (values_view items.items)
+view_list : (items : Rc (Vec Value Global) Global) → view (value.List items) ≡ seen.list (values_view items.value.items)
 view_list items = search (rules, value.the_lemmas)
 
-view_map : (entries : BTreeMap (String Global) Value) → view (value.Map entries) ≡ seen.mapping (entries_view entries.entries)
+view_map : (entries : Rc (BTreeMap (String Global) Value) Global) → view (value.Map entries) ≡ seen.mapping (entries_view entries.value.entries)
 view_map entries = search (rules, value.the_lemmas)
 
 view_node : (id : NodeId) → view (value.Node id) ≡ seen.node id.0
@@ -66,10 +67,10 @@ module _ (v : Value) where
   pub text_seen : (s : String Global) → v ≡ value.Text s → view v ≡ seen.text (string_bytes s)
   text_seen s e = ap view e ∙ view_text s
 
-  pub list_seen : (items : Vec Value Global) → v ≡ value.List items → view v ≡ seen.list (values_view items.items)
+  pub list_seen : (items : Rc (Vec Value Global) Global) → v ≡ value.List items → view v ≡ seen.list (values_view items.value.items)
   list_seen items e = ap view e ∙ view_list items
 
-  pub map_seen : (entries : BTreeMap (String Global) Value) → v ≡ value.Map entries → view v ≡ seen.mapping (entries_view entries.entries)
+  pub map_seen : (entries : Rc (BTreeMap (String Global) Value) Global) → v ≡ value.Map entries → view v ≡ seen.mapping (entries_view entries.value.entries)
   map_seen entries e = ap view e ∙ view_map entries
 
   pub node_seen : (id : NodeId) → v ≡ value.Node id → view v ≡ seen.node id.0

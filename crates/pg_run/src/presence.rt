@@ -18,8 +18,8 @@ fn test_value<T: Tables>(graph: &GraphView<'_, T>, value: &Value) -> Result<(), 
 {
     match value {
         Value::Null | Value::Bool(_) | Value::Int(_) | Value::Text(_) => Ok(()),
-        Value::List(items) => test_each(graph, items),
-        Value::Map(entries) => test_each_entry(graph, entries),
+        Value::List(items) => test_each(graph, items.as_ref()),
+        Value::Map(entries) => test_each_entry(graph, entries.as_ref()),
         Value::Node(id) => test_element(graph, true, id.0),
         Value::Rel(id) => test_element(graph, false, id.0),
         Value::Path(path) => test_path(graph, &path.0),

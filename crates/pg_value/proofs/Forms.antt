@@ -1,4 +1,5 @@
 -- That values of other types are not equal, and a null to nothing.
+use Rattle.std.specs.declared.rc.Rc.{Rc}
 use Rattle.std.proofs.Common.{◌≡◌, ℤ, Bool, Vec, BTreeMap, String, Global, string_bytes, refl, sym, ap, ◌∙◌}
 use Rattle.pg_meaning.specs.Equality.{eq3}
 use Rattle.pg_meaning.specs.Value.{Value as Datum, null, boolean, integer, text, list, mapping, node, relationship, path}
@@ -52,20 +53,20 @@ module _ (b : Value) (some : b ≡ code.Null → ⊥) where
   pub other_text : (a : Value) (s : String Global) → a ≡ code.Text s → ((s : String Global) → b ≡ code.Text s → ⊥) → False ≡ eq3 (view a) (view b)
   other_text a s is none = text_apart s (out-Value b) (roll-out-Value b) none ∙ ap (λ v. eq3 v (view b)) (sym (text_seen s is))
 
-  list_apart : (vs : Vec Value Global) (part : Value-F Value) → roll-Value part ≡ b → ((vs : Vec Value Global) → b ≡ code.List vs → ⊥) → False ≡ eq3 (list (values_view vs.items)) (view b)
+  list_apart : (vs : Rc (Vec Value Global) Global) (part : Value-F Value) → roll-Value part ≡ b → ((vs : Rc (Vec Value Global) Global) → b ≡ code.List vs → ⊥) → False ≡ eq3 (list (values_view vs.value.items)) (view b)
   list_apart vs Value-F.Null same none = absurd (some (sym same ∙ rolls-Null))
   list_apart vs (Value-F.List y) same none = absurd (none y (sym same ∙ rolls-List y))
-  list_apart vs part same none = ap (eq3 (list (values_view vs.items))) (sym (fold-roll-Value Datum view_step part) ∙ ap view same)
+  list_apart vs part same none = ap (eq3 (list (values_view vs.value.items))) (sym (fold-roll-Value Datum view_step part) ∙ ap view same)
 
-  pub other_list : (a : Value) (vs : Vec Value Global) → a ≡ code.List vs → ((vs : Vec Value Global) → b ≡ code.List vs → ⊥) → False ≡ eq3 (view a) (view b)
+  pub other_list : (a : Value) (vs : Rc (Vec Value Global) Global) → a ≡ code.List vs → ((vs : Rc (Vec Value Global) Global) → b ≡ code.List vs → ⊥) → False ≡ eq3 (view a) (view b)
   other_list a vs is none = list_apart vs (out-Value b) (roll-out-Value b) none ∙ ap (λ v. eq3 v (view b)) (sym (list_seen vs is))
 
-  map_apart : (m : BTreeMap (String Global) Value) (part : Value-F Value) → roll-Value part ≡ b → ((m : BTreeMap (String Global) Value) → b ≡ code.Map m → ⊥) → False ≡ eq3 (mapping (entries_view m.entries)) (view b)
+  map_apart : (m : Rc (BTreeMap (String Global) Value) Global) (part : Value-F Value) → roll-Value part ≡ b → ((m : Rc (BTreeMap (String Global) Value) Global) → b ≡ code.Map m → ⊥) → False ≡ eq3 (mapping (entries_view m.value.entries)) (view b)
   map_apart m Value-F.Null same none = absurd (some (sym same ∙ rolls-Null))
   map_apart m (Value-F.Map y) same none = absurd (none y (sym same ∙ rolls-Map y))
-  map_apart m part same none = ap (eq3 (mapping (entries_view m.entries))) (sym (fold-roll-Value Datum view_step part) ∙ ap view same)
+  map_apart m part same none = ap (eq3 (mapping (entries_view m.value.entries))) (sym (fold-roll-Value Datum view_step part) ∙ ap view same)
 
-  pub other_map : (a : Value) (m : BTreeMap (String Global) Value) → a ≡ code.Map m → ((m : BTreeMap (String Global) Value) → b ≡ code.Map m → ⊥) → False ≡ eq3 (view a) (view b)
+  pub other_map : (a : Value) (m : Rc (BTreeMap (String Global) Value) Global) → a ≡ code.Map m → ((m : Rc (BTreeMap (String Global) Value) Global) → b ≡ code.Map m → ⊥) → False ≡ eq3 (view a) (view b)
   other_map a m is none = map_apart m (out-Value b) (roll-out-Value b) none ∙ ap (λ v. eq3 v (view b)) (sym (map_seen m is))
 
   node_apart : (n : NodeId) (part : Value-F Value) → roll-Value part ≡ b → ((n : NodeId) → b ≡ code.Node n → ⊥) → False ≡ eq3 (node n.0) (view b)

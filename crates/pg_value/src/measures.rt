@@ -14,8 +14,8 @@ pub fn weight(value: &Value) -> u64
 {
     match value {
         Value::Text(text) => 1u64.saturating_add(text.len() as u64),
-        Value::List(items) => 1u64.saturating_add(weight_items(items)),
-        Value::Map(entries) => 1u64.saturating_add(weight_entries(entries)),
+        Value::List(items) => 1u64.saturating_add(weight_items(items.as_ref())),
+        Value::Map(entries) => 1u64.saturating_add(weight_entries(entries.as_ref())),
         Value::Path(path) => 1u64.saturating_add(path.0.len() as u64),
         _ => 1,
     }
@@ -52,8 +52,8 @@ pub fn depth(value: &Value) -> u64
     ensures { result ≡ min (depth_of (view value.now)) (2 ^ 64 - 1) }
 {
     match value {
-        Value::List(items) => 1u64.saturating_add(depth_items(items)),
-        Value::Map(entries) => 1u64.saturating_add(depth_entries(entries)),
+        Value::List(items) => 1u64.saturating_add(depth_items(items.as_ref())),
+        Value::Map(entries) => 1u64.saturating_add(depth_entries(entries.as_ref())),
         _ => 1,
     }
 }

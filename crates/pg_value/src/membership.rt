@@ -22,7 +22,7 @@ pub fn is_in(value: &Value, list: &Value) -> Result<Tri, Fault>
 {
     match list {
         Value::Null => Ok(Tri::Null),
-        Value::List(items) => Ok(is_in_items(value, items)),
+        Value::List(items) => Ok(is_in_items(value, items.as_ref())),
         _ => Err(Fault::TypeFault),
     }
 }

@@ -1,4 +1,5 @@
 -- The data that a value of each type stands for.
+use Rattle.std.specs.declared.rc.Rc.{Rc}
 use Rattle.std.proofs.Common.{◌≡◌, ℤ, Bool, Vec, BTreeMap, String, Global, string_bytes, sym, ap, ◌∙◌}
 use Rattle.pg_meaning.specs.Value.{Value as Datum, null, boolean, integer, text, list, mapping, node, relationship, path}
 use Rattle.pg_value_core.specs.View.{view, view_step, values_view, entries_view}
@@ -23,10 +24,10 @@ int_seen i is = ap view (is ∙ sym (rolls-Int i)) ∙ fold-roll-Value Datum vie
 pub text_seen : {v : Value} (s : String Global) → v ≡ code.Text s → view v ≡ text (string_bytes s)
 text_seen s is = ap view (is ∙ sym (rolls-Text s)) ∙ fold-roll-Value Datum view_step (Value-F.Text s)
 
-pub list_seen : {v : Value} (vs : Vec Value Global) → v ≡ code.List vs → view v ≡ list (values_view vs.items)
+pub list_seen : {v : Value} (vs : Rc (Vec Value Global) Global) → v ≡ code.List vs → view v ≡ list (values_view vs.value.items)
 list_seen vs is = ap view (is ∙ sym (rolls-List vs)) ∙ fold-roll-Value Datum view_step (Value-F.List vs)
 
-pub map_seen : {v : Value} (m : BTreeMap (String Global) Value) → v ≡ code.Map m → view v ≡ mapping (entries_view m.entries)
+pub map_seen : {v : Value} (m : Rc (BTreeMap (String Global) Value) Global) → v ≡ code.Map m → view v ≡ mapping (entries_view m.value.entries)
 map_seen m is = ap view (is ∙ sym (rolls-Map m)) ∙ fold-roll-Value Datum view_step (Value-F.Map m)
 
 pub node_seen : {v : Value} (n : NodeId) → v ≡ code.Node n → view v ≡ node n.0

@@ -1,4 +1,5 @@
 -- How two values stand by their types, and two lists and two maps by their first items.
+use Rattle.std.specs.declared.rc.Rc.{Rc}
 use Rattle.std.proofs.Common.{◌≡◌, ℕ, ◌+◌, ◌<◌, ◌≤◌, ℤ, Bool, List, [], ◌∷◌, Vec, BTreeMap, length, drop, get_or, String, Global, string_bytes, refl, sym, ap, ◌∙◌}
 use Rattle.std.proofs.lemmas.List.{drop_more, drop_all}
 use Rattle.std.specs.Ordering.{ordering_then, nat_cmp}
@@ -68,23 +69,23 @@ module _ (b : Value) where
   pub other_text : (a : Value) (s : String Global) → a ≡ code.Text s → ((s : String Global) → b ≡ code.Text s → ⊥) → by_rank (view a) (view b) ≡ value_order (view a) (view b)
   other_text a s is none = at_form a (text (string_bytes s)) (form.text_seen s is) (text_apart s (out-Value b) (roll-out-Value b) none)
 
-  list_apart : (vs : Vec Value Global) (part : Value-F Value) → roll-Value part ≡ b → ((vs : Vec Value Global) → b ≡ code.List vs → ⊥) → by_rank (list (values_view vs.items)) (view b) ≡ value_order (list (values_view vs.items)) (view b)
+  list_apart : (vs : Rc (Vec Value Global) Global) (part : Value-F Value) → roll-Value part ≡ b → ((vs : Rc (Vec Value Global) Global) → b ≡ code.List vs → ⊥) → by_rank (list (values_view vs.value.items)) (view b) ≡ value_order (list (values_view vs.value.items)) (view b)
   list_apart vs (Value-F.List y) same none = absurd (none y (sym same ∙ rolls-List y))
   list_apart vs part same none =
       let seen = sym (fold-roll-Value Datum view_step part) ∙ ap view same in
-      sym (ap (by_rank (list (values_view vs.items))) seen) ∙ ap (value_order (list (values_view vs.items))) seen
+      sym (ap (by_rank (list (values_view vs.value.items))) seen) ∙ ap (value_order (list (values_view vs.value.items))) seen
 
-  pub other_list : (a : Value) (vs : Vec Value Global) → a ≡ code.List vs → ((vs : Vec Value Global) → b ≡ code.List vs → ⊥) → by_rank (view a) (view b) ≡ value_order (view a) (view b)
-  other_list a vs is none = at_form a (list (values_view vs.items)) (form.list_seen vs is) (list_apart vs (out-Value b) (roll-out-Value b) none)
+  pub other_list : (a : Value) (vs : Rc (Vec Value Global) Global) → a ≡ code.List vs → ((vs : Rc (Vec Value Global) Global) → b ≡ code.List vs → ⊥) → by_rank (view a) (view b) ≡ value_order (view a) (view b)
+  other_list a vs is none = at_form a (list (values_view vs.value.items)) (form.list_seen vs is) (list_apart vs (out-Value b) (roll-out-Value b) none)
 
-  map_apart : (m : BTreeMap (String Global) Value) (part : Value-F Value) → roll-Value part ≡ b → ((m : BTreeMap (String Global) Value) → b ≡ code.Map m → ⊥) → by_rank (mapping (entries_view m.entries)) (view b) ≡ value_order (mapping (entries_view m.entries)) (view b)
+  map_apart : (m : Rc (BTreeMap (String Global) Value) Global) (part : Value-F Value) → roll-Value part ≡ b → ((m : Rc (BTreeMap (String Global) Value) Global) → b ≡ code.Map m → ⊥) → by_rank (mapping (entries_view m.value.entries)) (view b) ≡ value_order (mapping (entries_view m.value.entries)) (view b)
   map_apart m (Value-F.Map y) same none = absurd (none y (sym same ∙ rolls-Map y))
   map_apart m part same none =
       let seen = sym (fold-roll-Value Datum view_step part) ∙ ap view same in
-      sym (ap (by_rank (mapping (entries_view m.entries))) seen) ∙ ap (value_order (mapping (entries_view m.entries))) seen
+      sym (ap (by_rank (mapping (entries_view m.value.entries))) seen) ∙ ap (value_order (mapping (entries_view m.value.entries))) seen
 
-  pub other_map : (a : Value) (m : BTreeMap (String Global) Value) → a ≡ code.Map m → ((m : BTreeMap (String Global) Value) → b ≡ code.Map m → ⊥) → by_rank (view a) (view b) ≡ value_order (view a) (view b)
-  other_map a m is none = at_form a (mapping (entries_view m.entries)) (form.map_seen m is) (map_apart m (out-Value b) (roll-out-Value b) none)
+  pub other_map : (a : Value) (m : Rc (BTreeMap (String Global) Value) Global) → a ≡ code.Map m → ((m : Rc (BTreeMap (String Global) Value) Global) → b ≡ code.Map m → ⊥) → by_rank (view a) (view b) ≡ value_order (view a) (view b)
+  other_map a m is none = at_form a (mapping (entries_view m.value.entries)) (form.map_seen m is) (map_apart m (out-Value b) (roll-out-Value b) none)
 
   node_apart : (n : NodeId) (part : Value-F Value) → roll-Value part ≡ b → ((n : NodeId) → b ≡ code.Node n → ⊥) → by_rank (node n.0) (view b) ≡ value_order (node n.0) (view b)
   node_apart n (Value-F.Node y) same none = absurd (none y (sym same ∙ rolls-Node y))

@@ -1,4 +1,4 @@
-//! Copies of values.
+//! Copies of values. A list and a map are shared by their copies, and nothing changes them while they are.
 
 ghost use Rattle.std.specs.Prelude.{◌≡◌, IfOk};
 ghost use Rattle.pg_value_core.specs.View.{view, values_view, entries_view};
@@ -7,10 +7,10 @@ use crate::ids::Path;
 use crate::value::Value;
 use std::alloc::{AllocError, Global};
 use std::collections::BTreeMap;
+use std::rc::Rc;
 
 impl Value {
-    /// The same value, in memory of its own.
-    #[cycle(copy)]
+    /// The same value. A text and a path get memory of their own; a list and a map are shared.
     pub fn copy(&self, alloc: Global) -> Result<Value, AllocError>
         ensures { IfOk result (λ v. view v ≡ view self.now) }
     {
@@ -19,8 +19,8 @@ impl Value {
             Value::Bool(b) => Ok(Value::Bool(*b)),
             Value::Int(i) => Ok(Value::Int(*i)),
             Value::Text(text) => Ok(Value::Text(String::from_str(alloc, text.as_str())?)),
-            Value::List(items) => Ok(Value::List(copy_items(items, alloc)?)),
-            Value::Map(entries) => Ok(Value::Map(copy_entries(entries, alloc)?)),
+            Value::List(items) => Ok(Value::List(items.clone()?)),
+            Value::Map(entries) => Ok(Value::Map(entries.clone()?)),
             Value::Node(id) => Ok(Value::Node(*id)),
             Value::Rel(id) => Ok(Value::Rel(*id)),
             Value::Path(path) => Ok(Value::Path(Path(path.0.as_slice().to_vec(alloc)?))),
@@ -28,10 +28,33 @@ impl Value {
     }
 }
 
-#[cycle(copy)]
-fn copy_items(items: &Vec<Value>, alloc: Global) -> Result<Vec<Value>, AllocError>
+/// The items of a list, owned by the caller: its own where nothing else has them, and else copies.
+pub fn owned_items(list: Rc<Vec<Value>>) -> Result<Vec<Value>, AllocError>
+    ensures { IfOk result (λ v. values_view v.items ≡ values_view list.value.items) }
+{
+    match Rc::try_unwrap(list) {
+        Ok(items) => Ok(items),
+        Err(shared) => copy_items(shared.as_ref()),
+    }
+}
+
+/// The entries of a map, owned by the caller: its own where nothing else has them, and else copies.
+pub fn owned_entries(
+    alloc: Global,
+    map: Rc<BTreeMap<String, Value>>,
+) -> Result<BTreeMap<String, Value>, AllocError>
+    ensures { IfOk result (λ v. entries_view v.entries ≡ entries_view map.value.entries) }
+{
+    match Rc::try_unwrap(map) {
+        Ok(entries) => Ok(entries),
+        Err(shared) => copy_entries(alloc, shared.as_ref()),
+    }
+}
+
+fn copy_items(items: &Vec<Value>) -> Result<Vec<Value>, AllocError>
     ensures { IfOk result (λ v. values_view v.items ≡ values_view items.now.items) }
 {
+    let alloc = *items.allocator();
     let mut copies = Vec::with_capacity(alloc, items.len())?;
     for item in items {
         copies.push(item.copy(alloc)?)?;
@@ -39,10 +62,9 @@ fn copy_items(items: &Vec<Value>, alloc: Global) -> Result<Vec<Value>, AllocErro
     Ok(copies)
 }
 
-#[cycle(copy)]
 fn copy_entries(
-    entries: &BTreeMap<String, Value>,
     alloc: Global,
+    entries: &BTreeMap<String, Value>,
 ) -> Result<BTreeMap<String, Value>, AllocError>
     ensures { IfOk result (λ v. entries_view v.entries ≡ entries_view entries.now.entries) }
 {

@@ -10,6 +10,7 @@ mod parameters;
 mod parts;
 mod value;
 
+pub use copy::{owned_entries, owned_items};
 pub use ids::{NodeId, Path, RelId};
 pub use ordering::{equivalent, order};
 pub use out::Out;

@@ -3,6 +3,7 @@
 ghost use Rattle.std.specs.Prelude.{◌≡◌};
 ghost use Rattle.std.specs.Cmp.Lexicographic.{slice_cmp};
 ghost use Rattle.pg_meaning.specs.Order.{rank_of, keys_of, text_order, value_order, items_order, entries_order, is_equivalent};
+ghost use Rattle.pg_meaning.specs.Value.{mapping};
 ghost use Rattle.pg_value_core.specs.View.{view, values_view, entries_view};
 
 use crate::value::Value;
@@ -44,13 +45,10 @@ fn order_any(a: &Value, b: &Value) -> Ordering
     ensures { result ≡ value_order (view a.now) (view b.now) }
 {
     match (a, b) {
-        (Value::Map(xs), Value::Map(ys)) => match order_keys(xs, ys) {
-            Ordering::Equal => order_entries(xs, ys),
-            unequal => unequal,
-        },
+        (Value::Map(xs), Value::Map(ys)) => order_maps(xs.as_ref(), ys.as_ref()),
         (Value::Node(x), Value::Node(y)) => x.0.cmp(&y.0),
         (Value::Rel(x), Value::Rel(y)) => x.0.cmp(&y.0),
-        (Value::List(xs), Value::List(ys)) => order_items(xs, ys),
+        (Value::List(xs), Value::List(ys)) => order_items(xs.as_ref(), ys.as_ref()),
         (Value::Path(x), Value::Path(y)) => x.0.cmp(&y.0),
         (Value::Text(x), Value::Text(y)) => x.cmp(y),
         (Value::Bool(x), Value::Bool(y)) => x.cmp(y),
@@ -77,6 +75,19 @@ fn order_items(xs: &Vec<Value>, ys: &Vec<Value>) -> Ordering
     match others.split_first() {
         Some(_) => Ordering::Less,
         None => Ordering::Equal,
+    }
+}
+
+/// By the keys, and then by the values.
+#[cycle(order)]
+fn order_maps(xs: &BTreeMap<String, Value>, ys: &BTreeMap<String, Value>) -> Ordering
+    ensures { result
+        ≡ value_order
+        (mapping (entries_view xs.now.entries)) (mapping (entries_view ys.now.entries)) }
+{
+    match order_keys(xs, ys) {
+        Ordering::Equal => order_entries(xs, ys),
+        unequal => unequal,
     }
 }
 

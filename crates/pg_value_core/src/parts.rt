@@ -5,6 +5,7 @@ ghost use Rattle.pg_value_core.specs.Parts.{value_of_parts};
 use crate::ids::{NodeId, Path, RelId};
 use crate::value::Value;
 use std::collections::BTreeMap;
+use std::rc::Rc;
 
 /// What a value is made of. A value has a `drop` of its own, so that only its own functions may take it apart.
 #[derive(Drop)]
@@ -13,8 +14,8 @@ pub enum Parts {
     Bool(bool),
     Int(i64),
     Text(String),
-    List(Vec<Value>),
-    Map(BTreeMap<String, Value>),
+    List(Rc<Vec<Value>>),
+    Map(Rc<BTreeMap<String, Value>>),
     Node(NodeId),
     Rel(RelId),
     Path(Path),

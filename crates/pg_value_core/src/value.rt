@@ -1,19 +1,24 @@
 //! Values as an expression gives them and a property keeps them.
-ghost use Rattle.std.specs.Prelude.{◌≡◌};
+ghost use Rattle.std.specs.Prelude.{◌≡◌, IfOk};
+ghost use Rattle.pg_meaning.specs.Value.{list, mapping};
 ghost use Rattle.pg_value_core.specs.Parts.{value_of_parts};
+ghost use Rattle.pg_value_core.specs.View.{view, values_view, entries_view};
 
 use crate::ids::{NodeId, Path, RelId};
 use crate::parts::Parts;
+use std::alloc::{AllocError, Global};
 use std::collections::BTreeMap;
+use std::rc::Rc;
 
-/// Any value of the query language, which owns its texts. Elements are named by their numbers.
+/// Any value of the query language, which owns its texts. Lists and maps are shared by their
+/// copies. Elements are named by their numbers.
 pub enum Value {
     Null,
     Bool(bool),
     Int(i64),
     Text(String),
-    List(Vec<Value>),
-    Map(BTreeMap<String, Value>),
+    List(Rc<Vec<Value>>),
+    Map(Rc<BTreeMap<String, Value>>),
     Node(NodeId),
     Rel(RelId),
     Path(Path),
@@ -37,6 +42,21 @@ impl Drop for Value {
 }
 
 impl Value {
+    /// A list of these items.
+    pub fn list(items: Vec<Value>) -> Result<Value, AllocError>
+        ensures { IfOk result (λ v. view v ≡ list (values_view items.items)) }
+    {
+        let alloc = *items.allocator();
+        Ok(Value::List(Rc::new(alloc, items)?))
+    }
+
+    /// A map of these entries.
+    pub fn map(alloc: Global, entries: BTreeMap<String, Value>) -> Result<Value, AllocError>
+        ensures { IfOk result (λ v. view v ≡ mapping (entries_view entries.entries)) }
+    {
+        Ok(Value::Map(Rc::new(alloc, entries)?))
+    }
+
     /// The parts of a value, each owned by the caller. Nothing is copied.
     pub fn into_parts(self) -> Parts
         ensures { value_of_parts result ≡ self }

@@ -8,7 +8,7 @@ ghost use Rattle.pg_value_core.specs.View.{view, entries_view};
 ghost use Rattle.pg_write.specs.Maps.{paired};
 
 use pg_meaning::Fault;
-use pg_value_core::{Parts, Value};
+use pg_value_core::{Parts, Value, owned_entries};
 use std::alloc::{AllocError, Global};
 use std::collections::BTreeMap;
 
@@ -36,7 +36,7 @@ pub(crate) fn map_parts(alloc: Global, value: Value) -> Result<(Vec<String>, Vec
     ensures err { IfErr result (λ e. e ≢ OutOfMemory → mapping_pairs (view value) ≡ Err e) }
 {
     match value.into_parts() {
-        Parts::Map(entries) => Ok(split(alloc, entries)?),
+        Parts::Map(entries) => Ok(split(alloc, owned_entries(alloc, entries)?)?),
         _ => Err(Fault::TypeFault),
     }
 }

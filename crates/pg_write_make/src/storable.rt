@@ -26,7 +26,7 @@ fn may_be_set(value: &Value) -> bool
 {
     match value {
         Value::Null => true,
-        Value::List(items) => are_plain(items),
+        Value::List(items) => are_plain(items.as_ref()),
         _ => is_plain(value),
     }
 }

@@ -69,7 +69,7 @@ fn parameter_values<'a>(
         → mapping_pairs (value_at (string_bytes name.now.text) (parameters_in scene.now)) ≡ Err e) }
 {
     match scene.query.parameters.get(name.text.as_str()) {
-        Some(Value::Map(entries)) => Ok(copy_pairs(scene.query.alloc, entries)?),
+        Some(Value::Map(entries)) => Ok(copy_pairs(scene.query.alloc, entries.as_ref())?),
         _ => Err(Fault::TypeFault),
     }
 }

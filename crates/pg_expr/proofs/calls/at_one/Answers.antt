@@ -1,5 +1,4 @@
 use Rattle.std.proofs.Common.{ap}
-use Rattle.pg_expr.proofs.Turns.{told}
 use Rattle.pg_expr.proofs.Walks.{ok_by, err_by}
 use Rattle.pg_expr.specs.Contexts.{found_view}
 use Rattle.pg_meaning.specs.Functions.{function_at}
@@ -15,12 +14,12 @@ returns-in-Properties g c =
 pub returns-in-Head : goal.returns-in-Head
 returns-in-Head g c =
     let same = ap (λ f. function_at c.args.graph.now (function_view f) (item (found_view c.args.argument) no_items)) c.in-Head.is in
-    record { ok = ok_by c.end_item.result found_view same c.end_item.ensures.ok; err = err_by c.end_item.result same (told {seen = found_view} c.end_item.result c.end_item.ensures.ok c.end_item.ensures.err).err }
+    record { ok = ok_by c.end_item.result found_view same c.end_item.ensures.ok; err = err_by c.end_item.result same c.end_item.ensures.err }
 
 pub returns-in-Last : goal.returns-in-Last
 returns-in-Last g c =
     let same = ap (λ f. function_at c.args.graph.now (function_view f) (item (found_view c.args.argument) no_items)) c.in-Last.is in
-    record { ok = ok_by c.end_item-in-Last.result found_view same c.end_item-in-Last.ensures.ok; err = err_by c.end_item-in-Last.result same (told {seen = found_view} c.end_item-in-Last.result c.end_item-in-Last.ensures.ok c.end_item-in-Last.ensures.err).err }
+    record { ok = ok_by c.end_item-in-Last.result found_view same c.end_item-in-Last.ensures.ok; err = err_by c.end_item-in-Last.result same c.end_item-in-Last.ensures.err }
 
 pub returns-in-ToString : goal.returns-in-ToString
 returns-in-ToString g c =

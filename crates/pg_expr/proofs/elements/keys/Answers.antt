@@ -1,4 +1,4 @@
-use Rattle.std.proofs.Common.{Ok, ap, ◌∙◌}
+use Rattle.std.proofs.Common.{Ok, sym, ap, ◌∙◌}
 use Rattle.pg_expr.proofs.ElementLemmas.{of_element, map_keys, keys_told}
 use Rattle.pg_expr.proofs.Turns.{fault_gives}
 use Rattle.pg_expr.specs.Elements.{keys_given}
@@ -11,7 +11,8 @@ use Rattle.pg_expr.proofs.elements.keys.Goals as goal
 
 pub returns-in-Map : goal.returns-in-Map
 returns-in-Map g c =
-    let given = keys_told (texts (keys_of (entries_view c.in-Map.entries.entries))) c.keys_of.result c.keys_of.ensures.ok c.keys_of.ensures.err (map_keys c.args.graph.now c.args.v.now c.in-Map.entries c.in-Map.is) in
+    let same = ap (λ m. Ok (texts (keys_of (entries_view m.entries)))) (sym c.as_ref.ensures) in
+    let given = keys_told (texts (keys_of (entries_view c.as_ref.result.now.entries))) c.keys_of.result c.keys_of.ensures.ok c.keys_of.ensures.err (map_keys c.args.graph.now c.args.v.now c.in-Map.entries c.in-Map.is ∙ same) in
     record { ok = given.ok; err = given.err }
 
 pub returns-in_err-element_properties-in_default : goal.returns-in_err-element_properties-in_default

@@ -9,4 +9,4 @@ loop-bytes-preserved c =
 pub returns : goal.returns
 returns c =
     let l = c.loop-bytes in
-    all_copied l.values c.deref-bytes-items.result.now c.args.all.now.items c.deref-bytes-items.ensures.value l.bytes-index l.invariant c.loop-bytes-test.false
+    rw (← all_copied l.values c.deref-bytes-items.result.now c.args.all.now.items c.deref-bytes-items.ensures.value l.bytes-index l.invariant c.loop-bytes-test.false) c.list.ensures

@@ -20,7 +20,6 @@ use Rattle.pg_meaning.specs.Value.{list, mapping}
 use Rattle.pg_meaning.specs.declared.fault.Fault.TheVariants.{MissingParameter, UndefinedVariable}
 use Rattle.pg_scope.proofs.FirstLemmas.{item_here, items_end}
 use Rattle.pg_scope.specs.Calls.{function_view}
-use Rattle.pg_value_core.proofs.Forms.{map_seen}
 use Rattle.pg_syntax_tree.proofs.Views.{negation_is, signs_is}
 use Rattle.pg_syntax_tree.specs.View.{expression_view, names_view, operand_view, perhaps_view}
 use Rattle.pg_value_core.specs.View.{entries_view}
@@ -222,8 +221,11 @@ mapping-returns g t c =
     gives_by c.made.result
     (ap (λ r. r >>= λ es. made (mapping es))
     (l.invariant ∙ ap (pairs_given c.args.context.now c.args.graph.now (entries_view l.entries.entries)) (items_end c.loop-key-test.false c.deref-key-items.ensures.value))
-    ∙ ap made (sym (map_seen l.entries refl)))
+    ∙ ap made (sym c.in_ok-map.ensures))
     (told c.made.result c.made.ensures.ok c.made.ensures.err)
+
+pub mapping-returns-in_err-map : goal.mapping-returns-in_err-map
+mapping-returns-in_err-map g t c = no_memory c.from_residual-in_err-map.result c.from_residual-in_err-map.ensures.1
 
 pub first_given-returns-in_err-next : goal.first_given-returns-in_err-next
 first_given-returns-in_err-next g t c =
@@ -649,7 +651,7 @@ read-returns-in_err-found-in-Property g t c =
     (l.invariant
     ∙ ap (suffixes_given s graph (found_view l.found)) (item_here c.loop-suffix-test.true c.suffix-item.is refl)
     ∙ ap (λ x. suffixes_given s graph (found_view l.found) (x ∷ rest)) c.in-Property.is
-    ∙ turn.failed_property s graph (found_view l.found) c.in_err-found-in-Property.field-0.0 c.in-Property.key rest (ap (property_of graph (found_view l.found)) (sym c.as_str.ensures.value) ∙ c.in_err-found-in-Property.ensures.err)))
+    ∙ turn.failed_property s graph (found_view l.found) c.in_err-found-in-Property.field-0.0 c.in-Property.key rest (ap (property_of graph (found_view l.found)) (sym c.as_str.ensures.value) ∙ c.in_err-found-in-Property.ensures.err n)))
 
 pub read-returns-in_err-found-in-Index : goal.read-returns-in_err-found-in-Index
 read-returns-in_err-found-in-Index g t c =

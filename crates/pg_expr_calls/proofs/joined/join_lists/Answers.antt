@@ -4,8 +4,10 @@ use Rattle.pg_expr_calls.proofs.joined.join_lists.Goals as goal
 
 pub returns-clause-ok : goal.returns-clause-ok
 returns-clause-ok c =
-    rw (← view_of_joined c.append.new.self.items c.args.xs.items c.args.ys.items c.in_ok-append.ensures.items) c.made_list.ensures.ok
+    rw (← c.in_ok-items.ensures, ← c.in_ok-behind.ensures)
+    (rw (← view_of_joined c.append.new.self.items c.in_ok-items.items.items c.in_ok-behind.behind.items c.in_ok-append.ensures.items) c.made_list.ensures.ok)
 
 pub returns-clause-err : goal.returns-clause-err
 returns-clause-err c =
-    rw (← view_of_joined c.append.new.self.items c.args.xs.items c.args.ys.items c.in_ok-append.ensures.items) (search rules)
+    rw (← c.in_ok-items.ensures, ← c.in_ok-behind.ensures)
+    (rw (← view_of_joined c.append.new.self.items c.in_ok-items.items.items c.in_ok-behind.behind.items c.in_ok-append.ensures.items) (search rules))

@@ -1,3 +1,4 @@
+use Rattle.std.specs.declared.rc.Rc.{Rc}
 use Rattle.std.proofs.Common.{◌≡◌, ◌≢◌, Vec, String, Global, string_bytes, Ok, Err, rules, sym, ap, subst, ◌∙◌}
 use Rattle.std.specs.Result.{IfOk, IfErr}
 use Rattle.pg_meaning.specs.Arithmetic.{plus}
@@ -10,7 +11,7 @@ use Rattle.pg_expr_calls.proofs.joined.plus.Goals as goal
 view_text : (s : String Global) → view (Text s) ≡ text (string_bytes s)
 view_text s = search (rules, the_lemmas)
 
-view_list : (xs : Vec Value Global) → view (ListValue xs) ≡ list (values_view xs.items)
+view_list : (xs : Rc (Vec Value Global) Global) → view (ListValue xs) ≡ list (values_view xs.value.items)
 view_list xs = search (rules, the_lemmas)
 
 pub returns-in-Text-clause-ok : goal.returns-in-Text-clause-ok

@@ -10,7 +10,6 @@ use Rattle.pg_json.specs.Given.{data_giving, members_giving, AreGiven, EntriesAr
 use Rattle.pg_json.proofs.Given.{members_giving-put, given_put}
 use Rattle.pg_json.proofs.Reading.{converted-array, converted-object, item_read, items_over, member_read, members_over, items_before, items_before-no_items, one_more_item, given_push}
 use Rattle.pg_value_core.specs.View.{view, values_view, entries_view}
-use Rattle.pg_value_core.specs.declared.value.Value.{List, Map, the_lemmas}
 use Rattle.pg_json.proofs.parameters.+read.Goals as goal
 
 pub read-returns-in-Some-clause-ok : goal.read-returns-in-Some-clause-ok
@@ -18,16 +17,14 @@ read-returns-in-Some-clause-ok t c =
     let is : c.args.reader.now ≡ token_of c.in-Some.token ∷ c.next.new.self = grind arith in
     rw is (c.scalar.ensures.ok (c.args.room + 61) c.next.new.self)
 
-pub read-returns-in_ok-read_members-in-Some-BeginObject-clause-ok : goal.read-returns-in_ok-read_members-in-Some-BeginObject-clause-ok
-read-returns-in_ok-read_members-in-Some-BeginObject-clause-ok t c =
+pub read-returns-in_ok-map-in-Some-BeginObject-clause-ok : goal.read-returns-in_ok-map-in-Some-BeginObject-clause-ok
+read-returns-in_ok-map-in-Some-BeginObject-clause-ok t c =
     let d = c.args.room + 61 in
     let rest = c.next.new.self in
     let is : c.args.reader.now ≡ Token.begin_object ∷ rest = grind arith in
     let lower : d - 1 ≡ c.args.room - 1 + 61 = omega arith in
     let opened = ap (converted of_json) (ap (value d) is ∙ value-begin_object d rest (omega arith)) ∙ converted-object (members (value (d - 1)) (length rest) rest) in
-    let found = c.in_ok-read_members-in-Some-BeginObject in
-    let seen : data_giving (view (Map found.field-0)) ≡ object _ = search (rules, the_lemmas) in
-    opened ∙ ap (λ n. parse_map object (converted (λ ms. of_members ms no_members) (members (value n) (length rest) rest))) lower ∙ ap (parse_map object) found.ensures.ok ∙ ap (λ j. Some (j, c.read_members.new.reader)) (sym seen)
+    opened ∙ ap (λ n. parse_map object (converted (λ ms. of_members ms no_members) (members (value n) (length rest) rest))) lower ∙ ap (parse_map object) c.in_ok-entries-in-Some-BeginObject.ensures.ok ∙ ap (λ v. Some (data_giving v, c.read_members.new.reader)) (sym c.in_ok-map-in-Some-BeginObject.ensures)
 
 pub read-items-preserved : goal.read-items-preserved
 read-items-preserved t c =
@@ -49,8 +46,8 @@ read-items-preserved t c =
       subst (λ vs. AreGiven room (values_view vs)) (sym c.in_ok-push-in-Some-BeginArray.ensures.items) (given_push room l.found.items v l.invariant.4 done.given),
     )
 
-pub read-returns-after-items-clause-ok : goal.read-returns-after-items-clause-ok
-read-returns-after-items-clause-ok t c =
+pub read-returns-in_ok-list-in-Some-BeginArray-clause-ok : goal.read-returns-in_ok-list-in-Some-BeginArray-clause-ok
+read-returns-in_ok-list-in-Some-BeginArray-clause-ok t c =
     let d = c.args.room + 61 in
     let rest = c.next.new.self in
     let is : c.args.reader.now ≡ Token.begin_array ∷ rest = grind arith in
@@ -61,8 +58,7 @@ read-returns-after-items-clause-ok t c =
     let n = l.invariant.0 in
     let r = c.take_end_array.new.self in
     let all = l.invariant.2 ∙ ap (parse_map (items_before l.found.items)) (items_over p n l.reader r l.invariant.1 (grind arith)) ∙ ap (λ ds. Some (ds, r)) (items_before-no_items l.found.items) in
-    let seen : data_giving (view (List l.found)) ≡ array _ = search (rules, the_lemmas) in
-    opened ∙ ap (λ n. parse_map array (converted of_items (items (value n) (length rest) rest))) lower ∙ ap (parse_map array) all ∙ ap (λ j. Some (j, r)) (sym seen)
+    opened ∙ ap (λ n. parse_map array (converted of_items (items (value n) (length rest) rest))) lower ∙ ap (parse_map array) all ∙ ap (λ v. Some (data_giving v, r)) (sym c.in_ok-list-in-Some-BeginArray.ensures)
 
 pub read_members-returns-in-Ok-None-clause-ok : goal.read_members-returns-in-Ok-None-clause-ok
 read_members-returns-in-Ok-None-clause-ok t c =
@@ -117,15 +113,6 @@ read-returns-in_err-push-in-Some-BeginArray-clause-given t c = IfOk-from_err c.f
 
 pub read-returns-in_err-push-in-Some-BeginArray-clause-shorter : goal.read-returns-in_err-push-in-Some-BeginArray-clause-shorter
 read-returns-in_err-push-in-Some-BeginArray-clause-shorter t c = IfOk-from_err c.from_residual-in_err-push-in-Some-BeginArray.result _ c.from_residual-in_err-push-in-Some-BeginArray.ensures.0
-
-pub read-returns-in_err-read_members-in-Some-BeginObject-clause-ok : goal.read-returns-in_err-read_members-in-Some-BeginObject-clause-ok
-read-returns-in_err-read_members-in-Some-BeginObject-clause-ok t c = IfOk-from_err c.from_residual-in_err-read_members-in-Some-BeginObject.result _ c.from_residual-in_err-read_members-in-Some-BeginObject.ensures.0
-
-pub read-returns-in_err-read_members-in-Some-BeginObject-clause-given : goal.read-returns-in_err-read_members-in-Some-BeginObject-clause-given
-read-returns-in_err-read_members-in-Some-BeginObject-clause-given t c = IfOk-from_err c.from_residual-in_err-read_members-in-Some-BeginObject.result _ c.from_residual-in_err-read_members-in-Some-BeginObject.ensures.0
-
-pub read-returns-in_err-read_members-in-Some-BeginObject-clause-shorter : goal.read-returns-in_err-read_members-in-Some-BeginObject-clause-shorter
-read-returns-in_err-read_members-in-Some-BeginObject-clause-shorter t c = IfOk-from_err c.from_residual-in_err-read_members-in-Some-BeginObject.result _ c.from_residual-in_err-read_members-in-Some-BeginObject.ensures.0
 
 pub read_members-returns-in_err-key-clause-ok : goal.read_members-returns-in_err-key-clause-ok
 read_members-returns-in_err-key-clause-ok t c = IfOk-from_err c.from_residual.result _ c.from_residual.ensures.0

@@ -8,7 +8,7 @@ use Rattle.serde_json.specs.View.{items_view, members_view}
 use Rattle.serde_json.proofs.Views.{Entry}
 use Rattle.pg_meaning.specs.Entries.{with_entry}
 use Rattle.pg_json.specs.Given.{values_within, entries_within}
-use Rattle.pg_json.proofs.Converting.{one_more_value, no_value, all_values, after, one_more_entry, refused_entries, no_room, null_within, bool_within, text_within, list_within, list_refused, map_within, map_refused}
+use Rattle.pg_json.proofs.Converting.{one_more_value, no_value, all_values, after, one_more_entry, refused_entries, no_room, null_within, bool_within, text_within, list_within, list_refused}
 use Rattle.pg_value_core.specs.View.{view, entries_view}
 use Rattle.pg_json.proofs.Exits.{fault_passed}
 use Rattle.pg_meaning.specs.declared.fault.Fault.TheVariants.{BadRequest, OutOfMemory}
@@ -118,29 +118,14 @@ value_from-returns-in_err-from_str-in-String-clause-kind t c = fault_passed (λ 
 pub value_from-returns-in_err-from_str-in-String-clause-refused : goal.value_from-returns-in_err-from_str-in-String-clause-refused
 value_from-returns-in_err-from_str-in-String-clause-refused t c = fault_passed (λ e. e ≢ OutOfMemory → value_within c.args.room (data_view c.args.given.now) ≡ None) OutOfMemory c.from_residual.result c.from_residual.ensures.1 (λ other. absurd (other refl))
 
-pub value_from-returns-in_err-entries_from-in-Object-clause-ok : goal.value_from-returns-in_err-entries_from-in-Object-clause-ok
-value_from-returns-in_err-entries_from-in-Object-clause-ok t c = IfOk-from_err c.from_residual-in_err-entries_from-in-Object.result _ c.from_residual-in_err-entries_from-in-Object.ensures.0
-
-pub value_from-returns-in_err-entries_from-in-Object-clause-kind : goal.value_from-returns-in_err-entries_from-in-Object-clause-kind
-value_from-returns-in_err-entries_from-in-Object-clause-kind t c = fault_passed (λ e. e ≢ OutOfMemory → e ≡ BadRequest) c.in_err-entries_from-in-Object.field-0.0 c.from_residual-in_err-entries_from-in-Object.result c.from_residual-in_err-entries_from-in-Object.ensures.1 c.in_err-entries_from-in-Object.ensures.kind
-
-pub value_from-returns-after-loop-item-clause-ok : goal.value_from-returns-after-loop-item-clause-ok
-value_from-returns-after-loop-item-clause-ok t c =
+pub value_from-returns-in_ok-list-in-Array-clause-ok : goal.value_from-returns-in_ok-list-in-Array-clause-ok
+value_from-returns-in_ok-list-in-Array-clause-ok t c =
     let l = c.loop-item in
     let room = c.args.room - 1 in
     let xs = c.deref-item-items.result.now in
     let same : c.in-Array.items.items ≡ xs = sym c.deref-item-items.ensures.value in
-    rw c.in-Array.is (list_within c.args.room c.if-room-eq0.false c.in-Array.items l.values
+    rw c.in-Array.is (list_within c.args.room c.if-room-eq0.false c.in-Array.items l.values.items c.in_ok-list-in-Array.field-0 c.in_ok-list-in-Array.ensures
     (ap (λ ys. values_within room (items_view ys)) same ∙ l.invariant ∙ all_values room l.values.items l.item-index xs c.loop-item-test.false))
-
-pub value_from-returns-in_ok-entries_from-in-Object-clause-ok : goal.value_from-returns-in_ok-entries_from-in-Object-clause-ok
-value_from-returns-in_ok-entries_from-in-Object-clause-ok t c =
-    rw c.in-Object.is (map_within c.args.room c.if-room-eq0.false c.in-Object.members c.in_ok-entries_from-in-Object.field-0 c.in_ok-entries_from-in-Object.ensures.ok)
-
-pub value_from-returns-in_err-entries_from-in-Object-clause-refused : goal.value_from-returns-in_err-entries_from-in-Object-clause-refused
-value_from-returns-in_err-entries_from-in-Object-clause-refused t c =
-    fault_passed (λ e. e ≢ OutOfMemory → value_within c.args.room (data_view c.args.given.now) ≡ None) c.in_err-entries_from-in-Object.field-0.0 c.from_residual-in_err-entries_from-in-Object.result c.from_residual-in_err-entries_from-in-Object.ensures.1
-    (λ other. rw c.in-Object.is (map_refused c.args.room c.if-room-eq0.false c.in-Object.members (c.in_err-entries_from-in-Object.ensures.refused other)))
 
 pub value_from-returns-then-room-eq0-clause-refused : goal.value_from-returns-then-room-eq0-clause-refused
 value_from-returns-then-room-eq0-clause-refused t c other = ap (λ n. value_within n (data_view c.args.given.now)) c.if-room-eq0.true ∙ no_room (data_view c.args.given.now)

@@ -12,7 +12,7 @@ use Rattle.pg_project.specs.declared.taken.Taken.{Taken}
 use Rattle.pg_meaning.specs.Projections.{first_or_null}
 use Rattle.pg_value_core.specs.View.{view}
 use Rattle.pg_project.proofs.told.tell_row.Goals as goal
-use Rattle.pg_project.proofs.told.tell_row.Goals.{then-is_aggregate, else-is_aggregate}
+use Rattle.pg_project.proofs.told.tell_row.Goals.{then-is_aggregate+in_ok-value, else-is_aggregate}
 
 pub loop-is_aggregate-init : goal.loop-is_aggregate-init
 loop-is_aggregate-init c = (
@@ -22,13 +22,13 @@ loop-is_aggregate-init c = (
 )
 
 pub returns-in_err-push-clause-values : goal.returns-in_err-push-clause-values
-returns-in_err-push-clause-values c = IfOk-from_err c.from_residual.result _ c.from_residual.ensures.0
+returns-in_err-push-clause-values c = IfOk-from_err c.from_residual-in_err-push.result _ c.from_residual-in_err-push.ensures.0
 
 pub returns-in_err-push-clause-left : goal.returns-in_err-push-clause-left
-returns-in_err-push-clause-left c = IfOk-from_err c.from_residual.result _ c.from_residual.ensures.0
+returns-in_err-push-clause-left c = IfOk-from_err c.from_residual-in_err-push.result _ c.from_residual-in_err-push.ensures.0
 
 pub returns-in_err-push-clause-len : goal.returns-in_err-push-clause-len
-returns-in_err-push-clause-len c = IfOk-from_err c.from_residual.result _ c.from_residual.ensures.0
+returns-in_err-push-clause-len c = IfOk-from_err c.from_residual-in_err-push.result _ c.from_residual-in_err-push.ensures.0
 
 pub returns-clause-values : goal.returns-clause-values
 returns-clause-values c =
@@ -53,9 +53,9 @@ loop-is_aggregate-preserved c =
     let key = map view (into_iter_items l.keys) in
     let pushed = ap (map view) c.in_ok-push.ensures.items ∙ map_behind view l.row.items joined.value in (
       elim joined.branch [
-        | then-is_aggregate w ↦ one_told c.deref-is_aggregate-items.result.now kinds c.deref-is_aggregate-items.ensures.value l.is_aggregate-index false c.loop-is_aggregate-test.true key (told (into_iter_items l.left)) (map view l.row.items) (map view c.push.new.self.items) (merged kinds (map view c.args.key.items) (told (into_iter_items c.args.left.now))) (view joined.value) pushed l.invariant.0 w.if-is_aggregate.true
+        | then-is_aggregate+in_ok-value w ↦ one_told c.deref-is_aggregate-items.result.now kinds c.deref-is_aggregate-items.ensures.value l.is_aggregate-index false c.loop-is_aggregate-test.true key (told (into_iter_items l.left)) (map view l.row.items) (map view c.push.new.self.items) (merged kinds (map view c.args.key.items) (told (into_iter_items c.args.left.now))) (view joined.value) pushed l.invariant.0 w.if-is_aggregate.true
             (map view (into_iter_items joined.keys)) (told (into_iter_items joined.left))
-            (ap view w.value-is ∙ w.told_or_null-value.ensures ∙ next_value told last refl (λ t ts. refl) l.left w.next.new.self (λ o. first_or_null (told_each (option_to_list (option_map taken_view o)))) refl (λ t. refl) w.next.result w.next.ensures.cases)
+            (ap view w.value-is ∙ w.in_ok-value.ensures ∙ next_value told last refl (λ t ts. refl) l.left w.next.new.self (λ o. first_or_null (told_each (option_to_list (option_map taken_view o)))) refl (λ t. refl) w.next.result w.next.ensures.cases)
             (ap (λ ks. map view (into_iter_items ks)) w.keys-is)
             (values_left told last refl (λ t ts. refl) l.left w.next.new.self w.next.result w.next.ensures.cases ∙ sym (ap (λ ts. told (into_iter_items ts)) w.left-is))
         | else-is_aggregate w ↦ one_grouped c.deref-is_aggregate-items.result.now kinds c.deref-is_aggregate-items.ensures.value l.is_aggregate-index false c.loop-is_aggregate-test.true key (told (into_iter_items l.left)) (map view l.row.items) (map view c.push.new.self.items) (merged kinds (map view c.args.key.items) (told (into_iter_items c.args.left.now))) (view joined.value) pushed l.invariant.0 w.if-is_aggregate.false
@@ -66,7 +66,7 @@ loop-is_aggregate-preserved c =
       ],
       ap length c.in_ok-push.ensures.items ∙ length_push l.row.items joined.value ∙ ap (λ n. n + 1) l.invariant.1,
       elim joined.branch [
-        | then-is_aggregate w ↦ left_told c.deref-is_aggregate-items.result.now kinds c.deref-is_aggregate-items.ensures.value l.is_aggregate-index false c.loop-is_aggregate-test.true (into_iter_items l.left) (into_iter_items joined.left) (drop (aggregates_among kinds) (into_iter_items c.args.left.now)) l.invariant.2 w.if-is_aggregate.true
+        | then-is_aggregate+in_ok-value w ↦ left_told c.deref-is_aggregate-items.result.now kinds c.deref-is_aggregate-items.ensures.value l.is_aggregate-index false c.loop-is_aggregate-test.true (into_iter_items l.left) (into_iter_items joined.left) (drop (aggregates_among kinds) (into_iter_items c.args.left.now)) l.invariant.2 w.if-is_aggregate.true
             (one_fewer l.left w.next.new.self w.next.result w.next.ensures.cases ∙ sym (ap into_iter_items w.left-is))
         | else-is_aggregate w ↦ left_grouped c.deref-is_aggregate-items.result.now kinds c.deref-is_aggregate-items.ensures.value l.is_aggregate-index false c.loop-is_aggregate-test.true (into_iter_items l.left) (into_iter_items joined.left) (drop (aggregates_among kinds) (into_iter_items c.args.left.now)) l.invariant.2 w.if-is_aggregate.false
             (sym (ap into_iter_items w.left-is))

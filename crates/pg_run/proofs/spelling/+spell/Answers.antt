@@ -5,7 +5,7 @@ use Rattle.pg_json.specs.Room.{least}
 use Rattle.pg_meaning.specs.Queries.{test_items}
 use Rattle.pg_run.proofs.Items.{all_items_within, one_item_within}
 use Rattle.pg_run.proofs.Members.{all_members_within, no_member_within, one_member_within}
-use Rattle.pg_run.proofs.Spelts.{refused}
+use Rattle.pg_run.proofs.Spelts.{entries_spelt, refused}
 use Rattle.pg_run.proofs.ValueLemmas.{entry_refused, item_refused}
 use Rattle.pg_run.specs.Printed.{printed}
 use Rattle.pg_run.specs.Spelt.{ListSpelt}
@@ -51,3 +51,7 @@ pub spell_items-returns : goal.spell_items-returns
 spell_items-returns g t c =
     subst (λ vs. ListSpelt c.args.graph.now (values_view vs) (Ok c.loop-item.found) c.args.room.now c.loop-item.room) c.deref-item-items.ensures.value
     (all_items_within c.args.graph.now _ _ _ _ c.loop-item.found c.loop-item.invariant (ap length (drop_all c.loop-item.item-index c.deref-item-items.result.now c.loop-item-test.false)))
+
+pub spell-returns-in-Map : goal.spell-returns-in-Map
+spell-returns-in-Map g t c =
+    entries_spelt c.args.graph.now c.args.value.now c.args.room.now c.spell_map.new.room c.in-Map.entries c.as_ref-in-Map.result.now c.spell_map.result c.in-Map.is c.as_ref-in-Map.ensures c.spell_map.ensures

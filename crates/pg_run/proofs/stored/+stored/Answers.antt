@@ -1,7 +1,11 @@
-use Rattle.std.proofs.Common.{refl, ap, ◌∙◌, length, string_bytes}
+use Rattle.std.proofs.Common.{refl, ap, sym, ◌∙◌, length, string_bytes}
 use Rattle.std.proofs.lemmas.List.{drop_all}
+use Rattle.serde_json.specs.Data as json
+use Rattle.pg_json.proofs.Elements.{data_map}
 use Rattle.pg_run.proofs.Items.{one_item_stored, all_items_stored}
 use Rattle.pg_run.proofs.Members.{one_member_stored, all_members_stored}
+use Rattle.pg_run.proofs.ValueLemmas.{map_seen}
+use Rattle.pg_run.specs.Printed.{stored_data, stored_members}
 use Rattle.pg_scope.proofs.FirstLemmas.{item_here}
 use Rattle.pg_value_core.specs.View.{view, entries_view}
 use Rattle.pg_run.proofs.stored.+stored.Goals as goal
@@ -28,3 +32,11 @@ spell_stored_entries-loop-key-preserved t c =
 
 pub spell_stored_entries-returns : goal.spell_stored_entries-returns
 spell_stored_entries-returns t c = all_members_stored _ _ c.loop-key.found.items c.loop-key.invariant (ap entries_view c.in-None.ensures.steps.0)
+
+pub spell_stored-returns-in_ok-spell_stored_entries-in-Map : goal.spell_stored-returns-in_ok-spell_stored_entries-in-Map
+spell_stored-returns-in_ok-spell_stored_entries-in-Map t c =
+    let told = c.in_ok-spell_stored_entries-in-Map in
+    data_map told.field-0
+    ∙ ap json.object told.ensures
+    ∙ ap (λ m. json.object (stored_members (entries_view m.entries))) c.as_ref-in-Map.ensures
+    ∙ ap stored_data (sym (map_seen c.args.value.now c.in-Map.entries c.in-Map.is))

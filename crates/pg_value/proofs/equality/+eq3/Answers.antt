@@ -22,12 +22,18 @@ eq3-returns-in-Text-Text t c =
 pub eq3-returns-in-List-List : goal.eq3-returns-in-List-List
 eq3-returns-in-List-List t c =
     let h = c.in-List-List in
-    c.eq3_items.ensures ∙ form.both_seen c.args.a.now c.args.b.now _ _ (value.list_seen h.xs h.is-0) (value.list_seen h.ys h.is-1)
+    c.eq3_items.ensures
+    ∙ ap (λ v. items_eq3 (values_view v.items) (values_view c.as_ref-in-List-List.result.now.items)) c.as_ref.ensures
+    ∙ ap (λ v. items_eq3 (values_view h.xs.value.items) (values_view v.items)) c.as_ref-in-List-List.ensures
+    ∙ form.both_seen c.args.a.now c.args.b.now _ _ (value.list_seen h.xs h.is-0) (value.list_seen h.ys h.is-1)
 
 pub eq3-returns-in-Map-Map : goal.eq3-returns-in-Map-Map
 eq3-returns-in-Map-Map t c =
     let h = c.in-Map-Map in
-    c.eq3_entries.ensures ∙ form.both_seen c.args.a.now c.args.b.now _ _ (value.map_seen h.xs h.is-0) (value.map_seen h.ys h.is-1)
+    c.eq3_entries.ensures
+    ∙ ap (λ m. entries_eq3 (entries_view m.entries) (entries_view c.as_ref-in-Map-Map-2.result.now.entries)) c.as_ref-in-Map-Map.ensures
+    ∙ ap (λ m. entries_eq3 (entries_view h.xs.value.entries) (entries_view m.entries)) c.as_ref-in-Map-Map-2.ensures
+    ∙ form.both_seen c.args.a.now c.args.b.now _ _ (value.map_seen h.xs h.is-0) (value.map_seen h.ys h.is-1)
 
 pub eq3-returns-in-Node-Node : goal.eq3-returns-in-Node-Node
 eq3-returns-in-Node-Node t c =

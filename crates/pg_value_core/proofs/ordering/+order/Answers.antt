@@ -1,22 +1,27 @@
 use Rattle.std.proofs.Common.{◌+◌, ◌<◌, ◌≤◌, [], ◌∷◌, length, drop, get_or, subst, sym, ap, ◌∙◌}
 use Rattle.std.proofs.lemmas.List.{nil_from_length}
-use Rattle.pg_meaning.specs.Order.{items_order, entries_order, rank_of}
+use Rattle.pg_meaning.specs.Order.{entries_order, items_order, rank_of, value_order}
+use Rattle.pg_meaning.specs.Value.{mapping}
 use Rattle.std.specs.Ordering.{nat_cmp}
 use Rattle.pg_value_core.specs.View.{view, values_view, entries_view}
 use Rattle.pg_value_core.proofs.Forms as form
 use Rattle.pg_value_core.proofs.Orders as lemma
 use Rattle.pg_value_core.proofs.ordering.+order.Goals as goal
 
-pub order_any-returns-in-Equal : goal.order_any-returns-in-Equal
-order_any-returns-in-Equal t c =
-    let h = c.in-Map-Map in
-    c.order_entries.ensures ∙ lemma.then_second (entries_order (entries_view h.xs.entries) (entries_view h.ys.entries)) c.order_keys.ensures c.in-Equal.is
-    ∙ lemma.both_seen c.args.a.now c.args.b.now _ _ (form.map_seen h.xs h.is-0) (form.map_seen h.ys h.is-1)
+pub order_maps-returns-in-Equal : goal.order_maps-returns-in-Equal
+order_maps-returns-in-Equal t c =
+    c.order_entries.ensures ∙ lemma.then_second (entries_order (entries_view c.args.xs.now.entries) (entries_view c.args.ys.now.entries)) c.order_keys.ensures c.in-Equal.is
 
-pub order_any-returns-in_default-order_keys : goal.order_any-returns-in_default-order_keys
-order_any-returns-in_default-order_keys t c =
+pub order_maps-returns-in_default : goal.order_maps-returns-in_default
+order_maps-returns-in_default t c =
+    lemma.then_first (entries_order (entries_view c.args.xs.now.entries) (entries_view c.args.ys.now.entries)) c.order_keys.ensures c.in_default.not-Equal
+
+pub order_any-returns-in-Map-Map : goal.order_any-returns-in-Map-Map
+order_any-returns-in-Map-Map t c =
     let h = c.in-Map-Map in
-    lemma.then_first (entries_order (entries_view h.xs.entries) (entries_view h.ys.entries)) c.order_keys.ensures c.in_default-order_keys.not-Equal
+    c.order_maps.ensures
+    ∙ ap (λ m. value_order (mapping (entries_view m.entries)) (mapping (entries_view c.as_ref-in-Map-Map.result.now.entries))) c.as_ref.ensures
+    ∙ ap (λ m. value_order (mapping (entries_view h.xs.value.entries)) (mapping (entries_view m.entries))) c.as_ref-in-Map-Map.ensures
     ∙ lemma.both_seen c.args.a.now c.args.b.now _ _ (form.map_seen h.xs h.is-0) (form.map_seen h.ys h.is-1)
 
 pub order_any-returns-in-Node-Node : goal.order_any-returns-in-Node-Node
@@ -28,11 +33,6 @@ pub order_any-returns-in-Rel-Rel : goal.order_any-returns-in-Rel-Rel
 order_any-returns-in-Rel-Rel t c =
     let h = c.in-Rel-Rel in
     c.cmp-in-Rel-Rel.ensures ∙ lemma.both_seen c.args.a.now c.args.b.now _ _ (form.rel_seen h.x h.is-0) (form.rel_seen h.y h.is-1)
-
-pub order_any-returns-in-List-List : goal.order_any-returns-in-List-List
-order_any-returns-in-List-List t c =
-    let h = c.in-List-List in
-    c.order_items.ensures ∙ lemma.both_seen c.args.a.now c.args.b.now _ _ (form.list_seen h.xs h.is-0) (form.list_seen h.ys h.is-1)
 
 pub order_any-returns-in-Path-Path : goal.order_any-returns-in-Path-Path
 order_any-returns-in-Path-Path t c =

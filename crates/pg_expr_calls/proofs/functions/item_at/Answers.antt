@@ -1,6 +1,0 @@
-use Rattle.std.proofs.Common.{arith, sym, ◌∙◌}
-use Rattle.pg_expr_calls.proofs.Counts.{past_end}
-use Rattle.pg_expr_calls.proofs.functions.item_at.Goals as goal
-
-pub returns : goal.returns
-returns c = c.null.ensures ∙ sym (past_end c.args.items.items c.args.place (omega arith))

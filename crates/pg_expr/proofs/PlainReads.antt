@@ -1,12 +1,9 @@
 -- What `variable.key` and `variable[place]` give.
-use Rattle.std.proofs.Common.{◌≡◌, ℕ, List, pos, Option, Result, Ok, Err, refl, ap, ◌∙◌}
-use Rattle.std.specs.Prelude.{IfOk, IfErr}
+use Rattle.std.proofs.Common.{◌≡◌, ℕ, List, pos, Option, Ok, Err, refl, ap, ◌∙◌}
 use Rattle.pg_expr.proofs.ScalarLemmas.{tells_by}
-use Rattle.pg_expr.proofs.Turns.{gives_by, told}
-use Rattle.pg_expr.specs.Contexts.{found_view, given, row_at}
+use Rattle.pg_expr.specs.Contexts.{given, row_at}
 use Rattle.pg_expr.specs.Reads.{given_item, given_property, item_read, property_read}
 use Rattle.pg_expr.specs.Scalars.{Tells}
-use Rattle.pg_expr.specs.declared.value_ref.ValueRef.{ValueRef}
 use Rattle.pg_expr.specs.declared.row_context.RowContext.{RowContext}
 use Rattle.pg_meaning.specs.Answer.{Answer, ◌>>=◌}
 use Rattle.pg_meaning.specs.Expressions.{indexed, or_fault, property_of}
@@ -14,11 +11,9 @@ use Rattle.pg_meaning.specs.Graph.{Graph}
 use Rattle.pg_meaning.specs.Rows.{value_in}
 use Rattle.pg_meaning.specs.Tree as tree
 use Rattle.pg_meaning.specs.Value.{Value as Datum, integer}
-use Rattle.pg_meaning.specs.declared.fault.Fault.{Fault}
 use Rattle.pg_meaning.specs.declared.fault.Fault.TheVariants.{UndefinedVariable}
 use Rattle.pg_syntax_tree.specs.View.{expression_view}
 use Rattle.pg_syntax_tree.specs.declared.expression.Expression.{Expression}
-use Rattle.pg_value_core.specs.Gives.{Gives}
 
 pub as_it_is : (a : Answer) → ((a >>= λ w. Ok w) >>= λ w. Ok w) ≡ a
 as_it_is (Ok v) = refl
@@ -38,10 +33,6 @@ module _ (s : RowContext) (g : Graph) (x k : tree.Name) where
 
   pub read_told : (e : Expression) (tells : Option Datum) → expression_view e ≡ property_read x k → Tells tells (given_property s g x.text k.text) → Tells tells (given s g (expression_view e))
   read_told e tells h t = tells_by tells (of_read e h) t
-
-  pub read_gives : (e : Expression) (result : Result ValueRef Fault) → expression_view e ≡ property_read x k → IfOk result (λ f. given_property s g x.text k.text ≡ Ok (found_view f))
-      → IfErr result (λ f. given_property s g x.text k.text ≡ Err f) → Gives result (given s g (expression_view e)) found_view
-  read_gives e result h ok err = gives_by result (of_read e h) (told result ok err)
 
 of_place : (g : Graph) (i : ℕ) (a : Answer) → (a >>= λ v. (indexed g v (integer (pos i)) >>= λ w. Ok w) >>= λ w. Ok w) ≡ (a >>= λ v. indexed g v (integer (pos i)))
 of_place g i (Ok v) = as_it_is (indexed g v (integer (pos i)))

@@ -112,7 +112,7 @@ pub(crate) fn end_node<T: Tables>(
     }
 }
 
-/// The properties of an element, in memory of their own.
+/// A copy of the properties of an element.
 fn element_properties<T: Tables>(
     alloc: Global,
     graph: &GraphView<'_, T>,

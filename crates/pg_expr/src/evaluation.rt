@@ -13,7 +13,7 @@ ghost use Rattle.pg_value_core.specs.Given.{parameters_view};
 ghost use Rattle.pg_value_core.specs.Gives.{Gives};
 ghost use Rattle.pg_value_core.specs.View.{view};
 
-use crate::atoms::{literal_found, parameter, variable};
+use crate::atoms::{column, literal_found, parameter, variable};
 use crate::calls::{applied, call_fault, is_coalesce, is_null, is_size};
 use crate::counts::{counted, is_range_named, range_counted};
 use crate::made::{list_of, made, put};
@@ -21,9 +21,9 @@ use crate::operators::{
     all_signed, begins_comparison, combined, compared, compared_once, is_chosen, negated,
     null_tested, tested,
 };
-use crate::plain_operands::{plain, variable_and_key};
-use crate::prepared::Prepared;
-use crate::reads::{index, labels, property, variable_property};
+use crate::plain_operands::plain;
+use crate::prepared::{Form, Prepared};
+use crate::reads::{column_property, index, labels, property};
 use crate::row_context::RowContext;
 use crate::scalar::{Scalar, copied, is_untold, text_copied};
 use crate::scalar_evaluation::scalar;
@@ -70,11 +70,25 @@ pub fn evaluate_at<T: Tables>(
         (parameters_view context.now.parameters.now) graph.now
         (tree_of context.now.names.now prepared.now)) view }
 {
-    if !prepared.tells {
-        return found_at(context, graph, prepared.tree);
+    match prepared.form {
+        Form::Other(tree, true) => told_at(context, graph, tree),
+        Form::Other(tree, false) => found_at(context, graph, tree),
+        _ => Ok(find_at(context, prepared, graph)?.take(context.alloc)?),
     }
-    let told = told(context, graph, prepared.tree);
-    owned(context, graph, prepared.tree, told)
+}
+
+/// The same of an expression of which scalars are asked first.
+#[inline(never)]
+fn told_at<T: Tables>(
+    context: &RowContext<'_>,
+    graph: &GraphView<'_, T>,
+    expression: &Expression,
+) -> Result<Value, Fault>
+    ensures { Gives result
+        (given context.now graph.now (expression_view expression.now)) view }
+{
+    let told = told(context, graph, expression);
+    owned(context, graph, expression, told)
 }
 
 /// The value of an expression that is evaluated once at one row, so that it isn't made ready first.
@@ -104,11 +118,10 @@ fn evaluate_other<T: Tables>(
     ensures { Gives result
         (given context.now graph.now (expression_view expression.now)) view }
 {
-    let ready = Prepared {
-        tree: expression,
-        tells: may_tell(expression),
-    };
-    evaluate_at(context, &ready, graph)
+    if may_tell(expression) {
+        return told_at(context, graph, expression);
+    }
+    found_at(context, graph, expression)
 }
 
 /// What a scalar tells, as a value of its own; what none tells is found.
@@ -164,42 +177,45 @@ pub fn find_at<'a, T: Tables>(
         (parameters_view context.now.parameters.now) graph.now
         (tree_of context.now.names.now prepared.now)) found_view }
 {
-    match prepared.tree {
-        Expression::Suffixes(_, _, _) => read_at(context, graph, prepared.tree),
-        Expression::Variable(name) => variable(context, name.text.as_str()),
-        Expression::Parameter(name) => parameter(context, name.text.as_str()),
-        _ => find_other_at(context, prepared, graph),
+    match prepared.form {
+        Form::Column(name, near) => column(context, name, near),
+        Form::Property(name, key, near) => column_property(context, graph, name, key, near),
+        Form::Other(tree, tells) => find_other_at(context, graph, tree, tells),
     }
 }
 
-fn read_at<'a, T: Tables>(
+/// Whatever reads no column alone.
+#[inline(never)]
+fn find_other_at<'a, T: Tables>(
     context: &RowContext<'a>,
     graph: &GraphView<'a, T>,
     expression: &Expression,
+    tells: bool,
 ) -> Result<ValueRef<'a>, Fault>
     ensures { Gives result
         (given context.now graph.now (expression_view expression.now)) found_view }
 {
-    match variable_and_key(expression) {
-        Some((name, key)) => variable_property(context, graph, name, key),
-        None => find(context, graph, expression),
+    match expression {
+        Expression::Parameter(name) => parameter(context, name.text.as_str()),
+        Expression::Suffixes(_, _, _) => find(context, graph, expression),
+        _ => find_computed(context, graph, expression, tells),
     }
 }
 
-/// Whatever is no read: scalars are asked first.
-#[inline(never)]
-fn find_other_at<'a, T: Tables>(
+/// What is computed: scalars are asked first.
+fn find_computed<'a, T: Tables>(
     context: &RowContext<'a>,
-    prepared: &Prepared<'_>,
     graph: &GraphView<'a, T>,
+    expression: &Expression,
+    tells: bool,
 ) -> Result<ValueRef<'a>, Fault>
     ensures { Gives result
-        (given context.now graph.now (expression_view prepared.now.tree.now)) found_view }
+        (given context.now graph.now (expression_view expression.now)) found_view }
 {
-    if prepared.tells {
-        return Ok(ValueRef::Made(evaluate_at(context, prepared, graph)?));
+    if tells {
+        return Ok(ValueRef::Made(told_at(context, graph, expression)?));
     }
-    find(context, graph, prepared.tree)
+    find(context, graph, expression)
 }
 
 /// The same by `find`, whatever the value.

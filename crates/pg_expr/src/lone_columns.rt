@@ -3,16 +3,15 @@ ghost use Rattle.std.specs.Prelude.{IfSome};
 ghost use Rattle.pg_expr.specs.LoneColumns.{IsLoneColumn};
 ghost use Rattle.pg_expr.specs.Prepared.{tree_of};
 
-use crate::plain_operands::variable_of;
-use crate::prepared::Prepared;
+use crate::prepared::{Form, Prepared};
 use pg_rows::Columns;
 
 /// The column of a variable that stands alone: the first of its name.
 pub fn lone_column(prepared: &Prepared<'_>, names: &Columns) -> Option<usize>
     ensures { IfSome result (λ at. IsLoneColumn names.now (tree_of names.now prepared.now) at) }
 {
-    match variable_of(prepared.tree) {
-        Some(name) => names.find(name.text.as_str()),
-        None => None,
+    match prepared.form {
+        Form::Column(name, near) => names.find_near(near, name.text.as_str()),
+        _ => None,
     }
 }

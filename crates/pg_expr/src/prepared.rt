@@ -1,33 +1,64 @@
 //! Expressions made ready, once a clause, to be evaluated at its rows.
-ghost use Rattle.std.specs.Prelude.{◌≡◌, IfOk};
-ghost use Rattle.pg_expr.specs.Prepared.{tree_of};
+ghost use Rattle.std.specs.Prelude.{◌≡◌, ℕ, List, IfOk};
+ghost use Rattle.pg_expr.specs.Prepared.{form_tree, tree_of};
 ghost use Rattle.pg_syntax_tree.specs.View.{expression_view};
 
-use crate::plain_operands::variable_and_place;
+use crate::plain_operands::{variable_and_key, variable_and_place, variable_of};
 use crate::scalar_trees::may_tell;
 use pg_rows::Columns;
-use pg_syntax_tree::Expression;
+use pg_syntax_tree::{Expression, Name};
 use std::alloc::{AllocError, Global};
 
 /// An expression that was made ready for rows of given columns.
 #[derive(Clone, Copy)]
 pub struct Prepared<'a> {
-    pub(crate) tree: &'a Expression,
-    // Scalars are asked first.
-    pub(crate) tells: bool,
+    pub(crate) form: Form<'a>,
 }
 
-/// Borrows the expression, and looks once whether scalars may tell what it gives. It asks for no memory
+/// What a prepared expression is: a variable, or a property of one, each with the place where its column mostly stands; or any
+/// expression, and whether scalars are asked first.
+#[derive(Clone, Copy)]
+pub(crate) enum Form<'a> {
+    Column(&'a Name, usize),
+    Property(&'a Name, &'a Name, usize),
+    Other(&'a Expression, bool),
+}
+
+/// Borrows the expression, and looks once for the column that it reads, or whether scalars may tell what it gives. It asks for no memory
 /// today; the error leaves room for a form that is made once a clause.
 pub fn prepare<'a>(
     _alloc: Global,
     expression: &'a Expression,
-    _names: &Columns,
+    names: &Columns,
 ) -> Result<Prepared<'a>, AllocError>
-    ensures { IfOk result (λ p. tree_of _names.now p ≡ expression_view expression.now) }
+    ensures { IfOk result (λ p. tree_of names.now p ≡ expression_view expression.now) }
 {
     Ok(Prepared {
-        tree: expression,
-        tells: may_tell(expression) || variable_and_place(expression).is_some(),
+        form: form_of(expression, names),
     })
+}
+
+fn form_of<'a>(expression: &'a Expression, names: &Columns) -> Form<'a>
+    ensures { form_tree result ≡ expression_view expression.now }
+{
+    if let Some(name) = variable_of(expression) {
+        return Form::Column(name, near(names, name));
+    }
+    if let Some((name, key)) = variable_and_key(expression) {
+        return Form::Property(name, key, near(names, name));
+    }
+    other(expression)
+}
+
+/// Whatever reads no column alone.
+pub(crate) fn other<'a>(expression: &'a Expression) -> Form<'a>
+    ensures { form_tree result ≡ expression_view expression.now }
+{
+    let tells = may_tell(expression) || variable_and_place(expression).is_some();
+    Form::Other(expression, tells)
+}
+
+/// Where the column of a name stands, or any place where there is none.
+fn near(names: &Columns, name: &Name) -> usize {
+    names.find(name.text.as_str()).unwrap_or(0)
 }

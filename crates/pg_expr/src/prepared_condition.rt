@@ -26,13 +26,20 @@ pub struct PreparedCondition<'a, 'n> {
 }
 
 impl<'a, 'n> PreparedCondition<'a, 'n> {
-    ghost use Rattle.std.specs.Prelude.{◌≡◌};
-    ghost use Rattle.pg_expr.specs.Prepared.{names_of};
+    ghost use Rattle.std.specs.Prelude.{◌≡◌, is_none};
+    ghost use Rattle.pg_expr.specs.Prepared.{condition_of, names_of};
 
     /// The columns of the rows.
     pub fn names(&self) -> &'n Columns
         ensures { result.now ≡ names_of self.now }
     {
         self.names
+    }
+
+    /// Whether there is no condition.
+    pub fn is_none(&self) -> bool
+        ensures { result ≡ is_none (condition_of self.now) }
+    {
+        self.whole.is_none()
     }
 }

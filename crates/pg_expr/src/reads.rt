@@ -13,7 +13,7 @@ ghost use Rattle.pg_meaning.specs.declared.fault.Fault.TheVariants.{OutOfMemory}
 ghost use Rattle.pg_syntax_tree.specs.View.{names_view};
 ghost use Rattle.pg_value_core.specs.View.{view, values_view, entries_view};
 
-use crate::atoms::held;
+use crate::atoms::held_near;
 use crate::row_context::RowContext;
 use crate::value_ref::{ValueRef, lent_or_null, null};
 use pg_graph::Tables;
@@ -99,12 +99,14 @@ fn property_lent<'a, T: Tables>(
     }
 }
 
-/// `variable.key`: the row's value is looked at where it stands.
-pub(crate) fn variable_property<'a, T: Tables>(
+/// `variable.key`, of a column that mostly stands at this place: the row's value is looked at where it stands.
+#[inline(never)]
+pub(crate) fn column_property<'a, T: Tables>(
     context: &RowContext<'a>,
     graph: &GraphView<'a, T>,
     name: &Name,
     key: &Name,
+    near: usize,
 ) -> Result<ValueRef<'a>, Fault>
     ensures ok { IfOk result
         (λ f. given_property context.now graph.now (string_bytes name.now.text)
@@ -113,7 +115,7 @@ pub(crate) fn variable_property<'a, T: Tables>(
         (λ e. given_property context.now graph.now (string_bytes name.now.text)
         (string_bytes key.now.text) ≡ Err e) }
 {
-    match held(context, name.text.as_str()) {
+    match held_near(context, name.text.as_str(), near) {
         Some(value) => property_lent(graph, value, key.text.as_str()),
         None => Err(Fault::UndefinedVariable),
     }

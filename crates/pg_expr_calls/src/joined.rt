@@ -64,7 +64,8 @@ fn text_plus(mut s: String, w: Value) -> Result<Value, Fault>
 }
 
 fn list_plus(xs: Rc<Vec<Value>>, w: Value) -> Result<Value, Fault>
-    ensures ok { IfOk result (λ u. plus (list (values_view xs.value.items)) (view w) ≡ Ok (view u)) }
+    ensures ok { IfOk result
+        (λ u. plus (list (values_view xs.value.items)) (view w) ≡ Ok (view u)) }
     ensures err { IfErr result (λ e. e ≢ OutOfMemory
         → plus (list (values_view xs.value.items)) (view w) ≡ Err e) }
 {

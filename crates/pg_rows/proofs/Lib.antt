@@ -1,5 +1,6 @@
 pub mod Apart
 pub mod Copied
+pub mod FirstNames
 pub mod FirstRows
 pub mod Moved
 pub mod NamedRows

@@ -119,7 +119,7 @@ chosen : (b : Bool) (i j : ℕ) (o p : Option ℕ) → cond b (Some i) o ≡ Som
 chosen true i j o p e more = e
 chosen false i j o p e more = more e
 
-found_before : (t : List ℕ → Bool) (xs ys : List (List ℕ)) (from i : ℕ) → position_from t from xs ≡ Some i → position_from t from (xs ++ ys) ≡ Some i
+pub found_before : (t : List ℕ → Bool) (xs ys : List (List ℕ)) (from i : ℕ) → position_from t from xs ≡ Some i → position_from t from (xs ++ ys) ≡ Some i
 found_before t [] ys from i e = absurd (cc e)
 found_before t (x ∷ xs) ys from i e = chosen (t x) from i (position_from t (from + 1) xs) (position_from t (from + 1) (xs ++ ys)) e (found_before t xs ys (from + 1) i)
 
@@ -212,3 +212,9 @@ last_tells name held names s view e =
       λ below. ap is_lt (sym (ap (λ x. text_order x name) (last_is held s (length held - 1) [] e place)) ∙ below (length held - 1) [] place),
     ) in
     subst (λ ns. Decides (is_lt (text_order (string_bytes s) name)) (IsLastBelow name ns)) view told
+
+-- the first names that rise, with one more behind them
+pub rising_with : (b : Bool) (name : List ℕ) (names : List (List ℕ)) (n : ℕ) → FirstRise n names → Decides b (IsStrictlySortedBy text_order names × IsLastBelow name names)
+    → FirstRise (cond b (length (names ++ name ∷ [])) n) (names ++ name ∷ [])
+rising_with true name names n h told = let both = told.0 refl in more_rise name names both.0 both.1
+rising_with false name names n h told = still_rise name n names h (λ rise below. cc (told.1 (rise, below)))

@@ -1,5 +1,5 @@
 -- Rows whose columns have names: the definitions' rows, of names and values that stand apart.
-use Rattle.std.specs.Prelude.{◌≡◌, ℕ, true, false, cond, is_some, List, [], ◌∷◌, ◌++◌, map, length, zip, position, bytes_eq, slice_get}
+use Rattle.std.specs.Prelude.{◌≡◌, ◌<◌, ◌≤◌, ℕ, Some, true, false, cond, is_some, List, [], ◌∷◌, ◌++◌, map, length, zip, position, bytes_eq, slice_get}
 use Rattle.std.specs.Option.{option_and_then}
 use Rattle.pg_meaning.specs.Rows.{Row, value_in, values_in, bind_new}
 use Rattle.pg_meaning.specs.Value.{Value}
@@ -14,6 +14,10 @@ rows_named names rows = map (row_of names) rows
 -- the names with one more at the end, unless it is there
 abbrev pub with_name : List ℕ → (names : List (List ℕ)) → List (List ℕ)
 with_name name names = cond (is_some (position (bytes_eq name) names)) names (names ++ name ∷ [])
+
+-- so many of the first names are each the first of their name
+abbrev pub AreFirsts : ℕ → (names : List (List ℕ)) → Type 0
+AreFirsts n names = (n ≤ length names) × ((i : ℕ) (x : List ℕ) → i < n → slice_get names i ≡ Some x → position (bytes_eq x) names ≡ Some i)
 
 -- a variable's value stands in the first column of its name
 abbrev pub ValuesStandInColumns : Type 0

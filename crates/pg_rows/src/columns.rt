@@ -1,9 +1,9 @@
 //! The names of the columns of rows.
 ghost use Rattle.std.specs.Bool.{Decides};
 ghost use Rattle.std.specs.List.Sorted.{IsStrictlySortedBy};
-ghost use Rattle.std.specs.Prelude.{◌≡◌, ◌<◌, ◌++◌, ◌∷◌, List, ℕ, [], Some, length, map, position, bytes_eq, string_bytes, slice_get, OnOk, OnErr};
+ghost use Rattle.std.specs.Prelude.{◌≡◌, ◌<◌, ◌++◌, ◌∷◌, List, ℕ, [], None, Some, cond, true, length, map, position, bytes_eq, string_bytes, slice_get, OnOk, OnErr};
 ghost use Rattle.pg_meaning.specs.Order.{text_order};
-ghost use Rattle.pg_rows.specs.Named.{with_name};
+ghost use Rattle.pg_rows.specs.Named.{AreFirsts, with_name};
 ghost use Rattle.pg_rows.specs.Rising.{IsLastBelow};
 
 use pg_texts::same_text;
@@ -20,17 +20,21 @@ pub struct Columns {
     names: Vec<String>,
     // So many of the first names rise in byte order, all of them where they all do.
     rising: usize,
+    // So many of the first names are the first of their name.
+    firsts: usize,
 }
 
 impl Model for Columns {
     ghost use Rattle.std.specs.Prelude.{List, ℕ, map, string_bytes};
     ghost use Rattle.pg_rows.specs.Rising.{FirstRise};
+    ghost use Rattle.pg_rows.specs.Named.{AreFirsts};
 
     ghost Value = { List (List ℕ) };
 
     ghost view = { λ c. map string_bytes c.names.items };
 
-    ghost invariant = { λ c. FirstRise c.rising (map string_bytes c.names.items) };
+    ghost invariant = { λ c. FirstRise c.rising (map string_bytes c.names.items)
+        × AreFirsts c.firsts (map string_bytes c.names.items) };
 }
 
 /// The place of a name among names that rise.
@@ -43,6 +47,12 @@ fn place_among(names: &[String], name: &str) -> Option<usize>
         Ok(at) => Some(at),
         Err(_) => None,
     }
+}
+
+fn count_if(holds: bool, all: usize, before: usize) -> usize
+    ensures { result ≡ cond holds all before }
+{
+    if holds { all } else { before }
 }
 
 fn order_of(held: &String, name: &str) -> Ordering
@@ -59,6 +69,7 @@ impl Columns {
         Columns {
             names: Vec::new(alloc),
             rising: 0,
+            firsts: 0,
         }
     }
 
@@ -96,6 +107,17 @@ impl Columns {
         self.find_first(name)
     }
 
+    /// The same, where it mostly stands at this place.
+    #[inline(always)]
+    pub fn find_near(&self, place: usize, name: &str) -> Option<usize>
+        ensures { result ≡ position (bytes_eq name.now) self.now }
+    {
+        if place < self.firsts && same_text(name, self.names[place].as_str()) {
+            return Some(place);
+        }
+        self.find(name)
+    }
+
     #[tactic(auto, using(crate::proofs::NamedRows::first_named))]
     fn find_first(&self, name: &str) -> Option<usize>
         ensures { result ≡ position (bytes_eq name.now) self.now }
@@ -124,12 +146,31 @@ impl Columns {
         ensures pushed { OnOk result (self.new ≡ self.old ++ name.now ∷ []) }
         ensures err { OnErr result (self.new ≡ self.old) }
     {
-        let still_rises = self.rises() && self.are_below(name);
+        let still_rises = self.still_rises(name);
+        let is_first = self.is_next_first(name);
         self.names.push(String::from_str(alloc, name)?)?;
-        if still_rises {
-            self.rising = self.names.len();
-        }
+        self.rising = count_if(still_rises, self.names.len(), self.rising);
+        self.firsts = count_if(is_first, self.names.len(), self.firsts);
         Ok(())
+    }
+
+    /// Whether all names rise, with this one behind them.
+    fn still_rises(&self, name: &str) -> bool
+        ensures { Decides result
+            (IsStrictlySortedBy text_order self.now × IsLastBelow name.now self.now) }
+    {
+        self.rises() && self.are_below(name)
+    }
+
+    /// Whether all names, which are few, are the first of their name, and this one is none of them.
+    fn is_next_first(&self, name: &str) -> bool
+        ensures firsts { result ≡ true → AreFirsts (length self.now) self.now }
+        ensures first { result ≡ true → position (bytes_eq name.now) self.now ≡ None }
+    {
+        if self.firsts < self.names.len() || self.firsts >= FEW {
+            return false;
+        }
+        self.find(name).is_none()
     }
 
     /// Whether the last name is below this one, or there is none.

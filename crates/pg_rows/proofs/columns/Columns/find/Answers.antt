@@ -12,7 +12,7 @@ place_among-requires c =
     let n = c.self.inside.rising in
     let items = c.self.inside.names.items in
     let part : take n (map string_bytes items) ≡ map string_bytes (take n c.deref.result.now) = take-map string_bytes n items ∙ ap (λ xs. map string_bytes (take n xs)) (sym c.deref.ensures.value) in
-    subst (IsStrictlySortedBy text_order) part c.self.invariant.1
+    subst (IsStrictlySortedBy text_order) part c.self.invariant.0.1
 
 pub returns : goal.returns
 returns c =

@@ -1,6 +1,7 @@
 pub mod AfterLemmas
 pub mod Applied
 pub mod ChainLemmas
+pub mod ColumnReads
 pub mod Comparisons
 pub mod Conjuncts
 pub mod ElementLemmas

@@ -3,6 +3,7 @@ ghost use Rattle.std.specs.Prelude.{map, option_map, string_bytes};
 ghost use Rattle.pg_expr.specs.Calls.{given_call, given_size};
 ghost use Rattle.pg_expr.specs.Kinds.{IsCase, IsChain, AreTests, AreSuffixes};
 ghost use Rattle.pg_expr.specs.Prepared.{tree_of};
+ghost use Rattle.pg_expr.specs.Reads.{given_property};
 ghost use Rattle.pg_expr.specs.Scalars.{scalar_view, Tells};
 ghost use Rattle.pg_expr.specs.Contexts.{found_view, founds_view, pairs_view, given, given_each, given_map, given_first, given_true, given_chain, given_operands};
 ghost use Rattle.pg_meaning.specs.Expressions.{evaluate};
@@ -23,7 +24,9 @@ use crate::operators::{
 };
 use crate::plain_operands::plain;
 use crate::prepared::{Form, Prepared};
-use crate::reads::{column_property, index, labels, property};
+use crate::reads::{
+    any_column_property, column_property, index, labels, node_column_property, property,
+};
 use crate::row_context::RowContext;
 use crate::scalar::{Scalar, copied, is_untold, text_copied};
 use crate::scalar_evaluation::scalar;
@@ -71,9 +74,30 @@ pub fn evaluate_at<T: Tables>(
         (tree_of context.now.names.now prepared.now)) view }
 {
     match prepared.form {
+        Form::Property(name, key, near) => property_copied(context, graph, name, key, near),
         Form::Other(tree, true) => told_at(context, graph, tree),
         Form::Other(tree, false) => found_at(context, graph, tree),
-        _ => Ok(find_at(context, prepared, graph)?.take(context.alloc)?),
+        Form::Column(name, near) => Ok(column(context, name, near)?.take(context.alloc)?),
+    }
+}
+
+/// `variable.key`, as a value of its own.
+fn property_copied<T: Tables>(
+    context: &RowContext<'_>,
+    graph: &GraphView<'_, T>,
+    name: &Name,
+    key: &Name,
+    near: usize,
+) -> Result<Value, Fault>
+    ensures { Gives result (given_property context.now graph.now
+        (string_bytes name.now.text) (string_bytes key.now.text)) view }
+{
+    match node_column_property(context, graph, name, key, near) {
+        // (the most frequent value, which takes no memory of its own)
+        Some(Some(Value::Int(i))) => Ok(Value::Int(*i)),
+        Some(Some(value)) => copied(context.alloc, value),
+        Some(None) => Ok(Value::Null),
+        None => Ok(any_column_property(context, graph, name, key, near)?.take(context.alloc)?),
     }
 }
 

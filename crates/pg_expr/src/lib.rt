@@ -27,7 +27,7 @@ mod value_ref;
 
 pub use conditions::{condition, prepare_condition};
 pub use evaluation::{evaluate, evaluate_at, evaluate_once, find_at};
-pub use lone_columns::lone_column;
+pub use lone_columns::{lone_column, read_column};
 pub use prepared::{Prepared, prepare};
 pub use prepared_condition::PreparedCondition;
 pub use query_context::QueryContext;

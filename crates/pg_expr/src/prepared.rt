@@ -1,5 +1,5 @@
 //! Expressions made ready, once a clause, to be evaluated at its rows.
-ghost use Rattle.std.specs.Prelude.{◌≡◌, ℕ, List, IfOk};
+ghost use Rattle.std.specs.Prelude.{◌≡◌, IfOk};
 ghost use Rattle.pg_expr.specs.Prepared.{form_tree, tree_of};
 ghost use Rattle.pg_syntax_tree.specs.View.{expression_view};
 
@@ -8,6 +8,9 @@ use crate::scalar_trees::may_tell;
 use pg_rows::Columns;
 use pg_syntax_tree::{Expression, Name};
 use std::alloc::{AllocError, Global};
+
+/// Of so many columns the place of one is looked up before any row; of more, a row looks for it by its name.
+const FEW: usize = 8;
 
 /// An expression that was made ready for rows of given columns.
 #[derive(Clone, Copy)]
@@ -25,7 +28,7 @@ pub(crate) enum Form<'a> {
 }
 
 /// Borrows the expression, and looks once for the column that it reads, or whether scalars may tell what it gives. It asks for no memory
-/// today; the error leaves room for a form that is made once a clause.
+/// today; the error leaves room for a form that does.
 pub fn prepare<'a>(
     _alloc: Global,
     expression: &'a Expression,
@@ -51,14 +54,18 @@ fn form_of<'a>(expression: &'a Expression, names: &Columns) -> Form<'a>
 }
 
 /// Whatever reads no column alone.
-pub(crate) fn other<'a>(expression: &'a Expression) -> Form<'a>
+fn other<'a>(expression: &'a Expression) -> Form<'a>
     ensures { form_tree result ≡ expression_view expression.now }
 {
     let tells = may_tell(expression) || variable_and_place(expression).is_some();
     Form::Other(expression, tells)
 }
 
-/// Where the column of a name stands, or any place where there is none.
+/// Where the column of a name stands among few; else any place.
 fn near(names: &Columns, name: &Name) -> usize {
+    // `WITH *` prepares each of its columns, in each clause
+    if names.len() > FEW {
+        return 0;
+    }
     names.find(name.text.as_str()).unwrap_or(0)
 }

@@ -1,5 +1,5 @@
 //! What is read of a value: a property, an item, labels.
-ghost use Rattle.std.specs.Prelude.{◌≡◌, ◌≢◌, ◌==◌, IfOk, IfErr, Ok, Err, false, map, string_bytes, vec_len};
+ghost use Rattle.std.specs.Prelude.{◌≡◌, ◌≢◌, ◌==◌, IfOk, IfErr, IfSome, Ok, Err, false, map, option_map, string_bytes, unwrap_or, vec_len};
 ghost use Rattle.pg_expr.specs.After.{After};
 ghost use Rattle.pg_expr.specs.Reads.{given_property, labels_tested};
 ghost use Rattle.pg_expr.specs.Contexts.{found_view};
@@ -8,7 +8,7 @@ ghost use Rattle.pg_meaning.specs.Names.{is_among};
 ghost use Rattle.pg_meaning.specs.Entries.{value_at};
 ghost use Rattle.pg_meaning.specs.Expressions.{property_of, indexed, item_of, labelled};
 ghost use Rattle.pg_meaning.specs.Functions.{item_at};
-ghost use Rattle.pg_meaning.specs.Value.{node, relationship};
+ghost use Rattle.pg_meaning.specs.Value.{node, null, relationship};
 ghost use Rattle.pg_meaning.specs.declared.fault.Fault.TheVariants.{OutOfMemory};
 ghost use Rattle.pg_syntax_tree.specs.View.{names_view};
 ghost use Rattle.pg_value_core.specs.View.{view, values_view, entries_view};
@@ -99,9 +99,48 @@ fn property_lent<'a, T: Tables>(
     }
 }
 
-/// `variable.key`, of a column that mostly stands at this place: the row's value is looked at where it stands.
+/// What a node has under a key, if anything, where the column that mostly stands at this place has a node. Most reads are such.
 #[inline(never)]
+pub(crate) fn node_column_property<'a, T: Tables>(
+    context: &RowContext<'a>,
+    graph: &GraphView<'a, T>,
+    name: &Name,
+    key: &Name,
+    near: usize,
+) -> Option<Option<&'a Value>>
+    ensures { IfSome result
+        (λ held. given_property context.now graph.now (string_bytes name.now.text)
+        (string_bytes key.now.text) ≡ Ok (unwrap_or (option_map (λ v. view v.now) held) null)) }
+{
+    match held_near(context, name.text.as_str(), near) {
+        Some(Value::Node(id)) => Some(graph.node(*id)?.property(key.text.as_str())),
+        _ => None,
+    }
+}
+
+/// `variable.key`, of a column that mostly stands at this place: the row's value is looked at where it stands.
 pub(crate) fn column_property<'a, T: Tables>(
+    context: &RowContext<'a>,
+    graph: &GraphView<'a, T>,
+    name: &Name,
+    key: &Name,
+    near: usize,
+) -> Result<ValueRef<'a>, Fault>
+    ensures ok { IfOk result
+        (λ f. given_property context.now graph.now (string_bytes name.now.text)
+        (string_bytes key.now.text) ≡ Ok (found_view f)) }
+    ensures err { IfErr result
+        (λ e. given_property context.now graph.now (string_bytes name.now.text)
+        (string_bytes key.now.text) ≡ Err e) }
+{
+    match node_column_property(context, graph, name, key, near) {
+        Some(held) => Ok(lent_or_null(held)),
+        None => any_column_property(context, graph, name, key, near),
+    }
+}
+
+#[inline(never)]
+pub(crate) fn any_column_property<'a, T: Tables>(
     context: &RowContext<'a>,
     graph: &GraphView<'a, T>,
     name: &Name,

@@ -45,3 +45,4 @@ pub mod LoneStar
 pub mod PassedRows
 pub mod RowsTwice
 pub mod NoneStarred
+pub mod KeyColumns

@@ -47,8 +47,28 @@ is_number key k ks i d is h =
     let found = place key_equiv key k ks i d is h in
     record { here = found.0; there = found.1; within = found.2 }
 
-pub has_number : (key : Vec Value) (ks : List (Vec Value)) (i : ℕ) (value : Datum) → IsDistinct same_keys ks → slice_get ks i ≡ Some key → map view key.items ≡ value ∷ [] → HasNumber ks value i
-has_number key ks i value d is one = record { key = key; is = one; number = is_number key key ks i d is (key_equiv.refl key) }
+pub has_number : (key : Vec Value) (ks : List (Vec Value)) (i : ℕ) (values : List Datum) → IsDistinct same_keys ks → slice_get ks i ≡ Some key → map view key.items ≡ values → HasNumber ks values i
+has_number key ks i values d is one = record { key = key; is = one; number = is_number key key ks i d is (key_equiv.refl key) }
+
+module _ {K : Type 0} (p : K → Bool) where
+  found_behind : (xs : List K) (k : K) → p k ≡ true → list_any p xs ≡ false → (position_or_len p xs ≡ position_or_len p (xs ++ k ∷ [])) × (list_any p (xs ++ k ∷ []) ≡ true)
+  found_behind [] k h none = (ap (λ b. cond (not b) 1 0) (sym h), ap (λ b. b || false) h)
+  found_behind (x ∷ xs) k h none = by (found_behind xs k h) (p x) none
+    where
+      by : (list_any p xs ≡ false → (position_or_len p xs ≡ position_or_len p (xs ++ k ∷ [])) × (list_any p (xs ++ k ∷ []) ≡ true)) → (b : Bool) → (b || list_any p xs) ≡ false
+          → (cond (not b) (1 + position_or_len p xs) 0 ≡ cond (not b) (1 + position_or_len p (xs ++ k ∷ [])) 0) × ((b || list_any p (xs ++ k ∷ [])) ≡ true)
+      by rest true n = absurd (let no : ⊥ = cc in no)
+      by rest false n = let behind = rest n in (ap (λ m. 1 + m) behind.0, behind.1)
+
+-- the number of a key that is put behind the others unless it is there
+pub number_now : (key : Vec Value) (ks : List (Vec Value)) (n : ℕ) → n ≡ position_or_len (same_keys key) ks → n < length (insert_key same_keys ks key) → IsNumber (insert_key same_keys ks key) key n
+number_now key ks n here within = by (list_any (same_keys key) ks) refl within
+  where
+    by : (b : Bool) → list_any (same_keys key) ks ≡ b → n < length (cond b ks (ks ++ key ∷ [])) → IsNumber (cond b ks (ks ++ key ∷ [])) key n
+    by true there below = record { here = here; there = there; within = below }
+    by false none below =
+        let behind = found_behind (same_keys key) ks key (key_equiv.refl key) none in
+        record { here = here ∙ behind.0; there = behind.1; within = below }
 
 pub keys_stay : (ks : List (Vec Value)) (key : Vec Value) (n : ℕ) → IsNumber ks key n → ks ≡ insert_key same_keys ks key
 keys_stay ks key n h = ap (λ b. cond b ks (ks ++ key ∷ [])) (sym h.there)

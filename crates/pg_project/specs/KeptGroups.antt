@@ -26,10 +26,10 @@ pub record IsNumber (keys : List (Vec Value)) (key : Vec Value) (n : ℕ) : Type
   pub there : list_any (same_keys key) keys ≡ true
   pub within : n < length keys
 
--- the group of this number has the key of one value
-pub record HasNumber (keys : List (Vec Value)) (value : Datum) (n : ℕ) : Type 0 where
+-- the group of this number has the key of these values
+pub record HasNumber (keys : List (Vec Value)) (values : List Datum) (n : ℕ) : Type 0 where
   pub key : Vec Value
-  pub is : map view key.items ≡ value ∷ []
+  pub is : map view key.items ≡ values
   pub number : IsNumber keys key n
 
 abbrev pub groups_of : List (List Datum) → List (List Taken) → List Kept

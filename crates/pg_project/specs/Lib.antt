@@ -13,3 +13,4 @@ pub mod ReadyItems
 pub mod Summaries
 pub mod Views
 pub mod PassThrough
+pub mod Alike

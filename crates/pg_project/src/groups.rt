@@ -27,14 +27,17 @@ pub(crate) struct Groups {
     pub(crate) keys: IndexSet<Vec<Value>, RandomState>,
     pub(crate) taken: Vec<Taken>,
     pub(crate) recent: Recent,
+    /// The number of the group that took the last row.
+    pub(crate) latest: Option<usize>,
 }
 
 impl Groups {
-    ghost use Rattle.std.specs.Prelude.{◌≡◌, ◌≢◌, ◌∷◌, [], ℕ, List, length, map, IfErr, IfOk, OnOk, Ok, Err};
+    ghost use Rattle.std.specs.Prelude.{◌≡◌, ◌≢◌, ◌<◌, ◌∷◌, [], ℕ, List, length, map, IfErr, IfOk, IfSome, OnOk, Ok, Err, None};
     ghost use Rattle.pg_expr.specs.Contexts.{found_view, given};
     ghost use Rattle.pg_meaning.specs.declared.fault.Fault.TheVariants.{OutOfMemory};
     ghost use Rattle.pg_project.specs.Kept.{first_kept, into_kept};
-    ghost use Rattle.pg_project.specs.KeptGroups.{Paired, groups_view};
+    ghost use Rattle.pg_meaning.specs.Value.{Value as Datum};
+    ghost use Rattle.pg_project.specs.KeptGroups.{Paired, groups_view, HasNumber};
     ghost use Rattle.pg_project.specs.ReadyItems.{aggregates_view, keys_of};
     ghost use Rattle.pg_value_core.specs.View.{view};
 
@@ -49,11 +52,13 @@ impl Groups {
             ≡ first_kept (keys_of names items.now.keys.items)
             (aggregates_view names items.now.aggregates.items)) }
         ensures paired { IfOk result (λ g. Paired (length items.now.aggregates.items) g) }
+        ensures latest { IfOk result (λ g. g.latest ≡ None) }
     {
         let mut groups = Groups {
             keys: IndexSet::with_hasher(alloc, hasher),
             taken: Vec::new(alloc),
             recent: Recent::new(alloc),
+            latest: None,
         };
         if items.keys.is_empty() {
             groups.keys.insert(Vec::new(alloc))?;
@@ -76,6 +81,8 @@ impl Groups {
             (map view key.old.items) (groups_view (length aggregates.now.items) self.old)
             ≡ Ok (groups_view (length aggregates.now.items) self.new)) }
         ensures paired { OnOk result (Paired (length aggregates.now.items) self.new) }
+        ensures latest { OnOk result (IfSome self.new.latest
+            (λ n. HasNumber self.new.keys.keys (map view key.old.items) n)) }
         ensures err { IfErr result (λ e. e ≢ OutOfMemory → into_kept (given context.now graph.now)
             (aggregates_view context.now.names.now aggregates.now.items)
             (map view key.old.items) (groups_view (length aggregates.now.items) self.old) ≡ Err e) }
@@ -84,6 +91,7 @@ impl Groups {
         if is_new {
             begin(context.alloc, graph.hasher(), aggregates, &mut self.taken)?;
         }
+        self.latest = Some(number);
         take_in_group(context, graph, aggregates, &mut self.taken, number)
     }
 
@@ -101,6 +109,8 @@ impl Groups {
             (found_view found.entry ∷ []) (groups_view (length aggregates.now.items) self.old)
             ≡ Ok (groups_view (length aggregates.now.items) self.new)) }
         ensures paired { OnOk result (Paired (length aggregates.now.items) self.new) }
+        ensures latest { OnOk result (IfSome self.new.latest
+            (λ n. HasNumber self.new.keys.keys (found_view found.entry ∷ []) n)) }
         ensures err { IfErr result (λ e. e ≢ OutOfMemory → into_kept (given context.now graph.now)
             (aggregates_view context.now.names.now aggregates.now.items)
             (found_view found.entry ∷ []) (groups_view (length aggregates.now.items) self.old)
@@ -108,10 +118,38 @@ impl Groups {
     {
         let number = self.recent.noted(mark_of_one(found.look()));
         if is_number_of_one(&self.keys, number, found.look()) {
-            return take_in_group(context, graph, aggregates, &mut self.taken, number);
+            self.latest = Some(number);
+            return self.take_again(context, graph, aggregates, number);
         }
         let mut key = key_of(context.alloc, found)?;
         self.take_row(context, graph, aggregates, &mut key)
+    }
+
+    /// Takes in a row whose key is that of the group of this number.
+    pub(crate) fn take_again<T: Tables>(
+        &mut self,
+        context: &RowContext<'_>,
+        graph: &GraphView<'_, T>,
+        aggregates: &Vec<Aggregate<'_>>,
+        number: usize,
+    ) -> Result<(), Fault>
+        requires paired { Paired (length aggregates.now.items) self.old }
+        requires within { number < length self.old.keys.keys }
+        ensures ok { (key : List Datum) → HasNumber self.old.keys.keys key number
+            → OnOk result (into_kept (given context.now graph.now)
+            (aggregates_view context.now.names.now aggregates.now.items)
+            key (groups_view (length aggregates.now.items) self.old)
+            ≡ Ok (groups_view (length aggregates.now.items) self.new)) }
+        ensures paired { (key : List Datum) → HasNumber self.old.keys.keys key number
+            → OnOk result (Paired (length aggregates.now.items) self.new) }
+        ensures keys { self.new.keys ≡ self.old.keys }
+        ensures latest { self.new.latest ≡ self.old.latest }
+        ensures err { (key : List Datum) → HasNumber self.old.keys.keys key number
+            → IfErr result (λ e. e ≢ OutOfMemory → into_kept (given context.now graph.now)
+            (aggregates_view context.now.names.now aggregates.now.items)
+            key (groups_view (length aggregates.now.items) self.old) ≡ Err e) }
+    {
+        take_in_group(context, graph, aggregates, &mut self.taken, number)
     }
 }
 
@@ -126,7 +164,7 @@ fn key_of(alloc: Global, found: ValueRef<'_>) -> Result<Vec<Value>, AllocError>
 
 /// Whether the group of this number has the one value as its key.
 fn is_number_of_one(keys: &IndexSet<Vec<Value>, RandomState>, number: usize, value: &Value) -> bool
-    ensures has { result ≡ true → HasNumber keys.now.keys (view value.now) number }
+    ensures has { result ≡ true → HasNumber keys.now.keys (view value.now ∷ []) number }
     ensures within { result ≡ true → number < length keys.now.keys }
 {
     let _count = keys.len();
@@ -170,6 +208,7 @@ fn number_of(
     ensures number { IfOk result (λ n. n.0 ≡ position_or_len (same_keys key.old) keys.old.keys) }
     ensures added { IfOk result (λ n. n.1 ≡ not (list_any (same_keys key.old) keys.old.keys)) }
     ensures within { IfOk result (λ n. n.0 < length keys.new.keys) }
+    ensures is { IfOk result (λ n. IsNumber keys.new.keys key.old n.0) }
 {
     let mark = mark_of(key);
     let number = recent.noted(mark);

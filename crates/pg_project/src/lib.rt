@@ -3,6 +3,7 @@
 
 mod accumulator;
 mod aggregates;
+mod alike;
 mod clause_scope;
 mod collected;
 mod columns;

@@ -1,9 +1,11 @@
 -- Nodes of a graph that are still to come.
-use Rattle.std.specs.Prelude.{◌<◌, ℕ, List, Option, Some, None, filter, length, refl}
+use Rattle.std.specs.Prelude.{◌≡◌, ◌<◌, ℕ, List, Option, Some, None, IfSome, true, filter, length, refl}
+use Rattle.std.specs.List.{AllByRecursion}
 use Rattle.std.specs.Coded.{Coded, code_by, coded×, coded_ℕ, coded_list, coded_option}
 use Rattle.pg_graph.specs.Content.{Seen}
 use Rattle.pg_graph.specs.Refinement.{text_of}
-use Rattle.pg_meaning.specs.Graph.{Graph}
+use Rattle.pg_meaning.specs.Graph.{Graph, Node, node_at}
+use Rattle.pg_meaning.specs.Names.{is_among}
 use Rattle.pg_store.specs.Covers.{belongs, passes}
 use Rattle.pg_store.specs.GraphCode.{graph_code}
 use Rattle.pg_store.specs.Journal.{live}
@@ -50,3 +52,13 @@ module _ {T S K : Type 0} (seen : Seen T S) (store : Store T) (shared : Shared S
   pub record IsListed : Type 0 where
     pub fit : IsFit seen store shared
     pub named : IsNamedLabel shared.names (wanted_label w)
+
+  -- each of these ids is of a node that is sought
+  abbrev pub AreSought : List ℕ → Type 0
+  AreSought ids = AllByRecursion (λ id. passes (belongs (wanted_key w)) (live (state_of seen store shared)).nodes id ≡ true) ids
+
+-- a node of this id is there, and has the label
+pub record IsLabelled (graph : Graph) (label : Option (List ℕ)) (id : ℕ) : Type 0 where
+  pub node : Node
+  pub there : node_at graph id ≡ Some node
+  pub has : IfSome label (λ text. is_among node.labels text ≡ true)

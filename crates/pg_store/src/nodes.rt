@@ -4,6 +4,7 @@ ghost use Rattle.std.specs.Prelude.{◌≡◌, ◌∷◌, [], true, IfSome, IfNo
 ghost use Rattle.pg_meaning.specs.Graph.{ids_of, node_at, nodes_with_label};
 ghost use Rattle.pg_meaning.specs.Names.{is_among};
 ghost use Rattle.pg_meaning.specs.Walks.{with_value};
+ghost use Rattle.pg_store.specs.Listing.{IsLabelled};
 ghost use Rattle.pg_value_core.specs.View.{view};
 
 use crate::graph_view::GraphView;
@@ -23,10 +24,13 @@ pub struct Nodes<'a, T: Tables> {
     shared: &'a Shared<T::Shared>,
     wanted: Wanted<'a>,
     ids: Members<'a>,
+    // Whether each of the ids is surely of a node that is sought.
+    is_exact: bool,
 }
 
 impl<'a, T: Tables> Model for Nodes<'a, T> {
-    ghost use Rattle.pg_store.specs.Listing.{Listing, IsListed, listing, listing_code};
+    ghost use Rattle.std.specs.Prelude.{◌≡◌, true};
+    ghost use Rattle.pg_store.specs.Listing.{AreSought, Listing, IsListed, listing, listing_code};
 
     ghost Value = { Listing };
 
@@ -34,7 +38,8 @@ impl<'a, T: Tables> Model for Nodes<'a, T> {
 
     ghost view = { λ n. listing T.seen n.store.now n.shared.now n.wanted n.ids };
 
-    ghost invariant = { λ n. IsListed T.seen n.store.now n.shared.now n.wanted };
+    ghost invariant = { λ n. IsListed T.seen n.store.now n.shared.now n.wanted
+        × (n.is_exact ≡ true → AreSought T.seen n.store.now n.shared.now n.wanted n.ids) };
 }
 
 impl<'a, T: Tables> Nodes<'a, T> {
@@ -49,13 +54,20 @@ impl<'a, T: Tables> Nodes<'a, T> {
         }
     }
 
-    /// The next id, if there is one more.
+    /// The next id, if there is one more. Its record is looked at only where something was done that can be undone still.
     pub fn next(&mut self) -> Option<NodeId>
         ensures some { IfSome result (λ id. self.old.ids ≡ id.0 ∷ self.new.ids) }
         ensures none { IfNone result (self.old.ids ≡ []) }
+        ensures is { IfSome result (λ id. IsLabelled self.old.graph self.old.label id.0) }
         ensures graph { self.new.graph ≡ self.old.graph }
         ensures label { self.new.label ≡ self.old.label }
     {
+        if self.is_exact {
+            return match self.ids.next() {
+                Some(id) => Some(NodeId(id)),
+                None => None,
+            };
+        }
         match self.next_node() {
             Some((id, _)) => Some(id),
             None => None,
@@ -93,6 +105,7 @@ impl<'a, T: Tables> GraphView<'a, T> {
             shared: self.shared,
             wanted: Wanted::All,
             ids: self.store.sets.all.ids(),
+            is_exact: self.store.sets.stale_ids.is_empty(),
         }
     }
 
@@ -109,6 +122,7 @@ impl<'a, T: Tables> GraphView<'a, T> {
             shared: self.shared,
             wanted: Wanted::Labelled(name),
             ids: self.store.sets.labelled(name).ids(),
+            is_exact: self.store.sets.stale_ids.is_empty(),
         }
     }
 
@@ -129,6 +143,7 @@ impl<'a, T: Tables> GraphView<'a, T> {
             shared: self.shared,
             wanted: Wanted::Valued(label, key, value),
             ids: self.store.sets.valued(label, key, value).ids(),
+            is_exact: false,
         }
     }
 
@@ -142,6 +157,7 @@ impl<'a, T: Tables> GraphView<'a, T> {
             shared: self.shared,
             wanted: Wanted::All,
             ids: self.store.sets.none.ids(),
+            is_exact: false,
         }
     }
 }

@@ -1,6 +1,8 @@
 use Rattle.std.proofs.Common.{◌≡◌, ◌≢◌, ◌∷◌, [], IfErr, OnOk, Ok, Err, length, sym, ap, subst, ◌∙◌}
+use Rattle.std.proofs.lemmas.Result.{on_ok_weaker}
+use Rattle.pg_project.proofs.KeyColumns.{latest_of}
 use Rattle.pg_project.proofs.RowLemmas.{one_answer, one_fault, with_key, without_key}
-use Rattle.pg_project.specs.Items.{expressions_view}
+use Rattle.pg_project.specs.Items.{expressions_view, keys_in}
 use Rattle.pg_project.specs.Kept.{into_kept}
 use Rattle.pg_project.specs.KeptGroups.{groups_view}
 use Rattle.pg_expr.specs.Contexts.{found_view, given}
@@ -16,10 +18,13 @@ returns-in-Ok g c =
     let found = found_view c.in-Ok.found in
     let key = found ∷ [] in
     let one = tree_of c.args.context.now.names.now c.args.one.now in
-    let is = with_key at (expressions_view c.args.expressions.now.items) groups key (ap (each_answer at) (sym c.requires.key) ∙ one_answer at one found c.in-Ok.ensures.ok) ∙ ap (λ aggregates. into_kept at aggregates key groups) (sym c.requires.aggregates) in
+    let keys = keys_in (expressions_view c.args.expressions.now.items) in
+    let keyed : each_answer at keys ≡ Ok key = ap (each_answer at) (sym c.requires.key) ∙ one_answer at one found c.in-Ok.ensures.ok in
+    let is = with_key at (expressions_view c.args.expressions.now.items) groups key keyed ∙ ap (λ aggregates. into_kept at aggregates key groups) (sym c.requires.aggregates) in
     record {
       ok = subst (λ answer. OnOk c.take_found.result (answer ≡ Ok (groups_view (length c.args.aggregates.now.items) c.take_found.new.self))) (sym is) c.take_found.ensures.ok;
       paired = c.take_found.ensures.paired;
+      latest = on_ok_weaker c.take_found.result (λ h. latest_of at keys key keyed c.take_found.new.self.keys.keys c.take_found.new.self.latest h) c.take_found.ensures.latest;
       err = subst (λ answer. IfErr c.take_found.result (λ e. e ≢ OutOfMemory → answer ≡ Err e)) (sym is) c.take_found.ensures.err;
     }
 
@@ -32,6 +37,7 @@ returns-in-Err g c =
     record {
       ok = tt;
       paired = tt;
+      latest = tt;
       err = λ other.
           without_key at es (groups_view (length c.args.aggregates.now.items) c.args.groups.now) fault (ap (each_answer at) (sym c.requires.key) ∙ one_fault at one fault (c.in-Err.ensures.err (λ memory. other (c.first_fault.ensures.memory memory))))
           ∙ c.first_fault.ensures.fault other;

@@ -1,4 +1,4 @@
-use Rattle.std.proofs.Common.{◌≡◌, ◌≢◌, ◌<◌, ◌+◌, ◌*◌, Err, sym, ap, ◌∙◌, length, arith}
+use Rattle.std.proofs.Common.{◌≡◌, ◌≢◌, ◌<◌, ◌+◌, ◌*◌, Err, refl, sym, ap, subst, ◌∙◌, length, arith}
 use Rattle.std.specs.List.{list_any}
 use Rattle.std.proofs.lemmas.List.{length-map}
 use Rattle.std.proofs.lemmas.Result.{IfOk-from_err, IfErr-weaker, on_ok_weaker}
@@ -7,7 +7,7 @@ use Rattle.pg_project.proofs.Numbered.{Ready, into, paired_known, paired_new, re
 use Rattle.pg_project.proofs.Parted.{as_fits, within_parts}
 use Rattle.indexmap.specs.IndexSet.{insert_key}
 use Rattle.pg_meaning.specs.declared.fault.Fault.TheVariants.{OutOfMemory}
-use Rattle.pg_project.specs.KeptGroups.{same_keys, taken_in_at}
+use Rattle.pg_project.specs.KeptGroups.{IsNumber, same_keys, taken_in_at}
 use Rattle.pg_project.specs.Views.{taken_view, takens_view}
 use Rattle.pg_project.specs.ReadyItems.{aggregate_view, aggregates_view}
 use Rattle.pg_expr.specs.Contexts.{given}
@@ -20,6 +20,7 @@ pub returns-in_err-number : goal.returns-in_err-number
 returns-in_err-number g c = record {
   ok = IfOk-from_err c.from_residual.result _ c.from_residual.ensures.0;
   paired = IfOk-from_err c.from_residual.result _ c.from_residual.ensures.0;
+  latest = IfOk-from_err c.from_residual.result _ c.from_residual.ensures.0;
   err = memory_passed _ c.from_residual.result c.from_residual.ensures.1;
 }
 
@@ -27,6 +28,7 @@ pub returns-in_err-begin : goal.returns-in_err-begin
 returns-in_err-begin g c = record {
   ok = IfOk-from_err c.from_residual-in_err-begin.result _ c.from_residual-in_err-begin.ensures.0;
   paired = IfOk-from_err c.from_residual-in_err-begin.result _ c.from_residual-in_err-begin.ensures.0;
+  latest = IfOk-from_err c.from_residual-in_err-begin.result _ c.from_residual-in_err-begin.ensures.0;
   err = memory_passed _ c.from_residual-in_err-begin.result c.from_residual-in_err-begin.ensures.1;
 }
 
@@ -87,11 +89,12 @@ returns g c =
       | then-is_new+in_ok-begin w ↦ ap (λ (v : Groups). length v.keys.keys) w.self-is
       | else-is_new w ↦ ap (λ (v : Groups). length v.keys.keys) w.self-is
     ] in
-    let kept_keys : more ≡ insert_key same_keys ks key =
+    let same_more : more ≡ c.number_of.new.keys.keys =
     elim c.if-is_new.branch [
       | then-is_new+in_ok-begin w ↦ ap (λ (v : Groups). v.keys.keys) w.self-is
       | else-is_new w ↦ ap (λ (v : Groups). v.keys.keys) w.self-is
-    ] ∙ e.keys in
+    ] in
+    let kept_keys : more ≡ insert_key same_keys ks key = same_more ∙ e.keys in
     let ready : Ready at aggregates w each key ks more us held kept_keys n e.number now =
     elim c.if-is_new.branch [
       | then-is_new+in_ok-begin b ↦ ready_new at aggregates w each key ks more us held kept_keys n e.number now (fresh there c.in_ok-number.is_new e.added b.if-is_new.true) (ap (λ (v : Groups). takens_view v.taken.items) b.self-is ∙ b.in_ok-begin.ensures names)
@@ -104,6 +107,7 @@ returns g c =
     record {
       ok = on_ok_weaker result (λ h. taken at aggregates w each key ks more us held kept_keys n e.number now ready within (takens_view after) h) c.take_in_group.ensures.ok;
       paired = on_ok_weaker result (λ h. sym (length-map after taken_view) ∙ stays at aggregates w each key ks more us held kept_keys n e.number now ready within (takens_view after) h) c.take_in_group.ensures.ok;
+      latest = on_ok_weaker result (λ h. record { key = key; is = refl; number = subst (λ xs. IsNumber xs key n) (sym same_more) e.is }) c.take_in_group.ensures.ok;
       err = IfErr-weaker result (λ f. f ≢ OutOfMemory → taken_in_at at aggregates w (n * w) now ≡ Err f) (λ f. f ≢ OutOfMemory → whole ≡ Err f)
           (λ f h other. refused at aggregates w each key ks more us held kept_keys n e.number now ready within f (h other)) c.take_in_group.ensures.err;
     }
